@@ -1,16 +1,17 @@
 -- Labels, cell by cell: those of outlets, and that a label is the same all along a path.
-use Rattle.std.proofs.Common.{◌≡◌, ◌≢◌, ◌∙◌, ℕ, zero, suc, ◌+◌, ◌*◌, inl, inr, pos, cond, List, Option, Some, None, refl, sym, ap, subst, arith}
+use Rattle.std.proofs.Common.{◌≡◌, ◌≢◌, ◌∙◌, ℕ, zero, suc, ◌+◌, ◌*◌, inl, inr, pos, cond, List, sym, ap, subst, arith}
 use Rattle.std.proofs.lemmas.Bool.{cases_order}
 use Rattle.drain_grid.specs.declared.cell.Cell.{Cell}
 use Rattle.drain_grid.specs.Extent.{index_of}
 use Rattle.drain_grid.specs.Grid.{Grid, Products, IsInside, HasData}
-use Rattle.drain_grid.specs.Run.{next, continued, steps_from, last_from, run_end, RunEnds}
+use Rattle.drain_grid.specs.Run.{run_end, RunEnds}
 use Rattle.drain_grid.specs.Size.{Extent}
-use Rattle.drain_grid.proofs.EndedRuns.{HasData-next, ended-run_end}
+use Rattle.drain_grid.proofs.EndedRuns.{ended-run_end}
 use Rattle.drain_grid.proofs.Lowered.{same_or_not}
 use Rattle.drain_grid.proofs.Runs.{index_of-below, run_end-zero}
 use Rattle.drain_grid.proofs.Walks.{Leads, EndsAfter-zero}
 use Rattle.drain_grid.proofs.CellOrder.{in_grid, same_index}
+use Rattle.drain_paths.proofs.SameRuns.{last_data}
 use Rattle.drain_paths.proofs.Shorter.{RunEnds-walk}
 use Rattle.drain_paths.specs.CellNumbers.{cell_number, IsPutAt}
 use Rattle.drain_paths.specs.Basins.{ends_before, end_number, basin_label, AreEndLabels, AreBasinLabels}
@@ -114,16 +115,6 @@ pub label_behind : (label : ℕ) → label ≢ 0 → (steps : ℕ) → IsNumberB
 label_behind label some steps g ps c d few walk here there =
     (some, there.is ∙ ap (end_number g ps) (sym (leads_end g ps steps c d walk.leads (RunEnds-walk g ps steps c d walk there.ends))))
 
--- the end of a run has data and code 0
-run_end_data : (g : Grid) (ps : Products) (k : ℕ) (c : Cell) → HasData g c → HasData g (last_from c (steps_from g ps k c))
-run_end_data g ps zero c here = here
-run_end_data g ps (suc k) c here = by_next (next g ps c) (λ n leads. run_end_data g ps k n (HasData-next g ps c n leads))
-  where
-    by_next : (o : Option Cell) → ((n : Cell) → o ≡ Some n → HasData g (last_from n (steps_from g ps k n))) →
-        HasData g (last_from c (continued o (steps_from g ps k)))
-    by_next None on = here
-    by_next (Some n) on = on n refl
-
 -- labels of all data cells
 pub AreBasinLabels-all : (g : Grid) (ps : Products) (e : Extent) (labels : List ℕ) → AreNumbers g ps e 0 basin_label labels → AreBasinLabels g ps e labels
 AreBasinLabels-all g ps e labels are = record {
@@ -132,8 +123,8 @@ AreBasinLabels-all g ps e labels are = record {
   labels_are = are.numbers_are;
   some = are.some;
   shared = λ a b at_a at_b. (
-    (λ same. end_number-one g ps (run_end g ps a) (run_end g ps b) (run_end_data g ps (g.extent.rows * g.extent.cols) a at_a) (are.ends a at_a)
-        (run_end_data g ps (g.extent.rows * g.extent.cols) b at_b) (are.ends b at_b) (sym (are.numbers_are a at_a) ∙ (same ∙ are.numbers_are b at_b))),
+    (λ same. end_number-one g ps (run_end g ps a) (run_end g ps b) (last_data g ps (g.extent.rows * g.extent.cols) a at_a) (are.ends a at_a)
+        (last_data g ps (g.extent.rows * g.extent.cols) b at_b) (are.ends b at_b) (sym (are.numbers_are a at_a) ∙ (same ∙ are.numbers_are b at_b))),
     (λ share. are.numbers_are a at_a ∙ (ap (end_number g ps) share ∙ sym (are.numbers_are b at_b))),
   );
   voids = are.voids;

@@ -28,7 +28,7 @@ void_or ToNorth = inr (λ h. cc)
 void_or ToNorthEast = inr (λ h. cc)
 
 -- a walk over data cells stays on data cells
-last_data : (g : Grid) (ps : Products) (k : ℕ) (c : Cell) → HasData g c → HasData g (last_from c (steps_from g ps k c))
+pub last_data : (g : Grid) (ps : Products) (k : ℕ) (c : Cell) → HasData g c → HasData g (last_from c (steps_from g ps k c))
 last_data g ps zero c here = here
 last_data g ps (suc k) c here = by_next (next g ps c) (λ n leads. last_data g ps k n (HasData-next g ps c n leads))
   where

@@ -39,3 +39,9 @@ abbrev pub IsWayWithin : Extent → Way → Type 0
 IsWayWithin e way.Ends = Unit {0}
 IsWayWithin e (On n) = IsCellOf e n
 IsWayWithin e way.Lost = Unit {0}
+
+-- the flows name an end only at the cell itself, and lead on only to data
+abbrev pub IsWayOfFlows : Extent → List Flow → Cell → Way → Type 0
+IsWayOfFlows e flows c way.Ends = flow_at e flows c ≡ Ends
+IsWayOfFlows e flows c (On n) = flow_at e flows n ≢ Void
+IsWayOfFlows e flows c way.Lost = Unit {0}

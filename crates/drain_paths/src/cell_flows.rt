@@ -7,6 +7,7 @@ ghost use Rattle.drain_paths.specs.Flows.{flows_of};
 
 use crate::code_flows::byte_table;
 use crate::flow::{Flow, flow_of};
+use crate::ways::Ways;
 use drain_grid::OutOfMemory;
 use drain_pixels::{PixelNumbers, PixelRow, Pixels};
 use std::alloc::Global;
@@ -91,6 +92,15 @@ impl CellFlows {
         ensures { self.new ≡ slice_set self.old index Flow.Ends }
     {
         self.flows[index] = Flow::Ends;
+    }
+}
+
+impl Ways for CellFlows {
+    ghost flows = { λ f. f };
+
+    #[inline(always)]
+    fn flow(&self, place: usize) -> Flow {
+        self.at(place)
     }
 }
 

@@ -9,8 +9,8 @@ ghost use Rattle.drain_paths.specs.KnownFlows.{AreKnownFlows};
 
 use crate::cell_flows::CellFlows;
 use crate::flow::Flow;
-use crate::flow_walk::way_of;
 use crate::way::Way;
+use crate::ways::way_of;
 use drain_grid::{Cell, OutOfMemory, Shape};
 use std::alloc::Global;
 

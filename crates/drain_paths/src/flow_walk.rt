@@ -4,11 +4,11 @@ ghost use Rattle.std.specs.Prelude.{◌≡◌, ◌*◌, length, MatchOption};
 ghost use Rattle.drain_grid.specs.Extent.{IsCellOf};
 ghost use Rattle.drain_grid.specs.Grid.{Grid, Products, HasData};
 ghost use Rattle.drain_grid.specs.Run.{RunEnds};
-ghost use Rattle.drain_paths.specs.KnownFlows.{AreKnownFlows, IsKnownWay, IsWayWithin};
+ghost use Rattle.drain_paths.specs.KnownFlows.{AreKnownFlows};
 
 use crate::cell_flows::CellFlows;
-use crate::flow::Flow;
 use crate::way::Way;
+use crate::ways::way_of;
 use drain_grid::{Cell, Shape};
 
 /// How many steps lead from a data cell to one whose run is known to end, none if its own run doesn't end. Codes that
@@ -47,31 +47,5 @@ pub fn put_ends(flows: &mut CellFlows, shape: Shape, start: Cell, steps: usize)
             }
             _ => return,
         }
-    }
-}
-
-/// The way from a data cell.
-pub(crate) fn way_of(flows: &CellFlows, shape: Shape, cell: Cell) -> Way
-    requires counted { length flows.now ≡ shape.rows * shape.cols }
-    requires inside { IsCellOf shape cell }
-    ensures inside { IsWayWithin shape result }
-    ensures way { (g : Grid) → (ps : Products) → AreKnownFlows g ps shape flows.now → HasData g cell → IsKnownWay g ps cell result }
-{
-    let flow = flows.at(shape.index(cell));
-    if flow == Flow::Ends {
-        return Way::Ends;
-    }
-    let Some(direction) = flow.direction() else {
-        return Way::Lost;
-    };
-    match shape.step(cell, direction) {
-        Some(next) => {
-            if flows.at(shape.index(next)) == Flow::Void {
-                Way::Lost
-            } else {
-                Way::On(next)
-            }
-        }
-        None => Way::Lost,
     }
 }

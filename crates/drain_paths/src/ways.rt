@@ -4,15 +4,17 @@ ghost use Rattle.std.specs.Prelude.{◌≡◌, ◌≢◌, ◌<◌, ◌≤◌, �
 ghost use Rattle.drain_grid.specs.declared.direction.Direction.{Direction};
 ghost use Rattle.drain_grid.specs.Direction.{rows_down, cols_right};
 ghost use Rattle.drain_grid.specs.Extent.{IsCellOf};
-ghost use Rattle.drain_grid.specs.Grid.{HasData};
+ghost use Rattle.drain_grid.specs.Grid.{Grid, Products, HasData};
 ghost use Rattle.drain_grid.specs.Run.{next};
 ghost use Rattle.drain_paths.specs.declared.flow.Flow.{Flow};
 ghost use Rattle.drain_paths.specs.declared.flow.Flow.TheVariants.{Void};
 ghost use Rattle.drain_paths.specs.Flows.{direction_of, flow_at};
+ghost use Rattle.drain_paths.specs.KnownFlows.{AreKnownFlows, IsKnownWay, IsWayOfFlows, IsWayWithin};
 ghost use Rattle.drain_paths.specs.OfFlows.{OfFlows};
 ghost use Rattle.drain_paths.specs.Stepping.{stepped};
 
 use crate::flow::Flow;
+use crate::way::Way;
 use drain_grid::{Cell, Shape};
 
 /// The flow of each cell of a grid, in row order.
@@ -61,19 +63,38 @@ pub(crate) fn next_of<W: Ways>(ways: &W, shape: Shape, cell: Cell) -> Option<Cel
     ensures has_data { IfSome result (λ n. flow_at shape (W.flows ways.now) n ≢ Void) }
     ensures leads { OfFlows shape (W.flows ways.now) (λ g ps. HasData g cell → next g ps cell ≡ result) }
 {
+    match way_of(ways, shape, cell) {
+        Way::Ends => None,
+        Way::On(ahead) => Some(ahead),
+        Way::Lost => None,
+    }
+}
+
+/// The way from a data cell, from flows of which some may only record that a run ends.
+#[inline(always)]
+pub(crate) fn way_of<W: Ways>(ways: &W, shape: Shape, cell: Cell) -> Way
+    requires counted { length (W.flows ways.now) ≡ shape.rows * shape.cols }
+    requires inside { IsCellOf shape cell }
+    ensures inside { IsWayWithin shape result }
+    ensures flows { IsWayOfFlows shape (W.flows ways.now) cell result }
+    ensures way { (g : Grid) → (ps : Products) → AreKnownFlows g ps shape (W.flows ways.now) → HasData g cell → IsKnownWay g ps cell result }
+{
     let here = ways.flow(shape.index(cell));
+    if here == Flow::Ends {
+        return Way::Ends;
+    }
     if here.direction().is_none() {
-        return None;
+        return Way::Lost;
     }
     match step_by(shape, cell, down(here), right(here)) {
         Some(ahead) => {
             if ways.flow(shape.index(ahead)) == Flow::Void {
-                None
+                Way::Lost
             } else {
-                Some(ahead)
+                Way::On(ahead)
             }
         }
-        None => None,
+        None => Way::Lost,
     }
 }
 

@@ -1,0 +1,64 @@
+use Rattle.std.proofs.Common.{◌≡◌, ◌≢◌, ◌∙◌, ℕ, Option, Some, None, refl, sym, ap, subst, rules}
+use Rattle.drain_grid.specs.declared.cell.Cell.{Cell}
+use Rattle.drain_grid.specs.declared.direction.Direction.{Direction}
+use Rattle.drain_grid.specs.Direction.{rows_down, cols_right}
+use Rattle.drain_grid.specs.Extent.{IsCellOf, step}
+use Rattle.drain_grid.specs.Grid.{IsInside}
+use Rattle.drain_grid.specs.Size.{Extent}
+use Rattle.drain_paths.specs.Flows.{direction_of}
+use Rattle.drain_paths.specs.Stepping.{stepped}
+use Rattle.drain_paths.proofs.KnownWays.{known_at, stuck_nowhere, stuck_outside, stuck_void, leads_on}
+use Rattle.drain_paths.proofs.ways.way_of.Goals as goal
+
+some_direction : (o : Option Direction) → o ≢ None → (d : Direction) × (o ≡ Some d)
+some_direction None some = absurd (some refl)
+some_direction (Some d) some = (d, refl)
+
+step_is : (e : Extent) (c : Cell) (d : Direction) (down right : ℕ) (answer : Option Cell) → answer ≡ stepped e c down right → down ≡ rows_down d → right ≡ cols_right d →
+    step e c d ≡ answer
+step_is e c d down right answer is rows cols = sym (is ∙ (ap (λ n. stepped e c n right) rows ∙ ap (stepped e c (rows_down d)) cols))
+
+pub returns-then-is_none-clause-way : goal.returns-then-is_none-clause-way
+returns-then-is_none-clause-way t c = λ g ps known here.
+    stuck_nowhere g ps c.args.cell c.flow-here.result
+    (known_at g ps c.args.shape (t.W.Ways.flows c.args.ways.now) c.args.cell c.index.result c.flow-here.result known here.inside c.index.ensures.place c.flow-here.ensures)
+    here (search rules) (search rules)
+
+pub returns-then-eq-2-clause-way : goal.returns-then-eq-2-clause-way
+returns-then-eq-2-clause-way t c = λ g ps known here.
+    (let e = c.args.shape in
+    let flows = (t.W.Ways.flows c.args.ways.now) in
+    let n = c.in-Some.ahead in
+    let there : IsInside g n = subst (λ (x : Extent). IsCellOf x n) (sym known.extent) c.in-Some.ensures.inside in
+    let leads_on : direction_of c.flow-here.result ≢ None = search rules in
+    let way = some_direction (direction_of c.flow-here.result) leads_on in
+    let stepped_to = step_is e c.args.cell way.0 c.down.result c.right.result c.step_by.result c.step_by.ensures.place (c.down.ensures.rows way.0 way.1) (c.right.ensures.cols way.0 way.1) in
+    stuck_void g ps e known.extent c.args.cell c.flow-here.result
+    (known_at g ps e flows c.args.cell c.index.result c.flow-here.result known here.inside c.index.ensures.place c.flow-here.ensures)
+    way.0 n c.flow.result way.1 (stepped_to ∙ c.in-Some.is) (known_at g ps e flows n c.index-in-Some.result c.flow.result known there c.index-in-Some.ensures.place c.flow.ensures)
+    (search rules))
+
+pub returns-else-eq-2-clause-way : goal.returns-else-eq-2-clause-way
+returns-else-eq-2-clause-way t c = λ g ps known here.
+    (let e = c.args.shape in
+    let flows = (t.W.Ways.flows c.args.ways.now) in
+    let n = c.in-Some.ahead in
+    let there : IsInside g n = subst (λ (x : Extent). IsCellOf x n) (sym known.extent) c.in-Some.ensures.inside in
+    let leads : direction_of c.flow-here.result ≢ None = search rules in
+    let way = some_direction (direction_of c.flow-here.result) leads in
+    let stepped_to = step_is e c.args.cell way.0 c.down.result c.right.result c.step_by.result c.step_by.ensures.place (c.down.ensures.rows way.0 way.1) (c.right.ensures.cols way.0 way.1) in
+    leads_on g ps e known.extent c.args.cell c.flow-here.result
+    (known_at g ps e flows c.args.cell c.index.result c.flow-here.result known here.inside c.index.ensures.place c.flow-here.ensures)
+    way.0 n c.flow.result way.1 (stepped_to ∙ c.in-Some.is) (known_at g ps e flows n c.index-in-Some.result c.flow.result known there c.index-in-Some.ensures.place c.flow.ensures)
+    (search rules))
+
+pub returns-in-None-clause-way : goal.returns-in-None-clause-way
+returns-in-None-clause-way t c = λ g ps known here.
+    (let e = c.args.shape in
+    let flows = (t.W.Ways.flows c.args.ways.now) in
+    let leads : direction_of c.flow-here.result ≢ None = search rules in
+    let way = some_direction (direction_of c.flow-here.result) leads in
+    let stepped_to = step_is e c.args.cell way.0 c.down.result c.right.result c.step_by.result c.step_by.ensures.place (c.down.ensures.rows way.0 way.1) (c.right.ensures.cols way.0 way.1) in
+    stuck_outside g ps e known.extent c.args.cell c.flow-here.result
+    (known_at g ps e flows c.args.cell c.index.result c.flow-here.result known here.inside c.index.ensures.place c.flow-here.ensures)
+    way.0 way.1 (stepped_to ∙ c.in-None.is))
