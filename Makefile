@@ -8,6 +8,7 @@
 # make same      proves and builds from nothing, and compares with FILE=PROVED of a release
 # make test      passes everything: every proof and test, the edits of the gate, then the program's own tests
 # make companion-test   passes the companion's tests with build/drain, or with DRAIN=PROGRAM
+# make large     runs each command on 100 million cells: 4 GB of disk, 2 GB of memory, some minutes
 # make edits     tries all edits, those that the gate leaves out too; CRATES=".." names the crates (all of them)
 # make bench     measures it beside its twins in plain Rust (docs/BENCH.md)
 # make clean     drops what these made
@@ -28,7 +29,7 @@ build/drain.1: build/drain tools/man_page.py
 build/libdrain.a: FORCE
 	@tools/build_library.sh $@
 
-.PHONY: FORCE library demo install install-companion dist deb same test companion-test edits bench clean
+.PHONY: FORCE library demo install install-companion dist deb same test companion-test large edits bench clean
 
 demo:
 	@tools/run_demo.sh build/drain
@@ -55,6 +56,9 @@ deb: build/drain
 
 same:
 	@tools/same.sh "$(FILE)"
+
+large: build/drain
+	tests/program/sizes.py build/drain --largest
 
 edits:
 	tools/try_edits.sh $(CRATES)

@@ -1,12 +1,15 @@
 #!/usr/bin/env python3
-"""Tests of tools/try_named_edits.py: which edits it reads, what they change, and which of the prover's outputs are a
-refusal. No prover is run.
+"""Tests of tools/try_named_edits.py: which edits it reads, what they change, which of the prover's outputs are a
+refusal, and how it ends. No prover is run.
 
 Usage: tests/named_edits.py
 """
 
 import importlib.util
+import os
 import pathlib
+import shutil
+import subprocess
 import sys
 import tempfile
 import types
@@ -143,10 +146,10 @@ class Edits(unittest.TestCase):
             with self.subTest(name):
                 self.edit(text)
                 if not expected:
-                    try_named_edits.rounds_of(self.crate)
+                    try_named_edits.edits_of(self.crate)
                     continue
                 with self.assertRaises(try_named_edits.BadEdit) as bad:
-                    try_named_edits.rounds_of(self.crate)
+                    try_named_edits.edits_of(self.crate)
                 self.assertTrue(str(bad.exception).startswith("made/bug: "))
                 self.assertIn(expected, str(bad.exception))
 
@@ -159,7 +162,7 @@ class Edits(unittest.TestCase):
         self.edit("file: src/lib.rt\nold: two\nnew: three\nonly: two\n", "second")
         self.edit("file: src/rows.rt\nold: a()\nnew: c()\nonly: one\n", "third")
         self.edit("file: src/rows.rt\nold: a()\nnew: d()\n", "unnamed")
-        rounds = try_named_edits.rounds_of(self.crate)
+        rounds = try_named_edits.rounds_of(self.crate, try_named_edits.edits_of(self.crate))
         names = [[edit.name for edit in found.edits] for found in rounds]
         self.assertEqual(names, [["made/first", "made/third"], ["made/second"]])
 
@@ -169,7 +172,7 @@ class Edits(unittest.TestCase):
         (self.crate / "src/rows.rt").write_text(SOURCE + "const ONE: u32 = 1;\n", encoding="utf-8")
         self.edit("file: src/rows.rt\nold: = 1\nnew: = 2\n", "outside")
         left: list[str] = []
-        tried = [(edit.name, edit.only) for found in try_named_edits.rounds_of(self.crate, left) for edit in found.edits]
+        tried = [(edit.name, edit.only) for edit in try_named_edits.edits_of(self.crate, left)]
         self.assertEqual(tried, [("made/first", "one"), ("made/named", "rows::two")])
         self.assertEqual(left, ["made/outside"])
 
@@ -186,6 +189,63 @@ class Edits(unittest.TestCase):
             with self.subTest(name):
                 found = try_named_edits.verdict("made", edit, said)
                 self.assertEqual(found, (expected, expected.startswith("refused")))
+
+
+class Script(unittest.TestCase):
+    """The script in a repository of one crate, with a prover that prints a given text."""
+
+    def setUp(self) -> None:
+        scratch = tempfile.TemporaryDirectory()
+        self.addCleanup(scratch.cleanup)
+        self.top = pathlib.Path(scratch.name)
+        for name in ("try_named_edits.py", "gate_edits.py"):
+            self.write(f"tools/{name}", (ROOT / "tools" / name).read_text())
+        self.write("crates.txt", "made:\n")
+        self.write("crates/made/src/rows.rt", SOURCE)
+        edit = "file: src/rows.rt\nold: a()\nnew: c()\nonly: rows::Rows::next\n"
+        self.write("crates/made/more-edits/bug.edit", edit)
+        self.write("kit/rt", f'#!/bin/sh\n[ "$1" = doc ] && echo {self.top}/kit/START-HERE.md || echo kit 1\n')
+        self.write("kit/bin/rattle", f"#!/bin/sh\necho >>{self.top}/calls\ncat {self.top}/said\n")
+        (self.top / "kit/rlibs/core.rlib").mkdir(parents=True)
+
+    def write(self, name: str, text: str) -> None:
+        path = self.top / name
+        path.parent.mkdir(parents=True, exist_ok=True)
+        path.write_text(text)
+        path.chmod(0o755)
+
+    def status(self, said: str, *words: str) -> tuple[int, int]:
+        """How the script ends if the prover says this, and how often it called the prover."""
+        self.write("said", said)
+        self.write("calls", "")
+        path = f"{self.top}/kit:{os.environ['PATH']}"
+        env = {**os.environ, "PATH": path, "XDG_CACHE_HOME": str(self.top / "cache"), "GIT_CEILING_DIRECTORIES": "/"}
+        script = [self.top / "tools/try_named_edits.py", *words]
+        ended = subprocess.run(script, env=env, capture_output=True, check=False)
+        return ended.returncode, len((self.top / "calls").read_text())
+
+    def test_it_fails_where_an_edit_is_not_refused(self) -> None:
+        for name, said, expected in OUTPUTS:
+            with self.subTest(name):
+                for words in [], ["--gate"]:
+                    self.assertEqual(self.status(said, *words), (int(not expected.startswith("refused")), 1))
+                    shutil.rmtree(self.top / "cache", ignore_errors=True)
+
+    def test_every_fails_where_one_does_not_compile(self) -> None:
+        left = str(self.top / "left")
+        for name, said, expected in OUTPUTS:
+            with self.subTest(name):
+                self.assertEqual(self.status(said, "--every", left), (int("compile" in expected), 1))
+                is_left = not expected.startswith("refused")
+                self.assertEqual((self.top / "left").read_text(), "made/bug\n" if is_left else "")
+
+    def test_the_gate_tries_no_refused_one_again(self) -> None:
+        refused = ANSWERS + WRONG + NOT_PROVED + DONE
+        proved = "fn made::rows::Rows::next: proved\n" + DONE
+        self.assertEqual(self.status(proved, "--gate"), (1, 1))
+        self.assertEqual(self.status(refused, "--gate"), (0, 1))
+        self.assertEqual(self.status(proved, "--gate"), (0, 0))
+        self.assertEqual(self.status(refused), (0, 1))
 
 
 if __name__ == "__main__":

@@ -1,6 +1,7 @@
 #!/usr/bin/env bash
-# The merge gate: what documents name is there; every proof from nothing and the tests (rt ci); the edits that name their function;
-# then the program and its own tests, the documents' examples, a first run, releases, the companion, windows, and tests with memory refused.
+# The merge gate: what documents name is there; tests of the gate's scripts; every proof from nothing and the tests (rt ci); a part of the
+# wrong bodies (tools/gate_edits.py); then the program and its own tests, the documents' examples, a first run, releases, the companion,
+# windows, and tests with memory refused.
 # Each step from rt ci on ends with a line of its seconds: on the clock, and of processors.
 # Usage: tools/gate.sh
 set -euo pipefail
@@ -19,6 +20,8 @@ tools/check_readmes.py
 tools/library_example.py
 tests/check_docs.py
 tests/named_edits.py
+tests/gate_edits.py
+tests/gate_tools.py
 tools/check_docs.py
 sources=$(tools/sources_sum.sh)
 time rt ci
@@ -31,7 +34,7 @@ cp crates/drain/out/drain build/drain
 rm -f build/drain.o
 [ ! -f crates/drain/out/drain.o ] || cp crates/drain/out/drain.o build/drain.o
 tools/record_proof.sh build/drain "$sources"
-time tools/try_named_edits.py
+time tools/try_named_edits.py --gate
 time tools/check_docs.py build/drain
 time tools/build_library.sh build/libdrain.a .
 time tests/library.sh build/libdrain.a

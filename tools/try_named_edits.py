@@ -5,14 +5,18 @@ proof sees the contracts of what it calls and no body, so no edit helps another 
 libraries that rt ci built, so an edit takes some twenty seconds, while a try of the whole crate takes minutes.
 
 With --every the others are tried as well, each on the function that its first text is in. One that isn't refused there
-may be refused elsewhere in its crate: its name goes into FILE, and tools/try_edits.sh tries it on the whole crate. One that
-doesn't compile is a failure.
+may be refused elsewhere in its crate: its name goes into FILE, and tools/try_edits.sh tries it on the whole crate. One
+that doesn't compile is a failure.
+
+With --gate, as tools/gate.sh calls it right after rt ci, only those are tried that gate_edits.py chooses: not what was
+refused on this machine before, all of a crate whose contracts changed, and else those in a third of the
+crates.
 
 An edit is a file of must-fail/ or more-edits/ as rt reads it; rt ignores the line 'only:'. Every edit of a crate is
 read, also those that aren't tried: each line has to be one of 'file: PATH', 'old: TEXT', 'new: TEXT' and 'only: PATH',
 and each old text has to be in its file exactly once.
 
-Usage: tools/try_named_edits.py [--every FILE] [CRATE...]    (default: all crates)
+Usage: tools/try_named_edits.py [--gate | --every FILE] [CRATE...]    (default: all crates)
 """
 
 import argparse
@@ -24,8 +28,12 @@ import shutil
 import subprocess
 import sys
 import tempfile
-from collections.abc import Iterator
+from collections.abc import Iterator, Sequence
 from pathlib import Path
+
+sys.dont_write_bytecode = True
+sys.path.insert(0, str(Path(__file__).resolve().parent))
+from gate_edits import Choice, Kept, Sources  # noqa: E402
 
 TOP = Path(__file__).resolve().parent.parent
 
@@ -48,8 +56,9 @@ class Edit:
         self.name = f"{file.parent.parent.name}/{file.stem}"
         self.only: str | None = None
         self.changes: list[tuple[str, str, str]] = []
+        self.text = file.read_text()
         path = old = ""
-        for number, line in enumerate(file.read_text().splitlines(), 1):
+        for number, line in enumerate(self.text.splitlines(), 1):
             word, _, rest = line.partition(": ")
             if word == "file":
                 path = rest
@@ -136,10 +145,10 @@ def applied_alone(crate: Path, edit: Edit) -> dict[str, str]:
     return texts
 
 
-def rounds_of(crate: Path, left: list[str] | None = None) -> list[Round]:
-    """The edits of a crate that name a function, in rounds; all others are only read and put in. With a list the
-    function of each other edit is looked for, and the names of those that are in none are added to the list."""
-    rounds: list[Round] = []
+def edits_of(crate: Path, left: list[str] | None = None) -> list[Edit]:
+    """The edits of a crate that name a function; all others are only read and put in. With a list the function of each
+    other edit is looked for, and the names of those that are in none are added to the list."""
+    named = []
     for part in ("must-fail", "more-edits"):
         for file in sorted((crate / part).glob("*.edit")):
             edit = Edit(file)
@@ -148,8 +157,17 @@ def rounds_of(crate: Path, left: list[str] | None = None) -> list[Round]:
                 edit.find_function(crate)
                 if not edit.only:
                     left.append(edit.name)
-            if edit.only and not any(found.takes(edit) for found in rounds):
-                rounds.append(Round(crate, edit))
+            if edit.only:
+                named.append(edit)
+    return named
+
+
+def rounds_of(crate: Path, edits: Sequence[Edit]) -> list[Round]:
+    """These edits of a crate in rounds."""
+    rounds: list[Round] = []
+    for edit in edits:
+        if not any(found.takes(edit) for found in rounds):
+            rounds.append(Round(crate, edit))
     return rounds
 
 
@@ -262,34 +280,54 @@ def messages(said: str) -> Iterator[tuple[str, str]]:
     return ((found[1], found[2]) for found in re.finditer(at, said, re.M))
 
 
+def toolchain() -> str:
+    """The name of the toolchain."""
+    return subprocess.run(["rt", "version"], capture_output=True, text=True, check=True).stdout
+
+
 def main() -> None:
     """Tries the edits of the crates, prints a line for each, and fails if one isn't refused. With --every it fails only
     where an edit can't be read or doesn't compile."""
     words = argparse.ArgumentParser()
-    words.add_argument("--every", metavar="FILE", type=Path)
+    which = words.add_mutually_exclusive_group()
+    which.add_argument("--gate", action="store_true")
+    which.add_argument("--every", metavar="FILE", type=Path)
     words.add_argument("crates", nargs="*", metavar="CRATE")
     given = words.parse_args()
     left: list[str] | None = [] if given.every else None
     below = libraries()
-    passed = failed = broken = 0
     try:
-        rounds = [found for name in given.crates or below for found in rounds_of(TOP / "crates" / name, left)]
+        found = {name: edits_of(TOP / "crates" / name, left) for name in given.crates or below}
     except BadEdit as bad:
         sys.exit(str(bad))
+    edits = {name: named for name, named in found.items() if named}
+    choice = Choice(Sources(TOP, below, toolchain()), Kept(), edits) if given.gate else None
+    chosen = choice.chosen if choice else edits
+    rounds = [each for name, named in chosen.items() for each in rounds_of(TOP / "crates" / name, named)]
+    is_refused, is_broken = try_all(rounds, below, shows_why=left is None)
+    failed = sorted(name for name, is_right in is_refused.items() if not is_right)
+    if choice:
+        choice.keep(is_refused)
+        print(f"edits: {len(is_refused)} of {sum(map(len, edits.values()))} chosen")
+    print(f"edits: {len(is_refused) - len(failed)} passed, {len(failed)} failed")
+    if left is not None:
+        given.every.write_text("".join(f"{name}\n" for name in sorted([*left, *failed])))
+    sys.exit(is_broken or (left is None and len(failed) > 0))
+
+
+def try_all(rounds: list[Round], below: dict[str, list[str]], shows_why: bool) -> tuple[dict[str, bool], bool]:
+    """Tries rounds side by side and prints a line for each edit: which were refused, and whether one isn't code."""
+    is_refused: dict[str, bool] = {}
+    is_broken = False
     with concurrent.futures.ThreadPoolExecutor(int(os.environ.get("RT_JOBS") or os.cpu_count() or 1)) as pool:
         for run in [pool.submit(tried, together, below) for together in rounds]:
             for name, (line, is_right, said) in run.result().items():
-                passed, failed = passed + is_right, failed + (not is_right)
+                is_refused[name] = is_right
+                is_broken |= NO_CODE in line
                 print(f"{name}: {line}", flush=True)
-                broken += NO_CODE in line
-                if left is not None and not is_right:
-                    left.append(name)
-                elif not is_right:
+                if shows_why and not is_right:
                     print(said[-2000:])
-    print(f"edits: {passed} passed, {failed} failed")
-    if left is not None:
-        given.every.write_text("".join(f"{name}\n" for name in sorted(left)))
-    sys.exit(broken > 0 or (left is None and failed > 0))
+    return is_refused, is_broken
 
 
 if __name__ == "__main__":

@@ -42,19 +42,10 @@ put_ranks() {
         'as they should be') header_of 32 '' >"$hdr" && numbers 4 0 0 0 0 1 0 0 0 0 >"$bil" ;;
         'that are all 0') header_of 32 '' >"$hdr" && numbers 4 0 0 0 0 0 0 0 0 0 >"$bil" ;;
         'that are all no data') header_of 32 '' >"$hdr" && head -c 36 /dev/zero | tr '\0' '\377' >"$bil" ;;
-        'without a raster') header_of 32 '' >"$hdr" ;;
-        'without a header') numbers 4 0 0 0 0 1 0 0 0 0 >"$bil" ;;
-        'in a short raster') header_of 32 '' >"$hdr" && numbers 4 0 0 0 0 >"$bil" ;;
-        'of another place') header_of 32 '' 9 >"$hdr" && numbers 4 0 0 0 0 1 0 0 0 0 >"$bil" ;;
-        'in empty files') : >"$hdr" && : >"$bil" ;;
-        'in words that are no header') echo 'NROWS none' >"$hdr" && echo none >"$bil" ;;
-        'in folders') mkdir "$hdr" "$bil" ;;
-        'in links to nothing') ln -s none "$hdr" && ln -s none "$bil" ;;
-        'in pipes that nobody writes') mkfifo "$hdr" "$bil" ;;
+        *) spoil "$check/out/rnk" "$1" ;;
     esac
 }
-for what in 'as they should be' 'that are all 0' 'that are all no data' 'without a raster' 'without a header' 'in a short raster' \
-    'of another place' 'in empty files' 'in words that are no header' 'in folders' 'in links to nothing' 'in pipes that nobody writes'; do
+for what in 'as they should be' 'that are all 0' 'that are all no data' "${spoiled[@]}"; do
     make_bare
     put_ranks "$what"
     judge_bare "an audit with ranks $what" 0 "$pit_checked"

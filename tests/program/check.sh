@@ -81,17 +81,14 @@ numbers 4 1 2 3 4 6 7 5 6 7 >"$check/out/bas.bil"
 numbers 4 0 0 0 0 0 0 0 0 0 >"$check/out/rnk.bil"
 judge_pit 'a pit raised too high' 1 'rejected rule=9 NotLeast row=1 col=1'
 
-# Spill parents, which only `drain fill` needs, may be in the folder: they aren't opened.
-put_spill_parents() {
-    local hdr=$check/out/spl.hdr bil=$check/out/spl.bil
-    case $1 in
-        'as they should be') header_of 8 '' >"$hdr" && numbers 1 0 0 0 0 1 0 0 0 0 >"$bil" ;;
-        'that are no codes') header_of 8 '' >"$hdr" && numbers 1 3 3 3 3 3 3 3 3 3 >"$bil" ;;
-        'that are all no data') header_of 8 '' >"$hdr" && printf '\xff%.0s' 1 2 3 4 5 6 7 8 9 >"$bil" ;;
-        'without a raster') header_of 8 '' >"$hdr" ;;
-        'without a header') numbers 1 0 0 0 0 1 0 0 0 0 >"$bil" ;;
-        'in a short raster') header_of 8 '' >"$hdr" && numbers 1 0 0 0 0 >"$bil" ;;
-        'of another place') header_of 8 '' 9 >"$hdr" && numbers 1 0 0 0 0 1 0 0 0 0 >"$bil" ;;
+# Files that are no right raster, in the place of a product's: its path without an ending, and what they are.
+spoil() {
+    local hdr=$1.hdr bil=$1.bil
+    case $2 in
+        'without a raster') header_of 32 '' >"$hdr" ;;
+        'without a header') numbers 4 0 0 0 0 1 0 0 0 0 >"$bil" ;;
+        'in a short raster') header_of 32 '' >"$hdr" && numbers 4 0 0 0 0 >"$bil" ;;
+        'of another place') header_of 32 '' 9 >"$hdr" && numbers 4 0 0 0 0 1 0 0 0 0 >"$bil" ;;
         'in empty files') : >"$hdr" && : >"$bil" ;;
         'in words that are no header') echo 'NROWS none' >"$hdr" && echo none >"$bil" ;;
         'in folders') mkdir "$hdr" "$bil" ;;
@@ -99,8 +96,20 @@ put_spill_parents() {
         'in pipes that nobody writes') mkfifo "$hdr" "$bil" ;;
     esac
 }
-for what in 'as they should be' 'that are no codes' 'that are all no data' 'without a raster' 'without a header' 'in a short raster' \
-    'of another place' 'in empty files' 'in words that are no header' 'in folders' 'in links to nothing' 'in pipes that nobody writes'; do
+spoiled=('without a raster' 'without a header' 'in a short raster' 'of another place' 'in empty files'
+    'in words that are no header' 'in folders' 'in links to nothing' 'in pipes that nobody writes')
+
+# Spill parents, which only `drain fill` needs, may be in the folder: they aren't opened.
+put_spill_parents() {
+    local hdr=$check/out/spl.hdr bil=$check/out/spl.bil
+    case $1 in
+        'as they should be') header_of 8 '' >"$hdr" && numbers 1 0 0 0 0 1 0 0 0 0 >"$bil" ;;
+        'that are no codes') header_of 8 '' >"$hdr" && numbers 1 3 3 3 3 3 3 3 3 3 >"$bil" ;;
+        'that are all no data') header_of 8 '' >"$hdr" && printf '\xff%.0s' 1 2 3 4 5 6 7 8 9 >"$bil" ;;
+        *) spoil "$check/out/spl" "$1" ;;
+    esac
+}
+for what in 'as they should be' 'that are no codes' 'that are all no data' "${spoiled[@]}"; do
     make_pit
     put_spill_parents "$what"
     judge_pit "spill parents $what" 0 "$pit_checked"

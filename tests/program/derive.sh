@@ -91,10 +91,7 @@ for what in 'of other numbers' 'in empty files' 'in folders' 'in links to nothin
     out=$given
     case $what in
         'of other numbers') for name in con spl; do echo 'of before' | tee "$given/$name.hdr" >"$given/$name.bil"; done ;;
-        'in empty files') : >"$given/con.hdr" && : >"$given/con.bil" ;;
-        'in folders') mkdir "$given/con.hdr" "$given/con.bil" ;;
-        'in links to nothing') ln -s none "$given/con.hdr" && ln -s none "$given/con.bil" ;;
-        'in pipes that nobody writes') mkfifo "$given/con.hdr" "$given/con.bil" ;;
+        *) spoil "$given/con" "$what" ;;
     esac
     before=$(ls -A "$given")
     judge_given "derived beside rasters $what" 0 "$pit_derived"

@@ -1,7 +1,8 @@
 #!/usr/bin/env python3
-"""Explains sets of other tools, real terrain and small random sets, and compares each page, object and map with plain ones.
+"""Explains sets of other tools, real terrain and small random sets, whole and by each list of rasters, and compares each
+page, object and map with plain ones.
 
-explain.py DRAIN     prints how many sets passed
+explain.py DRAIN     prints how many explanations passed
 
 plain_page.py writes the pages and objects. The line and status are those of `drain check` or `drain audit`.
 """
@@ -17,8 +18,9 @@ from itertools import zip_longest
 from pathlib import Path
 
 sys.dont_write_bytecode = True
+from audit import LISTS
 from make_products import PRODUCTS, fixed
-from plain_faults import Explained
+from plain_faults import ALL_NO_DATA, Explained, ground
 from plain_page import Page
 from random_audits import Case
 from worked_sets import WORKED
@@ -88,13 +90,17 @@ class Sets:
         self.passed, self.failed = 0, 0
 
     def judge(self, name, side, folder, sinks, tiles, ranks):
+        """Compares the explanation of all rasters, with ranks or not, and that of each list."""
         words = ["--side", str(side), "--products", str(folder), *(["--sinks", str(sinks)] if sinks else []), *map(str, tiles)]
-        try:
-            Explanation(self.drain, words, Explained(side, folder, sinks, tiles, ranks), self.scratch).compare()
-            self.passed += 1
-        except Wrong as wrong:
-            self.failed += 1
-            print(f"FAILED {name}: {wrong}")
+        mosaic, terrain = ground(side, tiles, sinks)
+        whole = [name for name in ALL_NO_DATA if ranks or name != "rnk"]
+        for given, only in [(whole, []), *((list_.split(","), ["--only", list_]) for list_ in LISTS)]:
+            try:
+                Explanation(self.drain, [*only, *words], Explained(mosaic, terrain, folder, given), self.scratch).compare()
+                self.passed += 1
+            except Wrong as wrong:
+                self.failed += 1
+                print(f"FAILED {' '.join([name, *only])}: {wrong}")
 
     def samples(self):
         for folder in sorted((SAMPLES / "other-tools").iterdir()):

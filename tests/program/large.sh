@@ -86,12 +86,5 @@ for kind in checkers scattered; do
     dd if="$large/first" of="$large/out/bas.bil" bs=4 seek=201600 conv=notrunc status=none
     judge_both "the first label at the last of 151,425 outlets, $kind" 1 'rejected rule=15 SharedLabel row=448 col=448' --side 449
 done
-
-# A list with each of 40,401 cells, and without the last one that isn't on the border.
-make_large listed
-judge_both '40,401 sinks' 0 'accepted rows=201 cols=201 data=40401 raised=0 outlets=40401' --side 201 --sinks "$large/sinks.txt"
-judge_made '40,401 sinks' 'made rows=201 cols=201' --side 201 --sinks "$large/sinks.txt"
-sed -i '/^199 199$/d' "$large/sinks.txt"
-judge_both '40,400 sinks' 1 'rejected rule=12 FlatStep row=199 col=199' --side 201 --sinks "$large/sinks.txt"
 rm -rf "$large"
 patience=60

@@ -7,6 +7,7 @@ large_sets.py ring FOLDER       the same with directions that lead round a ring 
 large_sets.py checkers FOLDER   a level tile of side 449, a void in each odd row and column: 151,425 outlets
 large_sets.py scattered FOLDER  the same with labels up to 2^32
 large_sets.py listed FOLDER     a level tile of side 201 with each of its cells listed as a sink
+large_sets.py reports FOLDER    reports on 10,000 windows of a level tile of side 102, whose cells drain to the north
 
 FOLDER gets the tiles, out/ the products, and sinks.txt a list of sinks.
 """
@@ -22,9 +23,9 @@ from make_products import PRODUCTS, VOID, header
 
 TILE = "N00E000.hgt"
 EAST, SOUTH, WEST, NORTH = 1, 4, 16, 64
-FUNNEL_DOWN, FUNNEL_ACROSS = 3, 4
 FUNNEL_SIDE, BENDS_SIDE, CHECKERS_SIDE, LISTED_SIDE = 1201, 1201, 449, 201
 LEVEL = 5
+REPORTS_SIDE = 102
 
 Numbers = dict[str, list[int]]
 
@@ -42,14 +43,14 @@ def write_products(folder: Path, side: int, products: Numbers) -> None:
         (folder / f"out/{name}.bil").write_bytes(array(form, products[name]).tobytes())
 
 
-def funnel(folder: Path, side: int = FUNNEL_SIDE) -> None:
+def funnel(folder: Path, side: int = FUNNEL_SIDE, tiles_down: int = 3, tiles_across: int = 4) -> None:
     """The height of a cell is its row, or how far it is from the middle column, whichever is more."""
     step = side - 1
-    cols = FUNNEL_ACROSS * step + 1
+    cols = tiles_across * step + 1
     middle = cols // 2
     aside = struct.pack(f">{cols}h", *(abs(col - middle) for col in range(cols)))
-    for down in range(FUNNEL_DOWN):
-        tiles: list[list[bytes]] = [[] for _ in range(FUNNEL_ACROSS)]
+    for down in range(tiles_down):
+        tiles: list[list[bytes]] = [[] for _ in range(tiles_across)]
         for row in range(down * step, down * step + side):
             near = min(row, middle)
             level = struct.pack(">h", row) * (2 * near + 1)
@@ -57,7 +58,7 @@ def funnel(folder: Path, side: int = FUNNEL_SIDE) -> None:
             for across, tile in enumerate(tiles):
                 tile.append(heights[2 * across * step : 2 * (across * step + side)])
         for across, tile in enumerate(tiles):
-            (folder / f"N{FUNNEL_DOWN - 1 - down:02d}E{across:03d}.hgt").write_bytes(b"".join(tile))
+            (folder / f"N{tiles_down - 1 - down:02d}E{across:03d}.hgt").write_bytes(b"".join(tile))
 
 
 def edge(side: int) -> Iterator[int]:
@@ -130,14 +131,55 @@ def scattered(folder: Path) -> None:
     checkers(folder, lambda number: number * 2654435761 % 2**32)
 
 
-def listed(folder: Path) -> None:
-    side = LISTED_SIDE
+def listed(folder: Path, side: int = LISTED_SIDE) -> None:
     write_tile(folder, [LEVEL] * side * side)
     write_products(folder, side, level_products(side, list(range(side * side))))
     (folder / "sinks.txt").write_text("".join(f"{row} {col}\n" for row in range(side) for col in range(side)))
 
 
-SETS = {it.__name__: it for it in (funnel, bends, ring, checkers, scattered, listed)}
+def numbers_at(row: int, col: int) -> tuple[int, int, int]:
+    """The direction, count and label of a cell of the level tile of the reports: those off the border drain north."""
+    last = REPORTS_SIDE - 1
+    if row < last and 0 < col < last:
+        return NORTH if row else 0, last - row, col + 1
+    if row in (0, last):
+        return 0, 1, col + 1 + (3 * last - 1 if row else 0)
+    return 0, 1, last + 2 * row + (col > 0)
+
+
+def report(row: int, col: int) -> str:
+    """The report on the window of 3 by 3 cells that begins at this cell."""
+    last = REPORTS_SIDE - 1
+    top, left = 89 * last, 180 * last
+    north, south, west, east = row > 0, row + 2 < last, col > 0, col + 2 < last
+    places = [(down, across) for down in range(3) for across in range(3)]
+    unjudged = {(0, it) for it in range(3) if north} | {(2, it) for it in range(3) if south}
+    unjudged |= {(it, 0) for it in range(3) if west} | {(it, 2) for it in range(3) if east}
+    near = {it for it in places if north and it[0] < 2 or south and it[0] or west and it[1] < 2 or east and it[1]}
+    outlets, seams = [], []
+    for down, across in places:
+        place = f"{top + row + down} {left + col + across}"
+        code, count, label = numbers_at(row + down, col + across)
+        if code == 0 and (down, across) not in unjudged:
+            outlets.append(f"outlet {label} {place}\n")
+        if (down, across) in near:
+            seams.append(f"seam {place} {LEVEL} 0 {LEVEL} {code} {count} {label} 0 {LEVEL}\n")
+    return (
+        f"drain-window-report 1\nside {REPORTS_SIDE}\n"
+        f"window {top + row} {left + col} 3 3 {north:d} {south:d} {west:d} {east:d}\n"
+        f"nodata -32768 255 0 0 255 -32768\naccepted 3 3 {9 - len(unjudged)} 0 {len(outlets)}\n"
+        f"tiles 1\ntile {TILE}\nsinks 0\noutlets {len(outlets)}\n{''.join(outlets)}"
+        f"seams {len(seams)}\n{''.join(seams)}end\n"
+    )
+
+
+def reports(folder: Path) -> None:
+    for row in range(REPORTS_SIDE - 2):
+        for col in range(REPORTS_SIDE - 2):
+            (folder / f"{row:03d}-{col:03d}.txt").write_text(report(row, col))
+
+
+SETS = {it.__name__: it for it in (funnel, bends, ring, checkers, scattered, listed, reports)}
 
 
 def main() -> int:

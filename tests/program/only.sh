@@ -34,23 +34,15 @@ judge_only() {
 
 # Changes the files of rasters that a list doesn't have.
 spoil_others() {
-    local name hdr bil
+    local name file
     for name in con dir acc bas rnk; do
         has "$1" "$name" && continue
-        hdr=$check/out/$name.hdr bil=$check/out/$name.bil
-        rm -rf "$hdr" "$bil"
+        file=$check/out/$name
+        rm -rf "$file".{hdr,bil}
         case $2 in
             'that are missing') ;;
-            'without a header') numbers 1 0 0 0 0 1 0 0 0 0 >"$bil" ;;
-            'without a raster') header_of 32 '' >"$hdr" ;;
-            'in a short raster') header_of 32 '' >"$hdr" && numbers 4 0 0 0 0 >"$bil" ;;
-            'of another place') header_of 32 '' 9 >"$hdr" && numbers 4 0 0 0 0 1 0 0 0 0 >"$bil" ;;
-            'of other numbers') header_of 8 '' >"$hdr" && numbers 1 3 3 3 3 3 3 3 3 3 >"$bil" ;;
-            'in empty files') : >"$hdr" && : >"$bil" ;;
-            'in words that are no header') echo 'NROWS none' >"$hdr" && echo none >"$bil" ;;
-            'in folders') mkdir "$hdr" "$bil" ;;
-            'in links to nothing') ln -s none "$hdr" && ln -s none "$bil" ;;
-            'in pipes that nobody writes') mkfifo "$hdr" "$bil" ;;
+            'of other numbers') header_of 8 '' >"$file.hdr" && numbers 1 3 3 3 3 3 3 3 3 3 >"$file.bil" ;;
+            *) spoil "$file" "$2" ;;
         esac
     done
 }
@@ -63,8 +55,7 @@ judge_audit 'a list, and tiles behind two dashes' 0 "$pit_checked" --only con,di
 
 # A right pit, beside rasters that aren't listed. They aren't opened.
 for list in $lists; do
-    for what in 'that are missing' 'without a header' 'without a raster' 'in a short raster' 'of another place' 'of other numbers' \
-        'in empty files' 'in words that are no header' 'in folders' 'in links to nothing' 'in pipes that nobody writes'; do
+    for what in 'that are missing' 'of other numbers' "${spoiled[@]}"; do
         make_bare
         spoil_others "$list" "$what"
         judge_only "a pit, beside rasters $what" "$list" "$(accepted_as "$list" "$pit_checked")"

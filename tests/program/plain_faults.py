@@ -1,9 +1,10 @@
-"""Counts the faults of products rule by rule, as docs/RULES.md has the rules: slow and plain, for grids of up to some 200,000 cells."""
+"""Counts the faults of given products rule by rule, as docs/RULES.md has the rules: slow and plain, for grids of up to
+some 200,000 cells."""
 
 import sys
 
 sys.dont_write_bytecode = True
-from audit import NO_DATA, STATUSES, AuditRules, contents, first_endless
+from audit import RULES_ABOUT, STATUSES, AuditRules, contents, first_endless, line_of
 from make_products import PRODUCTS, RULES, Rules, Terrain, verdict
 from plain_inputs import Header, Mosaic, listed_sinks
 
@@ -19,21 +20,28 @@ class CheckRules(Rules):
         self.nodata = nodata
 
 
-class Explained:
-    """What there is to report of products that aren't refused: of five with ranks, of four without."""
+def ground(side, tiles, sinks):
+    """The mosaic of these tiles, and its terrain with the listed sinks."""
+    mosaic = Mosaic(side, [tile.name.encode() for tile in tiles])
+    z = mosaic.elevations([contents(tile) for tile in tiles])
+    listed = listed_sinks(contents(sinks) if sinks else b"")
+    return mosaic, Terrain(mosaic.rows, mosaic.cols, z, [(row, col) for _, row, col in listed])
 
-    def __init__(self, side, folder, sinks, tiles, ranks):
-        self.ranks = ranks
-        self.mosaic = Mosaic(side, [tile.name.encode() for tile in tiles])
-        numbers = ALL_NO_DATA if ranks else NO_DATA
-        headers = {name: Header(contents(folder / f"{name}.hdr")) for name in numbers}
-        products = {name: headers[name].pixels(contents(folder / f"{name}.bil")) for name in numbers}
-        nodata = {name: blank if headers[name].nodata is None else headers[name].nodata for name, blank in numbers.items()}
-        z = self.mosaic.elevations([contents(tile) for tile in tiles])
-        listed = listed_sinks(contents(sinks) if sinks else b"")
-        self.terrain = Terrain(self.mosaic.rows, self.mosaic.cols, z, [(row, col) for _, row, col in listed])
-        kind = CheckRules if ranks else AuditRules
-        self.rules = kind(self.terrain, products, nodata)
+
+class Explained:
+    """What there is to report of given products that aren't refused, as con and dir; with rnk it is a check."""
+
+    def __init__(self, mosaic, terrain, folder, given):
+        self.mosaic, self.terrain = mosaic, terrain
+        self.ranks = "rnk" in given
+        headers = {name: Header(contents(folder / f"{name}.hdr")) for name in given}
+        products = {name: headers[name].pixels(contents(folder / f"{name}.bil")) for name in given}
+        blank = {name: ALL_NO_DATA[name] if headers[name].nodata is None else headers[name].nodata for name in given}
+        self.rules = (CheckRules if self.ranks else AuditRules)(terrain, products, blank)
+        about = set().union(*(RULES_ABOUT.get(name, set()) for name in given))
+        self.tried = [rule for rule in RULES if rule[0] in about]
+        self.line = verdict(self.rules) if self.ranks else line_of(terrain, products, blank)
+        self.endless = first_endless(self.rules) if "dir" in given else None
         self.count()
 
     def place(self, cell):
@@ -46,10 +54,10 @@ class Explained:
     def count(self):
         """The cells at which each rule fails, and the least rule that fails at each cell."""
         cells = range(len(self.terrain.z))
-        failing = {number: [cell for cell in cells if not getattr(self.rules, holds)(cell)] for number, _, holds in RULES}
-        self.by_rule = [{"rule": number, "name": name, **self.faults(failing[number])} for number, name, _ in RULES]
+        failing = {number: [cell for cell in cells if not getattr(self.rules, holds)(cell)] for number, _, holds in self.tried}
+        self.by_rule = [{"rule": number, "name": name, **self.faults(failing[number])} for number, name, _ in self.tried]
         self.map = bytearray(SOUND_VOID if ground is None else SOUND for ground in self.terrain.z)
-        for number, _, _ in reversed(RULES):
+        for number, _, _ in reversed(self.tried):
             for cell in failing[number]:
                 self.map[cell] = number
         self.by_product = []
@@ -60,16 +68,9 @@ class Explained:
             self.by_product.append({"product": name, "at_voids": self.faults(at_voids), "at_data": self.faults(at_data)})
         failing_cells = [cell for cells_of_rule in failing.values() for cell in cells_of_rule]
         self.first = min(failing_cells, default=None)
-        self.endless = first_endless(self.rules)
-
-    def line(self):
-        if not self.ranks and self.endless is not None:
-            place = self.place(self.endless)
-            return f"rejected NoEnd row={place['row']} col={place['col']}"
-        return verdict(self.rules)
 
     def status(self):
-        return STATUSES.index(self.line().split(" ")[0])
+        return STATUSES.index(self.line.split(" ")[0])
 
     def ring_or_lost(self):
         """The first run without an end: the ring that it reaches, from its first cell on, or the cell where it leads nowhere."""

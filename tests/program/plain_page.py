@@ -8,7 +8,7 @@ import sys
 from fractions import Fraction
 
 sys.dont_write_bytecode = True
-from make_products import RULES, STEPS, key
+from make_products import PRODUCTS, RULES, STEPS, key
 from plain_faults import Explained
 
 PLACES = 10**7
@@ -17,6 +17,7 @@ LETTERS = {1: "E", 2: "SE", 4: "S", 8: "SW", 16: "W", 32: "NW", 64: "N", 128: "N
 OPENINGS = {"sink": "at a listed sink", "edge": "on the edge of the mosaic", "void": "next to a void"}
 LOST = {"no_code": "is no direction code", "outside": "points outside the mosaic", "void": "points to a void"}
 ANY_CODE = [0, *STEPS]
+ALL_RULES = sorted([(6, "NoSpill"), (7, "SpillHeight"), (8, "SpillRank"), *((number, name) for number, name, _ in RULES)])
 
 
 def degrees_text(degrees: Fraction) -> str:
@@ -35,7 +36,7 @@ class Expected:
 
     def __init__(self, plain: Explained, cell: int) -> None:
         self.plain, self.cell, self.rules = plain, cell, plain.rules
-        self.rule, self.name, holds = next(rule for rule in RULES if not getattr(self.rules, rule[2])(cell))
+        self.rule, self.name, holds = next(rule for rule in plain.tried if not getattr(self.rules, rule[2])(cell))
         self.product: str | None = None
         self.number: int | None = None
         self.at_fault: list[str] = []
@@ -175,7 +176,7 @@ class Page:
 
     def as_object(self) -> dict:
         return {
-            "answer": self.plain.line(),
+            "answer": self.plain.line,
             "refusal": None,
             "rows": self.plain.terrain.rows,
             "cols": self.plain.terrain.cols,
@@ -213,8 +214,7 @@ class Page:
         return {
             "ground": self.rules.z[cell],
             "sink": cell in self.plain.terrain.sinks,
-            **shown,
-            "rnk": shown.get("rnk"),
+            **{name: shown.get(name) for name, *_ in PRODUCTS},
         }
 
     def patch_object(self) -> dict | None:
@@ -237,7 +237,7 @@ class Page:
     # As text
 
     def as_text(self) -> str:
-        parts = [[self.plain.line()], self.rule_lines()]
+        parts = [[self.plain.line], self.rule_lines()]
         if self.expected:
             parts.append([*self.patch_lines(), *self.expected.lines()])
         if self.ring is not None or self.lost is not None:
@@ -262,7 +262,9 @@ class Page:
             heading = f"{'rule':15}{'cells':>10}{'row':>7}{'column':>7}{'longitude':>14}{'latitude':>14}"
             lines.insert(0, heading)
         holding = ", ".join(f"{rule['rule']} {rule['name']}" for rule in self.plain.by_rule if not rule["cells"])
-        lines += [f"hold: {holding or 'none'}", "not tried: 6 NoSpill, 7 SpillHeight, 8 SpillRank"]
+        tried = [number for number, _, _ in self.plain.tried]
+        untried = ", ".join(f"{number} {name}" for number, name in ALL_RULES if number not in tried)
+        lines += [f"hold: {holding or 'none'}", f"not tried: {untried}"]
         return lines if self.plain.ranks else [*lines, "ranks: not checked"]
 
     def cell_words(self, cell: int) -> str:

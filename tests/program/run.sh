@@ -77,12 +77,10 @@ done < <(sed -E 's/ *\| */|/g; s/^ +| +$//g' "$here/table.txt")
 . "$here/only.sh"
 . "$here/derive.sh"
 . "$here/explain.sh"
+. "$here/window.sh"
+. "$here/links.sh"
 . "$here/refusals.sh"
 . "$here/progress.sh"
-
-# A static program is linked from the same object: it is spared the large inputs.
-is_static() { ! LC_ALL=C readelf -lW "$drain" | grep -qw INTERP; }
-command -v readelf >/dev/null && is_static || . "$here/large.sh"
 
 # Adds the runs that another program checked: it prints those that failed, and in its last line 'NAME: N passed, M
 # failed'.
@@ -99,6 +97,13 @@ add_runs() {
     fi
 }
 
+# A static program is linked from the same object: it is spared the large inputs.
+is_static() { command -v readelf >/dev/null && ! LC_ALL=C readelf -lW "$drain" | grep -qw INTERP; }
+is_static || {
+    . "$here/large.sh"
+    add_runs "$here/sizes.py" "$drain"
+}
+
 add_runs "$here/worked_lines.py" "$drain"
 add_runs "$here/cut_inputs.py" "$drain"
 add_runs "$here/random_audits.py" "$drain"
@@ -108,7 +113,7 @@ add_runs "$here/explain.py" "$drain"
 # program loads no library.
 compiler=$(dirname "$(readlink -f "$(command -v rt)")")/../toolchain/bin/clang
 [ -x "$compiler" ] || compiler=$(command -v cc)
-if command -v readelf >/dev/null && is_static; then
+if is_static; then
     echo "a static program, which reads no LD_PRELOAD: none of its calls is made to fail (tests/program/faults.py is left out)"
 elif [ -n "$compiler" ]; then
     "$compiler" -O2 -Wall -shared -fPIC -nostdlib -o "$scratch/fail_calls.so" "$here/../fail_calls.c" || exit 1
