@@ -1,4 +1,6 @@
+mod BrokenRules
 mod EndlessTold
 mod LineSteps
 mod Noting
+mod TriedRules
 mod UntriedRules

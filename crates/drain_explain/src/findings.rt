@@ -1,6 +1,6 @@
 //! What the rules say of every cell of a mosaic, and which rules and products were looked at.
 
-ghost use Rattle.std.specs.Prelude.{◌≡◌, IsTrue};
+ghost use Rattle.std.specs.Prelude.{◌≡◌, ◌≢◌, IsTrue};
 ghost use Rattle.drain_grid.specs.declared.patch.Patch.{Patch};
 ghost use Rattle.drain_explain.specs.Findings.{judged, looks_at, rules_of};
 
@@ -47,8 +47,13 @@ impl Findings {
 
     /// Whether the rule was tried: not if it judges a product that wasn't looked at, or none of a set.
     pub fn tries(&self, rule: Rule) -> bool
-        // A rule from VoidCell to Label that wasn't tried is none of those that were checked: it requires nothing.
+        // A rule from VoidCell to Label that was tried requires something: some patch breaks it. One that wasn't is
+        // none of those that were checked: every patch keeps it.
+        ensures tried { IsTrue result → rule ≢ Rule.SharedLabel → (p : Patch) × ¬ rules_of self.now p rule }
         ensures untried { ¬ IsTrue result → (p : Patch) → rules_of self.now p rule }
+
+        // SharedLabel compares cells, so no patch breaks it: it was tried if labels were looked at.
+        ensures shared { rule ≡ Rule.SharedLabel → result ≡ looks_at self.now SetProduct.Bas }
     {
         match rule {
             Rule::VoidCell | Rule::Missing => true,
