@@ -29,6 +29,8 @@ struct InMemory<'a> {
 }
 
 impl<'a> SecondLook for InMemory<'a> {
+    ghost shows = { λ look place start metres. ⊥ };
+
     fn tile_length(&mut self, _place: usize) -> Option<u64> {
         None
     }

@@ -1,5 +1,5 @@
 -- What an explanation reports of refused inputs: what was expected, and what was found.
-use Rattle.std.specs.Prelude.{◌≡◌, ◌≢◌, ℕ, List, [], Ok, Some, slice_get}
+use Rattle.std.specs.Prelude.{◌≡◌, ℕ, ℤ, List, [], Ok, Some, slice_get}
 use Rattle.drain_answer.specs.declared.refusal.Refusal.{Refusal}
 use Rattle.drain_answer.specs.declared.refusal.Refusal.TheVariants as refusal
 use Rattle.drain_grid.specs.declared.product.Product.{Product}
@@ -14,9 +14,10 @@ use Rattle.drain_hgt.specs.Samples.{tile_length}
 use Rattle.drain_mosaic.specs.Tiling.{Tiling, extent_of, north_edge, spacing_of, west_edge}
 use Rattle.drain_raster.specs.Pixels.{needed_len}
 use Rattle.drain_verdict.specs.Stages.{IsLayoutOf}
+use Rattle.drain_explain.specs.SeamDetails.{IsSeamDetail}
 use Rattle.drain_explain.specs.SinkDetails.{IsCellDetail, IsLineDetail}
 use Rattle.drain_explain.specs.declared.refusal_detail.RefusalDetail.{RefusalDetail}
-use Rattle.drain_explain.specs.declared.refusal_detail.RefusalDetail.TheVariants.{Side, Name, Shape, Position, TileLength, RasterLength, Seam}
+use Rattle.drain_explain.specs.declared.refusal_detail.RefusalDetail.TheVariants.{Side, Name, Shape, Position, TileLength, RasterLength}
 
 -- the side
 abbrev pub IsSideDetail : ℕ → RefusalDetail → Type 0
@@ -56,11 +57,6 @@ IsRasterLengthDetail product text (RasterLength of expected found) =
     (of ≡ product) × ((h : Fields) × Answers text (Ok h) × (expected ≡ needed_len h))
 IsRasterLengthDetail product text other = ⊥
 
--- two heights that differ
-abbrev pub AreTwoHeights : RefusalDetail → Type 0
-AreTwoHeights (Seam first other) = first.metres ≢ other.metres
-AreTwoHeights other = ⊥
-
 -- the header that was handed in of a product, empty for one that no set has
 abbrev pub text_given : (SetProduct → List ℕ) → Product → List ℕ
 text_given texts product.Con = texts held.Con
@@ -74,15 +70,16 @@ text_given texts product.Spl = []
 abbrev pub OfMosaic : ℕ → List (List ℕ) → (Tiling → Type 0) → Type 0
 OfMosaic side names P = (t : Tiling) × IsLayoutOf side names t × P t
 
--- the details of each refusal, of a side, the names of tiles, the headers of products and a list of sinks
-abbrev pub IsDetailOf : ℕ → List (List ℕ) → (SetProduct → List ℕ) → List ℕ → Refusal → RefusalDetail → Type 0
-IsDetailOf side names texts list refusal.BadSide detail = IsSideDetail side detail
-IsDetailOf side names texts list (refusal.BadName place) detail = IsNameDetail names place detail
-IsDetailOf side names texts list (refusal.WrongShape p) detail = OfMosaic side names (λ t. IsShapeDetail t p (text_given texts p) detail)
-IsDetailOf side names texts list (refusal.Misplaced p) detail = OfMosaic side names (λ t. IsPositionDetail t p (text_given texts p) detail)
-IsDetailOf side names texts list (refusal.BadTileLength tile) detail = OfMosaic side names (λ t. IsTileLengthDetail t tile detail)
-IsDetailOf side names texts list (refusal.RasterShort p) detail = IsRasterLengthDetail p (text_given texts p) detail
-IsDetailOf side names texts list (refusal.SeamMismatch cell) detail = AreTwoHeights detail
-IsDetailOf side names texts list (refusal.BadSinkLine number) detail = IsLineDetail list number detail
-IsDetailOf side names texts list (refusal.SinkNotData number) detail = OfMosaic side names (λ t. IsCellDetail t list number detail)
-IsDetailOf side names texts list other detail = ⊥
+-- the details of each refusal, of a second look, a side, the names of tiles, the headers of products and a list of
+-- sinks
+abbrev pub IsDetailOf : {L : Type 0} → (L → ℕ → ℕ → ℤ → Type 0) → ℕ → List (List ℕ) → (SetProduct → List ℕ) → List ℕ → Refusal → RefusalDetail → Type 0
+IsDetailOf shows side names texts list refusal.BadSide detail = IsSideDetail side detail
+IsDetailOf shows side names texts list (refusal.BadName place) detail = IsNameDetail names place detail
+IsDetailOf shows side names texts list (refusal.WrongShape p) detail = OfMosaic side names (λ t. IsShapeDetail t p (text_given texts p) detail)
+IsDetailOf shows side names texts list (refusal.Misplaced p) detail = OfMosaic side names (λ t. IsPositionDetail t p (text_given texts p) detail)
+IsDetailOf shows side names texts list (refusal.BadTileLength tile) detail = OfMosaic side names (λ t. IsTileLengthDetail t tile detail)
+IsDetailOf shows side names texts list (refusal.RasterShort p) detail = IsRasterLengthDetail p (text_given texts p) detail
+IsDetailOf shows side names texts list (refusal.SeamMismatch cell) detail = OfMosaic side names (λ t. IsSeamDetail shows t cell detail)
+IsDetailOf shows side names texts list (refusal.BadSinkLine number) detail = IsLineDetail list number detail
+IsDetailOf shows side names texts list (refusal.SinkNotData number) detail = OfMosaic side names (λ t. IsCellDetail t list number detail)
+IsDetailOf shows side names texts list other detail = ⊥

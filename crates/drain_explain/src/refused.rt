@@ -32,7 +32,7 @@ pub fn detail_of<R, L: SecondLook>(
     sinks: &[u8],
     look: &mut L,
 ) -> Option<RefusalDetail>
-    ensures { IfSome result (IsDetailOf side (names_of tiles.now) (λ p. (of_product headers.now p).now) sinks.now refusal) }
+    ensures { IfSome result (IsDetailOf L.shows side (names_of tiles.now) (λ p. (of_product headers.now p).now) sinks.now refusal) }
 {
     match refusal {
         Refusal::BadSide => Some(RefusalDetail::Side(side)),

@@ -1,7 +1,7 @@
 //! The heights of two tiles that differ at a cell.
 
 ghost use Rattle.std.specs.Prelude.{◌≢◌, ◌↔◌, ◌<◌, IfSome, IsTrue, length};
-ghost use Rattle.drain_explain.specs.RefusalDetails.{AreTwoHeights};
+ghost use Rattle.drain_explain.specs.SeamDetails.{IsHeightAt, IsSeamDetail};
 
 use crate::refusal_detail::{RefusalDetail, TileValue};
 use crate::second_look::SecondLook;
@@ -14,19 +14,21 @@ pub(crate) fn seam_detail<L: SecondLook>(
     cell: Cell,
     look: &mut L,
 ) -> Option<RefusalDetail>
-    ensures { IfSome result AreTwoHeights }
+    ensures { IfSome result (IsSeamDetail L.shows layout.now cell) }
 {
     let mut first: Option<TileValue> = None;
     for i in 0..layout.len() {
         if let Some(value) = value_at(layout, i, cell, look) {
-            let earlier = first.unwrap_or(value);
-            if differ(&earlier, &value) {
-                return Some(RefusalDetail::Seam {
-                    first: earlier,
-                    other: value,
-                });
+            match first {
+                Some(first) if differ(&first, &value) => {
+                    return Some(RefusalDetail::Seam {
+                        first,
+                        other: value,
+                    });
+                }
+                Some(_) => {}
+                None => first = Some(value),
             }
-            first = Some(earlier);
         }
     }
     None
@@ -42,6 +44,7 @@ fn differ(one: &TileValue, other: &TileValue) -> bool
 /// The height of the tile at the cell, none if the tile doesn't reach it or has a void there.
 fn value_at<L: SecondLook>(layout: &Layout, i: usize, cell: Cell, look: &mut L) -> Option<TileValue>
     requires { i < length layout.now.corners }
+    ensures { IfSome result (IsHeightAt L.shows layout.now cell i) }
 {
     let corner = layout.place(i);
     let row = cell.row.checked_sub(corner.row)?;

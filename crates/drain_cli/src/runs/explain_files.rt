@@ -162,6 +162,9 @@ struct OnDisk<'r, 'a, 'e> {
 }
 
 impl<'r, 'a, 'e> SecondLook for OnDisk<'r, 'a, 'e> {
+    // No clause says what a file gives.
+    ghost shows = { λ look place start metres. Unit {0} };
+
     fn tile_length(&mut self, place: usize) -> Option<u64> {
         second_look::tile_length(self.rt, &self.args.inputs, place)
     }
