@@ -19,7 +19,7 @@ use Rattle.drain_print.specs.declared.status.Status.TheVariants.{Failed}
 use Rattle.drain_cli.specs.JudgedRuns.{IsAuditOutcome, IsCheckOutcome, IsPartOutcome}
 use Rattle.drain_print.specs.Failures.{failure_text}
 use Rattle.drain_files.specs.OpenFailures.{IsOpenFailure}
-use Rattle.drain_page.specs.JsonLines.{IsJsonLine, line_feed}
+use Rattle.drain_page.specs.JsonLines.{IsAnswerLine, line_feed}
 use Rattle.drain_print.specs.Printing.{PrintsText}
 use Rattle.drain_cli.specs.AnswerStatuses.{answer_status}
 
@@ -33,10 +33,10 @@ IsOutcome source side tiles_old tiles_new sinks (products.Part old given) (produ
     IsPartOutcome source given side tiles_old tiles_new sinks old new outcome × (then ≡ given)
 IsOutcome source side tiles_old tiles_new sinks old new other = ⊥
 
--- a page begins with the line of its answer; of an object only that it is one on a line of its own
+-- a text begins with the line of its answer; an object is on a line of its own, and its first member is that line
 abbrev pub BeginsWith : Form → List ℕ → List ℕ → Type 0
 BeginsWith Text line page = (rest : List ℕ) × (page ≡ line ++ line_feed ∷ rest)
-BeginsWith Json line page = IsJsonLine page
+BeginsWith Json line page = IsAnswerLine line page
 
 -- the line that says why there is no page, or that memory ran out for it
 abbrev pub IsNoPageLine : NoPage → List ℕ → Type 0
@@ -45,14 +45,21 @@ IsNoPageLine no_page.ReadFailed text = text ≡ failure_text body.ReadFailed
 IsNoPageLine no_page.WriteFailed text = text ≡ codes "failed WriteFailed" ++ line_feed ∷ []
 IsNoPageLine no_page.OutOfMemory text = text ≡ failure_text body.OutOfMemory
 
--- an object in place of a page, of which only that is said, or the one for which no memory is needed
-abbrev pub IsFailureObject : List ℕ → Type 0
-IsFailureObject text = IsJsonLine text ⊎ (text ≡ NO_OBJECT.now)
+-- the answer of an object in place of a page
+abbrev pub no_page_answer : NoPage → List ℕ
+no_page_answer (Open path) = codes "failed Open " ++ string_bytes path
+no_page_answer no_page.ReadFailed = codes "failed ReadFailed"
+no_page_answer no_page.WriteFailed = codes "failed WriteFailed"
+no_page_answer no_page.OutOfMemory = codes "failed OutOfMemory"
+
+-- an object with this answer, or the one for which no memory is needed
+abbrev pub IsFailureObject : List ℕ → List ℕ → Type 0
+IsFailureObject answer text = IsAnswerLine answer text ⊎ (text ≡ NO_OBJECT.now)
 
 -- what is printed if there is no page
 abbrev pub IsNoPage : Form → NoPage → List ℕ → Type 0
 IsNoPage Text why text = IsNoPageLine why text
-IsNoPage Json why text = IsFailureObject text
+IsNoPage Json why text = IsFailureObject (no_page_answer why) text
 
 -- the page of the answer with its status, or why there is none with the status of a failure
 abbrev pub IsTold : Form → Answer → List ℕ → Status → Type 0

@@ -1,3 +1,4 @@
 pub mod Degrees
 pub mod JsonLines
+pub mod JsonTexts
 pub mod Lines

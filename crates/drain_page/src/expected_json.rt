@@ -1,5 +1,7 @@
 //! What the first rule expected at the first cell at which any fails, as JSON.
 
+ghost use Rattle.std.specs.Prelude.{◌≡◌};
+
 use crate::expected::{Expected, WayDown, expected_at};
 use crate::json_text::{JsonText, JsonValue};
 use drain_explain::Findings;
@@ -12,7 +14,9 @@ pub(crate) fn write_expected(
     alloc: Global,
     json: &mut JsonText,
     findings: &Findings,
-) -> Result<(), AllocError> {
+) -> Result<(), AllocError>
+    ensures { json.new ≡ json.old }
+{
     let Some(first) = &findings.first else {
         return json.null("expected");
     };
@@ -30,7 +34,9 @@ pub(crate) fn write_expected(
 }
 
 /// The other members, and the end of the object.
-fn write_members(json: &mut JsonText, expected: &Expected) -> Result<(), AllocError> {
+fn write_members(json: &mut JsonText, expected: &Expected) -> Result<(), AllocError>
+    ensures { json.new ≡ json.old }
+{
     json.member("number", expected.number)?;
     json.list("products", &expected.products)?;
     json.list("codes", &expected.codes)?;

@@ -1,7 +1,8 @@
 //! The page as one JSON object.
 
-ghost use Rattle.std.specs.Prelude.{IfOk, string_bytes};
-ghost use Rattle.drain_page.specs.JsonLines.{IsJsonLine};
+ghost use Rattle.std.specs.Prelude.{◌≡◌, IfOk, string_bytes};
+ghost use Rattle.drain_page.specs.JsonLines.{IsAnswerLine};
+ghost use Rattle.drain_page.specs.Lines.{line_of};
 
 use crate::expected_json::write_expected;
 use crate::facts::Facts;
@@ -15,20 +16,20 @@ use drain_grid::OutOfMemory;
 use drain_rules::Ranks;
 use std::alloc::{AllocError, Global};
 
-/// The page as one JSON object on one line, which ends with a line feed. Its members are always there: null or an empty
-/// list if there is nothing to report.
+/// The page as one JSON object on one line, which ends with a line feed. Its first member is the answer's line. The
+/// other members are always there: null or an empty list if there is nothing to report.
 pub fn page_json(alloc: Global, facts: &Facts) -> Result<String, OutOfMemory>
-    ensures { IfOk result (λ line. IsJsonLine (string_bytes line)) }
+    ensures { IfOk result (λ line. IsAnswerLine (line_of facts.now.answer) (string_bytes line)) }
 {
     let line = facts.answer.line();
     object(alloc, line.as_str(), &facts.refusal, &facts.findings)
 }
 
-/// The same object for a failure: its answer is this line, and all other members are null or empty.
-pub fn failure_json(alloc: Global, line: &str) -> Result<String, OutOfMemory>
-    ensures { IfOk result (λ line. IsJsonLine (string_bytes line)) }
+/// The same object for a failure with this answer: all other members are null or empty.
+pub fn failure_json(alloc: Global, answer: &str) -> Result<String, OutOfMemory>
+    ensures { IfOk result (λ line. IsAnswerLine answer.now (string_bytes line)) }
 {
-    object(alloc, line, &None, &None)
+    object(alloc, answer, &None, &None)
 }
 
 /// The object for the failure that there is no memory for an object.
@@ -41,22 +42,22 @@ fn object(
     refusal: &Option<RefusalDetail>,
     findings: &Option<Findings>,
 ) -> Result<String, OutOfMemory>
-    ensures { IfOk result (λ line. IsJsonLine (string_bytes line)) }
+    ensures { IfOk result (λ line. IsAnswerLine answer.now (string_bytes line)) }
 {
-    let mut json = JsonText::new(alloc);
-    write_page(alloc, &mut json, answer, refusal, findings)?;
+    let mut json = JsonText::new(alloc, answer)?;
+    write_members(alloc, &mut json, refusal, findings)?;
     Ok(json.into_line()?)
 }
 
-fn write_page(
+/// The other members, and the end of the object.
+fn write_members(
     alloc: Global,
     json: &mut JsonText,
-    answer: &str,
     refusal: &Option<RefusalDetail>,
     findings: &Option<Findings>,
-) -> Result<(), AllocError> {
-    json.begin_object_item()?;
-    json.member("answer", answer)?;
+) -> Result<(), AllocError>
+    ensures { json.new ≡ json.old }
+{
     write_refusal(alloc, json, refusal)?;
     match findings {
         Some(findings) => write_findings(alloc, json, findings)?,
@@ -65,11 +66,9 @@ fn write_page(
     json.end_object()
 }
 
-fn write_findings(
-    alloc: Global,
-    json: &mut JsonText,
-    findings: &Findings,
-) -> Result<(), AllocError> {
+fn write_findings(alloc: Global, json: &mut JsonText, findings: &Findings) -> Result<(), AllocError>
+    ensures { json.new ≡ json.old }
+{
     json.member("rows", findings.layout.shape().rows())?;
     json.member("cols", findings.layout.shape().cols())?;
     json.member("ranks", findings.rules.ranks == Ranks::Checked)?;
@@ -81,7 +80,9 @@ fn write_findings(
 }
 
 /// The same members if there is no verdict.
-fn write_no_findings(json: &mut JsonText) -> Result<(), AllocError> {
+fn write_no_findings(json: &mut JsonText) -> Result<(), AllocError>
+    ensures { json.new ≡ json.old }
+{
     json.null("rows")?;
     json.null("cols")?;
     json.null("ranks")?;

@@ -1,42 +1,49 @@
-//! A JSON text that is appended token by token: members of an object with their names, and items of a list. The caller
-//! closes what it opens.
+//! A JSON object that begins with an answer and is appended token by token: members with their names, and items of a
+//! list. The caller closes what it opens.
 
-ghost use Rattle.std.specs.Prelude.{IfOk, string_bytes};
-ghost use Rattle.drain_page.specs.JsonLines.{IsJsonLine};
+ghost use Rattle.std.specs.Prelude.{◌≡◌, IfOk, string_bytes};
+ghost use Rattle.json.specs.Print.{IsPrintable};
+ghost use Rattle.json.specs.Reads.{token_of};
+ghost use Rattle.drain_page.specs.JsonLines.{IsJsonLine, answer_head};
 
 use itoa::Buffer;
-use json::{Writer, is_number};
+use json::{Token, Writer, is_number};
 use std::alloc::{AllocError, Global};
 use std::marker::Model;
 
-/// The text so far.
+/// The text so far. Contracts see its first three tokens, which stay: those of an object up to its answer.
 #[derive(Drop)]
 pub(crate) struct JsonText {
     writer: Writer,
 }
 
 impl Model for JsonText {
-    ghost use Rattle.std.specs.Prelude.{◌≡◌, [], List};
+    ghost use Rattle.std.specs.Prelude.{List, take};
     ghost use Rattle.json.specs.Token.{Token};
+    ghost use Rattle.drain_page.specs.JsonTexts.{IsBegun};
 
     ghost Value = { List Token };
 
-    ghost view = { λ text. text.writer.tokens };
+    ghost view = { λ text. take 3 text.writer.tokens };
 
-    ghost invariant = { λ text. text.writer.before ≡ [] };
+    ghost invariant = { λ text. IsBegun text.writer };
 }
 
 impl JsonText {
-    /// No token.
-    pub(crate) fn new(alloc: Global) -> JsonText {
-        JsonText {
-            writer: Writer::new(Vec::new(alloc)),
-        }
+    /// An object whose first member is this answer.
+    pub(crate) fn new(alloc: Global, answer: &str) -> Result<JsonText, AllocError>
+        ensures { IfOk result (λ text. text ≡ answer_head answer.now) }
+    {
+        let mut writer = Writer::new(Vec::new(alloc));
+        writer.begin_object()?;
+        writer.key("answer")?;
+        writer.string(answer)?;
+        Ok(JsonText { writer })
     }
 
     /// The text and a line feed.
     pub(crate) fn into_line(self) -> Result<String, AllocError>
-        ensures { IfOk result (λ line. IsJsonLine (string_bytes line)) }
+        ensures { IfOk result (λ line. IsJsonLine self (string_bytes line)) }
     {
         let JsonText { writer } = self;
         let mut line = String::from_utf8(writer.into_inner()).unwrap();
@@ -44,20 +51,34 @@ impl JsonText {
         Ok(line)
     }
 
+    /// A token.
+    fn token(&mut self, token: Token<'_>) -> Result<(), AllocError>
+        requires { IsPrintable (token_of token) }
+        ensures { self.new ≡ self.old }
+    {
+        self.writer.token(token)
+    }
+
     /// A member of this name.
-    pub(crate) fn member<V: JsonValue>(&mut self, name: &str, value: V) -> Result<(), AllocError> {
-        self.writer.key(name)?;
+    pub(crate) fn member<V: JsonValue>(&mut self, name: &str, value: V) -> Result<(), AllocError>
+        ensures { self.new ≡ self.old }
+    {
+        self.token(Token::Key(name))?;
         value.append(self)
     }
 
     /// A member that is null.
-    pub(crate) fn null(&mut self, name: &str) -> Result<(), AllocError> {
-        self.writer.key(name)?;
-        self.writer.null()
+    pub(crate) fn null(&mut self, name: &str) -> Result<(), AllocError>
+        ensures { self.new ≡ self.old }
+    {
+        self.token(Token::Key(name))?;
+        self.token(Token::Null)
     }
 
     /// A member that is a list of these.
-    pub(crate) fn list<V: JsonValue>(&mut self, name: &str, items: &[V]) -> Result<(), AllocError> {
+    pub(crate) fn list<V: JsonValue>(&mut self, name: &str, items: &[V]) -> Result<(), AllocError>
+        ensures { self.new ≡ self.old }
+    {
         self.begin_list(name)?;
         for item in items {
             item.append(self)?;
@@ -66,42 +87,55 @@ impl JsonText {
     }
 
     /// Opens an object that is a member of this name.
-    pub(crate) fn begin_object(&mut self, name: &str) -> Result<(), AllocError> {
-        self.writer.key(name)?;
-        self.writer.begin_object()
+    pub(crate) fn begin_object(&mut self, name: &str) -> Result<(), AllocError>
+        ensures { self.new ≡ self.old }
+    {
+        self.token(Token::Key(name))?;
+        self.token(Token::BeginObject)
     }
 
-    /// Opens an object that is an item, or the whole text.
-    pub(crate) fn begin_object_item(&mut self) -> Result<(), AllocError> {
-        self.writer.begin_object()
+    /// Opens an object that is an item.
+    pub(crate) fn begin_object_item(&mut self) -> Result<(), AllocError>
+        ensures { self.new ≡ self.old }
+    {
+        self.token(Token::BeginObject)
     }
 
     /// Closes an object.
-    pub(crate) fn end_object(&mut self) -> Result<(), AllocError> {
-        self.writer.end_object()
+    pub(crate) fn end_object(&mut self) -> Result<(), AllocError>
+        ensures { self.new ≡ self.old }
+    {
+        self.token(Token::EndObject)
     }
 
     /// Opens a list that is a member of this name.
-    pub(crate) fn begin_list(&mut self, name: &str) -> Result<(), AllocError> {
-        self.writer.key(name)?;
-        self.writer.begin_array()
+    pub(crate) fn begin_list(&mut self, name: &str) -> Result<(), AllocError>
+        ensures { self.new ≡ self.old }
+    {
+        self.token(Token::Key(name))?;
+        self.token(Token::BeginArray)
     }
 
     /// Opens a list that is an item.
-    pub(crate) fn begin_list_item(&mut self) -> Result<(), AllocError> {
-        self.writer.begin_array()
+    pub(crate) fn begin_list_item(&mut self) -> Result<(), AllocError>
+        ensures { self.new ≡ self.old }
+    {
+        self.token(Token::BeginArray)
     }
 
     /// Closes a list.
-    pub(crate) fn end_list(&mut self) -> Result<(), AllocError> {
-        self.writer.end_array()
+    pub(crate) fn end_list(&mut self) -> Result<(), AllocError>
+        ensures { self.new ≡ self.old }
+    {
+        self.token(Token::EndArray)
     }
 }
 
 /// What can be a member or an item.
 pub(crate) trait JsonValue: Copy {
     /// Appends it.
-    fn append(self, json: &mut JsonText) -> Result<(), AllocError>;
+    fn append(self, json: &mut JsonText) -> Result<(), AllocError>
+        ensures { json.new ≡ json.old };
 }
 
 impl<V: JsonValue> JsonValue for Option<V> {
@@ -109,20 +143,20 @@ impl<V: JsonValue> JsonValue for Option<V> {
     fn append(self, json: &mut JsonText) -> Result<(), AllocError> {
         match self {
             Some(value) => value.append(json),
-            None => json.writer.null(),
+            None => json.token(Token::Null),
         }
     }
 }
 
 impl JsonValue for bool {
     fn append(self, json: &mut JsonText) -> Result<(), AllocError> {
-        json.writer.boolean(self)
+        json.token(Token::Bool(self))
     }
 }
 
 impl<'a> JsonValue for &'a str {
     fn append(self, json: &mut JsonText) -> Result<(), AllocError> {
-        json.writer.string(self)
+        json.token(Token::String(self))
     }
 }
 
@@ -162,9 +196,9 @@ impl JsonValue for u128 {
         let mut buffer = Buffer::new();
         let digits = buffer.format(self);
         if is_number(digits) {
-            json.writer.number(digits)
+            json.token(Token::Number(digits))
         } else {
-            json.writer.null()
+            json.token(Token::Null)
         }
     }
 }
@@ -175,7 +209,7 @@ impl JsonValue for f64 {
         if self.is_finite() {
             json.writer.float_with_plus(self)
         } else {
-            json.writer.null()
+            json.token(Token::Null)
         }
     }
 }

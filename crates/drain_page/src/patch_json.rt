@@ -1,5 +1,7 @@
 //! The first cell at which a rule fails, with its values and its neighbours', as JSON.
 
+ghost use Rattle.std.specs.Prelude.{◌≡◌};
+
 use crate::json_text::{JsonText, JsonValue};
 use crate::patch_text::rows_of;
 use crate::rules_json::CellOf;
@@ -9,7 +11,9 @@ use drain_grid::{CellValues, SetProduct};
 use std::alloc::AllocError;
 
 /// The cell, and three rows of three cells with it in the middle; null if there is none.
-pub(crate) fn write_patch(json: &mut JsonText, findings: &Findings) -> Result<(), AllocError> {
+pub(crate) fn write_patch(json: &mut JsonText, findings: &Findings) -> Result<(), AllocError>
+    ensures { json.new ≡ json.old }
+{
     let Some(first) = &findings.first else {
         return json.null("patch");
     };
@@ -28,7 +32,9 @@ fn write_row(
     json: &mut JsonText,
     findings: &Findings,
     row: &[Option<CellValues>],
-) -> Result<(), AllocError> {
+) -> Result<(), AllocError>
+    ensures { json.new ≡ json.old }
+{
     json.begin_list_item()?;
     for cell in row {
         match cell {
@@ -44,7 +50,9 @@ fn write_values(
     json: &mut JsonText,
     values: &CellValues,
     findings: &Findings,
-) -> Result<(), AllocError> {
+) -> Result<(), AllocError>
+    ensures { json.new ≡ json.old }
+{
     json.begin_object_item()?;
     json.member("ground", values.z)?;
     json.member("sink", values.sink)?;

@@ -1,5 +1,7 @@
 //! What was expected and found in refused inputs, as JSON.
 
+ghost use Rattle.std.specs.Prelude.{◌≡◌};
+
 use crate::json_text::{JsonText, JsonValue};
 use crate::names::{shown_bytes, units_text};
 use drain_explain::{Extent, NotData, RefusalDetail, TileValue};
@@ -12,7 +14,9 @@ pub(crate) fn write_refusal(
     alloc: Global,
     json: &mut JsonText,
     detail: &Option<RefusalDetail>,
-) -> Result<(), AllocError> {
+) -> Result<(), AllocError>
+    ensures { json.new ≡ json.old }
+{
     let Some(detail) = detail else {
         return json.null("refusal");
     };
@@ -40,7 +44,9 @@ fn write_members(
     alloc: Global,
     json: &mut JsonText,
     detail: &RefusalDetail,
-) -> Result<(), AllocError> {
+) -> Result<(), AllocError>
+    ensures { json.new ≡ json.old }
+{
     match detail {
         RefusalDetail::Side(side) => write_side(json, *side),
         RefusalDetail::Name(name) => write_shown(alloc, json, name),
@@ -86,14 +92,18 @@ fn write_members(
     }
 }
 
-fn write_side(json: &mut JsonText, found: u32) -> Result<(), AllocError> {
+fn write_side(json: &mut JsonText, found: u32) -> Result<(), AllocError>
+    ensures { json.new ≡ json.old }
+{
     json.member("least", MIN_SIDE)?;
     json.member("greatest", MAX_SIDE)?;
     json.member("found", found)
 }
 
 /// Bytes that were found.
-fn write_shown(alloc: Global, json: &mut JsonText, found: &[u8]) -> Result<(), AllocError> {
+fn write_shown(alloc: Global, json: &mut JsonText, found: &[u8]) -> Result<(), AllocError>
+    ensures { json.new ≡ json.old }
+{
     let shown = shown_bytes(alloc, found)?;
     json.member("found", shown.as_str())
 }
@@ -105,7 +115,9 @@ fn write_both<V: JsonValue>(
     name: &str,
     expected: V,
     found: V,
-) -> Result<(), AllocError> {
+) -> Result<(), AllocError>
+    ensures { json.new ≡ json.old }
+{
     json.member(which, name)?;
     json.member("expected", expected)?;
     json.member("found", found)
@@ -147,7 +159,9 @@ fn write_sink_cell(
     row: u64,
     col: u64,
     why: NotData,
-) -> Result<(), AllocError> {
+) -> Result<(), AllocError>
+    ensures { json.new ≡ json.old }
+{
     json.member("line", line)?;
     json.member("row", row)?;
     json.member("col", col)?;

@@ -1,5 +1,7 @@
 //! The rules, and the products at voids and at data cells, as JSON.
 
+ghost use Rattle.std.specs.Prelude.{◌≡◌};
+
 use crate::degrees::{latitude, longitude};
 use crate::json_text::{JsonText, JsonValue};
 use drain_explain::Findings;
@@ -9,7 +11,9 @@ use drain_mosaic::Layout;
 use std::alloc::AllocError;
 
 /// Each rule that was checked.
-pub(crate) fn write_rules(json: &mut JsonText, findings: &Findings) -> Result<(), AllocError> {
+pub(crate) fn write_rules(json: &mut JsonText, findings: &Findings) -> Result<(), AllocError>
+    ensures { json.new ≡ json.old }
+{
     json.begin_list("rules")?;
     for rule in RULES {
         if findings.tries(rule) {
@@ -24,7 +28,9 @@ fn write_rule(
     layout: &Layout,
     rule: Rule,
     faults: &RuleFaults,
-) -> Result<(), AllocError> {
+) -> Result<(), AllocError>
+    ensures { json.new ≡ json.old }
+{
     json.begin_object_item()?;
     json.member("rule", rule.number())?;
     json.member("name", rule.name())?;
@@ -32,7 +38,9 @@ fn write_rule(
 }
 
 /// Each product that was checked, with its faults by rules VoidCell and Missing.
-pub(crate) fn write_products(json: &mut JsonText, findings: &Findings) -> Result<(), AllocError> {
+pub(crate) fn write_products(json: &mut JsonText, findings: &Findings) -> Result<(), AllocError>
+    ensures { json.new ≡ json.old }
+{
     json.begin_list("products")?;
     for product in SetProduct::ALL {
         if findings.looks_at(product) {
@@ -52,7 +60,9 @@ fn write_product(
     layout: &Layout,
     product: SetProduct,
     faults: &ProductFaults,
-) -> Result<(), AllocError> {
+) -> Result<(), AllocError>
+    ensures { json.new ≡ json.old }
+{
     json.begin_object_item()?;
     json.member("product", product)?;
     json.begin_object("at_voids")?;
@@ -67,7 +77,9 @@ fn end_with_faults(
     json: &mut JsonText,
     layout: &Layout,
     faults: &RuleFaults,
-) -> Result<(), AllocError> {
+) -> Result<(), AllocError>
+    ensures { json.new ≡ json.old }
+{
     json.member("cells", faults.cells)?;
     match faults.first {
         Some(cell) => json.member("first", CellOf(layout, cell))?,

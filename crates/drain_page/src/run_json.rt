@@ -1,5 +1,7 @@
 //! The first path without an end, as JSON.
 
+ghost use Rattle.std.specs.Prelude.{◌≡◌};
+
 use crate::json_text::{JsonText, JsonValue};
 use crate::rules_json::CellOf;
 use drain_explain::Findings;
@@ -9,7 +11,9 @@ use drain_paths::{EndlessPath, LostBy};
 use std::alloc::AllocError;
 
 /// Where the path begins, and the ring or the cell to which it leads; null if there is none.
-pub(crate) fn write_run(json: &mut JsonText, findings: &Findings) -> Result<(), AllocError> {
+pub(crate) fn write_run(json: &mut JsonText, findings: &Findings) -> Result<(), AllocError>
+    ensures { json.new ≡ json.old }
+{
     let Some((cell, run)) = &findings.endless else {
         return json.null("run");
     };
@@ -21,7 +25,9 @@ pub(crate) fn write_run(json: &mut JsonText, findings: &Findings) -> Result<(), 
 }
 
 /// The ring or the cell to which the path leads; the other is null.
-fn write_end(json: &mut JsonText, layout: &Layout, run: &EndlessPath) -> Result<(), AllocError> {
+fn write_end(json: &mut JsonText, layout: &Layout, run: &EndlessPath) -> Result<(), AllocError>
+    ensures { json.new ≡ json.old }
+{
     match run {
         EndlessPath::Ring { cells, length } => {
             write_ring(json, layout, cells, *length)?;
@@ -40,7 +46,9 @@ fn write_ring(
     layout: &Layout,
     cells: &[Cell],
     length: usize,
-) -> Result<(), AllocError> {
+) -> Result<(), AllocError>
+    ensures { json.new ≡ json.old }
+{
     json.begin_object("ring")?;
     json.member("length", length as u64)?;
     json.begin_list("cells")?;
@@ -57,7 +65,9 @@ fn write_lost(
     layout: &Layout,
     cell: Cell,
     by: LostBy,
-) -> Result<(), AllocError> {
+) -> Result<(), AllocError>
+    ensures { json.new ≡ json.old }
+{
     json.begin_object("lost")?;
     json.member("cell", CellOf(layout, cell))?;
     json.member(

@@ -1,7 +1,7 @@
 //! Why an explanation has no page, and printing it: as a line, or as one JSON object with that line as its answer.
 
 ghost use Rattle.std.specs.Prelude.{◌≡◌, ◌++◌, ℕ, List, IfOk, codes, string_bytes};
-ghost use Rattle.drain_cli.specs.ExplainRuns.{IsNoPage, IsNoPageLine, IsFailureObject};
+ghost use Rattle.drain_cli.specs.ExplainRuns.{IsNoPage, IsNoPageLine, IsFailureObject, no_page_answer};
 ghost use Rattle.drain_print.specs.Printing.{PrintsText};
 
 use crate::runs::explain_page::MapFault;
@@ -72,7 +72,7 @@ fn print_as_line<W: ByteSink>(alloc: Global, why: &NoPage, out: &mut W) -> u8
 }
 
 fn print_as_object<W: ByteSink>(alloc: Global, why: &NoPage, out: &mut W) -> u8
-    ensures { (text : List ℕ) × IsFailureObject text
+    ensures { (text : List ℕ) × IsFailureObject (no_page_answer why.now) text
         × PrintsText W.ByteSink out.old out.new text Status.Failed result }
 {
     match why {
@@ -84,7 +84,7 @@ fn print_as_object<W: ByteSink>(alloc: Global, why: &NoPage, out: &mut W) -> u8
 }
 
 fn print_failed_open<W: ByteSink>(alloc: Global, path: &str, out: &mut W) -> u8
-    ensures { (text : List ℕ) × IsFailureObject text
+    ensures { (text : List ℕ) × IsFailureObject (codes "failed Open " ++ path.now) text
         × PrintsText W.ByteSink out.old out.new text Status.Failed result }
 {
     match failed_open(alloc, path) {
@@ -104,7 +104,7 @@ fn failed_open(alloc: Global, path: &str) -> Result<String, AllocError>
 
 /// Prints the object with this answer.
 fn print_object<W: ByteSink>(alloc: Global, answer: &str, out: &mut W) -> u8
-    ensures { (text : List ℕ) × IsFailureObject text
+    ensures { (text : List ℕ) × IsFailureObject answer.now text
         × PrintsText W.ByteSink out.old out.new text Status.Failed result }
 {
     match failure_json(alloc, answer) {

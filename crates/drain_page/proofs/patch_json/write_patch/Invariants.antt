@@ -1,0 +1,6 @@
+use Rattle.std.proofs.Common.{◌≡◌}
+use Rattle.drain_page.proofs.patch_json.write_patch.Given as goal
+
+-- the head stays
+abbrev pub invariant-loop-row : goal.invariant-loop-row
+invariant-loop-row l = l.json ≡ l.fn.json
