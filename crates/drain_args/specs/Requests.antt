@@ -23,11 +23,11 @@ IsFlag name f set =
     (one_text f name ≡ Some (codes "true") → set ≡ true)
     × ((one_text f name ≡ Some (codes "false") → set ≡ false) × (one_text f name ≡ None → set ≡ false))
 
--- the side is the number that was given, or the default
+-- the side is the number that was given, and the default if none was
 abbrev pub IsSideOption : Found → ℕ → Type 0
 IsSideOption f side =
     (one_text f (codes "side") ≡ None → side ≡ DEFAULT_SIDE)
-    × ((t : Text) → one_text f (codes "side") ≡ Some t → (side ≡ digits_value 10 (without_leading_plus t)) ⊎ (side ≡ DEFAULT_SIDE))
+    × ((t : Text) → one_text f (codes "side") ≡ Some t → side ≡ digits_value 10 (without_leading_plus t))
 
 -- the tiles are the arguments without an option, the folder of their products is that of this option, and the rest that
 -- of the options

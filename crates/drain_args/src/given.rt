@@ -4,8 +4,10 @@ ghost use Rattle.std.specs.Prelude.{◌≡◌, [], IfOk, map, option_map, unwrap
 ghost use Rattle.clap.specs.Matches.{first_value, found_of, matched_of, raw_values};
 ghost use Rattle.drain_args.specs.Requests.{IsFlag, IsSideOption};
 
-use crate::commands::DEFAULT_SIDE;
-use clap::ArgMatches;
+use crate::commands::{DEFAULT_SIDE, program};
+use crate::help_texts;
+use clap::error::ErrorKind;
+use clap::{ArgMatches, Error};
 use std::alloc::{AllocError, Global};
 
 /// The value of a required argument; empty if it isn't there.
@@ -46,12 +48,18 @@ pub fn paths_given<'a>(
     }
 }
 
-/// The requested side, or the default.
-pub fn side_given(given: &ArgMatches<'_>) -> u32
-    ensures { IsSideOption (found_of given.now) result }
+/// The requested side, or the default if none is. A value that is no number is a usage error: `clap` refuses it before.
+pub fn side_given(alloc: Global, given: &ArgMatches<'_>) -> Result<u32, Error>
+    ensures { IfOk result (IsSideOption (found_of given.now)) }
 {
-    match given.get_one::<u32>("side") {
-        Some(side) => side,
-        None => DEFAULT_SIDE,
+    match given.try_get_one::<u32>("side") {
+        Ok(Some(side)) => Ok(side),
+        Ok(None) => Ok(DEFAULT_SIDE),
+        Err(_) => Err(bad_side(alloc)?),
     }
+}
+
+fn bad_side(alloc: Global) -> Result<Error, AllocError> {
+    let mut program = program(alloc)?;
+    program.error(ErrorKind::ValueValidation, help_texts::BAD_SIDE)
 }

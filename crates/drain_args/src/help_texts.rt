@@ -194,4 +194,6 @@ pub const PROGRESS_HELP: &str = "Report progress on standard error, in at most t
 
 pub const FILE_HELP: &str = "The header file";
 
+pub const BAD_SIDE: &str = "the side is no whole number";
+
 pub const SIDE_HELP: &str = "Samples along an edge of the tile, 2 to 3601";

@@ -127,8 +127,8 @@ fn no_command(alloc: Global) -> Result<Error, AllocError> {
 
 /// The request of the command of this name, with these values of its arguments.
 ///
-/// A map whose name doesn't end in `.bil` is a usage error, and so are another list of rasters, a box that is none, other
-/// letters than those of sides, and a name that is no command's.
+/// A map whose name doesn't end in `.bil` is a usage error, and so are another list of rasters, a side that is no number,
+/// a box that is none, other letters than those of sides, and a name that is no command's.
 pub fn request_of<'a>(
     alloc: Global,
     name: &str,
@@ -143,9 +143,9 @@ pub fn request_of<'a>(
         "window" => window_request(alloc, given),
         "merge" => Ok(Request::Merge(merge_args(alloc, given)?)),
         "make" => Ok(Request::Make(product_args(alloc, given, "out")?)),
-        "derive" => Ok(derive_request(alloc, given)?),
+        "derive" => derive_request(alloc, given),
         "fill" => Ok(Request::Fill {
-            side: side_given(given),
+            side: side_given(alloc, given)?,
         }),
         "header" => Ok(Request::Header {
             path: text_given(given, "file"),
@@ -159,12 +159,13 @@ fn product_args<'a>(
     alloc: Global,
     given: &ArgMatches<'a>,
     option: &str,
-) -> Result<ProductArgs<'a>, AllocError>
+) -> Result<ProductArgs<'a>, Error>
     ensures { IfOk result (IsProductArgs option.now (found_of given.now)) }
 {
+    let side = side_given(alloc, given)?;
     let tiles = paths_given(alloc, given, "tiles")?;
     Ok(ProductArgs {
-        side: side_given(given),
+        side,
         folder: text_given(given, option),
         sinks: option_given(given, "sinks"),
         tiles,
@@ -173,7 +174,7 @@ fn product_args<'a>(
 }
 
 /// The inputs to be checked.
-fn inputs_given<'a>(alloc: Global, given: &ArgMatches<'a>) -> Result<ProductArgs<'a>, AllocError>
+fn inputs_given<'a>(alloc: Global, given: &ArgMatches<'a>) -> Result<ProductArgs<'a>, Error>
     ensures { IfOk result (AreInputs (found_of given.now)) }
 {
     product_args(alloc, given, "products")
@@ -299,7 +300,7 @@ fn merge_args<'a>(alloc: Global, given: &ArgMatches<'a>) -> Result<MergeArgs<'a>
 }
 
 /// What is to be derived.
-fn derive_request<'a>(alloc: Global, given: &ArgMatches<'a>) -> Result<Request<'a>, AllocError>
+fn derive_request<'a>(alloc: Global, given: &ArgMatches<'a>) -> Result<Request<'a>, Error>
     ensures { IfOk result (IsRequestOf (codes "derive") (found_of given.now)) }
 {
     let inputs = inputs_given(alloc, given)?;
