@@ -1,9 +1,9 @@
 -- What follows the last slash of a path, and what precedes it.
-use Rattle.std.proofs.Common.{◌≡◌, ℕ, ◌+◌, ◌-◌, ◌<◌, ◌≤◌, List, ◌∷◌, ◌++◌, length, drop, take, get_or, inl, inr, refl, sym, ap, ◌∙◌, arith, length-drop, take-append-drop}
+use Rattle.std.proofs.Common.{◌≡◌, ℕ, ◌+◌, ◌-◌, ◌<◌, ◌≤◌, List, [], ◌∷◌, ◌++◌, length, drop, take, get_or, inl, inr, refl, sym, ap, ◌∙◌, arith, length-drop, take-append-drop}
 use Rattle.std.specs.Prelude.{◌≢◌, slice_range}
-use Rattle.std.proofs.lemmas.List.{drop_more, get_or-drop}
+use Rattle.std.proofs.lemmas.List.{drop_more, get_or-drop, take_more}
 use Rattle.std.proofs.lemmas.List.Elements.{All-from_get_or}
-use Rattle.drain_files.specs.FilePaths.{slash, IsLastPart}
+use Rattle.drain_files.specs.FilePaths.{slash, IsFolderPart, IsLastPart}
 
 -- the path is what precedes its slash in this place, the slash, and what follows
 split_at_slash : (path : List ℕ) (at : ℕ) → at < length path → get_or path at 0 ≡ slash → path ≡ take at path ++ slash ∷ drop (at + 1) path
@@ -29,3 +29,25 @@ pub first_part : (path : List ℕ) (n : ℕ) → slice_range path 0 n ++ drop n 
 first_part path n =
     let same : n - 0 ≡ n = omega arith in
     ap (λ k. take k path ++ drop n path) same ∙ take-append-drop n path
+
+pub no_folder : (path : List ℕ) → ((k : ℕ) → k < length path → get_or path k 0 ≢ slash) → IsFolderPart path []
+no_folder path none = record {
+  name = path;
+  parts = refl;
+  no_slash_behind = (whole_path path none).has_no_slash;
+  ends = inl refl;
+}
+
+pub to_last_slash : (path folder : List ℕ) (at : ℕ) → folder ≡ slice_range path 0 (at + 1) → at < length path → get_or path at 0 ≡ slash →
+    ((k : ℕ) → at < k → k < length path → get_or path k 0 ≢ slash) → IsFolderPart path folder
+to_last_slash path folder at is_front within is none =
+    let same : at + 1 - 0 ≡ at + 1 = omega arith in
+    record {
+      name = drop (at + 1) path;
+      parts = sym (ap (λ front. front ++ drop (at + 1) path) is_front ∙ first_part path (at + 1));
+      no_slash_behind = (after_last_slash path at within is (λ k after inside. none k (omega arith) inside)).has_no_slash;
+      ends = inr (
+        take at path,
+        is_front ∙ (ap (λ n. take n path) same ∙ (take_more path at 0 within ∙ ap (λ byte. take at path ++ byte ∷ []) is)),
+      );
+    }

@@ -36,6 +36,13 @@ pub record IsLastPart (path name : List ℕ) : Type 0 where
   pub ends : (path ≡ name) ⊎ ((folder : List ℕ) × (path ≡ folder ++ slash ∷ name))
   pub has_no_slash : All (λ byte. byte ≢ slash) name
 
+-- the folder in a path: what ends in its last slash, nothing if it has none
+pub record IsFolderPart (path folder : List ℕ) : Type 0 where
+  pub name : List ℕ
+  pub parts : path ≡ folder ++ name
+  pub no_slash_behind : All (λ byte. byte ≢ slash) name
+  pub ends : (folder ≡ []) ⊎ ((front : List ℕ) × (folder ≡ front ++ slash ∷ []))
+
 -- the path of a file of a product set in this folder
 abbrev pub IsPathOf : List ℕ → SetFile → List ℕ → Type 0
 IsPathOf folder file path = path ≡ product_path folder (product_of file.product) (ending_of file.part)

@@ -1,8 +1,8 @@
 //! The paths of products' files and of a map, the name in a tile's path, and the folder of an output.
 
-ghost use Rattle.std.specs.Prelude.{◌≡◌, ◌++◌, ◌↔◌, IfOk, IsTrue, List, string_bytes, ℕ};
+ghost use Rattle.std.specs.Prelude.{◌≡◌, ◌++◌, ◌↔◌, IfOk, IsTrue, string_bytes};
 ghost use Rattle.drain_grid.specs.Product.{product_name};
-ghost use Rattle.drain_files.specs.FilePaths.{product_path, separator, header_ending, raster_ending, ending_of, IsLastPart, IsProductName, part_name};
+ghost use Rattle.drain_files.specs.FilePaths.{product_path, separator, header_ending, raster_ending, ending_of, IsFolderPart, IsLastPart, IsProductName, part_name};
 
 use drain_answer::line::{push_number, words};
 use drain_grid::Product;
@@ -80,7 +80,7 @@ pub fn tile_name(path: &[u8]) -> &[u8]
 
 /// The folder in a path: what ends in its last slash, empty if it has none.
 pub(crate) fn folder_of(path: &str) -> &str
-    ensures { (name : List ℕ) × (path.now ≡ result.now ++ name) }
+    ensures { IsFolderPart path.now result.now }
 {
     match path.rfind('/') {
         Some(slash) => &path[..slash + 1],

@@ -48,7 +48,8 @@ pub fn output_paths<W: ByteSink>(
     files: &[SetFile],
     out: &mut W,
 ) -> Result<Vec<String>, u8>
-    ensures { IfOk result (λ paths. vec_len paths ≡ length files.now) }
+    ensures paths { IfOk result (λ paths. AllZip (λ file path. IsPathOf folder.now file (string_bytes path)) files.now paths.items) }
+    ensures count { IfOk result (λ paths. vec_len paths ≡ length files.now) }
 {
     if write_nothing(out).is_err() {
         return Err(Status::Failed.code());
