@@ -45,6 +45,8 @@ impl<'a> SecondLook for InMemory<'a> {
 }
 
 impl<'a> ExplainOutput for InMemory<'a> {
+    ghost has_saved = { λ old new result. Unit {0} };
+
     fn save_map(&mut self, layout: &Layout, pixels: &[u8]) -> Result<(), MapFault> {
         match write_map(
             self.alloc,

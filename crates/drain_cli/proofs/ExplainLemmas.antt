@@ -1,6 +1,7 @@
 -- From an explanation to the outcome of a check or of an audit.
-use Rattle.std.proofs.Common.{ℕ, List, Result, Ok, Err, refl}
-use Rattle.drain_device.specs.Devices.{Source}
+use Rattle.std.proofs.Common.{ℕ, List, Result, Ok, Err, inl, inr, refl}
+use Rattle.drain_args.specs.declared.form.Form.{Form}
+use Rattle.drain_device.specs.Devices.{Sink, Source}
 use Rattle.drain_explain.specs.Explanations.{answer_in}
 use Rattle.drain_explain.specs.declared.explanation.Explanation.{Explanation}
 use Rattle.drain_hgt.specs.declared.input.TileInput.{TileInput}
@@ -19,7 +20,10 @@ use Rattle.drain_verdict.specs.Inputs.{Inputs, Tell, Products}
 use Rattle.drain_verdict.specs.Uses.{AuditUses, CheckUses, UsesInputs}
 use Rattle.drain_verdict.proofs.AuditDevices.{failed_alike}
 use Rattle.drain_verdict.proofs.Uses.{uses_alike}
+use Rattle.drain_page.specs.declared.facts.Answer.{Answer}
+use Rattle.drain_cli.specs.ExplainRuns.{Explains}
 use Rattle.drain_cli.specs.JudgedRuns.{IsAuditOutcome, IsCheckOutcome, IsPartOutcome}
+use Rattle.drain_cli.specs.declared.runs.explain_page.MapFault.{MapFault}
 
 -- the answer uses the inputs as the explanation does
 uses_as_told : {R P V : Type 0} (inputs_of : P → Products R) (devices : List (TileInput R) → P → List R) (source : Source R) (side : ℕ) (old new : List (TileInput R) × P) (explained : Result (Explanation V) Refusal) →
@@ -57,4 +61,17 @@ pub part_outcome : {R : Type 0} (source : Source R) (given : Given) (side : ℕ)
 part_outcome source given side tiles_old tiles_new sinks ps_old ps_new explained answer uses = record {
   answer = answer;
   uses = uses_as_told with_con_for_ranks audit_devices source side (tiles_old, ps_old) (tiles_new, ps_new) explained uses;
+}
+
+-- a page without a map is explained whatever befalls maps
+pub whatever_befalls_maps : {W : Type 0} (sink : Sink W) (old new : W) (MapFails : MapFault → Type 0) (form : Form) (answer : Answer) (code : ℕ) →
+    Explains sink old new (λ fault. ⊥) form answer code → Explains sink old new MapFails form answer code
+whatever_befalls_maps sink old new MapFails form answer code e = record {
+  text = e.text;
+  status = e.status;
+  explained = elim e.explained [
+    | inl page ↦ inl page
+    | inr none ↦ inr (none.0, elim none.1 [ inl memory ↦ inl memory | inr lost ↦ absurd lost.1 ], none.2, none.3)
+  ];
+  printed = e.printed;
 }

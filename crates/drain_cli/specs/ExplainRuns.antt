@@ -1,5 +1,5 @@
 -- How a run of `drain explain` ends, what it prints, and its status.
-use Rattle.std.specs.Prelude.{◌≡◌, ◌⊎◌, ℕ, ◌++◌, List, [], ◌∷◌, codes, string_bytes}
+use Rattle.std.specs.Prelude.{◌≡◌, ◌⊎◌, ℕ, ◌++◌, List, [], ◌∷◌, Result, Err, codes, string_bytes}
 use Rattle.drain_device.specs.Devices.{Sink, Source}
 use Rattle.drain_device.specs.declared.read.BodyFault.TheVariants as body
 use Rattle.drain_hgt.specs.declared.input.TileInput.{TileInput}
@@ -9,6 +9,8 @@ use Rattle.drain_page.specs.declared.json_page.TheConstants.{NO_OBJECT}
 use Rattle.drain_page.specs.Lines.{line_of}
 use Rattle.drain_args.specs.declared.form.Form.{Form}
 use Rattle.drain_args.specs.declared.form.Form.TheVariants.{Text, Json}
+use Rattle.drain_cli.specs.declared.runs.explain_page.MapFault.{MapFault}
+use Rattle.drain_cli.specs.declared.runs.explain_page.MapFault.TheVariants as map
 use Rattle.drain_cli.specs.declared.runs.no_page.NoPage.{NoPage}
 use Rattle.drain_cli.specs.declared.runs.no_page.NoPage.TheVariants as no_page
 use Rattle.drain_cli.specs.declared.runs.no_page.NoPage.TheVariants.{Open}
@@ -61,14 +63,29 @@ abbrev pub IsNoPage : Form → NoPage → List ℕ → Type 0
 IsNoPage Text why text = IsNoPageLine why text
 IsNoPage Json why text = IsFailureObject (no_page_answer why) text
 
--- the page of the answer with its status, or why there is none with the status of a failure
-abbrev pub IsTold : Form → Answer → List ℕ → Status → Type 0
-IsTold form answer text status =
-    (BeginsWith form (line_of answer) text × (status ≡ answer_status answer)) ⊎ ((why : NoPage) × IsNoPage form why text × (status ≡ Failed))
+-- a map that can't be saved leaves no page
+abbrev pub no_page_of : MapFault → NoPage
+no_page_of (map.Open path) = Open path
+no_page_of map.WriteFailed = no_page.WriteFailed
+no_page_of map.OutOfMemory = no_page.OutOfMemory
+
+-- memory ran out for the page, or its map can't be saved
+abbrev pub IsCause : (MapFault → Type 0) → NoPage → Type 0
+IsCause MapFails why = (why ≡ no_page.OutOfMemory) ⊎ ((fault : MapFault) × MapFails fault × (why ≡ no_page_of fault))
+
+-- the page of the answer with its status; or why there is none, with the status of a failure
+abbrev pub IsExplained : (MapFault → Type 0) → Form → Answer → List ℕ → Status → Type 0
+IsExplained MapFails form answer text status =
+    (BeginsWith form (line_of answer) text × (status ≡ answer_status answer))
+    ⊎ ((why : NoPage) × IsCause MapFails why × IsNoPage form why text × (status ≡ Failed))
 
 -- that was printed, and the run ends with this number
-pub record Tells {W : Type 0} (sink : Sink W) (old new : W) (form : Form) (answer : Answer) (code : ℕ) : Type 0 where
+pub record Explains {W : Type 0} (sink : Sink W) (old new : W) (MapFails : MapFault → Type 0) (form : Form) (answer : Answer) (code : ℕ) : Type 0 where
   pub text : List ℕ
   pub status : Status
-  pub told : IsTold form answer text status
+  pub explained : IsExplained MapFails form answer text status
   pub printed : PrintsText sink old new text status code
+
+-- a call to save a map failed for this reason
+abbrev pub FailsToSave : {B : Type 0} → (B → B → Result (Unit {0}) MapFault → Type 0) → MapFault → Type 0
+FailsToSave {B} has_saved fault = (old : B) × (new : B) × has_saved old new (Err fault)

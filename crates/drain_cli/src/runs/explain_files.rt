@@ -179,6 +179,9 @@ impl<'r, 'a, 'e> SecondLook for OnDisk<'r, 'a, 'e> {
 }
 
 impl<'r, 'a, 'e> ExplainOutput for OnDisk<'r, 'a, 'e> {
+    // No clause says what a file takes.
+    ghost has_saved = { λ old new result. Unit {0} };
+
     fn save_map(&mut self, layout: &Layout, pixels: &[u8]) -> Result<(), MapFault> {
         match self.args.map {
             Some(stem) => save(self.rt, stem, self.inputs.as_slice(), layout, pixels),

@@ -1,6 +1,8 @@
 //! Printing an explanation: the map of the faults is saved first, then the page is printed, as a text or as JSON.
 
-ghost use Rattle.drain_cli.specs.ExplainRuns.{Tells};
+ghost use Rattle.std.specs.Prelude.{IfErr, Result};
+ghost use Rattle.drain_cli.specs.ExplainRuns.{Explains, FailsToSave};
+ghost use Rattle.drain_cli.specs.declared.runs.explain_page.MapFault.{MapFault};
 
 use crate::answer::answer_status;
 use crate::runs::no_page::{NoPage, print_no_page};
@@ -25,8 +27,12 @@ pub enum MapFault {
 
 /// The place of a map.
 pub trait ExplainOutput {
+    /// A call led from the one state to the other, with this result.
+    ghost has_saved: { Self → Self → Result (Unit {0}) MapFault → Type 0 };
+
     /// Saves the map of the faults.
-    fn save_map(&mut self, layout: &Layout, pixels: &[u8]) -> Result<(), MapFault>;
+    fn save_map(&mut self, layout: &Layout, pixels: &[u8]) -> Result<(), MapFault>
+        ensures { has_saved self.old self.new result };
 }
 
 /// Saves the map, if there is one, then prints the page, and returns the exit status: that of the answer, or that of a
@@ -34,23 +40,25 @@ pub trait ExplainOutput {
 ///
 /// If the map can't be saved it prints why in place of the page, and if memory is refused for the page it prints that:
 /// in the form of the page.
-pub fn tell<B: ExplainOutput, W: ByteSink>(
+pub fn explain<B: ExplainOutput, W: ByteSink>(
     alloc: Global,
     facts: &Facts,
     form: Form,
     beside: &mut B,
     out: &mut W,
 ) -> u8
-    ensures { Tells W.ByteSink out.old out.new form facts.now.answer result }
+    ensures { Explains W.ByteSink out.old out.new (FailsToSave B.has_saved) form facts.now.answer result }
 {
     match save(facts, beside) {
         Ok(()) => print_page(alloc, facts, form, out),
-        Err(fault) => print_no_page(alloc, &fault.into(), form, out),
+        Err(fault) => print_no_page(alloc, &NoPage::from(fault), form, out),
     }
 }
 
 /// Saves the map, if there is one.
-fn save<B: ExplainOutput>(facts: &Facts, beside: &mut B) -> Result<(), MapFault> {
+fn save<B: ExplainOutput>(facts: &Facts, beside: &mut B) -> Result<(), MapFault>
+    ensures { IfErr result (FailsToSave B.has_saved) }
+{
     match &facts.findings {
         Some(
             Findings {
@@ -65,7 +73,7 @@ fn save<B: ExplainOutput>(facts: &Facts, beside: &mut B) -> Result<(), MapFault>
 
 /// Prints the page, or that there is no memory for it.
 fn print_page<W: ByteSink>(alloc: Global, facts: &Facts, form: Form, out: &mut W) -> u8
-    ensures { Tells W.ByteSink out.old out.new form facts.now.answer result }
+    ensures { Explains W.ByteSink out.old out.new (λ fault. ⊥) form facts.now.answer result }
 {
     let status = answer_status(&facts.answer);
     match form {

@@ -1,7 +1,7 @@
 //! Why an explanation has no page, and printing it: as a line, or as one JSON object with that line as its answer.
 
 ghost use Rattle.std.specs.Prelude.{◌≡◌, ◌++◌, ℕ, List, IfOk, codes, string_bytes};
-ghost use Rattle.drain_cli.specs.ExplainRuns.{IsNoPage, IsNoPageLine, IsFailureObject, no_page_answer};
+ghost use Rattle.drain_cli.specs.ExplainRuns.{IsNoPage, IsNoPageLine, IsFailureObject, no_page_answer, no_page_of};
 ghost use Rattle.drain_print.specs.Printing.{PrintsText};
 
 use crate::runs::explain_page::MapFault;
@@ -38,7 +38,9 @@ impl From<OpenFault> for NoPage {
 }
 
 impl From<MapFault> for NoPage {
-    fn from(fault: MapFault) -> NoPage {
+    fn from(fault: MapFault) -> NoPage
+        ensures { result ≡ no_page_of fault }
+    {
         match fault {
             MapFault::Open(path) => NoPage::Open(path),
             MapFault::WriteFailed => NoPage::WriteFailed,

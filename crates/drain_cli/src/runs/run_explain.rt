@@ -1,9 +1,9 @@
 //! A run of `drain explain`: products are checked or audited against their tiles, and what is wrong with them is printed.
 
 ghost use Rattle.drain_page.specs.declared.facts.Answer.{Answer};
-ghost use Rattle.drain_cli.specs.ExplainRuns.{IsOutcome, Tells};
+ghost use Rattle.drain_cli.specs.ExplainRuns.{Explains, FailsToSave, IsOutcome};
 
-use crate::runs::explain_page::{ExplainOutput, tell};
+use crate::runs::explain_page::{ExplainOutput, explain};
 use drain_args::form::Form;
 use drain_device::{ByteSink, ByteSource};
 use drain_explain::{
@@ -36,7 +36,7 @@ pub fn run_explain<R: ByteSource, B: ExplainOutput + SecondLook, W: ByteSink>(
 ) -> u8
     ensures run { (answer : Answer)
         × IsOutcome R.ByteSource side tiles.old tiles.new sinks.now products.old products.new answer
-        × Tells W.ByteSink out.old out.new form answer result }
+        × Explains W.ByteSink out.old out.new (FailsToSave B.ExplainOutput.has_saved) form answer result }
 {
     let (answer, findings) = explain_products(alloc, side, tiles, sinks, products, mapping);
     let refusal = match refusal_of(&answer) {
@@ -51,7 +51,7 @@ pub fn run_explain<R: ByteSource, B: ExplainOutput + SecondLook, W: ByteSink>(
         refusal,
         findings,
     };
-    tell(alloc, &facts, form, beside, out)
+    explain(alloc, &facts, form, beside, out)
 }
 
 /// The answer to the products, and what is wrong with them.
