@@ -86,13 +86,33 @@ class Reports(UnionCase):
         self.assertTrue(windows.job(name).startswith("accepted "))
         self.assertEqual(windows.merge(), f"refused OtherNoData {list(windows.windows).index(name)}")
 
+    def test_a_header_without_no_data(self) -> None:
+        """Two windows of a tile, one with con's NODATA line and one without, which means the same number."""
+        tile = right.folder / f"tiles/{corner(1, 1)}.hgt"
+        reports = []
+        for name, box, inner in [("with", f"0,0,7,{SIDE}", "s"), ("without", f"5,0,{SIDE - 5},{SIDE}", "n")]:
+            made = self.folder / name
+            made.mkdir()
+            run("make", "--side", SIDE, "--out", made, tile)
+            header = made / "con.hdr"
+            lines = header.read_text().splitlines(keepends=True)
+            kept = [line for line in lines if name == "with" or not line.startswith("NODATA ")]
+            self.assertEqual(len(kept), len(lines) - (name == "without"))
+            header.write_text("".join(kept))
+            reports.append(self.folder / f"{name}.txt")
+            words = ["--products", made, "--box", box, "--inner", inner, "--report", reports[-1], tile]
+            run("window", "--side", SIDE, *words)
+        whole = run("audit", "--side", SIDE, "--products", self.folder / "with", tile)
+        for given in (reports, reports[::-1]):
+            self.assertEqual(run("merge", *given), whole)
+
     def test_texts_that_are_no_reports(self) -> None:
         reports = judged.reports()
         text = reports[3].read_text()
         lines = text.splitlines(keepends=True)
         report = self.folder / "report"
         for name, changed, fault in [
-            ("another version", text.replace("report 1", "report 2", 1), "WrongVersion"),
+            ("another version", text.replace("report 2", "report 1", 1), "WrongVersion"),
             ("nothing", "", "WrongVersion"),
             ("cut behind a line", "".join(lines[:-1]), f"MissingLine {len(lines)}"),
             ("cut within a line", text[:-1], f"MissingLine {len(lines)}"),

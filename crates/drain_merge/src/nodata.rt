@@ -3,11 +3,10 @@
 ghost use Rattle.std.specs.Prelude.{◌≡◌, ◌↔◌, IsTrue};
 ghost use Rattle.drain_merge.specs.Places.{IsFirstFailing};
 
-use drain_grid::NoData;
-use drain_windows::WindowReport;
+use drain_windows::{AuditNoData, WindowReport};
 
 /// The first window with other no-data numbers than these.
-pub fn first_other(windows: &[WindowReport], nodata: NoData) -> Option<usize>
+pub fn first_other(windows: &[WindowReport], nodata: AuditNoData) -> Option<usize>
     ensures { IsFirstFailing (λ w. w.report.nodata ≡ nodata) windows.now result }
 {
     for i in 0..windows.len() {
@@ -19,15 +18,18 @@ pub fn first_other(windows: &[WindowReport], nodata: NoData) -> Option<usize>
 }
 
 /// The window's no-data numbers.
-pub fn nodata_of(window: &WindowReport) -> NoData
+pub fn nodata_of(window: &WindowReport) -> AuditNoData
     ensures { result ≡ window.now.report.nodata }
 {
     window.report.nodata
 }
 
 /// Whether the two are the same.
-fn are_same(a: NoData, b: NoData) -> bool
+fn are_same(a: AuditNoData, b: AuditNoData) -> bool
     ensures { IsTrue result ↔ (a ≡ b) }
 {
+    // That each has no other numbers than these four.
+    let _of_a = a.con;
+    let _of_b = b.con;
     a == b
 }

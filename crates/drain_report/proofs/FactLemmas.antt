@@ -5,17 +5,16 @@ use Rattle.std.proofs.Math.Facts.{sfits_widen}
 use Rattle.std.specs.Int.{w64}
 use Rattle.std.proofs.lemmas.Int.{fits_signed_from_abs, ints}
 use Rattle.drain_grid.specs.declared.cell.Cell.{Cell}
-use Rattle.drain_grid.specs.declared.product.Product.TheVariants.{Con, Dir, Acc, Bas, Spl, Rnk}
 use Rattle.drain_grid.specs.declared.rule.Rule.{Rule}
 use Rattle.drain_grid.specs.Rule.{rule_number}
-use Rattle.drain_grid.specs.Values.{NoDataNumbers, AreNoDataInRange, IsNoData, IsPixel}
+use Rattle.drain_grid.specs.Values.{NoDataNumbers, IsNoData, IsPixel}
 use Rattle.drain_grid.proofs.RuleNumbers.{numbered}
 use Rattle.drain_rules.specs.declared.verdict.Counts.{Counts}
 use Rattle.drain_windows.specs.declared.outlet.Outlet.{Outlet}
 use Rattle.drain_windows.specs.declared.place.Place.{Place}
 use Rattle.drain_windows.specs.declared.report.Shown.{Shown}
 use Rattle.drain_report.specs.Lines.{IsLong, AreLong}
-use Rattle.drain_report.specs.Facts.{IsNarrow, sink_numbers, IsOutlet, outlet_numbers, IsHeight, IsShown, height_number, flag_number, shown_numbers, IsPlace, place_numbers, nodata_numbers, CountsFit, count_numbers, fault_numbers}
+use Rattle.drain_report.specs.Facts.{IsNarrow, sink_numbers, IsOutlet, outlet_numbers, IsHeight, IsShown, height_number, flag_number, shown_numbers, IsPlace, place_numbers, IsAuditNoData, nodata_numbers, CountsFit, count_numbers, fault_numbers}
 
 pub narrow_long : (n : ℕ) → n < 2 ^ 32 → IsLong (pos n)
 narrow_long n small = fits_signed_from_abs w64 (pos n) (omega arith)
@@ -97,17 +96,9 @@ place_long p fit =
 pub nodata_number_long : (n : ℤ) → IsNoData n → IsLong n
 nodata_number_long n is = let low = is.low in let high = is.high in fits_signed_from_abs w64 n (omega (arith, ints, low, high))
 
-pub nodata_long : (n : NoDataNumbers) → AreNoDataInRange n → AreLong (nodata_numbers n)
-nodata_long n range = (
-  nodata_number_long n.con (range Con),
-  (
-    nodata_number_long n.dir (range Dir),
-    (
-      nodata_number_long n.acc (range Acc),
-      (nodata_number_long n.bas (range Bas), (nodata_number_long n.spl (range Spl), (nodata_number_long n.rnk (range Rnk), tt))),
-    ),
-  ),
-)
+pub nodata_long : (n : NoDataNumbers) → IsAuditNoData n → AreLong (nodata_numbers n)
+nodata_long n fit =
+    (nodata_number_long n.con fit.con, (nodata_number_long n.dir fit.dir, (nodata_number_long n.acc fit.acc, (nodata_number_long n.bas fit.bas, tt))))
 
 pub counts_long : (c : Counts) → CountsFit c → AreLong (count_numbers c)
 counts_long c fit = (

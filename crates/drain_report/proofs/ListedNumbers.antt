@@ -54,7 +54,7 @@ four_then (v ∷ (w ∷ [])) a b c d rest long p q r s others = absurd (omega ar
 four_then (v ∷ (w ∷ (x ∷ []))) a b c d rest long p q r s others = absurd (omega arith)
 four_then (v ∷ (w ∷ (x ∷ (y ∷ ns)))) a b c d rest long p q r s others = rw (p, q, r, s, others) refl
 
-pub six : (ns : List ℤ) (a b c d e f : ℤ) → length ns ≡ 6 → get_or ns 0 (pos 0) ≡ a → get_or ns 1 (pos 0) ≡ b → get_or ns 2 (pos 0) ≡ c → get_or ns 3 (pos 0) ≡ d → get_or ns 4 (pos 0) ≡ e → get_or ns 5 (pos 0) ≡ f → ns ≡ a ∷ b ∷ c ∷ d ∷ e ∷ f ∷ []
-six ns a b c d e f long p q r s t u =
-    let all : ns ≡ get_or ns 0 (pos 0) ∷ get_or ns 1 (pos 0) ∷ get_or ns 2 (pos 0) ∷ get_or ns 3 (pos 0) ∷ get_or ns 4 (pos 0) ∷ get_or ns 5 (pos 0) ∷ [] = exact_from 0 6 ns (omega arith) in
-    all ∙ rw (p, q, r, s, t, u) refl
+pub four : (ns : List ℤ) (a b c d : ℤ) → length ns ≡ 4 → get_or ns 0 (pos 0) ≡ a → get_or ns 1 (pos 0) ≡ b → get_or ns 2 (pos 0) ≡ c → get_or ns 3 (pos 0) ≡ d → ns ≡ a ∷ b ∷ c ∷ d ∷ []
+four ns a b c d long p q r s =
+    let all : ns ≡ get_or ns 0 (pos 0) ∷ get_or ns 1 (pos 0) ∷ get_or ns 2 (pos 0) ∷ get_or ns 3 (pos 0) ∷ [] = exact_from 0 4 ns (omega arith) in
+    all ∙ rw (p, q, r, s) refl

@@ -49,6 +49,6 @@ pub same_place : (p : Place) (top left : ℕ) (extent : Extent) (inner : InnerSi
     → record { top = top; left = left; extent = extent; inner = inner } ≡ p
 same_place p top left extent inner a b c d = rw (a, b, c, d) refl
 
-pub same_nodata : (n : NoDataNumbers) (con dir acc bas spl rnk : ℤ) → con ≡ n.con → dir ≡ n.dir → acc ≡ n.acc → bas ≡ n.bas → spl ≡ n.spl → rnk ≡ n.rnk
-    → record { con = con; dir = dir; acc = acc; bas = bas; spl = spl; rnk = rnk } ≡ n
-same_nodata n con dir acc bas spl rnk a b c d e f = rw (a, b, c, d, e, f) refl
+pub same_nodata : (n : NoDataNumbers) (con dir acc bas : ℤ) → con ≡ n.con → dir ≡ n.dir → acc ≡ n.acc → bas ≡ n.bas → n.spl ≡ pos 0 → n.rnk ≡ pos 0
+    → record { con = con; dir = dir; acc = acc; bas = bas; spl = pos 0; rnk = pos 0 } ≡ n
+same_nodata n con dir acc bas a b c d e f = λ i. record { con = a i; dir = b i; acc = c i; bas = d i; spl = sym e i; rnk = sym f i }

@@ -1,10 +1,10 @@
 -- The facts of a report as numbers, each kind on lines of its own. The order of the numbers is this project's own.
-use Rattle.std.specs.Prelude.{◌<◌, ◌^◌, ℕ, ℤ, pos, Bool, true, false, Option, Some, None, List, [], ◌∷◌, ◌++◌, codes, if◌then◌else◌}
+use Rattle.std.specs.Prelude.{◌≡◌, ◌<◌, ◌^◌, ℕ, ℤ, pos, Bool, true, false, Option, Some, None, List, [], ◌∷◌, ◌++◌, codes, if◌then◌else◌}
 use Rattle.std.specs.Int.{w16}
 use Rattle.std.specs.Int.RustNames.{FitsSigned}
 use Rattle.drain_grid.specs.declared.cell.Cell.{Cell}
 use Rattle.drain_grid.specs.declared.tile.TheConstants.{VOID}
-use Rattle.drain_grid.specs.Values.{Values, AreInRange, NoDataNumbers}
+use Rattle.drain_grid.specs.Values.{Values, AreInRange, NoDataNumbers, IsNoData}
 use Rattle.drain_windows.specs.declared.outlet.Outlet.{Outlet}
 use Rattle.drain_windows.specs.declared.report.Shown.{Shown}
 use Rattle.drain_windows.specs.declared.place.Place.{Place}
@@ -88,12 +88,21 @@ pub record IsPlace (p : Place) : Type 0 where
   pub left : p.left < 2 ^ 32
   pub extent : IsExtent p.extent
 
--- nodata CON DIR ACC BAS SPL RNK
+-- nodata CON DIR ACC BAS
 abbrev pub nodata_numbers : NoDataNumbers → List ℤ
-nodata_numbers n = n.con ∷ n.dir ∷ n.acc ∷ n.bas ∷ n.spl ∷ n.rnk ∷ []
+nodata_numbers n = n.con ∷ n.dir ∷ n.acc ∷ n.bas ∷ []
 
 abbrev pub nodata_line : NoDataNumbers → List ℕ
 nodata_line n = line (codes "nodata") (nodata_numbers n)
+
+-- the four are in range, and the others are 0
+pub record IsAuditNoData (n : NoDataNumbers) : Type 0 where
+  pub con : IsNoData n.con
+  pub dir : IsNoData n.dir
+  pub acc : IsNoData n.acc
+  pub bas : IsNoData n.bas
+  pub spl : n.spl ≡ pos 0
+  pub rnk : n.rnk ≡ pos 0
 
 abbrev pub count_numbers : Counts → List ℤ
 count_numbers c = pos c.rows ∷ pos c.cols ∷ pos c.data_cells ∷ pos c.raised ∷ pos c.outlets ∷ []

@@ -9,21 +9,21 @@ use crate::count::{push_count, read_count};
 use crate::fault::ReportFault;
 use crate::lines::{Lines, after_word, push};
 use crate::report_line::ReportLine;
-use drain_grid::{NoData, OutOfMemory};
+use drain_grid::OutOfMemory;
 use drain_rules::Verdict;
-use drain_windows::Place;
+use drain_windows::{AuditNoData, Place};
 
 /// What the first lines of a report say.
 #[derive(Clone, Copy)]
 pub struct Head {
     pub side: u32,
     pub place: Place,
-    pub nodata: NoData,
+    pub nodata: AuditNoData,
     pub verdict: Verdict,
 }
 
 /// The first line.
-const VERSION: &[u8] = b"drain-window-report 1\n";
+const VERSION: &[u8] = b"drain-window-report 2\n";
 
 /// What follows the first line.
 fn first_lines(text: &[u8]) -> Result<Lines, ReportFault>
@@ -55,7 +55,7 @@ pub fn read_head(text: &[u8]) -> Result<(Head, Lines), ReportFault>
         Ok(read) => read,
         Err(fault) => return Err(fault),
     };
-    let (nodata, lines) = match NoData::read_from(lines) {
+    let (nodata, lines) = match AuditNoData::read_from(lines) {
         Ok(read) => read,
         Err(fault) => return Err(fault),
     };

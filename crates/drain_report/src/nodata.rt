@@ -1,17 +1,18 @@
 //! The line of the no-data numbers.
 
 ghost use Rattle.std.specs.Prelude.{◌≡◌, ◌<◌, ℤ, pos, length, get_or, Some, IfSome};
-ghost use Rattle.drain_grid.specs.Values.{AreNoDataInRange, IsNoData};
+ghost use Rattle.drain_grid.specs.Values.{IsNoData};
 ghost use Rattle.drain_report.specs.Lines.{AreLong};
-ghost use Rattle.drain_report.specs.Facts.{nodata_numbers, nodata_line};
+ghost use Rattle.drain_report.specs.Facts.{IsAuditNoData, nodata_numbers, nodata_line};
 
 use crate::fact::{Fact, read_fact};
 use crate::facts::at;
 use crate::fault::ReportFault;
 use crate::lines::{Lines, push_line};
 use crate::report_line::ReportLine;
+use drain_grid::OutOfMemory;
 use drain_grid::nodata::{GREATEST_NODATA, LEAST_NODATA};
-use drain_grid::{NoData, OutOfMemory};
+use drain_windows::AuditNoData;
 
 /// The no-data number at a place, if it is in range.
 fn nodata_at(numbers: &[i64], place: usize) -> Option<i64>
@@ -29,43 +30,34 @@ fn nodata_at(numbers: &[i64], place: usize) -> Option<i64>
     }
 }
 
-impl Fact for NoData {
+impl Fact for AuditNoData {
     ghost numbers_of = { nodata_numbers };
 
-    ghost how_many = { 6 };
+    ghost how_many = { 4 };
 
-    ghost is_in_range = { AreNoDataInRange };
+    ghost is_in_range = { IsAuditNoData };
 
-    fn from_numbers(numbers: &[i64]) -> Option<NoData> {
+    fn from_numbers(numbers: &[i64]) -> Option<AuditNoData> {
         let con = nodata_at(numbers, 0)?;
         let dir = nodata_at(numbers, 1)?;
         let acc = nodata_at(numbers, 2)?;
         let bas = nodata_at(numbers, 3)?;
-        let spl = nodata_at(numbers, 4)?;
-        let rnk = nodata_at(numbers, 5)?;
-        Some(NoData {
-            con,
-            dir,
-            acc,
-            bas,
-            spl,
-            rnk,
-        })
+        Some(AuditNoData { con, dir, acc, bas })
     }
 }
 
-impl ReportLine for NoData {
+impl ReportLine for AuditNoData {
     ghost line_of = { nodata_line };
 
-    ghost fits = { AreNoDataInRange };
+    ghost fits = { IsAuditNoData };
 
-    fn read_from<'a>(lines: Lines<'a>) -> Result<(NoData, Lines<'a>), ReportFault> {
-        let mut numbers = [0i64; 6];
+    fn read_from<'a>(lines: Lines<'a>) -> Result<(AuditNoData, Lines<'a>), ReportFault> {
+        let mut numbers = [0i64; 4];
         read_fact(lines, "nodata", &mut numbers)
     }
 
     fn push_to(&self, text: &mut Vec<u8>) -> Result<(), OutOfMemory> {
-        let numbers = [self.con, self.dir, self.acc, self.bas, self.spl, self.rnk];
+        let numbers = [self.con, self.dir, self.acc, self.bas];
         push_line(text, "nodata", &numbers)
     }
 }

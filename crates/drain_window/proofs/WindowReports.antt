@@ -16,6 +16,8 @@ use Rattle.drain_windows.specs.declared.place.Place.{Place}
 use Rattle.drain_windows.specs.declared.place.TheConstants.{SEAM_DEPTH}
 use Rattle.drain_windows.specs.declared.report.Shown.{Shown}
 use Rattle.drain_windows.specs.Cuts.{window_at}
+use Rattle.drain_windows.specs.Laws.{FourNumbers}
+use Rattle.drain_windows.specs.NoData.{audited}
 use Rattle.drain_windows.specs.Outlets.{IsSortedByLabel, ListsOutlets}
 use Rattle.drain_windows.specs.Reports.{IsReportOf, ListsSeams, ListsSinks}
 use Rattle.drain_windows.specs.Windows.{moved, IsFirstInside, IsPlaceIn, RulesHoldInside}
@@ -71,30 +73,30 @@ module _ (judges : WalkJudgesWindow) (lists : WalkListsSeams) (nodata : NoDataNu
       (subst (λ q. ListsSeamsAbove seams.origin q g ps seams.rows seams.seams.items) of.place (listed_seams.right fits))))
 
 -- the report on a window where the rules hold
-pub report_sound : (nodata at : NoDataNumbers) (origin : Cell) (p : Place) (g : Grid) (ps : Products) (outlets sorted : List Outlet) (shown : List Shown) (sinks : List Cell) (tally : Tally) → at ≡ nodata →
+pub report_sound : (nodata at : NoDataNumbers) (origin : Cell) (p : Place) (g : Grid) (ps : Products) (outlets sorted : List Outlet) (shown : List Shown) (sinks : List Cell) (tally : Tally) → FourNumbers → at ≡ audited nodata →
     IsOfWindow nodata origin p g ps outlets (Sound tally) → IsSortedByLabel sorted → IsPermutation outlets sorted → ListsSeams SEAM_DEPTH (window_at origin p g ps) shown → ListsSinks (window_at origin p g ps) sinks →
     IsReportOf SEAM_DEPTH (window_at origin p g ps) (record { place = moved origin p; nodata = at; holds = true; outlets = sorted; seams = shown; sinks = sinks })
-report_sound nodata at origin p g ps outlets sorted shown sinks tally same of rise moves seams sinks_are = record {
+report_sound nodata at origin p g ps outlets sorted shown sinks tally four same of rise moves seams sinks_are = record {
   place = refl;
   extent = refl;
-  holds = (λ is. subst (λ n. RulesHoldInside n (window_at origin p g ps)) (sym same) of.0, λ holds. refl);
+  holds = (λ is. subst (λ n. RulesHoldInside n (window_at origin p g ps)) (sym same) ((four nodata (window_at origin p g ps)).0.0 of.0), λ holds. refl);
   outlets = λ is. listed nodata origin p g ps outlets sorted rise moves of.1;
   seams = λ is. seams;
   sinks = λ is. sinks_are;
 }
 
 -- and where one fails
-pub report_faulty : (nodata at : NoDataNumbers) (origin : Cell) (p : Place) (g : Grid) (ps : Products) (outlets : List Outlet) (cell : Cell) (rule : Rule) (none : List Outlet) (nothing : List Shown) (no_sink : List Cell) → at ≡ nodata →
+pub report_faulty : (nodata at : NoDataNumbers) (origin : Cell) (p : Place) (g : Grid) (ps : Products) (outlets : List Outlet) (cell : Cell) (rule : Rule) (none : List Outlet) (nothing : List Shown) (no_sink : List Cell) → FourNumbers → at ≡ audited nodata →
     IsOfWindow nodata origin p g ps outlets (Faulty cell rule) →
     IsReportOf SEAM_DEPTH (window_at origin p g ps) (record { place = moved origin p; nodata = at; holds = false; outlets = none; seams = nothing; sinks = no_sink })
-report_faulty nodata at origin p g ps outlets cell rule none nothing no_sink same of = record {
+report_faulty nodata at origin p g ps outlets cell rule none nothing no_sink four same of = record {
   place = refl;
   extent = refl;
   holds = (
     λ is. absurd (let no : ⊥ = cc in no),
     λ holds.
         (let first = of.2 in
-        absurd (first.fails (subst (λ n. RulesHoldInside n (window_at origin p g ps)) same holds of.0 rule first.judged first.is_own))),
+        absurd (first.fails ((four nodata (window_at origin p g ps)).0.1 (subst (λ n. RulesHoldInside n (window_at origin p g ps)) same holds) of.0 rule first.judged first.is_own))),
   );
   outlets = λ is. absurd (let no : ⊥ = cc in no);
   seams = λ is. absurd (let no : ⊥ = cc in no);

@@ -20,6 +20,7 @@ use Rattle.drain_windows.specs.declared.place.Place.{Place}
 use Rattle.drain_windows.specs.declared.window_report.WindowReport.{WindowReport}
 use Rattle.drain_windows.specs.declared.place.TheConstants.{SEAM_DEPTH}
 use Rattle.drain_windows.specs.Cuts.{window_at}
+use Rattle.drain_windows.specs.NoData.{audited}
 use Rattle.drain_windows.specs.Reports.{Report, IsReportOf}
 use Rattle.drain_windows.specs.Windows.{Window, IsFirstInside, IsPlaceIn, RulesHoldInside}
 use Rattle.drain_window_walk.specs.Areas.{cells_in, judged_area}
@@ -46,7 +47,7 @@ IsJudgedVerdict nodata origin p g ps (Rejected rule row col) = IsFirstInside nod
 
 -- the report and the verdict on the window at a place of a grid, which begins at this cell of the union
 pub record IsAnswerOn (nodata : NoDataNumbers) (origin : Cell) (p : Place) (g : Grid) (ps : Products) (v : Verdict) (r : Report) : Type 0 where
-  pub nodata_is : r.nodata ≡ nodata
+  pub nodata_is : r.nodata ≡ audited nodata
   pub report : IsReportOf SEAM_DEPTH (window_at origin p g ps) r
   pub verdict : IsJudgedVerdict nodata origin p g ps v
 

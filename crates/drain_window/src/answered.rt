@@ -21,7 +21,8 @@ use drain_rules::tally::Tally;
 use drain_rules::{Counts, Verdict};
 use drain_window_walk::laws::{walk_judges_window, walk_lists_seams};
 use drain_window_walk::{Area, SeamWalk, WindowWalk};
-use drain_windows::{Outlet, Place, Report, sort_by_label};
+use drain_windows::laws::four_numbers;
+use drain_windows::{AuditNoData, Outlet, Place, Report, sort_by_label};
 use std::alloc::Global;
 
 /// The verdict and the report from the notes of all rows of a grid, for the window at this place of it, and the listed
@@ -42,11 +43,13 @@ pub(crate) fn answered(
     // The laws on what the notes say of the window.
     walk_judges_window();
     walk_lists_seams();
+    // The law that the rules look at the four no-data numbers of a report.
+    four_numbers();
     if !are_of(place, origin, &walk, &seams) {
         return None;
     }
     let at = place.moved(origin);
-    let nodata = walk.nodata;
+    let nodata = AuditNoData::of(walk.nodata);
     match walk.outcome {
         RowOutcome::Sound(total) => Some((
             Verdict::Accepted(counts_of(place, &total)),

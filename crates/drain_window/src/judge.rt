@@ -7,6 +7,7 @@ ghost use Rattle.drain_verdict.specs.Audits.{ForAudit};
 ghost use Rattle.drain_verdict.specs.Meaning.{nodata_numbers};
 ghost use Rattle.drain_verdict.specs.Stages.{IsLayoutOf};
 ghost use Rattle.drain_windows.specs.declared.place.TheConstants.{SEAM_DEPTH};
+ghost use Rattle.drain_windows.specs.NoData.{audited};
 ghost use Rattle.drain_windows.specs.Reports.{IsReportOf};
 ghost use Rattle.drain_windows.specs.Windows.{IsFirstInside, IsPlaceIn};
 ghost use Rattle.drain_verdict.specs.Uses.{AuditUses};
@@ -48,9 +49,9 @@ pub fn judge_window<R: ByteSource>(
     // Unless memory ran out or a read failed, the answer is that of the bytes.
     ensures answer { ForAudit R.bytes_left side tiles.old sinks.now products.old (λ inputs. IsWindowAnswer place.now inputs result) }
 
-    // The report is that of the window, with the no-data numbers of the products.
+    // The report is that of the window, with the no-data numbers of con, dir, acc and bas.
     ensures report { IfOk result (λ a. ForAudit R.bytes_left side tiles.old sinks.now products.old (λ inputs. IsReportOf SEAM_DEPTH (window_of place.now inputs) a.report)) }
-    ensures nodata { IfOk result (λ a. ForAudit R.bytes_left side tiles.old sinks.now products.old (λ inputs. a.report.nodata ≡ nodata_numbers inputs)) }
+    ensures nodata { IfOk result (λ a. ForAudit R.bytes_left side tiles.old sinks.now products.old (λ inputs. a.report.nodata ≡ audited (nodata_numbers inputs))) }
 
     // How far it reads, when a read fails, and what is unchanged: as for an audit.
     ensures uses { AuditUses R.bytes_left R.counts side (tiles.old, products.old) (tiles.new, products.new) (as_refused result) }

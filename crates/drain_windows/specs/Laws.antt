@@ -12,6 +12,7 @@ use Rattle.drain_grid.specs.Unranked.{unranked}
 use Rattle.drain_grid.specs.GridRules.{IsFirstFault}
 use Rattle.drain_grid.specs.Correct.{IsCorrect}
 use Rattle.drain_windows.specs.declared.outlet.Outlet.{Outlet}
+use Rattle.drain_windows.specs.NoData.{audited}
 use Rattle.drain_windows.specs.Outlets.{IsSortedByLabel, NoneBesideShares, ShareNoLabel, ListsOutlets, HoldsAllOf}
 use Rattle.drain_windows.specs.Reports.{AreApart, ReachesInto, OverlapInSeams, Report, IsReportOf, CanMerge}
 use Rattle.drain_windows.specs.declared.place.Place.{Place}
@@ -85,6 +86,13 @@ CornersTellWhole =
     (e : Extent) (places : List Place) →
     ((c : Cell) → IsCellOf e c → IsCornerRow places c.row → IsCornerCol places c.col → IsJudgedAtSome places c) →
     (c : Cell) → IsCellOf e c → IsJudgedAtSome places c
+
+-- the rules look at the no-data numbers of con, dir, acc and bas alone
+abbrev pub FourNumbers : Type 0
+FourNumbers =
+    (nodata : NoDataNumbers) (w : Window) →
+    (RulesHoldInside nodata w ↔ RulesHoldInside (audited nodata) w)
+    × ((c : Cell) (r : Rule) → IsFirstInside nodata w c r → IsFirstInside (audited nodata) w c r)
 
 -- whether two places overlap in their seams is told by their edges
 abbrev pub EdgesTellOverlap : Type 0

@@ -1,6 +1,7 @@
 pub mod Cuts
 pub mod Judged
 pub mod Laws
+pub mod NoData
 pub mod Outlets
 pub mod Reports
 pub mod Windows

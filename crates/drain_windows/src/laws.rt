@@ -3,7 +3,7 @@
 //! Each law is a function with nothing to do: its contract is the law, and a caller that calls it has the law at hand.
 
 ghost use Rattle.drain_windows.specs.Cuts.{CutIsWindow};
-ghost use Rattle.drain_windows.specs.Laws.{PatchOfWindow, CorrectByWindows, WindowsMakeUnion, SortedTellsShared, MergeTellsShared, OpenInWindow, MergeIsExact, CornersTellWhole, WindowRejects, LeastFaultIsFirst, EdgesTellOverlap};
+ghost use Rattle.drain_windows.specs.Laws.{PatchOfWindow, CorrectByWindows, WindowsMakeUnion, SortedTellsShared, MergeTellsShared, OpenInWindow, MergeIsExact, CornersTellWhole, WindowRejects, LeastFaultIsFirst, EdgesTellOverlap, FourNumbers};
 
 /// At a judged cell the patch of a window is the union's.
 pub fn patch_of_window()
@@ -55,6 +55,11 @@ pub fn window_rejects()
 /// The least of the first faults of windows is the union's first fault of a patch.
 pub fn least_fault_is_first()
     ensures { LeastFaultIsFirst }
+{}
+
+/// The rules look at the no-data numbers of con, dir, acc and bas alone.
+pub fn four_numbers()
+    ensures { FourNumbers }
 {}
 
 /// The edges of two places decide whether they overlap in their seams alone.

@@ -1,8 +1,9 @@
 //! A report on one window.
 
+use crate::audit_nodata::AuditNoData;
 use crate::outlet::Outlet;
 use crate::place::Place;
-use drain_grid::{Cell, CellValues, NoData};
+use drain_grid::{Cell, CellValues};
 use std::marker::Model;
 
 /// What a window shows at a cell of the union.
@@ -17,7 +18,7 @@ pub struct Shown {
 #[derive(Drop)]
 pub struct Report {
     pub place: Place,
-    pub nodata: NoData,
+    pub nodata: AuditNoData,
     pub holds: bool,
     pub outlets: Vec<Outlet>,
     pub seams: Vec<Shown>,

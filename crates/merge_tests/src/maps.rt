@@ -39,7 +39,10 @@ static TAKEN: [(&str, &[Window], &str); 5] = [
         "another side before other no-data numbers",
         &[
             NW,
-            Window { void: -9999, ..NE },
+            Window {
+                nodata: (-9999, 0),
+                ..NE
+            },
             SW,
             Window { side: 2, ..SE },
         ],

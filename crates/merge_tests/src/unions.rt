@@ -8,9 +8,22 @@ use drain_merge::{UnionSinks, UnionSize};
 use std::test::Fail;
 
 /// The windows in the order of the list, and the line.
-static UNIONS: [(&str, &[Window], &str); 14] = [
+static UNIONS: [(&str, &[Window], &str); 15] = [
     ("the whole union", &[NW, NE, SW, SE], WHOLE),
     ("in another order", &[SE, NW, SW, NE], WHOLE),
+    (
+        "another no-data number of ranks alone",
+        &[
+            NW,
+            Window {
+                nodata: (-32768, -32768),
+                ..NE
+            },
+            SW,
+            SE,
+        ],
+        WHOLE,
+    ),
     ("no report", &[], "refused NoReports"),
     (
         "counts above 32 bits",
@@ -79,7 +92,15 @@ static UNIONS: [(&str, &[Window], &str); 14] = [
     ),
     (
         "other no-data numbers before an overlap",
-        &[NW, NE, Window { void: -9999, ..SW }, NW],
+        &[
+            NW,
+            NE,
+            Window {
+                nodata: (-9999, 0),
+                ..SW
+            },
+            NW,
+        ],
         "refused OtherNoData 2",
     ),
     (

@@ -3,7 +3,9 @@
 use drain_grid::{Cell, CellValues, NoData, Rule, Shape};
 use drain_merge::UnionSize;
 use drain_rules::{Counts, Verdict};
-use drain_windows::{InnerSides, Outlet, Place, Report, SEAM_DEPTH, Shown, WindowReport};
+use drain_windows::{
+    AuditNoData, InnerSides, Outlet, Place, Report, SEAM_DEPTH, Shown, WindowReport,
+};
 use std::alloc::{AllocError, Global};
 use std::test::Fail;
 
@@ -18,8 +20,8 @@ pub const WHOLE: &str = "accepted rows=4 cols=4 data=16 raised=4 outlets=4";
 pub struct Window {
     /// The side of its tiles.
     pub side: u32,
-    /// The no-data number of its conditioned elevations.
-    pub void: i16,
+    /// The no-data numbers of its conditioned elevations, and of ranks.
+    pub nodata: (i64, i64),
     /// Its first row and its first column.
     pub first: (u32, u32),
     /// Whether its inner sides are those of a window in the south, or else in the north.
@@ -42,7 +44,7 @@ pub struct Window {
 /// The window in the north-west of the union.
 pub const NW: Window = Window {
     side: 3,
-    void: -32768,
+    nodata: (-32768, 0),
     first: (0, 0),
     south: false,
     east: false,
@@ -143,10 +145,13 @@ impl Window {
         }
     }
 
-    fn nodata(&self) -> NoData {
-        let mut nodata = NoData::defaults();
-        nodata.con = i64::from(self.void);
-        nodata
+    fn nodata(&self) -> AuditNoData {
+        let (con, rnk) = self.nodata;
+        AuditNoData::of(NoData {
+            con,
+            rnk,
+            ..NoData::defaults()
+        })
     }
 
     fn accepted(&self, alloc: Global, origin: Cell, place: Place) -> Result<Report, Fail> {

@@ -11,9 +11,10 @@ fn fault(alloc: Global, text: &[u8]) -> Option<ReportFault> {
 }
 
 /// What is replaced in the lines, and the fault.
-static FAULTS: [(usize, &str, ReportFault); 30] = [
-    (1, "drain-window-report 2", ReportFault::WrongVersion),
-    (1, "drain-window-report 1 ", ReportFault::WrongVersion),
+static FAULTS: [(usize, &str, ReportFault); 33] = [
+    (1, "drain-window-report 1", ReportFault::WrongVersion),
+    (1, "drain-window-report 3", ReportFault::WrongVersion),
+    (1, "drain-window-report 2 ", ReportFault::WrongVersion),
     (2, "side", ReportFault::BadLine(2)),
     (2, "side 01201", ReportFault::BadLine(2)),
     (2, "side +1201", ReportFault::BadLine(2)),
@@ -29,11 +30,13 @@ static FAULTS: [(usize, &str, ReportFault); 30] = [
         "window 62400 90001 0 4 0 1 0 0",
         ReportFault::OutOfRange(3),
     ),
+    (4, "nodata 10000000001 255 0 0", ReportFault::OutOfRange(4)),
     (
         4,
-        "nodata 10000000001 255 0 0 255 0",
+        "nodata -32768 255 0 -10000000001",
         ReportFault::OutOfRange(4),
     ),
+    (4, "nodata -32768 255 0 0 255 0", ReportFault::BadLine(4)),
     (5, "accepted 3 4 8 1 4294967296", ReportFault::OutOfRange(5)),
     (5, "rejected 16 0 0", ReportFault::OutOfRange(5)),
     (5, "taken 3 4 8 1 1", ReportFault::BadLine(5)),

@@ -30,10 +30,10 @@ fn an_accepted_window_is_read_and_written_again(rt: HostRuntime) -> Result<(), F
 }
 
 /// A rejected window: its lists are empty, as it is read to its first fault alone.
-const REJECTED: &[u8] = b"drain-window-report 1
+const REJECTED: &[u8] = b"drain-window-report 2
 side 3601
 window 0 0 1 28801 0 0 0 0
-nodata -32768 255 10000000000 -10000000000 255 0
+nodata -32768 255 10000000000 -10000000000
 rejected 15 0 28800
 tiles 0
 sinks 0

@@ -4,10 +4,10 @@ use std::alloc::{AllocError, Global};
 
 /// The lines of a window of 3 by 4 cells whose union goes on at the south; after the last one nothing follows.
 static LINES: [&str; 19] = [
-    "drain-window-report 1",
+    "drain-window-report 2",
     "side 1201",
     "window 62400 90001 3 4 0 1 0 0",
-    "nodata -2147483648 255 0 0 255 0",
+    "nodata -2147483648 255 0 0",
     "accepted 3 4 8 1 1",
     "tiles 2",
     "tile N37W105.hgt",

@@ -87,11 +87,15 @@ pub fn right_slope() -> Slope {
     }
 }
 
-/// The headers of the slope's products.
+/// The headers of the slope's conditioned elevations, and of the other rasters.
 const SLOPE_HEADERS: (&str, &str) = (
     "NROWS 4\nNCOLS 4\nULXMAP 0\nULYMAP 1\nXDIM 0.333333333333333\nYDIM 0.333333333333333\nBYTEORDER I\nNBITS 16\nPIXELTYPE SIGNEDINT\n",
     "NROWS 4\nNCOLS 4\nULXMAP 0\nULYMAP 1\nXDIM 0.333333333333333\nYDIM 0.333333333333333\nBYTEORDER I\nNBITS 8\n",
 );
+
+/// The first of them with the line of the default no-data number.
+pub const WITH_NODATA: &str =
+    "NROWS 4\nNCOLS 4\nULXMAP 0\nULYMAP 1\nXDIM 0.333333333333333\nYDIM 0.333333333333333\nBYTEORDER I\nNBITS 16\nPIXELTYPE SIGNEDINT\nNODATA -32768\n";
 
 impl Slope {
     /// The inputs, with this list of sinks.

@@ -1,10 +1,10 @@
 //! What is handed over of a window. Its cells are those of a map that begins at 90 degrees north and 180 degrees west.
 
 use crate::agree::same;
-use crate::inputs::{LEVEL_TILES, right_slope};
+use crate::inputs::{Inputs, LEVEL_TILES, WITH_NODATA, right_slope};
 use crate::places::{Window, answer, place};
 use drain_grid::Cell;
-use drain_windows::{Outlet, WindowReport};
+use drain_windows::{AuditNoData, Outlet, WindowReport};
 use std::process::Abort;
 use std::test::Fail;
 
@@ -108,6 +108,30 @@ fn a_window_of_two_tiles(rt: HostRuntime) -> Result<(), Fail> {
     same_place(&rt, &given, Cell { row: 89, col: 180 }, window)?;
     same_outlets(&rt, &given, &[outlet(3, 90, 180), outlet(6, 89, 180)]);
     same(&rt, "seams", given.report.seams.len(), 4);
+    Ok(())
+}
+
+/// The defaults of con, dir, acc and bas.
+const NODATA: AuditNoData = AuditNoData {
+    con: -32768,
+    dir: 255,
+    acc: 0,
+    bas: 0,
+};
+
+/// A header without the line has the default number, so the reports are those of one union.
+#[test]
+fn no_data_numbers(rt: HostRuntime) -> Result<(), Fail> {
+    let right = right_slope();
+    let without = right.listing("");
+    let with = Inputs {
+        headers: (WITH_NODATA, without.headers.1),
+        ..without
+    };
+    for inputs in [without, with] {
+        let given = answer(rt.alloc(), &inputs, (0, 0, 3, 4, "s"))??;
+        same(&rt, "no-data numbers", given.report.nodata, NODATA);
+    }
     Ok(())
 }
 

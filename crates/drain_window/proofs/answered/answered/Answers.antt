@@ -1,7 +1,8 @@
-use Rattle.std.proofs.Common.{◌∙◌, true, false, refl, sym, subst}
+use Rattle.std.proofs.Common.{◌∙◌, true, false, refl, sym, ap, subst}
 use Rattle.drain_windows.specs.declared.place.Place.{Place}
 use Rattle.drain_windows.specs.declared.place.TheConstants.{SEAM_DEPTH}
 use Rattle.drain_windows.specs.Cuts.{window_at}
+use Rattle.drain_windows.specs.NoData.{audited}
 use Rattle.drain_windows.specs.Reports.{IsReportOf}
 use Rattle.drain_window.proofs.WindowReports.{fault_in_window, nodata_is, of_window, report_faulty, report_sound, seams_are}
 use Rattle.drain_window.proofs.answered.answered.Goals as goal
@@ -12,20 +13,21 @@ returns-in-Sound c = λ nodata g ps placed some walked listed sinks.
     let lists = c.walk_lists_seams.ensures in
     let p = c.args.place.now in
     let of = c.if-not-are_of.ensures refl in
-    let at = nodata_is judges lists nodata c.args.origin p g ps c.args.walk c.args.seams of placed some walked listed in
+    let four = c.four_numbers.ensures in
+    let at = c.of-nodata.ensures ∙ ap audited (nodata_is judges lists nodata c.args.origin p g ps c.args.walk c.args.seams of placed some walked listed) in
     let k = c.counts_of.ensures in
     let found = rw c.in-Sound.is at (of_window judges lists nodata c.args.origin p g ps c.args.walk c.args.seams of placed some walked listed) in
     record {
       nodata_is = at;
       report = subst (λ (q : Place). IsReportOf SEAM_DEPTH (window_at c.args.origin p g ps) (record {
         place = q;
-        nodata = c.args.walk.nodata;
+        nodata = c.of-nodata.result;
         holds = true;
         outlets = c.sorted.result.items;
         seams = c.args.seams.seams.items;
         sinks = c.args.sinks.items;
       })) (sym c.moved-at.ensures)
-          (report_sound nodata c.args.walk.nodata c.args.origin p g ps c.args.walk.outlets.items c.sorted.result.items c.args.seams.seams.items c.args.sinks.items c.in-Sound.total at found
+          (report_sound nodata c.of-nodata.result c.args.origin p g ps c.args.walk.outlets.items c.sorted.result.items c.args.seams.seams.items c.args.sinks.items c.in-Sound.total four at found
           c.sorted.ensures.sorted c.sorted.ensures.permutation (seams_are judges lists nodata c.args.origin p g ps c.args.walk c.args.seams of placed some walked listed) sinks);
       verdict = (
         found.0,
@@ -45,20 +47,21 @@ returns-in-Faulty c = λ nodata g ps placed some walked listed sinks.
     let lists = c.walk_lists_seams.ensures in
     let p = c.args.place.now in
     let of = c.if-not-are_of.ensures refl in
-    let at = nodata_is judges lists nodata c.args.origin p g ps c.args.walk c.args.seams of placed some walked listed in
+    let four = c.four_numbers.ensures in
+    let at = c.of-nodata.ensures ∙ ap audited (nodata_is judges lists nodata c.args.origin p g ps c.args.walk c.args.seams of placed some walked listed) in
     let found = rw c.in-Faulty.is at (of_window judges lists nodata c.args.origin p g ps c.args.walk c.args.seams of placed some walked listed) in
     record {
       nodata_is = at;
       report = subst (λ (q : Place). IsReportOf SEAM_DEPTH (window_at c.args.origin p g ps) (record {
         place = q;
-        nodata = c.args.walk.nodata;
+        nodata = c.of-nodata.result;
         holds = false;
         outlets = c.new.result.items;
         seams = c.new-in-Faulty.result.items;
         sinks = c.new-in-Faulty-2.result.items;
       })) (sym c.moved-at.ensures)
-          (report_faulty nodata c.args.walk.nodata c.args.origin p g ps c.args.walk.outlets.items c.in-Faulty.cell c.in-Faulty.rule c.new.result.items
-          c.new-in-Faulty.result.items c.new-in-Faulty-2.result.items at found);
+          (report_faulty nodata c.of-nodata.result c.args.origin p g ps c.args.walk.outlets.items c.in-Faulty.cell c.in-Faulty.rule c.new.result.items
+          c.new-in-Faulty.result.items c.new-in-Faulty-2.result.items four at found);
       verdict = fault_in_window nodata c.args.origin p g ps c.args.walk.outlets.items c.in-Faulty.cell c.in-Faulty.rule c.saturating_sub.result
           c.saturating_sub-in-Faulty.result c.saturating_sub.ensures c.saturating_sub-in-Faulty.ensures found;
     }

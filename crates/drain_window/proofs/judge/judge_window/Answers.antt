@@ -3,6 +3,7 @@ use Rattle.drain_verdict.specs.AuditInputs.{with_con_for_ranks}
 use Rattle.drain_verdict.specs.Inputs.{Tell}
 use Rattle.drain_verdict.specs.Meaning.{nodata_numbers}
 use Rattle.drain_windows.specs.declared.place.TheConstants.{SEAM_DEPTH}
+use Rattle.drain_windows.specs.NoData.{audited}
 use Rattle.drain_windows.specs.Reports.{IsReportOf}
 use Rattle.drain_window.specs.WindowAnswers.{window_of}
 use Rattle.drain_window.proofs.WindowVerdicts.{first_of, when_answered}
@@ -16,7 +17,7 @@ returns-clause-report g c =
 pub returns-clause-nodata : goal.returns-clause-nodata
 returns-clause-nodata g c =
     when_answered (Tell g.R.ByteSource.bytes_left c.args.side c.args.tiles.now c.args.sinks.now (with_con_for_ranks c.args.products.now)) c.args.place.now
-    (λ a inputs. a.report.nodata ≡ nodata_numbers inputs) (λ a inputs answer. answer.3.nodata_is) c.answer_of.result c.answer_of.ensures.answer
+    (λ a inputs. a.report.nodata ≡ audited (nodata_numbers inputs)) (λ a inputs answer. answer.3.nodata_is) c.answer_of.result c.answer_of.ensures.answer
 
 pub returns-clause-first : goal.returns-clause-first
 returns-clause-first g c =

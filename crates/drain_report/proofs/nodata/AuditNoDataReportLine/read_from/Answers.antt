@@ -1,6 +1,6 @@
 use Rattle.std.proofs.Common.{refl}
 use Rattle.drain_report.proofs.FactLemmas.{nodata_long}
-use Rattle.drain_report.proofs.nodata.NoDataReportLine.read_from.Goals as goal
+use Rattle.drain_report.proofs.nodata.AuditNoDataReportLine.read_from.Goals as goal
 
 pub returns-clause-back : goal.returns-clause-back
 returns-clause-back c = λ x rest fit is. c.read_fact.ensures.back x rest fit refl (record { long = nodata_long x fit; is = is })
