@@ -45,6 +45,22 @@ class Reports(UnionCase):
         self.assertEqual(run("merge", *reports, reports[7]), "refused Overlap 7 25")
         self.assertEqual(run("merge", reports[24], *reports), "refused Overlap 0 25")
 
+    def test_windows_of_two_columns(self) -> None:
+        """A window in its own seams judges a column, or none between two inner sides."""
+        tile = right.folder / f"tiles/{corner(1, 1)}.hgt"
+        made = self.folder / "made"
+        made.mkdir()
+        run("make", "--side", SIDE, "--out", made, tile)
+        reports = []
+        for left, cols, inner in [(0, 2, "e"), (0, SIDE, "w"), (3, 2, "ew")]:
+            reports.append(self.folder / f"{inner}.txt")
+            words = ["--box", f"0,{left},{SIDE},{cols}", "--inner", inner, "--report", reports[-1], tile]
+            run("window", "--side", SIDE, "--products", made, *words)
+        column, rest, rings = reports
+        self.assertEqual(run("merge", column, rest), run("audit", "--side", SIDE, "--products", made, tile))
+        self.assertEqual(run("merge", column, rest, column), "refused Overlap 0 2")
+        self.assertEqual(run("merge", column, rings, rest), "refused JudgesNothing 1")
+
     def test_windows_of_two_plans(self) -> None:
         other = Windows(right, self.folder / "out", 2)
         other.judge()

@@ -90,8 +90,9 @@ pub const MERGE_AFTER: &str = "Lines and exit statuses:
      refused OtherSide I                     report I is of tiles of another side than the first report
      refused OtherNoData I                   report I has other no-data numbers than the first report
      refused OutsideUnion I                  a side of window I isn't inner, and is no edge of the union
-     refused Overlap I J                     the two windows share more than two rows or columns along
-                                             a side, or one window is given twice
+     refused JudgesNothing I                 all rows, or all columns, of window I are rings
+     refused Overlap I J                     the two windows judge one cell both: they share more than two
+                                             rows or columns along a side, or one window is given twice
      refused LeftOut row=R col=C             no window judges this cell
      refused SeamsDiffer row=R col=C         two windows show different numbers at this cell
      refused BadSinkLine LINE                a line of the list is no sink's

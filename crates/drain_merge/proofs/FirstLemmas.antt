@@ -1,6 +1,6 @@
 -- One element more of a list, in a search for the first element without a property; and pairs of a list in another order.
 use Rattle.std.proofs.Common.{◌≡◌, ℕ, ◌+◌, ◌<◌, List, length, slice_index_or, take, subst, ◌∙◌, below_more, arith, get_or-take}
-use Rattle.std.specs.List.{All, AllWithin, Contains}
+use Rattle.std.specs.List.{All, AllWithin, Contains, HoldsAt}
 use Rattle.std.specs.List.Sorted.{IsPermutation}
 use Rattle.std.proofs.lemmas.List.{get_or_default, length-take-le}
 use Rattle.std.proofs.lemmas.List.Sorted.{Contains-permutation, IsPermutation-sym}
@@ -41,3 +41,11 @@ pairs_more {X} R xs n x inside is before here i j d less below =
     earlier less =
         let part : length (take n xs) ≡ n = length-take-le n xs (omega arith) in
         subst (λ y. R y x) (get_or-take n xs i d less) (here i d (omega arith))
+
+-- and a pair of the last of them and an earlier one
+pub pair_found : {X : Type 0} (R : X → X → Type 0) (xs : List X) (n i : ℕ) (x : X) → n < length xs → x ≡ slice_index_or xs n x →
+    i < length (take n xs) → HoldsAt (λ y. R y x) (take n xs) i → (i < n) × (n < length xs) × ((d : X) → R (slice_index_or xs i d) (slice_index_or xs n d))
+pair_found R xs n i x inside is among found =
+    let part : length (take n xs) ≡ n = length-take-le n xs (omega arith) in
+    let less : i < n = omega arith in
+    (less, inside, λ d. at_place (λ z. R (slice_index_or xs i d) z) xs n x inside is (subst (λ y. R y x) (get_or-take n xs i d less) (found d)) d)

@@ -1,5 +1,6 @@
 pub mod CornerCells
 pub mod FirstLemmas
+pub mod JudgedEdges
 pub mod FirstOfFaults
 pub mod NewNumbers
 pub mod SortedOutlets

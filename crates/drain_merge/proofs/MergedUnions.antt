@@ -23,10 +23,11 @@ use Rattle.drain_windows.specs.declared.place.Place.{Place}
 use Rattle.drain_windows.specs.declared.place.TheConstants.{SEAM_DEPTH}
 use Rattle.drain_windows.specs.declared.report.Shown.{Shown}
 use Rattle.drain_windows.specs.Outlets.{ListsOutlets, ShareNoLabel}
+use Rattle.drain_windows.specs.Judged.{BothJudgeOne, JudgesSome}
 use Rattle.drain_windows.specs.Reports.{Report, IsReportOf, CanMerge, ShowTheSame}
 use Rattle.drain_windows.specs.Windows.{Window, in_union, IsPlaceIn, IsJudgedIn, IsJudgedAtSome, JudgeAll, RulesHoldInside, IsFirstInside, IsNotBefore, IsJudgedOutlet, NoLabelIsShared, AreWindowsOf}
 use Rattle.drain_windows.proofs.FirstFaults.{least_fault_is_first}
-use Rattle.drain_windows.proofs.Overlaps.{edges_tell_overlap}
+use Rattle.drain_windows.proofs.ApartPlaces.{judged_apart}
 use Rattle.drain_windows.proofs.ReportMerges.{from_map, to_map, one_union}
 use Rattle.drain_windows.proofs.Unions.{by_patch, correct_by_windows, outlet_there, outlet_back, bas_same}
 use Rattle.drain_windows.proofs.WindowPatches.{patch_of_window}
@@ -35,7 +36,6 @@ use Rattle.drain_windows.specs.declared.window_report.WindowReport.{WindowReport
 use Rattle.drain_merge.specs.Faults.{cell_there, fault_in, union_fault, IsFirstOfFaults}
 use Rattle.drain_merge.specs.Lists.{reports_of, places_of, all_outlets, all_seams}
 use Rattle.drain_merge.specs.Merges.{HaveNoData, FillUnion}
-use Rattle.drain_merge.specs.Places.{MeetInSeams}
 use Rattle.drain_merge.specs.Shared.{IsFirstSharing}
 use Rattle.drain_merge.specs.UnionVerdicts.{IsVerdictInside, AreJudgedFrom, windows_of}
 use Rattle.drain_merge.proofs.FlatLists.{from_flat, in_flat, same_places}
@@ -48,9 +48,7 @@ from_reports ws r has = from_map (λ (j : WindowReport). j.report) ws r has
 pub can_merge : (e : Extent) (nodata : NoDataNumbers) (ws : List WindowReport) → HaveNoData nodata ws → FillUnion e (places_of ws) →
     ShowTheSame (all_seams ws) (all_seams ws) → CanMerge SEAM_DEPTH e nodata (reports_of ws)
 can_merge e nodata ws one fill same = record {
-  placed = λ r has.
-      (let at : Contains (map (λ (x : Report). x.place) (reports_of ws)) r.place = to_map (λ (x : Report). x.place) (reports_of ws) r has in
-      All-contains (IsPlaceIn e) (places_of ws) r.place fill.placed (subst (λ (ps : List Place). Contains ps r.place) (same_places ws) at));
+  placed = λ r has. All-contains (IsPlaceIn e) (places_of ws) r.place fill.placed (among r has);
   one_nodata = λ r has.
       (let found = from_reports ws r has in
       sym (ap (λ (x : Report). x.nodata) found.2) ∙ All-contains (λ (j : WindowReport). j.report.nodata ≡ nodata) ws found.0 one found.1);
@@ -59,13 +57,21 @@ can_merge e nodata ws one fill same = record {
       (let here : length (reports_of ws) ≡ length ws = length-map ws (λ (w : WindowReport). w.report) in
       let there : length (map (λ (x : Report). x.place) (reports_of ws)) ≡ length (reports_of ws) = length-map (reports_of ws) (λ (x : Report). x.place) in
       let same_length : length (places_of ws) ≡ length (map (λ (x : Report). x.place) (reports_of ws)) = ap (λ (ps : List Place). length ps) (sym (same_places ws)) in
-      edges_tell_overlap SEAM_DEPTH (slice_index_or (reports_of ws) i d).place (slice_index_or (reports_of ws) j d).place
-      (subst (λ p. MeetInSeams SEAM_DEPTH p (slice_index_or (reports_of ws) j d).place) (at i d (omega arith))
-      (subst (λ p. MeetInSeams SEAM_DEPTH (slice_index_or (places_of ws) i d.place) p) (at j d below) (fill.meet i j d.place before (omega arith)))));
+      let p = (slice_index_or (reports_of ws) i d).place in
+      let q = (slice_index_or (reports_of ws) j d).place in
+      let has_p = among (slice_index_or (reports_of ws) i d) (held i d (omega arith)) in
+      let has_q = among (slice_index_or (reports_of ws) j d) (held j d below) in
+      judged_apart e p q (All-contains (IsPlaceIn e) (places_of ws) p fill.placed has_p) (All-contains (IsPlaceIn e) (places_of ws) q fill.placed has_q)
+      (All-contains JudgesSome (places_of ws) p fill.some has_p) (All-contains JudgesSome (places_of ws) q fill.some has_q)
+      (subst (λ x. ¬ BothJudgeOne x q) (at i d (omega arith))
+      (subst (λ x. ¬ BothJudgeOne (slice_index_or (places_of ws) i d.place) x) (at j d below) (fill.apart i j d.place before (omega arith)))));
   agree = λ i j d before below x y has_x has_y one.
       same x y (shown_by (slice_index_or (reports_of ws) i d) x (held i d (omega arith)) has_x) (shown_by (slice_index_or (reports_of ws) j d) y (held j d below) has_y) one;
 }
   where
+    among : (r : Report) → Contains (reports_of ws) r → Contains (places_of ws) r.place
+    among r has = subst (λ (ps : List Place). Contains ps r.place) (same_places ws) (to_map (λ (x : Report). x.place) (reports_of ws) r has)
+
     at : (k : ℕ) (d : Report) → k < length (reports_of ws) → slice_index_or (places_of ws) k d.place ≡ (slice_index_or (reports_of ws) k d).place
     at k d below = ap (λ (ps : List Place). slice_index_or ps k d.place) (sym (same_places ws)) ∙ get_or-map (λ (x : Report). x.place) (reports_of ws) k d d.place below
 

@@ -7,17 +7,17 @@ use Rattle.drain_grid.specs.Extent.{IsCellOf}
 use Rattle.drain_grid.specs.Size.{Extent}
 use Rattle.drain_grid.specs.Values.{NoDataNumbers}
 use Rattle.drain_windows.specs.declared.place.Place.{Place}
-use Rattle.drain_windows.specs.declared.place.TheConstants.{SEAM_DEPTH}
+use Rattle.drain_windows.specs.Judged.{BothJudgeOne, JudgesSome}
 use Rattle.drain_windows.specs.Windows.{IsPlaceIn, IsJudgedAtSome}
 use Rattle.drain_windows.specs.declared.window_report.WindowReport.{WindowReport}
 use Rattle.drain_merge.specs.declared.merge_verdict.MergeRefusal.{MergeRefusal}
-use Rattle.drain_merge.specs.declared.merge_verdict.MergeRefusal.TheVariants.{NoReports, OtherSide, OtherNoData, OutsideUnion, Overlap, LeftOut, SeamsDiffer, SinkLeftOut, SinkNotListed, OutOfMemory}
+use Rattle.drain_merge.specs.declared.merge_verdict.MergeRefusal.TheVariants.{NoReports, OtherSide, OtherNoData, OutsideUnion, JudgesNothing, Overlap, LeftOut, SeamsDiffer, SinkLeftOut, SinkNotListed, OutOfMemory}
 use Rattle.drain_merge.specs.declared.merge_verdict.MergeVerdict.{MergeVerdict}
 use Rattle.drain_merge.specs.declared.merge_verdict.MergeVerdict.TheVariants.{Accepted, Rejected}
 use Rattle.drain_merge.specs.Corners.{IsFirstUnjudged}
 use Rattle.drain_merge.specs.Faults.{IsFirstOfFaults}
 use Rattle.drain_merge.specs.Lists.{places_of, all_outlets, all_seams}
-use Rattle.drain_merge.specs.Places.{IsFirstFailing, IsFirstClash, MeetInSeams}
+use Rattle.drain_merge.specs.Places.{IsFirstFailing, IsFirstClash}
 use Rattle.drain_merge.specs.Seams.{IsFirstDifference}
 use Rattle.drain_merge.specs.Shared.{IsFirstSharing}
 use Rattle.drain_merge.specs.Totals.{AreCountsOf}
@@ -33,10 +33,11 @@ HaveOneNoData windows = (nodata : NoDataNumbers) × HaveNoData nodata windows
 abbrev pub BeginWith : NoDataNumbers → List WindowReport → Type 0
 BeginWith nodata windows = (d : WindowReport) → (slice_index_or windows 0 d).report.nodata ≡ nodata
 
--- the places lie in a union of this size, overlap in their seams alone, and judge each of its cells
+-- the places lie in a union of this size, judge a cell each, none in common, and judge each of its cells
 pub record FillUnion (e : Extent) (places : List Place) : Type 0 where
   pub placed : All (IsPlaceIn e) places
-  pub meet : AllPairs (MeetInSeams SEAM_DEPTH) places
+  pub some : All JudgesSome places
+  pub apart : AllPairs (λ p q. ¬ BothJudgeOne p q) places
   pub whole : (c : Cell) → IsCellOf e c → IsJudgedAtSome places c
 
 -- why windows are refused for their no-data numbers: the list is empty, or this is the first window that has other
@@ -50,9 +51,10 @@ IsNoDataRefusal windows other = ⊥
 -- why places are refused
 abbrev pub IsPlaceRefusal : Extent → List Place → MergeRefusal → Type 0
 IsPlaceRefusal e places (OutsideUnion k) = IsFirstFailing (IsPlaceIn e) places (Some k)
-IsPlaceRefusal e places (Overlap clash) = All (IsPlaceIn e) places × IsFirstClash SEAM_DEPTH places (Some clash)
+IsPlaceRefusal e places (JudgesNothing k) = All (IsPlaceIn e) places × IsFirstFailing JudgesSome places (Some k)
+IsPlaceRefusal e places (Overlap clash) = All (IsPlaceIn e) places × All JudgesSome places × IsFirstClash places (Some clash)
 IsPlaceRefusal e places (LeftOut c) =
-    All (IsPlaceIn e) places × AllPairs (MeetInSeams SEAM_DEPTH) places × IsFirstUnjudged e places (Some c)
+    All (IsPlaceIn e) places × All JudgesSome places × AllPairs (λ p q. ¬ BothJudgeOne p q) places × IsFirstUnjudged e places (Some c)
 IsPlaceRefusal e places OutOfMemory = Unit {0}
 IsPlaceRefusal e places other = ⊥
 
@@ -67,6 +69,7 @@ IsMergeRefusal e windows (SinkLeftOut n) = ⊥
 IsMergeRefusal e windows (SinkNotListed c) = ⊥
 IsMergeRefusal e windows (OtherNoData k) = IsNoDataRefusal windows (OtherNoData k)
 IsMergeRefusal e windows (OutsideUnion k) = HaveOneNoData windows × IsPlaceRefusal e (places_of windows) (OutsideUnion k)
+IsMergeRefusal e windows (JudgesNothing k) = HaveOneNoData windows × IsPlaceRefusal e (places_of windows) (JudgesNothing k)
 IsMergeRefusal e windows (Overlap clash) = HaveOneNoData windows × IsPlaceRefusal e (places_of windows) (Overlap clash)
 IsMergeRefusal e windows (LeftOut c) = HaveOneNoData windows × IsPlaceRefusal e (places_of windows) (LeftOut c)
 

@@ -9,10 +9,10 @@ ghost use Rattle.drain_windows.specs.Windows.{judged_bottom, judged_right};
 ghost use Rattle.drain_merge.specs.Corners.{IsFirstUnjudged, IsFirstInRow, IsFirstCrossing, IsNewBelow};
 
 use crate::judged::is_judged;
+use crate::judged_edges::{bottom_of, right_of};
 use crate::union_size::UnionSize;
 use drain_grid::{Cell, OutOfMemory};
 use drain_windows::Place;
-use drain_windows::place::end_of;
 use std::alloc::Global;
 
 /// The first cell of a union, in row order, that none of these windows judges.
@@ -54,20 +54,6 @@ fn rising_with_0(mut ends: Vec<u64>) -> Result<Vec<u64>, OutOfMemory>
     ends.push(0)?;
     ends.sort_unstable();
     Ok(ends)
-}
-
-/// One more than the last row that the window at this place judges.
-fn bottom_of(place: &Place) -> u64
-    ensures { result ≡ judged_bottom place.now }
-{
-    end_of(place.top, place.extent.rows()).saturating_sub(u64::from(place.inner.south))
-}
-
-/// One more than the last column that the window at this place judges.
-fn right_of(place: &Place) -> u64
-    ensures { result ≡ judged_right place.now }
-{
-    end_of(place.left, place.extent.cols()).saturating_sub(u64::from(place.inner.east))
 }
 
 /// The first crossing of these rows and columns, in row order, that lies in a union of this size and that no window

@@ -4,6 +4,7 @@
 mod corners;
 pub mod faults;
 mod judged;
+mod judged_edges;
 pub mod laws;
 mod lists;
 pub mod map_merge;

@@ -51,6 +51,7 @@ fn refusal_line(refusal: MergeRefusal) -> Line
         MergeRefusal::OtherSide(place) => of_number("refused OtherSide ", place as u64),
         MergeRefusal::OtherNoData(place) => of_number("refused OtherNoData ", place as u64),
         MergeRefusal::OutsideUnion(place) => of_number("refused OutsideUnion ", place as u64),
+        MergeRefusal::JudgesNothing(place) => of_number("refused JudgesNothing ", place as u64),
         MergeRefusal::Overlap(clash) => overlap(clash),
         MergeRefusal::LeftOut(cell) => of_cell("refused LeftOut", cell),
         MergeRefusal::SeamsDiffer(cell) => of_cell("refused SeamsDiffer", cell),
@@ -60,7 +61,7 @@ fn refusal_line(refusal: MergeRefusal) -> Line
     }
 }
 
-/// The line that two windows overlap other than in their seams.
+/// The line that two windows judge one cell.
 fn overlap(clash: Clash) -> Line
     ensures { result.bytes ≡ overlap_line clash }
 {

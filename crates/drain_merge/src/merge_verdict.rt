@@ -32,8 +32,11 @@ pub enum MergeRefusal {
     /// The first window that doesn't lie in the union, or has a side that isn't inner and isn't the union's edge.
     #[error("a window doesn't fit the union")]
     OutsideUnion(usize),
-    /// The first window that overlaps an earlier one other than in their seams, as one that is given twice does.
-    #[error("two windows overlap other than in their seams")]
+    /// The first window that judges no cell: all its rows, or all its columns, are rings.
+    #[error("a window judges no cell")]
+    JudgesNothing(usize),
+    /// The first window that judges a cell of an earlier one, as one that is given twice does.
+    #[error("two windows judge one cell")]
     Overlap(Clash),
     /// The first cell of the union, in row order, that no window judges: a window is left out, or two overlap by less
     /// than their seams.

@@ -12,7 +12,7 @@ use crate::faults::{Fault, first_fault};
 use crate::lists::{outlets, places, seams};
 use crate::merge_verdict::{MergeRefusal, MergeVerdict};
 use crate::nodata::{first_other, nodata_of};
-use crate::places::{first_clash, first_outside};
+use crate::places::{first_clash, first_idle, first_outside};
 use crate::seams::first_difference;
 use crate::shared::first_sharing;
 use crate::totals::total;
@@ -105,6 +105,9 @@ fn check_union(alloc: Global, size: UnionSize, places: &[Place]) -> Result<(), M
 {
     if let Some(place) = first_outside(size, places) {
         return Err(MergeRefusal::OutsideUnion(place));
+    }
+    if let Some(place) = first_idle(places) {
+        return Err(MergeRefusal::JudgesNothing(place));
     }
     if let Some(clash) = first_clash(places) {
         return Err(MergeRefusal::Overlap(clash));

@@ -1,14 +1,12 @@
 //! Where the windows of a union lie.
 
-ghost use Rattle.drain_windows.specs.declared.place.TheConstants.{SEAM_DEPTH};
+ghost use Rattle.drain_windows.specs.Judged.{BothJudgeOne, JudgesSome};
 ghost use Rattle.drain_windows.specs.Windows.{IsPlaceIn};
-ghost use Rattle.drain_windows.specs.Reports.{AreApart, ReachesInto};
-ghost use Rattle.std.specs.Prelude.{◌↔◌, IsTrue};
-ghost use Rattle.drain_merge.specs.Places.{IsFirstFailing, IsFirstClash, MeetInSeams};
+ghost use Rattle.drain_merge.specs.Places.{IsFirstClash, IsFirstFailing, IsFirstWith};
 
+use crate::judged_edges::{both_judge_one, judges_some};
 use crate::union_size::UnionSize;
-use drain_windows::place::end_of;
-use drain_windows::{Place, SEAM_DEPTH};
+use drain_windows::Place;
 
 /// The first place that doesn't lie in a union of this size, or has a side that isn't inner and isn't the union's edge.
 pub(crate) fn first_outside(size: UnionSize, places: &[Place]) -> Option<usize>
@@ -22,16 +20,28 @@ pub(crate) fn first_outside(size: UnionSize, places: &[Place]) -> Option<usize>
     None
 }
 
-/// Two windows that overlap other than in their seams.
+/// The first place that judges no cell: all its rows, or all its columns, are rings.
+pub(crate) fn first_idle(places: &[Place]) -> Option<usize>
+    ensures { IsFirstFailing JudgesSome places.now result }
+{
+    for i in 0..places.len() {
+        if !judges_some(&places[i]) {
+            return Some(i);
+        }
+    }
+    None
+}
+
+/// Two windows that judge one cell both.
 #[derive(Clone, Copy, PartialEq, Eq, Debug)]
 pub struct Clash {
     pub earlier: usize,
     pub later: usize,
 }
 
-/// The first place that overlaps an earlier one other than in their seams, with the first such one.
+/// The first place that judges a cell of an earlier one, with the first such one.
 pub(crate) fn first_clash(places: &[Place]) -> Option<Clash>
-    ensures { IsFirstClash SEAM_DEPTH places.now result }
+    ensures { IsFirstClash places.now result }
 {
     for later in 0..places.len() {
         if let Some(earlier) = first_clashing(&places[..later], &places[later]) {
@@ -41,43 +51,14 @@ pub(crate) fn first_clash(places: &[Place]) -> Option<Clash>
     None
 }
 
-/// The first of the places that overlaps this one other than in their seams.
+/// The first of the places that judges a cell of this one.
 fn first_clashing(places: &[Place], place: &Place) -> Option<usize>
-    ensures { IsFirstFailing (λ p. MeetInSeams SEAM_DEPTH p place.now) places.now result }
+    ensures { IsFirstWith (λ p. BothJudgeOne p place.now) places.now result }
 {
     for i in 0..places.len() {
-        if !meet_in_seams(&places[i], place) {
+        if both_judge_one(&places[i], place) {
             return Some(i);
         }
     }
     None
-}
-
-/// Whether two places are apart, or each reaches into the outermost rows or columns of an inner side of the other and no
-/// further.
-fn meet_in_seams(p: &Place, q: &Place) -> bool
-    ensures { IsTrue result ↔ MeetInSeams SEAM_DEPTH p.now q.now }
-{
-    are_apart(p, q) || (reaches_into(p, q) && reaches_into(q, p))
-}
-
-/// Whether one has no row or no column of the other.
-fn are_apart(p: &Place, q: &Place) -> bool
-    ensures { IsTrue result ↔ AreApart p.now q.now }
-{
-    end_of(p.top, p.extent.rows()) <= u64::from(q.top)
-        || end_of(q.top, q.extent.rows()) <= u64::from(p.top)
-        || end_of(p.left, p.extent.cols()) <= u64::from(q.left)
-        || end_of(q.left, q.extent.cols()) <= u64::from(p.left)
-}
-
-/// Whether on an inner side of p, q reaches into its outermost rows or columns and no further.
-fn reaches_into(p: &Place, q: &Place) -> bool
-    ensures { IsTrue result ↔ ReachesInto SEAM_DEPTH p.now q.now }
-{
-    let inner = p.inner;
-    (inner.north && end_of(q.top, q.extent.rows()) <= end_of(p.top, SEAM_DEPTH))
-        || (inner.south && end_of(p.top, p.extent.rows()) <= end_of(q.top, SEAM_DEPTH))
-        || (inner.west && end_of(q.left, q.extent.cols()) <= end_of(p.left, SEAM_DEPTH))
-        || (inner.east && end_of(p.left, p.extent.cols()) <= end_of(q.left, SEAM_DEPTH))
 }

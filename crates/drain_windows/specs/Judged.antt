@@ -14,3 +14,11 @@ pub record IsJudgedAlong (first count : ℕ) (inner_before inner_behind : Bool) 
 -- the cell of the union is judged at this place
 abbrev pub IsJudgedAt : Place → Cell → Type 0
 IsJudgedAt p c = (x : Cell) × IsJudgedIn p x × (in_union p x ≡ c)
+
+-- the place judges a cell
+abbrev pub JudgesSome : Place → Type 0
+JudgesSome p = (c : Cell) × IsJudgedIn p c
+
+-- a cell of the union is judged at both places
+abbrev pub BothJudgeOne : Place → Place → Type 0
+BothJudgeOne p q = (c : Cell) × IsJudgedAt p c × IsJudgedAt q c

@@ -12,11 +12,13 @@ use Rattle.drain_grid.specs.Unranked.{unranked}
 use Rattle.drain_grid.specs.GridRules.{IsFirstFault}
 use Rattle.drain_grid.specs.Correct.{IsCorrect}
 use Rattle.drain_windows.specs.declared.outlet.Outlet.{Outlet}
+use Rattle.drain_windows.specs.Judged.{JudgesSome, BothJudgeOne}
 use Rattle.drain_windows.specs.NoData.{audited}
 use Rattle.drain_windows.specs.Outlets.{IsSortedByLabel, NoneBesideShares, ShareNoLabel, ListsOutlets, HoldsAllOf}
-use Rattle.drain_windows.specs.Reports.{AreApart, ReachesInto, OverlapInSeams, Report, IsReportOf, CanMerge}
+use Rattle.drain_windows.specs.Reports.{OverlapInSeams, Report, IsReportOf, CanMerge}
 use Rattle.drain_windows.specs.declared.place.Place.{Place}
-use Rattle.drain_windows.specs.Windows.{Window, in_union, IsJudgedAtSome, IsCornerRow, IsCornerCol, IsWindowOf, IsJudgedIn, JudgeAll, RulesHoldInside, IsFirstInside, IsNotBefore, NoLabelIsShared, AreLaidIn, OverlapsAgree, AreWindowsOf}
+use Rattle.drain_windows.specs.declared.place.TheConstants.{SEAM_DEPTH}
+use Rattle.drain_windows.specs.Windows.{Window, in_union, IsJudgedAtSome, IsCornerRow, IsCornerCol, IsPlaceIn, IsWindowOf, IsJudgedIn, JudgeAll, RulesHoldInside, IsFirstInside, IsNotBefore, NoLabelIsShared, AreLaidIn, OverlapsAgree, AreWindowsOf}
 
 -- at a judged cell the window's patch is the union's: so what is open there, and what each rule of a patch says, is so
 -- in the union
@@ -94,7 +96,7 @@ FourNumbers =
     (RulesHoldInside nodata w ↔ RulesHoldInside (audited nodata) w)
     × ((c : Cell) (r : Rule) → IsFirstInside nodata w c r → IsFirstInside (audited nodata) w c r)
 
--- whether two places overlap in their seams is told by their edges
-abbrev pub EdgesTellOverlap : Type 0
-EdgesTellOverlap =
-    (depth : ℕ) (p q : Place) → AreApart p q ⊎ (ReachesInto depth p q × ReachesInto depth q p) → OverlapInSeams depth p q
+-- places of one union that judge a cell each, and none in common, overlap in their seams alone
+abbrev pub JudgedApart : Type 0
+JudgedApart =
+    (e : Extent) (p q : Place) → IsPlaceIn e p → IsPlaceIn e q → JudgesSome p → JudgesSome q → ¬ BothJudgeOne p q → OverlapInSeams SEAM_DEPTH p q

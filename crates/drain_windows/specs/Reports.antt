@@ -56,18 +56,6 @@ abbrev pub OverlapInSeams : ℕ → Place → Place → Type 0
 OverlapInSeams depth p q =
     (a b : Cell) → IsCellOf p.extent a → IsCellOf q.extent b → in_union p a ≡ in_union q b → IsOnSeam depth p a × IsOnSeam depth q b
 
--- the one has no row or no column of the other
-abbrev pub AreApart : Place → Place → Type 0
-AreApart p q =
-    ((p.top + p.extent.rows ≤ q.top) ⊎ (q.top + q.extent.rows ≤ p.top))
-    ⊎ ((p.left + p.extent.cols ≤ q.left) ⊎ (q.left + q.extent.cols ≤ p.left))
-
--- on an inner side of p, q reaches into its outermost so many rows or columns and no further
-abbrev pub ReachesInto : ℕ → Place → Place → Type 0
-ReachesInto depth p q =
-    ((IsTrue p.inner.north × (q.top + q.extent.rows ≤ p.top + depth)) ⊎ (IsTrue p.inner.south × (p.top + p.extent.rows ≤ q.top + depth)))
-    ⊎ ((IsTrue p.inner.west × (q.left + q.extent.cols ≤ p.left + depth)) ⊎ (IsTrue p.inner.east × (p.left + p.extent.cols ≤ q.left + depth)))
-
 -- at the cells that both lists hold they show the same
 abbrev pub ShowTheSame : List Shown → List Shown → Type 0
 ShowTheSame xs ys = (x y : Shown) → Contains xs x → Contains ys y → x.cell ≡ y.cell → x.values ≡ y.values

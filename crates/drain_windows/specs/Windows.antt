@@ -94,6 +94,13 @@ AreWindowsOf u ps windows = (w : Window) → Contains windows w → IsWindowOf u
 abbrev pub IsJudgedAtSome : List Place → Cell → Type 0
 IsJudgedAtSome places c = (p : Place) × Contains places p × ((x : Cell) × IsJudgedIn p x × (in_union p x ≡ c))
 
+-- the first row that the place judges, and the first column
+abbrev pub judged_top : Place → ℕ
+judged_top p = p.top + (if p.inner.north then 1 else 0)
+
+abbrev pub judged_left : Place → ℕ
+judged_left p = p.left + (if p.inner.west then 1 else 0)
+
 -- one more than the last row that the place judges, and the last column
 abbrev pub judged_bottom : Place → ℕ
 judged_bottom p = p.top + p.extent.rows - (if p.inner.south then 1 else 0)

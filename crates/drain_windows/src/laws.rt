@@ -3,7 +3,7 @@
 //! Each law is a function with nothing to do: its contract is the law, and a caller that calls it has the law at hand.
 
 ghost use Rattle.drain_windows.specs.Cuts.{CutIsWindow};
-ghost use Rattle.drain_windows.specs.Laws.{PatchOfWindow, CorrectByWindows, WindowsMakeUnion, SortedTellsShared, MergeTellsShared, OpenInWindow, MergeIsExact, CornersTellWhole, WindowRejects, LeastFaultIsFirst, EdgesTellOverlap, FourNumbers};
+ghost use Rattle.drain_windows.specs.Laws.{PatchOfWindow, CorrectByWindows, WindowsMakeUnion, SortedTellsShared, MergeTellsShared, OpenInWindow, MergeIsExact, CornersTellWhole, WindowRejects, LeastFaultIsFirst, JudgedApart, FourNumbers};
 
 /// At a judged cell the patch of a window is the union's.
 pub fn patch_of_window()
@@ -62,9 +62,9 @@ pub fn four_numbers()
     ensures { FourNumbers }
 {}
 
-/// The edges of two places decide whether they overlap in their seams alone.
-pub fn edges_tell_overlap()
-    ensures { EdgesTellOverlap }
+/// Places that judge a cell each, and none in common, overlap in their seams alone.
+pub fn judged_apart()
+    ensures { JudgedApart }
 {}
 
 /// A box of a grid, as a grid of its own, is a window of it.

@@ -57,7 +57,7 @@ fn lines_of_verdicts(rt: HostRuntime) {
 }
 
 /// Refusals, each with its line.
-static REFUSALS: [(MergeRefusal, &str); 12] = [
+static REFUSALS: [(MergeRefusal, &str); 13] = [
     (MergeRefusal::NoReports, "refused NoReports"),
     (MergeRefusal::OtherSide(0), "refused OtherSide 0"),
     (MergeRefusal::OtherNoData(12), "refused OtherNoData 12"),
@@ -65,6 +65,7 @@ static REFUSALS: [(MergeRefusal, &str); 12] = [
         MergeRefusal::OutsideUnion(18446744073709551615),
         "refused OutsideUnion 18446744073709551615",
     ),
+    (MergeRefusal::JudgesNothing(3), "refused JudgesNothing 3"),
     (
         MergeRefusal::Overlap(Clash {
             earlier: 3,

@@ -2,13 +2,13 @@
 
 use crate::agree::same_line;
 use crate::answers::{FIRST, merged, merged_on_map};
-use crate::windows::{NE, NW, SE, SIZE, SW, WHOLE, Window};
+use crate::windows::{COLUMN, NE, NW, REST, RINGS, SE, SIZE, SW, WHOLE, Window};
 use drain_grid::Cell;
 use drain_merge::{UnionSinks, UnionSize};
 use std::test::Fail;
 
 /// The windows in the order of the list, and the line.
-static UNIONS: [(&str, &[Window], &str); 15] = [
+static UNIONS: [(&str, &[Window], &str); 19] = [
     ("the whole union", &[NW, NE, SW, SE], WHOLE),
     ("in another order", &[SE, NW, SW, NE], WHOLE),
     (
@@ -105,13 +105,33 @@ static UNIONS: [(&str, &[Window], &str); 15] = [
     ),
     (
         "a side where the union goes on",
-        &[NW, NE, SW, Window { south: false, ..SE }],
+        &[NW, NE, SW, Window { inner: "sw", ..SE }],
         "refused OutsideUnion 3",
     ),
     (
         "a window given twice",
         &[NW, NE, SW, SE, NE],
         "refused Overlap 1 4",
+    ),
+    (
+        "a window of two columns, with one inner side",
+        &[COLUMN, REST],
+        WHOLE,
+    ),
+    (
+        "the same window twice",
+        &[COLUMN, REST, COLUMN],
+        "refused Overlap 0 2",
+    ),
+    (
+        "a window that judges no cell",
+        &[RINGS, COLUMN, REST],
+        "refused JudgesNothing 0",
+    ),
+    (
+        "a window that judges no cell before one that is given twice",
+        &[COLUMN, REST, COLUMN, RINGS],
+        "refused JudgesNothing 3",
     ),
     (
         "a window left out",

@@ -1,4 +1,4 @@
-//! The windows of a union of 4 rows and 4 columns: boxes of 3 rows and 3 columns that overlap by two.
+//! The windows of a union of 4 rows and 4 columns: boxes of 3 rows and 3 columns that overlap by two, and narrow ones.
 
 use drain_grid::{Cell, CellValues, NoData, Rule, Shape};
 use drain_merge::UnionSize;
@@ -24,10 +24,10 @@ pub struct Window {
     pub nodata: (i64, i64),
     /// Its first row and its first column.
     pub first: (u32, u32),
-    /// Whether its inner sides are those of a window in the south, or else in the north.
-    pub south: bool,
-    /// Whether its inner sides are those of a window in the east, or else in the west.
-    pub east: bool,
+    /// How many rows and columns it has.
+    pub size: (u32, u32),
+    /// A letter for each inner side.
+    pub inner: &'static str,
     /// The cell of the window at which the slope is wrong, if there is one.
     pub fault: Option<(u32, u32)>,
     /// Its data cells, raised cells and outlets.
@@ -46,8 +46,8 @@ pub const NW: Window = Window {
     side: 3,
     nodata: (-32768, 0),
     first: (0, 0),
-    south: false,
-    east: false,
+    size: (3, 3),
+    inner: "se",
     fault: None,
     counts: (4, 1, 1),
     label: 1,
@@ -59,7 +59,7 @@ pub const NW: Window = Window {
 /// The window in the north-east.
 pub const NE: Window = Window {
     first: (0, 1),
-    east: true,
+    inner: "sw",
     label: 2,
     outlet: (0, 3),
     ..NW
@@ -68,7 +68,7 @@ pub const NE: Window = Window {
 /// The window in the south-west.
 pub const SW: Window = Window {
     first: (1, 0),
-    south: true,
+    inner: "ne",
     label: 3,
     outlet: (3, 0),
     ..NW
@@ -77,10 +77,35 @@ pub const SW: Window = Window {
 /// The window in the south-east.
 pub const SE: Window = Window {
     first: (1, 1),
-    south: true,
-    east: true,
+    inner: "nw",
     label: 4,
     outlet: (3, 3),
+    ..NW
+};
+
+/// The first column, in a window of two.
+pub const COLUMN: Window = Window {
+    size: (4, 2),
+    inner: "e",
+    ..NW
+};
+
+/// The other columns, in a window of all four.
+pub const REST: Window = Window {
+    size: (4, 4),
+    inner: "w",
+    counts: (12, 3, 3),
+    label: 2,
+    outlet: (0, 3),
+    ..NW
+};
+
+/// Two rows between windows, of which it judges none.
+pub const RINGS: Window = Window {
+    first: (1, 0),
+    size: (2, 4),
+    inner: "ns",
+    counts: (0, 0, 0),
     ..NW
 };
 
@@ -96,7 +121,7 @@ pub fn reports(alloc: Global, origin: Cell, windows: &[Window]) -> Result<Vec<Wi
 impl Window {
     /// The report on this window of a union that begins at this cell of a map.
     fn report(&self, alloc: Global, origin: Cell) -> Result<WindowReport, Fail> {
-        let Some(extent) = Shape::new(3, 3) else {
+        let Some(extent) = Shape::new(self.size.0, self.size.1) else {
             return Err(Fail::new("a shape"));
         };
         let first = at(origin, self.first);
@@ -120,10 +145,10 @@ impl Window {
 
     fn inner(&self) -> InnerSides {
         InnerSides {
-            north: self.south,
-            south: !self.south,
-            west: self.east,
-            east: !self.east,
+            north: self.inner.contains('n'),
+            south: self.inner.contains('s'),
+            west: self.inner.contains('w'),
+            east: self.inner.contains('e'),
         }
     }
 
@@ -131,8 +156,8 @@ impl Window {
         let (data_cells, raised, outlets) = self.counts;
         match self.fault {
             None => Verdict::Accepted(Counts {
-                rows: 3,
-                cols: 3,
+                rows: self.size.0,
+                cols: self.size.1,
                 data_cells,
                 raised,
                 outlets,
@@ -186,7 +211,7 @@ impl Window {
     }
 }
 
-/// What a window of 3 rows and 3 columns shows along its seams: this accumulation.
+/// What a window shows along its seams: this accumulation.
 fn seams(alloc: Global, place: &Place, acc: i64) -> Result<Vec<Shown>, Fail> {
     let Some(values) = CellValues::new(Some(5), false, 5, 1, acc, 1, 0, 0) else {
         return Err(Fail::new("values"));
@@ -196,8 +221,8 @@ fn seams(alloc: Global, place: &Place, acc: i64) -> Result<Vec<Shown>, Fail> {
         col: place.left,
     };
     let mut seams = Vec::new(alloc);
-    for row in 0..3 {
-        for col in 0..3 {
+    for row in 0..place.extent.rows() {
+        for col in 0..place.extent.cols() {
             if place.is_on_seam(SEAM_DEPTH, Cell { row, col }) {
                 let cell = at(first, (row, col));
                 seams.push(Shown { cell, values })?;

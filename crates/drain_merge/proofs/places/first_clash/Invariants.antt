@@ -1,9 +1,8 @@
 use Rattle.std.proofs.Common.{ℕ, ◌<◌, slice_index_or}
 use Rattle.drain_windows.specs.declared.place.Place.{Place}
-use Rattle.drain_windows.specs.declared.place.TheConstants.{SEAM_DEPTH}
-use Rattle.drain_merge.specs.Places.{MeetInSeams}
+use Rattle.drain_windows.specs.Judged.{BothJudgeOne}
 use Rattle.drain_merge.proofs.places.first_clash.Given as goal
 
 abbrev pub invariant-loop-later : goal.invariant-loop-later
 invariant-loop-later l =
-    (i j : ℕ) (d : Place) → i < j → j < l.later → MeetInSeams SEAM_DEPTH (slice_index_or l.places i d) (slice_index_or l.places j d)
+    (i j : ℕ) (d : Place) → i < j → j < l.later → ¬ BothJudgeOne (slice_index_or l.places i d) (slice_index_or l.places j d)

@@ -1,7 +1,6 @@
 use Rattle.std.specs.List.{AllWithin}
-use Rattle.drain_windows.specs.declared.place.TheConstants.{SEAM_DEPTH}
-use Rattle.drain_merge.specs.Places.{MeetInSeams}
+use Rattle.drain_windows.specs.Judged.{BothJudgeOne}
 use Rattle.drain_merge.proofs.places.first_clashing.Given as goal
 
 abbrev pub invariant-loop-i : goal.invariant-loop-i
-invariant-loop-i l = AllWithin (λ p. MeetInSeams SEAM_DEPTH p l.place) l.places 0 l.i
+invariant-loop-i l = AllWithin (λ p. ¬ BothJudgeOne p l.place) l.places 0 l.i
