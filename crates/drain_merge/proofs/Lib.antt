@@ -9,6 +9,7 @@ pub mod SortedSeams
 pub mod SameNoData
 pub mod FlatLists
 pub mod MergedUnions
+pub mod MergedCounts
 pub mod MergeMeaning
 pub mod MapRefusals
 pub mod MovedWindows

@@ -20,6 +20,7 @@ use Rattle.drain_merge.specs.Faults.{fault_in, IsFirstOfFaults}
 use Rattle.drain_merge.specs.Merges.{IsMerged}
 use Rattle.drain_merge.specs.Sizes.{FitsNumbers}
 use Rattle.drain_merge.specs.UnionVerdicts.{IsRejected, SomeIsRejected, IsTriedWith, IsUnionVerdict}
+use Rattle.drain_merge.proofs.MergedCounts.{union_counts}
 use Rattle.drain_merge.proofs.MergedUnions.{can_merge, union_of_all, is_correct, not_correct, first_of_patches, first_shared_label}
 
 rejected_if : (p : Place) (v : Verdict) (fault : Fault) → fault_in p v ≡ Some fault → IsRejected v
@@ -49,6 +50,7 @@ union_verdict e short ws (Accepted counts) (one, fill, lists) = record {
   means = λ window_of from. record {
     one_union = inr (union_of_all e short.rows short.cols one.0 ws one.1 fill window_of from lists.0 lists.1);
     exactly = λ u ps size are. ((λ yes. is_correct e short.rows short.cols one.0 ws one.1 fill window_of from u ps size are lists.0 lists.2), (λ correct. tt));
+    counts = λ u ps size are. union_counts e short.rows short.cols one.0 ws one.1 fill window_of from lists.0 u ps size are counts lists.3;
     first = λ u ps size are. tt;
   };
 }
@@ -65,6 +67,7 @@ union_verdict e short ws (Rejected fault) (one, fill, inl first) = record {
           (not_correct e short.rows short.cols one.0 ws one.1 fill window_of from u ps size are IsPatchRule fault.cell fault.rule any_patch
           (first_of_patches e short.rows short.cols one.0 ws one.1 fill window_of from u ps size are fault first) correct)),
     );
+    counts = λ u ps size are. tt;
     first = λ u ps size are.
         (let told = first_of_patches e short.rows short.cols one.0 ws one.1 fill window_of from u ps size are fault first in
         as_tried one.0 u ps fault.cell fault.rule told.is_own told);
@@ -83,6 +86,7 @@ union_verdict e short ws (Rejected fault) (one, fill, inr (none, same, rule, fir
           (not_correct e short.rows short.cols one.0 ws one.1 fill window_of from u ps size are IsAnyRule fault.cell SharedLabel (λ q own. own)
           (first_shared_label e short.rows short.cols one.0 ws one.1 fill window_of from u ps size are none fault.cell first) correct)),
     );
+    counts = λ u ps size are. tt;
     first = λ u ps size are.
         subst (λ (r : Rule). IsFirstFault (unranked one.0) (IsTriedWith r) u ps fault.cell r) (sym rule)
         (first_shared_label e short.rows short.cols one.0 ws one.1 fill window_of from u ps size are none fault.cell first);

@@ -99,7 +99,7 @@ fault_inside n w p (WindowRejected rule row col) fault is inside =
 
 -- a window without a fault is accepted
 holds_inside : (n : NoDataNumbers) (w : Window) (p : Place) (v : Verdict) → fault_in p v ≡ None → IsVerdictInside n w v → RulesHoldInside n w
-holds_inside n w p (WindowAccepted counts) is inside = inside
+holds_inside n w p (WindowAccepted counts) is inside = inside.0
 holds_inside n w p (WindowRejected rule row col) is inside = absurd (some_none is)
   where
     some_none : {f : Fault} → Some f ≡ None → ⊥
@@ -139,7 +139,7 @@ module _ (e : Extent) (short_rows : e.rows < 2 ^ 32) (short_cols : e.cols < 2 ^ 
       let j = from_reports ws r.0 r.1 in
       (j.0, j.1, ap window_of j.2 ∙ r.2)
 
-  judge : JudgeAll e windows
+  pub judge : JudgeAll e windows
   judge c inside =
       let at = fill.whole c inside in
       let j = from_map (λ (x : WindowReport). x.report.place) ws at.0 at.1 in (

@@ -55,7 +55,9 @@ rules_back : (o : Cell) (n : NoDataNumbers) (w : Window) → RulesHoldInside n (
 rules_back o n w hold c r judged own = hold c r (judged_there o w.place c judged) own
 
 verdict_there : (o : Cell) (n : NoDataNumbers) (w : Window) (v : Verdict) → IsVerdictInside n w v → IsVerdictInside n (window_from o w) v
-verdict_there o n w (Accepted counts) is = rules_there o n w is
+verdict_there o n w (Accepted counts) is =
+    let k = is.1 in
+    (rules_there o n w is.0, record { rows = k.rows; cols = k.cols; data_cells = k.data_cells; raised = k.raised; outlets = k.outlets })
 verdict_there o n w (Rejected rule row col) is = record {
   judged = judged_there o w.place (place row col) is.judged;
   is_own = is.is_own;

@@ -39,7 +39,7 @@ one_test false false there back = refl
 
 -- the rules hold in a window that isn't rejected
 holds_unless : (nodata : NoDataNumbers) (w : Window) (v : Verdict) → ¬ IsRejected v → IsVerdictInside nodata w v → RulesHoldInside nodata w
-holds_unless nodata w (Accepted counts) not is = is
+holds_unless nodata w (Accepted counts) not is = is.0
 holds_unless nodata w (Rejected rule row col) not is = absurd (not tt)
 
 module _ (e : Extent) (nodata : NoDataNumbers) (ws : List WindowReport) (none : ¬ SomeIsRejected ws) (can : CanMerge SEAM_DEPTH e nodata (reports_of ws))

@@ -1,8 +1,11 @@
 -- The counts of a union. These definitions are this project's own.
 use Rattle.std.specs.Prelude.{◌≡◌, ℕ, ◌-◌, ◌^◌, min, List, sum_by}
+use Rattle.drain_grid.specs.Counts.{data_count, raised_count}
+use Rattle.drain_grid.specs.Grid.{Grid, Products}
 use Rattle.drain_grid.specs.Size.{Extent}
 use Rattle.drain_rules.specs.declared.verdict.Verdict.{Verdict}
 use Rattle.drain_rules.specs.declared.verdict.Verdict.TheVariants.{Accepted, Rejected}
+use Rattle.drain_rules.specs.Verdicts.{outlet_count}
 use Rattle.drain_windows.specs.declared.window_report.WindowReport.{WindowReport}
 use Rattle.drain_merge.specs.declared.totals.UnionCounts.{UnionCounts}
 
@@ -39,3 +42,11 @@ pub record AreCountsOf (e : Extent) (windows : List WindowReport) (counts : Unio
   pub data_cells : counts.data_cells ≡ capped (sum_by data_cells_of windows)
   pub raised : counts.raised ≡ capped (sum_by raised_of windows)
   pub outlets : counts.outlets ≡ capped (sum_by outlets_of windows)
+
+-- the size of a union, and how many of its cells have data, are raised, and are outlets by their code
+pub record AreUnionCounts (u : Grid) (ps : Products) (counts : UnionCounts) : Type 0 where
+  pub rows : counts.rows ≡ u.extent.rows
+  pub cols : counts.cols ≡ u.extent.cols
+  pub data_cells : counts.data_cells ≡ data_count u
+  pub raised : counts.raised ≡ raised_count u ps
+  pub outlets : counts.outlets ≡ outlet_count u ps

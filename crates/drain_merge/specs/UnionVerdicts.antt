@@ -13,6 +13,7 @@ use Rattle.drain_grid.specs.Values.{NoDataNumbers}
 use Rattle.drain_rules.specs.declared.verdict.Verdict.{Verdict}
 use Rattle.drain_rules.specs.declared.verdict.Verdict.TheVariants.{Accepted as WindowAccepted, Rejected as WindowRejected}
 use Rattle.drain_windows.specs.declared.place.TheConstants.{SEAM_DEPTH}
+use Rattle.drain_windows.specs.JudgedCounts.{AreCountsInside}
 use Rattle.drain_windows.specs.Reports.{Report, IsReportOf, CanMerge}
 use Rattle.drain_windows.specs.Windows.{Window, RulesHoldInside, IsFirstInside, AreWindowsOf}
 use Rattle.drain_windows.specs.declared.window_report.WindowReport.{WindowReport}
@@ -20,10 +21,12 @@ use Rattle.drain_merge.specs.declared.merge_verdict.MergeVerdict.{MergeVerdict}
 use Rattle.drain_merge.specs.declared.merge_verdict.MergeVerdict.TheVariants.{Accepted, Rejected}
 use Rattle.drain_merge.specs.Lists.{reports_of}
 use Rattle.drain_merge.specs.Merges.{HaveNoData}
+use Rattle.drain_merge.specs.Totals.{AreUnionCounts}
 
--- accepted where the rules hold at each judged cell, else rejected with the first fault there
+-- accepted where the rules hold at each judged cell, with the counts of these cells, else rejected with the first fault
+-- there
 abbrev pub IsVerdictInside : NoDataNumbers → Window → Verdict → Type 0
-IsVerdictInside nodata w (WindowAccepted counts) = RulesHoldInside nodata w
+IsVerdictInside nodata w (WindowAccepted counts) = RulesHoldInside nodata w × AreCountsInside w counts
 IsVerdictInside nodata w (WindowRejected rule row col) = IsFirstInside nodata w (record { row = row; col = col }) rule
 
 -- this is handed over of the window
@@ -61,12 +64,18 @@ abbrev pub TellsFirstFault : NoDataNumbers → Grid → Products → MergeVerdic
 TellsFirstFault nodata u ps (Accepted counts) = Unit {0}
 TellsFirstFault nodata u ps (Rejected fault) = IsFirstFault (unranked nodata) (IsTriedWith fault.rule) u ps fault.cell fault.rule
 
+-- an acceptance has the counts of the union's cells
+abbrev pub HasCounts : Grid → Products → MergeVerdict → Type 0
+HasCounts u ps (Accepted counts) = AreUnionCounts u ps counts
+HasCounts u ps (Rejected fault) = Unit {0}
+
 -- unless a window is rejected these are the windows of one union; and of each union of which they are, the products are
--- correct exactly where the verdict accepts, and the fault that it tells is the first
+-- correct exactly where the verdict accepts, the counts are those of its cells, and the fault that it tells is the first
 pub record IsVerdictOn (e : Extent) (nodata : NoDataNumbers) (judged : List WindowReport) (window_of : Report → Window) (v : MergeVerdict) : Type 0 where
   pub one_union : SomeIsRejected judged
       ⊎ ((u : Grid) × (ps : Products) × (u.extent ≡ e) × AreWindowsOf u ps (windows_of window_of judged))
   pub exactly : (u : Grid) (ps : Products) → u.extent ≡ e → AreWindowsOf u ps (windows_of window_of judged) → IsAccepted v ↔ IsCorrect u ps nodata
+  pub counts : (u : Grid) (ps : Products) → u.extent ≡ e → AreWindowsOf u ps (windows_of window_of judged) → HasCounts u ps v
   pub first : (u : Grid) (ps : Products) → u.extent ≡ e → AreWindowsOf u ps (windows_of window_of judged) → TellsFirstFault nodata u ps v
 
 -- the verdict on what is handed over of windows: these have one set of no-data numbers, unless one is rejected their

@@ -1,4 +1,5 @@
 pub mod SinkLists
+pub mod WindowCounts
 pub mod WindowReports
 pub mod WindowVerdicts
 pub mod WindowUses

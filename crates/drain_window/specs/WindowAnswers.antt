@@ -1,18 +1,14 @@
 -- What a run on one window answers. Source: this project's own.
 use Rattle.std.specs.Prelude.{◌≡◌, Result, Ok, Err}
-use Rattle.std.specs.List.{count_by}
 use Rattle.drain_answer.specs.declared.refusal.Refusal.{Refusal}
 use Rattle.drain_answer.specs.declared.refusal.Refusal.TheVariants.{BoxTooLarge, OutOfMemory}
 use Rattle.drain_grid.specs.declared.cell.Cell.{Cell}
 use Rattle.drain_grid.specs.declared.rule.Rule.{Rule}
-use Rattle.drain_grid.specs.Counts.{is_data, is_raised}
 use Rattle.drain_grid.specs.Grid.{Grid, Products}
 use Rattle.drain_grid.specs.Values.{NoDataNumbers}
 use Rattle.drain_mosaic.specs.Tiling.{Tiling}
-use Rattle.drain_rules.specs.declared.verdict.Counts.{Counts}
 use Rattle.drain_rules.specs.declared.verdict.Verdict.{Verdict}
 use Rattle.drain_rules.specs.declared.verdict.Verdict.TheVariants.{Accepted, Rejected}
-use Rattle.drain_rules.specs.Verdicts.{has_outlet_code}
 use Rattle.drain_verdict.specs.Answers.{AreReadable, IsRefusal}
 use Rattle.drain_verdict.specs.Inputs.{Inputs}
 use Rattle.drain_verdict.specs.Meaning.{input_grid, input_products, nodata_numbers, tiling_of}
@@ -20,10 +16,10 @@ use Rattle.drain_windows.specs.declared.place.Place.{Place}
 use Rattle.drain_windows.specs.declared.window_report.WindowReport.{WindowReport}
 use Rattle.drain_windows.specs.declared.place.TheConstants.{SEAM_DEPTH}
 use Rattle.drain_windows.specs.Cuts.{window_at}
+use Rattle.drain_windows.specs.JudgedCounts.{AreCountsInside}
 use Rattle.drain_windows.specs.NoData.{audited}
 use Rattle.drain_windows.specs.Reports.{Report, IsReportOf}
 use Rattle.drain_windows.specs.Windows.{Window, IsFirstInside, IsPlaceIn, RulesHoldInside}
-use Rattle.drain_window_walk.specs.Areas.{cells_in, judged_area}
 use Rattle.drain_window.specs.MapOrigins.{map_origin}
 use Rattle.drain_window.specs.declared.window_answer.WindowRefusal.{WindowRefusal}
 use Rattle.drain_window.specs.declared.window_answer.WindowRefusal.TheVariants.{Inputs as OfInputs, OutsideMosaic}
@@ -32,17 +28,9 @@ use Rattle.drain_window.specs.declared.window_answer.WindowRefusal.TheVariants.{
 abbrev pub window_of : Place → Inputs → Window
 window_of p i = window_at (map_origin (tiling_of i)) p (input_grid i) (input_products i)
 
--- the size of the window, and how many of its judged cells have data, are raised, and are outlets by their code
-pub record AreJudgedCounts (p : Place) (g : Grid) (ps : Products) (k : Counts) : Type 0 where
-  pub rows : k.rows ≡ p.extent.rows
-  pub cols : k.cols ≡ p.extent.cols
-  pub data_cells : k.data_cells ≡ count_by (is_data g) (cells_in (judged_area p))
-  pub raised : k.raised ≡ count_by (is_raised g ps) (cells_in (judged_area p))
-  pub outlets : k.outlets ≡ count_by (has_outlet_code g ps) (cells_in (judged_area p))
-
 -- accepted where the rules hold at every judged cell, else rejected with the first fault, in the window's rows and columns
 abbrev pub IsJudgedVerdict : NoDataNumbers → Cell → Place → Grid → Products → Verdict → Type 0
-IsJudgedVerdict nodata origin p g ps (Accepted counts) = RulesHoldInside nodata (window_at origin p g ps) × AreJudgedCounts p g ps counts
+IsJudgedVerdict nodata origin p g ps (Accepted counts) = RulesHoldInside nodata (window_at origin p g ps) × AreCountsInside (window_at origin p g ps) counts
 IsJudgedVerdict nodata origin p g ps (Rejected rule row col) = IsFirstInside nodata (window_at origin p g ps) (record { row = row; col = col }) rule
 
 -- the report and the verdict on the window at a place of a grid, which begins at this cell of the union

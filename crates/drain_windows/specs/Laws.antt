@@ -1,6 +1,6 @@
 -- What windows say of their union. The laws are this project's own.
 use Rattle.std.specs.Prelude.{◌≡◌, ◌↔◌, ◌⊎◌, ℕ, IsTrue, List, map}
-use Rattle.std.specs.List.{Contains}
+use Rattle.std.specs.List.{AllPairs, Contains, sum_by}
 use Rattle.drain_grid.specs.declared.cell.Cell.{Cell}
 use Rattle.drain_grid.specs.Size.{Extent}
 use Rattle.drain_grid.specs.Extent.{IsCellOf}
@@ -11,8 +11,11 @@ use Rattle.drain_grid.specs.Rule.{IsPatchRule}
 use Rattle.drain_grid.specs.Unranked.{unranked}
 use Rattle.drain_grid.specs.GridRules.{IsFirstFault}
 use Rattle.drain_grid.specs.Correct.{IsCorrect}
+use Rattle.drain_grid.specs.Counts.{data_count, raised_count}
+use Rattle.drain_rules.specs.Verdicts.{outlet_count}
 use Rattle.drain_windows.specs.declared.outlet.Outlet.{Outlet}
 use Rattle.drain_windows.specs.Judged.{JudgesSome, BothJudgeOne}
+use Rattle.drain_windows.specs.JudgedCounts.{judged_data, judged_raised, judged_outlets}
 use Rattle.drain_windows.specs.NoData.{audited}
 use Rattle.drain_windows.specs.Outlets.{IsSortedByLabel, NoneBesideShares, ShareNoLabel, ListsOutlets, HoldsAllOf}
 use Rattle.drain_windows.specs.Reports.{OverlapInSeams, Report, IsReportOf, CanMerge}
@@ -100,3 +103,10 @@ FourNumbers =
 abbrev pub JudgedApart : Type 0
 JudgedApart =
     (e : Extent) (p q : Place) → IsPlaceIn e p → IsPlaceIn e q → JudgesSome p → JudgesSome q → ¬ BothJudgeOne p q → OverlapInSeams SEAM_DEPTH p q
+
+-- where windows judge each cell of their union, and none twice, their counts add up to those of the union's cells
+abbrev pub CountsAddUp : Type 0
+CountsAddUp =
+    (u : Grid) (ps : Products) (windows : List Window) → AreWindowsOf u ps windows → JudgeAll u.extent windows →
+    AllPairs (λ v w. ¬ BothJudgeOne v.place w.place) windows →
+    (sum_by judged_data windows ≡ data_count u) × (sum_by judged_raised windows ≡ raised_count u ps) × (sum_by judged_outlets windows ≡ outlet_count u ps)

@@ -1,5 +1,6 @@
 pub mod Cuts
 pub mod Judged
+pub mod JudgedCounts
 pub mod Laws
 pub mod NoData
 pub mod Outlets

@@ -3,7 +3,7 @@
 //! Each law is a function with nothing to do: its contract is the law, and a caller that calls it has the law at hand.
 
 ghost use Rattle.drain_windows.specs.Cuts.{CutIsWindow};
-ghost use Rattle.drain_windows.specs.Laws.{PatchOfWindow, CorrectByWindows, WindowsMakeUnion, SortedTellsShared, MergeTellsShared, OpenInWindow, MergeIsExact, CornersTellWhole, WindowRejects, LeastFaultIsFirst, JudgedApart, FourNumbers};
+ghost use Rattle.drain_windows.specs.Laws.{PatchOfWindow, CorrectByWindows, WindowsMakeUnion, SortedTellsShared, MergeTellsShared, OpenInWindow, MergeIsExact, CornersTellWhole, WindowRejects, LeastFaultIsFirst, JudgedApart, FourNumbers, CountsAddUp};
 
 /// At a judged cell the patch of a window is the union's.
 pub fn patch_of_window()
@@ -65,6 +65,11 @@ pub fn four_numbers()
 /// Places that judge a cell each, and none in common, overlap in their seams alone.
 pub fn judged_apart()
     ensures { JudgedApart }
+{}
+
+/// Where windows judge each cell of their union, and none twice, their counts add up to those of the union's cells.
+pub fn counts_add_up()
+    ensures { CountsAddUp }
 {}
 
 /// A box of a grid, as a grid of its own, is a window of it.

@@ -4,6 +4,7 @@ use Rattle.drain_windows.specs.declared.place.TheConstants.{SEAM_DEPTH}
 use Rattle.drain_windows.specs.Cuts.{window_at}
 use Rattle.drain_windows.specs.NoData.{audited}
 use Rattle.drain_windows.specs.Reports.{IsReportOf}
+use Rattle.drain_window.proofs.WindowCounts.{counts_inside}
 use Rattle.drain_window.proofs.WindowReports.{fault_in_window, nodata_is, of_window, report_faulty, report_sound, seams_are}
 use Rattle.drain_window.proofs.answered.answered.Goals as goal
 
@@ -31,13 +32,7 @@ returns-in-Sound c = λ nodata g ps placed some walked listed sinks.
           c.sorted.ensures.sorted c.sorted.ensures.permutation (seams_are judges lists nodata c.args.origin p g ps c.args.walk c.args.seams of placed some walked listed) sinks);
       verdict = (
         found.0,
-        record {
-          rows = k.rows;
-          cols = k.cols;
-          data_cells = k.data_cells ∙ found.2.data_cells;
-          raised = k.raised ∙ found.2.raised;
-          outlets = k.outlets ∙ found.2.outlets;
-        },
+        counts_inside c.args.origin p g ps c.in-Sound.total c.counts_of.result found.2 k.rows k.cols k.data_cells k.raised k.outlets,
       );
     }
 
