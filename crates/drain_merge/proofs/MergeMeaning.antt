@@ -30,6 +30,14 @@ rejected_if p (WindowAccepted counts) fault is = none_some is
     none_some same = cc
 rejected_if p (WindowRejected rule row col) fault is = tt
 
+-- a rejected window has a fault
+faulty : (p : Place) (v : Verdict) → IsRejected v → ¬ (fault_in p v ≡ None)
+faulty p (WindowAccepted counts) never = absurd never
+faulty p (WindowRejected rule row col) rejected = some_none
+  where
+    some_none : {f : Fault} → Some f ≡ None → ⊥
+    some_none same = cc
+
 some_rejected : (ws : List WindowReport) (fault : Fault) → IsFirstOfFaults ws (Some fault) → SomeIsRejected ws
 some_rejected ws fault first = (first.0.0, first.0.1, rejected_if first.0.0.report.place first.0.0.verdict fault first.0.2)
 
@@ -47,6 +55,7 @@ union_verdict e short ws (Accepted counts) (one, fill, lists) = record {
   nodata = one.0;
   one_nodata = one.1;
   can = inr (can_merge e one.0 ws one.1 fill lists.1);
+  none = λ _ some. faulty some.0.report.place some.0.verdict some.2 (lists.0 some.0 some.1);
   means = λ window_of from. record {
     one_union = inr (union_of_all e short.rows short.cols one.0 ws one.1 fill window_of from lists.0 lists.1);
     exactly = λ u ps size are. ((λ yes. is_correct e short.rows short.cols one.0 ws one.1 fill window_of from u ps size are lists.0 lists.2), (λ correct. tt));
@@ -58,6 +67,7 @@ union_verdict e short ws (Rejected fault) (one, fill, inl first) = record {
   nodata = one.0;
   one_nodata = one.1;
   can = inl (some_rejected ws fault first);
+  none = λ never. absurd never;
   means = λ window_of from. record {
     one_union = inl (some_rejected ws fault first);
     exactly = λ u ps size are. (
@@ -77,6 +87,7 @@ union_verdict e short ws (Rejected fault) (one, fill, inr (none, same, rule, fir
   nodata = one.0;
   one_nodata = one.1;
   can = inr (can_merge e one.0 ws one.1 fill same);
+  none = λ never. absurd never;
   means = λ window_of from. record {
     one_union = inr (union_of_all e short.rows short.cols one.0 ws one.1 fill window_of from none same);
     exactly = λ u ps size are. (

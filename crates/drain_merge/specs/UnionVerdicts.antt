@@ -79,9 +79,11 @@ pub record IsVerdictOn (e : Extent) (nodata : NoDataNumbers) (judged : List Wind
   pub first : (u : Grid) (ps : Products) → u.extent ≡ e → AreWindowsOf u ps (windows_of window_of judged) → TellsFirstFault nodata u ps v
 
 -- the verdict on what is handed over of windows: these have one set of no-data numbers, unless one is rejected their
--- reports can be merged, and the verdict is right on whatever windows the reports are of
+-- reports can be merged, an acceptance is of accepted windows alone, and the verdict is right on whatever windows the
+-- reports are of
 pub record IsUnionVerdict (e : Extent) (judged : List WindowReport) (v : MergeVerdict) : Type 0 where
   pub nodata : NoDataNumbers
   pub one_nodata : HaveNoData nodata judged
   pub can : SomeIsRejected judged ⊎ CanMerge SEAM_DEPTH e nodata (reports_of judged)
+  pub none : IsAccepted v → ¬ SomeIsRejected judged
   pub means : (window_of : Report → Window) → AreJudgedFrom window_of judged → IsVerdictOn e nodata judged window_of v

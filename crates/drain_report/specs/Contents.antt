@@ -1,11 +1,12 @@
 -- The text of a whole report. The order of its lines is this project's own.
-use Rattle.std.specs.Prelude.{◌≡◌, ℕ, List, ◌++◌, codes}
+use Rattle.std.specs.Prelude.{ℕ, List, ◌++◌, codes}
 use Rattle.drain_rules.specs.declared.verdict.Verdict.{Verdict}
 use Rattle.drain_hgt.specs.Corner.{Corner, IsOnMap}
 use Rattle.drain_windows.specs.Reports.{Report}
+use Rattle.drain_windows.specs.Verdicts.{Agree}
 use Rattle.drain_windows.specs.declared.window_report.WindowReport.{WindowReport}
 use Rattle.drain_report.specs.declared.head.Head.{Head}
-use Rattle.drain_report.specs.Facts.{IsNarrow, sink_line, IsOutlet, outlet_line, IsShown, shown_line, tile_line, is_accepted}
+use Rattle.drain_report.specs.Facts.{IsNarrow, sink_line, IsOutlet, outlet_line, IsShown, shown_line, tile_line}
 use Rattle.drain_report.specs.Head.{HeadFits, head_text}
 use Rattle.drain_report.specs.Lists.{IsListOf, list_text}
 
@@ -35,7 +36,7 @@ report_text w =
 -- each number is in the range of its type, and the report holds exactly where its verdict is accepted
 pub record ContentsFit (w : Contents) : Type 0 where
   pub head : HeadFits (head_of w)
-  pub holds : w.report.holds ≡ is_accepted w.verdict
+  pub holds : Agree w.verdict w.report
   pub tiles : IsListOf IsOnMap w.tiles
   pub sinks : IsListOf IsNarrow w.report.sinks
   pub outlets : IsListOf IsOutlet w.report.outlets

@@ -1,5 +1,5 @@
 -- The facts of a report as numbers, each kind on lines of its own. The order of the numbers is this project's own.
-use Rattle.std.specs.Prelude.{◌≡◌, ◌<◌, ◌^◌, ℕ, ℤ, pos, Bool, true, false, Option, Some, None, List, [], ◌∷◌, ◌++◌, codes, if◌then◌else◌}
+use Rattle.std.specs.Prelude.{◌≡◌, ◌<◌, ◌^◌, ℕ, ℤ, pos, Bool, Option, Some, None, List, [], ◌∷◌, ◌++◌, codes, if◌then◌else◌}
 use Rattle.std.specs.Int.{w16}
 use Rattle.std.specs.Int.RustNames.{FitsSigned}
 use Rattle.drain_grid.specs.declared.cell.Cell.{Cell}
@@ -126,10 +126,6 @@ verdict_line (Rejected rule row col) = line (codes "rejected") (fault_numbers ru
 abbrev pub VerdictFits : Verdict → Type 0
 VerdictFits (Accepted c) = CountsFit c
 VerdictFits (Rejected rule row col) = IsNarrow (record { row = row; col = col })
-
-abbrev pub is_accepted : Verdict → Bool
-is_accepted (Accepted c) = true
-is_accepted (Rejected rule row col) = false
 
 -- tile NAME
 abbrev pub tile_line : Corner → List ℕ

@@ -1,7 +1,7 @@
 //! Reading a report.
 
 ghost use Rattle.std.specs.Prelude.{◌≡◌, ℕ, IfErr, IfOk, OnOk, IsOk, MatchResult};
-ghost use Rattle.drain_report.specs.Facts.{is_accepted};
+ghost use Rattle.drain_windows.specs.Verdicts.{Agree, is_accepted};
 ghost use Rattle.drain_report.specs.Faults.{FaultFits, IsAt, IsEndFault};
 ghost use Rattle.drain_report.specs.Contents.{Contents, ContentsFit, contents_of, end_line, report_text};
 
@@ -19,7 +19,7 @@ use std::alloc::Global;
 /// is the fault.
 pub fn read_report(alloc: Global, text: &[u8]) -> Result<WindowReport, ReportFault>
     ensures sound { IfOk result (λ window. text.now ≡ report_text (contents_of window)) }
-    ensures holds { IfOk result (λ window. window.report.holds ≡ is_accepted window.verdict) }
+    ensures holds { IfOk result (λ window. Agree window.verdict window.report) }
 
     // What was written is read again, unless memory runs out.
     ensures back { (w : Contents) → ContentsFit w → text.now ≡ report_text w → MatchResult result (λ window. contents_of window ≡ w) (λ fault. fault ≡ ReportFault.OutOfMemory) }

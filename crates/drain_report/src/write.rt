@@ -1,7 +1,7 @@
 //! Writing a report.
 
 ghost use Rattle.std.specs.Prelude.{◌≡◌, IfOk, OnOk};
-ghost use Rattle.drain_report.specs.Facts.{is_accepted};
+ghost use Rattle.drain_windows.specs.Verdicts.{Agree};
 ghost use Rattle.drain_report.specs.Contents.{ContentsFit, contents_of, report_text};
 
 use crate::head::{Head, push_head};
@@ -18,7 +18,7 @@ pub fn write_report(alloc: Global, window: &WindowReport) -> Result<Vec<u8>, Out
     ensures written { IfOk result (λ text. text.items ≡ report_text (contents_of window.now)) }
 
     // So from this text the report is read again.
-    ensures in_range { OnOk result (window.now.report.holds ≡ is_accepted window.now.verdict → ContentsFit (contents_of window.now)) }
+    ensures in_range { OnOk result (Agree window.now.verdict window.now.report → ContentsFit (contents_of window.now)) }
 {
     let mut text = Vec::new(alloc);
     let report = &window.report;

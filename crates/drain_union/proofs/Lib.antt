@@ -1,2 +1,3 @@
 pub mod UnionStatuses
+pub mod ReadReports
 pub mod ReportTexts

@@ -1,5 +1,5 @@
 -- What the status of a merge says of the union.
-use Rattle.std.proofs.Common.{◌≡◌, ◌<◌, List, Result, Ok, Err, IfOk, IfErr, arith}
+use Rattle.std.proofs.Common.{◌≡◌, ◌<◌, inl, inr, List, Result, Ok, Err, IfOk, IfErr, arith}
 use Rattle.drain_merge.specs.MapBoxes.{box_of, boxed, HasMapSinks, IsMapRefusal, IsMapVerdict}
 use Rattle.drain_merge.specs.UnionVerdicts.{IsUnionVerdict}
 use Rattle.drain_merge.specs.declared.map_merge.MapVerdict.{MapVerdict}
@@ -10,7 +10,7 @@ use Rattle.drain_merge.specs.declared.merge_verdict.MergeVerdict.TheVariants.{Ac
 use Rattle.drain_merge.specs.declared.union_sinks.UnionSinks.{UnionSinks}
 use Rattle.drain_print.specs.Statuses.{status_code}
 use Rattle.drain_windows.specs.declared.window_report.WindowReport.{WindowReport}
-use Rattle.drain_union.specs.MergeRuns.{IsMergeOutcome, merge_status, UnionIsCorrect, UnionIsNotCorrect, verdict_status}
+use Rattle.drain_union.specs.MergeRuns.{IsMergeOutcome, MakeUnion, merge_status, UnionIsCorrect, UnionIsNotCorrect, verdict_status}
 
 -- a merge answers with an outcome
 pub outcome_is : (sinks : UnionSinks) (ws : List WindowReport) (answer : Result MapVerdict MergeRefusal) → IfOk answer (IsMapVerdict ws) → IfOk answer (λ union. HasMapSinks sinks ws) →
@@ -39,6 +39,16 @@ correct_if ws (Rejected fault) is zero = absurd (omega (arith, zero))
 not_correct_if : (ws : List WindowReport) (v : MergeVerdict) → IsUnionVerdict (box_of ws).size (boxed ws) v → status_code (verdict_status v) ≡ 1 → UnionIsNotCorrect ws
 not_correct_if ws (Accepted counts) is one = absurd (omega (arith, one))
 not_correct_if ws (Rejected fault) is one = (is.nodata, is.one_nodata, λ window_of from u ps size are. ((is.means window_of from).exactly u ps size are).1)
+
+one_if : (ws : List WindowReport) (v : MergeVerdict) → IsUnionVerdict (box_of ws).size (boxed ws) v → status_code (verdict_status v) ≡ 0 → MakeUnion ws
+one_if ws (Accepted counts) is zero = λ window_of from.
+    elim ((is.means window_of from).one_union) [ inl some ↦ absurd (is.none tt some) | inr union ↦ union ]
+one_if ws (Rejected fault) is zero = absurd (omega (arith, zero))
+
+-- with the status 0 there is one union
+pub of_one : (sinks : UnionSinks) (ws : List WindowReport) (answer : Result MapVerdict MergeRefusal) → IsMergeOutcome sinks ws answer → status_code (merge_status answer) ≡ 0 → MakeUnion ws
+of_one sinks ws (Ok union) is zero = one_if ws union.verdict is.0.verdict zero
+of_one sinks ws (Err refusal) is zero = absurd (omega (arith, zero, refused_above_1 refusal))
 
 -- with the status 0 the products of the union are correct
 pub of_accepted : (sinks : UnionSinks) (ws : List WindowReport) (answer : Result MapVerdict MergeRefusal) → IsMergeOutcome sinks ws answer → status_code (merge_status answer) ≡ 0 → UnionIsCorrect ws

@@ -1,4 +1,5 @@
 pub mod MergeRuns
 pub mod ReportInputs
 pub mod ReportOutputs
+pub mod RunLaws
 pub mod WindowRuns

@@ -53,6 +53,12 @@ UnionIsCorrect windows = OfUnion windows (λ nodata u ps. IsCorrect u ps nodata)
 abbrev pub UnionIsNotCorrect : List WindowReport → Type 0
 UnionIsNotCorrect windows = OfUnion windows (λ nodata u ps. ¬ IsCorrect u ps nodata)
 
+-- whatever windows the reports are of, there is a union of which they are the windows
+abbrev pub MakeUnion : List WindowReport → Type 0
+MakeUnion windows =
+    (window_of : Report → Window) → AreJudgedFrom window_of (boxed windows) →
+    (u : Grid) × (ps : Products) × (u.extent ≡ (box_of windows).size) × AreWindowsOf u ps (windows_of window_of (boxed windows))
+
 -- the line of a fault of the union's list of sinks
 abbrev pub list_line : SinkFault → List ℕ
 list_line (list.BadSinkLine n) = refusal_line (inputs.BadSinkLine n)

@@ -5,14 +5,20 @@ use Rattle.drain_maker.specs.declared.product_files.SetFault.{SetFault}
 use Rattle.drain_maker.specs.declared.product_files.SetFault.TheVariants.{WriteFailed, OutOfMemory}
 use Rattle.drain_print.specs.declared.status.Status.{Status}
 use Rattle.drain_print.specs.declared.status.Status.TheVariants.{Done, Rejected, Failed}
-use Rattle.drain_report.specs.Contents.{contents_of, report_text}
+use Rattle.drain_report.specs.Contents.{ContentsFit, contents_of, report_text}
 use Rattle.drain_rules.specs.declared.verdict.Verdict.{Verdict}
 use Rattle.drain_rules.specs.declared.verdict.Verdict.TheVariants as window
+use Rattle.drain_windows.specs.Verdicts.{Agree}
 use Rattle.drain_windows.specs.declared.window_report.WindowReport.{WindowReport}
 
 -- the text of what is handed over of a window
 unfoldable pub text_of : WindowReport → List ℕ
 text_of w = report_text (contents_of w)
+
+-- what was written is read again, if the report agrees with the verdict
+abbrev pub IsReadable : WindowReport → Result (Unit {0}) SetFault → Type 0
+IsReadable w (Ok done) = Agree w.verdict w.report → ContentsFit (contents_of w)
+IsReadable w (Err fault) = Unit {0}
 
 -- the line of the verdict, if its report was written
 abbrev pub reported_line : Verdict → Result (Unit {0}) SetFault → List ℕ

@@ -2,6 +2,7 @@
 #![tactic(auto)]
 
 pub mod judge_run;
+pub mod laws;
 pub mod merge_files;
 pub mod merge_run;
 pub mod report_input;

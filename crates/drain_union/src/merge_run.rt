@@ -9,7 +9,7 @@ ghost use Rattle.drain_merge.specs.declared.map_merge.MapVerdict.{MapVerdict};
 ghost use Rattle.drain_merge.specs.declared.merge_verdict.MergeRefusal.{MergeRefusal};
 ghost use Rattle.drain_merge.specs.declared.union_sinks.UnionSinks.TheVariants.{Listed};
 ghost use Rattle.drain_print.specs.Printing.{Prints};
-ghost use Rattle.drain_union.specs.MergeRuns.{IsMergeOutcome, list_line, list_status, merge_status, UnionIsCorrect, UnionIsNotCorrect};
+ghost use Rattle.drain_union.specs.MergeRuns.{IsMergeOutcome, list_line, list_status, MakeUnion, merge_status, UnionIsCorrect, UnionIsNotCorrect};
 
 use drain_answer::Refusal;
 use drain_answer::answer_report::refusal_line;
@@ -33,9 +33,10 @@ pub fn merge_and_print<W: ByteSink>(
     ensures run { (outcome : Result MapVerdict MergeRefusal) × IsMergeOutcome sinks.now windows.items outcome
         × Prints W.ByteSink out.old out.new (merge_line outcome) (merge_status outcome) result }
 
-    // For any windows of which these are the reports, a run ends with 0 only if the products of their union are correct,
-    // and with 1 only if they aren't.
+    // For any windows of which these are the reports, a run ends with 0 only if they are the windows of one union and its
+    // products are correct, and with 1 only if the products of no union of which they are the windows are correct.
     ensures correct { result ≡ 0 → UnionIsCorrect windows.items }
+    ensures one_union { result ≡ 0 → MakeUnion windows.items }
     ensures not_correct { result ≡ 1 → UnionIsNotCorrect windows.items }
 {
     let answer = merge_on_map(alloc, windows, sinks);

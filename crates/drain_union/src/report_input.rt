@@ -1,9 +1,12 @@
 //! Reading the report of one window.
 
-ghost use Rattle.std.specs.Prelude.{◌≡◌, ◌≤◌, ◌++◌, IfErr, IfOk, OnOk, codes, decimal, length};
+ghost use Rattle.std.specs.Prelude.{◌≡◌, ◌≤◌, ◌++◌, IfErr, IfOk, MatchResult, OnOk, Some, codes, decimal, length};
 ghost use Rattle.std.specs.Io.KnownBytes.{Consumes, IsAtEnd};
 ghost use Rattle.arrayvec.specs.ArrayString.{array_string_len};
 ghost use Rattle.drain_print.specs.Printing.{Prints};
+ghost use Rattle.drain_report.specs.Contents.{ContentsFit, contents_of};
+ghost use Rattle.drain_windows.specs.Verdicts.{Agree};
+ghost use Rattle.drain_windows.specs.declared.window_report.WindowReport.{WindowReport as WindowReportOf};
 ghost use Rattle.drain_union.specs.ReportInputs.{fault_line, fault_status, IsBadReport};
 ghost use Rattle.drain_union.specs.ReportOutputs.{text_of};
 ghost use Rattle.drain_union.specs.declared.report_input.BadReport.{BadReport};
@@ -37,6 +40,10 @@ pub fn read_or_print<R: ByteSource, W: ByteSink>(
     out: &mut W,
 ) -> Result<WindowReport, u8>
     ensures read { IfOk result (λ window. Consumes (R.bytes_left from.old) (R.bytes_left from.new) (text_of window) × IsAtEnd (R.bytes_left from.new)) }
+    ensures agree { IfOk result (λ window. Agree window.verdict window.report) }
+
+    // A report that was written is read again, unless the run fails.
+    ensures back { (w : WindowReportOf) → ContentsFit (contents_of w) → R.bytes_left from.old ≡ Some (text_of w) → MatchResult result (λ window. contents_of window ≡ contents_of w) (λ code. code ≡ 3) }
     ensures quiet { OnOk result (out.new ≡ out.old) }
     ensures refused { IfErr result (λ code. (why : BadReport) × IsBadReport R.ByteSource from.old from.new why × Prints W.ByteSink out.old out.new (fault_line place why) (fault_status why) code) }
 {
@@ -50,6 +57,8 @@ pub fn read_or_print<R: ByteSource, W: ByteSink>(
 #[tactic(auto, unfolding(crate::specs::ReportOutputs::text_of))]
 fn read_window<R: ByteSource>(alloc: Global, from: &mut R) -> Result<WindowReport, BadReport>
     ensures read { IfOk result (λ window. Consumes (R.bytes_left from.old) (R.bytes_left from.new) (text_of window) × IsAtEnd (R.bytes_left from.new)) }
+    ensures agree { IfOk result (λ window. Agree window.verdict window.report) }
+    ensures back { (w : WindowReportOf) → ContentsFit (contents_of w) → R.bytes_left from.old ≡ Some (text_of w) → MatchResult result (λ window. contents_of window ≡ contents_of w) (λ why. fault_status why ≡ Status.Failed) }
     ensures why { IfErr result (IsBadReport R.ByteSource from.old from.new) }
 {
     let text = match read_text(alloc, from) {
@@ -57,7 +66,7 @@ fn read_window<R: ByteSource>(alloc: Global, from: &mut R) -> Result<WindowRepor
         Err(fault) => return Err(BadReport::Unread(fault)),
     };
     match read_report(alloc, &text) {
-        Ok(window) => Ok(window),
+        Ok(report) => Ok(report),
         Err(fault) => Err(BadReport::NoText(fault)),
     }
 }

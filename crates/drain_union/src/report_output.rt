@@ -5,7 +5,7 @@ ghost use Rattle.drain_files.specs.Placings.{IsNamed};
 ghost use Rattle.drain_maker.specs.ProductFiles.{WritesFile};
 ghost use Rattle.drain_maker.specs.declared.product_files.SetFault.{SetFault};
 ghost use Rattle.drain_print.specs.Printing.{Prints};
-ghost use Rattle.drain_union.specs.ReportOutputs.{reported_line, reported_status, text_of, verdict_status};
+ghost use Rattle.drain_union.specs.ReportOutputs.{IsReadable, reported_line, reported_status, text_of, verdict_status};
 
 use drain_answer::line::{Line, words};
 use drain_answer::verdict_report::verdict_line;
@@ -34,6 +34,7 @@ pub fn report_and_print<F: ByteSink, P: Placing, W: ByteSink>(
 ) -> u8
     ensures run { (done told : Result (Unit {0}) SetFault)
         × WritesFile F.ByteSink file.old file.new (text_of window.now) done
+        × IsReadable window.now done
         × IsNamed P.has_placed places.old places.new done told
         × Prints W.ByteSink out.old out.new (reported_line window.now.verdict told) (reported_status window.now.verdict told) result }
 {
@@ -52,7 +53,8 @@ fn write_text<F: ByteSink>(
     window: &WindowReport,
     file: &mut F,
 ) -> Result<(), SetFault>
-    ensures { WritesFile F.ByteSink file.old file.new (text_of window.now) result }
+    ensures written { WritesFile F.ByteSink file.old file.new (text_of window.now) result }
+    ensures readable { IsReadable window.now result }
 {
     let Ok(text) = write_report(alloc, window) else {
         return Err(SetFault::OutOfMemory);

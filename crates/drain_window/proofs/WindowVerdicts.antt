@@ -12,6 +12,7 @@ use Rattle.drain_verdict.specs.Meaning.{input_grid, input_products, nodata_numbe
 use Rattle.drain_windows.specs.declared.place.Place.{Place}
 use Rattle.drain_windows.specs.declared.window_report.WindowReport.{WindowReport}
 use Rattle.drain_windows.specs.Reports.{Report}
+use Rattle.drain_windows.specs.Verdicts.{Agree}
 use Rattle.drain_windows.specs.Windows.{IsFirstInside, IsPlaceIn}
 use Rattle.drain_window.specs.MapOrigins.{map_origin}
 use Rattle.drain_window.specs.WindowAnswers.{IfRejected, IsAnswerOn, IsJudgedVerdict, IsWindowAnswer, IsWithTiles, window_of}
@@ -46,6 +47,13 @@ with_tiles_answer t v r (Ok a) (side, tiles, verdict, report) p i is readable pl
       (subst (λ (w : Verdict). IsAnswerOn (nodata_numbers i) (map_origin (tiling_of i)) p (input_grid i) (input_products i) w r) (sym verdict) answer),
 )
 with_tiles_answer t v r (Err refusal) same p i is readable placed answer = subst (λ (x : WindowRefusal). IsWindowAnswer p i (Err x)) (sym same) tt
+
+-- and it agrees with the report
+pub with_tiles_agree : (t : Tiling) (v : Verdict) (r : Report) (result : Result WindowReport WindowRefusal) → IsWithTiles t v r result → Agree v r →
+    IfOk result (λ a. Agree a.verdict a.report)
+with_tiles_agree t v r (Ok a) (side, tiles, verdict, report) agree =
+    subst (λ (q : Report). Agree a.verdict q) (sym report) (subst (λ (w : Verdict). Agree w r) (sym verdict) agree)
+with_tiles_agree t v r (Err refusal) same agree = tt
 
 -- neither says that a read failed
 pub memory_alike : {A B : Type 0} (a : A) → IsErrOf (Ok a) ReadFailed ↔ IsErrOf {T = B} (Err OutOfMemory) ReadFailed

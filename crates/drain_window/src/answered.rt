@@ -13,6 +13,7 @@ ghost use Rattle.drain_window_walk.specs.WindowWalks.{IsWindowWalkOf};
 ghost use Rattle.drain_windows.specs.Cuts.{window_at};
 ghost use Rattle.drain_windows.specs.Outlets.{IsSortedByLabel};
 ghost use Rattle.drain_windows.specs.Reports.{ListsSinks};
+ghost use Rattle.drain_windows.specs.Verdicts.{Agree};
 ghost use Rattle.drain_windows.specs.Windows.{IsPlaceIn};
 
 use drain_grid::Cell;
@@ -37,7 +38,8 @@ pub(crate) fn answered(
 ) -> Option<(Verdict, Report)>
     requires placed { EndsInRange place.now }
     requires moved { IsOrigin origin }
-    ensures { IfSome result (λ a. (nodata : NoDataNumbers) (g : Grid) (ps : Products) → IsPlaceIn g.extent place.now → 0 < g.extent.rows
+    ensures agree { IfSome result (λ a. Agree a.0 a.1) }
+    ensures answer { IfSome result (λ a. (nodata : NoDataNumbers) (g : Grid) (ps : Products) → IsPlaceIn g.extent place.now → 0 < g.extent.rows
         → IsWindowWalkOf (record { nodata = nodata; ranks = Ignored }) g ps g.extent.rows walk → IsSeamWalkOf g ps g.extent.rows seams → ListsSinks (window_at origin place.now g ps) sinks.items → IsAnswerOn nodata origin place.now g ps a.0 a.1) }
 {
     // The laws on what the notes say of the window.

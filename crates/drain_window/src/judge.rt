@@ -9,6 +9,7 @@ ghost use Rattle.drain_verdict.specs.Stages.{IsLayoutOf};
 ghost use Rattle.drain_windows.specs.declared.place.TheConstants.{SEAM_DEPTH};
 ghost use Rattle.drain_windows.specs.NoData.{audited};
 ghost use Rattle.drain_windows.specs.Reports.{IsReportOf};
+ghost use Rattle.drain_windows.specs.Verdicts.{Agree};
 ghost use Rattle.drain_windows.specs.Windows.{IsFirstInside, IsPlaceIn};
 ghost use Rattle.drain_verdict.specs.Uses.{AuditUses};
 ghost use Rattle.drain_window.specs.WindowAnswers.{as_refused, IfRejected, IsPlacedAnswer, IsWindowAnswer, IsWithTiles, window_of};
@@ -56,6 +57,9 @@ pub fn judge_window<R: ByteSource>(
     // How far it reads, when a read fails, and what is unchanged: as for an audit.
     ensures uses { AuditUses R.bytes_left R.counts side (tiles.old, products.old) (tiles.new, products.new) (as_refused result) }
 
+    // Whatever the bytes are, the report says that the rules hold exactly where the verdict accepts.
+    ensures agree { IfOk result (λ a. Agree a.verdict a.report) }
+
     // A rejection has the first fault of the window.
     ensures first { IfOk result (λ a. IfRejected a.verdict (λ cell rule. ForAudit R.bytes_left side tiles.old sinks.now products.old (λ inputs. IsFirstInside (nodata_numbers inputs) (window_of place.now inputs) cell rule))) }
 {
@@ -73,6 +77,7 @@ fn answer_of<R: ByteSource>(
 ) -> Result<WindowReport, WindowRefusal>
     ensures answer { ForAudit R.bytes_left side tiles.old sinks.now products.old (λ inputs. IsWindowAnswer place.now inputs result) }
     ensures uses { AuditUses R.bytes_left R.counts side (tiles.old, products.old) (tiles.new, products.new) (as_refused result) }
+    ensures agree { IfOk result (λ a. Agree a.verdict a.report) }
 {
     // The law that bytes name one tile.
     one_name();
@@ -94,6 +99,7 @@ fn answer_in<R: ByteSource>(
     requires laid { IsLayoutOf layout.now.side (names_of tiles.old) layout.now }
     ensures answer { ForAudit R.bytes_left layout.now.side tiles.old sinks.now products.old (λ inputs. IsWindowAnswer place.now inputs result) }
     ensures uses { AuditUses R.bytes_left R.counts layout.now.side (tiles.old, products.old) (tiles.new, products.new) (as_refused result) }
+    ensures agree { IfOk result (λ a. Agree a.verdict a.report) }
 {
     // The law that bytes name one tile.
     one_name();
@@ -119,6 +125,7 @@ fn answer_at<R: ByteSource>(
     requires placed { IsPlaceIn (extent_of layout.now) place.now }
     ensures answer { ForAudit R.bytes_left layout.now.side tiles.old sinks.now products.old (λ inputs. IsPlacedAnswer place.now inputs result) }
     ensures uses { AuditUses R.bytes_left R.counts layout.now.side (tiles.old, products.old) (tiles.new, products.new) result }
+    ensures agree { IfOk result (λ a. Agree a.0 a.1) }
 {
     // The law that bytes name one tile.
     one_name();

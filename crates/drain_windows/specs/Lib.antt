@@ -5,4 +5,5 @@ pub mod Laws
 pub mod NoData
 pub mod Outlets
 pub mod Reports
+pub mod Verdicts
 pub mod Windows

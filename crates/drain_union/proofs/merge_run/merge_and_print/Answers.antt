@@ -5,7 +5,7 @@ use Rattle.drain_print.specs.Printing.{Prints}
 use Rattle.drain_print.specs.declared.status.Status.{Status}
 use Rattle.drain_merge.specs.MergeLines.{merge_line}
 use Rattle.drain_union.specs.MergeRuns.{merge_status}
-use Rattle.drain_union.proofs.UnionStatuses.{of_accepted, of_rejected, outcome_is}
+use Rattle.drain_union.proofs.UnionStatuses.{of_accepted, of_one, of_rejected, outcome_is}
 use Rattle.drain_union.proofs.merge_run.merge_and_print.Goals as goal
 
 pub returns-clause-run : goal.returns-clause-run
@@ -23,6 +23,14 @@ returns-clause-correct g c zero =
     let answer = c.merge_on_map-answer.result in
     let ensures = c.merge_on_map-answer.ensures in
     of_accepted c.args.sinks.now c.args.windows.items answer (outcome_is c.args.sinks.now c.args.windows.items answer ensures.means ensures.sinks ensures.refusal)
+    (status_stood c.print_line.ensures.done (merge_status answer) c.status_of.result c.print_line.result c.status_of.ensures c.print_line.ensures.code_is
+    (omega (arith, zero)) ∙ zero)
+
+pub returns-clause-one_union : goal.returns-clause-one_union
+returns-clause-one_union g c zero =
+    let answer = c.merge_on_map-answer.result in
+    let ensures = c.merge_on_map-answer.ensures in
+    of_one c.args.sinks.now c.args.windows.items answer (outcome_is c.args.sinks.now c.args.windows.items answer ensures.means ensures.sinks ensures.refusal)
     (status_stood c.print_line.ensures.done (merge_status answer) c.status_of.result c.print_line.result c.status_of.ensures c.print_line.ensures.code_is
     (omega (arith, zero)) ∙ zero)
 

@@ -8,8 +8,8 @@ use Rattle.drain_window.proofs.WindowCounts.{counts_inside}
 use Rattle.drain_window.proofs.WindowReports.{fault_in_window, nodata_is, of_window, report_faulty, report_sound, seams_are}
 use Rattle.drain_window.proofs.answered.answered.Goals as goal
 
-pub returns-in-Sound : goal.returns-in-Sound
-returns-in-Sound c = λ nodata g ps placed some walked listed sinks.
+pub returns-in-Sound-clause-answer : goal.returns-in-Sound-clause-answer
+returns-in-Sound-clause-answer c = λ nodata g ps placed some walked listed sinks.
     let judges = c.walk_judges_window.ensures in
     let lists = c.walk_lists_seams.ensures in
     let p = c.args.place.now in
@@ -36,8 +36,8 @@ returns-in-Sound c = λ nodata g ps placed some walked listed sinks.
       );
     }
 
-pub returns-in-Faulty : goal.returns-in-Faulty
-returns-in-Faulty c = λ nodata g ps placed some walked listed sinks.
+pub returns-in-Faulty-clause-answer : goal.returns-in-Faulty-clause-answer
+returns-in-Faulty-clause-answer c = λ nodata g ps placed some walked listed sinks.
     let judges = c.walk_judges_window.ensures in
     let lists = c.walk_lists_seams.ensures in
     let p = c.args.place.now in

@@ -49,7 +49,7 @@ returns-in-Some-clause-answer g c = λ inputs tell.
       answer,
       subst (λ (o : Cell). IsAnswerOn (nodata_numbers inputs) o c.args.place.now (input_grid inputs) (input_products inputs) c.in-Some.answer.0 c.in-Some.answer.1)
           (c.map_origin-origin.ensures.origin ∙ ap map_origin is)
-          (c.in-Some.ensures (nodata_numbers inputs) (input_grid inputs) (input_products inputs) placed some noted.1 noted.0 listed),
+          (c.in-Some.ensures.answer (nodata_numbers inputs) (input_grid inputs) (input_products inputs) placed some noted.1 noted.0 listed),
     )
 
 pub returns-in-Some-clause-uses : goal.returns-in-Some-clause-uses

@@ -8,7 +8,7 @@ use Rattle.drain_verdict.proofs.Uses.{uses_none}
 use Rattle.drain_windows.specs.Windows.{IsPlaceIn}
 use Rattle.drain_verdict.proofs.AuditDevices.{failed_alike}
 use Rattle.drain_window.proofs.WindowUses.{used_again, with_tiles_uses}
-use Rattle.drain_window.proofs.WindowVerdicts.{outside_reads_none, with_tiles_answer}
+use Rattle.drain_window.proofs.WindowVerdicts.{outside_reads_none, with_tiles_agree, with_tiles_answer}
 use Rattle.drain_window.proofs.judge.answer_in.Goals as goal
 
 pub returns-then-not-lies_in-clause-answer : goal.returns-then-not-lies_in-clause-answer
@@ -40,3 +40,7 @@ pub returns-in-Err-clause-uses : goal.returns-in-Err-clause-uses
 returns-in-Err-clause-uses g c =
     used_again g.R.ByteSource.bytes_left g.R.ByteSource.counts c.args.layout.now.side (c.args.tiles.now, c.args.products.now) (c.answer_at.new.tiles, c.answer_at.new.products)
     (Err c.in-Err.refusal) (Err c.in-Err.refusal) (failed_alike c.in-Err.refusal) c.in-Err.ensures.uses.untouched c.in-Err.ensures.uses
+
+pub returns-in-Ok-clause-agree : goal.returns-in-Ok-clause-agree
+returns-in-Ok-clause-agree g c =
+    with_tiles_agree c.args.layout.now c.in-Ok.verdict c.in-Ok.report c.with_tiles.result c.with_tiles.ensures c.in-Ok.ensures.agree
