@@ -6,6 +6,7 @@ DRAIN in the environment names the program.
 import os
 import shutil
 import struct
+import subprocess
 import unittest
 
 from judged_union import UnionCase, judged, right
@@ -76,6 +77,28 @@ class Reports(UnionCase):
         run("window", "--side", SIDE, "--products", self.folder / "made", "--box", box, "--report", report, tile)
         self.assertEqual(run("merge", *judged.reports()[1:], report), "refused OutsideUnion 24")
         self.assertEqual(run("merge", report), run("audit", "--side", SIDE, "--products", self.folder / "made", tile))
+
+    def test_a_report_named_as_a_product(self) -> None:
+        """A later run would take it for that product: a usage error, by any way to the folder."""
+        tile = right.folder / f"tiles/{corner(1, 1)}.hgt"
+        made = self.folder / "made"
+        made.mkdir()
+        run("make", "--side", SIDE, "--out", made, tile)
+        ranks = [made / f"rnk.{ending}" for ending in ("hdr", "bil")]
+        for path in ranks:
+            path.unlink(missing_ok=True)
+        (self.folder / "linked").symlink_to("made")
+        box = f"0,0,{SIDE},{SIDE}"
+        words = ["window", "--side", str(SIDE), "--products", made, "--box", box, tile, "--report"]
+        for report in [*ranks, self.folder / "linked/rnk.bil", made / "../made/rnk.hdr"]:
+            with self.subTest(report):
+                done = subprocess.run([os.environ["DRAIN"], *words, report], capture_output=True, text=True, check=False)
+                self.assertEqual((done.returncode, done.stdout), (2, ""))
+                self.assertIn("would be taken for a product", done.stderr)
+                self.assertFalse(report.exists())
+        for report in [self.folder / "rnk.bil", made / "report.bil", made / "rnk"]:
+            with self.subTest(report):
+                self.assertEqual(run(*words, report), run("audit", "--side", SIDE, "--products", made, tile))
 
     def test_no_reports(self) -> None:
         self.assertEqual(run("merge"), "refused NoReports")

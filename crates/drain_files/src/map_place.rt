@@ -67,8 +67,12 @@ fn clash_of(targets: &[Target], place: usize, inputs: &[FileId]) -> MapClash {
     }
 }
 
-/// Whether the map has the name of a product and lies in this folder.
-fn is_named_as_product(rt: &HostRuntime, products: &str, stem: &str) -> Result<bool, OpenFault> {
+/// Whether a file with this path before its ending has the name of a product and lies in this folder.
+pub fn is_named_as_product(
+    rt: &HostRuntime,
+    products: &str,
+    stem: &str,
+) -> Result<bool, OpenFault> {
     if !is_product_name(tile_name(stem.as_bytes())) {
         return Ok(false);
     }

@@ -1,12 +1,14 @@
 //! Judging one window of a union from files, and writing its report.
 
-ghost use Rattle.std.specs.Prelude.{◌≡◌, IfOk, length, vec_len};
+ghost use Rattle.std.specs.Prelude.{◌≡◌, ◌++◌, ◌⊎◌, IfOk, IfSome, length, vec_len};
+ghost use Rattle.drain_files.specs.FilePaths.{header_ending, raster_ending};
 
 use crate::judge_run::judge_or_print;
 use crate::report_output::report_and_print;
 use drain_args::requests::WindowArgs;
 use drain_device::{BodyFault, ByteSink, write_nothing};
 use drain_files::file_id::FileId;
+use drain_files::map_place::is_named_as_product;
 use drain_files::open_failure::print_open_fault;
 use drain_files::open_files::Opener;
 use drain_files::open_judged::{OpenFiles, open_audited};
@@ -46,7 +48,8 @@ fn report_path(alloc: Global, path: &str) -> Result<Vec<String>, AllocError>
 }
 
 /// What is to be reported of the window of these files, which are closed again; or it prints why there is nothing, and
-/// returns the exit status. A report at the path of an input is a usage error.
+/// returns the exit status. A report at the path of an input is a usage error, and so is one with the name of a product's
+/// file in the folder of the products, which a later run would take for that product.
 fn judged_files<'a>(
     opener: &mut Opener<'_>,
     args: &WindowArgs<'_>,
@@ -60,6 +63,9 @@ fn judged_files<'a>(
         mut products,
         sinks,
     } = inputs_or_print(opener, opened, "the report", report, out)?;
+    if let Some(status) = refused_name(opener.rt(), args, out) {
+        return Err(status);
+    }
     judge_or_print(
         opener.alloc(),
         args.inputs.side,
@@ -69,6 +75,31 @@ fn judged_files<'a>(
         &args.place,
         out,
     )
+}
+
+/// If the report has the name of a product's file in the folder of the products, prints the usage error, and returns the
+/// exit status.
+fn refused_name(rt: &HostRuntime, args: &WindowArgs<'_>, out: &mut impl ByteSink) -> Option<u8> {
+    let stem = product_stem(args.report)?;
+    match is_named_as_product(rt, args.inputs.folder, stem) {
+        Ok(false) => None,
+        Ok(true) => {
+            let path = args.report;
+            let _ = eprintln!(rt; "error: the report would be taken for a product: {path}");
+            Some(Status::Refused.code())
+        }
+        Err(fault) => Some(print_open_fault(rt, fault, out)),
+    }
+}
+
+/// The part of a path before the ending of a product's file, none if it ends otherwise.
+fn product_stem(path: &str) -> Option<&str>
+    ensures { IfSome result (λ stem. (path.now ≡ stem.now ++ raster_ending) ⊎ (path.now ≡ stem.now ++ header_ending)) }
+{
+    if let Some(stem) = path.strip_suffix(".bil") {
+        return Some(stem);
+    }
+    path.strip_suffix(".hdr")
 }
 
 /// Creates the file at this path and writes the report, and returns the exit status.
