@@ -28,7 +28,7 @@ judge() {
             if (!shown[test]++) printf "FAILED %s: %s: %s\n%s", crate, test, why, text
         }
         function forget() { told = 0; text = "" }
-        BEGIN { goes_by_lanes = crate ~ /^(rules|verdict|window|maker|cli)_tests$/ }
+        BEGIN { goes_by_lanes = crate ~ /^(rules|verdict|union|maker|cli)_tests$/ }
         /^== test / { test = $3; tests++; forget(); next }
         /^== ended / {
             if ($3 != 0) fails("its own run ended with status " $3)

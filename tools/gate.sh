@@ -48,4 +48,4 @@ if [ -f build/drain.o ] && command -v gcc >/dev/null; then
     tools/static_program.sh build/drain build/drain.o build/drain-static
     time tests/program/run.sh build/drain-static
 fi
-time tests/refused_memory.sh byte_tests cell_tests rules_tests page_tests merge_tests report_tests verdict_tests window_tests maker_tests cli_tests
+time tests/refused_memory.sh byte_tests cell_tests rules_tests page_tests verdict_tests union_tests maker_tests cli_tests

@@ -165,9 +165,9 @@ def report(row: int, col: int) -> str:
         if (down, across) in near:
             seams.append(f"seam {place} {LEVEL} 0 {LEVEL} {code} {count} {label} 0 {LEVEL}\n")
     return (
-        f"drain-window-report 1\nside {REPORTS_SIDE}\n"
+        f"drain-window-report 2\nside {REPORTS_SIDE}\n"
         f"window {top + row} {left + col} 3 3 {north:d} {south:d} {west:d} {east:d}\n"
-        f"nodata -32768 255 0 0 255 -32768\naccepted 3 3 {9 - len(unjudged)} 0 {len(outlets)}\n"
+        f"nodata -32768 255 0 0\naccepted 3 3 {9 - len(unjudged)} 0 {len(outlets)}\n"
         f"tiles 1\ntile {TILE}\nsinks 0\noutlets {len(outlets)}\n{''.join(outlets)}"
         f"seams {len(seams)}\n{''.join(seams)}end\n"
     )

@@ -1,8 +1,8 @@
 //! The lines of windows.
 
 use crate::agree::same_line;
-use crate::inputs::{Inputs, LEVEL_TILES, right_slope};
-use crate::places::{Window, answer};
+use crate::window_inputs::{Inputs, LEVEL_TILES, right_slope};
+use crate::window_places::{Window, answer};
 use drain_window::window_line;
 use std::alloc::Global;
 use std::process::Abort;

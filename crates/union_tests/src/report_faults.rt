@@ -1,6 +1,6 @@
 //! The fault of a text that is no report.
 
-use crate::texts::{changed_text, text};
+use crate::report_texts::{changed_text, text};
 use drain_report::{ReportFault, read_report};
 use std::alloc::Global;
 use std::test::Fail;

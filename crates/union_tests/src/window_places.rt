@@ -1,6 +1,6 @@
 //! Where windows lie, and the answers to them.
 
-use crate::inputs::Inputs;
+use crate::window_inputs::Inputs;
 use drain_grid::Shape;
 use drain_window::{WindowRefusal, judge_window};
 use drain_windows::{InnerSides, Place, WindowReport};

@@ -1,7 +1,7 @@
 //! The line of each answer.
 
 use crate::agree::same_line;
-use crate::answers::verdict_line;
+use crate::merge_answers::verdict_line;
 use drain_grid::{Cell, Rule};
 use drain_merge::{Clash, Fault, MergeRefusal, MergeVerdict, UnionCounts, merge_line};
 

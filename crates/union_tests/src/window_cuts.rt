@@ -1,8 +1,8 @@
 //! Two windows of changed products beside an audit of the whole: the same answer.
 
 use crate::agree::same;
-use crate::inputs::{Inputs, Slope, right_slope};
-use crate::places::{Window, answer};
+use crate::window_inputs::{Inputs, Slope, right_slope};
+use crate::window_places::{Window, answer};
 use drain_answer::AuditVerdict;
 use drain_verdict::audit;
 use drain_windows::{Outlet, first_shared, sort_by_label};

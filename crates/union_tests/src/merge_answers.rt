@@ -1,7 +1,7 @@
 //! The lines of merges of windows.
 
 use crate::agree::same_box;
-use crate::windows::{SIZE, Window, reports};
+use crate::merged_windows::{SIZE, Window, reports};
 use drain_answer::line::Line;
 use drain_grid::{Cell, parse_sinks};
 use drain_merge::{

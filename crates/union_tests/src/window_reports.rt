@@ -1,8 +1,8 @@
 //! What is handed over of a window. Its cells are those of a map that begins at 90 degrees north and 180 degrees west.
 
 use crate::agree::same;
-use crate::inputs::{Inputs, LEVEL_TILES, WITH_NODATA, right_slope};
-use crate::places::{Window, answer, place};
+use crate::window_inputs::{Inputs, LEVEL_TILES, WITH_NODATA, right_slope};
+use crate::window_places::{Window, answer, place};
 use drain_grid::Cell;
 use drain_windows::{AuditNoData, Outlet, WindowReport};
 use std::process::Abort;

@@ -1,8 +1,8 @@
 //! Verdicts and refusals of a union of four windows.
 
 use crate::agree::same_line;
-use crate::answers::{FIRST, merged, merged_on_map};
-use crate::windows::{COLUMN, NE, NW, REST, RINGS, SE, SIZE, SW, WHOLE, Window};
+use crate::merge_answers::{FIRST, merged, merged_on_map};
+use crate::merged_windows::{COLUMN, NE, NW, REST, RINGS, SE, SIZE, SW, WHOLE, Window};
 use drain_grid::Cell;
 use drain_merge::{UnionSinks, UnionSize};
 use std::test::Fail;

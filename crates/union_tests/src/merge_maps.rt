@@ -1,8 +1,8 @@
 //! What a merge on a map refuses beside what a merge refuses: other sides, and other sinks than the union has.
 
 use crate::agree::same_line;
-use crate::answers::{FIRST, listed, merged_on_map};
-use crate::windows::{NE, NW, SE, SW, WHOLE, Window};
+use crate::merge_answers::{FIRST, listed, merged_on_map};
+use crate::merged_windows::{NE, NW, SE, SW, WHOLE, Window};
 use drain_grid::Cell;
 use drain_merge::UnionSinks;
 use std::test::Fail;

@@ -1,6 +1,6 @@
 //! Texts that are read and written again.
 
-use crate::texts::text;
+use crate::report_texts::text;
 use drain_grid::{Cell, Rule};
 use drain_report::{read_report, write_report};
 use drain_rules::Verdict;
