@@ -21,7 +21,7 @@ pub struct Window {
     /// The side of its tiles.
     pub side: u32,
     /// The no-data numbers of its conditioned elevations, and of ranks.
-    pub nodata: (i64, i64),
+    pub nodata: (i16, i16),
     /// Its first row and its first column.
     pub first: (u32, u32),
     /// How many rows and columns it has.
@@ -171,12 +171,10 @@ impl Window {
     }
 
     fn nodata(&self) -> AuditNoData {
-        let (con, rnk) = self.nodata;
-        AuditNoData::of(NoData {
-            con,
-            rnk,
-            ..NoData::defaults()
-        })
+        let mut nodata = NoData::defaults();
+        nodata.con = i64::from(self.nodata.0);
+        nodata.rnk = i64::from(self.nodata.1);
+        AuditNoData::of(nodata)
     }
 
     fn accepted(&self, alloc: Global, origin: Cell, place: Place) -> Result<Report, Fail> {
