@@ -13,6 +13,7 @@ from osgeo import gdal, gdal_array
 
 from .drivers import DRIVERS, open_dataset
 from .errors import CannotImport
+
 from .places import (
     MOST_SHIFT, cells_between, check_place, check_same_system, moved_place, shift_in_pixels, wkt_of,
 )  # fmt: skip

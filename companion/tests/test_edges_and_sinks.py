@@ -88,7 +88,9 @@ class Edges(unittest.TestCase):
         verdict = drain_gis.audit(**self.world.given("con", "dir"), bas=bas, codes="esri")
         self.assertFalse(verdict)
         self.assertTrue(any("--nodata bas=1000000 does" in note for note in verdict.notes), verdict.notes)
-        self.assertTrue(drain_gis.audit(**self.world.given("con", "dir"), bas=bas, nodata={"bas": 10**6}, codes="esri"))
+        self.assertTrue(
+            drain_gis.audit(**self.world.given("con", "dir"), bas=bas, nodata={"bas": 10**6}, codes="esri")
+        )
 
 
 class Sinks(unittest.TestCase):

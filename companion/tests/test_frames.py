@@ -93,9 +93,7 @@ class Padding(unittest.TestCase):
             if case > 8:  # codes along the raster's own edge
                 world.dir[-1], world.dir[:, -1] = 4, 1
             given = world.given("con", "dir", "acc", "bas")
-            seen = {
-                self.answer(given, lambda r, c, f=frame: Frame(r, c, *f)) for frame in FRAMES
-            }
+            seen = {self.answer(given, lambda r, c, f=frame: Frame(r, c, *f)) for frame in FRAMES}
             self.assertEqual(len(seen), 1, case)
             if case <= 2:
                 self.assertTrue(next(iter(seen))[0], case)

@@ -92,7 +92,9 @@ class Reports(UnionCase):
         words = ["window", "--side", str(SIDE), "--products", made, "--box", box, tile, "--report"]
         for report in [*ranks, self.folder / "linked/rnk.bil", made / "../made/rnk.hdr"]:
             with self.subTest(report):
-                done = subprocess.run([os.environ["DRAIN"], *words, report], capture_output=True, text=True, check=False)
+                done = subprocess.run(
+                    [os.environ["DRAIN"], *words, report], capture_output=True, text=True, check=False
+                )
                 self.assertEqual((done.returncode, done.stdout), (2, ""))
                 self.assertIn("would be taken for a product", done.stderr)
                 self.assertFalse(report.exists())

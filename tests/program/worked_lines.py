@@ -199,7 +199,7 @@ REJECTED = [
 ]
 
 # A hair within each tolerance and a hair beyond it; lengths; what comes first.
-NEAR = 'ULXMAP 7.000001\nULYMAP -0.000001\nXDIM 0.500000001\nYDIM 0.499999999\n'
+NEAR = "ULXMAP 7.000001\nULYMAP -0.000001\nXDIM 0.500000001\nYDIM 0.499999999\n"
 HEADERS = [
     (SOUTH, PIT_LINE),
     (SOUTH.headed(con=f"NROWS 3\nNCOLS 3\n{NEAR}"), PIT_LINE),
@@ -341,7 +341,11 @@ FILLED = [
     (3602, fill_input(3), "refused BadSide"),
     (3, struct.pack(">9h", *[VOID] * 9) + bytes(63), "accepted rows=3 cols=3 data=0 raised=0"),
     # A cell of height 3 within nines needs a way out: through a void beside it, or over a spill parent.
-    (5, struct.pack(">25h", *NINES[:12], VOID, *NINES[13:]) * 2 + bytes(125), "accepted rows=5 cols=5 data=24 raised=0"),
+    (
+        5,
+        struct.pack(">25h", *NINES[:12], VOID, *NINES[13:]) * 2 + bytes(125),
+        "accepted rows=5 cols=5 data=24 raised=0",
+    ),
     (5, struct.pack(">25h", *NINES) * 2 + bytes(125), "rejected rule=6 NoSpill row=1 col=1"),
 ]
 
