@@ -100,11 +100,16 @@ pub const WITH_NODATA: &str =
 impl Slope {
     /// The inputs, with this list of sinks.
     pub fn listing<'a>(&'a self, sinks: &'a str) -> Inputs<'a> {
+        self.headed(SLOPE_HEADERS.0, sinks)
+    }
+
+    /// The inputs, with this header of con and this list of sinks.
+    pub fn headed<'a>(&'a self, con_header: &'a str, sinks: &'a str) -> Inputs<'a> {
         Inputs {
             side: 4,
             names: &["N00E000.hgt"],
             samples: &self.tile,
-            headers: SLOPE_HEADERS,
+            headers: (con_header, SLOPE_HEADERS.1),
             con: &self.con,
             dir: &self.dir,
             acc: &self.acc,

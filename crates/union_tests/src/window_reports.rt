@@ -119,19 +119,20 @@ const NODATA: AuditNoData = AuditNoData {
     bas: 0,
 };
 
+/// Fails the test if a window has other no-data numbers.
+fn same_nodata(rt: &impl Abort, given: &WindowReport) {
+    same(rt, "no-data numbers", given.report.nodata, NODATA);
+}
+
 /// A header without the line has the default number, so the reports are those of one union.
 #[test]
 fn no_data_numbers(rt: HostRuntime) -> Result<(), Fail> {
     let right = right_slope();
-    let without = right.listing("");
-    let with = Inputs {
-        headers: (WITH_NODATA, without.headers.1),
-        ..without
-    };
-    for inputs in [without, with] {
-        let given = answer(rt.alloc(), &inputs, (0, 0, 3, 4, "s"))??;
-        same(&rt, "no-data numbers", given.report.nodata, NODATA);
-    }
+    let window = (0, 0, 3, 4, "s");
+    let without = answer(rt.alloc(), &right.listing(""), window)??;
+    same_nodata(&rt, &without);
+    let with = answer(rt.alloc(), &right.headed(WITH_NODATA, ""), window)??;
+    same_nodata(&rt, &with);
     Ok(())
 }
 
