@@ -7,6 +7,7 @@ pub mod Extent
 pub mod Grid
 pub mod GridRules
 pub mod SetProduct
+pub mod Judged
 pub mod Laws
 pub mod LineNumbers
 pub mod Numbers
@@ -19,6 +20,7 @@ pub mod PerProduct
 pub mod Product
 pub mod Rasters
 pub mod Rule
+pub mod RulesAbout
 pub mod Run
 pub mod SinkLines
 pub mod SinkTexts

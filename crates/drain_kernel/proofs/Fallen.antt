@@ -10,13 +10,13 @@ use Rattle.drain_grid.specs.Patch.{HasLower}
 use Rattle.drain_grid.specs.PatchRules.{LabelHolds}
 use Rattle.drain_grid.specs.Slope.{IsSteepest}
 use Rattle.drain_kernel.specs.declared.lane_rows.LaneRows.{LaneRows}
-use Rattle.drain_kernel.specs.declared.rules.Rules.{Rules}
-use Rattle.drain_kernel.specs.declared.rules.Sums.{Sums}
-use Rattle.drain_kernel.specs.Checked.{IfChecked}
+use Rattle.drain_grid.specs.declared.judged.Rules.{Rules}
+use Rattle.drain_grid.specs.Judged.{IfJudged, has_acc, has_rnk}
 use Rattle.drain_kernel.specs.Falls.{FallsAt, keeps_fall}
 use Rattle.drain_kernel.specs.Kept.{IsKept}
 use Rattle.drain_kernel.specs.LaneRows.{HaveRanks, IsShownRoundIn}
-use Rattle.drain_kernel.specs.Rules.{tested, tried}
+use Rattle.drain_grid.specs.RulesAbout.{tried}
+use Rattle.drain_kernel.proofs.ClearedRules.{cleared}
 use Rattle.drain_kernel.proofs.Inland.{le_from, no_void, some_height}
 use Rattle.drain_kernel.proofs.Meaning.{are_complete, no_outlet, not_zero}
 use Rattle.drain_kernel.proofs.NamedNumbers.{named_is, names_some}
@@ -53,9 +53,9 @@ of_fall here n around seen h =
     }
 
 -- so at a column where the tests pass
-pub is_kept_there : (rules : Rules) (sums : Sums) (rows : LaneRows) (k : ℕ) (p : Patch) → IsShownRoundIn rows k p →
-    IfChecked rules.ranks (HaveRanks rows) → FallsAt rules sums rows k → IsKept (tested sums (tried rules)) p
-is_kept_there rules sums rows k p shown have passes =
+pub is_kept_there : (rules : Rules) (rows : LaneRows) (k : ℕ) (p : Patch) → IsShownRoundIn rows k p →
+    IfJudged (has_rnk rules.judged) (HaveRanks rows) → FallsAt rules rows k → IsKept (tried rules) p
+is_kept_there rules rows k p shown have passes =
     let above = rows.above.now in
     let here = rows.here.now in
     let below = rows.below.now in
@@ -73,11 +73,12 @@ is_kept_there rules sums rows k p shown have passes =
       label = fall.label;
       complete = are_complete rules.nodata here k passes.has_way passes.has_counts;
     } in
-    let sum = if_tested sums _ _ (sum_from above here below k p shown) passes.sum in
-    let rank = rank_from rules.ranks rules.nodata rows k p.here shown.cell fall.has_data have passes.rank in
+    let sum = if_tested (has_acc rules.judged) _ _ (sum_from above here below k p shown) passes.sum in
+    let rank = rank_from (has_rnk rules.judged) rules.nodata rows k p.here shown.cell fall.has_data have passes.rank in
     let same : p ≡ patch_of at p.around = λ i. record { here = values_are here k p.here shown.cell fall.has_data i; around = p.around } in
-    subst (IsKept (tested sums (tried rules))) (sym same) (record {
-      holds = λ r own. keeps_rules rules.nodata at p.around sound rules.ranks sums sum rank r;
+    subst (IsKept (tried rules)) (sym same) (record {
+      holds = cleared rules.judged rules.nodata (patch_of at p.around)
+          (λ r own. keeps_rules rules.nodata at p.around sound (has_rnk rules.judged) (has_acc rules.judged) sum rank r);
       has_data = ap is_some here_is;
       no_outlet = not_zero at.dir (code_of fall.way.0) fall.way.1 (no_outlet fall.way.0);
     })

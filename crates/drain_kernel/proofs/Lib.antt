@@ -8,6 +8,7 @@ pub mod CappedRanks
 pub mod RankHalves
 pub mod Labels
 pub mod Summed
+pub mod ClearedRules
 pub mod PassedOn
 pub mod Counting
 pub mod Numbers

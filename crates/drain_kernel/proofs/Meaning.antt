@@ -1,5 +1,5 @@
 -- A cell whose numbers pass every test is kept.
-use Rattle.std.proofs.Common.{◌≡◌, ◌≢◌, ℕ, pos, true, ◌==◌, map, List, Option, slice_index, IsNone, is_some, inr, sym, ◌∙◌, ap, subst}
+use Rattle.std.proofs.Common.{◌≡◌, ◌≢◌, ℕ, pos, true, ◌==◌, map, List, Option, slice_index, IsNone, is_some, inr, sym, ◌∙◌, ap, subst, Bool, false}
 use Rattle.std.proofs.lemmas.Bool.{false≢true}
 use Rattle.std.proofs.lemmas.Bool.Decides.{Decides-eqb}
 use Rattle.drain_grid.specs.declared.direction.Direction.{Direction}
@@ -16,15 +16,14 @@ use Rattle.drain_grid.specs.PatchRules.{AccumulationHolds, LabelHolds, inflow, c
 use Rattle.drain_grid.specs.Unranked.{unranked}
 use Rattle.drain_kernel.specs.declared.lane_rows.LaneRows.{LaneRows}
 use Rattle.drain_kernel.specs.declared.lanes.Lanes.{Lanes}
-use Rattle.drain_kernel.specs.declared.rules.Ranks.{Ranks}
-use Rattle.drain_kernel.specs.declared.rules.Ranks.TheVariants.{Checked, Ignored}
-use Rattle.drain_kernel.specs.declared.rules.Rules.{Rules}
-use Rattle.drain_kernel.specs.declared.rules.Sums.{Sums}
-use Rattle.drain_kernel.specs.Checked.{IfChecked, IfTested}
+use Rattle.drain_grid.specs.declared.judged.Rules.{Rules}
+use Rattle.drain_grid.specs.Judged.{IfJudged, has_acc, has_rnk}
 use Rattle.drain_kernel.specs.Columns.{HasCountsAt, HasWayAt, IsInlandAt, PassesAt, RanksPassAt}
 use Rattle.drain_kernel.specs.Kept.{IsKept}
 use Rattle.drain_kernel.specs.LaneRows.{HaveRanks, IsShownIn}
-use Rattle.drain_kernel.specs.Rules.{rules_with, tested, tried, without_sums}
+use Rattle.drain_grid.specs.RulesAbout.{tried}
+use Rattle.drain_kernel.proofs.ClearedRules.{cleared}
+use Rattle.drain_kernel.specs.Rules.{rules_with, tested, without_sums}
 use Rattle.drain_kernel.specs.Shown.{lowered, height_of, HasDataAt, HasRanks, row_beside, col_beside}
 use Rattle.drain_kernel.specs.Tests.{adds_up}
 use Rattle.drain_kernel.proofs.Inland.{IsInland, inland_from, of_each, not_open, OfSurface, of_surface}
@@ -119,12 +118,12 @@ of_check nodata here n around passed ranked Accumulation = tt
 of_check nodata here n around passed ranked Label = passed.label
 of_check nodata here n around passed ranked SharedLabel = tt
 
-of_rules : (ranks : Ranks) (sums : Sums) (nodata : NoDataNumbers) (here : Numbers) (n : Direction → Numbers) (around : List (Option Values)) →
-    Passed nodata here n around → IfTested sums (AccumulationHolds (patch_of here around)) → IfChecked ranks (Ranked nodata here n) →
+of_rules : (ranks : Bool) (sums : Bool) (nodata : NoDataNumbers) (here : Numbers) (n : Direction → Numbers) (around : List (Option Values)) →
+    Passed nodata here n around → IfJudged sums (AccumulationHolds (patch_of here around)) → IfJudged ranks (Ranked nodata here n) →
     (r : Rule) → tested sums (rules_with ranks nodata) (patch_of here around) r
-of_rules Checked sums nodata here n around passed sum ranked =
+of_rules true sums nodata here n around passed sum ranked =
     summed sums (check_rules nodata) (patch_of here around) sum (of_check nodata here n around passed ranked)
-of_rules Ignored sums nodata here n around passed sum ranked =
+of_rules false sums nodata here n around passed sum ranked =
     summed sums (unranked nodata) (patch_of here around) sum (of_unranked nodata here n around passed)
 
 -- no direction's code is that of an outlet
@@ -146,11 +145,11 @@ not_zero code d is differs h = differs (same_natural d 0 (sym is ∙ h))
     same_natural a b e = cc
 
 -- where ranks are checked, they were taken, and their tests give what is required of the numbers
-ranks_from : (ranks : Ranks) (nodata : NoDataNumbers) (rows : LaneRows) (k : ℕ) (p : Patch) (shown : IsShownIn rows k p) →
-    HaveDataAt rows.above.now rows.here.now rows.below.now k → IfChecked ranks (HaveRanks rows) → IfChecked ranks (RanksPassAt nodata rows k) →
-    IfChecked ranks (Ranked nodata (numbers_in rows.here.now k p.here) (numbers_beside rows.above.now rows.here.now rows.below.now k p shown))
-ranks_from Ignored nodata rows k p shown known have passes = tt
-ranks_from Checked nodata rows k p shown known have passes =
+ranks_from : (ranks : Bool) (nodata : NoDataNumbers) (rows : LaneRows) (k : ℕ) (p : Patch) (shown : IsShownIn rows k p) →
+    HaveDataAt rows.above.now rows.here.now rows.below.now k → IfJudged ranks (HaveRanks rows) → IfJudged ranks (RanksPassAt nodata rows k) →
+    IfJudged ranks (Ranked nodata (numbers_in rows.here.now k p.here) (numbers_beside rows.above.now rows.here.now rows.below.now k p shown))
+ranks_from false nodata rows k p shown known have passes = tt
+ranks_from true nodata rows k p shown known have passes =
     let above = rows.above.now in
     let here = rows.here.now in
     let below = rows.below.now in
@@ -165,9 +164,9 @@ ranks_from Checked nodata rows k p shown known have passes =
     }
 
 -- so at a column of three rows where all tests pass
-pub is_kept : (rules : Rules) (sums : Sums) (rows : LaneRows) (k : ℕ) (p : Patch) → IsShownIn rows k p →
-    IfChecked rules.ranks (HaveRanks rows) → PassesAt rules sums rows k → IsKept (tested sums (tried rules)) p
-is_kept rules sums rows k p shown have passes =
+pub is_kept : (rules : Rules) (rows : LaneRows) (k : ℕ) (p : Patch) → IsShownIn rows k p →
+    IfJudged (has_rnk rules.judged) (HaveRanks rows) → PassesAt rules rows k → IsKept (tried rules) p
+is_kept rules rows k p shown have passes =
     let above = rows.above.now in
     let here = rows.here.now in
     let below = rows.below.now in
@@ -184,10 +183,11 @@ is_kept rules sums rows k p shown have passes =
       label = of_label at n p.around known passes.label;
       complete = are_complete rules.nodata here k passes.has_way passes.has_counts;
     } in
-    let sum = if_tested sums _ _ (of_sum at n p.around known) passes.accumulation in
-    let ranked = ranks_from rules.ranks rules.nodata rows k p shown nine have passes.ranks in
-    subst (IsKept (tested sums (tried rules))) (sym (patch_is above here below k p shown nine.here_has)) (record {
-      holds = λ r own. of_rules rules.ranks sums rules.nodata at n p.around passed sum ranked r;
+    let sum = if_tested (has_acc rules.judged) _ _ (of_sum at n p.around known) passes.accumulation in
+    let ranked = ranks_from (has_rnk rules.judged) rules.nodata rows k p shown nine have passes.ranks in
+    subst (IsKept (tried rules)) (sym (patch_is above here below k p shown nine.here_has)) (record {
+      holds = cleared rules.judged rules.nodata (patch_of at p.around)
+          (λ r own. of_rules (has_rnk rules.judged) (has_acc rules.judged) rules.nodata at n p.around passed sum ranked r);
       has_data = ap is_some known.here_is;
       no_outlet = not_zero at.dir (code_of direction.named.0) direction.named.1 (no_outlet direction.named.0);
     })

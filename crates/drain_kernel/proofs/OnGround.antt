@@ -1,5 +1,5 @@
 -- A cell that lies on its ground keeps every rule, by these facts of its code and its label, whatever lies beside it.
-use Rattle.std.proofs.Common.{◌≡◌, ◌≢◌, ℕ, ℤ, pos, ◌≤ℤ◌, List, Option, Some, IsNone, unwrap_or, sym, ◌∙◌, ap, subst, arith}
+use Rattle.std.proofs.Common.{◌≡◌, ◌≢◌, ℕ, ℤ, pos, ◌≤ℤ◌, List, Option, Some, IsNone, unwrap_or, sym, ◌∙◌, ap, subst, arith, Bool, true, false}
 use Rattle.std.specs.Int.{int_max}
 use Rattle.std.proofs.lemmas.Bool.{false≢true}
 use Rattle.std.proofs.lemmas.Int.{ints, clamps}
@@ -12,10 +12,7 @@ use Rattle.drain_grid.specs.Patch.{height, HasLower, IsClosed}
 use Rattle.drain_grid.specs.PatchRules.{AccumulationHolds, LabelHolds, OutletCodeHolds, SlopeHolds, check_rules}
 use Rattle.drain_grid.specs.Unranked.{unranked}
 use Rattle.drain_kernel.specs.declared.lane_rows.LaneRows.{LaneRows}
-use Rattle.drain_kernel.specs.declared.rules.Ranks.{Ranks}
-use Rattle.drain_kernel.specs.declared.rules.Ranks.TheVariants.{Checked, Ignored}
-use Rattle.drain_kernel.specs.declared.rules.Sums.{Sums}
-use Rattle.drain_kernel.specs.Checked.{IfChecked, IfTested}
+use Rattle.drain_grid.specs.Judged.{IfJudged}
 use Rattle.drain_kernel.specs.Columns.{HasRankAt}
 use Rattle.drain_kernel.specs.LaneRows.{HaveRanks}
 use Rattle.drain_kernel.specs.Rules.{rules_with, tested, without_sums}
@@ -89,13 +86,13 @@ module _ (nodata : NoDataNumbers) (here : Numbers) (around : List (Option Values
   keeps_check rank Label = keeps_unranked Label
   keeps_check rank SharedLabel = tt
 
-  pub keeps_rules : (ranks : Ranks) (sums : Sums) → IfTested sums (AccumulationHolds it) → IfChecked ranks (here.rnk ≢ nodata.rnk) →
+  pub keeps_rules : (ranks : Bool) (sums : Bool) → IfJudged sums (AccumulationHolds it) → IfJudged ranks (here.rnk ≢ nodata.rnk) →
       (r : Rule) → tested sums (rules_with ranks nodata) it r
-  keeps_rules Checked sums sum rank = summed sums (check_rules nodata) it sum (keeps_check rank)
-  keeps_rules Ignored sums sum rank = summed sums (unranked nodata) it sum keeps_unranked
+  keeps_rules true sums sum rank = summed sums (check_rules nodata) it sum (keeps_check rank)
+  keeps_rules false sums sum rank = summed sums (unranked nodata) it sum keeps_unranked
 
 -- the rank of the cell
-pub rank_from : (ranks : Ranks) (nodata : NoDataNumbers) (rows : LaneRows) (k : ℕ) (v : Values) → Shows rows.here.now k v → HasDataAt rows.here.now k →
-    IfChecked ranks (HaveRanks rows) → IfChecked ranks (HasRankAt nodata rows.here.now k) → IfChecked ranks (v.rnk ≢ nodata.rnk)
-rank_from Ignored nodata rows k v s there have differs = tt
-rank_from Checked nodata rows k v s there have differs = subst (λ r. r ≢ nodata.rnk) (sym (s.rnk_is have.here_has there)) differs
+pub rank_from : (ranks : Bool) (nodata : NoDataNumbers) (rows : LaneRows) (k : ℕ) (v : Values) → Shows rows.here.now k v → HasDataAt rows.here.now k →
+    IfJudged ranks (HaveRanks rows) → IfJudged ranks (HasRankAt nodata rows.here.now k) → IfJudged ranks (v.rnk ≢ nodata.rnk)
+rank_from false nodata rows k v s there have differs = tt
+rank_from true nodata rows k v s there have differs = subst (λ r. r ≢ nodata.rnk) (sym (s.rnk_is have.here_has there)) differs

@@ -10,11 +10,12 @@ use Rattle.drain_grid.specs.Values.{Values}
 use Rattle.drain_grid.specs.Patch.{HasLower, IsOpen}
 use Rattle.drain_kernel.specs.declared.lane_rows.LaneRows.{LaneRows}
 use Rattle.drain_kernel.specs.declared.lanes.Lanes.{Lanes}
-use Rattle.drain_kernel.specs.declared.rules.Rules.{Rules}
-use Rattle.drain_kernel.specs.declared.rules.Sums.TheVariants.{Tested}
-use Rattle.drain_kernel.specs.Checked.{IfChecked}
+use Rattle.drain_grid.specs.declared.judged.Rules.{Rules}
+use Rattle.drain_grid.specs.Judged.{IfJudged, has_acc, has_rnk}
 use Rattle.drain_kernel.specs.LaneRows.{HaveRanks, IsShownRoundIn}
-use Rattle.drain_kernel.specs.Rules.{tried}
+use Rattle.drain_grid.specs.RulesAbout.{tried}
+use Rattle.drain_kernel.specs.Rules.{rules_with}
+use Rattle.drain_kernel.proofs.ClearedRules.{cleared, tested_too}
 use Rattle.drain_kernel.specs.Shown.{height_of, IsShownRound, row_beside, col_beside}
 use Rattle.drain_kernel.proofs.Inland.{le_from, no_void, some_height}
 use Rattle.drain_kernel.proofs.Meaning.{are_complete, no_outlet, not_zero}
@@ -85,7 +86,7 @@ open_beside above here below k p shown some d void =
 
 -- so at a column where the tests pass
 pub is_right_outlet : (rules : Rules) (rows : LaneRows) (k : ℕ) (p : Patch) → IsShownRoundIn rows k p →
-    IfChecked rules.ranks (HaveRanks rows) → OutletAt rules rows k → IsLeastFault IsPatchRule (tried rules p) None
+    IfJudged (has_rnk rules.judged) (HaveRanks rows) → OutletAt rules rows k → IsLeastFault IsPatchRule (tried rules p) None
 is_right_outlet rules rows k p shown have passes =
     let above = rows.above.now in
     let here = rows.here.now in
@@ -107,5 +108,7 @@ is_right_outlet rules rows k p shown have passes =
       complete = are_complete rules.nodata here k passes.has_way passes.has_counts;
     } in
     let sum = sum_from above here below k p shown passes.sum in
-    let rank = rank_from rules.ranks rules.nodata rows k p.here shown.cell outlet.has_data have passes.rank in
-    subst (λ q. IsLeastFault IsPatchRule (tried rules q) None) (sym same) (λ r own. keeps_rules rules.nodata at p.around sound rules.ranks Tested sum rank r)
+    let rank = rank_from (has_rnk rules.judged) rules.nodata rows k p.here shown.cell outlet.has_data have passes.rank in
+    subst (λ q. IsLeastFault IsPatchRule (tried rules q) None) (sym same) (cleared rules.judged rules.nodata (patch_of at p.around)
+    (λ r own. tested_too (has_acc rules.judged) (rules_with (has_rnk rules.judged) rules.nodata) (patch_of at p.around) r
+    (keeps_rules rules.nodata at p.around sound (has_rnk rules.judged) true sum rank r)))

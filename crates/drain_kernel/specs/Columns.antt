@@ -3,10 +3,9 @@ use Rattle.std.specs.Prelude.{◌≡◌, ◌≢◌, ℕ, ◌≤◌, ◌<◌, ◌
 use Rattle.drain_grid.specs.Values.{NoDataNumbers}
 use Rattle.drain_kernel.specs.declared.lane_rows.LaneRows.{LaneRows}
 use Rattle.drain_kernel.specs.declared.lanes.Lanes.{Lanes}
-use Rattle.drain_kernel.specs.declared.rules.Rules.{Rules}
-use Rattle.drain_kernel.specs.declared.rules.Sums.{Sums}
+use Rattle.drain_grid.specs.declared.judged.Rules.{Rules}
 use Rattle.drain_kernel.specs.Around.{around_in}
-use Rattle.drain_kernel.specs.Checked.{IfChecked, IfTested}
+use Rattle.drain_grid.specs.Judged.{IfJudged, has_acc, has_rnk}
 use Rattle.drain_kernel.specs.Shown.{HasDataAt, lowered}
 use Rattle.drain_kernel.specs.Tests.{keeps_surface, keeps_direction, keeps_label, adds_up, is_ranked}
 
@@ -104,11 +103,11 @@ pub record HasCountsAt (nodata : NoDataNumbers) (h : Lanes) (k : ℕ) : Type 0 w
   pub acc_differs : pos (slice_index h.acc.items k) ≢ nodata.acc
   pub bas_differs : pos (slice_index h.bas.items k) ≢ nodata.bas
 
--- the rules of the accumulation, if sums are tested, and of the label hold, and the numbers are there
-pub record KeepsCountsAt (nodata : NoDataNumbers) (sums : Sums) (rows : LaneRows) (k : ℕ) : Type 0 where
-  pub accumulation : IfTested sums (IsTrue (adds_up_at rows k))
+-- the rules of the accumulation, if it is judged, and of the label hold, and the numbers are there
+pub record KeepsCountsAt (rules : Rules) (rows : LaneRows) (k : ℕ) : Type 0 where
+  pub accumulation : IfJudged (has_acc rules.judged) (IsTrue (adds_up_at rows k))
   pub label : IsTrue (keeps_label_at rows k)
-  pub has_counts : HasCountsAt nodata rows.here.now k
+  pub has_counts : HasCountsAt rules.nodata rows.here.now k
 
 -- nor is its rank
 abbrev pub HasRankAt : NoDataNumbers → Lanes → ℕ → Type 0
@@ -119,16 +118,16 @@ pub record RanksPassAt (nodata : NoDataNumbers) (rows : LaneRows) (k : ℕ) : Ty
   pub ranked : IsTrue (is_ranked_at rows k)
   pub has_rank : HasRankAt nodata rows.here.now k
 
--- all tests pass at a column, that of the accumulation if sums are tested
-pub record PassesAt (rules : Rules) (sums : Sums) (rows : LaneRows) (k : ℕ) : Type 0 where
+-- all tests pass at a column, those of the accumulation and of ranks if these are judged
+pub record PassesAt (rules : Rules) (rows : LaneRows) (k : ℕ) : Type 0 where
   pub inland : IsInlandAt rows k
   pub surface : IsTrue (keeps_surface_at rows k)
   pub direction : IsTrue (keeps_direction_at rows k)
   pub label : IsTrue (keeps_label_at rows k)
-  pub accumulation : IfTested sums (IsTrue (adds_up_at rows k))
+  pub accumulation : IfJudged (has_acc rules.judged) (IsTrue (adds_up_at rows k))
   pub has_way : HasWayAt rules.nodata rows.here.now k
   pub has_counts : HasCountsAt rules.nodata rows.here.now k
-  pub ranks : IfChecked rules.ranks (RanksPassAt rules.nodata rows k)
+  pub ranks : IfJudged (has_rnk rules.judged) (RanksPassAt rules.nodata rows k)
 
 -- the columns from one up to another
 abbrev pub Along : ℕ → ℕ → (ℕ → Type 0) → Type 0

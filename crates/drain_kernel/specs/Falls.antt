@@ -1,10 +1,9 @@
 -- The tests of a cell that lies on its ground and falls, whatever lies beside it: voids are passed over.
 use Rattle.std.specs.Prelude.{ℕ, Bool, not, ◌&&◌, ◌==◌, nat_le, IsTrue, List, [], ◌∷◌, slice_index, if◌then◌else◌}
 use Rattle.drain_kernel.specs.declared.lane_rows.LaneRows.{LaneRows}
-use Rattle.drain_kernel.specs.declared.rules.Rules.{Rules}
-use Rattle.drain_kernel.specs.declared.rules.Sums.{Sums}
+use Rattle.drain_grid.specs.declared.judged.Rules.{Rules}
 use Rattle.drain_kernel.specs.Around.{is_direction_code, named_in}
-use Rattle.drain_kernel.specs.Checked.{IfChecked, IfTested}
+use Rattle.drain_grid.specs.Judged.{IfJudged, has_acc, has_rnk}
 use Rattle.drain_kernel.specs.Columns.{HasCountsAt, HasRankAt, HasWayAt, accs_round, codes_round, cons_round, heights_round, labels_round}
 use Rattle.drain_kernel.specs.Tests.{adds_up, falls_steepest}
 
@@ -43,10 +42,10 @@ keeps_fall_at rows k =
 abbrev pub seen_sum_at : LaneRows → ℕ → Bool
 seen_sum_at rows k = adds_up (slice_index rows.here.now.acc.items k) (each_seen seen_code (heights_round rows k) (codes_round rows k)) (accs_round rows k)
 
--- these tests pass at a column, that of the accumulation if sums are tested, and no number is its product's no-data number
-pub record FallsAt (rules : Rules) (sums : Sums) (rows : LaneRows) (k : ℕ) : Type 0 where
+-- these tests pass at a column, that of the accumulation if it is judged, and no number is its product's no-data number
+pub record FallsAt (rules : Rules) (rows : LaneRows) (k : ℕ) : Type 0 where
   pub fall : IsTrue (keeps_fall_at rows k)
-  pub sum : IfTested sums (IsTrue (seen_sum_at rows k))
+  pub sum : IfJudged (has_acc rules.judged) (IsTrue (seen_sum_at rows k))
   pub has_way : HasWayAt rules.nodata rows.here.now k
   pub has_counts : HasCountsAt rules.nodata rows.here.now k
-  pub rank : IfChecked rules.ranks (HasRankAt rules.nodata rows.here.now k)
+  pub rank : IfJudged (has_rnk rules.judged) (HasRankAt rules.nodata rows.here.now k)

@@ -2,7 +2,6 @@ pub mod Kept
 pub mod Rules
 pub mod Shown
 pub mod Taken
-pub mod Checked
 pub mod Around
 pub mod Images
 pub mod Tests

@@ -1,9 +1,9 @@
 -- The tests of an outlet beside a void: a data cell with code 0, not raised, with no lower neighbour.
 use Rattle.std.specs.Prelude.{ℕ, Bool, not, ◌&&◌, ◌==◌, nat_le, min, IsTrue, List, slice_index}
 use Rattle.drain_kernel.specs.declared.lane_rows.LaneRows.{LaneRows}
-use Rattle.drain_kernel.specs.declared.rules.Rules.{Rules}
+use Rattle.drain_grid.specs.declared.judged.Rules.{Rules}
 use Rattle.drain_kernel.specs.Around.{least_straight_in, least_across_in}
-use Rattle.drain_kernel.specs.Checked.{IfChecked}
+use Rattle.drain_grid.specs.Judged.{IfJudged, has_rnk}
 use Rattle.drain_kernel.specs.Columns.{HasCountsAt, HasRankAt, HasWayAt, cons_round, heights_round}
 use Rattle.drain_kernel.specs.Falls.{each_seen, seen_con, seen_sum_at}
 
@@ -26,4 +26,4 @@ pub record OutletAt (rules : Rules) (rows : LaneRows) (k : ℕ) : Type 0 where
   pub sum : IsTrue (seen_sum_at rows k)
   pub has_way : HasWayAt rules.nodata rows.here.now k
   pub has_counts : HasCountsAt rules.nodata rows.here.now k
-  pub rank : IfChecked rules.ranks (HasRankAt rules.nodata rows.here.now k)
+  pub rank : IfJudged (has_rnk rules.judged) (HasRankAt rules.nodata rows.here.now k)

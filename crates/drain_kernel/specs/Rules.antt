@@ -1,22 +1,16 @@
--- The rules that are tried.
+-- What the lanes test of the rules about judged rasters.
+use Rattle.std.specs.Prelude.{Bool, true, false}
+use Rattle.drain_grid.specs.declared.judged.Rules.{Rules}
 use Rattle.drain_grid.specs.declared.rule.Rule.TheVariants.{Accumulation}
-use Rattle.drain_grid.specs.Values.{NoDataNumbers}
+use Rattle.drain_grid.specs.Judged.{has_acc, has_rnk}
 use Rattle.drain_grid.specs.PatchRules.{Profile, check_rules}
 use Rattle.drain_grid.specs.Unranked.{unranked}
-use Rattle.drain_kernel.specs.declared.rules.Ranks.{Ranks}
-use Rattle.drain_kernel.specs.declared.rules.Ranks.TheVariants.{Checked, Ignored}
-use Rattle.drain_kernel.specs.declared.rules.Rules.{Rules}
-use Rattle.drain_kernel.specs.declared.rules.Sums.{Sums}
-use Rattle.drain_kernel.specs.declared.rules.Sums.TheVariants.{Tested, Untested}
+use Rattle.drain_grid.specs.Values.{NoDataNumbers}
 
--- the rules of a check if ranks are checked, else the same without ranks
-abbrev pub rules_with : Ranks → NoDataNumbers → Profile
-rules_with Checked nodata = check_rules nodata
-rules_with Ignored nodata = unranked nodata
-
--- those that are tried
-abbrev pub tried : Rules → Profile
-tried rules = rules_with rules.ranks rules.nodata
+-- the rules of a check with ranks, else the same without ranks
+abbrev pub rules_with : Bool → NoDataNumbers → Profile
+rules_with true nodata = check_rules nodata
+rules_with false nodata = unranked nodata
 
 -- these rules, but Accumulation requires nothing
 abbrev pub without_sums : Profile → Profile
@@ -24,10 +18,10 @@ without_sums profile p Accumulation = Unit {0}
 without_sums profile p r = profile p r
 
 -- the rules if sums are tested, else the same without Accumulation
-abbrev pub tested : Sums → Profile → Profile
-tested Tested profile = profile
-tested Untested profile = without_sums profile
+abbrev pub tested : Bool → Profile → Profile
+tested true profile = profile
+tested false profile = without_sums profile
 
--- the rules without ranks, of which Accumulation requires nothing
-abbrev pub unsummed : NoDataNumbers → Profile
-unsummed nodata = without_sums (unranked nodata)
+-- what is tested: ranks and sums where they are judged
+abbrev pub lane_rules : Rules → Profile
+lane_rules rules = tested (has_acc rules.judged) (rules_with (has_rnk rules.judged) rules.nodata)

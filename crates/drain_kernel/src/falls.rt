@@ -3,12 +3,12 @@
 
 ghost use Rattle.std.specs.Prelude.{◌≡◌, ◌≤◌, ◌<◌, IsTrue};
 ghost use Rattle.drain_grid.specs.declared.patch.Patch.{Patch};
-ghost use Rattle.drain_kernel.specs.Checked.{IfChecked, IfTested};
+ghost use Rattle.drain_grid.specs.Judged.{IfJudged, has_acc, has_rnk};
 ghost use Rattle.drain_kernel.specs.Columns.{HasCountsAt, HasRankAt, HasWayAt};
 ghost use Rattle.drain_kernel.specs.Falls.{FallsAt, each_seen, keeps_fall, keeps_fall_at, seen, seen_sum_at};
 ghost use Rattle.drain_kernel.specs.Kept.{IsKept};
 ghost use Rattle.drain_kernel.specs.LaneRows.{HaveRanks, IsInnerColumn, IsShownRoundIn};
-ghost use Rattle.drain_kernel.specs.Rules.{tested, tried, unsummed};
+ghost use Rattle.drain_grid.specs.RulesAbout.{tried};
 ghost use Rattle.drain_kernel.specs.Shown.{cols, HasRanks, IsInner, IsShownRound};
 
 use crate::around::is_direction;
@@ -18,9 +18,8 @@ use crate::columns::{CountsTest, WayTest};
 use crate::lane_rows::LaneRows;
 use crate::lanes::Lanes;
 use crate::ranked::HasRankTest;
-use crate::rules::{Ranks, Rules, Sums};
 use crate::sums::adds_up;
-use drain_grid::NoData;
+use drain_grid::{Judged, NoData, Rules};
 
 /// A neighbour's number, if its elevation is none of a void; else another one.
 #[inline(always)]
@@ -95,27 +94,29 @@ pub(crate) fn seen_sum_holds(rows: &LaneRows, k: usize) -> bool
     adds_up(rows.here.acc[k], codes, rows.accs_round(k))
 }
 
-/// Whether the accumulation is one more than that, if sums are tested.
-fn keeps_sum(rows: &LaneRows, sums: Sums, k: usize) -> bool
+/// Whether the accumulation is one more than that, if it is judged.
+fn keeps_sum(rows: &LaneRows, judged: Judged, k: usize) -> bool
     requires { IsInnerColumn rows.now k }
-    ensures { IsTrue result → IfTested sums (IsTrue (seen_sum_at rows.now k)) }
+    ensures { IsTrue result → IfJudged (has_acc judged) (IsTrue (seen_sum_at rows.now k)) }
 {
-    match sums {
-        Sums::Untested => true,
-        Sums::Tested => seen_sum_holds(rows, k),
+    if judged.has_acc() {
+        seen_sum_holds(rows, k)
+    } else {
+        true
     }
 }
 
-/// Whether the rank isn't the no-data number, if ranks are checked.
+/// Whether the rank isn't the no-data number, if ranks are judged.
 pub(crate) fn keeps_rank(row: &Lanes, rules: &Rules, k: usize) -> bool
     requires inside { k < cols row.now }
-    requires ranks { IfChecked rules.now.ranks (HasRanks row.now) }
-    ensures { IsTrue result → IfChecked rules.now.ranks (HasRankAt rules.now.nodata row.now k) }
+    requires ranks { IfJudged (has_rnk rules.now.judged) (HasRanks row.now) }
+    ensures { IsTrue result → IfJudged (has_rnk rules.now.judged) (HasRankAt rules.now.nodata row.now k) }
 {
     let nodata = &rules.nodata;
-    match rules.ranks {
-        Ranks::Ignored => true,
-        Ranks::Checked => HasRankTest { row, nodata }.passes(k),
+    if rules.judged.has_rnk() {
+        HasRankTest { row, nodata }.passes(k)
+    } else {
+        true
     }
 }
 
@@ -129,39 +130,38 @@ pub(crate) fn products_are_there(row: &Lanes, nodata: &NoData, k: usize) -> bool
 }
 
 /// Whether all these tests pass at a column that isn't the first nor the last.
-fn tests_pass(rows: &LaneRows, rules: &Rules, sums: Sums, k: usize) -> bool
+fn tests_pass(rows: &LaneRows, rules: &Rules, k: usize) -> bool
     requires inner { IsInnerColumn rows.now k }
-    requires ranks { IfChecked rules.now.ranks (HaveRanks rows.now) }
-    ensures { IsTrue result → FallsAt rules.now sums rows.now k }
+    requires ranks { IfJudged (has_rnk rules.now.judged) (HaveRanks rows.now) }
+    ensures { IsTrue result → FallsAt rules.now rows.now k }
 {
     // Voids and outlets stop here.
     rows.here.z[k] != 0
         && rows.here.dir[k] != 0
         && fall_holds(rows, k)
-        && keeps_sum(rows, sums, k)
+        && keeps_sum(rows, rules.judged, k)
         && products_are_there(rows.here, &rules.nodata, k)
         && keeps_rank(rows.here, rules, k)
 }
 
-/// Whether the cell at a column lies on its ground and falls, by the tests with sums or without. Then its patch keeps
-/// the rules that are tried: if sums are untested, all of them but Accumulation.
-fn is_cleared_at(rows: &LaneRows, rules: &Rules, sums: Sums, k: usize) -> bool
+/// Whether the cell at a column lies on its ground and falls. Then its patch keeps the rules that are tried.
+fn is_cleared_at(rows: &LaneRows, rules: &Rules, k: usize) -> bool
     requires inside { k ≤ cols rows.now.here.now }
     ensures inner { IsTrue result → IsInnerColumn rows.now k }
-    ensures kept { IsTrue result → (p : Patch) → IsShownRoundIn rows.now k p → IsKept (tested sums (tried rules.now)) p }
+    ensures kept { IsTrue result → (p : Patch) → IsShownRoundIn rows.now k p → IsKept (tried rules.now) p }
 {
-    if !rows.are_alike(rules.ranks) {
+    if !rows.are_alike(rules.judged) {
         return false;
     }
     if k == 0 || k >= rows.here.cols() - 1 {
         return false;
     }
-    tests_pass(rows, rules, sums, k)
+    tests_pass(rows, rules, k)
 }
 
-/// Whether the cell at a column lies on its ground and falls. Then its patch in the three rows keeps every rule from
-/// VoidCell to Label, whether it is a listed sink or not, and whether voids are beside it. False shows no fault. It is
-/// false at the first and the last column, if the rows have different lengths, and if ranks are checked and one row has
+/// Whether the cell at a column lies on its ground and falls. Then its patch in the three rows keeps every rule that
+/// is tried, SharedLabel left out, whether it is a listed sink or not, and whether voids are beside it. False shows no fault. It is
+/// false at the first and the last column, if the rows have different lengths, and if ranks are judged and one row has
 /// none.
 pub fn falls_at(above: &Lanes, here: &Lanes, below: &Lanes, rules: &Rules, k: usize) -> bool
     requires inside { k ≤ cols here.now }
@@ -169,28 +169,5 @@ pub fn falls_at(above: &Lanes, here: &Lanes, below: &Lanes, rules: &Rules, k: us
     ensures kept { IsTrue result → (p : Patch) → IsShownRound above.now here.now below.now k p → IsKept (tried rules.now) p }
 {
     let rows = LaneRows { above, here, below };
-    is_cleared_at(&rows, rules, Sums::Tested, k)
-}
-
-/// Whether the cell at a column lies on its ground and falls, where no accumulation is given. Then its patch in the
-/// three rows keeps every rule without ranks from VoidCell to Label but Accumulation, whether it is a listed sink or
-/// not, and whether voids are beside it. False shows no fault. It is false at the first and the last column, and if the
-/// rows have different lengths.
-pub fn routed_falls_at(
-    above: &Lanes,
-    here: &Lanes,
-    below: &Lanes,
-    nodata: &NoData,
-    k: usize,
-) -> bool
-    requires inside { k ≤ cols here.now }
-    ensures inner { IsTrue result → IsInner above.now here.now below.now k }
-    ensures kept { IsTrue result → (p : Patch) → IsShownRound above.now here.now below.now k p → IsKept (unsummed nodata.now) p }
-{
-    let rows = LaneRows { above, here, below };
-    let rules = Rules {
-        nodata: *nodata,
-        ranks: Ranks::Ignored,
-    };
-    is_cleared_at(&rows, &rules, Sums::Untested, k)
+    is_cleared_at(&rows, rules, k)
 }

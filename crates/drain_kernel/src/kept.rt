@@ -2,19 +2,18 @@
 
 ghost use Rattle.std.specs.Prelude.{◌≤◌, IsTrue};
 ghost use Rattle.drain_grid.specs.declared.patch.Patch.{Patch};
-ghost use Rattle.drain_kernel.specs.Checked.{IfChecked};
+ghost use Rattle.drain_grid.specs.Judged.{IfJudged, has_rnk};
 ghost use Rattle.drain_kernel.specs.Columns.{Along, PassesAt};
 ghost use Rattle.drain_kernel.specs.Kept.{IsKept};
 ghost use Rattle.drain_kernel.specs.LaneRows.{HaveRanks, IsInnerColumn, IsShownIn, IsStretch};
-ghost use Rattle.drain_kernel.specs.Rules.{tested, tried, unsummed};
+ghost use Rattle.drain_grid.specs.RulesAbout.{tried};
 ghost use Rattle.drain_kernel.specs.Shown.{cols, IsInner, IsShown};
 
 use crate::lane_rows::LaneRows;
 use crate::lanes::Lanes;
-use crate::rules::{Ranks, Rules, Sums};
 use crate::stretches::is_inland;
 use crate::strides::passed_strides;
-use drain_grid::NoData;
+use drain_grid::Rules;
 
 /// How many columns are tested at once: long enough that loops of four or eight lanes pay, short enough that few
 /// stretches have an outlet or a void.
@@ -38,32 +37,31 @@ fn inland_until(rows: &LaneRows, from: usize, end: usize) -> usize
 
 /// The first column that isn't cleared from one on, at most another, before the last. It goes in strides of 64; where
 /// one fails, up to the next void or cell beside one: all of that, then 8 columns at a time, then column by column.
-fn passed_until(rows: &LaneRows, rules: &Rules, sums: Sums, from: usize, end: usize) -> usize
+fn passed_until(rows: &LaneRows, rules: &Rules, from: usize, end: usize) -> usize
     requires stretch { IsStretch rows.now from end }
-    requires ranks { IfChecked rules.now.ranks (HaveRanks rows.now) }
+    requires ranks { IfJudged (has_rnk rules.now.judged) (HaveRanks rows.now) }
     ensures forward { from ≤ result }
     ensures within { result ≤ end }
-    ensures passed { Along from result (PassesAt rules.now sums rows.now) }
+    ensures passed { Along from result (PassesAt rules.now rows.now) }
 {
-    let by_blocks = passed_strides(rows, rules, sums, from, end, BLOCK);
+    let by_blocks = passed_strides(rows, rules, from, end, BLOCK);
     let reach = by_blocks + BLOCK.min(end - by_blocks);
     let inland = inland_until(rows, by_blocks, reach);
-    let at_once = passed_strides(rows, rules, sums, by_blocks, inland, BLOCK);
-    let by_groups = passed_strides(rows, rules, sums, at_once, inland, GROUP);
-    passed_strides(rows, rules, sums, by_groups, inland, 1)
+    let at_once = passed_strides(rows, rules, by_blocks, inland, BLOCK);
+    let by_groups = passed_strides(rows, rules, at_once, inland, GROUP);
+    passed_strides(rows, rules, by_groups, inland, 1)
 }
 
-/// A column from this one on, at most `until`, before which each cell keeps the rules that are tried: if sums are
-/// untested, all of them but Accumulation.
-fn cleared_until(rows: &LaneRows, rules: &Rules, sums: Sums, from: usize, until: usize) -> usize
+/// A column from this one on, at most `until`, before which each cell keeps the rules that are tried.
+fn cleared_until(rows: &LaneRows, rules: &Rules, from: usize, until: usize) -> usize
     requires ordered { from ≤ until }
     requires inside { until ≤ cols rows.now.here.now }
     ensures forward { from ≤ result }
     ensures within { result ≤ until }
     ensures inner { Along from result (IsInnerColumn rows.now) }
-    ensures kept { Along from result (λ k. (p : Patch) → IsShownIn rows.now k p → IsKept (tested sums (tried rules.now)) p) }
+    ensures kept { Along from result (λ k. (p : Patch) → IsShownIn rows.now k p → IsKept (tried rules.now) p) }
 {
-    if !rows.are_alike(rules.ranks) {
+    if !rows.are_alike(rules.judged) {
         return from;
     }
     let cols = rows.here.cols();
@@ -75,13 +73,13 @@ fn cleared_until(rows: &LaneRows, rules: &Rules, sums: Sums, from: usize, until:
     if from >= end || !is_inland(rows, from) {
         return from;
     }
-    passed_until(rows, rules, sums, from, end)
+    passed_until(rows, rules, from, end)
 }
 
 /// A column to which cells can be cleared from this one on, at most `until`. At each column before it the patch of the
-/// three rows, for a cell that isn't a listed sink, keeps every rule from VoidCell to Label. It may be any such column,
+/// three rows, for a cell that isn't a listed sink, keeps every rule that is tried, SharedLabel left out. It may be any such column,
 /// even `from`, so it shows no fault. It is `from` at the first and the last column, if the rows have different
-/// lengths, and if ranks are checked and one row has none.
+/// lengths, and if ranks are judged and one row has none.
 pub fn kept_until(
     above: &Lanes,
     here: &Lanes,
@@ -98,32 +96,5 @@ pub fn kept_until(
     ensures kept { Along from result (λ k. (p : Patch) → IsShown above.now here.now below.now k p → IsKept (tried rules.now) p) }
 {
     let rows = LaneRows { above, here, below };
-    cleared_until(&rows, rules, Sums::Tested, from, until)
-}
-
-/// A column to which cells can be cleared from this one on, at most `until`, where no accumulation is given. At each
-/// column before it the patch of the three rows, for a cell that isn't a listed sink, keeps every rule without ranks
-/// from VoidCell to Label but Accumulation. It may be any such column, so it shows no fault. It is `from` at the first
-/// and the last column, and if the rows have different lengths.
-pub fn routed_until(
-    above: &Lanes,
-    here: &Lanes,
-    below: &Lanes,
-    nodata: &NoData,
-    from: usize,
-    until: usize,
-) -> usize
-    requires ordered { from ≤ until }
-    requires inside { until ≤ cols here.now }
-    ensures forward { from ≤ result }
-    ensures within { result ≤ until }
-    ensures inner { Along from result (IsInner above.now here.now below.now) }
-    ensures kept { Along from result (λ k. (p : Patch) → IsShown above.now here.now below.now k p → IsKept (unsummed nodata.now) p) }
-{
-    let rows = LaneRows { above, here, below };
-    let rules = Rules {
-        nodata: *nodata,
-        ranks: Ranks::Ignored,
-    };
-    cleared_until(&rows, &rules, Sums::Untested, from, until)
+    cleared_until(&rows, rules, from, until)
 }

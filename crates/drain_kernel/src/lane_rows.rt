@@ -2,7 +2,7 @@
 
 use crate::around::around;
 use crate::lanes::Lanes;
-use crate::rules::Ranks;
+use drain_grid::Judged;
 
 /// A row of lanes, and those above and below it.
 #[derive(Clone, Copy)]
@@ -14,30 +14,29 @@ pub(crate) struct LaneRows<'a> {
 
 impl LaneRows<'_> {
     ghost use Rattle.std.specs.Prelude.{◌≡◌, IsTrue};
-    ghost use Rattle.drain_kernel.specs.Checked.{IfChecked};
+    ghost use Rattle.drain_grid.specs.Judged.{IfJudged, has_rnk};
     ghost use Rattle.drain_kernel.specs.Columns.{accs_round, codes_round, cons_round, heights_round, labels_round, ranks_round};
     ghost use Rattle.drain_kernel.specs.Images.{EachHasImage, at_most, lower, upper};
     ghost use Rattle.drain_kernel.specs.LaneRows.{AreAsLong, HaveRanks, IsInnerColumn};
 
-    /// Whether all three rows have ranks, if ranks are checked.
-    fn have_ranks(&self, ranks: Ranks) -> bool
-        ensures { IsTrue result → IfChecked ranks (HaveRanks self.now) }
+    /// Whether all three rows have ranks, if ranks are judged.
+    fn have_ranks(&self, judged: Judged) -> bool
+        ensures { IsTrue result → IfJudged (has_rnk judged) (HaveRanks self.now) }
     {
-        match ranks {
-            Ranks::Ignored => true,
-            Ranks::Checked => {
-                self.above.has_ranks() && self.here.has_ranks() && self.below.has_ranks()
-            }
+        if judged.has_rnk() {
+            self.above.has_ranks() && self.here.has_ranks() && self.below.has_ranks()
+        } else {
+            true
         }
     }
 
-    /// Whether the rows have the same number of columns, and ranks if these are checked.
-    pub(crate) fn are_alike(&self, ranks: Ranks) -> bool
+    /// Whether the rows have the same number of columns, and ranks if these are judged.
+    pub(crate) fn are_alike(&self, judged: Judged) -> bool
         ensures lengths { IsTrue result → AreAsLong self.now }
-        ensures ranks { IsTrue result → IfChecked ranks (HaveRanks self.now) }
+        ensures ranks { IsTrue result → IfJudged (has_rnk judged) (HaveRanks self.now) }
     {
         let cols = self.here.cols();
-        self.above.cols() == cols && self.below.cols() == cols && self.have_ranks(ranks)
+        self.above.cols() == cols && self.below.cols() == cols && self.have_ranks(judged)
     }
 
     /// The stored elevations of the eight neighbours of a column: 32768 added, 0 at a void.

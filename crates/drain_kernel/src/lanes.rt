@@ -1,12 +1,11 @@
 //! A row of a grid and its products, in numbers of 16 bits where that is enough, else of 32.
 
 ghost use Rattle.std.specs.Prelude.{◌≡◌, IsTrue, length, vec_len};
-ghost use Rattle.drain_kernel.specs.Checked.{IfChecked};
+ghost use Rattle.drain_grid.specs.Judged.{IfJudged, has_rnk};
 ghost use Rattle.drain_kernel.specs.Images.{AreRankLanes, at_most, lower, upper};
 ghost use Rattle.drain_pixels.specs.Lanes.{AreCapped, AreLanes, AreLower, AreUpper};
 
-use crate::rules::Ranks;
-use drain_grid::PerProduct;
+use drain_grid::{Judged, PerProduct};
 use drain_pixels::PixelRow;
 use drain_pixels::row_lanes::{
     take_capped, take_elevations, take_halves, take_heights, take_numbers, take_short_numbers,
@@ -14,7 +13,7 @@ use drain_pixels::row_lanes::{
 use std::alloc::Global;
 
 /// The numbers of a row, next to each other for each column. z and con are stored with 32768 added, and z is 0 at a
-/// void. Ranks are kept if they are checked. At a void a product's lane may be any number; it is ignored.
+/// void. Ranks are kept if they are judged. At a void a product's lane may be any number; it is ignored.
 /// Accumulations and ranks are there once more in 16 bits, 65535 where they are more, and ranks also by their halves.
 #[derive(Drop)]
 pub struct Lanes {
@@ -63,13 +62,13 @@ impl Lanes {
         }
     }
 
-    /// Replaces the row by these numbers, with ranks if they are checked, and returns whether it has them now. At each
+    /// Replaces the row by these numbers, with ranks if they are judged, and returns whether it has them now. At each
     /// column z must fit 16 signed bits, and except at voids con too, dir 16 unsigned bits, and the others 32; memory
     /// is taken if there is too little room. Else it has no row.
-    pub fn take(&mut self, z: &[i64], products: &PerProduct<&PixelRow>, ranks: Ranks) -> bool
+    pub fn take(&mut self, z: &[i64], products: &PerProduct<&PixelRow>, judged: Judged) -> bool
         requires { (p : SetProduct) → length (of_product products.now p).now ≡ length z.now }
         ensures lanes { IsTrue result → AreLanesOf self.new z.now (per_product (λ p. (of_product products.now p).now)) }
-        ensures ranked { IsTrue result → IfChecked ranks (HasRanks self.new) }
+        ensures ranked { IsTrue result → IfJudged (has_rnk judged) (HasRanks self.new) }
         ensures nothing { result ≡ false → cols self.new ≡ 0 }
     {
         let z_fits = take_elevations(z, &mut self.z);
@@ -79,7 +78,7 @@ impl Lanes {
             & take_short_numbers(elevations, products.dir, &mut self.dir)
             & take_numbers(elevations, products.acc, &mut self.acc)
             & take_numbers(elevations, products.bas, &mut self.bas)
-            & take_ranks(elevations, products.rnk, ranks, &mut self.rnk)
+            & take_ranks(elevations, products.rnk, judged, &mut self.rnk)
             & take_capped(&self.acc, &mut self.capped_acc)
             & take_capped(&self.rnk, &mut self.capped_rnk)
             & take_halves(&self.rnk, &mut self.low_rnk, &mut self.high_rnk);
@@ -226,16 +225,15 @@ impl Lanes {
     }
 }
 
-/// Takes ranks if they are checked, else none.
-fn take_ranks(z: &[u16], numbers: &PixelRow, ranks: Ranks, out: &mut Vec<u32>) -> bool
-    ensures len { IsTrue result → IfChecked ranks (vec_len out.new ≡ length numbers.now) }
+/// Takes ranks if they are judged, else none.
+fn take_ranks(z: &[u16], numbers: &PixelRow, judged: Judged, out: &mut Vec<u32>) -> bool
+    ensures len { IsTrue result → IfJudged (has_rnk judged) (vec_len out.new ≡ length numbers.now) }
     ensures lanes { IsTrue result → vec_len out.new ≡ length numbers.now → AreLanes z.now numbers.now out.new.items (length numbers.now) }
 {
-    match ranks {
-        Ranks::Checked => take_numbers(z, numbers, out),
-        Ranks::Ignored => {
-            out.clear();
-            true
-        }
+    if judged.has_rnk() {
+        take_numbers(z, numbers, out)
+    } else {
+        out.clear();
+        true
     }
 }

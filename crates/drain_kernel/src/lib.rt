@@ -13,14 +13,12 @@ pub mod laws;
 mod near;
 pub mod outlets;
 mod ranked;
-pub mod rules;
 mod stretches;
 mod strides;
 mod sums;
 mod vouched;
 
-pub use falls::{falls_at, routed_falls_at};
-pub use kept::{kept_until, routed_until};
+pub use falls::falls_at;
+pub use kept::kept_until;
 pub use lanes::Lanes;
 pub use outlets::outlet_holds_at;
-pub use rules::{Ranks, Rules, Sums};

@@ -3,10 +3,10 @@
 ghost use Rattle.std.specs.Prelude.{◌≡◌, ◌≤◌, IsTrue, None};
 ghost use Rattle.drain_grid.specs.declared.patch.Patch.{Patch};
 ghost use Rattle.drain_grid.specs.Rule.{IsLeastFault, IsPatchRule};
-ghost use Rattle.drain_kernel.specs.Checked.{IfChecked};
+ghost use Rattle.drain_grid.specs.Judged.{IfJudged, has_rnk};
 ghost use Rattle.drain_kernel.specs.LaneRows.{HaveRanks, IsInnerColumn, IsShownRoundIn};
 ghost use Rattle.drain_kernel.specs.Outlets.{OutletAt, keeps_outlet, keeps_outlet_at};
-ghost use Rattle.drain_kernel.specs.Rules.{tried};
+ghost use Rattle.drain_grid.specs.RulesAbout.{tried};
 ghost use Rattle.drain_kernel.specs.Shown.{cols, IsInner, IsShownRound};
 
 use crate::around::{least_across, least_straight};
@@ -14,7 +14,7 @@ use crate::cells::HIGHEST;
 use crate::falls::{each_seen, keeps_rank, products_are_there, seen_sum_holds};
 use crate::lane_rows::LaneRows;
 use crate::lanes::Lanes;
-use crate::rules::Rules;
+use drain_grid::Rules;
 
 /// Whether a cell has data, is not raised, has code 0, and lies beside a void, with no lower neighbour.
 #[inline(always)]
@@ -41,7 +41,7 @@ fn outlet_holds(rows: &LaneRows, k: usize) -> bool
 /// Whether all these tests pass at a column that isn't the first nor the last.
 fn tests_pass(rows: &LaneRows, rules: &Rules, k: usize) -> bool
     requires inner { IsInnerColumn rows.now k }
-    requires ranks { IfChecked rules.now.ranks (HaveRanks rows.now) }
+    requires ranks { IfJudged (has_rnk rules.now.judged) (HaveRanks rows.now) }
     ensures { IsTrue result → OutletAt rules.now rows.now k }
 {
     // Cells with a direction stop here.
@@ -58,7 +58,7 @@ fn is_right_outlet_at(rows: &LaneRows, rules: &Rules, k: usize) -> bool
     ensures inner { IsTrue result → IsInnerColumn rows.now k }
     ensures kept { IsTrue result → (p : Patch) → IsShownRoundIn rows.now k p → IsLeastFault IsPatchRule (tried rules.now p) None }
 {
-    if !rows.are_alike(rules.ranks) {
+    if !rows.are_alike(rules.judged) {
         return false;
     }
     if k == 0 || k >= rows.here.cols() - 1 {
@@ -69,7 +69,7 @@ fn is_right_outlet_at(rows: &LaneRows, rules: &Rules, k: usize) -> bool
 
 /// Whether the cell at a column is an outlet beside a void. Then its patch in the three rows keeps every rule from
 /// VoidCell to Label, whether it is a listed sink or not. False shows no fault. It is false at the first and the last
-/// column, if the rows have different lengths, and if ranks are checked and one row has none.
+/// column, if the rows have different lengths, and if ranks are judged and one row has none.
 pub fn outlet_holds_at(above: &Lanes, here: &Lanes, below: &Lanes, rules: &Rules, k: usize) -> bool
     requires inside { k ≤ cols here.now }
     ensures inner { IsTrue result → IsInner above.now here.now below.now k }

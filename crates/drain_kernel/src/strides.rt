@@ -1,7 +1,7 @@
 //! Columns along a row, one stride at a time.
 
 ghost use Rattle.std.specs.Prelude.{◌≤◌, IsTrue};
-ghost use Rattle.drain_kernel.specs.Checked.{IfChecked, IfTested};
+ghost use Rattle.drain_grid.specs.Judged.{IfJudged, has_acc, has_rnk};
 ghost use Rattle.drain_kernel.specs.Columns.{adds_up_at, Along, HasWayAt, IsInlandAt, KeepsCountsAt, KeepsRankedWayAt, KeepsWayAt, PassesAt, RanksPassAt};
 ghost use Rattle.drain_kernel.specs.LaneRows.{HaveRanks, IsStretch};
 
@@ -12,23 +12,21 @@ use crate::columns::{
 };
 use crate::lane_rows::LaneRows;
 use crate::ranked::{HasRankTest, NearRanksTest, RanksTest};
-use crate::rules::{Ranks, Rules, Sums};
 use crate::stretches::{all_inland, have_one_label};
 use crate::vouched::{are_no_counts, are_no_ways};
-use drain_grid::NoData;
+use drain_grid::{Judged, NoData, Rules};
 
-/// Whether the rule of the accumulation holds, if sums are tested: by sums of 16 bits, else of 32, else of 64.
-fn sums_pass(rows: &LaneRows, sums: Sums, from: usize, end: usize) -> bool
+/// Whether the rule of the accumulation holds, if it is judged: by sums of 16 bits, else of 32, else of 64.
+fn sums_pass(rows: &LaneRows, judged: Judged, from: usize, end: usize) -> bool
     requires { IsStretch rows.now from end }
-    ensures { IsTrue result → Along from end (λ k. IfTested sums (IsTrue (adds_up_at rows.now k))) }
+    ensures { IsTrue result → Along from end (λ k. IfJudged (has_acc judged) (IsTrue (adds_up_at rows.now k))) }
 {
-    match sums {
-        Sums::Untested => true,
-        Sums::Tested => {
-            passes_along(&CappedSumTest(rows), from, end)
-                || passes_along(&MiddleSumTest(rows), from, end)
-                || passes_along(&SumTest(rows), from, end)
-        }
+    if judged.has_acc() {
+        passes_along(&CappedSumTest(rows), from, end)
+            || passes_along(&MiddleSumTest(rows), from, end)
+            || passes_along(&SumTest(rows), from, end)
+    } else {
+        true
     }
 }
 
@@ -63,22 +61,21 @@ fn ranked_ways_pass(rows: &LaneRows, from: usize, end: usize) -> bool
     ways_pass(rows, from, end) && passes_along(&RanksTest(&*rows), from, end)
 }
 
-/// Whether the rules of the conditioned elevation and of the direction hold, and if ranks are checked those on ranks.
+/// Whether the rules of the conditioned elevation and of the direction hold, and if ranks are judged those on ranks.
 fn courses_pass(rows: &LaneRows, rules: &Rules, from: usize, end: usize) -> bool
     requires stretch { IsStretch rows.now from end }
-    requires ranks { IfChecked rules.now.ranks (HaveRanks rows.now) }
+    requires ranks { IfJudged (has_rnk rules.now.judged) (HaveRanks rows.now) }
     ensures ways { IsTrue result → Along from end (KeepsWayAt rows.now) }
-    ensures ranks { IsTrue result → Along from end (λ k. IfChecked rules.now.ranks (RanksPassAt rules.now.nodata rows.now k)) }
+    ensures ranks { IsTrue result → Along from end (λ k. IfJudged (has_rnk rules.now.judged) (RanksPassAt rules.now.nodata rows.now k)) }
 {
-    match rules.ranks {
-        Ranks::Ignored => ways_pass(rows, from, end),
-        Ranks::Checked => {
-            let has_rank = HasRankTest {
-                row: rows.here,
-                nodata: &rules.nodata,
-            };
-            ranked_ways_pass(rows, from, end) && passes_along(&has_rank, from, end)
-        }
+    if rules.judged.has_rnk() {
+        let has_rank = HasRankTest {
+            row: rows.here,
+            nodata: &rules.nodata,
+        };
+        ranked_ways_pass(rows, from, end) && passes_along(&has_rank, from, end)
+    } else {
+        ways_pass(rows, from, end)
     }
 }
 
@@ -91,19 +88,20 @@ fn ways_are_there(rows: &LaneRows, nodata: &NoData, from: usize, end: usize) -> 
     are_no_ways(nodata) || passes_along(&WayTest { row, nodata }, from, end)
 }
 
-/// Whether the rules of the accumulation and of the label hold, the first if sums are tested, and acc and bas differ from
+/// Whether the rules of the accumulation and of the label hold, the first if it is judged, and acc and bas differ from
 /// their no-data numbers. Where there is one label only, labels are compared with nothing else, and no number with its
 /// no-data number if none can be it.
-fn counts_pass(rows: &LaneRows, nodata: &NoData, sums: Sums, from: usize, end: usize) -> bool
+fn counts_pass(rows: &LaneRows, rules: &Rules, from: usize, end: usize) -> bool
     requires { IsStretch rows.now from end }
-    ensures { IsTrue result → Along from end (KeepsCountsAt nodata.now sums rows.now) }
+    ensures { IsTrue result → Along from end (KeepsCountsAt rules.now rows.now) }
 {
-    if !sums_pass(rows, sums, from, end) {
+    if !sums_pass(rows, rules.judged, from, end) {
         return false;
     }
     let row = rows.here;
+    let nodata = &rules.nodata;
     if have_one_label(rows, from, end) {
-        return are_no_counts(row.label(from), nodata, sums)
+        return are_no_counts(row.label(from), rules)
             || passes_along(&CountsTest { row, nodata }, from, end);
     }
     passes_along(&LabelTest(&*rows), from, end)
@@ -111,10 +109,10 @@ fn counts_pass(rows: &LaneRows, nodata: &NoData, sums: Sums, from: usize, end: u
 }
 
 /// Whether all tests pass. The test of voids comes first: at right products little else fails, and it is the cheapest.
-fn all_pass(rows: &LaneRows, rules: &Rules, sums: Sums, from: usize, end: usize) -> bool
+fn all_pass(rows: &LaneRows, rules: &Rules, from: usize, end: usize) -> bool
     requires stretch { IsStretch rows.now from end }
-    requires ranks { IfChecked rules.now.ranks (HaveRanks rows.now) }
-    ensures { IsTrue result → Along from end (PassesAt rules.now sums rows.now) }
+    requires ranks { IfJudged (has_rnk rules.now.judged) (HaveRanks rows.now) }
+    ensures { IsTrue result → Along from end (PassesAt rules.now rows.now) }
 {
     if !all_inland(rows, from, end) {
         return false;
@@ -125,7 +123,7 @@ fn all_pass(rows: &LaneRows, rules: &Rules, sums: Sums, from: usize, end: usize)
     if !ways_are_there(rows, &rules.nodata, from, end) {
         return false;
     }
-    counts_pass(rows, &rules.nodata, sums, from, end)
+    counts_pass(rows, rules, from, end)
 }
 
 /// Tries `stride` columns at a time from `from` on, the last time maybe fewer. Returns the start of the first stride
@@ -133,22 +131,21 @@ fn all_pass(rows: &LaneRows, rules: &Rules, sums: Sums, from: usize, end: usize)
 pub fn passed_strides(
     rows: &LaneRows,
     rules: &Rules,
-    sums: Sums,
     from: usize,
     end: usize,
     stride: usize,
 ) -> usize
     requires stretch { IsStretch rows.now from end }
     requires some { 1 ≤ stride }
-    requires ranks { IfChecked rules.now.ranks (HaveRanks rows.now) }
+    requires ranks { IfJudged (has_rnk rules.now.judged) (HaveRanks rows.now) }
     ensures forward { from ≤ result }
     ensures within { result ≤ end }
-    ensures passed { Along from result (PassesAt rules.now sums rows.now) }
+    ensures passed { Along from result (PassesAt rules.now rows.now) }
 {
     let mut k = from;
     while k < end {
         let next = k + stride.min(end - k);
-        if !all_pass(rows, rules, sums, k, next) {
+        if !all_pass(rows, rules, k, next) {
             return k;
         }
         k = next;

@@ -1,13 +1,12 @@
 //! No-data numbers that no number of a cell that keeps the rules can be, so that its numbers needn't be compared with them.
 
-ghost use Rattle.std.specs.Prelude.{◌≡◌, ◌≢◌, ◌≤◌, ℕ, IsTrue, pos};
+ghost use Rattle.std.specs.Prelude.{◌≡◌, ◌≢◌, ◌≤◌, ℕ, IsTrue, true, pos};
 ghost use Rattle.drain_kernel.specs.Around.{is_direction_code};
-ghost use Rattle.drain_kernel.specs.declared.rules.Sums.TheVariants.{Tested};
+ghost use Rattle.drain_grid.specs.Judged.{has_acc};
 ghost use Rattle.drain_kernel.specs.Shown.{lowered};
 
 use crate::cells::bas_differs;
-use crate::rules::Sums;
-use drain_grid::NoData;
+use drain_grid::{NoData, Rules};
 
 /// Whether con's no-data number is below all that lie on data, and that of dir is no code of a direction.
 pub fn are_no_ways(nodata: &NoData) -> bool
@@ -24,15 +23,12 @@ fn is_below_1(number: i64) -> bool
     number <= 0
 }
 
-/// Whether acc's no-data number is below all that add up, and that of bas is another label than this one. False if sums
-/// aren't tested.
-pub fn are_no_counts(label: u32, nodata: &NoData, sums: Sums) -> bool
-    ensures tested { IsTrue result → sums ≡ Tested }
-    ensures acc { IsTrue result → (acc : ℕ) → 1 ≤ acc → pos acc ≢ nodata.now.acc }
-    ensures bas { IsTrue result → pos label ≢ nodata.now.bas }
+/// Whether acc's no-data number is below all that add up, and that of bas is another label than this one. False if the
+/// accumulation isn't judged.
+pub fn are_no_counts(label: u32, rules: &Rules) -> bool
+    ensures tested { IsTrue result → has_acc rules.now.judged ≡ true }
+    ensures acc { IsTrue result → (acc : ℕ) → 1 ≤ acc → pos acc ≢ rules.now.nodata.acc }
+    ensures bas { IsTrue result → pos label ≢ rules.now.nodata.bas }
 {
-    match sums {
-        Sums::Untested => false,
-        Sums::Tested => is_below_1(nodata.acc) && bas_differs(label, nodata),
-    }
+    rules.judged.has_acc() && is_below_1(rules.nodata.acc) && bas_differs(label, &rules.nodata)
 }

@@ -1,6 +1,5 @@
 pub mod ChosenWays
 pub mod CorrectByWays
-pub mod KeptParts
 pub mod LeastNumbers
 pub mod NearEdges
 pub mod OwnRasters

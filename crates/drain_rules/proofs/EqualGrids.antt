@@ -17,8 +17,8 @@ use Rattle.drain_grid.specs.PatchRules.{Profile, check_rules}
 use Rattle.drain_grid.specs.GridRules.{SharedLabelHolds, HoldsAt}
 use Rattle.drain_grid.proofs.CellSums.{sum_by_cells_same}
 use Rattle.drain_grid.proofs.Neighbors.{step_lies}
-use Rattle.drain_rules.specs.declared.verdict.Verdict.{Verdict}
-use Rattle.drain_rules.specs.declared.verdict.Verdict.TheVariants.{Accepted, Rejected}
+use Rattle.drain_grid.specs.declared.verdict.Verdict.{Verdict}
+use Rattle.drain_grid.specs.declared.verdict.Verdict.TheVariants.{Accepted, Rejected}
 use Rattle.drain_rules.specs.Verdicts.{has_outlet_code, counts_of, IsVerdictOf}
 use Rattle.drain_rules.specs.Laws.{AreEqual, EqualGridsHaveOneVerdict}
 

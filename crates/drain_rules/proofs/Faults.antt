@@ -1,14 +1,19 @@
 -- The least fault of a cell: from its patch, and for every rule from the labels so far, to the grid.
-use Rattle.std.proofs.Common.{◌≡◌, ℕ, ◌↔◌, List, Option, Some, None, sym, subst, arith}
+use Rattle.std.proofs.Common.{◌≡◌, ℕ, ◌↔◌, Bool, true, false, not, IsTrue, List, Option, Some, None, refl, sym, subst, arith}
 use Rattle.drain_grid.specs.declared.cell.Cell.{Cell}
 use Rattle.drain_grid.specs.declared.rule.Rule.{Rule}
 use Rattle.drain_grid.specs.declared.rule.Rule.TheVariants.{SharedLabel}
 use Rattle.drain_grid.specs.declared.patch.Patch.{Patch}
 use Rattle.drain_grid.specs.Rule.{IsAnyRule, IsPatchRule, IsLeastFault}
+use Rattle.drain_grid.specs.declared.judged.Judged.{Judged}
+use Rattle.drain_grid.specs.declared.judged.Judged.TheVariants.{Con, ConDir, ConDirAcc, ConDirBas, All, AllWithRanks}
+use Rattle.drain_grid.specs.Judged.{has_bas}
+use Rattle.drain_grid.specs.RulesAbout.{IsPartRule, IsTried}
+use Rattle.drain_basin.specs.Admitted.{IsAdmitted}
 use Rattle.drain_grid.specs.Grid.{Grid, Products, IsInside, patch_at}
 use Rattle.drain_grid.specs.PatchRules.{Profile}
 use Rattle.drain_grid.specs.GridRules.{HoldsAt, SharedLabelHolds}
-use Rattle.drain_rules.specs.Labels.{AreLabelsBefore, labelled_profile}
+use Rattle.drain_rules.specs.Labels.{AreLabelsBefore, IsOutletByCode, labelled_profile}
 
 -- rules that hold alike have one least fault
 pub IsLeastFault-same : (Own P Q : Rule → Type 0) (o : Option Rule) → ((r : Rule) → Own r → P r ↔ Q r) →
@@ -55,11 +60,48 @@ labelled-HoldsAt profile g ps labels c SharedLabel inside before = shared-labell
 labelled-HoldsAt profile g ps labels c r inside before = (λ h. h, λ h. h)
 
 -- the least fault of the cell's patch is that of the cell
-pub IsLeastFault-cell : (profile : Profile) (g : Grid) (ps : Products) (labels : List (ℕ × ℕ)) (c : Cell) (p : Patch) (o : Option Rule) →
+pub IsLeastFault-cell : (profile : Profile) (IsOwn : Rule → Type 0) (g : Grid) (ps : Products) (labels : List (ℕ × ℕ)) (c : Cell) (p : Patch) (o : Option Rule) →
     IsInside g c → AreLabelsBefore g ps c labels → p ≡ patch_at g ps c →
-    IsLeastFault IsAnyRule (labelled_profile profile labels p) o →
-    IsLeastFault IsAnyRule (HoldsAt profile g ps c) o
-IsLeastFault-cell profile g ps labels c p o inside before is least =
-    IsLeastFault-same IsAnyRule (labelled_profile profile labels (patch_at g ps c)) (HoldsAt profile g ps c) o
+    IsLeastFault IsOwn (labelled_profile profile labels p) o → IsLeastFault IsOwn (HoldsAt profile g ps c) o
+IsLeastFault-cell profile IsOwn g ps labels c p o inside before is least =
+    IsLeastFault-same IsOwn (labelled_profile profile labels (patch_at g ps c)) (HoldsAt profile g ps c) o
     (λ r own. labelled-HoldsAt profile g ps labels c r inside before)
-    (subst (λ p. IsLeastFault IsAnyRule (labelled_profile profile labels p) o) is least)
+    (subst (λ p. IsLeastFault IsOwn (labelled_profile profile labels p) o) is least)
+
+-- where no rule of the patch fails, none that is tried does if SharedLabel holds or isn't tried
+any_holds : (profile : Profile) (labels : List (ℕ × ℕ)) (p : Patch) → IsLeastFault IsPatchRule (profile p) None →
+    (IsOutletByCode p.here → ¬ IsAdmitted labels p.here.bas) → (r : Rule) → IsAnyRule r → labelled_profile profile labels p r
+any_holds profile labels p all shared SharedLabel own = shared
+any_holds profile labels p all shared r own = all r (omega arith, omega arith)
+
+part_holds : (judged : Judged) (profile : Profile) (labels : List (ℕ × ℕ)) (p : Patch) → IsLeastFault IsPatchRule (profile p) None →
+    (IsTrue (has_bas judged) → IsOutletByCode p.here → ¬ IsAdmitted labels p.here.bas) → (r : Rule) → IsPartRule judged r → labelled_profile profile labels p r
+part_holds judged profile labels p all shared SharedLabel own = shared own
+part_holds judged profile labels p all shared r own = all r own
+
+pub holds_tried : (judged : Judged) (profile : Profile) (labels : List (ℕ × ℕ)) (p : Patch) → IsLeastFault IsPatchRule (profile p) None →
+    (IsTrue (has_bas judged) → IsOutletByCode p.here → ¬ IsAdmitted labels p.here.bas) → (r : Rule) → IsTried judged r → labelled_profile profile labels p r
+holds_tried Con profile labels p all shared r own = part_holds Con profile labels p all shared r own
+holds_tried ConDir profile labels p all shared r own = part_holds ConDir profile labels p all shared r own
+holds_tried ConDirAcc profile labels p all shared r own = part_holds ConDirAcc profile labels p all shared r own
+holds_tried ConDirBas profile labels p all shared r own = part_holds ConDirBas profile labels p all shared r own
+holds_tried All profile labels p all shared r own = any_holds profile labels p all (shared refl) r own
+holds_tried AllWithRanks profile labels p all shared r own = any_holds profile labels p all (shared refl) r own
+
+-- what is passed though its label isn't new has no label that is tried
+pub untried : (passed has tried : Bool) → passed ≡ not has → has ≡ tried → passed ≡ true → ¬ IsTrue tried
+untried passed true tried is same there own = let no : passed ≡ false = is in cc
+untried passed false tried is same there own = cc
+
+-- a rule of a patch is tried
+part_tried : (judged : Judged) (r : Rule) → IsPatchRule r → IsPartRule judged r
+part_tried judged SharedLabel own = absurd (omega (arith, own.1))
+part_tried judged r own = own
+
+pub patch_tried : (judged : Judged) (r : Rule) → IsPatchRule r → IsTried judged r
+patch_tried Con r own = part_tried Con r own
+patch_tried ConDir r own = part_tried ConDir r own
+patch_tried ConDirAcc r own = part_tried ConDirAcc r own
+patch_tried ConDirBas r own = part_tried ConDirBas r own
+patch_tried All r own = (own.0, omega (arith, own.1))
+patch_tried AllWithRanks r own = (own.0, omega (arith, own.1))

@@ -7,16 +7,16 @@ use Rattle.std.proofs.lemmas.List.FromFn.{length-map-range_with_len}
 use Rattle.std.proofs.Math.Nat.{mul-le-mul_right}
 use Rattle.drain_grid.specs.declared.cell.Cell.{Cell}
 use Rattle.drain_grid.specs.declared.rule.Rule.{Rule}
-use Rattle.drain_grid.specs.Rule.{IsAnyRule, IsFillRule}
+use Rattle.drain_grid.specs.Rule.{IsFillRule}
 use Rattle.drain_grid.specs.Extent.{row_cells, IsEarlier}
 use Rattle.drain_grid.specs.Grid.{Grid, Products, IsInside}
 use Rattle.drain_grid.specs.Counts.{is_data, is_raised}
 use Rattle.drain_grid.specs.PatchRules.{Profile, fill_rules}
 use Rattle.drain_grid.specs.GridRules.{HoldsAt, RulesHold, IsEarlierPair, IsFirstFault}
-use Rattle.drain_rules.specs.declared.fill_walk.FillVerdict.TheVariants as fill
+use Rattle.drain_grid.specs.declared.fill_verdict.FillVerdict.TheVariants as fill
 use Rattle.drain_rules.specs.declared.tally.Tally.{Tally}
 use Rattle.drain_rules.specs.FillVerdicts.{IsFillVerdict}
-use Rattle.drain_rules.specs.Labels.{HasNewLabel}
+use Rattle.drain_rules.specs.Labels.{IsNewLabelAt}
 use Rattle.drain_rules.specs.Verdicts.{has_outlet_code}
 use Rattle.drain_rules.specs.RowOutcomes.{cells_above, CountsAbove}
 use Rattle.drain_rules.specs.Rows.{place, HoldAlong, CountsAlong, IsRowFault, IsNewLabelAlong}
@@ -109,16 +109,18 @@ IsFirstFault-row profile IsOwn g ps row col rule inside above here = record {
     first b q in_grid own (inl earlier) = before-cell profile IsOwn g ps row col above here.before b q in_grid earlier own
     first b q in_grid own (inr same) = subst (λ c. HoldsAt profile g ps c q) (sym same.0) (here.smaller q own same.1)
 
--- where the rows above keep every rule, a new label of the row is one of the grid
-pub HasNewLabel-row : (profile : Profile) (g : Grid) (ps : Products) (row col : ℕ) →
-    ((r : ℕ) → r < row → HoldAlong profile IsAnyRule g ps r g.extent.cols) → IsNewLabelAlong profile g ps row col → HasNewLabel profile g ps
-HasNewLabel-row profile g ps row col above along = (
+-- where the rows above keep one's own rules, a new label of the row is one of the grid
+pub HasNewLabel-row : (profile : Profile) (IsOwn : Rule → Type 0) (g : Grid) (ps : Products) (row col : ℕ) →
+    ((r : ℕ) → r < row → HoldAlong profile IsOwn g ps r g.extent.cols) → IsNewLabelAlong profile IsOwn g ps row col →
+    (c : Cell) × IsNewLabelAt profile IsOwn g ps c
+HasNewLabel-row profile IsOwn g ps row col above along = (
   place row col,
   record {
     has_data = along.has_data;
     code = along.code;
+    is_new = along.is_new;
     here = λ rule own. along.holds col rule (omega arith) own;
-    before = before-cell profile IsAnyRule g ps row col above (λ k rule less own. along.holds k rule (omega arith) own);
+    before = before-cell profile IsOwn g ps row col above (λ k rule less own. along.holds k rule (omega arith) own);
   },
 )
 

@@ -8,8 +8,8 @@ use Rattle.std.proofs.lemmas.List.FromFn.{sum_by-map-range_with_len_more, length
 use Rattle.drain_basin.specs.Admitted.{IsAdmitted}
 use Rattle.drain_grid.specs.declared.patch.Patch.{Patch}
 use Rattle.drain_grid.specs.declared.rule.Rule.{Rule}
-use Rattle.drain_grid.specs.declared.rule.Rule.TheVariants.{SharedLabel}
-use Rattle.drain_grid.specs.Rule.{IsAnyRule}
+use Rattle.drain_grid.specs.declared.judged.Judged.{Judged}
+use Rattle.drain_grid.specs.RulesAbout.{IsTried}
 use Rattle.drain_grid.specs.Grid.{Grid, Products}
 use Rattle.drain_grid.specs.PatchRules.{Profile}
 use Rattle.drain_kernel.specs.Kept.{IsKept}
@@ -19,6 +19,7 @@ use Rattle.drain_rules.specs.KeptRuns.{shows_raised, raised_between}
 use Rattle.drain_rules.specs.Labels.{IsLabelOf, labelled_profile}
 use Rattle.drain_rules.specs.PatchRows.{AreRowPatches, IsAtMost}
 use Rattle.drain_rules.specs.Rows.{CountsAlong}
+use Rattle.drain_rules.proofs.Faults.{holds_tried}
 use Rattle.drain_rules.proofs.PassedCells.{IsPassed, passed-more}
 use Rattle.drain_rules.proofs.RowLemmas.{CountsAlong-more}
 
@@ -48,10 +49,9 @@ counts_none (Some h) dir other = elim (int_eq dir (pos 0)) as (λ b. int_eq dir 
   | false ↦ λ differs. refl
 ] refl
 
--- every rule holds at a cleared cell, whatever labels were admitted
-kept_holds : (profile : Profile) (labels : List (ℕ × ℕ)) (p : Patch) → IsKept profile p → (r : Rule) → IsAnyRule r → labelled_profile profile labels p r
-kept_holds profile labels p kept SharedLabel own = λ outlet. absurd (kept.no_outlet outlet.code)
-kept_holds profile labels p kept r own = kept.holds r (omega arith, omega arith)
+-- every rule that is tried holds at a cleared cell, whatever labels were admitted
+kept_holds : (judged : Judged) (profile : Profile) (labels : List (ℕ × ℕ)) (p : Patch) → IsKept profile p → (r : Rule) → IsTried judged r → labelled_profile profile labels p r
+kept_holds judged profile labels p kept = holds_tried judged profile labels p kept.holds (λ own outlet. absurd (kept.no_outlet outlet.code))
 
 -- and it has no label to admit
 pub no_label : (profile : Profile) (labels : List (ℕ × ℕ)) (p : Patch) → IsKept profile p → (label : ℤ) →
@@ -112,16 +112,17 @@ module _ (profile : Profile) (g : Grid) (ps : Products) (row cols : ℕ) (shown 
       (omega (arith, data_cells, counts_one p.here.z at.has_data)) raised (omega (arith, outlets, counts_none p.here.z p.here.dir at.no_outlet)))
       from kept old new
 
+module _ (judged : Judged) (profile : Profile) (g : Grid) (ps : Products) (row cols : ℕ) (shown : ℕ → Patch) where
   -- and they are passed
   pub passed-kept : (labels : List (ℕ × ℕ)) (from : ℕ) (kept : Kept) (old new : Tally) → AreRowPatches g ps row cols shown → from ≤ kept.end → kept.end ≤ cols →
-      IsPassed profile g ps row from old labels → ((col : ℕ) → from ≤ col → col < kept.end → IsKept profile (shown col)) →
+      IsPassed profile (IsTried judged) g ps row from old labels → ((col : ℕ) → from ≤ col → col < kept.end → IsKept profile (shown col)) →
       kept.raised ≡ raised_between shown from kept.end → new.data_cells ≡ old.data_cells + (kept.end - from) → new.raised ≡ old.raised + kept.raised →
-      new.outlets ≡ old.outlets → IsPassed profile g ps row kept.end new labels
+      new.outlets ≡ old.outlets → IsPassed profile (IsTried judged) g ps row kept.end new labels
   passed-kept labels from kept old new are =
-      kept_run profile cols shown (λ col tally. IsPassed profile g ps row col tally labels)
+      kept_run profile cols shown (λ col tally. IsPassed profile (IsTried judged) g ps row col tally labels)
       (λ col old new less so_far at data_cells raised outlets.
       let p = shown col in
-      passed-more profile g ps row col cols shown p.here old new labels labels are less refl so_far (kept_holds profile labels p at)
+      passed-more profile (IsTried judged) g ps row col cols shown p.here old new labels labels are less refl so_far (kept_holds judged profile labels p at)
       (omega (arith, data_cells, counts_one p.here.z at.has_data)) raised (omega (arith, outlets, counts_none p.here.z p.here.dir at.no_outlet)) (no_label profile labels p at))
       from kept old new
 

@@ -7,6 +7,7 @@ pub mod KeptCells
 pub mod LabelsBefore
 pub mod LanedCounts
 pub mod LanedPatches
+pub mod PartFaults
 pub mod PassedCells
 pub mod PatchFaults
 pub mod RightVoids

@@ -1,5 +1,5 @@
 -- A void with no-data numbers keeps every rule, and so it is passed: it adds nothing to a count, and has no label.
-use Rattle.std.proofs.Common.{◌≡◌, ℕ, ℤ, ◌+◌, ◌<◌, ◌≤◌, ◌↔◌, ◌⊎◌, cond, ◌&&◌, int_lt, is_some, unwrap_or, IsNone, pos, Bool, List, Option, Some, None, inl, inr, refl, arith}
+use Rattle.std.proofs.Common.{◌≡◌, ℕ, ℤ, ◌+◌, ◌<◌, ◌≤◌, ◌↔◌, ◌⊎◌, cond, ◌&&◌, int_lt, is_some, unwrap_or, IsNone, pos, Bool, true, false, List, Option, Some, None, inl, inr, refl, arith}
 use Rattle.std.specs.Ordering.{int_eq}
 use Rattle.drain_basin.specs.Admitted.{IsAdmitted}
 use Rattle.drain_grid.specs.declared.set_product.SetProduct.TheVariants.{Con, Dir, Acc, Bas, Rnk}
@@ -8,19 +8,21 @@ use Rattle.drain_grid.specs.declared.rule.Rule.{Rule}
 use Rattle.drain_grid.specs.declared.rule.Rule.TheVariants.{VoidCell, Missing, BadCode, BelowGround, OpenRaised, NoSpill, SpillHeight, SpillRank, NotLeast, Slope, OutletCode, FlatStep, Accumulation, Label, SharedLabel}
 use Rattle.drain_grid.specs.Grid.{Grid, Products}
 use Rattle.drain_grid.specs.PatchRules.{Profile}
-use Rattle.drain_grid.specs.Rule.{IsAnyRule}
+use Rattle.drain_grid.specs.declared.judged.Judged.{Judged}
+use Rattle.drain_grid.specs.declared.judged.Judged.TheVariants as rasters
+use Rattle.drain_grid.specs.RulesAbout.{IsBlankPart, IsTried, part_rules, rules_about}
 use Rattle.drain_grid.specs.Unranked.{IsBlankWithoutRank}
 use Rattle.drain_grid.specs.Values.{IsBlankWithoutSpill, NoDataNumbers, Values}
 use Rattle.drain_grid.proofs.Options.{void_data}
-use Rattle.drain_kernel.specs.declared.rules.Ranks.{Ranks}
-use Rattle.drain_kernel.specs.declared.rules.Ranks.TheVariants.{Checked, Ignored}
-use Rattle.drain_kernel.specs.declared.rules.Rules.{Rules}
-use Rattle.drain_kernel.specs.Checked.{IfChecked}
-use Rattle.drain_kernel.specs.Rules.{rules_with, tried}
+use Rattle.drain_grid.specs.declared.judged.Rules.{Rules}
+use Rattle.drain_grid.specs.Judged.{IfJudged, has_acc, has_bas, has_dir, has_rnk}
+use Rattle.drain_grid.specs.RulesAbout.{tried}
+use Rattle.drain_kernel.specs.Rules.{rules_with}
 use Rattle.drain_rules.specs.declared.tally.Tally.{Tally}
 use Rattle.drain_rules.specs.BlankVoids.{IsBlankVoid, IsRightVoid}
 use Rattle.drain_rules.specs.Labels.{IsLabelOf, labelled_profile}
 use Rattle.drain_rules.specs.PatchRows.{AreRowPatches}
+use Rattle.drain_rules.proofs.Faults.{holds_tried}
 use Rattle.drain_rules.proofs.PassedCells.{IsPassed, passed-more}
 use Rattle.drain_rules.proofs.RowRuns.{along_run}
 
@@ -33,43 +35,83 @@ blank_five nodata v blank rank Bas = blank.bas_is
 blank_five nodata v blank rank Rnk = rank
 
 -- each rule holds at such a void
-holds_at_void : (ranks : Ranks) (nodata : NoDataNumbers) (p : Patch) (r : Rule) → IsNone p.here.z → IsBlankWithoutRank nodata p.here →
-    IfChecked ranks (p.here.rnk ≡ nodata.rnk) → rules_with ranks nodata p r
-holds_at_void Checked nodata p VoidCell void blank rank = λ again. blank_five nodata p.here blank rank
-holds_at_void Ignored nodata p VoidCell void blank rank = λ again. blank
-holds_at_void Checked nodata p Missing void blank rank = λ there. void_data p.here.z void there
-holds_at_void Ignored nodata p Missing void blank rank = λ there. void_data p.here.z void there
-holds_at_void Checked nodata p BadCode void blank rank = λ there. void_data p.here.z void there
-holds_at_void Ignored nodata p BadCode void blank rank = λ there. void_data p.here.z void there
-holds_at_void Checked nodata p BelowGround void blank rank = λ there. void_data p.here.z void there
-holds_at_void Ignored nodata p BelowGround void blank rank = λ there. void_data p.here.z void there
-holds_at_void Checked nodata p OpenRaised void blank rank = λ opened. void_data p.here.z void opened.0
-holds_at_void Ignored nodata p OpenRaised void blank rank = λ opened. void_data p.here.z void opened.0
-holds_at_void Checked nodata p NoSpill void blank rank = tt
-holds_at_void Ignored nodata p NoSpill void blank rank = tt
-holds_at_void Checked nodata p SpillHeight void blank rank = tt
-holds_at_void Ignored nodata p SpillHeight void blank rank = tt
-holds_at_void Checked nodata p SpillRank void blank rank = tt
-holds_at_void Ignored nodata p SpillRank void blank rank = tt
-holds_at_void Checked nodata p NotLeast void blank rank = λ there. void_data p.here.z void there
-holds_at_void Ignored nodata p NotLeast void blank rank = λ there. void_data p.here.z void there
-holds_at_void Checked nodata p Slope void blank rank = λ lower. void_data p.here.z void lower.0
-holds_at_void Ignored nodata p Slope void blank rank = λ lower. void_data p.here.z void lower.0
-holds_at_void Checked nodata p OutletCode void blank rank = λ opened. void_data p.here.z void opened.0
-holds_at_void Ignored nodata p OutletCode void blank rank = λ opened. void_data p.here.z void opened.0
-holds_at_void Checked nodata p FlatStep void blank rank = λ closed. void_data p.here.z void closed.0
-holds_at_void Ignored nodata p FlatStep void blank rank = λ closed. void_data p.here.z void closed.0
-holds_at_void Checked nodata p Accumulation void blank rank = λ there. void_data p.here.z void there
-holds_at_void Ignored nodata p Accumulation void blank rank = λ there. void_data p.here.z void there
-holds_at_void Checked nodata p Label void blank rank = λ there. void_data p.here.z void there
-holds_at_void Ignored nodata p Label void blank rank = λ there. void_data p.here.z void there
-holds_at_void Checked nodata p SharedLabel void blank rank = tt
-holds_at_void Ignored nodata p SharedLabel void blank rank = tt
+holds_at_void : (ranks : Bool) (nodata : NoDataNumbers) (p : Patch) (r : Rule) → IsNone p.here.z → IsBlankWithoutRank nodata p.here →
+    IfJudged ranks (p.here.rnk ≡ nodata.rnk) → rules_with ranks nodata p r
+holds_at_void true nodata p VoidCell void blank rank = λ again. blank_five nodata p.here blank rank
+holds_at_void false nodata p VoidCell void blank rank = λ again. blank
+holds_at_void true nodata p Missing void blank rank = λ there. void_data p.here.z void there
+holds_at_void false nodata p Missing void blank rank = λ there. void_data p.here.z void there
+holds_at_void true nodata p BadCode void blank rank = λ there. void_data p.here.z void there
+holds_at_void false nodata p BadCode void blank rank = λ there. void_data p.here.z void there
+holds_at_void true nodata p BelowGround void blank rank = λ there. void_data p.here.z void there
+holds_at_void false nodata p BelowGround void blank rank = λ there. void_data p.here.z void there
+holds_at_void true nodata p OpenRaised void blank rank = λ opened. void_data p.here.z void opened.0
+holds_at_void false nodata p OpenRaised void blank rank = λ opened. void_data p.here.z void opened.0
+holds_at_void true nodata p NoSpill void blank rank = tt
+holds_at_void false nodata p NoSpill void blank rank = tt
+holds_at_void true nodata p SpillHeight void blank rank = tt
+holds_at_void false nodata p SpillHeight void blank rank = tt
+holds_at_void true nodata p SpillRank void blank rank = tt
+holds_at_void false nodata p SpillRank void blank rank = tt
+holds_at_void true nodata p NotLeast void blank rank = λ there. void_data p.here.z void there
+holds_at_void false nodata p NotLeast void blank rank = λ there. void_data p.here.z void there
+holds_at_void true nodata p Slope void blank rank = λ lower. void_data p.here.z void lower.0
+holds_at_void false nodata p Slope void blank rank = λ lower. void_data p.here.z void lower.0
+holds_at_void true nodata p OutletCode void blank rank = λ opened. void_data p.here.z void opened.0
+holds_at_void false nodata p OutletCode void blank rank = λ opened. void_data p.here.z void opened.0
+holds_at_void true nodata p FlatStep void blank rank = λ closed. void_data p.here.z void closed.0
+holds_at_void false nodata p FlatStep void blank rank = λ closed. void_data p.here.z void closed.0
+holds_at_void true nodata p Accumulation void blank rank = λ there. void_data p.here.z void there
+holds_at_void false nodata p Accumulation void blank rank = λ there. void_data p.here.z void there
+holds_at_void true nodata p Label void blank rank = λ there. void_data p.here.z void there
+holds_at_void false nodata p Label void blank rank = λ there. void_data p.here.z void there
+holds_at_void true nodata p SharedLabel void blank rank = tt
+holds_at_void false nodata p SharedLabel void blank rank = tt
+
+-- and so does each rule about some rasters
+if_judged : (b : Bool) (P : Type 0) → P → IfJudged b P
+if_judged true P holds = holds
+if_judged false P holds = tt
+
+part_at_void : (judged : Judged) (nodata : NoDataNumbers) (p : Patch) (r : Rule) → IsNone p.here.z → IsBlankPart judged nodata p.here →
+    part_rules judged nodata p r
+part_at_void judged nodata p VoidCell void blank = λ again. blank
+part_at_void judged nodata p Missing void blank = λ there. void_data p.here.z void there
+part_at_void judged nodata p BadCode void blank = if_judged (has_dir judged) _ (λ there. void_data p.here.z void there)
+part_at_void judged nodata p BelowGround void blank = λ there. void_data p.here.z void there
+part_at_void judged nodata p OpenRaised void blank = λ opened. void_data p.here.z void opened.0
+part_at_void judged nodata p NoSpill void blank = tt
+part_at_void judged nodata p SpillHeight void blank = tt
+part_at_void judged nodata p SpillRank void blank = tt
+part_at_void judged nodata p NotLeast void blank = λ there. void_data p.here.z void there
+part_at_void judged nodata p Slope void blank = if_judged (has_dir judged) _ (λ lower. void_data p.here.z void lower.0)
+part_at_void judged nodata p OutletCode void blank = if_judged (has_dir judged) _ (λ opened. void_data p.here.z void opened.0)
+part_at_void judged nodata p FlatStep void blank = if_judged (has_dir judged) _ (λ closed. void_data p.here.z void closed.0)
+part_at_void judged nodata p Accumulation void blank = if_judged (has_acc judged) _ (λ there. void_data p.here.z void there)
+part_at_void judged nodata p Label void blank = if_judged (has_bas judged) _ (λ there. void_data p.here.z void there)
+part_at_void judged nodata p SharedLabel void blank = tt
+
+-- the four, where all are judged
+blank_four : (nodata : NoDataNumbers) (v : Values) → v.con ≡ nodata.con → v.dir ≡ nodata.dir → v.acc ≡ nodata.acc → v.bas ≡ nodata.bas →
+    IsBlankWithoutRank nodata v
+blank_four nodata v con dir acc bas = record { con_is = con; dir_is = dir; acc_is = acc; bas_is = bas }
+
+-- so each rule about the judged rasters does
+about_void : (judged : Judged) (nodata : NoDataNumbers) (p : Patch) (r : Rule) → IsNone p.here.z → IsBlankPart judged nodata p.here →
+    IfJudged (has_rnk judged) (p.here.rnk ≡ nodata.rnk) → rules_about judged nodata p r
+about_void rasters.Con nodata p r void blank rank = part_at_void rasters.Con nodata p r void blank
+about_void rasters.ConDir nodata p r void blank rank = part_at_void rasters.ConDir nodata p r void blank
+about_void rasters.ConDirAcc nodata p r void blank rank = part_at_void rasters.ConDirAcc nodata p r void blank
+about_void rasters.ConDirBas nodata p r void blank rank = part_at_void rasters.ConDirBas nodata p r void blank
+about_void rasters.All nodata p r void blank rank =
+    holds_at_void false nodata p r void (blank_four nodata p.here blank.con_is blank.dir_is blank.acc_is blank.bas_is) rank
+about_void rasters.AllWithRanks nodata p r void blank rank =
+    holds_at_void true nodata p r void (blank_four nodata p.here blank.con_is blank.dir_is blank.acc_is blank.bas_is) rank
 
 -- so it is a right void
 pub right_void : (rules : Rules) (p : Patch) → IsBlankVoid rules p.here → IsRightVoid (tried rules) p
 right_void rules p is = record {
-  holds = λ r own. holds_at_void rules.ranks rules.nodata p r is.is_void is.blank is.no_rank;
+  holds = λ r own. about_void rules.judged rules.nodata p r is.is_void is.blank is.no_rank;
   is_void = is.is_void;
 }
 
@@ -82,10 +124,10 @@ pub void_is_no_data : (z : Option ℤ) → IsNone z → ◌≡◌ {A = ℕ} (con
 void_is_no_data None void = refl
 void_is_no_data (Some h) void = absurd (grind (arith, void))
 
--- every rule holds at a right void, whatever labels were admitted
-void_holds : (profile : Profile) (labels : List (ℕ × ℕ)) (p : Patch) → IsRightVoid profile p → (r : Rule) → IsAnyRule r → labelled_profile profile labels p r
-void_holds profile labels p right SharedLabel own = λ outlet. void_data p.here.z right.is_void outlet.has_data
-void_holds profile labels p right r own = right.holds r (omega arith, omega arith)
+-- every rule that is tried holds at a right void, whatever labels were admitted
+void_holds : (judged : Judged) (profile : Profile) (labels : List (ℕ × ℕ)) (p : Patch) → IsRightVoid profile p → (r : Rule) → IsTried judged r → labelled_profile profile labels p r
+void_holds judged profile labels p right =
+    holds_tried judged profile labels p right.holds (λ own outlet. absurd (void_data p.here.z right.is_void outlet.has_data))
 
 -- and it has no label to admit
 void_label : (profile : Profile) (labels : List (ℕ × ℕ)) (p : Patch) → IsRightVoid profile p → (label : ℤ) →
@@ -98,17 +140,17 @@ void_label profile labels p right label = (
   ]),
 )
 
-module _ (profile : Profile) (g : Grid) (ps : Products) (row cols : ℕ) (shown : ℕ → Patch) (labels : List (ℕ × ℕ)) (tally : Tally) where
+module _ (judged : Judged) (profile : Profile) (g : Grid) (ps : Products) (row cols : ℕ) (shown : ℕ → Patch) (labels : List (ℕ × ℕ)) (tally : Tally) where
   -- the voids that a row passes over are passed
-  pub passed-voids : (from end : ℕ) → AreRowPatches g ps row cols shown → from ≤ end → end ≤ cols → IsPassed profile g ps row from tally labels →
-      ((col : ℕ) → from ≤ col → col < end → IsRightVoid profile (shown col)) → IsPassed profile g ps row end tally labels
+  pub passed-voids : (from end : ℕ) → AreRowPatches g ps row cols shown → from ≤ end → end ≤ cols → IsPassed profile (IsTried judged) g ps row from tally labels →
+      ((col : ℕ) → from ≤ col → col < end → IsRightVoid profile (shown col)) → IsPassed profile (IsTried judged) g ps row end tally labels
   passed-voids from end are forward within passed right =
-      along_run (λ col. IsPassed profile g ps row col tally labels) (λ col. IsRightVoid profile (shown col)) cols one from end forward within right passed
+      along_run (λ col. IsPassed profile (IsTried judged) g ps row col tally labels) (λ col. IsRightVoid profile (shown col)) cols one from end forward within right passed
     where
-      one : (col : ℕ) → col < cols → IsRightVoid profile (shown col) → IsPassed profile g ps row col tally labels → IsPassed profile g ps row (col + 1) tally labels
+      one : (col : ℕ) → col < cols → IsRightVoid profile (shown col) → IsPassed profile (IsTried judged) g ps row col tally labels → IsPassed profile (IsTried judged) g ps row (col + 1) tally labels
       one col less right so_far =
           let p = shown col in
-          passed-more profile g ps row col cols shown p.here tally tally labels labels are less refl so_far (void_holds profile labels p right)
+          passed-more profile (IsTried judged) g ps row col cols shown p.here tally tally labels labels are less refl so_far (void_holds judged profile labels p right)
           (omega (arith, void_is_no_data p.here.z right.is_void))
           (omega (arith, void_counts p.here.z (int_lt (unwrap_or p.here.z (pos 0)) p.here.con) right.is_void))
           (omega (arith, void_counts p.here.z (int_eq p.here.dir (pos 0)) right.is_void)) (void_label profile labels p right)

@@ -6,11 +6,11 @@ use Rattle.drain_grid.specs.Counts.{data_count, raised_count}
 use Rattle.drain_grid.specs.Rule.{IsFillRule}
 use Rattle.drain_grid.specs.PatchRules.{fill_rules}
 use Rattle.drain_grid.specs.GridRules.{RulesHold, IsFirstFault}
-use Rattle.drain_rules.specs.declared.fill_walk.FillCounts.{FillCounts}
-use Rattle.drain_rules.specs.declared.fill_walk.FillVerdict.{FillVerdict}
-use Rattle.drain_rules.specs.declared.fill_walk.FillVerdict.TheVariants.{Accepted, Rejected}
-use Rattle.drain_rules.specs.declared.fill_walk.FillRefusal.{FillRefusal}
-use Rattle.drain_rules.specs.declared.fill_walk.FillRefusal.TheVariants.{BadSide, BadLength}
+use Rattle.drain_grid.specs.declared.fill_verdict.FillCounts.{FillCounts}
+use Rattle.drain_grid.specs.declared.fill_verdict.FillVerdict.{FillVerdict}
+use Rattle.drain_grid.specs.declared.fill_verdict.FillVerdict.TheVariants.{Accepted, Rejected}
+use Rattle.drain_grid.specs.declared.fill_verdict.FillRefusal.{FillRefusal}
+use Rattle.drain_grid.specs.declared.fill_verdict.FillRefusal.TheVariants.{BadSide, BadLength}
 use Rattle.drain_rules.specs.Fill.{IsFillLength, fill_grid, fill_products}
 
 -- the size of the tile, and how many of its cells have data and are raised

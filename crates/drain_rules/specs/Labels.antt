@@ -5,12 +5,13 @@ use Rattle.drain_basin.specs.Admitted.{IsAdmitted}
 use Rattle.drain_grid.specs.declared.cell.Cell.{Cell}
 use Rattle.drain_grid.specs.declared.rule.Rule.{Rule}
 use Rattle.drain_grid.specs.declared.rule.Rule.TheVariants.{SharedLabel}
-use Rattle.drain_grid.specs.Rule.{IsAnyRule}
+use Rattle.drain_grid.specs.declared.judged.Rules.{Rules}
+use Rattle.drain_grid.specs.RulesAbout.{IsTried, tried}
 use Rattle.drain_grid.specs.Extent.{IsEarlier}
 use Rattle.drain_grid.specs.Values.{Values}
 use Rattle.drain_grid.specs.Grid.{Grid, Products, IsInside, HasData}
 use Rattle.drain_grid.specs.PatchRules.{Profile}
-use Rattle.drain_grid.specs.GridRules.{HoldsAt}
+use Rattle.drain_grid.specs.GridRules.{HoldsAt, SharedLabelHolds}
 
 -- the values of a data cell with code 0
 pub record IsOutletByCode (v : Values) : Type 0 where
@@ -22,17 +23,18 @@ pub record IsLabelOf (v : Values) (label : ℤ) : Type 0 where
   pub outlet : IsOutletByCode v
   pub label_is : label ≡ v.bas
 
--- a new label has to be admitted at the cell: it is a data cell with code 0, and every rule that is tried holds there
--- and at each earlier cell. So by SharedLabel no earlier one has its label
-pub record IsNewLabelAt (profile : Profile) (g : Grid) (ps : Products) (c : Cell) : Type 0 where
+-- a new label has to be admitted at the cell: it is a data cell with code 0 whose label no earlier one has, and one's own
+-- rules hold there and at each earlier cell
+pub record IsNewLabelAt (profile : Profile) (IsOwn : Rule → Type 0) (g : Grid) (ps : Products) (c : Cell) : Type 0 where
   pub has_data : HasData g c
   pub code : ps.dir c ≡ pos 0
-  pub here : (rule : Rule) → IsAnyRule rule → HoldsAt profile g ps c rule
-  pub before : (b : Cell) (rule : Rule) → IsInside g b → IsEarlier b c → IsAnyRule rule → HoldsAt profile g ps b rule
+  pub is_new : SharedLabelHolds g ps c
+  pub here : (rule : Rule) → IsOwn rule → HoldsAt profile g ps c rule
+  pub before : (b : Cell) (rule : Rule) → IsInside g b → IsEarlier b c → IsOwn rule → HoldsAt profile g ps b rule
 
--- there is such a cell
-abbrev pub HasNewLabel : Profile → Grid → Products → Type 0
-HasNewLabel profile g ps = (c : Cell) × IsNewLabelAt profile g ps c
+-- there is such a cell, by these rules
+abbrev pub HasNewLabel : Rules → Grid → Products → Type 0
+HasNewLabel rules g ps = (c : Cell) × IsNewLabelAt (tried rules) (IsTried rules.judged) g ps c
 
 -- a data cell with code 0 before this place in row order has the label
 pub record IsLabelBefore (g : Grid) (ps : Products) (place : Cell) (label : ℤ) : Type 0 where

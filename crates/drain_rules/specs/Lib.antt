@@ -3,8 +3,7 @@ pub mod Fill
 pub mod FillVerdicts
 pub mod Filled
 pub mod RowOutcomes
-pub mod GridWalks
-pub mod Cleared
+pub mod Walks
 pub mod KeptRuns
 pub mod Labels
 pub mod LanedRows

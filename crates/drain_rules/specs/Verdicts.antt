@@ -4,16 +4,19 @@ use Rattle.std.specs.Prelude.{◌≡◌, ℕ, pos, Bool, ◌&&◌, Result, Ok, E
 use Rattle.std.specs.List.{count_by}
 use Rattle.std.specs.Ordering.{int_eq}
 use Rattle.drain_grid.specs.declared.cell.Cell.{Cell}
+use Rattle.drain_grid.specs.declared.judged.Rules.{Rules}
+use Rattle.drain_grid.specs.declared.rule.Rule.{Rule}
 use Rattle.drain_grid.specs.Extent.{cells}
 use Rattle.drain_grid.specs.Values.{NoDataNumbers}
 use Rattle.drain_grid.specs.Grid.{Grid, Products}
 use Rattle.drain_grid.specs.Counts.{is_data, data_count, raised_count}
 use Rattle.drain_grid.specs.Rule.{IsAnyRule}
+use Rattle.drain_grid.specs.RulesAbout.{IsTried, tried}
 use Rattle.drain_grid.specs.PatchRules.{Profile, check_rules}
 use Rattle.drain_grid.specs.GridRules.{RulesHold, IsFirstFault}
-use Rattle.drain_rules.specs.declared.verdict.Counts.{Counts}
-use Rattle.drain_rules.specs.declared.verdict.Verdict.{Verdict}
-use Rattle.drain_rules.specs.declared.verdict.Verdict.TheVariants.{Accepted, Rejected}
+use Rattle.drain_grid.specs.declared.verdict.Counts.{Counts}
+use Rattle.drain_grid.specs.declared.verdict.Verdict.{Verdict}
+use Rattle.drain_grid.specs.declared.verdict.Verdict.TheVariants.{Accepted, Rejected}
 
 -- the cell has data, and its direction is 0
 abbrev pub has_outlet_code : Grid → Products → Cell → Bool
@@ -33,10 +36,18 @@ counts_of g ps = record {
   outlets = outlet_count g ps;
 }
 
--- accepted where every rule of the profile holds at every cell, else rejected with the first fault
+-- accepted where one's own rules hold at every cell, else rejected with their first fault
+abbrev pub IsVerdictAmong : Profile → (Rule → Type 0) → Grid → Products → Verdict → Type 0
+IsVerdictAmong profile IsOwn g ps (Accepted counts) = RulesHold profile IsOwn g ps × (counts ≡ counts_of g ps)
+IsVerdictAmong profile IsOwn g ps (Rejected rule row col) = IsFirstFault profile IsOwn g ps (record { row = row; col = col }) rule
+
+-- so of every rule of the profile
 abbrev pub IsVerdictOf : Profile → Grid → Products → Verdict → Type 0
-IsVerdictOf profile g ps (Accepted counts) = RulesHold profile IsAnyRule g ps × (counts ≡ counts_of g ps)
-IsVerdictOf profile g ps (Rejected rule row col) = IsFirstFault profile IsAnyRule g ps (record { row = row; col = col }) rule
+IsVerdictOf profile = IsVerdictAmong profile IsAnyRule
+
+-- so of the rules about judged rasters
+abbrev pub IsVerdictBy : Rules → Grid → Products → Verdict → Type 0
+IsVerdictBy rules = IsVerdictAmong (tried rules) (IsTried rules.judged)
 
 -- the same of the rules of a check
 abbrev pub IsVerdict : Grid → Products → NoDataNumbers → Verdict → Type 0

@@ -1,19 +1,18 @@
-//! All rules at one cell, given the labels of the outlets before it.
+//! All rules that are tried at one cell, given the labels of the outlets before it.
 
 ghost use Rattle.std.specs.Prelude.{◌≡◌, ◌<◌, ◌↔◌, ◌⊎◌, ℤ, IsTrue, IfOk, IfErr, OnOk, OnErr, None};
 ghost use Rattle.drain_basin.specs.Admitted.{IsAdmitted};
 ghost use Rattle.drain_grid.specs.PatchRules.{BelowGroundHolds};
-ghost use Rattle.drain_grid.specs.Rule.{IsAnyRule, IsLeastFault, IsPatchRule};
+ghost use Rattle.drain_grid.specs.Rule.{IsLeastFault, IsPatchRule};
 ghost use Rattle.drain_rules.specs.Labels.{IsOutletByCode, IsLabelOf, labelled_profile};
-ghost use Rattle.drain_kernel.specs.Rules.{tried};
+ghost use Rattle.drain_grid.specs.RulesAbout.{IsTried, tried};
 ghost use Rattle.drain_rules.specs.Stops.{IsCellStop};
 
 use crate::outlet::is_outlet_by_code;
 use crate::patch_row::PatchRow;
 use crate::patch_rules::screened_fault;
 use drain_basin::OutletLabels;
-use drain_grid::{CellValues, OutOfMemory, Rule};
-use drain_kernel::Rules;
+use drain_grid::{CellValues, OutOfMemory, Rule, Rules};
 
 /// Why a walk stops.
 #[derive(Clone, Copy, PartialEq, Eq, Debug)]
@@ -23,7 +22,7 @@ pub enum Stop {
     OutOfMemory,
 }
 
-/// The first of the rules from VoidCell to Label that fails at a column of a row, none if they all hold.
+/// The first rule that is tried and fails at a column of a row, SharedLabel left out; none if they all hold.
 ///
 /// If the cell is known not to be below its ground (`is_above`), that isn't checked again. The patch is looked at only
 /// where the row doesn't show an outlet that keeps them.
@@ -39,12 +38,12 @@ fn fault_at<R: PatchRow>(row: &R, rules: &Rules, col: u32, is_above: bool) -> Op
     }
 }
 
-/// Tries every rule at a column of a row, and admits the label of the cell if it is an outlet by its code. Returns the
+/// Tries every rule about the judged rasters at a column of a row, and admits the label of the cell if it is an outlet by its code. Returns the
 /// cell's values.
 ///
 /// If the cell is known not to be below its ground (`is_above`), that isn't checked again. `labels` are those of the
-/// outlets before the cell. A label is admitted only if the other rules hold; `OutOfMemory` comes only from that, at an
-/// outlet whose label is new.
+/// outlets before the cell. They are compared only if labels are judged. A label is admitted only if the other rules
+/// hold; `OutOfMemory` comes only from that, at an outlet whose label is new.
 pub fn check_cell<R: PatchRow>(
     row: &R,
     rules: &Rules,
@@ -55,17 +54,22 @@ pub fn check_cell<R: PatchRow>(
     requires inside { col < R.len row.now }
     requires above { IsTrue is_above → BelowGroundHolds (R.shown row.now col) }
     ensures values { IfOk result (λ here. here ≡ (R.shown row.now col).here) }
-    ensures passed { OnOk result (IsLeastFault IsAnyRule (labelled_profile (tried rules.now) labels.old (R.shown row.now col)) None) }
+    ensures passed { OnOk result (IsLeastFault (IsTried rules.now.judged) (labelled_profile (tried rules.now) labels.old (R.shown row.now col)) None) }
     ensures labels { OnOk result ((label : ℤ) → IsAdmitted labels.new label ↔ (IsLabelOf (R.shown row.now col).here label ⊎ IsAdmitted labels.old label)) }
-    ensures stopped { IfErr result (IsCellStop (tried rules.now) labels.old (R.shown row.now col)) }
+    ensures stopped { IfErr result (IsCellStop (tried rules.now) (IsTried rules.now.judged) labels.old (R.shown row.now col)) }
 {
     if let Some(rule) = fault_at(row, rules, col, is_above) {
         return Err(Stop::Fault(rule));
     }
     let here = row.values(col);
     match admits_label(labels, &here) {
-        Ok(true) => Ok(here),
-        Ok(false) => Err(Stop::Fault(Rule::SharedLabel)),
+        Ok(is_new) => {
+            if is_new || !rules.judged.has_bas() {
+                Ok(here)
+            } else {
+                Err(Stop::Fault(Rule::SharedLabel))
+            }
+        }
         Err(OutOfMemory) => Err(Stop::OutOfMemory),
     }
 }

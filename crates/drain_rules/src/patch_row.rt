@@ -8,13 +8,12 @@ ghost use Rattle.drain_grid.specs.declared.patch.Patch.{Patch};
 ghost use Rattle.drain_grid.specs.PatchRules.{BelowGroundHolds};
 ghost use Rattle.drain_grid.specs.Rule.{IsLeastFault, IsPatchRule};
 ghost use Rattle.drain_kernel.specs.Kept.{IsKept};
-ghost use Rattle.drain_kernel.specs.Rules.{tried};
+ghost use Rattle.drain_grid.specs.RulesAbout.{tried};
 ghost use Rattle.drain_rules.specs.BlankVoids.{IsRightVoid};
 ghost use Rattle.drain_rules.specs.KeptRuns.{raised_between};
 
 use crate::kept::Kept;
-use drain_grid::{CellValues, Patch};
-use drain_kernel::Rules;
+use drain_grid::{CellValues, Patch, Rules};
 
 /// A row of a grid that shows the patch round each of its cells.
 pub trait PatchRow {
@@ -33,7 +32,7 @@ pub trait PatchRow {
     fn cells_above_ground(&self) -> u32
         ensures { (col : ℕ) → col < result → col < len self.now → BelowGroundHolds (shown self.now col) };
 
-    /// How far from a column on every rule but SharedLabel is found to hold at data cells that are no outlets, and how
+    /// How far from a column on every rule that is tried but SharedLabel is found to hold at data cells that are no outlets, and how
     /// many of them are raised. It may be fewer cells than there are, even none.
     fn kept_from(&self, rules: &Rules, from: u32) -> Kept
         requires { from ≤ len self.now }
@@ -42,7 +41,7 @@ pub trait PatchRow {
         ensures kept { (col : ℕ) → from ≤ col → col < result.end → IsKept (tried rules.now) (shown self.now col) }
         ensures raised { result.raised ≡ raised_between (shown self.now) from result.end };
 
-    /// A column up to which, from one on, all cells are found to be voids at which no rule fails. It may be an earlier
+    /// A column up to which, from one on, all cells are found to be voids at which no rule that is tried fails. It may be an earlier
     /// one, even that column.
     fn voids_until(&self, rules: &Rules, from: u32) -> u32
         requires { from ≤ len self.now }
@@ -50,7 +49,7 @@ pub trait PatchRow {
         ensures within { result ≤ len self.now }
         ensures right { (col : ℕ) → from ≤ col → col < result → IsRightVoid (tried rules.now) (shown self.now col) };
 
-    /// Whether every rule but SharedLabel is found to hold at a column, because the cell is a right outlet. False shows
+    /// Whether every rule that is tried but SharedLabel is found to hold at a column, because the cell is a right outlet. False shows
     /// nothing.
     fn is_right_outlet(&self, rules: &Rules, col: u32) -> bool
         requires { col < len self.now }

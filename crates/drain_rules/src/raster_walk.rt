@@ -2,18 +2,18 @@
 
 ghost use Rattle.std.specs.Prelude.{◌≡◌, ◌<◌, IfOk, OnErr};
 ghost use Rattle.drain_grid.specs.Correct.{IsCorrect, RunsAreSound};
-ghost use Rattle.drain_grid.specs.PatchRules.{check_rules};
+ghost use Rattle.drain_grid.specs.declared.judged.Judged.TheVariants.{AllWithRanks};
 ghost use Rattle.drain_grid.specs.WholeGrid.{grid_of, products_of, nodata_of};
 ghost use Rattle.drain_rules.specs.Labels.{HasNewLabel};
 ghost use Rattle.drain_rules.specs.Verdicts.{IsVerdict, IfAccepted};
 
-use crate::grid_walk::GridWalk;
 use crate::kept::Kept;
 use crate::patch_row::PatchRow;
-use crate::verdict::Verdict;
+use crate::walk::Walk;
 use drain_grid::laws::correct_from_rules;
-use drain_grid::{Cell, CellValues, Elevation, OutOfMemory, Patch, ProductSet, Sinks};
-use drain_kernel::{Ranks, Rules};
+use drain_grid::{
+    Cell, CellValues, Elevation, Judged, OutOfMemory, Patch, ProductSet, Rules, Sinks, Verdict,
+};
 use std::alloc::Global;
 
 /// The verdict on the products of a grid; its data cells that are listed sinks are open too. `OutOfMemory` comes only
@@ -27,7 +27,7 @@ pub fn verdict_of(
 ) -> Result<Verdict, OutOfMemory>
     requires same_shape { elevation.now.extent ≡ products.now.con.extent }
     ensures verdict { IfOk result (IsVerdict (grid_of elevation.now sinks.now) (products_of products.now) (nodata_of products.now)) }
-    ensures err { OnErr result (HasNewLabel (check_rules (nodata_of products.now)) (grid_of elevation.now sinks.now) (products_of products.now)) }
+    ensures err { OnErr result (HasNewLabel (record { nodata = nodata_of products.now; judged = AllWithRanks }) (grid_of elevation.now sinks.now) (products_of products.now)) }
 
     // What is accepted is correct, and every run is sound.
     ensures correct { IfAccepted result (IsCorrect (grid_of elevation.now sinks.now) (products_of products.now) (nodata_of products.now)) }
@@ -47,14 +47,14 @@ fn walk(
 ) -> Result<Verdict, OutOfMemory>
     requires same_shape { elevation.now.extent ≡ products.now.con.extent }
     ensures verdict { IfOk result (IsVerdict (grid_of elevation.now sinks.now) (products_of products.now) (nodata_of products.now)) }
-    ensures err { OnErr result (HasNewLabel (check_rules (nodata_of products.now)) (grid_of elevation.now sinks.now) (products_of products.now)) }
+    ensures err { OnErr result (HasNewLabel (record { nodata = nodata_of products.now; judged = AllWithRanks }) (grid_of elevation.now sinks.now) (products_of products.now)) }
 {
     let shape = elevation.shape();
     let rules = Rules {
         nodata: products.nodata(),
-        ranks: Ranks::Checked,
+        judged: Judged::AllWithRanks,
     };
-    let mut walk = GridWalk::new(alloc);
+    let mut walk = Walk::new(alloc);
     for row in 0..shape.rows() {
         let patches = RasterRow {
             elevation,

@@ -2,17 +2,16 @@
 
 ghost use Rattle.std.specs.Prelude.{◌+◌, IfOk, IfErr, OnOk};
 ghost use Rattle.drain_grid.specs.declared.cell.TheConstants.{MAX_LENGTH};
-ghost use Rattle.drain_grid.specs.Rule.{IsAnyRule};
 ghost use Rattle.drain_rules.specs.Labels.{AreLabelsBefore};
 ghost use Rattle.drain_rules.specs.Rows.{place, IsRowTally, IsRowStop};
 ghost use Rattle.drain_rules.specs.PatchRows.{OfRow, IsAtMost};
-ghost use Rattle.drain_kernel.specs.Rules.{tried};
+ghost use Rattle.drain_grid.specs.RulesAbout.{IsTried, tried};
 
 use crate::cell_rules::{Stop, check_cell};
 use crate::patch_row::PatchRow;
 use crate::tally::Tally;
 use drain_basin::OutletLabels;
-use drain_kernel::Rules;
+use drain_grid::Rules;
 
 /// Where a walk along a row stops, and why.
 #[derive(Clone, Copy, PartialEq, Eq, Debug)]
@@ -21,7 +20,7 @@ pub struct RowStop {
     pub col: u32,
 }
 
-/// Tries every rule at the cells of a row, from west to east. `labels` are those of the outlets in the rows above.
+/// Tries every rule about the judged rasters at the cells of a row, from west to east. `labels` are those of the outlets in the rows above.
 ///
 /// The result holds for every grid with this row. `OutOfMemory` comes only at an outlet whose label is new.
 pub fn check_row<R: PatchRow>(
@@ -29,9 +28,9 @@ pub fn check_row<R: PatchRow>(
     rules: &Rules,
     labels: &mut OutletLabels,
 ) -> Result<Tally, RowStop>
-    ensures tally { IfOk result (λ tally. OfRow (R.len row.now) (R.shown row.now) labels.old (λ g ps r. IsRowTally (tried rules.now) IsAnyRule g ps r tally)) }
+    ensures tally { IfOk result (λ tally. OfRow (R.len row.now) (R.shown row.now) labels.old (λ g ps r. IsRowTally (tried rules.now) (IsTried rules.now.judged) g ps r tally)) }
     ensures labels { OnOk result (OfRow (R.len row.now) (R.shown row.now) labels.old (λ g ps r. AreLabelsBefore g ps (place (r + 1) 0) labels.new)) }
-    ensures stopped { IfErr result (λ end. OfRow (R.len row.now) (R.shown row.now) labels.old (λ g ps r. IsRowStop (tried rules.now) g ps r end)) }
+    ensures stopped { IfErr result (λ end. OfRow (R.len row.now) (R.shown row.now) labels.old (λ g ps r. IsRowStop (tried rules.now) (IsTried rules.now.judged) g ps r end)) }
     ensures bounds { IfOk result (IsAtMost MAX_LENGTH) }
 {
     let cols = row.cols();

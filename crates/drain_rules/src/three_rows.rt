@@ -4,20 +4,18 @@ ghost use Rattle.std.specs.Prelude.{◌≡◌, ◌≤◌, ◌<◌, ℕ, IsTrue, 
 ghost use Rattle.drain_rules.specs.BlankVoids.{IsBlankVoid};
 ghost use Rattle.drain_rules.specs.MarkedRows.{values_in};
 ghost use Rattle.drain_kernel.specs.Kept.{IsKept};
-ghost use Rattle.drain_kernel.specs.Rules.{unsummed};
+ghost use Rattle.drain_grid.specs.RulesAbout.{tried};
 ghost use Rattle.drain_kernel.specs.Taken.{AreLanesOf};
-ghost use Rattle.drain_rules.specs.Cleared.{cleared_by};
 ghost use Rattle.drain_rules.specs.KeptRuns.{raised_between};
 ghost use Rattle.drain_rules.specs.ThreeRows.{patch_in};
 
 use crate::blank_void::is_blank_void;
 use crate::kept::Kept;
-use crate::lane_pass::{is_cleared_at, run_until};
 use crate::patch_row::PatchRow;
 use crate::row_view::RowView;
-use drain_grid::{CellValues, NoData, Patch};
+use drain_grid::{CellValues, Patch, Rules};
 use drain_kernel::laws::{lanes_show_numbers, raised_are_counted};
-use drain_kernel::{Lanes, Ranks, Rules, Sums, outlet_holds_at};
+use drain_kernel::{Lanes, falls_at, kept_until, outlet_holds_at};
 
 /// A row, and those above and below it; empty at the grid's edge.
 #[derive(Drop)]
@@ -48,12 +46,17 @@ impl PatchRow for ThreeRows<'_> {
         }
     }
 
-    /// Those that the lanes of the three rows clear; none if a row has no lanes.
+    /// Those that the lanes of the three rows clear; none if a row has no lanes, and none of con alone, since lanes clear
+    /// no cell without a direction.
     fn kept_from(&self, rules: &Rules, from: u32) -> Kept {
-        self.cleared_from(rules, Sums::Tested, from)
+        if rules.judged.has_dir() {
+            self.cleared_from(rules, from)
+        } else {
+            Kept::none(from)
+        }
     }
 
-    /// As far as products that the rules look at have their no-data numbers at voids.
+    /// As far as judged rasters have their no-data numbers at voids.
     fn voids_until(&self, rules: &Rules, from: u32) -> u32 {
         let cols = self.here.cols();
         let mut col = from;
@@ -63,8 +66,12 @@ impl PatchRow for ThreeRows<'_> {
         col
     }
 
-    /// Those that the lanes of the three rows show beside voids; none if a row has no lanes.
+    /// Those that the lanes of the three rows show beside voids; none if a row has no lanes, and none without an
+    /// accumulation, since an outlet is shown by its sum too.
     fn is_right_outlet(&self, rules: &Rules, col: u32) -> bool {
+        if !rules.judged.has_acc() {
+            return false;
+        }
         let (Some(above), Some(here), Some(below)) = (
             self.above.lanes(),
             self.here.lanes(),
@@ -101,7 +108,7 @@ impl PatchRow for ThreeRows<'_> {
 }
 
 impl ThreeRows<'_> {
-    /// Whether the cell at a column is a void at which products that the rules look at have their no-data numbers.
+    /// Whether the cell at a column is a void at which judged rasters have their no-data numbers.
     fn is_blank_void_at(&self, rules: &Rules, col: u32) -> bool
         requires { col < length self.now.here.numbers.z }
         ensures { IsTrue result → IsBlankVoid rules.now (values_in self.now.here col) }
@@ -110,30 +117,12 @@ impl ThreeRows<'_> {
         self.here.is_void(col) && is_blank_void(&self.here.values(col), rules)
     }
 
-    /// How far from a column on the lanes of the three rows clear cells by all tests but those of sums and ranks, for
-    /// rasters without an accumulation: at data cells that are no outlets every rule without ranks holds but
-    /// Accumulation and SharedLabel. And how many of them are raised. It may be fewer cells than there are, even none,
-    /// as where a row has no lanes.
-    pub fn routed_from(&self, nodata: &NoData, from: u32) -> Kept
+    /// Those that the lanes clear.
+    fn cleared_from(&self, rules: &Rules, from: u32) -> Kept
         requires { from ≤ length self.now.here.numbers.z }
         ensures forward { from ≤ result.end }
         ensures within { result.end ≤ length self.now.here.numbers.z }
-        ensures kept { (col : ℕ) → from ≤ col → col < result.end → IsKept (unsummed nodata.now) (patch_in self.now col) }
-        ensures raised { result.raised ≡ raised_between (patch_in self.now) from result.end }
-    {
-        let rules = Rules {
-            nodata: *nodata,
-            ranks: Ranks::Ignored,
-        };
-        self.cleared_from(&rules, Sums::Untested, from)
-    }
-
-    /// Those that the lanes clear, with sums or without.
-    fn cleared_from(&self, rules: &Rules, sums: Sums, from: u32) -> Kept
-        requires { from ≤ length self.now.here.numbers.z }
-        ensures forward { from ≤ result.end }
-        ensures within { result.end ≤ length self.now.here.numbers.z }
-        ensures kept { (col : ℕ) → from ≤ col → col < result.end → IsKept (cleared_by sums rules.now) (patch_in self.now col) }
+        ensures kept { (col : ℕ) → from ≤ col → col < result.end → IsKept (tried rules.now) (patch_in self.now col) }
         ensures raised { result.raised ≡ raised_between (patch_in self.now) from result.end }
     {
         let (Some(above), Some(here), Some(below)) = (
@@ -147,7 +136,7 @@ impl ThreeRows<'_> {
         lanes_show_numbers();
         raised_are_counted();
         let first = from as usize;
-        let end = cleared_until(self, above, here, below, rules, sums, first);
+        let end = cleared_until(self, above, here, below, rules, first);
         Kept {
             end: end as u32,
             raised: here.raised_between(first, end),
@@ -163,7 +152,6 @@ fn cleared_until(
     here: &Lanes,
     below: &Lanes,
     rules: &Rules,
-    sums: Sums,
     from: usize,
 ) -> usize
     requires above_lanes { AreLanesOf above.now rows.now.above.numbers.z rows.now.above.numbers.products }
@@ -172,7 +160,7 @@ fn cleared_until(
     requires inside { from ≤ length rows.now.here.numbers.z }
     ensures forward { from ≤ result }
     ensures within { result ≤ length rows.now.here.numbers.z }
-    ensures kept { (col : ℕ) → from ≤ col → col < result → IsKept (cleared_by sums rules.now) (patch_in rows.now col) }
+    ensures kept { (col : ℕ) → from ≤ col → col < result → IsKept (tried rules.now) (patch_in rows.now col) }
 {
     // The law on what lanes show.
     lanes_show_numbers();
@@ -180,8 +168,8 @@ fn cleared_until(
     let mut col = from;
     while col < cols {
         let until = rows.here.unmarked_until(col);
-        let end = run_until(above, here, below, rules, sums, col, until);
-        if !is_cleared_at(above, here, below, rules, sums, end) {
+        let end = kept_until(above, here, below, rules, col, until);
+        if !falls_at(above, here, below, rules, end) {
             return end;
         }
         col = end + 1;

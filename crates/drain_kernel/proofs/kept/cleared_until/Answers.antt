@@ -4,4 +4,4 @@ use Rattle.drain_kernel.proofs.kept.cleared_until.Goals as goal
 
 pub returns-clause-kept : goal.returns-clause-kept
 returns-clause-kept c = λ k low high p shown.
-    is_kept c.args.rules.now c.args.sums c.args.rows.now k p shown (c.if-not-are_alike.ensures.ranks refl) (c.passed_until.ensures.passed k low high)
+    is_kept c.args.rules.now c.args.rows.now k p shown (c.if-not-are_alike.ensures.ranks refl) (c.passed_until.ensures.passed k low high)

@@ -1,5 +1,5 @@
 use Rattle.std.proofs.Common.{◌≢◌, IsTrue, pos, sym, ◌∙◌, subst}
-use Rattle.drain_kernel.specs.Checked.{IfTested}
+use Rattle.drain_grid.specs.Judged.{IfJudged}
 use Rattle.drain_kernel.specs.Columns.{adds_up_at}
 use Rattle.drain_kernel.proofs.VouchedNumbers.{some_sum}
 use Rattle.drain_kernel.proofs.strides.counts_pass.Goals as goal
@@ -8,13 +8,13 @@ use Rattle.drain_kernel.proofs.strides.counts_pass.Goals as goal
 pub returns-then-are_no_counts : goal.returns-then-are_no_counts
 returns-then-are_no_counts c = λ told k low high.
     let sum = c.sums_pass.ensures c.if-not-sums_pass.false k low high in
-    let adds_up = subst (λ sums. IfTested sums (IsTrue (adds_up_at c.args.rows.now k))) (c.are_no_counts.ensures.tested told) sum in
+    let adds_up = subst (λ sums. IfJudged sums (IsTrue (adds_up_at c.args.rows.now k))) (c.are_no_counts.ensures.tested told) sum in
     record {
       accumulation = sum;
       label = c.have_one_label.ensures.led c.if-have_one_label.true k low high;
       has_counts = record {
         acc_differs = c.are_no_counts.ensures.acc told _ (some_sum _ _ _ adds_up);
-        bas_differs = subst (λ label. pos label ≢ c.args.nodata.now.bas)
+        bas_differs = subst (λ label. pos label ≢ c.args.rules.now.nodata.bas)
             (c.label.ensures ∙ sym (c.have_one_label.ensures.one c.if-have_one_label.true k low high)) (c.are_no_counts.ensures.bas told);
       };
     }

@@ -7,7 +7,7 @@ abbrev pub invariant-loop-k : goal.invariant-loop-k
 invariant-loop-k l = record {
   forward : l.from ≤ l.k;
   within : l.k ≤ l.end;
-  passed : Along l.from l.k (PassesAt l.rules l.sums l.rows);
+  passed : Along l.from l.k (PassesAt l.rules l.rows);
 }
 
 abbrev pub decreases-loop-k : goal.decreases-loop-k

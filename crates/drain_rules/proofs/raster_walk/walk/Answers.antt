@@ -2,10 +2,9 @@ use Rattle.std.proofs.Common.{◌≡◌, ℕ, ◌<◌, ap, arith, refl, sym, sub
 use Rattle.std.proofs.lemmas.Result.{err_from_is_err_and}
 use Rattle.drain_grid.specs.Size.{Extent}
 use Rattle.drain_grid.specs.Grid.{Grid, Products, patch_at}
-use Rattle.drain_grid.specs.PatchRules.{check_rules}
+use Rattle.drain_grid.specs.declared.judged.Judged.TheVariants.{AllWithRanks}
 use Rattle.drain_grid.specs.Values.{NoDataNumbers}
 use Rattle.drain_grid.specs.WholeGrid.{grid_of, products_of}
-use Rattle.drain_kernel.specs.declared.rules.Ranks.TheVariants.{Checked}
 use Rattle.drain_rules.specs.Labels.{HasNewLabel}
 use Rattle.drain_rules.specs.PatchRows.{AreRowPatches}
 use Rattle.drain_rules.specs.Rows.{place}
@@ -23,7 +22,7 @@ own-patches g ps row at inside same =
 pub loop-row-init : goal.loop-row-init
 loop-row-init c = record {
   counted = c.new-walk.ensures.rows;
-  right = c.new-walk.ensures.finding (record { nodata = c.nodata.result; ranks = Checked }) (grid_of c.args.elevation.now c.args.sinks.now) (products_of c.args.products.now);
+  right = c.new-walk.ensures.outcome (record { nodata = c.nodata.result; judged = AllWithRanks }) (grid_of c.args.elevation.now c.args.sinks.now) (products_of c.args.products.now);
 }
 
 pub returns-in_err-check_row-clause-err : goal.returns-in_err-check_row-clause-err
@@ -35,7 +34,7 @@ returns-in_err-check_row-clause-err c =
     let inside : c.loop-row.row < c.args.elevation.now.extent.rows = omega (arith, c.loop-row-test.true, c.rows-row-end.ensures, rows) in
     let new_label = c.in_err-check_row.ensures.err g ps (own-patches g ps c.loop-row.row c.loop-row.walk.rows inside inv.counted) inv.right in
     let told = err_from_is_err_and c.from_residual.result c.from_residual.ensures.1 in
-    rw told.1 (subst (λ (n : NoDataNumbers). HasNewLabel (check_rules n) g ps) c.nodata.ensures new_label)
+    rw told.1 (subst (λ (n : NoDataNumbers). HasNewLabel (record { nodata = n; judged = AllWithRanks }) g ps) c.nodata.ensures new_label)
 
 pub loop-row-preserved : goal.loop-row-preserved
 loop-row-preserved c =
@@ -46,7 +45,7 @@ loop-row-preserved c =
     let inside : c.loop-row.row < c.args.elevation.now.extent.rows = omega (arith, c.loop-row-test.true, c.rows-row-end.ensures, rows) in
     record {
       counted = omega (arith, c.in_ok-check_row.ensures.rows, inv.counted);
-      right = c.in_ok-check_row.ensures.finding g ps (own-patches g ps c.loop-row.row c.loop-row.walk.rows inside inv.counted) inv.right;
+      right = c.in_ok-check_row.ensures.outcome g ps (own-patches g ps c.loop-row.row c.loop-row.walk.rows inside inv.counted) inv.right;
     }
 
 pub returns-clause-verdict : goal.returns-clause-verdict
@@ -57,5 +56,5 @@ returns-clause-verdict c =
     let rows : c.shape-shape.result.rows ≡ c.args.elevation.now.extent.rows = ap (λ (e : Extent). e.rows) c.shape-shape.ensures in
     let last : c.loop-row.walk.rows ≡ c.args.elevation.now.extent.rows =
     omega (arith, inv.counted, c.loop-row-test.false, c.loop-row.auto.row-end, c.rows-row-end.ensures, rows) in
-    let verdict = c.verdict.ensures.verdict (record { nodata = c.nodata.result; ranks = Checked }) g ps (sym c.shape-shape.ensures) last inv.right in
+    let verdict = c.verdict.ensures.verdict (record { nodata = c.nodata.result; judged = AllWithRanks }) g ps (sym c.shape-shape.ensures) last inv.right in
     subst (λ (n : NoDataNumbers). IsVerdict g ps n c.verdict.result) c.nodata.ensures verdict

@@ -3,7 +3,7 @@ use Rattle.std.proofs.lemmas.Bool.{cases_lt}
 use Rattle.drain_grid.specs.declared.patch.Patch.{Patch}
 use Rattle.drain_grid.specs.PatchRules.{Profile}
 use Rattle.drain_kernel.specs.Kept.{IsKept}
-use Rattle.drain_rules.specs.Cleared.{cleared_by}
+use Rattle.drain_grid.specs.RulesAbout.{tried}
 use Rattle.drain_rules.specs.ThreeRows.{patch_in}
 use Rattle.drain_rules.proofs.LanedPatches.{patch_shown, patch_shown_round}
 use Rattle.drain_rules.proofs.three_rows.cleared_until.Goals as goal
@@ -17,11 +17,11 @@ joined profile shown from middle end before after k past less = elim (cases_lt k
 ]
 
 -- the run that is cleared at once
-pub returns-then-not-is_cleared_at-clause-kept : goal.returns-then-not-is_cleared_at-clause-kept
-returns-then-not-is_cleared_at-clause-kept c =
+pub returns-then-not-falls_at-clause-kept : goal.returns-then-not-falls_at-clause-kept
+returns-then-not-falls_at-clause-kept c =
     let rows = c.args.rows.now in
-    let end = c.run_until-end.ensures in
-    joined (cleared_by c.args.sums c.args.rules.now) (patch_in rows) c.args.from c.loop-col.col c.run_until-end.result c.loop-col.invariant.kept
+    let end = c.kept_until-end.ensures in
+    joined (tried c.args.rules.now) (patch_in rows) c.args.from c.loop-col.col c.kept_until-end.result c.loop-col.invariant.kept
     (λ k past less. end.kept k past less (patch_in rows k)
     (patch_shown c.lanes_show_numbers.ensures rows c.args.above.now c.args.here.now c.args.below.now c.requires.above_lanes c.requires.here_lanes c.requires.below_lanes k
     (end.inner k past less) (c.unmarked_until-until.ensures.unmarked k past (omega (arith, less, end.within)))))
@@ -30,18 +30,18 @@ returns-then-not-is_cleared_at-clause-kept c =
 pub loop-col-preserved : goal.loop-col-preserved
 loop-col-preserved c =
     let rows = c.args.rows.now in
-    let end = c.run_until-end.ensures in
-    let inner = c.is_cleared_at.ensures.inner c.if-not-is_cleared_at.false in
-    let one = c.is_cleared_at.ensures.kept c.if-not-is_cleared_at.false (patch_in rows c.run_until-end.result)
+    let end = c.kept_until-end.ensures in
+    let inner = c.falls_at.ensures.inner c.if-not-falls_at.false in
+    let one = c.falls_at.ensures.kept c.if-not-falls_at.false (patch_in rows c.kept_until-end.result)
     (patch_shown_round c.lanes_show_numbers.ensures rows c.args.above.now c.args.here.now c.args.below.now c.requires.above_lanes c.requires.here_lanes c.requires.below_lanes
-    c.run_until-end.result inner) in
+    c.kept_until-end.result inner) in
     record {
       forward = omega (arith, c.loop-col.invariant.forward, end.forward);
       within = omega (arith, inner.here_right);
       kept = λ k past less.
-          below_more (λ (n : ℕ). c.args.from ≤ n → IsKept (cleared_by c.args.sums c.args.rules.now) (patch_in rows n)) c.run_until-end.result
+          below_more (λ (n : ℕ). c.args.from ≤ n → IsKept (tried c.args.rules.now) (patch_in rows n)) c.kept_until-end.result
           (λ n earlier from.
-          joined (cleared_by c.args.sums c.args.rules.now) (patch_in rows) c.args.from c.loop-col.col c.run_until-end.result c.loop-col.invariant.kept
+          joined (tried c.args.rules.now) (patch_in rows) c.args.from c.loop-col.col c.kept_until-end.result c.loop-col.invariant.kept
           (λ m past less. end.kept m past less (patch_in rows m)
           (patch_shown c.lanes_show_numbers.ensures rows c.args.above.now c.args.here.now c.args.below.now c.requires.above_lanes c.requires.here_lanes c.requires.below_lanes m
           (end.inner m past less) (c.unmarked_until-until.ensures.unmarked m past (omega (arith, less, end.within))))) n from earlier)

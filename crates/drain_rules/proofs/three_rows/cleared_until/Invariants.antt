@@ -1,6 +1,6 @@
 use Rattle.std.proofs.Common.{ℕ, ◌-◌, ◌<◌, ◌≤◌}
 use Rattle.drain_kernel.specs.Kept.{IsKept}
-use Rattle.drain_rules.specs.Cleared.{cleared_by}
+use Rattle.drain_grid.specs.RulesAbout.{tried}
 use Rattle.drain_rules.specs.ThreeRows.{patch_in}
 use Rattle.drain_rules.proofs.three_rows.cleared_until.Given as goal
 
@@ -9,7 +9,7 @@ abbrev pub invariant-loop-col : goal.invariant-loop-col
 invariant-loop-col l = record {
   forward : l.from ≤ l.col;
   within : l.col ≤ l.cols;
-  kept : (k : ℕ) → l.from ≤ k → k < l.col → IsKept (cleared_by l.sums l.rules) (patch_in l.rows k);
+  kept : (k : ℕ) → l.from ≤ k → k < l.col → IsKept (tried l.rules) (patch_in l.rows k);
 }
 
 abbrev pub decreases-loop-col : goal.decreases-loop-col

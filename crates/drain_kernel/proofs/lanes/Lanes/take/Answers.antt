@@ -1,10 +1,8 @@
-use Rattle.std.proofs.Common.{◌≡◌, ◌≢◌, ℕ, ◌<◌, Bool, true, ◌&&◌, List, length, slice_index, sym, ◌∙◌, subst}
+use Rattle.std.proofs.Common.{◌≡◌, ◌≢◌, ℕ, ◌<◌, Bool, true, ◌&&◌, List, length, slice_index, sym, ◌∙◌, subst, false}
 use Rattle.std.proofs.lemmas.Bool.{and_parts}
 use Rattle.drain_grid.specs.declared.set_product.SetProduct.TheVariants.{Con, Dir, Acc, Bas, Rnk}
-use Rattle.drain_kernel.specs.Checked.{IfChecked}
+use Rattle.drain_grid.specs.Judged.{IfJudged, has_rnk}
 use Rattle.drain_pixels.specs.Lanes.{AreCapped, AreLower, AreUpper}
-use Rattle.drain_kernel.specs.declared.rules.Ranks.{Ranks}
-use Rattle.drain_kernel.specs.declared.rules.Ranks.TheVariants.{Checked, Ignored}
 use Rattle.drain_kernel.proofs.lanes.Lanes.take.Goals as goal
 
 -- all fit
@@ -73,9 +71,9 @@ invariant_of-self-else-not-fit c =
       };
     }
 
-asked_len : (ranks : Ranks) (lanes numbers cols z : ℕ) → IfChecked ranks (lanes ≡ numbers) → numbers ≡ cols → z ≡ cols → IfChecked ranks (lanes ≡ z)
-asked_len Checked lanes numbers cols z own long here = same_len lanes numbers cols z own long here
-asked_len Ignored lanes numbers cols z own long here = tt
+asked_len : (ranks : Bool) (lanes numbers cols z : ℕ) → IfJudged ranks (lanes ≡ numbers) → numbers ≡ cols → z ≡ cols → IfJudged ranks (lanes ≡ z)
+asked_len true lanes numbers cols z own long here = same_len lanes numbers cols z own long here
+asked_len false lanes numbers cols z own long here = tt
 
 -- the elevations with which the others are taken are those in the lanes
 no_void : (z held : List ℕ) → z ≡ held → (k : ℕ) → slice_index held k ≢ 0 → slice_index z k ≢ 0
@@ -102,4 +100,4 @@ pub returns-else-not-fit-clause-ranked : goal.returns-else-not-fit-clause-ranked
 returns-else-not-fit-clause-ranked c = λ all.
     let fit = all_fit c.take_elevations-z_fits.result c.take_heights.result c.take_short_numbers.result c.take_numbers.result c.take_numbers-2.result
     c.take_ranks.result c.take_capped.result c.take_capped-2.result c.take_halves.result all in
-    asked_len c.args.ranks _ _ _ _ (c.take_ranks.ensures.len fit.rnk_fits) (c.requires Rnk) (c.take_elevations-z_fits.ensures.len fit.z_fits)
+    asked_len (has_rnk c.args.judged) _ _ _ _ (c.take_ranks.ensures.len fit.rnk_fits) (c.requires Rnk) (c.take_elevations-z_fits.ensures.len fit.z_fits)

@@ -1,6 +1,6 @@
 //! The verdict on the products of a grid.
 
-use drain_grid::Rule;
+use crate::rule::Rule;
 
 /// The size of the grid, and how many of its cells have data, are raised, and are outlets.
 #[derive(Clone, Copy, PartialEq, Eq, Debug)]

@@ -1,7 +1,0 @@
-use Rattle.drain_rules.proofs.lane_pass.run_until.Goals as goal
-
-pub returns-in-Tested-clause-kept : goal.returns-in-Tested-clause-kept
-returns-in-Tested-clause-kept c = rw c.in-Tested.is c.kept_until.ensures.kept
-
-pub returns-in-Untested-clause-kept : goal.returns-in-Untested-clause-kept
-returns-in-Untested-clause-kept c = rw c.in-Untested.is c.routed_until.ensures.kept
