@@ -7,6 +7,8 @@ pub mod audit_verdict;
 pub mod fill_line;
 pub mod laws;
 pub mod line;
+pub mod outcome;
+pub mod outcome_line;
 pub mod refusal;
 pub mod verdict_report;
 
@@ -14,4 +16,6 @@ pub use answer_report::report;
 pub use audit_line::audit_report;
 pub use audit_verdict::AuditVerdict;
 pub use fill_line::fill_report;
+pub use outcome::Outcome;
+pub use outcome_line::outcome_report;
 pub use refusal::Refusal;

@@ -1,8 +1,7 @@
 //! Samples and conditioned elevations, noted row by row.
 
 use crate::con_rows::ConRows;
-use drain_grid::OutOfMemory;
-use drain_kernel::Rules;
+use drain_grid::{OutOfMemory, Rules};
 use drain_rows::{RowBuffer, RowVisitor};
 use drain_rules::ThreeRows;
 

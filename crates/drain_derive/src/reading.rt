@@ -15,12 +15,11 @@ ghost use Rattle.drain_derive.specs.Reading.{AreDerivedOf, HasFlows, IsDeriveRef
 use crate::derived::{Derived, derive_from_flows};
 use drain_answer::Refusal;
 use drain_device::ByteSource;
-use drain_grid::Shape;
+use drain_grid::{Judged, Shape};
 use drain_hgt::TileInput;
 use drain_hgt::laws::one_name;
 use drain_mosaic::Layout;
 use drain_paths::{CellFlows, CertifyRefusal};
-use drain_rules::Ranks;
 use drain_verdict::AuditProducts;
 use drain_verdict::layout::layout_of;
 use drain_verdict::read_inputs::read_inputs;
@@ -141,7 +140,7 @@ fn flows_on<R: ByteSource>(
     // The law that bytes name one tile.
     one_name();
     let mut flows = CellFlows::new(alloc);
-    let ranks = Ranks::Ignored;
+    let ranks = Judged::All;
     read_inputs(alloc, layout, sinks, tiles, products, ranks, &mut flows)?;
     counted(flows, layout.shape())
 }

@@ -11,9 +11,9 @@ use Rattle.drain_grid.specs.PatchRules.{Profile, check_rules}
 use Rattle.drain_grid.specs.Unranked.{unranked}
 use Rattle.drain_grid.specs.GridRules.{HoldsAt, RulesHold}
 use Rattle.drain_grid.proofs.Exactly.{correct_by_rules_alone}
-use Rattle.drain_rules.specs.declared.verdict.Counts.{Counts}
-use Rattle.drain_rules.specs.declared.verdict.Verdict.{Verdict}
-use Rattle.drain_rules.specs.declared.verdict.Verdict.TheVariants.{Accepted, Rejected}
+use Rattle.drain_grid.specs.declared.verdict.Counts.{Counts}
+use Rattle.drain_grid.specs.declared.verdict.Verdict.{Verdict}
+use Rattle.drain_grid.specs.declared.verdict.Verdict.TheVariants.{Accepted, Rejected}
 use Rattle.drain_rules.specs.Verdicts.{counts_of, IsVerdictOf}
 use Rattle.drain_frame.specs.Padding.{IsPadded}
 use Rattle.drain_frame.specs.Laws.{AreKept, HoldBeyond, HaveOneFirstFault, HaveOneVerdict, CountsAreKept, resized, PaddingKeepsRules, PaddingBreaksNoRule, PaddingKeepsFirstFault, PaddingKeepsVerdict, PaddingKeepsChecks, PaddingKeepsCorrect}

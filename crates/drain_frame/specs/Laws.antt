@@ -16,8 +16,8 @@ use Rattle.drain_grid.specs.GridRules.{HoldsAt, IsFirstFault}
 use Rattle.drain_grid.specs.Run.{run, RunEnds, upstream_count, ShareBasin}
 use Rattle.drain_grid.specs.Certificate.{RanksAreSteps, IsFirstEndless}
 use Rattle.drain_grid.specs.Correct.{IsCorrect}
-use Rattle.drain_rules.specs.declared.verdict.Verdict.{Verdict}
-use Rattle.drain_rules.specs.declared.verdict.Verdict.TheVariants.{Accepted, Rejected}
+use Rattle.drain_grid.specs.declared.verdict.Verdict.{Verdict}
+use Rattle.drain_grid.specs.declared.verdict.Verdict.TheVariants.{Accepted, Rejected}
 use Rattle.drain_rules.specs.Verdicts.{outlet_count, IsVerdictOf}
 use Rattle.drain_frame.specs.Padding.{IsPadded, ArePadded, ArePaddedRanks}
 

@@ -25,8 +25,8 @@ use Rattle.drain_raster.specs.Bytes.{raster_bytes}
 use Rattle.drain_raster.specs.Laws.{ReadBack, BytesReadBack, NumbersArePixels}
 use Rattle.drain_raster.specs.Pixels as pixels
 use Rattle.drain_mosaic.specs.Tiling as tiling
-use Rattle.drain_rules.specs.declared.verdict.Verdict.{Verdict}
-use Rattle.drain_rules.specs.declared.verdict.Verdict.TheVariants.{Accepted, Rejected}
+use Rattle.drain_grid.specs.declared.verdict.Verdict.{Verdict}
+use Rattle.drain_grid.specs.declared.verdict.Verdict.TheVariants.{Accepted, Rejected}
 use Rattle.drain_rules.specs.Verdicts.{counts_of, IsVerdict}
 use Rattle.drain_rules.specs.Laws.{AreEqual, EqualGridsHaveOneVerdict}
 use Rattle.drain_answer.specs.declared.refusal.Refusal.{Refusal}

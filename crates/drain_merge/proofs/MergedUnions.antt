@@ -16,8 +16,8 @@ use Rattle.drain_grid.specs.Unranked.{unranked}
 use Rattle.drain_grid.specs.Values.{NoDataNumbers}
 use Rattle.drain_grid.proofs.Exactly.{correct_by_rules_alone}
 use Rattle.drain_grid.proofs.Neighbors.{place}
-use Rattle.drain_rules.specs.declared.verdict.Verdict.{Verdict}
-use Rattle.drain_rules.specs.declared.verdict.Verdict.TheVariants.{Accepted as WindowAccepted, Rejected as WindowRejected}
+use Rattle.drain_grid.specs.declared.verdict.Verdict.{Verdict}
+use Rattle.drain_grid.specs.declared.verdict.Verdict.TheVariants.{Accepted as WindowAccepted, Rejected as WindowRejected}
 use Rattle.drain_windows.specs.declared.outlet.Outlet.{Outlet}
 use Rattle.drain_windows.specs.declared.place.Place.{Place}
 use Rattle.drain_windows.specs.declared.place.TheConstants.{SEAM_DEPTH}

@@ -10,8 +10,8 @@ use Rattle.drain_grid.specs.Rule.{IsAnyRule, IsPatchRule}
 use Rattle.drain_grid.specs.Size.{Extent}
 use Rattle.drain_grid.specs.Unranked.{unranked}
 use Rattle.drain_grid.specs.Values.{NoDataNumbers}
-use Rattle.drain_rules.specs.declared.verdict.Verdict.{Verdict}
-use Rattle.drain_rules.specs.declared.verdict.Verdict.TheVariants.{Accepted as WindowAccepted, Rejected as WindowRejected}
+use Rattle.drain_grid.specs.declared.verdict.Verdict.{Verdict}
+use Rattle.drain_grid.specs.declared.verdict.Verdict.TheVariants.{Accepted as WindowAccepted, Rejected as WindowRejected}
 use Rattle.drain_windows.specs.declared.place.TheConstants.{SEAM_DEPTH}
 use Rattle.drain_windows.specs.JudgedCounts.{AreCountsInside}
 use Rattle.drain_windows.specs.Reports.{Report, IsReportOf, CanMerge}

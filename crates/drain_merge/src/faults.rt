@@ -4,8 +4,7 @@ ghost use Rattle.std.specs.Prelude.{◌≡◌, ◌↔◌, IsTrue};
 ghost use Rattle.drain_merge.specs.Faults.{union_fault, ComesBefore, IsFirstOfFaults, IsEarlierFault};
 
 use crate::row_order::is_earlier;
-use drain_grid::{Cell, Rule};
-use drain_rules::Verdict;
+use drain_grid::{Cell, Rule, Verdict};
 use drain_windows::WindowReport;
 
 /// A cell of the union at which this rule fails.

@@ -4,7 +4,7 @@ ghost use Rattle.std.specs.Prelude.{◌≡◌, ◌+◌};
 ghost use Rattle.drain_merge.specs.Totals.{AreCountsOf, capped, data_cells_of, raised_of, outlets_of};
 
 use crate::union_size::UnionSize;
-use drain_rules::Verdict;
+use drain_grid::Verdict;
 use drain_windows::WindowReport;
 
 /// The size of a union, and how many of its cells have data, are raised, and are outlets. A count that doesn't fit is

@@ -8,8 +8,7 @@ ghost use Rattle.drain_merge.specs.UnionVerdicts.{IsRejected, SomeIsRejected};
 
 use crate::lists::sinks;
 use crate::merge_verdict::MergeRefusal;
-use drain_grid::{Cell, OutOfMemory, Sinks};
-use drain_rules::Verdict;
+use drain_grid::{Cell, OutOfMemory, Sinks, Verdict};
 use drain_windows::WindowReport;
 use std::alloc::Global;
 use std::collections::BTreeSet;

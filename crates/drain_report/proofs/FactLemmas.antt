@@ -9,7 +9,7 @@ use Rattle.drain_grid.specs.declared.rule.Rule.{Rule}
 use Rattle.drain_grid.specs.Rule.{rule_number}
 use Rattle.drain_grid.specs.Values.{NoDataNumbers, IsNoData, IsPixel}
 use Rattle.drain_grid.proofs.RuleNumbers.{numbered}
-use Rattle.drain_rules.specs.declared.verdict.Counts.{Counts}
+use Rattle.drain_grid.specs.declared.verdict.Counts.{Counts}
 use Rattle.drain_windows.specs.declared.outlet.Outlet.{Outlet}
 use Rattle.drain_windows.specs.declared.place.Place.{Place}
 use Rattle.drain_windows.specs.declared.report.Shown.{Shown}

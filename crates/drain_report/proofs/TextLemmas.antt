@@ -4,7 +4,7 @@ use Rattle.std.specs.Prelude.{Result, IfOk, MatchResult, OnOk, Ok, Err, codes}
 use Rattle.drain_grid.specs.declared.cell.Cell.{Cell}
 use Rattle.drain_grid.specs.Values.{NoDataNumbers}
 use Rattle.drain_hgt.specs.Corner.{Corner}
-use Rattle.drain_rules.specs.declared.verdict.Verdict.{Verdict}
+use Rattle.drain_grid.specs.declared.verdict.Verdict.{Verdict}
 use Rattle.drain_windows.specs.Reports.{Report}
 use Rattle.drain_windows.specs.declared.outlet.Outlet.{Outlet}
 use Rattle.drain_windows.specs.declared.place.Place.{Place}

@@ -1,6 +1,6 @@
 -- The text of a whole report. The order of its lines is this project's own.
 use Rattle.std.specs.Prelude.{ℕ, List, ◌++◌, codes}
-use Rattle.drain_rules.specs.declared.verdict.Verdict.{Verdict}
+use Rattle.drain_grid.specs.declared.verdict.Verdict.{Verdict}
 use Rattle.drain_hgt.specs.Corner.{Corner, IsOnMap}
 use Rattle.drain_windows.specs.Reports.{Report}
 use Rattle.drain_windows.specs.Verdicts.{Agree}

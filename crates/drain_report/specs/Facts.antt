@@ -12,9 +12,9 @@ use Rattle.drain_windows.specs.declared.place.InnerSides.{InnerSides}
 use Rattle.drain_grid.specs.Size.{IsExtent}
 use Rattle.drain_grid.specs.Rule.{rule_number}
 use Rattle.drain_grid.specs.declared.rule.Rule.{Rule}
-use Rattle.drain_rules.specs.declared.verdict.Counts.{Counts}
-use Rattle.drain_rules.specs.declared.verdict.Verdict.{Verdict}
-use Rattle.drain_rules.specs.declared.verdict.Verdict.TheVariants.{Accepted, Rejected}
+use Rattle.drain_grid.specs.declared.verdict.Counts.{Counts}
+use Rattle.drain_grid.specs.declared.verdict.Verdict.{Verdict}
+use Rattle.drain_grid.specs.declared.verdict.Verdict.TheVariants.{Accepted, Rejected}
 use Rattle.drain_hgt.specs.Corner.{Corner}
 use Rattle.drain_hgt.specs.Name.{name_of}
 use Rattle.drain_report.specs.Lines.{IsLong, line}

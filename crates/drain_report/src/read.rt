@@ -9,7 +9,7 @@ use crate::fault::ReportFault;
 use crate::head::read_head;
 use crate::lines::{Lines, after_word, unread};
 use crate::lists::read_list;
-use drain_rules::Verdict;
+use drain_grid::Verdict;
 use drain_windows::{Report, WindowReport};
 use std::alloc::Global;
 
