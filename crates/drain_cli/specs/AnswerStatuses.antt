@@ -9,7 +9,7 @@ use Rattle.drain_part_audit.specs.declared.part_verdict.PartVerdict.TheVariants 
 use Rattle.drain_print.specs.Statuses.{refusal_status}
 use Rattle.drain_print.specs.declared.status.Status.{Status}
 use Rattle.drain_print.specs.declared.status.Status.TheVariants.{Done, Rejected}
-use Rattle.drain_rules.specs.declared.verdict.Verdict.TheVariants as check
+use Rattle.drain_grid.specs.declared.verdict.Verdict.TheVariants as check
 
 -- done if some rasters are accepted, rejected if there is another verdict, else that of the refusal
 abbrev pub part_status : Result PartVerdict Refusal → Status

@@ -2,8 +2,8 @@
 use Rattle.std.proofs.Common.{◌≡◌, sym, ap, subst}
 use Rattle.drain_merge.specs.UnionVerdicts.{IsVerdictInside}
 use Rattle.drain_report.specs.Contents.{Contents}
-use Rattle.drain_rules.specs.declared.verdict.Verdict.{Verdict}
-use Rattle.drain_rules.specs.declared.verdict.Verdict.TheVariants.{Accepted, Rejected}
+use Rattle.drain_grid.specs.declared.verdict.Verdict.{Verdict}
+use Rattle.drain_grid.specs.declared.verdict.Verdict.TheVariants.{Accepted, Rejected}
 use Rattle.drain_grid.specs.declared.cell.Cell.{Cell}
 use Rattle.drain_grid.specs.Grid.{Grid, Products}
 use Rattle.drain_grid.specs.Values.{NoDataNumbers}

@@ -6,8 +6,8 @@ use Rattle.drain_maker.specs.declared.product_files.SetFault.TheVariants.{WriteF
 use Rattle.drain_print.specs.declared.status.Status.{Status}
 use Rattle.drain_print.specs.declared.status.Status.TheVariants.{Done, Rejected, Failed}
 use Rattle.drain_report.specs.Contents.{ContentsFit, contents_of, report_text}
-use Rattle.drain_rules.specs.declared.verdict.Verdict.{Verdict}
-use Rattle.drain_rules.specs.declared.verdict.Verdict.TheVariants as window
+use Rattle.drain_grid.specs.declared.verdict.Verdict.{Verdict}
+use Rattle.drain_grid.specs.declared.verdict.Verdict.TheVariants as window
 use Rattle.drain_windows.specs.Verdicts.{Agree}
 use Rattle.drain_windows.specs.declared.window_report.WindowReport.{WindowReport}
 

@@ -7,6 +7,7 @@ ghost use Rattle.drain_maker.specs.declared.product_files.SetFault.{SetFault};
 ghost use Rattle.drain_print.specs.Printing.{Prints};
 ghost use Rattle.drain_union.specs.ReportOutputs.{IsReadable, reported_line, reported_status, text_of, verdict_status};
 
+use drain_grid::Verdict;
 use drain_answer::line::{Line, words};
 use drain_answer::verdict_report::verdict_line;
 use drain_device::ByteSink;
@@ -16,7 +17,6 @@ use drain_maker::product_files::SetFault;
 use drain_print::print::print_line;
 use drain_print::status::Status;
 use drain_report::write_report;
-use drain_rules::Verdict;
 use drain_windows::WindowReport;
 use std::alloc::Global;
 

@@ -9,7 +9,7 @@ use Rattle.drain_grid.specs.Grid.{Grid, Products}
 use Rattle.drain_grid.proofs.CellSums.{sum_by_same}
 use Rattle.drain_grid.proofs.Neighbors.{place}
 use Rattle.drain_rules.specs.declared.tally.Tally.{Tally}
-use Rattle.drain_rules.specs.declared.verdict.Counts.{Counts}
+use Rattle.drain_grid.specs.declared.verdict.Counts.{Counts}
 use Rattle.drain_rules.specs.Verdicts.{has_outlet_code}
 use Rattle.drain_windows.specs.declared.place.Place.{Place}
 use Rattle.drain_windows.specs.Cuts.{window_at}

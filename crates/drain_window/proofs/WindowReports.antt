@@ -8,7 +8,7 @@ use Rattle.drain_grid.specs.Grid.{Grid, Products}
 use Rattle.drain_grid.specs.Unranked.{unranked}
 use Rattle.drain_grid.proofs.Neighbors.{same_place}
 use Rattle.drain_grid.specs.Values.{NoDataNumbers}
-use Rattle.drain_kernel.specs.declared.rules.Ranks.TheVariants.{Ignored}
+use Rattle.drain_grid.specs.declared.judged.Judged.TheVariants.{All}
 use Rattle.drain_rules.specs.declared.row_outcome.RowOutcome.TheVariants.{Sound, Faulty}
 use Rattle.drain_rules.specs.declared.tally.Tally.{Tally}
 use Rattle.drain_windows.specs.declared.outlet.Outlet.{Outlet}
@@ -43,7 +43,7 @@ listed nodata origin p g ps outlets sorted rise moves lists = record {
 
 module _ (judges : WalkJudgesWindow) (lists : WalkListsSeams) (nodata : NoDataNumbers) (origin : Cell) (p : Place) (g : Grid) (ps : Products) (walk : WindowWalk) (seams : SeamWalk)
     (of : AreOfWindow p origin walk seams) (placed : IsPlaceIn g.extent p) (some : 0 < g.extent.rows)
-    (walked : IsWindowWalkOf (record { nodata = nodata; ranks = Ignored }) g ps g.extent.rows walk) (listed_seams : IsSeamWalkOf g ps g.extent.rows seams) where
+    (walked : IsWindowWalkOf (record { nodata = nodata; judged = All }) g ps g.extent.rows walk) (listed_seams : IsSeamWalkOf g ps g.extent.rows seams) where
   pub nodata_is : walk.nodata ≡ nodata
   nodata_is = walked.nodata_is some
 

@@ -4,7 +4,7 @@ ghost use Rattle.std.specs.Prelude.{◌≡◌, ◌<◌, IsTrue, IfSome};
 ghost use Rattle.std.specs.List.Sorted.{IsPermutation};
 ghost use Rattle.drain_grid.specs.Grid.{Grid, Products};
 ghost use Rattle.drain_grid.specs.Values.{NoDataNumbers};
-ghost use Rattle.drain_kernel.specs.declared.rules.Ranks.TheVariants.{Ignored};
+ghost use Rattle.drain_grid.specs.declared.judged.Judged.TheVariants.{All};
 ghost use Rattle.drain_window.specs.WindowAnswers.{IsAnswerOn};
 ghost use Rattle.drain_window.specs.WindowNotes.{AreOfWindow};
 ghost use Rattle.drain_window_walk.specs.SeamRows.{EndsInRange, IsOrigin};
@@ -40,7 +40,7 @@ pub(crate) fn answered(
     requires moved { IsOrigin origin }
     ensures agree { IfSome result (λ a. Agree a.0 a.1) }
     ensures answer { IfSome result (λ a. (nodata : NoDataNumbers) (g : Grid) (ps : Products) → IsPlaceIn g.extent place.now → 0 < g.extent.rows
-        → IsWindowWalkOf (record { nodata = nodata; ranks = Ignored }) g ps g.extent.rows walk → IsSeamWalkOf g ps g.extent.rows seams → ListsSinks (window_at origin place.now g ps) sinks.items → IsAnswerOn nodata origin place.now g ps a.0 a.1) }
+        → IsWindowWalkOf (record { nodata = nodata; judged = All }) g ps g.extent.rows walk → IsSeamWalkOf g ps g.extent.rows seams → ListsSinks (window_at origin place.now g ps) sinks.items → IsAnswerOn nodata origin place.now g ps a.0 a.1) }
 {
     // The laws on what the notes say of the window.
     walk_judges_window();

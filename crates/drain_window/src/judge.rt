@@ -25,7 +25,7 @@ use drain_hgt::TileInput;
 use drain_hgt::laws::one_name;
 use drain_mosaic::Layout;
 use drain_rows::BothVisitors;
-use drain_rules::{Ranks, Verdict};
+use drain_rules::{Judged, Verdict};
 use drain_verdict::AuditProducts;
 use drain_verdict::layout::layout_of;
 use drain_verdict::read_inputs::read_inputs;
@@ -141,7 +141,7 @@ fn answer_at<R: ByteSource>(
         sinks,
         tiles,
         products,
-        Ranks::Ignored,
+        Judged::All,
         &mut notes,
     )?;
     let _rows = shape.rows();

@@ -2,8 +2,8 @@
 use Rattle.std.specs.Prelude.{◌≡◌, ℕ, ◌<◌, ◌≤◌}
 use Rattle.drain_grid.specs.Grid.{Grid, Products}
 use Rattle.drain_grid.specs.PatchRules.{Profile}
-use Rattle.drain_kernel.specs.declared.rules.Rules.{Rules}
-use Rattle.drain_kernel.specs.Rules.{tried}
+use Rattle.drain_grid.specs.declared.judged.Rules.{Rules}
+use Rattle.drain_grid.specs.RulesAbout.{tried}
 use Rattle.drain_window_walk.specs.declared.window_walk.WindowWalk.{WindowWalk}
 use Rattle.drain_window_walk.specs.JudgedAreas.{IsJudgedOutcome}
 

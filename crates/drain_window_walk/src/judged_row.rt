@@ -3,7 +3,7 @@
 ghost use Rattle.std.specs.Prelude.{ℕ, ◌≡◌, ◌≤◌, ◌<◌, ◌+◌, ◌^◌, IfOk, IfErr, OnOk};
 ghost use Rattle.drain_grid.specs.declared.cell.TheConstants.{MAX_LENGTH};
 ghost use Rattle.drain_kernel.specs.Kept.{IsKept};
-ghost use Rattle.drain_kernel.specs.Rules.{tried};
+ghost use Rattle.drain_grid.specs.RulesAbout.{tried};
 ghost use Rattle.drain_rules.specs.BlankVoids.{IsRightVoid};
 ghost use Rattle.drain_rules.specs.KeptRuns.{raised_between, shows_raised};
 ghost use Rattle.drain_rules.specs.PatchRows.{IsAtMost};

@@ -2,7 +2,7 @@
 
 ghost use Rattle.std.specs.Prelude.{◌≡◌, ◌<◌, ◌+◌, ◌*◌, ◌^◌, IfOk, OnOk};
 ghost use Rattle.drain_grid.specs.declared.cell.TheConstants.{MAX_LENGTH};
-ghost use Rattle.drain_kernel.specs.Rules.{tried};
+ghost use Rattle.drain_grid.specs.RulesAbout.{tried};
 ghost use Rattle.drain_rules.specs.PatchRows.{IsAtMost};
 ghost use Rattle.drain_rules.specs.RowOutcomes.{IsBounded};
 ghost use Rattle.drain_window_walk.specs.JudgedRows.{OfJudgedRow};
@@ -38,7 +38,7 @@ impl WindowWalk {
     ghost use Rattle.std.specs.Prelude.{ℕ, ◌≡◌, ◌<◌, ◌+◌, ◌^◌, OnOk};
     ghost use Rattle.drain_grid.specs.declared.cell.TheConstants.{MAX_LENGTH};
     ghost use Rattle.drain_grid.specs.Grid.{Grid, Products};
-    ghost use Rattle.drain_kernel.specs.declared.rules.Rules.{Rules};
+    ghost use Rattle.drain_grid.specs.declared.judged.Rules.{Rules};
     ghost use Rattle.drain_rules.specs.PatchRows.{AreRowPatches};
     ghost use Rattle.drain_window_walk.specs.WindowWalks.{IsWindowWalkOf};
 

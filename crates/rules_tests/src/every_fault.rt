@@ -8,7 +8,7 @@ use crate::rows_of_numbers::{COLS, faults_by_rows, level_rows};
 use crate::unasked_ranks::put;
 use drain_faults::{FaultWalk, PerRule, RULES, RuleFaults};
 use drain_grid::{Cell, Elevation, OutOfMemory, ProductSet, Rule, Shape, Sinks};
-use drain_rules::{Ranks, RasterRow, Rules, Verdict, verdict_of};
+use drain_rules::{Judged, RasterRow, Rules, Verdict, verdict_of};
 use std::alloc::Global;
 use std::process::Abort;
 use std::test::Fail;
@@ -54,7 +54,7 @@ pub fn example(alloc: Global, side: u8, numbers: &[i64]) -> Result<Given, Fail> 
 }
 
 /// The rules of a check, or those without ranks.
-fn rules_of(example: &Given, ranks: Ranks) -> Rules {
+fn rules_of(example: &Given, judged: Judged) -> Rules {
     Rules {
         nodata: example.products.nodata(),
         ranks,
@@ -62,7 +62,7 @@ fn rules_of(example: &Given, ranks: Ranks) -> Rules {
 }
 
 /// The walk over all rows; ranks are checked or not, and a map is drawn.
-pub fn walk_over(alloc: Global, example: &Given, ranks: Ranks) -> Result<FaultWalk, OutOfMemory> {
+pub fn walk_over(alloc: Global, example: &Given, judged: Judged) -> Result<FaultWalk, OutOfMemory> {
     let rules = rules_of(example, ranks);
     let shape = example.elevation.shape();
     let mut walk = FaultWalk::drawing(alloc, shape)?;
@@ -142,7 +142,7 @@ fn expect_on(
     (expected, first, pixels): FaultTally,
 ) -> Result<(), Fail> {
     let verdict = rules_verdict(alloc, example)?;
-    let walk = walk_over(alloc, example, Ranks::Checked)?;
+    let walk = walk_over(alloc, example, Judged::AllWithRanks)?;
     expect_found(rt, &walk, expected, first);
     same_pixels(rt, pixels_of(&walk), pixels);
     same_verdict(rt, &walk, example, verdict);

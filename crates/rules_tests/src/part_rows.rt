@@ -11,7 +11,7 @@ use crate::examples::{Part, is_pixel, numbers_at};
 use drain_grid::PerProduct;
 use drain_kernel::Lanes;
 use drain_pixels::{PixelKind, PixelRow};
-use drain_rules::{Ranks, RowView};
+use drain_rules::{Judged, RowView};
 use std::alloc::Global;
 use std::test::Fail;
 
@@ -135,7 +135,7 @@ impl<'a> PartRow<'a> {
     pub fn view(
         &'a self,
         marks: &'a [bool],
-        ranks: Ranks,
+        judged: Judged,
         lanes: Option<&'a mut Lanes>,
     ) -> RowView<'a> {
         let z = self.z;
@@ -185,7 +185,7 @@ fn laned_view<'a>(
     z: &'a [i64],
     marks: &'a [bool],
     products: PerProduct<&'a PixelRow>,
-    ranks: Ranks,
+    judged: Judged,
     lanes: &'a mut Lanes,
 ) -> RowView<'a>
     requires { AreRowNumbers (record { z = z.now; products = per_product (λ p. (of_product products p).now) }) }

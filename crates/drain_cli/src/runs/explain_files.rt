@@ -28,7 +28,7 @@ use std::alloc::Global;
 
 /// Explains the products of a folder, and returns the exit status.
 ///
-/// If a map is required and standard output is closed nothing is opened: the map would take its place. Ranks are
+/// If a map is required and standard output is closed nothing is opened: the map would take its place. Judged are
 /// checked if a file of theirs is there.
 pub fn explain_files(rt: &HostRuntime, args: &ExplainArgs<'_>, out: &mut impl ByteSink) -> u8 {
     if args.map.is_some() && write_nothing(out).is_err() {

@@ -1,5 +1,5 @@
 use Rattle.std.proofs.Common.{◌≡◌, ℕ, ◌≤◌, ◌⊎◌, min, inl, inr, refl, ◌∙◌, arith, ◌+◌, ◌-◌}
-use Rattle.drain_kernel.specs.Rules.{tried}
+use Rattle.drain_grid.specs.RulesAbout.{tried}
 use Rattle.drain_rules.proofs.CountBounds.{bounds-next, raised-fit}
 use Rattle.drain_window_walk.proofs.ClearedCells.{bounds-both, passed-both}
 use Rattle.drain_window_walk.proofs.JudgedCells.{fault-next, passed-all, passed-more, passed-none}

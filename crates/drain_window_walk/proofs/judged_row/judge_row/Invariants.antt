@@ -1,6 +1,6 @@
 use Rattle.std.proofs.Common.{◌≡◌, ◌≤◌, ◌-◌, ◌⊎◌}
 use Rattle.drain_grid.specs.Grid.{Grid, Products}
-use Rattle.drain_kernel.specs.Rules.{tried}
+use Rattle.drain_grid.specs.RulesAbout.{tried}
 use Rattle.drain_rules.specs.PatchRows.{IsAtMost}
 use Rattle.drain_window_walk.specs.JudgedRows.{OfJudgedRow}
 use Rattle.drain_window_walk.proofs.JudgedCells.{ArePassed}

@@ -1,4 +1,4 @@
-use Rattle.drain_kernel.specs.Rules.{tried}
+use Rattle.drain_grid.specs.RulesAbout.{tried}
 use Rattle.drain_window_walk.specs.Areas.{HasRow}
 use Rattle.drain_window_walk.proofs.JudgedRows.{judged-past}
 use Rattle.drain_window_walk.proofs.window_walk.next_outcome.Goals as goal

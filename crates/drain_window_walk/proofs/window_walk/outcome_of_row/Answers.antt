@@ -1,4 +1,4 @@
-use Rattle.drain_kernel.specs.Rules.{tried}
+use Rattle.drain_grid.specs.RulesAbout.{tried}
 use Rattle.drain_window_walk.proofs.JudgedRows.{first-row, judged-more}
 use Rattle.drain_window_walk.proofs.window_walk.outcome_of_row.Goals as goal
 
