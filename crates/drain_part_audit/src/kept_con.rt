@@ -1,7 +1,7 @@
 //! The verdict on con alone: con of all rows is compared with the filled surface.
 
 ghost use Rattle.std.specs.Prelude.{◌≡◌, IfOk, List, Ok};
-ghost use Rattle.drain_con_rows.specs.ConRows.{AreFirstCon, HasSinks};
+ghost use Rattle.drain_filled.specs.ConRows.{AreFirstCon, HasSinks};
 ghost use Rattle.drain_grid.specs.SinkTexts.{sinks_of};
 ghost use Rattle.drain_grid.specs.Values.{NoDataNumbers};
 ghost use Rattle.drain_grid.specs.declared.sink_line.SinkLine.{SinkLine};
@@ -13,7 +13,7 @@ ghost use Rattle.drain_part_audit.specs.PartWalks.{IsPartVerdictOf};
 use crate::joined::verdict_of_surface;
 use crate::kept_rows::{Decided, KeptRows};
 use crate::part_verdict::PartVerdict;
-use drain_con_rows::ConRows;
+use drain_filled::ConRows;
 use drain_grid::{OutOfMemory, Shape, parse_sinks};
 use drain_paths::CellFlows;
 use drain_rules::Verdict;

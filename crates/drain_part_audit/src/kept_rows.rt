@@ -23,7 +23,7 @@ pub struct Decided {
 /// Notes of all rows that give the verdict on some rasters, with that of the rules about them.
 pub trait KeptRows: RowVisitor {
     ghost use Rattle.std.specs.Prelude.{◌≡◌, IfOk, Ok};
-    ghost use Rattle.drain_con_rows.specs.ConRows.{HasSinks};
+    ghost use Rattle.drain_filled.specs.ConRows.{HasSinks};
     ghost use Rattle.drain_grid.specs.SinkTexts.{sinks_of};
     ghost use Rattle.drain_grid.specs.declared.sink_line.SinkLine.{SinkLine};
     ghost use Rattle.drain_kernel.specs.declared.rules.Rules.{Rules};

@@ -18,7 +18,7 @@ use crate::given_rasters::{GivenCon, GivenDir, GivenDirAcc, GivenDirBas};
 use crate::no_notes::NoVisitor;
 use crate::part_verdict::PartVerdict;
 use drain_answer::Refusal;
-use drain_con_rows::ConRows;
+use drain_filled::ConRows;
 use drain_device::ByteSource;
 use drain_hgt::TileInput;
 use drain_hgt::laws::one_name;

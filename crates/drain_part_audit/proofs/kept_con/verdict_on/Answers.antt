@@ -1,5 +1,5 @@
 use Rattle.std.proofs.Common.{subst}
-use Rattle.drain_con_rows.specs.ConRows.{HasSinks}
+use Rattle.drain_filled.specs.ConRows.{HasSinks}
 use Rattle.drain_grid.specs.SinkTexts.{sinks_of}
 use Rattle.drain_parts.specs.declared.given.Given.TheVariants.{Con}
 use Rattle.drain_part_audit.specs.PartWalks.{IsPartVerdictOf}

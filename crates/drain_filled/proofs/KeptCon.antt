@@ -16,8 +16,8 @@ use Rattle.drain_grid.specs.Rule.{IsFillRule}
 use Rattle.drain_grid.specs.WholeGrid.{grid_of}
 use Rattle.drain_filled.specs.Unfilled.{AreOneSurface, HasCellsOf, HasHeights, IsFirstUnfilled}
 use Rattle.drain_filled.proofs.LeastSurfaces.{rules_keep_con_between, same_cells_same_surface, same_numbers_same_cell}
-use Rattle.drain_con_rows.specs.ConRows.{HasSinks, IsGroundAndCon}
-use Rattle.drain_con_rows.proofs.NarrowRows.{narrowed-sample}
+use Rattle.drain_filled.specs.ConRows.{HasSinks, IsGroundAndCon}
+use Rattle.drain_filled.proofs.NarrowRows.{narrowed-sample}
 
 module _ (g : Grid) (ps : Products) (ground : Heights) (con : List ℤ) (sinks : List SinkLine) (parts : IsGroundAndCon g ps ground con)
     (listed : HasSinks g sinks) (rules : RulesHold surface_rules IsFillRule g ps) where

@@ -7,9 +7,9 @@ ghost use Rattle.drain_grid.specs.Path.{IsLeastSurface};
 ghost use Rattle.drain_grid.specs.PatchRules.{surface_rules};
 ghost use Rattle.drain_grid.specs.Rule.{IsFillRule};
 ghost use Rattle.drain_filled.specs.Unfilled.{IsFirstUnfilled};
-ghost use Rattle.drain_con_rows.specs.ConRows.{HasSinks, IsGroundAndCon};
+ghost use Rattle.drain_filled.specs.ConRows.{HasSinks, IsGroundAndCon};
 
-use drain_filled::first_unfilled;
+use crate::compare::first_unfilled;
 use drain_grid::{Cell, Elevation, OutOfMemory, Sinks};
 use std::alloc::Global;
 

@@ -1,7 +1,7 @@
 //! Numbers of a row, put after those of earlier rows in 16 bits each.
 
 ghost use Rattle.std.specs.Prelude.{◌≡◌, ◌<◌, ◌++◌, OnErr, OnOk, length, map, pos, slice_index_or};
-ghost use Rattle.drain_con_rows.specs.ConRows.{narrowed};
+ghost use Rattle.drain_filled.specs.ConRows.{narrowed};
 
 use drain_grid::OutOfMemory;
 use drain_pixels::PixelNumbers;

@@ -2,7 +2,7 @@
 
 ghost use Rattle.std.specs.Prelude.{◌≡◌, ◌*◌, IfSome, IsSome, OnErr, OnOk, [], vec_len};
 ghost use Rattle.drain_grid.specs.Grid.{Grid, Products};
-ghost use Rattle.drain_con_rows.specs.ConRows.{AreFirstCon, IsGroundAndCon, with_row};
+ghost use Rattle.drain_filled.specs.ConRows.{AreFirstCon, IsGroundAndCon, with_row};
 
 use crate::ground_and_con::GroundAndCon;
 use crate::narrow_rows::push_row;
@@ -20,7 +20,7 @@ pub struct ConRows {
 }
 
 impl Model for ConRows {
-    ghost use Rattle.drain_con_rows.specs.ConRows.{ConLists};
+    ghost use Rattle.drain_filled.specs.ConRows.{ConLists};
 
     ghost Value = { ConLists };
 

@@ -10,8 +10,8 @@ use Rattle.drain_grid.specs.Extent.{index_of}
 use Rattle.drain_grid.specs.Grid.{Grid, Products, IsInside}
 use Rattle.drain_grid.specs.Tile.{IsSample, height_from}
 use Rattle.drain_grid.proofs.CellOrder.{before_row}
-use Rattle.drain_con_rows.specs.ConRows.{AreFirstCon, ConLists, narrowed, with_row}
-use Rattle.drain_con_rows.proofs.NarrowRows.{IsSample-narrowed, narrowed-sample}
+use Rattle.drain_filled.specs.ConRows.{AreFirstCon, ConLists, narrowed, with_row}
+use Rattle.drain_filled.proofs.NarrowRows.{IsSample-narrowed, narrowed-sample}
 
 -- numbers of a row of the grid
 pub record AreRowOf (g : Grid) (ps : Products) (row : ℕ) (samples con : List ℤ) : Type 0 where

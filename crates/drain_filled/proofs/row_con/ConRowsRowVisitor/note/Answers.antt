@@ -1,9 +1,9 @@
 use Rattle.std.proofs.Common.{◌≡◌, ◌+◌, ◌∙◌, ℤ, List, ap, sym, subst}
 use Rattle.drain_grid.specs.declared.set_product.SetProduct.TheVariants.{Con}
-use Rattle.drain_con_rows.specs.ConRows.{AreFirstCon, with_row}
-use Rattle.drain_con_rows.proofs.FirstCon.{AreFirstCon-row}
+use Rattle.drain_filled.specs.ConRows.{AreFirstCon, with_row}
+use Rattle.drain_filled.proofs.FirstCon.{AreFirstCon-row}
 use Rattle.drain_rows.proofs.RowResults.{on-ok}
-use Rattle.drain_con_rows.proofs.row_con.ConRowsRowVisitor.note.Goals as goal
+use Rattle.drain_filled.proofs.row_con.ConRowsRowVisitor.note.Goals as goal
 
 pub returns-clause-noted : goal.returns-clause-noted
 returns-clause-noted c =

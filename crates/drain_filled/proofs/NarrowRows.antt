@@ -6,7 +6,7 @@ use mir.Val.{to_z, of_z}
 use Rattle.drain_grid.specs.declared.tile.TheConstants.{GREATEST_SAMPLE, LEAST_SAMPLE}
 use Rattle.std.proofs.lemmas.List.{ext_get_or, get_or-map, length-map}
 use Rattle.drain_grid.specs.Tile.{IsSample}
-use Rattle.drain_con_rows.specs.ConRows.{narrowed}
+use Rattle.drain_filled.specs.ConRows.{narrowed}
 
 -- a sample is kept as it is
 pub narrowed-sample : (z : ℤ) → IsSample z → narrowed z ≡ z

@@ -8,7 +8,7 @@ use drain_rules::ThreeRows;
 
 impl RowVisitor for ConRows {
     ghost use Rattle.std.specs.Prelude.{true};
-    ghost use Rattle.drain_con_rows.specs.ConRows.{AreFirstCon};
+    ghost use Rattle.drain_filled.specs.ConRows.{AreFirstCon};
 
     ghost counts = { λ n lists. Unit {0} };
 

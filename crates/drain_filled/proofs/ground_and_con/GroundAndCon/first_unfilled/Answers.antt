@@ -1,7 +1,7 @@
 use Rattle.std.proofs.Common.{◌∙◌, ℤ, pos, List, get_or, ap, sym, Result, Ok, Err, IfOk}
 use Rattle.drain_grid.specs.Extent.{index_of}
-use Rattle.drain_con_rows.proofs.KeptCon.{con_compared}
-use Rattle.drain_con_rows.proofs.ground_and_con.GroundAndCon.first_unfilled.Goals as goal
+use Rattle.drain_filled.proofs.KeptCon.{con_compared}
+use Rattle.drain_filled.proofs.ground_and_con.GroundAndCon.first_unfilled.Goals as goal
 
 if_ok : {T E : Type 0} {P Q : T → Type 0} (r : Result T E) → ((x : T) → P x → Q x) → IfOk r P → IfOk r Q
 if_ok (Ok x) follows holds = follows x holds
