@@ -1,3 +1,6 @@
 pub mod AuditLines
+pub mod Failures
 pub mod FillLines
 pub mod Lines
+pub mod Printing
+pub mod Statuses

@@ -1,4 +1,5 @@
-//! What a check, an audit or the check of a fill input answers: refusals, the verdict of an audit, and the line of each answer.
+//! What a check, an audit or the check of a fill input answers: refusals, the verdict of an audit, the line of each
+//! answer, how it is printed, and the exit statuses of the program.
 #![tactic(auto)]
 
 pub mod answer_report;
@@ -7,7 +8,9 @@ pub mod audit_verdict;
 pub mod fill_line;
 pub mod laws;
 pub mod line;
+pub mod print;
 pub mod refusal;
+pub mod status;
 pub mod verdict_report;
 
 pub use answer_report::report;

@@ -18,11 +18,11 @@ use Rattle.drain_mosaic.specs.Tiling.{Tiling}
 use Rattle.drain_verdict.specs.Audits.{ForAudit}
 use Rattle.drain_verdict.specs.Uses.{AuditUses}
 use Rattle.drain_verdict.specs.declared.audit_products.AuditProducts.{AuditProducts}
-use Rattle.drain_print.specs.Printing.{Prints}
+use Rattle.drain_answer.specs.Printing.{Prints}
 use Rattle.drain_cli.specs.SetRuns.{written_line}
-use Rattle.drain_print.specs.Statuses.{refusal_status}
-use Rattle.drain_print.specs.declared.status.Status.{Status}
-use Rattle.drain_print.specs.declared.status.Status.TheVariants.{Rejected}
+use Rattle.drain_answer.specs.Statuses.{refusal_status}
+use Rattle.drain_answer.specs.declared.status.Status.{Status}
+use Rattle.drain_answer.specs.declared.status.Status.TheVariants.{Rejected}
 
 -- the line for the result of writing: derived rows=R cols=C
 abbrev pub derived_line : Tiling → Result (Unit {0}) SetFault → List ℕ

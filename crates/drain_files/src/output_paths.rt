@@ -11,8 +11,8 @@ use crate::open_files::{OpenFault, Opener};
 use crate::outputs::target_at;
 use drain_device::{BodyFault, ByteSink, write_nothing};
 use drain_maker::product_files::{Part, SetFile};
-use drain_print::print::print_failure;
-use drain_print::status::Status;
+use drain_answer::print::print_failure;
+use drain_answer::status::Status;
 use std::alloc::{AllocError, Global};
 
 /// The paths of these files in this folder, in their order.

@@ -4,10 +4,10 @@ use Rattle.std.specs.Io.KnownBytes.{Consumes, IsAtEnd}
 use Rattle.std.proofs.lemmas.List.{append-nil}
 use Rattle.drain_device.specs.declared.patience.GaveUp.{GaveUp}
 use Rattle.drain_maker.specs.declared.product_files.SetFault.{SetFault}
-use Rattle.drain_print.specs.Printing.{status_after}
-use Rattle.drain_print.specs.Statuses.{status_code}
-use Rattle.drain_print.specs.declared.status.Status.{Status}
-use Rattle.drain_print.specs.declared.status.Status.TheVariants.{Failed}
+use Rattle.drain_answer.specs.Printing.{status_after}
+use Rattle.drain_answer.specs.Statuses.{status_code}
+use Rattle.drain_answer.specs.declared.status.Status.{Status}
+use Rattle.drain_answer.specs.declared.status.Status.TheVariants.{Failed}
 use Rattle.drain_report.specs.Contents.{ContentsFit, contents_of, report_text}
 use Rattle.drain_windows.specs.declared.window_report.WindowReport.{WindowReport}
 use Rattle.drain_windows.specs.Verdicts.{Agree}

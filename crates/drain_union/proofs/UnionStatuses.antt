@@ -8,7 +8,7 @@ use Rattle.drain_merge.specs.declared.merge_verdict.MergeRefusal.TheVariants.{No
 use Rattle.drain_merge.specs.declared.merge_verdict.MergeVerdict.{MergeVerdict}
 use Rattle.drain_merge.specs.declared.merge_verdict.MergeVerdict.TheVariants.{Accepted, Rejected}
 use Rattle.drain_merge.specs.declared.union_sinks.UnionSinks.{UnionSinks}
-use Rattle.drain_print.specs.Statuses.{status_code}
+use Rattle.drain_answer.specs.Statuses.{status_code}
 use Rattle.drain_windows.specs.declared.window_report.WindowReport.{WindowReport}
 use Rattle.drain_union.specs.MergeRuns.{IsMergeOutcome, MakeUnion, merge_status, UnionIsCorrect, UnionIsNotCorrect, verdict_status}
 

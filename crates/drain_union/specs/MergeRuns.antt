@@ -16,8 +16,8 @@ use Rattle.drain_merge.specs.declared.merge_verdict.MergeRefusal.TheVariants.{Ou
 use Rattle.drain_merge.specs.declared.merge_verdict.MergeVerdict.{MergeVerdict}
 use Rattle.drain_merge.specs.declared.merge_verdict.MergeVerdict.TheVariants.{Accepted, Rejected}
 use Rattle.drain_merge.specs.declared.union_sinks.UnionSinks.{UnionSinks}
-use Rattle.drain_print.specs.declared.status.Status.{Status}
-use Rattle.drain_print.specs.declared.status.Status.TheVariants as status
+use Rattle.drain_answer.specs.declared.status.Status.{Status}
+use Rattle.drain_answer.specs.declared.status.Status.TheVariants as status
 use Rattle.drain_windows.specs.Reports.{Report}
 use Rattle.drain_windows.specs.Windows.{Window, AreWindowsOf}
 use Rattle.drain_windows.specs.declared.window_report.WindowReport.{WindowReport}

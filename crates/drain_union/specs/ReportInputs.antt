@@ -7,8 +7,8 @@ use Rattle.drain_device.specs.Patience.{GivesUp, full_patience}
 use Rattle.drain_device.specs.declared.read.BodyFault.TheVariants as body
 use Rattle.drain_files.specs.LongTexts.{TakesMoreThan}
 use Rattle.drain_files.specs.declared.text_file.TheConstants.{MAX_TEXT_BYTES}
-use Rattle.drain_print.specs.declared.status.Status.{Status}
-use Rattle.drain_print.specs.declared.status.Status.TheVariants.{Refused, Failed}
+use Rattle.drain_answer.specs.declared.status.Status.{Status}
+use Rattle.drain_answer.specs.declared.status.Status.TheVariants.{Refused, Failed}
 use Rattle.drain_report.specs.Faults.{FaultFits}
 use Rattle.drain_report.specs.declared.fault.ReportFault.TheVariants.{WrongVersion, MissingLine, BadLine, OutOfRange, AfterEnd, OutOfMemory}
 use Rattle.drain_union.specs.declared.report_input.BadReport.{BadReport}

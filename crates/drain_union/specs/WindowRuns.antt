@@ -2,10 +2,10 @@
 use Rattle.std.specs.Prelude.{◌≡◌, ℕ, List, Result, Ok, Err}
 use Rattle.drain_device.specs.Devices.{Sink, Source}
 use Rattle.drain_hgt.specs.declared.input.TileInput.{TileInput}
-use Rattle.drain_print.specs.Printing.{Prints}
-use Rattle.drain_print.specs.Statuses.{refusal_status}
-use Rattle.drain_print.specs.declared.status.Status.{Status}
-use Rattle.drain_print.specs.declared.status.Status.TheVariants.{Refused}
+use Rattle.drain_answer.specs.Printing.{Prints}
+use Rattle.drain_answer.specs.Statuses.{refusal_status}
+use Rattle.drain_answer.specs.declared.status.Status.{Status}
+use Rattle.drain_answer.specs.declared.status.Status.TheVariants.{Refused}
 use Rattle.drain_verdict.specs.Audits.{ForAudit}
 use Rattle.drain_verdict.specs.Uses.{AuditUses}
 use Rattle.drain_verdict.specs.declared.audit_products.AuditProducts.{AuditProducts}

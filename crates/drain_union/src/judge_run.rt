@@ -7,8 +7,8 @@ ghost use Rattle.drain_windows.specs.declared.window_report.WindowReport.{Window
 
 use drain_device::{ByteSink, ByteSource};
 use drain_hgt::TileInput;
-use drain_print::print::print_line;
-use drain_print::status::Status;
+use drain_answer::print::print_line;
+use drain_answer::status::Status;
 use drain_verdict::AuditProducts;
 use drain_window::window_lines::refusal_line;
 use drain_window::{WindowRefusal, judge_window};

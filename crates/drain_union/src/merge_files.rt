@@ -7,7 +7,7 @@ use drain_device::{BodyFault, ByteSink};
 use drain_files::open_failure::print_open_fault;
 use drain_files::open_files::{Opener, text_at};
 use drain_merge::UnionSinks;
-use drain_print::print::print_failure;
+use drain_answer::print::print_failure;
 use drain_windows::WindowReport;
 
 /// Reads the reports at these paths, one file open at a time, and the union's list of sinks, prints the line of the

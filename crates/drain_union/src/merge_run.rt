@@ -8,7 +8,7 @@ ghost use Rattle.drain_merge.specs.MergeLines.{merge_line};
 ghost use Rattle.drain_merge.specs.declared.map_merge.MapVerdict.{MapVerdict};
 ghost use Rattle.drain_merge.specs.declared.merge_verdict.MergeRefusal.{MergeRefusal};
 ghost use Rattle.drain_merge.specs.declared.union_sinks.UnionSinks.TheVariants.{Listed};
-ghost use Rattle.drain_print.specs.Printing.{Prints};
+ghost use Rattle.drain_answer.specs.Printing.{Prints};
 ghost use Rattle.drain_union.specs.MergeRuns.{IsMergeOutcome, list_line, list_status, MakeUnion, merge_status, UnionIsCorrect, UnionIsNotCorrect};
 
 use drain_answer::Refusal;
@@ -17,8 +17,8 @@ use drain_answer::line::{Line, words};
 use drain_device::ByteSink;
 use drain_grid::{SinkFault, parse_sinks};
 use drain_merge::{MapVerdict, MergeRefusal, MergeVerdict, UnionSinks, merge_line, merge_on_map};
-use drain_print::print::print_line;
-use drain_print::status::Status;
+use drain_answer::print::print_line;
+use drain_answer::status::Status;
 use drain_windows::WindowReport;
 use std::alloc::Global;
 

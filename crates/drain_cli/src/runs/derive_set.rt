@@ -16,8 +16,8 @@ use drain_device::{ByteSink, ByteSource};
 use drain_grid::Product;
 use drain_hgt::TileInput;
 use drain_mosaic::Layout;
-use drain_print::print::print_line;
-use drain_print::status::Status;
+use drain_answer::print::print_line;
+use drain_answer::status::Status;
 use drain_verdict::{AuditProducts, AuditVerdict, Refusal};
 use std::alloc::Global;
 

@@ -22,7 +22,7 @@ use drain_files::reason::print_reason;
 use drain_grid::Product;
 use drain_maker::product_files::SetFault;
 use drain_mosaic::Layout;
-use drain_print::status::Status;
+use drain_answer::status::Status;
 use drain_progress::progress::Progress;
 use std::alloc::Global;
 

@@ -11,7 +11,7 @@ use drain_device::ByteSink;
 use drain_explain::Findings;
 use drain_mosaic::Layout;
 use drain_page::{Facts, page_json, page_text};
-use drain_print::print::print_text;
+use drain_answer::print::print_text;
 use std::alloc::Global;
 
 /// Why a map wasn't saved.

@@ -1,8 +1,8 @@
 use Rattle.std.proofs.Common.{◌∙◌, arith, subst}
-use Rattle.drain_print.proofs.PrintLemmas.{Prints-same}
-use Rattle.drain_print.proofs.StatusLemmas.{status_stood}
-use Rattle.drain_print.specs.Printing.{Prints}
-use Rattle.drain_print.specs.declared.status.Status.{Status}
+use Rattle.drain_answer.proofs.PrintLemmas.{Prints-same}
+use Rattle.drain_answer.proofs.StatusLemmas.{status_stood}
+use Rattle.drain_answer.specs.Printing.{Prints}
+use Rattle.drain_answer.specs.declared.status.Status.{Status}
 use Rattle.drain_merge.specs.MergeLines.{merge_line}
 use Rattle.drain_union.specs.MergeRuns.{merge_status}
 use Rattle.drain_union.proofs.UnionStatuses.{of_accepted, of_one, of_rejected, outcome_is}

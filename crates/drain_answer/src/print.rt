@@ -1,12 +1,12 @@
 //! Printing the result of a run: one line, or the text of a header.
 
 ghost use Rattle.std.specs.Prelude.{◌≡◌};
-ghost use Rattle.drain_print.specs.Failures.{failure_text};
-ghost use Rattle.drain_print.specs.Printing.{Prints, PrintsText};
+ghost use Rattle.drain_answer.specs.Failures.{failure_text};
+ghost use Rattle.drain_answer.specs.Printing.{Prints, PrintsText};
 
 use crate::status::Status;
 use arrayvec::ArrayString;
-use drain_answer::line::{LINE_LENGTH, Line};
+use crate::line::{LINE_LENGTH, Line};
 use drain_device::{BodyFault, ByteSink, Patience, write_all};
 
 /// Prints the line and its line end, and returns the exit status: that of the run, or that of a failure

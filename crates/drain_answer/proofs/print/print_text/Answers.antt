@@ -1,6 +1,6 @@
 use Rattle.std.proofs.Common.{arith}
-use Rattle.drain_print.proofs.PrintLemmas.{PrintsText-write_all}
-use Rattle.drain_print.proofs.print.print_text.Goals as goal
+use Rattle.drain_answer.proofs.PrintLemmas.{PrintsText-write_all}
+use Rattle.drain_answer.proofs.print.print_text.Goals as goal
 
 pub returns-in-Ok : goal.returns-in-Ok
 returns-in-Ok g c =

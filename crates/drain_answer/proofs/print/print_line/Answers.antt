@@ -1,6 +1,6 @@
 use Rattle.std.proofs.Common.{◌≡◌, ◌++◌, [], ◌∷◌, rules}
-use Rattle.drain_print.specs.Printing.{line_feed}
-use Rattle.drain_print.proofs.print.print_line.Goals as goal
+use Rattle.drain_answer.specs.Printing.{line_feed}
+use Rattle.drain_answer.proofs.print.print_line.Goals as goal
 
 pub returns : goal.returns
 returns g c =

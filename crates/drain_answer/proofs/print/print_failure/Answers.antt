@@ -1,4 +1,4 @@
-use Rattle.drain_print.proofs.print.print_failure.Goals as goal
+use Rattle.drain_answer.proofs.print.print_failure.Goals as goal
 
 pub returns-in-ReadFailed : goal.returns-in-ReadFailed
 returns-in-ReadFailed g c = rw c.in-ReadFailed.is c.print_text.ensures

@@ -4,9 +4,9 @@ use Rattle.drain_device.specs.declared.patience.GaveUp.{GaveUp}
 use Rattle.drain_device.specs.Devices.{Sink}
 use Rattle.drain_device.specs.Failing.{WriteFails}
 use Rattle.drain_device.specs.Writes.{HandsOver}
-use Rattle.drain_print.specs.declared.status.Status.{Status}
-use Rattle.drain_print.specs.declared.status.Status.TheVariants.{Failed}
-use Rattle.drain_print.specs.Statuses.{status_code}
+use Rattle.drain_answer.specs.declared.status.Status.{Status}
+use Rattle.drain_answer.specs.declared.status.Status.TheVariants.{Failed}
+use Rattle.drain_answer.specs.Statuses.{status_code}
 
 -- the line feed of ASCII
 abbrev pub line_feed : ℕ

@@ -2,7 +2,7 @@
 use Rattle.std.specs.Prelude.{ℕ, ◌++◌, List, [], ◌∷◌, codes}
 use Rattle.drain_device.specs.declared.read.BodyFault.{BodyFault}
 use Rattle.drain_device.specs.declared.read.BodyFault.TheVariants.{ReadFailed, OutOfMemory}
-use Rattle.drain_print.specs.Printing.{line_feed}
+use Rattle.drain_answer.specs.Printing.{line_feed}
 
 -- memory ran out, or a source failed for good
 abbrev pub failure_text : BodyFault → List ℕ

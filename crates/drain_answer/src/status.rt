@@ -1,9 +1,9 @@
 //! The exit statuses of the program.
 
 ghost use Rattle.std.specs.Prelude.{◌≡◌};
-ghost use Rattle.drain_print.specs.Statuses.{status_code, refusal_status};
+ghost use Rattle.drain_answer.specs.Statuses.{status_code, refusal_status};
 
-use drain_answer::Refusal;
+use crate::Refusal;
 
 /// How a run of the program ended.
 #[derive(Clone, Copy)]

@@ -5,9 +5,9 @@ use Rattle.drain_device.specs.Counts.{Answered, counted}
 use Rattle.drain_device.specs.Devices.{Sink}
 use Rattle.drain_device.specs.Patience.{full_patience, GivesUpWriting}
 use Rattle.drain_device.specs.Writes.{HandsOver}
-use Rattle.drain_print.specs.declared.status.Status.{Status}
-use Rattle.drain_print.specs.Statuses.{status_code}
-use Rattle.drain_print.specs.Printing.{status_after, PrintsText, Prints}
+use Rattle.drain_answer.specs.declared.status.Status.{Status}
+use Rattle.drain_answer.specs.Statuses.{status_code}
+use Rattle.drain_answer.specs.Printing.{status_after, PrintsText, Prints}
 
 pub PrintsText-write_all : {W : Type 0} (sink : Sink W) (old new : W) (text : List ℕ) (status : Status) (code : ℕ) (patience left : ℕ) (done : Result (Unit {0}) GaveUp) →
     patience ≡ full_patience → HandsOver (sink.bytes_taken old) (sink.bytes_taken new) done text →
