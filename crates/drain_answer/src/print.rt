@@ -4,9 +4,9 @@ ghost use Rattle.std.specs.Prelude.{◌≡◌};
 ghost use Rattle.drain_answer.specs.Failures.{failure_text};
 ghost use Rattle.drain_answer.specs.Printing.{Prints, PrintsText};
 
+use crate::line::{LINE_LENGTH, Line};
 use crate::status::Status;
 use arrayvec::ArrayString;
-use crate::line::{LINE_LENGTH, Line};
 use drain_device::{BodyFault, ByteSink, Patience, write_all};
 
 /// Prints the line and its line end, and returns the exit status: that of the run, or that of a failure

@@ -7,10 +7,10 @@ use crate::progress_lines::{Phase, part_line, row_line};
 use crate::rows::Rows;
 use crate::throttle::Throttle;
 use drain_answer::line::{Line, words};
-use drain_device::{Writer, write_nothing};
-use drain_maker::follow::{Follow, Part};
 use drain_answer::print::print_line;
 use drain_answer::status::Status;
+use drain_device::{Writer, write_nothing};
+use drain_maker::follow::{Follow, Part};
 use std::cell::Cell;
 use std::time::Instant;
 
