@@ -54,6 +54,6 @@ pub record IsDerivation {R : Type 0} (source : Source R) (side : ℕ) (tiles_old
   pub uses : AuditUses source.bytes_left source.counts side (tiles_old, products_old) (tiles_new, products_new) (reading_in outcome)
 
 -- what was derived is returned, and nothing printed; or the reason is printed, and its status returned
-abbrev pub IsHandedOver : {W : Type 0} → Sink W → W → W → Result (Tiling × Derived) DeriveRefusal → Result (Tiling × Derived) ℕ → Type 0
-IsHandedOver sink old new (Ok set) result = (result ≡ Ok set) × (new ≡ old)
-IsHandedOver sink old new (Err why) result = (code : ℕ) × (result ≡ Err code) × Prints sink old new (none_line why) (none_status why) code
+abbrev pub IsSetHandedOver : {W : Type 0} → Sink W → W → W → Result (Tiling × Derived) DeriveRefusal → Result (Tiling × Derived) ℕ → Type 0
+IsSetHandedOver sink old new (Ok set) result = (result ≡ Ok set) × (new ≡ old)
+IsSetHandedOver sink old new (Err why) result = (code : ℕ) × (result ≡ Err code) × Prints sink old new (none_line why) (none_status why) code

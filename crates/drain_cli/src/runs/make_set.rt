@@ -10,14 +10,14 @@ ghost use Rattle.drain_cli.specs.SetRuns.{no_set_line, no_set_status};
 
 use drain_answer::answer_report::refusal_line;
 use drain_answer::line::{Line, words};
+use drain_answer::print::print_line;
+use drain_answer::status::Status;
 use drain_device::{ByteSink, ByteSource};
 use drain_grid::{ProductSet, SinkFault, parse_sinks};
 use drain_hgt::TileInput;
 use drain_maker::follow::{Follow, Unfollowed};
 use drain_maker::{MakeRefusal, Mosaic, make_freeing, read_mosaic};
 use drain_mosaic::Layout;
-use drain_answer::print::print_line;
-use drain_answer::status::Status;
 use drain_verdict::Refusal;
 use std::alloc::Global;
 

@@ -7,12 +7,12 @@ ghost use Rattle.drain_cli.specs.FillRuns.{FillOutcome, IsFillOutcome, IsFilledI
 ghost use Rattle.drain_answer.specs.Printing.{Prints};
 
 use drain_answer::line::{Line, words};
+use drain_answer::print::print_line;
+use drain_answer::status::Status;
 use drain_device::{BodyFault, ByteSink, ByteSource};
 use drain_files::whole_input::read_whole;
 use drain_grid::laws::least_from_rules;
 use drain_grid::tile::is_side;
-use drain_answer::print::print_line;
-use drain_answer::status::Status;
 use drain_rules::fill_length;
 use drain_verdict::{FillRefusal, FillVerdict, check_fill, fill_report};
 use std::alloc::Global;

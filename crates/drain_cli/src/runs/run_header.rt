@@ -7,10 +7,10 @@ ghost use Rattle.drain_cli.specs.HeaderRuns.{HeaderOutcome, IsHeaderOutcome, IsT
 ghost use Rattle.drain_answer.specs.Printing.{PrintsText};
 
 use drain_answer::line::{Line, words};
-use drain_device::{BodyFault, ByteSink, ByteSource, read_body};
-use drain_header::{Header, HeaderFault, MAX_HEADER_BYTES, header_text, parse_header};
 use drain_answer::print::{print_failure, print_line, print_text};
 use drain_answer::status::Status;
+use drain_device::{BodyFault, ByteSink, ByteSource, read_body};
+use drain_header::{Header, HeaderFault, MAX_HEADER_BYTES, header_text, parse_header};
 use std::alloc::Global;
 
 /// An answer, or why there is none.

@@ -1,3 +1,0 @@
-pub mod UnionStatuses
-pub mod ReadReports
-pub mod ReportTexts
