@@ -8,9 +8,8 @@ ghost use Rattle.std.specs.List.Sorted.{IsNonDecreasing, IsPermutation};
 ghost use Rattle.drain_windows.specs.Windows.{judged_bottom, judged_right};
 ghost use Rattle.drain_merge.specs.Corners.{IsFirstUnjudged, IsFirstInRow, IsFirstCrossing, IsNewBelow};
 
-use crate::judged::is_judged;
-use crate::judged_edges::{bottom_of, right_of};
-use crate::union_size::UnionSize;
+use crate::judged::{bottom_of, is_judged, right_of};
+use crate::places::UnionSize;
 use drain_grid::{Cell, OutOfMemory};
 use drain_windows::Place;
 use std::alloc::Global;

@@ -5,7 +5,7 @@ ghost use Rattle.std.specs.List.Sorted.{IsPermutation};
 ghost use Rattle.drain_windows.specs.Outlets.{SharesAt};
 ghost use Rattle.drain_merge.specs.Shared.{AreInOrder, IsFirstSharing, IsLeastSharing, IsEarlierOf};
 
-use crate::row_order::is_earlier;
+use crate::faults::is_earlier;
 use drain_grid::Cell;
 use drain_windows::Outlet;
 

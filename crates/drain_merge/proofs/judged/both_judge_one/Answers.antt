@@ -1,6 +1,6 @@
 use Rattle.std.proofs.Common.{max, min, ◌∙◌}
 use Rattle.drain_merge.proofs.JudgedEdges.{both_judged}
-use Rattle.drain_merge.proofs.judged_edges.both_judge_one.Goals as goal
+use Rattle.drain_merge.proofs.judged.both_judge_one.Goals as goal
 
 pub returns-then-top-min : goal.returns-then-top-min
 returns-then-top-min c =

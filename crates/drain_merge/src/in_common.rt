@@ -1,11 +1,11 @@
-//! The sides of the windows' tiles.
+//! What the windows of a union have in common: the side of their tiles, and the no-data numbers of their products.
 
 ghost use Rattle.std.specs.Prelude.{◌≡◌, ◌↔◌, IfErr, IsTrue, OnOk};
 ghost use Rattle.drain_merge.specs.MapBoxes.{HaveOneSide, IsSideRefusal};
 ghost use Rattle.drain_merge.specs.Places.{IsFirstFailing};
 
 use crate::merge_verdict::MergeRefusal;
-use drain_windows::WindowReport;
+use drain_windows::{AuditNoData, WindowReport};
 
 /// Refuses windows whose tiles have several sides: their rows and columns count on several maps.
 pub(crate) fn check_sides(windows: &[WindowReport]) -> Result<(), MergeRefusal>
@@ -38,4 +38,33 @@ fn has_side(window: &WindowReport, side: u32) -> bool
     ensures { IsTrue result ↔ (window.now.side ≡ side) }
 {
     window.side == side
+}
+
+/// The first window with other no-data numbers than these.
+pub fn first_other_nodata(windows: &[WindowReport], nodata: AuditNoData) -> Option<usize>
+    ensures { IsFirstFailing (λ w. w.report.nodata ≡ nodata) windows.now result }
+{
+    for i in 0..windows.len() {
+        if !are_same(nodata_of(&windows[i]), nodata) {
+            return Some(i);
+        }
+    }
+    None
+}
+
+/// The window's no-data numbers.
+pub fn nodata_of(window: &WindowReport) -> AuditNoData
+    ensures { result ≡ window.now.report.nodata }
+{
+    window.report.nodata
+}
+
+/// Whether the two are the same.
+fn are_same(a: AuditNoData, b: AuditNoData) -> bool
+    ensures { IsTrue result ↔ (a ≡ b) }
+{
+    // That each has no other numbers than these four.
+    let _of_a = a.con;
+    let _of_b = b.con;
+    a == b
 }

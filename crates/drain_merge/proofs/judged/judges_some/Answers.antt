@@ -1,6 +1,6 @@
 use Rattle.std.proofs.Common.{arith}
 use Rattle.drain_merge.proofs.JudgedEdges.{some_judged}
-use Rattle.drain_merge.proofs.judged_edges.judges_some.Goals as goal
+use Rattle.drain_merge.proofs.judged.judges_some.Goals as goal
 
 pub returns-then-top_of-bottom_of : goal.returns-then-top_of-bottom_of
 returns-then-top_of-bottom_of c =
