@@ -4,7 +4,7 @@ ghost use Rattle.std.specs.Prelude.{◌≡◌};
 ghost use Rattle.drain_answer.specs.Failures.{failure_text};
 ghost use Rattle.drain_answer.specs.Printing.{Prints, PrintsText};
 
-use crate::line::{LINE_LENGTH, Line};
+use crate::lines::{LINE_LENGTH, Line};
 use crate::status::Status;
 use arrayvec::ArrayString;
 use drain_device::{BodyFault, ByteSink, Patience, write_all};

@@ -4,9 +4,7 @@ ghost use Rattle.std.specs.Prelude.{◌≡◌, ◌≤◌, length};
 ghost use Rattle.drain_part_audit.specs.PartLines.{cell_line, part_line, part_report_line};
 
 use crate::part_verdict::PartVerdict;
-use drain_answer::answer_report::refusal_line;
-use drain_answer::line::{Line, push_number, words};
-use drain_answer::verdict_report::{accepted, rejected};
+use drain_answer::lines::{Line, accepted, push_number, refusal_line, rejected, words};
 use drain_answer::{Refusal, fill_report};
 use drain_rules::FillVerdict;
 

@@ -8,9 +8,8 @@ ghost use Rattle.drain_derive.specs.declared.derived.Derived.{Derived};
 ghost use Rattle.drain_derive.specs.declared.reading.DeriveRefusal.{DeriveRefusal};
 ghost use Rattle.drain_mosaic.specs.Tiling.{Tiling};
 
-use drain_answer::answer_report::refusal_line;
 use drain_answer::audit_report;
-use drain_answer::line::Line;
+use drain_answer::lines::{Line, refusal_line};
 use drain_answer::print::print_line;
 use drain_answer::status::Status;
 use drain_derive::{DeriveRefusal, Derived, derive};

@@ -8,8 +8,7 @@ ghost use Rattle.drain_cli.specs.MadeSets.{IsSetOf, IsNoSet};
 ghost use Rattle.drain_answer.specs.Printing.{Prints};
 ghost use Rattle.drain_cli.specs.SetRuns.{no_set_line, no_set_status};
 
-use drain_answer::answer_report::refusal_line;
-use drain_answer::line::{Line, words};
+use drain_answer::lines::{Line, refusal_line, words};
 use drain_answer::print::print_line;
 use drain_answer::status::Status;
 use drain_device::{ByteSink, ByteSource};

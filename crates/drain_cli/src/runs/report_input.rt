@@ -11,7 +11,7 @@ ghost use Rattle.drain_cli.specs.ReportInputs.{fault_line, fault_status, IsBadRe
 ghost use Rattle.drain_cli.specs.ReportOutputs.{text_of};
 ghost use Rattle.drain_cli.specs.declared.runs.report_input.BadReport.{BadReport};
 
-use drain_answer::line::{Line, words};
+use drain_answer::lines::{Line, words};
 use drain_answer::print::print_line;
 use drain_answer::status::Status;
 use drain_device::{BodyFault, ByteSink, ByteSource};

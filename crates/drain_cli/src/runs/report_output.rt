@@ -7,10 +7,9 @@ ghost use Rattle.drain_maker.specs.declared.product_files.SetFault.{SetFault};
 ghost use Rattle.drain_answer.specs.Printing.{Prints};
 ghost use Rattle.drain_cli.specs.ReportOutputs.{IsReadable, reported_line, reported_status, text_of, verdict_status};
 
-use drain_answer::line::{Line, words};
+use drain_answer::lines::{Line, verdict_line, words};
 use drain_answer::print::print_line;
 use drain_answer::status::Status;
-use drain_answer::verdict_report::verdict_line;
 use drain_device::ByteSink;
 use drain_files::placing::{Placing, place_written};
 use drain_files::whole_output::write_bytes;

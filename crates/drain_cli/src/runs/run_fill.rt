@@ -6,7 +6,7 @@ ghost use Rattle.drain_grid.specs.Tile.{IsSide};
 ghost use Rattle.drain_cli.specs.FillRuns.{FillOutcome, IsFillOutcome, IsFilledIfTold, outcome_line, outcome_status};
 ghost use Rattle.drain_answer.specs.Printing.{Prints};
 
-use drain_answer::line::{Line, words};
+use drain_answer::lines::{Line, words};
 use drain_answer::print::print_line;
 use drain_answer::status::Status;
 use drain_device::{BodyFault, ByteSink, ByteSource};

@@ -6,7 +6,7 @@ ghost use Rattle.drain_header.specs.FaultText.{fault_text};
 ghost use Rattle.drain_cli.specs.HeaderRuns.{HeaderOutcome, IsHeaderOutcome, IsToldAs, IsAnswerToldAs, header_printed, header_status};
 ghost use Rattle.drain_answer.specs.Printing.{PrintsText};
 
-use drain_answer::line::{Line, words};
+use drain_answer::lines::{Line, words};
 use drain_answer::print::{print_failure, print_line, print_text};
 use drain_answer::status::Status;
 use drain_device::{BodyFault, ByteSink, ByteSource, read_body};

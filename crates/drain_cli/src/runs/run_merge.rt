@@ -12,8 +12,7 @@ ghost use Rattle.drain_answer.specs.Printing.{Prints};
 ghost use Rattle.drain_cli.specs.MergeRuns.{IsMergeOutcome, list_line, list_status, MakeUnion, merge_status, UnionIsCorrect, UnionIsNotCorrect};
 
 use drain_answer::Refusal;
-use drain_answer::answer_report::refusal_line;
-use drain_answer::line::{Line, words};
+use drain_answer::lines::{Line, refusal_line, words};
 use drain_answer::print::print_line;
 use drain_answer::status::Status;
 use drain_device::ByteSink;

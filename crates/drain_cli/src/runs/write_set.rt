@@ -14,7 +14,7 @@ ghost use Rattle.drain_maker.specs.declared.product_files.TheConstants.{FILE_COU
 ghost use Rattle.drain_mosaic.specs.Tiling.{Tiling, extent_of};
 ghost use Rattle.drain_answer.specs.Printing.{Prints};
 
-use drain_answer::line::{Line, push_number, words};
+use drain_answer::lines::{Line, push_number, words};
 use drain_answer::print::print_line;
 use drain_answer::status::Status;
 use drain_derive::Derived;

@@ -1,7 +1,7 @@
 use Rattle.std.proofs.Common.{◌++◌, ◌∙◌, ap}
 use Rattle.std.specs.Prelude.{codes, decimal}
 use Rattle.drain_answer.specs.Lines.{counted_line}
-use Rattle.drain_answer.proofs.verdict_report.accepted.Goals as goal
+use Rattle.drain_answer.proofs.lines.accepted.Goals as goal
 
 pub returns : goal.returns
 returns c =
