@@ -10,12 +10,12 @@ use Rattle.drain_grid.specs.Values.{NoDataNumbers}
 use Rattle.drain_verdict.specs.Meaning.{input_grid, input_products, nodata_numbers, tiling_of}
 use Rattle.drain_window.specs.MapOrigins.{map_origin}
 use Rattle.drain_window.specs.WindowAnswers.{IsJudgedVerdict, window_of}
-use Rattle.drain_windows.specs.Cuts.{window_at}
-use Rattle.drain_windows.specs.Laws.{FourNumbers}
-use Rattle.drain_windows.specs.NoData.{audited}
-use Rattle.drain_windows.specs.Reports.{Report, IsReportOf}
-use Rattle.drain_windows.specs.declared.place.Place.{Place}
-use Rattle.drain_windows.specs.declared.place.TheConstants.{SEAM_DEPTH}
+use Rattle.drain_union.specs.Cuts.{window_at}
+use Rattle.drain_union.specs.Laws.{FourNumbers}
+use Rattle.drain_union.specs.NoData.{audited}
+use Rattle.drain_union.specs.Reports.{Report, IsReportOf}
+use Rattle.drain_union.specs.declared.place.Place.{Place}
+use Rattle.drain_union.specs.declared.place.TheConstants.{SEAM_DEPTH}
 use Rattle.drain_cli.specs.RunLaws.{ReadIsJudged}
 
 -- a verdict with all no-data numbers is one with those of an audit

@@ -9,8 +9,8 @@ use Rattle.drain_answer.specs.Statuses.{status_code}
 use Rattle.drain_answer.specs.declared.status.Status.{Status}
 use Rattle.drain_answer.specs.declared.status.Status.TheVariants.{Failed}
 use Rattle.drain_report.specs.Contents.{ContentsFit, contents_of, report_text}
-use Rattle.drain_windows.specs.declared.window_report.WindowReport.{WindowReport}
-use Rattle.drain_windows.specs.Verdicts.{Agree}
+use Rattle.drain_union.specs.declared.window_report.WindowReport.{WindowReport}
+use Rattle.drain_union.specs.Verdicts.{Agree}
 use Rattle.drain_cli.specs.ReportOutputs.{IsReadable, text_of}
 
 pub text_is : (w : WindowReport) → text_of w ≡ report_text (contents_of w)

@@ -18,9 +18,9 @@ use Rattle.drain_merge.specs.declared.merge_verdict.MergeVerdict.TheVariants.{Ac
 use Rattle.drain_merge.specs.declared.union_sinks.UnionSinks.{UnionSinks}
 use Rattle.drain_answer.specs.declared.status.Status.{Status}
 use Rattle.drain_answer.specs.declared.status.Status.TheVariants as status
-use Rattle.drain_windows.specs.Reports.{Report}
-use Rattle.drain_windows.specs.Windows.{Window, AreWindowsOf}
-use Rattle.drain_windows.specs.declared.window_report.WindowReport.{WindowReport}
+use Rattle.drain_union.specs.Reports.{Report}
+use Rattle.drain_union.specs.Windows.{Window, AreWindowsOf}
+use Rattle.drain_union.specs.declared.window_report.WindowReport.{WindowReport}
 
 -- the verdict on the union, which has these sinks unless a window is rejected; or the first refusal
 abbrev pub IsMergeOutcome : UnionSinks → List WindowReport → Result MapVerdict MergeRefusal → Type 0

@@ -8,8 +8,8 @@ use Rattle.drain_answer.specs.declared.status.Status.TheVariants.{Done, Rejected
 use Rattle.drain_report.specs.Contents.{ContentsFit, contents_of, report_text}
 use Rattle.drain_rules.specs.declared.verdict.Verdict.{Verdict}
 use Rattle.drain_rules.specs.declared.verdict.Verdict.TheVariants as window
-use Rattle.drain_windows.specs.Verdicts.{Agree}
-use Rattle.drain_windows.specs.declared.window_report.WindowReport.{WindowReport}
+use Rattle.drain_union.specs.Verdicts.{Agree}
+use Rattle.drain_union.specs.declared.window_report.WindowReport.{WindowReport}
 
 -- the text of what is handed over of a window
 unfoldable pub text_of : WindowReport → List ℕ

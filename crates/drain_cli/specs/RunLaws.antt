@@ -4,8 +4,8 @@ use Rattle.drain_merge.specs.UnionVerdicts.{IsJudgedFrom}
 use Rattle.drain_report.specs.Contents.{contents_of}
 use Rattle.drain_verdict.specs.Inputs.{Inputs}
 use Rattle.drain_window.specs.WindowAnswers.{IsWindowAnswer, window_of}
-use Rattle.drain_windows.specs.declared.place.Place.{Place}
-use Rattle.drain_windows.specs.declared.window_report.WindowReport.{WindowReport}
+use Rattle.drain_union.specs.declared.place.Place.{Place}
+use Rattle.drain_union.specs.declared.window_report.WindowReport.{WindowReport}
 
 -- what is read again of what a window's inputs were answered is the report on that window
 abbrev pub ReadIsJudged : Type 0

@@ -13,8 +13,8 @@ use Rattle.drain_window.specs.WindowAnswers.{as_refused, IsWindowAnswer}
 use Rattle.drain_window.specs.WindowLines.{refusal_line}
 use Rattle.drain_window.specs.declared.window_answer.WindowRefusal.{WindowRefusal}
 use Rattle.drain_window.specs.declared.window_answer.WindowRefusal.TheVariants.{Inputs, OutsideMosaic}
-use Rattle.drain_windows.specs.declared.place.Place.{Place}
-use Rattle.drain_windows.specs.declared.window_report.WindowReport.{WindowReport}
+use Rattle.drain_union.specs.declared.place.Place.{Place}
+use Rattle.drain_union.specs.declared.window_report.WindowReport.{WindowReport}
 
 -- the outcome is the answer to the bytes that the devices had left, if they are known; they are read as by an audit
 pub record IsWindowOutcome {R : Type 0} (source : Source R) (p : Place) (side : ℕ) (tiles_old tiles_new : List (TileInput R)) (sinks : List ℕ)

@@ -7,7 +7,7 @@ ghost use Rattle.drain_cli.specs.RunLaws.{ReadIsJudged};
 
 use drain_device::{ByteSink, ByteSource};
 use drain_maker::laws::made_is_accepted;
-use drain_windows::laws::four_numbers;
+use drain_union::laws::four_numbers;
 
 /// What `make_set` made and `write_set` wrote into empty files is accepted by `check` with the same tiles and sinks,
 /// unless memory runs out or a read fails: for any sources whose bytes are known, and any sinks whose written bytes are

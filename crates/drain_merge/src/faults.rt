@@ -6,7 +6,7 @@ ghost use Rattle.drain_merge.specs.Faults.{union_fault, ComesBefore, IsFirstOfFa
 
 use drain_grid::{Cell, Rule};
 use drain_rules::Verdict;
-use drain_windows::WindowReport;
+use drain_union::WindowReport;
 
 /// A cell of the union at which this rule fails.
 #[derive(Clone, Copy, PartialEq, Eq, Debug)]

@@ -5,7 +5,7 @@ ghost use Rattle.drain_merge.specs.MapBoxes.{HaveOneSide, IsSideRefusal};
 ghost use Rattle.drain_merge.specs.Places.{IsFirstFailing};
 
 use crate::merge_verdict::MergeRefusal;
-use drain_windows::{AuditNoData, WindowReport};
+use drain_union::{AuditNoData, WindowReport};
 
 /// Refuses windows whose tiles have several sides: their rows and columns count on several maps.
 pub(crate) fn check_sides(windows: &[WindowReport]) -> Result<(), MergeRefusal>

@@ -1,12 +1,12 @@
 //! Which cells of a union windows judge, and where the judged rows and columns begin and end.
 
 ghost use Rattle.std.specs.Prelude.{◌≡◌, ◌↔◌, IsTrue};
-ghost use Rattle.drain_windows.specs.Judged.{BothJudgeOne, JudgesSome};
-ghost use Rattle.drain_windows.specs.Windows.{IsJudgedAtSome, judged_bottom, judged_left, judged_right, judged_top};
+ghost use Rattle.drain_union.specs.Judged.{BothJudgeOne, JudgesSome};
+ghost use Rattle.drain_union.specs.Windows.{IsJudgedAtSome, judged_bottom, judged_left, judged_right, judged_top};
 
 use drain_grid::Cell;
-use drain_windows::Place;
-use drain_windows::place::end_of;
+use drain_union::Place;
+use drain_union::place::end_of;
 
 /// Whether some window judges this cell of the union.
 pub fn is_judged(places: &[Place], cell: Cell) -> bool

@@ -12,8 +12,8 @@ use crate::moved::moved_window;
 use crate::places::UnionSize;
 use crate::union_sinks::{UnionSinks, check_sinks, some_is_rejected};
 use drain_grid::{Cell, OutOfMemory};
-use drain_windows::place::end_of;
-use drain_windows::{Place, WindowReport};
+use drain_union::place::end_of;
+use drain_union::{Place, WindowReport};
 use std::alloc::Global;
 
 /// The box that holds a union: the map's row and column of its first cell, and its size.

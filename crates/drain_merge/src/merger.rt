@@ -16,7 +16,7 @@ use crate::seams::first_difference;
 use crate::shared::first_sharing;
 use crate::totals::{outlets, places, seams, total};
 use drain_grid::{Cell, OutOfMemory, Rule};
-use drain_windows::{Place, WindowReport};
+use drain_union::{Place, WindowReport};
 use std::alloc::Global;
 
 /// The verdict on the union of these windows, or why there is none.

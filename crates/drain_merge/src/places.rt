@@ -1,12 +1,12 @@
 //! The size of a union, and where its windows lie.
 
 ghost use Rattle.std.specs.Prelude.{◌↔◌, IsTrue};
-ghost use Rattle.drain_windows.specs.Judged.{BothJudgeOne, JudgesSome};
-ghost use Rattle.drain_windows.specs.Windows.{IsPlaceIn};
+ghost use Rattle.drain_union.specs.Judged.{BothJudgeOne, JudgesSome};
+ghost use Rattle.drain_union.specs.Windows.{IsPlaceIn};
 ghost use Rattle.drain_merge.specs.Places.{IsFirstClash, IsFirstFailing, IsFirstWith};
 
 use crate::judged::{both_judge_one, judges_some};
-use drain_windows::Place;
+use drain_union::Place;
 use std::marker::Model;
 
 /// The rows and columns of a union. Unlike those of a grid they have no bound of their own.
@@ -30,7 +30,7 @@ impl Model for UnionSize {
 }
 
 impl UnionSize {
-    ghost use Rattle.drain_windows.specs.Windows.{IsPlaceIn};
+    ghost use Rattle.drain_union.specs.Windows.{IsPlaceIn};
 
     /// Whether the place lies in a union of this size, and each side that isn't inner is the union's edge.
     pub fn has_place(self, place: &Place) -> bool

@@ -7,7 +7,7 @@ ghost use Rattle.drain_merge.specs.Totals.{AreCountsOf, capped, data_cells_of, r
 use crate::places::UnionSize;
 use drain_grid::{Cell, OutOfMemory};
 use drain_rules::Verdict;
-use drain_windows::{Outlet, Place, Shown, WindowReport};
+use drain_union::{Outlet, Place, Shown, WindowReport};
 use std::alloc::Global;
 
 /// The size of a union, and how many of its cells have data, are raised, and are outlets. A count that doesn't fit is

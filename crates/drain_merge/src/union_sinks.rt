@@ -10,7 +10,7 @@ use crate::merge_verdict::MergeRefusal;
 use crate::totals::sinks;
 use drain_grid::{Cell, OutOfMemory, Sinks};
 use drain_rules::Verdict;
-use drain_windows::WindowReport;
+use drain_union::WindowReport;
 use std::alloc::Global;
 use std::collections::BTreeSet;
 

@@ -11,7 +11,7 @@ use crate::lines::{Lines, after_word, push};
 use crate::report_line::ReportLine;
 use drain_grid::OutOfMemory;
 use drain_rules::Verdict;
-use drain_windows::{AuditNoData, Place};
+use drain_union::{AuditNoData, Place};
 
 /// What the first lines of a report say.
 #[derive(Clone, Copy)]

@@ -5,7 +5,7 @@ ghost use Rattle.drain_window.specs.WindowLines.{refusal_line, window_line};
 
 use crate::window_answer::WindowRefusal;
 use drain_answer::lines::{self, Line, verdict_line, words};
-use drain_windows::WindowReport;
+use drain_union::WindowReport;
 
 /// The line of an answer, without a line end, in ASCII. Rows and columns are those of the window.
 pub fn window_line(answer: &Result<WindowReport, WindowRefusal>) -> Line

@@ -3,7 +3,7 @@
 use drain_grid::{Cell, CellValues, NoData, Rule, Shape};
 use drain_merge::UnionSize;
 use drain_rules::{Counts, Verdict};
-use drain_windows::{
+use drain_union::{
     AuditNoData, InnerSides, Outlet, Place, Report, SEAM_DEPTH, Shown, WindowReport,
 };
 use std::alloc::{AllocError, Global};

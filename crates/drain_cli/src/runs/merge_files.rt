@@ -8,7 +8,7 @@ use drain_device::{BodyFault, ByteSink};
 use drain_files::open_failure::print_open_fault;
 use drain_files::open_files::{Opener, text_at};
 use drain_merge::UnionSinks;
-use drain_windows::WindowReport;
+use drain_union::WindowReport;
 
 /// Reads the reports at these paths, one file open at a time, and the union's list of sinks, prints the line of the
 /// verdict and returns the exit status.

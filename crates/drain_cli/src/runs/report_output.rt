@@ -16,7 +16,7 @@ use drain_files::whole_output::write_bytes;
 use drain_maker::product_files::SetFault;
 use drain_report::write_report;
 use drain_rules::Verdict;
-use drain_windows::WindowReport;
+use drain_union::WindowReport;
 use std::alloc::Global;
 
 /// Writes the report of a window, gives the file its name, prints the line of the verdict and returns the exit status: 0

@@ -18,7 +18,7 @@ use drain_answer::status::Status;
 use drain_device::ByteSink;
 use drain_grid::{SinkFault, parse_sinks};
 use drain_merge::{MapVerdict, MergeRefusal, MergeVerdict, UnionSinks, merge_line, merge_on_map};
-use drain_windows::WindowReport;
+use drain_union::WindowReport;
 use std::alloc::Global;
 
 /// Puts the reports of a union's windows together, prints the line of the verdict and returns the exit status: 0

@@ -3,7 +3,7 @@
 ghost use Rattle.std.specs.Prelude.{◌≡◌, Result};
 ghost use Rattle.drain_cli.specs.WindowRuns.{IsWindowHandedOver, IsWindowOutcome, refusal_code};
 ghost use Rattle.drain_window.specs.declared.window_answer.WindowRefusal.{WindowRefusal};
-ghost use Rattle.drain_windows.specs.declared.window_report.WindowReport.{WindowReport};
+ghost use Rattle.drain_union.specs.declared.window_report.WindowReport.{WindowReport};
 
 use drain_answer::print::print_line;
 use drain_answer::status::Status;
@@ -12,7 +12,7 @@ use drain_hgt::TileInput;
 use drain_verdict::AuditProducts;
 use drain_window::window_lines::refusal_line;
 use drain_window::{WindowRefusal, judge_window};
-use drain_windows::{Place, WindowReport};
+use drain_union::{Place, WindowReport};
 use std::alloc::Global;
 
 /// Judges the window that lies at this place of the mosaic of the tiles, and returns what is to be reported. If there is

@@ -17,7 +17,7 @@ use drain_files::open_judged::{OpenFiles, open_audited};
 use drain_files::output_paths::inputs_or_print;
 use drain_files::outputs::{Failure, Outputs};
 use drain_progress::progress::Progress;
-use drain_windows::WindowReport;
+use drain_union::WindowReport;
 use std::alloc::{AllocError, Global};
 
 /// Judges a window of the mosaic of these tiles, writes its report, prints the line and returns the exit status. The

@@ -1,5 +1,5 @@
 use Rattle.std.proofs.Common.{◌≡◌, refl, sym, subst, ◌∙◌}
-use Rattle.drain_windows.specs.NoData.{audited}
+use Rattle.drain_union.specs.NoData.{audited}
 use Rattle.drain_merge.proofs.SameNoData.{four_test, same_four, four_pass}
 use Rattle.drain_merge.proofs.in_common.are_same.Goals as goal
 
