@@ -20,10 +20,10 @@ use drain_grid::Cell;
 use drain_rules::row_outcome::RowOutcome;
 use drain_rules::tally::Tally;
 use drain_rules::{Counts, Verdict};
-use drain_window_walk::laws::{walk_judges_window, walk_lists_seams};
-use drain_window_walk::{Area, SeamWalk, WindowWalk};
 use drain_union::laws::four_numbers;
 use drain_union::{AuditNoData, Outlet, Place, Report, sort_by_label};
+use drain_window_walk::laws::{walk_judges_window, walk_lists_seams};
+use drain_window_walk::{Area, SeamWalk, WindowWalk};
 use std::alloc::Global;
 
 /// The verdict and the report from the notes of all rows of a grid, for the window at this place of it, and the listed

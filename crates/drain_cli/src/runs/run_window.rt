@@ -9,10 +9,10 @@ use drain_answer::print::print_line;
 use drain_answer::status::Status;
 use drain_device::{ByteSink, ByteSource};
 use drain_hgt::TileInput;
+use drain_union::{Place, WindowReport};
 use drain_verdict::AuditProducts;
 use drain_window::window_lines::refusal_line;
 use drain_window::{WindowRefusal, judge_window};
-use drain_union::{Place, WindowReport};
 use std::alloc::Global;
 
 /// Judges the window that lies at this place of the mosaic of the tiles, and returns what is to be reported. If there is
