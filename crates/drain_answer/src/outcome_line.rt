@@ -3,12 +3,11 @@
 ghost use Rattle.std.specs.Prelude.{◌≡◌, ◌≤◌, length};
 ghost use Rattle.drain_answer.specs.OutcomeLines.{cell_line, outcome_line, outcome_report_line};
 
-use crate::answer_report::refusal_line;
-use crate::fill_line::fill_report;
-use crate::line::{Line, push_number, words};
+use crate::lines::{
+    Line, accepted, fill_report, push_number, refusal_line, rejected, words,
+};
 use crate::outcome::Outcome;
 use crate::refusal::Refusal;
-use crate::verdict_report::{accepted, rejected};
 use drain_grid::FillVerdict;
 
 /// The line of an answer, without a line end, in ASCII.

@@ -11,8 +11,8 @@ use Rattle.drain_grid.specs.declared.fill_verdict.FillVerdict.TheVariants.{Accep
 use Rattle.drain_grid.specs.declared.fill_verdict.FillRefusal.{FillRefusal}
 use Rattle.drain_rules.specs.FillVerdicts.{IsFillAnswer}
 use Rattle.drain_answer.specs.FillLines.{fill_line}
-use Rattle.drain_print.specs.declared.status.Status.{Status}
-use Rattle.drain_print.specs.declared.status.Status.TheVariants as status
+use Rattle.drain_answer.specs.declared.status.Status.{Status}
+use Rattle.drain_answer.specs.declared.status.Status.TheVariants as status
 
 -- an answer, or why there is none
 abbrev pub FillOutcome : Type 0

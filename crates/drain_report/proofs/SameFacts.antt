@@ -9,8 +9,8 @@ use Rattle.drain_grid.specs.Values.{Values, NoDataNumbers}
 use Rattle.drain_grid.specs.declared.verdict.Counts.{Counts}
 use Rattle.drain_grid.specs.declared.verdict.Verdict.{Verdict}
 use Rattle.drain_grid.specs.declared.verdict.Verdict.TheVariants.{Accepted, Rejected}
-use Rattle.drain_windows.specs.declared.place.InnerSides.{InnerSides}
-use Rattle.drain_windows.specs.declared.place.Place.{Place}
+use Rattle.drain_union.specs.declared.place.InnerSides.{InnerSides}
+use Rattle.drain_union.specs.declared.place.Place.{Place}
 use Rattle.drain_report.specs.Lines.{line}
 use Rattle.drain_report.specs.Facts.{IsNarrow, flag_number, CountsFit, VerdictFits, verdict_line}
 

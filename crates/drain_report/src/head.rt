@@ -10,7 +10,7 @@ use crate::fault::ReportFault;
 use crate::lines::{Lines, after_word, push};
 use crate::report_line::ReportLine;
 use drain_grid::{OutOfMemory, Verdict};
-use drain_windows::{AuditNoData, Place};
+use drain_union::{AuditNoData, Place};
 
 /// What the first lines of a report say.
 #[derive(Clone, Copy)]

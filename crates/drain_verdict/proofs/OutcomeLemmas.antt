@@ -18,8 +18,8 @@ use Rattle.drain_grid.specs.Values.{NoDataNumbers}
 use Rattle.drain_grid.specs.declared.judged.Judged.{Judged}
 use Rattle.drain_grid.specs.declared.judged.Judged.TheVariants.{Con, ConDir, ConDirAcc, ConDirBas, All, AllWithRanks}
 use Rattle.drain_grid.specs.Judged.{has_dir, has_rnk}
-use Rattle.drain_parts.specs.Laws.{PartIsLocal, SurfaceIsPart}
-use Rattle.drain_parts.specs.PartOf.{AreRight, IsPartOfCorrect, IsRightSurface, IsSomeWays}
+use Rattle.drain_laws.specs.PartLaws.{PartIsLocal, SurfaceIsPart}
+use Rattle.drain_laws.specs.PartOf.{AreRight, IsPartOfCorrect, IsRightSurface, IsSomeWays}
 use Rattle.drain_grid.specs.RulesAbout.{IsPartRule, IsTried, part_rules, tried}
 use Rattle.drain_grid.specs.Laws.{CorrectIsLocal}
 use Rattle.drain_rows.specs.Runs.{AllRunsEnd}
@@ -30,7 +30,7 @@ use Rattle.drain_verdict.specs.Answers.{AreReadable}
 use Rattle.drain_verdict.specs.Inputs.{Inputs}
 use Rattle.drain_verdict.specs.Meaning.{lines_in, listed_in}
 use Rattle.drain_verdict.specs.OutcomesOf.{IsOfSurface, IsOfWays, IsOutcomeOf}
-use Rattle.drain_parts.proofs.SurfacePart.{at_ground, not_raised}
+use Rattle.drain_laws.proofs.SurfacePart.{at_ground, not_raised}
 use Rattle.drain_verdict.specs.Deciding.{IsDecided, IsEndlessCell}
 use Rattle.drain_answer.specs.Outcomes.{IsAcceptedOutcome}
 use Rattle.drain_verdict.specs.Outcomes.{IsConOutcome, IsOutcome, IsOutcomeAnswer, IsRankOutcome, IsWayOutcome, rules_of}

@@ -14,7 +14,7 @@ use Rattle.drain_grid.specs.GridRules.{IsFirstFault, RulesHold}
 use Rattle.drain_grid.specs.Path.{IsLeastSurface}
 use Rattle.drain_grid.specs.RulesAbout.{IsPartRule, part_rules}
 use Rattle.drain_grid.specs.Values.{NoDataNumbers}
-use Rattle.drain_parts.specs.PartOf.{AreRight}
+use Rattle.drain_laws.specs.PartOf.{AreRight}
 use Rattle.drain_rows.specs.Runs.{AllRunsEnd}
 use Rattle.drain_rules.specs.FillVerdicts.{fill_counts}
 use Rattle.drain_rules.specs.Verdicts.{IsVerdictBy}

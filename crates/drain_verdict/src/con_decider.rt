@@ -1,7 +1,7 @@
 //! Con alone: con of all rows is compared with the filled surface.
 
 ghost use Rattle.std.specs.Prelude.{◌≡◌, IfOk, List, MatchOption, Ok};
-ghost use Rattle.drain_con_rows.specs.ConRows.{AreFirstCon, HasSinks};
+ghost use Rattle.drain_filled.specs.ConRows.{AreFirstCon, HasSinks};
 ghost use Rattle.drain_grid.specs.SinkTexts.{sinks_of};
 ghost use Rattle.drain_grid.specs.declared.judged.Judged.TheVariants.{Con};
 
@@ -15,7 +15,7 @@ ghost use Rattle.drain_grid.specs.Rule.{IsFillRule};
 
 
 use crate::decider::{Decided, Decider};
-use drain_con_rows::ConRows;
+use drain_filled::ConRows;
 use drain_grid::{Cell, Judged, OutOfMemory, Shape, Verdict, parse_sinks};
 use drain_paths::CellFlows;
 use std::alloc::Global;

@@ -22,7 +22,7 @@ pub struct Decided {
 /// What is kept of all rows and, with the verdict of the rules, decides.
 pub trait Decider: RowVisitor {
     ghost use Rattle.std.specs.Prelude.{◌≡◌, IfOk, Ok};
-    ghost use Rattle.drain_con_rows.specs.ConRows.{HasSinks};
+    ghost use Rattle.drain_filled.specs.ConRows.{HasSinks};
     ghost use Rattle.drain_grid.specs.SinkTexts.{sinks_of};
     ghost use Rattle.drain_grid.specs.declared.judged.Rules.{Rules};
     ghost use Rattle.drain_grid.specs.declared.sink_line.SinkLine.{SinkLine};

@@ -20,7 +20,7 @@ use crate::product_inputs::ProductInputs;
 use crate::ranks_decider::RanksDecide;
 use crate::read_inputs::read_inputs;
 use drain_answer::Refusal;
-use drain_con_rows::ConRows;
+use drain_filled::ConRows;
 use drain_device::ByteSource;
 use drain_grid::{Cell, Judged, OutOfMemory, Verdict};
 use drain_hgt::TileInput;

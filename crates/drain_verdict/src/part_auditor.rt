@@ -17,7 +17,7 @@ use drain_grid::Judged;
 use drain_grid::laws::correct_is_local;
 use drain_hgt::TileInput;
 use drain_hgt::laws::one_name;
-use drain_parts::laws::{part_is_local, surface_is_part};
+use drain_laws::parts::{part_is_local, surface_is_part};
 use drain_rules::Walk;
 use std::alloc::Global;
 

@@ -10,20 +10,19 @@ ghost use Rattle.drain_window.specs.WindowNotes.{AreOfWindow};
 ghost use Rattle.drain_window_walk.specs.SeamRows.{EndsInRange, IsOrigin};
 ghost use Rattle.drain_window_walk.specs.SeamWalks.{IsSeamWalkOf};
 ghost use Rattle.drain_window_walk.specs.WindowWalks.{IsWindowWalkOf};
-ghost use Rattle.drain_windows.specs.Cuts.{window_at};
-ghost use Rattle.drain_windows.specs.Outlets.{IsSortedByLabel};
-ghost use Rattle.drain_windows.specs.Reports.{ListsSinks};
-ghost use Rattle.drain_windows.specs.Verdicts.{Agree};
-ghost use Rattle.drain_windows.specs.Windows.{IsPlaceIn};
+ghost use Rattle.drain_union.specs.Cuts.{window_at};
+ghost use Rattle.drain_union.specs.Outlets.{IsSortedByLabel};
+ghost use Rattle.drain_union.specs.Reports.{ListsSinks};
+ghost use Rattle.drain_union.specs.Verdicts.{Agree};
+ghost use Rattle.drain_union.specs.Windows.{IsPlaceIn};
 
-use drain_grid::Cell;
+use drain_grid::{Cell, Counts, Verdict};
 use drain_rules::row_outcome::RowOutcome;
 use drain_rules::tally::Tally;
-use drain_rules::{Counts, Verdict};
+use drain_union::laws::four_numbers;
+use drain_union::{AuditNoData, Outlet, Place, Report, sort_by_label};
 use drain_window_walk::laws::{walk_judges_window, walk_lists_seams};
 use drain_window_walk::{Area, SeamWalk, WindowWalk};
-use drain_windows::laws::four_numbers;
-use drain_windows::{AuditNoData, Outlet, Place, Report, sort_by_label};
 use std::alloc::Global;
 
 /// The verdict and the report from the notes of all rows of a grid, for the window at this place of it, and the listed

@@ -16,7 +16,7 @@ use Rattle.drain_rules.specs.Rows.{place}
 use Rattle.drain_rules.proofs.KeptCells.{raised_between-fits, counts_none, counts_one, kept_run, raised_between-more, raised_between-none}
 use Rattle.drain_rules.proofs.RightVoids.{void_counts, void_is_no_data}
 use Rattle.drain_rules.proofs.RowRuns.{along_run}
-use Rattle.drain_windows.specs.declared.outlet.Outlet.{Outlet}
+use Rattle.drain_union.specs.declared.outlet.Outlet.{Outlet}
 use Rattle.drain_window_walk.specs.Areas.{cell_from}
 use Rattle.drain_window_walk.specs.JudgedRows.{Lists}
 use Rattle.drain_window_walk.proofs.JudgedCells.{ArePassed, passed-more}

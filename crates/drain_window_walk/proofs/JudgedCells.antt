@@ -20,7 +20,7 @@ use Rattle.drain_rules.specs.Rows.{place}
 use Rattle.drain_rules.specs.Verdicts.{has_outlet_code}
 use Rattle.drain_rules.proofs.Faults.{IsLeastFault-patch}
 use Rattle.drain_rules.proofs.PassedCells.{inside-row}
-use Rattle.drain_windows.specs.declared.outlet.Outlet.{Outlet}
+use Rattle.drain_union.specs.declared.outlet.Outlet.{Outlet}
 use Rattle.drain_window_walk.specs.Areas.{CountsAmong, IsOutletAt, cell_from}
 use Rattle.drain_window_walk.specs.JudgedRows.{AddsBetween, HoldBetween, IsFaultBetween, IsOutletBetween, Lists, cells_between}
 

@@ -14,7 +14,7 @@ use Rattle.drain_grid.specs.Rule.{IsPatchRule}
 use Rattle.drain_rules.specs.declared.tally.Tally.{Tally}
 use Rattle.drain_rules.specs.Rows.{place}
 use Rattle.drain_rules.specs.Verdicts.{has_outlet_code}
-use Rattle.drain_windows.specs.declared.outlet.Outlet.{Outlet}
+use Rattle.drain_union.specs.declared.outlet.Outlet.{Outlet}
 use Rattle.drain_window_walk.specs.declared.area.Area.{Area}
 use Rattle.drain_window_walk.specs.Areas.{CountsAmong, HasCell, HasRow, IsFirstAmong, IsOutletAt, cells_in_above, row_cells_in}
 use Rattle.drain_window_walk.specs.JudgedRows.{AddsBetween, IsFaultBetween, IsJudgedTally}

@@ -11,8 +11,8 @@ use Rattle.drain_grid.specs.Rule.{IsPatchRule}
 use Rattle.drain_rules.specs.declared.tally.Tally.{Tally}
 use Rattle.drain_rules.specs.Rows.{place}
 use Rattle.drain_rules.specs.Verdicts.{has_outlet_code}
-use Rattle.drain_windows.specs.declared.outlet.Outlet.{Outlet}
-use Rattle.drain_windows.specs.declared.place.Place.{Place}
+use Rattle.drain_union.specs.declared.outlet.Outlet.{Outlet}
+use Rattle.drain_union.specs.declared.place.Place.{Place}
 use Rattle.drain_window_walk.specs.declared.area.Area.{Area}
 
 -- 1 for an inner side, where the ring lies

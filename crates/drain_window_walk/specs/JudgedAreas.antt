@@ -9,7 +9,7 @@ use Rattle.drain_grid.specs.Rule.{IsPatchRule}
 use Rattle.drain_rules.specs.declared.row_outcome.RowOutcome.{RowOutcome}
 use Rattle.drain_rules.specs.declared.row_outcome.RowOutcome.TheVariants.{Sound, Faulty}
 use Rattle.drain_rules.specs.declared.tally.Tally.{Tally}
-use Rattle.drain_windows.specs.declared.outlet.Outlet.{Outlet}
+use Rattle.drain_union.specs.declared.outlet.Outlet.{Outlet}
 use Rattle.drain_window_walk.specs.declared.area.Area.{Area}
 use Rattle.drain_window_walk.specs.Areas.{HasCell, CountsAmong, ListsAmong, IsFirstAmong, cells_in_above}
 

@@ -15,7 +15,7 @@ use Rattle.drain_rules.specs.declared.cell_rules.Stop.TheVariants.{Fault, OutOfM
 use Rattle.drain_rules.specs.declared.tally.Tally.{Tally}
 use Rattle.drain_rules.specs.PatchRows.{AreRowPatches}
 use Rattle.drain_rules.specs.Rows.{place}
-use Rattle.drain_windows.specs.declared.outlet.Outlet.{Outlet}
+use Rattle.drain_union.specs.declared.outlet.Outlet.{Outlet}
 use Rattle.drain_window_walk.specs.declared.area.Area.{Area}
 use Rattle.drain_window_walk.specs.Areas.{CountsAmong, IsOutletAt}
 

@@ -7,13 +7,13 @@ use Rattle.drain_grid.specs.Unranked.{unranked}
 use Rattle.drain_grid.specs.Values.{NoDataNumbers}
 use Rattle.drain_rules.specs.declared.row_outcome.RowOutcome.{RowOutcome}
 use Rattle.drain_rules.specs.declared.row_outcome.RowOutcome.TheVariants.{Sound, Faulty}
-use Rattle.drain_windows.specs.declared.outlet.Outlet.{Outlet}
-use Rattle.drain_windows.specs.declared.place.Place.{Place}
-use Rattle.drain_windows.specs.declared.place.TheConstants.{SEAM_DEPTH}
-use Rattle.drain_windows.specs.declared.report.Shown.{Shown}
-use Rattle.drain_windows.specs.Cuts.{window_at}
-use Rattle.drain_windows.specs.Reports.{ListsSeams}
-use Rattle.drain_windows.specs.Windows.{Window, in_union, IsFirstInside, IsJudgedOutlet, IsPlaceIn, RulesHoldInside}
+use Rattle.drain_union.specs.declared.outlet.Outlet.{Outlet}
+use Rattle.drain_union.specs.declared.place.Place.{Place}
+use Rattle.drain_union.specs.declared.place.TheConstants.{SEAM_DEPTH}
+use Rattle.drain_union.specs.declared.report.Shown.{Shown}
+use Rattle.drain_union.specs.Cuts.{window_at}
+use Rattle.drain_union.specs.Reports.{ListsSeams}
+use Rattle.drain_union.specs.Windows.{Window, in_union, IsFirstInside, IsJudgedOutlet, IsPlaceIn, RulesHoldInside}
 use Rattle.drain_window_walk.specs.Areas.{CountsAmong, cells_in, judged_area}
 use Rattle.drain_window_walk.specs.JudgedAreas.{IsJudgedOutcome}
 use Rattle.drain_window_walk.specs.SeamRows.{ListsSeamsAbove}

@@ -3,7 +3,7 @@
 ghost use Rattle.std.specs.Prelude.{◌≡◌, ◌↔◌, IsTrue};
 ghost use Rattle.drain_window_walk.specs.SeamRows.{EndsInRange};
 
-use drain_windows::Place;
+use drain_union::Place;
 
 /// The cells of the rows from `top` up to `bottom` and of the columns from `left` up to `right`; the last row and column
 /// are those before `bottom` and `right`.

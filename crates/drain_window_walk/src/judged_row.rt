@@ -16,7 +16,7 @@ use drain_rules::outlet::is_outlet_by_code;
 use drain_rules::row_walk::RowStop;
 use drain_rules::tally::Tally;
 use drain_rules::{Kept, PatchRow, Rules, patch_fault};
-use drain_windows::Outlet;
+use drain_union::Outlet;
 
 /// Tries the rules from VoidCell to Label at the judged cells of a row, from west to east, and lists their outlets.
 /// `origin` is the union's cell of the grid's first.

@@ -9,7 +9,7 @@ ghost use Rattle.drain_rules.specs.PatchRows.{AreRowPatches};
 use drain_grid::{Cell, OutOfMemory};
 use drain_rows::{RowBuffer, RowVisitor};
 use drain_rules::{PatchRow, Rules, ThreeRows};
-use drain_windows::{Place, SEAM_DEPTH, Shown};
+use drain_union::{Place, SEAM_DEPTH, Shown};
 use std::alloc::Global;
 
 /// The window's place in the grid, the union's cell of the grid's first, how many rows were passed, and what the

@@ -16,7 +16,7 @@ use drain_rules::cell_rules::Stop;
 use drain_rules::row_outcome::RowOutcome;
 use drain_rules::tally::Tally;
 use drain_rules::{PatchRow, Rules};
-use drain_windows::Outlet;
+use drain_union::Outlet;
 use std::alloc::Global;
 
 /// The judged area, the union's cell of the grid's first, the no-data numbers of the rules, how many rows were passed, the

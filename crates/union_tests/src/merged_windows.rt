@@ -2,7 +2,7 @@
 
 use drain_grid::{Cell, CellValues, Counts, NoData, Rule, Shape, Verdict};
 use drain_merge::UnionSize;
-use drain_windows::{
+use drain_union::{
     AuditNoData, InnerSides, Outlet, Place, Report, SEAM_DEPTH, Shown, WindowReport,
 };
 use std::alloc::{AllocError, Global};

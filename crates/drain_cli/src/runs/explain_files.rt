@@ -6,6 +6,7 @@ use crate::runs::explain_page::{ExplainOutput, MapFault};
 use crate::runs::no_page::print_no_page;
 use crate::runs::run_explain::run_explain;
 use crate::runs::second_look;
+use drain_answer::status::Status;
 use drain_args::form::Form;
 use drain_args::requests::{ExplainArgs, Listed};
 use drain_device::{ByteSink, write_nothing};
@@ -22,7 +23,6 @@ use drain_files::reason::print_reason;
 use drain_grid::Product;
 use drain_maker::product_files::SetFault;
 use drain_mosaic::Layout;
-use drain_print::status::Status;
 use drain_progress::progress::Progress;
 use std::alloc::Global;
 

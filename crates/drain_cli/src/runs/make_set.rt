@@ -5,19 +5,18 @@ ghost use Rattle.drain_device.specs.FaultLists.{SomeReadFails};
 ghost use Rattle.drain_hgt.specs.Inputs.{names_of, tile_devices, TilesTakeAtMost};
 ghost use Rattle.drain_cli.specs.declared.runs.make_set.NoSet.{NoSet};
 ghost use Rattle.drain_cli.specs.MadeSets.{IsSetOf, IsNoSet};
-ghost use Rattle.drain_print.specs.Printing.{Prints};
+ghost use Rattle.drain_answer.specs.Printing.{Prints};
 ghost use Rattle.drain_cli.specs.SetRuns.{no_set_line, no_set_status};
 
-use drain_answer::answer_report::refusal_line;
-use drain_answer::line::{Line, words};
+use drain_answer::lines::{Line, refusal_line, words};
+use drain_answer::print::print_line;
+use drain_answer::status::Status;
 use drain_device::{ByteSink, ByteSource};
 use drain_grid::{ProductSet, SinkFault, parse_sinks};
 use drain_hgt::TileInput;
 use drain_maker::follow::{Follow, Unfollowed};
 use drain_maker::{MakeRefusal, Mosaic, make_freeing, read_mosaic};
 use drain_mosaic::Layout;
-use drain_print::print::print_line;
-use drain_print::status::Status;
 use drain_verdict::Refusal;
 use std::alloc::Global;
 

@@ -12,9 +12,11 @@ ghost use Rattle.drain_maker.specs.ProductFiles.{WritesFiles, set_bytes};
 ghost use Rattle.drain_maker.specs.declared.product_files.SetFault.{SetFault};
 ghost use Rattle.drain_maker.specs.declared.product_files.TheConstants.{FILE_COUNT};
 ghost use Rattle.drain_mosaic.specs.Tiling.{Tiling, extent_of};
-ghost use Rattle.drain_print.specs.Printing.{Prints};
+ghost use Rattle.drain_answer.specs.Printing.{Prints};
 
-use drain_answer::line::{Line, push_number, words};
+use drain_answer::lines::{Line, push_number, words};
+use drain_answer::print::print_line;
+use drain_answer::status::Status;
 use drain_derive::Derived;
 use drain_derive::derived_files::write_derived;
 use drain_device::ByteSink;
@@ -22,8 +24,6 @@ use drain_files::placing::{InPlace, Placing, place_written};
 use drain_grid::{ProductSet, Shape};
 use drain_maker::product_files::{SetFault, write_files};
 use drain_mosaic::Layout;
-use drain_print::print::print_line;
-use drain_print::status::Status;
 use std::alloc::Global;
 
 /// Writes header and raster of each product, in the order of `SET_FILES`, prints `made rows=R cols=C` and returns the
