@@ -1,7 +1,10 @@
 mod Acceptance
 mod HeaderBounds
 mod Placing
-pub mod EachProduct
+pub mod ByDirections
+pub mod Completed
+pub mod DerivedRasters
+pub mod DerivingLemmas
 pub mod FileLemmas
 pub mod RoutedProducts
 pub mod ShownRasters

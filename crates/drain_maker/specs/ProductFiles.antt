@@ -4,14 +4,16 @@ use Rattle.std.specs.List.{flat_map}
 use Rattle.drain_device.specs.Devices.{Sink}
 use Rattle.drain_device.specs.Failing.{WriteFails}
 use Rattle.drain_device.specs.Writes.{HandsOver}
+use Rattle.drain_grid.specs.declared.product.Product.{Product}
 use Rattle.drain_grid.specs.declared.product_set.ProductSet.{ProductSet}
+use Rattle.drain_grid.specs.declared.set_product.SetProduct.{SetProduct}
 use Rattle.drain_grid.specs.Rasters.{Pixels}
 use Rattle.drain_grid.specs.WholeGrid.{raster_in}
 use Rattle.drain_grid.specs.SetProduct.{product_of, products}
 use Rattle.drain_header.specs.Fields.{Fields}
 use Rattle.drain_header.specs.Text.{text_of}
-use Rattle.drain_mosaic.specs.Tiling.{Tiling}
-use Rattle.drain_raster.specs.Bytes.{raster_bytes}
+use Rattle.drain_mosaic.specs.Tiling.{Tiling, extent_of}
+use Rattle.drain_raster.specs.Bytes.{CanSpellAll, raster_bytes}
 use Rattle.drain_maker.specs.Headers.{made_header}
 use Rattle.drain_maker.specs.declared.product_files.Part.{Part}
 use Rattle.drain_maker.specs.declared.product_files.Part.TheVariants.{Header, Raster}
@@ -24,8 +26,18 @@ abbrev pub part_bytes : Part → Fields → Pixels → List ℕ
 part_bytes Header h p = text_of h
 part_bytes Raster h p = raster_bytes h p
 
-abbrev pub file_bytes : Tiling → ProductSet → SetFile → List ℕ
-file_bytes t ps file = part_bytes file.part (made_header t (product_of file.product)) (raster_in ps file.product)
+-- the bytes of a product's file, where these are the rasters
+abbrev pub file_bytes : Tiling → (SetProduct → Pixels) → SetFile → List ℕ
+file_bytes t rasters file = part_bytes file.part (made_header t (product_of file.product)) (rasters file.product)
+
+-- the raster has the mosaic's rows and columns, and the pixels of the product's header can encode each of its numbers
+pub record FitsHeader (t : Tiling) (p : Product) (r : Pixels) : Type 0 where
+  pub extent : r.extent ≡ extent_of t
+  pub spelled : CanSpellAll (made_header t p) r
+
+-- each raster that a set holds does
+abbrev pub FitHeaders : Tiling → (SetProduct → Type 0) → (SetProduct → Pixels) → Type 0
+FitHeaders t holds rasters = (p : SetProduct) → holds p → FitsHeader t (product_of p) (rasters p)
 
 -- the bytes of all files: of each product its header, and then its raster
 unfoldable pub set_bytes : Tiling → ProductSet → List (List ℕ)

@@ -1,12 +1,16 @@
 //! The files of a product set: which they are, their order, and writing them.
 
-ghost use Rattle.std.specs.Prelude.{◌≡◌, length};
+ghost use Rattle.std.specs.Prelude.{◌≡◌, length, map};
+ghost use Rattle.std.specs.List.{All};
+ghost use Rattle.drain_grid.specs.Rasters.{Pixels};
+ghost use Rattle.drain_grid.specs.WholeGrid.{raster_in};
+ghost use Rattle.drain_grid.specs.declared.set_product.SetProduct.{SetProduct};
 ghost use Rattle.drain_header.specs.Text.{text_of};
 ghost use Rattle.drain_mosaic.specs.Tiling.{extent_of};
 ghost use Rattle.drain_raster.specs.Pixels as pixels;
 ghost use Rattle.drain_raster.specs.Bytes.{CanSpellAll, raster_bytes};
 ghost use Rattle.drain_maker.specs.Made.{CanBeWritten};
-ghost use Rattle.drain_maker.specs.ProductFiles.{WritesFile, WritesFiles, file_bytes, set_bytes};
+ghost use Rattle.drain_maker.specs.ProductFiles.{FitHeaders, WritesFile, WritesFiles, file_bytes, set_bytes};
 
 use crate::header::product_header;
 use drain_device::{ByteSink, GaveUp, Patience, write_all};
@@ -86,6 +90,30 @@ pub enum SetFault {
     OutOfMemory,
 }
 
+/// Rasters of products that are written together.
+pub(crate) trait FileSet {
+    /// The raster of the product is among them.
+    ghost holds: { SetProduct → Type 0 };
+
+    /// The raster of each product that is held.
+    ghost rasters: { Self → SetProduct → Pixels };
+
+    /// The raster of a product.
+    fn raster_of(&self, product: SetProduct) -> &Raster
+        requires { holds product }
+        ensures { result.now ≡ rasters self.now product };
+}
+
+impl FileSet for ProductSet {
+    ghost holds = { λ product. Unit {0} };
+
+    ghost rasters = { raster_in };
+
+    fn raster_of(&self, product: SetProduct) -> &Raster {
+        self.raster(product)
+    }
+}
+
 /// Writes the files of a product set, one after the other. The first that can't be written ends it.
 pub fn write_files<F: ByteSink>(
     alloc: Global,
@@ -98,28 +126,44 @@ pub fn write_files<F: ByteSink>(
     requires written { CanBeWritten layout.now products.now }
     ensures { WritesFiles F.ByteSink files.old files.new (set_bytes layout.now products.now) result }
 {
+    write_listed(alloc, layout, products, &SET_FILES, files)
+}
+
+/// Writes the listed files of a set, one after the other. The first that can't be written ends it.
+pub(crate) fn write_listed<S: FileSet, F: ByteSink>(
+    alloc: Global,
+    layout: &Layout,
+    set: &S,
+    list: &[SetFile],
+    files: &mut [F],
+) -> Result<(), SetFault>
+    requires counted { length files.old ≡ length list.now }
+    requires held { All (λ file. S.holds file.product) list.now }
+    requires written { FitHeaders layout.now S.holds (S.rasters set.now) }
+    ensures { WritesFiles F.ByteSink files.old files.new (map (file_bytes layout.now (S.rasters set.now)) list.now) result }
+{
     for (k, file) in files.iter_mut().enumerate() {
-        write_file(alloc, layout, products, SET_FILES[k], file)?;
+        write_file(alloc, layout, set, list[k], file)?;
     }
     Ok(())
 }
 
 /// Writes one file.
-fn write_file<F: ByteSink>(
+fn write_file<S: FileSet, F: ByteSink>(
     alloc: Global,
     layout: &Layout,
-    products: &ProductSet,
+    set: &S,
     file: SetFile,
     to: &mut F,
 ) -> Result<(), SetFault>
-    requires same_shape { products.now.con.extent ≡ extent_of layout.now }
-    requires written { CanBeWritten layout.now products.now }
-    ensures { WritesFile F.ByteSink to.old to.new (file_bytes layout.now products.now file) result }
+    requires held { S.holds file.product }
+    requires written { FitHeaders layout.now S.holds (S.rasters set.now) }
+    ensures { WritesFile F.ByteSink to.old to.new (file_bytes layout.now (S.rasters set.now) file) result }
 {
     let header = product_header(layout, file.product.product());
     match file.part {
         Part::Header => write_header(alloc, &header, to),
-        Part::Raster => write_numbers(&header, products.raster(file.product), to),
+        Part::Raster => write_numbers(&header, set.raster_of(file.product), to),
     }
 }
 

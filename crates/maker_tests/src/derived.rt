@@ -1,6 +1,6 @@
 //! The numbers of derived rasters, and the assertion on them.
 
-use drain_derive::Derived;
+use drain_maker::Derived;
 use drain_grid::{Cell, Raster};
 use std::process::Abort;
 

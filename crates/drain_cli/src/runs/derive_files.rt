@@ -1,14 +1,14 @@
 //! Deriving rasters of the directions in a folder, and writing them into another.
 
 ghost use Rattle.std.specs.Prelude.{◌≡◌, IfOk, length};
-ghost use Rattle.drain_derive.specs.DerivedFiles.{CanBeDerived};
-ghost use Rattle.drain_derive.specs.declared.derived_files.TheConstants.{DERIVED_COUNT};
+ghost use Rattle.drain_maker.specs.DerivedFiles.{CanBeDerived};
+ghost use Rattle.drain_maker.specs.declared.derived_files.TheConstants.{DERIVED_COUNT};
 
 use crate::runs::derive_set::derive_set;
 use crate::runs::write_set::write_derived_and_place;
 use drain_args::requests::{DeriveArgs, ProductArgs};
-use drain_derive::Derived;
-use drain_derive::derived_files::DERIVED_FILES;
+use drain_maker::Derived;
+use drain_maker::derived_files::DERIVED_FILES;
 use drain_device::ByteSink;
 use drain_files::file_id::FileId;
 use drain_files::open_failure::print_open_fault;
