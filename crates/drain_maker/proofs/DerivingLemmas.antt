@@ -39,18 +39,10 @@ pub counted_untouched : {A : Type 0} (Same : Type 0) (answer : Result A Refusal)
 counted_untouched Same (Ok x) of_memory = tt
 counted_untouched Same (Err why) of_memory = λ not. absurd (not (subst IsOfBodies (sym of_memory) tt))
 
--- what follows from a fact about an answer
-pub if_ok_more : {A B : Type 0} (answer : Result A B) (P Q : A → Type 0) → ((a : A) → P a → Q a) → IfOk answer P → IfOk answer Q
-if_ok_more (Ok a) P Q more holds = more a holds
-if_ok_more (Err why) P Q more holds = tt
-
+-- what follows from two facts about an answer
 pub if_ok_both : {A B : Type 0} (answer : Result A B) (P Q R : A → Type 0) → IfOk answer P → IfOk answer Q → ((a : A) → P a → Q a → R a) → IfOk answer R
 if_ok_both (Ok a) P Q R one other both = both a one other
 if_ok_both (Err why) P Q R one other both = tt
-
-pub if_err_more : {A B : Type 0} (answer : Result A B) (P Q : B → Type 0) → ((b : B) → P b → Q b) → IfErr answer P → IfErr answer Q
-if_err_more (Ok a) P Q more holds = tt
-if_err_more (Err why) P Q more holds = more why holds
 
 -- a refusal of flows, as one of this crate
 pub flows_refusal : (g : Grid) (ps : Products) (refusal : CertifyRefusal) (why : DeriveRefusal) → IsRefusalFor refusal why → certified.IsRankRefusal g ps refusal → IsFlowsRefusal g ps why

@@ -22,9 +22,8 @@ use Rattle.drain_raster.specs.Bytes.{CanSpellAll, IsFirstOutOfRange, raster_byte
 use Rattle.drain_maker.specs.declared.product_files.SetFault.{SetFault}
 use Rattle.drain_maker.specs.declared.product_files.SetFault.TheVariants.{WriteFailed, OutOfMemory}
 use Rattle.drain_maker.specs.declared.product_files.SetFile.{SetFile}
-use Rattle.drain_maker.specs.declared.product_files.TheConstants.{SET_FILES}
+use Rattle.drain_maker.specs.declared.product_files.TheConstants.{SET_FILES, DERIVED_COUNT, DERIVED_FILES}
 use Rattle.drain_maker.specs.declared.derived.Derived.{Derived}
-use Rattle.drain_maker.specs.declared.derived_files.TheConstants.{DERIVED_COUNT, DERIVED_FILES}
 use Rattle.drain_maker.specs.Derived.{AreCounts}
 use Rattle.drain_maker.specs.DerivedFiles.{CanBeDerived, IsDerived, derived_bytes, derived_raster}
 use Rattle.drain_maker.specs.Made.{CanBeWritten}

@@ -10,7 +10,6 @@ pub mod RoutedProducts
 pub mod ShownRasters
 pub mod SinkGround
 pub mod Spelling
-pub mod FirstValues
 pub mod MosaicAnswers
 pub mod OneTile
 pub mod SeamAnswers

@@ -7,7 +7,6 @@
 mod as_elevation;
 mod counts_and_labels;
 pub mod derived;
-pub mod derived_files;
 pub mod deriving;
 pub mod follow;
 mod header;

@@ -1,4 +1,4 @@
-//! The files of a product set: which they are, their order, and writing them.
+//! The files of a product set or of derived rasters: which they are, their order, and writing them.
 
 ghost use Rattle.std.specs.Prelude.{◌≡◌, length, map};
 ghost use Rattle.std.specs.List.{All};
@@ -9,9 +9,11 @@ ghost use Rattle.drain_header.specs.Text.{text_of};
 ghost use Rattle.drain_mosaic.specs.Tiling.{extent_of};
 ghost use Rattle.drain_raster.specs.Pixels as pixels;
 ghost use Rattle.drain_raster.specs.Bytes.{CanSpellAll, raster_bytes};
+ghost use Rattle.drain_maker.specs.DerivedFiles.{CanBeDerived, IsDerived, derived_bytes, derived_raster};
 ghost use Rattle.drain_maker.specs.Made.{CanBeWritten};
 ghost use Rattle.drain_maker.specs.ProductFiles.{FitHeaders, WritesFile, WritesFiles, file_bytes, set_bytes};
 
+use crate::derived::Derived;
 use crate::header::product_header;
 use drain_device::{ByteSink, GaveUp, Patience, write_all};
 use drain_grid::{ProductSet, Raster, SetProduct};
@@ -27,59 +29,34 @@ pub enum Part {
     Raster,
 }
 
-/// A file of a product set.
+/// A file of a product set, or of derived rasters.
 #[derive(Clone, Copy, PartialEq, Eq, Debug)]
 pub struct SetFile {
     pub product: SetProduct,
     pub part: Part,
 }
 
+/// The files of these products: of each its header, and then its raster.
+macro_rules! files_of {
+    ($($product:ident)*) => {
+        [$(
+            SetFile { product: SetProduct::$product, part: Part::Header },
+            SetFile { product: SetProduct::$product, part: Part::Raster },
+        )*]
+    };
+}
+
 /// How many files a product set has.
 pub const FILE_COUNT: usize = 10;
 
-/// The files of a product set in their order: of each product its header, and then its raster.
-pub const SET_FILES: [SetFile; FILE_COUNT] = [
-    SetFile {
-        product: SetProduct::Con,
-        part: Part::Header,
-    },
-    SetFile {
-        product: SetProduct::Con,
-        part: Part::Raster,
-    },
-    SetFile {
-        product: SetProduct::Dir,
-        part: Part::Header,
-    },
-    SetFile {
-        product: SetProduct::Dir,
-        part: Part::Raster,
-    },
-    SetFile {
-        product: SetProduct::Acc,
-        part: Part::Header,
-    },
-    SetFile {
-        product: SetProduct::Acc,
-        part: Part::Raster,
-    },
-    SetFile {
-        product: SetProduct::Bas,
-        part: Part::Header,
-    },
-    SetFile {
-        product: SetProduct::Bas,
-        part: Part::Raster,
-    },
-    SetFile {
-        product: SetProduct::Rnk,
-        part: Part::Header,
-    },
-    SetFile {
-        product: SetProduct::Rnk,
-        part: Part::Raster,
-    },
-];
+/// The files of a product set in their order.
+pub const SET_FILES: [SetFile; FILE_COUNT] = files_of!(Con Dir Acc Bas Rnk);
+
+/// How many files derived rasters have.
+pub const DERIVED_COUNT: usize = 6;
+
+/// The files of derived rasters in their order.
+pub const DERIVED_FILES: [SetFile; DERIVED_COUNT] = files_of!(Acc Bas Rnk);
 
 /// Why not every file was written.
 #[derive(Clone, Copy, PartialEq, Eq, Debug)]
@@ -91,7 +68,7 @@ pub enum SetFault {
 }
 
 /// Rasters of products that are written together.
-pub(crate) trait FileSet {
+trait FileSet {
     /// The raster of the product is among them.
     ghost holds: { SetProduct → Type 0 };
 
@@ -114,6 +91,21 @@ impl FileSet for ProductSet {
     }
 }
 
+impl FileSet for Derived {
+    ghost holds = { IsDerived };
+
+    ghost rasters = { derived_raster };
+
+    fn raster_of(&self, product: SetProduct) -> &Raster {
+        match product {
+            SetProduct::Acc => &self.acc,
+            SetProduct::Bas => &self.bas,
+            SetProduct::Rnk => &self.rnk,
+            SetProduct::Con | SetProduct::Dir => unreachable!(),
+        }
+    }
+}
+
 /// Writes the files of a product set, one after the other. The first that can't be written ends it.
 pub fn write_files<F: ByteSink>(
     alloc: Global,
@@ -129,8 +121,24 @@ pub fn write_files<F: ByteSink>(
     write_listed(alloc, layout, products, &SET_FILES, files)
 }
 
+/// Writes the files of derived rasters, one after the other. The first that can't be written ends it.
+///
+/// Headers are those of `product_header`. `derive` returns a layout and rasters that can be written.
+pub fn write_derived<F: ByteSink>(
+    alloc: Global,
+    layout: &Layout,
+    derived: &Derived,
+    files: &mut [F],
+) -> Result<(), SetFault>
+    requires counted { length files.old ≡ DERIVED_COUNT }
+    requires written { CanBeDerived layout.now derived.now }
+    ensures { WritesFiles F.ByteSink files.old files.new (derived_bytes layout.now derived.now) result }
+{
+    write_listed(alloc, layout, derived, &DERIVED_FILES, files)
+}
+
 /// Writes the listed files of a set, one after the other. The first that can't be written ends it.
-pub(crate) fn write_listed<S: FileSet, F: ByteSink>(
+fn write_listed<S: FileSet, F: ByteSink>(
     alloc: Global,
     layout: &Layout,
     set: &S,

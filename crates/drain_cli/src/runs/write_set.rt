@@ -4,23 +4,21 @@
 ghost use Rattle.std.specs.Prelude.{◌≡◌, ◌++◌, ◌≤◌, length, Result, codes, decimal};
 ghost use Rattle.drain_cli.specs.DerivedSets.{derived_line};
 ghost use Rattle.drain_cli.specs.SetRuns.{made_line, written_line, written_status};
-ghost use Rattle.drain_maker.specs.DerivedFiles.{CanBeDerived, derived_bytes};
-ghost use Rattle.drain_maker.specs.declared.derived_files.TheConstants.{DERIVED_COUNT};
 ghost use Rattle.drain_files.specs.Placings.{IsNamed};
+ghost use Rattle.drain_maker.specs.DerivedFiles.{CanBeDerived, derived_bytes};
 ghost use Rattle.drain_maker.specs.Made.{CanBeWritten};
 ghost use Rattle.drain_maker.specs.ProductFiles.{WritesFiles, set_bytes};
 ghost use Rattle.drain_maker.specs.declared.product_files.SetFault.{SetFault};
-ghost use Rattle.drain_maker.specs.declared.product_files.TheConstants.{FILE_COUNT};
+ghost use Rattle.drain_maker.specs.declared.product_files.TheConstants.{DERIVED_COUNT, FILE_COUNT};
 ghost use Rattle.drain_mosaic.specs.Tiling.{Tiling, extent_of};
 ghost use Rattle.drain_print.specs.Printing.{Prints};
 
 use drain_answer::line::{Line, push_number, words};
-use drain_maker::Derived;
-use drain_maker::derived_files::write_derived;
 use drain_device::ByteSink;
 use drain_files::placing::{Placing, place_written};
 use drain_grid::{ProductSet, Shape};
-use drain_maker::product_files::{SetFault, write_files};
+use drain_maker::Derived;
+use drain_maker::product_files::{SetFault, write_derived, write_files};
 use drain_mosaic::Layout;
 use drain_print::print::print_line;
 use drain_print::status::Status;

@@ -1,4 +1,5 @@
 use Rattle.std.proofs.Common.{Ok, refl, sym, subst}
+use Rattle.std.proofs.lemmas.Result.{IfErr-weaker, IfOk-weaker}
 use Rattle.drain_mosaic.specs.Tiling.{Tiling}
 use Rattle.drain_verdict.specs.AuditInputs.{audit_devices, with_con_for_ranks}
 use Rattle.drain_verdict.specs.Meaning.{input_grid, input_products}
@@ -6,12 +7,12 @@ use Rattle.drain_verdict.proofs.Uses.{uses_alike}
 use Rattle.drain_maker.specs.DerivedFiles.{CanBeDerived}
 use Rattle.drain_maker.specs.Deriving.{reading_in}
 use Rattle.drain_maker.proofs.FileLemmas.{CanBeDerived-counts}
-use Rattle.drain_maker.proofs.DerivingLemmas.{counted_alike, counted_untouched, derive_refusal, if_err_more, if_ok_both, if_ok_more}
+use Rattle.drain_maker.proofs.DerivingLemmas.{counted_alike, counted_untouched, derive_refusal, if_ok_both}
 use Rattle.drain_maker.proofs.deriving.derive.Goals as goal
 
 pub returns-in-Ok-clause-derived : goal.returns-in-Ok-clause-derived
 returns-in-Ok-clause-derived g c =
-    if_ok_more c.derive_read.result _ _ (λ made derived inputs tell.
+    IfOk-weaker c.derive_read.result _ _ (λ made derived inputs tell.
     (let flows = c.in-Ok.ensures.flows inputs tell in
     (flows.0, derived (input_grid inputs) (input_products inputs) flows.1))) c.derive_read.ensures.derived
 
@@ -22,7 +23,7 @@ returns-in-Ok-clause-written g c =
 
 pub returns-in-Ok-clause-err : goal.returns-in-Ok-clause-err
 returns-in-Ok-clause-err g c =
-    if_err_more c.derive_read.result _ _ (λ why told inputs tell.
+    IfErr-weaker c.derive_read.result _ _ (λ why told inputs tell.
     (let flows = c.in-Ok.ensures.flows inputs tell in
     derive_refusal inputs why flows.0 (told (input_grid inputs) (input_products inputs) flows.1))) c.derive_read.ensures.err
 

@@ -1,5 +1,5 @@
 use Rattle.drain_maker.proofs.FileLemmas.{FitHeaders-derived, IsDerived-at, derived_bytes-listed}
-use Rattle.drain_maker.proofs.derived_files.write_derived.Goals as goal
+use Rattle.drain_maker.proofs.product_files.write_derived.Goals as goal
 
 pub write_listed-requires-clause-held : goal.write_listed-requires-clause-held
 write_listed-requires-clause-held g c = IsDerived-at
