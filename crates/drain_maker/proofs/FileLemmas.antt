@@ -25,9 +25,8 @@ use Rattle.drain_maker.specs.declared.product_files.SetFile.{SetFile}
 use Rattle.drain_maker.specs.declared.product_files.TheConstants.{SET_FILES, DERIVED_COUNT, DERIVED_FILES}
 use Rattle.drain_maker.specs.declared.derived.Derived.{Derived}
 use Rattle.drain_maker.specs.Derived.{AreCounts}
-use Rattle.drain_maker.specs.DerivedFiles.{CanBeDerived, IsDerived, derived_bytes, derived_raster}
 use Rattle.drain_maker.specs.Made.{CanBeWritten}
-use Rattle.drain_maker.specs.ProductFiles.{FitHeaders, WritesFile, WritesFiles, file_bytes, set_bytes}
+use Rattle.drain_maker.specs.ProductFiles.{CanBeDerived, FitHeaders, IsDerived, WritesFile, WritesFiles, derived_bytes, derived_raster, file_bytes, set_bytes}
 use Rattle.drain_maker.proofs.ListPlaces.{get-seam, set-seam}
 
 -- no byte was taken

@@ -6,6 +6,5 @@ pub mod RoutedProducts
 pub mod Mosaics
 pub mod TileStages
 pub mod Derived
-pub mod DerivedFiles
 pub mod DerivedLaws
 pub mod Deriving

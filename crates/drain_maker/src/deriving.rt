@@ -9,7 +9,7 @@ ghost use Rattle.drain_verdict.specs.Audits.{ForAudit};
 ghost use Rattle.drain_verdict.specs.Stages.{IsLayoutOf};
 ghost use Rattle.drain_verdict.specs.Uses.{AuditUses};
 ghost use Rattle.drain_maker.specs.Derived.{AreDerived, AreCounts};
-ghost use Rattle.drain_maker.specs.DerivedFiles.{CanBeDerived};
+ghost use Rattle.drain_maker.specs.ProductFiles.{CanBeDerived};
 ghost use Rattle.drain_maker.specs.Deriving.{AreDerivedOf, HasFlows, IsDeriveRefusal, IsFlowsRefusal, IsRefusalFor, reading_in};
 
 use crate::derived::{Derived, derive_from_flows};

@@ -9,9 +9,8 @@ ghost use Rattle.drain_header.specs.Text.{text_of};
 ghost use Rattle.drain_mosaic.specs.Tiling.{extent_of};
 ghost use Rattle.drain_raster.specs.Pixels as pixels;
 ghost use Rattle.drain_raster.specs.Bytes.{CanSpellAll, raster_bytes};
-ghost use Rattle.drain_maker.specs.DerivedFiles.{CanBeDerived, IsDerived, derived_bytes, derived_raster};
 ghost use Rattle.drain_maker.specs.Made.{CanBeWritten};
-ghost use Rattle.drain_maker.specs.ProductFiles.{FitHeaders, WritesFile, WritesFiles, file_bytes, set_bytes};
+ghost use Rattle.drain_maker.specs.ProductFiles.{CanBeDerived, FitHeaders, IsDerived, WritesFile, WritesFiles, derived_bytes, derived_raster, file_bytes, set_bytes};
 
 use crate::derived::Derived;
 use crate::header::product_header;

@@ -1,7 +1,7 @@
 //! Deriving rasters of the directions in a folder, and writing them into another.
 
 ghost use Rattle.std.specs.Prelude.{◌≡◌, IfOk, length};
-ghost use Rattle.drain_maker.specs.DerivedFiles.{CanBeDerived};
+ghost use Rattle.drain_maker.specs.ProductFiles.{CanBeDerived};
 ghost use Rattle.drain_maker.specs.declared.product_files.TheConstants.{DERIVED_COUNT};
 
 use crate::runs::derive_set::derive_set;

@@ -3,7 +3,7 @@
 ghost use Rattle.std.specs.Prelude.{◌≡◌, IfOk, Result};
 ghost use Rattle.drain_answer.specs.AuditLines.{no_end_line};
 ghost use Rattle.drain_cli.specs.DerivedSets.{IsDerivation, IsHandedOver, none_line, none_status, told_of_dir};
-ghost use Rattle.drain_maker.specs.DerivedFiles.{CanBeDerived};
+ghost use Rattle.drain_maker.specs.ProductFiles.{CanBeDerived};
 ghost use Rattle.drain_maker.specs.declared.derived.Derived.{Derived};
 ghost use Rattle.drain_maker.specs.declared.deriving.DeriveRefusal.{DeriveRefusal};
 ghost use Rattle.drain_mosaic.specs.Tiling.{Tiling};

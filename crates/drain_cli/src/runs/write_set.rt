@@ -5,9 +5,8 @@ ghost use Rattle.std.specs.Prelude.{◌≡◌, ◌++◌, ◌≤◌, length, Resu
 ghost use Rattle.drain_cli.specs.DerivedSets.{derived_line};
 ghost use Rattle.drain_cli.specs.SetRuns.{made_line, written_line, written_status};
 ghost use Rattle.drain_files.specs.Placings.{IsNamed};
-ghost use Rattle.drain_maker.specs.DerivedFiles.{CanBeDerived, derived_bytes};
 ghost use Rattle.drain_maker.specs.Made.{CanBeWritten};
-ghost use Rattle.drain_maker.specs.ProductFiles.{WritesFiles, set_bytes};
+ghost use Rattle.drain_maker.specs.ProductFiles.{CanBeDerived, WritesFiles, derived_bytes, set_bytes};
 ghost use Rattle.drain_maker.specs.declared.product_files.SetFault.{SetFault};
 ghost use Rattle.drain_maker.specs.declared.product_files.TheConstants.{DERIVED_COUNT, FILE_COUNT};
 ghost use Rattle.drain_mosaic.specs.Tiling.{Tiling, extent_of};

@@ -4,7 +4,7 @@ use Rattle.drain_mosaic.specs.Tiling.{Tiling}
 use Rattle.drain_verdict.specs.AuditInputs.{audit_devices, with_con_for_ranks}
 use Rattle.drain_verdict.specs.Meaning.{input_grid, input_products}
 use Rattle.drain_verdict.proofs.Uses.{uses_alike}
-use Rattle.drain_maker.specs.DerivedFiles.{CanBeDerived}
+use Rattle.drain_maker.specs.ProductFiles.{CanBeDerived}
 use Rattle.drain_maker.specs.Deriving.{reading_in}
 use Rattle.drain_maker.proofs.FileLemmas.{CanBeDerived-counts}
 use Rattle.drain_maker.proofs.DerivingLemmas.{counted_alike, counted_untouched, derive_refusal, if_ok_both}
