@@ -4,7 +4,7 @@ mod Placing
 pub mod ByDirections
 pub mod Completed
 pub mod DerivedRasters
-pub mod DerivingLemmas
+pub mod DerivationLemmas
 pub mod FileLemmas
 pub mod RoutedProducts
 pub mod ShownRasters

@@ -7,4 +7,4 @@ pub mod Mosaics
 pub mod TileStages
 pub mod Derived
 pub mod DerivedLaws
-pub mod Deriving
+pub mod Derivation

@@ -6,8 +6,8 @@
 
 mod as_elevation;
 mod counts_and_labels;
+pub mod derivation;
 pub mod derived;
-pub mod deriving;
 pub mod follow;
 mod header;
 pub mod laws;
@@ -20,8 +20,8 @@ mod route;
 mod tiles;
 
 pub use as_elevation::AsElevation;
+pub use derivation::{DeriveRefusal, derive};
 pub use derived::{Derived, derive_from_flows};
-pub use deriving::{DeriveRefusal, derive};
 pub use drain_surface::LevelQueue;
 pub use drain_verdict::{CertifyRefusal, certify};
 pub use header::product_header;

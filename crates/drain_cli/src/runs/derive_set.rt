@@ -5,7 +5,7 @@ ghost use Rattle.drain_answer.specs.AuditLines.{no_end_line};
 ghost use Rattle.drain_cli.specs.DerivedSets.{IsDerivation, IsHandedOver, none_line, none_status, told_of_dir};
 ghost use Rattle.drain_maker.specs.ProductFiles.{CanBeDerived};
 ghost use Rattle.drain_maker.specs.declared.derived.Derived.{Derived};
-ghost use Rattle.drain_maker.specs.declared.deriving.DeriveRefusal.{DeriveRefusal};
+ghost use Rattle.drain_maker.specs.declared.derivation.DeriveRefusal.{DeriveRefusal};
 ghost use Rattle.drain_mosaic.specs.Tiling.{Tiling};
 
 use drain_answer::answer_report::refusal_line;

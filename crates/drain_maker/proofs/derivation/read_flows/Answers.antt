@@ -3,7 +3,7 @@ use Rattle.std.proofs.lemmas.Result.{err_from_is_err_and}
 use Rattle.drain_verdict.specs.AuditInputs.{audit_devices, with_con_for_ranks}
 use Rattle.drain_verdict.proofs.StartAnswers.{at_side, laid, layout_answer, layout_reads_none}
 use Rattle.drain_verdict.proofs.Uses.{uses_none}
-use Rattle.drain_maker.proofs.deriving.read_flows.Goals as goal
+use Rattle.drain_maker.proofs.derivation.read_flows.Goals as goal
 
 pub returns-in_err-layout-clause-err : goal.returns-in_err-layout-clause-err
 returns-in_err-layout-clause-err g c =

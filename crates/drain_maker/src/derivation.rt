@@ -10,7 +10,7 @@ ghost use Rattle.drain_verdict.specs.Stages.{IsLayoutOf};
 ghost use Rattle.drain_verdict.specs.Uses.{AuditUses};
 ghost use Rattle.drain_maker.specs.Derived.{AreDerived, AreCounts};
 ghost use Rattle.drain_maker.specs.ProductFiles.{CanBeDerived};
-ghost use Rattle.drain_maker.specs.Deriving.{AreDerivedOf, HasFlows, IsDeriveRefusal, IsFlowsRefusal, IsRefusalFor, reading_in};
+ghost use Rattle.drain_maker.specs.Derivation.{AreDerivedOf, HasFlows, IsDeriveRefusal, IsFlowsRefusal, IsRefusalFor, reading_in};
 
 use crate::derived::{Derived, derive_from_flows};
 use drain_answer::Refusal;

@@ -13,8 +13,8 @@ use Rattle.drain_verdict.specs.Answers.{AreReadable, IsRefusal}
 use Rattle.drain_verdict.specs.Inputs.{Inputs}
 use Rattle.drain_verdict.specs.Meaning.{input_grid, input_products}
 use Rattle.drain_maker.specs.declared.derived.Derived.{Derived}
-use Rattle.drain_maker.specs.declared.deriving.DeriveRefusal.{DeriveRefusal}
-use Rattle.drain_maker.specs.declared.deriving.DeriveRefusal.TheVariants.{Refused, NoEnd}
+use Rattle.drain_maker.specs.declared.derivation.DeriveRefusal.{DeriveRefusal}
+use Rattle.drain_maker.specs.declared.derivation.DeriveRefusal.TheVariants.{Refused, NoEnd}
 use Rattle.drain_maker.specs.Derived.{AreDerived}
 
 -- the rasters follow from the directions of these inputs, to which no refusal applies

@@ -5,10 +5,10 @@ use Rattle.drain_verdict.specs.AuditInputs.{audit_devices, with_con_for_ranks}
 use Rattle.drain_verdict.specs.Meaning.{input_grid, input_products}
 use Rattle.drain_verdict.proofs.Uses.{uses_alike}
 use Rattle.drain_maker.specs.ProductFiles.{CanBeDerived}
-use Rattle.drain_maker.specs.Deriving.{reading_in}
+use Rattle.drain_maker.specs.Derivation.{reading_in}
 use Rattle.drain_maker.proofs.FileLemmas.{CanBeDerived-counts}
-use Rattle.drain_maker.proofs.DerivingLemmas.{counted_alike, counted_untouched, derive_refusal, if_ok_both}
-use Rattle.drain_maker.proofs.deriving.derive.Goals as goal
+use Rattle.drain_maker.proofs.DerivationLemmas.{counted_alike, counted_untouched, derive_refusal, if_ok_both}
+use Rattle.drain_maker.proofs.derivation.derive.Goals as goal
 
 pub returns-in-Ok-clause-derived : goal.returns-in-Ok-clause-derived
 returns-in-Ok-clause-derived g c =

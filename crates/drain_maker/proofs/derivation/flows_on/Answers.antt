@@ -9,8 +9,8 @@ use Rattle.drain_verdict.specs.Meaning.{input_grid, input_products}
 use Rattle.drain_verdict.proofs.AuditDevices.{failed_alike}
 use Rattle.drain_verdict.proofs.StartAnswers.{layout_of_inputs}
 use Rattle.drain_verdict.proofs.Uses.{four_used}
-use Rattle.drain_maker.proofs.DerivingLemmas.{counted_alike, counted_untouched, if_same, of_memory_says_nothing}
-use Rattle.drain_maker.proofs.deriving.flows_on.Goals as goal
+use Rattle.drain_maker.proofs.DerivationLemmas.{counted_alike, counted_untouched, if_same, of_memory_says_nothing}
+use Rattle.drain_maker.proofs.derivation.flows_on.Goals as goal
 
 pub read_inputs-requires-clause-unnoted : goal.read_inputs-requires-clause-unnoted
 read_inputs-requires-clause-unnoted g c = λ rules grid ps. subst (AreFirstFlows grid ps grid.extent 0) (sym c.new-flows.ensures) (AreFirstFlows-none grid ps grid.extent refl)

@@ -10,9 +10,9 @@ use Rattle.drain_verdict.specs.Answers.{AreReadable, IsRefusal}
 use Rattle.drain_verdict.specs.Inputs.{Inputs}
 use Rattle.drain_verdict.specs.Meaning.{input_grid, input_products}
 use Rattle.drain_verdict.specs.Refusals.{IsOfBodies}
-use Rattle.drain_maker.specs.declared.deriving.DeriveRefusal.{DeriveRefusal}
-use Rattle.drain_maker.specs.declared.deriving.DeriveRefusal.TheVariants.{Refused, NoEnd}
-use Rattle.drain_maker.specs.Deriving.{IsDeriveRefusal, IsFlowsRefusal, IsRefusalFor}
+use Rattle.drain_maker.specs.declared.derivation.DeriveRefusal.{DeriveRefusal}
+use Rattle.drain_maker.specs.declared.derivation.DeriveRefusal.TheVariants.{Refused, NoEnd}
+use Rattle.drain_maker.specs.Derivation.{IsDeriveRefusal, IsFlowsRefusal, IsRefusalFor}
 
 -- what holds of a value holds of an answer with that value
 pub if_same : {A B : Type 0} (answer : Result A B) (a : A) (P : A → Type 0) → IfOk answer (λ x. x ≡ a) → P a → IfOk answer P
