@@ -4,10 +4,10 @@ use Rattle.drain_answer.specs.AuditLines.{no_end_line}
 use Rattle.drain_answer.specs.Lines.{refusal_line}
 use Rattle.drain_answer.specs.declared.refusal.Refusal.{Refusal}
 use Rattle.drain_answer.specs.declared.refusal.Refusal.TheVariants.{BadHeader, WrongShape, Misplaced}
-use Rattle.drain_derive.specs.Reading.{AreDerivedOf, IsDeriveRefusal, reading_in}
-use Rattle.drain_derive.specs.declared.derived.Derived.{Derived}
-use Rattle.drain_derive.specs.declared.reading.DeriveRefusal.{DeriveRefusal}
-use Rattle.drain_derive.specs.declared.reading.DeriveRefusal.TheVariants.{Refused, NoEnd}
+use Rattle.drain_maker.specs.Derivation.{AreDerivedOf, IsDeriveRefusal, reading_in}
+use Rattle.drain_maker.specs.declared.derived.Derived.{Derived}
+use Rattle.drain_maker.specs.declared.derivation.DeriveRefusal.{DeriveRefusal}
+use Rattle.drain_maker.specs.declared.derivation.DeriveRefusal.TheVariants.{Refused, NoEnd}
 use Rattle.drain_device.specs.Devices.{Sink, Source}
 use Rattle.drain_grid.specs.declared.product.Product.TheVariants.{Con, Dir}
 use Rattle.drain_hgt.specs.Inputs.{names_of}

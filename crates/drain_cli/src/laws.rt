@@ -9,7 +9,7 @@ use drain_device::{ByteSink, ByteSource};
 use drain_maker::laws::made_is_accepted;
 use drain_union::laws::four_numbers;
 
-/// What `make_set` made and `write_set` wrote into empty files is accepted by `check` with the same tiles and sinks,
+/// What `make_set` made and `write_and_place` wrote into empty files is accepted by `check` with the same tiles and sinks,
 /// unless memory runs out or a read fails: for any sources whose bytes are known, and any sinks whose written bytes are
 /// known.
 pub fn what_is_written_is_accepted<R: ByteSource, F: ByteSink>()

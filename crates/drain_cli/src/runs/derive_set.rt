@@ -3,19 +3,19 @@
 ghost use Rattle.std.specs.Prelude.{◌≡◌, IfOk, Result};
 ghost use Rattle.drain_answer.specs.AuditLines.{no_end_line};
 ghost use Rattle.drain_cli.specs.DerivedSets.{IsDerivation, IsSetHandedOver, none_line, none_status, told_of_dir};
-ghost use Rattle.drain_derive.specs.DerivedFiles.{CanBeDerived};
-ghost use Rattle.drain_derive.specs.declared.derived.Derived.{Derived};
-ghost use Rattle.drain_derive.specs.declared.reading.DeriveRefusal.{DeriveRefusal};
+ghost use Rattle.drain_maker.specs.ProductFiles.{CanBeDerived};
+ghost use Rattle.drain_maker.specs.declared.derived.Derived.{Derived};
+ghost use Rattle.drain_maker.specs.declared.derivation.DeriveRefusal.{DeriveRefusal};
 ghost use Rattle.drain_mosaic.specs.Tiling.{Tiling};
 
 use drain_answer::audit_report;
 use drain_answer::lines::{Line, refusal_line};
 use drain_answer::print::print_line;
 use drain_answer::status::Status;
-use drain_derive::{DeriveRefusal, Derived, derive};
 use drain_device::{ByteSink, ByteSource};
 use drain_grid::Product;
 use drain_hgt::TileInput;
+use drain_maker::{DeriveRefusal, Derived, derive};
 use drain_mosaic::Layout;
 use drain_verdict::{AuditProducts, AuditVerdict, Refusal};
 use std::alloc::Global;

@@ -14,7 +14,7 @@ use drain_answer::status::Status;
 use drain_device::{ByteSink, ByteSource};
 use drain_grid::{ProductSet, SinkFault, parse_sinks};
 use drain_hgt::TileInput;
-use drain_maker::follow::{Follow, Unfollowed};
+use drain_maker::follow::Follow;
 use drain_maker::{MakeRefusal, Mosaic, make_freeing, read_mosaic};
 use drain_mosaic::Layout;
 use drain_verdict::Refusal;
@@ -36,29 +36,9 @@ pub enum NoSet {
 /// `SeamMismatch`, `BadSinkLine`, `SinkNotData` and `MakerFault`, in this order; 3 for `failed OutOfMemory` and `failed
 /// ReadFailed`, and if the line can't be written.
 ///
-/// `side` is the number of samples along an edge of each tile, and `sinks` a list of inland sinks, a line `ROW COL` each. Of a tile at most one byte past its end is read.
+/// `side` is the number of samples along an edge of each tile, and `sinks` a list of inland sinks, a line `ROW COL` each.
+/// Of a tile at most one byte past its end is read. `follow` gets to know how far the products are made.
 pub fn make_set<R: ByteSource, W: ByteSink>(
-    alloc: Global,
-    side: u32,
-    tiles: &mut [TileInput<R>],
-    sinks: &[u8],
-    out: &mut W,
-) -> Result<(Layout, ProductSet), u8>
-    ensures made { IfOk result (λ set. IsSetOf R.bytes_left side tiles.old sinks.now set.0 set.1) }
-    ensures no_read_failed { OnOk result (SomeReadFails (map R.counts (tile_devices tiles.old)) (map R.counts (tile_devices tiles.new)) ⊥) }
-    ensures quiet { OnOk result (out.new ≡ out.old) }
-    ensures refused { IfErr result (λ code. (why : NoSet) × IsNoSet R.ByteSource side tiles.old tiles.new sinks.now why
-        × Prints W.ByteSink out.old out.new (no_set_line why) (no_set_status why) code) }
-
-    // How far it reads, and that names are unchanged.
-    ensures within { TilesTakeAtMost R.bytes_left side tiles.old tiles.new }
-    ensures names { names_of tiles.new ≡ names_of tiles.old }
-{
-    make_set_followed(alloc, side, tiles, sinks, &mut Unfollowed, out)
-}
-
-/// The same, and `follow` gets to know how far the products are made.
-pub fn make_set_followed<R: ByteSource, W: ByteSink>(
     alloc: Global,
     side: u32,
     tiles: &mut [TileInput<R>],
