@@ -38,9 +38,9 @@ pub fn check_row<R: PatchRow>(
     let mut tally = Tally::new();
     let mut col = 0;
     while col < cols {
-        let kept = row.kept_from(rules, col);
+        let kept = row.kept_from(rules, col, cols);
         tally.add_kept(kept.end - col, kept.raised);
-        col = row.voids_until(rules, kept.end);
+        col = row.voids_until(rules, kept.end, cols);
         if col < cols {
             match check_cell(row, rules, col, col < above, labels) {
                 Ok(here) => tally.add(&here),

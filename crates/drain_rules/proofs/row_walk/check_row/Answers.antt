@@ -47,8 +47,8 @@ returns-in-Err-clause-stopped g c = λ grid ps row are before.
     stops-row (tried c.args.rules.now) (IsTried c.args.rules.now.judged) grid ps row c.voids_until-col.result (g.R.PatchRow.len c.args.row.now) (g.R.PatchRow.shown c.args.row.now)
     c.add_kept.new.self c.loop-col.labels c.in-Err.stop are (omega (arith, c.if-col-cols.true, c.cols-cols.ensures.count))
     (before_next c.args.rules.now.judged (tried c.args.rules.now) grid ps row (g.R.PatchRow.len c.args.row.now) (g.R.PatchRow.shown c.args.row.now) c.loop-col.labels c.loop-col.col
-    c.voids_until-col.result c.kept_from-kept.result c.loop-col.tally c.add_kept.new.self are kept.forward kept.within (c.loop-col.invariant.passed grid ps row are before)
-    kept.kept kept.raised run.data_cells run.raised run.outlets voids.forward voids.within voids.right) c.in-Err.ensures.stopped
+    c.voids_until-col.result c.kept_from-kept.result c.loop-col.tally c.add_kept.new.self are kept.forward (omega (arith, kept.within, c.cols-cols.ensures.count)) (c.loop-col.invariant.passed grid ps row are before)
+    kept.kept kept.raised run.data_cells run.raised run.outlets voids.forward (omega (arith, voids.within, c.cols-cols.ensures.count)) voids.right) c.in-Err.ensures.stopped
 
 -- and the cell after them
 pub loop-col-preserved-then-col-cols : goal.loop-col-preserved-then-col-cols
@@ -66,8 +66,8 @@ loop-col-preserved-then-col-cols g c =
           c.add_kept.new.self c.add.new.self c.loop-col.labels c.check_cell.new.labels are (omega (arith, c.if-col-cols.true, c.cols-cols.ensures.count))
           c.in-Ok.ensures.values
           (before_next c.args.rules.now.judged (tried c.args.rules.now) grid ps row (g.R.PatchRow.len c.args.row.now) (g.R.PatchRow.shown c.args.row.now) c.loop-col.labels c.loop-col.col
-          c.voids_until-col.result c.kept_from-kept.result c.loop-col.tally c.add_kept.new.self are kept.forward kept.within (c.loop-col.invariant.passed grid ps row are before)
-          kept.kept kept.raised run.data_cells run.raised run.outlets voids.forward voids.within voids.right)
+          c.voids_until-col.result c.kept_from-kept.result c.loop-col.tally c.add_kept.new.self are kept.forward (omega (arith, kept.within, c.cols-cols.ensures.count)) (c.loop-col.invariant.passed grid ps row are before)
+          kept.kept kept.raised run.data_cells run.raised run.outlets voids.forward (omega (arith, voids.within, c.cols-cols.ensures.count)) voids.right)
           c.in-Ok.ensures.passed add.data_cells add.raised add.outlets c.in-Ok.ensures.labels;
       bounds = bounds-next c.in-Ok.here c.kept_from-kept.result.end (c.voids_until-col.result + 1) c.add_kept.new.self c.add.new.self (omega (arith, voids.forward)) bounds
           add.data_cells add.raised add.outlets;
@@ -82,11 +82,11 @@ loop-col-preserved g c =
     let bounds = bounds-kept (g.R.PatchRow.shown c.args.row.now) c.loop-col.col c.kept_from-kept.result c.loop-col.tally c.add_kept.new.self kept.forward
     c.loop-col.invariant.bounds kept.raised run.data_cells run.raised run.outlets in
     record {
-      within = voids.within;
+      within = omega (arith, voids.within, c.cols-cols.ensures.count);
       passed = λ grid ps row are before.
           before_next c.args.rules.now.judged (tried c.args.rules.now) grid ps row (g.R.PatchRow.len c.args.row.now) (g.R.PatchRow.shown c.args.row.now) c.loop-col.labels c.loop-col.col
-          c.voids_until-col.result c.kept_from-kept.result c.loop-col.tally c.add_kept.new.self are kept.forward kept.within (c.loop-col.invariant.passed grid ps row are before)
-          kept.kept kept.raised run.data_cells run.raised run.outlets voids.forward voids.within voids.right;
+          c.voids_until-col.result c.kept_from-kept.result c.loop-col.tally c.add_kept.new.self are kept.forward (omega (arith, kept.within, c.cols-cols.ensures.count)) (c.loop-col.invariant.passed grid ps row are before)
+          kept.kept kept.raised run.data_cells run.raised run.outlets voids.forward (omega (arith, voids.within, c.cols-cols.ensures.count)) voids.right;
       bounds = record { data_cells = omega (arith, bounds.data_cells, voids.forward); raised = bounds.raised; outlets = bounds.outlets };
     }
 
