@@ -1,10 +1,10 @@
 -- The line for the answer to a fill input. Its words are this project's own.
 use Rattle.std.specs.Prelude.{ℕ, List, Result, Ok, Err, codes}
-use Rattle.drain_rules.specs.declared.fill_walk.FillCounts.{FillCounts}
-use Rattle.drain_rules.specs.declared.fill_walk.FillVerdict.{FillVerdict}
-use Rattle.drain_rules.specs.declared.fill_walk.FillVerdict.TheVariants.{Accepted, Rejected}
-use Rattle.drain_rules.specs.declared.fill_walk.FillRefusal.{FillRefusal}
-use Rattle.drain_rules.specs.declared.fill_walk.FillRefusal.TheVariants.{BadSide, BadLength}
+use Rattle.drain_grid.specs.declared.fill_verdict.FillCounts.{FillCounts}
+use Rattle.drain_grid.specs.declared.fill_verdict.FillVerdict.{FillVerdict}
+use Rattle.drain_grid.specs.declared.fill_verdict.FillVerdict.TheVariants.{Accepted, Rejected}
+use Rattle.drain_grid.specs.declared.fill_verdict.FillRefusal.{FillRefusal}
+use Rattle.drain_grid.specs.declared.fill_verdict.FillRefusal.TheVariants.{BadSide, BadLength}
 use Rattle.drain_answer.specs.Lines.{counted_line, rejected_line}
 
 -- accepted rows=R cols=C data=D raised=U

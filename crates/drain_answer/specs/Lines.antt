@@ -5,9 +5,9 @@ use Rattle.drain_grid.specs.Rule.{rule_number, rule_name}
 use Rattle.drain_grid.specs.Product.{product_name}
 use Rattle.drain_hgt.specs.Name.{name_of as tile_name}
 use Rattle.drain_header.specs.FaultText.{fault_text}
-use Rattle.drain_rules.specs.declared.verdict.Counts.{Counts}
-use Rattle.drain_rules.specs.declared.verdict.Verdict.{Verdict}
-use Rattle.drain_rules.specs.declared.verdict.Verdict.TheVariants.{Accepted, Rejected}
+use Rattle.drain_grid.specs.declared.verdict.Counts.{Counts}
+use Rattle.drain_grid.specs.declared.verdict.Verdict.{Verdict}
+use Rattle.drain_grid.specs.declared.verdict.Verdict.TheVariants.{Accepted, Rejected}
 use Rattle.drain_answer.specs.declared.refusal.Refusal.{Refusal}
 use Rattle.drain_answer.specs.declared.refusal.Refusal.TheVariants.{BadSide, BadName, NoTiles, RepeatedTile, BoxTooLarge, BadHeader, WrongShape, Misplaced, BadTileLength, RasterShort, SeamMismatch, BadSinkLine, SinkNotData, OutOfMemory, ReadFailed}
 

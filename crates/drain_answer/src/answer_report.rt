@@ -9,10 +9,9 @@ use crate::line::{LINE_LENGTH, Line, push_number, words};
 use crate::refusal::Refusal;
 use crate::verdict_report::verdict_line;
 use arrayvec::ArrayString;
-use drain_grid::{Cell, Product};
+use drain_grid::{Cell, Product, Verdict};
 use drain_header::HeaderFault;
 use drain_hgt::TileName;
-use drain_rules::Verdict;
 use itoa::Buffer;
 
 /// The line of an answer, without a line end, in ASCII.

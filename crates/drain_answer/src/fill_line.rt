@@ -3,9 +3,9 @@
 ghost use Rattle.std.specs.Prelude.{◌≡◌};
 ghost use Rattle.drain_answer.specs.FillLines.{fill_line, fill_accepted_line};
 
+use drain_grid::{FillCounts, FillRefusal, FillVerdict};
 use crate::line::{Line, words};
 use crate::verdict_report::{counted, rejected};
-use drain_rules::{FillCounts, FillRefusal, FillVerdict};
 
 /// The line of an answer, without a line end, in ASCII.
 pub fn fill_report(answer: &Result<FillVerdict, FillRefusal>) -> Line

@@ -5,8 +5,7 @@ ghost use Rattle.arrayvec.specs.ArrayString.{array_string_len};
 ghost use Rattle.drain_answer.specs.Lines.{verdict_line, accepted_line, counted_line, rejected_line};
 
 use crate::line::{Line, push_count, push_number, words};
-use drain_grid::Rule;
-use drain_rules::{Counts, Verdict};
+use drain_grid::{Counts, Rule, Verdict};
 
 /// The line of a verdict, without a line end, in ASCII.
 pub fn verdict_line(verdict: &Verdict) -> Line

@@ -3,7 +3,6 @@ pub mod CorrectByWays
 pub mod LeastNumbers
 pub mod NearEdges
 pub mod OwnRasters
-mod PartFaults
 pub mod PartLocal
 pub mod SameHeights
 pub mod SameWays

@@ -1,5 +1,5 @@
 -- Given rasters with directions are part of a correct set exactly where every run ends and every rule about them holds.
--- One way the rules without ranks hold of the whole set, and those about given rasters look at these alone (SameWays).
+-- One way the rules without ranks hold of the whole set, and those about judged rasters look at these alone (SameWays).
 -- The other way the rasters that aren't given are those that directions determine (OwnRasters), and with them the
 -- set is correct (CorrectByWays).
 use Rattle.std.proofs.Common.{◌≡◌, Bool, true, false, IsNone, IsTrue, refl, arith}
@@ -17,74 +17,76 @@ use Rattle.drain_grid.specs.Unranked.{unranked}
 use Rattle.drain_grid.specs.Values.{NoDataNumbers}
 use Rattle.drain_grid.proofs.Alike.{RunEnds-alike}
 use Rattle.drain_grid.proofs.Exactly.{correct_is_local}
-use Rattle.drain_parts.specs.declared.given.Given.{Given}
-use Rattle.drain_parts.specs.declared.given.Given.TheVariants.{Con, ConDir, ConDirAcc, ConDirBas}
-use Rattle.drain_parts.specs.Given.{IfGiven, has_acc, has_bas, has_dir}
+use Rattle.drain_grid.specs.declared.judged.Judged.{Judged}
+use Rattle.drain_grid.specs.declared.judged.Judged.TheVariants.{Con, ConDir, ConDirAcc, ConDirBas, All, AllWithRanks}
+use Rattle.drain_grid.specs.Judged.{IfJudged, has_acc, has_bas, has_dir}
 use Rattle.drain_parts.specs.Laws.{PartIsLocal}
-use Rattle.drain_parts.specs.PartOf.{IsPartOfCorrect, joined, joined_numbers}
-use Rattle.drain_parts.specs.PartRules.{IsBlankPart, IsCompletePart, IsPartRule, part_rules}
+use Rattle.drain_parts.specs.PartOf.{IsPartOfCorrect, IsSomeWays, joined, joined_numbers}
+use Rattle.drain_grid.specs.RulesAbout.{IsBlankPart, IsCompletePart, IsPartRule, part_rules}
 use Rattle.drain_parts.proofs.CorrectByWays.{correct_by_ways, counts_by_rules, labels_by_rules, sound}
 use Rattle.drain_parts.proofs.OwnRasters.{from_counts-differs, from_counts-void, own_counts-right, own_labels-right, own_numbers, own_ranks-right, own_rasters}
 use Rattle.drain_parts.proofs.SameWays.{ways_there, counts_there, labels_there}
 
-given_fact : (b : Bool) (P : Type 0) → IsTrue b → IfGiven b P → P
+given_fact : (b : Bool) (P : Type 0) → IsTrue b → IfJudged b P → P
 given_fact true P h fact = fact
 given_fact false P h fact = absurd (false≢true h)
 
-if_given : (b : Bool) (P : Type 0) → P → IfGiven b P
+if_given : (b : Bool) (P : Type 0) → P → IfJudged b P
 if_given true P fact = fact
 if_given false P fact = tt
 
--- the rules about given rasters say of heights and directions what the rules without ranks say
-pub part_ways : (given : Given) (g : Grid) (ps : Products) (nodata : NoDataNumbers) → IsTrue (has_dir given) →
-    RulesHold (part_rules given nodata) (IsPartRule given) g ps → RulesHold (unranked nodata) (IsBetween 3 12) g ps
-part_ways given g ps nodata has rules c VoidCell inside own = absurd (omega (arith, own.0))
-part_ways given g ps nodata has rules c Missing inside own = absurd (omega (arith, own.0))
-part_ways given g ps nodata has rules c BadCode inside own = given_fact (has_dir given) _ has (rules c BadCode inside (omega arith, omega arith))
-part_ways given g ps nodata has rules c BelowGround inside own = rules c BelowGround inside (omega arith, omega arith)
-part_ways given g ps nodata has rules c OpenRaised inside own = rules c OpenRaised inside (omega arith, omega arith)
-part_ways given g ps nodata has rules c NoSpill inside own = tt
-part_ways given g ps nodata has rules c SpillHeight inside own = tt
-part_ways given g ps nodata has rules c SpillRank inside own = tt
-part_ways given g ps nodata has rules c NotLeast inside own = rules c NotLeast inside (omega arith, omega arith)
-part_ways given g ps nodata has rules c Slope inside own = given_fact (has_dir given) _ has (rules c Slope inside (omega arith, omega arith))
-part_ways given g ps nodata has rules c OutletCode inside own = given_fact (has_dir given) _ has (rules c OutletCode inside (omega arith, omega arith))
-part_ways given g ps nodata has rules c FlatStep inside own = given_fact (has_dir given) _ has (rules c FlatStep inside (omega arith, omega arith))
-part_ways given g ps nodata has rules c Accumulation inside own = absurd (omega (arith, own.1))
-part_ways given g ps nodata has rules c Label inside own = absurd (omega (arith, own.1))
-part_ways given g ps nodata has rules c SharedLabel inside own = absurd (omega (arith, own.1))
+-- the rules about judged rasters say of heights and directions what the rules without ranks say
+pub part_ways : (judged : Judged) (g : Grid) (ps : Products) (nodata : NoDataNumbers) → IsTrue (has_dir judged) →
+    RulesHold (part_rules judged nodata) (IsPartRule judged) g ps → RulesHold (unranked nodata) (IsBetween 3 12) g ps
+part_ways judged g ps nodata has rules c VoidCell inside own = absurd (omega (arith, own.0))
+part_ways judged g ps nodata has rules c Missing inside own = absurd (omega (arith, own.0))
+part_ways judged g ps nodata has rules c BadCode inside own = given_fact (has_dir judged) _ has (rules c BadCode inside (omega arith, omega arith))
+part_ways judged g ps nodata has rules c BelowGround inside own = rules c BelowGround inside (omega arith, omega arith)
+part_ways judged g ps nodata has rules c OpenRaised inside own = rules c OpenRaised inside (omega arith, omega arith)
+part_ways judged g ps nodata has rules c NoSpill inside own = tt
+part_ways judged g ps nodata has rules c SpillHeight inside own = tt
+part_ways judged g ps nodata has rules c SpillRank inside own = tt
+part_ways judged g ps nodata has rules c NotLeast inside own = rules c NotLeast inside (omega arith, omega arith)
+part_ways judged g ps nodata has rules c Slope inside own = given_fact (has_dir judged) _ has (rules c Slope inside (omega arith, omega arith))
+part_ways judged g ps nodata has rules c OutletCode inside own = given_fact (has_dir judged) _ has (rules c OutletCode inside (omega arith, omega arith))
+part_ways judged g ps nodata has rules c FlatStep inside own = given_fact (has_dir judged) _ has (rules c FlatStep inside (omega arith, omega arith))
+part_ways judged g ps nodata has rules c Accumulation inside own = absurd (omega (arith, own.1))
+part_ways judged g ps nodata has rules c Label inside own = absurd (omega (arith, own.1))
+part_ways judged g ps nodata has rules c SharedLabel inside own = absurd (omega (arith, own.1))
 
--- what the rules about given rasters say at a cell, apart from heights and directions
-pub record AreGivenRight (given : Given) (g : Grid) (ps : Products) (nodata : NoDataNumbers) (c : Cell) : Type 0 where
-  pub blank : IsNone (g.elevation c) → IsBlankPart given nodata (values_at g ps c)
-  pub complete : HasData g c → IsCompletePart given nodata (values_at g ps c)
-  pub counts : IfGiven (has_acc given) (AccumulationHolds (patch_at g ps c))
-  pub label : IfGiven (has_bas given) (LabelHolds (patch_at g ps c))
-  pub own_label : IfGiven (has_bas given) (SharedLabelHolds g ps c)
+-- what the rules about judged rasters say at a cell, apart from heights and directions
+pub record AreGivenRight (judged : Judged) (g : Grid) (ps : Products) (nodata : NoDataNumbers) (c : Cell) : Type 0 where
+  pub blank : IsNone (g.elevation c) → IsBlankPart judged nodata (values_at g ps c)
+  pub complete : HasData g c → IsCompletePart judged nodata (values_at g ps c)
+  pub counts : IfJudged (has_acc judged) (AccumulationHolds (patch_at g ps c))
+  pub label : IfJudged (has_bas judged) (LabelHolds (patch_at g ps c))
+  pub own_label : IfJudged (has_bas judged) (SharedLabelHolds g ps c)
 
-module _ (given : Given) (g : Grid) (ps : Products) (nodata : NoDataNumbers) (c : Cell) (inside : IsInside g c)
-    (right : AreGivenRight given g ps nodata c) (ways : (r : Rule) → IsBetween 3 12 r → HoldsAt (unranked nodata) g ps c r) where
-  pub part_holds : (r : Rule) → IsPartRule given r → HoldsAt (part_rules given nodata) g ps c r
+module _ (judged : Judged) (g : Grid) (ps : Products) (nodata : NoDataNumbers) (c : Cell) (inside : IsInside g c)
+    (right : AreGivenRight judged g ps nodata c) (ways : (r : Rule) → IsBetween 3 12 r → HoldsAt (unranked nodata) g ps c r) where
+  pub part_holds : (r : Rule) → IsPartRule judged r → HoldsAt (part_rules judged nodata) g ps c r
   part_holds VoidCell own = λ void. right.blank void
   part_holds Missing own = λ is_data. right.complete (record { inside = inside; is_data = is_data })
-  part_holds BadCode own = if_given (has_dir given) _ (ways BadCode (omega arith, omega arith))
+  part_holds BadCode own = if_given (has_dir judged) _ (ways BadCode (omega arith, omega arith))
   part_holds BelowGround own = ways BelowGround (omega arith, omega arith)
   part_holds OpenRaised own = ways OpenRaised (omega arith, omega arith)
   part_holds NoSpill own = tt
   part_holds SpillHeight own = tt
   part_holds SpillRank own = tt
   part_holds NotLeast own = ways NotLeast (omega arith, omega arith)
-  part_holds Slope own = if_given (has_dir given) _ (ways Slope (omega arith, omega arith))
-  part_holds OutletCode own = if_given (has_dir given) _ (ways OutletCode (omega arith, omega arith))
-  part_holds FlatStep own = if_given (has_dir given) _ (ways FlatStep (omega arith, omega arith))
+  part_holds Slope own = if_given (has_dir judged) _ (ways Slope (omega arith, omega arith))
+  part_holds OutletCode own = if_given (has_dir judged) _ (ways OutletCode (omega arith, omega arith))
+  part_holds FlatStep own = if_given (has_dir judged) _ (ways FlatStep (omega arith, omega arith))
   part_holds Accumulation own = right.counts
   part_holds Label own = right.label
-  part_holds SharedLabel own = given_fact (has_bas given) _ own right.own_label
+  part_holds SharedLabel own = given_fact (has_bas judged) _ own right.own_label
 
--- what a correct set says of given rasters
-from_part : (given : Given) (g : Grid) (ps : Products) (nodata : NoDataNumbers) → IsTrue (has_dir given) → IsPartOfCorrect given g ps nodata →
-    ((c : Cell) → HasData g c → RunEnds g ps c) × RulesHold (part_rules given nodata) (IsPartRule given) g ps
-from_part Con g ps nodata has part = absurd (false≢true has)
+-- what a correct set says of judged rasters
+from_part : (judged : Judged) (g : Grid) (ps : Products) (nodata : NoDataNumbers) → IsSomeWays judged → IsPartOfCorrect judged g ps nodata →
+    ((c : Cell) → HasData g c → RunEnds g ps c) × RulesHold (part_rules judged nodata) (IsPartRule judged) g ps
+from_part Con g ps nodata has part = absurd has
+from_part All g ps nodata has part = absurd has
+from_part AllWithRanks g ps nodata has part = absurd has
 from_part ConDir g ps nodata has (rest, numbers, correct) =
     let qs = joined ConDir ps rest in
     let all = joined_numbers ConDir nodata numbers in
@@ -162,17 +164,19 @@ label_rules g ps nodata label own_label c Label inside own = label c inside
 label_rules g ps nodata label own_label c SharedLabel inside own = own_label c inside
 label_rules g ps nodata label own_label c r inside own = absurd (omega (arith, own.0))
 
--- given rasters about which the rules hold, with the rasters that directions determine
-pub to_part : (given : Given) (g : Grid) (ps : Products) (nodata : NoDataNumbers) → IsTrue (has_dir given) →
-    ((c : Cell) → HasData g c → RunEnds g ps c) → RulesHold (part_rules given nodata) (IsPartRule given) g ps → IsPartOfCorrect given g ps nodata
-to_part Con g ps nodata has ends rules = absurd (false≢true has)
+-- judged rasters about which the rules hold, with the rasters that directions determine
+pub to_part : (judged : Judged) (g : Grid) (ps : Products) (nodata : NoDataNumbers) → IsSomeWays judged →
+    ((c : Cell) → HasData g c → RunEnds g ps c) → RulesHold (part_rules judged nodata) (IsPartRule judged) g ps → IsPartOfCorrect judged g ps nodata
+to_part Con g ps nodata has ends rules = absurd has
+to_part All g ps nodata has ends rules = absurd has
+to_part AllWithRanks g ps nodata has ends rules = absurd has
 to_part ConDir g ps nodata has ends rules =
     let qs = joined ConDir ps (own_rasters g ps) in
     let all = joined_numbers ConDir nodata own_numbers in
     let same : (c : Cell) → ps.dir c ≡ qs.dir c = λ c. refl in
     let ends_on : (c : Cell) → HasData g c → RunEnds g qs c = λ c here. RunEnds-alike g ps qs same c (ends c here) in
     let ranks : RanksAreSteps g qs all = own_ranks-right g ps qs same all (λ c. refl) refl in
-    let ways = part_ways ConDir g ps nodata has rules in
+    let ways = part_ways ConDir g ps nodata refl rules in
     let on = ways_on g ps qs nodata all ways in (
       own_rasters g ps,
       own_numbers,
@@ -194,7 +198,7 @@ to_part ConDirAcc g ps nodata has ends rules =
     let same : (c : Cell) → ps.dir c ≡ qs.dir c = λ c. refl in
     let ends_on : (c : Cell) → HasData g c → RunEnds g qs c = λ c here. RunEnds-alike g ps qs same c (ends c here) in
     let ranks : RanksAreSteps g qs all = own_ranks-right g ps qs same all (λ c. refl) refl in
-    let ways = part_ways ConDirAcc g ps nodata has rules in
+    let ways = part_ways ConDirAcc g ps nodata refl rules in
     let on = ways_on g ps qs nodata all ways in (
       own_rasters g ps,
       own_numbers,
@@ -217,7 +221,7 @@ to_part ConDirBas g ps nodata has ends rules =
     let same : (c : Cell) → ps.dir c ≡ qs.dir c = λ c. refl in
     let ends_on : (c : Cell) → HasData g c → RunEnds g qs c = λ c here. RunEnds-alike g ps qs same c (ends c here) in
     let ranks : RanksAreSteps g qs all = own_ranks-right g ps qs same all (λ c. refl) refl in
-    let ways = part_ways ConDirBas g ps nodata has rules in
+    let ways = part_ways ConDirBas g ps nodata refl rules in
     let on = ways_on g ps qs nodata all ways in (
       own_rasters g ps,
       own_numbers,
@@ -237,7 +241,7 @@ to_part ConDirBas g ps nodata has ends rules =
     )
 
 pub part_is_local : PartIsLocal
-part_is_local given g ps nodata has = (
-  (λ part. from_part given g ps nodata has part),
-  (λ h. to_part given g ps nodata has h.0 h.1),
+part_is_local judged g ps nodata has = (
+  (λ part. from_part judged g ps nodata has part),
+  (λ h. to_part judged g ps nodata has h.0 h.1),
 )

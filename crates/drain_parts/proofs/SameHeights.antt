@@ -5,7 +5,7 @@ use Rattle.drain_grid.specs.Patch.{IsOpen, HasLower}
 use Rattle.drain_grid.specs.Run.{IsLowerCell, IsSteepestCell}
 use Rattle.drain_grid.proofs.Patches.{IsOpen-patch_at}
 use Rattle.drain_grid.proofs.Slopes.{lower_shown, HasLower-lower_cell}
-use Rattle.drain_parts.specs.declared.given.Given.TheVariants.{Con}
+use Rattle.drain_grid.specs.declared.judged.Judged.TheVariants.{Con}
 use Rattle.drain_parts.specs.PartOf.{joined}
 
 module _ (g : Grid) (ps rest : Products) where

@@ -19,7 +19,7 @@ use Rattle.drain_grid.specs.GridRules.{HoldsAt}
 use Rattle.drain_grid.proofs.Patches.{neighbor-patch_at, cell_shown, shown_cell}
 use Rattle.drain_grid.proofs.Slopes.{steepest_cell, IsSteepest-cell}
 use Rattle.drain_grid.proofs.WithoutRanks.{total-same}
-use Rattle.drain_parts.specs.declared.given.Given.TheVariants.{ConDir, ConDirAcc, ConDirBas}
+use Rattle.drain_grid.specs.declared.judged.Judged.TheVariants.{ConDir, ConDirAcc, ConDirBas}
 use Rattle.drain_parts.specs.PartOf.{joined}
 use Rattle.drain_parts.proofs.SameHeights.{steepest_there, open_there, open_back, low_there, low_back}
 

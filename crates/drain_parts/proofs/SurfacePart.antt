@@ -21,10 +21,10 @@ use Rattle.drain_grid.proofs.Lowered.{least_at_open, least_beside}
 use Rattle.drain_grid.proofs.Neighbors.{AreNeighbors-lies}
 use Rattle.drain_grid.proofs.Patches.{IsOpen-patch_at, cell_shown}
 use Rattle.drain_grid.proofs.Runs.{runs_end}
-use Rattle.drain_parts.specs.declared.given.Given.TheVariants.{Con, ConDir}
+use Rattle.drain_grid.specs.declared.judged.Judged.TheVariants.{Con, ConDir}
 use Rattle.drain_parts.specs.Laws.{SurfaceIsPart}
 use Rattle.drain_parts.specs.PartOf.{IsPartOfCorrect, IsRightSurface, joined, joined_numbers}
-use Rattle.drain_parts.specs.PartRules.{IsPartRule, part_rules}
+use Rattle.drain_grid.specs.RulesAbout.{IsPartRule, part_rules}
 use Rattle.drain_parts.proofs.ChosenWays.{routed, void_code, data_code, way_rules}
 use Rattle.drain_parts.proofs.PartLocal.{part_holds, to_part}
 
@@ -105,7 +105,7 @@ to_surface g ps nodata right =
       own_label = tt;
     })
     (surface_holds g qs numbers right.least ways codes c inside) r own in
-    let part = to_part ConDir g qs numbers refl ends rules in
+    let part = to_part ConDir g qs numbers tt ends rules in
     (joined ConDir qs part.0, joined_numbers ConDir numbers part.1, part.2)
 
 from_surface : (g : Grid) (ps : Products) (nodata : NoDataNumbers) → IsPartOfCorrect Con g ps nodata → IsRightSurface g ps nodata

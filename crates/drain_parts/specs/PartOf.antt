@@ -1,33 +1,55 @@
--- What it means that given rasters are right: they are part of a correct set.
+-- What it means that judged rasters are right: they are part of a correct set.
 use Rattle.std.specs.Prelude.{◌≡◌, ◌≢◌, IsNone}
 use Rattle.drain_grid.specs.declared.cell.Cell.{Cell}
 use Rattle.drain_grid.specs.Correct.{IsCorrect}
 use Rattle.drain_grid.specs.Grid.{Grid, Products, HasData, IsInside}
 use Rattle.drain_grid.specs.Path.{IsLeastSurface}
 use Rattle.drain_grid.specs.Values.{NoDataNumbers}
-use Rattle.drain_parts.specs.declared.given.Given.{Given}
-use Rattle.drain_parts.specs.declared.given.Given.TheVariants.{Con, ConDir, ConDirAcc, ConDirBas}
+use Rattle.drain_grid.specs.declared.judged.Judged.{Judged}
+use Rattle.drain_grid.specs.declared.judged.Judged.TheVariants.{Con, ConDir, ConDirAcc, ConDirBas, All, AllWithRanks}
 
--- the given rasters of one set, and the others of another
-abbrev pub joined : Given → Products → Products → Products
+-- the judged rasters of one set, and the others of another
+abbrev pub joined : Judged → Products → Products → Products
 joined Con ps rest = record { con = ps.con; dir = rest.dir; acc = rest.acc; bas = rest.bas; spl = rest.spl; rnk = rest.rnk }
 joined ConDir ps rest = record { con = ps.con; dir = ps.dir; acc = rest.acc; bas = rest.bas; spl = rest.spl; rnk = rest.rnk }
 joined ConDirAcc ps rest = record { con = ps.con; dir = ps.dir; acc = ps.acc; bas = rest.bas; spl = rest.spl; rnk = rest.rnk }
 joined ConDirBas ps rest = record { con = ps.con; dir = ps.dir; acc = rest.acc; bas = ps.bas; spl = rest.spl; rnk = rest.rnk }
+joined All ps rest = record { con = ps.con; dir = ps.dir; acc = ps.acc; bas = ps.bas; spl = rest.spl; rnk = rest.rnk }
+joined AllWithRanks ps rest = ps
 
 -- the same of their no-data numbers
-abbrev pub joined_numbers : Given → NoDataNumbers → NoDataNumbers → NoDataNumbers
+abbrev pub joined_numbers : Judged → NoDataNumbers → NoDataNumbers → NoDataNumbers
 joined_numbers Con nodata rest = record { con = nodata.con; dir = rest.dir; acc = rest.acc; bas = rest.bas; spl = rest.spl; rnk = rest.rnk }
 joined_numbers ConDir nodata rest = record { con = nodata.con; dir = nodata.dir; acc = rest.acc; bas = rest.bas; spl = rest.spl; rnk = rest.rnk }
 joined_numbers ConDirAcc nodata rest = record { con = nodata.con; dir = nodata.dir; acc = nodata.acc; bas = rest.bas; spl = rest.spl; rnk = rest.rnk }
 joined_numbers ConDirBas nodata rest = record { con = nodata.con; dir = nodata.dir; acc = rest.acc; bas = nodata.bas; spl = rest.spl; rnk = rest.rnk }
+joined_numbers All nodata rest = record { con = nodata.con; dir = nodata.dir; acc = nodata.acc; bas = nodata.bas; spl = rest.spl; rnk = rest.rnk }
+joined_numbers AllWithRanks nodata rest = nodata
 
 -- some values of the other rasters make with the given ones a correct set
-abbrev pub IsPartOfCorrect : Given → Grid → Products → NoDataNumbers → Type 0
-IsPartOfCorrect given g ps nodata = (rest : Products) × (numbers : NoDataNumbers) × IsCorrect g (joined given ps rest) (joined_numbers given nodata numbers)
+abbrev pub IsPartOfCorrect : Judged → Grid → Products → NoDataNumbers → Type 0
+IsPartOfCorrect judged g ps nodata = (rest : Products) × (numbers : NoDataNumbers) × IsCorrect g (joined judged ps rest) (joined_numbers judged nodata numbers)
 
 -- the heights are the filled surface, and have their no-data number exactly at voids
 pub record IsRightSurface (g : Grid) (ps : Products) (nodata : NoDataNumbers) : Type 0 where
   pub voids : (c : Cell) → IsInside g c → IsNone (g.elevation c) → ps.con c ≡ nodata.con
   pub complete : (c : Cell) → HasData g c → ps.con c ≢ nodata.con
   pub least : IsLeastSurface g ps.con
+
+-- directions are judged, and not all four rasters
+abbrev pub IsSomeWays : Judged → Type 0
+IsSomeWays Con = ⊥
+IsSomeWays ConDir = Unit {0}
+IsSomeWays ConDirAcc = Unit {0}
+IsSomeWays ConDirBas = Unit {0}
+IsSomeWays All = ⊥
+IsSomeWays AllWithRanks = ⊥
+
+-- the judged rasters are right: all four are correct, or the judged ones are part of a correct set
+abbrev pub AreRight : Judged → Grid → Products → NoDataNumbers → Type 0
+AreRight Con = IsPartOfCorrect Con
+AreRight ConDir = IsPartOfCorrect ConDir
+AreRight ConDirAcc = IsPartOfCorrect ConDirAcc
+AreRight ConDirBas = IsPartOfCorrect ConDirBas
+AreRight All = IsCorrect
+AreRight AllWithRanks = IsCorrect

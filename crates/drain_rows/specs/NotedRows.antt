@@ -2,10 +2,9 @@
 use Rattle.std.specs.Prelude.{◌≡◌, ℕ}
 use Rattle.drain_grid.specs.declared.patch.Patch.{Patch}
 use Rattle.drain_grid.specs.Grid.{Grid, Products}
-use Rattle.drain_kernel.specs.declared.rules.Rules.{Rules}
-use Rattle.drain_kernel.specs.Rules.{tried}
-use Rattle.drain_rules.specs.declared.grid_walk.GridWalk.{GridWalk}
-use Rattle.drain_rules.specs.GridWalks.{IsRightOf}
+use Rattle.drain_grid.specs.declared.judged.Rules.{Rules}
+use Rattle.drain_rules.specs.declared.walk.Walk.{Walk}
+use Rattle.drain_rules.specs.Walks.{IsRightOf}
 use Rattle.drain_rules.specs.PatchRows.{AreRowPatches}
 use Rattle.drain_rules.specs.RowNumbers.{AreNumbersOf, RowNumbers}
 
@@ -14,6 +13,6 @@ abbrev pub OfNotedRow : RowNumbers → ℕ → (ℕ → Patch) → (Grid → Pro
 OfNotedRow numbers cols shown P = (g : Grid) (ps : Products) (r : ℕ) → AreNumbersOf g ps r numbers → AreRowPatches g ps r cols shown → P g ps r
 
 -- the walk has passed this number of rows, and its result is right under these rules
-pub record IsWalkOf (rules : Rules) (g : Grid) (ps : Products) (rows : ℕ) (walk : GridWalk) : Type 0 where
+pub record IsWalkOf (rules : Rules) (g : Grid) (ps : Products) (rows : ℕ) (walk : Walk) : Type 0 where
   pub rows_are : walk.rows ≡ rows
-  pub right : IsRightOf (tried rules) g ps walk
+  pub right : IsRightOf rules g ps walk

@@ -18,9 +18,9 @@ use crate::row_buffer::RowBuffer;
 use crate::row_visitor::RowVisitor;
 use crate::walk_stop::WalkStop;
 use crate::window::Window;
-use drain_grid::{OutOfMemory, Shape, Sinks};
+use drain_grid::{OutOfMemory, Rules, Shape, Sinks};
 use drain_rules::laws::three_rows_show_patches;
-use drain_rules::{Rules, ThreeRows};
+use drain_rules::ThreeRows;
 use std::alloc::Global;
 
 /// Shows the visitor each row of the grid of this shape and with these sinks, whose rows the source gives, and returns
@@ -99,7 +99,7 @@ fn note_rows<T, P, S: GridRows<T, P>, K: RowVisitor>(
         products,
         0,
         sinks,
-        rules.ranks,
+        rules.judged,
         &mut window.below,
         voids,
     )?;
@@ -111,7 +111,7 @@ fn note_rows<T, P, S: GridRows<T, P>, K: RowVisitor>(
             products,
             row + 1,
             sinks,
-            rules.ranks,
+            rules.judged,
             &mut window.below,
             voids,
         )?;

@@ -2,9 +2,8 @@
 
 use crate::row_buffer::RowBuffer;
 use crate::row_visitor::{RowVisitor, VerdictVisitor};
-use drain_grid::{OutOfMemory, Shape};
-use drain_kernel::Rules;
-use drain_rules::{ThreeRows, Verdict};
+use drain_grid::{OutOfMemory, Rules, Shape, Verdict};
+use drain_rules::ThreeRows;
 
 /// Notes of one kind, and of another, which gives the verdict if it can.
 #[derive(Drop)]

@@ -12,18 +12,17 @@ use crate::grid_rows::GridRows;
 use crate::listed_voids::ListedVoids;
 use crate::row_buffer::RowBuffer;
 use crate::walk_stop::WalkStop;
-use drain_grid::{OutOfMemory, Sinks};
-use drain_rules::Ranks;
+use drain_grid::{Judged, OutOfMemory, Sinks};
 
 /// Reads the next row, with this number, marks its listed sinks, notes those that are voids, and fills its lanes
-/// for rules with these ranks. It stops if the source does, or, where there are sinks, if memory runs out.
+/// for rules about these rasters. It stops if the source does, or, where there are sinks, if memory runs out.
 pub fn read_marked<T, P, S: GridRows<T, P>>(
     source: &mut S,
     tiles: &mut [T],
     products: &mut P,
     row: u32,
     sinks: &Sinks,
-    ranks: Ranks,
+    judged: Judged,
     held: &mut RowBuffer,
     voids: &mut ListedVoids,
 ) -> Result<(), WalkStop<S::Stop>>
@@ -44,7 +43,7 @@ pub fn read_marked<T, P, S: GridRows<T, P>>(
     }
     match held.mark(row, sinks, voids) {
         Ok(()) => {
-            held.take_lanes(ranks);
+            held.take_lanes(judged);
             Ok(())
         }
         Err(OutOfMemory) => Err(WalkStop::OutOfMemory),

@@ -8,10 +8,10 @@ ghost use Rattle.drain_grid.specs.CellLists.{is_among};
 ghost use Rattle.drain_rows.specs.ListedVoids.{is_listed_void};
 
 use crate::listed_voids::ListedVoids;
-use drain_grid::{OutOfMemory, PerProduct, Sinks};
+use drain_grid::{Judged, OutOfMemory, PerProduct, Sinks};
 use drain_kernel::Lanes;
 use drain_pixels::PixelRow;
-use drain_rules::{Ranks, RowView};
+use drain_rules::RowView;
 use std::alloc::Global;
 
 /// The elevations of one row, and each product's numbers, both empty if there is no row; marks at its listed sinks; and
@@ -103,8 +103,8 @@ impl RowBuffer {
         voids.note_row(row, self.z.as_slice(), self.sinks.as_slice())
     }
 
-    /// Fills the lanes of the row, for rules with these ranks.
-    pub fn take_lanes(&mut self, ranks: Ranks)
+    /// Fills the lanes of the row, for rules about these rasters.
+    pub fn take_lanes(&mut self, judged: Judged)
         requires whole { AreRowNumbers (buffer_numbers self.old) }
         ensures marked { marked_of self.new ≡ marked_of self.old }
         ensures lanes { LanesMatch self.new }
@@ -117,7 +117,7 @@ impl RowBuffer {
             bas: &products.bas,
             rnk: &products.rnk,
         };
-        self.fit = self.lanes.take(self.z.as_slice(), &rows, ranks);
+        self.fit = self.lanes.take(self.z.as_slice(), &rows, judged);
     }
 
     /// The row as it is looked at, with its lanes if they fit.

@@ -13,9 +13,9 @@ ghost use Rattle.drain_rows.specs.Runs.{AllRunsEnd};
 use crate::row_buffer::RowBuffer;
 use crate::row_visitor::RowVisitor;
 use drain_grid::laws::correct_by_rules_alone;
-use drain_grid::{Cell, OutOfMemory, Shape};
+use drain_grid::{Cell, OutOfMemory, Rules, Shape, Verdict};
 use drain_paths::CellFlows;
-use drain_rules::{Rules, ThreeRows, Verdict};
+use drain_rules::ThreeRows;
 
 impl RowVisitor for CellFlows {
     ghost use Rattle.std.specs.Prelude.{true};

@@ -3,18 +3,16 @@
 ghost use Rattle.std.specs.Prelude.{◌≡◌, ◌<◌, ◌+◌, ℕ, Bool, length, OnOk, OnErr};
 ghost use Rattle.drain_grid.specs.declared.cell.TheConstants.{MAX_LENGTH};
 ghost use Rattle.drain_grid.specs.Grid.{Grid, Products};
-ghost use Rattle.drain_kernel.specs.declared.rules.Rules.{Rules};
-ghost use Rattle.drain_kernel.specs.Rules.{tried};
+ghost use Rattle.drain_grid.specs.declared.judged.Rules.{Rules};
 ghost use Rattle.drain_rules.specs.RowNumbers.{AreRowNumbers};
 ghost use Rattle.drain_rules.specs.ThreeRows.{patch_in};
-ghost use Rattle.drain_rules.specs.Verdicts.{IsVerdictOf};
+ghost use Rattle.drain_rules.specs.Verdicts.{IsVerdictBy};
 ghost use Rattle.drain_rows.specs.RowBuffers.{buffer_numbers};
 ghost use Rattle.drain_rows.specs.NotedRows.{OfNotedRow};
 
 use crate::row_buffer::RowBuffer;
-use drain_grid::{OutOfMemory, Shape};
-use drain_kernel::Rules;
-use drain_rules::{ThreeRows, Verdict};
+use drain_grid::{OutOfMemory, Rules, Shape, Verdict};
+use drain_rules::ThreeRows;
 
 /// Notes of a grid's rows, taken from north to south.
 pub trait RowVisitor {
@@ -51,5 +49,5 @@ pub trait RowVisitor {
 pub trait VerdictVisitor: RowVisitor {
     /// The verdict on the grid of this shape, all of whose rows are noted.
     fn verdict(&self, shape: Shape) -> Verdict
-        ensures { (rules : Rules) (g : Grid) (ps : Products) → g.extent ≡ shape → Self.are_of rules g ps g.extent.rows self.now → IsVerdictOf (tried rules) g ps result };
+        ensures { (rules : Rules) (g : Grid) (ps : Products) → g.extent ≡ shape → Self.are_of rules g ps g.extent.rows self.now → IsVerdictBy rules g ps result };
 }

@@ -2,13 +2,11 @@
 
 use crate::row_buffer::RowBuffer;
 use crate::row_visitor::{RowVisitor, VerdictVisitor};
-use drain_grid::{OutOfMemory, Shape};
-use drain_kernel::Rules;
-use drain_rules::{GridWalk, ThreeRows, Verdict};
+use drain_grid::{OutOfMemory, Rules, Shape, Verdict};
+use drain_rules::{Walk, ThreeRows};
 
-impl RowVisitor for GridWalk {
+impl RowVisitor for Walk {
     ghost use Rattle.std.specs.Prelude.{◌≡◌, true};
-    ghost use Rattle.drain_kernel.specs.Rules.{tried};
     ghost use Rattle.drain_rules.specs.Labels.{HasNewLabel};
     ghost use Rattle.drain_rows.specs.NotedRows.{IsWalkOf};
 
@@ -16,7 +14,7 @@ impl RowVisitor for GridWalk {
 
     ghost are_of = { λ rules g ps rows walk. IsWalkOf rules g ps rows walk };
 
-    ghost wants = { λ rules g ps. HasNewLabel (tried rules) g ps };
+    ghost wants = { λ rules g ps. HasNewLabel rules g ps };
 
     ghost lasting = { λ walk. true };
 
@@ -30,7 +28,7 @@ impl RowVisitor for GridWalk {
     }
 }
 
-impl VerdictVisitor for GridWalk {
+impl VerdictVisitor for Walk {
     fn verdict(&self, shape: Shape) -> Verdict {
         self.verdict(shape)
     }

@@ -6,9 +6,9 @@ use Rattle.drain_grid.specs.Correct.{IsCorrect, RunsAreSound}
 use Rattle.drain_grid.specs.Laws.{CorrectFromRules}
 use Rattle.drain_mosaic.specs.Laws.{AgreementGivesElevation}
 use Rattle.drain_mosaic.specs.Mosaic.{TilesAgree}
-use Rattle.drain_rules.specs.declared.verdict.Counts.{Counts}
-use Rattle.drain_rules.specs.declared.verdict.Verdict.{Verdict}
-use Rattle.drain_rules.specs.declared.verdict.Verdict.TheVariants.{Accepted, Rejected}
+use Rattle.drain_grid.specs.declared.verdict.Counts.{Counts}
+use Rattle.drain_grid.specs.declared.verdict.Verdict.{Verdict}
+use Rattle.drain_grid.specs.declared.verdict.Verdict.TheVariants.{Accepted, Rejected}
 use Rattle.drain_rules.specs.Verdicts.{IfAccepted}
 use Rattle.drain_answer.specs.declared.refusal.Refusal.{Refusal}
 use Rattle.drain_answer.specs.declared.refusal.Refusal.TheVariants.{SeamMismatch}

@@ -18,8 +18,8 @@ use Rattle.drain_grid.proofs.Walks.{run_steps-le}
 use Rattle.drain_grid.proofs.Alike.{run_steps-alike}
 use Rattle.drain_paths.specs.declared.steps.TheConstants.{UNKNOWN}
 use Rattle.drain_rules.specs.Verdicts.{IsVerdictOf}
-use Rattle.drain_rules.specs.declared.verdict.Verdict.{Verdict}
-use Rattle.drain_rules.specs.declared.verdict.Verdict.TheVariants as checked
+use Rattle.drain_grid.specs.declared.verdict.Verdict.{Verdict}
+use Rattle.drain_grid.specs.declared.verdict.Verdict.TheVariants as checked
 use Rattle.drain_rows.specs.Runs.{AllRunsEnd}
 use Rattle.drain_verdict.specs.Answers.{AreReadable}
 use Rattle.drain_verdict.specs.Audits.{AreCorrect, IfAccepts, IsAcceptance, IsAuditAnswer, IsAuditVerdict, IsOfBoth, IsAnswerWithoutRanks, IsPlainVerdict, certified_nodata, certified_ranks}

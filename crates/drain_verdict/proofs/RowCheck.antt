@@ -21,7 +21,7 @@ use Rattle.drain_mosaic.specs.PlacedRows.{first_stopped}
 use Rattle.drain_mosaic.specs.RowLaws.{NewRowsAreOfBodies}
 use Rattle.drain_mosaic.specs.Tiling.{Tiling, extent_of}
 use Rattle.drain_raster.specs.Pixels as pixels
-use Rattle.drain_kernel.specs.declared.rules.Rules.{Rules}
+use Rattle.drain_grid.specs.declared.judged.Rules.{Rules}
 use Rattle.drain_verdict.specs.Answers.{AreNotesOf, AreReadable, IsAnswer, IsRefusal, rules_at}
 use Rattle.drain_rows.specs.declared.walk_stop.WalkStop.{WalkStop}
 use Rattle.drain_rows.specs.declared.walk_stop.WalkStop.TheVariants.{Source}

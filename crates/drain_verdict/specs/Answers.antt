@@ -2,12 +2,12 @@
 use Rattle.std.specs.Prelude.{ℕ, Result, Ok, Err}
 use Rattle.drain_grid.specs.Grid.{Grid, Products}
 use Rattle.drain_text.specs.First.{IsFirst}
-use Rattle.drain_rules.specs.declared.verdict.Verdict.{Verdict}
-use Rattle.drain_kernel.specs.Rules.{rules_with}
+use Rattle.drain_grid.specs.declared.verdict.Verdict.{Verdict}
+use Rattle.drain_grid.specs.RulesAbout.{rules_about}
 use Rattle.drain_rules.specs.Verdicts.{IsVerdictOf}
-use Rattle.drain_kernel.specs.declared.rules.Ranks.{Ranks}
-use Rattle.drain_kernel.specs.declared.rules.Rules.{Rules}
-use Rattle.drain_kernel.specs.declared.rules.Ranks.TheVariants.{Checked}
+use Rattle.drain_grid.specs.declared.judged.Judged.{Judged}
+use Rattle.drain_grid.specs.declared.judged.Rules.{Rules}
+use Rattle.drain_grid.specs.declared.judged.Judged.TheVariants.{AllWithRanks}
 use Rattle.drain_answer.specs.declared.refusal.Refusal.{Refusal}
 use Rattle.drain_answer.specs.declared.refusal.Refusal.TheVariants.{OutOfMemory, ReadFailed}
 use Rattle.drain_verdict.specs.Inputs.{Inputs}
@@ -30,18 +30,18 @@ IsReadAnswer i (Ok done) = AreReadable i
 IsReadAnswer i (Err refusal) = IsRefusal i refusal
 
 -- the answer to the inputs, with ranks checked or not
-abbrev pub IsAnswerWith : Ranks → Inputs → Result Verdict Refusal → Type 0
-IsAnswerWith ranks i (Ok verdict) = AreReadable i × IsVerdictOf (rules_with ranks (nodata_numbers i)) (input_grid i) (input_products i) verdict
+abbrev pub IsAnswerWith : Judged → Inputs → Result Verdict Refusal → Type 0
+IsAnswerWith ranks i (Ok verdict) = AreReadable i × IsVerdictOf (rules_about ranks (nodata_numbers i)) (input_grid i) (input_products i) verdict
 IsAnswerWith ranks i (Err refusal) = IsRefusal i refusal
 
 -- the answer of a check, which checks ranks
 abbrev pub IsAnswer : Inputs → Result Verdict Refusal → Type 0
-IsAnswer = IsAnswerWith Checked
+IsAnswer = IsAnswerWith AllWithRanks
 
 -- the rules that are checked of the inputs, with ranks or not
-abbrev pub rules_at : Ranks → Inputs → Rules
+abbrev pub rules_at : Judged → Inputs → Rules
 rules_at ranks i = record { nodata = nodata_numbers i; ranks = ranks }
 
 -- notes of a grid's rows that are of all rows of the inputs' grid, under these rules
-abbrev pub AreNotesOf : {K : Type 0} → (Rules → Grid → Products → ℕ → K → Type 0) → Ranks → Inputs → K → Type 0
+abbrev pub AreNotesOf : {K : Type 0} → (Rules → Grid → Products → ℕ → K → Type 0) → Judged → Inputs → K → Type 0
 AreNotesOf are_of ranks i notes = are_of (rules_at ranks i) (input_grid i) (input_products i) (input_grid i).extent.rows notes

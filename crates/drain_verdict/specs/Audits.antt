@@ -11,8 +11,8 @@ use Rattle.drain_grid.specs.Values.{NoDataNumbers}
 use Rattle.drain_hgt.specs.declared.input.TileInput.{TileInput}
 use Rattle.drain_rows.specs.Runs.{AllRunsEnd}
 use Rattle.drain_rules.specs.Verdicts.{IsVerdict, IsVerdictOf}
-use Rattle.drain_rules.specs.declared.verdict.Verdict.{Verdict}
-use Rattle.drain_rules.specs.declared.verdict.Verdict.TheVariants as checked
+use Rattle.drain_grid.specs.declared.verdict.Verdict.{Verdict}
+use Rattle.drain_grid.specs.declared.verdict.Verdict.TheVariants as checked
 use Rattle.drain_paths.specs.declared.steps.TheConstants.{UNKNOWN}
 use Rattle.drain_verdict.specs.declared.audit_products.AuditProducts.{AuditProducts}
 use Rattle.drain_answer.specs.declared.audit_verdict.AuditVerdict.{AuditVerdict}

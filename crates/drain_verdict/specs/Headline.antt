@@ -7,7 +7,7 @@ use Rattle.drain_grid.specs.Run.{IsFlatCell, IsOutlet, run, run_end, RunEnds, Vi
 use Rattle.drain_grid.specs.Correct.{IsBlankAt, IsCompleteAt, NeverClimbs, GoesSteepest}
 use Rattle.drain_hgt.specs.declared.input.TileInput.{TileInput}
 use Rattle.drain_mosaic.specs.Mosaic.{TilesAgree, IsElevation}
-use Rattle.drain_rules.specs.declared.verdict.Verdict.{Verdict}
+use Rattle.drain_grid.specs.declared.verdict.Verdict.{Verdict}
 use Rattle.drain_rules.specs.Verdicts.{IfAccepted}
 use Rattle.drain_answer.specs.declared.refusal.Refusal.{Refusal}
 use Rattle.drain_verdict.specs.Inputs.{Inputs, Tell, Products}

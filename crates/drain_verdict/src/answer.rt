@@ -13,13 +13,13 @@ ghost use Rattle.drain_verdict.specs.Uses.{UsesInputs};
 
 use crate::product_inputs::ProductInputs;
 use crate::read_inputs::read_inputs;
+use drain_grid::{Judged, Verdict};
 use drain_answer::Refusal;
 use drain_device::ByteSource;
 use drain_hgt::TileInput;
 use drain_hgt::laws::one_name;
 use drain_mosaic::Layout;
 use drain_rows::VerdictVisitor;
-use drain_rules::{Ranks, Verdict};
 use std::alloc::Global;
 
 /// The answer to inputs of this mosaic: to the headers of its products, the bytes of its tiles and rasters, and a list
@@ -32,7 +32,7 @@ pub fn answer_on<R: ByteSource, P: ProductInputs<R>, K: VerdictVisitor>(
     sinks: &[u8],
     tiles: &mut [TileInput<R>],
     products: &mut P,
-    ranks: Ranks,
+    judged: Judged,
     notes: &mut K,
 ) -> Result<Verdict, Refusal>
     requires laid { IsLayoutOf layout.now.side (names_of tiles.old) layout.now }

@@ -8,8 +8,8 @@ ghost use Rattle.std.specs.Prelude.{◌≡◌, ◌↔◌, ◌*◌, [], length, I
 ghost use Rattle.drain_grid.specs.Grid as grid;
 ghost use Rattle.drain_grid.specs.Grid.{Grid};
 ghost use Rattle.drain_hgt.specs.Inputs.{names_of};
-ghost use Rattle.drain_kernel.specs.declared.rules.Ranks.TheVariants.{Ignored};
-ghost use Rattle.drain_kernel.specs.declared.rules.Rules.{Rules};
+ghost use Rattle.drain_grid.specs.declared.judged.Judged.TheVariants.{All};
+ghost use Rattle.drain_grid.specs.declared.judged.Rules.{Rules};
 ghost use Rattle.drain_mosaic.specs.Tiling.{extent_of};
 ghost use Rattle.drain_paths.specs.KnownFlows.{AreKnownFlows};
 ghost use Rattle.drain_verdict.specs.Answers.{AreNotesOf};
@@ -23,6 +23,7 @@ use crate::answer::answer_on;
 use crate::audit_products::AuditProducts;
 use crate::both_verdict::verdict_of_both;
 use crate::layout::layout_of;
+use drain_grid::Judged;
 use drain_answer::{AuditVerdict, Refusal};
 use drain_device::ByteSource;
 use drain_grid::laws::{correct_is_local, ranks_play_no_part, sound_from_correct};
@@ -32,7 +33,7 @@ use drain_mosaic::Layout;
 use drain_mosaic::laws::agreement_gives_elevation;
 use drain_paths::CellFlows;
 use drain_rows::{BothVisitors, VerdictVisitor, first_endless};
-use drain_rules::{GridWalk, Ranks};
+use drain_rules::Walk;
 use std::alloc::Global;
 
 /// Whether the four products of the tiles are correct, or the first refusal.
@@ -88,7 +89,7 @@ fn audit_of<R: ByteSource>(
     let layout = layout_of(alloc, side, tiles)?;
     let mut notes = BothVisitors {
         first: CellFlows::new(alloc),
-        second: GridWalk::new(alloc),
+        second: Walk::new(alloc),
     };
     audit_on(alloc, &layout, sinks, tiles, products, &mut notes)
 }
@@ -109,14 +110,14 @@ pub fn audit_on<R: ByteSource, K: VerdictVisitor>(
     requires unnoted { (rules : Rules) (g : Grid) (ps : grid.Products) → K.are_of rules g ps 0 notes.old.second }
     ensures answer { ForAudit R.bytes_left layout.now.side tiles.old sinks.now products.old (λ inputs. IsAnswerWithoutRanks inputs result) }
     ensures lasting { OnOk result (K.lasting notes.new.second ≡ K.lasting notes.old.second) }
-    ensures noted { OnOk result (ForAudit R.bytes_left layout.now.side tiles.old sinks.now products.old (λ inputs. AreNotesOf K.are_of Ignored inputs notes.new.second)) }
+    ensures noted { OnOk result (ForAudit R.bytes_left layout.now.side tiles.old sinks.now products.old (λ inputs. AreNotesOf K.are_of All inputs notes.new.second)) }
     ensures flows { OnOk result (ForAudit R.bytes_left layout.now.side tiles.old sinks.now products.old (λ inputs. AreKnownFlows (input_grid inputs) (input_products inputs) (extent_of layout.now) notes.new.first)) }
     ensures counted { OnOk result (ForAudit R.bytes_left layout.now.side tiles.old sinks.now products.old (λ inputs. length notes.new.first ≡ (extent_of layout.now).rows * (extent_of layout.now).cols)) }
     ensures uses { AuditUses R.bytes_left R.counts layout.now.side (tiles.old, products.old) (tiles.new, products.new) result }
 {
     // The law that bytes name one tile.
     one_name();
-    let ranks = Ranks::Ignored;
+    let ranks = Judged::All;
     let verdict = answer_on(alloc, layout, sinks, tiles, products, ranks, notes)?;
     let endless = first_endless(&mut notes.first, layout.shape(), &verdict);
     Ok(verdict_of_both(&verdict, endless))

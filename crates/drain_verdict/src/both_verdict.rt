@@ -3,8 +3,7 @@
 ghost use Rattle.drain_verdict.specs.Audits.{IsOfBoth};
 
 use drain_answer::AuditVerdict;
-use drain_grid::Cell;
-use drain_rules::Verdict;
+use drain_grid::{Cell, Verdict};
 
 /// The first path without an end, if there is one, else the verdict of the rules.
 pub fn verdict_of_both(verdict: &Verdict, endless: Option<Cell>) -> AuditVerdict

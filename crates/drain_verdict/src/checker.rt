@@ -10,13 +10,14 @@ ghost use Rattle.drain_verdict.specs.Uses.{CheckUses};
 use crate::answer::answer_on;
 use crate::input::Products;
 use crate::layout::layout_of;
+use drain_grid::{Judged, Verdict};
 use drain_answer::Refusal;
 use drain_device::ByteSource;
 use drain_grid::laws::correct_from_rules;
 use drain_hgt::TileInput;
 use drain_hgt::laws::one_name;
 use drain_mosaic::laws::agreement_gives_elevation;
-use drain_rules::{GridWalk, Ranks, Verdict};
+use drain_rules::Walk;
 use std::alloc::Global;
 
 /// The verdict on products of the tiles, or the first refusal.
@@ -73,7 +74,7 @@ fn answer_of<R: ByteSource>(
         sinks,
         tiles,
         products,
-        Ranks::Checked,
-        &mut GridWalk::new(alloc),
+        Judged::AllWithRanks,
+        &mut Walk::new(alloc),
     )
 }

@@ -39,7 +39,7 @@ use crate::sink_refusal::sink_refusal;
 use drain_answer::Refusal;
 use drain_device::ByteSource;
 use drain_grid::laws::found_off_data_is_right;
-use drain_grid::{OutOfMemory, PerProduct};
+use drain_grid::{Judged, OutOfMemory, PerProduct, Rules};
 use drain_header::Header;
 use drain_hgt::TileInput;
 use drain_hgt::laws::one_name;
@@ -47,7 +47,6 @@ use drain_mosaic::Layout;
 use drain_mosaic::laws::new_rows_are_of_bodies;
 use drain_raster::laws::raster_rows_take_what_is_needed;
 use drain_rows::{RowVisitor, WalkStop, visit_rows};
-use drain_rules::{Ranks, Rules};
 use std::alloc::Global;
 
 /// Reads inputs of this mosaic: the headers of its products, the bytes of its tiles and rasters, and a list of sinks.
@@ -60,7 +59,7 @@ pub fn read_inputs<R: ByteSource, P: ProductInputs<R>, K: RowVisitor>(
     sinks: &[u8],
     tiles: &mut [TileInput<R>],
     products: &mut P,
-    ranks: Ranks,
+    judged: Judged,
     notes: &mut K,
 ) -> Result<(), Refusal>
     requires laid { IsLayoutOf layout.now.side (names_of tiles.old) layout.now }
@@ -85,7 +84,7 @@ fn read_bodies<R: ByteSource, P: ProductInputs<R>, K: RowVisitor>(
     sinks: &[u8],
     tiles: &mut [TileInput<R>],
     products: &mut P,
-    ranks: Ranks,
+    judged: Judged,
     notes: &mut K,
 ) -> Result<(), Refusal>
     requires named { length tiles.old ≡ length layout.now.corners }

@@ -1,4 +1,4 @@
--- The law is a lemma on given rasters.
+-- The law is a lemma on judged rasters.
 use Rattle.drain_parts.proofs.PartLocal as lemmas
 use Rattle.drain_parts.proofs.laws.part_is_local.Goals as goal
 
