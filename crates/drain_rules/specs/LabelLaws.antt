@@ -13,7 +13,7 @@ use Rattle.drain_rules.specs.Labels.{IsLabelOf, AreLabelsBefore, HasNoLabel}
 use Rattle.drain_rules.specs.Rows.{place}
 
 -- at or before the cell is before the next place in its row
-earlier-more : (b : Cell) (row col : ℕ) → IsEarlier b (place row (col + 1)) → (b ≡ place row col) ⊎ IsEarlier b (place row col)
+pub earlier-more : (b : Cell) (row col : ℕ) → IsEarlier b (place row (col + 1)) → (b ≡ place row col) ⊎ IsEarlier b (place row col)
 earlier-more b row col (inl above) = inr (inl above)
 earlier-more b row col (inr beside) =
     elim (cases_lt b.col col) [
@@ -23,7 +23,7 @@ earlier-more b row col (inr beside) =
           inl (ap (λ r. place r b.col) beside.0 ∙ ap (place row) same))
     ]
 
-earlier-still : (b : Cell) (row col : ℕ) → IsEarlier b (place row col) → IsEarlier b (place row (col + 1))
+pub earlier-still : (b : Cell) (row col : ℕ) → IsEarlier b (place row col) → IsEarlier b (place row (col + 1))
 earlier-still b row col (inl above) = inl above
 earlier-still b row col (inr beside) = inr (beside.0, omega (arith, beside.1))
 

@@ -16,7 +16,7 @@ use Rattle.drain_windows.specs.Cuts.{window_at}
 use Rattle.drain_windows.specs.JudgedCounts.{AreCountsInside, judged_cells, ring}
 use Rattle.drain_windows.specs.Windows.{in_union}
 use Rattle.drain_windows.proofs.JudgedCounts.{by_rows, sum_by_map, sum_by_flat_map}
-use Rattle.drain_window_walk.specs.Areas.{cells_in, CountsAmong, judged_area, row_cells_in}
+use Rattle.drain_window.specs.Areas.{cells_in, CountsAmong, judged_area, row_cells_in}
 
 sum_shift : (f : ℕ → ℕ) (t b n : ℕ) → sum_by f (range_with_len (t + b) n) ≡ sum_by (λ k. f (t + k)) (range_with_len b n)
 sum_shift f t b zero = refl

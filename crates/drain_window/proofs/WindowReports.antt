@@ -21,15 +21,15 @@ use Rattle.drain_windows.specs.NoData.{audited}
 use Rattle.drain_windows.specs.Outlets.{IsSortedByLabel, ListsOutlets}
 use Rattle.drain_windows.specs.Reports.{IsReportOf, ListsSeams, ListsSinks}
 use Rattle.drain_windows.specs.Windows.{moved, IsFirstInside, IsPlaceIn, RulesHoldInside}
-use Rattle.drain_window_walk.specs.Areas.{judged_area}
-use Rattle.drain_window_walk.specs.JudgedAreas.{IsJudgedOutcome}
-use Rattle.drain_window_walk.specs.Laws.{IsOfWindow, ListsJudged, WalkJudgesWindow, WalkListsSeams}
-use Rattle.drain_window_walk.specs.SeamRows.{ListsSeamsAbove}
-use Rattle.drain_window_walk.specs.SeamWalks.{IsSeamWalkOf}
-use Rattle.drain_window_walk.specs.WindowWalks.{IsWindowWalkOf}
-use Rattle.drain_window_walk.specs.declared.area.Area.{Area}
-use Rattle.drain_window_walk.specs.declared.seam_walk.SeamWalk.{SeamWalk}
-use Rattle.drain_window_walk.specs.declared.window_walk.WindowWalk.{WindowWalk}
+use Rattle.drain_window.specs.Areas.{judged_area}
+use Rattle.drain_window.specs.JudgedAreas.{IsJudgedOutcome}
+use Rattle.drain_window.specs.Laws.{IsOfWindow, ListsJudged, WalkJudgesWindow, WalkListsSeams}
+use Rattle.drain_window.specs.SeamRows.{ListsSeamsAbove}
+use Rattle.drain_window.specs.SeamWalks.{IsSeamWalkOf}
+use Rattle.drain_window.specs.WindowWalks.{IsWindowWalkOf}
+use Rattle.drain_window.specs.declared.area.Area.{Area}
+use Rattle.drain_window.specs.declared.seam_walk.SeamWalk.{SeamWalk}
+use Rattle.drain_window.specs.declared.window_walk.WindowWalk.{WindowWalk}
 use Rattle.drain_window.specs.WindowNotes.{AreOfWindow}
 
 -- a sorted list of the same outlets is that of the window

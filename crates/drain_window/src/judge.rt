@@ -29,7 +29,7 @@ use drain_rules::{Ranks, Verdict};
 use drain_verdict::AuditProducts;
 use drain_verdict::layout::layout_of;
 use drain_verdict::read_inputs::read_inputs;
-use drain_window_walk::{Area, SeamWalk, WindowWalk};
+use drain_window::{Area, SeamWalk, WindowWalk};
 use drain_windows::{Place, Report, WindowReport};
 use std::alloc::Global;
 

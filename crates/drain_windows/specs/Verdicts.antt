@@ -1,7 +1,7 @@
 -- What a verdict on a window says of its report.
 use Rattle.std.specs.Prelude.{◌≡◌, Bool, true, false}
-use Rattle.drain_rules.specs.declared.verdict.Verdict.{Verdict}
-use Rattle.drain_rules.specs.declared.verdict.Verdict.TheVariants.{Accepted, Rejected}
+use Rattle.drain_grid.specs.declared.verdict.Verdict.{Verdict}
+use Rattle.drain_grid.specs.declared.verdict.Verdict.TheVariants.{Accepted, Rejected}
 use Rattle.drain_windows.specs.Reports.{Report}
 
 abbrev pub is_accepted : Verdict → Bool
