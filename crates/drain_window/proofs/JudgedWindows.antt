@@ -1,5 +1,5 @@
 -- A window that was cut out of a grid: its judged cells are those of an area of the grid, with the same patches.
-use Rattle.std.proofs.Common.{◌≡◌, ℕ, ◌+◌, ◌-◌, ◌<◌, ◌≤◌, min, inl, inr, Bool, true, false, IsTrue, List, refl, sym, ◌∙◌, ap, subst, arith}
+use Rattle.std.proofs.Common.{◌≡◌, ℕ, ◌+◌, ◌-◌, ◌<◌, ◌≤◌, min, inl, inr, Bool, true, false, IsTrue, List, map, refl, sym, ◌∙◌, ap, subst, arith}
 use Rattle.std.specs.List.{flat_map, range_with_len}
 use Rattle.drain_grid.specs.declared.cell.Cell.{Cell}
 use Rattle.drain_grid.specs.declared.rule.Rule.{Rule}
@@ -19,8 +19,10 @@ use Rattle.drain_windows.specs.Reports.{IsOnSeam}
 use Rattle.drain_windows.specs.Windows.{Window, in_union, moved, IsFirstInside, IsJudgedIn, IsJudgedOutlet, IsPlaceIn, IsWindowOf, RulesHoldInside}
 use Rattle.drain_windows.proofs.Unions.{by_patch}
 use Rattle.drain_windows.proofs.WindowPatches.{patch_of_window, there}
-use Rattle.drain_window.specs.Areas.{CountsAmong, HasCell, IsFirstAmong, IsOutletAt, judged_area, ring_of, row_cells_in}
-use Rattle.drain_window.specs.JudgedAreas.{IsAbove}
+use Rattle.drain_rules.specs.AreaOutcomes.{IsAbove}
+use Rattle.drain_rules.specs.Areas.{CountsAmong, HasCell, IsFirstAmong}
+use Rattle.drain_rules.specs.Rows.{place}
+use Rattle.drain_window.specs.JudgedAreas.{IsBefore, IsOutletAt, judged_area, ring_of, row_cells_of}
 use Rattle.drain_window.specs.Laws.{WalkJudgesWindow, WalkListsSeams}
 
 -- behind the ring of a first row, and before that of a last one
@@ -107,8 +109,8 @@ module _ (nodata : NoDataNumbers) (origin : Cell) (p : Place) (g : Grid) (ps : P
   inside_grid : (c : Cell) → IsJudgedIn p c → IsCellOf g.extent (in_union p c)
   inside_grid c judged = there g.extent p placed c judged.inside
 
-  above_all : (c : Cell) → IsJudgedIn p c → IsAbove (judged_area p) g.extent.rows (in_union p c)
-  above_all c judged = record { inside = judged_to p c judged; above = (inside_grid c judged).row }
+  above_all : (c : Cell) → IsJudgedIn p c → IsAbove (judged_area p) g g.extent.rows (in_union p c)
+  above_all c judged = record { inside = judged_to p c judged; in_row = (inside_grid c judged).col; above = (inside_grid c judged).row }
 
   earlier_there : (b c : Cell) → IsEarlier b c → IsEarlier (in_union p b) (in_union p c)
   earlier_there b c (inl before) = inl (omega arith)
@@ -118,12 +120,12 @@ module _ (nodata : NoDataNumbers) (origin : Cell) (p : Place) (g : Grid) (ps : P
   pair_there b q c r (inl before) = inl (earlier_there b c before)
   pair_there b q c r (inr same) = inr (ap (in_union p) same.0, same.1)
 
-  of_sound : (outlets : List Outlet) → ((c : Cell) (r : Rule) → IsAbove (judged_area p) g.extent.rows c → IsPatchRule r → HoldsAt (unranked nodata) g ps c r) → RulesHoldInside nodata here
+  of_sound : (outlets : List Outlet) → ((c : Cell) (r : Rule) → IsAbove (judged_area p) g g.extent.rows c → IsPatchRule r → HoldsAt (unranked nodata) g ps c r) → RulesHoldInside nodata here
   of_sound outlets holds c r judged own =
       let at_place = judged_moved origin p c judged in
       to_window c r at_place own (holds (in_union p c) r (above_all c at_place) own)
 
-  of_faulty : (cell : Cell) (rule : Rule) → IsFirstAmong (unranked nodata) (judged_area p) g ps cell rule → (c : Cell) × (in_union p c ≡ cell) × IsFirstInside nodata here c rule
+  of_faulty : (cell : Cell) (rule : Rule) → IsFirstAmong (unranked nodata) IsPatchRule (judged_area p) g ps cell rule → (c : Cell) × (in_union p c ≡ cell) × IsFirstInside nodata here c rule
   of_faulty cell rule first =
       let found = back_is p cell first.inside in
       let same : in_union p found.0 ≡ cell = found.2 in (
@@ -136,16 +138,16 @@ module _ (nodata : NoDataNumbers) (origin : Cell) (p : Place) (g : Grid) (ps : P
           first = λ b q judged own before.
               (let at_place = judged_moved origin p b judged in
               to_window b q at_place own
-              (first.first (in_union p b) q (judged_to p b at_place) own
+              (first.first (in_union p b) q (judged_to p b at_place) (inside_grid b at_place) own
               (subst (λ x. IsEarlierPair (in_union p b) q x rule) same (pair_there b q found.0 rule before))));
         },
       )
 
   -- the outlets of the area are those that the window judges
-  outlet_to : (x : Outlet) (c : Cell) → IsAbove (judged_area p) g.extent.rows c → IsOutletAt g ps origin c x →
+  outlet_to : (x : Outlet) (c : Cell) → IsBefore (judged_area p) (place g.extent.rows 0) c → IsOutletAt g ps origin c x →
       (b : Cell) × IsJudgedOutlet here b × (here.products.bas b ≡ x.label) × (in_union here.place b ≡ x.cell)
-  outlet_to x c above outlet =
-      let found = back_is p c above.inside in
+  outlet_to x c before outlet =
+      let found = back_is p c before.inside in
       let same : in_union p found.0 ≡ c = found.2 in
       let at_cell : IsOutletAt g ps origin (in_union p found.0) x = subst (λ b. IsOutletAt g ps origin b x) (sym same) outlet in (
         found.0,
@@ -159,11 +161,11 @@ module _ (nodata : NoDataNumbers) (origin : Cell) (p : Place) (g : Grid) (ps : P
       )
 
   outlet_back : (c : Cell) → IsJudgedOutlet here c →
-      (b : Cell) × IsAbove (judged_area p) g.extent.rows b × IsOutletAt g ps origin b (record { label = here.products.bas c; cell = in_union here.place c })
+      (b : Cell) × IsBefore (judged_area p) (place g.extent.rows 0) b × IsOutletAt g ps origin b (record { label = here.products.bas c; cell = in_union here.place c })
   outlet_back c outlet =
       let at_place = judged_moved origin p c outlet.judged in (
         in_union p c,
-        above_all c at_place,
+        record { inside = judged_to p c at_place; earlier = inl (inside_grid c at_place).row },
         record {
           has_data = record { inside = inside_grid c at_place; is_data = outlet.has_data.is_data };
           code = outlet.code;
@@ -180,16 +182,26 @@ all_rows p g placed =
     let last : min g.extent.rows (p.top + p.extent.rows - ring_of p.inner.south) ≡ p.top + p.extent.rows - ring_of p.inner.south = omega arith in
     ap (λ n. n - (judged_area p).top) last
 
+-- and so is the last judged column
+all_cols : (p : Place) (g : Grid) → IsPlaceIn g.extent p →
+    min (judged_area p).right g.extent.cols - (judged_area p).left ≡ (judged_area p).right - (judged_area p).left
+all_cols p g placed =
+    let cols : p.left + p.extent.cols ≤ g.extent.cols = placed.cols in
+    let last : min (p.left + p.extent.cols - ring_of p.inner.east) g.extent.cols ≡ p.left + p.extent.cols - ring_of p.inner.east = omega arith in
+    ap (λ n. n - (judged_area p).left) last
+
 pub walk_judges_window : WalkJudgesWindow
 walk_judges_window nodata origin p g ps outlets (Sound tally) placed judged = (
   of_sound nodata origin p g ps placed outlets judged.holds,
   record {
     sound = λ x has.
-        (let found = (judged.listed x).0 has in
+        (let found = (judged.kept x).0 has in
         outlet_to nodata origin p g ps placed x found.0 found.1 found.2);
-    complete = λ c outlet. (judged.listed (record { label = ps.bas (in_union p c); cell = in_union (moved origin p) c })).1 (outlet_back nodata origin p g ps placed c outlet);
+    complete = λ c outlet. (judged.kept (record { label = ps.bas (in_union p c); cell = in_union (moved origin p) c })).1 (outlet_back nodata origin p g ps placed c outlet);
   },
-  subst (λ n. CountsAmong g ps (flat_map (row_cells_in (judged_area p)) (range_with_len (judged_area p).top n)) tally) (all_rows p g placed) judged.counted,
+  subst (λ n. CountsAmong g ps (flat_map (row_cells_of (judged_area p)) (range_with_len (judged_area p).top n)) tally) (all_rows p g placed)
+      (subst (λ n. CountsAmong g ps (flat_map (λ row. map (place row) (range_with_len (judged_area p).left n)) (range_with_len (judged_area p).top (min g.extent.rows (judged_area p).bottom - (judged_area p).top))) tally)
+      (all_cols p g placed) judged.counted),
 )
 walk_judges_window nodata origin p g ps outlets (Faulty cell rule) placed first = of_faulty nodata origin p g ps placed cell rule first
 

@@ -6,7 +6,7 @@ use Rattle.drain_device.specs.declared.counts.FaultCounts.{FaultCounts}
 use Rattle.drain_device.proofs.FaultLists.{SomeReadFails-iff}
 use Rattle.drain_hgt.specs.declared.input.TileInput.{TileInput}
 use Rattle.drain_mosaic.specs.Tiling.{Tiling}
-use Rattle.drain_rules.specs.declared.verdict.Verdict.{Verdict}
+use Rattle.drain_grid.specs.declared.verdict.Verdict.{Verdict}
 use Rattle.drain_verdict.specs.Refusals.{IsOfBodies}
 use Rattle.drain_verdict.specs.Uses.{AuditUses}
 use Rattle.drain_verdict.specs.declared.audit_products.AuditProducts.{AuditProducts}

@@ -3,8 +3,8 @@ use Rattle.std.proofs.Common.{◌≡◌, ◌↔◌, Result, Ok, Err, IfOk, IsErr
 use Rattle.drain_answer.specs.declared.refusal.Refusal.TheVariants.{BoxTooLarge, OutOfMemory, ReadFailed}
 use Rattle.drain_grid.specs.declared.cell.Cell.{Cell}
 use Rattle.drain_grid.specs.declared.rule.Rule.{Rule}
-use Rattle.drain_rules.specs.declared.verdict.Verdict.{Verdict}
-use Rattle.drain_rules.specs.declared.verdict.Verdict.TheVariants.{Accepted, Rejected}
+use Rattle.drain_grid.specs.declared.verdict.Verdict.{Verdict}
+use Rattle.drain_grid.specs.declared.verdict.Verdict.TheVariants.{Accepted, Rejected}
 use Rattle.drain_mosaic.specs.Tiling.{Tiling}
 use Rattle.drain_verdict.specs.Answers.{AreReadable}
 use Rattle.drain_verdict.specs.Inputs.{Inputs}

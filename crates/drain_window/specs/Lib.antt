@@ -8,3 +8,4 @@ pub mod SeamWalks
 pub mod WindowAnswers
 pub mod WindowLines
 pub mod WindowNotes
+pub mod WindowWalks
