@@ -1,19 +1,21 @@
 -- The least fault of a cell: from its patch, and for every rule from the labels so far, to the grid.
-use Rattle.std.proofs.Common.{◌≡◌, ℕ, ◌↔◌, Bool, true, false, not, IsTrue, List, Option, Some, None, refl, sym, subst, arith}
+use Rattle.std.proofs.Common.{◌≡◌, ℕ, ◌<◌, ◌↔◌, Bool, true, false, not, IsTrue, List, Option, Some, None, refl, subst, arith}
 use Rattle.drain_grid.specs.declared.cell.Cell.{Cell}
 use Rattle.drain_grid.specs.declared.rule.Rule.{Rule}
 use Rattle.drain_grid.specs.declared.rule.Rule.TheVariants.{SharedLabel}
 use Rattle.drain_grid.specs.declared.patch.Patch.{Patch}
-use Rattle.drain_grid.specs.Rule.{IsAnyRule, IsPatchRule, IsLeastFault}
+use Rattle.drain_grid.specs.Rule.{IsAnyRule, IsPatchRule, IsLeastFault, rule_number}
 use Rattle.drain_grid.specs.declared.judged.Judged.{Judged}
 use Rattle.drain_grid.specs.declared.judged.Judged.TheVariants.{Con, ConDir, ConDirAcc, ConDirBas, All, AllWithRanks}
 use Rattle.drain_grid.specs.Judged.{has_bas}
 use Rattle.drain_grid.specs.RulesAbout.{IsPartRule, IsTried}
-use Rattle.drain_basin.specs.Admitted.{IsAdmitted}
-use Rattle.drain_grid.specs.Grid.{Grid, Products, IsInside, patch_at}
+use Rattle.drain_grid.specs.Grid.{Grid, Products, IsInside, patch_at, values_at}
+use Rattle.drain_grid.specs.Values.{Values}
 use Rattle.drain_grid.specs.PatchRules.{Profile}
 use Rattle.drain_grid.specs.GridRules.{HoldsAt, SharedLabelHolds}
-use Rattle.drain_rules.specs.Labels.{AreLabelsBefore, IsOutletByCode, labelled_profile}
+use Rattle.drain_rules.specs.Compared.{IfCompared, IsTriedIf, with_labels}
+use Rattle.drain_rules.specs.Labels.{AreLabelsBefore, HasNoLabel, labelled_profile}
+use Rattle.drain_rules.specs.LabelLaws.{labels-shared}
 
 -- rules that hold alike have one least fault
 pub IsLeastFault-same : (Own P Q : Rule → Type 0) (o : Option Rule) → ((r : Rule) → Own r → P r ↔ Q r) →
@@ -35,58 +37,89 @@ IsLeastFault-patch profile IsOwn g ps c o of_patch =
     IsLeastFault-same IsOwn (profile (patch_at g ps c)) (HoldsAt profile g ps c) o
     (λ r own. patch-HoldsAt profile g ps c r (of_patch r own))
 
--- the labels play no part in the rules of a patch
-pub labelled-patch : (profile : Profile) (labels : List (ℕ × ℕ)) (p : Patch) (r : Rule) → IsPatchRule r →
-    profile p r ↔ labelled_profile profile labels p r
-labelled-patch profile labels p SharedLabel own = absurd (omega (arith, own.1))
-labelled-patch profile labels p r own = (λ h. h, λ h. h)
-
--- with the labels of the outlets before the cell, SharedLabel is that of the grid
-shared-labelled : (profile : Profile) (g : Grid) (ps : Products) (labels : List (ℕ × ℕ)) (c : Cell) → IsInside g c →
-    AreLabelsBefore g ps c labels → labelled_profile profile labels (patch_at g ps c) SharedLabel ↔ SharedLabelHolds g ps c
-shared-labelled profile g ps labels c inside before = (
-  (λ fresh here code b at_b earlier code_b same.
-      fresh (record { has_data = here.is_data; code = code })
-      ((before (ps.bas c)).1 (record { cell = b; earlier = earlier; has_data = at_b; code = code_b; label_is = sym same }))),
-  (λ holds outlet admitted.
-      let b = (before (ps.bas c)).0 admitted in
-      holds (record { inside = inside; is_data = outlet.has_data }) outlet.code b.cell b.has_data b.earlier b.code (sym b.label_is)),
-)
-
--- and so is every rule
-pub labelled-HoldsAt : (profile : Profile) (g : Grid) (ps : Products) (labels : List (ℕ × ℕ)) (c : Cell) (r : Rule) → IsInside g c →
-    AreLabelsBefore g ps c labels → labelled_profile profile labels (patch_at g ps c) r ↔ HoldsAt profile g ps c r
-labelled-HoldsAt profile g ps labels c SharedLabel inside before = shared-labelled profile g ps labels c inside before
-labelled-HoldsAt profile g ps labels c r inside before = (λ h. h, λ h. h)
+-- each rule that is tried is that of the grid, if what is new tells whether SharedLabel holds
+labelled : (profile : Profile) (IsOwn : Rule → Type 0) (IsNew : Values → Type 0) (g : Grid) (ps : Products) (c : Cell) (r : Rule) →
+    (IsOwn SharedLabel → IsNew (values_at g ps c) ↔ SharedLabelHolds g ps c) → IsOwn r → with_labels IsNew profile (patch_at g ps c) r ↔ HoldsAt profile g ps c r
+labelled profile IsOwn IsNew g ps c SharedLabel shared own = shared own
+labelled profile IsOwn IsNew g ps c r shared own = (λ h. h, λ h. h)
 
 -- the least fault of the cell's patch is that of the cell
+pub least-labelled : (profile : Profile) (IsOwn : Rule → Type 0) (IsNew : Values → Type 0) (g : Grid) (ps : Products) (c : Cell) (p : Patch) (o : Option Rule) →
+    (IsOwn SharedLabel → IsNew (values_at g ps c) ↔ SharedLabelHolds g ps c) → p ≡ patch_at g ps c →
+    IsLeastFault IsOwn (with_labels IsNew profile p) o → IsLeastFault IsOwn (HoldsAt profile g ps c) o
+least-labelled profile IsOwn IsNew g ps c p o shared is least =
+    IsLeastFault-same IsOwn (with_labels IsNew profile (patch_at g ps c)) (HoldsAt profile g ps c) o
+    (λ r own. labelled profile IsOwn IsNew g ps c r shared own)
+    (subst (λ p. IsLeastFault IsOwn (with_labels IsNew profile p) o) is least)
+
+-- with the labels of the outlets before the cell, every rule is that of the grid
+pub labelled-HoldsAt : (profile : Profile) (g : Grid) (ps : Products) (labels : List (ℕ × ℕ)) (c : Cell) (r : Rule) → IsInside g c →
+    AreLabelsBefore g ps c labels → labelled_profile profile labels (patch_at g ps c) r ↔ HoldsAt profile g ps c r
+labelled-HoldsAt profile g ps labels c SharedLabel inside before = labels-shared g ps labels c inside before
+labelled-HoldsAt profile g ps labels c r inside before = (λ h. h, λ h. h)
+
 pub IsLeastFault-cell : (profile : Profile) (IsOwn : Rule → Type 0) (g : Grid) (ps : Products) (labels : List (ℕ × ℕ)) (c : Cell) (p : Patch) (o : Option Rule) →
     IsInside g c → AreLabelsBefore g ps c labels → p ≡ patch_at g ps c →
     IsLeastFault IsOwn (labelled_profile profile labels p) o → IsLeastFault IsOwn (HoldsAt profile g ps c) o
-IsLeastFault-cell profile IsOwn g ps labels c p o inside before is least =
-    IsLeastFault-same IsOwn (labelled_profile profile labels (patch_at g ps c)) (HoldsAt profile g ps c) o
-    (λ r own. labelled-HoldsAt profile g ps labels c r inside before)
-    (subst (λ p. IsLeastFault IsOwn (labelled_profile profile labels p) o) is least)
+IsLeastFault-cell profile IsOwn g ps labels c p o inside before =
+    least-labelled profile IsOwn (HasNoLabel labels) g ps c p o (λ own. labels-shared g ps labels c inside before)
 
 -- where no rule of the patch fails, none that is tried does if SharedLabel holds or isn't tried
-any_holds : (profile : Profile) (labels : List (ℕ × ℕ)) (p : Patch) → IsLeastFault IsPatchRule (profile p) None →
-    (IsOutletByCode p.here → ¬ IsAdmitted labels p.here.bas) → (r : Rule) → IsAnyRule r → labelled_profile profile labels p r
-any_holds profile labels p all shared SharedLabel own = shared
-any_holds profile labels p all shared r own = all r (omega arith, omega arith)
+any_holds : (profile : Profile) (IsNew : Values → Type 0) (p : Patch) → IsLeastFault IsPatchRule (profile p) None →
+    IsNew p.here → (r : Rule) → IsAnyRule r → with_labels IsNew profile p r
+any_holds profile IsNew p all shared SharedLabel own = shared
+any_holds profile IsNew p all shared r own = all r (omega arith, omega arith)
 
-part_holds : (judged : Judged) (profile : Profile) (labels : List (ℕ × ℕ)) (p : Patch) → IsLeastFault IsPatchRule (profile p) None →
-    (IsTrue (has_bas judged) → IsOutletByCode p.here → ¬ IsAdmitted labels p.here.bas) → (r : Rule) → IsPartRule judged r → labelled_profile profile labels p r
-part_holds judged profile labels p all shared SharedLabel own = shared own
-part_holds judged profile labels p all shared r own = all r own
+part_holds : (judged : Judged) (profile : Profile) (IsNew : Values → Type 0) (p : Patch) → IsLeastFault IsPatchRule (profile p) None →
+    (IsTrue (has_bas judged) → IsNew p.here) → (r : Rule) → IsPartRule judged r → with_labels IsNew profile p r
+part_holds judged profile IsNew p all shared SharedLabel own = shared own
+part_holds judged profile IsNew p all shared r own = all r own
 
-pub holds_tried : (judged : Judged) (profile : Profile) (labels : List (ℕ × ℕ)) (p : Patch) → IsLeastFault IsPatchRule (profile p) None →
-    (IsTrue (has_bas judged) → IsOutletByCode p.here → ¬ IsAdmitted labels p.here.bas) → (r : Rule) → IsTried judged r → labelled_profile profile labels p r
-holds_tried Con profile labels p all shared r own = part_holds Con profile labels p all shared r own
-holds_tried ConDir profile labels p all shared r own = part_holds ConDir profile labels p all shared r own
-holds_tried ConDirAcc profile labels p all shared r own = part_holds ConDirAcc profile labels p all shared r own
-holds_tried ConDirBas profile labels p all shared r own = part_holds ConDirBas profile labels p all shared r own
-holds_tried All profile labels p all shared r own = any_holds profile labels p all (shared refl) r own
-holds_tried AllWithRanks profile labels p all shared r own = any_holds profile labels p all (shared refl) r own
+patch_holds : (profile : Profile) (IsNew : Values → Type 0) (p : Patch) → IsLeastFault IsPatchRule (profile p) None → (r : Rule) → IsPatchRule r → with_labels IsNew profile p r
+patch_holds profile IsNew p all SharedLabel own = absurd (omega (arith, own.1))
+patch_holds profile IsNew p all r own = all r own
+
+pub holds_tried : (compares : Bool) (judged : Judged) (profile : Profile) (IsNew : Values → Type 0) (p : Patch) → IsLeastFault IsPatchRule (profile p) None →
+    (IsTrue (has_bas judged) → IsNew p.here) → (r : Rule) → IsTriedIf compares judged r → with_labels IsNew profile p r
+holds_tried false judged profile IsNew p all shared r own = patch_holds profile IsNew p all r own
+holds_tried true Con profile IsNew p all shared r own = part_holds Con profile IsNew p all shared r own
+holds_tried true ConDir profile IsNew p all shared r own = part_holds ConDir profile IsNew p all shared r own
+holds_tried true ConDirAcc profile IsNew p all shared r own = part_holds ConDirAcc profile IsNew p all shared r own
+holds_tried true ConDirBas profile IsNew p all shared r own = part_holds ConDirBas profile IsNew p all shared r own
+holds_tried true All profile IsNew p all shared r own = any_holds profile IsNew p all (shared refl) r own
+holds_tried true AllWithRanks profile IsNew p all shared r own = any_holds profile IsNew p all (shared refl) r own
+
+-- SharedLabel is tried only where labels are compared
+pub own_compared : (compares : Bool) (judged : Judged) → IsTriedIf compares judged SharedLabel → IsTrue compares
+own_compared true judged own = refl
+own_compared false judged own = absurd (omega (arith, own.1))
+
+-- and where labels are judged
+shared_tried : (judged : Judged) → IsTrue (has_bas judged) → IsTried judged SharedLabel
+shared_tried Con own = own
+shared_tried ConDir own = own
+shared_tried ConDirAcc own = own
+shared_tried ConDirBas own = own
+shared_tried All own = (omega arith, omega arith)
+shared_tried AllWithRanks own = (omega arith, omega arith)
+
+-- rules before it hold where no rule of the patch fails
+any_before : (profile : Profile) (IsNew : Values → Type 0) (p : Patch) → IsLeastFault IsPatchRule (profile p) None → (r : Rule) → rule_number r < rule_number SharedLabel →
+    with_labels IsNew profile p r
+any_before profile IsNew p all SharedLabel less = absurd (omega (arith, less))
+any_before profile IsNew p all r less = all r (omega arith, omega arith)
+
+-- so a label that isn't new is the first fault
+pub shared_fault : (compares : Bool) (judged : Judged) (profile : Profile) (IsNew : Values → Type 0) (p : Patch) → IsLeastFault IsPatchRule (profile p) None →
+    IsTrue (has_bas judged) → ¬ IfCompared compares (IsNew p.here) →
+    IsLeastFault (IsTriedIf compares judged) (with_labels (λ v. IfCompared compares (IsNew v)) profile p) (Some SharedLabel)
+shared_fault false judged profile IsNew p all own known = absurd (known tt)
+shared_fault true judged profile IsNew p all own known = (shared_tried judged own, known, λ r tried less. any_before profile IsNew p all r less)
+
+-- what is compared says so
+pub if_compared : (compares : Bool) (P Q : Type 0) → IsTrue compares → P ↔ Q → IfCompared compares P ↔ Q
+if_compared true P Q is same = same
+if_compared false P Q is same = absurd (let no : ⊥ = cc in no)
 
 -- what is passed though its label isn't new has no label that is tried
 pub untried : (passed has tried : Bool) → passed ≡ not has → has ≡ tried → passed ≡ true → ¬ IsTrue tried

@@ -16,10 +16,9 @@ use Rattle.drain_grid.specs.GridRules.{HoldsAt, RulesHold, IsEarlierPair, IsFirs
 use Rattle.drain_grid.specs.declared.fill_verdict.FillVerdict.TheVariants as fill
 use Rattle.drain_rules.specs.declared.tally.Tally.{Tally}
 use Rattle.drain_rules.specs.FillVerdicts.{IsFillVerdict}
-use Rattle.drain_rules.specs.Labels.{IsNewLabelAt}
 use Rattle.drain_rules.specs.Verdicts.{has_outlet_code}
 use Rattle.drain_rules.specs.RowOutcomes.{cells_above, CountsAbove}
-use Rattle.drain_rules.specs.Rows.{place, HoldAlong, CountsAlong, IsRowFault, IsNewLabelAlong}
+use Rattle.drain_rules.specs.Rows.{place, HoldAlong, CountsAlong, IsRowFault}
 
 range_with_len-more : (a n : ℕ) → range_with_len a (suc n) ≡ range_with_len a n ++ (a + n) ∷ []
 range_with_len-more a zero = let e : a + 0 ≡ a = omega arith in rw e refl
@@ -108,21 +107,6 @@ IsFirstFault-row profile IsOwn g ps row col rule inside above here = record {
     first : (b : Cell) (q : Rule) → IsInside g b → IsOwn q → IsEarlierPair b q (place row col) rule → HoldsAt profile g ps b q
     first b q in_grid own (inl earlier) = before-cell profile IsOwn g ps row col above here.before b q in_grid earlier own
     first b q in_grid own (inr same) = subst (λ c. HoldsAt profile g ps c q) (sym same.0) (here.smaller q own same.1)
-
--- where the rows above keep one's own rules, a new label of the row is one of the grid
-pub HasNewLabel-row : (profile : Profile) (IsOwn : Rule → Type 0) (g : Grid) (ps : Products) (row col : ℕ) →
-    ((r : ℕ) → r < row → HoldAlong profile IsOwn g ps r g.extent.cols) → IsNewLabelAlong profile IsOwn g ps row col →
-    (c : Cell) × IsNewLabelAt profile IsOwn g ps c
-HasNewLabel-row profile IsOwn g ps row col above along = (
-  place row col,
-  record {
-    has_data = along.has_data;
-    code = along.code;
-    is_new = along.is_new;
-    here = λ rule own. along.holds col rule (omega arith) own;
-    before = before-cell profile IsOwn g ps row col above (λ k rule less own. along.holds k rule (omega arith) own);
-  },
-)
 
 -- rules that hold along every row hold at every cell
 RulesHold-rows : (profile : Profile) (IsOwn : Rule → Type 0) (g : Grid) (ps : Products) →

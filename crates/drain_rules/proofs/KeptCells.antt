@@ -1,26 +1,22 @@
--- Cleared cells are passed at once: no rule fails at them, and they have no label, since they are no outlets.
-use Rattle.std.proofs.Common.{◌≡◌, ◌≢◌, ℕ, zero, suc, ℤ, ◌+◌, ◌-◌, ◌<◌, ◌≤◌, ◌↔◌, ◌⊎◌, cond, ◌&&◌, true, false, is_some, IsSome, pos, List, Option, Some, None, map, inl, inr, refl, sym, ◌∙◌, ap, subst, arith}
+-- Cleared cells are passed at once: no rule fails at them, and they are no outlets.
+use Rattle.std.proofs.Common.{◌≡◌, ◌≢◌, ℕ, zero, suc, ℤ, ◌+◌, ◌-◌, ◌<◌, ◌≤◌, Bool, cond, ◌&&◌, true, false, is_some, IsSome, pos, Option, Some, None, map, refl, sym, ◌∙◌, ap, subst, arith}
 use Rattle.std.specs.List.{range_with_len}
 use Rattle.std.specs.Ordering.{int_eq}
 use Rattle.std.proofs.lemmas.Bool.Decides.{Decides-int_eq}
 use Rattle.std.proofs.lemmas.List.Sums.{count_by-le-length}
 use Rattle.std.proofs.lemmas.List.FromFn.{sum_by-map-range_with_len_more, length-map-range_with_len}
-use Rattle.drain_basin.specs.Admitted.{IsAdmitted}
 use Rattle.drain_grid.specs.declared.patch.Patch.{Patch}
-use Rattle.drain_grid.specs.declared.rule.Rule.{Rule}
 use Rattle.drain_grid.specs.declared.judged.Judged.{Judged}
-use Rattle.drain_grid.specs.RulesAbout.{IsTried}
 use Rattle.drain_grid.specs.Grid.{Grid, Products}
 use Rattle.drain_grid.specs.PatchRules.{Profile}
 use Rattle.drain_kernel.specs.Kept.{IsKept}
 use Rattle.drain_rules.specs.declared.kept.Kept.{Kept}
 use Rattle.drain_rules.specs.declared.tally.Tally.{Tally}
 use Rattle.drain_rules.specs.KeptRuns.{shows_raised, raised_between}
-use Rattle.drain_rules.specs.Labels.{IsLabelOf, labelled_profile}
 use Rattle.drain_rules.specs.PatchRows.{AreRowPatches, IsAtMost}
 use Rattle.drain_rules.specs.Rows.{CountsAlong}
-use Rattle.drain_rules.proofs.Faults.{holds_tried}
-use Rattle.drain_rules.proofs.PassedCells.{IsPassed, passed-more}
+use Rattle.drain_rules.specs.Compared.{IsTriedIf}
+use Rattle.drain_rules.proofs.PassedCells.{IsPassed, no_outlet-holds, passed-more}
 use Rattle.drain_rules.proofs.RowLemmas.{CountsAlong-more}
 
 -- how many are raised, with one column more
@@ -48,21 +44,6 @@ counts_none (Some h) dir other = elim (int_eq dir (pos 0)) as (λ b. int_eq dir 
   | true ↦ λ same. absurd (other ((Decides-int_eq dir (pos 0)).0 same))
   | false ↦ λ differs. refl
 ] refl
-
--- every rule that is tried holds at a cleared cell, whatever labels were admitted
-kept_holds : (judged : Judged) (profile : Profile) (labels : List (ℕ × ℕ)) (p : Patch) → IsKept profile p → (r : Rule) → IsTried judged r → labelled_profile profile labels p r
-kept_holds judged profile labels p kept = holds_tried judged profile labels p kept.holds (λ own outlet. absurd (kept.no_outlet outlet.code))
-
--- and it has no label to admit
-pub no_label : (profile : Profile) (labels : List (ℕ × ℕ)) (p : Patch) → IsKept profile p → (label : ℤ) →
-    IsAdmitted labels label ↔ (IsLabelOf p.here label ⊎ IsAdmitted labels label)
-no_label profile labels p kept label = (
-  (λ admitted. inr admitted),
-  (λ either. elim either [
-    | inl own ↦ absurd (kept.no_outlet own.outlet.code)
-    | inr admitted ↦ admitted
-  ]),
-)
 
 -- what is so of the cells before a column and of their counts, where one such cell more leaves it so
 module _ (profile : Profile) (cols : ℕ) (shown : ℕ → Patch) (P : ℕ → Tally → Type 0)
@@ -112,19 +93,28 @@ module _ (profile : Profile) (g : Grid) (ps : Products) (row cols : ℕ) (shown 
       (omega (arith, data_cells, counts_one p.here.z at.has_data)) raised (omega (arith, outlets, counts_none p.here.z p.here.dir at.no_outlet)))
       from kept old new
 
-module _ (judged : Judged) (profile : Profile) (g : Grid) (ps : Products) (row cols : ℕ) (shown : ℕ → Patch) where
-  -- and they are passed
-  pub passed-kept : (labels : List (ℕ × ℕ)) (from : ℕ) (kept : Kept) (old new : Tally) → AreRowPatches g ps row cols shown → from ≤ kept.end → kept.end ≤ cols →
-      IsPassed profile (IsTried judged) g ps row from old labels → ((col : ℕ) → from ≤ col → col < kept.end → IsKept profile (shown col)) →
+module _ (compares : Bool) (judged : Judged) (profile : Profile) (g : Grid) (ps : Products) (row first cols : ℕ) (shown : ℕ → Patch) where
+  -- the cells before a column from the first on are passed
+  abbrev IsUpTo : ℕ → Tally → Type 0
+  IsUpTo col tally = (first ≤ col) × IsPassed profile (IsTriedIf compares judged) g ps row first col tally
+
+  -- and the cells that a row clears are passed too
+  pub passed-kept : (from : ℕ) (kept : Kept) (old new : Tally) → AreRowPatches g ps row cols shown → first ≤ from → from ≤ kept.end → kept.end ≤ cols →
+      IsPassed profile (IsTriedIf compares judged) g ps row first from old → ((col : ℕ) → from ≤ col → col < kept.end → IsKept profile (shown col)) →
       kept.raised ≡ raised_between shown from kept.end → new.data_cells ≡ old.data_cells + (kept.end - from) → new.raised ≡ old.raised + kept.raised →
-      new.outlets ≡ old.outlets → IsPassed profile (IsTried judged) g ps row kept.end new labels
-  passed-kept labels from kept old new are =
-      kept_run profile cols shown (λ col tally. IsPassed profile (IsTried judged) g ps row col tally labels)
-      (λ col old new less so_far at data_cells raised outlets.
-      let p = shown col in
-      passed-more profile (IsTried judged) g ps row col cols shown p.here old new labels labels are less refl so_far (kept_holds judged profile labels p at)
-      (omega (arith, data_cells, counts_one p.here.z at.has_data)) raised (omega (arith, outlets, counts_none p.here.z p.here.dir at.no_outlet)) (no_label profile labels p at))
-      from kept old new
+      new.outlets ≡ old.outlets → IsPassed profile (IsTriedIf compares judged) g ps row first kept.end new
+  passed-kept from kept old new are past forward within so_far all count data_cells raised outlets =
+      (kept_run profile cols shown IsUpTo one from kept old new forward within (past, so_far) all count data_cells raised outlets).1
+    where
+      one : (col : ℕ) (t u : Tally) → col < cols → IsUpTo col t → IsKept profile (shown col) → u.data_cells ≡ t.data_cells + 1 →
+          u.raised ≡ t.raised + cond (shows_raised (shown col)) 1 0 → u.outlets ≡ t.outlets → IsUpTo (col + 1) u
+      one col t u less passed at data_cells raised outlets =
+          let p = shown col in (
+            omega (arith, passed.0),
+            passed-more profile (IsTriedIf compares judged) g ps row first col cols shown p.here t u are passed.0 less refl passed.1
+                (no_outlet-holds compares judged profile g ps row col cols shown are less at.holds (λ outlet. at.no_outlet outlet.code))
+                (omega (arith, data_cells, counts_one p.here.z at.has_data)) raised (omega (arith, outlets, counts_none p.here.z p.here.dir at.no_outlet)),
+          )
 
 -- and no count is greater than the cells
 pub bounds-kept : (shown : ℕ → Patch) (from : ℕ) (kept : Kept) (old new : Tally) → from ≤ kept.end → IsAtMost from old →

@@ -1,9 +1,11 @@
 mod EqualGrids
+pub mod AllCells
+pub mod AreaGrids
 pub mod CountBounds
 pub mod Faults
-pub mod FindingLemmas
 pub mod GridLemmas
 pub mod KeptCells
+pub mod LabelSteps
 pub mod LabelsBefore
 pub mod LanedCounts
 pub mod LanedPatches
@@ -13,6 +15,8 @@ pub mod PatchFaults
 pub mod RightVoids
 pub mod RowFields
 pub mod RowLemmas
+pub mod RowPasses
 pub mod RowPatches
 pub mod RowRuns
+pub mod RowStops
 pub mod Screens

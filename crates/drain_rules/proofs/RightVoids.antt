@@ -1,7 +1,6 @@
--- A void with no-data numbers keeps every rule, and so it is passed: it adds nothing to a count, and has no label.
-use Rattle.std.proofs.Common.{◌≡◌, ℕ, ℤ, ◌+◌, ◌<◌, ◌≤◌, ◌↔◌, ◌⊎◌, cond, ◌&&◌, int_lt, is_some, unwrap_or, IsNone, pos, Bool, true, false, List, Option, Some, None, inl, inr, refl, arith}
+-- A void with no-data numbers keeps every rule, and so it is passed: it adds nothing to a count, and is no outlet.
+use Rattle.std.proofs.Common.{◌≡◌, ℕ, ℤ, ◌+◌, ◌<◌, ◌≤◌, cond, ◌&&◌, int_lt, is_some, unwrap_or, IsNone, pos, Bool, true, false, Option, Some, None, refl, arith}
 use Rattle.std.specs.Ordering.{int_eq}
-use Rattle.drain_basin.specs.Admitted.{IsAdmitted}
 use Rattle.drain_grid.specs.declared.set_product.SetProduct.TheVariants.{Con, Dir, Acc, Bas, Rnk}
 use Rattle.drain_grid.specs.declared.patch.Patch.{Patch}
 use Rattle.drain_grid.specs.declared.rule.Rule.{Rule}
@@ -10,7 +9,7 @@ use Rattle.drain_grid.specs.Grid.{Grid, Products}
 use Rattle.drain_grid.specs.PatchRules.{Profile}
 use Rattle.drain_grid.specs.declared.judged.Judged.{Judged}
 use Rattle.drain_grid.specs.declared.judged.Judged.TheVariants as rasters
-use Rattle.drain_grid.specs.RulesAbout.{IsBlankPart, IsTried, part_rules, rules_about}
+use Rattle.drain_grid.specs.RulesAbout.{IsBlankPart, part_rules, rules_about}
 use Rattle.drain_grid.specs.Unranked.{IsBlankWithoutRank}
 use Rattle.drain_grid.specs.Values.{IsBlankWithoutSpill, NoDataNumbers, Values}
 use Rattle.drain_grid.proofs.Options.{void_data}
@@ -20,10 +19,9 @@ use Rattle.drain_grid.specs.RulesAbout.{tried}
 use Rattle.drain_kernel.specs.Rules.{rules_with}
 use Rattle.drain_rules.specs.declared.tally.Tally.{Tally}
 use Rattle.drain_rules.specs.BlankVoids.{IsBlankVoid, IsRightVoid}
-use Rattle.drain_rules.specs.Labels.{IsLabelOf, labelled_profile}
 use Rattle.drain_rules.specs.PatchRows.{AreRowPatches}
-use Rattle.drain_rules.proofs.Faults.{holds_tried}
-use Rattle.drain_rules.proofs.PassedCells.{IsPassed, passed-more}
+use Rattle.drain_rules.specs.Compared.{IsTriedIf}
+use Rattle.drain_rules.proofs.PassedCells.{IsPassed, no_outlet-holds, passed-more}
 use Rattle.drain_rules.proofs.RowRuns.{along_run}
 
 -- with the rank, the five are blank
@@ -124,33 +122,24 @@ pub void_is_no_data : (z : Option ℤ) → IsNone z → ◌≡◌ {A = ℕ} (con
 void_is_no_data None void = refl
 void_is_no_data (Some h) void = absurd (grind (arith, void))
 
--- every rule that is tried holds at a right void, whatever labels were admitted
-void_holds : (judged : Judged) (profile : Profile) (labels : List (ℕ × ℕ)) (p : Patch) → IsRightVoid profile p → (r : Rule) → IsTried judged r → labelled_profile profile labels p r
-void_holds judged profile labels p right =
-    holds_tried judged profile labels p right.holds (λ own outlet. absurd (void_data p.here.z right.is_void outlet.has_data))
+module _ (compares : Bool) (judged : Judged) (profile : Profile) (g : Grid) (ps : Products) (row first cols : ℕ) (shown : ℕ → Patch) (tally : Tally) where
+  -- the cells before a column from the first on are passed
+  abbrev IsUpTo : ℕ → Type 0
+  IsUpTo col = (first ≤ col) × IsPassed profile (IsTriedIf compares judged) g ps row first col tally
 
--- and it has no label to admit
-void_label : (profile : Profile) (labels : List (ℕ × ℕ)) (p : Patch) → IsRightVoid profile p → (label : ℤ) →
-    IsAdmitted labels label ↔ (IsLabelOf p.here label ⊎ IsAdmitted labels label)
-void_label profile labels p right label = (
-  (λ admitted. inr admitted),
-  (λ either. elim either [
-    | inl own ↦ void_data p.here.z right.is_void own.outlet.has_data
-    | inr admitted ↦ admitted
-  ]),
-)
-
-module _ (judged : Judged) (profile : Profile) (g : Grid) (ps : Products) (row cols : ℕ) (shown : ℕ → Patch) (labels : List (ℕ × ℕ)) (tally : Tally) where
-  -- the voids that a row passes over are passed
-  pub passed-voids : (from end : ℕ) → AreRowPatches g ps row cols shown → from ≤ end → end ≤ cols → IsPassed profile (IsTried judged) g ps row from tally labels →
-      ((col : ℕ) → from ≤ col → col < end → IsRightVoid profile (shown col)) → IsPassed profile (IsTried judged) g ps row end tally labels
-  passed-voids from end are forward within passed right =
-      along_run (λ col. IsPassed profile (IsTried judged) g ps row col tally labels) (λ col. IsRightVoid profile (shown col)) cols one from end forward within right passed
+  -- and the voids that a row passes over are passed too
+  pub passed-voids : (from end : ℕ) → AreRowPatches g ps row cols shown → first ≤ from → from ≤ end → end ≤ cols → IsPassed profile (IsTriedIf compares judged) g ps row first from tally →
+      ((col : ℕ) → from ≤ col → col < end → IsRightVoid profile (shown col)) → IsPassed profile (IsTriedIf compares judged) g ps row first end tally
+  passed-voids from end are past forward within passed right =
+      (along_run IsUpTo (λ col. IsRightVoid profile (shown col)) cols one from end forward within right (past, passed)).1
     where
-      one : (col : ℕ) → col < cols → IsRightVoid profile (shown col) → IsPassed profile (IsTried judged) g ps row col tally labels → IsPassed profile (IsTried judged) g ps row (col + 1) tally labels
+      one : (col : ℕ) → col < cols → IsRightVoid profile (shown col) → IsUpTo col → IsUpTo (col + 1)
       one col less right so_far =
-          let p = shown col in
-          passed-more profile (IsTried judged) g ps row col cols shown p.here tally tally labels labels are less refl so_far (void_holds judged profile labels p right)
-          (omega (arith, void_is_no_data p.here.z right.is_void))
-          (omega (arith, void_counts p.here.z (int_lt (unwrap_or p.here.z (pos 0)) p.here.con) right.is_void))
-          (omega (arith, void_counts p.here.z (int_eq p.here.dir (pos 0)) right.is_void)) (void_label profile labels p right)
+          let p = shown col in (
+            omega (arith, so_far.0),
+            passed-more profile (IsTriedIf compares judged) g ps row first col cols shown p.here tally tally are so_far.0 less refl so_far.1
+                (no_outlet-holds compares judged profile g ps row col cols shown are less right.holds (λ outlet. void_data p.here.z right.is_void outlet.has_data))
+                (omega (arith, void_is_no_data p.here.z right.is_void))
+                (omega (arith, void_counts p.here.z (int_lt (unwrap_or p.here.z (pos 0)) p.here.con) right.is_void))
+                (omega (arith, void_counts p.here.z (int_eq p.here.dir (pos 0)) right.is_void)),
+          )

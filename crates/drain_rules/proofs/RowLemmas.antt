@@ -1,28 +1,20 @@
 -- One cell more of a row: what holds along it, and how many of its cells pass a test.
-use Rattle.std.proofs.Common.{◌≡◌, ℕ, ◌+◌, ◌<◌, Bool, cond, ◌&&◌, int_lt, is_some, unwrap_or, pos, List, None, Some, subst, arith, below_more}
+use Rattle.std.proofs.Common.{◌≡◌, ℕ, ◌+◌, ◌<◌, Bool, cond, ◌&&◌, int_lt, is_some, unwrap_or, pos, None, Some, arith, below_more}
 use Rattle.std.specs.List.{count_by}
 use Rattle.std.specs.Ordering.{int_eq}
 use Rattle.std.proofs.lemmas.List.FromFn.{sum_by-map-range_with_len_more}
-use Rattle.drain_basin.specs.Admitted.{IsAdmitted}
 use Rattle.drain_grid.specs.declared.cell.Cell.{Cell}
-use Rattle.drain_grid.specs.declared.patch.Patch.{Patch}
 use Rattle.drain_grid.specs.declared.rule.Rule.{Rule}
-use Rattle.drain_grid.specs.declared.rule.Rule.TheVariants.{SharedLabel}
 use Rattle.drain_grid.specs.Rule.{IsLeastFault}
 use Rattle.drain_grid.specs.Extent.{row_cells}
 use Rattle.drain_grid.specs.Values.{Values}
-use Rattle.drain_grid.specs.Grid.{Grid, Products, IsInside, values_at, patch_at}
+use Rattle.drain_grid.specs.Grid.{Grid, Products, values_at}
 use Rattle.drain_grid.specs.Counts.{is_data, is_raised}
 use Rattle.drain_grid.specs.PatchRules.{Profile}
 use Rattle.drain_grid.specs.GridRules.{HoldsAt}
-use Rattle.drain_rules.specs.declared.cell_rules.Stop.{Stop}
-use Rattle.drain_rules.specs.declared.cell_rules.Stop.TheVariants.{Fault, OutOfMemory}
 use Rattle.drain_rules.specs.declared.tally.Tally.{Tally}
-use Rattle.drain_rules.specs.Labels.{IsOutletByCode, AreLabelsBefore}
-use Rattle.drain_rules.specs.Stops.{IsCellStop}
 use Rattle.drain_rules.specs.Verdicts.{has_outlet_code}
-use Rattle.drain_rules.specs.Rows.{place, HoldAlong, CountsAlong, IsRowFault, IsStopAt}
-use Rattle.drain_rules.proofs.Faults.{IsLeastFault-cell, labelled-HoldsAt}
+use Rattle.drain_rules.specs.Rows.{place, HoldAlong, CountsAlong, IsRowFault}
 
 -- how many pass, with one cell more
 count_by-row_cells_more : (p : Cell → Bool) (row cols : ℕ) →
@@ -66,22 +58,4 @@ CountsAlong-more g ps row col here old new is so_far data_cells raised outlets =
       data_cells = omega (arith, one_data, data_here, so_far.data_cells);
       raised = omega (arith, one_raised, raised_here, so_far.raised);
       outlets = omega (arith, one_outlet, outlet_here, so_far.outlets);
-    }
-
--- where the rules hold along the row, what stops a walk at the next cell stops it in the row
-pub IsStopAt-cell : (profile : Profile) (IsOwn : Rule → Type 0) (g : Grid) (ps : Products) (row col : ℕ) (labels : List (ℕ × ℕ)) (p : Patch) (stop : Stop) →
-    IsInside g (place row col) → HoldAlong profile IsOwn g ps row col → AreLabelsBefore g ps (place row col) labels →
-    p ≡ patch_at g ps (place row col) → IsCellStop profile IsOwn labels p stop → IsStopAt profile IsOwn g ps row col stop
-IsStopAt-cell profile IsOwn g ps row col labels p (Fault rule) inside holds before is least =
-    IsRowFault-cell profile IsOwn g ps row col rule inside.col holds
-    (IsLeastFault-cell profile IsOwn g ps labels (place row col) p (Some rule) inside before is least)
-IsStopAt-cell profile IsOwn g ps row col labels p OutOfMemory inside holds before is want =
-    let here : IsOutletByCode (values_at g ps (place row col)) = subst (λ (q : Patch). IsOutletByCode q.here) is want.outlet in
-    record {
-      has_data = record { inside = inside; is_data = here.has_data };
-      code = here.code;
-      is_new = (labelled-HoldsAt profile g ps labels (place row col) SharedLabel inside before).0
-          (λ outlet. subst (λ (q : Patch). ¬ IsAdmitted labels q.here.bas) is want.is_new);
-      holds = HoldAlong-more profile IsOwn g ps row col holds
-          (IsLeastFault-cell profile IsOwn g ps labels (place row col) p None inside before is want.holds);
     }

@@ -4,7 +4,6 @@ use Rattle.std.specs.Prelude.{◌≡◌, ℕ, ℤ, pos, ◌↔◌, IsSome, List}
 use Rattle.drain_basin.specs.Admitted.{IsAdmitted}
 use Rattle.drain_grid.specs.declared.cell.Cell.{Cell}
 use Rattle.drain_grid.specs.declared.rule.Rule.{Rule}
-use Rattle.drain_grid.specs.declared.rule.Rule.TheVariants.{SharedLabel}
 use Rattle.drain_grid.specs.declared.judged.Rules.{Rules}
 use Rattle.drain_grid.specs.RulesAbout.{IsTried, tried}
 use Rattle.drain_grid.specs.Extent.{IsEarlier}
@@ -12,6 +11,7 @@ use Rattle.drain_grid.specs.Values.{Values}
 use Rattle.drain_grid.specs.Grid.{Grid, Products, IsInside, HasData}
 use Rattle.drain_grid.specs.PatchRules.{Profile}
 use Rattle.drain_grid.specs.GridRules.{HoldsAt, SharedLabelHolds}
+use Rattle.drain_rules.specs.Compared.{with_labels}
 
 -- the values of a data cell with code 0
 pub record IsOutletByCode (v : Values) : Type 0 where
@@ -48,7 +48,10 @@ pub record IsLabelBefore (g : Grid) (ps : Products) (place : Cell) (label : ℤ)
 abbrev pub AreLabelsBefore : Grid → Products → Cell → List (ℕ × ℕ) → Type 0
 AreLabelsBefore g ps place labels = (label : ℤ) → IsAdmitted labels label ↔ IsLabelBefore g ps place label
 
+-- an outlet with these values has none of the labels that were admitted
+abbrev pub HasNoLabel : List (ℕ × ℕ) → Values → Type 0
+HasNoLabel labels v = IsOutletByCode v → ¬ IsAdmitted labels v.bas
+
 -- these rules of a patch, and SharedLabel against the labels that were admitted
 abbrev pub labelled_profile : Profile → List (ℕ × ℕ) → Profile
-labelled_profile profile labels p SharedLabel = IsOutletByCode p.here → ¬ IsAdmitted labels p.here.bas
-labelled_profile profile labels p r = profile p r
+labelled_profile profile labels = with_labels (HasNoLabel labels) profile

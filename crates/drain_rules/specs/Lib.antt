@@ -1,10 +1,13 @@
+pub mod AreaOutcomes
+pub mod AreaRows
+pub mod Areas
 pub mod BlankVoids
+pub mod Compared
 pub mod Fill
 pub mod FillVerdicts
 pub mod Filled
-pub mod RowOutcomes
-pub mod Walks
 pub mod KeptRuns
+pub mod LabelLaws
 pub mod Labels
 pub mod LanedRows
 pub mod Laws
@@ -12,7 +15,9 @@ pub mod MarkedRows
 pub mod Parts
 pub mod PatchRows
 pub mod RowNumbers
+pub mod RowOutcomes
 pub mod Rows
 pub mod Stops
 pub mod ThreeRows
 pub mod Verdicts
+pub mod Walks

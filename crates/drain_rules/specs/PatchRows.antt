@@ -1,9 +1,8 @@
 -- What a walk along a row of patches finds, for any grid whose row it is.
-use Rattle.std.specs.Prelude.{◌≡◌, ℕ, ◌<◌, ◌≤◌, List}
+use Rattle.std.specs.Prelude.{◌≡◌, ℕ, ◌<◌, ◌≤◌}
 use Rattle.drain_grid.specs.declared.patch.Patch.{Patch}
 use Rattle.drain_grid.specs.Grid.{Grid, Products, patch_at}
 use Rattle.drain_rules.specs.declared.tally.Tally.{Tally}
-use Rattle.drain_rules.specs.Labels.{AreLabelsBefore}
 use Rattle.drain_rules.specs.Rows.{place}
 
 -- n patches, and they are those of the row's cells
@@ -11,11 +10,6 @@ pub record AreRowPatches (g : Grid) (ps : Products) (row cols : ℕ) (shown : �
   pub inside : row < g.extent.rows
   pub cols_are : cols ≡ g.extent.cols
   pub patches_are : (col : ℕ) → col < cols → shown col ≡ patch_at g ps (place row col)
-
--- this holds of each grid and row whose patches these are, where the labels are those of the outlets in the rows above
-abbrev pub OfRow : ℕ → (ℕ → Patch) → List (ℕ × ℕ) → (Grid → Products → ℕ → Type 0) → Type 0
-OfRow cols shown labels P =
-    (g : Grid) (ps : Products) (row : ℕ) → AreRowPatches g ps row cols shown → AreLabelsBefore g ps (place row 0) labels → P g ps row
 
 -- the counts of n cells
 pub record IsAtMost (cells : ℕ) (tally : Tally) : Type 0 where

@@ -8,11 +8,13 @@
 //! to 9; that these make the filled surface is the law `least_from_rules`.
 #![tactic(auto)]
 
+pub mod area;
 pub mod blank_void;
 pub mod cell_rules;
 pub mod fill_input;
 pub mod fill_walk;
 pub mod kept;
+pub mod labels;
 pub mod laws;
 pub mod marks;
 pub mod outlet;
@@ -28,9 +30,11 @@ pub mod tally;
 pub mod three_rows;
 pub mod walk;
 
+pub use area::Area;
 pub use fill_input::fill_length;
 pub use fill_walk::check_fill;
 pub use kept::Kept;
+pub use labels::Labels;
 pub use patch_row::PatchRow;
 pub use patch_rules::patch_fault;
 pub use raster_walk::{RasterRow, verdict_of};

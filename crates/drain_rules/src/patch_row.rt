@@ -32,21 +32,23 @@ pub trait PatchRow {
     fn cells_above_ground(&self) -> u32
         ensures { (col : ℕ) → col < result → col < len self.now → BelowGroundHolds (shown self.now col) };
 
-    /// How far from a column on every rule that is tried but SharedLabel is found to hold at data cells that are no outlets, and how
-    /// many of them are raised. It may be fewer cells than there are, even none.
-    fn kept_from(&self, rules: &Rules, from: u32) -> Kept
-        requires { from ≤ len self.now }
+    /// How far from a column on, up to another, every rule that is tried but SharedLabel is found to hold at data cells that are no
+    /// outlets, and how many of them are raised. It may be fewer cells than there are, even none.
+    fn kept_from(&self, rules: &Rules, from: u32, end: u32) -> Kept
+        requires before { from ≤ end }
+        requires inside { end ≤ len self.now }
         ensures forward { from ≤ result.end }
-        ensures within { result.end ≤ len self.now }
+        ensures within { result.end ≤ end }
         ensures kept { (col : ℕ) → from ≤ col → col < result.end → IsKept (tried rules.now) (shown self.now col) }
         ensures raised { result.raised ≡ raised_between (shown self.now) from result.end };
 
-    /// A column up to which, from one on, all cells are found to be voids at which no rule that is tried fails. It may be an earlier
-    /// one, even that column.
-    fn voids_until(&self, rules: &Rules, from: u32) -> u32
-        requires { from ≤ len self.now }
+    /// A column, at most `end`, up to which, from one on, all cells are found to be voids at which no rule that is tried fails. It may
+    /// be an earlier one, even that column.
+    fn voids_until(&self, rules: &Rules, from: u32, end: u32) -> u32
+        requires before { from ≤ end }
+        requires inside { end ≤ len self.now }
         ensures forward { from ≤ result }
-        ensures within { result ≤ len self.now }
+        ensures within { result ≤ end }
         ensures right { (col : ℕ) → from ≤ col → col < result → IsRightVoid (tried rules.now) (shown self.now col) };
 
     /// Whether every rule that is tried but SharedLabel is found to hold at a column, because the cell is a right outlet. False shows

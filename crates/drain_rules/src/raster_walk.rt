@@ -97,12 +97,12 @@ impl<'a> PatchRow for RasterRow<'a> {
     }
 
     /// None, likewise.
-    fn kept_from(&self, _rules: &Rules, from: u32) -> Kept {
+    fn kept_from(&self, _rules: &Rules, from: u32, _end: u32) -> Kept {
         Kept::none(from)
     }
 
     /// Likewise.
-    fn voids_until(&self, _rules: &Rules, from: u32) -> u32 {
+    fn voids_until(&self, _rules: &Rules, from: u32, _end: u32) -> u32 {
         from
     }
 

@@ -48,19 +48,18 @@ impl PatchRow for ThreeRows<'_> {
 
     /// Those that the lanes of the three rows clear; none if a row has no lanes, and none of con alone, since lanes clear
     /// no cell without a direction.
-    fn kept_from(&self, rules: &Rules, from: u32) -> Kept {
+    fn kept_from(&self, rules: &Rules, from: u32, end: u32) -> Kept {
         if rules.judged.has_dir() {
-            self.cleared_from(rules, from)
+            self.cleared_from(rules, from, end)
         } else {
             Kept::none(from)
         }
     }
 
     /// As far as judged rasters have their no-data numbers at voids.
-    fn voids_until(&self, rules: &Rules, from: u32) -> u32 {
-        let cols = self.here.cols();
+    fn voids_until(&self, rules: &Rules, from: u32, end: u32) -> u32 {
         let mut col = from;
-        while col < cols && self.is_blank_void_at(rules, col) {
+        while col < end && self.is_blank_void_at(rules, col) {
             col += 1;
         }
         col
@@ -118,10 +117,11 @@ impl ThreeRows<'_> {
     }
 
     /// Those that the lanes clear.
-    fn cleared_from(&self, rules: &Rules, from: u32) -> Kept
-        requires { from ≤ length self.now.here.numbers.z }
+    fn cleared_from(&self, rules: &Rules, from: u32, end: u32) -> Kept
+        requires before { from ≤ end }
+        requires inside { end ≤ length self.now.here.numbers.z }
         ensures forward { from ≤ result.end }
-        ensures within { result.end ≤ length self.now.here.numbers.z }
+        ensures within { result.end ≤ end }
         ensures kept { (col : ℕ) → from ≤ col → col < result.end → IsKept (tried rules.now) (patch_in self.now col) }
         ensures raised { result.raised ≡ raised_between (patch_in self.now) from result.end }
     {
@@ -136,15 +136,15 @@ impl ThreeRows<'_> {
         lanes_show_numbers();
         raised_are_counted();
         let first = from as usize;
-        let end = cleared_until(self, above, here, below, rules, first);
+        let last = cleared_until(self, above, here, below, rules, first, end as usize);
         Kept {
-            end: end as u32,
-            raised: here.raised_between(first, end),
+            end: last as u32,
+            raised: here.raised_between(first, last),
         }
     }
 }
 
-/// How far from a column on the lanes of the three rows clear cells: many at once up to a marked cell or a void, and
+/// How far from a column on, up to another, the lanes of the three rows clear cells: many at once up to a marked cell or a void, and
 /// one by one those that lie on their ground and fall, whatever is beside them.
 fn cleared_until(
     rows: &ThreeRows<'_>,
@@ -153,26 +153,27 @@ fn cleared_until(
     below: &Lanes,
     rules: &Rules,
     from: usize,
+    end: usize,
 ) -> usize
     requires above_lanes { AreLanesOf above.now rows.now.above.numbers.z rows.now.above.numbers.products }
     requires here_lanes { AreLanesOf here.now rows.now.here.numbers.z rows.now.here.numbers.products }
     requires below_lanes { AreLanesOf below.now rows.now.below.numbers.z rows.now.below.numbers.products }
-    requires inside { from ≤ length rows.now.here.numbers.z }
+    requires before { from ≤ end }
+    requires inside { end ≤ length rows.now.here.numbers.z }
     ensures forward { from ≤ result }
-    ensures within { result ≤ length rows.now.here.numbers.z }
+    ensures within { result ≤ end }
     ensures kept { (col : ℕ) → from ≤ col → col < result → IsKept (tried rules.now) (patch_in rows.now col) }
 {
     // The law on what lanes show.
     lanes_show_numbers();
-    let cols = here.cols();
     let mut col = from;
-    while col < cols {
-        let until = rows.here.unmarked_until(col);
-        let end = kept_until(above, here, below, rules, col, until);
-        if !falls_at(above, here, below, rules, end) {
-            return end;
+    while col < end {
+        let until = rows.here.unmarked_until(col).min(end);
+        let stop = kept_until(above, here, below, rules, col, until);
+        if stop == end || !falls_at(above, here, below, rules, stop) {
+            return stop;
         }
-        col = end + 1;
+        col = stop + 1;
     }
     col
 }

@@ -1,5 +1,7 @@
+pub mod JudgedWindows
+pub mod SeamCells
 pub mod SinkLists
 pub mod WindowCounts
 pub mod WindowReports
-pub mod WindowVerdicts
 pub mod WindowUses
+pub mod WindowVerdicts

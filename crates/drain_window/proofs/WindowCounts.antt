@@ -16,7 +16,8 @@ use Rattle.drain_union.specs.Cuts.{window_at}
 use Rattle.drain_union.specs.JudgedCounts.{AreCountsInside, judged_cells, ring}
 use Rattle.drain_union.specs.Windows.{in_union}
 use Rattle.drain_union.proofs.JudgedCounts.{by_rows, sum_by_map, sum_by_flat_map}
-use Rattle.drain_window_walk.specs.Areas.{cells_in, CountsAmong, judged_area, row_cells_in}
+use Rattle.drain_rules.specs.Areas.{CountsAmong}
+use Rattle.drain_window.specs.JudgedAreas.{cells_in, judged_area, row_cells_of}
 
 sum_shift : (f : ℕ → ℕ) (t b n : ℕ) → sum_by f (range_with_len (t + b) n) ≡ sum_by (λ k. f (t + k)) (range_with_len b n)
 sum_shift f t b zero = refl
@@ -37,8 +38,8 @@ area_sum f p =
     let a = judged_area p in
     let rows = range_with_len a.top (a.bottom - a.top) in
     let cols = range_with_len a.left (a.right - a.left) in
-    sum_by_flat_map f (row_cells_in a) rows
-    ∙ sum_by_same (λ r. sum_by f (row_cells_in a r)) (λ r. sum_by (λ k. f (place r k)) cols) rows (λ r. sum_by_map f (place r) cols)
+    sum_by_flat_map f (row_cells_of a) rows
+    ∙ sum_by_same (λ r. sum_by f (row_cells_of a r)) (λ r. sum_by (λ k. f (place r k)) cols) rows (λ r. sum_by_map f (place r) cols)
     ∙ sum_along (λ r. sum_by (λ k. f (place r k)) cols) p.top (ring p.inner.north) (ring p.inner.south) p.extent.rows
     ∙ sum_by_same (λ r. sum_by (λ k. f (place (p.top + r) k)) cols)
     (λ r. sum_by (λ k. f (place (p.top + r) (p.left + k))) (range_with_len (ring p.inner.west) (p.extent.cols - ring p.inner.west - ring p.inner.east)))

@@ -9,6 +9,7 @@ use Rattle.drain_grid.specs.Unranked.{unranked}
 use Rattle.drain_grid.proofs.Neighbors.{same_place}
 use Rattle.drain_grid.specs.Values.{NoDataNumbers}
 use Rattle.drain_grid.specs.declared.judged.Judged.TheVariants.{All}
+use Rattle.drain_grid.specs.Rule.{IsPatchRule}
 use Rattle.drain_rules.specs.declared.row_outcome.RowOutcome.TheVariants.{Sound, Faulty}
 use Rattle.drain_rules.specs.declared.tally.Tally.{Tally}
 use Rattle.drain_union.specs.declared.outlet.Outlet.{Outlet}
@@ -21,15 +22,17 @@ use Rattle.drain_union.specs.NoData.{audited}
 use Rattle.drain_union.specs.Outlets.{IsSortedByLabel, ListsOutlets}
 use Rattle.drain_union.specs.Reports.{IsReportOf, ListsSeams, ListsSinks}
 use Rattle.drain_union.specs.Windows.{moved, IsFirstInside, IsPlaceIn, RulesHoldInside}
-use Rattle.drain_window_walk.specs.Areas.{judged_area}
-use Rattle.drain_window_walk.specs.JudgedAreas.{IsJudgedOutcome}
-use Rattle.drain_window_walk.specs.Laws.{IsOfWindow, ListsJudged, WalkJudgesWindow, WalkListsSeams}
-use Rattle.drain_window_walk.specs.SeamRows.{ListsSeamsAbove}
-use Rattle.drain_window_walk.specs.SeamWalks.{IsSeamWalkOf}
-use Rattle.drain_window_walk.specs.WindowWalks.{IsWindowWalkOf}
-use Rattle.drain_window_walk.specs.declared.area.Area.{Area}
-use Rattle.drain_window_walk.specs.declared.seam_walk.SeamWalk.{SeamWalk}
-use Rattle.drain_window_walk.specs.declared.window_walk.WindowWalk.{WindowWalk}
+use Rattle.drain_rules.specs.declared.area.Area.{Area}
+use Rattle.drain_rules.specs.declared.walk.Walk.{Walk}
+use Rattle.drain_rules.specs.AreaOutcomes.{IsAreaOutcome}
+use Rattle.drain_rules.specs.Rows.{place}
+use Rattle.drain_window.specs.JudgedAreas.{AreListed, judged_area}
+use Rattle.drain_window.specs.Laws.{IsOfWindow, ListsJudged, WalkJudgesWindow, WalkListsSeams}
+use Rattle.drain_window.specs.SeamRows.{ListsSeamsAbove}
+use Rattle.drain_window.specs.SeamWalks.{IsSeamWalkOf}
+use Rattle.drain_window.specs.WindowWalks.{IsWindowWalkOf}
+use Rattle.drain_window.specs.declared.listed_outlets.ListedOutlets.{ListedOutlets}
+use Rattle.drain_window.specs.declared.seam_walk.SeamWalk.{SeamWalk}
 use Rattle.drain_window.specs.WindowNotes.{AreOfWindow}
 
 -- a sorted list of the same outlets is that of the window
@@ -41,27 +44,23 @@ listed nodata origin p g ps outlets sorted rise moves lists = record {
   complete = λ c outlet. Contains-permutation outlets sorted _ moves (lists.complete c outlet);
 }
 
-module _ (judges : WalkJudgesWindow) (lists : WalkListsSeams) (nodata : NoDataNumbers) (origin : Cell) (p : Place) (g : Grid) (ps : Products) (walk : WindowWalk) (seams : SeamWalk)
-    (of : AreOfWindow p origin walk seams) (placed : IsPlaceIn g.extent p) (some : 0 < g.extent.rows)
-    (walked : IsWindowWalkOf (record { nodata = nodata; judged = All }) g ps g.extent.rows walk) (listed_seams : IsSeamWalkOf g ps g.extent.rows seams) where
-  pub nodata_is : walk.nodata ≡ nodata
-  nodata_is = walked.nodata_is some
+module _ (judges : WalkJudgesWindow) (lists : WalkListsSeams) (nodata : NoDataNumbers) (origin : Cell) (p : Place) (g : Grid) (ps : Products) (walk : Walk ListedOutlets) (seams : SeamWalk)
+    (of : AreOfWindow p origin walk.labels seams) (placed : IsPlaceIn g.extent p) (some : 0 < g.extent.rows)
+    (walked : IsWindowWalkOf nodata g ps g.extent.rows walk) (listed_seams : IsSeamWalkOf (record { nodata = nodata; judged = All }) g ps g.extent.rows seams) where
+  pub nodata_is : seams.nodata ≡ nodata
+  nodata_is = listed_seams.nodata_is some
 
-  -- the grid is wide enough for the area
-  wide : walk.area.right ≤ g.extent.cols
-  wide =
-      let right : walk.area.right ≡ (judged_area p).right = ap (λ (a : Area). a.right) of.area in
-      let fits : p.left + p.extent.cols ≤ g.extent.cols = placed.cols in
-      omega (arith, right)
+  -- of the judged area, so many rows and this origin
+  abbrev IsFound : Area → Cell → ℕ → Type 0
+  IsFound a o rows = IsAreaOutcome (unranked nodata) IsPatchRule a g ps rows (AreListed a o g ps (place rows 0) walk.labels.outlets.items) walk.outcome
 
-  outcome_is : IsJudgedOutcome (unranked nodata) (judged_area p) origin g ps g.extent.rows walk.outlets.items walk.outcome
+  outcome_is : IsAreaOutcome (unranked nodata) IsPatchRule (judged_area p) g ps g.extent.rows (AreListed (judged_area p) origin g ps (place g.extent.rows 0) walk.labels.outlets.items) walk.outcome
   outcome_is =
-      subst (λ n. IsJudgedOutcome (unranked nodata) (judged_area p) origin g ps n walk.outlets.items walk.outcome) walked.rows_are
-      (subst (λ o. IsJudgedOutcome (unranked nodata) (judged_area p) o g ps walk.rows walk.outlets.items walk.outcome) of.walk_origin
-      (subst (λ a. IsJudgedOutcome (unranked nodata) a walk.origin g ps walk.rows walk.outlets.items walk.outcome) of.area (walked.right wide)))
+      subst (IsFound (judged_area p) origin) walked.rows_are
+      (subst (λ o. IsFound (judged_area p) o walk.rows) of.list_origin (subst (λ a. IsFound a walk.labels.origin walk.rows) of.area walked.right))
 
-  pub of_window : IsOfWindow nodata origin p g ps walk.outlets.items walk.outcome
-  of_window = judges nodata origin p g ps walk.outlets.items walk.outcome placed outcome_is
+  pub of_window : IsOfWindow nodata origin p g ps walk.labels.outlets.items walk.outcome
+  of_window = judges nodata origin p g ps walk.labels.outlets.items walk.outcome placed outcome_is
 
   pub seams_are : ListsSeams SEAM_DEPTH (window_at origin p g ps) seams.seams.items
   seams_are =

@@ -7,22 +7,25 @@ ghost use Rattle.drain_grid.specs.Values.{NoDataNumbers};
 ghost use Rattle.drain_grid.specs.declared.judged.Judged.TheVariants.{All};
 ghost use Rattle.drain_window.specs.WindowAnswers.{IsAnswerOn};
 ghost use Rattle.drain_window.specs.WindowNotes.{AreOfWindow};
-ghost use Rattle.drain_window_walk.specs.SeamRows.{EndsInRange, IsOrigin};
-ghost use Rattle.drain_window_walk.specs.SeamWalks.{IsSeamWalkOf};
-ghost use Rattle.drain_window_walk.specs.WindowWalks.{IsWindowWalkOf};
+ghost use Rattle.drain_window.specs.SeamRows.{EndsInRange, IsOrigin};
+ghost use Rattle.drain_window.specs.SeamWalks.{IsSeamWalkOf};
+ghost use Rattle.drain_window.specs.WindowWalks.{IsWindowWalkOf};
 ghost use Rattle.drain_union.specs.Cuts.{window_at};
 ghost use Rattle.drain_union.specs.Outlets.{IsSortedByLabel};
 ghost use Rattle.drain_union.specs.Reports.{ListsSinks};
 ghost use Rattle.drain_union.specs.Verdicts.{Agree};
 ghost use Rattle.drain_union.specs.Windows.{IsPlaceIn};
 
+use crate::judged_area::judged_area;
+use crate::laws::{walk_judges_window, walk_lists_seams};
+use crate::listed_outlets::ListedOutlets;
+use crate::seam_walk::SeamWalk;
 use drain_grid::{Cell, Counts, Verdict};
 use drain_rules::row_outcome::RowOutcome;
 use drain_rules::tally::Tally;
+use drain_rules::{Area, Walk};
 use drain_union::laws::four_numbers;
 use drain_union::{AuditNoData, Outlet, Place, Report, sort_by_label};
-use drain_window_walk::laws::{walk_judges_window, walk_lists_seams};
-use drain_window_walk::{Area, SeamWalk, WindowWalk};
 use std::alloc::Global;
 
 /// The verdict and the report from the notes of all rows of a grid, for the window at this place of it, and the listed
@@ -31,7 +34,7 @@ pub(crate) fn answered(
     alloc: Global,
     place: &Place,
     origin: Cell,
-    walk: WindowWalk,
+    walk: Walk<ListedOutlets>,
     seams: SeamWalk,
     sinks: Vec<Cell>,
 ) -> Option<(Verdict, Report)>
@@ -39,18 +42,18 @@ pub(crate) fn answered(
     requires moved { IsOrigin origin }
     ensures agree { IfSome result (λ a. Agree a.0 a.1) }
     ensures answer { IfSome result (λ a. (nodata : NoDataNumbers) (g : Grid) (ps : Products) → IsPlaceIn g.extent place.now → 0 < g.extent.rows
-        → IsWindowWalkOf (record { nodata = nodata; judged = All }) g ps g.extent.rows walk → IsSeamWalkOf g ps g.extent.rows seams → ListsSinks (window_at origin place.now g ps) sinks.items → IsAnswerOn nodata origin place.now g ps a.0 a.1) }
+        → IsWindowWalkOf nodata g ps g.extent.rows walk → IsSeamWalkOf (record { nodata = nodata; judged = All }) g ps g.extent.rows seams → ListsSinks (window_at origin place.now g ps) sinks.items → IsAnswerOn nodata origin place.now g ps a.0 a.1) }
 {
     // The laws on what the notes say of the window.
     walk_judges_window();
     walk_lists_seams();
     // The law that the rules look at the four no-data numbers of a report.
     four_numbers();
-    if !are_of(place, origin, &walk, &seams) {
+    if !are_of(place, origin, &walk.labels, &seams) {
         return None;
     }
     let at = place.moved(origin);
-    let nodata = AuditNoData::of(walk.nodata);
+    let nodata = AuditNoData::of(seams.nodata);
     match walk.outcome {
         RowOutcome::Sound(total) => Some((
             Verdict::Accepted(counts_of(place, &total)),
@@ -58,7 +61,7 @@ pub(crate) fn answered(
                 place: at,
                 nodata,
                 holds: true,
-                outlets: sorted(walk.outlets),
+                outlets: sorted(walk.labels.outlets),
                 seams: seams.seams,
                 sinks,
             },
@@ -99,15 +102,15 @@ fn counts_of(place: &Place, total: &Tally) -> Counts
 }
 
 /// Whether the notes are of the window at this place.
-fn are_of(place: &Place, origin: Cell, walk: &WindowWalk, seams: &SeamWalk) -> bool
+fn are_of(place: &Place, origin: Cell, listed: &ListedOutlets, seams: &SeamWalk) -> bool
     requires { EndsInRange place.now }
-    ensures { IsTrue result → AreOfWindow place.now origin walk.now seams.now }
+    ensures { IsTrue result → AreOfWindow place.now origin listed.now seams.now }
 {
-    let area = Area::judged_in(place);
-    if !same_area(&walk.area, &area) {
+    let area = judged_area(place);
+    if !same_area(&listed.area, &area) {
         return false;
     }
-    if !same_cell(walk.origin, origin) {
+    if !same_cell(listed.origin, origin) {
         return false;
     }
     if !same_place(&seams.place, place) {

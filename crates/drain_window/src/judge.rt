@@ -15,22 +15,25 @@ ghost use Rattle.drain_verdict.specs.Uses.{AuditUses};
 ghost use Rattle.drain_window.specs.WindowAnswers.{as_refused, IfRejected, IsPlacedAnswer, IsWindowAnswer, IsWithTiles, window_of};
 
 use crate::answered::answered;
+use crate::judged_area::judged_area;
 use crate::judged_sinks::judged_sinks;
+use crate::listed_outlets::ListedOutlets;
 use crate::map_origin::map_origin;
+use crate::seam_walk::SeamWalk;
 use crate::tile_names::tile_names;
 use crate::window_answer::WindowRefusal;
-use drain_grid::{Judged, Verdict};
 use drain_answer::Refusal;
 use drain_device::ByteSource;
+use drain_grid::{Judged, Verdict};
 use drain_hgt::TileInput;
 use drain_hgt::laws::one_name;
 use drain_mosaic::Layout;
 use drain_rows::BothVisitors;
-use drain_union::{Place, Report, WindowReport};
+use drain_rules::Walk;
 use drain_verdict::AuditProducts;
 use drain_verdict::layout::layout_of;
 use drain_verdict::read_inputs::read_inputs;
-use drain_window_walk::{Area, SeamWalk, WindowWalk};
+use drain_union::{Place, Report, WindowReport};
 use std::alloc::Global;
 
 /// Whether the rules hold at the judged cells of one window, with its report; or why that isn't answered.
@@ -133,7 +136,7 @@ fn answer_at<R: ByteSource>(
     let origin = map_origin(layout);
     let mut notes = BothVisitors {
         first: SeamWalk::new(alloc, *place, origin),
-        second: WindowWalk::new(alloc, Area::judged_in(place), origin),
+        second: Walk::begin(ListedOutlets::new(alloc, judged_area(place), origin)),
     };
     read_inputs(
         alloc,

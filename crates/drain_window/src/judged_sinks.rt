@@ -6,7 +6,7 @@ ghost use Rattle.drain_grid.specs.SinkLines.{is_listed};
 ghost use Rattle.drain_grid.specs.SinkTexts.{sinks_of};
 ghost use Rattle.drain_verdict.specs.Meaning.{lines_in};
 ghost use Rattle.drain_window.specs.JudgedSinks.{AreLinesInside, union_cell};
-ghost use Rattle.drain_window_walk.specs.SeamRows.{EndsInRange, IsOrigin};
+ghost use Rattle.drain_window.specs.SeamRows.{EndsInRange, IsOrigin};
 ghost use Rattle.drain_union.specs.Cuts.{window_at};
 ghost use Rattle.drain_union.specs.Judged.{IsJudgedAt};
 ghost use Rattle.drain_union.specs.Reports.{ListsSinks};

@@ -4,7 +4,7 @@ ghost use Rattle.std.specs.Prelude.{◌≡◌, ◌≤◌, ◌*◌, ◌-◌, ◌-
 ghost use Rattle.drain_grid.specs.Tile.{IsSide};
 ghost use Rattle.drain_hgt.specs.declared.name.TheConstants.{HALF_TURN};
 ghost use Rattle.drain_window.specs.MapOrigins.{map_origin};
-ghost use Rattle.drain_window_walk.specs.SeamRows.{IsOrigin};
+ghost use Rattle.drain_window.specs.SeamRows.{IsOrigin};
 
 use drain_grid::Cell;
 use drain_hgt::name::{HALF_TURN, POLE};

@@ -1,11 +1,11 @@
 use Rattle.std.proofs.Common.{◌≡◌}
 use Rattle.drain_grid.specs.WholeGrid.{grid_of, products_of}
-use Rattle.drain_rules.specs.Walks.{IsRightOf}
+use Rattle.drain_rules.specs.Walks.{IsRightOfAll}
 use Rattle.drain_rules.proofs.raster_walk.walk.Given as goal
 
 -- the rows that were passed were checked, and what was found is right of them
 abbrev pub invariant-loop-row : goal.invariant-loop-row
 invariant-loop-row l = record {
   counted : l.walk.rows ≡ l.row;
-  right : IsRightOf l.rules (grid_of l.elevation l.sinks) (products_of l.products) l.walk;
+  right : IsRightOfAll l.rules (grid_of l.elevation l.sinks) (products_of l.products) l.walk.rows l.walk.labels l.walk.outcome;
 }

@@ -1,18 +1,24 @@
-use Rattle.std.proofs.Common.{ℕ, ◌-◌, ◌≤◌}
+use Rattle.std.proofs.Common.{◌≡◌, ℕ, ◌-◌, ◌≤◌, min}
 use Rattle.drain_grid.specs.Grid.{Grid, Products}
-use Rattle.drain_rules.specs.PatchRows.{IsAtMost, OfRow}
-use Rattle.drain_grid.specs.RulesAbout.{IsTried, tried}
+use Rattle.drain_grid.specs.RulesAbout.{tried}
+use Rattle.drain_rules.specs.AreaRows.{OfAreaRow}
+use Rattle.drain_rules.specs.Compared.{IsTriedIf}
+use Rattle.drain_rules.specs.PatchRows.{IsAtMost}
+use Rattle.drain_rules.specs.Rows.{place}
 use Rattle.drain_rules.proofs.PassedCells.{IsPassed}
 use Rattle.drain_rules.proofs.row_walk.check_row.Given as goal
 
--- the cells that were passed keep the rules, are counted, and their outlets' labels are admitted
+-- the cells that were passed keep the rules, are counted, and their outlets are kept
 abbrev pub invariant-loop-col : goal.invariant-loop-col
 invariant-loop-col g l = record {
-  within : l.col ≤ g.R.PatchRow.len l.row;
-  passed : OfRow (g.R.PatchRow.len l.row) (g.R.PatchRow.shown l.row) l.fn.labels
-      (λ (grid : Grid) (ps : Products) (row : ℕ). IsPassed (tried l.rules) (IsTried l.rules.judged) grid ps row l.col l.tally l.labels);
+  past : min (g.L.Labels.judges l.fn.labels).left l.end ≤ l.col;
+  within : l.col ≤ l.end;
+  passed : OfAreaRow l.row (g.R.PatchRow.len l.patches) (g.R.PatchRow.shown l.patches) (λ (grid : Grid) (ps : Products). g.L.Labels.are_before grid ps (place l.row 0) l.fn.labels)
+      (λ (grid : Grid) (ps : Products). IsPassed (tried l.rules) (IsTriedIf g.L.Labels.compares l.rules.judged) grid ps l.row (min (g.L.Labels.judges l.fn.labels).left l.end) l.col l.tally
+      × g.L.Labels.are_before grid ps (place l.row l.col) l.labels);
+  judges : g.L.Labels.judges l.labels ≡ g.L.Labels.judges l.fn.labels;
   bounds : IsAtMost l.col l.tally;
 }
 
 abbrev pub decreases-loop-col : goal.decreases-loop-col
-decreases-loop-col g l = g.R.PatchRow.len l.row - l.col
+decreases-loop-col g l = l.end - l.col

@@ -17,33 +17,33 @@ joined profile shown from middle end before after k past less = elim (cases_lt k
 ]
 
 -- the run that is cleared at once
-pub returns-then-not-falls_at-clause-kept : goal.returns-then-not-falls_at-clause-kept
-returns-then-not-falls_at-clause-kept c =
+pub returns-then-stop-end-clause-kept : goal.returns-then-stop-end-clause-kept
+returns-then-stop-end-clause-kept c =
     let rows = c.args.rows.now in
-    let end = c.kept_until-end.ensures in
-    joined (tried c.args.rules.now) (patch_in rows) c.args.from c.loop-col.col c.kept_until-end.result c.loop-col.invariant.kept
-    (λ k past less. end.kept k past less (patch_in rows k)
+    let stop = c.kept_until-stop.ensures in
+    joined (tried c.args.rules.now) (patch_in rows) c.args.from c.loop-col.col c.kept_until-stop.result c.loop-col.invariant.kept
+    (λ k past less. stop.kept k past less (patch_in rows k)
     (patch_shown c.lanes_show_numbers.ensures rows c.args.above.now c.args.here.now c.args.below.now c.requires.above_lanes c.requires.here_lanes c.requires.below_lanes k
-    (end.inner k past less) (c.unmarked_until-until.ensures.unmarked k past (omega (arith, less, end.within)))))
+    (stop.inner k past less) (c.unmarked_until.ensures.unmarked k past (omega (arith, less, stop.within, c.min-until.ensures)))))
 
 -- and the cell after it, if it falls
 pub loop-col-preserved : goal.loop-col-preserved
 loop-col-preserved c =
     let rows = c.args.rows.now in
-    let end = c.kept_until-end.ensures in
+    let stop = c.kept_until-stop.ensures in
     let inner = c.falls_at.ensures.inner c.if-not-falls_at.false in
-    let one = c.falls_at.ensures.kept c.if-not-falls_at.false (patch_in rows c.kept_until-end.result)
+    let one = c.falls_at.ensures.kept c.if-not-falls_at.false (patch_in rows c.kept_until-stop.result)
     (patch_shown_round c.lanes_show_numbers.ensures rows c.args.above.now c.args.here.now c.args.below.now c.requires.above_lanes c.requires.here_lanes c.requires.below_lanes
-    c.kept_until-end.result inner) in
+    c.kept_until-stop.result inner) in
     record {
-      forward = omega (arith, c.loop-col.invariant.forward, end.forward);
+      forward = omega (arith, c.loop-col.invariant.forward, stop.forward);
       within = omega (arith, inner.here_right);
       kept = λ k past less.
-          below_more (λ (n : ℕ). c.args.from ≤ n → IsKept (tried c.args.rules.now) (patch_in rows n)) c.kept_until-end.result
+          below_more (λ (n : ℕ). c.args.from ≤ n → IsKept (tried c.args.rules.now) (patch_in rows n)) c.kept_until-stop.result
           (λ n earlier from.
-          joined (tried c.args.rules.now) (patch_in rows) c.args.from c.loop-col.col c.kept_until-end.result c.loop-col.invariant.kept
-          (λ m past less. end.kept m past less (patch_in rows m)
+          joined (tried c.args.rules.now) (patch_in rows) c.args.from c.loop-col.col c.kept_until-stop.result c.loop-col.invariant.kept
+          (λ m past less. stop.kept m past less (patch_in rows m)
           (patch_shown c.lanes_show_numbers.ensures rows c.args.above.now c.args.here.now c.args.below.now c.requires.above_lanes c.requires.here_lanes c.requires.below_lanes m
-          (end.inner m past less) (c.unmarked_until-until.ensures.unmarked m past (omega (arith, less, end.within))))) n from earlier)
+          (stop.inner m past less) (c.unmarked_until.ensures.unmarked m past (omega (arith, less, stop.within, c.min-until.ensures))))) n from earlier)
           (λ from. one) k less past;
     }

@@ -8,9 +8,9 @@ use Rattle.drain_rules.proofs.three_rows.cleared_until.Given as goal
 abbrev pub invariant-loop-col : goal.invariant-loop-col
 invariant-loop-col l = record {
   forward : l.from ≤ l.col;
-  within : l.col ≤ l.cols;
+  within : l.col ≤ l.end;
   kept : (k : ℕ) → l.from ≤ k → k < l.col → IsKept (tried l.rules) (patch_in l.rows k);
 }
 
 abbrev pub decreases-loop-col : goal.decreases-loop-col
-decreases-loop-col l = l.cols - l.col
+decreases-loop-col l = l.end - l.col

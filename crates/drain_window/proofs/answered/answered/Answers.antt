@@ -28,7 +28,7 @@ returns-in-Sound-clause-answer c = λ nodata g ps placed some walked listed sink
         seams = c.args.seams.seams.items;
         sinks = c.args.sinks.items;
       })) (sym c.moved-at.ensures)
-          (report_sound nodata c.of-nodata.result c.args.origin p g ps c.args.walk.outlets.items c.sorted.result.items c.args.seams.seams.items c.args.sinks.items c.in-Sound.total four at found
+          (report_sound nodata c.of-nodata.result c.args.origin p g ps c.args.walk.labels.outlets.items c.sorted.result.items c.args.seams.seams.items c.args.sinks.items c.in-Sound.total four at found
           c.sorted.ensures.sorted c.sorted.ensures.permutation (seams_are judges lists nodata c.args.origin p g ps c.args.walk c.args.seams of placed some walked listed) sinks);
       verdict = (
         found.0,
@@ -55,8 +55,8 @@ returns-in-Faulty-clause-answer c = λ nodata g ps placed some walked listed sin
         seams = c.new-in-Faulty.result.items;
         sinks = c.new-in-Faulty-2.result.items;
       })) (sym c.moved-at.ensures)
-          (report_faulty nodata c.of-nodata.result c.args.origin p g ps c.args.walk.outlets.items c.in-Faulty.cell c.in-Faulty.rule c.new.result.items
+          (report_faulty nodata c.of-nodata.result c.args.origin p g ps c.args.walk.labels.outlets.items c.in-Faulty.cell c.in-Faulty.rule c.new.result.items
           c.new-in-Faulty.result.items c.new-in-Faulty-2.result.items four at found);
-      verdict = fault_in_window nodata c.args.origin p g ps c.args.walk.outlets.items c.in-Faulty.cell c.in-Faulty.rule c.saturating_sub.result
+      verdict = fault_in_window nodata c.args.origin p g ps c.args.walk.labels.outlets.items c.in-Faulty.cell c.in-Faulty.rule c.saturating_sub.result
           c.saturating_sub-in-Faulty.result c.saturating_sub.ensures c.saturating_sub-in-Faulty.ensures found;
     }

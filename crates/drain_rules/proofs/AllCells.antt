@@ -1,0 +1,80 @@
+-- Where all cells are judged, what is found of them is so of the grid.
+use Rattle.std.proofs.Common.{◌≡◌, ℕ, ◌+◌, ◌-◌, ◌<◌, ◌≤◌, min, inl, inr, Bool, true, false, IsTrue, List, map, refl, sym, ◌∙◌, subst, arith}
+use Rattle.std.specs.List.{flat_map, range_with_len}
+use Rattle.drain_grid.specs.declared.cell.Cell.{Cell}
+use Rattle.drain_grid.specs.declared.cell.TheConstants.{MAX_LENGTH}
+use Rattle.drain_grid.specs.declared.judged.Rules.{Rules}
+use Rattle.drain_grid.specs.declared.rule.Rule.{Rule}
+use Rattle.drain_grid.specs.Extent.{IsEarlier, cells}
+use Rattle.drain_grid.specs.Grid.{Grid, Products, IsInside}
+use Rattle.drain_grid.specs.GridRules.{HoldsAt, IsFirstFault, RulesHold}
+use Rattle.drain_grid.specs.PatchRules.{Profile}
+use Rattle.drain_grid.specs.RulesAbout.{IsTried, tried}
+use Rattle.drain_rules.specs.declared.area.Area.{Area}
+use Rattle.drain_rules.specs.declared.tally.Tally.{Tally}
+use Rattle.drain_rules.specs.AreaOutcomes.{AreSound}
+use Rattle.drain_rules.specs.AreaRows.{IsNewLabelBetween}
+use Rattle.drain_rules.specs.Areas.{CountsAmong, HasCell, HasRow, IsFirstAmong, everywhere}
+use Rattle.drain_rules.specs.Compared.{IfCompared, IsTriedIf}
+use Rattle.drain_rules.specs.Labels.{HasNewLabel}
+use Rattle.drain_rules.specs.Rows.{place}
+
+-- a cell of a small grid is judged
+in_everywhere : (c : Cell) → c.row ≤ MAX_LENGTH → c.col ≤ MAX_LENGTH → HasCell everywhere c
+in_everywhere c few narrow = record { top = omega arith; bottom = omega (arith, few); left = omega arith; right = omega (arith, narrow) }
+
+module _ (profile : Profile) (IsOwn : Rule → Type 0) (g : Grid) (ps : Products) (few : g.extent.rows ≤ MAX_LENGTH) (narrow : g.extent.cols ≤ MAX_LENGTH) where
+  judged : (c : Cell) → IsInside g c → HasCell everywhere c
+  judged c inside = in_everywhere c (omega (arith, inside.row, few)) (omega (arith, inside.col, narrow))
+
+  -- rules that hold at all judged cells hold
+  pub all-hold : (Kept : Type 0) (tally : Tally) → AreSound profile IsOwn everywhere g ps g.extent.rows Kept tally → RulesHold profile IsOwn g ps
+  all-hold Kept tally sound c r inside own = sound.holds c r (record { inside = judged c inside; in_row = inside.col; above = inside.row }) own
+
+  -- their counts are those of the grid
+  pub all-counted : (Kept : Type 0) (tally : Tally) → AreSound profile IsOwn everywhere g ps g.extent.rows Kept tally → CountsAmong g ps (cells g.extent) tally
+  all-counted Kept tally sound =
+      let rows : min g.extent.rows 4294967295 - 0 ≡ g.extent.rows = omega (arith, few) in
+      let cols : min 4294967295 g.extent.cols - 0 ≡ g.extent.cols = omega (arith, narrow) in
+      let by_cols : CountsAmong g ps (flat_map (λ row. map (place row) (range_with_len 0 g.extent.cols)) (range_with_len 0 (min g.extent.rows 4294967295 - 0))) tally =
+      subst (λ n. CountsAmong g ps (flat_map (λ row. map (place row) (range_with_len 0 n)) (range_with_len 0 (min g.extent.rows 4294967295 - 0))) tally) cols sound.counted in
+      subst (λ n. CountsAmong g ps (flat_map (λ row. map (place row) (range_with_len 0 g.extent.cols)) (range_with_len 0 n)) tally) rows by_cols
+
+  -- and so is the first fault
+  pub all-first : (c : Cell) (r : Rule) → IsFirstAmong profile IsOwn everywhere g ps c r → IsFirstFault profile IsOwn g ps c r
+  all-first c r first = record {
+    inside = first.in_grid;
+    is_own = first.is_own;
+    fails = first.fails;
+    first = λ b q inside own earlier. first.first b q (judged b inside) inside own earlier;
+  }
+
+-- a new label of a row below sound ones is one of the grid
+new_label : (rules : Rules) (g : Grid) (ps : Products) (row col : ℕ) (Kept : Type 0) (tally : Tally) → row < MAX_LENGTH → g.extent.cols ≤ MAX_LENGTH →
+    AreSound (tried rules) (IsTried rules.judged) everywhere g ps row Kept tally → IsNewLabelBetween (tried rules) (IsTried rules.judged) everywhere g ps row col → HasNewLabel rules g ps
+new_label rules g ps row col Kept tally few narrow sound along = (
+  place row col,
+  record {
+    has_data = along.outlet.has_data;
+    code = along.outlet.code;
+    is_new = along.is_new;
+    here = λ rule own. along.holds col rule (omega arith) (omega arith) own;
+    before = before;
+  },
+)
+  where
+    before : (b : Cell) (rule : Rule) → IsInside g b → IsEarlier b (place row col) → IsTried rules.judged rule → HoldsAt (tried rules) g ps b rule
+    before b rule in_grid (inl north) own =
+        sound.holds b rule (record { inside = in_everywhere b (omega (arith, north, few)) (omega (arith, in_grid.col, narrow)); in_row = in_grid.col; above = north }) own
+    before b rule in_grid (inr west) own =
+        subst (λ r. HoldsAt (tried rules) g ps (place r b.col) rule) (sym west.0) (along.holds b.col rule (omega arith) (omega (arith, west.1)) own)
+
+-- where labels are compared
+pub new_label-row : (compares : Bool) (rules : Rules) (a : Area) (g : Grid) (ps : Products) (row col : ℕ) (Kept : Type 0) (tally : Tally) → (IsTrue compares → a ≡ everywhere) →
+    row < MAX_LENGTH → g.extent.cols ≤ MAX_LENGTH → AreSound (tried rules) (IsTriedIf compares rules.judged) a g ps row Kept tally →
+    IfCompared compares (IsNewLabelBetween (tried rules) (IsTriedIf compares rules.judged) a g ps row col) → IfCompared compares (HasNewLabel rules g ps)
+new_label-row true rules a g ps row col Kept tally all few narrow sound along =
+    new_label rules g ps row col Kept tally few narrow
+    (subst (λ b. AreSound (tried rules) (IsTried rules.judged) b g ps row Kept tally) (all refl) sound)
+    (subst (λ b. IsNewLabelBetween (tried rules) (IsTried rules.judged) b g ps row col) (all refl) along)
+new_label-row false rules a g ps row col Kept tally all few narrow sound along = tt

@@ -1,0 +1,6 @@
+-- The law is a lemma.
+use Rattle.drain_window.proofs.JudgedWindows as lemmas
+use Rattle.drain_window.proofs.laws.walk_lists_seams.Goals as goal
+
+pub returns : goal.returns
+returns c = lemmas.walk_lists_seams

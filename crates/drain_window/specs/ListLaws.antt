@@ -1,0 +1,95 @@
+-- What listed outlets say, as the place goes on in row order. The laws are this project's own.
+use Rattle.std.proofs.Common.{◌≡◌, ℕ, ◌+◌, ◌≤◌, ◌↔◌, ◌⊎◌, inl, inr, [], List, false, IsTrue, refl, sym, ◌∙◌, ap, subst, arith}
+use Rattle.std.specs.List.{Contains}
+use Rattle.drain_grid.specs.declared.cell.Cell.{Cell}
+use Rattle.drain_grid.specs.declared.cell.TheConstants.{MAX_LENGTH}
+use Rattle.drain_grid.specs.Extent.{IsEarlier}
+use Rattle.drain_grid.specs.Grid.{Grid, Products, IsInside, values_at}
+use Rattle.drain_grid.specs.Values.{Values}
+use Rattle.drain_rules.specs.declared.area.Area.{Area}
+use Rattle.drain_rules.specs.Areas.{HasCell, IsOutletCell}
+use Rattle.drain_rules.specs.LabelLaws.{earlier-more, earlier-still}
+use Rattle.drain_rules.specs.Labels.{IsOutletByCode}
+use Rattle.drain_rules.specs.Rows.{place}
+use Rattle.drain_union.specs.declared.outlet.Outlet.{Outlet}
+use Rattle.drain_window.specs.JudgedAreas.{AddsOutlet, AreListed, IsBefore, IsOutletAt, Lists, cell_from}
+
+-- no list is compared
+pub not_compared : {P : Type 0} → IsTrue false → P
+not_compared is = absurd (let no : ⊥ = cc in no)
+
+-- nothing lies before the first cell
+pub listed-none : (a : Area) (origin : Cell) (g : Grid) (ps : Products) (xs : List Outlet) → xs ≡ [] → AreListed a origin g ps (place 0 0) xs
+listed-none a origin g ps xs none x = (to, back)
+  where
+    to : Contains xs x → (c : Cell) × IsBefore a (place 0 0) c × IsOutletAt g ps origin c x
+    to has = let in_none : Contains [] x = subst (λ ys. Contains ys x) none has in absurd (omega (arith, in_none.1))
+
+    before : (c : Cell) → IsEarlier c (place 0 0) → ⊥
+    before c (inl above) = absurd (omega (arith, above))
+    before c (inr beside) = absurd (omega (arith, beside.1))
+
+    back : (c : Cell) × IsBefore a (place 0 0) c × IsOutletAt g ps origin c x → Contains xs x
+    back (c, is, outlet) = absurd (before c is.earlier)
+
+-- with a judged cell the list is that before the next place
+one_more : (g : Grid) (ps : Products) (row col : ℕ) (here : Values) (a : Area) (origin : Cell) (old new : List Outlet) → IsInside g (place row col) → HasCell a (place row col) →
+    here ≡ values_at g ps (place row col) → Lists here (cell_from origin (place row col)) old new → AreListed a origin g ps (place row col) old → AreListed a origin g ps (place row (col + 1)) new
+one_more g ps row col here a origin old new inside judged is lists so_far x = (to, back)
+  where
+    to : Contains new x → (c : Cell) × IsBefore a (place row (col + 1)) c × IsOutletAt g ps origin c x
+    to has = elim ((lists x).0 has) [
+      | inl before ↦
+          (let f = (so_far x).0 before in
+          (f.0, record { inside = f.1.inside; earlier = earlier-still f.0 row col f.1.earlier }, f.2))
+      | inr outlet ↦
+          (let by_code : IsOutletByCode (values_at g ps (place row col)) = subst (λ (v : Values). IsOutletByCode v) is outlet.outlet in
+          (
+            place row col,
+            record { inside = judged; earlier = inr (refl, omega arith) },
+            record {
+              has_data = record { inside = inside; is_data = by_code.has_data };
+              code = by_code.code;
+              label = outlet.label ∙ ap (λ (v : Values). v.bas) is;
+              cell = outlet.cell_is;
+            },
+          ))
+    ]
+
+    at_last : (c : Cell) → c ≡ place row col → IsOutletAt g ps origin c x → Contains new x
+    at_last c same outlet =
+        let here_is : IsOutletAt g ps origin (place row col) x = subst (λ b. IsOutletAt g ps origin b x) same outlet in
+        let by_code : IsOutletByCode (values_at g ps (place row col)) = record { has_data = here_is.has_data.is_data; code = here_is.code } in
+        (lists x).1
+        (inr (record {
+          outlet = subst (λ (v : Values). IsOutletByCode v) (sym is) by_code;
+          label = here_is.label ∙ sym (ap (λ (v : Values). v.bas) is);
+          cell_is = here_is.cell;
+        }))
+
+    back : (c : Cell) × IsBefore a (place row (col + 1)) c × IsOutletAt g ps origin c x → Contains new x
+    back (c, before, outlet) = elim (earlier-more c row col before.earlier) [
+      | inl same ↦ at_last c same outlet
+      | inr earlier ↦ (lists x).1 (inl ((so_far x).1 (c, record { inside = before.inside; earlier = earlier }, outlet)))
+    ]
+
+pub listed-more : (g : Grid) (ps : Products) (row col : ℕ) (here : Values) (a b : Area) (origin same : Cell) (old new : List Outlet) → IsInside g (place row col) → HasCell a (place row col) →
+    here ≡ values_at g ps (place row col) → AddsOutlet here (place row col) a b origin same old new → AreListed a origin g ps (place row col) old → AreListed b same g ps (place row (col + 1)) new
+listed-more g ps row col here a b origin same old new inside judged is adds so_far =
+    subst (λ r. AreListed r same g ps (place row (col + 1)) new) (sym adds.area)
+    (subst (λ o. AreListed a o g ps (place row (col + 1)) new) (sym adds.origin_is)
+    (one_more g ps row col here a origin old new inside judged is adds.lists so_far))
+
+-- cells that aren't judged outlets change nothing
+pub listed-passed : (a : Area) (origin : Cell) (g : Grid) (ps : Products) (p q : Cell) (xs : List Outlet) →
+    ((c : Cell) → HasCell a c → IsOutletCell g ps c → IsEarlier c p ↔ IsEarlier c q) → AreListed a origin g ps p xs → AreListed a origin g ps q xs
+listed-passed a origin g ps p q xs same so_far x = (to, back)
+  where
+    to : Contains xs x → (c : Cell) × IsBefore a q c × IsOutletAt g ps origin c x
+    to has =
+        let f = (so_far x).0 has in
+        (f.0, record { inside = f.1.inside; earlier = (same f.0 f.1.inside (record { has_data = f.2.has_data; code = f.2.code })).0 f.1.earlier }, f.2)
+
+    back : (c : Cell) × IsBefore a q c × IsOutletAt g ps origin c x → Contains xs x
+    back (c, before, outlet) =
+        (so_far x).1 (c, record { inside = before.inside; earlier = (same c before.inside (record { has_data = outlet.has_data; code = outlet.code })).1 before.earlier }, outlet)

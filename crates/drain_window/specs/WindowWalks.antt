@@ -1,0 +1,17 @@
+-- What the walk over the judged cells of a window has found.
+use Rattle.std.specs.Prelude.{◌≡◌, ℕ}
+use Rattle.drain_grid.specs.Grid.{Grid, Products}
+use Rattle.drain_grid.specs.Rule.{IsPatchRule}
+use Rattle.drain_grid.specs.Unranked.{unranked}
+use Rattle.drain_grid.specs.Values.{NoDataNumbers}
+use Rattle.drain_rules.specs.declared.walk.Walk.{Walk}
+use Rattle.drain_rules.specs.AreaOutcomes.{IsAreaOutcome}
+use Rattle.drain_rules.specs.Rows.{place}
+use Rattle.drain_window.specs.JudgedAreas.{AreListed}
+use Rattle.drain_window.specs.declared.listed_outlets.ListedOutlets.{ListedOutlets}
+
+-- it has passed this number of rows, and is right of the grid and its products under the rules without ranks
+pub record IsWindowWalkOf (nodata : NoDataNumbers) (g : Grid) (ps : Products) (rows : ℕ) (walk : Walk ListedOutlets) : Type 0 where
+  pub rows_are : walk.rows ≡ rows
+  pub right : IsAreaOutcome (unranked nodata) IsPatchRule walk.labels.area g ps walk.rows
+      (AreListed walk.labels.area walk.labels.origin g ps (place walk.rows 0) walk.labels.outlets.items) walk.outcome

@@ -1,5 +1,0 @@
-pub mod ClearedCells
-pub mod JudgedCells
-pub mod JudgedRows
-pub mod JudgedWindows
-pub mod SeamCells
