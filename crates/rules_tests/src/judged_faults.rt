@@ -1,28 +1,16 @@
-//! Every fault of given rasters, on the worked slope with one number changed: each is that of all rasters, as far as it
-//! is about given ones.
+//! Every fault by the rules about some rasters, on the worked slope with one number changed: each is that of all rasters,
+//! as far as it is about judged ones.
 
-use crate::every_fault::{Given as Example, Told, changed_slope, same_faults};
+use crate::every_fault::{Given, Told, changed_slope, same_faults, walk_over};
 use crate::examples::Part;
-use drain_grid::{OutOfMemory, Rule};
-use drain_part_faults::PartFaultWalk;
-use drain_parts::Given;
+use drain_faults::FaultWalk;
+use drain_grid::{Judged, Rule};
 use std::alloc::Global;
 use std::process::Abort;
 use std::test::Fail;
 
-/// The walk over all rows, which draws a map.
-fn walk_over(alloc: Global, example: &Example, given: Given) -> Result<PartFaultWalk, OutOfMemory> {
-    let nodata = example.products.nodata();
-    let shape = example.elevation.shape();
-    let mut walk = PartFaultWalk::drawing(alloc, given, shape)?;
-    for row in 0..shape.rows() {
-        walk.note_row(&example.row(row), &nodata)?;
-    }
-    Ok(walk)
-}
-
 /// The number of the cell of this place on the walk's map.
-fn pixel_at(walk: &PartFaultWalk, place: usize) -> Option<u8> {
+fn pixel_at(walk: &FaultWalk, place: usize) -> Option<u8> {
     match walk.map() {
         Some(map) => map.pixels.as_slice().get(place).copied(),
         None => None,
@@ -33,12 +21,12 @@ fn pixel_at(walk: &PartFaultWalk, place: usize) -> Option<u8> {
 fn expect(
     rt: &impl Abort,
     alloc: Global,
-    example: &Example,
-    given: Given,
+    example: &Given,
+    judged: Judged,
     expected: &[Told],
     (place, number): (usize, u8),
 ) -> Result<(), Fail> {
-    let walk = walk_over(alloc, example, given)?;
+    let walk = walk_over(alloc, example, judged)?;
     same_faults(rt, walk.faults(), expected);
     assert_eq!(rt; pixel_at(&walk, place), Some(number));
     Ok(())
@@ -55,13 +43,20 @@ static ASIDE: [Told; 3] = [
 fn a_direction_that_leads_aside(rt: HostRuntime) -> Result<(), Fail> {
     let slope = changed_slope(rt.alloc(), Part::Dir, 1, 1, 4)?;
     let [steepest, sums, label] = ASIDE;
-    expect(&rt, rt.alloc(), &slope, Given::Con, &[], (5, 0))?;
-    expect(&rt, rt.alloc(), &slope, Given::ConDir, &[steepest], (5, 10))?;
+    expect(&rt, rt.alloc(), &slope, Judged::Con, &[], (5, 0))?;
     expect(
         &rt,
         rt.alloc(),
         &slope,
-        Given::ConDirAcc,
+        Judged::ConDir,
+        &[steepest],
+        (5, 10),
+    )?;
+    expect(
+        &rt,
+        rt.alloc(),
+        &slope,
+        Judged::ConDirAcc,
         &[steepest, sums],
         (6, 13),
     )?;
@@ -69,7 +64,7 @@ fn a_direction_that_leads_aside(rt: HostRuntime) -> Result<(), Fail> {
         &rt,
         rt.alloc(),
         &slope,
-        Given::ConDirBas,
+        Judged::ConDirBas,
         &[steepest, label],
         (6, 0),
     )
@@ -81,6 +76,13 @@ static SHARED: [Told; 2] = [(Rule::Label, 1, (3, 2)), (Rule::SharedLabel, 1, (3,
 #[test]
 fn a_label_of_another_outlet(rt: HostRuntime) -> Result<(), Fail> {
     let slope = changed_slope(rt.alloc(), Part::Bas, 3, 3, 1)?;
-    expect(&rt, rt.alloc(), &slope, Given::ConDirAcc, &[], (15, 0))?;
-    expect(&rt, rt.alloc(), &slope, Given::ConDirBas, &SHARED, (15, 15))
+    expect(&rt, rt.alloc(), &slope, Judged::ConDirAcc, &[], (15, 0))?;
+    expect(
+        &rt,
+        rt.alloc(),
+        &slope,
+        Judged::ConDirBas,
+        &SHARED,
+        (15, 15),
+    )
 }
