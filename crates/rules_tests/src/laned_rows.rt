@@ -4,8 +4,7 @@
 use crate::examples::{Part, accepted, same};
 use crate::rows_of_numbers::{level_rows, verdict_by_rows};
 use crate::unasked_ranks::put;
-use drain_grid::Rule;
-use drain_rules::{Judged, Verdict};
+use drain_grid::{Judged, Rule, Verdict};
 use std::alloc::Global;
 use std::test::Fail;
 
@@ -33,7 +32,7 @@ fn verdict_at(
 ) -> Result<Verdict, Fail> {
     let mut numbers = level_rows(alloc)?;
     put(&mut numbers, (part, (1, col), number))?;
-    verdict_by_rows(alloc, b"", &numbers, ranks)
+    verdict_by_rows(alloc, b"", &numbers, judged)
 }
 
 /// A label that is no other cell's.
@@ -56,10 +55,10 @@ fn a_code_at_the_ends_of_strides(rt: HostRuntime) -> Result<(), Fail> {
     Ok(())
 }
 
-/// Judged that fit no lane.
+/// Ranks that fit no lane.
 static UNFIT: [(&str, i64); 2] = [("less than 0", -1), ("the least pixel", -2147483648)];
 
-/// Judged of 33 bits and below 0 fit no lane: then each cell is checked alone, and without ranks nothing changes.
+/// Ranks of 33 bits and below 0 fit no lane: then each cell is checked alone, and without ranks nothing changes.
 #[test]
 fn ranks_that_fit_no_lane(rt: HostRuntime) -> Result<(), Fail> {
     for &(name, rank) in &UNFIT {

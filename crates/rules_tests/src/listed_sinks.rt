@@ -2,8 +2,7 @@
 
 use crate::examples::{accepted, rejected, same, verdict_listing};
 use crate::rows_of_numbers::{COLS, verdict_by_rows};
-use drain_grid::Rule;
-use drain_rules::{Judged, Verdict};
+use drain_grid::{Judged, Rule, Verdict};
 use std::alloc::Global;
 use std::process::Abort;
 use std::test::Fail;

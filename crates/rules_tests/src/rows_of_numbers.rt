@@ -4,9 +4,9 @@ ghost use Rattle.std.specs.Prelude.{◌≡◌, ◌<◌, ◌+◌, OnOk};
 
 use crate::part_rows::{AS_NUMBERS, Kinds, PartRow, PartRows};
 use drain_faults::FaultWalk;
-use drain_grid::{NoData, Shape, Sinks, parse_sinks};
+use drain_grid::{Judged, NoData, Rules, Shape, Sinks, Verdict, parse_sinks};
 use drain_kernel::Lanes;
-use drain_rules::{Walk, Kept, PatchRow, Judged, RowView, Rules, ThreeRows, Verdict};
+use drain_rules::{Kept, PatchRow, RowView, ThreeRows, Walk};
 use std::alloc::{AllocError, Global};
 use std::test::Fail;
 use worked::shafts::Shafts;
@@ -127,7 +127,7 @@ fn row_view<'a>(
     } else {
         None
     };
-    numbers.view(given.marks(row), given.ranks, lanes)
+    numbers.view(given.marks(row), given.judged, lanes)
 }
 
 /// A row with those above and below it.
@@ -148,7 +148,7 @@ fn three_rows<'a>(
 /// The rules of a check with the default no-data numbers.
 fn rules_about(judged: Judged) -> Rules {
     let nodata = NoData::defaults();
-    Rules { nodata, ranks }
+    Rules { nodata, judged }
 }
 
 /// Checks the next row.
@@ -158,7 +158,7 @@ fn check_row(walk: &mut Walk, given: Given<'_>, row: u8, room: &mut Room) -> Res
 {
     let numbers = numbers_round(given, row)?;
     let rows = three_rows(given, &numbers, row, room);
-    Ok(walk.check_row(&rows, &rules_about(given.ranks))?)
+    Ok(walk.check_row(&rows, &rules_about(given.judged))?)
 }
 
 /// Checks all three rows.
@@ -186,7 +186,7 @@ fn note_row(walk: &mut FaultWalk, given: Given<'_>, row: u8, room: &mut Room) ->
 {
     let numbers = numbers_round(given, row)?;
     let rows = three_rows(given, &numbers, row, room);
-    Ok(walk.note_row(&rows, &rules_about(given.ranks))?)
+    Ok(walk.note_row(&rows, &rules_about(given.judged))?)
 }
 
 /// Looks for faults in all three rows.
@@ -206,7 +206,7 @@ pub fn faults_by_rows(alloc: Global, numbers: &[i64], is_laned: bool) -> Result<
         numbers,
         marks: &marks,
         kinds: AS_NUMBERS,
-        ranks: Judged::AllWithRanks,
+        judged: Judged::AllWithRanks,
         is_laned,
     };
     let mut walk = FaultWalk::new(alloc);
@@ -239,7 +239,7 @@ pub fn kept_of_kinds(
         numbers,
         marks: &marks,
         kinds,
-        ranks: Judged::AllWithRanks,
+        judged: Judged::AllWithRanks,
         is_laned: true,
     };
     let numbers = numbers_round(given, row)?;
@@ -270,7 +270,7 @@ pub fn is_outlet_by_lanes(
         numbers,
         marks: &marks,
         kinds: AS_NUMBERS,
-        ranks: Judged::AllWithRanks,
+        judged: Judged::AllWithRanks,
         is_laned: true,
     };
     let numbers = numbers_round(given, row)?;
@@ -287,7 +287,7 @@ pub fn verdict_by_rows(
     numbers: &[i64],
     judged: Judged,
 ) -> Result<Verdict, Fail> {
-    verdict_of_kinds(alloc, text, numbers, AS_NUMBERS, ranks)
+    verdict_of_kinds(alloc, text, numbers, AS_NUMBERS, judged)
 }
 
 /// The same where the products are kept as these kinds.
@@ -305,7 +305,7 @@ pub fn verdict_of_kinds(
         numbers,
         marks: &marks,
         kinds,
-        ranks,
+        judged,
         is_laned: true,
     };
     let plain = Given {
