@@ -11,10 +11,11 @@ use Rattle.drain_grid.specs.declared.rule.Rule.TheVariants.{SharedLabel}
 use Rattle.drain_grid.specs.Grid.{Grid, Products, IsInside, patch_at}
 use Rattle.drain_grid.specs.GridRules.{HoldsAt}
 use Rattle.drain_grid.specs.Judged.{has_bas}
+use Rattle.drain_grid.specs.PatchRules.{Profile}
 use Rattle.drain_grid.specs.Rule.{IsAnyRule, IsLeastFault, IsPatchRule}
 use Rattle.drain_grid.specs.RulesAbout.{IsTried, tried}
 use Rattle.drain_rules.specs.Labels.{AreLabelsBefore, labelled_profile}
-use Rattle.drain_rules.proofs.Faults.{labelled-HoldsAt, labelled-patch, patch_tried}
+use Rattle.drain_rules.proofs.Faults.{labelled-HoldsAt, patch_tried}
 use Rattle.drain_faults.specs.Flags.{TellsFault}
 use Rattle.drain_faults.specs.TriedRules.{HoldsIfTried, IsLeastAt}
 use Rattle.drain_faults.proofs.Flags.{tells_same}
@@ -59,6 +60,11 @@ labels_judged AllWithRanks own = refl
 pub tried_or_not : (judged : Judged) (r : Rule) → IsTried judged r ⊎ ¬ IsTried judged r
 tried_or_not judged SharedLabel = shared_or_not judged
 tried_or_not judged r = inl (patch_tried judged r (omega arith, omega arith))
+
+-- the labels play no part in the rules of a patch
+labelled-patch : (profile : Profile) (labels : List (ℕ × ℕ)) (p : Patch) (r : Rule) → IsPatchRule r → profile p r ↔ labelled_profile profile labels p r
+labelled-patch profile labels p SharedLabel own = absurd (omega (arith, own.1))
+labelled-patch profile labels p r own = (λ h. h, λ h. h)
 
 module _ (rules : Rules) where
   -- a rule of a patch is tried, and labels play no part in it

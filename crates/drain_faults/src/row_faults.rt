@@ -38,10 +38,10 @@ pub(crate) fn note_row_of<R: PatchRow>(
     let mut tally = Tally::new();
     let mut col = 0;
     while col < cols {
-        let kept = patches.kept_from(rules, col);
+        let kept = patches.kept_from(rules, col, cols);
         draw_run(map, SOUND, kept.end - col)?;
         tally.add_kept(kept.end - col, kept.raised);
-        col = patches.voids_until(rules, kept.end);
+        col = patches.voids_until(rules, kept.end, cols);
         draw_run(map, SOUND_VOID, col - kept.end)?;
         if col < cols {
             let patch = patches.patch(col);

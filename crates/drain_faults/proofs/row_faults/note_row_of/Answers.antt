@@ -30,20 +30,20 @@ loop-col-preserved g c =
     let bounds = bounds-kept (g.R.PatchRow.shown c.args.patches.now) c.loop-col.col c.kept_from-kept.result c.loop-col.tally c.add_kept.new.self kept.forward
     c.loop-col.invariant.bounds kept.raised run.data_cells run.raised run.outlets in
     record {
-      within = voids.within;
+      within = (omega (arith, voids.within, c.cols-cols.ensures.count));
       counted = λ grid ps are.
           counted_voids (tried c.args.rules.now) grid ps c.args.row (g.R.PatchRow.len c.args.patches.now) (g.R.PatchRow.shown c.args.patches.now) are c.add_kept.new.self
-          c.kept_from-kept.result.end c.voids_until-col.result voids.forward voids.within voids.right
+          c.kept_from-kept.result.end c.voids_until-col.result voids.forward (omega (arith, voids.within, c.cols-cols.ensures.count)) voids.right
           (counted-kept (tried c.args.rules.now) grid ps c.args.row (g.R.PatchRow.len c.args.patches.now) (g.R.PatchRow.shown c.args.patches.now) c.loop-col.col c.kept_from-kept.result c.loop-col.tally c.add_kept.new.self are
-          kept.forward kept.within (c.loop-col.invariant.counted grid ps are) kept.kept kept.raised run.data_cells run.raised run.outlets);
+          kept.forward (omega (arith, kept.within, c.cols-cols.ensures.count)) (c.loop-col.invariant.counted grid ps are) kept.kept kept.raised run.data_cells run.raised run.outlets);
       bounds = record { data_cells = omega (arith, bounds.data_cells, voids.forward); raised = bounds.raised; outlets = bounds.outlets };
       found = λ grid ps are above.
           found_passed c.args.rules.now grid ps c.args.row (g.R.PatchRow.len c.args.patches.now) (g.R.PatchRow.shown c.args.patches.now) are c.loop-col.found
-          c.loop-col.col c.kept_from-kept.result.end c.voids_until-col.result kept.forward kept.within kept.kept voids.forward voids.within voids.right (c.loop-col.invariant.found grid ps are above);
+          c.loop-col.col c.kept_from-kept.result.end c.voids_until-col.result kept.forward (omega (arith, kept.within, c.cols-cols.ensures.count)) kept.kept voids.forward (omega (arith, voids.within, c.cols-cols.ensures.count)) voids.right (c.loop-col.invariant.found grid ps are above);
       map = λ grid ps are above drawn.
           map_passed c.args.rules.now grid ps c.args.row (g.R.PatchRow.len c.args.patches.now) (g.R.PatchRow.shown c.args.patches.now) are c.loop-col.map c.draw_run.new.map c.draw_run-in-loop-col.new.map
-          c.loop-col.col c.kept_from-kept.result.end c.voids_until-col.result _ _ kept.forward kept.within (omega arith) kept.kept c.in_ok-draw_run.ensures.drawn
-          voids.forward voids.within (omega arith) voids.right c.in_ok-draw_run-2.ensures.drawn (c.loop-col.invariant.map grid ps are above drawn);
+          c.loop-col.col c.kept_from-kept.result.end c.voids_until-col.result _ _ kept.forward (omega (arith, kept.within, c.cols-cols.ensures.count)) (omega arith) kept.kept c.in_ok-draw_run.ensures.drawn
+          voids.forward (omega (arith, voids.within, c.cols-cols.ensures.count)) (omega arith) voids.right c.in_ok-draw_run-2.ensures.drawn (c.loop-col.invariant.map grid ps are above drawn);
       drawn = let first = drawn_still c.loop-col.map c.draw_run.new.map _ c.in_ok-draw_run.ensures.drawn in
           let second = drawn_still c.draw_run.new.map c.draw_run-in-loop-col.new.map _ c.in_ok-draw_run-2.ensures.drawn in
           let so_far = c.loop-col.invariant.drawn in
@@ -65,9 +65,9 @@ loop-col-preserved-then-col-cols g c =
           CountsAlong-more grid ps c.args.row c.voids_until-col.result c.patch-patch.result.here c.add_kept.new.self c.add.new.self
           (ap (λ (p : Patch). p.here) (c.patch-patch.ensures ∙ are.patches_are c.voids_until-col.result (omega (arith, c.if-col-cols.true, c.cols-cols.ensures.count))))
           (counted_voids (tried c.args.rules.now) grid ps c.args.row (g.R.PatchRow.len c.args.patches.now) (g.R.PatchRow.shown c.args.patches.now) are c.add_kept.new.self
-          c.kept_from-kept.result.end c.voids_until-col.result voids.forward voids.within voids.right
+          c.kept_from-kept.result.end c.voids_until-col.result voids.forward (omega (arith, voids.within, c.cols-cols.ensures.count)) voids.right
           (counted-kept (tried c.args.rules.now) grid ps c.args.row (g.R.PatchRow.len c.args.patches.now) (g.R.PatchRow.shown c.args.patches.now) c.loop-col.col c.kept_from-kept.result c.loop-col.tally c.add_kept.new.self are
-          kept.forward kept.within (c.loop-col.invariant.counted grid ps are) kept.kept kept.raised run.data_cells run.raised run.outlets))
+          kept.forward (omega (arith, kept.within, c.cols-cols.ensures.count)) (c.loop-col.invariant.counted grid ps are) kept.kept kept.raised run.data_cells run.raised run.outlets))
           add.data_cells add.raised add.outlets;
       bounds = bounds-next c.patch-patch.result.here c.kept_from-kept.result.end (c.voids_until-col.result + 1) c.add_kept.new.self c.add.new.self
           (omega (arith, voids.forward)) bounds add.data_cells add.raised add.outlets;
@@ -76,15 +76,15 @@ loop-col-preserved-then-col-cols g c =
           c.note.new.self c.voids_until-col.result c.patch-patch.result c.requires (omega (arith, c.cols-cols.ensures.count, c.cols-cols.ensures.narrow))
           (omega (arith, c.if-col-cols.true, c.cols-cols.ensures.count)) c.patch-patch.ensures c.in-Ok.ensures.noted
           (found_passed c.args.rules.now grid ps c.args.row (g.R.PatchRow.len c.args.patches.now) (g.R.PatchRow.shown c.args.patches.now) are c.loop-col.found
-          c.loop-col.col c.kept_from-kept.result.end c.voids_until-col.result kept.forward kept.within kept.kept voids.forward voids.within voids.right (c.loop-col.invariant.found grid ps are above));
+          c.loop-col.col c.kept_from-kept.result.end c.voids_until-col.result kept.forward (omega (arith, kept.within, c.cols-cols.ensures.count)) kept.kept voids.forward (omega (arith, voids.within, c.cols-cols.ensures.count)) voids.right (c.loop-col.invariant.found grid ps are above));
       map = λ grid ps are above drawn.
           map_noted c.args.rules.now grid ps c.args.row (g.R.PatchRow.len c.args.patches.now) (g.R.PatchRow.shown c.args.patches.now) are c.loop-col.found c.in-Ok.least c.draw_run-in-loop-col.new.map c.draw_cell.new.map c.voids_until-col.result c.patch-patch.result
           (omega (arith, c.if-col-cols.true, c.cols-cols.ensures.count)) c.patch-patch.ensures c.in-Ok.ensures.least c.in_ok-draw_cell-in-Ok.ensures.drawn
           (found_passed c.args.rules.now grid ps c.args.row (g.R.PatchRow.len c.args.patches.now) (g.R.PatchRow.shown c.args.patches.now) are c.loop-col.found
-          c.loop-col.col c.kept_from-kept.result.end c.voids_until-col.result kept.forward kept.within kept.kept voids.forward voids.within voids.right (c.loop-col.invariant.found grid ps are above))
+          c.loop-col.col c.kept_from-kept.result.end c.voids_until-col.result kept.forward (omega (arith, kept.within, c.cols-cols.ensures.count)) kept.kept voids.forward (omega (arith, voids.within, c.cols-cols.ensures.count)) voids.right (c.loop-col.invariant.found grid ps are above))
           (map_passed c.args.rules.now grid ps c.args.row (g.R.PatchRow.len c.args.patches.now) (g.R.PatchRow.shown c.args.patches.now) are c.loop-col.map c.draw_run.new.map c.draw_run-in-loop-col.new.map
-          c.loop-col.col c.kept_from-kept.result.end c.voids_until-col.result _ _ kept.forward kept.within (omega arith) kept.kept c.in_ok-draw_run.ensures.drawn
-          voids.forward voids.within (omega arith) voids.right c.in_ok-draw_run-2.ensures.drawn (c.loop-col.invariant.map grid ps are above drawn));
+          c.loop-col.col c.kept_from-kept.result.end c.voids_until-col.result _ _ kept.forward (omega (arith, kept.within, c.cols-cols.ensures.count)) (omega arith) kept.kept c.in_ok-draw_run.ensures.drawn
+          voids.forward (omega (arith, voids.within, c.cols-cols.ensures.count)) (omega arith) voids.right c.in_ok-draw_run-2.ensures.drawn (c.loop-col.invariant.map grid ps are above drawn));
       drawn = let first = drawn_still c.loop-col.map c.draw_run.new.map _ c.in_ok-draw_run.ensures.drawn in
           let second = drawn_still c.draw_run.new.map c.draw_run-in-loop-col.new.map _ c.in_ok-draw_run-2.ensures.drawn in
           let so_far = c.loop-col.invariant.drawn in
@@ -120,7 +120,7 @@ returns-in-Err-clause-err g c = inr (
         found_new c.args.rules.now grid ps c.args.row (g.R.PatchRow.len c.args.patches.now) (g.R.PatchRow.shown c.args.patches.now) are c.loop-col.found
             c.voids_until-col.result c.patch-patch.result (omega (arith, c.if-col-cols.true, c.cols-cols.ensures.count)) c.patch-patch.ensures
             (found_passed c.args.rules.now grid ps c.args.row (g.R.PatchRow.len c.args.patches.now) (g.R.PatchRow.shown c.args.patches.now) are c.loop-col.found
-            c.loop-col.col c.kept_from-kept.result.end c.voids_until-col.result kept.forward kept.within kept.kept voids.forward voids.within voids.right (c.loop-col.invariant.found grid ps are above)) c.in-Err.ensures.err,
+            c.loop-col.col c.kept_from-kept.result.end c.voids_until-col.result kept.forward (omega (arith, kept.within, c.cols-cols.ensures.count)) kept.kept voids.forward (omega (arith, voids.within, c.cols-cols.ensures.count)) voids.right (c.loop-col.invariant.found grid ps are above)) c.in-Err.ensures.err,
       ),
 )
 
