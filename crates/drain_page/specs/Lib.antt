@@ -1,4 +1,3 @@
 pub mod Degrees
 pub mod JsonLines
 pub mod JsonTexts
-pub mod Lines

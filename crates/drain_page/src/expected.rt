@@ -48,7 +48,7 @@ pub(crate) fn expected_at(
         product: judged_product(*rule),
         number: expected_number(*rule, patch),
         products: products_at_fault(alloc, *rule, &patch.here, findings)?,
-        codes: allowed_codes(alloc, *rule, patch, findings.rules.ranks)?,
+        codes: allowed_codes(alloc, *rule, patch, findings.rules.judged)?,
         ways: ways_down(alloc, *rule, patch)?,
         open: opening(*rule, patch),
     })
@@ -100,7 +100,7 @@ fn allowed_codes(
 ) -> Result<Vec<i64>, AllocError> {
     let mut codes = Vec::new(alloc);
     for code in CODES {
-        if is_allowed(rule, patch, ranks, code) {
+        if is_allowed(rule, patch, judged, code) {
             codes.push(code)?;
         }
     }
@@ -113,10 +113,13 @@ fn is_allowed(rule: Rule, patch: &Patch, judged: Judged, code: i64) -> bool {
         (Rule::BadCode, _) => true,
         (Rule::OutletCode, Some(Code::Outlet)) => true,
         (Rule::Slope, Some(Code::To(direction))) => is_steepest(patch, key(patch, direction)),
-        (Rule::FlatStep, Some(Code::To(direction))) => match ranks {
-            Judged::AllWithRanks => is_flat_way(patch, direction),
-            Judged::All => is_flat_way_without_ranks(patch, direction),
-        },
+        (Rule::FlatStep, Some(Code::To(direction))) => {
+            if judged.has_rnk() {
+                is_flat_way(patch, direction)
+            } else {
+                is_flat_way_without_ranks(patch, direction)
+            }
+        }
         _ => false,
     }
 }

@@ -17,7 +17,7 @@ pub(crate) fn push_expected(
     expected: &Expected,
 ) -> Result<(), AllocError> {
     write!(text, "rule {}\nexpected: ", shown_rule(first.rule))?;
-    push_expectation(text, first.rule, findings.rules.ranks, expected)?;
+    push_expectation(text, first.rule, findings.rules.judged, expected)?;
     text.push_str("\n")?;
     push_ways(text, &first.patch, &expected.ways)?;
     match expected.product {
@@ -49,7 +49,7 @@ fn push_expectation(
         (Rule::NotLeast, None) => text.push_str("any con"),
         (Rule::Slope, _) => text.push_str("dir of a steepest descent"),
         (Rule::OutletCode, _) => write!(text, "dir 0, with no lower neighbour{open}"),
-        (Rule::FlatStep, _) => push_along(text, &expected.codes, ranks),
+        (Rule::FlatStep, _) => push_along(text, &expected.codes, judged),
         (Rule::Accumulation, Some(sum)) => write!(text, "acc {sum}"),
         (Rule::Label, Some(label)) => {
             write!(text, "bas of the cell that dir points to, {label}")
@@ -87,9 +87,10 @@ fn at_opening(open: Option<Opening>) -> &'static str {
 
 /// The allowed steps along a flat.
 fn push_along(text: &mut String, codes: &[i64], judged: Judged) -> Result<(), AllocError> {
-    text.push_str(match ranks {
-        Judged::AllWithRanks => "dir to a neighbour with the same con and a smaller rnk: ",
-        Judged::All => "dir to a neighbour with the same con: ",
+    text.push_str(if judged.has_rnk() {
+        "dir to a neighbour with the same con and a smaller rnk: "
+    } else {
+        "dir to a neighbour with the same con: "
     })?;
     let mut separator = "";
     for code in codes {

@@ -1,8 +1,8 @@
 //! The page as one JSON object.
 
 ghost use Rattle.std.specs.Prelude.{◌≡◌, IfOk, string_bytes};
+ghost use Rattle.drain_answer.specs.OutcomeLines.{outcome_report_line};
 ghost use Rattle.drain_page.specs.JsonLines.{IsAnswerLine};
-ghost use Rattle.drain_page.specs.Lines.{line_of};
 
 use crate::expected_json::write_expected;
 use crate::facts::Facts;
@@ -11,16 +11,17 @@ use crate::patch_json::write_patch;
 use crate::refusal_json::write_refusal;
 use crate::rules_json::{write_products, write_rules};
 use crate::run_json::write_run;
+use drain_answer::outcome_report;
 use drain_explain::{Findings, RefusalDetail};
-use drain_grid::{Judged, OutOfMemory};
+use drain_grid::OutOfMemory;
 use std::alloc::{AllocError, Global};
 
 /// The page as one JSON object on one line, which ends with a line feed. Its first member is the answer's line. The
 /// other members are always there: null or an empty list if there is nothing to report.
 pub fn page_json(alloc: Global, facts: &Facts) -> Result<String, OutOfMemory>
-    ensures { IfOk result (λ line. IsAnswerLine (line_of facts.now.answer) (string_bytes line)) }
+    ensures { IfOk result (λ line. IsAnswerLine (outcome_report_line facts.now.answer) (string_bytes line)) }
 {
-    let line = facts.answer.line();
+    let line = outcome_report(&facts.answer);
     object(alloc, line.as_str(), &facts.refusal, &facts.findings)
 }
 
@@ -70,7 +71,7 @@ fn write_findings(alloc: Global, json: &mut JsonText, findings: &Findings) -> Re
 {
     json.member("rows", findings.layout.shape().rows())?;
     json.member("cols", findings.layout.shape().cols())?;
-    json.member("ranks", findings.rules.ranks == Judged::AllWithRanks)?;
+    json.member("ranks", findings.rules.judged.has_rnk())?;
     write_rules(json, findings)?;
     write_products(json, findings)?;
     write_patch(json, findings)?;

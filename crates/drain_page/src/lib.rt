@@ -20,6 +20,6 @@ mod run_json;
 mod run_text;
 pub mod text_page;
 
-pub use facts::{Answer, Facts};
+pub use facts::Facts;
 pub use json_page::{NO_OBJECT, failure_json, page_json};
 pub use text_page::page_text;

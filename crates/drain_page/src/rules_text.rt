@@ -4,7 +4,7 @@ use crate::degrees::{latitude_text, longitude_text};
 use crate::names::{shown_indented, shown_rule};
 use drain_explain::Findings;
 use drain_faults::{RULES, RuleFaults};
-use drain_grid::{Judged, Rule, SetProduct};
+use drain_grid::{Rule, SetProduct};
 use drain_mosaic::Layout;
 use std::alloc::AllocError;
 
@@ -16,9 +16,10 @@ pub(crate) fn push_rules(text: &mut String, findings: &Findings) -> Result<(), A
     push_table(text, findings)?;
     push_names(text, "hold:", findings, Standing::Holds)?;
     push_names(text, "not tried:", findings, Standing::Untried)?;
-    match findings.rules.ranks {
-        Judged::AllWithRanks => Ok(()),
-        Judged::All => text.push_str("ranks: not checked\n"),
+    if findings.rules.judged.has_rnk() {
+        Ok(())
+    } else {
+        text.push_str("ranks: not checked\n")
     }
 }
 

@@ -1,13 +1,14 @@
 //! The page as a text to read, in ASCII.
 
 ghost use Rattle.std.specs.Prelude.{◌≡◌, ◌++◌, ◌∷◌, ℕ, List, IfOk};
-ghost use Rattle.drain_page.specs.Lines.{line_of};
+ghost use Rattle.drain_answer.specs.OutcomeLines.{outcome_report_line};
 
 use crate::facts::Facts;
 use crate::patch_text::push_first;
 use crate::refusal_text::push_refusal;
 use crate::rules_text::push_rules;
 use crate::run_text::push_run;
+use drain_answer::outcome_report;
 use drain_explain::Findings;
 use drain_grid::OutOfMemory;
 use std::alloc::{AllocError, Global};
@@ -15,10 +16,10 @@ use std::alloc::{AllocError, Global};
 /// The page: the answer's line, and then its explanation, part after part with an empty line between. Each line ends
 /// with a line feed.
 pub fn page_text(alloc: Global, facts: &Facts) -> Result<Vec<u8>, OutOfMemory>
-    ensures line_first { IfOk result (λ text. (rest : List ℕ) × (text.items ≡ line_of facts.now.answer ++ 10 ∷ rest)) }
+    ensures line_first { IfOk result (λ text. (rest : List ℕ) × (text.items ≡ outcome_report_line facts.now.answer ++ 10 ∷ rest)) }
 {
     let mut text = Vec::new(alloc);
-    text.extend_from_slice(facts.answer.line().as_str().as_bytes())?;
+    text.extend_from_slice(outcome_report(&facts.answer).as_str().as_bytes())?;
     text.push(b'\n')?;
     let rest = explanation(alloc, facts)?;
     text.extend_from_slice(rest.as_bytes())?;

@@ -23,7 +23,7 @@ static ROWS: [Row; 14] = [
     Row {
         case: "a code that is none",
         rule: Rule::BadCode,
-        ranks: Judged::AllWithRanks,
+        judged: Judged::AllWithRanks,
         sink: false,
         here: (5, 3, 1, 7, 9),
         east: (9, 0, 1, 7, 9),
@@ -34,7 +34,7 @@ static ROWS: [Row; 14] = [
     Row {
         case: "below the ground",
         rule: Rule::BelowGround,
-        ranks: Judged::All,
+        judged: Judged::All,
         sink: false,
         here: (4, 1, 1, 7, 9),
         east: (9, 0, 1, 7, 9),
@@ -45,7 +45,7 @@ static ROWS: [Row; 14] = [
     Row {
         case: "a listed sink raised",
         rule: Rule::OpenRaised,
-        ranks: Judged::AllWithRanks,
+        judged: Judged::AllWithRanks,
         sink: true,
         here: (6, 0, 1, 7, 9),
         east: (9, 0, 1, 7, 9),
@@ -56,7 +56,7 @@ static ROWS: [Row; 14] = [
     Row {
         case: "a lower way out",
         rule: Rule::NotLeast,
-        ranks: Judged::AllWithRanks,
+        judged: Judged::AllWithRanks,
         sink: false,
         here: (9, 0, 1, 7, 9),
         east: (7, 0, 1, 7, 9),
@@ -67,7 +67,7 @@ static ROWS: [Row; 14] = [
     Row {
         case: "a lower way out below the ground",
         rule: Rule::NotLeast,
-        ranks: Judged::AllWithRanks,
+        judged: Judged::AllWithRanks,
         sink: false,
         here: (9, 0, 1, 7, 9),
         east: (8, 0, 1, 7, 9),
@@ -78,7 +78,7 @@ static ROWS: [Row; 14] = [
     Row {
         case: "steeper across a corner",
         rule: Rule::Slope,
-        ranks: Judged::AllWithRanks,
+        judged: Judged::AllWithRanks,
         sink: false,
         here: (9, 0, 1, 7, 9),
         east: (7, 0, 1, 7, 9),
@@ -89,7 +89,7 @@ static ROWS: [Row; 14] = [
     Row {
         case: "an outlet that leads on",
         rule: Rule::OutletCode,
-        ranks: Judged::AllWithRanks,
+        judged: Judged::AllWithRanks,
         sink: true,
         here: (5, 4, 1, 7, 9),
         east: (9, 0, 1, 7, 9),
@@ -100,7 +100,7 @@ static ROWS: [Row; 14] = [
     Row {
         case: "a smaller rank in the east",
         rule: Rule::FlatStep,
-        ranks: Judged::AllWithRanks,
+        judged: Judged::AllWithRanks,
         sink: false,
         here: (5, 2, 1, 7, 3),
         east: (5, 0, 1, 7, 2),
@@ -111,7 +111,7 @@ static ROWS: [Row; 14] = [
     Row {
         case: "no ranks asked",
         rule: Rule::FlatStep,
-        ranks: Judged::All,
+        judged: Judged::All,
         sink: false,
         here: (5, 4, 1, 7, 3),
         east: (5, 0, 1, 7, 9),
@@ -122,7 +122,7 @@ static ROWS: [Row; 14] = [
     Row {
         case: "no step along the flat",
         rule: Rule::FlatStep,
-        ranks: Judged::AllWithRanks,
+        judged: Judged::AllWithRanks,
         sink: false,
         here: (5, 1, 1, 7, 1),
         east: (5, 0, 1, 7, 2),
@@ -133,7 +133,7 @@ static ROWS: [Row; 14] = [
     Row {
         case: "two cells flow in",
         rule: Rule::Accumulation,
-        ranks: Judged::AllWithRanks,
+        judged: Judged::AllWithRanks,
         sink: false,
         here: (5, 0, 4, 7, 9),
         east: (9, 16, 10, 7, 9),
@@ -144,7 +144,7 @@ static ROWS: [Row; 14] = [
     Row {
         case: "another label ahead",
         rule: Rule::Label,
-        ranks: Judged::AllWithRanks,
+        judged: Judged::AllWithRanks,
         sink: false,
         here: (9, 1, 4, 7, 9),
         east: (7, 0, 10, 8, 9),
@@ -155,7 +155,7 @@ static ROWS: [Row; 14] = [
     Row {
         case: "a label again",
         rule: Rule::SharedLabel,
-        ranks: Judged::AllWithRanks,
+        judged: Judged::AllWithRanks,
         sink: false,
         here: (5, 0, 1, 7, 9),
         east: (9, 0, 1, 7, 9),
@@ -166,7 +166,7 @@ static ROWS: [Row; 14] = [
     Row {
         case: "numbers missing",
         rule: Rule::Missing,
-        ranks: Judged::All,
+        judged: Judged::All,
         sink: false,
         here: (5, 255, 0, 7, 4294967295),
         east: (9, 0, 1, 7, 9),
@@ -188,7 +188,7 @@ fn patch(row: &Row) -> Result<Patch, &'static str> {
 }
 
 fn facts(alloc: Global, row: &Row) -> Result<Facts, Fail> {
-    let findings = one_fault(alloc, row.rule, row.ranks, patch(row)?)?;
+    let findings = one_fault(alloc, row.rule, row.judged, patch(row)?)?;
     Ok(rejected(row.rule, 1, 2, findings))
 }
 
@@ -254,11 +254,11 @@ fn numbered_void(alloc: Global, judged: Judged) -> Result<Facts, Fail> {
         Rule::VoidCell,
         1,
         2,
-        one_fault(alloc, Rule::VoidCell, ranks, patch)?,
+        one_fault(alloc, Rule::VoidCell, judged, patch)?,
     ))
 }
 
-/// Whether ranks are checked, and what is expected of the void.
+/// Which rasters are judged, and what is expected of the void.
 static NUMBERED: [(&str, Judged, &str); 2] = [
     (
         "ranks asked",
@@ -274,8 +274,8 @@ static NUMBERED: [(&str, Judged, &str); 2] = [
 
 #[test]
 fn voids_with_numbers(rt: HostRuntime) -> Result<(), Fail> {
-    for &(case, ranks, expected) in &NUMBERED {
-        let facts = numbered_void(rt.alloc(), ranks)?;
+    for &(case, judged, expected) in &NUMBERED {
+        let facts = numbered_void(rt.alloc(), judged)?;
         page_has(&rt, rt.alloc(), Form::Text, case, facts, expected)?;
     }
     Ok(())

@@ -6,14 +6,14 @@ use drain_explain::{Extent, NotData, RefusalDetail, TileValue};
 use drain_grid::{Cell, Product};
 use drain_header::Place;
 use drain_hgt::TileName;
-use drain_page::{Answer, Facts};
+use drain_page::Facts;
 use std::alloc::Global;
 use std::test::Fail;
 
 /// The facts of a refusal.
 fn refused(refusal: Refusal, note: RefusalDetail) -> Facts {
     Facts {
-        answer: Answer::Check(Err(refusal)),
+        answer: Err(refusal),
         refusal: Some(note),
         findings: None,
     }

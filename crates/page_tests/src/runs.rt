@@ -1,9 +1,9 @@
 //! Paths without an end: rings and paths that lead nowhere.
 
 use crate::worked::{Form, no_fault, page_has};
-use drain_answer::AuditVerdict;
+use drain_answer::Outcome;
 use drain_grid::{Cell, Judged};
-use drain_page::{Answer, Facts};
+use drain_page::Facts;
 use drain_paths::{EndlessPath, LostBy};
 use std::alloc::Global;
 use std::test::Fail;
@@ -13,7 +13,7 @@ fn no_end(alloc: Global, run: EndlessPath) -> Result<Facts, Fail> {
     let mut findings = no_fault(alloc, Judged::All)?;
     findings.endless = Some((Cell { row: 0, col: 3 }, run));
     Ok(Facts {
-        answer: Answer::Audit(Ok(AuditVerdict::NoEnd { row: 0, col: 3 })),
+        answer: Ok(Outcome::NoEnd { row: 0, col: 3 }),
         refusal: None,
         findings: Some(findings),
     })

@@ -5,11 +5,11 @@ use crate::whole_pages::{JSON, TEXT};
 use crate::worked::{
     Form, Numbers, cell, cells, no_cell, no_fault, page_of, product, rejected, void,
 };
-use drain_answer::{AuditVerdict, Refusal};
+use drain_answer::{Outcome, Refusal};
 use drain_explain::Findings;
 use drain_faults::FaultyPatch;
-use drain_grid::{Cell, Counts, Judged, Patch, Rule, Verdict};
-use drain_page::{Answer, Facts, NO_OBJECT, failure_json};
+use drain_grid::{Cell, Counts, Judged, Patch, Rule};
+use drain_page::{Facts, NO_OBJECT, failure_json};
 use std::alloc::Global;
 use std::test::Fail;
 
@@ -72,7 +72,7 @@ fn accepted(alloc: Global) -> Result<Facts, Fail> {
         outlets: 3,
     };
     Ok(Facts {
-        answer: Answer::Audit(Ok(AuditVerdict::Accepted(counts))),
+        answer: Ok(Outcome::Accepted(counts)),
         refusal: None,
         findings: Some(no_fault(alloc, Judged::All)?),
     })
@@ -97,7 +97,7 @@ fn an_acceptance(rt: HostRuntime) -> Result<(), Fail> {
 /// The facts of a refusal without details.
 fn no_tiles() -> Facts {
     Facts {
-        answer: Answer::Check(Err(Refusal::NoTiles)),
+        answer: Err(Refusal::NoTiles),
         refusal: None,
         findings: None,
     }

@@ -2,12 +2,13 @@
 //! north and 105 west.
 
 use crate::agree::has;
+use drain_answer::Outcome;
 use drain_explain::Findings;
 use drain_faults::{FaultyPatch, PerRule, ProductFaults, RuleFaults};
-use drain_grid::{Cell, CellValues, Judged, NoData, Patch, PerProduct, Rule, Rules, Verdict};
+use drain_grid::{Cell, CellValues, Judged, NoData, Patch, PerProduct, Rule, Rules};
 use drain_hgt::TileName;
 use drain_mosaic::Layout;
-use drain_page::{Answer, Facts, page_json, page_text};
+use drain_page::{Facts, page_json, page_text};
 use std::alloc::Global;
 use std::process::Abort;
 use std::test::Fail;
@@ -72,9 +73,8 @@ pub fn no_fault(alloc: Global, judged: Judged) -> Result<Findings, Fail> {
         layout: layout(alloc)?,
         rules: Rules {
             nodata: NoData::defaults(),
-            ranks,
+            judged,
         },
-        only: None,
         by_rule: PerRule::same(no_cell()),
         by_product: PerProduct {
             con: product(no_cell(), no_cell()),
@@ -90,8 +90,13 @@ pub fn no_fault(alloc: Global, judged: Judged) -> Result<Findings, Fail> {
 }
 
 /// Findings with one fault of this rule, at this patch.
-pub fn one_fault(alloc: Global, rule: Rule, judged: Judged, patch: Patch) -> Result<Findings, Fail> {
-    let mut findings = no_fault(alloc, ranks)?;
+pub fn one_fault(
+    alloc: Global,
+    rule: Rule,
+    judged: Judged,
+    patch: Patch,
+) -> Result<Findings, Fail> {
+    let mut findings = no_fault(alloc, judged)?;
     set(&mut findings.by_rule, rule, cells(1, 1, 2));
     findings.first = Some(FaultyPatch {
         cell: Cell { row: 1, col: 2 },
@@ -124,7 +129,7 @@ fn set(by_rule: &mut PerRule<RuleFaults>, rule: Rule, faults: RuleFaults) {
 /// The facts of a rejection.
 pub fn rejected(rule: Rule, row: u32, col: u32, findings: Findings) -> Facts {
     Facts {
-        answer: Answer::Check(Ok(Verdict::Rejected { rule, row, col })),
+        answer: Ok(Outcome::Rejected { rule, row, col }),
         refusal: None,
         findings: Some(findings),
     }
