@@ -153,7 +153,12 @@ fn rules_about(judged: Judged) -> Rules {
 }
 
 /// Checks the next row.
-fn check_row(walk: &mut Walk<OutletLabels>, given: Given<'_>, row: u8, room: &mut Room) -> Result<(), Fail>
+fn check_row(
+    walk: &mut Walk<OutletLabels>,
+    given: Given<'_>,
+    row: u8,
+    room: &mut Room,
+) -> Result<(), Fail>
     requires { walk.old.rows < 3 }
     ensures { OnOk result (walk.new.rows ≡ walk.old.rows + 1) }
 {
