@@ -140,8 +140,8 @@ fn flows_on<R: ByteSource>(
     // The law that bytes name one tile.
     one_name();
     let mut flows = CellFlows::new(alloc);
-    let ranks = Judged::All;
-    read_inputs(alloc, layout, sinks, tiles, products, ranks, &mut flows)?;
+    let judged = Judged::All;
+    read_inputs(alloc, layout, sinks, tiles, products, judged, &mut flows)?;
     counted(flows, layout.shape())
 }
 

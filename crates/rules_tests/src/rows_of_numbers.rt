@@ -3,6 +3,7 @@
 ghost use Rattle.std.specs.Prelude.{◌≡◌, ◌<◌, ◌+◌, OnOk};
 
 use crate::part_rows::{AS_NUMBERS, Kinds, PartRow, PartRows};
+use drain_basin::OutletLabels;
 use drain_faults::FaultWalk;
 use drain_grid::{Judged, NoData, Rules, Shape, Sinks, Verdict, parse_sinks};
 use drain_kernel::Lanes;
@@ -152,7 +153,12 @@ fn rules_about(judged: Judged) -> Rules {
 }
 
 /// Checks the next row.
-fn check_row(walk: &mut Walk, given: Given<'_>, row: u8, room: &mut Room) -> Result<(), Fail>
+fn check_row(
+    walk: &mut Walk<OutletLabels>,
+    given: Given<'_>,
+    row: u8,
+    room: &mut Room,
+) -> Result<(), Fail>
     requires { walk.old.rows < 3 }
     ensures { OnOk result (walk.new.rows ≡ walk.old.rows + 1) }
 {
@@ -162,7 +168,7 @@ fn check_row(walk: &mut Walk, given: Given<'_>, row: u8, room: &mut Room) -> Res
 }
 
 /// Checks all three rows.
-fn check_rows(walk: &mut Walk, given: Given<'_>, room: &mut Room) -> Result<(), Fail>
+fn check_rows(walk: &mut Walk<OutletLabels>, given: Given<'_>, room: &mut Room) -> Result<(), Fail>
     requires { walk.old.rows ≡ 0 }
 {
     check_row(walk, given, 0, room)?;
@@ -255,7 +261,7 @@ fn kept_in_row(rows: &ThreeRows<'_>, from: u32) -> Option<Kept> {
     if from > rows.cols() {
         return None;
     }
-    Some(rows.kept_from(&rules_about(Judged::AllWithRanks), from))
+    Some(rows.kept_from(&rules_about(Judged::AllWithRanks), from, rows.cols()))
 }
 
 /// Whether lanes find that a cell is an outlet that keeps the rules.

@@ -1,4 +1,4 @@
-//! Judged of directions that lead to and fro, row after row, through each of a million cells of level ground.
+//! Ranks of directions that lead to and fro, row after row, through each of a million cells of level ground.
 
 use crate::agree::same;
 use drain_grid::{Cell, Elevation, Raster, Shape};

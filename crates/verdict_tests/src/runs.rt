@@ -11,7 +11,7 @@ use std::test::Fail;
 
 /// What is run on an example.
 #[derive(Clone, Copy)]
-pub enum AllWithRanks {
+pub enum Checked {
     Check,
     /// The ranks aren't passed.
     Audit,
