@@ -19,8 +19,8 @@ use Rattle.drain_window.proofs.judge.answer_at.Goals as goal
 
 pub read_inputs-requires-clause-unnoted : goal.read_inputs-requires-clause-unnoted
 read_inputs-requires-clause-unnoted g c = λ rules grid ps. (
-  c.new.ensures.right grid ps,
-  c.new-2.ensures.right rules grid ps,
+  c.new.ensures.right rules grid ps,
+  record { rows_are = c.begin.ensures.rows; right = c.begin.ensures.outcome rules grid ps },
 )
 
 pub returns-in_err-read_inputs-clause-answer : goal.returns-in_err-read_inputs-clause-answer
@@ -49,7 +49,7 @@ returns-in-Some-clause-answer g c = λ inputs tell.
       answer,
       subst (λ (o : Cell). IsAnswerOn (nodata_numbers inputs) o c.args.place.now (input_grid inputs) (input_products inputs) c.in-Some.answer.0 c.in-Some.answer.1)
           (c.map_origin-origin.ensures.origin ∙ ap map_origin is)
-          (c.in-Some.ensures.answer (nodata_numbers inputs) (input_grid inputs) (input_products inputs) placed some noted.1 noted.0 listed),
+          (c.in-Some.ensures.answer (nodata_numbers inputs) (input_grid inputs) (input_products inputs) placed some (record { rows_are = noted.1.rows_are; right = noted.1.right }) noted.0 listed),
     )
 
 pub returns-in-Some-clause-uses : goal.returns-in-Some-clause-uses
