@@ -1,22 +1,36 @@
 //! Makes products of tiles, and writes them as files in memory.
 
-ghost use Rattle.std.specs.Prelude.{◌≡◌, length};
+ghost use Rattle.std.specs.Prelude.{◌≡◌, Ok, length};
 
 use crate::inputs::{Tile, at_zero, inputs};
 use crate::printed::{Printed, room};
 use drain_cli::runs::make_set::make_set;
-use drain_cli::runs::write_set::write_set;
+use drain_cli::runs::write_set::write_and_place;
 use drain_device::{ByteSink, VecSink};
-use drain_maker::product_files::FILE_COUNT;
+use drain_files::placing::Placing;
+use drain_maker::follow::Unfollowed;
+use drain_maker::product_files::{FILE_COUNT, SetFault};
 use std::alloc::{AllocError, Global};
 use std::test::Fail;
 
 /// A tile of side 3 with border 5 and a pit of 1.
 const PIT: [u8; 18] = [0, 5, 0, 5, 0, 5, 0, 5, 0, 1, 0, 5, 0, 5, 0, 5, 0, 5];
 
-/// The same at 0 degrees.
+/// The tile with the pit, at 0 degrees.
 pub fn pit() -> [Tile<'static>; 1] {
     at_zero(&PIT)
+}
+
+/// Files that are written under their own names.
+#[derive(Drop)]
+struct InPlace;
+
+impl Placing for InPlace {
+    ghost has_placed = { λ old new result. result ≡ Ok tt };
+
+    fn place(&mut self) -> Result<(), SetFault> {
+        Ok(())
+    }
 }
 
 /// Makes products of the tiles with this list of sinks, and writes them as these files. If none are made the files are
@@ -32,8 +46,22 @@ fn set_status<F: ByteSink>(
     requires { length files.old ≡ FILE_COUNT }
 {
     let mut inputs = inputs(alloc, tiles)?;
-    match make_set(alloc, side, inputs.as_mut_slice(), sinks, out) {
-        Ok((layout, products)) => Ok(write_set(alloc, &layout, &products, files, out)),
+    match make_set(
+        alloc,
+        side,
+        inputs.as_mut_slice(),
+        sinks,
+        &mut Unfollowed,
+        out,
+    ) {
+        Ok((layout, products)) => Ok(write_and_place(
+            alloc,
+            &layout,
+            &products,
+            files,
+            &mut InPlace,
+            out,
+        )),
         Err(status) => Ok(status),
     }
 }

@@ -2,7 +2,7 @@
 
 ghost use Rattle.std.specs.Prelude.{◌≡◌};
 
-use crate::line::LINE_LENGTH;
+use crate::lines::LINE_LENGTH;
 
 /// The numeral of the constant: the longest line has fewer bytes. It is this project's own.
 pub fn constants()

@@ -1,17 +1,18 @@
-//! What a check, an audit or the check of a fill input answers: refusals, the verdict of an audit, and the line of each answer.
+//! What a check, an audit or the check of a fill input answers: refusals, the verdict of an audit, the line of each
+//! answer, how it is printed, and the exit statuses of the program.
 #![tactic(auto)]
 
-pub mod answer_report;
-pub mod audit_line;
 pub mod audit_verdict;
-pub mod fill_line;
 pub mod laws;
-pub mod line;
+pub mod lines;
+pub mod outcome;
+pub mod outcome_line;
+pub mod print;
 pub mod refusal;
-pub mod verdict_report;
+pub mod status;
 
-pub use answer_report::report;
-pub use audit_line::audit_report;
 pub use audit_verdict::AuditVerdict;
-pub use fill_line::fill_report;
+pub use lines::{audit_report, fill_report, report};
+pub use outcome::Outcome;
+pub use outcome_line::outcome_report;
 pub use refusal::Refusal;

@@ -3,8 +3,8 @@
 use Rattle.std.specs.Prelude.{◌≡◌, ℕ, Bool, true, ◌==◌, ◌||◌, List, [], ◌∷◌, map, Option, Some}
 use Rattle.std.specs.List.{list_all, list_any, slice_split}
 use Rattle.drain_text.specs.Text.{whole_number}
-use Rattle.drain_windows.specs.declared.place.InnerSides.{InnerSides}
-use Rattle.drain_windows.specs.declared.place.Place.{Place}
+use Rattle.drain_union.specs.declared.place.InnerSides.{InnerSides}
+use Rattle.drain_union.specs.declared.place.Place.{Place}
 
 -- a comma
 abbrev pub is_comma : ℕ → Bool

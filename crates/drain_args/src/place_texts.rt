@@ -3,12 +3,12 @@
 ghost use Rattle.std.specs.Prelude.{◌≡◌, ◌≢◌, ◌∷◌, [], ℕ, MatchOption, Option, Some, List, false};
 ghost use Rattle.std.specs.List.{list_all};
 ghost use Rattle.drain_grid.specs.Size.{IsExtent};
-ghost use Rattle.drain_windows.specs.declared.place.Place.{Place};
+ghost use Rattle.drain_union.specs.declared.place.Place.{Place};
 ghost use Rattle.drain_args.specs.PlaceTexts.{IsBox, IsInner, has, is_side_letter, numbers_of};
 
 use drain_grid::Shape;
 use drain_text::numbers::whole_number;
-use drain_windows::{InnerSides, Place};
+use drain_union::{InnerSides, Place};
 
 /// The place of the box that the text names, with these inner sides.
 ///

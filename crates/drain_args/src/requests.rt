@@ -12,7 +12,7 @@ use crate::{explain_texts, help_texts, window_texts};
 use clap::error::ErrorKind;
 use clap::{ArgMatches, Error};
 use drain_parts::Given;
-use drain_windows::Place;
+use drain_union::Place;
 use std::alloc::{AllocError, Global};
 
 /// The request of the arguments.

@@ -3,8 +3,8 @@ use Rattle.std.specs.Prelude.{ℕ, Result, Ok, Err}
 use Rattle.drain_c.specs.declared.found.Found.{Found}
 use Rattle.drain_grid.specs.Rule.{rule_number}
 use Rattle.drain_grid.specs.declared.rule.Rule.{Rule}
-use Rattle.drain_rules.specs.declared.verdict.Verdict.{Verdict}
-use Rattle.drain_rules.specs.declared.verdict.Verdict.TheVariants as checked
+use Rattle.drain_grid.specs.declared.verdict.Verdict.{Verdict}
+use Rattle.drain_grid.specs.declared.verdict.Verdict.TheVariants as checked
 use Rattle.drain_answer.specs.declared.audit_verdict.AuditVerdict.{AuditVerdict}
 use Rattle.drain_answer.specs.declared.audit_verdict.AuditVerdict.TheVariants.{Accepted, Rejected, NoEnd}
 use Rattle.drain_answer.specs.declared.refusal.Refusal.{Refusal}

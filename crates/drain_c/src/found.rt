@@ -3,8 +3,7 @@
 ghost use Rattle.std.specs.Prelude.{◌≡◌};
 ghost use Rattle.drain_c.specs.Found.{audit_found, check_found, refusal_found, rejection_found, status_only};
 
-use drain_grid::Rule;
-use drain_rules::Verdict;
+use drain_grid::{Rule, Verdict};
 use drain_verdict::{AuditVerdict, Refusal};
 
 /// The status, as the program exits with it; of a rejection the number of the rule that fails, and the cell. What an

@@ -9,7 +9,7 @@ ghost use Rattle.drain_verdict.specs.Headline.{IsRight, TilesAreOne, ElevationIs
 
 use crate::given::{AuditBytes, CheckBytes, TileBytes};
 use crate::sources::{audit_inputs, check_inputs, tile_inputs};
-use drain_rules::Verdict;
+use drain_grid::Verdict;
 use drain_verdict::{AuditVerdict, Refusal, audit, check};
 use std::alloc::Global;
 

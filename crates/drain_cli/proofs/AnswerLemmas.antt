@@ -1,7 +1,7 @@
 -- What the status of a check or of an audit says of its answer.
 use Rattle.std.proofs.Common.{◌≡◌, ◌↔◌, Result, Ok, Err, IfOk, arith}
-use Rattle.drain_rules.specs.declared.verdict.Verdict.{Verdict}
-use Rattle.drain_rules.specs.declared.verdict.Verdict.TheVariants as check
+use Rattle.drain_grid.specs.declared.verdict.Verdict.{Verdict}
+use Rattle.drain_grid.specs.declared.verdict.Verdict.TheVariants as check
 use Rattle.drain_rules.specs.Verdicts.{IfAccepted}
 use Rattle.drain_answer.specs.declared.audit_verdict.AuditVerdict.{AuditVerdict}
 use Rattle.drain_answer.specs.declared.audit_verdict.AuditVerdict.TheVariants as audit
@@ -13,8 +13,8 @@ use Rattle.drain_page.specs.declared.facts.Answer.TheVariants.{Check, Audit}
 use Rattle.drain_verdict.specs.Audits.{IfAccepts, IsAcceptance}
 use Rattle.drain_verdict.specs.Inputs.{Inputs}
 use Rattle.drain_cli.specs.AnswerStatuses.{answer_status, part_status}
-use Rattle.drain_print.specs.Statuses.{status_code}
-use Rattle.drain_print.proofs.StatusLemmas.{refused_above_1}
+use Rattle.drain_answer.specs.Statuses.{status_code}
+use Rattle.drain_answer.proofs.StatusLemmas.{refused_above_1}
 
 -- what holds of a check's acceptance holds where the status of its answer is 0
 pub of_checked : (answer : Result Verdict Refusal) → status_code (answer_status (Check answer)) ≡ 0 → (Fact : Type 0) → IfAccepted answer Fact → Fact

@@ -1,4 +1,7 @@
 pub mod AnswerLemmas
 pub mod ExplainLemmas
 pub mod HeaderLemmas
+pub mod ReadReports
+pub mod ReportTexts
 pub mod RoundTrips
+pub mod UnionStatuses

@@ -6,10 +6,10 @@ use Rattle.drain_page.specs.declared.facts.Answer.{Answer}
 use Rattle.drain_page.specs.declared.facts.Answer.TheVariants.{Check, Audit, Part}
 use Rattle.drain_part_audit.specs.declared.part_verdict.PartVerdict.{PartVerdict}
 use Rattle.drain_part_audit.specs.declared.part_verdict.PartVerdict.TheVariants as part
-use Rattle.drain_print.specs.Statuses.{refusal_status}
-use Rattle.drain_print.specs.declared.status.Status.{Status}
-use Rattle.drain_print.specs.declared.status.Status.TheVariants.{Done, Rejected}
-use Rattle.drain_rules.specs.declared.verdict.Verdict.TheVariants as check
+use Rattle.drain_answer.specs.Statuses.{refusal_status}
+use Rattle.drain_answer.specs.declared.status.Status.{Status}
+use Rattle.drain_answer.specs.declared.status.Status.TheVariants.{Done, Rejected}
+use Rattle.drain_grid.specs.declared.verdict.Verdict.TheVariants as check
 
 -- done if some rasters are accepted, rejected if there is another verdict, else that of the refusal
 abbrev pub part_status : Result PartVerdict Refusal → Status

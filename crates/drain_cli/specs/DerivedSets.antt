@@ -4,10 +4,10 @@ use Rattle.drain_answer.specs.AuditLines.{no_end_line}
 use Rattle.drain_answer.specs.Lines.{refusal_line}
 use Rattle.drain_answer.specs.declared.refusal.Refusal.{Refusal}
 use Rattle.drain_answer.specs.declared.refusal.Refusal.TheVariants.{BadHeader, WrongShape, Misplaced}
-use Rattle.drain_derive.specs.Reading.{AreDerivedOf, IsDeriveRefusal, reading_in}
-use Rattle.drain_derive.specs.declared.derived.Derived.{Derived}
-use Rattle.drain_derive.specs.declared.reading.DeriveRefusal.{DeriveRefusal}
-use Rattle.drain_derive.specs.declared.reading.DeriveRefusal.TheVariants.{Refused, NoEnd}
+use Rattle.drain_maker.specs.Derivation.{AreDerivedOf, IsDeriveRefusal, reading_in}
+use Rattle.drain_maker.specs.declared.derived.Derived.{Derived}
+use Rattle.drain_maker.specs.declared.derivation.DeriveRefusal.{DeriveRefusal}
+use Rattle.drain_maker.specs.declared.derivation.DeriveRefusal.TheVariants.{Refused, NoEnd}
 use Rattle.drain_device.specs.Devices.{Sink, Source}
 use Rattle.drain_grid.specs.declared.product.Product.TheVariants.{Con, Dir}
 use Rattle.drain_hgt.specs.Inputs.{names_of}
@@ -18,11 +18,11 @@ use Rattle.drain_mosaic.specs.Tiling.{Tiling}
 use Rattle.drain_verdict.specs.Audits.{ForAudit}
 use Rattle.drain_verdict.specs.Uses.{AuditUses}
 use Rattle.drain_verdict.specs.declared.audit_products.AuditProducts.{AuditProducts}
-use Rattle.drain_print.specs.Printing.{Prints}
+use Rattle.drain_answer.specs.Printing.{Prints}
 use Rattle.drain_cli.specs.SetRuns.{written_line}
-use Rattle.drain_print.specs.Statuses.{refusal_status}
-use Rattle.drain_print.specs.declared.status.Status.{Status}
-use Rattle.drain_print.specs.declared.status.Status.TheVariants.{Rejected}
+use Rattle.drain_answer.specs.Statuses.{refusal_status}
+use Rattle.drain_answer.specs.declared.status.Status.{Status}
+use Rattle.drain_answer.specs.declared.status.Status.TheVariants.{Rejected}
 
 -- the line for the result of writing: derived rows=R cols=C
 abbrev pub derived_line : Tiling → Result (Unit {0}) SetFault → List ℕ
@@ -54,6 +54,6 @@ pub record IsDerivation {R : Type 0} (source : Source R) (side : ℕ) (tiles_old
   pub uses : AuditUses source.bytes_left source.counts side (tiles_old, products_old) (tiles_new, products_new) (reading_in outcome)
 
 -- what was derived is returned, and nothing printed; or the reason is printed, and its status returned
-abbrev pub IsHandedOver : {W : Type 0} → Sink W → W → W → Result (Tiling × Derived) DeriveRefusal → Result (Tiling × Derived) ℕ → Type 0
-IsHandedOver sink old new (Ok set) result = (result ≡ Ok set) × (new ≡ old)
-IsHandedOver sink old new (Err why) result = (code : ℕ) × (result ≡ Err code) × Prints sink old new (none_line why) (none_status why) code
+abbrev pub IsSetHandedOver : {W : Type 0} → Sink W → W → W → Result (Tiling × Derived) DeriveRefusal → Result (Tiling × Derived) ℕ → Type 0
+IsSetHandedOver sink old new (Ok set) result = (result ≡ Ok set) × (new ≡ old)
+IsSetHandedOver sink old new (Err why) result = (code : ℕ) × (result ≡ Err code) × Prints sink old new (none_line why) (none_status why) code

@@ -16,13 +16,13 @@ use Rattle.drain_cli.specs.declared.runs.no_page.NoPage.TheVariants as no_page
 use Rattle.drain_cli.specs.declared.runs.no_page.NoPage.TheVariants.{Open}
 use Rattle.drain_files.specs.declared.open_judged.JudgedProducts.{JudgedProducts}
 use Rattle.drain_files.specs.declared.open_judged.JudgedProducts.TheVariants as products
-use Rattle.drain_print.specs.declared.status.Status.{Status}
-use Rattle.drain_print.specs.declared.status.Status.TheVariants.{Failed}
+use Rattle.drain_answer.specs.declared.status.Status.{Status}
+use Rattle.drain_answer.specs.declared.status.Status.TheVariants.{Failed}
 use Rattle.drain_cli.specs.JudgedRuns.{IsAuditOutcome, IsCheckOutcome, IsPartOutcome}
-use Rattle.drain_print.specs.Failures.{failure_text}
+use Rattle.drain_answer.specs.Failures.{failure_text}
 use Rattle.drain_files.specs.OpenFailures.{IsOpenFailure}
 use Rattle.drain_page.specs.JsonLines.{IsAnswerLine, line_feed}
-use Rattle.drain_print.specs.Printing.{PrintsText}
+use Rattle.drain_answer.specs.Printing.{PrintsText}
 use Rattle.drain_cli.specs.AnswerStatuses.{answer_status}
 
 -- the outcome of a check of five products, or that of an audit of four, or of some of these

@@ -6,13 +6,13 @@ use Rattle.drain_device.specs.declared.read.BodyFault.TheVariants.{ReadFailed, O
 use Rattle.drain_device.specs.Failing.{ReadFails}
 use Rattle.drain_grid.specs.Path.{IsFilled}
 use Rattle.drain_rules.specs.Fill.{fill_grid, fill_products}
-use Rattle.drain_rules.specs.declared.fill_walk.FillVerdict.{FillVerdict}
-use Rattle.drain_rules.specs.declared.fill_walk.FillVerdict.TheVariants.{Accepted, Rejected}
-use Rattle.drain_rules.specs.declared.fill_walk.FillRefusal.{FillRefusal}
+use Rattle.drain_grid.specs.declared.fill_verdict.FillVerdict.{FillVerdict}
+use Rattle.drain_grid.specs.declared.fill_verdict.FillVerdict.TheVariants.{Accepted, Rejected}
+use Rattle.drain_grid.specs.declared.fill_verdict.FillRefusal.{FillRefusal}
 use Rattle.drain_rules.specs.FillVerdicts.{IsFillAnswer}
 use Rattle.drain_answer.specs.FillLines.{fill_line}
-use Rattle.drain_print.specs.declared.status.Status.{Status}
-use Rattle.drain_print.specs.declared.status.Status.TheVariants as status
+use Rattle.drain_answer.specs.declared.status.Status.{Status}
+use Rattle.drain_answer.specs.declared.status.Status.TheVariants as status
 
 -- an answer, or why there is none
 abbrev pub FillOutcome : Type 0

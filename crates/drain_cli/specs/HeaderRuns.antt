@@ -10,10 +10,10 @@ use Rattle.drain_header.specs.Fields.{Fields}
 use Rattle.drain_header.specs.Faults.{Answers}
 use Rattle.drain_header.specs.FaultText.{fault_text}
 use Rattle.drain_header.specs.Text.{text_of}
-use Rattle.drain_print.specs.declared.status.Status.{Status}
-use Rattle.drain_print.specs.declared.status.Status.TheVariants as status
-use Rattle.drain_print.specs.Failures.{failure_text}
-use Rattle.drain_print.specs.Printing.{line_feed}
+use Rattle.drain_answer.specs.declared.status.Status.{Status}
+use Rattle.drain_answer.specs.declared.status.Status.TheVariants as status
+use Rattle.drain_answer.specs.Failures.{failure_text}
+use Rattle.drain_answer.specs.Printing.{line_feed}
 
 -- an answer, or why there is none
 abbrev pub HeaderOutcome : Type 0

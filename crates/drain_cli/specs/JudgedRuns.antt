@@ -7,7 +7,7 @@ use Rattle.drain_hgt.specs.declared.input.TileInput.{TileInput}
 use Rattle.drain_part_audit.specs.PartAudits.{IsPartAnswer}
 use Rattle.drain_part_audit.specs.declared.part_verdict.PartVerdict.{PartVerdict}
 use Rattle.drain_parts.specs.declared.given.Given.{Given}
-use Rattle.drain_rules.specs.declared.verdict.Verdict.{Verdict}
+use Rattle.drain_grid.specs.declared.verdict.Verdict.{Verdict}
 use Rattle.drain_verdict.specs.Answers.{IsAnswer}
 use Rattle.drain_verdict.specs.AuditInputs.{audit_devices, with_con_for_ranks}
 use Rattle.drain_verdict.specs.Audits.{IsAuditAnswer}

@@ -5,5 +5,10 @@ pub mod FillRuns
 pub mod HeaderRuns
 pub mod JudgedRuns
 pub mod MadeSets
+pub mod MergeRuns
+pub mod ReportInputs
+pub mod ReportOutputs
 pub mod RoundTrip
+pub mod RunLaws
 pub mod SetRuns
+pub mod WindowRuns

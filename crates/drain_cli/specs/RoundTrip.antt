@@ -7,7 +7,7 @@ use Rattle.drain_grid.specs.WholeGrid.{grid_of, products_of}
 use Rattle.drain_grid.specs.SetProduct.{products}
 use Rattle.drain_hgt.specs.declared.input.TileInput.{TileInput}
 use Rattle.drain_mosaic.specs.Tiling.{Tiling}
-use Rattle.drain_rules.specs.declared.verdict.Verdict.{Verdict}
+use Rattle.drain_grid.specs.declared.verdict.Verdict.{Verdict}
 use Rattle.drain_answer.specs.declared.refusal.Refusal.{Refusal}
 use Rattle.drain_verdict.specs.Inputs.{Inputs}
 use Rattle.drain_maker.specs.Mosaics.{TellTiles}

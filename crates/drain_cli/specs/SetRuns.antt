@@ -5,9 +5,9 @@ use Rattle.drain_mosaic.specs.Tiling.{Tiling, extent_of}
 use Rattle.drain_answer.specs.declared.refusal.Refusal.TheVariants as refusal
 use Rattle.drain_answer.specs.Lines.{refusal_line}
 use Rattle.drain_maker.specs.declared.maker.MakeRefusal.TheVariants as maker
-use Rattle.drain_print.specs.Statuses.{refusal_status}
-use Rattle.drain_print.specs.declared.status.Status.{Status}
-use Rattle.drain_print.specs.declared.status.Status.TheVariants.{Done, Refused, Failed}
+use Rattle.drain_answer.specs.Statuses.{refusal_status}
+use Rattle.drain_answer.specs.declared.status.Status.{Status}
+use Rattle.drain_answer.specs.declared.status.Status.TheVariants.{Done, Refused, Failed}
 use Rattle.drain_maker.specs.declared.product_files.SetFault.{SetFault}
 use Rattle.drain_maker.specs.declared.product_files.SetFault.TheVariants.{WriteFailed, OutOfMemory}
 use Rattle.drain_cli.specs.declared.runs.make_set.NoSet.{NoSet}

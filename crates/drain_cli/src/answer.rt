@@ -3,14 +3,14 @@
 ghost use Rattle.std.specs.Prelude.{◌≡◌, ◌<◌};
 ghost use Rattle.drain_cli.specs.AnswerStatuses.{answer_status};
 ghost use Rattle.drain_page.specs.Lines.{line_of};
-ghost use Rattle.drain_print.specs.Printing.{Prints};
-ghost use Rattle.drain_print.specs.Statuses.{status_code};
+ghost use Rattle.drain_answer.specs.Printing.{Prints};
+ghost use Rattle.drain_answer.specs.Statuses.{status_code};
 
+use drain_answer::print::print_line;
+use drain_answer::status::Status;
 use drain_device::ByteSink;
 use drain_page::Answer;
 use drain_part_audit::PartVerdict;
-use drain_print::print::print_line;
-use drain_print::status::Status;
 use drain_verdict::{AuditVerdict, Verdict};
 
 /// Prints the line of an answer, and returns its exit status, or that of a failure if the line can't be written.

@@ -1,17 +1,43 @@
--- Where the path without an end leads that an audit names.
-use Rattle.std.proofs.Common.{Option, Some, None, Ok, subst}
+-- Where the path without an end leads that an outcome names.
+use Rattle.std.proofs.Common.{◌≡◌, ℕ, List, Option, Some, None, subst}
 use Rattle.std.specs.Prelude.{IfSome}
+use Rattle.drain_answer.specs.declared.outcome.Outcome.{Outcome}
+use Rattle.drain_answer.specs.declared.outcome.Outcome.TheVariants.{NoEnd}
 use Rattle.drain_grid.specs.declared.cell.Cell.{Cell}
+use Rattle.drain_grid.specs.declared.judged.Judged.{Judged}
+use Rattle.drain_grid.specs.declared.judged.Judged.TheVariants.{Con, ConDir, ConDirAcc, ConDirBas, All, AllWithRanks}
+use Rattle.drain_grid.specs.Grid.{Grid, Products}
+use Rattle.drain_grid.specs.Size.{Extent}
 use Rattle.drain_paths.specs.declared.endless_path.EndlessPath.{EndlessPath}
-use Rattle.drain_verdict.specs.Audits.{IsAnswerWithoutRanks, IsPlainVerdict}
+use Rattle.drain_paths.specs.declared.flow.Flow.{Flow}
+use Rattle.drain_paths.specs.KnownFlows.{AreKnownFlows}
+use Rattle.drain_verdict.specs.Deciding.{AreFlowsFor}
 use Rattle.drain_verdict.specs.Inputs.{Inputs}
-use Rattle.drain_verdict.specs.Meaning.{input_grid, nodata_numbers, input_products}
-use Rattle.drain_answer.specs.declared.audit_verdict.AuditVerdict.{AuditVerdict}
-use Rattle.drain_explain.specs.Explanations.{IsEndlessAt, IsEndlessOf}
+use Rattle.drain_verdict.specs.Meaning.{input_grid, input_products, nodata_numbers}
+use Rattle.drain_verdict.specs.Outcomes.{IsConOutcome, IsOutcome, IsRankOutcome, IsWayOutcome}
+use Rattle.drain_explain.specs.Explanations.{IsEndlessOf, IsNamed, LeadsAt}
 
--- the cell that the verdict names has data
-pub endless-told : (i : Inputs) (verdict : AuditVerdict) (told : Option (Cell × EndlessPath)) → IsAnswerWithoutRanks i (Ok verdict) → IfSome told (IsEndlessAt (input_grid i) (input_products i) verdict) →
-    IfSome told (IsEndlessOf i verdict)
-endless-told i verdict None answer at = tt
-endless-told i verdict (Some (cell, run)) answer at =
-    (at.named, at.run (subst (IsPlainVerdict (input_grid i) (input_products i) (nodata_numbers i)) at.named answer.2).here)
+module _ (i : Inputs) (outcome : Outcome) where
+  -- where paths decide, the cell that the outcome names has data
+  of_ways : (judged : Judged) (told : Option (Cell × EndlessPath)) → IsWayOutcome judged (input_grid i) (input_products i) (nodata_numbers i) outcome →
+      IfSome told (IsNamed outcome) → IfSome told (LeadsAt (input_grid i) (input_products i)) → IfSome told (IsEndlessOf i outcome)
+  of_ways judged None is named run = tt
+  of_ways judged (Some (cell, path)) is named run =
+      (named, run (subst (IsWayOutcome judged (input_grid i) (input_products i) (nodata_numbers i)) named is).here)
+
+  -- and elsewhere it names none
+  unnamed : (Is : Outcome → Type 0) → ((row col : ℕ) → ¬ Is (NoEnd row col)) → (told : Option (Cell × EndlessPath)) → Is outcome →
+      IfSome told (IsNamed outcome) → IfSome told (IsEndlessOf i outcome)
+  unnamed Is not None is named = tt
+  unnamed Is not (Some (cell, path)) is named = absurd (not cell.row cell.col (subst Is named is))
+
+  module _ (extent : Extent) (flows : List Flow) (told : Option (Cell × EndlessPath)) (named : IfSome told (IsNamed outcome))
+      (run : (g : Grid) (ps : Products) → AreKnownFlows g ps extent flows → IfSome told (LeadsAt g ps)) where
+    pub endless-told : (judged : Judged) → IsOutcome judged (input_grid i) (input_products i) (nodata_numbers i) outcome →
+        AreFlowsFor judged (input_grid i) (input_products i) extent flows → IfSome told (IsEndlessOf i outcome)
+    endless-told Con is left = unnamed (IsConOutcome (input_grid i) (input_products i) (nodata_numbers i)) (λ row col no. no) told is named
+    endless-told ConDir is left = of_ways ConDir told is named (run (input_grid i) (input_products i) left.known)
+    endless-told ConDirAcc is left = of_ways ConDirAcc told is named (run (input_grid i) (input_products i) left.known)
+    endless-told ConDirBas is left = of_ways ConDirBas told is named (run (input_grid i) (input_products i) left.known)
+    endless-told All is left = of_ways All told is named (run (input_grid i) (input_products i) left.known)
+    endless-told AllWithRanks is left = unnamed (IsRankOutcome (input_grid i) (input_products i) (nodata_numbers i)) (λ row col no. no) told is named

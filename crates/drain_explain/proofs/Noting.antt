@@ -4,10 +4,8 @@ use Rattle.std.specs.Prelude.{IsSome}
 use Rattle.std.proofs.lemmas.Bool.{false≢true}
 use Rattle.drain_grid.specs.declared.patch.Patch.{Patch}
 use Rattle.drain_grid.specs.Grid.{Grid, Products}
-use Rattle.drain_kernel.specs.declared.rules.Rules.{Rules}
-use Rattle.drain_kernel.specs.Rules.{tried}
+use Rattle.drain_grid.specs.declared.judged.Rules.{Rules}
 use Rattle.drain_rules.specs.PatchRows.{AreRowPatches}
-use Rattle.drain_faults.specs.ByProduct.{IsRightByProduct, OfNextRowByProduct}
 use Rattle.drain_faults.specs.declared.fault_map.FaultMap.{FaultMap}
 use Rattle.drain_faults.specs.FaultMaps.{IsMapOf, OfNextRowDrawn}
 use Rattle.drain_faults.specs.FaultWalks.{IsCountedOf, IsRightTally, OfNextFaultRow, OfNextRowCounted}
@@ -23,20 +21,18 @@ still_drawn (Some new) None same = absurd (false≢true (same.0 refl))
 
 -- one row more
 pub notes-more : (rules : Rules) (g : Grid) (ps : Products) (r cols : ℕ) (shown : ℕ → Patch) (old new : FaultVisitor) → AreRowPatches g ps r cols shown → AreFaultNotes rules g ps r old →
-    new.walk.rows ≡ old.walk.rows + 1 → OfNextFaultRow (tried rules) old.walk cols shown (λ g ps. IsRightTally (tried rules) g ps new.walk) →
-    OfNextRowByProduct rules old.walk cols shown (λ g ps. IsRightByProduct rules g ps new.walk) →
+    new.walk.rows ≡ old.walk.rows + 1 → OfNextFaultRow rules old.walk cols shown (λ g ps. IsRightTally rules g ps new.walk) →
     OfNextRowCounted old.walk cols shown (λ g ps. IsCountedOf g ps new.walk) →
-    OfNextRowDrawn (tried rules) old.walk cols shown (λ g ps. IsMapOf (tried rules) g ps new.walk) → new.rules ≡ rules → AreFaultNotes rules g ps (r + 1) new
-notes-more rules g ps r cols shown old new patches are rows by_rule by_product counted map same =
+    OfNextRowDrawn rules old.walk cols shown (λ g ps. IsMapOf rules g ps new.walk) → new.rules ≡ rules → AreFaultNotes rules g ps (r + 1) new
+notes-more rules g ps r cols shown old new patches are rows found counted map same =
     let so_far = are.walk_is in
     let here = subst (λ n. AreRowPatches g ps n cols shown) (sym so_far.rows_are) patches in
     record {
       walk_is = record {
         rows_are = rows ∙ ap (λ n. n + 1) so_far.rows_are;
-        by_rule = by_rule g ps here so_far.by_rule;
-        by_product = by_product g ps here so_far.by_product;
+        found = found g ps here so_far.found;
         counted = counted g ps here so_far.counted;
-        map = map g ps here so_far.by_rule so_far.map;
+        map = map g ps here so_far.found so_far.map;
       };
       rules_are = λ some. same;
     }

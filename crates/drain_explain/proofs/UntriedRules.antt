@@ -1,63 +1,63 @@
--- A rule about a product that wasn't looked at requires nothing.
-use Rattle.std.proofs.Common.{◌≡◌, ◌≢◌, Bool, true, false, IsTrue, Option, Some, None, refl}
+-- A rule about a product that isn't judged requires nothing.
+use Rattle.std.proofs.Common.{◌≡◌, ◌≢◌, Bool, true, false, IsTrue, Some, None, refl}
+use Rattle.drain_grid.specs.declared.judged.Judged.{Judged}
+use Rattle.drain_grid.specs.declared.judged.Judged.TheVariants as rasters
+use Rattle.drain_grid.specs.declared.judged.Rules.{Rules}
 use Rattle.drain_grid.specs.declared.patch.Patch.{Patch}
 use Rattle.drain_grid.specs.declared.rule.Rule.{Rule}
 use Rattle.drain_grid.specs.declared.rule.Rule.TheVariants.{VoidCell, Missing, BadCode, BelowGround, OpenRaised, NoSpill, SpillHeight, SpillRank, NotLeast, Slope, OutletCode, FlatStep, Accumulation, Label, SharedLabel}
 use Rattle.drain_grid.specs.declared.set_product.SetProduct.{SetProduct}
 use Rattle.drain_grid.specs.declared.set_product.SetProduct.TheVariants.{Con, Dir, Acc, Bas}
+use Rattle.drain_grid.specs.Judged.{IfJudged, has_acc, has_bas, has_dir, has_product}
+use Rattle.drain_grid.specs.PatchRules.{check_rules}
+use Rattle.drain_grid.specs.RulesAbout.{part_rules, rules_about, tried}
+use Rattle.drain_grid.specs.Unranked.{unranked}
 use Rattle.drain_grid.specs.Values.{NoDataNumbers}
-use Rattle.drain_kernel.specs.declared.rules.Ranks.{Ranks}
-use Rattle.drain_kernel.specs.declared.rules.Ranks.TheVariants.{Checked, Ignored}
-use Rattle.drain_kernel.specs.declared.rules.Rules.{Rules}
-use Rattle.drain_kernel.specs.Rules.{rules_with}
-use Rattle.drain_parts.specs.declared.given.Given.{Given}
-use Rattle.drain_parts.specs.Given.{IfGiven, has_acc, has_bas, has_dir}
-use Rattle.drain_explain.specs.Findings.{judged, looks_among, rules_among}
+use Rattle.drain_explain.specs.Findings.{judged}
 
-if_not : (given : Bool) (P : Type 0) → ¬ IsTrue given → IfGiven given P
-if_not true P not = absurd (not refl)
-if_not false P not = tt
+not_judged : (is_judged : Bool) (P : Type 0) → ¬ IsTrue is_judged → IfJudged is_judged P
+not_judged true P not = absurd (not refl)
+not_judged false P not = tt
 
--- with ranks or without
-no_spill : (ranks : Ranks) (nodata : NoDataNumbers) (p : Patch) → rules_with ranks nodata p NoSpill
-no_spill Checked nodata p = tt
-no_spill Ignored nodata p = tt
+-- of each kind of rules at once
+about : (some : Judged) (nodata : NoDataNumbers) (p : Patch) (r : Rule) → part_rules some nodata p r → unranked nodata p r → check_rules nodata p r → rules_about some nodata p r
+about rasters.Con nodata p r part plain ranked = part
+about rasters.ConDir nodata p r part plain ranked = part
+about rasters.ConDirAcc nodata p r part plain ranked = part
+about rasters.ConDirBas nodata p r part plain ranked = part
+about rasters.All nodata p r part plain ranked = plain
+about rasters.AllWithRanks nodata p r part plain ranked = ranked
 
-spill_height : (ranks : Ranks) (nodata : NoDataNumbers) (p : Patch) → rules_with ranks nodata p SpillHeight
-spill_height Checked nodata p = tt
-spill_height Ignored nodata p = tt
+-- where a product of all sets isn't judged, the rules are those about some rasters
+about_some : (has : Judged → Bool) → IsTrue (has rasters.All) → IsTrue (has rasters.AllWithRanks) → (some : Judged) → ¬ IsTrue (has some) →
+    (nodata : NoDataNumbers) (p : Patch) (r : Rule) → part_rules some nodata p r → rules_about some nodata p r
+about_some has all ranked rasters.Con not nodata p r part = part
+about_some has all ranked rasters.ConDir not nodata p r part = part
+about_some has all ranked rasters.ConDirAcc not nodata p r part = part
+about_some has all ranked rasters.ConDirBas not nodata p r part = part
+about_some has all ranked rasters.All not nodata p r part = absurd (not all)
+about_some has all ranked rasters.AllWithRanks not nodata p r part = absurd (not ranked)
 
-spill_rank : (ranks : Ranks) (nodata : NoDataNumbers) (p : Patch) → rules_with ranks nodata p SpillRank
-spill_rank Checked nodata p = tt
-spill_rank Ignored nodata p = tt
-
-pub untried_rule : (only : Option Given) (rules : Rules) (r : Rule) → r ≢ VoidCell → r ≢ Missing →
-    ((product : SetProduct) → judged r ≡ Some product → ¬ IsTrue (looks_among only rules.ranks product)) → (p : Patch) → rules_among only rules p r
-untried_rule only rules VoidCell void missing not p = absurd (void refl)
-untried_rule only rules Missing void missing not p = absurd (missing refl)
-untried_rule None rules BadCode void missing not p = absurd (not Dir refl refl)
-untried_rule None rules BelowGround void missing not p = absurd (not Con refl refl)
-untried_rule None rules OpenRaised void missing not p = absurd (not Con refl refl)
-untried_rule None rules NoSpill void missing not p = no_spill rules.ranks rules.nodata p
-untried_rule None rules SpillHeight void missing not p = spill_height rules.ranks rules.nodata p
-untried_rule None rules SpillRank void missing not p = spill_rank rules.ranks rules.nodata p
-untried_rule None rules NotLeast void missing not p = absurd (not Con refl refl)
-untried_rule None rules Slope void missing not p = absurd (not Dir refl refl)
-untried_rule None rules OutletCode void missing not p = absurd (not Dir refl refl)
-untried_rule None rules FlatStep void missing not p = absurd (not Dir refl refl)
-untried_rule None rules Accumulation void missing not p = absurd (not Acc refl refl)
-untried_rule None rules Label void missing not p = absurd (not Bas refl refl)
-untried_rule None rules SharedLabel void missing not p = absurd (not Bas refl refl)
-untried_rule (Some given) rules BadCode void missing not p = if_not (has_dir given) _ (not Dir refl)
-untried_rule (Some given) rules BelowGround void missing not p = absurd (not Con refl refl)
-untried_rule (Some given) rules OpenRaised void missing not p = absurd (not Con refl refl)
-untried_rule (Some given) rules NoSpill void missing not p = tt
-untried_rule (Some given) rules SpillHeight void missing not p = tt
-untried_rule (Some given) rules SpillRank void missing not p = tt
-untried_rule (Some given) rules NotLeast void missing not p = absurd (not Con refl refl)
-untried_rule (Some given) rules Slope void missing not p = if_not (has_dir given) _ (not Dir refl)
-untried_rule (Some given) rules OutletCode void missing not p = if_not (has_dir given) _ (not Dir refl)
-untried_rule (Some given) rules FlatStep void missing not p = if_not (has_dir given) _ (not Dir refl)
-untried_rule (Some given) rules Accumulation void missing not p = if_not (has_acc given) _ (not Acc refl)
-untried_rule (Some given) rules Label void missing not p = if_not (has_bas given) _ (not Bas refl)
-untried_rule (Some given) rules SharedLabel void missing not p = tt
+pub untried_rule : (rules : Rules) (r : Rule) → r ≢ VoidCell → r ≢ Missing →
+    ((product : SetProduct) → judged r ≡ Some product → ¬ IsTrue (has_product rules.judged product)) → (p : Patch) → tried rules p r
+untried_rule rules VoidCell void missing not p = absurd (void refl)
+untried_rule rules Missing void missing not p = absurd (missing refl)
+untried_rule rules BadCode void missing not p =
+    about_some has_dir refl refl rules.judged (not Dir refl) rules.nodata p BadCode (not_judged (has_dir rules.judged) _ (not Dir refl))
+untried_rule rules BelowGround void missing not p = absurd (not Con refl refl)
+untried_rule rules OpenRaised void missing not p = absurd (not Con refl refl)
+untried_rule rules NoSpill void missing not p = about rules.judged rules.nodata p NoSpill tt tt tt
+untried_rule rules SpillHeight void missing not p = about rules.judged rules.nodata p SpillHeight tt tt tt
+untried_rule rules SpillRank void missing not p = about rules.judged rules.nodata p SpillRank tt tt tt
+untried_rule rules NotLeast void missing not p = absurd (not Con refl refl)
+untried_rule rules Slope void missing not p =
+    about_some has_dir refl refl rules.judged (not Dir refl) rules.nodata p Slope (not_judged (has_dir rules.judged) _ (not Dir refl))
+untried_rule rules OutletCode void missing not p =
+    about_some has_dir refl refl rules.judged (not Dir refl) rules.nodata p OutletCode (not_judged (has_dir rules.judged) _ (not Dir refl))
+untried_rule rules FlatStep void missing not p =
+    about_some has_dir refl refl rules.judged (not Dir refl) rules.nodata p FlatStep (not_judged (has_dir rules.judged) _ (not Dir refl))
+untried_rule rules Accumulation void missing not p =
+    about_some has_acc refl refl rules.judged (not Acc refl) rules.nodata p Accumulation (not_judged (has_acc rules.judged) _ (not Acc refl))
+untried_rule rules Label void missing not p =
+    about_some has_bas refl refl rules.judged (not Bas refl) rules.nodata p Label (not_judged (has_bas rules.judged) _ (not Bas refl))
+untried_rule rules SharedLabel void missing not p = about rules.judged rules.nodata p SharedLabel tt tt tt

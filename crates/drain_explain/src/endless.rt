@@ -1,26 +1,27 @@
-//! Where the path without an end leads that an audit names.
+//! Where the path without an end leads that an outcome names.
 
-ghost use Rattle.std.specs.Prelude.{◌≡◌, ◌*◌, length, IfOk, IfSome};
-ghost use Rattle.drain_explain.specs.Explanations.{IsEndlessAt};
-ghost use Rattle.drain_grid.specs.Grid.{Grid, Products, HasData};
+ghost use Rattle.std.specs.Prelude.{◌≡◌, IfOk, IfSome};
+ghost use Rattle.drain_explain.specs.Explanations.{IsNamed, LeadsAt};
+ghost use Rattle.drain_grid.specs.Grid.{Grid, Products};
 ghost use Rattle.drain_paths.specs.KnownFlows.{AreKnownFlows};
 
+use drain_answer::Outcome;
 use drain_grid::{Cell, OutOfMemory, Shape};
 use drain_paths::{CellFlows, EndlessPath};
-use drain_verdict::AuditVerdict;
 use std::alloc::Global;
 
-/// The cell whose path doesn't end, if the verdict names one, and where its path leads, from the flows of the grid's
+/// The cell whose path doesn't end, if the outcome names one, and where its path leads, from the flows of the grid's
 /// cells.
-pub fn endless_of(
+pub(crate) fn endless_of(
     alloc: Global,
     flows: &CellFlows,
     shape: Shape,
-    verdict: &AuditVerdict,
+    outcome: &Outcome,
 ) -> Result<Option<(Cell, EndlessPath)>, OutOfMemory>
-    ensures { IfOk result (λ told. (g : Grid) (ps : Products) → AreKnownFlows g ps shape flows.now → IfSome told (IsEndlessAt g ps verdict.now)) }
+    ensures named { IfOk result (λ told. IfSome told (IsNamed outcome.now)) }
+    ensures run { IfOk result (λ told. (g : Grid) (ps : Products) → AreKnownFlows g ps shape flows.now → IfSome told (LeadsAt g ps)) }
 {
-    let AuditVerdict::NoEnd { row, col } = verdict else {
+    let Outcome::NoEnd { row, col } = outcome else {
         return Ok(None);
     };
     let cell = Cell {

@@ -2,14 +2,14 @@
 
 ghost use Rattle.std.specs.Prelude.{◌≡◌, ◌↔◌, IfOk, IsSome};
 ghost use Rattle.drain_grid.specs.Grid.{Grid, Products};
-ghost use Rattle.drain_kernel.specs.declared.rules.Rules.{Rules};
+ghost use Rattle.drain_grid.specs.declared.judged.Rules.{Rules};
 ghost use Rattle.drain_explain.specs.FaultVisitor.{AreFaultNotes, IsWalkNoted};
 ghost use Rattle.drain_explain.specs.declared.fault_visitor.Mapping.TheVariants.{Drawn};
 
 use drain_faults::FaultWalk;
-use drain_grid::{NoData, OutOfMemory, Shape};
+use drain_grid::{Judged, NoData, OutOfMemory, Rules, Shape, Verdict};
 use drain_rows::{RowBuffer, RowVisitor, VerdictVisitor};
-use drain_rules::{Ranks, Rules, ThreeRows, Verdict};
+use drain_rules::ThreeRows;
 use std::alloc::Global;
 
 /// Whether a map of the faults is required, which takes a byte for each cell.
@@ -19,7 +19,7 @@ pub enum Mapping {
     Undrawn,
 }
 
-/// The result of the rows so far, with their map if one is required; the rules checked at the last row.
+/// The result of the rows so far, with their map if one is required; the rules tried at the last row.
 #[derive(Drop)]
 pub struct FaultVisitor {
     pub walk: FaultWalk,
@@ -32,7 +32,7 @@ impl FaultVisitor {
         alloc: Global,
         shape: Shape,
         mapping: Mapping,
-        ranks: Ranks,
+        judged: Judged,
     ) -> Result<FaultVisitor, OutOfMemory>
         ensures rows { IfOk result (λ notes. notes.walk.rows ≡ 0) }
         ensures begun { IfOk result (λ notes. (rules : Rules) (g : Grid) (ps : Products) → AreFaultNotes rules g ps 0 notes) }
@@ -43,7 +43,7 @@ impl FaultVisitor {
             walk,
             rules: Rules {
                 nodata: NoData::defaults(),
-                ranks,
+                judged,
             },
         })
     }

@@ -5,31 +5,27 @@ ghost use Rattle.drain_grid.specs.declared.patch.Patch.{Patch};
 ghost use Rattle.drain_explain.specs.Findings.{judged, looks_at, rules_of};
 
 use drain_faults::{FaultMap, FaultyPatch, PerRule, ProductFaults, RuleFaults};
-use drain_grid::{Cell, PerProduct, Rule, SetProduct};
+use drain_grid::{Cell, PerProduct, Rule, Rules, SetProduct};
 use drain_mosaic::Layout;
-use drain_parts::Given;
 use drain_paths::EndlessPath;
-use drain_rules::{Ranks, Rules};
 
 /// What every cell of a mosaic showed.
 #[derive(Drop)]
 pub struct Findings {
     /// The mosaic.
     pub layout: Layout,
-    /// The rules that were checked: with ranks or without, and the no-data numbers.
+    /// The rules that were tried: which rasters they are about, and the no-data numbers.
     pub rules: Rules,
-    /// The rasters that were looked at alone; none if all were.
-    pub only: Option<Given>,
-    /// For each rule the number of cells at which it fails, and the first.
+    /// For each rule that was tried the number of cells at which it fails, and the first.
     pub by_rule: PerRule<RuleFaults>,
-    /// For each product the number of cells at which it breaks rule VoidCell or Missing, and the first.
+    /// For each judged product the number of cells at which it breaks rule VoidCell or Missing, and the first.
     pub by_product: PerProduct<ProductFaults>,
-    /// The first cell at which any rule fails, and what it shows.
+    /// The first cell at which any rule that was tried fails, and what it shows.
     pub first: Option<FaultyPatch>,
     /// With a map, a number for each cell in row order: that of the least rule that fails there; 0 if none does, and
     /// 255 at a void.
     pub map: Option<FaultMap>,
-    /// Of an audit, the first data cell whose path doesn't end, and where its path leads.
+    /// Without ranks, the first data cell whose path doesn't end, and where its path leads.
     pub endless: Option<(Cell, EndlessPath)>,
 }
 
@@ -38,17 +34,13 @@ impl Findings {
     pub fn looks_at(&self, product: SetProduct) -> bool
         ensures { result ≡ looks_at self.now product }
     {
-        match (self.only, product) {
-            (Some(given), product) => given.has(product),
-            (None, SetProduct::Rnk) => self.rules.ranks == Ranks::Checked,
-            (None, _) => true,
-        }
+        self.rules.judged.has(product)
     }
 
     /// Whether the rule was tried: not if it judges a product that wasn't looked at, or none of a set.
     pub fn tries(&self, rule: Rule) -> bool
         // A rule from VoidCell to Label that was tried requires something: some patch breaks it. One that wasn't is
-        // none of those that were checked: every patch keeps it.
+        // none of those about the judged rasters: every patch keeps it.
         ensures tried { IsTrue result → rule ≢ Rule.SharedLabel → (p : Patch) × ¬ rules_of self.now p rule }
         ensures untried { ¬ IsTrue result → (p : Patch) → rules_of self.now p rule }
 

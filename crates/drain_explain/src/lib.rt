@@ -1,13 +1,12 @@
-//! The answer of a check or an audit with its explanation: for every rule at how many cells it fails and where first,
-//! what the first fault shows, and a map; and of refused inputs what was expected and found.
+//! What is said of judged rasters with its explanation: for every rule at how many cells it fails and where first, what
+//! the first fault shows, and a map; and of refused inputs what was expected and found.
 //!
-//! The answer is that of `drain_verdict`, found in the same pass over the rows, which also notes each row
-//! (`drain_faults`). If an audit finds a path without an end, it says where that path leads.
+//! The answer is that of `drain_verdict`, found in the same pass over the rows, by a walk that also notes each fault
+//! (`drain_faults`). If there is a path without an end, it says where that path leads.
 #![tactic(auto)]
 
-pub mod audit_explained;
-pub mod check_explained;
-pub mod endless;
+mod endless;
+pub mod explain;
 pub mod explanation;
 pub mod fault_visitor;
 pub mod findings;
@@ -18,8 +17,7 @@ mod seam_detail;
 pub mod second_look;
 mod sink_detail;
 
-pub use audit_explained::explain_audit;
-pub use check_explained::explain_check;
+pub use explain::{explain_audit, explain_check};
 pub use explanation::{Explanation, answer_and_findings};
 pub use fault_visitor::{FaultVisitor, Mapping};
 pub use findings::{Findings, judged_product};

@@ -6,7 +6,7 @@ use Rattle.drain_grid.specs.Grid.{Grid, Products}
 use Rattle.drain_grid.specs.PatchRules.{Profile}
 use Rattle.drain_grid.specs.Size.{Extent}
 use Rattle.drain_rules.specs.declared.tally.Tally.{Tally}
-use Rattle.drain_rules.specs.declared.verdict.Counts.{Counts}
+use Rattle.drain_grid.specs.declared.verdict.Counts.{Counts}
 use Rattle.drain_rules.specs.BlankVoids.{IsRightVoid}
 use Rattle.drain_rules.specs.RowOutcomes.{CountsAbove}
 use Rattle.drain_rules.specs.PatchRows.{AreRowPatches, IsAtMost}

@@ -1,116 +1,150 @@
 -- What was found, with one cell more or a run of sound cells; and from row to row.
-use Rattle.std.proofs.Common.{◌≡◌, ℕ, ◌+◌, ◌<◌, ◌≤◌, refl, sym, ◌∙◌, ap, subst, arith}
+use Rattle.std.proofs.Common.{◌≡◌, ℕ, ◌+◌, ◌<◌, ◌≤◌, ◌^◌, IsTrue, List, [], ◌∷◌, ◌++◌, length, inl, inr, refl, sym, ◌∙◌, subst, arith}
 use Rattle.drain_basin.specs.Admitted.{IsAdmitted}
+use Rattle.drain_grid.specs.declared.cell.Cell.{Cell}
+use Rattle.drain_grid.specs.declared.judged.Rules.{Rules}
 use Rattle.drain_grid.specs.declared.patch.Patch.{Patch}
-use Rattle.drain_grid.specs.declared.rule.Rule.TheVariants.{SharedLabel}
 use Rattle.drain_grid.specs.Grid.{Grid, Products, IsInside, patch_at, values_at}
 use Rattle.drain_grid.specs.GridRules.{HoldsAt}
-use Rattle.drain_grid.specs.PatchRules.{Profile}
+use Rattle.drain_grid.specs.Judged.{has_bas}
+use Rattle.drain_grid.specs.RulesAbout.{tried}
 use Rattle.drain_kernel.specs.Kept.{IsKept}
 use Rattle.drain_rules.specs.BlankVoids.{IsRightVoid}
-use Rattle.drain_rules.specs.Labels.{IsOutletByCode, labelled_profile}
+use Rattle.drain_rules.specs.Labels.{IsOutletByCode}
 use Rattle.drain_rules.specs.PatchRows.{AreRowPatches}
+use Rattle.drain_rules.specs.RowOutcomes.{cells_above}
 use Rattle.drain_rules.specs.Rows.{place}
-use Rattle.drain_rules.proofs.Faults.{IsLeastFault-cell, labelled-HoldsAt}
 use Rattle.drain_rules.proofs.LabelsBefore.{AreLabelsBefore-more, AreLabelsBefore-row}
 use Rattle.drain_rules.proofs.RowRuns.{along_run}
 use Rattle.drain_rules.proofs.PassedCells.{inside-row}
 use Rattle.drain_faults.specs.declared.fault_tally.FaultTally.{FaultTally}
-use Rattle.drain_faults.specs.CellFaults.{IsNoted}
-use Rattle.drain_faults.specs.Faults.{AreCellsWithout, IsFirstPatch}
-use Rattle.drain_faults.specs.FaultWalks.{IsFoundAbove, IsFoundBefore, IsNewOutletAt, cells_before}
+use Rattle.drain_faults.specs.declared.rule_faults.RuleFaults.{RuleFaults}
+use Rattle.drain_faults.specs.CellFaults.{IsNotedAt}
+use Rattle.drain_faults.specs.Faults.{AreFaultsOf}
+use Rattle.drain_faults.specs.FaultWalks.{IsFound, IsFoundAbove, IsFoundBefore, IsNewOutletAt, cells_before}
+use Rattle.drain_faults.specs.Noted.{IsNoted}
 use Rattle.drain_faults.specs.PerRule.{of_rule}
+use Rattle.drain_faults.specs.TriedRules.{HoldsIfTried}
 use Rattle.drain_faults.proofs.CellsBefore.{cells_before-all, cells_before-few, cells_before-more, cells_before-none}
 use Rattle.drain_faults.proofs.FirstPatches.{patch_noted, patch_past}
 use Rattle.drain_faults.proofs.Flags.{noted_same}
 use Rattle.drain_faults.proofs.NumbersWithout.{holding_more, noted_more}
+use Rattle.drain_faults.proofs.ProductSteps.{products_noted, products_sound}
 use Rattle.drain_faults.proofs.SoundCells.{IsSound, no_label, of_kept, of_void, sound_holds}
+use Rattle.drain_faults.proofs.TriedRules.{least_at, shared_at, tried_at}
 
-module _ (profile : Profile) (g : Grid) (ps : Products) (row cols : ℕ) (shown : ℕ → Patch) (are : AreRowPatches g ps row cols shown) where
+-- of a fact that holds nothing was counted
+none_counted : (P : Type 0) (cell : Cell) (old new : RuleFaults) → P → IsNotedAt P cell old new → new ≡ old
+none_counted P cell old new holds (inl kept) = kept.1
+none_counted P cell old new holds (inr fails) = absurd (fails.0 holds)
+
+module _ (rules : Rules) (g : Grid) (ps : Products) (cs : List Cell) (row col : ℕ) (inside : IsInside g (place row col)) where
+  -- one sound cell more
+  one_sound : (found : FaultTally) → IsSound (tried rules) (patch_at g ps (place row col)) → IsFound rules g ps cs (place row col) found →
+      IsFound rules g ps (cs ++ place row col ∷ []) (place row (col + 1)) found
+  one_sound found at so_far = record {
+    faults = record {
+      counted = λ r own.
+          holding_more (λ c. HoldsAt (tried rules) g ps c r) cs (place row col) (of_rule found.by_rule r) (sound_holds (tried rules) g ps (place row col) at r)
+          (so_far.faults.counted r own);
+      untried = so_far.faults.untried;
+    };
+    by_product = products_sound rules g ps cs (place row col) found.by_product at so_far.by_product;
+    first_patch = patch_past rules g ps cs (place row col) found.first (λ r own. sound_holds (tried rules) g ps (place row col) at r) so_far.first_patch;
+    before = λ own.
+        AreLabelsBefore-more g ps row col (values_at g ps (place row col)) found.labels found.labels inside refl (so_far.before own)
+        (no_label (tried rules) found.labels (patch_at g ps (place row col)) at);
+  }
+
+  module _ (old new : FaultTally) (few : length cs + 1 < 2 ^ 32) (noted : IsNoted rules (place row col) (patch_at g ps (place row col)) old new)
+      (so_far : IsFound rules g ps cs (place row col) old) where
+    -- each rule, with one cell more that was noted
+    rules_noted : AreFaultsOf rules g ps (cs ++ place row col ∷ []) new.by_rule
+    rules_noted = record {
+      counted = λ r own.
+          noted_more (λ c. HoldsAt (tried rules) g ps c r) cs (place row col) (of_rule old.by_rule r) (of_rule new.by_rule r) few
+          (noted_same (HoldsIfTried rules old.labels (patch_at g ps (place row col)) r) (HoldsAt (tried rules) g ps (place row col) r) (place row col)
+          (of_rule old.by_rule r) (of_rule new.by_rule r) (tried_at rules g ps old.labels (place row col) inside so_far.before r own) (noted.each r))
+          (so_far.faults.counted r own);
+      untried = λ r untried.
+          none_counted (HoldsIfTried rules old.labels (patch_at g ps (place row col)) r) (place row col) (of_rule old.by_rule r) (of_rule new.by_rule r)
+          (λ own. absurd (untried own)) (noted.each r) ∙ so_far.faults.untried r untried;
+    }
+
+    -- all that was found
+    one_noted : IsFound rules g ps (cs ++ place row col ∷ []) (place row (col + 1)) new
+    one_noted = record {
+      faults = rules_noted;
+      by_product = products_noted rules g ps cs (place row col) old.by_product new.by_product few noted.by_product so_far.by_product;
+      first_patch = patch_noted rules g ps cs (place row col) (patch_at g ps (place row col)) noted.first_is.least old.first new.first refl
+          (least_at rules g ps old.labels (place row col) inside so_far.before noted.first_is.least noted.first_is.least_is) noted.first_is.first_is
+          so_far.first_patch;
+      before = λ own.
+          AreLabelsBefore-more g ps row col (values_at g ps (place row col)) old.labels new.labels inside refl (so_far.before own) (noted.admitted own);
+    }
+
+module _ (rules : Rules) (g : Grid) (ps : Products) (row cols : ℕ) (shown : ℕ → Patch) (are : AreRowPatches g ps row cols shown) where
   pub inside_row : (col : ℕ) → col < cols → IsInside g (place row col)
   inside_row col = inside-row g ps row col cols shown are
 
   -- above a row is before its first place
-  pub found_begins : (found : FaultTally) → IsFoundAbove profile g ps row found → IsFoundBefore profile g ps row 0 found
-  found_begins found above = record {
-    faults = λ r. subst (λ cs. AreCellsWithout (λ c. HoldsAt profile g ps c r) cs (of_rule found.by_rule r)) (sym (cells_before-none g row)) (above.faults r);
-    first_patch = subst (λ cs. IsFirstPatch profile g ps cs found.first) (sym (cells_before-none g row)) above.first_patch;
-    before = above.before;
-  }
+  pub found_begins : (found : FaultTally) → IsFoundAbove rules g ps row found → IsFoundBefore rules g ps row 0 found
+  found_begins found above = subst (λ cs. IsFound rules g ps cs (place row 0) found) (sym (cells_before-none g row)) above
 
   -- before its end is above the next row
-  pub found_ends : (found : FaultTally) (col : ℕ) → col ≡ cols → IsFoundBefore profile g ps row col found → IsFoundAbove profile g ps (row + 1) found
+  pub found_ends : (found : FaultTally) (col : ℕ) → col ≡ cols → IsFoundBefore rules g ps row col found → IsFoundAbove rules g ps (row + 1) found
   found_ends found col last so_far =
-      let whole : IsFoundBefore profile g ps row g.extent.cols found = subst (λ n. IsFoundBefore profile g ps row n found) (last ∙ are.cols_are) so_far in
+      let at_end : IsFoundBefore rules g ps row g.extent.cols found = subst (λ n. IsFoundBefore rules g ps row n found) (last ∙ are.cols_are) so_far in
+      let whole : IsFound rules g ps (cells_above g (row + 1)) (place row g.extent.cols) found =
+      subst (λ cs. IsFound rules g ps cs (place row g.extent.cols) found) (cells_before-all g row) at_end in
       record {
-        faults = λ r. subst (λ cs. AreCellsWithout (λ c. HoldsAt profile g ps c r) cs (of_rule found.by_rule r)) (cells_before-all g row) (whole.faults r);
-        first_patch = subst (λ cs. IsFirstPatch profile g ps cs found.first) (cells_before-all g row) whole.first_patch;
-        before = AreLabelsBefore-row g ps row found.labels whole.before;
+        faults = whole.faults;
+        by_product = whole.by_product;
+        first_patch = whole.first_patch;
+        before = λ own. AreLabelsBefore-row g ps row found.labels (whole.before own);
       }
 
   -- one more sound cell
-  sound_one : (found : FaultTally) (col : ℕ) → col < cols → IsSound profile (shown col) → IsFoundBefore profile g ps row col found →
-      IsFoundBefore profile g ps row (col + 1) found
+  sound_one : (found : FaultTally) (col : ℕ) → col < cols → IsSound (tried rules) (shown col) → IsFoundBefore rules g ps row col found →
+      IsFoundBefore rules g ps row (col + 1) found
   sound_one found col less sound so_far =
-      let at : IsSound profile (patch_at g ps (place row col)) = subst (IsSound profile) (are.patches_are col less) sound in
-      record {
-        faults = λ r. subst (λ cs. AreCellsWithout (λ c. HoldsAt profile g ps c r) cs (of_rule found.by_rule r)) (sym (cells_before-more g row col))
-            (holding_more (λ c. HoldsAt profile g ps c r) (cells_before g row col) (place row col) (of_rule found.by_rule r)
-            (sound_holds profile g ps (place row col) at r) (so_far.faults r));
-        first_patch = subst (λ cs. IsFirstPatch profile g ps cs found.first) (sym (cells_before-more g row col))
-            (patch_past profile g ps (cells_before g row col) (place row col) found.first (sound_holds profile g ps (place row col) at) so_far.first_patch);
-        before = AreLabelsBefore-more g ps row col (values_at g ps (place row col)) found.labels found.labels (inside_row col less) refl so_far.before
-            (no_label profile found.labels (patch_at g ps (place row col)) at);
-      }
+      subst (λ cs. IsFound rules g ps cs (place row (col + 1)) found) (sym (cells_before-more g row col))
+      (one_sound rules g ps (cells_before g row col) row col (inside_row col less) found (subst (IsSound (tried rules)) (are.patches_are col less) sound) so_far)
 
   -- a run of sound cells
-  found_sound : (found : FaultTally) (from end : ℕ) → from ≤ end → end ≤ cols → ((col : ℕ) → from ≤ col → col < end → IsSound profile (shown col)) →
-      IsFoundBefore profile g ps row from found → IsFoundBefore profile g ps row end found
-  found_sound found = along_run (λ col. IsFoundBefore profile g ps row col found) (λ col. IsSound profile (shown col)) cols (sound_one found)
+  found_sound : (found : FaultTally) (from end : ℕ) → from ≤ end → end ≤ cols → ((col : ℕ) → from ≤ col → col < end → IsSound (tried rules) (shown col)) →
+      IsFoundBefore rules g ps row from found → IsFoundBefore rules g ps row end found
+  found_sound found = along_run (λ col. IsFoundBefore rules g ps row col found) (λ col. IsSound (tried rules) (shown col)) cols (sound_one found)
 
   -- the cells that a row clears, and the voids after them
-  pub found_passed : (found : FaultTally) (from end last : ℕ) → from ≤ end → end ≤ cols → ((col : ℕ) → from ≤ col → col < end → IsKept profile (shown col)) →
-      end ≤ last → last ≤ cols → ((col : ℕ) → end ≤ col → col < last → IsRightVoid profile (shown col)) →
-      IsFoundBefore profile g ps row from found → IsFoundBefore profile g ps row last found
+  pub found_passed : (found : FaultTally) (from end last : ℕ) → from ≤ end → end ≤ cols → ((col : ℕ) → from ≤ col → col < end → IsKept (tried rules) (shown col)) →
+      end ≤ last → last ≤ cols → ((col : ℕ) → end ≤ col → col < last → IsRightVoid (tried rules) (shown col)) →
+      IsFoundBefore rules g ps row from found → IsFoundBefore rules g ps row last found
   found_passed found from end last forward within kept behind inside right so_far =
-      found_sound found end last behind inside (λ col past less. of_void profile (shown col) (right col past less))
-      (found_sound found from end forward within (λ col past less. of_kept profile (shown col) (kept col past less)) so_far)
+      found_sound found end last behind inside (λ col past less. of_void (tried rules) (shown col) (right col past less))
+      (found_sound found from end forward within (λ col past less. of_kept (tried rules) (shown col) (kept col past less)) so_far)
 
   -- one cell more that was noted
   pub found_noted : (old new : FaultTally) (col : ℕ) (p : Patch) → row < 28801 → cols ≤ 28801 → col < cols → p ≡ shown col →
-      IsNoted profile (place row col) p old new → IsFoundBefore profile g ps row col old →
-      IsFoundBefore profile g ps row (col + 1) new
+      IsNoted rules (place row col) p old new → IsFoundBefore rules g ps row col old → IsFoundBefore rules g ps row (col + 1) new
   found_noted old new col p few narrow less is noted so_far =
       let inside = inside_row col less in
-      let cell = place row col in
-      let same : p ≡ patch_at g ps cell = is ∙ are.patches_are col less in
-      let here = ap (λ (q : Patch). q.here) same in
-      let at : IsNoted profile cell (patch_at g ps cell) old new =
-      subst (λ q. IsNoted profile cell q old new) same noted in
-      record {
-        faults = λ r. subst (λ cs. AreCellsWithout (λ c. HoldsAt profile g ps c r) cs (of_rule new.by_rule r)) (sym (cells_before-more g row col))
-            (noted_more (λ c. HoldsAt profile g ps c r) (cells_before g row col) cell (of_rule old.by_rule r) (of_rule new.by_rule r)
-            (cells_before-few g row col few (omega (arith, narrow, are.cols_are)) inside.col)
-            (noted_same (labelled_profile profile old.labels (patch_at g ps cell) r) (HoldsAt profile g ps cell r) cell (of_rule old.by_rule r) (of_rule new.by_rule r)
-            (labelled-HoldsAt profile g ps old.labels cell r inside so_far.before) (at.each r)) (so_far.faults r));
-        first_patch = subst (λ cs. IsFirstPatch profile g ps cs new.first) (sym (cells_before-more g row col))
-            (patch_noted profile g ps (cells_before g row col) cell (patch_at g ps cell) at.first_is.least old.first new.first refl
-            (IsLeastFault-cell profile g ps old.labels cell (patch_at g ps cell) at.first_is.least inside so_far.before refl at.first_is.least_is)
-            at.first_is.first_is so_far.first_patch);
-        before = AreLabelsBefore-more g ps row col p.here old.labels new.labels inside here so_far.before noted.admitted;
-      }
+      let short = cells_before-few g row col few (omega (arith, narrow, are.cols_are)) inside.col in
+      subst (λ cs. IsFound rules g ps cs (place row (col + 1)) new) (sym (cells_before-more g row col))
+      (one_noted rules g ps (cells_before g row col) row col inside old new short
+      (subst (λ q. IsNoted rules (place row col) q old new) (is ∙ are.patches_are col less) noted) so_far)
 
   -- where a label found no room it is a new one
-  pub found_new : (found : FaultTally) (col : ℕ) (p : Patch) → col < cols → p ≡ shown col → IsFoundBefore profile g ps row col found →
-      IsOutletByCode p.here × ¬ IsAdmitted found.labels p.here.bas → IsNewOutletAt g ps (place row col)
+  pub found_new : (found : FaultTally) (col : ℕ) (p : Patch) → col < cols → p ≡ shown col → IsFoundBefore rules g ps row col found →
+      IsTrue (has_bas rules.judged) × IsOutletByCode p.here × ¬ IsAdmitted found.labels p.here.bas → IsNewOutletAt g ps (place row col)
   found_new found col p less is so_far want =
       let inside = inside_row col less in
       let cell = place row col in
       let same : p ≡ patch_at g ps cell = is ∙ are.patches_are col less in
       let at : IsOutletByCode (values_at g ps cell) × ¬ IsAdmitted found.labels (ps.bas cell) =
-      subst (λ (q : Patch). IsOutletByCode q.here × ¬ IsAdmitted found.labels q.here.bas) same want in
+      subst (λ (q : Patch). IsOutletByCode q.here × ¬ IsAdmitted found.labels q.here.bas) same (want.1, want.2) in
       record {
         has_data = record { inside = inside; is_data = at.0.has_data };
         code = at.0.code;
-        is_new = (labelled-HoldsAt profile g ps found.labels cell SharedLabel inside so_far.before).0 (λ outlet. at.1);
+        is_new = shared_at rules g ps found.labels cell inside so_far.before want.0 (λ own outlet. at.1);
       }

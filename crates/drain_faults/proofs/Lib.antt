@@ -6,9 +6,11 @@ pub mod FirstPatches
 pub mod Flags
 pub mod MapSteps
 pub mod NumbersWithout
+pub mod PartFlags
 pub mod PatchFlags
 pub mod ProductParts
 pub mod ProductSteps
 pub mod RowOrder
 pub mod RulePlaces
 pub mod SoundCells
+pub mod TriedRules

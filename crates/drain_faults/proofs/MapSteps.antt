@@ -3,26 +3,27 @@ use Rattle.std.proofs.Common.{◌≡◌, ℕ, zero, suc, ◌+◌, ◌-◌, ◌<�
 use Rattle.std.specs.Prelude.{replicate, ◌↔◌, IsSome}
 use Rattle.std.proofs.lemmas.List.{append-nil}
 use Rattle.drain_grid.specs.declared.cell.Cell.{Cell}
+use Rattle.drain_grid.specs.declared.judged.Rules.{Rules}
 use Rattle.drain_grid.specs.declared.patch.Patch.{Patch}
 use Rattle.drain_grid.specs.declared.rule.Rule.{Rule}
 use Rattle.drain_grid.specs.Grid.{Grid, Products, patch_at}
-use Rattle.drain_grid.specs.PatchRules.{Profile}
 use Rattle.drain_grid.specs.Rule.{IsAnyRule, IsLeastFault}
+use Rattle.drain_grid.specs.RulesAbout.{tried}
 use Rattle.drain_kernel.specs.Kept.{IsKept}
 use Rattle.drain_rules.specs.BlankVoids.{IsRightVoid}
 use Rattle.drain_rules.specs.RowOutcomes.{cells_above}
-use Rattle.drain_rules.specs.Labels.{labelled_profile}
 use Rattle.drain_rules.specs.PatchRows.{AreRowPatches}
 use Rattle.drain_rules.specs.Rows.{place}
-use Rattle.drain_rules.proofs.Faults.{IsLeastFault-cell}
 use Rattle.drain_faults.specs.declared.fault_map.FaultMap.{FaultMap}
 use Rattle.drain_faults.specs.declared.fault_map.TheConstants.{SOUND, SOUND_VOID}
 use Rattle.drain_faults.specs.declared.fault_tally.FaultTally.{FaultTally}
 use Rattle.drain_faults.specs.FaultMaps.{AreDrawn, AreMapPixels, IsMapOfCells, IsMapPixel, fault_pixel}
 use Rattle.drain_faults.specs.FaultWalks.{IsFoundBefore, cells_before}
+use Rattle.drain_faults.specs.TriedRules.{HoldsIfTried}
 use Rattle.drain_faults.proofs.CellsBefore.{cells_before-all, cells_before-more, cells_before-none}
 use Rattle.drain_faults.proofs.FaultSteps.{inside_row}
 use Rattle.drain_faults.proofs.SoundCells.{of_kept, of_void, sound_holds}
+use Rattle.drain_faults.proofs.TriedRules.{least_at}
 
 -- there is a map still where there was one
 pub drawn_still : (old new : Option FaultMap) (more : List ℕ) → AreDrawn old new more → IsSome new ↔ IsSome old
@@ -31,91 +32,91 @@ drawn_still None (Some new) more drawn = absurd drawn
 drawn_still (Some old) None more drawn = absurd drawn
 drawn_still (Some old) (Some new) more drawn = (λ some. some, λ some. some)
 
-module _ (profile : Profile) (g : Grid) (ps : Products) where
-  pixels_more : (cs : List Cell) (ns : List ℕ) (c : Cell) (n : ℕ) → IsMapPixel profile g ps c n → AreMapPixels profile g ps cs ns →
-      AreMapPixels profile g ps (cs ++ c ∷ []) (ns ++ n ∷ [])
+module _ (rules : Rules) (g : Grid) (ps : Products) where
+  pixels_more : (cs : List Cell) (ns : List ℕ) (c : Cell) (n : ℕ) → IsMapPixel rules g ps c n → AreMapPixels rules g ps cs ns →
+      AreMapPixels rules g ps (cs ++ c ∷ []) (ns ++ n ∷ [])
   pixels_more [] [] c n pixel all = (pixel, tt)
   pixels_more [] (m ∷ ns) c n pixel all = absurd all
   pixels_more (b ∷ cs) [] c n pixel all = absurd all
   pixels_more (b ∷ cs) (m ∷ ns) c n pixel all = (all.0, pixels_more cs ns c n pixel all.1)
 
   -- one number more, where there is a map
-  map_more : (cs : List Cell) (c : Cell) (n : ℕ) (old new : Option FaultMap) → IsMapPixel profile g ps c n → AreDrawn old new (n ∷ []) →
-      IsMapOfCells profile g ps cs old → IsMapOfCells profile g ps (cs ++ c ∷ []) new
+  map_more : (cs : List Cell) (c : Cell) (n : ℕ) (old new : Option FaultMap) → IsMapPixel rules g ps c n → AreDrawn old new (n ∷ []) →
+      IsMapOfCells rules g ps cs old → IsMapOfCells rules g ps (cs ++ c ∷ []) new
   map_more cs c n None None pixel drawn so_far = tt
   map_more cs c n None (Some new) pixel drawn so_far = absurd drawn
   map_more cs c n (Some old) None pixel drawn so_far = absurd drawn
   map_more cs c n (Some old) (Some new) pixel drawn so_far =
-      subst (AreMapPixels profile g ps (cs ++ c ∷ [])) (sym drawn) (pixels_more cs old.pixels.items c n pixel so_far)
+      subst (AreMapPixels rules g ps (cs ++ c ∷ [])) (sym drawn) (pixels_more cs old.pixels.items c n pixel so_far)
 
-  pub map_begins : (row : ℕ) (map : Option FaultMap) → IsMapOfCells profile g ps (cells_above g row) map →
-      IsMapOfCells profile g ps (cells_before g row 0) map
-  map_begins row map above = subst (λ cs. IsMapOfCells profile g ps cs map) (sym (cells_before-none g row)) above
+  pub map_begins : (row : ℕ) (map : Option FaultMap) → IsMapOfCells rules g ps (cells_above g row) map →
+      IsMapOfCells rules g ps (cells_before g row 0) map
+  map_begins row map above = subst (λ cs. IsMapOfCells rules g ps cs map) (sym (cells_before-none g row)) above
 
-module _ (profile : Profile) (g : Grid) (ps : Products) (row cols : ℕ) (shown : ℕ → Patch) (are : AreRowPatches g ps row cols shown) where
-  pub map_ends : (map : Option FaultMap) (col : ℕ) → col ≡ cols → IsMapOfCells profile g ps (cells_before g row col) map →
-      IsMapOfCells profile g ps (cells_above g (row + 1)) map
+module _ (rules : Rules) (g : Grid) (ps : Products) (row cols : ℕ) (shown : ℕ → Patch) (are : AreRowPatches g ps row cols shown) where
+  pub map_ends : (map : Option FaultMap) (col : ℕ) → col ≡ cols → IsMapOfCells rules g ps (cells_before g row col) map →
+      IsMapOfCells rules g ps (cells_above g (row + 1)) map
   map_ends map col last so_far =
-      let whole : IsMapOfCells profile g ps (cells_before g row g.extent.cols) map =
-      subst (λ n. IsMapOfCells profile g ps (cells_before g row n) map) (last ∙ are.cols_are) so_far in
-      subst (λ cs. IsMapOfCells profile g ps cs map) (cells_before-all g row) whole
+      let whole : IsMapOfCells rules g ps (cells_before g row g.extent.cols) map =
+      subst (λ n. IsMapOfCells rules g ps (cells_before g row n) map) (last ∙ are.cols_are) so_far in
+      subst (λ cs. IsMapOfCells rules g ps cs map) (cells_before-all g row) whole
 
   -- the number of a cleared cell
-  kept_pixel : (col : ℕ) → col < cols → IsKept profile (shown col) → IsMapPixel profile g ps (place row col) SOUND
+  kept_pixel : (col : ℕ) → col < cols → IsKept (tried rules) (shown col) → IsMapPixel rules g ps (place row col) SOUND
   kept_pixel col less kept =
-      let at : IsKept profile (patch_at g ps (place row col)) = subst (IsKept profile) (are.patches_are col less) kept in
+      let at : IsKept (tried rules) (patch_at g ps (place row col)) = subst (IsKept (tried rules)) (are.patches_are col less) kept in
       record {
         rule = None;
-        least = λ r own. sound_holds profile g ps (place row col) (of_kept profile (patch_at g ps (place row col)) at) r;
+        least = λ r own. sound_holds (tried rules) g ps (place row col) (of_kept (tried rules) (patch_at g ps (place row col)) at) r;
         number_is = sym (ap (fault_pixel None) at.has_data);
       }
 
   -- and that of a void at which no rule fails
-  void_pixel : (col : ℕ) → col < cols → IsRightVoid profile (shown col) → IsMapPixel profile g ps (place row col) SOUND_VOID
+  void_pixel : (col : ℕ) → col < cols → IsRightVoid (tried rules) (shown col) → IsMapPixel rules g ps (place row col) SOUND_VOID
   void_pixel col less right =
-      let at : IsRightVoid profile (patch_at g ps (place row col)) = subst (IsRightVoid profile) (are.patches_are col less) right in
+      let at : IsRightVoid (tried rules) (patch_at g ps (place row col)) = subst (IsRightVoid (tried rules)) (are.patches_are col less) right in
       record {
         rule = None;
-        least = λ r own. sound_holds profile g ps (place row col) (of_void profile (patch_at g ps (place row col)) at) r;
+        least = λ r own. sound_holds (tried rules) g ps (place row col) (of_void (tried rules) (patch_at g ps (place row col)) at) r;
         number_is = sym (ap (fault_pixel None) at.is_void);
       }
 
   -- those of a run of cells of one number, by induction over the run, after any numbers
-  pixel_run : (pixel : ℕ) (ns : List ℕ) (from n : ℕ) → from + n ≤ cols → ((col : ℕ) → from ≤ col → col < from + n → IsMapPixel profile g ps (place row col) pixel) →
-      AreMapPixels profile g ps (cells_before g row from) ns → AreMapPixels profile g ps (cells_before g row (from + n)) (ns ++ replicate n pixel)
+  pixel_run : (pixel : ℕ) (ns : List ℕ) (from n : ℕ) → from + n ≤ cols → ((col : ℕ) → from ≤ col → col < from + n → IsMapPixel rules g ps (place row col) pixel) →
+      AreMapPixels rules g ps (cells_before g row from) ns → AreMapPixels rules g ps (cells_before g row (from + n)) (ns ++ replicate n pixel)
   pixel_run pixel ns from zero within each so_far =
       let here : from + 0 ≡ from = omega arith in
-      subst (λ col. AreMapPixels profile g ps (cells_before g row col) (ns ++ [])) (sym here)
-      (subst (AreMapPixels profile g ps (cells_before g row from)) (sym (append-nil ns)) so_far)
+      subst (λ col. AreMapPixels rules g ps (cells_before g row col) (ns ++ [])) (sym here)
+      (subst (AreMapPixels rules g ps (cells_before g row from)) (sym (append-nil ns)) so_far)
   pixel_run pixel ns from (suc n) within each so_far =
-      let one : AreMapPixels profile g ps (cells_before g row (from + 1)) (ns ++ pixel ∷ []) =
-      subst (λ cs. AreMapPixels profile g ps cs (ns ++ pixel ∷ [])) (sym (cells_before-more g row from))
-      (pixels_more profile g ps (cells_before g row from) ns (place row from) pixel (each from (omega arith) (omega arith)) so_far) in
-      let rest : AreMapPixels profile g ps (cells_before g row (from + 1 + n)) ((ns ++ pixel ∷ []) ++ replicate n pixel) =
+      let one : AreMapPixels rules g ps (cells_before g row (from + 1)) (ns ++ pixel ∷ []) =
+      subst (λ cs. AreMapPixels rules g ps cs (ns ++ pixel ∷ [])) (sym (cells_before-more g row from))
+      (pixels_more rules g ps (cells_before g row from) ns (place row from) pixel (each from (omega arith) (omega arith)) so_far) in
+      let rest : AreMapPixels rules g ps (cells_before g row (from + 1 + n)) ((ns ++ pixel ∷ []) ++ replicate n pixel) =
       pixel_run pixel (ns ++ pixel ∷ []) (from + 1) n (omega (arith, within)) (λ col past less. each col (omega (arith, past)) (omega (arith, less))) one in
       let next : from + 1 + n ≡ from + suc n = omega arith in
-      subst (λ col. AreMapPixels profile g ps (cells_before g row col) (ns ++ replicate (suc n) pixel)) next
-      (subst (AreMapPixels profile g ps (cells_before g row (from + 1 + n))) (append_assoc ns (pixel ∷ []) (replicate n pixel)) rest)
+      subst (λ col. AreMapPixels rules g ps (cells_before g row col) (ns ++ replicate (suc n) pixel)) next
+      (subst (AreMapPixels rules g ps (cells_before g row (from + 1 + n))) (append_assoc ns (pixel ∷ []) (replicate n pixel)) rest)
 
   -- a run of such cells that is drawn
   map_run : (pixel : ℕ) (old new : Option FaultMap) (from end n : ℕ) → from ≤ end → end ≤ cols → n ≡ end - from →
-      ((col : ℕ) → from ≤ col → col < end → IsMapPixel profile g ps (place row col) pixel) → AreDrawn old new (replicate n pixel) →
-      IsMapOfCells profile g ps (cells_before g row from) old → IsMapOfCells profile g ps (cells_before g row end) new
+      ((col : ℕ) → from ≤ col → col < end → IsMapPixel rules g ps (place row col) pixel) → AreDrawn old new (replicate n pixel) →
+      IsMapOfCells rules g ps (cells_before g row from) old → IsMapOfCells rules g ps (cells_before g row end) new
   map_run pixel None None from end n forward within many each drawn so_far = tt
   map_run pixel None (Some new) from end n forward within many each drawn so_far = absurd drawn
   map_run pixel (Some old) None from end n forward within many each drawn so_far = absurd drawn
   map_run pixel (Some old) (Some new) from end n forward within many each drawn so_far =
       let up_to : from + n ≡ end = omega (arith, many, forward) in
-      subst (λ col. AreMapPixels profile g ps (cells_before g row col) new.pixels.items) up_to
-      (subst (AreMapPixels profile g ps (cells_before g row (from + n))) (sym drawn)
+      subst (λ col. AreMapPixels rules g ps (cells_before g row col) new.pixels.items) up_to
+      (subst (AreMapPixels rules g ps (cells_before g row (from + n))) (sym drawn)
       (pixel_run pixel old.pixels.items from n (omega (arith, up_to, within)) (λ col past less. each col past (omega (arith, up_to, less))) so_far))
 
   -- the cells that a row clears, and the voids after them
   pub map_passed : (old mid new : Option FaultMap) (from end last n m : ℕ) → from ≤ end → end ≤ cols → n ≡ end - from →
-      ((col : ℕ) → from ≤ col → col < end → IsKept profile (shown col)) → AreDrawn old mid (replicate n SOUND) →
+      ((col : ℕ) → from ≤ col → col < end → IsKept (tried rules) (shown col)) → AreDrawn old mid (replicate n SOUND) →
       end ≤ last → last ≤ cols → m ≡ last - end →
-      ((col : ℕ) → end ≤ col → col < last → IsRightVoid profile (shown col)) → AreDrawn mid new (replicate m SOUND_VOID) →
-      IsMapOfCells profile g ps (cells_before g row from) old → IsMapOfCells profile g ps (cells_before g row last) new
+      ((col : ℕ) → end ≤ col → col < last → IsRightVoid (tried rules) (shown col)) → AreDrawn mid new (replicate m SOUND_VOID) →
+      IsMapOfCells rules g ps (cells_before g row from) old → IsMapOfCells rules g ps (cells_before g row last) new
   map_passed old mid new from end last n m forward within many kept drawn behind inside more right void_drawn so_far =
       map_run SOUND_VOID mid new end last m behind inside more
       (λ col past less. void_pixel col (omega (arith, less, inside)) (right col past less)) void_drawn
@@ -123,15 +124,16 @@ module _ (profile : Profile) (g : Grid) (ps : Products) (row cols : ℕ) (shown 
 
   -- a cell that was noted
   pub map_noted : (found : FaultTally) (least : Option Rule) (old new : Option FaultMap) (col : ℕ) (p : Patch) → col < cols → p ≡ shown col →
-      IsLeastFault IsAnyRule (labelled_profile profile found.labels p) least → AreDrawn old new (fault_pixel least (is_some p.here.z) ∷ []) →
-      IsFoundBefore profile g ps row col found → IsMapOfCells profile g ps (cells_before g row col) old → IsMapOfCells profile g ps (cells_before g row (col + 1)) new
+      IsLeastFault IsAnyRule (HoldsIfTried rules found.labels p) least → AreDrawn old new (fault_pixel least (is_some p.here.z) ∷ []) →
+      IsFoundBefore rules g ps row col found → IsMapOfCells rules g ps (cells_before g row col) old → IsMapOfCells rules g ps (cells_before g row (col + 1)) new
   map_noted found least old new col p less is fault drawn found_before so_far =
       let cell = place row col in
       let same : p ≡ patch_at g ps cell = is ∙ are.patches_are col less in
-      let pixel : IsMapPixel profile g ps cell (fault_pixel least (is_some p.here.z)) = record {
+      let pixel : IsMapPixel rules g ps cell (fault_pixel least (is_some p.here.z)) = record {
         rule = least;
-        least = IsLeastFault-cell profile g ps found.labels cell p least (inside_row profile g ps row cols shown are col less) found_before.before same fault;
+        least = least_at rules g ps found.labels cell (inside_row rules g ps row cols shown are col less) found_before.before least
+            (subst (λ q. IsLeastFault IsAnyRule (HoldsIfTried rules found.labels q) least) same fault);
         number_is = ap (λ (q : Patch). fault_pixel least (is_some q.here.z)) same;
       } in
-      subst (λ cs. IsMapOfCells profile g ps cs new) (sym (cells_before-more g row col))
-      (map_more profile g ps (cells_before g row col) cell (fault_pixel least (is_some p.here.z)) old new pixel drawn so_far)
+      subst (λ cs. IsMapOfCells rules g ps cs new) (sym (cells_before-more g row col))
+      (map_more rules g ps (cells_before g row col) cell (fault_pixel least (is_some p.here.z)) old new pixel drawn so_far)

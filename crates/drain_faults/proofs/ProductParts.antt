@@ -1,59 +1,114 @@
--- The rules VoidCell and Missing hold exactly where each product keeps its part of them.
-use Rattle.std.proofs.Common.{◌≡◌, ◌≢◌, ◌↔◌, Bool, false, IsNone, inl, refl, subst}
+-- The rules VoidCell and Missing hold exactly where each judged product keeps its part of them.
+use Rattle.std.proofs.Common.{◌≡◌, ◌≢◌, ◌↔◌, Bool, true, false, IsNone, IsTrue, inl, refl, subst}
+use Rattle.std.proofs.lemmas.Bool.{true≢false}
 use Rattle.drain_grid.specs.declared.set_product.SetProduct.{SetProduct}
 use Rattle.drain_grid.specs.declared.set_product.SetProduct.TheVariants.{Con, Dir, Acc, Bas, Rnk}
 use Rattle.drain_grid.specs.declared.cell.Cell.{Cell}
+use Rattle.drain_grid.specs.declared.judged.Judged.{Judged}
+use Rattle.drain_grid.specs.declared.judged.Judged.TheVariants as rasters
+use Rattle.drain_grid.specs.declared.judged.Rules.{Rules}
 use Rattle.drain_grid.specs.declared.patch.Patch.{Patch}
 use Rattle.drain_grid.specs.declared.per_product.PerProduct.{PerProduct}
 use Rattle.drain_grid.specs.declared.rule.Rule.TheVariants.{VoidCell, Missing}
+use Rattle.drain_grid.specs.Judged.{IfJudged, has_acc, has_bas, has_dir, has_product, has_rnk}
+use Rattle.drain_grid.specs.RulesAbout.{part_rules, rules_about, tried}
 use Rattle.drain_grid.specs.SetProduct.{product_of}
 use Rattle.drain_grid.specs.Patch.{IsDataCell}
 use Rattle.drain_grid.specs.Values.{NoDataNumbers, number_for, value_of}
 use Rattle.drain_grid.proofs.ByProduct.{by_set_product}
-use Rattle.drain_kernel.specs.declared.rules.Ranks.{Ranks}
-use Rattle.drain_kernel.specs.declared.rules.Ranks.TheVariants.{Checked, Ignored}
-use Rattle.drain_kernel.specs.declared.rules.Rules.{Rules}
-use Rattle.drain_kernel.specs.Rules.{rules_with, tried}
 use Rattle.drain_faults.specs.declared.product_faults.ProductFaults.{ProductFaults}
-use Rattle.drain_faults.specs.ByProduct.{AreProductsNotedAt, MissingHoldsOf, VoidCellHoldsOf, WhereChecked}
+use Rattle.drain_faults.specs.ByProduct.{AreProductsNotedAt, MissingHoldsOf, VoidCellHoldsOf}
 use Rattle.drain_faults.specs.Flags.{TellsFault}
+
+-- a fact about a raster if it is judged, on a condition
+within : (b : Bool) (N P : Type 0) → (N → IfJudged b P) → IfJudged b (N → P)
+within true N P h = h
+within false N P h = tt
+
+of_within : (b : Bool) (N P : Type 0) → IfJudged b (N → P) → N → IfJudged b P
+of_within true N P h = h
+of_within false N P h = λ n. tt
+
+-- it requires nothing if the raster isn't judged, and is the fact itself if it is
+pub unjudged : (b : Bool) (P : Type 0) → b ≡ false → IfJudged b P
+unjudged true P is = absurd (true≢false is)
+unjudged false P is = tt
+
+pub if_judged : (b : Bool) (P : Type 0) → IsTrue b → P ↔ IfJudged b P
+if_judged true P is = (λ h. h, λ h. h)
+if_judged false P is = let no : false ≡ true = is in cc
 
 module _ (nodata : NoDataNumbers) (p : Patch) where
   -- what is required of one product
-  abbrev void_of : Ranks → SetProduct → Type 0
-  void_of ranks product = WhereChecked product ranks (IsNone p.here.z → value_of p.here (product_of product) ≡ number_for nodata (product_of product))
+  abbrev void_of : Judged → SetProduct → Type 0
+  void_of judged product = IfJudged (has_product judged product) (IsNone p.here.z → value_of p.here (product_of product) ≡ number_for nodata (product_of product))
 
-  abbrev data_of : Ranks → SetProduct → Type 0
-  data_of ranks product = WhereChecked product ranks (IsDataCell p → value_of p.here (product_of product) ≢ number_for nodata (product_of product))
+  abbrev data_of : Judged → SetProduct → Type 0
+  data_of judged product = IfJudged (has_product judged product) (IsDataCell p → value_of p.here (product_of product) ≢ number_for nodata (product_of product))
 
-  void_cell_with : (ranks : Ranks) → rules_with ranks nodata p VoidCell ↔ ((product : SetProduct) → void_of ranks product)
-  void_cell_with Checked = (
-    (λ holds. by_set_product (void_of Checked) (λ void. holds void Con) (λ void. holds void Dir) (λ void. holds void Acc) (λ void. holds void Bas) (λ void. holds void Rnk)),
+  -- of some rasters, without ranks
+  void_part : (judged : Judged) → has_rnk judged ≡ false → part_rules judged nodata p VoidCell ↔ ((product : SetProduct) → void_of judged product)
+  void_part judged none = (
+    (λ holds. by_set_product (void_of judged) (λ void. (holds void).con_is) (within (has_dir judged) _ _ (λ void. (holds void).dir_is))
+        (within (has_acc judged) _ _ (λ void. (holds void).acc_is)) (within (has_bas judged) _ _ (λ void. (holds void).bas_is)) (unjudged (has_rnk judged) _ none)),
+    (λ each void. record {
+      con_is = each Con void;
+      dir_is = of_within (has_dir judged) _ _ (each Dir) void;
+      acc_is = of_within (has_acc judged) _ _ (each Acc) void;
+      bas_is = of_within (has_bas judged) _ _ (each Bas) void;
+    }),
+  )
+
+  data_part : (judged : Judged) → has_rnk judged ≡ false → part_rules judged nodata p Missing ↔ ((product : SetProduct) → data_of judged product)
+  data_part judged none = (
+    (λ holds. by_set_product (data_of judged) (λ has. (holds has).con_differs) (within (has_dir judged) _ _ (λ has. (holds has).dir_differs))
+        (within (has_acc judged) _ _ (λ has. (holds has).acc_differs)) (within (has_bas judged) _ _ (λ has. (holds has).bas_differs))
+        (unjudged (has_rnk judged) _ none)),
+    (λ each has. record {
+      con_differs = each Con has;
+      dir_differs = of_within (has_dir judged) _ _ (each Dir) has;
+      acc_differs = of_within (has_acc judged) _ _ (each Acc) has;
+      bas_differs = of_within (has_bas judged) _ _ (each Bas) has;
+    }),
+  )
+
+  -- and of all
+  void_cell_about : (judged : Judged) → rules_about judged nodata p VoidCell ↔ ((product : SetProduct) → void_of judged product)
+  void_cell_about rasters.Con = void_part rasters.Con refl
+  void_cell_about rasters.ConDir = void_part rasters.ConDir refl
+  void_cell_about rasters.ConDirAcc = void_part rasters.ConDirAcc refl
+  void_cell_about rasters.ConDirBas = void_part rasters.ConDirBas refl
+  void_cell_about rasters.All = (
+    (λ holds. by_set_product (void_of rasters.All) (λ void. (holds void).con_is) (λ void. (holds void).dir_is) (λ void. (holds void).acc_is) (λ void. (holds void).bas_is) tt),
+    (λ each void. record { con_is = each Con void; dir_is = each Dir void; acc_is = each Acc void; bas_is = each Bas void }),
+  )
+  void_cell_about rasters.AllWithRanks = (
+    (λ holds. by_set_product (void_of rasters.AllWithRanks) (λ void. holds void Con) (λ void. holds void Dir) (λ void. holds void Acc) (λ void. holds void Bas) (λ void. holds void Rnk)),
     (λ each void. by_set_product (λ product. value_of p.here (product_of product) ≡ number_for nodata (product_of product))
         (each Con void) (each Dir void) (each Acc void) (each Bas void) (each Rnk void)),
   )
-  void_cell_with Ignored = (
-    (λ holds. by_set_product (void_of Ignored) (λ void. (holds void).con_is) (λ void. (holds void).dir_is) (λ void. (holds void).acc_is) (λ void. (holds void).bas_is) tt),
-    (λ each void. record { con_is = each Con void; dir_is = each Dir void; acc_is = each Acc void; bas_is = each Bas void }),
-  )
 
-  missing_with : (ranks : Ranks) → rules_with ranks nodata p Missing ↔ ((product : SetProduct) → data_of ranks product)
-  missing_with Checked = (
-    (λ holds. by_set_product (data_of Checked) (λ has. holds has Con) (λ has. holds has Dir) (λ has. holds has Acc) (λ has. holds has Bas) (λ has. holds has Rnk)),
-    (λ each has. by_set_product (λ product. value_of p.here (product_of product) ≢ number_for nodata (product_of product))
-        (each Con has) (each Dir has) (each Acc has) (each Bas has) (each Rnk has)),
-  )
-  missing_with Ignored = (
-    (λ holds. by_set_product (data_of Ignored) (λ has. (holds has).con_differs) (λ has. (holds has).dir_differs) (λ has. (holds has).acc_differs)
+  missing_about : (judged : Judged) → rules_about judged nodata p Missing ↔ ((product : SetProduct) → data_of judged product)
+  missing_about rasters.Con = data_part rasters.Con refl
+  missing_about rasters.ConDir = data_part rasters.ConDir refl
+  missing_about rasters.ConDirAcc = data_part rasters.ConDirAcc refl
+  missing_about rasters.ConDirBas = data_part rasters.ConDirBas refl
+  missing_about rasters.All = (
+    (λ holds. by_set_product (data_of rasters.All) (λ has. (holds has).con_differs) (λ has. (holds has).dir_differs) (λ has. (holds has).acc_differs)
         (λ has. (holds has).bas_differs) tt),
     (λ each has. record { con_differs = each Con has; dir_differs = each Dir has; acc_differs = each Acc has; bas_differs = each Bas has }),
   )
+  missing_about rasters.AllWithRanks = (
+    (λ holds. by_set_product (data_of rasters.AllWithRanks) (λ has. holds has Con) (λ has. holds has Dir) (λ has. holds has Acc) (λ has. holds has Bas) (λ has. holds has Rnk)),
+    (λ each has. by_set_product (λ product. value_of p.here (product_of product) ≢ number_for nodata (product_of product))
+        (each Con has) (each Dir has) (each Acc has) (each Bas has) (each Rnk has)),
+  )
 
 pub void_cell_by_product : (rules : Rules) (p : Patch) → tried rules p VoidCell ↔ ((product : SetProduct) → VoidCellHoldsOf rules product p)
-void_cell_by_product rules p = void_cell_with rules.nodata p rules.ranks
+void_cell_by_product rules p = void_cell_about rules.nodata p rules.judged
 
 pub missing_by_product : (rules : Rules) (p : Patch) → tried rules p Missing ↔ ((product : SetProduct) → MissingHoldsOf rules product p)
-missing_by_product rules p = missing_with rules.nodata p rules.ranks
+missing_by_product rules p = missing_about rules.nodata p rules.judged
 
 -- where neither rule fails nothing is counted of any product
 pub none_noted : (rules : Rules) (cell : Cell) (p : Patch) (faults : PerProduct ProductFaults) (void_cell missing : Bool) → void_cell ≡ false → missing ≡ false →

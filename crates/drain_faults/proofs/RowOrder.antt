@@ -4,16 +4,16 @@ use Rattle.std.proofs.lemmas.List.FromFn.{map-range_with_len_more}
 use Rattle.drain_grid.specs.declared.cell.Cell.{Cell}
 use Rattle.drain_grid.specs.Extent.{row_cells}
 use Rattle.drain_grid.specs.Grid.{Grid, Products}
-use Rattle.drain_grid.specs.GridRules.{HoldsAt, IsFirstFault, RulesHold}
-use Rattle.drain_grid.specs.PatchRules.{Profile}
-use Rattle.drain_grid.specs.Rule.{IsAnyRule, IsLeastFault}
-use Rattle.drain_grid.specs.declared.rule.Rule.{Rule}
+use Rattle.drain_grid.specs.declared.judged.Rules.{Rules}
+use Rattle.drain_grid.specs.GridRules.{IsFirstFault, RulesHold}
+use Rattle.drain_grid.specs.RulesAbout.{IsTried, tried}
 use Rattle.drain_rules.specs.RowOutcomes.{cells_above}
 use Rattle.drain_rules.specs.Rows.{place}
 use Rattle.drain_rules.proofs.GridLemmas.{IsFirstFault-row, cells_above-more}
 use Rattle.drain_rules.proofs.RowLemmas.{IsRowFault-cell}
 use Rattle.drain_faults.specs.declared.faulty_patch.FaultyPatch.{FaultyPatch}
 use Rattle.drain_faults.specs.Faults.{IsFirstFaulty, IsFirstWithout}
+use Rattle.drain_faults.specs.TriedRules.{AllHoldAt, IsLeastAt}
 
 module _ (P : Cell → Type 0) where
   -- where none of two lists lacks the fact, none of either does
@@ -90,19 +90,19 @@ module _ (P : Cell → Type 0) where
         | inr last ↦ record { row = n; inside = omega arith; above = holds_above g n last.0; along = first_along n g.extent.cols b last.1 }
       ]
 
--- so the first cell of all rows at which a rule fails, with the least rule that fails there, is the first fault of the grid
-pub first_fault : (profile : Profile) (g : Grid) (ps : Products) (found : FaultyPatch) → IsFirstFaulty profile g ps (cells_above g g.extent.rows) found →
-    IsFirstFault profile IsAnyRule g ps found.cell found.rule
-first_fault profile g ps found first =
-    let at = first_above (λ c. (r : Rule) → HoldsAt profile g ps c r) g g.extent.rows found.cell first.first_is in
+-- so the first cell of all rows at which a rule that is tried fails, with the least that fails there, is the first fault of the grid
+pub first_fault : (rules : Rules) (g : Grid) (ps : Products) (found : FaultyPatch) → IsFirstFaulty rules g ps (cells_above g g.extent.rows) found →
+    IsFirstFault (tried rules) (IsTried rules.judged) g ps found.cell found.rule
+first_fault rules g ps found first =
+    let at = first_above (AllHoldAt rules g ps) g g.extent.rows found.cell first.first_is in
     let along = at.along in
-    let least : IsLeastFault IsAnyRule (HoldsAt profile g ps (place at.row along.col)) (Some found.rule) =
-    subst (λ c. IsLeastFault IsAnyRule (HoldsAt profile g ps c) (Some found.rule)) along.is first.least in
-    subst (λ c. IsFirstFault profile IsAnyRule g ps c found.rule) (sym along.is)
-    (IsFirstFault-row profile IsAnyRule g ps at.row along.col found.rule at.inside (λ r less col rule inside own. at.above r less col inside rule)
-    (IsRowFault-cell profile IsAnyRule g ps at.row along.col found.rule along.inside (λ col rule less own. along.before col less rule) least))
+    let least : IsLeastAt rules g ps (place at.row along.col) (Some found.rule) =
+    subst (λ c. IsLeastAt rules g ps c (Some found.rule)) along.is first.least in
+    subst (λ c. IsFirstFault (tried rules) (IsTried rules.judged) g ps c found.rule) (sym along.is)
+    (IsFirstFault-row (tried rules) (IsTried rules.judged) g ps at.row along.col found.rule at.inside (λ r less col rule inside own. at.above r less col inside rule own)
+    (IsRowFault-cell (tried rules) (IsTried rules.judged) g ps at.row along.col found.rule along.inside (λ col rule less own. along.before col less rule own) least))
 
--- and where there is none every rule holds
-pub all_hold : (profile : Profile) (g : Grid) (ps : Products) → IsFirstWithout (λ c. (r : Rule) → HoldsAt profile g ps c r) (cells_above g g.extent.rows) None →
-    RulesHold profile IsAnyRule g ps
-all_hold profile g ps none = λ c r inside own. holds_above (λ c. (r : Rule) → HoldsAt profile g ps c r) g g.extent.rows none c.row inside.row c.col inside.col r
+-- and where there is none each of them holds
+pub all_hold : (rules : Rules) (g : Grid) (ps : Products) → IsFirstWithout (AllHoldAt rules g ps) (cells_above g g.extent.rows) None →
+    RulesHold (tried rules) (IsTried rules.judged) g ps
+all_hold rules g ps none = λ c r inside own. holds_above (AllHoldAt rules g ps) g g.extent.rows none c.row inside.row c.col inside.col r own

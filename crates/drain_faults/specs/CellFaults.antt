@@ -1,16 +1,11 @@
--- What one cell more adds to what was found.
-use Rattle.std.specs.Prelude.{◌≡◌, ◌+◌, ◌^◌, ◌<◌, ℤ, ◌↔◌, ◌⊎◌, Bool, true, false, Option, Some, None, unwrap_or}
-use Rattle.drain_basin.specs.Admitted.{IsAdmitted}
+-- What one cell more adds to what was found of one rule, and to the first fault.
+use Rattle.std.specs.Prelude.{◌≡◌, ◌+◌, ◌^◌, ◌<◌, ◌⊎◌, Bool, true, false, Option, Some, None, unwrap_or}
 use Rattle.drain_grid.specs.declared.cell.Cell.{Cell}
 use Rattle.drain_grid.specs.declared.patch.Patch.{Patch}
 use Rattle.drain_grid.specs.declared.rule.Rule.{Rule}
-use Rattle.drain_grid.specs.PatchRules.{Profile}
 use Rattle.drain_grid.specs.Rule.{IsAnyRule, IsLeastFault}
-use Rattle.drain_rules.specs.Labels.{IsLabelOf, labelled_profile}
 use Rattle.drain_faults.specs.declared.faulty_patch.FaultyPatch.{FaultyPatch}
-use Rattle.drain_faults.specs.declared.fault_tally.FaultTally.{FaultTally}
 use Rattle.drain_faults.specs.declared.rule_faults.RuleFaults.{RuleFaults}
-use Rattle.drain_faults.specs.PerRule.{of_rule}
 
 -- the cell is counted, if the count fits 32 bits, and is the first if there was none
 pub record IsWithFault (cell : Cell) (old new : RuleFaults) : Type 0 where
@@ -37,9 +32,3 @@ pub record IsLeastNoted (P : Rule → Type 0) (cell : Cell) (p : Patch) (old new
   pub least : Option Rule
   pub least_is : IsLeastFault IsAnyRule P least
   pub first_is : IsFirstNoted least cell p old new
-
--- each rule is recorded here, SharedLabel by the labels so far; the label is added if the cell is an outlet by code
-pub record IsNoted (profile : Profile) (cell : Cell) (p : Patch) (old new : FaultTally) : Type 0 where
-  pub each : (r : Rule) → IsNotedAt (labelled_profile profile old.labels p r) cell (of_rule old.by_rule r) (of_rule new.by_rule r)
-  pub first_is : IsLeastNoted (labelled_profile profile old.labels p) cell p old.first new.first
-  pub admitted : (label : ℤ) → IsAdmitted new.labels label ↔ (IsLabelOf p.here label ⊎ IsAdmitted old.labels label)

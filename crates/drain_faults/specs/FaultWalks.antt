@@ -1,34 +1,40 @@
 -- What a walk over rows of patches has found, for any grid whose rows they are.
-use Rattle.std.specs.Prelude.{◌≡◌, ℕ, pos, ◌++◌, List}
+use Rattle.std.specs.Prelude.{◌≡◌, ℕ, pos, ◌++◌, IsTrue, List}
 use Rattle.drain_grid.specs.declared.cell.Cell.{Cell}
+use Rattle.drain_grid.specs.declared.judged.Rules.{Rules}
 use Rattle.drain_grid.specs.declared.patch.Patch.{Patch}
 use Rattle.drain_grid.specs.Extent.{row_cells}
 use Rattle.drain_grid.specs.Grid.{Grid, Products, HasData}
 use Rattle.drain_grid.specs.GridRules.{SharedLabelHolds}
-use Rattle.drain_grid.specs.PatchRules.{Profile}
+use Rattle.drain_grid.specs.Judged.{has_bas}
 use Rattle.drain_rules.specs.RowOutcomes.{CountsAbove, cells_above}
 use Rattle.drain_rules.specs.Labels.{AreLabelsBefore}
 use Rattle.drain_rules.specs.PatchRows.{AreRowPatches}
 use Rattle.drain_rules.specs.Rows.{place}
 use Rattle.drain_faults.specs.declared.fault_walk.FaultWalk.{FaultWalk}
 use Rattle.drain_faults.specs.declared.fault_tally.FaultTally.{FaultTally}
+use Rattle.drain_faults.specs.ByProduct.{AreFaultsByProduct}
 use Rattle.drain_faults.specs.Faults.{AreFaultsOf, IsFirstPatch}
 
 -- the cells before a place in row order
 abbrev pub cells_before : Grid → ℕ → ℕ → List Cell
 cells_before g row col = cells_above g row ++ row_cells col row
 
--- of the cells before a place: each rule's faults, the first cell with a fault, and the labels of their outlets
-pub record IsFoundBefore (profile : Profile) (g : Grid) (ps : Products) (row col : ℕ) (found : FaultTally) : Type 0 where
-  pub faults : AreFaultsOf profile g ps (cells_before g row col) found.by_rule
-  pub first_patch : IsFirstPatch profile g ps (cells_before g row col) found.first
-  pub before : AreLabelsBefore g ps (place row col) found.labels
+-- of a list's cells, and the cell after them: each rule's faults and each product's, the first cell with a fault, and
+-- the labels of the outlets before that cell where labels are judged
+pub record IsFound (rules : Rules) (g : Grid) (ps : Products) (cs : List Cell) (next : Cell) (found : FaultTally) : Type 0 where
+  pub faults : AreFaultsOf rules g ps cs found.by_rule
+  pub by_product : AreFaultsByProduct rules g ps cs found.by_product
+  pub first_patch : IsFirstPatch rules g ps cs found.first
+  pub before : IsTrue (has_bas rules.judged) → AreLabelsBefore g ps next found.labels
+
+-- of the cells before a place
+abbrev pub IsFoundBefore : Rules → Grid → Products → ℕ → ℕ → FaultTally → Type 0
+IsFoundBefore rules g ps row col found = IsFound rules g ps (cells_before g row col) (place row col) found
 
 -- of the rows above a row
-pub record IsFoundAbove (profile : Profile) (g : Grid) (ps : Products) (row : ℕ) (found : FaultTally) : Type 0 where
-  pub faults : AreFaultsOf profile g ps (cells_above g row) found.by_rule
-  pub first_patch : IsFirstPatch profile g ps (cells_above g row) found.first
-  pub before : AreLabelsBefore g ps (place row 0) found.labels
+abbrev pub IsFoundAbove : Rules → Grid → Products → ℕ → FaultTally → Type 0
+IsFoundAbove rules g ps row found = IsFound rules g ps (cells_above g row) (place row 0) found
 
 -- the cell is a data cell with code 0, and no earlier one has its label
 pub record IsNewOutletAt (g : Grid) (ps : Products) (c : Cell) : Type 0 where
@@ -41,21 +47,21 @@ abbrev pub HasNewOutlet : Grid → Products → Type 0
 HasNewOutlet g ps = (c : Cell) × IsNewOutletAt g ps c
 
 -- this holds of each grid of which these are the row's patches, where this was found above it
-abbrev pub OfRowFound : Profile → ℕ → ℕ → (ℕ → Patch) → FaultTally → (Grid → Products → Type 0) → Type 0
-OfRowFound profile row cols shown found P =
-    (g : Grid) (ps : Products) → AreRowPatches g ps row cols shown → IsFoundAbove profile g ps row found → P g ps
+abbrev pub OfRowFound : Rules → ℕ → ℕ → (ℕ → Patch) → FaultTally → (Grid → Products → Type 0) → Type 0
+OfRowFound rules row cols shown found P =
+    (g : Grid) (ps : Products) → AreRowPatches g ps row cols shown → IsFoundAbove rules g ps row found → P g ps
 
 -- this holds of each grid of which these are the row's patches
 abbrev pub OfRowPatches : ℕ → ℕ → (ℕ → Patch) → (Grid → Products → Type 0) → Type 0
 OfRowPatches row cols shown P = (g : Grid) (ps : Products) → AreRowPatches g ps row cols shown → P g ps
 
 -- the walk is right of a grid and its products
-abbrev pub IsRightTally : Profile → Grid → Products → FaultWalk → Type 0
-IsRightTally profile g ps w = IsFoundAbove profile g ps w.rows w.found
+abbrev pub IsRightTally : Rules → Grid → Products → FaultWalk → Type 0
+IsRightTally rules g ps w = IsFoundAbove rules g ps w.rows w.found
 
 -- this holds of each grid of which the walk is right, where these are the patches of its next row
-abbrev pub OfNextFaultRow : Profile → FaultWalk → ℕ → (ℕ → Patch) → (Grid → Products → Type 0) → Type 0
-OfNextFaultRow profile w cols shown P = OfRowFound profile w.rows cols shown w.found P
+abbrev pub OfNextFaultRow : Rules → FaultWalk → ℕ → (ℕ → Patch) → (Grid → Products → Type 0) → Type 0
+OfNextFaultRow rules w cols shown P = OfRowFound rules w.rows cols shown w.found P
 
 -- its counts are those of the rows that were scanned
 abbrev pub IsCountedOf : Grid → Products → FaultWalk → Type 0

@@ -1,15 +1,16 @@
 -- At how many cells of a list something doesn't hold, and at which of them first. Source: this project's own.
 use Rattle.std.specs.Prelude.{◌≡◌, ℕ, ◌+◌, ◌⊎◌, List, [], ◌∷◌, Option, Some, None}
 use Rattle.drain_grid.specs.declared.cell.Cell.{Cell}
+use Rattle.drain_grid.specs.declared.judged.Rules.{Rules}
 use Rattle.drain_grid.specs.declared.rule.Rule.{Rule}
 use Rattle.drain_grid.specs.Grid.{Grid, Products, patch_at}
 use Rattle.drain_grid.specs.GridRules.{HoldsAt}
-use Rattle.drain_grid.specs.PatchRules.{Profile}
-use Rattle.drain_grid.specs.Rule.{IsAnyRule, IsLeastFault}
+use Rattle.drain_grid.specs.RulesAbout.{IsTried, tried}
 use Rattle.drain_faults.specs.declared.faulty_patch.FaultyPatch.{FaultyPatch}
 use Rattle.drain_faults.specs.declared.per_rule.PerRule.{PerRule}
 use Rattle.drain_faults.specs.declared.rule_faults.RuleFaults.{RuleFaults}
 use Rattle.drain_faults.specs.PerRule.{of_rule}
+use Rattle.drain_faults.specs.TriedRules.{AllHoldAt, IsLeastAt}
 
 -- it is the number of the list's cells at which the fact doesn't hold
 abbrev pub IsNumberWithout : (Cell → Type 0) → List Cell → ℕ → Type 0
@@ -26,17 +27,18 @@ pub record AreCellsWithout (P : Cell → Type 0) (cs : List Cell) (faults : Rule
   pub number : IsNumberWithout P cs faults.cells
   pub first_is : IsFirstWithout P cs faults.first
 
--- for each rule, at how many of the list's cells it doesn't hold, and at which first
-abbrev pub AreFaultsOf : Profile → Grid → Products → List Cell → PerRule RuleFaults → Type 0
-AreFaultsOf profile g ps cs faults = (r : Rule) → AreCellsWithout (λ c. HoldsAt profile g ps c r) cs (of_rule faults r)
+-- of each rule that is tried, at how many of the list's cells it fails, and at which first; of another nothing is counted
+pub record AreFaultsOf (rules : Rules) (g : Grid) (ps : Products) (cs : List Cell) (faults : PerRule RuleFaults) : Type 0 where
+  pub counted : (r : Rule) → IsTried rules.judged r → AreCellsWithout (λ c. HoldsAt (tried rules) g ps c r) cs (of_rule faults r)
+  pub untried : (r : Rule) → ¬ IsTried rules.judged r → of_rule faults r ≡ record { cells = 0; first = None }
 
--- the first of the list's cells at which some rule fails, its patch, and the least rule that fails there
-pub record IsFirstFaulty (profile : Profile) (g : Grid) (ps : Products) (cs : List Cell) (found : FaultyPatch) : Type 0 where
-  pub first_is : IsFirstWithout (λ c. (r : Rule) → HoldsAt profile g ps c r) cs (Some found.cell)
+-- the first of the list's cells at which a rule that is tried fails, its patch, and the least that fails there
+pub record IsFirstFaulty (rules : Rules) (g : Grid) (ps : Products) (cs : List Cell) (found : FaultyPatch) : Type 0 where
+  pub first_is : IsFirstWithout (AllHoldAt rules g ps) cs (Some found.cell)
   pub patch_is : found.patch ≡ patch_at g ps found.cell
-  pub least : IsLeastFault IsAnyRule (HoldsAt profile g ps found.cell) (Some found.rule)
+  pub least : IsLeastAt rules g ps found.cell (Some found.rule)
 
--- it is that, or none where every rule holds at each of them
-abbrev pub IsFirstPatch : Profile → Grid → Products → List Cell → Option FaultyPatch → Type 0
-IsFirstPatch profile g ps cs (Some found) = IsFirstFaulty profile g ps cs found
-IsFirstPatch profile g ps cs None = IsFirstWithout (λ c. (r : Rule) → HoldsAt profile g ps c r) cs None
+-- it is that, or none where each holds at each of the cells
+abbrev pub IsFirstPatch : Rules → Grid → Products → List Cell → Option FaultyPatch → Type 0
+IsFirstPatch rules g ps cs (Some found) = IsFirstFaulty rules g ps cs found
+IsFirstPatch rules g ps cs None = IsFirstWithout (AllHoldAt rules g ps) cs None

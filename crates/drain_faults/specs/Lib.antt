@@ -4,4 +4,6 @@ pub mod FaultMaps
 pub mod FaultWalks
 pub mod Faults
 pub mod Flags
+pub mod Noted
 pub mod PerRule
+pub mod TriedRules

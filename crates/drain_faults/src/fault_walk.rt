@@ -12,10 +12,9 @@ use crate::product_faults::{ProductFaults, no_faults};
 use crate::row_faults::note_row_of;
 use crate::rule_faults::RuleFaults;
 use drain_basin::OutletLabels;
-use drain_grid::{OutOfMemory, PerProduct, Shape};
-use drain_kernel::Rules;
+use drain_grid::{Counts, OutOfMemory, PerProduct, Rules, Shape, Verdict};
+use drain_rules::PatchRow;
 use drain_rules::tally::Tally;
-use drain_rules::{Counts, PatchRow, Verdict};
 use std::alloc::Global;
 
 /// How many rows were scanned, their counts, the results at their cells, and a map of them if required.
@@ -29,13 +28,13 @@ pub struct FaultWalk {
 }
 
 impl FaultWalk {
-    ghost use Rattle.std.specs.Prelude.{◌≡◌, ◌<◌, ◌+◌, ◌↔◌, ◌⊎◌, IfOk, IfSome, IsNone, IsSome, OnErr, OnOk};
+    ghost use Rattle.std.specs.Prelude.{◌≡◌, ◌<◌, ◌+◌, ◌↔◌, ◌⊎◌, IfOk, IfSome, IsNone, IsSome, IsTrue, OnErr, OnOk};
     ghost use Rattle.drain_grid.specs.Grid.{Grid, Products};
-    ghost use Rattle.drain_kernel.specs.declared.rules.Rules.{Rules};
-    ghost use Rattle.drain_kernel.specs.Rules.{tried};
+    ghost use Rattle.drain_grid.specs.declared.judged.Rules.{Rules};
+    ghost use Rattle.drain_grid.specs.Judged.{has_bas};
     ghost use Rattle.drain_rules.specs.RowOutcomes.{cells_above};
-    ghost use Rattle.drain_rules.specs.Verdicts.{IsVerdictOf};
-    ghost use Rattle.drain_faults.specs.ByProduct.{AreFaultsByProduct, IsRightByProduct, OfNextRowByProduct};
+    ghost use Rattle.drain_rules.specs.Verdicts.{IsVerdictBy};
+    ghost use Rattle.drain_faults.specs.ByProduct.{AreFaultsByProduct};
     ghost use Rattle.drain_faults.specs.Faults.{AreFaultsOf, IsFirstPatch};
     ghost use Rattle.drain_faults.specs.FaultMaps.{AreMapPixels, IsMapOf, IsMapOfCells, OfNextRowDrawn};
     ghost use Rattle.drain_faults.specs.FaultWalks.{HasNewOutlet, IsCountedOf, IsRightTally, OfNextFaultRow, OfNextRowCounted};
@@ -44,9 +43,8 @@ impl FaultWalk {
     pub fn new(alloc: Global) -> FaultWalk
         ensures rows { result.rows ≡ 0 }
         ensures drawn { IsNone result.map }
-        ensures map { (rules : Rules) (g : Grid) (ps : Products) → IsMapOf (tried rules) g ps result }
-        ensures found { (rules : Rules) (g : Grid) (ps : Products) → IsRightTally (tried rules) g ps result }
-        ensures by_product { (rules : Rules) (g : Grid) (ps : Products) → IsRightByProduct rules g ps result }
+        ensures map { (rules : Rules) (g : Grid) (ps : Products) → IsMapOf rules g ps result }
+        ensures found { (rules : Rules) (g : Grid) (ps : Products) → IsRightTally rules g ps result }
         ensures counted { (g : Grid) (ps : Products) → IsCountedOf g ps result }
     {
         FaultWalk {
@@ -66,10 +64,9 @@ impl FaultWalk {
     pub fn drawing(alloc: Global, shape: Shape) -> Result<FaultWalk, OutOfMemory>
         ensures rows { IfOk result (λ walk. walk.rows ≡ 0) }
         ensures drawn { IfOk result (λ walk. IsSome walk.map) }
-        ensures found { IfOk result (λ walk. (rules : Rules) (g : Grid) (ps : Products) → IsRightTally (tried rules) g ps walk) }
-        ensures by_product { IfOk result (λ walk. (rules : Rules) (g : Grid) (ps : Products) → IsRightByProduct rules g ps walk) }
+        ensures found { IfOk result (λ walk. (rules : Rules) (g : Grid) (ps : Products) → IsRightTally rules g ps walk) }
         ensures counted { IfOk result (λ walk. (g : Grid) (ps : Products) → IsCountedOf g ps walk) }
-        ensures map { IfOk result (λ walk. (rules : Rules) (g : Grid) (ps : Products) → IsMapOf (tried rules) g ps walk) }
+        ensures map { IfOk result (λ walk. (rules : Rules) (g : Grid) (ps : Products) → IsMapOf rules g ps walk) }
     {
         let map = FaultMap::new(alloc, shape)?;
         let mut walk = FaultWalk::new(alloc);
@@ -79,17 +76,16 @@ impl FaultWalk {
 
     /// Scans the next row. The result is right for these rules if the rows above were scanned with them too.
     ///
-    /// `OutOfMemory` comes only if a map is drawn, or at a data cell with code 0 whose label no earlier one has: no
-    /// memory for it. Then the walk is over.
+    /// `OutOfMemory` comes only if a map is drawn, or if labels are judged at a data cell with code 0 whose label no
+    /// earlier one has: no memory for it. Then the walk is over.
     pub fn note_row<R: PatchRow>(&mut self, patches: &R, rules: &Rules) -> Result<(), OutOfMemory>
         requires row { self.old.rows < MAX_LENGTH }
         ensures rows { OnOk result (self.new.rows ≡ self.old.rows + 1) }
-        ensures found { OnOk result (OfNextFaultRow (tried rules.now) self.old (R.len patches.now) (R.shown patches.now) (λ g ps. IsRightTally (tried rules.now) g ps self.new)) }
-        ensures by_product { OnOk result (OfNextRowByProduct rules.now self.old (R.len patches.now) (R.shown patches.now) (λ g ps. IsRightByProduct rules.now g ps self.new)) }
-        ensures map { OnOk result (OfNextRowDrawn (tried rules.now) self.old (R.len patches.now) (R.shown patches.now) (λ g ps. IsMapOf (tried rules.now) g ps self.new)) }
+        ensures found { OnOk result (OfNextFaultRow rules.now self.old (R.len patches.now) (R.shown patches.now) (λ g ps. IsRightTally rules.now g ps self.new)) }
+        ensures map { OnOk result (OfNextRowDrawn rules.now self.old (R.len patches.now) (R.shown patches.now) (λ g ps. IsMapOf rules.now g ps self.new)) }
         ensures counted { OnOk result (OfNextRowCounted self.old (R.len patches.now) (R.shown patches.now) (λ g ps. IsCountedOf g ps self.new)) }
         ensures drawn { OnOk result (IsSome self.new.map ↔ IsSome self.old.map) }
-        ensures err { OnErr result (IsSome self.old.map ⊎ OfNextFaultRow (tried rules.now) self.old (R.len patches.now) (R.shown patches.now) HasNewOutlet) }
+        ensures err { OnErr result (IsSome self.old.map ⊎ (IsTrue (has_bas rules.now.judged) × OfNextFaultRow rules.now self.old (R.len patches.now) (R.shown patches.now) HasNewOutlet)) }
     {
         match note_row_of(&mut self.found, &mut self.map, self.rows, patches, rules) {
             Ok(row) => {
@@ -101,9 +97,10 @@ impl FaultWalk {
         }
     }
 
-    /// The verdict on the grid of this shape, after all its rows were scanned: that of `drain_rules`.
+    /// The verdict on the grid of this shape, after all its rows were scanned: that of `drain_rules` by the same
+    /// rules.
     pub fn verdict(&self, shape: Shape) -> Verdict
-        ensures { (rules : Rules) (g : Grid) (ps : Products) → g.extent ≡ shape → self.now.rows ≡ g.extent.rows → IsRightTally (tried rules) g ps self.now → IsCountedOf g ps self.now → IsVerdictOf (tried rules) g ps result }
+        ensures { (rules : Rules) (g : Grid) (ps : Products) → g.extent ≡ shape → self.now.rows ≡ g.extent.rows → IsRightTally rules g ps self.now → IsCountedOf g ps self.now → IsVerdictBy rules g ps result }
     {
         match self.found.first {
             None => Verdict::Accepted(Counts {
@@ -128,25 +125,25 @@ impl FaultWalk {
         self.rows
     }
 
-    /// For each rule at how many cells of these rows it fails, and at which first: for every grid and its products of
-    /// which the walk is right.
+    /// For each rule that is tried at how many cells of these rows it fails, and at which first; of another nothing is
+    /// counted. This is for every grid and its products of which the walk is right.
     pub fn faults(&self) -> &PerRule<RuleFaults>
-        ensures of_grids { (rules : Rules) (g : Grid) (ps : Products) → IsRightTally (tried rules) g ps self.now → AreFaultsOf (tried rules) g ps (cells_above g self.now.rows) result.now }
+        ensures of_grids { (rules : Rules) (g : Grid) (ps : Products) → IsRightTally rules g ps self.now → AreFaultsOf rules g ps (cells_above g self.now.rows) result.now }
     {
         &self.found.by_rule
     }
 
-    /// For each product at how many voids of these rows it has another number, and at how many data cells its no-data
-    /// number, and at which first. Without ranks rnk is not counted. This is for grids of which the walk is right.
+    /// For each judged product at how many voids of these rows it has another number, and at how many data cells its
+    /// no-data number, and at which first; of another nothing is counted. For the same grids.
     pub fn by_product(&self) -> &PerProduct<ProductFaults>
-        ensures of_grids { (rules : Rules) (g : Grid) (ps : Products) → IsRightByProduct rules g ps self.now → AreFaultsByProduct rules g ps (cells_above g self.now.rows) result.now }
+        ensures of_grids { (rules : Rules) (g : Grid) (ps : Products) → IsRightTally rules g ps self.now → AreFaultsByProduct rules g ps (cells_above g self.now.rows) result.now }
     {
         &self.found.by_product
     }
 
     /// A number for each cell of these rows, in row order, if a map is drawn: for every grid of which the map is right.
     pub fn map(&self) -> Option<&FaultMap>
-        ensures of_grids { (rules : Rules) (g : Grid) (ps : Products) → IsMapOf (tried rules) g ps self.now → IfSome result (λ map. AreMapPixels (tried rules) g ps (cells_above g self.now.rows) map.now.pixels.items) }
+        ensures of_grids { (rules : Rules) (g : Grid) (ps : Products) → IsMapOf rules g ps self.now → IfSome result (λ map. AreMapPixels rules g ps (cells_above g self.now.rows) map.now.pixels.items) }
     {
         self.map.as_ref()
     }
@@ -159,18 +156,18 @@ impl FaultWalk {
         PerProduct<ProductFaults>,
         Option<FaultMap>,
     )
-        ensures of_grids { (rules : Rules) (g : Grid) (ps : Products) → IsRightTally (tried rules) g ps self → AreFaultsOf (tried rules) g ps (cells_above g self.rows) result.0 }
-        ensures by_product { (rules : Rules) (g : Grid) (ps : Products) → IsRightByProduct rules g ps self → AreFaultsByProduct rules g ps (cells_above g self.rows) result.1 }
-        ensures map { (rules : Rules) (g : Grid) (ps : Products) → IsMapOf (tried rules) g ps self → IsMapOfCells (tried rules) g ps (cells_above g self.rows) result.2 }
+        ensures of_grids { (rules : Rules) (g : Grid) (ps : Products) → IsRightTally rules g ps self → AreFaultsOf rules g ps (cells_above g self.rows) result.0 }
+        ensures by_product { (rules : Rules) (g : Grid) (ps : Products) → IsRightTally rules g ps self → AreFaultsByProduct rules g ps (cells_above g self.rows) result.1 }
+        ensures map { (rules : Rules) (g : Grid) (ps : Products) → IsMapOf rules g ps self → IsMapOfCells rules g ps (cells_above g self.rows) result.2 }
         ensures drawn { IsSome result.2 ↔ IsSome self.map }
     {
         (self.found.by_rule, self.found.by_product, self.map)
     }
 
-    /// The first cell of these rows at which any rule fails, and its patch; none if every rule holds at each of them.
-    /// For the same grids.
+    /// The first cell of these rows at which any rule that is tried fails, and its patch; none if each holds at each of
+    /// them. For the same grids.
     pub fn first_patch(&self) -> Option<FaultyPatch>
-        ensures of_grids { (rules : Rules) (g : Grid) (ps : Products) → IsRightTally (tried rules) g ps self.now → IsFirstPatch (tried rules) g ps (cells_above g self.now.rows) result }
+        ensures of_grids { (rules : Rules) (g : Grid) (ps : Products) → IsRightTally rules g ps self.now → IsFirstPatch rules g ps (cells_above g self.now.rows) result }
     {
         self.found.first
     }

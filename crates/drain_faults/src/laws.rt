@@ -4,8 +4,8 @@ ghost use Rattle.std.specs.Prelude.{◌≡◌, ◌↔◌};
 ghost use Rattle.drain_grid.specs.declared.set_product.SetProduct.{SetProduct};
 ghost use Rattle.drain_grid.specs.declared.patch.Patch.{Patch};
 ghost use Rattle.drain_grid.specs.declared.rule.Rule.TheVariants.{VoidCell, Missing};
-ghost use Rattle.drain_kernel.specs.declared.rules.Rules.{Rules};
-ghost use Rattle.drain_kernel.specs.Rules.{tried};
+ghost use Rattle.drain_grid.specs.declared.judged.Rules.{Rules};
+ghost use Rattle.drain_grid.specs.RulesAbout.{tried};
 ghost use Rattle.drain_faults.specs.ByProduct.{MissingHoldsOf, VoidCellHoldsOf};
 
 use crate::fault_map::{SOUND, SOUND_VOID};
@@ -17,7 +17,7 @@ pub fn constants()
     ensures sound_void { SOUND_VOID ≡ 255 }
 {}
 
-/// The rules VoidCell and Missing hold at a cell exactly if each product keeps its part of them.
+/// The rules VoidCell and Missing hold at a cell exactly if each judged product keeps its part of them.
 pub fn rules_by_product()
     ensures void_cell { (rules : Rules) (p : Patch) → tried rules p VoidCell ↔ ((product : SetProduct) → VoidCellHoldsOf rules product p) }
     ensures missing { (rules : Rules) (p : Patch) → tried rules p Missing ↔ ((product : SetProduct) → MissingHoldsOf rules product p) }

@@ -1,6 +1,6 @@
-//! Every rule that fails at each cell, not only the first: of each rule at how many cells it fails, and where first; of
-//! each product where only it has numbers or none; the patch of the first fault; and a map of the least rule that fails
-//! at each cell.
+//! Every rule about judged rasters that fails at each cell, not only the first: of each rule at how many cells it fails,
+//! and where first; of each judged product where only it has numbers or none; the patch of the first fault; and a map of
+//! the least rule that fails at each cell.
 //!
 //! The verdict (`drain_rules`) stops at the first fault. To repair products one needs more, so this walk stops at no
 //! fault. The rules are checked one by one, since of each group of rules the crates below return the first that fails,
@@ -14,6 +14,7 @@ pub mod fault_tally;
 pub mod fault_walk;
 pub mod faulty_patch;
 pub mod laws;
+mod part_faults;
 pub mod patch_faults;
 pub mod per_rule;
 pub mod product_faults;

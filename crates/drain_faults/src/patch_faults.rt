@@ -1,4 +1,4 @@
-//! Which of the rules that look at a patch only fail at a cell.
+//! Which of the rules that are tried and look at a patch only fail at a cell.
 //!
 //! Of each group of rules the crates below return the least that fails. If one can hide another of its group, that
 //! other is checked alone.
@@ -8,19 +8,35 @@ ghost use Rattle.drain_grid.specs.declared.rule.Rule.{Rule};
 ghost use Rattle.drain_grid.specs.Direction.{IsCode};
 ghost use Rattle.drain_grid.specs.PatchRules.{BadCodeWithoutSpill, NotLeastHolds, OpenRaisedWithoutSpill};
 ghost use Rattle.drain_grid.specs.Rule.{IsPatchRule};
-ghost use Rattle.drain_kernel.specs.Rules.{tried};
+ghost use Rattle.drain_grid.specs.Judged.{has_rnk};
+ghost use Rattle.drain_grid.specs.RulesAbout.{tried};
+ghost use Rattle.drain_kernel.specs.Rules.{rules_with};
 ghost use Rattle.drain_faults.specs.Flags.{TellsFault};
 ghost use Rattle.drain_faults.specs.PerRule.{of_rule};
 
+use crate::part_faults::part_faults;
 use crate::per_rule::PerRule;
 use drain_fill::{is_above_ground, is_least, is_unraised_where_open};
-use drain_grid::{CellValues, Patch, Rule};
-use drain_kernel::Rules;
+use drain_grid::{CellValues, Judged, Patch, Rule, Rules};
 use drain_rules::patch_rules::{flat_fault, presence_fault};
 
-/// For each rule whether it fails at the cell. SharedLabel doesn't look at the patch only, and counts as not failing.
+/// For each rule whether it is tried and fails at the cell. SharedLabel doesn't look at the patch only, and counts as not
+/// failing.
 pub fn patch_faults(patch: &Patch, rules: &Rules) -> PerRule<bool>
     ensures each { (r : Rule) → IsPatchRule r → TellsFault (of_rule result r) (tried rules.now patch.now r) }
+    ensures shared_label { result.shared_label ≡ false }
+{
+    match rules.judged {
+        Judged::All | Judged::AllWithRanks => whole_faults(patch, rules),
+        Judged::Con | Judged::ConDir | Judged::ConDirAcc | Judged::ConDirBas => {
+            part_faults(patch, rules)
+        }
+    }
+}
+
+/// The same of the rules about all rasters, with ranks if these are judged.
+pub(crate) fn whole_faults(patch: &Patch, rules: &Rules) -> PerRule<bool>
+    ensures each { (r : Rule) → IsPatchRule r → TellsFault (of_rule result r) (rules_with (has_rnk rules.now.judged) rules.now.nodata patch.now r) }
     ensures shared_label { result.shared_label ≡ false }
 {
     let presence = presence_fault(patch, rules);

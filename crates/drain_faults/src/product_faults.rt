@@ -1,21 +1,20 @@
 //! Of each product alone: the voids at which it has a number, and the data cells at which it has none.
 //!
-//! The rules VoidCell and Missing are about all products at once; to repair them one needs to know which is wrong
+//! The rules VoidCell and Missing are about all judged products at once; to repair them one needs to know which is wrong
 //! where.
 
 ghost use Rattle.std.specs.Prelude.{◌≡◌, None};
 ghost use Rattle.drain_grid.specs.declared.set_product.SetProduct.{SetProduct};
 ghost use Rattle.drain_grid.specs.declared.rule.Rule.TheVariants.{VoidCell, Missing};
 ghost use Rattle.drain_grid.specs.PerProduct.{of_product};
-ghost use Rattle.drain_kernel.specs.Rules.{tried};
+ghost use Rattle.drain_grid.specs.RulesAbout.{tried};
 ghost use Rattle.drain_faults.specs.ByProduct.{AreProductsNotedAt, IsProductNotedAt};
 ghost use Rattle.drain_faults.specs.Flags.{TellsFault};
 
 use crate::per_rule::PerRule;
 use crate::product_presence::{keeps_missing, keeps_void_cell};
 use crate::rule_faults::RuleFaults;
-use drain_grid::{Cell, Patch, PerProduct, SetProduct};
-use drain_kernel::Rules;
+use drain_grid::{Cell, Patch, PerProduct, Rules, SetProduct};
 
 /// The cells at which a product and the elevation differ on whether there is data.
 #[derive(Clone, Copy, PartialEq, Eq, Debug)]

@@ -5,26 +5,27 @@ ghost use Rattle.drain_grid.specs.SetProduct.{product_of};
 ghost use Rattle.drain_grid.specs.Values.{number_for, value_of};
 ghost use Rattle.drain_faults.specs.ByProduct.{MissingHoldsOf, VoidCellHoldsOf};
 
-use drain_grid::{CellValues, NoData, Patch, SetProduct};
-use drain_kernel::{Ranks, Rules};
+use drain_grid::{CellValues, NoData, Patch, Rules, SetProduct};
 
-/// Whether the product has its no-data number, if the cell is a void. Without ranks, true of rnk.
+/// Whether the product has its no-data number, if the cell is a void. True of one that isn't judged.
 pub fn keeps_void_cell(patch: &Patch, rules: &Rules, product: SetProduct) -> bool
     ensures { IsTrue result ↔ VoidCellHoldsOf rules.now product patch.now }
 {
-    match (product, rules.ranks) {
-        (SetProduct::Rnk, Ranks::Ignored) => true,
-        (product, _) => is_blank_if_void(&patch.here, &rules.nodata, product),
+    if rules.judged.has(product) {
+        is_blank_if_void(&patch.here, &rules.nodata, product)
+    } else {
+        true
     }
 }
 
-/// Whether the product has another number than its no-data number, if the cell has data. The same of rnk.
+/// Whether the product has another number than its no-data number, if the cell has data. True of one that isn't judged.
 pub fn keeps_missing(patch: &Patch, rules: &Rules, product: SetProduct) -> bool
     ensures { IsTrue result ↔ MissingHoldsOf rules.now product patch.now }
 {
-    match (product, rules.ranks) {
-        (SetProduct::Rnk, Ranks::Ignored) => true,
-        (product, _) => is_there_if_data(&patch.here, &rules.nodata, product),
+    if rules.judged.has(product) {
+        is_there_if_data(&patch.here, &rules.nodata, product)
+    } else {
+        true
     }
 }
 

@@ -4,7 +4,7 @@ ghost use Rattle.std.specs.Prelude.{◌≡◌, ◌++◌, ◌↔◌, IfOk, IsTrue
 ghost use Rattle.drain_grid.specs.Product.{product_name};
 ghost use Rattle.drain_files.specs.FilePaths.{product_path, separator, header_ending, raster_ending, ending_of, IsFolderPart, IsLastPart, IsProductName, part_name};
 
-use drain_answer::line::{push_number, words};
+use drain_answer::lines::{push_number, words};
 use drain_grid::Product;
 use drain_maker::product_files::Part;
 use memchr::memrchr;

@@ -2,13 +2,13 @@
 
 ghost use Rattle.std.specs.Prelude.{◌≡◌, IfOk, List, ℕ};
 ghost use Rattle.drain_files.specs.OpenFailures.{open_failure_line, IsOpenFailure};
-ghost use Rattle.drain_print.specs.Printing.{PrintsText};
+ghost use Rattle.drain_answer.specs.Printing.{PrintsText};
 
 use crate::open_files::OpenFault;
 use crate::reason::print_reason;
+use drain_answer::print::{print_failure, print_text};
+use drain_answer::status::Status;
 use drain_device::{BodyFault, ByteSink};
-use drain_print::print::{print_failure, print_text};
-use drain_print::status::Status;
 use std::alloc::{AllocError, Global};
 
 /// Prints `failed Open` and the path, and returns the status of a failure. If there is no memory for the text, it

@@ -9,10 +9,10 @@ use crate::file_paths::{header_path, raster_path};
 use crate::open_failure::print_open_fault;
 use crate::open_files::{OpenFault, Opener};
 use crate::outputs::target_at;
+use drain_answer::print::print_failure;
+use drain_answer::status::Status;
 use drain_device::{BodyFault, ByteSink, write_nothing};
 use drain_maker::product_files::{Part, SetFile};
-use drain_print::print::print_failure;
-use drain_print::status::Status;
 use std::alloc::{AllocError, Global};
 
 /// The paths of these files in this folder, in their order.

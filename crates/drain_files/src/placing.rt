@@ -1,6 +1,6 @@
 //! What gives written files their own names, and when that is done: once all of them are whole.
 
-ghost use Rattle.std.specs.Prelude.{◌≡◌, Ok, Result};
+ghost use Rattle.std.specs.Prelude.{Result};
 ghost use Rattle.drain_files.specs.Placings.{IsNamed};
 ghost use Rattle.drain_maker.specs.declared.product_files.SetFault.{SetFault};
 
@@ -14,18 +14,6 @@ pub trait Placing {
     /// Gives each file its own name.
     fn place(&mut self) -> Result<(), SetFault>
         ensures { has_placed self.old self.new result };
-}
-
-/// Files that are written under their own names.
-#[derive(Drop)]
-pub struct InPlace;
-
-impl Placing for InPlace {
-    ghost has_placed = { λ old new result. result ≡ Ok tt };
-
-    fn place(&mut self) -> Result<(), SetFault> {
-        Ok(())
-    }
 }
 
 /// Gives the files their names if all of them were written, and returns what is to be reported. If one wasn't, no name

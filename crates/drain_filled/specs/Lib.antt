@@ -1,3 +1,4 @@
 pub mod Compared
+pub mod ConRows
 pub mod Laws
 pub mod Unfilled

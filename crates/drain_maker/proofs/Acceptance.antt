@@ -25,8 +25,8 @@ use Rattle.drain_raster.specs.Bytes.{raster_bytes}
 use Rattle.drain_raster.specs.Laws.{ReadBack, BytesReadBack, NumbersArePixels}
 use Rattle.drain_raster.specs.Pixels as pixels
 use Rattle.drain_mosaic.specs.Tiling as tiling
-use Rattle.drain_rules.specs.declared.verdict.Verdict.{Verdict}
-use Rattle.drain_rules.specs.declared.verdict.Verdict.TheVariants.{Accepted, Rejected}
+use Rattle.drain_grid.specs.declared.verdict.Verdict.{Verdict}
+use Rattle.drain_grid.specs.declared.verdict.Verdict.TheVariants.{Accepted, Rejected}
 use Rattle.drain_rules.specs.Verdicts.{counts_of, IsVerdict}
 use Rattle.drain_rules.specs.Laws.{AreEqual, EqualGridsHaveOneVerdict}
 use Rattle.drain_answer.specs.declared.refusal.Refusal.{Refusal}
@@ -40,6 +40,7 @@ use Rattle.drain_maker.specs.Headers.{made_header}
 use Rattle.drain_maker.specs.Made.{AreMade, AreOnData}
 use Rattle.drain_maker.specs.Accepted.{AreNamed, AreFilesOf, IsMadeAcceptance, MadeIsAccepted}
 use Rattle.drain_grid.proofs.ByProduct.{none_of_held}
+use Rattle.drain_maker.proofs.FileLemmas.{one_shape}
 use Rattle.drain_maker.proofs.Placing.{near_by_names, side_by_readable}
 use Rattle.drain_maker.proofs.HeaderBounds.{IsSmall, within_bounds, placed}
 
@@ -62,14 +63,6 @@ record AreReadBack (i : Inputs) (ps : ProductSet) : Type 0 where
   back : (p : SetProduct) → ReadBack (made_header (tiling_of i) (product_of p)) (raster_in ps p)
   rasters_are : (p : SetProduct) → i.raster p ≡ raster_bytes (made_header (tiling_of i) (product_of p)) (raster_in ps p)
   shapes : (p : SetProduct) → (raster_in ps p).extent ≡ tiling.extent_of (tiling_of i)
-
--- all rasters have the shape of the first
-one_shape : (ps : ProductSet) (p : SetProduct) → (raster_in ps p).extent ≡ ps.con.extent
-one_shape ps Con = refl
-one_shape ps Dir = ps.dir_shape
-one_shape ps Acc = ps.acc_shape
-one_shape ps Bas = ps.bas_shape
-one_shape ps Rnk = ps.rnk_shape
 
 read_back : (i : Inputs) (e : Heights) (sinks : List SinkLine) (ps : ProductSet) → TextReadsBack → BytesReadBack → AreNamed i → IsMosaicOf i (tiling_of i) e →
     AreMade (tiling_of i) e sinks ps → AreFilesOf i ps → AreReadBack i ps

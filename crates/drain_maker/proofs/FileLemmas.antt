@@ -1,5 +1,5 @@
--- From the writes of single files to those of a product set.
-use Rattle.std.proofs.Common.{◌≡◌, ◌↔◌, ℕ, ◌+◌, ◌<◌, ◌≤◌, inl, inr, List, [], ◌∷◌, ◌++◌, length, slice_index_or, Option, Some, None, Result, Ok, Err, IsErrOf, arith, refl, sym, ap, ◌∙◌, length-append, append_assoc, append-nil}
+-- From the writes of single files to those of a set.
+use Rattle.std.proofs.Common.{◌≡◌, ◌↔◌, ℕ, zero, suc, ◌+◌, ◌<◌, ◌≤◌, inl, inr, List, [], ◌∷◌, ◌++◌, length, map, slice_index_or, Option, Some, None, Result, Ok, Err, IsErrOf, arith, refl, sym, ap, ◌∙◌, length-append, append_assoc, append-nil}
 use Rattle.std.specs.Prelude.{slice_set}
 use Rattle.std.specs.Io.KnownBytes.{Appends}
 use Rattle.drain_device.specs.Devices.{Sink}
@@ -8,9 +8,12 @@ use Rattle.drain_device.specs.Writes.{HandsOver}
 use Rattle.drain_device.specs.Patience.{full_patience, GivesUpWriting}
 use Rattle.std.proofs.lemmas.List.{get_or-map}
 use Rattle.drain_grid.specs.declared.product_set.ProductSet.{ProductSet}
+use Rattle.drain_grid.specs.declared.set_product.SetProduct.{SetProduct}
+use Rattle.drain_grid.specs.declared.set_product.SetProduct.TheVariants.{Con, Dir, Acc, Bas, Rnk}
+use Rattle.drain_grid.specs.WholeGrid.{raster_in}
 use Rattle.drain_header.specs.Fields.{Fields}
 use Rattle.drain_header.specs.Text.{text_of, shape_lines, pixel_lines, place_lines, nodata_line, line}
-use Rattle.drain_mosaic.specs.Tiling.{Tiling}
+use Rattle.drain_mosaic.specs.Tiling.{Tiling, extent_of}
 use Rattle.drain_grid.specs.declared.cell.Cell.{Cell}
 use Rattle.drain_grid.specs.Rasters.{Pixels}
 use Rattle.drain_raster.specs.declared.fault.WriteFault.{WriteFault}
@@ -19,8 +22,11 @@ use Rattle.drain_raster.specs.Bytes.{CanSpellAll, IsFirstOutOfRange, raster_byte
 use Rattle.drain_maker.specs.declared.product_files.SetFault.{SetFault}
 use Rattle.drain_maker.specs.declared.product_files.SetFault.TheVariants.{WriteFailed, OutOfMemory}
 use Rattle.drain_maker.specs.declared.product_files.SetFile.{SetFile}
-use Rattle.drain_maker.specs.declared.product_files.TheConstants.{FILE_COUNT, SET_FILES}
-use Rattle.drain_maker.specs.ProductFiles.{WritesFile, WritesFiles, file_bytes, set_bytes}
+use Rattle.drain_maker.specs.declared.product_files.TheConstants.{SET_FILES, DERIVED_COUNT, DERIVED_FILES}
+use Rattle.drain_maker.specs.declared.derived.Derived.{Derived}
+use Rattle.drain_maker.specs.Derived.{AreCounts}
+use Rattle.drain_maker.specs.Made.{CanBeWritten}
+use Rattle.drain_maker.specs.ProductFiles.{CanBeDerived, FitHeaders, IsDerived, WritesFile, WritesFiles, derived_bytes, derived_raster, file_bytes, set_bytes}
 use Rattle.drain_maker.proofs.ListPlaces.{get-seam, set-seam}
 
 -- no byte was taken
@@ -141,24 +147,6 @@ so_far-more sink start now texts k d new e so_far below texts_below one =
       wrote = wrote-then sink so_far.olds so_far.news (old ∷ []) (new ∷ []) so_far.done (text ∷ []) (Ok tt) so_far.wrote (inl (one, refl));
     }
 
--- the bytes of each file
-pub set_bytes-len : (t : Tiling) (ps : ProductSet) → length (set_bytes t ps) ≡ FILE_COUNT
-unfolding set_bytes
-set_bytes-len t ps = refl
-
-pub set_bytes-at : (t : Tiling) (ps : ProductSet) (k : ℕ) (d : SetFile) (e : List ℕ) → k < FILE_COUNT →
-    slice_index_or (set_bytes t ps) k e ≡ file_bytes t ps (slice_index_or SET_FILES k d)
-unfolding set_bytes
-set_bytes-at t ps k d e below = get_or-map (file_bytes t ps) SET_FILES k d e below
-
--- the same of the files of a product set
-pub set_so_far-more : {F : Type 0} (sink : Sink F) (start now : List F) (t : Tiling) (ps : ProductSet) (k : ℕ) (d new : F) (e : SetFile) →
-    WritesSoFar sink start now (set_bytes t ps) k → k < length now → k < FILE_COUNT →
-    WritesFile sink (slice_index_or now k d) new (file_bytes t ps (slice_index_or SET_FILES k e)) (Ok tt) →
-    WritesSoFar sink start (slice_set now k new) (set_bytes t ps) (k + 1)
-set_so_far-more sink start now t ps k d new e so_far below texts_below one =
-    so_far-more sink start now (set_bytes t ps) k d new [] so_far below (omega (arith, set_bytes-len t ps, texts_below)) (rw (set_bytes-at t ps k e [] texts_below) one)
-
 -- the file that ended it
 pub so_far-stop : {F : Type 0} (sink : Sink F) (start now : List F) (texts : List (List ℕ)) (k : ℕ) (d new : F) (e : List ℕ) (fault : SetFault) →
     WritesSoFar sink start now texts k → k < length now → k < length texts →
@@ -171,14 +159,6 @@ so_far-stop sink start now texts k d new e fault so_far below texts_below one =
     let text = slice_index_or texts k e in
     rw (so_far.start_is ∙ ap (λ l. so_far.olds ++ l) files.1, files.2 new, so_far.texts_are ∙ ap (λ l. so_far.done ++ l) bytes.1)
     (wrote-then sink so_far.olds so_far.news (old ∷ files.0) (new ∷ files.0) so_far.done (text ∷ bytes.0) (Err fault) so_far.wrote (inr (refl, (one, refl))))
-
--- the same of the files of a product set
-pub set_so_far-stop : {F : Type 0} (sink : Sink F) (start now : List F) (t : Tiling) (ps : ProductSet) (k : ℕ) (d new : F) (e : SetFile) (fault : SetFault) →
-    WritesSoFar sink start now (set_bytes t ps) k → k < length now → k < FILE_COUNT →
-    WritesFile sink (slice_index_or now k d) new (file_bytes t ps (slice_index_or SET_FILES k e)) (Err fault) →
-    WritesFiles sink start (slice_set now k new) (set_bytes t ps) (Err fault)
-set_so_far-stop sink start now t ps k d new e fault so_far below texts_below one =
-    so_far-stop sink start now (set_bytes t ps) k d new [] fault so_far below (omega (arith, set_bytes-len t ps, texts_below)) (rw (set_bytes-at t ps k e [] texts_below) one)
 
 -- nothing is left
 no-rest : {A : Type 0} (now news rest : List A) (k : ℕ) → now ≡ news ++ rest → k ≡ length news → length now ≤ k → rest ≡ []
@@ -198,11 +178,54 @@ so_far-all sink start now texts k so_far all texts_all =
     )
     so_far.wrote
 
--- the same of the files of a product set
-pub set_so_far-all : {F : Type 0} (sink : Sink F) (start now : List F) (t : Tiling) (ps : ProductSet) (k : ℕ) →
-    WritesSoFar sink start now (set_bytes t ps) k → length now ≤ k → FILE_COUNT ≤ k → WritesFiles sink start now (set_bytes t ps) (Ok tt)
-set_so_far-all sink start now t ps k so_far all texts_all =
-    so_far-all sink start now (set_bytes t ps) k so_far all (omega (arith, set_bytes-len t ps, texts_all))
+-- what is written of the k-th of listed files, among the bytes of all
+pub WritesFile-listed : {F : Type 0} (sink : Sink F) (old new : F) (bytes_of : SetFile → List ℕ) (list : List SetFile) (k : ℕ) (e : SetFile) (done : Result (Unit {0}) SetFault) →
+    k < length list → WritesFile sink old new (bytes_of (slice_index_or list k e)) done → WritesFile sink old new (slice_index_or (map bytes_of list) k []) done
+WritesFile-listed sink old new bytes_of list k e done below one = rw (get_or-map bytes_of list k e [] below) one
+
+-- all rasters of a product set have the shape of the first
+pub one_shape : (ps : ProductSet) (p : SetProduct) → (raster_in ps p).extent ≡ ps.con.extent
+one_shape ps Con = refl
+one_shape ps Dir = ps.dir_shape
+one_shape ps Acc = ps.acc_shape
+one_shape ps Bas = ps.bas_shape
+one_shape ps Rnk = ps.rnk_shape
+
+pub FitHeaders-set : (t : Tiling) (ps : ProductSet) → ps.con.extent ≡ extent_of t → CanBeWritten t ps → FitHeaders t (λ p. Unit {0}) (raster_in ps)
+FitHeaders-set t ps shape written p held = record { extent = one_shape ps p ∙ shape; spelled = written p }
+
+pub set_bytes-listed : (t : Tiling) (ps : ProductSet) → set_bytes t ps ≡ map (file_bytes t (raster_in ps)) SET_FILES
+unfolding set_bytes
+set_bytes-listed t ps = refl
+
+-- the files of derived rasters
+pub FitHeaders-derived : (t : Tiling) (d : Derived) → CanBeDerived t d → FitHeaders t IsDerived (derived_raster d)
+FitHeaders-derived t d written Con held = absurd held
+FitHeaders-derived t d written Dir held = absurd held
+FitHeaders-derived t d written Acc held = written.acc
+FitHeaders-derived t d written Bas held = written.bas
+FitHeaders-derived t d written Rnk held = written.rnk
+
+pub IsDerived-at : (k : ℕ) (d : SetFile) → k < DERIVED_COUNT → IsDerived (slice_index_or DERIVED_FILES k d).product
+IsDerived-at zero d below = tt
+IsDerived-at (suc zero) d below = tt
+IsDerived-at (suc (suc zero)) d below = tt
+IsDerived-at (suc (suc (suc zero))) d below = tt
+IsDerived-at (suc (suc (suc (suc zero)))) d below = tt
+IsDerived-at (suc (suc (suc (suc (suc zero))))) d below = tt
+IsDerived-at (suc (suc (suc (suc (suc (suc k)))))) d below = absurd (omega arith)
+
+pub derived_bytes-listed : (t : Tiling) (d : Derived) → derived_bytes t d ≡ map (file_bytes t (derived_raster d)) DERIVED_FILES
+unfolding derived_bytes
+derived_bytes-listed t d = refl
+
+-- pixels of 32 bits without a sign are those of the three headers
+pub CanBeDerived-counts : (t : Tiling) (d : Derived) → AreCounts (extent_of t) d → CanBeDerived t d
+CanBeDerived-counts t d counts = record {
+  acc = record { extent = counts.acc.extent; spelled = counts.acc.spelled };
+  bas = record { extent = counts.bas.extent; spelled = counts.bas.spelled };
+  rnk = record { extent = counts.rnk.extent; spelled = counts.rnk.spelled };
+}
 
 -- a raster each of whose numbers can be encoded is written, or its file failed for good
 pub numbers-failed : {F : Type 0} (sink : Sink F) (old new : F) (h : Fields) (p : Pixels) (fault : WriteFault) →

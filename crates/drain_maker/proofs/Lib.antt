@@ -1,13 +1,15 @@
 mod Acceptance
 mod HeaderBounds
 mod Placing
-pub mod EachProduct
+pub mod ByDirections
+pub mod Completed
+pub mod DerivedRasters
+pub mod DerivationLemmas
 pub mod FileLemmas
 pub mod RoutedProducts
 pub mod ShownRasters
 pub mod SinkGround
 pub mod Spelling
-pub mod FirstValues
 pub mod MosaicAnswers
 pub mod OneTile
 pub mod SeamAnswers

@@ -29,8 +29,7 @@ use Rattle.drain_verdict.proofs.Order.{at_header, at_tile, at_raster, at_seam, a
 use Rattle.drain_verdict.proofs.LayoutAnswers.{layout_is, layout_none, layout_refused}
 use Rattle.drain_verdict.proofs.StartAnswers.{told_of_inputs}
 use Rattle.drain_verdict.proofs.BodyAnswers.{none_of_another_length, first_of_another_length, none_of_two_values, first_of_two_values}
-use Rattle.drain_maker.proofs.SeamAnswers.{of_inputs}
-use Rattle.drain_maker.proofs.FirstValues.{elevation_is_first_value}
+use Rattle.drain_maker.proofs.SeamAnswers.{elevation_is_first_value, of_inputs}
 
 -- the lengths of the tiles, said of the inputs
 lengths_of : (i : Inputs) (t : Tiling) (samples : List (List ℤ)) → t ≡ tiling_of i → AreSamplesOf t.side i.tiles samples → AreSamplesOf i.side i.tiles samples

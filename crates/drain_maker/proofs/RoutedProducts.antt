@@ -38,8 +38,7 @@ use Rattle.drain_paths.specs.declared.code_flows.TheConstants.{NO_CODE}
 use Rattle.drain_paths.specs.CodeFlows.{byte_flow, bytes_flows}
 use Rattle.drain_paths.specs.Laws.{AreCompleted, AreRouted}
 use Rattle.drain_paths.proofs.Completing.{correct_by_routing}
-use Rattle.drain_maker.specs.Counting.{AreCountsAndLabels}
-use Rattle.drain_maker.specs.RoutedProducts.{listed, shown, RoutesEnd, RoutesKeepRules}
+use Rattle.drain_maker.specs.RoutedProducts.{AreCountsAndLabels, listed, shown, RoutesEnd, RoutesKeepRules}
 
 pub pos_at : (xs : List ℕ) (k : ℕ) → get_or (map (λ n. pos n) xs) k (pos 0) ≡ pos (get_or xs k 0)
 pos_at [] k = refl

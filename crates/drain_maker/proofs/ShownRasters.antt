@@ -14,9 +14,7 @@ use Rattle.drain_paths.specs.Flows.{AreFlowsOf}
 use Rattle.drain_surface.specs.declared.level_queue.TheConstants.{MAX_CELLS}
 use Rattle.drain_paths.specs.CodeFlows.{bytes_flows}
 use Rattle.drain_paths.specs.OfFlows.{OfFlows}
-use Rattle.drain_maker.specs.Counting.{AreCountsAndLabels, SomeRunsEnd}
-use Rattle.drain_maker.specs.RoutedProducts.{shown, AreRightProducts}
-use Rattle.drain_maker.specs.Routes.{AreRoutes}
+use Rattle.drain_maker.specs.RoutedProducts.{AreCountsAndLabels, AreRightProducts, AreRoutes, SomeRunsEnd, shown}
 use Rattle.drain_maker.proofs.RoutedProducts.{routes_end, routes_keep_rules}
 
 abbrev pub heights : Extent → Product → List ℤ → Pixels

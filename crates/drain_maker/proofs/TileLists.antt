@@ -61,7 +61,7 @@ pub record IsRead {R : Type 0} (bytes_left : R → Option (List ℕ)) (counts : 
   pub within : TakesAtMost (tile_length side + 1) (bytes_left old.body) (bytes_left new.body)
   pub name : new.name ≡ old.name
 
--- the same of some tiles, one after the other
+-- the part of some tiles, one after the other: their devices' faults, how far each was read, and the names
 pub record AreRead {R : Type 0} (bytes_left : R → Option (List ℕ)) (counts : R → FaultCounts) (side : ℕ) (olds news : List (TileInput R)) (Fails : Type 0) : Type 0 where
   pub faults : SomeReadFails (map counts (tile_devices olds)) (map counts (tile_devices news)) Fails
   pub within : AllZip (λ old new. TakesAtMost (tile_length side + 1) (bytes_left old.body) (bytes_left new.body)) olds news

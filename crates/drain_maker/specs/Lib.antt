@@ -2,8 +2,9 @@ pub mod Headers
 pub mod ProductFiles
 pub mod Made
 pub mod Accepted
-pub mod Counting
 pub mod RoutedProducts
-pub mod Routes
 pub mod Mosaics
 pub mod TileStages
+pub mod Derived
+pub mod DerivedLaws
+pub mod Derivation

@@ -25,7 +25,7 @@ KeepsEveryRule e sinks ps = RulesHold (check_rules default_numbers) IsAnyRule (g
 abbrev pub CanBeWritten : Tiling → ProductSet → Type 0
 CanBeWritten t ps = (p : SetProduct) → CanSpellAll (made_header t (product_of p)) (raster_in ps p)
 
--- the same of the pixels that the product has in every mosaic
+-- the pixels that each product has in every mosaic can encode each of its numbers
 abbrev pub AreMadeSpelled : ProductSet → Type 0
 AreMadeSpelled ps = (p : SetProduct) → CanSpellAllIn (is_signed (product_of p)) (bits_of (product_of p)) (raster_in ps p)
 

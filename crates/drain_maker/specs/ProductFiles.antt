@@ -1,18 +1,24 @@
--- The files of a product set: their bytes, and the result of writing them one after the other.
+-- The files of a product set or of derived rasters: their bytes, what has to hold so that they can be written, and the
+-- result of writing them one after the other.
 use Rattle.std.specs.Prelude.{◌≡◌, ℕ, ◌⊎◌, List, [], ◌∷◌, Result, Ok, Err, IsErr}
 use Rattle.std.specs.List.{flat_map}
 use Rattle.drain_device.specs.Devices.{Sink}
 use Rattle.drain_device.specs.Failing.{WriteFails}
 use Rattle.drain_device.specs.Writes.{HandsOver}
+use Rattle.drain_grid.specs.declared.product.Product.{Product}
 use Rattle.drain_grid.specs.declared.product_set.ProductSet.{ProductSet}
+use Rattle.drain_grid.specs.declared.product.Product.TheVariants.{Acc, Bas, Rnk}
+use Rattle.drain_grid.specs.declared.set_product.SetProduct.{SetProduct}
+use Rattle.drain_grid.specs.declared.set_product.SetProduct.TheVariants as held
 use Rattle.drain_grid.specs.Rasters.{Pixels}
 use Rattle.drain_grid.specs.WholeGrid.{raster_in}
 use Rattle.drain_grid.specs.SetProduct.{product_of, products}
 use Rattle.drain_header.specs.Fields.{Fields}
 use Rattle.drain_header.specs.Text.{text_of}
-use Rattle.drain_mosaic.specs.Tiling.{Tiling}
-use Rattle.drain_raster.specs.Bytes.{raster_bytes}
+use Rattle.drain_mosaic.specs.Tiling.{Tiling, extent_of}
+use Rattle.drain_raster.specs.Bytes.{CanSpellAll, raster_bytes}
 use Rattle.drain_maker.specs.Headers.{made_header}
+use Rattle.drain_maker.specs.declared.derived.Derived.{Derived}
 use Rattle.drain_maker.specs.declared.product_files.Part.{Part}
 use Rattle.drain_maker.specs.declared.product_files.Part.TheVariants.{Header, Raster}
 use Rattle.drain_maker.specs.declared.product_files.SetFile.{SetFile}
@@ -24,8 +30,18 @@ abbrev pub part_bytes : Part → Fields → Pixels → List ℕ
 part_bytes Header h p = text_of h
 part_bytes Raster h p = raster_bytes h p
 
-abbrev pub file_bytes : Tiling → ProductSet → SetFile → List ℕ
-file_bytes t ps file = part_bytes file.part (made_header t (product_of file.product)) (raster_in ps file.product)
+-- the bytes of a product's file, where these are the rasters
+abbrev pub file_bytes : Tiling → (SetProduct → Pixels) → SetFile → List ℕ
+file_bytes t rasters file = part_bytes file.part (made_header t (product_of file.product)) (rasters file.product)
+
+-- the raster has the mosaic's rows and columns, and the pixels of the product's header can encode each of its numbers
+pub record FitsHeader (t : Tiling) (p : Product) (r : Pixels) : Type 0 where
+  pub extent : r.extent ≡ extent_of t
+  pub spelled : CanSpellAll (made_header t p) r
+
+-- each raster that a set holds does
+abbrev pub FitHeaders : Tiling → (SetProduct → Type 0) → (SetProduct → Pixels) → Type 0
+FitHeaders t holds rasters = (p : SetProduct) → holds p → FitsHeader t (product_of p) (rasters p)
 
 -- the bytes of all files: of each product its header, and then its raster
 unfoldable pub set_bytes : Tiling → ProductSet → List (List ℕ)
@@ -43,3 +59,31 @@ WritesFiles sink (old ∷ olds) (new ∷ news) (bytes ∷ more) done =
     (WritesFile sink old new bytes (Ok tt) × WritesFiles sink olds news more done)
     ⊎ (IsErr done × (WritesFile sink old new bytes done × (news ≡ olds)))
 WritesFiles sink olds news texts done = ⊥
+
+-- the three derived rasters fit their headers
+pub record CanBeDerived (t : Tiling) (d : Derived) : Type 0 where
+  pub acc : FitsHeader t Acc d.acc
+  pub bas : FitsHeader t Bas d.bas
+  pub rnk : FitsHeader t Rnk d.rnk
+
+-- the bytes of a product's two files: the text of its header, and the bytes of its raster
+abbrev pub bytes_of_both : Tiling → Product → Pixels → List (List ℕ) → List (List ℕ)
+bytes_of_both t p r more = text_of (made_header t p) ∷ raster_bytes (made_header t p) r ∷ more
+
+-- the bytes of all files of derived rasters: of acc, bas and rnk each the header, and then the raster
+unfoldable pub derived_bytes : Tiling → Derived → List (List ℕ)
+derived_bytes t d = bytes_of_both t Acc d.acc (bytes_of_both t Bas d.bas (bytes_of_both t Rnk d.rnk []))
+
+-- a product that is derived: con and dir are given
+abbrev pub IsDerived : SetProduct → Type 0
+IsDerived held.Con = ⊥
+IsDerived held.Dir = ⊥
+IsDerived held.Acc = Unit {0}
+IsDerived held.Bas = Unit {0}
+IsDerived held.Rnk = Unit {0}
+
+-- the raster of a product that is derived; of the others, which have none here, nothing is asked
+abbrev pub derived_raster : Derived → SetProduct → Pixels
+derived_raster d held.Acc = d.acc
+derived_raster d held.Bas = d.bas
+derived_raster d p = d.rnk

@@ -1,5 +1,5 @@
--- Products of routes, counts and labels: correct, and right by every rule.
-use Rattle.std.specs.Prelude.{◌*◌, ◌≤◌, ℕ, ℤ, pos, List, map, slice_index_or}
+-- Routes of a filled surface, counts and labels, and their products: correct, and right by every rule.
+use Rattle.std.specs.Prelude.{◌≡◌, ◌*◌, ◌≤◌, ℕ, ℤ, pos, List, map, slice_index_or}
 use Rattle.drain_grid.specs.declared.sink_line.SinkLine.{SinkLine}
 use Rattle.drain_grid.specs.declared.cell.Cell.{Cell}
 use Rattle.drain_grid.specs.Correct.{IsCorrect, RunsAreSound}
@@ -12,13 +12,34 @@ use Rattle.drain_grid.specs.Rasters.{Heights}
 use Rattle.drain_grid.specs.Rule.{IsAnyRule}
 use Rattle.drain_grid.specs.Size.{Extent}
 use Rattle.drain_grid.specs.WholeGrid.{grid_of}
+use Rattle.drain_paths.specs.declared.flow.Flow.{Flow}
+use Rattle.drain_paths.specs.Basins.{AreBasinLabels}
 use Rattle.drain_paths.specs.Flows.{AreFlowsOf}
+use Rattle.drain_paths.specs.Upstream.{AreUpstreamCounts}
 use Rattle.drain_surface.specs.declared.level_queue.TheConstants.{MAX_CELLS}
 use Rattle.drain_surface.specs.Flats.{Laying, AreWaysOnFlats}
 use Rattle.drain_surface.specs.Floods.{Flooding, IsFlooded, con_at}
 use Rattle.drain_paths.specs.CodeFlows.{bytes_flows}
 use Rattle.drain_paths.specs.OfFlows.{AllFlowsEnd}
-use Rattle.drain_maker.specs.Counting.{AreCountsAndLabels}
+
+-- a flood of the grid left these heights, and these are the codes and ranks of the ways on its surface
+pub record AreRoutes (g : Grid) (con : List ℤ) (rnk dirs : List ℕ) : Type 0 where
+  pub flood : Flooding
+  pub laying : Laying
+  pub flooded : IsFlooded g flood
+  pub ways : AreWaysOnFlats g flood laying
+  pub con_is : con ≡ flood.con
+  pub rnk_is : rnk ≡ laying.rnk
+  pub dir_is : dirs ≡ laying.way
+
+-- counts and labels are right
+pub record AreCountsAndLabels (g : Grid) (ps : Products) (e : Extent) (counts labels : List ℕ) : Type 0 where
+  pub counts_are : AreUpstreamCounts g ps e counts
+  pub labels_are : AreBasinLabels g ps e labels
+
+-- the flows are those of some grid and products whose runs all end
+abbrev pub SomeRunsEnd : Extent → List Flow → Type 0
+SomeRunsEnd e flows = (g : Grid) × (ps : Products) × AreFlowsOf g ps e flows × AllFlowsEnd g ps
 
 -- correct products, sound runs, and every rule of a check at every cell
 pub record AreRightProducts (e : Heights) (sinks : List SinkLine) (ps : Products) : Type 0 where

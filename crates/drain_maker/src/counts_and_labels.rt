@@ -5,7 +5,7 @@ ghost use Rattle.drain_paths.specs.Basins.{AreBasinLabels};
 ghost use Rattle.drain_paths.specs.CodeFlows.{bytes_flows};
 ghost use Rattle.drain_paths.specs.OfFlows.{OfFlows};
 ghost use Rattle.drain_paths.specs.Upstream.{AreUpstreamCounts};
-ghost use Rattle.drain_maker.specs.Counting.{SomeRunsEnd, AreCountsAndLabels};
+ghost use Rattle.drain_maker.specs.RoutedProducts.{SomeRunsEnd, AreCountsAndLabels};
 
 use crate::follow::{Follow, Part};
 use drain_grid::{OutOfMemory, Shape};

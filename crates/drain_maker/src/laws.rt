@@ -4,6 +4,7 @@
 //! it.
 
 ghost use Rattle.drain_maker.specs.Accepted.{MadeIsAccepted};
+ghost use Rattle.drain_maker.specs.DerivedLaws.{DerivedByDirections, DerivedCompletes};
 ghost use Rattle.drain_maker.specs.RoutedProducts.{RoutesEnd, RoutesKeepRules};
 
 use drain_header::laws::text_reads_back;
@@ -29,4 +30,15 @@ pub fn routes_end()
 /// cell.
 pub fn routes_keep_rules()
     ensures { RoutesKeepRules }
+{}
+
+/// Products whose accumulation, labels and ranks are derived from their directions are correct exactly if their heights
+/// and directions are right, and every rule of a check holds of them exactly then.
+pub fn derived_completes()
+    ensures { DerivedCompletes }
+{}
+
+/// Rasters that are derived for one grid and products are derived for all with the same elevations and directions.
+pub fn derived_by_directions()
+    ensures { DerivedByDirections }
 {}

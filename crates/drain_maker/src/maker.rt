@@ -7,8 +7,9 @@ ghost use Rattle.drain_grid.specs.WholeGrid.{grid_of, products_of, nodata_of};
 ghost use Rattle.drain_mosaic.specs.Tiling.{extent_of};
 ghost use Rattle.drain_maker.specs.Made.{KeepsEveryRule, CanBeWritten, AreRasters, IsSinkAnswer, Succeeds};
 
+use crate::as_elevation::AsElevation;
 use crate::follow::{Follow, Unfollowed};
-use crate::products::{build, build_freeing};
+use crate::products::build;
 use drain_grid::laws::found_off_data_is_right;
 use drain_grid::{Elevation, OutOfMemory, ProductSet, Sinks, first_off_data};
 use drain_mosaic::Layout;
@@ -58,77 +59,45 @@ pub fn make(
     ensures correct { IfOk result (λ products. IsCorrect (grid_of elevation.now sinks.now) (products_of products) default_numbers) }
     ensures runs { IfOk result (λ products. RunsAreSound (grid_of elevation.now sinks.now) (products_of products)) }
 {
-    make_followed(alloc, layout, elevation, sinks, &mut Unfollowed)
+    make_freeing(alloc, layout, elevation, sinks, &mut Unfollowed)
 }
 
-/// The same, and somebody follows it: each part is reported when it begins.
-pub fn make_followed(
+/// The products of a mosaic's elevations with these sinks, with the default no-data numbers, for a caller who follows
+/// how they are made: each part is reported when it begins.
+///
+/// What is returned, and when, is as with `make`. The elevations are lent or given away. Given ones are freed as soon as
+/// they aren't needed any more.
+pub fn make_freeing<E: AsElevation + Drop>(
     alloc: Global,
     layout: &Layout,
-    elevation: &Elevation,
+    elevation: E,
     sinks: &Sinks,
     follow: &mut impl Follow,
 ) -> Result<ProductSet, MakeRefusal>
-    requires same_shape { elevation.now.extent ≡ extent_of layout.now }
-    ensures shape { IfOk result (λ products. products.con.extent ≡ elevation.now.extent) }
+    requires same_shape { (E.heights elevation).extent ≡ extent_of layout.now }
+    ensures shape { IfOk result (λ products. products.con.extent ≡ (E.heights elevation).extent) }
     ensures nodata { IfOk result (λ products. nodata_of products ≡ default_numbers) }
-    ensures rules { IfOk result (KeepsEveryRule elevation.now sinks.now) }
+    ensures rules { IfOk result (KeepsEveryRule (E.heights elevation) sinks.now) }
     ensures written { IfOk result (CanBeWritten layout.now) }
     ensures rasters { IfOk result AreRasters }
 
     // Every listed cell has data, or the first line whose cell has none is reported.
-    ensures sinks { IsSinkAnswer elevation.now sinks.now result }
+    ensures sinks { IsSinkAnswer (E.heights elevation) sinks.now result }
 
     // Where every listed cell has data, there are products, unless memory runs out.
-    ensures succeeds { Succeeds elevation.now sinks.now result }
+    ensures succeeds { Succeeds (E.heights elevation) sinks.now result }
 
     // What every rule at every cell means: the products are correct, and every run is sound.
-    ensures correct { IfOk result (λ products. IsCorrect (grid_of elevation.now sinks.now) (products_of products) default_numbers) }
-    ensures runs { IfOk result (λ products. RunsAreSound (grid_of elevation.now sinks.now) (products_of products)) }
+    ensures correct { IfOk result (λ products. IsCorrect (grid_of (E.heights elevation) sinks.now) (products_of products) default_numbers) }
+    ensures runs { IfOk result (λ products. RunsAreSound (grid_of (E.heights elevation) sinks.now) (products_of products)) }
 {
     // The law that the first listed cell without data is the grid's.
     found_off_data_is_right();
-    if let Some(line) = first_off_data(sinks, elevation) {
+    if let Some(line) = first_off_data(sinks, elevation.as_elevation()) {
         return Err(MakeRefusal::SinkNotData(line));
     }
     match build(alloc, elevation, sinks, follow) {
         Ok(products) => Ok(products),
         Err(OutOfMemory) => Err(MakeRefusal::OutOfMemory),
-    }
-}
-
-/// The same, and the elevations are freed as soon as they aren't needed any more.
-pub fn make_freeing(
-    alloc: Global,
-    layout: &Layout,
-    elevation: Elevation,
-    sinks: &Sinks,
-    follow: &mut impl Follow,
-) -> Result<ProductSet, MakeRefusal>
-    requires same_shape { elevation.extent ≡ extent_of layout.now }
-    ensures shape { IfOk result (λ products. products.con.extent ≡ elevation.extent) }
-    ensures nodata { IfOk result (λ products. nodata_of products ≡ default_numbers) }
-    ensures rules { IfOk result (KeepsEveryRule elevation sinks.now) }
-    ensures written { IfOk result (CanBeWritten layout.now) }
-    ensures rasters { IfOk result AreRasters }
-
-    // Every listed cell has data, or the first line whose cell has none is reported.
-    ensures sinks { IsSinkAnswer elevation sinks.now result }
-
-    // Where every listed cell has data, there are products, unless memory runs out.
-    ensures succeeds { Succeeds elevation sinks.now result }
-
-    // What every rule at every cell means: the products are correct, and every run is sound.
-    ensures correct { IfOk result (λ products. IsCorrect (grid_of elevation sinks.now) (products_of products) default_numbers) }
-    ensures runs { IfOk result (λ products. RunsAreSound (grid_of elevation sinks.now) (products_of products)) }
-{
-    // The same law.
-    found_off_data_is_right();
-    match first_off_data(sinks, &elevation) {
-        Some(line) => Err(MakeRefusal::SinkNotData(line)),
-        None => match build_freeing(alloc, elevation, sinks, follow) {
-            Ok(made) => Ok(made),
-            Err(_) => Err(MakeRefusal::OutOfMemory),
-        },
     }
 }

@@ -1,22 +1,23 @@
 //! Reading tiles alone: their mosaic, to make products of it.
 
 ghost use Rattle.std.specs.Prelude.{◌≡◌, map, IfOk, IfErr, IsErrOf};
+ghost use Rattle.drain_mosaic.specs.Mosaic.{AreTiles};
 ghost use Rattle.drain_mosaic.specs.Tiling.{extent_of};
 ghost use Rattle.drain_verdict.specs.Inputs.{Inputs};
 ghost use Rattle.drain_device.specs.FaultLists.{SomeReadFails};
 ghost use Rattle.drain_hgt.specs.Inputs.{names_of, tile_devices, TilesTakeAtMost};
 ghost use Rattle.drain_verdict.specs.Refusals.{IsOfBodies};
 ghost use Rattle.drain_maker.specs.Mosaics.{TellTiles, IsMosaicOf, IsMosaicRefusal};
+ghost use Rattle.drain_maker.specs.TileStages.{IsElevationOf, IsSeamFaultAs, IsSeamRefusal};
 
-use crate::seams::elevation_of;
 use crate::tiles::read_tiles;
 use drain_answer::Refusal;
 use drain_device::ByteSource;
 use drain_grid::Elevation;
 use drain_hgt::TileInput;
 use drain_hgt::laws::one_name;
-use drain_mosaic::Layout;
 use drain_mosaic::laws::agreement_gives_elevation;
+use drain_mosaic::{Layout, SeamFault, join};
 use drain_verdict::layout::layout_of;
 use std::alloc::Global;
 
@@ -55,4 +56,34 @@ pub fn read_mosaic<R: ByteSource>(
     let samples = read_tiles(alloc, &layout, tiles)?;
     let elevation = elevation_of(alloc, &layout, samples)?;
     Ok(Mosaic { layout, elevation })
+}
+
+/// The elevation of all tiles together, or `SeamMismatch` with the first cell where they differ; `OutOfMemory` if they
+/// agree and memory is refused. `samples` are those of the tiles, in the order of the layout's names, freed once
+/// joined.
+fn elevation_of(
+    alloc: Global,
+    layout: &Layout,
+    samples: Vec<Vec<i16>>,
+) -> Result<Elevation, Refusal>
+    requires { AreTiles layout.now (map (λ tile. tile.items) samples.items) }
+    ensures elevation { IfOk result (IsElevationOf layout.now (map (λ tile. tile.items) samples.items)) }
+    ensures refusal { IfErr result (IsSeamRefusal layout.now (map (λ tile. tile.items) samples.items)) }
+    ensures of_bodies { IfErr result IsOfBodies }
+{
+    match join(alloc, layout, &samples) {
+        Ok(elevation) => Ok(elevation),
+        Err(fault) => Err(refusal_of(fault)),
+    }
+}
+
+/// The refusal for a seam's fault.
+fn refusal_of(fault: SeamFault) -> Refusal
+    ensures refusal { IsSeamFaultAs fault result }
+    ensures of_bodies { IsOfBodies result }
+{
+    match fault {
+        SeamFault::SeamMismatch(cell) => Refusal::SeamMismatch(cell),
+        SeamFault::OutOfMemory => Refusal::OutOfMemory,
+    }
 }

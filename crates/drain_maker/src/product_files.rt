@@ -1,13 +1,18 @@
-//! The files of a product set: which they are, their order, and writing them.
+//! The files of a product set or of derived rasters: which they are, their order, and writing them.
 
-ghost use Rattle.std.specs.Prelude.{◌≡◌, length};
+ghost use Rattle.std.specs.Prelude.{◌≡◌, length, map};
+ghost use Rattle.std.specs.List.{All};
+ghost use Rattle.drain_grid.specs.Rasters.{Pixels};
+ghost use Rattle.drain_grid.specs.WholeGrid.{raster_in};
+ghost use Rattle.drain_grid.specs.declared.set_product.SetProduct.{SetProduct};
 ghost use Rattle.drain_header.specs.Text.{text_of};
 ghost use Rattle.drain_mosaic.specs.Tiling.{extent_of};
 ghost use Rattle.drain_raster.specs.Pixels as pixels;
 ghost use Rattle.drain_raster.specs.Bytes.{CanSpellAll, raster_bytes};
 ghost use Rattle.drain_maker.specs.Made.{CanBeWritten};
-ghost use Rattle.drain_maker.specs.ProductFiles.{WritesFile, WritesFiles, file_bytes, set_bytes};
+ghost use Rattle.drain_maker.specs.ProductFiles.{CanBeDerived, FitHeaders, IsDerived, WritesFile, WritesFiles, derived_bytes, derived_raster, file_bytes, set_bytes};
 
+use crate::derived::Derived;
 use crate::header::product_header;
 use drain_device::{ByteSink, GaveUp, Patience, write_all};
 use drain_grid::{ProductSet, Raster, SetProduct};
@@ -23,59 +28,34 @@ pub enum Part {
     Raster,
 }
 
-/// A file of a product set.
+/// A file of a product set, or of derived rasters.
 #[derive(Clone, Copy, PartialEq, Eq, Debug)]
 pub struct SetFile {
     pub product: SetProduct,
     pub part: Part,
 }
 
+/// The files of these products: of each its header, and then its raster.
+macro_rules! files_of {
+    ($($product:ident)*) => {
+        [$(
+            SetFile { product: SetProduct::$product, part: Part::Header },
+            SetFile { product: SetProduct::$product, part: Part::Raster },
+        )*]
+    };
+}
+
 /// How many files a product set has.
 pub const FILE_COUNT: usize = 10;
 
-/// The files of a product set in their order: of each product its header, and then its raster.
-pub const SET_FILES: [SetFile; FILE_COUNT] = [
-    SetFile {
-        product: SetProduct::Con,
-        part: Part::Header,
-    },
-    SetFile {
-        product: SetProduct::Con,
-        part: Part::Raster,
-    },
-    SetFile {
-        product: SetProduct::Dir,
-        part: Part::Header,
-    },
-    SetFile {
-        product: SetProduct::Dir,
-        part: Part::Raster,
-    },
-    SetFile {
-        product: SetProduct::Acc,
-        part: Part::Header,
-    },
-    SetFile {
-        product: SetProduct::Acc,
-        part: Part::Raster,
-    },
-    SetFile {
-        product: SetProduct::Bas,
-        part: Part::Header,
-    },
-    SetFile {
-        product: SetProduct::Bas,
-        part: Part::Raster,
-    },
-    SetFile {
-        product: SetProduct::Rnk,
-        part: Part::Header,
-    },
-    SetFile {
-        product: SetProduct::Rnk,
-        part: Part::Raster,
-    },
-];
+/// The files of a product set in their order.
+pub const SET_FILES: [SetFile; FILE_COUNT] = files_of!(Con Dir Acc Bas Rnk);
+
+/// How many files derived rasters have.
+pub const DERIVED_COUNT: usize = 6;
+
+/// The files of derived rasters in their order.
+pub const DERIVED_FILES: [SetFile; DERIVED_COUNT] = files_of!(Acc Bas Rnk);
 
 /// Why not every file was written.
 #[derive(Clone, Copy, PartialEq, Eq, Debug)]
@@ -84,6 +64,45 @@ pub enum SetFault {
     WriteFailed,
     /// Memory was refused for the text of a header.
     OutOfMemory,
+}
+
+/// Rasters of products that are written together.
+trait FileSet {
+    /// The raster of the product is among them.
+    ghost holds: { SetProduct → Type 0 };
+
+    /// The raster of each product that is held.
+    ghost rasters: { Self → SetProduct → Pixels };
+
+    /// The raster of a product.
+    fn raster_of(&self, product: SetProduct) -> &Raster
+        requires { holds product }
+        ensures { result.now ≡ rasters self.now product };
+}
+
+impl FileSet for ProductSet {
+    ghost holds = { λ product. Unit {0} };
+
+    ghost rasters = { raster_in };
+
+    fn raster_of(&self, product: SetProduct) -> &Raster {
+        self.raster(product)
+    }
+}
+
+impl FileSet for Derived {
+    ghost holds = { IsDerived };
+
+    ghost rasters = { derived_raster };
+
+    fn raster_of(&self, product: SetProduct) -> &Raster {
+        match product {
+            SetProduct::Acc => &self.acc,
+            SetProduct::Bas => &self.bas,
+            SetProduct::Rnk => &self.rnk,
+            SetProduct::Con | SetProduct::Dir => unreachable!(),
+        }
+    }
 }
 
 /// Writes the files of a product set, one after the other. The first that can't be written ends it.
@@ -98,28 +117,60 @@ pub fn write_files<F: ByteSink>(
     requires written { CanBeWritten layout.now products.now }
     ensures { WritesFiles F.ByteSink files.old files.new (set_bytes layout.now products.now) result }
 {
+    write_listed(alloc, layout, products, &SET_FILES, files)
+}
+
+/// Writes the files of derived rasters, one after the other. The first that can't be written ends it.
+///
+/// Headers are those of `product_header`. `derive` returns a layout and rasters that can be written.
+pub fn write_derived<F: ByteSink>(
+    alloc: Global,
+    layout: &Layout,
+    derived: &Derived,
+    files: &mut [F],
+) -> Result<(), SetFault>
+    requires counted { length files.old ≡ DERIVED_COUNT }
+    requires written { CanBeDerived layout.now derived.now }
+    ensures { WritesFiles F.ByteSink files.old files.new (derived_bytes layout.now derived.now) result }
+{
+    write_listed(alloc, layout, derived, &DERIVED_FILES, files)
+}
+
+/// Writes the listed files of a set, one after the other. The first that can't be written ends it.
+fn write_listed<S: FileSet, F: ByteSink>(
+    alloc: Global,
+    layout: &Layout,
+    set: &S,
+    list: &[SetFile],
+    files: &mut [F],
+) -> Result<(), SetFault>
+    requires counted { length files.old ≡ length list.now }
+    requires held { All (λ file. S.holds file.product) list.now }
+    requires written { FitHeaders layout.now S.holds (S.rasters set.now) }
+    ensures { WritesFiles F.ByteSink files.old files.new (map (file_bytes layout.now (S.rasters set.now)) list.now) result }
+{
     for (k, file) in files.iter_mut().enumerate() {
-        write_file(alloc, layout, products, SET_FILES[k], file)?;
+        write_file(alloc, layout, set, list[k], file)?;
     }
     Ok(())
 }
 
 /// Writes one file.
-fn write_file<F: ByteSink>(
+fn write_file<S: FileSet, F: ByteSink>(
     alloc: Global,
     layout: &Layout,
-    products: &ProductSet,
+    set: &S,
     file: SetFile,
     to: &mut F,
 ) -> Result<(), SetFault>
-    requires same_shape { products.now.con.extent ≡ extent_of layout.now }
-    requires written { CanBeWritten layout.now products.now }
-    ensures { WritesFile F.ByteSink to.old to.new (file_bytes layout.now products.now file) result }
+    requires held { S.holds file.product }
+    requires written { FitHeaders layout.now S.holds (S.rasters set.now) }
+    ensures { WritesFile F.ByteSink to.old to.new (file_bytes layout.now (S.rasters set.now) file) result }
 {
     let header = product_header(layout, file.product.product());
     match file.part {
         Part::Header => write_header(alloc, &header, to),
-        Part::Raster => write_numbers(&header, products.raster(file.product), to),
+        Part::Raster => write_numbers(&header, set.raster_of(file.product), to),
     }
 }
 

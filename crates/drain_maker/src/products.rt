@@ -9,53 +9,38 @@ ghost use Rattle.drain_surface.specs.Floods.{IsFlooded};
 ghost use Rattle.drain_maker.specs.Made.{AreRasters, AreMadeSpelled};
 ghost use Rattle.drain_maker.specs.RoutedProducts.{AreRightProducts};
 
+use crate::as_elevation::AsElevation;
 use crate::counts_and_labels::count_and_label;
 use crate::follow::Follow;
 use crate::laws::routes_keep_rules;
 use crate::rasters::{raster_of_codes, raster_of_counts, raster_of_heights};
 use crate::route::{flooded, route};
-use drain_grid::{Elevation, OutOfMemory, Product, ProductSet, Sinks};
+use drain_grid::{OutOfMemory, Product, ProductSet, Sinks};
 use drain_surface::Flood;
 use std::alloc::Global;
 
-/// The products of a grid's elevations with these sinks, with the default no-data numbers.
-pub(crate) fn build(
+/// The products of a grid's elevations with these sinks, with the default no-data numbers. The elevations are dropped
+/// once the grid is flooded.
+pub(crate) fn build<E: AsElevation + Drop>(
     alloc: Global,
-    elevation: &Elevation,
+    elevation: E,
     sinks: &Sinks,
     follow: &mut impl Follow,
 ) -> Result<ProductSet, OutOfMemory>
-    ensures shape { IfOk result (λ products. products.con.extent ≡ elevation.now.extent) }
+    ensures shape { IfOk result (λ products. products.con.extent ≡ (E.heights elevation).extent) }
     ensures nodata { IfOk result (λ products. nodata_of products ≡ default_numbers) }
-    ensures right { IfOk result (λ products. AreRightProducts elevation.now sinks.now (products_of products)) }
+    ensures right { IfOk result (λ products. AreRightProducts (E.heights elevation) sinks.now (products_of products)) }
     ensures written { IfOk result AreMadeSpelled }
     ensures rasters { IfOk result AreRasters }
 {
-    let flood = flooded(alloc, elevation, sinks, follow)?;
-    build_on(alloc, flood, follow)
-}
-
-/// The same. The elevations are freed once the grid is flooded.
-pub(crate) fn build_freeing(
-    alloc: Global,
-    elevation: Elevation,
-    sinks: &Sinks,
-    follow: &mut impl Follow,
-) -> Result<ProductSet, OutOfMemory>
-    ensures shape { IfOk result (λ products. products.con.extent ≡ elevation.extent) }
-    ensures nodata { IfOk result (λ products. nodata_of products ≡ default_numbers) }
-    ensures right { IfOk result (λ products. AreRightProducts elevation sinks.now (products_of products)) }
-    ensures written { IfOk result AreMadeSpelled }
-    ensures rasters { IfOk result AreRasters }
-{
-    let flood = flooded(alloc, &elevation, sinks, follow)?;
+    let flood = flooded(alloc, elevation.as_elevation(), sinks, follow)?;
     drop(elevation);
     build_on(alloc, flood, follow)
 }
 
 /// The products of a flooded grid. It isn't inlined, so that a profile shows it.
 #[inline(never)]
-#[tactic(auto, using(crate::proofs::EachProduct::each_spelled))]
+#[tactic(auto, using(crate::proofs::Spelling::each_spelled))]
 fn build_on(
     alloc: Global,
     flood: Flood,

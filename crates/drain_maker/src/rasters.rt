@@ -47,7 +47,7 @@ fn look_at_each(heights: &[i16])
     }
 }
 
-/// The same of one height.
+/// A height is a number of 16 bits.
 fn look_at(_height: i16)
     ensures { CanSpellIn true 16 _height }
 {}

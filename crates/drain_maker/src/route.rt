@@ -4,7 +4,7 @@ ghost use Rattle.std.specs.Prelude.{◌≡◌, ◌*◌, IfOk, vec_len};
 ghost use Rattle.drain_grid.specs.Grid.{Grid};
 ghost use Rattle.drain_grid.specs.WholeGrid.{grid_of};
 ghost use Rattle.drain_surface.specs.Floods.{IsFlooded};
-ghost use Rattle.drain_maker.specs.Routes.{AreRoutes};
+ghost use Rattle.drain_maker.specs.RoutedProducts.{AreRoutes};
 
 use crate::follow::{Follow, Part};
 use drain_grid::{Elevation, OutOfMemory, Sinks};

@@ -8,10 +8,10 @@ use Rattle.drain_grid.specs.declared.cell.Cell.{Cell}
 use Rattle.drain_grid.specs.Size.{Extent}
 use Rattle.drain_grid.specs.Extent.{IsCellOf, IsEarlier}
 use Rattle.drain_grid.proofs.Neighbors.{place}
-use Rattle.drain_windows.specs.declared.place.Place.{Place}
-use Rattle.drain_windows.specs.Windows.{IsJudgedAtSome, judged_bottom, judged_right, IsCornerRow, IsCornerCol}
-use Rattle.drain_windows.proofs.Corners.{judged_if_corners_are, corners_tell_whole}
-use Rattle.drain_windows.proofs.ReportMerges.{to_map}
+use Rattle.drain_union.specs.declared.place.Place.{Place}
+use Rattle.drain_union.specs.Windows.{IsJudgedAtSome, judged_bottom, judged_right, IsCornerRow, IsCornerCol}
+use Rattle.drain_union.proofs.Corners.{judged_if_corners_are, corners_tell_whole}
+use Rattle.drain_union.proofs.ReportMerges.{to_map}
 use Rattle.drain_merge.specs.Corners.{IsJudgedCrossing, IsNewBelow, IsFirstInRow, IsFirstCrossing, IsFirstUnjudged}
 use Rattle.drain_merge.proofs.NewNumbers.{Passed, passed_before, held_at}
 

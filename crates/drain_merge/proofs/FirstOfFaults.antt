@@ -3,9 +3,9 @@ use Rattle.std.proofs.Common.{◌≡◌, ℕ, ◌+◌, ◌<◌, inl, inr, Option
 use Rattle.std.specs.List.{Contains}
 use Rattle.std.proofs.lemmas.List.{take_more}
 use Rattle.std.proofs.lemmas.List.Elements.{Contains-append_left, Contains-push, Contains-push_cases}
-use Rattle.drain_windows.proofs.FirstFaults.{pair_trans}
+use Rattle.drain_union.proofs.FirstFaults.{pair_trans}
 use Rattle.drain_merge.specs.declared.faults.Fault.{Fault}
-use Rattle.drain_windows.specs.declared.window_report.WindowReport.{WindowReport}
+use Rattle.drain_union.specs.declared.window_report.WindowReport.{WindowReport}
 use Rattle.drain_merge.specs.Faults.{union_fault, ComesBefore, IsEarlierFault, IsFirstOfFaults}
 use Rattle.drain_grid.proofs.CellOrder.{earlier_differs}
 

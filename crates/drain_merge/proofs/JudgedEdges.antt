@@ -4,10 +4,10 @@ use lib.Dec.{ltb}
 use borrow.Author.Tests.{ltb-true}
 use Rattle.std.proofs.lemmas.Bool.{lt-ltb}
 use Rattle.drain_grid.proofs.Neighbors.{place}
-use Rattle.drain_windows.specs.declared.place.Place.{Place}
-use Rattle.drain_windows.specs.Judged.{BothJudgeOne, JudgesSome}
-use Rattle.drain_windows.specs.Windows.{in_union, judged_bottom, judged_left, judged_right, judged_top}
-use Rattle.drain_windows.proofs.ApartPlaces.{edges_within, meeting, within_edges}
+use Rattle.drain_union.specs.declared.place.Place.{Place}
+use Rattle.drain_union.specs.Judged.{BothJudgeOne, JudgesSome}
+use Rattle.drain_union.specs.Windows.{in_union, judged_bottom, judged_left, judged_right, judged_top}
+use Rattle.drain_union.proofs.ApartPlaces.{edges_within, meeting, within_edges}
 
 -- where it has a judged row, a place judges a cell exactly where it has a judged column
 pub some_judged : (p : Place) (left right : ℕ) → left ≡ judged_left p → right ≡ judged_right p → judged_top p < judged_bottom p →

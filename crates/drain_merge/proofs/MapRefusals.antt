@@ -1,6 +1,6 @@
 -- A refusal of the windows that are counted from their box is one of the windows on the map.
 use Rattle.std.proofs.Common.{◌≡◌, inl, inr, List, map, subst, ap, ◌∙◌}
-use Rattle.drain_windows.specs.declared.window_report.WindowReport.{WindowReport}
+use Rattle.drain_union.specs.declared.window_report.WindowReport.{WindowReport}
 use Rattle.drain_merge.specs.declared.map_merge.UnionBox.{UnionBox}
 use Rattle.drain_merge.specs.declared.merge_verdict.MergeRefusal.{MergeRefusal}
 use Rattle.drain_merge.specs.declared.merge_verdict.MergeRefusal.TheVariants.{OutOfMemory}

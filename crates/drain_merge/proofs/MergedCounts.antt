@@ -10,15 +10,15 @@ use Rattle.drain_grid.specs.Size.{Extent}
 use Rattle.drain_grid.specs.Values.{NoDataNumbers}
 use Rattle.drain_grid.proofs.CellSums.{sum_by_cells_le}
 use Rattle.drain_rules.specs.Verdicts.{has_outlet_code}
-use Rattle.drain_rules.specs.declared.verdict.Verdict.{Verdict}
-use Rattle.drain_rules.specs.declared.verdict.Verdict.TheVariants.{Accepted, Rejected}
-use Rattle.drain_windows.specs.declared.place.Place.{Place}
-use Rattle.drain_windows.specs.Judged.{BothJudgeOne}
-use Rattle.drain_windows.specs.JudgedCounts.{judged_data, judged_raised, judged_outlets}
-use Rattle.drain_windows.specs.Reports.{Report}
-use Rattle.drain_windows.specs.Windows.{Window, AreWindowsOf, JudgeAll}
-use Rattle.drain_windows.specs.declared.window_report.WindowReport.{WindowReport}
-use Rattle.drain_windows.proofs.JudgedCounts.{counts_add_up, listed_same, sum_by_map}
+use Rattle.drain_grid.specs.declared.verdict.Verdict.{Verdict}
+use Rattle.drain_grid.specs.declared.verdict.Verdict.TheVariants.{Accepted, Rejected}
+use Rattle.drain_union.specs.declared.place.Place.{Place}
+use Rattle.drain_union.specs.Judged.{BothJudgeOne}
+use Rattle.drain_union.specs.JudgedCounts.{judged_data, judged_raised, judged_outlets}
+use Rattle.drain_union.specs.Reports.{Report}
+use Rattle.drain_union.specs.Windows.{Window, AreWindowsOf, JudgeAll}
+use Rattle.drain_union.specs.declared.window_report.WindowReport.{WindowReport}
+use Rattle.drain_union.proofs.JudgedCounts.{counts_add_up, listed_same, sum_by_map}
 use Rattle.drain_merge.specs.declared.faults.Fault.{Fault}
 use Rattle.drain_merge.specs.declared.totals.UnionCounts.{UnionCounts}
 use Rattle.drain_merge.specs.Faults.{fault_in, IsFirstOfFaults}

@@ -16,23 +16,23 @@ use Rattle.drain_grid.specs.Unranked.{unranked}
 use Rattle.drain_grid.specs.Values.{NoDataNumbers}
 use Rattle.drain_grid.proofs.Exactly.{correct_by_rules_alone}
 use Rattle.drain_grid.proofs.Neighbors.{place}
-use Rattle.drain_rules.specs.declared.verdict.Verdict.{Verdict}
-use Rattle.drain_rules.specs.declared.verdict.Verdict.TheVariants.{Accepted as WindowAccepted, Rejected as WindowRejected}
-use Rattle.drain_windows.specs.declared.outlet.Outlet.{Outlet}
-use Rattle.drain_windows.specs.declared.place.Place.{Place}
-use Rattle.drain_windows.specs.declared.place.TheConstants.{SEAM_DEPTH}
-use Rattle.drain_windows.specs.declared.report.Shown.{Shown}
-use Rattle.drain_windows.specs.Outlets.{ListsOutlets, ShareNoLabel}
-use Rattle.drain_windows.specs.Judged.{BothJudgeOne, JudgesSome}
-use Rattle.drain_windows.specs.Reports.{Report, IsReportOf, CanMerge, ShowTheSame}
-use Rattle.drain_windows.specs.Windows.{Window, in_union, IsPlaceIn, IsJudgedIn, IsJudgedAtSome, JudgeAll, RulesHoldInside, IsFirstInside, IsNotBefore, IsJudgedOutlet, NoLabelIsShared, AreWindowsOf}
-use Rattle.drain_windows.proofs.FirstFaults.{least_fault_is_first}
-use Rattle.drain_windows.proofs.ApartPlaces.{judged_apart}
-use Rattle.drain_windows.proofs.ReportMerges.{from_map, to_map, one_union}
-use Rattle.drain_windows.proofs.Unions.{by_patch, correct_by_windows, outlet_there, outlet_back, bas_same}
-use Rattle.drain_windows.proofs.WindowPatches.{patch_of_window}
+use Rattle.drain_grid.specs.declared.verdict.Verdict.{Verdict}
+use Rattle.drain_grid.specs.declared.verdict.Verdict.TheVariants.{Accepted as WindowAccepted, Rejected as WindowRejected}
+use Rattle.drain_union.specs.declared.outlet.Outlet.{Outlet}
+use Rattle.drain_union.specs.declared.place.Place.{Place}
+use Rattle.drain_union.specs.declared.place.TheConstants.{SEAM_DEPTH}
+use Rattle.drain_union.specs.declared.report.Shown.{Shown}
+use Rattle.drain_union.specs.Outlets.{ListsOutlets, ShareNoLabel}
+use Rattle.drain_union.specs.Judged.{BothJudgeOne, JudgesSome}
+use Rattle.drain_union.specs.Reports.{Report, IsReportOf, CanMerge, ShowTheSame}
+use Rattle.drain_union.specs.Windows.{Window, in_union, IsPlaceIn, IsJudgedIn, IsJudgedAtSome, JudgeAll, RulesHoldInside, IsFirstInside, IsNotBefore, IsJudgedOutlet, NoLabelIsShared, AreWindowsOf}
+use Rattle.drain_union.proofs.FirstFaults.{least_fault_is_first}
+use Rattle.drain_union.proofs.ApartPlaces.{judged_apart}
+use Rattle.drain_union.proofs.ReportMerges.{from_map, to_map, one_union}
+use Rattle.drain_union.proofs.Unions.{by_patch, correct_by_windows, outlet_there, outlet_back, bas_same}
+use Rattle.drain_union.proofs.WindowPatches.{patch_of_window}
 use Rattle.drain_merge.specs.declared.faults.Fault.{Fault}
-use Rattle.drain_windows.specs.declared.window_report.WindowReport.{WindowReport}
+use Rattle.drain_union.specs.declared.window_report.WindowReport.{WindowReport}
 use Rattle.drain_merge.specs.Faults.{cell_there, fault_in, union_fault, IsFirstOfFaults}
 use Rattle.drain_merge.specs.Lists.{reports_of, places_of, all_outlets, all_seams}
 use Rattle.drain_merge.specs.Merges.{HaveNoData, FillUnion}

@@ -6,17 +6,17 @@ use Rattle.drain_grid.specs.declared.cell.Cell.{Cell}
 use Rattle.drain_grid.specs.Grid.{values_at}
 use Rattle.drain_grid.specs.Values.{NoDataNumbers}
 use Rattle.drain_grid.proofs.Neighbors.{place}
-use Rattle.drain_rules.specs.declared.verdict.Verdict.{Verdict}
-use Rattle.drain_rules.specs.declared.verdict.Verdict.TheVariants.{Accepted, Rejected}
-use Rattle.drain_windows.specs.declared.outlet.Outlet.{Outlet}
-use Rattle.drain_windows.specs.declared.place.Place.{Place}
-use Rattle.drain_windows.specs.declared.place.TheConstants.{SEAM_DEPTH}
-use Rattle.drain_windows.specs.declared.report.Shown.{Shown}
-use Rattle.drain_windows.specs.Outlets.{ListsOutlets, IsSortedByLabel}
-use Rattle.drain_windows.specs.Reports.{IsOnSeam, ListsSeams, ListsSinks}
-use Rattle.drain_windows.specs.Windows.{Window, in_union, IsJudgedIn, IsJudgedOutlet, RulesHoldInside}
-use Rattle.drain_windows.proofs.ReportMerges.{from_map, to_map}
-use Rattle.drain_windows.specs.declared.window_report.WindowReport.{WindowReport}
+use Rattle.drain_grid.specs.declared.verdict.Verdict.{Verdict}
+use Rattle.drain_grid.specs.declared.verdict.Verdict.TheVariants.{Accepted, Rejected}
+use Rattle.drain_union.specs.declared.outlet.Outlet.{Outlet}
+use Rattle.drain_union.specs.declared.place.Place.{Place}
+use Rattle.drain_union.specs.declared.place.TheConstants.{SEAM_DEPTH}
+use Rattle.drain_union.specs.declared.report.Shown.{Shown}
+use Rattle.drain_union.specs.Outlets.{ListsOutlets, IsSortedByLabel}
+use Rattle.drain_union.specs.Reports.{IsOnSeam, ListsSeams, ListsSinks}
+use Rattle.drain_union.specs.Windows.{Window, in_union, IsJudgedIn, IsJudgedOutlet, RulesHoldInside}
+use Rattle.drain_union.proofs.ReportMerges.{from_map, to_map}
+use Rattle.drain_union.specs.declared.window_report.WindowReport.{WindowReport}
 use Rattle.drain_merge.specs.MapBoxes.{top_of, left_of}
 use Rattle.drain_merge.specs.MapLaws.{JudgedFromMap, BoxBegins}
 use Rattle.drain_merge.specs.Moved.{cell_from, place_from, outlet_from, shown_from, window_from}

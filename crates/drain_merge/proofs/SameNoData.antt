@@ -4,7 +4,7 @@ use Rattle.std.specs.Ordering.{int_eq}
 use Rattle.std.proofs.lemmas.Bool.{and_parts, and_from}
 use Rattle.std.proofs.lemmas.Bool.Decides.{Decides-int_eq}
 use Rattle.drain_grid.specs.Values.{NoDataNumbers}
-use Rattle.drain_windows.specs.NoData.{audited}
+use Rattle.drain_union.specs.NoData.{audited}
 
 number_itself : (a : ℤ) → int_eq a a ≡ true
 number_itself a = (Decides-int_eq a a).1 refl

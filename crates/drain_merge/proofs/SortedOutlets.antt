@@ -14,8 +14,8 @@ use Rattle.drain_grid.specs.Extent.{IsEarlier}
 use Rattle.drain_grid.proofs.Neighbors.{place}
 use Rattle.drain_grid.proofs.CellOrder.{earlier_trans, earlier_differs}
 use Rattle.drain_grid.proofs.Lowered.{same_or_not}
-use Rattle.drain_windows.specs.declared.outlet.Outlet.{Outlet}
-use Rattle.drain_windows.specs.Outlets.{SharesAt}
+use Rattle.drain_union.specs.declared.outlet.Outlet.{Outlet}
+use Rattle.drain_union.specs.Outlets.{SharesAt}
 use Rattle.drain_merge.proofs.FirstLemmas.{both_permuted, pair_permuted}
 use Rattle.drain_merge.specs.Shared.{IsNoSooner, AreInOrder, IsLeastSharing, SharesWithEarlier, IsFirstSharing, IsEarlierOf}
 

@@ -8,7 +8,7 @@ use Rattle.std.proofs.lemmas.List.Elements.{Contains-get_or}
 use Rattle.std.proofs.lemmas.List.Sorted.{all_adjacent_more}
 use Rattle.drain_grid.specs.declared.cell.Cell.{Cell}
 use Rattle.drain_grid.specs.Extent.{IsEarlier}
-use Rattle.drain_windows.specs.declared.report.Shown.{Shown}
+use Rattle.drain_union.specs.declared.report.Shown.{Shown}
 use Rattle.drain_merge.specs.Seams.{Differ, IsFirstDifference, AreInRowOrder, NoneDiffersBelow, IsFirstDiffering}
 use Rattle.drain_grid.proofs.Decisions.{cases, passes}
 use Rattle.drain_grid.proofs.CellOrder.{earlier_trans, earlier_differs}

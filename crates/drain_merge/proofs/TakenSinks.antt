@@ -9,15 +9,15 @@ use Rattle.drain_grid.specs.Grid.{Grid, Products}
 use Rattle.drain_grid.specs.SinkLines.{is_listed}
 use Rattle.drain_grid.specs.Size.{Extent}
 use Rattle.drain_grid.specs.Values.{Values, NoDataNumbers}
-use Rattle.drain_rules.specs.declared.verdict.Verdict.{Verdict}
-use Rattle.drain_rules.specs.declared.verdict.Verdict.TheVariants.{Accepted, Rejected}
-use Rattle.drain_windows.specs.declared.place.Place.{Place}
-use Rattle.drain_windows.specs.declared.place.TheConstants.{SEAM_DEPTH}
-use Rattle.drain_windows.specs.declared.window_report.WindowReport.{WindowReport}
-use Rattle.drain_windows.specs.Reports.{Report, ListsSinks, CanMerge}
-use Rattle.drain_windows.specs.Windows.{Window, in_union, IsJudgedIn, RulesHoldInside, AreWindowsOf}
-use Rattle.drain_windows.proofs.ListedLines.{line_of}
-use Rattle.drain_windows.proofs.ReportMerges.{from_map, to_map}
+use Rattle.drain_grid.specs.declared.verdict.Verdict.{Verdict}
+use Rattle.drain_grid.specs.declared.verdict.Verdict.TheVariants.{Accepted, Rejected}
+use Rattle.drain_union.specs.declared.place.Place.{Place}
+use Rattle.drain_union.specs.declared.place.TheConstants.{SEAM_DEPTH}
+use Rattle.drain_union.specs.declared.window_report.WindowReport.{WindowReport}
+use Rattle.drain_union.specs.Reports.{Report, ListsSinks, CanMerge}
+use Rattle.drain_union.specs.Windows.{Window, in_union, IsJudgedIn, RulesHoldInside, AreWindowsOf}
+use Rattle.drain_union.proofs.ListedLines.{line_of}
+use Rattle.drain_union.proofs.ReportMerges.{from_map, to_map}
 use Rattle.drain_merge.specs.declared.map_merge.UnionBox.{UnionBox}
 use Rattle.drain_merge.specs.declared.merge_verdict.MergeVerdict.{MergeVerdict}
 use Rattle.drain_merge.specs.declared.union_sinks.UnionSinks.{UnionSinks}

@@ -4,8 +4,8 @@ use Rattle.std.specs.List.{Contains}
 use Rattle.drain_grid.specs.declared.cell.Cell.{Cell}
 use Rattle.drain_grid.specs.Size.{Extent}
 use Rattle.drain_grid.specs.Extent.{IsCellOf, IsEarlier}
-use Rattle.drain_windows.specs.declared.place.Place.{Place}
-use Rattle.drain_windows.specs.Windows.{IsJudgedAtSome}
+use Rattle.drain_union.specs.declared.place.Place.{Place}
+use Rattle.drain_union.specs.Windows.{IsJudgedAtSome}
 
 -- the first cell in row order of a union of this size that is judged at no place, none where each cell is judged
 abbrev pub IsFirstUnjudged : Extent → List Place → Option Cell → Type 0

@@ -2,8 +2,8 @@
 use Rattle.std.specs.Prelude.{◌≤◌, List}
 use Rattle.std.specs.List.{Contains}
 use Rattle.drain_grid.specs.declared.cell.Cell.{Cell}
-use Rattle.drain_windows.specs.Windows.{Window}
-use Rattle.drain_windows.specs.declared.window_report.WindowReport.{WindowReport}
+use Rattle.drain_union.specs.Windows.{Window}
+use Rattle.drain_union.specs.declared.window_report.WindowReport.{WindowReport}
 use Rattle.drain_merge.specs.MapBoxes.{box_of}
 use Rattle.drain_merge.specs.Moved.{judged_from, window_from}
 use Rattle.drain_merge.specs.UnionVerdicts.{IsJudgedFrom}

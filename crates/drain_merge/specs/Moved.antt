@@ -1,12 +1,12 @@
 -- What a window hands over, with rows and columns counted from another cell. These definitions are this project's own.
 use Rattle.std.specs.Prelude.{◌-◌, map}
 use Rattle.drain_grid.specs.declared.cell.Cell.{Cell}
-use Rattle.drain_windows.specs.declared.outlet.Outlet.{Outlet}
-use Rattle.drain_windows.specs.declared.place.Place.{Place}
-use Rattle.drain_windows.specs.declared.report.Shown.{Shown}
-use Rattle.drain_windows.specs.Reports.{Report}
-use Rattle.drain_windows.specs.Windows.{Window}
-use Rattle.drain_windows.specs.declared.window_report.WindowReport.{WindowReport}
+use Rattle.drain_union.specs.declared.outlet.Outlet.{Outlet}
+use Rattle.drain_union.specs.declared.place.Place.{Place}
+use Rattle.drain_union.specs.declared.report.Shown.{Shown}
+use Rattle.drain_union.specs.Reports.{Report}
+use Rattle.drain_union.specs.Windows.{Window}
+use Rattle.drain_union.specs.declared.window_report.WindowReport.{WindowReport}
 
 abbrev pub cell_from : Cell → Cell → Cell
 cell_from origin c = record { row = c.row - origin.row; col = c.col - origin.col }

@@ -1,8 +1,8 @@
 -- When places of windows make a union. These definitions are this project's own.
 use Rattle.std.specs.Prelude.{ℕ, ◌<◌, Option, Some, None, List, length, slice_index_or}
 use Rattle.std.specs.List.{All, AllPairs, AllWithin, HoldsAt}
-use Rattle.drain_windows.specs.declared.place.Place.{Place}
-use Rattle.drain_windows.specs.Judged.{BothJudgeOne}
+use Rattle.drain_union.specs.declared.place.Place.{Place}
+use Rattle.drain_union.specs.Judged.{BothJudgeOne}
 use Rattle.drain_merge.specs.declared.places.Clash.{Clash}
 
 -- the place in the list of the first element without the property, none where all have it

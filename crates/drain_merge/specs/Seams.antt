@@ -3,8 +3,8 @@ use Rattle.std.specs.Prelude.{◌≡◌, ◌≢◌, ℕ, ◌-◌, ◌<◌, ◌�
 use Rattle.std.specs.List.{AllAdjacentBelow, Contains}
 use Rattle.drain_grid.specs.declared.cell.Cell.{Cell}
 use Rattle.drain_grid.specs.Extent.{IsEarlier}
-use Rattle.drain_windows.specs.declared.report.Shown.{Shown}
-use Rattle.drain_windows.specs.Reports.{ShowTheSame}
+use Rattle.drain_union.specs.declared.report.Shown.{Shown}
+use Rattle.drain_union.specs.Reports.{ShowTheSame}
 
 -- x and y are of one cell and show other values
 abbrev pub Differ : Shown → Shown → Type 0

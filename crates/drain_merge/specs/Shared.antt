@@ -3,8 +3,8 @@ use Rattle.std.specs.Prelude.{◌≡◌, ℕ, ◌<◌, ◌⊎◌, ◌<ℤ◌, Op
 use Rattle.std.specs.List.{AllAdjacentBelow, Contains}
 use Rattle.drain_grid.specs.declared.cell.Cell.{Cell}
 use Rattle.drain_grid.specs.Extent.{IsEarlier}
-use Rattle.drain_windows.specs.declared.outlet.Outlet.{Outlet}
-use Rattle.drain_windows.specs.Outlets.{SharesAt, ShareNoLabel}
+use Rattle.drain_union.specs.declared.outlet.Outlet.{Outlet}
+use Rattle.drain_union.specs.Outlets.{SharesAt, ShareNoLabel}
 
 -- x and y have one label, and x is at an earlier cell
 abbrev pub SharesWithEarlier : Outlet → Outlet → Type 0

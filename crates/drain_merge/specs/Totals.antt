@@ -3,10 +3,10 @@ use Rattle.std.specs.Prelude.{◌≡◌, ℕ, ◌-◌, ◌^◌, min, List, sum_b
 use Rattle.drain_grid.specs.Counts.{data_count, raised_count}
 use Rattle.drain_grid.specs.Grid.{Grid, Products}
 use Rattle.drain_grid.specs.Size.{Extent}
-use Rattle.drain_rules.specs.declared.verdict.Verdict.{Verdict}
-use Rattle.drain_rules.specs.declared.verdict.Verdict.TheVariants.{Accepted, Rejected}
+use Rattle.drain_grid.specs.declared.verdict.Verdict.{Verdict}
+use Rattle.drain_grid.specs.declared.verdict.Verdict.TheVariants.{Accepted, Rejected}
 use Rattle.drain_rules.specs.Verdicts.{outlet_count}
-use Rattle.drain_windows.specs.declared.window_report.WindowReport.{WindowReport}
+use Rattle.drain_union.specs.declared.window_report.WindowReport.{WindowReport}
 use Rattle.drain_merge.specs.declared.totals.UnionCounts.{UnionCounts}
 
 -- the number, or the greatest of 64 bits

@@ -6,7 +6,7 @@ use Rattle.drain_grid.specs.Extent.{IsCellOf}
 use Rattle.drain_grid.specs.Grid.{Grid}
 use Rattle.drain_grid.specs.SinkLines.{is_listed}
 use Rattle.drain_grid.specs.CellLists.{is_among}
-use Rattle.drain_windows.specs.declared.window_report.WindowReport.{WindowReport}
+use Rattle.drain_union.specs.declared.window_report.WindowReport.{WindowReport}
 use Rattle.drain_merge.specs.declared.merge_verdict.MergeRefusal.{MergeRefusal}
 use Rattle.drain_merge.specs.declared.merge_verdict.MergeRefusal.TheVariants.{SinkLeftOut, SinkNotListed, OutOfMemory}
 use Rattle.drain_merge.specs.declared.union_sinks.UnionSinks.{UnionSinks}

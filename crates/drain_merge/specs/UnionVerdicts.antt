@@ -10,13 +10,13 @@ use Rattle.drain_grid.specs.Rule.{IsAnyRule, IsPatchRule}
 use Rattle.drain_grid.specs.Size.{Extent}
 use Rattle.drain_grid.specs.Unranked.{unranked}
 use Rattle.drain_grid.specs.Values.{NoDataNumbers}
-use Rattle.drain_rules.specs.declared.verdict.Verdict.{Verdict}
-use Rattle.drain_rules.specs.declared.verdict.Verdict.TheVariants.{Accepted as WindowAccepted, Rejected as WindowRejected}
-use Rattle.drain_windows.specs.declared.place.TheConstants.{SEAM_DEPTH}
-use Rattle.drain_windows.specs.JudgedCounts.{AreCountsInside}
-use Rattle.drain_windows.specs.Reports.{Report, IsReportOf, CanMerge}
-use Rattle.drain_windows.specs.Windows.{Window, RulesHoldInside, IsFirstInside, AreWindowsOf}
-use Rattle.drain_windows.specs.declared.window_report.WindowReport.{WindowReport}
+use Rattle.drain_grid.specs.declared.verdict.Verdict.{Verdict}
+use Rattle.drain_grid.specs.declared.verdict.Verdict.TheVariants.{Accepted as WindowAccepted, Rejected as WindowRejected}
+use Rattle.drain_union.specs.declared.place.TheConstants.{SEAM_DEPTH}
+use Rattle.drain_union.specs.JudgedCounts.{AreCountsInside}
+use Rattle.drain_union.specs.Reports.{Report, IsReportOf, CanMerge}
+use Rattle.drain_union.specs.Windows.{Window, RulesHoldInside, IsFirstInside, AreWindowsOf}
+use Rattle.drain_union.specs.declared.window_report.WindowReport.{WindowReport}
 use Rattle.drain_merge.specs.declared.merge_verdict.MergeVerdict.{MergeVerdict}
 use Rattle.drain_merge.specs.declared.merge_verdict.MergeVerdict.TheVariants.{Accepted, Rejected}
 use Rattle.drain_merge.specs.Lists.{reports_of}

@@ -1,18 +1,17 @@
 //! The first cell of a union that no window judges.
 //!
 //! Such a cell lies where a corner row crosses a corner column: row 0 or one on which the judged rows of some window end,
-//! and likewise a column (`drain_windows::laws::corners_tell_whole`). So these crossings are tried, and no other cell.
+//! and likewise a column (`drain_union::laws::corners_tell_whole`). So these crossings are tried, and no other cell.
 
 ghost use Rattle.std.specs.Prelude.{◌≡◌, ◌↔◌, ◌<◌, ◌++◌, ◌∷◌, [], map, length, IsTrue, IfOk};
 ghost use Rattle.std.specs.List.Sorted.{IsNonDecreasing, IsPermutation};
-ghost use Rattle.drain_windows.specs.Windows.{judged_bottom, judged_right};
+ghost use Rattle.drain_union.specs.Windows.{judged_bottom, judged_right};
 ghost use Rattle.drain_merge.specs.Corners.{IsFirstUnjudged, IsFirstInRow, IsFirstCrossing, IsNewBelow};
 
-use crate::judged::is_judged;
-use crate::judged_edges::{bottom_of, right_of};
-use crate::union_size::UnionSize;
+use crate::judged::{bottom_of, is_judged, right_of};
+use crate::places::UnionSize;
 use drain_grid::{Cell, OutOfMemory};
-use drain_windows::Place;
+use drain_union::Place;
 use std::alloc::Global;
 
 /// The first cell of a union, in row order, that none of these windows judges.

@@ -1,12 +1,11 @@
-//! The first faults of windows.
+//! The order of cells and of faults, and the first of the faults that windows have.
 
 ghost use Rattle.std.specs.Prelude.{◌≡◌, ◌↔◌, IsTrue};
+ghost use Rattle.drain_grid.specs.Extent.{IsEarlier};
 ghost use Rattle.drain_merge.specs.Faults.{union_fault, ComesBefore, IsFirstOfFaults, IsEarlierFault};
 
-use crate::row_order::is_earlier;
-use drain_grid::{Cell, Rule};
-use drain_rules::Verdict;
-use drain_windows::WindowReport;
+use drain_grid::{Cell, Rule, Verdict};
+use drain_union::WindowReport;
 
 /// A cell of the union at which this rule fails.
 #[derive(Clone, Copy, PartialEq, Eq, Debug)]
@@ -61,4 +60,11 @@ fn is_before(a: Fault, b: Fault) -> bool
     ensures { IsTrue result ↔ ComesBefore a b }
 {
     is_earlier(a.cell, b.cell) || (a.cell == b.cell && a.rule.number() < b.rule.number())
+}
+
+/// Whether cell a comes before cell b: row by row, and in a row from west to east.
+pub(crate) fn is_earlier(a: Cell, b: Cell) -> bool
+    ensures { IsTrue result ↔ IsEarlier a b }
+{
+    a.row < b.row || (a.row == b.row && a.col < b.col)
 }

@@ -5,15 +5,15 @@ ghost use Rattle.drain_merge.specs.MapBoxes.{AreTaken, box_of, HasMapSinks, IsBo
 ghost use Rattle.drain_merge.specs.Moved.{judged_from};
 ghost use Rattle.drain_merge.specs.UnionVerdicts.{IsUnionVerdict};
 
+use crate::in_common::check_sides;
 use crate::merge_verdict::{MergeRefusal, MergeVerdict};
 use crate::merger::merge;
 use crate::moved::moved_window;
-use crate::sides::check_sides;
+use crate::places::UnionSize;
 use crate::union_sinks::{UnionSinks, check_sinks, some_is_rejected};
-use crate::union_size::UnionSize;
 use drain_grid::{Cell, OutOfMemory};
-use drain_windows::place::end_of;
-use drain_windows::{Place, WindowReport};
+use drain_union::place::end_of;
+use drain_union::{Place, WindowReport};
 use std::alloc::Global;
 
 /// The box that holds a union: the map's row and column of its first cell, and its size.

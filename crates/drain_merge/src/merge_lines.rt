@@ -8,8 +8,7 @@ use crate::map_merge::MapVerdict;
 use crate::merge_verdict::{MergeRefusal, MergeVerdict};
 use crate::places::Clash;
 use crate::totals::UnionCounts;
-use drain_answer::line::{Line, push_count, push_number, words};
-use drain_answer::verdict_report::{counted, rejected};
+use drain_answer::lines::{Line, counted, push_count, push_number, rejected, words};
 use drain_grid::Cell;
 
 /// The line of an answer, without a line end, in ASCII. Rows and columns are those of the union.

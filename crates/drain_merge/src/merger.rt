@@ -9,16 +9,14 @@ ghost use Rattle.drain_merge.specs.UnionVerdicts.{IsUnionVerdict};
 
 use crate::corners::first_unjudged;
 use crate::faults::{Fault, first_fault};
-use crate::lists::{outlets, places, seams};
+use crate::in_common::{first_other_nodata, nodata_of};
 use crate::merge_verdict::{MergeRefusal, MergeVerdict};
-use crate::nodata::{first_other, nodata_of};
-use crate::places::{first_clash, first_idle, first_outside};
+use crate::places::{UnionSize, first_clash, first_idle, first_outside};
 use crate::seams::first_difference;
 use crate::shared::first_sharing;
-use crate::totals::total;
-use crate::union_size::UnionSize;
+use crate::totals::{outlets, places, seams, total};
 use drain_grid::{Cell, OutOfMemory, Rule};
-use drain_windows::{Place, WindowReport};
+use drain_union::{Place, WindowReport};
 use std::alloc::Global;
 
 /// The verdict on the union of these windows, or why there is none.
@@ -79,7 +77,7 @@ fn check_nodata(windows: &[WindowReport]) -> Result<(), MergeRefusal>
     let Some(first) = windows.first() else {
         return Err(MergeRefusal::NoReports);
     };
-    match first_other(windows, nodata_of(first)) {
+    match first_other_nodata(windows, nodata_of(first)) {
         Some(place) => Err(MergeRefusal::OtherNoData(place)),
         None => Ok(()),
     }

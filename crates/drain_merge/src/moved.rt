@@ -4,7 +4,7 @@ ghost use Rattle.std.specs.Prelude.{◌≡◌, map};
 ghost use Rattle.drain_merge.specs.Moved.{cell_from, judged_from, outlet_from, place_from, report_from, shown_from};
 
 use drain_grid::Cell;
-use drain_windows::{Outlet, Place, Report, Shown, WindowReport};
+use drain_union::{Outlet, Place, Report, Shown, WindowReport};
 
 /// A window's report, with rows and columns counted from this cell.
 pub(crate) fn moved_window(origin: Cell, window: WindowReport) -> WindowReport

@@ -5,7 +5,7 @@ ghost use Rattle.std.specs.List.Sorted.{IsPermutation};
 ghost use Rattle.drain_merge.specs.Seams.{AreInRowOrder, Differ, IsFirstDifference, IsFirstDiffering};
 
 use drain_grid::Cell;
-use drain_windows::Shown;
+use drain_union::Shown;
 
 /// The first cell, in row order, at which two of these show other values. The list is sorted for this.
 pub fn first_difference(seams: &mut [Shown]) -> Option<Cell>

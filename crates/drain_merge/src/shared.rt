@@ -2,12 +2,12 @@
 
 ghost use Rattle.std.specs.Prelude.{◌↔◌, ◌<◌, length, IsTrue};
 ghost use Rattle.std.specs.List.Sorted.{IsPermutation};
-ghost use Rattle.drain_windows.specs.Outlets.{SharesAt};
+ghost use Rattle.drain_union.specs.Outlets.{SharesAt};
 ghost use Rattle.drain_merge.specs.Shared.{AreInOrder, IsFirstSharing, IsLeastSharing, IsEarlierOf};
 
-use crate::row_order::is_earlier;
+use crate::faults::is_earlier;
 use drain_grid::Cell;
-use drain_windows::Outlet;
+use drain_union::Outlet;
 
 /// The first cell, in row order, of an outlet with the label of one at an earlier cell. The list is sorted for this.
 pub fn first_sharing(outlets: &mut [Outlet]) -> Option<Cell>

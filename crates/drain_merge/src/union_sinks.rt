@@ -6,11 +6,10 @@ ghost use Rattle.drain_grid.specs.CellLists.{is_among};
 ghost use Rattle.drain_merge.specs.UnionSinks.{IsFirstLeftOut, IsFirstNotListed, IsListedRefusal, IsSinkRefusal, TakeLines, TakeSinks};
 ghost use Rattle.drain_merge.specs.UnionVerdicts.{IsRejected, SomeIsRejected};
 
-use crate::lists::sinks;
 use crate::merge_verdict::MergeRefusal;
-use drain_grid::{Cell, OutOfMemory, Sinks};
-use drain_rules::Verdict;
-use drain_windows::WindowReport;
+use crate::totals::sinks;
+use drain_grid::{Cell, OutOfMemory, Sinks, Verdict};
+use drain_union::WindowReport;
 use std::alloc::Global;
 use std::collections::BTreeSet;
 

@@ -5,8 +5,7 @@ use drain_faults::FaultyPatch;
 use drain_faults::product_presence::{nodata_of, number_at};
 use drain_fill::{Opening, greatest_allowed, opening_of};
 use drain_flat::{is_flat_way, is_flat_way_without_ranks};
-use drain_grid::{CellValues, Code, Direction, Patch, Rule, SetProduct};
-use drain_rules::Ranks;
+use drain_grid::{CellValues, Code, Direction, Judged, Patch, Rule, SetProduct};
 use drain_slope::{greatest_key, key};
 use std::alloc::{AllocError, Global};
 
@@ -97,7 +96,7 @@ fn allowed_codes(
     alloc: Global,
     rule: Rule,
     patch: &Patch,
-    ranks: Ranks,
+    judged: Judged,
 ) -> Result<Vec<i64>, AllocError> {
     let mut codes = Vec::new(alloc);
     for code in CODES {
@@ -109,14 +108,14 @@ fn allowed_codes(
 }
 
 /// Whether dir may have this code.
-fn is_allowed(rule: Rule, patch: &Patch, ranks: Ranks, code: i64) -> bool {
+fn is_allowed(rule: Rule, patch: &Patch, judged: Judged, code: i64) -> bool {
     match (rule, Code::from_number(code)) {
         (Rule::BadCode, _) => true,
         (Rule::OutletCode, Some(Code::Outlet)) => true,
         (Rule::Slope, Some(Code::To(direction))) => is_steepest(patch, key(patch, direction)),
         (Rule::FlatStep, Some(Code::To(direction))) => match ranks {
-            Ranks::Checked => is_flat_way(patch, direction),
-            Ranks::Ignored => is_flat_way_without_ranks(patch, direction),
+            Judged::AllWithRanks => is_flat_way(patch, direction),
+            Judged::All => is_flat_way_without_ranks(patch, direction),
         },
         _ => false,
     }

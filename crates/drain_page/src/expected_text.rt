@@ -6,8 +6,7 @@ use crate::names::{shown_code, shown_number, shown_rule};
 use drain_explain::Findings;
 use drain_faults::FaultyPatch;
 use drain_fill::Opening;
-use drain_grid::{Patch, Rule, SetProduct};
-use drain_rules::Ranks;
+use drain_grid::{Judged, Patch, Rule, SetProduct};
 use std::alloc::AllocError;
 
 /// Appends the rule and these lines.
@@ -34,7 +33,7 @@ pub(crate) fn push_expected(
 fn push_expectation(
     text: &mut String,
     rule: Rule,
-    ranks: Ranks,
+    judged: Judged,
     expected: &Expected,
 ) -> Result<(), AllocError> {
     let open = at_opening(expected.open);
@@ -87,10 +86,10 @@ fn at_opening(open: Option<Opening>) -> &'static str {
 }
 
 /// The allowed steps along a flat.
-fn push_along(text: &mut String, codes: &[i64], ranks: Ranks) -> Result<(), AllocError> {
+fn push_along(text: &mut String, codes: &[i64], judged: Judged) -> Result<(), AllocError> {
     text.push_str(match ranks {
-        Ranks::Checked => "dir to a neighbour with the same con and a smaller rnk: ",
-        Ranks::Ignored => "dir to a neighbour with the same con: ",
+        Judged::AllWithRanks => "dir to a neighbour with the same con and a smaller rnk: ",
+        Judged::All => "dir to a neighbour with the same con: ",
     })?;
     let mut separator = "";
     for code in codes {

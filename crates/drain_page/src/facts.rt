@@ -3,11 +3,11 @@
 ghost use Rattle.std.specs.Prelude.{◌≡◌};
 ghost use Rattle.drain_page.specs.Lines.{line_of};
 
-use drain_answer::line::Line;
+use drain_grid::Verdict;
+use drain_answer::lines::Line;
 use drain_answer::{AuditVerdict, Refusal, audit_report, report};
 use drain_explain::{Findings, RefusalDetail};
 use drain_part_audit::{PartVerdict, part_report};
-use drain_rules::Verdict;
 
 /// The answer that is explained.
 #[derive(Clone, Copy)]

@@ -12,8 +12,7 @@ use crate::refusal_json::write_refusal;
 use crate::rules_json::{write_products, write_rules};
 use crate::run_json::write_run;
 use drain_explain::{Findings, RefusalDetail};
-use drain_grid::OutOfMemory;
-use drain_rules::Ranks;
+use drain_grid::{Judged, OutOfMemory};
 use std::alloc::{AllocError, Global};
 
 /// The page as one JSON object on one line, which ends with a line feed. Its first member is the answer's line. The
@@ -71,7 +70,7 @@ fn write_findings(alloc: Global, json: &mut JsonText, findings: &Findings) -> Re
 {
     json.member("rows", findings.layout.shape().rows())?;
     json.member("cols", findings.layout.shape().cols())?;
-    json.member("ranks", findings.rules.ranks == Ranks::Checked)?;
+    json.member("ranks", findings.rules.ranks == Judged::AllWithRanks)?;
     write_rules(json, findings)?;
     write_products(json, findings)?;
     write_patch(json, findings)?;

@@ -4,9 +4,8 @@ use crate::degrees::{latitude_text, longitude_text};
 use crate::names::{shown_indented, shown_rule};
 use drain_explain::Findings;
 use drain_faults::{RULES, RuleFaults};
-use drain_grid::{Rule, SetProduct};
+use drain_grid::{Judged, Rule, SetProduct};
 use drain_mosaic::Layout;
-use drain_rules::Ranks;
 use std::alloc::AllocError;
 
 /// The line of headings, as wide as the lines below it.
@@ -18,8 +17,8 @@ pub(crate) fn push_rules(text: &mut String, findings: &Findings) -> Result<(), A
     push_names(text, "hold:", findings, Standing::Holds)?;
     push_names(text, "not tried:", findings, Standing::Untried)?;
     match findings.rules.ranks {
-        Ranks::Checked => Ok(()),
-        Ranks::Ignored => text.push_str("ranks: not checked\n"),
+        Judged::AllWithRanks => Ok(()),
+        Judged::All => text.push_str("ranks: not checked\n"),
     }
 }
 

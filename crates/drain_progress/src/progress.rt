@@ -6,11 +6,11 @@
 use crate::progress_lines::{Phase, part_line, row_line};
 use crate::rows::Rows;
 use crate::throttle::Throttle;
-use drain_answer::line::{Line, words};
+use drain_answer::lines::{Line, words};
+use drain_answer::print::print_line;
+use drain_answer::status::Status;
 use drain_device::{Writer, write_nothing};
 use drain_maker::follow::{Follow, Part};
-use drain_print::print::print_line;
-use drain_print::status::Status;
 use std::cell::Cell;
 use std::time::Instant;
 

@@ -3,7 +3,7 @@
 ghost use Rattle.std.specs.Prelude.{◌≡◌, ◌++◌, codes, decimal};
 ghost use Rattle.drain_progress.specs.ProgressLines.{before_row, part_text};
 
-use drain_answer::line::{Line, push_number, words};
+use drain_answer::lines::{Line, push_number, words};
 use drain_maker::follow::Part;
 
 /// Which rows are counted.

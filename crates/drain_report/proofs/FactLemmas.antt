@@ -9,10 +9,10 @@ use Rattle.drain_grid.specs.declared.rule.Rule.{Rule}
 use Rattle.drain_grid.specs.Rule.{rule_number}
 use Rattle.drain_grid.specs.Values.{NoDataNumbers, IsNoData, IsPixel}
 use Rattle.drain_grid.proofs.RuleNumbers.{numbered}
-use Rattle.drain_rules.specs.declared.verdict.Counts.{Counts}
-use Rattle.drain_windows.specs.declared.outlet.Outlet.{Outlet}
-use Rattle.drain_windows.specs.declared.place.Place.{Place}
-use Rattle.drain_windows.specs.declared.report.Shown.{Shown}
+use Rattle.drain_grid.specs.declared.verdict.Counts.{Counts}
+use Rattle.drain_union.specs.declared.outlet.Outlet.{Outlet}
+use Rattle.drain_union.specs.declared.place.Place.{Place}
+use Rattle.drain_union.specs.declared.report.Shown.{Shown}
 use Rattle.drain_report.specs.Lines.{IsLong, AreLong}
 use Rattle.drain_report.specs.Facts.{IsNarrow, sink_numbers, IsOutlet, outlet_numbers, IsHeight, IsShown, height_number, flag_number, shown_numbers, IsPlace, place_numbers, IsAuditNoData, nodata_numbers, CountsFit, count_numbers, fault_numbers}
 

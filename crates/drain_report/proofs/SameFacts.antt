@@ -6,11 +6,11 @@ use Rattle.drain_grid.specs.declared.cell.Cell.{Cell}
 use Rattle.drain_grid.specs.declared.rule.Rule.{Rule}
 use Rattle.drain_grid.specs.Size.{Extent}
 use Rattle.drain_grid.specs.Values.{Values, NoDataNumbers}
-use Rattle.drain_rules.specs.declared.verdict.Counts.{Counts}
-use Rattle.drain_rules.specs.declared.verdict.Verdict.{Verdict}
-use Rattle.drain_rules.specs.declared.verdict.Verdict.TheVariants.{Accepted, Rejected}
-use Rattle.drain_windows.specs.declared.place.InnerSides.{InnerSides}
-use Rattle.drain_windows.specs.declared.place.Place.{Place}
+use Rattle.drain_grid.specs.declared.verdict.Counts.{Counts}
+use Rattle.drain_grid.specs.declared.verdict.Verdict.{Verdict}
+use Rattle.drain_grid.specs.declared.verdict.Verdict.TheVariants.{Accepted, Rejected}
+use Rattle.drain_union.specs.declared.place.InnerSides.{InnerSides}
+use Rattle.drain_union.specs.declared.place.Place.{Place}
 use Rattle.drain_report.specs.Lines.{line}
 use Rattle.drain_report.specs.Facts.{IsNarrow, flag_number, CountsFit, VerdictFits, verdict_line}
 

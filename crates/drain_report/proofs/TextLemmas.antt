@@ -4,13 +4,13 @@ use Rattle.std.specs.Prelude.{Result, IfOk, MatchResult, OnOk, Ok, Err, codes}
 use Rattle.drain_grid.specs.declared.cell.Cell.{Cell}
 use Rattle.drain_grid.specs.Values.{NoDataNumbers}
 use Rattle.drain_hgt.specs.Corner.{Corner}
-use Rattle.drain_rules.specs.declared.verdict.Verdict.{Verdict}
-use Rattle.drain_windows.specs.Reports.{Report}
-use Rattle.drain_windows.specs.declared.outlet.Outlet.{Outlet}
-use Rattle.drain_windows.specs.declared.place.Place.{Place}
-use Rattle.drain_windows.specs.declared.report.Shown.{Shown}
+use Rattle.drain_grid.specs.declared.verdict.Verdict.{Verdict}
+use Rattle.drain_union.specs.Reports.{Report}
+use Rattle.drain_union.specs.declared.outlet.Outlet.{Outlet}
+use Rattle.drain_union.specs.declared.place.Place.{Place}
+use Rattle.drain_union.specs.declared.report.Shown.{Shown}
 use Rattle.drain_report.specs.declared.head.Head.{Head}
-use Rattle.drain_windows.specs.Verdicts.{is_accepted}
+use Rattle.drain_union.specs.Verdicts.{is_accepted}
 use Rattle.drain_report.specs.Facts.{count_line, nodata_line, outlet_line, place_line, shown_line, sink_line, tile_line, verdict_line}
 use Rattle.drain_report.specs.Faults.{HasVersion}
 use Rattle.drain_report.specs.Head.{head_text, version_line}

@@ -1,10 +1,10 @@
 -- The text of a whole report. The order of its lines is this project's own.
 use Rattle.std.specs.Prelude.{ℕ, List, ◌++◌, codes}
-use Rattle.drain_rules.specs.declared.verdict.Verdict.{Verdict}
+use Rattle.drain_grid.specs.declared.verdict.Verdict.{Verdict}
 use Rattle.drain_hgt.specs.Corner.{Corner, IsOnMap}
-use Rattle.drain_windows.specs.Reports.{Report}
-use Rattle.drain_windows.specs.Verdicts.{Agree}
-use Rattle.drain_windows.specs.declared.window_report.WindowReport.{WindowReport}
+use Rattle.drain_union.specs.Reports.{Report}
+use Rattle.drain_union.specs.Verdicts.{Agree}
+use Rattle.drain_union.specs.declared.window_report.WindowReport.{WindowReport}
 use Rattle.drain_report.specs.declared.head.Head.{Head}
 use Rattle.drain_report.specs.Facts.{IsNarrow, sink_line, IsOutlet, outlet_line, IsShown, shown_line, tile_line}
 use Rattle.drain_report.specs.Head.{HeadFits, head_text}

@@ -5,16 +5,16 @@ use Rattle.std.specs.Int.RustNames.{FitsSigned}
 use Rattle.drain_grid.specs.declared.cell.Cell.{Cell}
 use Rattle.drain_grid.specs.declared.tile.TheConstants.{VOID}
 use Rattle.drain_grid.specs.Values.{Values, AreInRange, NoDataNumbers, IsNoData}
-use Rattle.drain_windows.specs.declared.outlet.Outlet.{Outlet}
-use Rattle.drain_windows.specs.declared.report.Shown.{Shown}
-use Rattle.drain_windows.specs.declared.place.Place.{Place}
-use Rattle.drain_windows.specs.declared.place.InnerSides.{InnerSides}
+use Rattle.drain_union.specs.declared.outlet.Outlet.{Outlet}
+use Rattle.drain_union.specs.declared.report.Shown.{Shown}
+use Rattle.drain_union.specs.declared.place.Place.{Place}
+use Rattle.drain_union.specs.declared.place.InnerSides.{InnerSides}
 use Rattle.drain_grid.specs.Size.{IsExtent}
 use Rattle.drain_grid.specs.Rule.{rule_number}
 use Rattle.drain_grid.specs.declared.rule.Rule.{Rule}
-use Rattle.drain_rules.specs.declared.verdict.Counts.{Counts}
-use Rattle.drain_rules.specs.declared.verdict.Verdict.{Verdict}
-use Rattle.drain_rules.specs.declared.verdict.Verdict.TheVariants.{Accepted, Rejected}
+use Rattle.drain_grid.specs.declared.verdict.Counts.{Counts}
+use Rattle.drain_grid.specs.declared.verdict.Verdict.{Verdict}
+use Rattle.drain_grid.specs.declared.verdict.Verdict.TheVariants.{Accepted, Rejected}
 use Rattle.drain_hgt.specs.Corner.{Corner}
 use Rattle.drain_hgt.specs.Name.{name_of}
 use Rattle.drain_report.specs.Lines.{IsLong, line}

@@ -9,9 +9,8 @@ use crate::count::{push_count, read_count};
 use crate::fault::ReportFault;
 use crate::lines::{Lines, after_word, push};
 use crate::report_line::ReportLine;
-use drain_grid::OutOfMemory;
-use drain_rules::Verdict;
-use drain_windows::{AuditNoData, Place};
+use drain_grid::{OutOfMemory, Verdict};
+use drain_union::{AuditNoData, Place};
 
 /// What the first lines of a report say.
 #[derive(Clone, Copy)]

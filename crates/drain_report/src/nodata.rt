@@ -12,7 +12,7 @@ use crate::lines::{Lines, push_line};
 use crate::report_line::ReportLine;
 use drain_grid::OutOfMemory;
 use drain_grid::nodata::{GREATEST_NODATA, LEAST_NODATA};
-use drain_windows::AuditNoData;
+use drain_union::AuditNoData;
 
 /// The no-data number at a place, if it is in range.
 fn nodata_at(numbers: &[i64], place: usize) -> Option<i64>

@@ -8,7 +8,7 @@ use crate::fault::ReportFault;
 use crate::lines::{Lines, push_line};
 use crate::report_line::ReportLine;
 use drain_grid::OutOfMemory;
-use drain_windows::Outlet;
+use drain_union::Outlet;
 
 impl Fact for Outlet {
     ghost numbers_of = { outlet_numbers };

@@ -2,7 +2,7 @@
 
 ghost use Rattle.std.specs.Prelude.{◌≡◌, drop, length, Some, IfSome};
 ghost use Rattle.drain_grid.specs.Size.{IsExtent};
-ghost use Rattle.drain_windows.specs.declared.place.InnerSides.{InnerSides as SidesOf};
+ghost use Rattle.drain_union.specs.declared.place.InnerSides.{InnerSides as SidesOf};
 ghost use Rattle.drain_report.specs.Lines.{AreLong};
 ghost use Rattle.drain_report.specs.Facts.{side_numbers, place_numbers, place_line, IsPlace};
 
@@ -12,7 +12,7 @@ use crate::fault::ReportFault;
 use crate::lines::{Lines, push_line};
 use crate::report_line::ReportLine;
 use drain_grid::{Cell, OutOfMemory, Shape};
-use drain_windows::{InnerSides, Place};
+use drain_union::{InnerSides, Place};
 
 /// The inner sides, which follow the place's four numbers.
 fn sides(numbers: &[i64]) -> Option<InnerSides>

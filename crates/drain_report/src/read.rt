@@ -1,7 +1,7 @@
 //! Reading a report.
 
 ghost use Rattle.std.specs.Prelude.{◌≡◌, ℕ, IfErr, IfOk, OnOk, IsOk, MatchResult};
-ghost use Rattle.drain_windows.specs.Verdicts.{Agree, is_accepted};
+ghost use Rattle.drain_union.specs.Verdicts.{Agree, is_accepted};
 ghost use Rattle.drain_report.specs.Faults.{FaultFits, IsAt, IsEndFault};
 ghost use Rattle.drain_report.specs.Contents.{Contents, ContentsFit, contents_of, end_line, report_text};
 
@@ -9,8 +9,8 @@ use crate::fault::ReportFault;
 use crate::head::read_head;
 use crate::lines::{Lines, after_word, unread};
 use crate::lists::read_list;
-use drain_rules::Verdict;
-use drain_windows::{Report, WindowReport};
+use drain_grid::Verdict;
+use drain_union::{Report, WindowReport};
 use std::alloc::Global;
 
 /// The report that a text holds.

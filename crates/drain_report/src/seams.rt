@@ -11,7 +11,7 @@ use crate::fault::ReportFault;
 use crate::lines::{Lines, push_line};
 use crate::report_line::ReportLine;
 use drain_grid::{CellValues, OutOfMemory, VOID};
-use drain_windows::Shown;
+use drain_union::Shown;
 
 /// The elevation of a number of 16 bits; the number of a void has none.
 fn height(number: i64) -> Option<Option<i16>>

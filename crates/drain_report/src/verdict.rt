@@ -12,8 +12,7 @@ use crate::facts::{at, cell_at, whole_at};
 use crate::fault::ReportFault;
 use crate::lines::{Lines, push_line, read_line};
 use crate::report_line::ReportLine;
-use drain_grid::{Cell, OutOfMemory, Rule};
-use drain_rules::{Counts, Verdict};
+use drain_grid::{Cell, Counts, OutOfMemory, Rule, Verdict};
 
 /// The rule of a number from 1 to 15.
 fn rule(number: i64) -> Option<Rule>

@@ -1,14 +1,14 @@
 //! Writing a report.
 
 ghost use Rattle.std.specs.Prelude.{◌≡◌, IfOk, OnOk};
-ghost use Rattle.drain_windows.specs.Verdicts.{Agree};
+ghost use Rattle.drain_union.specs.Verdicts.{Agree};
 ghost use Rattle.drain_report.specs.Contents.{ContentsFit, contents_of, report_text};
 
 use crate::head::{Head, push_head};
 use crate::lines::push;
 use crate::lists::push_list;
 use drain_grid::OutOfMemory;
-use drain_windows::WindowReport;
+use drain_union::WindowReport;
 use std::alloc::Global;
 
 /// The text of a report, in ASCII.

@@ -3,9 +3,8 @@
 ghost use Rattle.std.specs.Prelude.{◌≡◌, ◌*◌, length, MatchOption};
 ghost use Rattle.drain_grid.specs.Certificate.{IsFirstEndless};
 ghost use Rattle.drain_grid.specs.Grid.{Grid, Products};
-ghost use Rattle.drain_grid.specs.Unranked.{unranked};
-ghost use Rattle.drain_grid.specs.Values.{NoDataNumbers};
-ghost use Rattle.drain_rules.specs.Verdicts.{IsVerdictOf};
+ghost use Rattle.drain_grid.specs.declared.judged.Rules.{Rules};
+ghost use Rattle.drain_rules.specs.Verdicts.{IsVerdictBy};
 ghost use Rattle.drain_paths.specs.Flows.{AreFlowsOf};
 ghost use Rattle.drain_paths.specs.KnownFlows.{AreKnownFlows};
 ghost use Rattle.drain_rows.specs.Runs.{AllRunsEnd};
@@ -13,7 +12,7 @@ ghost use Rattle.drain_rows.specs.Runs.{AllRunsEnd};
 use crate::row_buffer::RowBuffer;
 use crate::row_visitor::RowVisitor;
 use drain_grid::laws::correct_by_rules_alone;
-use drain_grid::{Cell, OutOfMemory, Rules, Shape, Verdict};
+use drain_grid::{Cell, Judged, OutOfMemory, Rules, Shape, Verdict};
 use drain_paths::CellFlows;
 use drain_rules::ThreeRows;
 
@@ -39,18 +38,23 @@ impl RowVisitor for CellFlows {
     }
 }
 
-/// The first data cell whose path doesn't end, from the flows of all cells of a grid and this verdict of the rules
-/// without ranks. Paths are followed only after a rejection: if every rule holds every path ends, since accumulation
-/// can't grow along a ring. None if flows and cells differ in number, which never happens if the sources' bytes are
-/// known.
-pub fn first_endless(flows: &mut CellFlows, shape: Shape, verdict: &Verdict) -> Option<Cell>
-    ensures first { (g : Grid) (ps : Products) (nodata : NoDataNumbers) → IsVerdictOf (unranked nodata) g ps verdict.now → length flows.old ≡ shape.rows * shape.cols → AreFlowsOf g ps shape flows.old → MatchOption result (AllRunsEnd g ps) (IsFirstEndless g ps) }
+/// The first data cell whose path doesn't end, from the flows of all cells of a grid and this verdict of the rules about
+/// the judged rasters. Paths of all four rasters are followed only after a rejection: if every rule holds every path
+/// ends, since accumulation can't grow along a ring. None if flows and cells differ in number, which never happens if
+/// the sources' bytes are known.
+pub fn first_endless(
+    flows: &mut CellFlows,
+    shape: Shape,
+    judged: Judged,
+    verdict: &Verdict,
+) -> Option<Cell>
+    ensures first { (rules : Rules) (g : Grid) (ps : Products) → rules.judged ≡ judged → IsVerdictBy rules g ps verdict.now → length flows.old ≡ shape.rows * shape.cols → AreFlowsOf g ps shape flows.old → MatchOption result (AllRunsEnd g ps) (IsFirstEndless g ps) }
     ensures known { (g : Grid) (ps : Products) → AreFlowsOf g ps shape flows.old → AreKnownFlows g ps shape flows.new }
     ensures counted { length flows.new ≡ length flows.old }
 {
     // The law that products are correct if every rule holds without ranks.
     correct_by_rules_alone();
-    if let Verdict::Accepted(_) = verdict {
+    if let (Judged::All, Verdict::Accepted(_)) = (judged, verdict) {
         return None;
     }
     if flows.len() == shape.cells() {

@@ -1,5 +1,9 @@
-pub mod MergeRuns
-pub mod ReportInputs
-pub mod ReportOutputs
-pub mod RunLaws
-pub mod WindowRuns
+pub mod Cuts
+pub mod Judged
+pub mod JudgedCounts
+pub mod Laws
+pub mod NoData
+pub mod Outlets
+pub mod Reports
+pub mod Verdicts
+pub mod Windows

@@ -1,14 +1,78 @@
-//! How the runs on windows and on their reports go together.
+//! What windows say of their union.
+//!
+//! Each law is a function with nothing to do: its contract is the law, and a caller that calls it has the law at hand.
 
-ghost use Rattle.drain_union.specs.RunLaws.{ReadIsJudged};
+ghost use Rattle.drain_union.specs.Cuts.{CutIsWindow};
+ghost use Rattle.drain_union.specs.Laws.{PatchOfWindow, CorrectByWindows, WindowsMakeUnion, SortedTellsShared, MergeTellsShared, OpenInWindow, MergeIsExact, CornersTellWhole, WindowRejects, LeastFaultIsFirst, JudgedApart, FourNumbers, CountsAddUp};
 
-use drain_windows::laws::four_numbers;
+/// At a judged cell the patch of a window is the union's.
+pub fn patch_of_window()
+    ensures { PatchOfWindow }
+{}
 
-/// What `drain merge` reads of what `drain window` wrote is the report on the window that was judged. So what
-/// `merge_and_print` promises of the windows of which it has the reports holds of these.
-pub fn read_is_judged()
-    ensures { ReadIsJudged }
-{
-    // The law that the rules look at the four no-data numbers of a report.
-    four_numbers();
-}
+/// Where windows judge each cell of a union, its products are correct exactly where the rules hold in each window and no
+/// label is shared.
+pub fn correct_by_windows()
+    ensures { CorrectByWindows }
+{}
+
+/// Windows that agree where they overlap, and judge each cell, are the windows of one union.
+pub fn windows_make_union()
+    ensures { WindowsMakeUnion }
+{}
+
+/// At a judged cell, what is open in the window is what is open in the union.
+pub fn open_in_window()
+    ensures { OpenInWindow }
+{}
+
+/// In a list sorted by label it is enough to look at outlets side by side.
+pub fn sorted_tells_shared()
+    ensures { SortedTellsShared }
+{}
+
+/// Where a sorted list holds what windows list, no label is shared exactly where none is by two outlets side by side.
+pub fn merge_tells_shared()
+    ensures { MergeTellsShared }
+{}
+
+/// Where the rules hold in each window and the reports can be merged, the windows are those of one union, and its
+/// products are correct exactly where no label is shared.
+pub fn merge_is_exact()
+    ensures { MergeIsExact }
+{}
+
+/// Places judge each cell if they judge the cells at crossings of corner rows and corner columns.
+pub fn corners_tell_whole()
+    ensures { CornersTellWhole }
+{}
+
+/// Where the rules don't hold in one window, the products of its union aren't correct.
+pub fn window_rejects()
+    ensures { WindowRejects }
+{}
+
+/// The least of the first faults of windows is the union's first fault of a patch.
+pub fn least_fault_is_first()
+    ensures { LeastFaultIsFirst }
+{}
+
+/// The rules look at the no-data numbers of con, dir, acc and bas alone.
+pub fn four_numbers()
+    ensures { FourNumbers }
+{}
+
+/// Places that judge a cell each, and none in common, overlap in their seams alone.
+pub fn judged_apart()
+    ensures { JudgedApart }
+{}
+
+/// Where windows judge each cell of their union, and none twice, their counts add up to those of the union's cells.
+pub fn counts_add_up()
+    ensures { CountsAddUp }
+{}
+
+/// A box of a grid, as a grid of its own, is a window of it.
+pub fn cut_is_window()
+    ensures { CutIsWindow }
+{}

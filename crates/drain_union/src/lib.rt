@@ -1,10 +1,15 @@
-//! The runs of `drain window` and `drain merge`, over any source and any sink, and over files.
+//! A union of any size, judged by windows.
 #![tactic(auto)]
 
-pub mod judge_run;
+pub mod audit_nodata;
 pub mod laws;
-pub mod merge_files;
-pub mod merge_run;
-pub mod report_input;
-pub mod report_output;
-pub mod window_files;
+pub mod outlet;
+pub mod place;
+pub mod report;
+pub mod window_report;
+
+pub use audit_nodata::AuditNoData;
+pub use outlet::{Outlet, first_shared, sort_by_label};
+pub use place::{InnerSides, Place, SEAM_DEPTH};
+pub use report::{Report, Shown};
+pub use window_report::WindowReport;

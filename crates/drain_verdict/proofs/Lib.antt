@@ -11,6 +11,7 @@ pub mod LayoutAnswers
 pub mod MosaicRowSteps
 mod Naming
 pub mod Order
+pub mod OutcomeLemmas
 mod Places
 pub mod RasterSteps
 mod RowAnswers

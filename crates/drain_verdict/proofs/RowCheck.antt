@@ -142,16 +142,16 @@ module _ {R : Type 0} (bl : R → Option (List ℕ)) (ct : R → FaultCounts) (i
   pub notes_hold : {K : Type 0} (are_of : Rules → Grid → grid.Products → ℕ → K → Type 0) (rules : Rules) (notes : K) (sinks : List SinkLine) (t : Tiling) → t ≡ tiling_of i →
       ((p : SetProduct) → of_product hs p ≡ fields_of i p) → rules.nodata ≡ nodata_in hs → sinks ≡ listed_in i →
       OfGrid (AreGiven bl (rows, tiles, ps)) e sinks (λ g products. are_of rules g products g.extent.rows notes) → Read bl ct i hs rows rows_then tiles tiles_then ps ps_then e None t →
-      AreNotesOf are_of rules.ranks i notes
+      AreNotesOf are_of rules.judged i notes
   notes_hold are_of rules notes sinks t is fields nodata_is sinks_are of_grid read =
       let here = subst (Read bl ct i hs rows rows_then tiles tiles_then ps ps_then e None) is read in
       let numbers = nodata_is ∙ nodata_are here.laws i hs fields (ended None (tiling_of i) here) in
-      let same : rules ≡ rules_at rules.ranks i = ap (λ (n : NoDataNumbers). rules_with_nodata rules n) numbers in
+      let same : rules ≡ rules_at rules.judged i = ap (λ (n : NoDataNumbers). rules_with_nodata rules n) numbers in
       subst (λ (r : Rules). are_of r (input_grid i) (input_products i) (input_grid i).extent.rows notes) same
       (given_holds sinks (λ g products. are_of rules g products g.extent.rows notes) t is fields sinks_are of_grid read)
     where
       rules_with_nodata : Rules → NoDataNumbers → Rules
-      rules_with_nodata rules n = record { nodata = n; ranks = rules.ranks }
+      rules_with_nodata rules n = record { nodata = n; judged = rules.judged }
 
 -- a refusal of reading, by readers of five products, whichever are given
 module _ {R S : Type 0} (bl : R → Option (List ℕ)) (ct : R → FaultCounts) (view : S → Reading R) (before after : S) where

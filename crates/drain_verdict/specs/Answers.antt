@@ -3,11 +3,10 @@ use Rattle.std.specs.Prelude.{ℕ, Result, Ok, Err}
 use Rattle.drain_grid.specs.Grid.{Grid, Products}
 use Rattle.drain_text.specs.First.{IsFirst}
 use Rattle.drain_grid.specs.declared.verdict.Verdict.{Verdict}
-use Rattle.drain_grid.specs.RulesAbout.{rules_about}
+use Rattle.drain_grid.specs.PatchRules.{check_rules}
 use Rattle.drain_rules.specs.Verdicts.{IsVerdictOf}
 use Rattle.drain_grid.specs.declared.judged.Judged.{Judged}
 use Rattle.drain_grid.specs.declared.judged.Rules.{Rules}
-use Rattle.drain_grid.specs.declared.judged.Judged.TheVariants.{AllWithRanks}
 use Rattle.drain_answer.specs.declared.refusal.Refusal.{Refusal}
 use Rattle.drain_answer.specs.declared.refusal.Refusal.TheVariants.{OutOfMemory, ReadFailed}
 use Rattle.drain_verdict.specs.Inputs.{Inputs}
@@ -29,19 +28,15 @@ abbrev pub IsReadAnswer : Inputs → Result (Unit {0}) Refusal → Type 0
 IsReadAnswer i (Ok done) = AreReadable i
 IsReadAnswer i (Err refusal) = IsRefusal i refusal
 
--- the answer to the inputs, with ranks checked or not
-abbrev pub IsAnswerWith : Judged → Inputs → Result Verdict Refusal → Type 0
-IsAnswerWith ranks i (Ok verdict) = AreReadable i × IsVerdictOf (rules_about ranks (nodata_numbers i)) (input_grid i) (input_products i) verdict
-IsAnswerWith ranks i (Err refusal) = IsRefusal i refusal
-
--- the answer of a check, which checks ranks
+-- the answer of a check: the first refusal that applies, else the verdict
 abbrev pub IsAnswer : Inputs → Result Verdict Refusal → Type 0
-IsAnswer = IsAnswerWith AllWithRanks
+IsAnswer i (Ok verdict) = AreReadable i × IsVerdictOf (check_rules (nodata_numbers i)) (input_grid i) (input_products i) verdict
+IsAnswer i (Err refusal) = IsRefusal i refusal
 
--- the rules that are checked of the inputs, with ranks or not
+-- the rules about judged rasters of the inputs
 abbrev pub rules_at : Judged → Inputs → Rules
-rules_at ranks i = record { nodata = nodata_numbers i; ranks = ranks }
+rules_at judged i = record { nodata = nodata_numbers i; judged = judged }
 
 -- notes of a grid's rows that are of all rows of the inputs' grid, under these rules
 abbrev pub AreNotesOf : {K : Type 0} → (Rules → Grid → Products → ℕ → K → Type 0) → Judged → Inputs → K → Type 0
-AreNotesOf are_of ranks i notes = are_of (rules_at ranks i) (input_grid i) (input_products i) (input_grid i).extent.rows notes
+AreNotesOf are_of judged i notes = are_of (rules_at judged i) (input_grid i) (input_products i) (input_grid i).extent.rows notes

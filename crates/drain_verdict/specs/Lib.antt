@@ -1,13 +1,17 @@
 pub mod Answers
 pub mod AuditInputs
 pub mod Audits
+pub mod Deciding
 pub mod Devices
 pub mod Headline
 pub mod InputReads
 pub mod InputRows
 pub mod Inputs
+pub mod Judgements
 pub mod Laws
 pub mod Meaning
+pub mod Outcomes
+pub mod OutcomesOf
 pub mod Refusals
 pub mod RowLaws
 pub mod SinkListings

@@ -4,24 +4,14 @@
 //! byte. After the last row it looks which paths end, but only if a rule failed: if none did, all end. That this
 //! separates correct products from all others is a law of `drain_grid`.
 
-ghost use Rattle.std.specs.Prelude.{◌≡◌, ◌↔◌, ◌*◌, [], length, IfOk, OnOk};
-ghost use Rattle.drain_grid.specs.Grid as grid;
-ghost use Rattle.drain_grid.specs.Grid.{Grid};
-ghost use Rattle.drain_hgt.specs.Inputs.{names_of};
-ghost use Rattle.drain_grid.specs.declared.judged.Judged.TheVariants.{All};
-ghost use Rattle.drain_grid.specs.declared.judged.Rules.{Rules};
-ghost use Rattle.drain_mosaic.specs.Tiling.{extent_of};
-ghost use Rattle.drain_paths.specs.KnownFlows.{AreKnownFlows};
-ghost use Rattle.drain_verdict.specs.Answers.{AreNotesOf};
+ghost use Rattle.std.specs.Prelude.{◌↔◌, IfOk};
 ghost use Rattle.drain_verdict.specs.Audits.{AreCorrect, AuditMeans, IsAcceptance, IsAuditAnswer, IsAnswerWithoutRanks, ForAudit};
 ghost use Rattle.drain_verdict.specs.Headline.{IsRight, TilesAreOne, ElevationIsTheirs};
-ghost use Rattle.drain_verdict.specs.Meaning.{input_grid, input_products};
-ghost use Rattle.drain_verdict.specs.Stages.{IsLayoutOf};
 ghost use Rattle.drain_verdict.specs.Uses.{AuditUses};
 
-use crate::answer::answer_on;
 use crate::audit_products::AuditProducts;
 use crate::both_verdict::verdict_of_both;
+use crate::judgement::judge;
 use crate::layout::layout_of;
 use drain_grid::Judged;
 use drain_answer::{AuditVerdict, Refusal};
@@ -29,10 +19,7 @@ use drain_device::ByteSource;
 use drain_grid::laws::{correct_is_local, ranks_play_no_part, sound_from_correct};
 use drain_hgt::TileInput;
 use drain_hgt::laws::one_name;
-use drain_mosaic::Layout;
 use drain_mosaic::laws::agreement_gives_elevation;
-use drain_paths::CellFlows;
-use drain_rows::{BothVisitors, VerdictVisitor, first_endless};
 use drain_rules::Walk;
 use std::alloc::Global;
 
@@ -87,38 +74,7 @@ fn audit_of<R: ByteSource>(
     // The law that bytes name one tile.
     one_name();
     let layout = layout_of(alloc, side, tiles)?;
-    let mut notes = BothVisitors {
-        first: CellFlows::new(alloc),
-        second: Walk::new(alloc),
-    };
-    audit_on(alloc, &layout, sinks, tiles, products, &mut notes)
-}
-
-/// The answer to the bytes of inputs of this mosaic, without ranks; each row of the grid is noted. After a verdict the
-/// flows are known to be those of the grid, except for cells whose paths were found to end.
-pub fn audit_on<R: ByteSource, K: VerdictVisitor>(
-    alloc: Global,
-    layout: &Layout,
-    sinks: &[u8],
-    tiles: &mut [TileInput<R>],
-    products: &mut AuditProducts<R>,
-    notes: &mut BothVisitors<CellFlows, K>,
-) -> Result<AuditVerdict, Refusal>
-    requires laid { IsLayoutOf layout.now.side (names_of tiles.old) layout.now }
-    requires empty { notes.old.first ≡ [] }
-    requires uncounted { K.counts 0 notes.old.second }
-    requires unnoted { (rules : Rules) (g : Grid) (ps : grid.Products) → K.are_of rules g ps 0 notes.old.second }
-    ensures answer { ForAudit R.bytes_left layout.now.side tiles.old sinks.now products.old (λ inputs. IsAnswerWithoutRanks inputs result) }
-    ensures lasting { OnOk result (K.lasting notes.new.second ≡ K.lasting notes.old.second) }
-    ensures noted { OnOk result (ForAudit R.bytes_left layout.now.side tiles.old sinks.now products.old (λ inputs. AreNotesOf K.are_of All inputs notes.new.second)) }
-    ensures flows { OnOk result (ForAudit R.bytes_left layout.now.side tiles.old sinks.now products.old (λ inputs. AreKnownFlows (input_grid inputs) (input_products inputs) (extent_of layout.now) notes.new.first)) }
-    ensures counted { OnOk result (ForAudit R.bytes_left layout.now.side tiles.old sinks.now products.old (λ inputs. length notes.new.first ≡ (extent_of layout.now).rows * (extent_of layout.now).cols)) }
-    ensures uses { AuditUses R.bytes_left R.counts layout.now.side (tiles.old, products.old) (tiles.new, products.new) result }
-{
-    // The law that bytes name one tile.
-    one_name();
-    let ranks = Judged::All;
-    let verdict = answer_on(alloc, layout, sinks, tiles, products, ranks, notes)?;
-    let endless = first_endless(&mut notes.first, layout.shape(), &verdict);
-    Ok(verdict_of_both(&verdict, endless))
+    let walk = Walk::new(alloc);
+    let judgement = judge(alloc, &layout, sinks, tiles, products, Judged::All, walk)?;
+    Ok(verdict_of_both(&judgement.verdict, judgement.cell))
 }

@@ -1,14 +1,14 @@
 //! The check of products against the tiles that they were made from: from the bytes of devices to the answer.
 //!
-//! `answer.rt` says how the answer is found; here is what it means.
+//! `judgement.rt` says how the answer is found; here is what it means.
 
 ghost use Rattle.drain_verdict.specs.Inputs.{Inputs, Tell};
 ghost use Rattle.drain_verdict.specs.Answers.{IsAnswer};
 ghost use Rattle.drain_verdict.specs.Headline.{AcceptedMeans, IsRight};
 ghost use Rattle.drain_verdict.specs.Uses.{CheckUses};
 
-use crate::answer::answer_on;
 use crate::input::Products;
+use crate::judgement::judge;
 use crate::layout::layout_of;
 use drain_grid::{Judged, Verdict};
 use drain_answer::Refusal;
@@ -68,13 +68,8 @@ fn answer_of<R: ByteSource>(
     // The law that bytes name one tile.
     one_name();
     let layout = layout_of(alloc, side, tiles)?;
-    answer_on(
-        alloc,
-        &layout,
-        sinks,
-        tiles,
-        products,
-        Judged::AllWithRanks,
-        &mut Walk::new(alloc),
-    )
+    let walk = Walk::new(alloc);
+    let ranked = Judged::AllWithRanks;
+    let judgement = judge(alloc, &layout, sinks, tiles, products, ranked, walk)?;
+    Ok(judgement.verdict)
 }

@@ -50,7 +50,7 @@ use drain_rows::{RowVisitor, WalkStop, visit_rows};
 use std::alloc::Global;
 
 /// Reads inputs of this mosaic: the headers of its products, the bytes of its tiles and rasters, and a list of sinks.
-/// Shows the visitor each row of the grid, under rules with ranks or without, or returns the first refusal.
+/// Shows the visitor each row of the grid, under the rules about judged rasters, or returns the first refusal.
 ///
 /// See `check` for the order of refusals, and for how far it reads.
 pub fn read_inputs<R: ByteSource, P: ProductInputs<R>, K: RowVisitor>(
@@ -67,13 +67,13 @@ pub fn read_inputs<R: ByteSource, P: ProductInputs<R>, K: RowVisitor>(
     requires unnoted { (rules : declared.Rules) (g : Grid) (ps : grid.Products) → K.are_of rules g ps 0 notes.old }
     ensures answer { (inputs : Inputs) → Tell R.bytes_left layout.now.side tiles.old sinks.now (P.inputs products.old) inputs → IsReadAnswer inputs result }
     ensures lasting { OnOk result (K.lasting notes.new ≡ K.lasting notes.old) }
-    ensures noted { OnOk result ((inputs : Inputs) → Tell R.bytes_left layout.now.side tiles.old sinks.now (P.inputs products.old) inputs → AreNotesOf K.are_of ranks inputs notes.new) }
+    ensures noted { OnOk result ((inputs : Inputs) → Tell R.bytes_left layout.now.side tiles.old sinks.now (P.inputs products.old) inputs → AreNotesOf K.are_of judged inputs notes.new) }
     ensures uses { UsesInputs P.inputs (λ ts ps. devices_of ts (P.inputs ps)) R.bytes_left R.counts layout.now.side (tiles.old, products.old) (tiles.new, products.new) result }
 {
     // The law that bytes name one tile.
     one_name();
     let headers = products.read_headers(layout)?;
-    read_bodies(alloc, layout, headers, sinks, tiles, products, ranks, notes)
+    read_bodies(alloc, layout, headers, sinks, tiles, products, judged, notes)
 }
 
 /// Reads the bodies once the layout and the headers are right.
@@ -98,7 +98,7 @@ fn read_bodies<R: ByteSource, P: ProductInputs<R>, K: RowVisitor>(
     ensures lasting { OnOk result (K.lasting notes.new ≡ K.lasting notes.old) }
     ensures noted { OnOk result ((inputs : Inputs) → layout.now ≡ tiling_of inputs → ((p : SetProduct) → of_product headers p ≡ fields_of inputs p)
         → AreBodies R.bytes_left tiles.old inputs.tiles → AreRasterBodies R.bytes_left (P.inputs products.old) inputs.raster
-        → inputs.sinks ≡ sinks.now → AreNotesOf K.are_of ranks inputs notes.new) }
+        → inputs.sinks ≡ sinks.now → AreNotesOf K.are_of judged inputs notes.new) }
     ensures tiles_within { TilesTakeAtMost R.bytes_left layout.now.side tiles.old tiles.new }
     ensures rasters_within { (p : SetProduct) → BodyTakesAtMost R.bytes_left (of_product headers p) (P.inputs products.old) (P.inputs products.new) p }
     ensures faults { SomeReadFails (map R.counts (devices_of tiles.old (P.inputs products.old))) (map R.counts (devices_of tiles.new (P.inputs products.new))) (IsErrOf result Refusal.ReadFailed) }
@@ -113,7 +113,7 @@ fn read_bodies<R: ByteSource, P: ProductInputs<R>, K: RowVisitor>(
         Err(OutOfMemory) => return Err(Refusal::OutOfMemory),
     };
     let nodata = nodata_of(&headers);
-    let rules = Rules { nodata, ranks };
+    let rules = Rules { nodata, judged };
     let mut rows = InputRows::new::<R, P>(alloc, layout, headers, products)?;
     read_rows(
         alloc, layout, &listing, &rules, &mut rows, tiles, products, notes,
@@ -146,7 +146,7 @@ fn read_rows<R: ByteSource, P: ProductInputs<R>, K: RowVisitor>(
         → ((p : SetProduct) → header_extent (of_product hs p) ≡ tiling.extent_of layout.now)
         → layout.now ≡ tiling_of inputs → ((p : SetProduct) → of_product hs p ≡ fields_of inputs p)
         → AreBodies R.bytes_left tiles.old inputs.tiles → AreRasterBodies R.bytes_left (P.inputs products.old) inputs.raster
-        → listing.now.sinks ≡ listed_in inputs → AreNotesOf K.are_of rules.now.ranks inputs notes.new) }
+        → listing.now.sinks ≡ listed_in inputs → AreNotesOf K.are_of rules.now.judged inputs notes.new) }
     ensures reads { HaveBeenRead R.bytes_left R.counts (as_read P.readers P.inputs (rows.old, tiles.old, products.old)) (as_read P.readers P.inputs (rows.new, tiles.new, products.new)) (IsErrOf result Refusal.ReadFailed) }
     ensures of_bodies { IfErr result IsOfBodies }
 {

@@ -7,12 +7,12 @@ use Rattle.drain_grid.specs.declared.sink_line.SinkLine.{SinkLine}
 use Rattle.drain_grid.specs.Grid.{Grid, Products}
 use Rattle.drain_grid.specs.SinkLines.{is_listed}
 use Rattle.drain_grid.proofs.Neighbors.{same_place}
-use Rattle.drain_windows.specs.declared.place.Place.{Place}
-use Rattle.drain_windows.proofs.ListedLines.{line_of, listed_there}
-use Rattle.drain_windows.specs.Cuts.{window_at}
-use Rattle.drain_windows.specs.Judged.{IsJudgedAt}
-use Rattle.drain_windows.specs.Reports.{ListsSinks}
-use Rattle.drain_windows.specs.Windows.{in_union, moved, IsJudgedIn}
+use Rattle.drain_union.specs.declared.place.Place.{Place}
+use Rattle.drain_union.proofs.ListedLines.{line_of, listed_there}
+use Rattle.drain_union.specs.Cuts.{window_at}
+use Rattle.drain_union.specs.Judged.{IsJudgedAt}
+use Rattle.drain_union.specs.Reports.{ListsSinks}
+use Rattle.drain_union.specs.Windows.{in_union, moved, IsJudgedIn}
 use Rattle.drain_window.specs.JudgedSinks.{AreLinesInside, union_cell}
 
 judged_moved : (origin : Cell) (p : Place) (c : Cell) → IsJudgedIn p c → IsJudgedIn (moved origin p) c

@@ -11,11 +11,11 @@ use Rattle.drain_grid.proofs.Neighbors.{place}
 use Rattle.drain_rules.specs.declared.tally.Tally.{Tally}
 use Rattle.drain_grid.specs.declared.verdict.Counts.{Counts}
 use Rattle.drain_rules.specs.Verdicts.{has_outlet_code}
-use Rattle.drain_windows.specs.declared.place.Place.{Place}
-use Rattle.drain_windows.specs.Cuts.{window_at}
-use Rattle.drain_windows.specs.JudgedCounts.{AreCountsInside, judged_cells, ring}
-use Rattle.drain_windows.specs.Windows.{in_union}
-use Rattle.drain_windows.proofs.JudgedCounts.{by_rows, sum_by_map, sum_by_flat_map}
+use Rattle.drain_union.specs.declared.place.Place.{Place}
+use Rattle.drain_union.specs.Cuts.{window_at}
+use Rattle.drain_union.specs.JudgedCounts.{AreCountsInside, judged_cells, ring}
+use Rattle.drain_union.specs.Windows.{in_union}
+use Rattle.drain_union.proofs.JudgedCounts.{by_rows, sum_by_map, sum_by_flat_map}
 use Rattle.drain_rules.specs.Areas.{CountsAmong}
 use Rattle.drain_window.specs.JudgedAreas.{cells_in, judged_area, row_cells_of}
 

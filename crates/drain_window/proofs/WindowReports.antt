@@ -12,16 +12,16 @@ use Rattle.drain_grid.specs.declared.judged.Judged.TheVariants.{All}
 use Rattle.drain_grid.specs.Rule.{IsPatchRule}
 use Rattle.drain_rules.specs.declared.row_outcome.RowOutcome.TheVariants.{Sound, Faulty}
 use Rattle.drain_rules.specs.declared.tally.Tally.{Tally}
-use Rattle.drain_windows.specs.declared.outlet.Outlet.{Outlet}
-use Rattle.drain_windows.specs.declared.place.Place.{Place}
-use Rattle.drain_windows.specs.declared.place.TheConstants.{SEAM_DEPTH}
-use Rattle.drain_windows.specs.declared.report.Shown.{Shown}
-use Rattle.drain_windows.specs.Cuts.{window_at}
-use Rattle.drain_windows.specs.Laws.{FourNumbers}
-use Rattle.drain_windows.specs.NoData.{audited}
-use Rattle.drain_windows.specs.Outlets.{IsSortedByLabel, ListsOutlets}
-use Rattle.drain_windows.specs.Reports.{IsReportOf, ListsSeams, ListsSinks}
-use Rattle.drain_windows.specs.Windows.{moved, IsFirstInside, IsPlaceIn, RulesHoldInside}
+use Rattle.drain_union.specs.declared.outlet.Outlet.{Outlet}
+use Rattle.drain_union.specs.declared.place.Place.{Place}
+use Rattle.drain_union.specs.declared.place.TheConstants.{SEAM_DEPTH}
+use Rattle.drain_union.specs.declared.report.Shown.{Shown}
+use Rattle.drain_union.specs.Cuts.{window_at}
+use Rattle.drain_union.specs.Laws.{FourNumbers}
+use Rattle.drain_union.specs.NoData.{audited}
+use Rattle.drain_union.specs.Outlets.{IsSortedByLabel, ListsOutlets}
+use Rattle.drain_union.specs.Reports.{IsReportOf, ListsSeams, ListsSinks}
+use Rattle.drain_union.specs.Windows.{moved, IsFirstInside, IsPlaceIn, RulesHoldInside}
 use Rattle.drain_rules.specs.declared.area.Area.{Area}
 use Rattle.drain_rules.specs.declared.walk.Walk.{Walk}
 use Rattle.drain_rules.specs.AreaOutcomes.{IsAreaOutcome}

@@ -11,8 +11,8 @@ use Rattle.drain_verdict.specs.Refusals.{IsOfBodies}
 use Rattle.drain_verdict.specs.Uses.{AuditUses}
 use Rattle.drain_verdict.specs.declared.audit_products.AuditProducts.{AuditProducts}
 use Rattle.drain_verdict.proofs.AuditDevices.{none_alike}
-use Rattle.drain_windows.specs.Reports.{Report}
-use Rattle.drain_windows.specs.declared.window_report.WindowReport.{WindowReport}
+use Rattle.drain_union.specs.Reports.{Report}
+use Rattle.drain_union.specs.declared.window_report.WindowReport.{WindowReport}
 use Rattle.drain_window.specs.WindowAnswers.{as_refused, IsWithTiles}
 use Rattle.drain_window.specs.declared.window_answer.WindowRefusal.{WindowRefusal}
 use Rattle.drain_window.proofs.WindowVerdicts.{memory_alike}

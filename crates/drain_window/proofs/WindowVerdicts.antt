@@ -9,11 +9,11 @@ use Rattle.drain_mosaic.specs.Tiling.{Tiling}
 use Rattle.drain_verdict.specs.Answers.{AreReadable}
 use Rattle.drain_verdict.specs.Inputs.{Inputs}
 use Rattle.drain_verdict.specs.Meaning.{input_grid, input_products, nodata_numbers, tiling_of}
-use Rattle.drain_windows.specs.declared.place.Place.{Place}
-use Rattle.drain_windows.specs.declared.window_report.WindowReport.{WindowReport}
-use Rattle.drain_windows.specs.Reports.{Report}
-use Rattle.drain_windows.specs.Verdicts.{Agree}
-use Rattle.drain_windows.specs.Windows.{IsFirstInside, IsPlaceIn}
+use Rattle.drain_union.specs.declared.place.Place.{Place}
+use Rattle.drain_union.specs.declared.window_report.WindowReport.{WindowReport}
+use Rattle.drain_union.specs.Reports.{Report}
+use Rattle.drain_union.specs.Verdicts.{Agree}
+use Rattle.drain_union.specs.Windows.{IsFirstInside, IsPlaceIn}
 use Rattle.drain_window.specs.MapOrigins.{map_origin}
 use Rattle.drain_window.specs.WindowAnswers.{IfRejected, IsAnswerOn, IsJudgedVerdict, IsWindowAnswer, IsWithTiles, window_of}
 use Rattle.drain_window.specs.declared.window_answer.WindowRefusal.{WindowRefusal}

@@ -9,8 +9,8 @@ use Rattle.drain_rules.specs.declared.area.Area.{Area}
 use Rattle.drain_rules.specs.Areas.{HasCell}
 use Rattle.drain_rules.specs.Labels.{IsOutletByCode}
 use Rattle.drain_rules.specs.Rows.{place}
-use Rattle.drain_windows.specs.declared.outlet.Outlet.{Outlet}
-use Rattle.drain_windows.specs.declared.place.Place.{Place}
+use Rattle.drain_union.specs.declared.outlet.Outlet.{Outlet}
+use Rattle.drain_union.specs.declared.place.Place.{Place}
 
 -- 1 for an inner side, where the ring lies
 abbrev pub ring_of : Bool → ℕ

@@ -11,13 +11,13 @@ use Rattle.drain_rules.specs.declared.row_outcome.RowOutcome.TheVariants.{Sound,
 use Rattle.drain_rules.specs.AreaOutcomes.{IsAreaOutcome}
 use Rattle.drain_rules.specs.Areas.{CountsAmong}
 use Rattle.drain_rules.specs.Rows.{place}
-use Rattle.drain_windows.specs.declared.outlet.Outlet.{Outlet}
-use Rattle.drain_windows.specs.declared.place.Place.{Place}
-use Rattle.drain_windows.specs.declared.place.TheConstants.{SEAM_DEPTH}
-use Rattle.drain_windows.specs.declared.report.Shown.{Shown}
-use Rattle.drain_windows.specs.Cuts.{window_at}
-use Rattle.drain_windows.specs.Reports.{ListsSeams}
-use Rattle.drain_windows.specs.Windows.{Window, in_union, IsFirstInside, IsJudgedOutlet, IsPlaceIn, RulesHoldInside}
+use Rattle.drain_union.specs.declared.outlet.Outlet.{Outlet}
+use Rattle.drain_union.specs.declared.place.Place.{Place}
+use Rattle.drain_union.specs.declared.place.TheConstants.{SEAM_DEPTH}
+use Rattle.drain_union.specs.declared.report.Shown.{Shown}
+use Rattle.drain_union.specs.Cuts.{window_at}
+use Rattle.drain_union.specs.Reports.{ListsSeams}
+use Rattle.drain_union.specs.Windows.{Window, in_union, IsFirstInside, IsJudgedOutlet, IsPlaceIn, RulesHoldInside}
 use Rattle.drain_window.specs.JudgedAreas.{AreListed, cells_in, judged_area}
 use Rattle.drain_window.specs.SeamRows.{ListsSeamsAbove}
 

@@ -11,7 +11,7 @@ use Rattle.drain_rules.specs.Areas.{HasCell, IsOutletCell}
 use Rattle.drain_rules.specs.LabelLaws.{earlier-more, earlier-still}
 use Rattle.drain_rules.specs.Labels.{IsOutletByCode}
 use Rattle.drain_rules.specs.Rows.{place}
-use Rattle.drain_windows.specs.declared.outlet.Outlet.{Outlet}
+use Rattle.drain_union.specs.declared.outlet.Outlet.{Outlet}
 use Rattle.drain_window.specs.JudgedAreas.{AddsOutlet, AreListed, IsBefore, IsOutletAt, Lists, cell_from}
 
 -- no list is compared

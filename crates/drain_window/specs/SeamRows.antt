@@ -8,11 +8,11 @@ use Rattle.drain_grid.specs.Grid.{Grid, Products, values_at}
 use Rattle.drain_grid.specs.Values.{Values}
 use Rattle.drain_rules.specs.PatchRows.{AreRowPatches}
 use Rattle.drain_rules.specs.Rows.{place}
-use Rattle.drain_windows.specs.declared.place.Place.{Place}
-use Rattle.drain_windows.specs.declared.place.TheConstants.{SEAM_DEPTH}
-use Rattle.drain_windows.specs.declared.report.Shown.{Shown}
-use Rattle.drain_windows.specs.Reports.{IsOnSeam}
-use Rattle.drain_windows.specs.Windows.{in_union, moved}
+use Rattle.drain_union.specs.declared.place.Place.{Place}
+use Rattle.drain_union.specs.declared.place.TheConstants.{SEAM_DEPTH}
+use Rattle.drain_union.specs.declared.report.Shown.{Shown}
+use Rattle.drain_union.specs.Reports.{IsOnSeam}
+use Rattle.drain_union.specs.Windows.{in_union, moved}
 
 -- its box ends within the greatest rows and columns of a grid
 pub record EndsInRange (p : Place) : Type 0 where

@@ -12,14 +12,14 @@ use Rattle.drain_grid.specs.declared.verdict.Verdict.TheVariants.{Accepted, Reje
 use Rattle.drain_verdict.specs.Answers.{AreReadable, IsRefusal}
 use Rattle.drain_verdict.specs.Inputs.{Inputs}
 use Rattle.drain_verdict.specs.Meaning.{input_grid, input_products, nodata_numbers, tiling_of}
-use Rattle.drain_windows.specs.declared.place.Place.{Place}
-use Rattle.drain_windows.specs.declared.window_report.WindowReport.{WindowReport}
-use Rattle.drain_windows.specs.declared.place.TheConstants.{SEAM_DEPTH}
-use Rattle.drain_windows.specs.Cuts.{window_at}
-use Rattle.drain_windows.specs.JudgedCounts.{AreCountsInside}
-use Rattle.drain_windows.specs.NoData.{audited}
-use Rattle.drain_windows.specs.Reports.{Report, IsReportOf}
-use Rattle.drain_windows.specs.Windows.{Window, IsFirstInside, IsPlaceIn, RulesHoldInside}
+use Rattle.drain_union.specs.declared.place.Place.{Place}
+use Rattle.drain_union.specs.declared.window_report.WindowReport.{WindowReport}
+use Rattle.drain_union.specs.declared.place.TheConstants.{SEAM_DEPTH}
+use Rattle.drain_union.specs.Cuts.{window_at}
+use Rattle.drain_union.specs.JudgedCounts.{AreCountsInside}
+use Rattle.drain_union.specs.NoData.{audited}
+use Rattle.drain_union.specs.Reports.{Report, IsReportOf}
+use Rattle.drain_union.specs.Windows.{Window, IsFirstInside, IsPlaceIn, RulesHoldInside}
 use Rattle.drain_window.specs.MapOrigins.{map_origin}
 use Rattle.drain_window.specs.declared.window_answer.WindowRefusal.{WindowRefusal}
 use Rattle.drain_window.specs.declared.window_answer.WindowRefusal.TheVariants.{Inputs as OfInputs, OutsideMosaic}

@@ -1,7 +1,7 @@
 -- The line for the answer to a window. Its words are this project's own.
 use Rattle.std.specs.Prelude.{ℕ, List, Result, Ok, Err, codes}
 use Rattle.drain_answer.specs.Lines.{verdict_line, refusal_line as inputs_line}
-use Rattle.drain_windows.specs.declared.window_report.WindowReport.{WindowReport}
+use Rattle.drain_union.specs.declared.window_report.WindowReport.{WindowReport}
 use Rattle.drain_window.specs.declared.window_answer.WindowRefusal.{WindowRefusal}
 use Rattle.drain_window.specs.declared.window_answer.WindowRefusal.TheVariants.{Inputs, OutsideMosaic}
 

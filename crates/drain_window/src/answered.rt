@@ -10,11 +10,11 @@ ghost use Rattle.drain_window.specs.WindowNotes.{AreOfWindow};
 ghost use Rattle.drain_window.specs.SeamRows.{EndsInRange, IsOrigin};
 ghost use Rattle.drain_window.specs.SeamWalks.{IsSeamWalkOf};
 ghost use Rattle.drain_window.specs.WindowWalks.{IsWindowWalkOf};
-ghost use Rattle.drain_windows.specs.Cuts.{window_at};
-ghost use Rattle.drain_windows.specs.Outlets.{IsSortedByLabel};
-ghost use Rattle.drain_windows.specs.Reports.{ListsSinks};
-ghost use Rattle.drain_windows.specs.Verdicts.{Agree};
-ghost use Rattle.drain_windows.specs.Windows.{IsPlaceIn};
+ghost use Rattle.drain_union.specs.Cuts.{window_at};
+ghost use Rattle.drain_union.specs.Outlets.{IsSortedByLabel};
+ghost use Rattle.drain_union.specs.Reports.{ListsSinks};
+ghost use Rattle.drain_union.specs.Verdicts.{Agree};
+ghost use Rattle.drain_union.specs.Windows.{IsPlaceIn};
 
 use crate::judged_area::judged_area;
 use crate::laws::{walk_judges_window, walk_lists_seams};
@@ -24,8 +24,8 @@ use drain_grid::{Cell, Counts, Verdict};
 use drain_rules::row_outcome::RowOutcome;
 use drain_rules::tally::Tally;
 use drain_rules::{Area, Walk};
-use drain_windows::laws::four_numbers;
-use drain_windows::{AuditNoData, Outlet, Place, Report, sort_by_label};
+use drain_union::laws::four_numbers;
+use drain_union::{AuditNoData, Outlet, Place, Report, sort_by_label};
 use std::alloc::Global;
 
 /// The verdict and the report from the notes of all rows of a grid, for the window at this place of it, and the listed

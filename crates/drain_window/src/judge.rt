@@ -6,11 +6,11 @@ ghost use Rattle.drain_mosaic.specs.Tiling.{extent_of};
 ghost use Rattle.drain_verdict.specs.Audits.{ForAudit};
 ghost use Rattle.drain_verdict.specs.Meaning.{nodata_numbers};
 ghost use Rattle.drain_verdict.specs.Stages.{IsLayoutOf};
-ghost use Rattle.drain_windows.specs.declared.place.TheConstants.{SEAM_DEPTH};
-ghost use Rattle.drain_windows.specs.NoData.{audited};
-ghost use Rattle.drain_windows.specs.Reports.{IsReportOf};
-ghost use Rattle.drain_windows.specs.Verdicts.{Agree};
-ghost use Rattle.drain_windows.specs.Windows.{IsFirstInside, IsPlaceIn};
+ghost use Rattle.drain_union.specs.declared.place.TheConstants.{SEAM_DEPTH};
+ghost use Rattle.drain_union.specs.NoData.{audited};
+ghost use Rattle.drain_union.specs.Reports.{IsReportOf};
+ghost use Rattle.drain_union.specs.Verdicts.{Agree};
+ghost use Rattle.drain_union.specs.Windows.{IsFirstInside, IsPlaceIn};
 ghost use Rattle.drain_verdict.specs.Uses.{AuditUses};
 ghost use Rattle.drain_window.specs.WindowAnswers.{as_refused, IfRejected, IsPlacedAnswer, IsWindowAnswer, IsWithTiles, window_of};
 
@@ -33,7 +33,7 @@ use drain_rules::Walk;
 use drain_verdict::AuditProducts;
 use drain_verdict::layout::layout_of;
 use drain_verdict::read_inputs::read_inputs;
-use drain_windows::{Place, Report, WindowReport};
+use drain_union::{Place, Report, WindowReport};
 use std::alloc::Global;
 
 /// Whether the rules hold at the judged cells of one window, with its report; or why that isn't answered.

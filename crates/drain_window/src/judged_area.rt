@@ -5,7 +5,7 @@ ghost use Rattle.drain_window.specs.JudgedAreas.{judged_area};
 ghost use Rattle.drain_window.specs.SeamRows.{EndsInRange};
 
 use drain_rules::Area;
-use drain_windows::Place;
+use drain_union::Place;
 
 /// The cells of the place that are judged: all but the ring of its inner sides.
 pub(crate) fn judged_area(place: &Place) -> Area

@@ -7,12 +7,12 @@ ghost use Rattle.drain_grid.specs.SinkTexts.{sinks_of};
 ghost use Rattle.drain_verdict.specs.Meaning.{lines_in};
 ghost use Rattle.drain_window.specs.JudgedSinks.{AreLinesInside, union_cell};
 ghost use Rattle.drain_window.specs.SeamRows.{EndsInRange, IsOrigin};
-ghost use Rattle.drain_windows.specs.Cuts.{window_at};
-ghost use Rattle.drain_windows.specs.Judged.{IsJudgedAt};
-ghost use Rattle.drain_windows.specs.Reports.{ListsSinks};
+ghost use Rattle.drain_union.specs.Cuts.{window_at};
+ghost use Rattle.drain_union.specs.Judged.{IsJudgedAt};
+ghost use Rattle.drain_union.specs.Reports.{ListsSinks};
 
 use drain_grid::{Cell, OutOfMemory, Sinks, parse_sinks};
-use drain_windows::Place;
+use drain_union::Place;
 use std::alloc::Global;
 
 /// The union's cells of the sinks in this list that the window at this place of a mosaic judges; the mosaic begins at

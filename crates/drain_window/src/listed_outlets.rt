@@ -8,7 +8,7 @@ ghost use Rattle.drain_window.specs.JudgedAreas.{Lists};
 use drain_grid::{Cell, CellValues, OutOfMemory};
 use drain_rules::outlet::is_outlet_by_code;
 use drain_rules::{Area, Labels};
-use drain_windows::Outlet;
+use drain_union::Outlet;
 use std::alloc::Global;
 
 /// The judged area, the union's cell of the grid's first, and the outlets of the area so far, with their cells of the

@@ -9,7 +9,7 @@ ghost use Rattle.drain_rules.specs.PatchRows.{AreRowPatches};
 use drain_grid::{Cell, NoData, OutOfMemory, Rules};
 use drain_rows::{RowBuffer, RowVisitor};
 use drain_rules::{PatchRow, ThreeRows};
-use drain_windows::{Place, SEAM_DEPTH, Shown};
+use drain_union::{Place, SEAM_DEPTH, Shown};
 use std::alloc::Global;
 
 /// The window's place in the grid, the union's cell of the grid's first, the no-data numbers of the rules, how many rows

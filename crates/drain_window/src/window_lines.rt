@@ -4,10 +4,8 @@ ghost use Rattle.std.specs.Prelude.{◌≡◌};
 ghost use Rattle.drain_window.specs.WindowLines.{refusal_line, window_line};
 
 use crate::window_answer::WindowRefusal;
-use drain_answer::answer_report;
-use drain_answer::line::{Line, words};
-use drain_answer::verdict_report::verdict_line;
-use drain_windows::WindowReport;
+use drain_answer::lines::{self, Line, verdict_line, words};
+use drain_union::WindowReport;
 
 /// The line of an answer, without a line end, in ASCII. Rows and columns are those of the window.
 pub fn window_line(answer: &Result<WindowReport, WindowRefusal>) -> Line
@@ -24,7 +22,7 @@ pub fn refusal_line(refusal: &WindowRefusal) -> Line
     ensures { result.bytes ≡ refusal_line refusal.now }
 {
     match refusal {
-        WindowRefusal::Inputs(refusal) => answer_report::refusal_line(*refusal),
+        WindowRefusal::Inputs(refusal) => lines::refusal_line(*refusal),
         WindowRefusal::OutsideMosaic => words("refused BadBox"),
     }
 }

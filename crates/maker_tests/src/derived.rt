@@ -1,7 +1,7 @@
 //! The numbers of derived rasters, and the assertion on them.
 
-use drain_derive::Derived;
 use drain_grid::{Cell, Raster};
+use drain_maker::Derived;
 use std::process::Abort;
 
 /// Means no rank.

@@ -1,9 +1,9 @@
 //! The bytes of a tile and of directions, with zeros for the other products.
 
 use crate::derived::{NONE, numbers, same};
-use drain_derive::{DeriveRefusal, Derived, derive};
 use drain_device::{ByteList, SliceSource};
 use drain_hgt::TileInput;
+use drain_maker::{DeriveRefusal, Derived, derive};
 use drain_verdict::{AuditProducts, RasterInput, Refusal};
 use std::alloc::{AllocError, Global};
 use std::test::Fail;

@@ -1,8 +1,8 @@
 //! Flows in memory.
 
 use crate::derived::{NONE, numbers, same};
-use drain_derive::derive_from_flows;
 use drain_grid::Shape;
+use drain_maker::derive_from_flows;
 use drain_paths::{CertifyRefusal, Flow};
 use std::test::Fail;
 

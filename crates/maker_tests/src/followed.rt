@@ -3,7 +3,7 @@
 use crate::made::{elevation, one_tile};
 use drain_grid::Sinks;
 use drain_maker::follow::{Follow, Part};
-use drain_maker::make_followed;
+use drain_maker::make_freeing;
 use std::alloc::Global;
 use std::process::Abort;
 use std::test::Fail;
@@ -33,7 +33,7 @@ fn begun_with_a_pit(alloc: Global) -> Result<Begun, Fail> {
         first: [None; 5],
         number: 0,
     };
-    make_followed(alloc, &layout, &elevation, &Sinks::none(alloc), &mut begun)?;
+    make_freeing(alloc, &layout, elevation, &Sinks::none(alloc), &mut begun)?;
     Ok(begun)
 }
 

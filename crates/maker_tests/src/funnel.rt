@@ -2,8 +2,7 @@
 
 use crate::agree::same;
 use crate::made::{elevation, judged, one_tile};
-use drain_grid::{Cell, Raster, Sinks};
-use drain_rules::{Counts, Verdict};
+use drain_grid::{Cell, Counts, Raster, Sinks, Verdict};
 use std::alloc::Global;
 use std::test::Fail;
 

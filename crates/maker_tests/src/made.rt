@@ -6,11 +6,11 @@ ghost use Rattle.drain_mosaic.specs.Tiling.{extent_of};
 
 use crate::raster_numbers::Numbers;
 use drain_grid::tile::is_side;
-use drain_grid::{Elevation, ProductSet, SetProduct, Sinks};
+use drain_grid::{Counts, Elevation, ProductSet, SetProduct, Sinks, Verdict};
 use drain_hgt::TileName;
 use drain_maker::{MakeRefusal, make};
 use drain_mosaic::Layout;
-use drain_rules::{Counts, Verdict, verdict_of};
+use drain_rules::verdict_of;
 use std::alloc::Global;
 use std::test::Fail;
 

@@ -3,10 +3,9 @@
 use crate::agree::{same, same_numbers};
 use crate::made::{accepted, con_of_nine, numbers_made, one_tile};
 use crate::raster_numbers::Numbers;
-use drain_grid::{SetProduct, Sinks, VOID};
+use drain_grid::{Counts, SetProduct, Sinks, VOID};
 use drain_hgt::TileName;
 use drain_maker::MakeRefusal;
-use drain_rules::Counts;
 use std::alloc::Global;
 use std::process::Abort;
 use std::test::Fail;

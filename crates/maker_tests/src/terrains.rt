@@ -3,10 +3,9 @@
 use crate::agree::same;
 use crate::made::{accepted, one_tile};
 use crate::terrain_samples::{TERRAINS, Terrain, samples};
-use drain_grid::VOID;
+use drain_grid::{Counts, VOID};
 use drain_hgt::TileName;
 use drain_mosaic::Layout;
-use drain_rules::Counts;
 use std::alloc::Global;
 use std::process::Abort;
 use std::test::Fail;

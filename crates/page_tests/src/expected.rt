@@ -1,9 +1,8 @@
 //! What each rule expected, at a cell of ground 5 with neighbours in the east and the southeast, and others at 9.
 
 use crate::worked::{Form, Numbers, cell, one_fault, page_has, rejected, values, void};
-use drain_grid::{CellValues, Patch, Rule};
+use drain_grid::{CellValues, Judged, Patch, Rule};
 use drain_page::Facts;
-use drain_rules::Ranks;
 use std::alloc::Global;
 use std::test::Fail;
 
@@ -11,7 +10,7 @@ use std::test::Fail;
 struct Row {
     case: &'static str,
     rule: Rule,
-    ranks: Ranks,
+    judged: Judged,
     sink: bool,
     here: Numbers,
     east: Numbers,
@@ -24,7 +23,7 @@ static ROWS: [Row; 14] = [
     Row {
         case: "a code that is none",
         rule: Rule::BadCode,
-        ranks: Ranks::Checked,
+        ranks: Judged::AllWithRanks,
         sink: false,
         here: (5, 3, 1, 7, 9),
         east: (9, 0, 1, 7, 9),
@@ -35,7 +34,7 @@ static ROWS: [Row; 14] = [
     Row {
         case: "below the ground",
         rule: Rule::BelowGround,
-        ranks: Ranks::Ignored,
+        ranks: Judged::All,
         sink: false,
         here: (4, 1, 1, 7, 9),
         east: (9, 0, 1, 7, 9),
@@ -46,7 +45,7 @@ static ROWS: [Row; 14] = [
     Row {
         case: "a listed sink raised",
         rule: Rule::OpenRaised,
-        ranks: Ranks::Checked,
+        ranks: Judged::AllWithRanks,
         sink: true,
         here: (6, 0, 1, 7, 9),
         east: (9, 0, 1, 7, 9),
@@ -57,7 +56,7 @@ static ROWS: [Row; 14] = [
     Row {
         case: "a lower way out",
         rule: Rule::NotLeast,
-        ranks: Ranks::Checked,
+        ranks: Judged::AllWithRanks,
         sink: false,
         here: (9, 0, 1, 7, 9),
         east: (7, 0, 1, 7, 9),
@@ -68,7 +67,7 @@ static ROWS: [Row; 14] = [
     Row {
         case: "a lower way out below the ground",
         rule: Rule::NotLeast,
-        ranks: Ranks::Checked,
+        ranks: Judged::AllWithRanks,
         sink: false,
         here: (9, 0, 1, 7, 9),
         east: (8, 0, 1, 7, 9),
@@ -79,7 +78,7 @@ static ROWS: [Row; 14] = [
     Row {
         case: "steeper across a corner",
         rule: Rule::Slope,
-        ranks: Ranks::Checked,
+        ranks: Judged::AllWithRanks,
         sink: false,
         here: (9, 0, 1, 7, 9),
         east: (7, 0, 1, 7, 9),
@@ -90,7 +89,7 @@ static ROWS: [Row; 14] = [
     Row {
         case: "an outlet that leads on",
         rule: Rule::OutletCode,
-        ranks: Ranks::Checked,
+        ranks: Judged::AllWithRanks,
         sink: true,
         here: (5, 4, 1, 7, 9),
         east: (9, 0, 1, 7, 9),
@@ -101,7 +100,7 @@ static ROWS: [Row; 14] = [
     Row {
         case: "a smaller rank in the east",
         rule: Rule::FlatStep,
-        ranks: Ranks::Checked,
+        ranks: Judged::AllWithRanks,
         sink: false,
         here: (5, 2, 1, 7, 3),
         east: (5, 0, 1, 7, 2),
@@ -112,7 +111,7 @@ static ROWS: [Row; 14] = [
     Row {
         case: "no ranks asked",
         rule: Rule::FlatStep,
-        ranks: Ranks::Ignored,
+        ranks: Judged::All,
         sink: false,
         here: (5, 4, 1, 7, 3),
         east: (5, 0, 1, 7, 9),
@@ -123,7 +122,7 @@ static ROWS: [Row; 14] = [
     Row {
         case: "no step along the flat",
         rule: Rule::FlatStep,
-        ranks: Ranks::Checked,
+        ranks: Judged::AllWithRanks,
         sink: false,
         here: (5, 1, 1, 7, 1),
         east: (5, 0, 1, 7, 2),
@@ -134,7 +133,7 @@ static ROWS: [Row; 14] = [
     Row {
         case: "two cells flow in",
         rule: Rule::Accumulation,
-        ranks: Ranks::Checked,
+        ranks: Judged::AllWithRanks,
         sink: false,
         here: (5, 0, 4, 7, 9),
         east: (9, 16, 10, 7, 9),
@@ -145,7 +144,7 @@ static ROWS: [Row; 14] = [
     Row {
         case: "another label ahead",
         rule: Rule::Label,
-        ranks: Ranks::Checked,
+        ranks: Judged::AllWithRanks,
         sink: false,
         here: (9, 1, 4, 7, 9),
         east: (7, 0, 10, 8, 9),
@@ -156,7 +155,7 @@ static ROWS: [Row; 14] = [
     Row {
         case: "a label again",
         rule: Rule::SharedLabel,
-        ranks: Ranks::Checked,
+        ranks: Judged::AllWithRanks,
         sink: false,
         here: (5, 0, 1, 7, 9),
         east: (9, 0, 1, 7, 9),
@@ -167,7 +166,7 @@ static ROWS: [Row; 14] = [
     Row {
         case: "numbers missing",
         rule: Rule::Missing,
-        ranks: Ranks::Ignored,
+        ranks: Judged::All,
         sink: false,
         here: (5, 255, 0, 7, 4294967295),
         east: (9, 0, 1, 7, 9),
@@ -217,7 +216,7 @@ fn open_beside(alloc: Global, north: Option<CellValues>) -> Result<Facts, Fail> 
     around[6] = north;
     let here = cell(5, false, (6, 0, 1, 7, 9))?;
     let patch = Patch { here, around };
-    let findings = one_fault(alloc, Rule::OpenRaised, Ranks::Checked, patch)?;
+    let findings = one_fault(alloc, Rule::OpenRaised, Judged::AllWithRanks, patch)?;
     Ok(rejected(Rule::OpenRaised, 1, 2, findings))
 }
 
@@ -246,7 +245,7 @@ fn why_cells_are_open(rt: HostRuntime) -> Result<(), Fail> {
 }
 
 /// A void with numbers of its own.
-fn numbered_void(alloc: Global, ranks: Ranks) -> Result<Facts, Fail> {
+fn numbered_void(alloc: Global, judged: Judged) -> Result<Facts, Fail> {
     let patch = Patch {
         here: values(None, false, (4, 255, 0, 0, 3), 255)?,
         around: [None; 8],
@@ -260,15 +259,15 @@ fn numbered_void(alloc: Global, ranks: Ranks) -> Result<Facts, Fail> {
 }
 
 /// Whether ranks are checked, and what is expected of the void.
-static NUMBERED: [(&str, Ranks, &str); 2] = [
+static NUMBERED: [(&str, Judged, &str); 2] = [
     (
         "ranks asked",
-        Ranks::Checked,
+        Judged::AllWithRanks,
         "expected: no data at a void, in con, rnk\n",
     ),
     (
         "ranks unasked",
-        Ranks::Ignored,
+        Judged::All,
         "expected: no data at a void, in con\n",
     ),
 ];

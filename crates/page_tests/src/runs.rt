@@ -2,16 +2,15 @@
 
 use crate::worked::{Form, no_fault, page_has};
 use drain_answer::AuditVerdict;
-use drain_grid::Cell;
+use drain_grid::{Cell, Judged};
 use drain_page::{Answer, Facts};
 use drain_paths::{EndlessPath, LostBy};
-use drain_rules::Ranks;
 use std::alloc::Global;
 use std::test::Fail;
 
 /// The facts of an audit in which the path of row 0, column 3 doesn't end.
 fn no_end(alloc: Global, run: EndlessPath) -> Result<Facts, Fail> {
-    let mut findings = no_fault(alloc, Ranks::Ignored)?;
+    let mut findings = no_fault(alloc, Judged::All)?;
     findings.endless = Some((Cell { row: 0, col: 3 }, run));
     Ok(Facts {
         answer: Answer::Audit(Ok(AuditVerdict::NoEnd { row: 0, col: 3 })),

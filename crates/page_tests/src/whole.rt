@@ -8,9 +8,8 @@ use crate::worked::{
 use drain_answer::{AuditVerdict, Refusal};
 use drain_explain::Findings;
 use drain_faults::FaultyPatch;
-use drain_grid::{Cell, Patch, Rule};
+use drain_grid::{Cell, Counts, Judged, Patch, Rule, Verdict};
 use drain_page::{Answer, Facts, NO_OBJECT, failure_json};
-use drain_rules::{Counts, Ranks, Verdict};
 use std::alloc::Global;
 use std::test::Fail;
 
@@ -34,7 +33,7 @@ fn edge() -> Result<Patch, &'static str> {
 }
 
 fn two_rules(alloc: Global) -> Result<Findings, Fail> {
-    let mut findings = no_fault(alloc, Ranks::Checked)?;
+    let mut findings = no_fault(alloc, Judged::AllWithRanks)?;
     findings.by_rule.missing = cells(2, 0, 1);
     findings.by_rule.slope = cells(1, 2, 0);
     findings.by_product.acc = product(no_cell(), cells(2, 0, 1));
@@ -75,7 +74,7 @@ fn accepted(alloc: Global) -> Result<Facts, Fail> {
     Ok(Facts {
         answer: Answer::Audit(Ok(AuditVerdict::Accepted(counts))),
         refusal: None,
-        findings: Some(no_fault(alloc, Ranks::Ignored)?),
+        findings: Some(no_fault(alloc, Judged::All)?),
     })
 }
 

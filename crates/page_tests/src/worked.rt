@@ -4,11 +4,10 @@
 use crate::agree::has;
 use drain_explain::Findings;
 use drain_faults::{FaultyPatch, PerRule, ProductFaults, RuleFaults};
-use drain_grid::{Cell, CellValues, NoData, Patch, PerProduct, Rule};
+use drain_grid::{Cell, CellValues, Judged, NoData, Patch, PerProduct, Rule, Rules, Verdict};
 use drain_hgt::TileName;
 use drain_mosaic::Layout;
 use drain_page::{Answer, Facts, page_json, page_text};
-use drain_rules::{Ranks, Rules, Verdict};
 use std::alloc::Global;
 use std::process::Abort;
 use std::test::Fail;
@@ -68,7 +67,7 @@ pub fn product(at_voids: RuleFaults, at_data: RuleFaults) -> ProductFaults {
 }
 
 /// Findings with no fault.
-pub fn no_fault(alloc: Global, ranks: Ranks) -> Result<Findings, Fail> {
+pub fn no_fault(alloc: Global, judged: Judged) -> Result<Findings, Fail> {
     Ok(Findings {
         layout: layout(alloc)?,
         rules: Rules {
@@ -91,7 +90,7 @@ pub fn no_fault(alloc: Global, ranks: Ranks) -> Result<Findings, Fail> {
 }
 
 /// Findings with one fault of this rule, at this patch.
-pub fn one_fault(alloc: Global, rule: Rule, ranks: Ranks, patch: Patch) -> Result<Findings, Fail> {
+pub fn one_fault(alloc: Global, rule: Rule, judged: Judged, patch: Patch) -> Result<Findings, Fail> {
     let mut findings = no_fault(alloc, ranks)?;
     set(&mut findings.by_rule, rule, cells(1, 1, 2));
     findings.first = Some(FaultyPatch {

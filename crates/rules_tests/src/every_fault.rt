@@ -7,8 +7,10 @@ use crate::examples::{Part, changed, elevation, products};
 use crate::rows_of_numbers::{COLS, faults_by_rows, level_rows};
 use crate::unasked_ranks::put;
 use drain_faults::{FaultWalk, PerRule, RULES, RuleFaults};
-use drain_grid::{Cell, Elevation, OutOfMemory, ProductSet, Rule, Shape, Sinks};
-use drain_rules::{Ranks, RasterRow, Rules, Verdict, verdict_of};
+use drain_grid::{
+    Cell, Elevation, Judged, OutOfMemory, ProductSet, Rule, Rules, Shape, Sinks, Verdict,
+};
+use drain_rules::{RasterRow, verdict_of};
 use std::alloc::Global;
 use std::process::Abort;
 use std::test::Fail;
@@ -53,17 +55,17 @@ pub fn example(alloc: Global, side: u8, numbers: &[i64]) -> Result<Given, Fail> 
     })
 }
 
-/// The rules of a check, or those without ranks.
-fn rules_of(example: &Given, ranks: Ranks) -> Rules {
+/// The rules about judged rasters.
+fn rules_of(example: &Given, judged: Judged) -> Rules {
     Rules {
         nodata: example.products.nodata(),
-        ranks,
+        judged,
     }
 }
 
-/// The walk over all rows; ranks are checked or not, and a map is drawn.
-pub fn walk_over(alloc: Global, example: &Given, ranks: Ranks) -> Result<FaultWalk, OutOfMemory> {
-    let rules = rules_of(example, ranks);
+/// The walk over all rows by the rules about judged rasters. A map is drawn.
+pub fn walk_over(alloc: Global, example: &Given, judged: Judged) -> Result<FaultWalk, OutOfMemory> {
+    let rules = rules_of(example, judged);
     let shape = example.elevation.shape();
     let mut walk = FaultWalk::drawing(alloc, shape)?;
     for row in 0..shape.rows() {
@@ -142,7 +144,7 @@ fn expect_on(
     (expected, first, pixels): FaultTally,
 ) -> Result<(), Fail> {
     let verdict = rules_verdict(alloc, example)?;
-    let walk = walk_over(alloc, example, Ranks::Checked)?;
+    let walk = walk_over(alloc, example, Judged::AllWithRanks)?;
     expect_found(rt, &walk, expected, first);
     same_pixels(rt, pixels_of(&walk), pixels);
     same_verdict(rt, &walk, example, verdict);

@@ -5,9 +5,10 @@ ghost use Rattle.drain_grid.specs.Values.{IsNoData, IsPixel};
 
 use drain_grid::values::{GREATEST_PIXEL, LEAST_PIXEL};
 use drain_grid::{
-    Elevation, PerProduct, Product, ProductSet, Raster, Rule, SetProduct, Shape, Sinks, parse_sinks,
+    Counts, Elevation, PerProduct, Product, ProductSet, Raster, Rule, SetProduct, Shape, Sinks,
+    Verdict, parse_sinks,
 };
-use drain_rules::{Counts, Verdict, verdict_of};
+use drain_rules::verdict_of;
 use std::alloc::Global;
 use std::fmt::Debug;
 use std::process::Abort;

@@ -121,7 +121,7 @@ pub static GREAT: [[(Part, u8, i64); 4]; 7] = [
         (Part::Acc, 1, 4294967295),
         (Part::Acc, 0, 4294967295),
     ],
-    // Ranks, of the cell and of the one that it leads to; the greatest number is no rank.
+    // Judged, of the cell and of the one that it leads to; the greatest number is no rank.
     [
         (Part::Rnk, 0, 65534),
         (Part::Rnk, 1, 65535),

@@ -4,8 +4,7 @@
 use crate::examples::{Part, accepted, same};
 use crate::rows_of_numbers::{level_rows, verdict_by_rows};
 use crate::unasked_ranks::put;
-use drain_grid::Rule;
-use drain_rules::{Ranks, Verdict};
+use drain_grid::{Judged, Rule, Verdict};
 use std::alloc::Global;
 use std::test::Fail;
 
@@ -29,18 +28,18 @@ fn verdict_at(
     part: Part,
     col: u16,
     number: i64,
-    ranks: Ranks,
+    judged: Judged,
 ) -> Result<Verdict, Fail> {
     let mut numbers = level_rows(alloc)?;
     put(&mut numbers, (part, (1, col), number))?;
-    verdict_by_rows(alloc, b"", &numbers, ranks)
+    verdict_by_rows(alloc, b"", &numbers, judged)
 }
 
 /// A label that is no other cell's.
 #[test]
 fn a_label_at_the_ends_of_strides(rt: HostRuntime) -> Result<(), Fail> {
     for &col in &COLUMNS {
-        let given = verdict_at(rt.alloc(), Part::Bas, col, 5000, Ranks::Checked)?;
+        let given = verdict_at(rt.alloc(), Part::Bas, col, 5000, Judged::AllWithRanks)?;
         same(&rt, "a label", given, rejected(Rule::Label, 1, col));
     }
     Ok(())
@@ -50,7 +49,7 @@ fn a_label_at_the_ends_of_strides(rt: HostRuntime) -> Result<(), Fail> {
 #[test]
 fn a_code_at_the_ends_of_strides(rt: HostRuntime) -> Result<(), Fail> {
     for &col in &COLUMNS {
-        let given = verdict_at(rt.alloc(), Part::Dir, col, 0, Ranks::Ignored)?;
+        let given = verdict_at(rt.alloc(), Part::Dir, col, 0, Judged::All)?;
         same(&rt, "a code", given, rejected(Rule::Accumulation, 0, col));
     }
     Ok(())
@@ -63,7 +62,7 @@ static UNFIT: [(&str, i64); 2] = [("less than 0", -1), ("the least pixel", -2147
 #[test]
 fn ranks_that_fit_no_lane(rt: HostRuntime) -> Result<(), Fail> {
     for &(name, rank) in &UNFIT {
-        let given = verdict_at(rt.alloc(), Part::Rnk, 300, rank, Ranks::Ignored)?;
+        let given = verdict_at(rt.alloc(), Part::Rnk, 300, rank, Judged::All)?;
         same(&rt, name, given, accepted(3, 600, 1800, 0, 1202));
     }
     Ok(())

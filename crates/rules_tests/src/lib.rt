@@ -6,7 +6,7 @@ mod every_fault;
 #[cfg(test)]
 mod examples;
 #[cfg(test)]
-mod given_faults;
+mod judged_faults;
 #[cfg(test)]
 mod kept_runs;
 #[cfg(test)]

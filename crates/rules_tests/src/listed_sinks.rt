@@ -2,8 +2,7 @@
 
 use crate::examples::{accepted, rejected, same, verdict_listing};
 use crate::rows_of_numbers::{COLS, verdict_by_rows};
-use drain_grid::Rule;
-use drain_rules::{Ranks, Verdict};
+use drain_grid::{Judged, Rule, Verdict};
 use std::alloc::Global;
 use std::process::Abort;
 use std::test::Fail;
@@ -153,7 +152,7 @@ fn long_verdicts(alloc: Global, left_out: u16, more: &str) -> Result<[Verdict; 2
     }
     Ok([
         verdict_listing(alloc, &text, 3, COLS.into(), &numbers)?,
-        verdict_by_rows(alloc, &text, &numbers, Ranks::Checked)?,
+        verdict_by_rows(alloc, &text, &numbers, Judged::AllWithRanks)?,
     ])
 }
 

@@ -8,10 +8,10 @@ ghost use Rattle.drain_grid.specs.Values.{IsPixel};
 ghost use Rattle.drain_rules.specs.RowNumbers.{AreRowNumbers};
 
 use crate::examples::{Part, is_pixel, numbers_at};
-use drain_grid::PerProduct;
+use drain_grid::{Judged, PerProduct};
 use drain_kernel::Lanes;
 use drain_pixels::{PixelKind, PixelRow};
-use drain_rules::{Ranks, RowView};
+use drain_rules::RowView;
 use std::alloc::Global;
 use std::test::Fail;
 
@@ -135,7 +135,7 @@ impl<'a> PartRow<'a> {
     pub fn view(
         &'a self,
         marks: &'a [bool],
-        ranks: Ranks,
+        judged: Judged,
         lanes: Option<&'a mut Lanes>,
     ) -> RowView<'a> {
         let z = self.z;
@@ -147,7 +147,7 @@ impl<'a> PartRow<'a> {
             rnk: &self.products.rnk,
         };
         match lanes {
-            Some(lanes) => laned_view(z, marks, products, ranks, lanes),
+            Some(lanes) => laned_view(z, marks, products, judged, lanes),
             None => RowView::new(z, marks, products, None),
         }
     }
@@ -185,12 +185,12 @@ fn laned_view<'a>(
     z: &'a [i64],
     marks: &'a [bool],
     products: PerProduct<&'a PixelRow>,
-    ranks: Ranks,
+    judged: Judged,
     lanes: &'a mut Lanes,
 ) -> RowView<'a>
     requires { AreRowNumbers (record { z = z.now; products = per_product (λ p. (of_product products p).now) }) }
 {
-    if lanes.take(z, &products, ranks) {
+    if lanes.take(z, &products, judged) {
         RowView::new(z, marks, products, Some(lanes))
     } else {
         RowView::new(z, marks, products, None)

@@ -6,8 +6,7 @@ use crate::examples::{Part, changed, equal};
 use crate::rows_of_numbers::{faults_by_rows, level_rows};
 use crate::unasked_ranks::put;
 use drain_faults::{FaultWalk, ProductFaults, RuleFaults};
-use drain_grid::{Cell, SetProduct};
-use drain_rules::Ranks;
+use drain_grid::{Cell, Judged, SetProduct};
 use std::alloc::Global;
 use std::process::Abort;
 use std::test::Fail;
@@ -47,14 +46,14 @@ fn at_data(cells: RuleFaults) -> ProductFaults {
 }
 
 /// The walk over an example of this side.
-fn walk(alloc: Global, side: u8, numbers: &[i64], ranks: Ranks) -> Result<FaultWalk, Fail> {
+fn walk(alloc: Global, side: u8, numbers: &[i64], judged: Judged) -> Result<FaultWalk, Fail> {
     let given = example(alloc, side, numbers)?;
-    walk_along(alloc, &given, ranks)
+    walk_along(alloc, &given, judged)
 }
 
 /// The walk over the parts of an example.
-fn walk_along(alloc: Global, given: &Given, ranks: Ranks) -> Result<FaultWalk, Fail> {
-    Ok(walk_over(alloc, given, ranks)?)
+fn walk_along(alloc: Global, given: &Given, judged: Judged) -> Result<FaultWalk, Fail> {
+    Ok(walk_over(alloc, given, judged)?)
 }
 
 /// Checks that the walk returns these faults of a product.
@@ -84,9 +83,9 @@ fn expect_faults(
     product: SetProduct,
     expected: ProductFaults,
 ) -> Result<(), Fail> {
-    let asked = walk(alloc, side, numbers, Ranks::Checked)?;
+    let asked = walk(alloc, side, numbers, Judged::AllWithRanks)?;
     expect_alone(rt, &asked, product, expected);
-    let unasked = walk(alloc, side, numbers, Ranks::Ignored)?;
+    let unasked = walk(alloc, side, numbers, Judged::All)?;
     let none = ProductFaults::none();
     let is_rank = product == SetProduct::Rnk;
     expect_alone(rt, &unasked, product, if is_rank { none } else { expected });
@@ -133,8 +132,8 @@ fn products_at_a_void_and_at_a_data_cell(rt: HostRuntime) -> Result<(), Fail> {
         at_data: cells(1, 3, 3),
     };
     let none = ProductFaults::none();
-    for (ranks, rank) in [(Ranks::Checked, numbered), (Ranks::Ignored, none)] {
-        let walk = walk(rt.alloc(), 4, &numbers, ranks)?;
+    for (judged, rank) in [(Judged::AllWithRanks, numbered), (Judged::All, none)] {
+        let walk = walk(rt.alloc(), 4, &numbers, judged)?;
         expect(&rt, &walk, SetProduct::Con, numbered);
         expect(&rt, &walk, SetProduct::Dir, numbered);
         expect(&rt, &walk, SetProduct::Acc, both);

@@ -1,8 +1,7 @@
 //! Worked products and their verdicts, all worked out by hand from the rules.
 
 use crate::examples::{Part, accepted, changed, rejected, same, verdict_on, verdict_with};
-use drain_grid::Rule;
-use drain_rules::Verdict;
+use drain_grid::{Rule, Verdict};
 use std::alloc::Global;
 use std::test::Fail;
 use worked::grids::{level, needless_crest, parted, pit, ring, slope, voids};

@@ -6,9 +6,8 @@ use crate::kept_runs::{BESIDE, GREAT, level, put_row, put_void};
 use crate::part_rows::{AS_NUMBERS, Kinds};
 use crate::rows_of_numbers::{kept_of_kinds, level_rows, verdict_of_kinds};
 use crate::unasked_ranks::{Change, put};
-use drain_grid::Rule;
+use drain_grid::{Judged, Rule};
 use drain_pixels::PixelKind::{Any, I16, I32, U8, U16, U32};
-use drain_rules::Ranks;
 use std::alloc::{AllocError, Global};
 use std::process::Abort;
 use std::test::Fail;
@@ -216,12 +215,12 @@ static HOLDING: [Kinds; 6] = [AS_NUMBERS, USUAL, [I16; 5], [U16; 5], [I32; 5], [
 fn verdicts_on_rows_of_each_kind(rt: HostRuntime) -> Result<(), Fail> {
     for kinds in &HOLDING {
         let mut numbers = level_rows(rt.alloc())?;
-        let right = verdict_of_kinds(rt.alloc(), b"", &numbers, *kinds, Ranks::Checked)?;
+        let right = verdict_of_kinds(rt.alloc(), b"", &numbers, *kinds, Judged::AllWithRanks)?;
         same(&rt, "right", right, accepted(3, 600, 1800, 0, 1202));
         for &(rule, change, row) in &CHANGES {
             numbers = level_rows(rt.alloc())?;
             put(&mut numbers, change)?;
-            let wrong = verdict_of_kinds(rt.alloc(), b"", &numbers, *kinds, Ranks::Checked)?;
+            let wrong = verdict_of_kinds(rt.alloc(), b"", &numbers, *kinds, Judged::AllWithRanks)?;
             same(&rt, rule.name(), wrong, rejected(rule, row, 200));
         }
     }

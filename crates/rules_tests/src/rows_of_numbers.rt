@@ -4,9 +4,9 @@ ghost use Rattle.std.specs.Prelude.{◌≡◌, ◌<◌, ◌+◌, OnOk};
 
 use crate::part_rows::{AS_NUMBERS, Kinds, PartRow, PartRows};
 use drain_faults::FaultWalk;
-use drain_grid::{NoData, Shape, Sinks, parse_sinks};
+use drain_grid::{Judged, NoData, Rules, Shape, Sinks, Verdict, parse_sinks};
 use drain_kernel::Lanes;
-use drain_rules::{GridWalk, Kept, PatchRow, Ranks, RowView, Rules, ThreeRows, Verdict};
+use drain_rules::{Kept, PatchRow, RowView, ThreeRows, Walk};
 use std::alloc::{AllocError, Global};
 use std::test::Fail;
 use worked::shafts::Shafts;
@@ -45,7 +45,7 @@ struct Given<'a> {
     numbers: &'a [i64],
     marks: &'a Marks,
     kinds: Kinds,
-    ranks: Ranks,
+    judged: Judged,
     is_laned: bool,
 }
 
@@ -127,7 +127,7 @@ fn row_view<'a>(
     } else {
         None
     };
-    numbers.view(given.marks(row), given.ranks, lanes)
+    numbers.view(given.marks(row), given.judged, lanes)
 }
 
 /// A row with those above and below it.
@@ -146,23 +146,23 @@ fn three_rows<'a>(
 }
 
 /// The rules of a check with the default no-data numbers.
-fn rules_with(ranks: Ranks) -> Rules {
+fn rules_about(judged: Judged) -> Rules {
     let nodata = NoData::defaults();
-    Rules { nodata, ranks }
+    Rules { nodata, judged }
 }
 
 /// Checks the next row.
-fn check_row(walk: &mut GridWalk, given: Given<'_>, row: u8, room: &mut Room) -> Result<(), Fail>
+fn check_row(walk: &mut Walk, given: Given<'_>, row: u8, room: &mut Room) -> Result<(), Fail>
     requires { walk.old.rows < 3 }
     ensures { OnOk result (walk.new.rows ≡ walk.old.rows + 1) }
 {
     let numbers = numbers_round(given, row)?;
     let rows = three_rows(given, &numbers, row, room);
-    Ok(walk.check_row(&rows, &rules_with(given.ranks))?)
+    Ok(walk.check_row(&rows, &rules_about(given.judged))?)
 }
 
 /// Checks all three rows.
-fn check_rows(walk: &mut GridWalk, given: Given<'_>, room: &mut Room) -> Result<(), Fail>
+fn check_rows(walk: &mut Walk, given: Given<'_>, room: &mut Room) -> Result<(), Fail>
     requires { walk.old.rows ≡ 0 }
 {
     check_row(walk, given, 0, room)?;
@@ -174,7 +174,7 @@ fn check_rows(walk: &mut GridWalk, given: Given<'_>, room: &mut Room) -> Result<
 fn verdict_of(alloc: Global, given: Given<'_>) -> Result<Verdict, Fail> {
     let shape = Shape::new(3, COLS.into()).ok_or("a shape")?;
     let mut room = Room::new(alloc);
-    let mut walk = GridWalk::new(alloc);
+    let mut walk = Walk::new(alloc);
     check_rows(&mut walk, given, &mut room)?;
     Ok(walk.verdict(shape))
 }
@@ -186,7 +186,7 @@ fn note_row(walk: &mut FaultWalk, given: Given<'_>, row: u8, room: &mut Room) ->
 {
     let numbers = numbers_round(given, row)?;
     let rows = three_rows(given, &numbers, row, room);
-    Ok(walk.note_row(&rows, &rules_with(given.ranks))?)
+    Ok(walk.note_row(&rows, &rules_about(given.judged))?)
 }
 
 /// Looks for faults in all three rows.
@@ -206,7 +206,7 @@ pub fn faults_by_rows(alloc: Global, numbers: &[i64], is_laned: bool) -> Result<
         numbers,
         marks: &marks,
         kinds: AS_NUMBERS,
-        ranks: Ranks::Checked,
+        judged: Judged::AllWithRanks,
         is_laned,
     };
     let mut walk = FaultWalk::new(alloc);
@@ -239,7 +239,7 @@ pub fn kept_of_kinds(
         numbers,
         marks: &marks,
         kinds,
-        ranks: Ranks::Checked,
+        judged: Judged::AllWithRanks,
         is_laned: true,
     };
     let numbers = numbers_round(given, row)?;
@@ -255,7 +255,7 @@ fn kept_in_row(rows: &ThreeRows<'_>, from: u32) -> Option<Kept> {
     if from > rows.cols() {
         return None;
     }
-    Some(rows.kept_from(&rules_with(Ranks::Checked), from))
+    Some(rows.kept_from(&rules_about(Judged::AllWithRanks), from))
 }
 
 /// Whether lanes find that a cell is an outlet that keeps the rules.
@@ -270,13 +270,13 @@ pub fn is_outlet_by_lanes(
         numbers,
         marks: &marks,
         kinds: AS_NUMBERS,
-        ranks: Ranks::Checked,
+        judged: Judged::AllWithRanks,
         is_laned: true,
     };
     let numbers = numbers_round(given, row)?;
     let mut room = Room::new(alloc);
     let rows = three_rows(given, &numbers, row, &mut room);
-    Ok(col < rows.cols() && rows.is_right_outlet(&rules_with(Ranks::Checked), col))
+    Ok(col < rows.cols() && rows.is_right_outlet(&rules_about(Judged::AllWithRanks), col))
 }
 
 /// The verdict on the numbers of the six parts, with the sinks of a text, the same with lanes and without; with ranks
@@ -285,9 +285,9 @@ pub fn verdict_by_rows(
     alloc: Global,
     text: &[u8],
     numbers: &[i64],
-    ranks: Ranks,
+    judged: Judged,
 ) -> Result<Verdict, Fail> {
-    verdict_of_kinds(alloc, text, numbers, AS_NUMBERS, ranks)
+    verdict_of_kinds(alloc, text, numbers, AS_NUMBERS, judged)
 }
 
 /// The same where the products are kept as these kinds.
@@ -296,7 +296,7 @@ pub fn verdict_of_kinds(
     text: &[u8],
     numbers: &[i64],
     kinds: Kinds,
-    ranks: Ranks,
+    judged: Judged,
 ) -> Result<Verdict, Fail> {
     let sinks = parse_sinks(alloc, text)?;
     let marks = marks_of(&sinks);
@@ -305,7 +305,7 @@ pub fn verdict_of_kinds(
         numbers,
         marks: &marks,
         kinds,
-        ranks,
+        judged,
         is_laned: true,
     };
     let plain = Given {

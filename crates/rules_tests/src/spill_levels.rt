@@ -2,7 +2,8 @@
 //! closed cell on its own.
 
 use crate::examples::equal;
-use drain_rules::{FillVerdict, check_fill};
+use drain_grid::FillVerdict;
+use drain_rules::check_fill;
 use std::test::Fail;
 
 /// The neighbours of the middle cell of a tile of side 3: the code that names each, and its place.

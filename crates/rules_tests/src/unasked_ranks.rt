@@ -3,8 +3,7 @@
 
 use crate::examples::{Part, accepted, rejected, same};
 use crate::rows_of_numbers::{COLS, level_rows, verdict_by_rows};
-use drain_grid::Rule;
-use drain_rules::{Ranks, Verdict};
+use drain_grid::{Judged, Rule, Verdict};
 use std::alloc::{AllocError, Global};
 use std::test::Fail;
 
@@ -38,28 +37,28 @@ fn verdict_changed(alloc: Global, one: Change, other: Change) -> Result<Verdict,
     let mut numbers = long_rows(alloc, UNRANKED)?;
     put(&mut numbers, one)?;
     put(&mut numbers, other)?;
-    verdict_by_rows(alloc, b"", &numbers, Ranks::Ignored)
+    verdict_by_rows(alloc, b"", &numbers, Judged::All)
 }
 
 /// The number for no rank.
 const UNRANKED: i64 = 4294967295;
 
-/// The rank of each cell, whether ranks are checked, and the rule that fails with the row and the column, if any.
-static RANKS: [(&str, i64, Ranks, Option<(Rule, u8, u8)>); 4] = [
+/// The rank of each cell, which rasters are judged, and the rule that fails with the row and the column, if any.
+static RANKS: [(&str, i64, Judged, Option<(Rule, u8, u8)>); 4] = [
     (
         "equal ranks, asked for",
         0,
-        Ranks::Checked,
+        Judged::AllWithRanks,
         Some((Rule::FlatStep, 1, 1)),
     ),
-    ("equal ranks", 0, Ranks::Ignored, None),
+    ("equal ranks", 0, Judged::All, None),
     (
         "no ranks, asked for",
         UNRANKED,
-        Ranks::Checked,
+        Judged::AllWithRanks,
         Some((Rule::Missing, 0, 0)),
     ),
-    ("no ranks", UNRANKED, Ranks::Ignored, None),
+    ("no ranks", UNRANKED, Judged::All, None),
 ];
 
 /// The verdict on the rows where this is the fault.
@@ -72,9 +71,9 @@ fn verdict_of(fault: Option<(Rule, u8, u8)>) -> Verdict {
 
 #[test]
 fn ranks_that_keep_no_rule(rt: HostRuntime) -> Result<(), Fail> {
-    for &(name, rank, ranks, fault) in &RANKS {
+    for &(name, rank, judged, fault) in &RANKS {
         let numbers = long_rows(rt.alloc(), rank)?;
-        let given = verdict_by_rows(rt.alloc(), b"", &numbers, ranks)?;
+        let given = verdict_by_rows(rt.alloc(), b"", &numbers, judged)?;
         same(&rt, name, given, verdict_of(fault));
     }
     Ok(())

@@ -1,6 +1,6 @@
 //! The assertions of these tests, in functions: a call of one is cheaper to prove than an assertion in place.
 
-use drain_answer::line::Line;
+use drain_answer::lines::Line;
 use drain_merge::UnionBox;
 use std::fmt::Debug;
 use std::process::Abort;

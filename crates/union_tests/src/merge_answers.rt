@@ -2,7 +2,7 @@
 
 use crate::agree::same_box;
 use crate::merged_windows::{SIZE, Window, reports};
-use drain_answer::line::Line;
+use drain_answer::lines::Line;
 use drain_grid::{Cell, parse_sinks};
 use drain_merge::{
     MapVerdict, MergeRefusal, MergeVerdict, UnionBox, UnionSinks, UnionSize, merge, merge_line,

@@ -1,9 +1,8 @@
 //! The windows of a union of 4 rows and 4 columns: boxes of 3 rows and 3 columns that overlap by two, and narrow ones.
 
-use drain_grid::{Cell, CellValues, NoData, Rule, Shape};
+use drain_grid::{Cell, CellValues, Counts, NoData, Rule, Shape, Verdict};
 use drain_merge::UnionSize;
-use drain_rules::{Counts, Verdict};
-use drain_windows::{
+use drain_union::{
     AuditNoData, InnerSides, Outlet, Place, Report, SEAM_DEPTH, Shown, WindowReport,
 };
 use std::alloc::{AllocError, Global};

@@ -1,9 +1,8 @@
 //! Texts that are read and written again.
 
 use crate::report_texts::text;
-use drain_grid::{Cell, Rule};
+use drain_grid::{Cell, Rule, Verdict};
 use drain_report::{read_report, write_report};
-use drain_rules::Verdict;
 use std::test::Fail;
 
 #[test]

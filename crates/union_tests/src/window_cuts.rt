@@ -4,8 +4,8 @@ use crate::agree::same;
 use crate::window_inputs::{Inputs, Slope, right_slope};
 use crate::window_places::{Window, answer};
 use drain_answer::AuditVerdict;
+use drain_union::{Outlet, first_shared, sort_by_label};
 use drain_verdict::audit;
-use drain_windows::{Outlet, first_shared, sort_by_label};
 use std::alloc::Global;
 use std::test::Fail;
 

@@ -2,8 +2,8 @@
 
 use crate::window_inputs::Inputs;
 use drain_grid::Shape;
+use drain_union::{InnerSides, Place, WindowReport};
 use drain_window::{WindowRefusal, judge_window};
-use drain_windows::{InnerSides, Place, WindowReport};
 use std::alloc::Global;
 use std::test::Fail;
 

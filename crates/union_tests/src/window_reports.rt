@@ -4,7 +4,7 @@ use crate::agree::same;
 use crate::window_inputs::{Inputs, LEVEL_TILES, WITH_NODATA, right_slope};
 use crate::window_places::{Window, answer, place};
 use drain_grid::Cell;
-use drain_windows::{AuditNoData, Outlet, WindowReport};
+use drain_union::{AuditNoData, Outlet, WindowReport};
 use std::process::Abort;
 use std::test::Fail;
 

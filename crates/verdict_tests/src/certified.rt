@@ -1,4 +1,4 @@
-//! Ranks for the directions of worked products in memory. They were worked out by hand.
+//! Judged for the directions of worked products in memory. They were worked out by hand.
 
 ghost use Rattle.std.specs.Prelude.{◌≡◌, IfOk};
 

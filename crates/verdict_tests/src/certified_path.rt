@@ -1,4 +1,4 @@
-//! Ranks of directions that lead to and fro, row after row, through each of a million cells of level ground.
+//! Judged of directions that lead to and fro, row after row, through each of a million cells of level ground.
 
 use crate::agree::same;
 use drain_grid::{Cell, Elevation, Raster, Shape};

@@ -3,7 +3,7 @@
 use crate::agree::same_line;
 use crate::example::{Example, one_tile};
 use crate::runs::told_of_header;
-use drain_answer::line::Line;
+use drain_answer::lines::Line;
 use std::alloc::{AllocError, Global};
 use std::process::Abort;
 use std::test::Fail;

@@ -2,7 +2,7 @@
 
 use crate::example::Example;
 use crate::inputs::{AtOnce, ConHeaded, Faulty, Reading, products, tiles};
-use drain_answer::line::Line;
+use drain_answer::lines::Line;
 use drain_device::ByteSource;
 use drain_hgt::TileInput;
 use drain_verdict::{AuditProducts, Products, audit, audit_report, check, report};
@@ -11,7 +11,7 @@ use std::test::Fail;
 
 /// What is run on an example.
 #[derive(Clone, Copy)]
-pub enum Checked {
+pub enum AllWithRanks {
     Check,
     /// The ranks aren't passed.
     Audit,

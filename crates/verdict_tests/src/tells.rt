@@ -3,7 +3,7 @@
 use crate::agree::same_line;
 use crate::example::{Example, changed, one_tile};
 use crate::runs::{Checked, told, told_at_once};
-use drain_answer::line::Line;
+use drain_answer::lines::Line;
 use drain_verdict::{Refusal, report};
 use std::alloc::Global;
 use std::process::Abort;

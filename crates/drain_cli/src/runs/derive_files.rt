@@ -1,14 +1,12 @@
 //! Deriving rasters of the directions in a folder, and writing them into another.
 
 ghost use Rattle.std.specs.Prelude.{◌≡◌, IfOk, length};
-ghost use Rattle.drain_derive.specs.DerivedFiles.{CanBeDerived};
-ghost use Rattle.drain_derive.specs.declared.derived_files.TheConstants.{DERIVED_COUNT};
+ghost use Rattle.drain_maker.specs.ProductFiles.{CanBeDerived};
+ghost use Rattle.drain_maker.specs.declared.product_files.TheConstants.{DERIVED_COUNT};
 
 use crate::runs::derive_set::derive_set;
 use crate::runs::write_set::write_derived_and_place;
 use drain_args::requests::{DeriveArgs, ProductArgs};
-use drain_derive::Derived;
-use drain_derive::derived_files::DERIVED_FILES;
 use drain_device::ByteSink;
 use drain_files::file_id::FileId;
 use drain_files::open_failure::print_open_fault;
@@ -16,6 +14,8 @@ use drain_files::open_files::Opener;
 use drain_files::open_judged::{OpenFiles, open_directions};
 use drain_files::output_paths::{inputs_or_print, output_paths};
 use drain_files::outputs::{Failure, Outputs};
+use drain_maker::Derived;
+use drain_maker::product_files::DERIVED_FILES;
 use drain_mosaic::Layout;
 
 /// Derives rasters of the directions in a folder, writes them into another, and returns the exit status. The files are

@@ -2,22 +2,21 @@
 
 ghost use Rattle.std.specs.Prelude.{◌≡◌, IfOk, Result};
 ghost use Rattle.drain_answer.specs.AuditLines.{no_end_line};
-ghost use Rattle.drain_cli.specs.DerivedSets.{IsDerivation, IsHandedOver, none_line, none_status, told_of_dir};
-ghost use Rattle.drain_derive.specs.DerivedFiles.{CanBeDerived};
-ghost use Rattle.drain_derive.specs.declared.derived.Derived.{Derived};
-ghost use Rattle.drain_derive.specs.declared.reading.DeriveRefusal.{DeriveRefusal};
+ghost use Rattle.drain_cli.specs.DerivedSets.{IsDerivation, IsSetHandedOver, none_line, none_status, told_of_dir};
+ghost use Rattle.drain_maker.specs.ProductFiles.{CanBeDerived};
+ghost use Rattle.drain_maker.specs.declared.derived.Derived.{Derived};
+ghost use Rattle.drain_maker.specs.declared.derivation.DeriveRefusal.{DeriveRefusal};
 ghost use Rattle.drain_mosaic.specs.Tiling.{Tiling};
 
-use drain_answer::answer_report::refusal_line;
 use drain_answer::audit_report;
-use drain_answer::line::Line;
-use drain_derive::{DeriveRefusal, Derived, derive};
+use drain_answer::lines::{Line, refusal_line};
+use drain_answer::print::print_line;
+use drain_answer::status::Status;
 use drain_device::{ByteSink, ByteSource};
 use drain_grid::Product;
 use drain_hgt::TileInput;
+use drain_maker::{DeriveRefusal, Derived, derive};
 use drain_mosaic::Layout;
-use drain_print::print::print_line;
-use drain_print::status::Status;
 use drain_verdict::{AuditProducts, AuditVerdict, Refusal};
 use std::alloc::Global;
 
@@ -36,7 +35,7 @@ pub fn derive_set<R: ByteSource, W: ByteSink>(
 ) -> Result<(Layout, Derived), u8>
     ensures run { (outcome : Result (Tiling × Derived) DeriveRefusal)
         × IsDerivation R.ByteSource side tiles.old tiles.new sinks.now products.old products.new outcome
-        × IsHandedOver W.ByteSink out.old out.new outcome result }
+        × IsSetHandedOver W.ByteSink out.old out.new outcome result }
     ensures written { IfOk result (λ set. CanBeDerived set.0 set.1) }
 {
     match derive(alloc, side, tiles, sinks, products) {

@@ -6,6 +6,7 @@ use crate::runs::explain_page::{ExplainOutput, MapFault};
 use crate::runs::no_page::print_no_page;
 use crate::runs::run_explain::run_explain;
 use crate::runs::second_look;
+use drain_answer::status::Status;
 use drain_args::form::Form;
 use drain_args::requests::{ExplainArgs, Listed};
 use drain_device::{ByteSink, write_nothing};
@@ -22,13 +23,12 @@ use drain_files::reason::print_reason;
 use drain_grid::Product;
 use drain_maker::product_files::SetFault;
 use drain_mosaic::Layout;
-use drain_print::status::Status;
 use drain_progress::progress::Progress;
 use std::alloc::Global;
 
 /// Explains the products of a folder, and returns the exit status.
 ///
-/// If a map is required and standard output is closed nothing is opened: the map would take its place. Ranks are
+/// If a map is required and standard output is closed nothing is opened: the map would take its place. Judged are
 /// checked if a file of theirs is there.
 pub fn explain_files(rt: &HostRuntime, args: &ExplainArgs<'_>, out: &mut impl ByteSink) -> u8 {
     if args.map.is_some() && write_nothing(out).is_err() {

@@ -6,12 +6,12 @@ ghost use Rattle.drain_cli.specs.declared.runs.explain_page.MapFault.{MapFault};
 
 use crate::answer::answer_status;
 use crate::runs::no_page::{NoPage, print_no_page};
+use drain_answer::print::print_text;
 use drain_args::form::Form;
 use drain_device::ByteSink;
 use drain_explain::Findings;
 use drain_mosaic::Layout;
 use drain_page::{Facts, page_json, page_text};
-use drain_print::print::print_text;
 use std::alloc::Global;
 
 /// Why a map wasn't saved.

@@ -12,8 +12,8 @@ ghost use Rattle.drain_page.specs.declared.facts.Answer.TheVariants.{Audit, Chec
 ghost use Rattle.drain_part_audit.specs.PartAudits.{ArePartsRight};
 ghost use Rattle.drain_part_audit.specs.PartLines.{part_report_line};
 ghost use Rattle.drain_part_audit.specs.declared.part_verdict.PartVerdict.{PartVerdict};
-ghost use Rattle.drain_print.specs.Printing.{Prints};
-ghost use Rattle.drain_rules.specs.declared.verdict.Verdict.{Verdict};
+ghost use Rattle.drain_answer.specs.Printing.{Prints};
+ghost use Rattle.drain_grid.specs.declared.verdict.Verdict.{Verdict};
 ghost use Rattle.drain_verdict.specs.Audits.{AreCorrect, ForAudit};
 ghost use Rattle.drain_verdict.specs.Headline.{ForCheck, IsRight};
 

@@ -5,7 +5,7 @@ ghost use Rattle.drain_maker.specs.Made.{CanBeWritten};
 ghost use Rattle.drain_maker.specs.declared.product_files.TheConstants.{FILE_COUNT};
 ghost use Rattle.drain_mosaic.specs.Tiling.{extent_of};
 
-use crate::runs::make_set::make_set_followed;
+use crate::runs::make_set::make_set;
 use crate::runs::write_set::write_and_place;
 use drain_args::requests::ProductArgs;
 use drain_device::ByteSink;
@@ -60,7 +60,7 @@ fn made_of_files<'a>(
 {
     let opened = open_inputs(opener, progress, args);
     let (mut tiles, sinks) = inputs_or_print(opener, opened, "the products", outputs, out)?;
-    make_set_followed(
+    make_set(
         opener.alloc(),
         args.side,
         tiles.as_mut_slice(),

@@ -5,19 +5,18 @@ ghost use Rattle.drain_device.specs.FaultLists.{SomeReadFails};
 ghost use Rattle.drain_hgt.specs.Inputs.{names_of, tile_devices, TilesTakeAtMost};
 ghost use Rattle.drain_cli.specs.declared.runs.make_set.NoSet.{NoSet};
 ghost use Rattle.drain_cli.specs.MadeSets.{IsSetOf, IsNoSet};
-ghost use Rattle.drain_print.specs.Printing.{Prints};
+ghost use Rattle.drain_answer.specs.Printing.{Prints};
 ghost use Rattle.drain_cli.specs.SetRuns.{no_set_line, no_set_status};
 
-use drain_answer::answer_report::refusal_line;
-use drain_answer::line::{Line, words};
+use drain_answer::lines::{Line, refusal_line, words};
+use drain_answer::print::print_line;
+use drain_answer::status::Status;
 use drain_device::{ByteSink, ByteSource};
 use drain_grid::{ProductSet, SinkFault, parse_sinks};
 use drain_hgt::TileInput;
-use drain_maker::follow::{Follow, Unfollowed};
+use drain_maker::follow::Follow;
 use drain_maker::{MakeRefusal, Mosaic, make_freeing, read_mosaic};
 use drain_mosaic::Layout;
-use drain_print::print::print_line;
-use drain_print::status::Status;
 use drain_verdict::Refusal;
 use std::alloc::Global;
 
@@ -37,29 +36,9 @@ pub enum NoSet {
 /// `SeamMismatch`, `BadSinkLine`, `SinkNotData` and `MakerFault`, in this order; 3 for `failed OutOfMemory` and `failed
 /// ReadFailed`, and if the line can't be written.
 ///
-/// `side` is the number of samples along an edge of each tile, and `sinks` a list of inland sinks, a line `ROW COL` each. Of a tile at most one byte past its end is read.
+/// `side` is the number of samples along an edge of each tile, and `sinks` a list of inland sinks, a line `ROW COL` each.
+/// Of a tile at most one byte past its end is read. `follow` gets to know how far the products are made.
 pub fn make_set<R: ByteSource, W: ByteSink>(
-    alloc: Global,
-    side: u32,
-    tiles: &mut [TileInput<R>],
-    sinks: &[u8],
-    out: &mut W,
-) -> Result<(Layout, ProductSet), u8>
-    ensures made { IfOk result (λ set. IsSetOf R.bytes_left side tiles.old sinks.now set.0 set.1) }
-    ensures no_read_failed { OnOk result (SomeReadFails (map R.counts (tile_devices tiles.old)) (map R.counts (tile_devices tiles.new)) ⊥) }
-    ensures quiet { OnOk result (out.new ≡ out.old) }
-    ensures refused { IfErr result (λ code. (why : NoSet) × IsNoSet R.ByteSource side tiles.old tiles.new sinks.now why
-        × Prints W.ByteSink out.old out.new (no_set_line why) (no_set_status why) code) }
-
-    // How far it reads, and that names are unchanged.
-    ensures within { TilesTakeAtMost R.bytes_left side tiles.old tiles.new }
-    ensures names { names_of tiles.new ≡ names_of tiles.old }
-{
-    make_set_followed(alloc, side, tiles, sinks, &mut Unfollowed, out)
-}
-
-/// The same, and `follow` gets to know how far the products are made.
-pub fn make_set_followed<R: ByteSource, W: ByteSink>(
     alloc: Global,
     side: u32,
     tiles: &mut [TileInput<R>],

@@ -2,16 +2,16 @@
 
 ghost use Rattle.std.specs.Prelude.{◌≡◌, ◌++◌, ℕ, List, IfOk, codes, string_bytes};
 ghost use Rattle.drain_cli.specs.ExplainRuns.{IsNoPage, IsNoPageLine, IsFailureObject, no_page_answer, no_page_of};
-ghost use Rattle.drain_print.specs.Printing.{PrintsText};
+ghost use Rattle.drain_answer.specs.Printing.{PrintsText};
 
 use crate::runs::explain_page::MapFault;
+use drain_answer::print::{print_failure, print_text};
+use drain_answer::status::Status;
 use drain_args::form::Form;
 use drain_device::{BodyFault, ByteSink};
 use drain_files::open_failure::print_open_failure;
 use drain_files::open_files::OpenFault;
 use drain_page::{NO_OBJECT, failure_json};
-use drain_print::print::{print_failure, print_text};
-use drain_print::status::Status;
 use std::alloc::{AllocError, Global};
 
 /// Why there is no page.

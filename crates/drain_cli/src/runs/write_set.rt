@@ -4,55 +4,32 @@
 ghost use Rattle.std.specs.Prelude.{◌≡◌, ◌++◌, ◌≤◌, length, Result, codes, decimal};
 ghost use Rattle.drain_cli.specs.DerivedSets.{derived_line};
 ghost use Rattle.drain_cli.specs.SetRuns.{made_line, written_line, written_status};
-ghost use Rattle.drain_derive.specs.DerivedFiles.{CanBeDerived, derived_bytes};
-ghost use Rattle.drain_derive.specs.declared.derived_files.TheConstants.{DERIVED_COUNT};
 ghost use Rattle.drain_files.specs.Placings.{IsNamed};
 ghost use Rattle.drain_maker.specs.Made.{CanBeWritten};
-ghost use Rattle.drain_maker.specs.ProductFiles.{WritesFiles, set_bytes};
+ghost use Rattle.drain_maker.specs.ProductFiles.{CanBeDerived, WritesFiles, derived_bytes, set_bytes};
 ghost use Rattle.drain_maker.specs.declared.product_files.SetFault.{SetFault};
-ghost use Rattle.drain_maker.specs.declared.product_files.TheConstants.{FILE_COUNT};
+ghost use Rattle.drain_maker.specs.declared.product_files.TheConstants.{DERIVED_COUNT, FILE_COUNT};
 ghost use Rattle.drain_mosaic.specs.Tiling.{Tiling, extent_of};
-ghost use Rattle.drain_print.specs.Printing.{Prints};
+ghost use Rattle.drain_answer.specs.Printing.{Prints};
 
-use drain_answer::line::{Line, push_number, words};
-use drain_derive::Derived;
-use drain_derive::derived_files::write_derived;
+use drain_answer::lines::{Line, push_number, words};
+use drain_answer::print::print_line;
+use drain_answer::status::Status;
 use drain_device::ByteSink;
-use drain_files::placing::{InPlace, Placing, place_written};
+use drain_files::placing::{Placing, place_written};
 use drain_grid::{ProductSet, Shape};
-use drain_maker::product_files::{SetFault, write_files};
+use drain_maker::Derived;
+use drain_maker::product_files::{SetFault, write_derived, write_files};
 use drain_mosaic::Layout;
-use drain_print::print::print_line;
-use drain_print::status::Status;
 use std::alloc::Global;
 
-/// Writes header and raster of each product, in the order of `SET_FILES`, prints `made rows=R cols=C` and returns the
-/// exit status.
+/// Writes header and raster of each product, in the order of `SET_FILES`, gives the files their names, prints
+/// `made rows=R cols=C` and returns the exit status.
 ///
 /// The first file that can't be written ends it: then a first part of its bytes was written, later files weren't
 /// touched, the line is `failed WriteFailed` and the status 3. If memory is refused for a header's text the line is
-/// `failed OutOfMemory` and the status 3; the status is also 3 if the line can't be written.
-pub fn write_set<F: ByteSink, W: ByteSink>(
-    alloc: Global,
-    layout: &Layout,
-    products: &ProductSet,
-    files: &mut [F],
-    out: &mut W,
-) -> u8
-    requires counted { length files.old ≡ FILE_COUNT }
-    requires same_shape { products.now.con.extent ≡ extent_of layout.now }
-    requires written { CanBeWritten layout.now products.now }
-    ensures run { (done : Result (Unit {0}) SetFault)
-        × WritesFiles F.ByteSink files.old files.new (set_bytes layout.now products.now) done
-        × Prints W.ByteSink out.old out.new (made_line layout.now done) (written_status done) result }
-{
-    write_and_place(alloc, layout, products, files, &mut InPlace, out)
-}
-
-/// Writes the files as `write_set` does, then gives them their names, prints the line and returns the exit status.
-///
-/// No name is given before every file has all its bytes. If a name can't be given the line is `failed WriteFailed` and
-/// the status 3.
+/// `failed OutOfMemory` and the status 3. No name is given before every file has all its bytes; if a name can't be given
+/// the line is `failed WriteFailed` and the status 3. The status is also 3 if the line can't be written.
 pub fn write_and_place<F: ByteSink, P: Placing, W: ByteSink>(
     alloc: Global,
     layout: &Layout,

@@ -1,5 +1,4 @@
 use Rattle.std.proofs.Common.{subst, arith}
-use Rattle.drain_kernel.specs.Rules.{tried}
 use Rattle.drain_rules.specs.RowOutcomes.{cells_above}
 use Rattle.drain_faults.specs.ByProduct.{AreFaultsByProduct}
 use Rattle.drain_faults.specs.FaultMaps.{IsMapOfCells}
@@ -9,15 +8,15 @@ use Rattle.drain_verdict.specs.Meaning.{input_grid, input_products}
 use Rattle.drain_explain.proofs.explanation.findings_of.Goals as goal
 
 pub returns-clause-found : goal.returns-clause-found
-returns-clause-found c = λ ranks inputs noted.
-    let rules = rules_at ranks inputs in
+returns-clause-found c = λ judged inputs noted.
+    let rules = rules_at judged inputs in
     let grid = input_grid inputs in
     let ps = input_products inputs in
     let walk = noted.walk_is in
     record {
       rules = noted.rules_are (omega arith);
-      each_rule = subst (λ n. AreFaultsOf (tried rules) grid ps (cells_above grid n) c.into_faults-map.result.0) walk.rows_are (c.into_faults-map.ensures.of_grids rules grid ps walk.by_rule);
-      each_product = subst (λ n. AreFaultsByProduct rules grid ps (cells_above grid n) c.into_faults-map.result.1) walk.rows_are (c.into_faults-map.ensures.by_product rules grid ps walk.by_product);
-      first_patch = subst (λ n. IsFirstPatch (tried rules) grid ps (cells_above grid n) c.first_patch-first.result) walk.rows_are (c.first_patch-first.ensures.of_grids rules grid ps walk.by_rule);
-      map = subst (λ n. IsMapOfCells (tried rules) grid ps (cells_above grid n) c.into_faults-map.result.2) walk.rows_are (c.into_faults-map.ensures.map rules grid ps walk.map);
+      each_rule = subst (λ n. AreFaultsOf rules grid ps (cells_above grid n) c.into_faults-map.result.0) walk.rows_are (c.into_faults-map.ensures.of_grids rules grid ps walk.found);
+      each_product = subst (λ n. AreFaultsByProduct rules grid ps (cells_above grid n) c.into_faults-map.result.1) walk.rows_are (c.into_faults-map.ensures.by_product rules grid ps walk.found);
+      first_patch = subst (λ n. IsFirstPatch rules grid ps (cells_above grid n) c.first_patch-first.result) walk.rows_are (c.first_patch-first.ensures.of_grids rules grid ps walk.found);
+      map = subst (λ n. IsMapOfCells rules grid ps (cells_above grid n) c.into_faults-map.result.2) walk.rows_are (c.into_faults-map.ensures.map rules grid ps walk.map);
     }

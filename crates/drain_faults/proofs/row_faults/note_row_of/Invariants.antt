@@ -1,10 +1,8 @@
 use Rattle.std.proofs.Common.{◌-◌, ◌≤◌, ◌↔◌}
 use Rattle.std.specs.Prelude.{IsSome}
 use Rattle.drain_grid.specs.Grid.{Grid, Products}
-use Rattle.drain_kernel.specs.Rules.{tried}
 use Rattle.drain_rules.specs.PatchRows.{IsAtMost}
 use Rattle.drain_rules.specs.Rows.{CountsAlong}
-use Rattle.drain_faults.specs.ByProduct.{AreFaultsByProduct, OfRowByProduct}
 use Rattle.drain_faults.specs.FaultMaps.{IsMapOfCells, OfRowDrawn}
 use Rattle.drain_faults.specs.FaultWalks.{IsFoundBefore, OfRowFound, OfRowPatches, cells_before}
 use Rattle.drain_faults.proofs.row_faults.note_row_of.Given as goal
@@ -13,12 +11,10 @@ use Rattle.drain_faults.proofs.row_faults.note_row_of.Given as goal
 abbrev pub invariant-loop-col : goal.invariant-loop-col
 invariant-loop-col g l = record {
   within : l.col ≤ g.R.PatchRow.len l.patches;
-  found : OfRowFound (tried l.rules) l.row (g.R.PatchRow.len l.patches) (g.R.PatchRow.shown l.patches) l.fn.found
-      (λ (grid : Grid) (ps : Products). IsFoundBefore (tried l.rules) grid ps l.row l.col l.found);
-  by_product : OfRowByProduct l.rules l.row (g.R.PatchRow.len l.patches) (g.R.PatchRow.shown l.patches) l.fn.found.by_product
-      (λ (grid : Grid) (ps : Products). AreFaultsByProduct l.rules grid ps (cells_before grid l.row l.col) l.found.by_product);
-  map : OfRowDrawn (tried l.rules) l.row (g.R.PatchRow.len l.patches) (g.R.PatchRow.shown l.patches) l.fn.found l.fn.map
-      (λ (grid : Grid) (ps : Products). IsMapOfCells (tried l.rules) grid ps (cells_before grid l.row l.col) l.map);
+  found : OfRowFound l.rules l.row (g.R.PatchRow.len l.patches) (g.R.PatchRow.shown l.patches) l.fn.found
+      (λ (grid : Grid) (ps : Products). IsFoundBefore l.rules grid ps l.row l.col l.found);
+  map : OfRowDrawn l.rules l.row (g.R.PatchRow.len l.patches) (g.R.PatchRow.shown l.patches) l.fn.found l.fn.map
+      (λ (grid : Grid) (ps : Products). IsMapOfCells l.rules grid ps (cells_before grid l.row l.col) l.map);
   counted : OfRowPatches l.row (g.R.PatchRow.len l.patches) (g.R.PatchRow.shown l.patches) (λ (grid : Grid) (ps : Products). CountsAlong grid ps l.row l.col l.tally);
   bounds : IsAtMost l.col l.tally;
   drawn : IsSome l.map ↔ IsSome l.fn.map;

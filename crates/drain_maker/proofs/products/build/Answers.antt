@@ -1,4 +1,4 @@
-use Rattle.std.proofs.Common.{sym}
+use Rattle.std.proofs.Common.{◌∙◌, ap, sym}
 use Rattle.std.proofs.lemmas.Result.{IfOk-weaker}
 use Rattle.drain_grid.specs.WholeGrid.{products_of}
 use Rattle.drain_maker.specs.RoutedProducts.{AreRightProducts}
@@ -6,5 +6,6 @@ use Rattle.drain_maker.proofs.products.build.Goals as goal
 
 pub returns-clause-right : goal.returns-clause-right
 returns-clause-right g c =
-    IfOk-weaker c.build_on.result _ (λ products. AreRightProducts c.args.elevation.now c.args.sinks.now (products_of products))
-    (λ products are_right. are_right c.args.elevation.now c.args.sinks.now (sym c.in_ok-flood.ensures.extent) c.in_ok-flood.ensures.flooded) c.build_on.ensures.right
+    let heights = g.E.AsElevation.heights c.args.elevation in
+    IfOk-weaker c.build_on.result _ (λ products. AreRightProducts heights c.args.sinks.now (products_of products))
+    (λ products are_right. are_right heights c.args.sinks.now (sym (c.in_ok-flood.ensures.extent ∙ ap (λ e. e.extent) c.as_elevation.ensures)) (rw c.as_elevation.ensures at c.in_ok-flood.ensures.flooded)) c.build_on.ensures.right

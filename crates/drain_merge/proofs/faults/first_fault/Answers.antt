@@ -1,7 +1,7 @@
 use Rattle.std.proofs.Common.{Option, List, subst, arith}
 use Rattle.std.proofs.lemmas.List.{take_all}
 use Rattle.drain_merge.specs.declared.faults.Fault.{Fault}
-use Rattle.drain_windows.specs.declared.window_report.WindowReport.{WindowReport}
+use Rattle.drain_union.specs.declared.window_report.WindowReport.{WindowReport}
 use Rattle.drain_merge.specs.Faults.{IsEarlierFault, IsFirstOfFaults}
 use Rattle.drain_merge.proofs.FirstOfFaults.{fault_of_next}
 use Rattle.drain_merge.proofs.faults.first_fault.Goals as goal

@@ -1,7 +1,7 @@
 use Rattle.std.proofs.Common.{sym, subst, ◌∙◌, arith}
 use Rattle.std.proofs.lemmas.Bool.{false≢true}
-use Rattle.drain_windows.specs.declared.place.Place.{Place}
-use Rattle.drain_windows.specs.Judged.{IsJudgedAt}
+use Rattle.drain_union.specs.declared.place.Place.{Place}
+use Rattle.drain_union.specs.Judged.{IsJudgedAt}
 use Rattle.drain_merge.proofs.FirstLemmas.{within_more}
 use Rattle.drain_merge.proofs.judged.is_judged.Goals as goal
 

@@ -1,5 +1,5 @@
 use Rattle.std.specs.List.{AllWithin}
-use Rattle.drain_windows.specs.Judged.{IsJudgedAt}
+use Rattle.drain_union.specs.Judged.{IsJudgedAt}
 use Rattle.drain_merge.proofs.judged.is_judged.Given as goal
 
 abbrev pub invariant-loop-place : goal.invariant-loop-place

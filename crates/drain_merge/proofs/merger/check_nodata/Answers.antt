@@ -1,10 +1,10 @@
 use Rattle.std.proofs.Common.{sym, ap, ◌∙◌}
-use Rattle.drain_windows.specs.declared.window_report.WindowReport.{WindowReport}
+use Rattle.drain_union.specs.declared.window_report.WindowReport.{WindowReport}
 use Rattle.drain_merge.proofs.merger.check_nodata.Goals as goal
 
-pub returns-in-Some-first_other-clause-refusal : goal.returns-in-Some-first_other-clause-refusal
-returns-in-Some-first_other-clause-refusal c =
-    (c.nodata_of.result, (λ d. sym (c.nodata_of.ensures ∙ ap (λ (w : WindowReport). w.report.nodata) (c.in-Some.ensures.item.3.1 d))), c.in-Some-first_other.ensures)
+pub returns-in-Some-first_other_nodata-clause-refusal : goal.returns-in-Some-first_other_nodata-clause-refusal
+returns-in-Some-first_other_nodata-clause-refusal c =
+    (c.nodata_of.result, (λ d. sym (c.nodata_of.ensures ∙ ap (λ (w : WindowReport). w.report.nodata) (c.in-Some.ensures.item.3.1 d))), c.in-Some-first_other_nodata.ensures)
 
 pub returns-in-None-clause-one : goal.returns-in-None-clause-one
 returns-in-None-clause-one c = (c.nodata_of.result, c.in-None.ensures)

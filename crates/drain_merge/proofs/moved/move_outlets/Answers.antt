@@ -2,7 +2,7 @@ use Rattle.std.proofs.Common.{slice_set, slice_index_or, pos, ap, ◌∙◌, ari
 use Rattle.std.proofs.lemmas.List.{get_or_default}
 use Rattle.std.proofs.lemmas.List.Edits.{map_over_more}
 use Rattle.drain_grid.proofs.Neighbors.{place}
-use Rattle.drain_windows.specs.declared.outlet.Outlet.{Outlet}
+use Rattle.drain_union.specs.declared.outlet.Outlet.{Outlet}
 use Rattle.drain_merge.specs.Moved.{outlet_from}
 use Rattle.drain_merge.proofs.moved.move_outlets.Goals as goal
 

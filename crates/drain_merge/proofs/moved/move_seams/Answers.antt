@@ -1,6 +1,6 @@
 use Rattle.std.proofs.Common.{slice_set, ap, ◌∙◌, arith}
 use Rattle.std.proofs.lemmas.List.Edits.{map_over_more}
-use Rattle.drain_windows.specs.declared.report.Shown.{Shown}
+use Rattle.drain_union.specs.declared.report.Shown.{Shown}
 use Rattle.drain_merge.specs.Moved.{shown_from}
 use Rattle.drain_merge.proofs.moved.move_seams.Goals as goal
 

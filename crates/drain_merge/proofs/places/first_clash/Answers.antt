@@ -1,6 +1,6 @@
 use Rattle.std.proofs.Common.{arith}
-use Rattle.drain_windows.specs.declared.place.Place.{Place}
-use Rattle.drain_windows.specs.Judged.{BothJudgeOne}
+use Rattle.drain_union.specs.declared.place.Place.{Place}
+use Rattle.drain_union.specs.Judged.{BothJudgeOne}
 use Rattle.drain_merge.proofs.FirstLemmas.{pair_found, pairs_more}
 use Rattle.drain_merge.proofs.places.first_clash.Goals as goal
 

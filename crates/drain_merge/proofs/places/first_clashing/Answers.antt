@@ -1,6 +1,6 @@
 use Rattle.std.proofs.Common.{sym, ◌∙◌, arith}
 use Rattle.std.proofs.lemmas.Bool.{false≢true}
-use Rattle.drain_windows.specs.Judged.{BothJudgeOne}
+use Rattle.drain_union.specs.Judged.{BothJudgeOne}
 use Rattle.drain_merge.proofs.FirstLemmas.{within_more}
 use Rattle.drain_merge.proofs.places.first_clashing.Goals as goal
 

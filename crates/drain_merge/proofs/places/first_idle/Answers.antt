@@ -1,4 +1,4 @@
-use Rattle.drain_windows.specs.Judged.{JudgesSome}
+use Rattle.drain_union.specs.Judged.{JudgesSome}
 use Rattle.drain_merge.proofs.FirstLemmas.{within_more}
 use Rattle.drain_merge.proofs.places.first_idle.Goals as goal
 

@@ -1,5 +1,5 @@
 use Rattle.std.specs.List.{AllWithin}
-use Rattle.drain_windows.specs.Windows.{IsPlaceIn}
+use Rattle.drain_union.specs.Windows.{IsPlaceIn}
 use Rattle.drain_merge.proofs.places.first_outside.Given as goal
 
 abbrev pub invariant-loop-i : goal.invariant-loop-i

@@ -2,7 +2,7 @@ use Rattle.std.proofs.Common.{◌+◌, Option, sym, subst, ap, ◌∙◌, arith}
 use Rattle.std.proofs.lemmas.Bool.{false≢true}
 use Rattle.std.proofs.lemmas.List.{get_or_default}
 use Rattle.drain_grid.specs.declared.cell.Cell.{Cell}
-use Rattle.drain_windows.specs.declared.outlet.Outlet.{Outlet}
+use Rattle.drain_union.specs.declared.outlet.Outlet.{Outlet}
 use Rattle.drain_merge.specs.Shared.{IsLeastSharing}
 use Rattle.drain_merge.proofs.SortedOutlets.{least_passed, least_taken, least_at}
 use Rattle.drain_merge.proofs.shared.least_sharing.Goals as goal

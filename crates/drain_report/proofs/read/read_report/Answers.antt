@@ -2,7 +2,7 @@ use Rattle.std.proofs.Common.{◌∙◌, ◌<◌, ◌^◌, ap, sym, refl, arith}
 use Rattle.std.proofs.lemmas.Bool.{false≢true}
 use Rattle.std.specs.Prelude.{codes}
 use Rattle.drain_report.specs.Contents.{end_line, head_of}
-use Rattle.drain_windows.specs.Verdicts.{is_accepted}
+use Rattle.drain_union.specs.Verdicts.{is_accepted}
 use Rattle.drain_report.specs.Facts.{outlet_line, shown_line, sink_line, tile_line}
 use Rattle.drain_report.specs.Faults.{line_feeds}
 use Rattle.drain_report.specs.Head.{head_text}

@@ -1,5 +1,5 @@
 use Rattle.std.proofs.Common.{ap, refl}
-use Rattle.drain_rules.specs.declared.verdict.Verdict.TheVariants.{Rejected}
+use Rattle.drain_grid.specs.declared.verdict.Verdict.TheVariants.{Rejected}
 use Rattle.drain_report.proofs.FactLemmas.{fault_long}
 use Rattle.drain_report.proofs.verdict.read_rejection.Goals as goal
 

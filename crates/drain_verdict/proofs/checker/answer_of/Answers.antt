@@ -1,5 +1,5 @@
-use Rattle.std.proofs.lemmas.Result.{err_from_is_err_and}
 use Rattle.std.proofs.Common.{Err}
+use Rattle.std.proofs.lemmas.Result.{err_from_is_err_and}
 use Rattle.drain_verdict.specs.Devices.{devices_of}
 use Rattle.drain_verdict.proofs.Uses.{uses_none}
 use Rattle.drain_verdict.proofs.StartAnswers.{at_side, laid, layout_answer, layout_reads_none}
@@ -16,13 +16,8 @@ returns-in_err-layout-clause-uses g c =
     rw (told.1, told.2) (uses_none (λ ps. ps) devices_of g.R.ByteSource.bytes_left g.R.ByteSource.counts c.args.side c.args.tiles.now c.args.products.now (Err c.in_err-layout.field-0.0)
     (layout_reads_none _ _ _ c.in_err-layout.ensures.refusal))
 
-pub answer_on-requires-clause-laid : goal.answer_on-requires-clause-laid
-answer_on-requires-clause-laid g c = laid c.args.side _ c.in_ok-layout.layout c.in_ok-layout.ensures.layout
+pub judge-requires-clause-laid : goal.judge-requires-clause-laid
+judge-requires-clause-laid g c = laid c.args.side _ c.in_ok-layout.layout c.in_ok-layout.ensures.layout
 
-pub returns-clause-answer : goal.returns-clause-answer
-returns-clause-answer g c = λ inputs tell.
-    c.answer_on.ensures.answer inputs
-    (at_side g.R.ByteSource.bytes_left c.args.side c.args.tiles.now c.args.sinks.now c.args.products.now inputs c.in_ok-layout.layout c.in_ok-layout.ensures.layout tell)
-
-pub answer_on-requires-clause-unnoted : goal.answer_on-requires-clause-unnoted
-answer_on-requires-clause-unnoted g c = λ rules grid ps. record { rows_are = c.new.ensures.rows; right = c.new.ensures.finding rules grid ps }
+pub judge-requires-clause-unnoted : goal.judge-requires-clause-unnoted
+judge-requires-clause-unnoted g c = λ rules grid ps. record { rows_are = c.new-walk.ensures.rows; right = c.new-walk.ensures.outcome rules grid ps }

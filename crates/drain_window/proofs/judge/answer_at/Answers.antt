@@ -11,7 +11,7 @@ use Rattle.drain_answer.specs.declared.refusal.Refusal.TheVariants.{OutOfMemory}
 use Rattle.drain_verdict.proofs.AuditDevices.{failed_alike, none_alike}
 use Rattle.drain_verdict.proofs.StartAnswers.{layout_of_inputs}
 use Rattle.drain_verdict.proofs.Uses.{four_used}
-use Rattle.drain_windows.specs.Windows.{IsPlaceIn}
+use Rattle.drain_union.specs.Windows.{IsPlaceIn}
 use Rattle.drain_window.specs.MapOrigins.{map_origin}
 use Rattle.drain_window.specs.WindowAnswers.{IsAnswerOn}
 use Rattle.drain_window.proofs.WindowVerdicts.{memory_alike}

@@ -5,7 +5,7 @@ use Rattle.drain_answer.specs.declared.refusal.Refusal.TheVariants.{BoxTooLarge}
 use Rattle.drain_verdict.specs.AuditInputs.{audit_devices, with_con_for_ranks}
 use Rattle.drain_verdict.proofs.StartAnswers.{layout_of_inputs}
 use Rattle.drain_verdict.proofs.Uses.{uses_none}
-use Rattle.drain_windows.specs.Windows.{IsPlaceIn}
+use Rattle.drain_union.specs.Windows.{IsPlaceIn}
 use Rattle.drain_verdict.proofs.AuditDevices.{failed_alike}
 use Rattle.drain_window.proofs.WindowUses.{used_again, with_tiles_uses}
 use Rattle.drain_window.proofs.WindowVerdicts.{outside_reads_none, with_tiles_agree, with_tiles_answer}

@@ -2,9 +2,9 @@ use Rattle.std.proofs.Common.{◌≡◌}
 use Rattle.drain_verdict.specs.AuditInputs.{with_con_for_ranks}
 use Rattle.drain_verdict.specs.Inputs.{Tell}
 use Rattle.drain_verdict.specs.Meaning.{nodata_numbers}
-use Rattle.drain_windows.specs.declared.place.TheConstants.{SEAM_DEPTH}
-use Rattle.drain_windows.specs.NoData.{audited}
-use Rattle.drain_windows.specs.Reports.{IsReportOf}
+use Rattle.drain_union.specs.declared.place.TheConstants.{SEAM_DEPTH}
+use Rattle.drain_union.specs.NoData.{audited}
+use Rattle.drain_union.specs.Reports.{IsReportOf}
 use Rattle.drain_window.specs.WindowAnswers.{window_of}
 use Rattle.drain_window.proofs.WindowVerdicts.{first_of, when_answered}
 use Rattle.drain_window.proofs.judge.judge_window.Goals as goal

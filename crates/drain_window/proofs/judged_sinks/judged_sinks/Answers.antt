@@ -4,8 +4,8 @@ use Rattle.drain_grid.specs.Grid.{Grid, Products}
 use Rattle.drain_grid.specs.SinkLines.{is_listed}
 use Rattle.drain_grid.specs.SinkTexts.{sinks_of}
 use Rattle.drain_verdict.specs.Meaning.{lines_in}
-use Rattle.drain_windows.specs.Cuts.{window_at}
-use Rattle.drain_windows.specs.Reports.{ListsSinks}
+use Rattle.drain_union.specs.Cuts.{window_at}
+use Rattle.drain_union.specs.Reports.{ListsSinks}
 use Rattle.drain_window.specs.JudgedSinks.{AreLinesInside}
 use Rattle.drain_window.proofs.SinkLists.{lists_sinks}
 use Rattle.drain_window.proofs.judged_sinks.judged_sinks.Goals as goal

@@ -1,6 +1,6 @@
 use Rattle.std.proofs.Common.{inr, refl}
 use Rattle.drain_cli.specs.ExplainRuns.{FailsToSave}
-use Rattle.drain_print.specs.declared.status.Status.TheVariants.{Failed}
+use Rattle.drain_answer.specs.declared.status.Status.TheVariants.{Failed}
 use Rattle.drain_cli.proofs.ExplainLemmas.{whatever_befalls_maps}
 use Rattle.drain_cli.proofs.runs.explain_page.explain.Goals as goal
 

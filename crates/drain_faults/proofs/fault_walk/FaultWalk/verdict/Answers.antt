@@ -1,5 +1,4 @@
 use Rattle.std.proofs.Common.{Some, None, subst}
-use Rattle.drain_kernel.specs.Rules.{tried}
 use Rattle.drain_rules.specs.RowOutcomes.{cells_above}
 use Rattle.drain_faults.specs.Faults.{IsFirstPatch}
 use Rattle.drain_faults.proofs.CountSteps.{counts_are}
@@ -8,12 +7,12 @@ use Rattle.drain_faults.proofs.fault_walk.FaultWalk.verdict.Goals as goal
 
 pub returns-in-None : goal.returns-in-None
 returns-in-None c = λ rules g ps extent all right counted. (
-  all_hold (tried rules) g ps
-      (subst (λ n. IsFirstPatch (tried rules) g ps (cells_above g n) None) all (subst (IsFirstPatch (tried rules) g ps (cells_above g c.args.self.now.rows)) c.in-None.is right.first_patch)),
+  all_hold rules g ps
+      (subst (λ n. IsFirstPatch rules g ps (cells_above g n) None) all (subst (IsFirstPatch rules g ps (cells_above g c.args.self.now.rows)) c.in-None.is right.first_patch)),
   counts_are g ps c.args.shape c.args.self.now.rows c.rows.result c.cols.result c.args.self.now.tally extent c.rows.ensures c.cols.ensures all counted,
 )
 
 pub returns-in-Some : goal.returns-in-Some
 returns-in-Some c = λ rules g ps extent all right counted.
-    first_fault (tried rules) g ps c.in-Some.first
-    (subst (λ n. IsFirstPatch (tried rules) g ps (cells_above g n) (Some c.in-Some.first)) all (subst (IsFirstPatch (tried rules) g ps (cells_above g c.args.self.now.rows)) c.in-Some.is right.first_patch))
+    first_fault rules g ps c.in-Some.first
+    (subst (λ n. IsFirstPatch rules g ps (cells_above g n) (Some c.in-Some.first)) all (subst (IsFirstPatch rules g ps (cells_above g c.args.self.now.rows)) c.in-Some.is right.first_patch))

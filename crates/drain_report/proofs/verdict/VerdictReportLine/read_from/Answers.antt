@@ -1,6 +1,6 @@
 use Rattle.std.proofs.Common.{◌≡◌, rules, refl, arith, ap}
 use Rattle.std.specs.Prelude.{MatchResult}
-use Rattle.drain_rules.specs.declared.verdict.Verdict.TheVariants.{Accepted}
+use Rattle.drain_grid.specs.declared.verdict.Verdict.TheVariants.{Accepted}
 use Rattle.drain_report.specs.Facts.{count_numbers, fault_numbers}
 use Rattle.drain_report.proofs.NumberLemmas.{none_some, some_same}
 use Rattle.drain_report.proofs.FactLemmas.{counts_long}

@@ -1,0 +1,70 @@
+-- How a run of `drain merge` ends, and what its status means. The words are this project's own.
+use Rattle.std.specs.Prelude.{◌≡◌, ℕ, List, Result, Ok, Err, codes}
+use Rattle.drain_answer.specs.Lines.{refusal_line}
+use Rattle.drain_answer.specs.declared.refusal.Refusal.TheVariants as inputs
+use Rattle.drain_grid.specs.Correct.{IsCorrect}
+use Rattle.drain_grid.specs.Grid.{Grid, Products}
+use Rattle.drain_grid.specs.Values.{NoDataNumbers}
+use Rattle.drain_grid.specs.declared.sink_text.SinkFault.{SinkFault}
+use Rattle.drain_grid.specs.declared.sink_text.SinkFault.TheVariants as list
+use Rattle.drain_merge.specs.MapBoxes.{box_of, boxed, HasMapSinks, IsMapRefusal, IsMapVerdict}
+use Rattle.drain_merge.specs.Merges.{HaveNoData}
+use Rattle.drain_merge.specs.UnionVerdicts.{AreJudgedFrom, windows_of}
+use Rattle.drain_merge.specs.declared.map_merge.MapVerdict.{MapVerdict}
+use Rattle.drain_merge.specs.declared.merge_verdict.MergeRefusal.{MergeRefusal}
+use Rattle.drain_merge.specs.declared.merge_verdict.MergeRefusal.TheVariants.{OutOfMemory}
+use Rattle.drain_merge.specs.declared.merge_verdict.MergeVerdict.{MergeVerdict}
+use Rattle.drain_merge.specs.declared.merge_verdict.MergeVerdict.TheVariants.{Accepted, Rejected}
+use Rattle.drain_merge.specs.declared.union_sinks.UnionSinks.{UnionSinks}
+use Rattle.drain_answer.specs.declared.status.Status.{Status}
+use Rattle.drain_answer.specs.declared.status.Status.TheVariants as status
+use Rattle.drain_union.specs.Reports.{Report}
+use Rattle.drain_union.specs.Windows.{Window, AreWindowsOf}
+use Rattle.drain_union.specs.declared.window_report.WindowReport.{WindowReport}
+
+-- the verdict on the union, which has these sinks unless a window is rejected; or the first refusal
+abbrev pub IsMergeOutcome : UnionSinks → List WindowReport → Result MapVerdict MergeRefusal → Type 0
+IsMergeOutcome sinks windows (Ok union) = IsMapVerdict windows union × HasMapSinks sinks windows
+IsMergeOutcome sinks windows (Err refusal) = IsMapRefusal sinks windows refusal
+
+-- done if the union is accepted, rejected if it isn't
+abbrev pub verdict_status : MergeVerdict → Status
+verdict_status (Accepted counts) = status.Done
+verdict_status (Rejected fault) = status.Rejected
+
+-- the status of an answer: failed if memory ran out, else refused if there is no verdict
+abbrev pub merge_status : Result MapVerdict MergeRefusal → Status
+merge_status (Ok union) = verdict_status union.verdict
+merge_status (Err OutOfMemory) = status.Failed
+merge_status (Err refusal) = status.Refused
+
+-- this holds of the products of each union whose windows are reported, with the no-data numbers of the reports
+abbrev pub OfUnion : List WindowReport → (NoDataNumbers → Grid → Products → Type 0) → Type 0
+OfUnion windows Fact =
+    (nodata : NoDataNumbers) × HaveNoData nodata (boxed windows)
+    × ((window_of : Report → Window) → AreJudgedFrom window_of (boxed windows) → (u : Grid) (ps : Products) →
+    u.extent ≡ (box_of windows).size → AreWindowsOf u ps (windows_of window_of (boxed windows)) → Fact nodata u ps)
+
+-- they are correct
+abbrev pub UnionIsCorrect : List WindowReport → Type 0
+UnionIsCorrect windows = OfUnion windows (λ nodata u ps. IsCorrect u ps nodata)
+
+-- they aren't
+abbrev pub UnionIsNotCorrect : List WindowReport → Type 0
+UnionIsNotCorrect windows = OfUnion windows (λ nodata u ps. ¬ IsCorrect u ps nodata)
+
+-- whatever windows the reports are of, there is a union of which they are the windows
+abbrev pub MakeUnion : List WindowReport → Type 0
+MakeUnion windows =
+    (window_of : Report → Window) → AreJudgedFrom window_of (boxed windows) →
+    (u : Grid) × (ps : Products) × (u.extent ≡ (box_of windows).size) × AreWindowsOf u ps (windows_of window_of (boxed windows))
+
+-- the line of a fault of the union's list of sinks
+abbrev pub list_line : SinkFault → List ℕ
+list_line (list.BadSinkLine n) = refusal_line (inputs.BadSinkLine n)
+list_line list.OutOfMemory = codes "failed OutOfMemory"
+
+-- its status
+abbrev pub list_status : SinkFault → Status
+list_status (list.BadSinkLine n) = status.Refused
+list_status list.OutOfMemory = status.Failed

@@ -1,0 +1,93 @@
+//! The last part of a run of `drain window`: the report is written and gets its name, and the verdict is printed.
+
+ghost use Rattle.std.specs.Prelude.{◌≡◌, Result};
+ghost use Rattle.drain_files.specs.Placings.{IsNamed};
+ghost use Rattle.drain_maker.specs.ProductFiles.{WritesFile};
+ghost use Rattle.drain_maker.specs.declared.product_files.SetFault.{SetFault};
+ghost use Rattle.drain_answer.specs.Printing.{Prints};
+ghost use Rattle.drain_cli.specs.ReportOutputs.{IsReadable, reported_line, reported_status, text_of, verdict_status};
+
+use drain_grid::Verdict;
+use drain_answer::lines::{Line, verdict_line, words};
+use drain_answer::print::print_line;
+use drain_answer::status::Status;
+use drain_device::ByteSink;
+use drain_files::placing::{Placing, place_written};
+use drain_files::whole_output::write_bytes;
+use drain_maker::product_files::SetFault;
+use drain_report::write_report;
+use drain_union::WindowReport;
+use std::alloc::Global;
+
+/// Writes the report of a window, gives the file its name, prints the line of the verdict and returns the exit status: 0
+/// accepted, 1 rejected.
+///
+/// If the report can't be written the line is `failed WriteFailed`, if there is no memory for its text `failed
+/// OutOfMemory`; then no name is given and the status is 3, as it is if the line can't be written.
+pub fn report_and_print<F: ByteSink, P: Placing, W: ByteSink>(
+    alloc: Global,
+    window: &WindowReport,
+    file: &mut F,
+    places: &mut P,
+    out: &mut W,
+) -> u8
+    ensures run { (done told : Result (Unit {0}) SetFault)
+        × WritesFile F.ByteSink file.old file.new (text_of window.now) done
+        × IsReadable window.now done
+        × IsNamed P.has_placed places.old places.new done told
+        × Prints W.ByteSink out.old out.new (reported_line window.now.verdict told) (reported_status window.now.verdict told) result }
+{
+    let written = write_text(alloc, window, file);
+    let told = place_written(written, places);
+    print_line(
+        out,
+        &line_of(&window.verdict, &told),
+        status_of(&window.verdict, &told),
+    )
+}
+
+/// Writes the text of the report.
+fn write_text<F: ByteSink>(
+    alloc: Global,
+    window: &WindowReport,
+    file: &mut F,
+) -> Result<(), SetFault>
+    ensures written { WritesFile F.ByteSink file.old file.new (text_of window.now) result }
+    ensures readable { IsReadable window.now result }
+{
+    let Ok(text) = write_report(alloc, window) else {
+        return Err(SetFault::OutOfMemory);
+    };
+    write_bytes(file, &text)
+}
+
+/// The line for the result of writing a report with this verdict.
+fn line_of(verdict: &Verdict, told: &Result<(), SetFault>) -> Line
+    ensures { result.bytes ≡ reported_line verdict.now told.now }
+{
+    match told {
+        Ok(()) => verdict_line(verdict),
+        Err(SetFault::WriteFailed) => words("failed WriteFailed"),
+        Err(SetFault::OutOfMemory) => words("failed OutOfMemory"),
+    }
+}
+
+/// Its exit status.
+fn status_of(verdict: &Verdict, told: &Result<(), SetFault>) -> Status
+    ensures { result ≡ reported_status verdict.now told.now }
+{
+    match told {
+        Ok(()) => verdict_status(verdict),
+        Err(_) => Status::Failed,
+    }
+}
+
+/// The exit status of a verdict.
+fn verdict_status(verdict: &Verdict) -> Status
+    ensures { result ≡ verdict_status verdict.now }
+{
+    match verdict {
+        Verdict::Accepted(_) => Status::Done,
+        Verdict::Rejected { .. } => Status::Rejected,
+    }
+}

@@ -1,0 +1,94 @@
+//! A run of `drain merge`: reports are put together, and the verdict on the union is printed.
+
+ghost use Rattle.std.specs.Prelude.{◌≡◌, IfErr, IfOk, List, OnOk, Ok, Result};
+ghost use Rattle.drain_grid.specs.SinkTexts.{IsSinkFault, sinks_of};
+ghost use Rattle.drain_grid.specs.declared.sink_line.SinkLine.{SinkLine};
+ghost use Rattle.drain_grid.specs.declared.sink_text.SinkFault.{SinkFault};
+ghost use Rattle.drain_merge.specs.MergeLines.{merge_line};
+ghost use Rattle.drain_merge.specs.declared.map_merge.MapVerdict.{MapVerdict};
+ghost use Rattle.drain_merge.specs.declared.merge_verdict.MergeRefusal.{MergeRefusal};
+ghost use Rattle.drain_merge.specs.declared.union_sinks.UnionSinks.TheVariants.{Listed};
+ghost use Rattle.drain_answer.specs.Printing.{Prints};
+ghost use Rattle.drain_cli.specs.MergeRuns.{IsMergeOutcome, list_line, list_status, MakeUnion, merge_status, UnionIsCorrect, UnionIsNotCorrect};
+
+use drain_answer::Refusal;
+use drain_answer::lines::{Line, refusal_line, words};
+use drain_answer::print::print_line;
+use drain_answer::status::Status;
+use drain_device::ByteSink;
+use drain_grid::{SinkFault, parse_sinks};
+use drain_merge::{MapVerdict, MergeRefusal, MergeVerdict, UnionSinks, merge_line, merge_on_map};
+use drain_union::WindowReport;
+use std::alloc::Global;
+
+/// Puts the reports of a union's windows together, prints the line of the verdict and returns the exit status: 0
+/// accepted, 1 rejected, 2 refused, 3 if memory ran out or the line can't be written.
+pub fn merge_and_print<W: ByteSink>(
+    alloc: Global,
+    windows: Vec<WindowReport>,
+    sinks: &UnionSinks,
+    out: &mut W,
+) -> u8
+    ensures run { (outcome : Result MapVerdict MergeRefusal) × IsMergeOutcome sinks.now windows.items outcome
+        × Prints W.ByteSink out.old out.new (merge_line outcome) (merge_status outcome) result }
+
+    // For any windows of which these are the reports, a run ends with 0 only if they are the windows of one union and its
+    // products are correct, and with 1 only if the products of no union of which they are the windows are correct.
+    ensures correct { result ≡ 0 → UnionIsCorrect windows.items }
+    ensures one_union { result ≡ 0 → MakeUnion windows.items }
+    ensures not_correct { result ≡ 1 → UnionIsNotCorrect windows.items }
+{
+    let answer = merge_on_map(alloc, windows, sinks);
+    print_line(out, &merge_line(&answer), status_of(&answer))
+}
+
+/// The exit status of an answer.
+fn status_of(answer: &Result<MapVerdict, MergeRefusal>) -> Status
+    ensures { result ≡ merge_status answer.now }
+{
+    match answer {
+        Ok(union) => match union.verdict {
+            MergeVerdict::Accepted(_) => Status::Done,
+            MergeVerdict::Rejected(_) => Status::Rejected,
+        },
+        Err(MergeRefusal::OutOfMemory) => Status::Failed,
+        Err(_) => Status::Refused,
+    }
+}
+
+/// The sinks that the text lists, in rows and columns of the union. If it is no list, it prints `refused BadSinkLine
+/// LINE` and returns the exit status 2; and 3 for `failed OutOfMemory`, and if the line can't be written.
+pub fn listed_or_print<W: ByteSink>(
+    alloc: Global,
+    text: &[u8],
+    out: &mut W,
+) -> Result<UnionSinks, u8>
+    ensures listed { IfOk result (λ sinks. (lines : List SinkLine) × (sinks_of text.now ≡ Ok lines) × (sinks ≡ Listed lines)) }
+    ensures quiet { OnOk result (out.new ≡ out.old) }
+    ensures refused { IfErr result (λ code. (fault : SinkFault) × IsSinkFault text.now fault × Prints W.ByteSink out.old out.new (list_line fault) (list_status fault) code) }
+{
+    match parse_sinks(alloc, text) {
+        Ok(sinks) => Ok(UnionSinks::Listed(sinks)),
+        Err(fault) => Err(print_line(out, &line_of(fault), list_status(fault))),
+    }
+}
+
+/// The line of a fault of the list.
+fn line_of(fault: SinkFault) -> Line
+    ensures { result.bytes ≡ list_line fault }
+{
+    match fault {
+        SinkFault::BadSinkLine(line) => refusal_line(Refusal::BadSinkLine(line)),
+        SinkFault::OutOfMemory => words("failed OutOfMemory"),
+    }
+}
+
+/// Its exit status.
+fn list_status(fault: SinkFault) -> Status
+    ensures { result ≡ list_status fault }
+{
+    match fault {
+        SinkFault::BadSinkLine(_) => Status::Refused,
+        SinkFault::OutOfMemory => Status::Failed,
+    }
+}

@@ -1,3 +1,0 @@
-pub mod FirstCon
-pub mod KeptCon
-pub mod NarrowRows

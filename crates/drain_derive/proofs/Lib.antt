@@ -1,6 +1,0 @@
-pub mod ByDirections
-pub mod Completed
-pub mod DerivedFileLemmas
-pub mod DerivedRasters
-pub mod ReadingLemmas
-pub mod Spelling

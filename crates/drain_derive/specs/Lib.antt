@@ -1,4 +1,0 @@
-pub mod Derived
-pub mod DerivedFiles
-pub mod Laws
-pub mod Reading

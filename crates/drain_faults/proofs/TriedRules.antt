@@ -1,0 +1,119 @@
+-- The rules that are tried: what they say of a patch with labels, and of a cell.
+use Rattle.std.proofs.Common.{◌≡◌, ◌↔◌, ◌⊎◌, ℕ, Bool, false, IsTrue, List, Option, Some, None, inl, inr, refl, arith}
+use Rattle.std.proofs.lemmas.Bool.{false≢true, true≢false}
+use Rattle.drain_grid.specs.declared.cell.Cell.{Cell}
+use Rattle.drain_grid.specs.declared.judged.Judged.{Judged}
+use Rattle.drain_grid.specs.declared.judged.Judged.TheVariants.{Con, ConDir, ConDirAcc, ConDirBas, All, AllWithRanks}
+use Rattle.drain_grid.specs.declared.judged.Rules.{Rules}
+use Rattle.drain_grid.specs.declared.patch.Patch.{Patch}
+use Rattle.drain_grid.specs.declared.rule.Rule.{Rule}
+use Rattle.drain_grid.specs.declared.rule.Rule.TheVariants.{SharedLabel}
+use Rattle.drain_grid.specs.Grid.{Grid, Products, IsInside, patch_at}
+use Rattle.drain_grid.specs.GridRules.{HoldsAt}
+use Rattle.drain_grid.specs.Judged.{has_bas}
+use Rattle.drain_grid.specs.PatchRules.{Profile}
+use Rattle.drain_grid.specs.Rule.{IsAnyRule, IsLeastFault, IsPatchRule}
+use Rattle.drain_grid.specs.RulesAbout.{IsTried, tried}
+use Rattle.drain_rules.specs.Labels.{AreLabelsBefore, labelled_profile}
+use Rattle.drain_rules.proofs.Faults.{labelled-HoldsAt, patch_tried}
+use Rattle.drain_faults.specs.Flags.{TellsFault}
+use Rattle.drain_faults.specs.TriedRules.{HoldsIfTried, IsLeastAt}
+use Rattle.drain_faults.proofs.Flags.{tells_same}
+use Rattle.drain_faults.proofs.RulePlaces.{any_rule}
+
+-- where labels aren't judged SharedLabel isn't tried, and else it is
+shared_untried : (judged : Judged) → has_bas judged ≡ false → ¬ IsTried judged SharedLabel
+shared_untried Con is own = false≢true own
+shared_untried ConDir is own = false≢true own
+shared_untried ConDirAcc is own = false≢true own
+shared_untried ConDirBas is own = true≢false is
+shared_untried All is own = true≢false is
+shared_untried AllWithRanks is own = true≢false is
+
+shared_tried : (judged : Judged) → IsTrue (has_bas judged) → IsTried judged SharedLabel
+shared_tried Con is = is
+shared_tried ConDir is = is
+shared_tried ConDirAcc is = is
+shared_tried ConDirBas is = is
+shared_tried All is = any_rule SharedLabel
+shared_tried AllWithRanks is = any_rule SharedLabel
+
+-- so it is tried, or it isn't
+shared_or_not : (judged : Judged) → IsTried judged SharedLabel ⊎ ¬ IsTried judged SharedLabel
+shared_or_not Con = inr (shared_untried Con refl)
+shared_or_not ConDir = inr (shared_untried ConDir refl)
+shared_or_not ConDirAcc = inr (shared_untried ConDirAcc refl)
+shared_or_not ConDirBas = inl refl
+shared_or_not All = inl (any_rule SharedLabel)
+shared_or_not AllWithRanks = inl (any_rule SharedLabel)
+
+-- and where it is tried labels are judged
+pub labels_judged : (judged : Judged) → IsTried judged SharedLabel → IsTrue (has_bas judged)
+labels_judged Con own = own
+labels_judged ConDir own = own
+labels_judged ConDirAcc own = own
+labels_judged ConDirBas own = refl
+labels_judged All own = refl
+labels_judged AllWithRanks own = refl
+
+-- a rule is tried, or it isn't
+pub tried_or_not : (judged : Judged) (r : Rule) → IsTried judged r ⊎ ¬ IsTried judged r
+tried_or_not judged SharedLabel = shared_or_not judged
+tried_or_not judged r = inl (patch_tried judged r (omega arith, omega arith))
+
+-- the labels play no part in the rules of a patch
+labelled-patch : (profile : Profile) (labels : List (ℕ × ℕ)) (p : Patch) (r : Rule) → IsPatchRule r → profile p r ↔ labelled_profile profile labels p r
+labelled-patch profile labels p SharedLabel own = absurd (omega (arith, own.1))
+labelled-patch profile labels p r own = (λ h. h, λ h. h)
+
+module _ (rules : Rules) where
+  -- a rule of a patch is tried, and labels play no part in it
+  patch_same : (labels : List (ℕ × ℕ)) (p : Patch) (r : Rule) → IsPatchRule r → tried rules p r ↔ HoldsIfTried rules labels p r
+  patch_same labels p r own =
+      let same = labelled-patch (tried rules) labels p r own in
+      ((λ holds again. same.0 holds), λ f. same.1 (f (patch_tried rules.judged r own)))
+
+  -- so a flag of it is one of it among those that are tried, and the other way round
+  pub told_patch : (labels : List (ℕ × ℕ)) (p : Patch) (b : Bool) (r : Rule) → IsPatchRule r → TellsFault b (tried rules p r) → TellsFault b (HoldsIfTried rules labels p r)
+  told_patch labels p b r own told = tells_same b (tried rules p r) (HoldsIfTried rules labels p r) (patch_same labels p r own) told
+
+  pub told_here : (labels : List (ℕ × ℕ)) (p : Patch) (b : Bool) (r : Rule) → IsPatchRule r → TellsFault b (HoldsIfTried rules labels p r) → TellsFault b (tried rules p r)
+  told_here labels p b r own told =
+      let same = patch_same labels p r own in
+      tells_same b (HoldsIfTried rules labels p r) (tried rules p r) (same.1, same.0) told
+
+  -- the flag of SharedLabel, where labels are judged
+  pub told_shared : (labels : List (ℕ × ℕ)) (p : Patch) (b : Bool) → IsTrue (has_bas rules.judged) → TellsFault b (labelled_profile (tried rules) labels p SharedLabel) →
+      TellsFault b (HoldsIfTried rules labels p SharedLabel)
+  told_shared labels p b own told =
+      tells_same b (labelled_profile (tried rules) labels p SharedLabel) (HoldsIfTried rules labels p SharedLabel)
+      ((λ holds again. holds), λ f. f (shared_tried rules.judged own)) told
+
+  -- SharedLabel isn't counted where labels aren't judged
+  pub told_untried : (labels : List (ℕ × ℕ)) (p : Patch) → has_bas rules.judged ≡ false → HoldsIfTried rules labels p SharedLabel
+  told_untried labels p is = λ own. absurd (shared_untried rules.judged is own)
+
+  module _ (g : Grid) (ps : Products) (labels : List (ℕ × ℕ)) (c : Cell) (inside : IsInside g c)
+      (before : IsTrue (has_bas rules.judged) → AreLabelsBefore g ps c labels) where
+    -- with the labels before the cell, if they are compared, a rule that is tried holds at the patch as it does at the cell
+    pub tried_at : (r : Rule) → IsTried rules.judged r → HoldsIfTried rules labels (patch_at g ps c) r ↔ HoldsAt (tried rules) g ps c r
+    tried_at SharedLabel own =
+        let same = labelled-HoldsAt (tried rules) g ps labels c SharedLabel inside (before (labels_judged rules.judged own)) in
+        ((λ f. same.0 (f own)), λ holds again. same.1 holds)
+    tried_at r own = ((λ f. f own), λ holds again. holds)
+
+    -- so the least that fails at the patch is the least that fails at the cell
+    pub least_at : (o : Option Rule) → IsLeastFault IsAnyRule (HoldsIfTried rules labels (patch_at g ps c)) o → IsLeastAt rules g ps c o
+    least_at None all = λ r own. (tried_at r own).0 (all r (any_rule r))
+    least_at (Some r) least = elim (tried_or_not rules.judged r) [
+      | inl own ↦ (
+        own,
+        (λ holds. least.1 ((tried_at r own).1 holds)),
+        λ q tried below. (tried_at q tried).0 (least.2 q (any_rule q) below),
+      )
+      | inr untried ↦ absurd (least.1 (λ own. absurd (untried own)))
+    ]
+
+    -- where SharedLabel holds at the patch it holds at the cell, if labels are judged
+    pub shared_at : IsTrue (has_bas rules.judged) → HoldsIfTried rules labels (patch_at g ps c) SharedLabel → HoldsAt (tried rules) g ps c SharedLabel
+    shared_at own = (tried_at SharedLabel (shared_tried rules.judged own)).0

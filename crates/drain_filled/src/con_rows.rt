@@ -1,0 +1,74 @@
+//! The samples and the conditioned elevations of the rows that were taken so far.
+
+ghost use Rattle.std.specs.Prelude.{◌≡◌, ◌*◌, IfSome, IsSome, OnErr, OnOk, [], vec_len};
+ghost use Rattle.drain_grid.specs.Grid.{Grid, Products};
+ghost use Rattle.drain_filled.specs.ConRows.{AreFirstCon, IsGroundAndCon, with_row};
+
+use crate::ground_and_con::GroundAndCon;
+use crate::narrow_rows::push_row;
+use drain_grid::{Elevation, OutOfMemory, Shape};
+use drain_pixels::PixelRow;
+use drain_pixels::stored::AnyPixels;
+use std::alloc::Global;
+use std::marker::Model;
+
+/// The sample and the conditioned elevation of each cell that was taken so far, in row order.
+#[derive(Drop)]
+pub struct ConRows {
+    samples: Vec<i16>,
+    con: Vec<i16>,
+}
+
+impl Model for ConRows {
+    ghost use Rattle.drain_filled.specs.ConRows.{ConLists};
+
+    ghost Value = { ConLists };
+
+    ghost view = { λ rows. record { samples = rows.samples.items; con = rows.con.items } };
+}
+
+impl ConRows {
+    /// No cell. This takes no memory.
+    pub fn new(alloc: Global) -> ConRows
+        ensures none { result ≡ record { samples = []; con = [] } }
+        ensures begun { (g : Grid) (ps : Products) → AreFirstCon g ps 0 result }
+    {
+        ConRows {
+            samples: Vec::new(alloc),
+            con: Vec::new(alloc),
+        }
+    }
+
+    /// Takes the next row: each cell's sample (-32768 is a void) and conditioned elevation. A number that 16 bits don't
+    /// hold is taken as the nearest that they hold. Without memory nothing is changed.
+    pub fn push_row(&mut self, samples: &[i64], con: &PixelRow) -> Result<(), OutOfMemory>
+        ensures taken { OnOk result (self.new ≡ with_row self.old samples.now con.now) }
+        ensures kept { OnErr result (self.new ≡ self.old) }
+    {
+        let before = self.samples.len();
+        push_row(&mut self.samples, &AnyPixels { numbers: samples })?;
+        if push_row(&mut self.con, con).is_err() {
+            self.samples.truncate(before);
+            return Err(OutOfMemory);
+        }
+        Ok(())
+    }
+
+    /// The elevations and the conditioned elevations of a grid of this shape, if each of its cells was taken and no
+    /// other.
+    pub fn into_parts(self, shape: Shape) -> Option<GroundAndCon>
+        ensures all { (g : Grid) (ps : Products) → g.extent ≡ shape → AreFirstCon g ps shape.rows self → IsSome result }
+        ensures parts { IfSome result (λ both. (g : Grid) (ps : Products) → g.extent ≡ shape → AreFirstCon g ps shape.rows self → IsGroundAndCon g ps both.ground both.con.items) }
+        ensures extent { IfSome result (λ both. both.ground.extent ≡ shape) }
+        ensures counted { IfSome result (λ both. vec_len both.con ≡ shape.rows * shape.cols) }
+    {
+        let cells = shape.cells();
+        if self.samples.len() != cells || self.con.len() != cells {
+            return None;
+        }
+        Some(GroundAndCon {
+            ground: Elevation::new(shape, self.samples),
+            con: self.con,
+        })
+    }
+}

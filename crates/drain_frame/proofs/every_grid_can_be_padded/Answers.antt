@@ -1,5 +1,0 @@
-use Rattle.drain_frame.proofs.MadePadding as lemmas
-use Rattle.drain_frame.proofs.every_grid_can_be_padded.Goals as goal
-
-pub returns : goal.returns
-returns c = lemmas.every_grid_can_be_padded

@@ -1,0 +1,5 @@
+use Rattle.drain_laws.proofs.MadePadding as lemmas
+use Rattle.drain_laws.proofs.every_grid_can_be_padded.Goals as goal
+
+pub returns : goal.returns
+returns c = lemmas.every_grid_can_be_padded

@@ -1,0 +1,4 @@
+pub mod Laws
+pub mod Padding
+pub mod PartLaws
+pub mod PartOf

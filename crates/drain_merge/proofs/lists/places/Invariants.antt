@@ -1,6 +1,0 @@
-use Rattle.std.proofs.Common.{◌≡◌, take}
-use Rattle.drain_merge.specs.Lists.{places_of}
-use Rattle.drain_merge.proofs.lists.places.Given as goal
-
-abbrev pub invariant-loop-window : goal.invariant-loop-window
-invariant-loop-window l = l.places.items ≡ places_of (take l.window-index l.windows)

@@ -1,4 +1,0 @@
-mod GivenProducts
-mod PartSteps
-mod TriedRules
-pub mod Begun

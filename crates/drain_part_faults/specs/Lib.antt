@@ -1,4 +1,0 @@
-pub mod PartFaults
-pub mod PartFound
-pub mod PartVisitor
-pub mod PartProducts

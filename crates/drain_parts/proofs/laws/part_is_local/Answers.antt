@@ -1,6 +1,0 @@
--- The law is a lemma on judged rasters.
-use Rattle.drain_parts.proofs.PartLocal as lemmas
-use Rattle.drain_parts.proofs.laws.part_is_local.Goals as goal
-
-pub returns : goal.returns
-returns c = lemmas.part_is_local

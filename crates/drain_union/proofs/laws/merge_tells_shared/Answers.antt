@@ -1,0 +1,6 @@
+-- The law is a lemma.
+use Rattle.drain_union.proofs.Merges as lemmas
+use Rattle.drain_union.proofs.laws.merge_tells_shared.Goals as goal
+
+pub returns : goal.returns
+returns c = lemmas.merge_tells_shared

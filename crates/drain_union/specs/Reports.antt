@@ -1,0 +1,69 @@
+-- What a run on one window hands over, and when reports can be put together.
+-- Source: what each tile of a large raster hands over is its edge (Barnes 2016); these facts are this project's own.
+use Rattle.std.specs.Prelude.{◌≡◌, ◌↔◌, ℕ, ◌+◌, ◌<◌, ◌≤◌, ◌⊎◌, Bool, true, IsTrue, List, map}
+use Rattle.std.specs.List.{Contains, AllPairs}
+use Rattle.drain_grid.specs.declared.cell.Cell.{Cell}
+use Rattle.drain_grid.specs.Size.{Extent}
+use Rattle.drain_grid.specs.Values.{NoDataNumbers}
+use Rattle.drain_grid.specs.Extent.{IsCellOf}
+use Rattle.drain_grid.specs.Grid.{values_at}
+use Rattle.drain_union.specs.declared.outlet.Outlet.{Outlet}
+use Rattle.drain_union.specs.declared.place.Place.{Place}
+use Rattle.drain_union.specs.declared.report.Shown.{Shown}
+use Rattle.drain_union.specs.Windows.{Window, in_union, IsPlaceIn, IsJudgedIn, IsJudgedAtSome, RulesHoldInside}
+use Rattle.drain_union.specs.Outlets.{ListsOutlets}
+
+-- one of the outermost so many rows or columns of an inner side
+pub record IsOnSeam (depth : ℕ) (p : Place) (c : Cell) : Type 0 where
+  pub inside : IsCellOf p.extent c
+  pub beside :
+      ((IsTrue p.inner.north × (c.row < depth)) ⊎ (IsTrue p.inner.south × (p.extent.rows ≤ c.row + depth)))
+      ⊎ ((IsTrue p.inner.west × (c.col < depth)) ⊎ (IsTrue p.inner.east × (p.extent.cols ≤ c.col + depth)))
+
+-- the list holds what the window shows at each cell of its seams, and nothing else
+pub record ListsSeams (depth : ℕ) (w : Window) (xs : List Shown) : Type 0 where
+  pub sound : (x : Shown) → Contains xs x →
+      (c : Cell) × IsOnSeam depth w.place c × (in_union w.place c ≡ x.cell) × (values_at w.grid w.products c ≡ x.values)
+  pub complete : (c : Cell) → IsOnSeam depth w.place c →
+      Contains xs (record { cell = in_union w.place c; values = values_at w.grid w.products c })
+
+-- the list holds the union's cell of each listed sink that the window judges, and nothing else
+pub record ListsSinks (w : Window) (xs : List Cell) : Type 0 where
+  pub sound : (x : Cell) → Contains xs x → (c : Cell) × IsJudgedIn w.place c × (w.grid.sink c ≡ true) × (in_union w.place c ≡ x)
+  pub complete : (c : Cell) → IsJudgedIn w.place c → w.grid.sink c ≡ true → Contains xs (in_union w.place c)
+
+-- a report on one window: where it lies, the no-data numbers, whether the rules hold at its judged cells, and where
+-- they do, the outlets that it judged, what it shows along its seams, and the listed sinks that it judged
+pub record Report : Type 0 where
+  pub place : Place
+  pub nodata : NoDataNumbers
+  pub holds : Bool
+  pub outlets : List Outlet
+  pub seams : List Shown
+  pub sinks : List Cell
+
+-- what a run on a window promises of its report: a rejected window is read to its first fault alone
+pub record IsReportOf (depth : ℕ) (w : Window) (r : Report) : Type 0 where
+  pub place : r.place ≡ w.place
+  pub extent : w.grid.extent ≡ w.place.extent
+  pub holds : IsTrue r.holds ↔ RulesHoldInside r.nodata w
+  pub outlets : IsTrue r.holds → ListsOutlets w r.outlets
+  pub seams : IsTrue r.holds → ListsSeams depth w r.seams
+  pub sinks : IsTrue r.holds → ListsSinks w r.sinks
+
+-- two windows overlap along their seams alone
+abbrev pub OverlapInSeams : ℕ → Place → Place → Type 0
+OverlapInSeams depth p q =
+    (a b : Cell) → IsCellOf p.extent a → IsCellOf q.extent b → in_union p a ≡ in_union q b → IsOnSeam depth p a × IsOnSeam depth q b
+
+-- at the cells that both lists hold they show the same
+abbrev pub ShowTheSame : List Shown → List Shown → Type 0
+ShowTheSame xs ys = (x y : Shown) → Contains xs x → Contains ys y → x.cell ≡ y.cell → x.values ≡ y.values
+
+-- what a merge asks before it looks at labels: where one of these is missing it refuses
+pub record CanMerge (depth : ℕ) (e : Extent) (nodata : NoDataNumbers) (reports : List Report) : Type 0 where
+  pub placed : (r : Report) → Contains reports r → IsPlaceIn e r.place
+  pub one_nodata : (r : Report) → Contains reports r → r.nodata ≡ nodata
+  pub whole : (c : Cell) → IsCellOf e c → IsJudgedAtSome (map (λ r. r.place) reports) c
+  pub overlaps : AllPairs (λ q r. OverlapInSeams depth q.place r.place) reports
+  pub agree : AllPairs (λ q r. ShowTheSame q.seams r.seams) reports

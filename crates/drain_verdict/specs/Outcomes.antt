@@ -1,0 +1,69 @@
+-- The outcome for judged rasters, and the answer with it.
+use Rattle.std.specs.Prelude.{◌≡◌, Result, Ok, Err}
+use Rattle.drain_answer.specs.declared.outcome.Outcome.{Outcome}
+use Rattle.drain_answer.specs.declared.outcome.Outcome.TheVariants.{Accepted, AcceptedSurface, Rejected, NoEnd, NotFilled}
+use Rattle.drain_answer.specs.declared.refusal.Refusal.{Refusal}
+use Rattle.drain_filled.specs.Unfilled.{IsFirstUnfilled}
+use Rattle.drain_grid.specs.declared.judged.Judged.{Judged}
+use Rattle.drain_grid.specs.declared.judged.Judged.TheVariants.{Con, ConDir, ConDirAcc, ConDirBas, All, AllWithRanks}
+use Rattle.drain_grid.specs.declared.judged.Rules.{Rules}
+use Rattle.drain_grid.specs.declared.verdict.Verdict.TheVariants as checked
+use Rattle.drain_grid.specs.Certificate.{IsFirstEndless}
+use Rattle.drain_grid.specs.Grid.{Grid, Products}
+use Rattle.drain_grid.specs.GridRules.{IsFirstFault, RulesHold}
+use Rattle.drain_grid.specs.Path.{IsLeastSurface}
+use Rattle.drain_grid.specs.RulesAbout.{IsPartRule, part_rules}
+use Rattle.drain_grid.specs.Values.{NoDataNumbers}
+use Rattle.drain_laws.specs.PartOf.{AreRight}
+use Rattle.drain_rows.specs.Runs.{AllRunsEnd}
+use Rattle.drain_rules.specs.FillVerdicts.{fill_counts}
+use Rattle.drain_rules.specs.Verdicts.{IsVerdictBy}
+use Rattle.drain_verdict.specs.Answers.{AreReadable, IsRefusal}
+use Rattle.drain_verdict.specs.Inputs.{Inputs}
+use Rattle.drain_verdict.specs.Meaning.{input_grid, input_products, nodata_numbers}
+
+-- the rules about these rasters
+abbrev pub rules_of : Judged → NoDataNumbers → Rules
+rules_of judged nodata = record { nodata = nodata; judged = judged }
+
+-- of rasters with directions: the first path without an end; else the verdict of the rules about them
+abbrev pub IsWayOutcome : Judged → Grid → Products → NoDataNumbers → Outcome → Type 0
+IsWayOutcome judged g ps nodata (Accepted counts) = AllRunsEnd g ps × IsVerdictBy (rules_of judged nodata) g ps (checked.Accepted counts)
+IsWayOutcome judged g ps nodata (Rejected rule row col) = AllRunsEnd g ps × IsVerdictBy (rules_of judged nodata) g ps (checked.Rejected rule row col)
+IsWayOutcome judged g ps nodata (NoEnd row col) = IsFirstEndless g ps (record { row = row; col = col })
+IsWayOutcome judged g ps nodata (AcceptedSurface counts) = ⊥
+IsWayOutcome judged g ps nodata (NotFilled row col) = ⊥
+
+-- of con alone: the first fault of the rules about it; else the first cell where it isn't the filled surface
+abbrev pub IsConOutcome : Grid → Products → NoDataNumbers → Outcome → Type 0
+IsConOutcome g ps nodata (AcceptedSurface counts) = RulesHold (part_rules Con nodata) (IsPartRule Con) g ps × IsLeastSurface g ps.con × (counts ≡ fill_counts g ps)
+IsConOutcome g ps nodata (NotFilled row col) = RulesHold (part_rules Con nodata) (IsPartRule Con) g ps × IsFirstUnfilled g ps.con (record { row = row; col = col })
+IsConOutcome g ps nodata (Rejected rule row col) = IsFirstFault (part_rules Con nodata) (IsPartRule Con) g ps (record { row = row; col = col }) rule
+IsConOutcome g ps nodata (Accepted counts) = ⊥
+IsConOutcome g ps nodata (NoEnd row col) = ⊥
+
+-- with ranks: the verdict of a check
+abbrev pub IsRankOutcome : Grid → Products → NoDataNumbers → Outcome → Type 0
+IsRankOutcome g ps nodata (Accepted counts) = IsVerdictBy (rules_of AllWithRanks nodata) g ps (checked.Accepted counts)
+IsRankOutcome g ps nodata (Rejected rule row col) = IsVerdictBy (rules_of AllWithRanks nodata) g ps (checked.Rejected rule row col)
+IsRankOutcome g ps nodata (NoEnd row col) = ⊥
+IsRankOutcome g ps nodata (AcceptedSurface counts) = ⊥
+IsRankOutcome g ps nodata (NotFilled row col) = ⊥
+
+-- the outcome for judged rasters
+abbrev pub IsOutcome : Judged → Grid → Products → NoDataNumbers → Outcome → Type 0
+IsOutcome Con = IsConOutcome
+IsOutcome ConDir = IsWayOutcome ConDir
+IsOutcome ConDirAcc = IsWayOutcome ConDirAcc
+IsOutcome ConDirBas = IsWayOutcome ConDirBas
+IsOutcome All = IsWayOutcome All
+IsOutcome AllWithRanks = IsRankOutcome
+
+-- the answer to the inputs: the first refusal that applies, else the outcome
+abbrev pub IsOutcomeAnswer : Judged → Inputs → Result Outcome Refusal → Type 0
+IsOutcomeAnswer judged i (Ok outcome) = AreReadable i × IsOutcome judged (input_grid i) (input_products i) (nodata_numbers i) outcome
+IsOutcomeAnswer judged i (Err refusal) = IsRefusal i refusal
+
+-- the judged rasters of the inputs are right
+abbrev pub AreJudgedRight : Judged → Inputs → Type 0
+AreJudgedRight judged i = AreRight judged (input_grid i) (input_products i) (nodata_numbers i)

@@ -1,6 +1,0 @@
--- The law is a lemma.
-use Rattle.drain_windows.proofs.ApartPlaces as lemmas
-use Rattle.drain_windows.proofs.laws.judged_apart.Goals as goal
-
-pub returns : goal.returns
-returns c = lemmas.judged_apart
