@@ -5,8 +5,8 @@ use Rattle.std.specs.Borrow.{Bor}
 use Rattle.clap.specs.Matches.{first_value, matched_of, one_text, raw_values}
 use Rattle.clap.specs.Walk.{Text}
 use Rattle.clap.specs.declared.parser.matches.Found.{Found}
-use Rattle.drain_args.specs.declared.requests.Listed.{Listed}
-use Rattle.drain_args.specs.declared.requests.Listed.TheVariants.{All, Alone}
+use Rattle.drain_grid.specs.declared.judged.Judged.{Judged}
+use Rattle.drain_grid.specs.declared.judged.Judged.TheVariants.{Con, ConDir, ConDirAcc, ConDirBas, All, AllWithRanks}
 use Rattle.drain_args.specs.declared.requests.MergeArgs.{MergeArgs}
 use Rattle.drain_args.specs.declared.requests.ProductArgs.{ProductArgs}
 use Rattle.drain_args.specs.declared.requests.WindowArgs.{WindowArgs}
@@ -14,8 +14,6 @@ use Rattle.drain_args.specs.declared.requests.Request.{Request}
 use Rattle.drain_args.specs.declared.requests.Request.TheVariants.{Audit, Check, Derive, Explain, Window, Merge, Make, Fill, Header}
 use Rattle.drain_args.specs.declared.commands.TheConstants.{DEFAULT_SIDE}
 use Rattle.drain_args.specs.PlaceTexts.{IsBox, IsInner}
-use Rattle.drain_parts.specs.declared.given.Given.{Given}
-use Rattle.drain_parts.specs.declared.given.Given.TheVariants.{Con, ConDir, ConDirAcc, ConDirBas}
 
 -- a flag is set exactly if it is there: its value is then true
 abbrev pub IsFlag : Text → Found → Bool → Type 0
@@ -62,27 +60,27 @@ abbrev pub IsMap : Found → Option (Bor Text) → Type 0
 IsMap f None = first_value f (codes "map") ≡ None
 IsMap f (Some stem) = first_value f (codes "map") ≡ Some (stem.now ++ map_ending)
 
--- the list of rasters as it is written
-abbrev pub list_text : Listed → Text
-list_text All = codes "con,dir,acc,bas"
-list_text (Alone Con) = codes "con"
-list_text (Alone ConDir) = codes "con,dir"
-list_text (Alone ConDirAcc) = codes "con,dir,acc"
-list_text (Alone ConDirBas) = codes "con,dir,bas"
+-- the list of rasters as it is written; no list names ranks
+abbrev pub list_text : Judged → Option Text
+list_text Con = Some (codes "con")
+list_text ConDir = Some (codes "con,dir")
+list_text ConDirAcc = Some (codes "con,dir,acc")
+list_text ConDirBas = Some (codes "con,dir,bas")
+list_text All = Some (codes "con,dir,acc,bas")
+list_text AllWithRanks = None
 
 -- the rasters are those of the list that is given, if one is
-abbrev pub IsListOption : Found → Option Listed → Type 0
+abbrev pub IsListOption : Found → Option Judged → Type 0
 IsListOption f None = first_value f (codes "only") ≡ None
-IsListOption f (Some list) = first_value f (codes "only") ≡ Some (list_text list)
+IsListOption f (Some list) = (text : Text) × (list_text list ≡ Some text) × (first_value f (codes "only") ≡ Some text)
 
--- audited alone are the rasters of the list that is given; without one, or with all four in it, none is
-abbrev pub IsOnlyOption : Found → Option Given → Type 0
-IsOnlyOption f None = IsListOption f None ⊎ IsListOption f (Some All)
-IsOnlyOption f (Some given) = IsListOption f (Some (Alone given))
+-- judged are the rasters of the list that is given; without one all four
+abbrev pub IsJudgedOption : Found → Judged → Type 0
+IsJudgedOption f judged = IsListOption f (Some judged) ⊎ (IsListOption f None × judged ≡ All)
 
 -- the name of a command, and the values of its arguments, make this request
 abbrev pub IsRequestOf : Text → Found → Request → Type 0
-IsRequestOf name f (Audit args) = (name ≡ codes "audit") × (AreInputs f args.inputs × IsOnlyOption f args.only)
+IsRequestOf name f (Audit args) = (name ≡ codes "audit") × (AreInputs f args.inputs × IsJudgedOption f args.judged)
 IsRequestOf name f (Check args) = (name ≡ codes "check") × AreInputs f args
 IsRequestOf name f (Explain args) =
     (name ≡ codes "explain") × (AreInputs f args.inputs × (IsListOption f args.only × (IsMap f args.map × IsFlag (codes "json") f args.json)))

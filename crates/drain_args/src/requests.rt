@@ -11,7 +11,7 @@ use crate::place_texts::{inner_sides, window_place};
 use crate::{explain_texts, help_texts, window_texts};
 use clap::error::ErrorKind;
 use clap::{ArgMatches, Error};
-use drain_parts::Given;
+use drain_grid::Judged;
 use drain_union::Place;
 use std::alloc::{AllocError, Global};
 
@@ -50,11 +50,11 @@ pub struct ProductArgs<'a> {
     pub progress: bool,
 }
 
-/// What is to be audited: all four products, or these alone.
+/// The inputs to be audited, and which rasters are judged: all four if no list is given.
 #[derive(Drop)]
 pub struct AuditArgs<'a> {
     pub inputs: ProductArgs<'a>,
-    pub only: Option<Given>,
+    pub judged: Judged,
 }
 
 /// The mosaic and the products in this folder, where the window lies in the mosaic, and the path of its report.
@@ -79,18 +79,11 @@ pub struct DeriveArgs<'a> {
     pub out: &'a str,
 }
 
-/// The rasters of a list: all four of an audit, or these alone.
-#[derive(Clone, Copy, Debug, PartialEq, Eq)]
-pub enum Listed {
-    All,
-    Alone(Given),
-}
-
 /// What is to be explained, as a text or as JSON; and the path of a map of the faults, without `.bil`.
 #[derive(Drop)]
 pub struct ExplainArgs<'a> {
     pub inputs: ProductArgs<'a>,
-    pub only: Option<Listed>,
+    pub only: Option<Judged>,
     pub map: Option<&'a str>,
     pub json: bool,
 }
@@ -188,11 +181,11 @@ fn audit_request<'a>(alloc: Global, given: &ArgMatches<'a>) -> Result<Request<'a
         return Err(bad_value(alloc, &AUDIT, help_texts::BAD_LIST)?);
     };
     let inputs = inputs_given(alloc, given)?;
-    let only = match list {
-        Some(Listed::Alone(given)) => Some(given),
-        Some(Listed::All) | None => None,
+    let judged = match list {
+        Some(judged) => judged,
+        None => Judged::All,
     };
-    Ok(Request::Audit(AuditArgs { inputs, only }))
+    Ok(Request::Audit(AuditArgs { inputs, judged }))
 }
 
 /// The list of rasters is another one.
@@ -200,18 +193,18 @@ fn audit_request<'a>(alloc: Global, given: &ArgMatches<'a>) -> Result<Request<'a
 struct OtherList;
 
 /// The list of rasters, if there is one.
-fn list_given(given: &ArgMatches<'_>) -> Result<Option<Listed>, OtherList>
+fn list_given(given: &ArgMatches<'_>) -> Result<Option<Judged>, OtherList>
     ensures { IfOk result (IsListOption (found_of given.now)) }
 {
     let Some(list) = option_given(given, "only") else {
         return Ok(None);
     };
     match list {
-        "con" => Ok(Some(Listed::Alone(Given::Con))),
-        "con,dir" => Ok(Some(Listed::Alone(Given::ConDir))),
-        "con,dir,acc" => Ok(Some(Listed::Alone(Given::ConDirAcc))),
-        "con,dir,bas" => Ok(Some(Listed::Alone(Given::ConDirBas))),
-        "con,dir,acc,bas" => Ok(Some(Listed::All)),
+        "con" => Ok(Some(Judged::Con)),
+        "con,dir" => Ok(Some(Judged::ConDir)),
+        "con,dir,acc" => Ok(Some(Judged::ConDirAcc)),
+        "con,dir,bas" => Ok(Some(Judged::ConDirBas)),
+        "con,dir,acc,bas" => Ok(Some(Judged::All)),
         _ => Err(OtherList),
     }
 }

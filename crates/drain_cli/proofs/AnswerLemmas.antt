@@ -6,13 +6,13 @@ use Rattle.drain_rules.specs.Verdicts.{IfAccepted}
 use Rattle.drain_answer.specs.declared.audit_verdict.AuditVerdict.{AuditVerdict}
 use Rattle.drain_answer.specs.declared.audit_verdict.AuditVerdict.TheVariants as audit
 use Rattle.drain_answer.specs.declared.refusal.Refusal.{Refusal}
-use Rattle.drain_part_audit.specs.PartVerdicts.{IsPartAcceptance}
-use Rattle.drain_part_audit.specs.declared.part_verdict.PartVerdict.{PartVerdict}
-use Rattle.drain_part_audit.specs.declared.part_verdict.PartVerdict.TheVariants as part
-use Rattle.drain_page.specs.declared.facts.Answer.TheVariants.{Check, Audit}
+use Rattle.drain_answer.specs.Outcomes.{IsAcceptedOutcome}
+use Rattle.drain_answer.specs.declared.outcome.Outcome.{Outcome}
+use Rattle.drain_answer.specs.declared.outcome.Outcome.TheVariants as outcome
+use Rattle.drain_cli.specs.declared.answer.Answer.TheVariants.{Check, Audit}
 use Rattle.drain_verdict.specs.Audits.{IfAccepts, IsAcceptance}
 use Rattle.drain_verdict.specs.Inputs.{Inputs}
-use Rattle.drain_cli.specs.AnswerStatuses.{answer_status, part_status}
+use Rattle.drain_cli.specs.AnswerStatuses.{answer_status, outcome_status}
 use Rattle.drain_answer.specs.Statuses.{status_code}
 use Rattle.drain_answer.proofs.StatusLemmas.{refused_above_1}
 
@@ -37,22 +37,22 @@ not_of_rejected (Ok (audit.Rejected rule row col)) one Told Fact exactly i told 
 not_of_rejected (Ok (audit.NoEnd row col)) one Told Fact exactly i told = (exactly i told).1
 not_of_rejected (Err refusal) one Told Fact exactly i told = absurd (omega (arith, one, refused_above_1 refusal))
 
--- of an audit of some rasters: if it is 0, what comes exactly with an acceptance holds of any inputs of the call
-pub of_accepted_part : (answer : Result PartVerdict Refusal) → status_code (part_status answer) ≡ 0 → (Told Fact : Inputs → Type 0) →
-    IfOk answer (λ verdict. (i : Inputs) → Told i → IsPartAcceptance verdict ↔ Fact i) → (i : Inputs) → Told i → Fact i
-of_accepted_part (Ok (part.Accepted counts)) zero Told Fact exactly i told = (exactly i told).0 tt
-of_accepted_part (Ok (part.AcceptedSurface counts)) zero Told Fact exactly i told = (exactly i told).0 tt
-of_accepted_part (Ok (part.Rejected rule row col)) zero Told Fact exactly i told = absurd (omega (arith, zero))
-of_accepted_part (Ok (part.NoEnd row col)) zero Told Fact exactly i told = absurd (omega (arith, zero))
-of_accepted_part (Ok (part.NotFilled row col)) zero Told Fact exactly i told = absurd (omega (arith, zero))
-of_accepted_part (Err refusal) zero Told Fact exactly i told = absurd (omega (arith, zero, refused_above_1 refusal))
+-- of judged rasters: if it is 0, what comes exactly with an acceptance holds of any inputs of the call
+pub of_accepted : (answer : Result Outcome Refusal) → status_code (outcome_status answer) ≡ 0 → (Told Fact : Inputs → Type 0) →
+    IfOk answer (λ verdict. (i : Inputs) → Told i → IsAcceptedOutcome verdict ↔ Fact i) → (i : Inputs) → Told i → Fact i
+of_accepted (Ok (outcome.Accepted counts)) zero Told Fact exactly i told = (exactly i told).0 tt
+of_accepted (Ok (outcome.AcceptedSurface counts)) zero Told Fact exactly i told = (exactly i told).0 tt
+of_accepted (Ok (outcome.Rejected rule row col)) zero Told Fact exactly i told = absurd (omega (arith, zero))
+of_accepted (Ok (outcome.NoEnd row col)) zero Told Fact exactly i told = absurd (omega (arith, zero))
+of_accepted (Ok (outcome.NotFilled row col)) zero Told Fact exactly i told = absurd (omega (arith, zero))
+of_accepted (Err refusal) zero Told Fact exactly i told = absurd (omega (arith, zero, refused_above_1 refusal))
 
 -- if it is 1, it doesn't
-pub not_of_rejected_part : (answer : Result PartVerdict Refusal) → status_code (part_status answer) ≡ 1 → (Told Fact : Inputs → Type 0) →
-    IfOk answer (λ verdict. (i : Inputs) → Told i → IsPartAcceptance verdict ↔ Fact i) → (i : Inputs) → Told i → ¬ Fact i
-not_of_rejected_part (Ok (part.Accepted counts)) one Told Fact exactly i told = absurd (omega (arith, one))
-not_of_rejected_part (Ok (part.AcceptedSurface counts)) one Told Fact exactly i told = absurd (omega (arith, one))
-not_of_rejected_part (Ok (part.Rejected rule row col)) one Told Fact exactly i told = (exactly i told).1
-not_of_rejected_part (Ok (part.NoEnd row col)) one Told Fact exactly i told = (exactly i told).1
-not_of_rejected_part (Ok (part.NotFilled row col)) one Told Fact exactly i told = (exactly i told).1
-not_of_rejected_part (Err refusal) one Told Fact exactly i told = absurd (omega (arith, one, refused_above_1 refusal))
+pub not_of_refused_outcome : (answer : Result Outcome Refusal) → status_code (outcome_status answer) ≡ 1 → (Told Fact : Inputs → Type 0) →
+    IfOk answer (λ verdict. (i : Inputs) → Told i → IsAcceptedOutcome verdict ↔ Fact i) → (i : Inputs) → Told i → ¬ Fact i
+not_of_refused_outcome (Ok (outcome.Accepted counts)) one Told Fact exactly i told = absurd (omega (arith, one))
+not_of_refused_outcome (Ok (outcome.AcceptedSurface counts)) one Told Fact exactly i told = absurd (omega (arith, one))
+not_of_refused_outcome (Ok (outcome.Rejected rule row col)) one Told Fact exactly i told = (exactly i told).1
+not_of_refused_outcome (Ok (outcome.NoEnd row col)) one Told Fact exactly i told = (exactly i told).1
+not_of_refused_outcome (Ok (outcome.NotFilled row col)) one Told Fact exactly i told = (exactly i told).1
+not_of_refused_outcome (Err refusal) one Told Fact exactly i told = absurd (omega (arith, one, refused_above_1 refusal))

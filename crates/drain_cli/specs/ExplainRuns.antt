@@ -3,10 +3,13 @@ use Rattle.std.specs.Prelude.{◌≡◌, ◌⊎◌, ℕ, ◌++◌, List, [], ◌
 use Rattle.drain_device.specs.Devices.{Sink, Source}
 use Rattle.drain_device.specs.declared.read.BodyFault.TheVariants as body
 use Rattle.drain_hgt.specs.declared.input.TileInput.{TileInput}
-use Rattle.drain_page.specs.declared.facts.Answer.{Answer}
-use Rattle.drain_page.specs.declared.facts.Answer.TheVariants as answer
+use Rattle.drain_answer.specs.declared.outcome.Outcome.{Outcome}
+use Rattle.drain_answer.specs.declared.refusal.Refusal.{Refusal}
+use Rattle.drain_answer.specs.OutcomeLines.{outcome_report_line}
+use Rattle.drain_grid.specs.declared.judged.Judged.TheVariants.{AllWithRanks}
+use Rattle.drain_verdict.specs.Devices.{devices_of}
+use Rattle.drain_verdict.specs.Outcomes.{IsOutcomeAnswer}
 use Rattle.drain_page.specs.declared.json_page.TheConstants.{NO_OBJECT}
-use Rattle.drain_page.specs.Lines.{line_of}
 use Rattle.drain_args.specs.declared.form.Form.{Form}
 use Rattle.drain_args.specs.declared.form.Form.TheVariants.{Text, Json}
 use Rattle.drain_cli.specs.declared.runs.explain_page.MapFault.{MapFault}
@@ -18,21 +21,19 @@ use Rattle.drain_files.specs.declared.open_judged.JudgedProducts.{JudgedProducts
 use Rattle.drain_files.specs.declared.open_judged.JudgedProducts.TheVariants as products
 use Rattle.drain_answer.specs.declared.status.Status.{Status}
 use Rattle.drain_answer.specs.declared.status.Status.TheVariants.{Failed}
-use Rattle.drain_cli.specs.JudgedRuns.{IsAuditOutcome, IsCheckOutcome, IsPartOutcome}
+use Rattle.drain_cli.specs.JudgedRuns.{IsJudgement, IsPartOutcome}
 use Rattle.drain_answer.specs.Failures.{failure_text}
 use Rattle.drain_files.specs.OpenFailures.{IsOpenFailure}
 use Rattle.drain_page.specs.JsonLines.{IsAnswerLine, line_feed}
 use Rattle.drain_answer.specs.Printing.{PrintsText}
-use Rattle.drain_cli.specs.AnswerStatuses.{answer_status}
+use Rattle.drain_cli.specs.AnswerStatuses.{outcome_status}
 
--- the outcome of a check of five products, or that of an audit of four, or of some of these
-abbrev pub IsOutcome : {R : Type 0} → Source R → ℕ → List (TileInput R) → List (TileInput R) → List ℕ → JudgedProducts R → JudgedProducts R → Answer → Type 0
-IsOutcome source side tiles_old tiles_new sinks (products.Check old) (products.Check new) (answer.Check outcome) =
-    IsCheckOutcome source side tiles_old tiles_new sinks old new outcome
-IsOutcome source side tiles_old tiles_new sinks (products.Audit old) (products.Audit new) (answer.Audit outcome) =
-    IsAuditOutcome source side tiles_old tiles_new sinks old new outcome
-IsOutcome source side tiles_old tiles_new sinks (products.Part old given) (products.Part new then) (answer.Part outcome) =
-    IsPartOutcome source given side tiles_old tiles_new sinks old new outcome × (then ≡ given)
+-- the outcome for the products that were opened: five with ranks, or those of four that are judged
+abbrev pub IsOutcome : {R : Type 0} → Source R → ℕ → List (TileInput R) → List (TileInput R) → List ℕ → JudgedProducts R → JudgedProducts R → Result Outcome Refusal → Type 0
+IsOutcome source side tiles_old tiles_new sinks (products.Five old) (products.Five new) outcome =
+    IsJudgement (λ ps. ps) devices_of (IsOutcomeAnswer AllWithRanks) source side tiles_old tiles_new sinks old new outcome
+IsOutcome source side tiles_old tiles_new sinks (products.Four old judged) (products.Four new then) outcome =
+    IsPartOutcome source judged side tiles_old tiles_new sinks old new outcome × (then ≡ judged)
 IsOutcome source side tiles_old tiles_new sinks old new other = ⊥
 
 -- a text begins with the line of its answer; an object is on a line of its own, and its first member is that line
@@ -74,13 +75,13 @@ abbrev pub IsCause : (MapFault → Type 0) → NoPage → Type 0
 IsCause MapFails why = (why ≡ no_page.OutOfMemory) ⊎ ((fault : MapFault) × MapFails fault × (why ≡ no_page_of fault))
 
 -- the page of the answer with its status; or why there is none, with the status of a failure
-abbrev pub IsExplained : (MapFault → Type 0) → Form → Answer → List ℕ → Status → Type 0
+abbrev pub IsExplained : (MapFault → Type 0) → Form → Result Outcome Refusal → List ℕ → Status → Type 0
 IsExplained MapFails form answer text status =
-    (BeginsWith form (line_of answer) text × (status ≡ answer_status answer))
+    (BeginsWith form (outcome_report_line answer) text × (status ≡ outcome_status answer))
     ⊎ ((why : NoPage) × IsCause MapFails why × IsNoPage form why text × (status ≡ Failed))
 
 -- that was printed, and the run ends with this number
-pub record Explains {W : Type 0} (sink : Sink W) (old new : W) (MapFails : MapFault → Type 0) (form : Form) (answer : Answer) (code : ℕ) : Type 0 where
+pub record Explains {W : Type 0} (sink : Sink W) (old new : W) (MapFails : MapFault → Type 0) (form : Form) (answer : Result Outcome Refusal) (code : ℕ) : Type 0 where
   pub text : List ℕ
   pub status : Status
   pub explained : IsExplained MapFails form answer text status

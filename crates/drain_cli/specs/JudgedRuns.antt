@@ -4,9 +4,16 @@ use Rattle.drain_answer.specs.declared.audit_verdict.AuditVerdict.{AuditVerdict}
 use Rattle.drain_answer.specs.declared.refusal.Refusal.{Refusal}
 use Rattle.drain_device.specs.Devices.{Source}
 use Rattle.drain_hgt.specs.declared.input.TileInput.{TileInput}
-use Rattle.drain_part_audit.specs.PartAudits.{IsPartAnswer}
-use Rattle.drain_part_audit.specs.declared.part_verdict.PartVerdict.{PartVerdict}
-use Rattle.drain_parts.specs.declared.given.Given.{Given}
+use Rattle.drain_answer.specs.declared.outcome.Outcome.{Outcome}
+use Rattle.drain_answer.specs.Printing.{Prints}
+use Rattle.drain_cli.specs.AnswerStatuses.{answer_line, answer_status}
+use Rattle.drain_cli.specs.declared.answer.Answer.TheVariants as answer
+use Rattle.drain_device.specs.Devices.{Sink}
+use Rattle.drain_files.specs.declared.open_judged.JudgedProducts.{JudgedProducts}
+use Rattle.drain_files.specs.declared.open_judged.JudgedProducts.TheVariants.{Five, Four}
+use Rattle.drain_grid.specs.declared.judged.Judged.{Judged}
+use Rattle.drain_grid.specs.declared.judged.Judged.TheVariants.{Con, ConDir, ConDirAcc, ConDirBas, All, AllWithRanks}
+use Rattle.drain_verdict.specs.Outcomes.{IsOutcomeAnswer}
 use Rattle.drain_grid.specs.declared.verdict.Verdict.{Verdict}
 use Rattle.drain_verdict.specs.Answers.{IsAnswer}
 use Rattle.drain_verdict.specs.AuditInputs.{audit_devices, with_con_for_ranks}
@@ -32,7 +39,33 @@ abbrev pub IsAuditOutcome : {R : Type 0} → Source R → ℕ → List (TileInpu
 IsAuditOutcome source side tiles_old tiles_new sinks old new outcome =
     IsJudgement with_con_for_ranks audit_devices IsAuditAnswer source side tiles_old tiles_new sinks old new outcome
 
--- of the given ones of the four products
-abbrev pub IsPartOutcome : {R : Type 0} → Source R → Given → ℕ → List (TileInput R) → List (TileInput R) → List ℕ → AuditProducts R → AuditProducts R → Result PartVerdict Refusal → Type 0
-IsPartOutcome source given side tiles_old tiles_new sinks old new outcome =
-    IsJudgement with_con_for_ranks audit_devices (IsPartAnswer given) source side tiles_old tiles_new sinks old new outcome
+-- of those of the four products that are judged
+abbrev pub IsPartOutcome : {R : Type 0} → Source R → Judged → ℕ → List (TileInput R) → List (TileInput R) → List ℕ → AuditProducts R → AuditProducts R → Result Outcome Refusal → Type 0
+IsPartOutcome source judged side tiles_old tiles_new sinks old new outcome =
+    IsJudgement with_con_for_ranks audit_devices (IsOutcomeAnswer judged) source side tiles_old tiles_new sinks old new outcome
+
+-- the answer that the line and the status print
+abbrev pub PrintsAnswer : {R W : Type 0} → Source R → Sink W → Judged → ℕ → List (TileInput R) → List (TileInput R) → List ℕ → AuditProducts R → AuditProducts R → W → W → ℕ → Type 0
+PrintsAnswer source sink judged side tiles_old tiles_new sinks old new out_old out_new code = (outcome : Result Outcome Refusal)
+    × IsPartOutcome source judged side tiles_old tiles_new sinks old new outcome
+    × Prints sink out_old out_new (answer_line (answer.Judged outcome)) (answer_status (answer.Judged outcome)) code
+
+-- a run on four products: an audit of all, or of some
+abbrev pub IsFourRun : {R W : Type 0} → Source R → Sink W → Judged → ℕ → List (TileInput R) → List (TileInput R) → List ℕ → AuditProducts R → AuditProducts R → W → W → ℕ → Type 0
+IsFourRun source sink All side tiles_old tiles_new sinks old new out_old out_new code = (verdict : Result AuditVerdict Refusal)
+    × IsAuditOutcome source side tiles_old tiles_new sinks old new verdict
+    × Prints sink out_old out_new (answer_line (answer.Audit verdict)) (answer_status (answer.Audit verdict)) code
+IsFourRun source sink Con = PrintsAnswer source sink Con
+IsFourRun source sink ConDir = PrintsAnswer source sink ConDir
+IsFourRun source sink ConDirAcc = PrintsAnswer source sink ConDirAcc
+IsFourRun source sink ConDirBas = PrintsAnswer source sink ConDirBas
+IsFourRun source sink AllWithRanks = PrintsAnswer source sink AllWithRanks
+
+-- a run on the products that were opened: a check of five, or an audit of four
+abbrev pub IsJudgedRun : {R W : Type 0} → Source R → Sink W → ℕ → List (TileInput R) → List (TileInput R) → List ℕ → JudgedProducts R → JudgedProducts R → W → W → ℕ → Type 0
+IsJudgedRun source sink side tiles_old tiles_new sinks (Five old) (Five new) out_old out_new code = (verdict : Result Verdict Refusal)
+    × IsCheckOutcome source side tiles_old tiles_new sinks old new verdict
+    × Prints sink out_old out_new (answer_line (answer.Check verdict)) (answer_status (answer.Check verdict)) code
+IsJudgedRun source sink side tiles_old tiles_new sinks (Four old judged) (Four new then) out_old out_new code =
+    IsFourRun source sink judged side tiles_old tiles_new sinks old new out_old out_new code
+IsJudgedRun source sink side tiles_old tiles_new sinks old new out_old out_new code = ⊥

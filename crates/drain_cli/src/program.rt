@@ -3,7 +3,7 @@
 
 use crate::runs::derive_files::derive_files;
 use crate::runs::explain_files::explain_files;
-use crate::runs::judge::{run_audit, run_check, run_part_audit};
+use crate::runs::judge::run_judged;
 use crate::runs::make_files::make_from_files;
 use crate::runs::merge_files::merge_files;
 use crate::runs::no_page::print_no_object;
@@ -18,11 +18,11 @@ use drain_args::form::{Form, requested_form};
 use drain_args::requests::{ProductArgs, Request, parse};
 use drain_device::{BodyFault, ByteSink, Reader, Writer};
 use drain_files::open_failure::{print_open_failure, print_open_fault};
-use drain_files::open_files::{InputFile, Opener};
-use drain_files::open_judged::{JudgedProducts, OpenFiles, Rasters, open_judged};
+use drain_files::open_files::Opener;
+use drain_files::open_judged::{OpenFiles, open_judged};
+use drain_grid::Judged;
 use drain_files::reason::{Reason, print_reason};
 use drain_progress::progress::Progress;
-use std::alloc::Global;
 use std::fs::File;
 use std::io;
 
@@ -47,13 +47,8 @@ fn arguments(rt: &HostRuntime) -> io::Result<Vec<String>> {
 /// Does what the arguments request, and returns the exit status.
 fn run(rt: &HostRuntime, args: &[String], out: &mut impl ByteSink) -> u8 {
     match parse(rt.alloc(), args) {
-        Ok(Request::Audit(args)) => judge_files(
-            rt,
-            &args.inputs,
-            Rasters::of_audit(args.only),
-            out,
-        ),
-        Ok(Request::Check(args)) => judge_files(rt, &args, Rasters::OfCheck, out),
+        Ok(Request::Audit(args)) => judge_files(rt, &args.inputs, args.judged, out),
+        Ok(Request::Check(args)) => judge_files(rt, &args, Judged::AllWithRanks, out),
         Ok(Request::Explain(args)) => explain_files(rt, &args, out),
         Ok(Request::Make(args)) => make_from_files(rt, &args, out),
         Ok(Request::Derive(args)) => derive_files(rt, &args, out),
@@ -86,40 +81,30 @@ fn header_of_file(rt: &HostRuntime, path: &str, out: &mut impl ByteSink) -> u8 {
     }
 }
 
-/// Opens the tiles and the products of a folder, checks or audits them, and returns the exit status.
+/// Opens the tiles and the products of a folder, judges these rasters, and returns the exit status.
 fn judge_files(
     rt: &HostRuntime,
     args: &ProductArgs<'_>,
-    rasters: Rasters,
+    judged: Judged,
     out: &mut impl ByteSink,
 ) -> u8 {
     let progress = Progress::new(rt, args.progress);
-    match open_judged(&mut Opener::new(rt), args, rasters, &progress) {
-        Ok(files) => run_judged(rt.alloc(), args.side, files, out),
+    match open_judged(&mut Opener::new(rt), args, judged, &progress) {
+        Ok(
+            OpenFiles {
+                mut tiles,
+                mut products,
+                sinks,
+            },
+        ) => run_judged(
+            rt.alloc(),
+            args.side,
+            tiles.as_mut_slice(),
+            sinks.as_slice(),
+            &mut products,
+            out,
+        ),
         Err(fault) => print_open_fault(rt, fault, out),
-    }
-}
-
-/// Checks or audits the products of open files, which are closed again, and returns the exit status.
-fn run_judged<'a>(
-    alloc: Global,
-    side: u32,
-    files: OpenFiles<'a, JudgedProducts<InputFile<'a>>>,
-    out: &mut impl ByteSink,
-) -> u8 {
-    let OpenFiles {
-        mut tiles,
-        products,
-        sinks,
-    } = files;
-    let tiles = tiles.as_mut_slice();
-    let sinks = sinks.as_slice();
-    match products {
-        JudgedProducts::Check(mut five) => run_check(alloc, side, tiles, sinks, &mut five, out),
-        JudgedProducts::Audit(mut four) => run_audit(alloc, side, tiles, sinks, &mut four, out),
-        JudgedProducts::Part(mut some, given) => {
-            run_part_audit(alloc, side, tiles, sinks, &mut some, given, out)
-        }
     }
 }
 

@@ -4,3 +4,5 @@ pub mod LongTexts
 pub mod MapFiles
 pub mod OpenFailures
 pub mod Placings
+pub mod JudgedFiles
+pub mod SourceOrZeros

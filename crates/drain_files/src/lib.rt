@@ -13,6 +13,7 @@ pub mod output_paths;
 pub mod outputs;
 pub mod placing;
 pub mod reason;
+pub mod source_or_zeros;
 pub mod text_file;
 pub mod whole_input;
 pub mod whole_output;

@@ -6,6 +6,7 @@ ghost use Rattle.drain_hgt.specs.Inputs.{names_of};
 ghost use Rattle.drain_files.specs.FilePaths.{IsLastPart};
 ghost use Rattle.drain_maker.specs.declared.product_files.TheConstants.{FILE_COUNT};
 
+use crate::source_or_zeros::SourceOrZeros;
 use crate::file_id::FileId;
 use crate::file_paths::tile_name;
 use crate::outputs::{OutputSink, Outputs};
@@ -15,7 +16,6 @@ use drain_device::{BodyFault, ByteList, Reader, Writer};
 use drain_hgt::TileInput;
 use drain_maker::product_files::{Part, SET_FILES, SetFile};
 use drain_mosaic::Layout;
-use drain_parts::MaybeSource;
 use drain_progress::counted_device::CountedDevice;
 use drain_progress::progress::Progress;
 use drain_progress::rows::written_rows;
@@ -25,7 +25,7 @@ use std::io;
 use std::io::ErrorKind;
 
 /// A file to read, or zeros in place of a missing raster, and a file to write; rows of each may be counted.
-pub type InputFile<'a> = CountedDevice<'a, MaybeSource<Reader<File>>>;
+pub type InputFile<'a> = CountedDevice<'a, SourceOrZeros<Reader<File>>>;
 
 pub type OutputFile<'g, 'a> = CountedDevice<'g, Writer<OutputSink<'a>>>;
 
@@ -137,7 +137,7 @@ fn open_tile<'a>(opener: &mut Opener<'_>, path: &str) -> Result<TileInput<InputF
     ensures { IfOk result (λ tile. IsLastPart path.now tile.name) }
 {
     let name = Vec::from_slice(opener.alloc(), tile_name(path.as_bytes()))?;
-    let body = CountedDevice::new(MaybeSource::Given(opener.open(path)?));
+    let body = CountedDevice::new(SourceOrZeros::Source(opener.open(path)?));
     Ok(TileInput {
         name: ByteList::new(name),
         body,
@@ -145,7 +145,9 @@ fn open_tile<'a>(opener: &mut Opener<'_>, path: &str) -> Result<TileInput<InputF
 }
 
 /// The bytes of the list of sinks at this path; none if no list is named.
-pub fn list_at(opener: &mut Opener<'_>, path: Option<&str>) -> Result<Vec<u8>, OpenFault> {
+pub fn list_at(opener: &mut Opener<'_>, path: Option<&str>) -> Result<Vec<u8>, OpenFault>
+    ensures { path ≡ None → IfOk result (λ text. text.items ≡ []) }
+{
     let alloc = opener.alloc();
     let Some(path) = path else {
         return Ok(Vec::new(alloc));

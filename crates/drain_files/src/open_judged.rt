@@ -1,14 +1,20 @@
 //! Opening the files to be checked: the tiles in the order given, then each product's header, which is read whole, and
 //! raster; then the list of sinks, which is read whole.
 
+ghost use Rattle.std.specs.Prelude.{◌≡◌, [], IfOk, None};
+ghost use Rattle.std.specs.List.{AllZip};
+ghost use Rattle.drain_hgt.specs.Inputs.{names_of};
+ghost use Rattle.drain_files.specs.FilePaths.{IsLastPart};
+ghost use Rattle.drain_files.specs.JudgedFiles.{AreOf};
+
 use crate::file_paths::{header_path, raster_path};
 use crate::open_files::{InputFile, OpenFault, Opener, list_at, open_tiles};
+use crate::source_or_zeros::SourceOrZeros;
 use drain_args::requests::ProductArgs;
 use drain_device::{ByteList, read_body};
-use drain_grid::{PerProduct, Product};
+use drain_grid::{Judged, PerProduct, Product, SetProduct};
 use drain_header::{MAX_HEADER_BYTES, parse_header};
 use drain_hgt::TileInput;
-use drain_parts::{Given, MaybeSource};
 use drain_progress::counted_device::CountedDevice;
 use drain_progress::progress::Progress;
 use drain_progress::rows::checked_rows;
@@ -23,41 +29,11 @@ pub struct OpenFiles<'a, P> {
     pub sinks: Vec<u8>,
 }
 
-/// The products that are judged: five by a check, four by an audit, or some of these.
+/// The products that are read: five with ranks, or four of which these are judged: no number of another matters.
 #[derive(Drop)]
 pub enum JudgedProducts<R> {
-    Check(Products<R>),
-    Audit(AuditProducts<R>),
-    /// Of the four these alone: no number of another matters.
-    Part(AuditProducts<R>, Given),
-}
-
-/// Which rasters are judged: the five of a check, the four of an audit, or some of these alone.
-#[derive(Clone, Copy)]
-pub enum Rasters {
-    OfCheck,
-    OfAudit,
-    Alone(Given),
-}
-
-impl Rasters {
-    /// The rasters of an audit: all four, or these alone.
-    pub fn of_audit(only: Option<Given>) -> Rasters {
-        match only {
-            Some(given) => Rasters::Alone(given),
-            None => Rasters::OfAudit,
-        }
-    }
-
-    /// Whether dir, acc or bas is judged.
-    fn have(self, product: Product) -> bool {
-        match (self, product) {
-            (Rasters::Alone(given), Product::Dir) => given.has_dir(),
-            (Rasters::Alone(given), Product::Acc) => given.has_acc(),
-            (Rasters::Alone(given), Product::Bas) => given.has_bas(),
-            _ => true,
-        }
-    }
+    Five(Products<R>),
+    Four(AuditProducts<R>, Judged),
 }
 
 /// Opens the files of a check or an audit. The first fault ends it. No file of another raster is opened. The rows of con
@@ -65,11 +41,16 @@ impl Rasters {
 pub fn open_judged<'a>(
     opener: &mut Opener<'_>,
     args: &ProductArgs<'_>,
-    rasters: Rasters,
+    judged: Judged,
     progress: &'a Progress<'a>,
-) -> Result<OpenFiles<'a, JudgedProducts<InputFile<'a>>>, OpenFault> {
+) -> Result<OpenFiles<'a, JudgedProducts<InputFile<'a>>>, OpenFault>
+    // What is required is what is judged: these rasters, of these tiles, and no sinks if no list is named.
+    ensures judged { IfOk result (λ files. AreOf judged files.products) }
+    ensures tiles { IfOk result (λ files. AllZip (λ path name. IsLastPart path.now name) args.now.tiles.items (names_of files.tiles.items)) }
+    ensures sinks { args.now.sinks ≡ None → IfOk result (λ files. files.sinks.items ≡ []) }
+{
     let tiles = open_tiles(opener, args.tiles.as_slice())?;
-    let products = open_products(opener, args.folder, rasters, progress)?;
+    let products = open_products(opener, args.folder, judged, progress)?;
     let sinks = list_at(opener, args.sinks)?;
     Ok(OpenFiles {
         tiles,
@@ -85,7 +66,7 @@ pub fn open_audited<'a>(
     progress: &'a Progress<'a>,
 ) -> Result<OpenFiles<'a, AuditProducts<InputFile<'a>>>, OpenFault> {
     let tiles = open_tiles(opener, args.tiles.as_slice())?;
-    let mut products = open_four(opener, args.folder, Rasters::OfAudit)?;
+    let mut products = open_four(opener, args.folder, Judged::All)?;
     count_con(&mut products.con, progress);
     let sinks = list_at(opener, args.sinks)?;
     Ok(OpenFiles {
@@ -118,15 +99,17 @@ pub fn open_directions<'a>(
 fn open_products<'a>(
     opener: &mut Opener<'_>,
     folder: &str,
-    rasters: Rasters,
+    judged: Judged,
     progress: &'a Progress<'a>,
-) -> Result<JudgedProducts<InputFile<'a>>, OpenFault> {
-    let mut four = open_four(opener, folder, rasters)?;
+) -> Result<JudgedProducts<InputFile<'a>>, OpenFault>
+    ensures { IfOk result (AreOf judged) }
+{
+    let mut four = open_four(opener, folder, judged)?;
     count_con(&mut four.con, progress);
-    match rasters {
-        Rasters::OfCheck => Ok(JudgedProducts::Check(with_ranks(opener, folder, four)?)),
-        Rasters::OfAudit => Ok(JudgedProducts::Audit(four)),
-        Rasters::Alone(given) => Ok(JudgedProducts::Part(four, given)),
+    if judged == Judged::AllWithRanks {
+        Ok(JudgedProducts::Five(with_ranks(opener, folder, four)?))
+    } else {
+        Ok(JudgedProducts::Four(four, judged))
     }
 }
 
@@ -135,12 +118,12 @@ fn open_products<'a>(
 fn open_four<'a>(
     opener: &mut Opener<'_>,
     folder: &str,
-    rasters: Rasters,
+    judged: Judged,
 ) -> Result<AuditProducts<InputFile<'a>>, OpenFault> {
     let con = open_product(opener, folder, Product::Con)?;
-    let dir = open_or(opener, folder, Product::Dir, rasters, &con)?;
-    let acc = open_or(opener, folder, Product::Acc, rasters, &con)?;
-    let bas = open_or(opener, folder, Product::Bas, rasters, &con)?;
+    let dir = open_or(opener, folder, SetProduct::Dir, judged, &con)?;
+    let acc = open_or(opener, folder, SetProduct::Acc, judged, &con)?;
+    let bas = open_or(opener, folder, SetProduct::Bas, judged, &con)?;
     Ok(AuditProducts { con, dir, acc, bas })
 }
 
@@ -148,12 +131,12 @@ fn open_four<'a>(
 fn open_or<'a>(
     opener: &mut Opener<'_>,
     folder: &str,
-    product: Product,
-    rasters: Rasters,
+    product: SetProduct,
+    judged: Judged,
     con: &RasterInput<InputFile<'a>>,
 ) -> Result<RasterInput<InputFile<'a>>, OpenFault> {
-    if rasters.have(product) {
-        return open_product(opener, folder, product);
+    if judged.has(product) {
+        return open_product(opener, folder, product.product());
     }
     missing_like(opener.alloc(), con)
 }
@@ -164,7 +147,7 @@ fn missing_like<'a>(
     there: &RasterInput<InputFile<'a>>,
 ) -> Result<RasterInput<InputFile<'a>>, OpenFault> {
     let header = ByteList::new(Vec::from_slice(alloc, there.header.as_slice())?);
-    let body = CountedDevice::new(MaybeSource::missing());
+    let body = CountedDevice::new(SourceOrZeros::missing());
     Ok(RasterInput { header, body })
 }
 
@@ -203,7 +186,7 @@ fn open_product<'a>(
     let header = header_path(opener.alloc(), folder, product)?;
     let header = read_header(opener, header.as_str())?;
     let raster = raster_path(opener.alloc(), folder, product)?;
-    let body = CountedDevice::new(MaybeSource::Given(opener.open(raster.as_str())?));
+    let body = CountedDevice::new(SourceOrZeros::Source(opener.open(raster.as_str())?));
     Ok(RasterInput { header, body })
 }
 

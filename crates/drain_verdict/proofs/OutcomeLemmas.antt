@@ -1,5 +1,5 @@
 -- The outcome for judged rasters, from the verdict of the rules about them and from the paths, or from the filled surface.
-use Rattle.std.proofs.Common.{◌≡◌, ◌↔◌, ℕ, Bool, true, false, IsTrue, List, Option, Some, None, MatchOption, Result, Ok, Err, IfOk, IsErrOf, arith, refl, sym, subst, ap}
+use Rattle.std.proofs.Common.{◌≡◌, ◌↔◌, ◌⊎◌, inl, inr, ℕ, Bool, true, false, IsTrue, List, Option, Some, None, MatchOption, Result, Ok, Err, IfOk, IsErrOf, arith, refl, sym, subst, ap}
 use Rattle.std.proofs.lemmas.Bool.{false≢true}
 use Rattle.drain_answer.specs.declared.refusal.Refusal.{Refusal}
 use Rattle.drain_answer.specs.declared.refusal.Refusal.TheVariants.{BadSinkLine, OutOfMemory, ReadFailed}
@@ -31,7 +31,9 @@ use Rattle.drain_verdict.specs.Inputs.{Inputs}
 use Rattle.drain_verdict.specs.Meaning.{lines_in, listed_in}
 use Rattle.drain_verdict.specs.OutcomesOf.{IsOfSurface, IsOfWays, IsOutcomeOf}
 use Rattle.drain_laws.proofs.SurfacePart.{at_ground, not_raised}
-use Rattle.drain_verdict.specs.Deciding.{IsDecided, IsEndlessCell}
+use Rattle.drain_verdict.specs.Deciding.{AreFlowsFor, AreFlowsLeft, IsDecided, IsEndlessCell}
+use Rattle.drain_grid.specs.Size.{Extent}
+use Rattle.drain_paths.specs.declared.flow.Flow.{Flow}
 use Rattle.drain_answer.specs.Outcomes.{IsAcceptedOutcome}
 use Rattle.drain_verdict.specs.Outcomes.{IsConOutcome, IsOutcome, IsOutcomeAnswer, IsRankOutcome, IsWayOutcome, rules_of}
 use Rattle.drain_rules.specs.Verdicts.{IsVerdictBy}
@@ -97,6 +99,14 @@ decided_by_flows ConDirAcc g ps verdict cell has none is = is
 decided_by_flows ConDirBas g ps verdict cell has none is = is
 decided_by_flows All g ps verdict cell has none is = is
 decided_by_flows AllWithRanks g ps verdict cell has none is = absurd (false≢true (sym none))
+
+-- the flows that are left where paths decide
+pub flows_left : (judged : Judged) (g : Grid) (ps : Products) (extent : Extent) (flows : List Flow) →
+    (judged ≡ ConDir) ⊎ ((judged ≡ ConDirAcc) ⊎ ((judged ≡ ConDirBas) ⊎ (judged ≡ All))) → AreFlowsLeft g ps extent flows → AreFlowsFor judged g ps extent flows
+flows_left judged g ps extent flows (inl is) left = subst (λ (j : Judged). AreFlowsFor j g ps extent flows) (sym is) left
+flows_left judged g ps extent flows (inr (inl is)) left = subst (λ (j : Judged). AreFlowsFor j g ps extent flows) (sym is) left
+flows_left judged g ps extent flows (inr (inr (inl is))) left = subst (λ (j : Judged). AreFlowsFor j g ps extent flows) (sym is) left
+flows_left judged g ps extent flows (inr (inr (inr is))) left = subst (λ (j : Judged). AreFlowsFor j g ps extent flows) (sym is) left
 
 -- a list is of one list of sinks
 pub same_listed : (lines : Result (List SinkLine) ℕ) (a b : List SinkLine) → lines ≡ Ok a → lines ≡ Ok b → a ≡ b

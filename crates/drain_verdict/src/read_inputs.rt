@@ -10,7 +10,7 @@ ghost use Rattle.drain_grid.specs.declared.per_product.PerProduct.{PerProduct};
 ghost use Rattle.drain_grid.specs.declared.set_product.SetProduct.{SetProduct};
 ghost use Rattle.drain_grid.specs.Grid as grid;
 ghost use Rattle.drain_grid.specs.Grid.{Grid};
-ghost use Rattle.drain_kernel.specs.declared.rules.Rules as declared;
+ghost use Rattle.drain_grid.specs.declared.judged.Rules as declared;
 ghost use Rattle.drain_header.specs.Fields.{Fields};
 ghost use Rattle.drain_grid.specs.PerProduct.{of_product};
 ghost use Rattle.drain_mosaic.specs.Tiling as tiling;

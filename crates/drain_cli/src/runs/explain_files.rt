@@ -1,6 +1,7 @@
 //! Explaining the products of a folder: its files are opened as for a check or an audit, and opened again for details.
 
-ghost use Rattle.std.specs.Prelude.{◌≡◌, length};
+ghost use Rattle.std.specs.Prelude.{◌≡◌, length, IfOk, Some};
+ghost use Rattle.drain_grid.specs.declared.judged.Judged as grid;
 
 use crate::runs::explain_page::{ExplainOutput, MapFault};
 use crate::runs::no_page::print_no_page;
@@ -8,7 +9,7 @@ use crate::runs::run_explain::run_explain;
 use crate::runs::second_look;
 use drain_answer::status::Status;
 use drain_args::form::Form;
-use drain_args::requests::{ExplainArgs, Listed};
+use drain_args::requests::ExplainArgs;
 use drain_device::{ByteSink, write_nothing};
 use drain_explain::{Mapping, SecondLook};
 use drain_files::file_id::FileId;
@@ -16,11 +17,11 @@ use drain_files::file_paths::{header_path, raster_path};
 use drain_files::map_file::write_map;
 use drain_files::map_place::{MapClash, map_clash, map_paths};
 use drain_files::open_files::{OpenFault, Opener};
-use drain_files::open_judged::{OpenFiles, Rasters, open_judged};
+use drain_files::open_judged::{OpenFiles, open_judged};
 use drain_files::outputs::{Failure, Outputs, look};
 use drain_files::placing::{Placing, place_written};
 use drain_files::reason::print_reason;
-use drain_grid::Product;
+use drain_grid::{Judged, Product};
 use drain_maker::product_files::SetFault;
 use drain_mosaic::Layout;
 use drain_progress::progress::Progress;
@@ -28,35 +29,35 @@ use std::alloc::Global;
 
 /// Explains the products of a folder, and returns the exit status.
 ///
-/// If a map is required and standard output is closed nothing is opened: the map would take its place. Judged are
+/// If a map is required and standard output is closed nothing is opened: the map would take its place. Ranks are
 /// checked if a file of theirs is there.
 pub fn explain_files(rt: &HostRuntime, args: &ExplainArgs<'_>, out: &mut impl ByteSink) -> u8 {
     if args.map.is_some() && write_nothing(out).is_err() {
         return Status::Failed.code();
     }
-    match rasters_of(rt, args) {
-        Ok(rasters) => explain_opened(rt, args, rasters, out),
+    match judged_of(rt, args) {
+        Ok(judged) => explain_opened(rt, args, judged, out),
         Err(fault) => print_unopened(rt, fault, form(args), out),
     }
 }
 
 /// The rasters of the list, if one is given; else those of a check if the folder has a header or a raster of ranks, and
 /// those of an audit if it has none. A failure is never taken for their absence.
-fn rasters_of(rt: &HostRuntime, args: &ExplainArgs<'_>) -> Result<Rasters, OpenFault> {
-    match args.only {
-        Some(Listed::Alone(given)) => return Ok(Rasters::Alone(given)),
-        Some(Listed::All) => return Ok(Rasters::OfAudit),
-        None => {}
+fn judged_of(rt: &HostRuntime, args: &ExplainArgs<'_>) -> Result<Judged, OpenFault>
+    ensures { (judged : grid.Judged) → args.now.only ≡ Some judged → IfOk result (λ found. found ≡ judged) }
+{
+    if let Some(judged) = args.only {
+        return Ok(judged);
     }
     let folder = args.inputs.folder;
     let header = header_path(rt.alloc(), folder, Product::Rnk)?;
     if look(rt, header.as_str())?.is_some() {
-        return Ok(Rasters::OfCheck);
+        return Ok(Judged::AllWithRanks);
     }
     let raster = raster_path(rt.alloc(), folder, Product::Rnk)?;
     match look(rt, raster.as_str())? {
-        Some(_) => Ok(Rasters::OfCheck),
-        None => Ok(Rasters::OfAudit),
+        Some(_) => Ok(Judged::AllWithRanks),
+        None => Ok(Judged::All),
     }
 }
 
@@ -64,12 +65,12 @@ fn rasters_of(rt: &HostRuntime, args: &ExplainArgs<'_>) -> Result<Rasters, OpenF
 fn explain_opened(
     rt: &HostRuntime,
     args: &ExplainArgs<'_>,
-    rasters: Rasters,
+    judged: Judged,
     out: &mut impl ByteSink,
 ) -> u8 {
     let progress = Progress::new(rt, args.inputs.progress);
     let mut opener = Opener::new(rt);
-    match open_judged(&mut opener, &args.inputs, rasters, &progress) {
+    match open_judged(&mut opener, &args.inputs, judged, &progress) {
         Ok(
             OpenFiles {
                 mut tiles,

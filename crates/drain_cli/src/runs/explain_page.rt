@@ -4,7 +4,7 @@ ghost use Rattle.std.specs.Prelude.{IfErr, Result};
 ghost use Rattle.drain_cli.specs.ExplainRuns.{Explains, FailsToSave};
 ghost use Rattle.drain_cli.specs.declared.runs.explain_page.MapFault.{MapFault};
 
-use crate::answer::answer_status;
+use crate::answer::outcome_status;
 use crate::runs::no_page::{NoPage, print_no_page};
 use drain_answer::print::print_text;
 use drain_args::form::Form;
@@ -75,7 +75,7 @@ fn save<B: ExplainOutput>(facts: &Facts, beside: &mut B) -> Result<(), MapFault>
 fn print_page<W: ByteSink>(alloc: Global, facts: &Facts, form: Form, out: &mut W) -> u8
     ensures { Explains W.ByteSink out.old out.new (λ fault. ⊥) form facts.now.answer result }
 {
-    let status = answer_status(&facts.answer);
+    let status = outcome_status(&facts.answer);
     match form {
         Form::Text => match page_text(alloc, facts) {
             Ok(page) => print_text(out, &page, status),

@@ -1,29 +1,29 @@
 //! Runs of `drain check` and `drain audit`: rasters are judged against the tiles that they were made from, and the
 //! answer is printed.
 
-ghost use Rattle.std.specs.Prelude.{◌≡◌, Result};
+ghost use Rattle.std.specs.Prelude.{◌≡◌, false, Result};
 ghost use Rattle.drain_answer.specs.AuditLines.{audit_report_line};
 ghost use Rattle.drain_answer.specs.Lines.{report_line};
 ghost use Rattle.drain_answer.specs.declared.audit_verdict.AuditVerdict.{AuditVerdict};
 ghost use Rattle.drain_answer.specs.declared.refusal.Refusal.{Refusal};
 ghost use Rattle.drain_cli.specs.AnswerStatuses.{answer_status};
-ghost use Rattle.drain_cli.specs.JudgedRuns.{IsAuditOutcome, IsCheckOutcome, IsPartOutcome};
-ghost use Rattle.drain_page.specs.declared.facts.Answer.TheVariants.{Audit, Check, Part};
-ghost use Rattle.drain_part_audit.specs.PartAudits.{ArePartsRight};
-ghost use Rattle.drain_part_audit.specs.PartLines.{part_report_line};
-ghost use Rattle.drain_part_audit.specs.declared.part_verdict.PartVerdict.{PartVerdict};
+ghost use Rattle.drain_cli.specs.JudgedRuns.{IsAuditOutcome, IsCheckOutcome, IsJudgedRun, IsPartOutcome};
+ghost use Rattle.drain_answer.specs.OutcomeLines.{outcome_report_line};
+ghost use Rattle.drain_answer.specs.declared.outcome.Outcome.{Outcome};
+ghost use Rattle.drain_cli.specs.declared.answer.Answer.TheVariants.{Audit, Check, Judged};
+ghost use Rattle.drain_grid.specs.Judged.{has_rnk};
+ghost use Rattle.drain_verdict.specs.Outcomes.{AreJudgedRight};
 ghost use Rattle.drain_answer.specs.Printing.{Prints};
 ghost use Rattle.drain_grid.specs.declared.verdict.Verdict.{Verdict};
 ghost use Rattle.drain_verdict.specs.Audits.{AreCorrect, ForAudit};
 ghost use Rattle.drain_verdict.specs.Headline.{ForCheck, IsRight};
 
-use crate::answer::print_answer;
+use crate::answer::{Answer, print_answer};
 use drain_device::{ByteSink, ByteSource};
+use drain_files::open_judged::JudgedProducts;
+use drain_grid::Judged;
 use drain_hgt::TileInput;
-use drain_page::Answer;
-use drain_part_audit::audit_part;
-use drain_parts::Given;
-use drain_verdict::{AuditProducts, Products, audit, check};
+use drain_verdict::{AuditProducts, Products, audit, audit_part, check};
 use std::alloc::Global;
 
 /// Checks products against their tiles, prints the line of the answer and returns the exit status.
@@ -74,26 +74,48 @@ pub fn run_audit<R: ByteSource, W: ByteSink>(
     print_answer(out, &Answer::Audit(answer))
 }
 
-/// Audits the given rasters against their tiles, prints the line of the answer and returns the exit status.
+/// Audits the judged rasters against their tiles, prints the line of the answer and returns the exit status.
 ///
-/// Arguments, reading and statuses are those of `run_check`. Of a raster that isn't given no number matters.
+/// Arguments, reading and statuses are those of `run_check`. Of a raster that isn't judged no number matters.
 pub fn run_part_audit<R: ByteSource, W: ByteSink>(
     alloc: Global,
     side: u32,
     tiles: &mut [TileInput<R>],
     sinks: &[u8],
     products: &mut AuditProducts<R>,
-    given: Given,
+    judged: Judged,
     out: &mut W,
 ) -> u8
-    ensures run { (answer : Result PartVerdict Refusal)
-        × IsPartOutcome R.ByteSource given side tiles.old tiles.new sinks.now products.old products.new answer
-        × Prints W.ByteSink out.old out.new (part_report_line answer) (answer_status (Part answer)) result }
+    ensures run { (answer : Result Outcome Refusal)
+        × IsPartOutcome R.ByteSource judged side tiles.old tiles.new sinks.now products.old products.new answer
+        × Prints W.ByteSink out.old out.new (outcome_report_line answer) (answer_status (Judged answer)) result }
 
-    // A run ends with 0 only if the given rasters are part of a correct set, and with 1 only if they aren't.
-    ensures correct { result ≡ 0 → ForAudit R.bytes_left side tiles.old sinks.now products.old (ArePartsRight given) }
-    ensures not_correct { result ≡ 1 → ForAudit R.bytes_left side tiles.old sinks.now products.old (λ inputs. ¬ ArePartsRight given inputs) }
+    // A run ends with 0 only if the judged rasters are right, and with 1 only if they aren't; ranks are none of these.
+    ensures correct { has_rnk judged ≡ false → result ≡ 0 → ForAudit R.bytes_left side tiles.old sinks.now products.old (AreJudgedRight judged) }
+    ensures not_correct { has_rnk judged ≡ false → result ≡ 1 → ForAudit R.bytes_left side tiles.old sinks.now products.old (λ inputs. ¬ AreJudgedRight judged inputs) }
 {
-    let answer = audit_part(alloc, side, tiles, sinks, products, given);
-    print_answer(out, &Answer::Part(answer))
+    let answer = audit_part(alloc, side, tiles, sinks, products, judged);
+    print_answer(out, &Answer::Judged(answer))
+}
+
+/// Judges the products that were opened: checks five, audits four or some of these. Prints the line of the answer and
+/// returns the exit status.
+pub fn run_judged<R: ByteSource, W: ByteSink>(
+    alloc: Global,
+    side: u32,
+    tiles: &mut [TileInput<R>],
+    sinks: &[u8],
+    products: &mut JudgedProducts<R>,
+    out: &mut W,
+) -> u8
+    // What is judged are the rasters of the products, on these tiles with these sinks.
+    ensures run { IsJudgedRun R.ByteSource W.ByteSink side tiles.old tiles.new sinks.now products.old products.new out.old out.new result }
+{
+    match products {
+        JudgedProducts::Five(five) => run_check(alloc, side, tiles, sinks, five, out),
+        JudgedProducts::Four(four, Judged::All) => run_audit(alloc, side, tiles, sinks, four, out),
+        JudgedProducts::Four(four, judged) => {
+            run_part_audit(alloc, side, tiles, sinks, four, *judged, out)
+        }
+    }
 }

@@ -1,6 +1,8 @@
 //! A run of `drain explain`: products are checked or audited against their tiles, and what is wrong with them is printed.
 
-ghost use Rattle.drain_page.specs.declared.facts.Answer.{Answer};
+ghost use Rattle.std.specs.Prelude.{Result};
+ghost use Rattle.drain_answer.specs.declared.outcome.Outcome as declared;
+ghost use Rattle.drain_answer.specs.declared.refusal.Refusal as declared_refusal;
 ghost use Rattle.drain_cli.specs.ExplainRuns.{Explains, FailsToSave, IsOutcome};
 
 use crate::runs::explain_page::{ExplainOutput, explain};
@@ -13,10 +15,8 @@ use drain_explain::{
 use drain_files::open_judged::JudgedProducts;
 use drain_grid::PerProduct;
 use drain_hgt::TileInput;
-use drain_page::{Answer, Facts};
-use drain_part_faults::explain_part;
-use drain_parts::Given;
-use drain_verdict::Refusal;
+use drain_page::Facts;
+use drain_verdict::{Outcome, Refusal};
 use std::alloc::Global;
 
 /// Explains the answer of a check or of an audit: prints a page that begins with its line, and returns its exit status.
@@ -34,17 +34,17 @@ pub fn run_explain<R: ByteSource, B: ExplainOutput + SecondLook, W: ByteSink>(
     beside: &mut B,
     out: &mut W,
 ) -> u8
-    ensures run { (answer : Answer)
+    ensures run { (answer : Result declared.Outcome declared_refusal.Refusal)
         × IsOutcome R.ByteSource side tiles.old tiles.new sinks.now products.old products.new answer
         × Explains W.ByteSink out.old out.new (FailsToSave B.ExplainOutput.has_saved) form answer result }
 {
     let (answer, findings) = explain_products(alloc, side, tiles, sinks, products, mapping);
-    let refusal = match refusal_of(&answer) {
-        Some(refusal) => {
+    let refusal = match answer {
+        Err(refusal) => {
             let headers = headers_of(products);
             detail_of(alloc, refusal, side, tiles, &headers, sinks, beside)
         }
-        None => None,
+        Ok(_) => None,
     };
     let facts = Facts {
         answer,
@@ -62,52 +62,34 @@ fn explain_products<R: ByteSource>(
     sinks: &[u8],
     products: &mut JudgedProducts<R>,
     mapping: Mapping,
-) -> (Answer, Option<Findings>)
+) -> (Result<Outcome, Refusal>, Option<Findings>)
     ensures { IsOutcome R.ByteSource side tiles.old tiles.new sinks.now products.old products.new result.0 }
 {
     match products {
-        JudgedProducts::Check(products) => {
-            let explained = explain_check(alloc, side, tiles, sinks, products, mapping);
-            let (answer, findings) = answer_and_findings(explained);
-            (Answer::Check(answer), findings)
+        JudgedProducts::Five(five) => {
+            answer_and_findings(explain_check(alloc, side, tiles, sinks, five, mapping))
         }
-        JudgedProducts::Audit(products) => {
-            let explained = explain_audit(alloc, side, tiles, sinks, products, mapping);
-            let (answer, findings) = answer_and_findings(explained);
-            (Answer::Audit(answer), findings)
-        }
-        JudgedProducts::Part(products, given) => {
-            let explained = explain_part(alloc, side, tiles, sinks, products, *given, mapping);
-            let (answer, findings) = answer_and_findings(explained);
-            (Answer::Part(answer), findings)
-        }
-    }
-}
-
-/// Why there is no verdict.
-fn refusal_of(answer: &Answer) -> Option<Refusal> {
-    match answer {
-        Answer::Check(Err(refusal)) | Answer::Audit(Err(refusal)) | Answer::Part(Err(refusal)) =>
-            Some(*refusal),
-        _ => None,
+        JudgedProducts::Four(four, judged) => answer_and_findings(
+            explain_audit(alloc, side, tiles, sinks, four, *judged, mapping),
+        ),
     }
 }
 
 /// The headers of the products, empty for ranks that weren't opened.
 fn headers_of<R>(products: &JudgedProducts<R>) -> PerProduct<&[u8]> {
     match products {
-        JudgedProducts::Check(products) => PerProduct {
-            con: products.con.header.as_slice(),
-            dir: products.dir.header.as_slice(),
-            acc: products.acc.header.as_slice(),
-            bas: products.bas.header.as_slice(),
-            rnk: products.rnk.header.as_slice(),
+        JudgedProducts::Five(five) => PerProduct {
+            con: five.con.header.as_slice(),
+            dir: five.dir.header.as_slice(),
+            acc: five.acc.header.as_slice(),
+            bas: five.bas.header.as_slice(),
+            rnk: five.rnk.header.as_slice(),
         },
-        JudgedProducts::Audit(products) | JudgedProducts::Part(products, _) => PerProduct {
-            con: products.con.header.as_slice(),
-            dir: products.dir.header.as_slice(),
-            acc: products.acc.header.as_slice(),
-            bas: products.bas.header.as_slice(),
+        JudgedProducts::Four(four, _) => PerProduct {
+            con: four.con.header.as_slice(),
+            dir: four.dir.header.as_slice(),
+            acc: four.acc.header.as_slice(),
+            bas: four.bas.header.as_slice(),
             rnk: &[],
         },
     }

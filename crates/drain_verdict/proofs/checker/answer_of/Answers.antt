@@ -1,7 +1,8 @@
-use Rattle.std.proofs.Common.{Err}
+use Rattle.std.proofs.Common.{Ok, Err}
 use Rattle.std.proofs.lemmas.Result.{err_from_is_err_and}
 use Rattle.drain_verdict.specs.Devices.{devices_of}
-use Rattle.drain_verdict.proofs.Uses.{uses_none}
+use Rattle.drain_verdict.proofs.AuditDevices.{failed_alike, none_alike}
+use Rattle.drain_verdict.proofs.Uses.{uses_alike, uses_none}
 use Rattle.drain_verdict.proofs.StartAnswers.{at_side, laid, layout_answer, layout_reads_none}
 use Rattle.drain_verdict.proofs.checker.answer_of.Goals as goal
 
@@ -21,3 +22,21 @@ judge-requires-clause-laid g c = laid c.args.side _ c.in_ok-layout.layout c.in_o
 
 pub judge-requires-clause-unnoted : goal.judge-requires-clause-unnoted
 judge-requires-clause-unnoted g c = λ rules grid ps. record { rows_are = c.new-walk.ensures.rows; right = c.new-walk.ensures.outcome rules grid ps }
+
+pub returns-in_err-judgement-clause-uses : goal.returns-in_err-judgement-clause-uses
+returns-in_err-judgement-clause-uses g c =
+    let told = err_from_is_err_and c.from_residual-in_err-judgement.result c.from_residual-in_err-judgement.ensures.1 in
+    let uses = c.in_err-judgement.ensures.uses in
+    rw (told.1, told.2) (uses_alike (λ ps. ps) devices_of g.R.ByteSource.bytes_left g.R.ByteSource.counts c.in_ok-layout.layout.side c.args.side (c.args.tiles.now, c.args.products.now) (c.judge.new.tiles, c.judge.new.products)
+    (Err c.in_err-judgement.field-0.0) (Err c.in_err-judgement.field-0.0) c.in_ok-layout.ensures.layout.side_is (failed_alike c.in_err-judgement.field-0.0) uses.untouched uses)
+
+pub returns-clause-uses : goal.returns-clause-uses
+returns-clause-uses g c =
+    uses_alike (λ ps. ps) devices_of g.R.ByteSource.bytes_left g.R.ByteSource.counts c.in_ok-layout.layout.side c.args.side (c.args.tiles.now, c.args.products.now) (c.judge.new.tiles, c.judge.new.products)
+    (Ok c.in_ok-judgement.judgement) (Ok c.in_ok-judgement.judgement.verdict) c.in_ok-layout.ensures.layout.side_is (none_alike c.in_ok-judgement.judgement c.in_ok-judgement.judgement.verdict) tt c.in_ok-judgement.ensures.uses
+
+pub returns-clause-answer : goal.returns-clause-answer
+returns-clause-answer g c = λ inputs tell.
+    let j = c.in_ok-judgement.ensures.answer inputs
+    (at_side g.R.ByteSource.bytes_left c.args.side c.args.tiles.now c.args.sinks.now c.args.products.now inputs c.in_ok-layout.layout c.in_ok-layout.ensures.layout tell) in
+    (j.readable, j.verdict)

@@ -1,7 +1,7 @@
-use Rattle.std.proofs.Common.{◌∙◌, Ok, Err, refl, sym, ap, subst}
+use Rattle.std.proofs.Common.{◌∙◌, Ok, Err, refl, sym, ap, subst, rules}
 use Rattle.std.proofs.lemmas.Result.{err_from_is_err_and}
 use Rattle.drain_answer.specs.declared.refusal.Refusal.TheVariants.{OutOfMemory}
-use Rattle.drain_grid.specs.Size.{Extent}
+use Rattle.drain_grid.specs.Size.{Extent, IsExtent}
 use Rattle.drain_grid.specs.SinkTexts.{sinks_of}
 use Rattle.drain_verdict.specs.Answers.{rules_at}
 use Rattle.drain_verdict.specs.Devices.{devices_of}
@@ -38,6 +38,7 @@ returns-in-Ok-clause-answer g c = λ inputs tell.
     let verdict = c.verdict-verdict.ensures (rules_at c.args.judged inputs) (input_grid inputs) (input_products inputs) (sym extent) noted.1 in
     record {
       readable = answer;
+      extent = subst IsExtent extent (search rules);
       verdict = verdict;
       decided = c.in-Ok.ensures.cell (rules_at c.args.judged inputs) (listed_in inputs) (input_grid inputs) (input_products inputs) c.requires.decides refl (sym extent) listed
           (λ c inside. refl) rows verdict;
@@ -60,8 +61,8 @@ returns-in-Ok-clause-uses g c =
     uses_alike inputs (λ ts ps. devices_of ts (inputs ps)) g.R.ByteSource.bytes_left g.R.ByteSource.counts c.args.layout.now.side c.args.layout.now.side (c.args.tiles.now, c.args.products.now) (c.read_inputs.new.tiles, c.read_inputs.new.products)
     (Ok c.in_ok-read_inputs.field-0) (Ok _) refl (none_alike c.in_ok-read_inputs.field-0 _) tt c.in_ok-read_inputs.ensures.uses
 
-pub returns-clause-uses : goal.returns-clause-uses
-returns-clause-uses g c =
+pub returns-in-Err-clause-uses : goal.returns-in-Err-clause-uses
+returns-in-Err-clause-uses g c =
     let inputs = g.P.ProductInputs.inputs in
     uses_alike inputs (λ ts ps. devices_of ts (inputs ps)) g.R.ByteSource.bytes_left g.R.ByteSource.counts c.args.layout.now.side c.args.layout.now.side (c.args.tiles.now, c.args.products.now) (c.read_inputs.new.tiles, c.read_inputs.new.products)
     (Ok c.in_ok-read_inputs.field-0) (Err OutOfMemory) refl (memory_alike c.in_ok-read_inputs.field-0) (λ not. absurd (not tt)) c.in_ok-read_inputs.ensures.uses

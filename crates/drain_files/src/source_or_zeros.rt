@@ -1,4 +1,4 @@
-//! A source that may be missing: zeros take the place of a raster that isn't given.
+//! A source, or zeros in the place of a raster that isn't judged.
 
 ghost use Rattle.std.specs.Prelude.{◌≡◌, Some, replicate};
 ghost use Rattle.drain_device.specs.Counts.{no_faults};
@@ -7,22 +7,22 @@ use drain_device::{ByteSource, DeviceFault};
 
 /// A source, or this many zeros in its place.
 #[derive(Drop)]
-pub enum MaybeSource<R> {
-    Given(R),
+pub enum SourceOrZeros<R> {
+    Source(R),
     Zeros(usize),
 }
 
-impl<R> MaybeSource<R> {
+impl<R> SourceOrZeros<R> {
     /// As many zeros as any raster has bytes.
-    pub fn missing() -> MaybeSource<R>
-        ensures { result ≡ MaybeSource.Zeros 9223372036854775807 }
+    pub fn missing() -> SourceOrZeros<R>
+        ensures { result ≡ SourceOrZeros.Zeros 9223372036854775807 }
     {
-        MaybeSource::Zeros(usize::MAX / 2)
+        SourceOrZeros::Zeros(usize::MAX / 2)
     }
 }
 
-impl<R: ByteSource> ByteSource for MaybeSource<R> {
-    ghost use Rattle.drain_parts.specs.Source.{bytes_of, source_counts};
+impl<R: ByteSource> ByteSource for SourceOrZeros<R> {
+    ghost use Rattle.drain_files.specs.SourceOrZeros.{bytes_of, source_counts};
 
     ghost bytes_left = { bytes_of R.bytes_left };
 
@@ -30,8 +30,8 @@ impl<R: ByteSource> ByteSource for MaybeSource<R> {
 
     fn read_some(&mut self, out: &mut [u8]) -> Result<usize, DeviceFault> {
         match self {
-            MaybeSource::Given(source) => source.read_some(out),
-            MaybeSource::Zeros(left) => {
+            SourceOrZeros::Source(source) => source.read_some(out),
+            SourceOrZeros::Zeros(left) => {
                 let n = out.len().min(*left);
                 out[..n].fill(0);
                 *left -= n;
@@ -42,15 +42,15 @@ impl<R: ByteSource> ByteSource for MaybeSource<R> {
 
     fn failures(&self) -> u64 {
         match self {
-            MaybeSource::Given(source) => source.failures(),
-            MaybeSource::Zeros(_) => 0,
+            SourceOrZeros::Source(source) => source.failures(),
+            SourceOrZeros::Zeros(_) => 0,
         }
     }
 
     fn interruptions(&self) -> u64 {
         match self {
-            MaybeSource::Given(source) => source.interruptions(),
-            MaybeSource::Zeros(_) => 0,
+            SourceOrZeros::Source(source) => source.interruptions(),
+            SourceOrZeros::Zeros(_) => 0,
         }
     }
 }
