@@ -10,7 +10,7 @@ use drain_device::faults::{ScriptSink, Scripted, SinkAnswer};
 use drain_explain::{Mapping, SecondLook};
 use drain_files::map_file::write_map;
 use drain_files::open_judged::JudgedProducts;
-use drain_grid::Product;
+use drain_grid::{Judged, Product};
 use drain_maker::product_files::SetFault;
 use drain_mosaic::Layout;
 use std::alloc::{AllocError, Global};
@@ -104,7 +104,7 @@ fn explain(
     out: &mut ScriptSink<'_>,
 ) -> Result<Explained, Fail> {
     let mut tiles = [tile(alloc, TILE)?];
-    let mut products = JudgedProducts::Audit(four(alloc, &[0; 4], &[1, 2, 3, 4])?);
+    let mut products = JudgedProducts::Four(four(alloc, &[0; 4], &[1, 2, 3, 4])?, Judged::All);
     let status = run_explain(
         alloc,
         2,

@@ -1,16 +1,16 @@
 //! Opening files to read, tiles and a list of sinks among them, and creating files to write.
 
-ghost use Rattle.std.specs.Prelude.{◌≡◌, IfOk, length, vec_len};
+ghost use Rattle.std.specs.Prelude.{◌≡◌, IfOk, length, vec_len, [], None};
 ghost use Rattle.std.specs.List.{AllZip};
 ghost use Rattle.drain_hgt.specs.Inputs.{names_of};
 ghost use Rattle.drain_files.specs.FilePaths.{IsLastPart};
 ghost use Rattle.drain_maker.specs.declared.product_files.TheConstants.{FILE_COUNT};
 
-use crate::source_or_zeros::SourceOrZeros;
 use crate::file_id::FileId;
 use crate::file_paths::tile_name;
 use crate::outputs::{OutputSink, Outputs};
 use crate::reason::Reason;
+use crate::source_or_zeros::SourceOrZeros;
 use crate::text_file::read_text;
 use drain_device::{BodyFault, ByteList, Reader, Writer};
 use drain_hgt::TileInput;
@@ -146,7 +146,7 @@ fn open_tile<'a>(opener: &mut Opener<'_>, path: &str) -> Result<TileInput<InputF
 
 /// The bytes of the list of sinks at this path; none if no list is named.
 pub fn list_at(opener: &mut Opener<'_>, path: Option<&str>) -> Result<Vec<u8>, OpenFault>
-    ensures { path ≡ None → IfOk result (λ text. text.items ≡ []) }
+    ensures { path.entry ≡ None → IfOk result (λ text. text.items ≡ []) }
 {
     let alloc = opener.alloc();
     let Some(path) = path else {

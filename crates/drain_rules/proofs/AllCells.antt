@@ -1,5 +1,5 @@
 -- Where all cells are judged, what is found of them is so of the grid.
-use Rattle.std.proofs.Common.{◌≡◌, ℕ, ◌+◌, ◌-◌, ◌<◌, ◌≤◌, min, inl, inr, Bool, true, false, IsTrue, List, map, refl, sym, ◌∙◌, subst, arith}
+use Rattle.std.proofs.Common.{◌≡◌, ℕ, ◌-◌, ◌<◌, ◌≤◌, min, inl, inr, Bool, true, false, IsTrue, map, refl, sym, subst, arith}
 use Rattle.std.specs.List.{flat_map, range_with_len}
 use Rattle.drain_grid.specs.declared.cell.Cell.{Cell}
 use Rattle.drain_grid.specs.declared.cell.TheConstants.{MAX_LENGTH}
@@ -14,7 +14,7 @@ use Rattle.drain_rules.specs.declared.area.Area.{Area}
 use Rattle.drain_rules.specs.declared.tally.Tally.{Tally}
 use Rattle.drain_rules.specs.AreaOutcomes.{AreSound}
 use Rattle.drain_rules.specs.AreaRows.{IsNewLabelBetween}
-use Rattle.drain_rules.specs.Areas.{CountsAmong, HasCell, HasRow, IsFirstAmong, everywhere}
+use Rattle.drain_rules.specs.Areas.{CountsAmong, HasCell, IsFirstAmong, everywhere}
 use Rattle.drain_rules.specs.Compared.{IfCompared, IsTriedIf}
 use Rattle.drain_rules.specs.Labels.{HasNewLabel}
 use Rattle.drain_rules.specs.Rows.{place}

@@ -1,5 +1,5 @@
 -- The first fault of the judged rasters at a patch, from the answers on the surface and on where water goes.
-use Rattle.std.proofs.Common.{◌↔◌, Option, Some, None, arith}
+use Rattle.std.proofs.Common.{◌↔◌, Option, None, arith}
 use Rattle.drain_grid.specs.declared.patch.Patch.{Patch}
 use Rattle.drain_grid.specs.declared.rule.Rule.{Rule}
 use Rattle.drain_grid.specs.declared.rule.Rule.TheVariants.{VoidCell, BadCode, BelowGround, OpenRaised, NoSpill, SpillHeight, SpillRank, NotLeast}

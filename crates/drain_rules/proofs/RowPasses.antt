@@ -1,5 +1,5 @@
 -- Between two places of one row, or of two rows, lies no judged outlet; and the cells that are passed at once.
-use Rattle.std.proofs.Common.{◌≡◌, ℕ, ◌+◌, ◌-◌, ◌<◌, ◌≤◌, ◌↔◌, min, inl, inr, Bool, List, map, refl, sym, ap, subst, arith}
+use Rattle.std.proofs.Common.{◌≡◌, ℕ, ◌+◌, ◌-◌, ◌<◌, ◌≤◌, ◌↔◌, min, inl, inr, Bool, map, refl, sym, ap, subst, arith}
 use Rattle.std.specs.List.{range_with_len}
 use Rattle.std.proofs.lemmas.Bool.{cases_lt}
 use Rattle.drain_grid.specs.declared.cell.Cell.{Cell}
@@ -15,7 +15,7 @@ use Rattle.drain_rules.specs.declared.area.Area.{Area}
 use Rattle.drain_rules.specs.declared.kept.Kept.{Kept}
 use Rattle.drain_rules.specs.declared.tally.Tally.{Tally}
 use Rattle.drain_rules.specs.AreaRows.{IsAreaTally, cells_between}
-use Rattle.drain_rules.specs.Areas.{CountsAmong, HasCell, HasRow, IsOutletCell, row_cells_in}
+use Rattle.drain_rules.specs.Areas.{CountsAmong, HasCell, HasRow, IsOutletCell}
 use Rattle.drain_rules.specs.BlankVoids.{IsRightVoid}
 use Rattle.drain_rules.specs.Compared.{IsTriedIf}
 use Rattle.drain_rules.specs.KeptRuns.{raised_between}

@@ -1,5 +1,5 @@
 -- The result of the judged cells above a row: one's own rules kept, and counted; or the first fault.
-use Rattle.std.specs.Prelude.{ℕ, ◌<◌, Bool}
+use Rattle.std.specs.Prelude.{ℕ, ◌<◌}
 use Rattle.drain_grid.specs.declared.cell.Cell.{Cell}
 use Rattle.drain_grid.specs.declared.rule.Rule.{Rule}
 use Rattle.drain_grid.specs.Grid.{Grid, Products}

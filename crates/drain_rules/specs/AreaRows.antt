@@ -1,5 +1,5 @@
 -- What a walk along the judged cells of one row finds.
-use Rattle.std.specs.Prelude.{◌≡◌, ℕ, pos, Bool, ◌+◌, ◌-◌, ◌<◌, ◌≤◌, min, List, map}
+use Rattle.std.specs.Prelude.{ℕ, Bool, ◌+◌, ◌-◌, ◌<◌, ◌≤◌, min, List, map}
 use Rattle.std.specs.List.{range_with_len}
 use Rattle.drain_grid.specs.declared.cell.Cell.{Cell}
 use Rattle.drain_grid.specs.declared.patch.Patch.{Patch}

@@ -1,10 +1,10 @@
 //! The verdict on a grid's products, and on a fill input: each rule at each cell, the first fault, and the counts of an
 //! acceptance.
 //!
-//! A walk scans the cells in row order and looks at one patch at a time. It stops at the first fault, so the cells
-//! before it keep every rule. Of these it keeps three counts, and for the rule SharedLabel the labels of outlets. It is
-//! generic over rows that show patches: those of whole rasters, or three rows of numbers. That rules kept at every cell
-//! make the products correct is `drain_grid`'s law `correct_from_rules`. The walk over a fill input checks only rules 4
+//! A walk scans the judged cells in row order and looks at one patch at a time. It stops at the first fault, so the cells
+//! before it keep every rule. Of these it keeps three counts, and the outlets: their labels, which the rule SharedLabel
+//! compares, or a list of them. It is generic over what is kept, and over rows that show patches: those of whole
+//! rasters, or three rows of numbers. That rules kept at every cell make the products correct is `drain_grid`'s law `correct_from_rules`. The walk over a fill input checks only rules 4
 //! to 9; that these make the filled surface is the law `least_from_rules`.
 #![tactic(auto)]
 

@@ -2,7 +2,7 @@ use Rattle.std.proofs.Common.{IsTrue}
 use Rattle.drain_grid.specs.Judged.{has_bas}
 use Rattle.drain_grid.specs.RulesAbout.{tried}
 use Rattle.drain_rules.specs.Compared.{IfCompared}
-use Rattle.drain_rules.proofs.Faults.{holds_tried, shared_fault, untried}
+use Rattle.drain_rules.proofs.Faults.{holds_tried, untried}
 use Rattle.drain_rules.proofs.cell_rules.check_cell.Goals as goal
 use Rattle.drain_rules.proofs.cell_rules.check_cell.Goals.{then-is_new, else-is_new}
 

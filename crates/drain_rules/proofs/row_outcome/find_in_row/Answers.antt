@@ -1,4 +1,4 @@
-use Rattle.std.proofs.Common.{◌+◌, ◌∙◌, sym, arith}
+use Rattle.std.proofs.Common.{◌+◌, arith}
 use Rattle.drain_grid.specs.RulesAbout.{tried}
 use Rattle.drain_rules.specs.Compared.{IsTriedIf}
 use Rattle.drain_rules.specs.Rows.{place}

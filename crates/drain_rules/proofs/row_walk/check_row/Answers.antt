@@ -1,13 +1,10 @@
-use Rattle.std.proofs.Common.{◌≡◌, ℕ, ◌+◌, ◌-◌, ◌<◌, ◌≤◌, min, refl, sym, ◌∙◌, ap, subst, arith}
+use Rattle.std.proofs.Common.{◌≡◌, ℕ, ◌+◌, ◌≤◌, min, refl, sym, ◌∙◌, ap, subst, arith}
 use Rattle.drain_grid.specs.declared.cell.TheConstants.{MAX_LENGTH}
 use Rattle.drain_grid.specs.declared.patch.Patch.{Patch}
-use Rattle.drain_grid.specs.Grid.{Grid, Products}
 use Rattle.drain_grid.specs.RulesAbout.{tried}
 use Rattle.drain_rules.specs.declared.area.Area.{Area}
-use Rattle.drain_rules.specs.AreaRows.{IsAreaTally}
 use Rattle.drain_rules.specs.Areas.{HasCell}
 use Rattle.drain_rules.specs.Compared.{IsTriedIf}
-use Rattle.drain_rules.specs.PatchRows.{AreRowPatches}
 use Rattle.drain_rules.specs.Rows.{place}
 use Rattle.drain_rules.proofs.CountBounds.{bounds-next, raised-fit}
 use Rattle.drain_rules.proofs.KeptCells.{bounds-kept}
@@ -36,9 +33,9 @@ loop-col-init g c =
       within = omega (arith, begin);
       passed = λ grid ps are before. (
         subst (λ n. IsPassed (tried c.args.rules.now) (IsTriedIf g.L.Labels.compares c.args.rules.now.judged) grid ps c.args.row
-        (min (g.L.Labels.judges c.args.labels.now).left c.min-end.result) n c.new-tally.result) (sym begin)
-        (passed-none (tried c.args.rules.now) (IsTriedIf g.L.Labels.compares c.args.rules.now.judged) grid ps c.args.row
-        (min (g.L.Labels.judges c.args.labels.now).left c.min-end.result) c.new-tally.result c.new-tally.ensures),
+            (min (g.L.Labels.judges c.args.labels.now).left c.min-end.result) n c.new-tally.result) (sym begin)
+            (passed-none (tried c.args.rules.now) (IsTriedIf g.L.Labels.compares c.args.rules.now.judged) grid ps c.args.row
+            (min (g.L.Labels.judges c.args.labels.now).left c.min-end.result) c.new-tally.result c.new-tally.ensures),
         to-begin g.L.Labels.judges g.L.Labels.are_before g.met.L.Labels.passed grid ps c.args.row c.args.labels.now c.requires.row
             (narrow c.cols-cols.result (g.R.PatchRow.len c.args.patches.now) grid.extent.cols c.cols-cols.ensures.narrow c.cols-cols.ensures.count are.cols_are)
             c.min-col.result (omega (arith, begin)) before,
@@ -71,22 +68,22 @@ returns-in-Err-clause-stopped g c = λ grid ps are before.
     let run = c.add_kept.ensures in
     let voids = c.voids_until-col.ensures in
     let passed = passed-both g.L.Labels.compares c.args.rules.now.judged (tried c.args.rules.now) grid ps c.args.row (min (g.L.Labels.judges c.args.labels.now).left c.min-end.result)
-          (g.R.PatchRow.len c.args.patches.now) (g.R.PatchRow.shown c.args.patches.now) c.loop-col.col c.voids_until-col.result c.kept_from-kept.result c.loop-col.tally c.add_kept.new.self
-          are c.loop-col.invariant.past kept.forward voids.forward (omega (arith, voids.within, c.min-end.ensures, c.cols-cols.ensures.count)) (c.loop-col.invariant.passed grid ps are before).0
-          kept.kept kept.raised run.data_cells run.raised run.outlets voids.right in
+    (g.R.PatchRow.len c.args.patches.now) (g.R.PatchRow.shown c.args.patches.now) c.loop-col.col c.voids_until-col.result c.kept_from-kept.result c.loop-col.tally c.add_kept.new.self
+    are c.loop-col.invariant.past kept.forward voids.forward (omega (arith, voids.within, c.min-end.ensures, c.cols-cols.ensures.count)) (c.loop-col.invariant.passed grid ps are before).0
+    kept.kept kept.raised run.data_cells run.raised run.outlets voids.right in
     let labels = along-run g.L.Labels.judges g.L.Labels.are_before g.met.L.Labels.passed grid ps c.args.row c.loop-col.labels c.requires.row
-          (narrow c.cols-cols.result (g.R.PatchRow.len c.args.patches.now) grid.extent.cols c.cols-cols.ensures.narrow c.cols-cols.ensures.count are.cols_are)
-          (g.R.PatchRow.len c.args.patches.now) c.loop-col.col c.voids_until-col.result (g.R.PatchRow.shown c.args.patches.now) are (omega (arith, kept.forward, voids.forward))
-          (omega (arith, voids.within, c.min-end.ensures, c.cols-cols.ensures.count))
-          (none-between (tried c.args.rules.now) (g.R.PatchRow.shown c.args.patches.now) c.loop-col.col c.kept_from-kept.result.end c.voids_until-col.result kept.kept voids.right)
-          (c.loop-col.invariant.passed grid ps are before).1 in
+    (narrow c.cols-cols.result (g.R.PatchRow.len c.args.patches.now) grid.extent.cols c.cols-cols.ensures.narrow c.cols-cols.ensures.count are.cols_are)
+    (g.R.PatchRow.len c.args.patches.now) c.loop-col.col c.voids_until-col.result (g.R.PatchRow.shown c.args.patches.now) are (omega (arith, kept.forward, voids.forward))
+    (omega (arith, voids.within, c.min-end.ensures, c.cols-cols.ensures.count))
+    (none-between (tried c.args.rules.now) (g.R.PatchRow.shown c.args.patches.now) c.loop-col.col c.kept_from-kept.result.end c.voids_until-col.result kept.kept voids.right)
+    (c.loop-col.invariant.passed grid ps are before).1 in
     let end = end_is c.area-area.result (g.L.Labels.judges c.args.labels.now) c.min-end.result c.cols-cols.result (g.R.PatchRow.len c.args.patches.now) grid.extent.cols
-          c.min-end.ensures c.area-area.ensures c.cols-cols.ensures.count are.cols_are in
+    c.min-end.ensures c.area-area.ensures c.cols-cols.ensures.count are.cols_are in
     stops-row g.L.Labels.compares c.args.rules.now.judged (tried c.args.rules.now) (g.L.Labels.is_new c.loop-col.labels) (g.L.Labels.judges c.args.labels.now) grid ps c.args.row
-          c.voids_until-col.result (g.R.PatchRow.len c.args.patches.now) c.min-end.result (g.R.PatchRow.shown c.args.patches.now) are end (omega (arith, c.loop-col.invariant.past, kept.forward, voids.forward)) c.if-col-end.true
-          (λ compared. g.met.L.Labels.tells_shared grid ps (place c.args.row c.voids_until-col.result) c.loop-col.labels compared
-          (inside-row grid ps c.args.row c.voids_until-col.result (g.R.PatchRow.len c.args.patches.now) (g.R.PatchRow.shown c.args.patches.now) are
-          (omega (arith, c.if-col-end.true, c.min-end.ensures, c.cols-cols.ensures.count))) labels) c.in-Err.stop c.add_kept.new.self passed c.in-Err.ensures.stopped
+    c.voids_until-col.result (g.R.PatchRow.len c.args.patches.now) c.min-end.result (g.R.PatchRow.shown c.args.patches.now) are end (omega (arith, c.loop-col.invariant.past, kept.forward, voids.forward)) c.if-col-end.true
+    (λ compared. g.met.L.Labels.tells_shared grid ps (place c.args.row c.voids_until-col.result) c.loop-col.labels compared
+    (inside-row grid ps c.args.row c.voids_until-col.result (g.R.PatchRow.len c.args.patches.now) (g.R.PatchRow.shown c.args.patches.now) are
+    (omega (arith, c.if-col-end.true, c.min-end.ensures, c.cols-cols.ensures.count))) labels) c.in-Err.stop c.add_kept.new.self passed c.in-Err.ensures.stopped
 
 pub loop-col-preserved-then-col-end : goal.loop-col-preserved-then-col-end
 loop-col-preserved-then-col-end g c =
@@ -113,13 +110,12 @@ loop-col-preserved-then-col-end g c =
           let end = end_is c.area-area.result (g.L.Labels.judges c.args.labels.now) c.min-end.result c.cols-cols.result (g.R.PatchRow.len c.args.patches.now) grid.extent.cols
           c.min-end.ensures c.area-area.ensures c.cols-cols.ensures.count are.cols_are in
           let inside = inside-row grid ps c.args.row c.voids_until-col.result (g.R.PatchRow.len c.args.patches.now) (g.R.PatchRow.shown c.args.patches.now) are
-          (omega (arith, c.if-col-end.true, c.min-end.ensures, c.cols-cols.ensures.count)) in
-          (
+          (omega (arith, c.if-col-end.true, c.min-end.ensures, c.cols-cols.ensures.count)) in (
             passed-next g.L.Labels.compares c.args.rules.now.judged (tried c.args.rules.now) (g.L.Labels.is_new c.loop-col.labels) (g.L.Labels.judges c.args.labels.now) grid ps c.args.row
-          c.voids_until-col.result (g.R.PatchRow.len c.args.patches.now) c.min-end.result (g.R.PatchRow.shown c.args.patches.now) are end (omega (arith, c.loop-col.invariant.past, kept.forward, voids.forward)) c.if-col-end.true
-          (λ compared. g.met.L.Labels.tells_shared grid ps (place c.args.row c.voids_until-col.result) c.loop-col.labels compared
-          (inside-row grid ps c.args.row c.voids_until-col.result (g.R.PatchRow.len c.args.patches.now) (g.R.PatchRow.shown c.args.patches.now) are
-          (omega (arith, c.if-col-end.true, c.min-end.ensures, c.cols-cols.ensures.count))) labels) c.in-Ok.here c.add_kept.new.self c.add.new.self c.in-Ok.ensures.values passed c.in-Ok.ensures.passed add.data_cells add.raised add.outlets,
+                c.voids_until-col.result (g.R.PatchRow.len c.args.patches.now) c.min-end.result (g.R.PatchRow.shown c.args.patches.now) are end (omega (arith, c.loop-col.invariant.past, kept.forward, voids.forward)) c.if-col-end.true
+                (λ compared. g.met.L.Labels.tells_shared grid ps (place c.args.row c.voids_until-col.result) c.loop-col.labels compared
+                (inside-row grid ps c.args.row c.voids_until-col.result (g.R.PatchRow.len c.args.patches.now) (g.R.PatchRow.shown c.args.patches.now) are
+                (omega (arith, c.if-col-end.true, c.min-end.ensures, c.cols-cols.ensures.count))) labels) c.in-Ok.here c.add_kept.new.self c.add.new.self c.in-Ok.ensures.values passed c.in-Ok.ensures.passed add.data_cells add.raised add.outlets,
             g.met.L.Labels.one_more grid ps c.args.row c.voids_until-col.result (g.R.PatchRow.shown c.args.patches.now c.voids_until-col.result).here c.loop-col.labels c.check_cell.new.labels
                 inside
                 (subst (λ (a : Area). HasCell a (place c.args.row c.voids_until-col.result)) (sym c.loop-col.invariant.judges)
@@ -150,15 +146,15 @@ loop-col-preserved g c =
       within = voids.within;
       passed = λ grid ps are before. (
         passed-both g.L.Labels.compares c.args.rules.now.judged (tried c.args.rules.now) grid ps c.args.row (min (g.L.Labels.judges c.args.labels.now).left c.min-end.result)
-          (g.R.PatchRow.len c.args.patches.now) (g.R.PatchRow.shown c.args.patches.now) c.loop-col.col c.voids_until-col.result c.kept_from-kept.result c.loop-col.tally c.add_kept.new.self
-          are c.loop-col.invariant.past kept.forward voids.forward (omega (arith, voids.within, c.min-end.ensures, c.cols-cols.ensures.count)) (c.loop-col.invariant.passed grid ps are before).0
-          kept.kept kept.raised run.data_cells run.raised run.outlets voids.right,
+            (g.R.PatchRow.len c.args.patches.now) (g.R.PatchRow.shown c.args.patches.now) c.loop-col.col c.voids_until-col.result c.kept_from-kept.result c.loop-col.tally c.add_kept.new.self
+            are c.loop-col.invariant.past kept.forward voids.forward (omega (arith, voids.within, c.min-end.ensures, c.cols-cols.ensures.count)) (c.loop-col.invariant.passed grid ps are before).0
+            kept.kept kept.raised run.data_cells run.raised run.outlets voids.right,
         along-run g.L.Labels.judges g.L.Labels.are_before g.met.L.Labels.passed grid ps c.args.row c.loop-col.labels c.requires.row
-          (narrow c.cols-cols.result (g.R.PatchRow.len c.args.patches.now) grid.extent.cols c.cols-cols.ensures.narrow c.cols-cols.ensures.count are.cols_are)
-          (g.R.PatchRow.len c.args.patches.now) c.loop-col.col c.voids_until-col.result (g.R.PatchRow.shown c.args.patches.now) are (omega (arith, kept.forward, voids.forward))
-          (omega (arith, voids.within, c.min-end.ensures, c.cols-cols.ensures.count))
-          (none-between (tried c.args.rules.now) (g.R.PatchRow.shown c.args.patches.now) c.loop-col.col c.kept_from-kept.result.end c.voids_until-col.result kept.kept voids.right)
-          (c.loop-col.invariant.passed grid ps are before).1,
+            (narrow c.cols-cols.result (g.R.PatchRow.len c.args.patches.now) grid.extent.cols c.cols-cols.ensures.narrow c.cols-cols.ensures.count are.cols_are)
+            (g.R.PatchRow.len c.args.patches.now) c.loop-col.col c.voids_until-col.result (g.R.PatchRow.shown c.args.patches.now) are (omega (arith, kept.forward, voids.forward))
+            (omega (arith, voids.within, c.min-end.ensures, c.cols-cols.ensures.count))
+            (none-between (tried c.args.rules.now) (g.R.PatchRow.shown c.args.patches.now) c.loop-col.col c.kept_from-kept.result.end c.voids_until-col.result kept.kept voids.right)
+            (c.loop-col.invariant.passed grid ps are before).1,
       );
       judges = c.loop-col.invariant.judges;
       bounds = record { data_cells = omega (arith, bounds.data_cells, voids.forward); raised = bounds.raised; outlets = bounds.outlets };
@@ -167,7 +163,7 @@ loop-col-preserved g c =
 pub returns-clause-tally : goal.returns-clause-tally
 returns-clause-tally g c = λ grid ps are before.
     let end = end_is c.area-area.result (g.L.Labels.judges c.args.labels.now) c.min-end.result c.cols-cols.result (g.R.PatchRow.len c.args.patches.now) grid.extent.cols
-          c.min-end.ensures c.area-area.ensures c.cols-cols.ensures.count are.cols_are in
+    c.min-end.ensures c.area-area.ensures c.cols-cols.ensures.count are.cols_are in
     let last : c.loop-col.col ≡ c.min-end.result = omega (arith, c.loop-col-test.false, c.loop-col.invariant.within) in
     passed-row (tried c.args.rules.now) (IsTriedIf g.L.Labels.compares c.args.rules.now.judged) (g.L.Labels.judges c.args.labels.now) grid ps c.args.row c.min-end.result c.loop-col.tally end
     (subst (λ n. IsPassed (tried c.args.rules.now) (IsTriedIf g.L.Labels.compares c.args.rules.now.judged) grid ps c.args.row
@@ -176,7 +172,7 @@ returns-clause-tally g c = λ grid ps are before.
 pub returns-clause-labels : goal.returns-clause-labels
 returns-clause-labels g c = λ grid ps are before.
     let end = end_is c.area-area.result (g.L.Labels.judges c.args.labels.now) c.min-end.result c.cols-cols.result (g.R.PatchRow.len c.args.patches.now) grid.extent.cols
-          c.min-end.ensures c.area-area.ensures c.cols-cols.ensures.count are.cols_are in
+    c.min-end.ensures c.area-area.ensures c.cols-cols.ensures.count are.cols_are in
     let last : c.loop-col.col ≡ c.min-end.result = omega (arith, c.loop-col-test.false, c.loop-col.invariant.within) in
     let there = subst (λ (a : Area). c.min-end.result ≡ min a.right grid.extent.cols) (sym c.loop-col.invariant.judges) end in
     to-next-row g.L.Labels.judges g.L.Labels.are_before g.met.L.Labels.passed grid ps c.args.row c.loop-col.labels c.requires.row

@@ -1,4 +1,4 @@
-use Rattle.std.proofs.Common.{◌≡◌, ℕ, ◌-◌, ◌≤◌, min}
+use Rattle.std.proofs.Common.{◌≡◌, ◌-◌, ◌≤◌, min}
 use Rattle.drain_grid.specs.Grid.{Grid, Products}
 use Rattle.drain_grid.specs.RulesAbout.{tried}
 use Rattle.drain_rules.specs.AreaRows.{OfAreaRow}

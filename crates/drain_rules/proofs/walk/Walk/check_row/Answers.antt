@@ -1,4 +1,4 @@
-use Rattle.std.proofs.Common.{◌≡◌, ◌+◌, subst, sym, arith}
+use Rattle.std.proofs.Common.{◌+◌, subst, sym, arith}
 use Rattle.drain_grid.specs.RulesAbout.{tried}
 use Rattle.drain_rules.specs.declared.area.Area.{Area}
 use Rattle.drain_rules.specs.AreaOutcomes.{IsAreaOutcome}
