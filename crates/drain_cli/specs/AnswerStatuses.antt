@@ -3,7 +3,7 @@ use Rattle.std.specs.Prelude.{ℕ, List, Ok, Err, Result}
 use Rattle.drain_answer.specs.declared.audit_verdict.AuditVerdict.TheVariants as audit
 use Rattle.drain_answer.specs.declared.refusal.Refusal.{Refusal}
 use Rattle.drain_cli.specs.declared.answer.Answer.{Answer}
-use Rattle.drain_cli.specs.declared.answer.Answer.TheVariants.{Check, Audit, Judged}
+use Rattle.drain_cli.specs.declared.answer.Answer.TheVariants.{Check, Audit, Part}
 use Rattle.drain_answer.specs.AuditLines.{audit_report_line}
 use Rattle.drain_answer.specs.Lines.{report_line}
 use Rattle.drain_answer.specs.OutcomeLines.{outcome_report_line}
@@ -32,10 +32,10 @@ answer_status (Audit (Ok (audit.Accepted counts))) = Done
 answer_status (Audit (Ok (audit.Rejected rule row col))) = Rejected
 answer_status (Audit (Ok (audit.NoEnd row col))) = Rejected
 answer_status (Audit (Err refusal)) = refusal_status refusal
-answer_status (Judged answer) = outcome_status answer
+answer_status (Part answer) = outcome_status answer
 
 -- the line of an answer
 abbrev pub answer_line : Answer → List ℕ
 answer_line (Check answer) = report_line answer
 answer_line (Audit answer) = audit_report_line answer
-answer_line (Judged answer) = outcome_report_line answer
+answer_line (Part answer) = outcome_report_line answer

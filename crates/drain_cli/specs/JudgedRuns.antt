@@ -48,13 +48,17 @@ IsPartOutcome source judged side tiles_old tiles_new sinks old new outcome =
 abbrev pub PrintsAnswer : {R W : Type 0} → Source R → Sink W → Judged → ℕ → List (TileInput R) → List (TileInput R) → List ℕ → AuditProducts R → AuditProducts R → W → W → ℕ → Type 0
 PrintsAnswer source sink judged side tiles_old tiles_new sinks old new out_old out_new code = (outcome : Result Outcome Refusal)
     × IsPartOutcome source judged side tiles_old tiles_new sinks old new outcome
-    × Prints sink out_old out_new (answer_line (answer.Judged outcome)) (answer_status (answer.Judged outcome)) code
+    × Prints sink out_old out_new (answer_line (answer.Part outcome)) (answer_status (answer.Part outcome)) code
+
+-- that of an audit of all four
+abbrev pub PrintsAudit : {R W : Type 0} → Source R → Sink W → ℕ → List (TileInput R) → List (TileInput R) → List ℕ → AuditProducts R → AuditProducts R → W → W → ℕ → Type 0
+PrintsAudit source sink side tiles_old tiles_new sinks old new out_old out_new code = (verdict : Result AuditVerdict Refusal)
+    × IsAuditOutcome source side tiles_old tiles_new sinks old new verdict
+    × Prints sink out_old out_new (answer_line (answer.Audit verdict)) (answer_status (answer.Audit verdict)) code
 
 -- a run on four products: an audit of all, or of some
 abbrev pub IsFourRun : {R W : Type 0} → Source R → Sink W → Judged → ℕ → List (TileInput R) → List (TileInput R) → List ℕ → AuditProducts R → AuditProducts R → W → W → ℕ → Type 0
-IsFourRun source sink All side tiles_old tiles_new sinks old new out_old out_new code = (verdict : Result AuditVerdict Refusal)
-    × IsAuditOutcome source side tiles_old tiles_new sinks old new verdict
-    × Prints sink out_old out_new (answer_line (answer.Audit verdict)) (answer_status (answer.Audit verdict)) code
+IsFourRun source sink All = PrintsAudit source sink
 IsFourRun source sink Con = PrintsAnswer source sink Con
 IsFourRun source sink ConDir = PrintsAnswer source sink ConDir
 IsFourRun source sink ConDirAcc = PrintsAnswer source sink ConDirAcc

@@ -12,12 +12,12 @@ use drain_answer::{AuditVerdict, Outcome, Refusal, audit_report, outcome_report,
 use drain_device::ByteSink;
 use drain_grid::Verdict;
 
-/// The answer of a check of five products, of an audit of four, or that to judged rasters.
+/// The answer of a check of five products, of an audit of four, or of an audit of some.
 #[derive(Clone, Copy)]
 pub enum Answer {
     Check(Result<Verdict, Refusal>),
     Audit(Result<AuditVerdict, Refusal>),
-    Judged(Result<Outcome, Refusal>),
+    Part(Result<Outcome, Refusal>),
 }
 
 /// Prints the line of an answer, and returns its exit status, or that of a failure if the line can't be written.
@@ -35,7 +35,7 @@ fn line_of(answer: &Answer) -> Line
     match answer {
         Answer::Check(answer) => report(answer),
         Answer::Audit(answer) => audit_report(answer),
-        Answer::Judged(answer) => outcome_report(answer),
+        Answer::Part(answer) => outcome_report(answer),
     }
 }
 
@@ -49,7 +49,7 @@ fn answer_status(answer: &Answer) -> Status
         }
         Answer::Check(Ok(_)) | Answer::Audit(Ok(_)) => Status::Rejected,
         Answer::Check(Err(refusal)) | Answer::Audit(Err(refusal)) => Status::of_refusal(*refusal),
-        Answer::Judged(outcome) => outcome_status(outcome),
+        Answer::Part(outcome) => outcome_status(outcome),
     }
 }
 

@@ -10,7 +10,7 @@ ghost use Rattle.drain_cli.specs.AnswerStatuses.{answer_status};
 ghost use Rattle.drain_cli.specs.JudgedRuns.{IsAuditOutcome, IsCheckOutcome, IsJudgedRun, IsPartOutcome};
 ghost use Rattle.drain_answer.specs.OutcomeLines.{outcome_report_line};
 ghost use Rattle.drain_answer.specs.declared.outcome.Outcome.{Outcome};
-ghost use Rattle.drain_cli.specs.declared.answer.Answer.TheVariants.{Audit, Check, Judged};
+ghost use Rattle.drain_cli.specs.declared.answer.Answer.TheVariants.{Audit, Check, Part};
 ghost use Rattle.drain_grid.specs.Judged.{has_rnk};
 ghost use Rattle.drain_verdict.specs.Outcomes.{AreJudgedRight};
 ghost use Rattle.drain_answer.specs.Printing.{Prints};
@@ -88,14 +88,14 @@ pub fn run_part_audit<R: ByteSource, W: ByteSink>(
 ) -> u8
     ensures run { (answer : Result Outcome Refusal)
         × IsPartOutcome R.ByteSource judged side tiles.old tiles.new sinks.now products.old products.new answer
-        × Prints W.ByteSink out.old out.new (outcome_report_line answer) (answer_status (Judged answer)) result }
+        × Prints W.ByteSink out.old out.new (outcome_report_line answer) (answer_status (Part answer)) result }
 
     // A run ends with 0 only if the judged rasters are right, and with 1 only if they aren't; ranks are none of these.
     ensures correct { has_rnk judged ≡ false → result ≡ 0 → ForAudit R.bytes_left side tiles.old sinks.now products.old (AreJudgedRight judged) }
     ensures not_correct { has_rnk judged ≡ false → result ≡ 1 → ForAudit R.bytes_left side tiles.old sinks.now products.old (λ inputs. ¬ AreJudgedRight judged inputs) }
 {
     let answer = audit_part(alloc, side, tiles, sinks, products, judged);
-    print_answer(out, &Answer::Judged(answer))
+    print_answer(out, &Answer::Part(answer))
 }
 
 /// Judges the products that were opened: checks five, audits four or some of these. Prints the line of the answer and

@@ -39,12 +39,12 @@ pub fn run_explain<R: ByteSource, B: ExplainOutput + SecondLook, W: ByteSink>(
         × Explains W.ByteSink out.old out.new (FailsToSave B.ExplainOutput.has_saved) form answer result }
 {
     let (answer, findings) = explain_products(alloc, side, tiles, sinks, products, mapping);
-    let refusal = match answer {
-        Err(refusal) => {
+    let refusal = match refusal_of(&answer) {
+        Some(refusal) => {
             let headers = headers_of(products);
             detail_of(alloc, refusal, side, tiles, &headers, sinks, beside)
         }
-        Ok(_) => None,
+        None => None,
     };
     let facts = Facts {
         answer,
@@ -72,6 +72,14 @@ fn explain_products<R: ByteSource>(
         JudgedProducts::Four(four, judged) => answer_and_findings(
             explain_audit(alloc, side, tiles, sinks, four, *judged, mapping),
         ),
+    }
+}
+
+/// Why there is no outcome.
+fn refusal_of(answer: &Result<Outcome, Refusal>) -> Option<Refusal> {
+    match answer {
+        Err(refusal) => Some(*refusal),
+        Ok(_) => None,
     }
 }
 
