@@ -3,9 +3,7 @@
 ghost use Rattle.std.specs.Prelude.{◌≡◌, ◌≤◌, length};
 ghost use Rattle.drain_answer.specs.OutcomeLines.{cell_line, outcome_line, outcome_report_line};
 
-use crate::lines::{
-    Line, accepted, fill_report, push_number, refusal_line, rejected, words,
-};
+use crate::lines::{Line, accepted, fill_report, push_number, refusal_line, rejected, words};
 use crate::outcome::Outcome;
 use crate::refusal::Refusal;
 use drain_grid::FillVerdict;

@@ -20,11 +20,10 @@ use drain_device::ByteSource;
 use drain_grid::{Judged, OutOfMemory};
 use drain_hgt::TileInput;
 use drain_hgt::laws::one_name;
-use drain_verdict::judge;
 use drain_verdict::layout::layout_of;
 use drain_verdict::outcome::outcome_of;
 use drain_verdict::product_inputs::ProductInputs;
-use drain_verdict::{AuditProducts, Products};
+use drain_verdict::{AuditProducts, Products, judge};
 use std::alloc::Global;
 
 /// The verdict of `check` with its explanation, or its refusal.
@@ -51,7 +50,15 @@ pub fn explain_check<R: ByteSource>(
     // How far it reads, when a read fails, and what is unchanged: as for a check.
     ensures uses { CheckUses R.bytes_left R.counts side (tiles.old, products.old) (tiles.new, products.new) result }
 {
-    explain(alloc, side, tiles, sinks, products, Judged::AllWithRanks, mapping)
+    explain(
+        alloc,
+        side,
+        tiles,
+        sinks,
+        products,
+        Judged::AllWithRanks,
+        mapping,
+    )
 }
 
 /// The outcome of an audit of these rasters with its explanation, or its refusal.

@@ -19,8 +19,8 @@ use crate::row_visitor::RowVisitor;
 use crate::walk_stop::WalkStop;
 use crate::window::Window;
 use drain_grid::{OutOfMemory, Rules, Shape, Sinks};
-use drain_rules::laws::three_rows_show_patches;
 use drain_rules::ThreeRows;
+use drain_rules::laws::three_rows_show_patches;
 use std::alloc::Global;
 
 /// Shows the visitor each row of the grid of this shape and with these sinks, whose rows the source gives, and returns

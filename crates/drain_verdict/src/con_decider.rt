@@ -4,7 +4,6 @@ ghost use Rattle.std.specs.Prelude.{◌≡◌, IfOk, List, MatchOption, Ok};
 ghost use Rattle.drain_filled.specs.ConRows.{AreFirstCon, HasSinks};
 ghost use Rattle.drain_grid.specs.SinkTexts.{sinks_of};
 ghost use Rattle.drain_grid.specs.declared.judged.Judged.TheVariants.{Con};
-
 ghost use Rattle.drain_grid.specs.declared.sink_line.SinkLine.{SinkLine};
 ghost use Rattle.drain_grid.specs.Grid.{Grid, Products};
 ghost use Rattle.drain_filled.specs.Unfilled.{IsFirstUnfilled};
@@ -12,7 +11,6 @@ ghost use Rattle.drain_grid.specs.GridRules.{RulesHold};
 ghost use Rattle.drain_grid.specs.PatchRules.{surface_rules};
 ghost use Rattle.drain_grid.specs.Path.{IsLeastSurface};
 ghost use Rattle.drain_grid.specs.Rule.{IsFillRule};
-
 
 use crate::decider::{Decided, Decider};
 use drain_filled::ConRows;

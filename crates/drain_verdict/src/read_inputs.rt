@@ -73,7 +73,9 @@ pub fn read_inputs<R: ByteSource, P: ProductInputs<R>, K: RowVisitor>(
     // The law that bytes name one tile.
     one_name();
     let headers = products.read_headers(layout)?;
-    read_bodies(alloc, layout, headers, sinks, tiles, products, judged, notes)
+    read_bodies(
+        alloc, layout, headers, sinks, tiles, products, judged, notes,
+    )
 }
 
 /// Reads the bodies once the layout and the headers are right.

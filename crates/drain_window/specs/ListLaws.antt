@@ -43,8 +43,7 @@ one_more g ps row col here a origin old new inside judged is lists so_far x = (t
           (let f = (so_far x).0 before in
           (f.0, record { inside = f.1.inside; earlier = earlier-still f.0 row col f.1.earlier }, f.2))
       | inr outlet ↦
-          (let by_code : IsOutletByCode (values_at g ps (place row col)) = subst (λ (v : Values). IsOutletByCode v) is outlet.outlet in
-          (
+          (let by_code : IsOutletByCode (values_at g ps (place row col)) = subst (λ (v : Values). IsOutletByCode v) is outlet.outlet in (
             place row col,
             record { inside = judged; earlier = inr (refl, omega arith) },
             record {

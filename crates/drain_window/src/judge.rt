@@ -30,10 +30,10 @@ use drain_hgt::laws::one_name;
 use drain_mosaic::Layout;
 use drain_rows::BothVisitors;
 use drain_rules::Walk;
+use drain_union::{Place, Report, WindowReport};
 use drain_verdict::AuditProducts;
 use drain_verdict::layout::layout_of;
 use drain_verdict::read_inputs::read_inputs;
-use drain_union::{Place, Report, WindowReport};
 use std::alloc::Global;
 
 /// Whether the rules hold at the judged cells of one window, with its report; or why that isn't answered.

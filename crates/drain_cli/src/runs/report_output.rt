@@ -7,13 +7,13 @@ ghost use Rattle.drain_maker.specs.declared.product_files.SetFault.{SetFault};
 ghost use Rattle.drain_answer.specs.Printing.{Prints};
 ghost use Rattle.drain_cli.specs.ReportOutputs.{IsReadable, reported_line, reported_status, text_of, verdict_status};
 
-use drain_grid::Verdict;
 use drain_answer::lines::{Line, verdict_line, words};
 use drain_answer::print::print_line;
 use drain_answer::status::Status;
 use drain_device::ByteSink;
 use drain_files::placing::{Placing, place_written};
 use drain_files::whole_output::write_bytes;
+use drain_grid::Verdict;
 use drain_maker::product_files::SetFault;
 use drain_report::write_report;
 use drain_union::WindowReport;

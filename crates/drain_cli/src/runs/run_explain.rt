@@ -69,9 +69,9 @@ fn explain_products<R: ByteSource>(
         JudgedProducts::Five(five) => {
             answer_and_findings(explain_check(alloc, side, tiles, sinks, five, mapping))
         }
-        JudgedProducts::Four(four, judged) => answer_and_findings(
-            explain_audit(alloc, side, tiles, sinks, four, *judged, mapping),
-        ),
+        JudgedProducts::Four(four, judged) => answer_and_findings(explain_audit(
+            alloc, side, tiles, sinks, four, *judged, mapping,
+        )),
     }
 }
 
