@@ -113,9 +113,15 @@ pub fn run_judged<R: ByteSource, W: ByteSink>(
 {
     match products {
         JudgedProducts::Five(five) => run_check(alloc, side, tiles, sinks, five, out),
-        JudgedProducts::Four(four, Judged::All) => run_audit(alloc, side, tiles, sinks, four, out),
-        JudgedProducts::Four(four, judged) => {
-            run_part_audit(alloc, side, tiles, sinks, four, *judged, out)
-        }
+        JudgedProducts::Four(four, judged) => match *judged {
+            Judged::All => run_audit(alloc, side, tiles, sinks, four, out),
+            Judged::Con
+            | Judged::ConDir
+            | Judged::ConDirAcc
+            | Judged::ConDirBas
+            | Judged::AllWithRanks => {
+                run_part_audit(alloc, side, tiles, sinks, four, *judged, out)
+            }
+        },
     }
 }
