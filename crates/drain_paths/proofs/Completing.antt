@@ -7,7 +7,7 @@ use Rattle.std.proofs.Common.{◌≡◌, ◌≢◌, ◌∙◌, ℕ, pos, List, I
 use Rattle.std.specs.Prelude.{◌↔◌}
 use Rattle.drain_grid.specs.declared.cell.Cell.{Cell}
 use Rattle.drain_grid.specs.declared.rule.Rule.{Rule}
-use Rattle.drain_grid.specs.declared.rule.Rule.TheVariants.{VoidCell, Missing, BadCode, BelowGround, OpenRaised, NoSpill, SpillHeight, SpillRank, NotLeast, Slope, OutletCode, FlatStep, Accumulation, Label, SharedLabel}
+use Rattle.drain_grid.specs.declared.rule.Rule.TheVariants.{Slope, OutletCode, FlatStep, Accumulation, Label, SharedLabel}
 use Rattle.drain_grid.specs.Correct.{IsCorrect}
 use Rattle.drain_grid.specs.Extent.{IsCellOf}
 use Rattle.drain_grid.specs.Grid.{Grid, Products, IsInside, HasData}
@@ -83,21 +83,13 @@ module _ (g : Grid) (ps : Products) (e : Extent) (counts labels : List ℕ) (are
 
   module _ (c : Cell) (inside : IsInside g c) where
     sum_rule : (r : Rule) → IsCountOrLabelRule r → HoldsAt flow_rules g ps c r
-    sum_rule VoidCell own = tt
-    sum_rule Missing own = tt
-    sum_rule BadCode own = tt
-    sum_rule BelowGround own = tt
-    sum_rule OpenRaised own = tt
-    sum_rule NoSpill own = tt
-    sum_rule SpillHeight own = tt
-    sum_rule SpillRank own = tt
-    sum_rule NotLeast own = tt
     sum_rule Slope own = (let low = own.0 in absurd (omega (arith, low)))
     sum_rule OutletCode own = (let low = own.0 in absurd (omega (arith, low)))
     sum_rule FlatStep own = (let low = own.0 in absurd (omega (arith, low)))
     sum_rule Accumulation own = counts_inflows g ps are.labels_are.ends c inside acc_is
     sum_rule Label own = keeps_label g ps are.labels_are.ends c inside bas_shared
     sum_rule SharedLabel own = has_own_label g ps are.labels_are.ends c inside bas_shared
+    sum_rule r own = tt
 
     present : AreCountsPresent g ps c
     present = record {

@@ -27,13 +27,7 @@ with_height (Some z) n some = refl
 leads_or_lost : (o : Option Direction) → option_map_or flow_to o Lost ≡ Ends → ⊥
 leads_or_lost None h = cc
 leads_or_lost (Some East) h = cc
-leads_or_lost (Some SouthEast) h = cc
-leads_or_lost (Some South) h = cc
-leads_or_lost (Some SouthWest) h = cc
-leads_or_lost (Some West) h = cc
-leads_or_lost (Some NorthWest) h = cc
-leads_or_lost (Some North) h = cc
-leads_or_lost (Some NorthEast) h = cc
+leads_or_lost (Some d) h = cc
 
 is_zero : (n : ℤ) → int_eq n (pos 0) ≡ true → n ≡ pos 0
 is_zero n h = search rules

@@ -4,7 +4,7 @@ use Rattle.std.specs.Ordering.{int_eq}
 use Rattle.std.specs.Option.{option_map_or}
 use Rattle.std.proofs.lemmas.Bool.{cases_Bool}
 use Rattle.drain_grid.specs.declared.direction.Direction.{Direction}
-use Rattle.drain_grid.specs.declared.direction.Direction.TheVariants.{East, SouthEast, South, SouthWest, West, NorthWest, North, NorthEast}
+use Rattle.drain_grid.specs.declared.direction.Direction.TheVariants.{East}
 use Rattle.drain_grid.specs.Direction.{Names, named_direction}
 use Rattle.drain_grid.proofs.Options.{none_some, same_some}
 use Rattle.drain_paths.proofs.NextCells.{named_direction-names}
@@ -14,13 +14,7 @@ use Rattle.drain_paths.specs.Flows.{flow_to, direction_of, code_flow}
 
 direction_of-to : (d : Direction) → direction_of (flow_to d) ≡ Some d
 direction_of-to East = refl
-direction_of-to SouthEast = refl
-direction_of-to South = refl
-direction_of-to SouthWest = refl
-direction_of-to West = refl
-direction_of-to NorthWest = refl
-direction_of-to North = refl
-direction_of-to NorthEast = refl
+direction_of-to d = refl
 
 -- so it is no flow without a direction
 flow_to-not : (f : Flow) → direction_of f ≡ None → (d : Direction) → flow_to d ≢ f

@@ -9,16 +9,7 @@ use Rattle.drain_paths.specs.OfFlows.{OfFlows}
 
 abbrev pub height_of_flow : Flow → Option ℤ
 height_of_flow Void = None
-height_of_flow Lost = Some (pos 0)
-height_of_flow Ends = Some (pos 0)
-height_of_flow ToEast = Some (pos 0)
-height_of_flow ToSouthEast = Some (pos 0)
-height_of_flow ToSouth = Some (pos 0)
-height_of_flow ToSouthWest = Some (pos 0)
-height_of_flow ToWest = Some (pos 0)
-height_of_flow ToNorthWest = Some (pos 0)
-height_of_flow ToNorth = Some (pos 0)
-height_of_flow ToNorthEast = Some (pos 0)
+height_of_flow f = Some (pos 0)
 
 abbrev pub code_of_flow : Flow → ℤ
 code_of_flow Void = pos 0
@@ -35,16 +26,7 @@ code_of_flow ToNorthEast = pos 128
 
 flow_back : (f : Flow) → f ≡ cell_flow (height_of_flow f) (code_of_flow f)
 flow_back Void = refl
-flow_back Lost = refl
-flow_back Ends = refl
-flow_back ToEast = refl
-flow_back ToSouthEast = refl
-flow_back ToSouth = refl
-flow_back ToSouthWest = refl
-flow_back ToWest = refl
-flow_back ToNorthWest = refl
-flow_back ToNorth = refl
-flow_back ToNorthEast = refl
+flow_back f = refl
 
 pub grid_of_flows : Extent → List Flow → Grid
 grid_of_flows e flows = record { extent = e; elevation = λ c. height_of_flow (flow_at e flows c); sink = no_sink }

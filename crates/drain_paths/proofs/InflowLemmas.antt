@@ -18,7 +18,7 @@ use Rattle.drain_grid.proofs.Options.{none_some, some_or_none}
 use Rattle.drain_grid.proofs.ThreeRows.{row_beside, number_beside, number_in_row, three_rows, col_beside, at_ends, place_in_row, place_in_own_row}
 use Rattle.drain_grid.proofs.CellOrder.{before_row}
 use Rattle.drain_paths.specs.declared.flow.Flow.{Flow}
-use Rattle.drain_paths.specs.declared.flow.Flow.TheVariants.{Void, Lost, Ends, ToEast, ToSouthEast, ToSouth, ToSouthWest, ToWest, ToNorthWest, ToNorth, ToNorthEast}
+use Rattle.drain_paths.specs.declared.flow.Flow.TheVariants.{Void}
 use Rattle.drain_paths.specs.Flows.{AreFlowsOf, code_flow, direction_of, flow_at, flow_to}
 use Rattle.drain_paths.specs.KnownFlows.{AreKnownFlows}
 use Rattle.drain_paths.proofs.KnownWays.{AreKnownFlows-grid}
@@ -44,26 +44,11 @@ direction_at = direction_in (None ∷ None ∷ None ∷ Some East ∷ Some South
 
 direction_is : (f : Flow) → direction_at (lane_of f) ≡ direction_of f
 direction_is Void = refl
-direction_is Lost = refl
-direction_is Ends = refl
-direction_is ToEast = refl
-direction_is ToSouthEast = refl
-direction_is ToSouth = refl
-direction_is ToSouthWest = refl
-direction_is ToWest = refl
-direction_is ToNorthWest = refl
-direction_is ToNorth = refl
-direction_is ToNorthEast = refl
+direction_is f = refl
 
 direction_to : (d : Direction) → direction_of (flow_to d) ≡ Some d
 direction_to East = refl
-direction_to SouthEast = refl
-direction_to South = refl
-direction_to SouthWest = refl
-direction_to West = refl
-direction_to NorthWest = refl
-direction_to North = refl
-direction_to NorthEast = refl
+direction_to d = refl
 
 -- so a number names one direction
 leads_by_lane : (f : Flow) (d : Direction) → lane_of f ≡ lane_of (flow_to d) → direction_of f ≡ Some d
@@ -77,13 +62,7 @@ lane_some d none = none_some d (sym (ap direction_at none) ∙ (direction_is (fl
 
 flow_named : (d : Direction) → code_flow (pos (code_of d)) ≡ flow_to d
 flow_named East = refl
-flow_named SouthEast = refl
-flow_named South = refl
-flow_named SouthWest = refl
-flow_named West = refl
-flow_named NorthWest = refl
-flow_named North = refl
-flow_named NorthEast = refl
+flow_named d = refl
 
 one_same : (x : ℕ) (f : Flow) → x ≡ lane_of f → one_if x f ≡ 1
 one_same x f same = ap (λ b. if b then 1 else 0) (eq-eqb x (lane_of f) same)

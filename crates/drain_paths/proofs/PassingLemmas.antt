@@ -26,7 +26,7 @@ use Rattle.drain_grid.proofs.Upstream.{upstream_count-parts}
 use Rattle.drain_grid.proofs.Walks.{run_steps-le}
 use Rattle.drain_grid.proofs.CellOrder.{in_grid}
 use Rattle.drain_paths.specs.declared.flow.Flow.{Flow}
-use Rattle.drain_paths.specs.declared.flow.Flow.TheVariants.{Void, Lost, Ends, ToEast, ToSouthEast, ToSouth, ToSouthWest, ToWest, ToNorthWest, ToNorth, ToNorthEast}
+use Rattle.drain_paths.specs.declared.flow.Flow.TheVariants.{Void}
 use Rattle.drain_paths.specs.Flows.{flow_at, AreFlowsOf}
 use Rattle.drain_paths.specs.declared.inflows.TheConstants.{PASSED_ON}
 use Rattle.drain_paths.specs.CellNumbers.{cell_number, IsPutAt, one_of, ones_of}
@@ -62,16 +62,7 @@ shorter_ahead g ps c n ends here leads = omega (arith, ended-run_steps g ps c n 
 
 one_of-some : (f : Flow) → f ≢ Void → one_of f ≡ 1
 one_of-some Void some = absurd (some refl)
-one_of-some Lost some = refl
-one_of-some Ends some = refl
-one_of-some ToEast some = refl
-one_of-some ToSouthEast some = refl
-one_of-some ToSouth some = refl
-one_of-some ToSouthWest some = refl
-one_of-some ToWest some = refl
-one_of-some ToNorthWest some = refl
-one_of-some ToNorth some = refl
-one_of-some ToNorthEast some = refl
+one_of-some f some = refl
 
 -- at the start each data cell has 1, and waits for all that flow into it
 pub IsPassing-start : (g : Grid) (ps : Products) (e : Extent) (flows : List Flow) (waits : List ℕ) → AreFlowsOf g ps e flows → length flows ≡ e.rows * e.cols →
@@ -330,20 +321,6 @@ stays_ahead e waits after counts counts_after c n x passed inside away = elim (s
     ])
   ])
 ]
-
-pub stays_marked : (e : Extent) (waits after : List ℕ) (c x : Cell) → IsPutAt e waits after c PASSED_ON → IsCellOf e x → StaysAway e waits c x →
-    cell_number e after x ≢ 0
-stays_marked e waits after c x put inside away = elim (same_or_not x c) [
-  | inl is ↦ marked_some (cell_number e after x) (ap (cell_number e after) is ∙ put.there)
-  | inr differ ↦ (λ none. elim away [
-    | inl is ↦ differ is
-    | inr some ↦ some (sym (put.elsewhere x inside differ) ∙ none)
-  ])
-]
-
-pub stays_none : (e : Extent) (waits : List ℕ) (here x : Cell) → StaysAway e waits here x → cell_number e waits here ≢ 0 → cell_number e waits x ≢ 0
-stays_none e waits here x (inl is) some none = some (ap (cell_number e waits) (sym is) ∙ none)
-stays_none e waits here x (inr away) some none = away none
 
 -- if each data cell waits or has passed on, all have passed on, and each has its count
 module _ (g : Grid) (ps : Products) (e : Extent) (waits counts : List ℕ) (state : IsPassing g ps e waits counts)

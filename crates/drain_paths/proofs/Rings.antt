@@ -2,7 +2,7 @@
 --
 -- Products whose code is 0 at this cell show it. If the walk didn't pass the cell before, its run would end there, after as many steps
 -- as there are cells, and a run that ends makes fewer (passes).
-use Rattle.std.proofs.Common.{◌≡◌, ◌≢◌, ◌<◌, ◌≤◌, ◌+◌, ◌-◌, ◌∙◌, ℕ, zero, suc, ◌⊎◌, inl, inr, pos, false, if◌then◌else◌, Option, Some, None, option_and_then, refl, sym, ap, subst, arith}
+use Rattle.std.proofs.Common.{◌≡◌, ◌≢◌, ◌<◌, ◌+◌, ◌-◌, ◌∙◌, ℕ, zero, suc, ◌⊎◌, inl, inr, pos, false, if◌then◌else◌, Option, Some, None, option_and_then, refl, sym, ap, subst, arith}
 use Rattle.std.specs.Prelude.{Result, Ok, Err, IfOk, MatchOption}
 use Rattle.std.proofs.lemmas.Bool.{cases_Bool, cases_order}
 use Rattle.drain_grid.specs.declared.cell.Cell.{Cell}
@@ -149,10 +149,6 @@ module _ (g : Grid) (ps : Products) where
   no_ring-way first here walked way.Ends so_far ends other = no_ring-ends first here walked so_far ends
   no_ring-way first here walked (way.On n) so_far on other = absurd (other n refl)
   no_ring-way first here walked way.Lost so_far stuck other = no_ring-stuck first here walked so_far stuck.0
-
-  -- nor one that hasn't come back in as many steps as there are cells
-  pub no_ring-away : (first here : Cell) (walked : ℕ) → HasWalked g ps first here walked → cell_count g ≤ walked → IsOnNoRing g ps first
-  no_ring-away first here walked so_far all = λ k some few. so_far.away k some (omega (arith, few, all))
 
   -- where a walk reaches a cell whose run ends, its own run ends
   pub ends-after : (k : ℕ) (c d : Cell) → cell_after g ps k c ≡ Some d → RunEnds g ps d → RunEnds g ps c

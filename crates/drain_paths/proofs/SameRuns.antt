@@ -9,23 +9,14 @@ use Rattle.drain_grid.specs.Size.{Extent}
 use Rattle.drain_grid.proofs.EndedRuns.{HasData-next}
 use Rattle.drain_grid.proofs.Neighbors.{step_lies}
 use Rattle.drain_paths.specs.declared.flow.Flow.{Flow}
-use Rattle.drain_paths.specs.declared.flow.Flow.TheVariants.{Void, Lost, Ends, ToEast, ToSouthEast, ToSouth, ToSouthWest, ToWest, ToNorthWest, ToNorth, ToNorthEast}
+use Rattle.drain_paths.specs.declared.flow.Flow.TheVariants.{Void}
 use Rattle.drain_paths.specs.Flows.{direction_of, flow_at, AreFlowsOf}
 use Rattle.drain_paths.specs.OfFlows.{OfFlows, AllFlowsEnd}
 use Rattle.drain_paths.proofs.FlowCells.{flow_of_data, data_at, flow_of_zero, zero_of_flow, leads_nowhere, leads_outside, leads_to_void, leads_to_data}
 
 void_or : (f : Flow) → (f ≡ Void) ⊎ (f ≢ Void)
 void_or Void = inl refl
-void_or Lost = inr (λ h. cc)
-void_or Ends = inr (λ h. cc)
-void_or ToEast = inr (λ h. cc)
-void_or ToSouthEast = inr (λ h. cc)
-void_or ToSouth = inr (λ h. cc)
-void_or ToSouthWest = inr (λ h. cc)
-void_or ToWest = inr (λ h. cc)
-void_or ToNorthWest = inr (λ h. cc)
-void_or ToNorth = inr (λ h. cc)
-void_or ToNorthEast = inr (λ h. cc)
+void_or f = inr (λ h. cc)
 
 -- a walk over data cells stays on data cells
 pub last_data : (g : Grid) (ps : Products) (k : ℕ) (c : Cell) → HasData g c → HasData g (last_from c (steps_from g ps k c))

@@ -1,6 +1,6 @@
 -- The sum that the inflows of a cell pass on, when the number of one cell changes: it changes at one cell at most, the
 -- one to which the code leads.
-use Rattle.std.proofs.Common.{◌≡◌, ◌≢◌, ◌∙◌, ◌⊎◌, ℕ, ◌+◌, inl, inr, cond, Option, Some, None, sym, ap, subst, arith}
+use Rattle.std.proofs.Common.{◌≡◌, ◌≢◌, ◌∙◌, ℕ, ◌+◌, inl, inr, cond, Some, sym, ap, subst, arith}
 use Rattle.std.proofs.lemmas.Bool.{false_from_ne_true}
 use Rattle.drain_grid.specs.declared.cell.Cell.{Cell}
 use Rattle.drain_grid.specs.Extent.{same_cell}
@@ -10,24 +10,12 @@ use Rattle.drain_grid.proofs.CellSums.{same_cell_true, same_cell_self}
 use Rattle.drain_grid.proofs.HandedOn.{handed_on, handed_one, handed_same}
 use Rattle.drain_grid.proofs.Inflows.{FlowsFrom, HasData-flow, next-flow, flow-next, flow_unique}
 use Rattle.drain_grid.proofs.Lowered.{same_or_not}
-use Rattle.drain_grid.proofs.Options.{same_some}
 use Rattle.drain_paths.proofs.PassedSums.{passed_add}
 
 -- more by this amount at this cell, and the same at each other
 pub record IsMore (g : Grid) (f more : Cell → ℕ) (c : Cell) (amount : ℕ) : Type 0 where
   pub here : more c ≡ f c + amount
   pub elsewhere : (m : Cell) → HasData g m → m ≢ c → more m ≡ f m
-
--- a cell leads to another, or doesn't
-pub leads_or_not : (g : Grid) (ps : Products) (c x : Cell) → (next g ps c ≡ Some x) ⊎ (next g ps c ≢ Some x)
-leads_or_not g ps c x = by_next (next g ps c)
-  where
-    by_next : (o : Option Cell) → (o ≡ Some x) ⊎ (o ≢ Some x)
-    by_next None = inr (λ h. cc)
-    by_next (Some n) = elim (same_or_not n x) [
-      | inl same ↦ inl (ap (λ y. Some y) same)
-      | inr other ↦ inr (λ h. other (same_some n x h))
-    ]
 
 module _ (g : Grid) (ps : Products) (f more : Cell → ℕ) (c : Cell) (amount : ℕ) (is : IsMore g f more c amount) where
   -- a cell to which it doesn't lead

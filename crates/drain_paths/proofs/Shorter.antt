@@ -51,10 +51,6 @@ ended_are_chains g ps c ended = by_next (next g ps c) refl
 stands_at : (g : Grid) (ps : Products) (c : Cell) → ℕ → Bool
 stands_at g ps c k = stands (cell_at g.extent k) (run g ps c)
 
-tally-none : (n : ℕ) → tally (λ k. false) n ≡ 0
-tally-none zero = refl
-tally-none (suc n) = tally-none n
-
 module _ (g : Grid) (ps : Products) where
   -- the first cell is in its run
   stands_first : (c : Cell) → IsEnded g ps c → stands_at g ps c (index_of g.extent c) ≡ true

@@ -12,7 +12,7 @@ use Rattle.drain_grid.proofs.CellOrder.{in_grid}
 use Rattle.drain_grid.proofs.Runs.{index_of-below}
 use Rattle.drain_grid.proofs.Walks.{IsWalk, IsWalk-ends, IsWalk-too_long, EndsAfter-zero}
 use Rattle.drain_paths.specs.declared.flow.Flow.{Flow}
-use Rattle.drain_paths.specs.declared.flow.Flow.TheVariants.{Void, Lost, Ends, ToEast, ToSouthEast, ToSouth, ToSouthWest, ToWest, ToNorthWest, ToNorth, ToNorthEast}
+use Rattle.drain_paths.specs.declared.flow.Flow.TheVariants.{Void, Ends}
 use Rattle.drain_paths.specs.declared.steps.TheConstants.{UNKNOWN}
 use Rattle.drain_paths.specs.CellNumbers.{cell_number}
 use Rattle.drain_paths.specs.Flows.{flow_at, AreFlowsOf}
@@ -23,17 +23,8 @@ use Rattle.drain_paths.proofs.Shorter.{RunEnds-walk, ended-fewer}
 
 -- only an end has a number at first, and that is 0
 known_first : (f : Flow) → first_step f ≢ UNKNOWN → (f ≡ Ends) × (first_step f ≡ 0)
-known_first Void known = absurd (known refl)
-known_first Lost known = absurd (known refl)
 known_first Ends known = (refl, refl)
-known_first ToEast known = absurd (known refl)
-known_first ToSouthEast known = absurd (known refl)
-known_first ToSouth known = absurd (known refl)
-known_first ToSouthWest known = absurd (known refl)
-known_first ToWest known = absurd (known refl)
-known_first ToNorthWest known = absurd (known refl)
-known_first ToNorth known = absurd (known refl)
-known_first ToNorthEast known = absurd (known refl)
+known_first f known = absurd (known refl)
 
 none_at_first : (n : ℕ) → n ≡ 0 → n ≢ UNKNOWN
 none_at_first n is none = absurd (omega (arith, is, none))
