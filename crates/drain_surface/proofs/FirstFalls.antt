@@ -25,10 +25,6 @@ pub record IsFirstFall (level : ℕ) (L : Direction → ℕ) (d : Direction) : T
   pub greatest : (e : Direction) → key_of level L e ≤ key_of level L d
   pub first : (e : Direction) → order_of e < order_of d → key_of level L e < key_of level L d
 
--- twice a square is a square only at 0
-halves : (y : ℕ) → y ≡ 2 * (y / 2) + y % 2
-halves y = omega arith
-
 of_even : (x y z : ℕ) → y ≡ 2 * z → 2 * (x * x) ≡ y * y → 2 * (z * z) ≡ x * x
 of_even x y z even twice =
     let square : y * y ≡ (2 * z) * (2 * z) = ap (λ n. n * n) even in
@@ -151,23 +147,17 @@ record IsFirstOf (L : Direction → ℕ) (straight : Bool) (least code : ℕ) : 
 -- the four ways along a row or a column, and the four across a corner
 by_straight : (P : Direction → Type 0) → P East → P South → P West → P North → (e : Direction) → is_straight e ≡ true → P e
 by_straight P east south west north East kind = east
-by_straight P east south west north SouthEast kind = absurd (false≢true kind)
 by_straight P east south west north South kind = south
-by_straight P east south west north SouthWest kind = absurd (false≢true kind)
 by_straight P east south west north West kind = west
-by_straight P east south west north NorthWest kind = absurd (false≢true kind)
 by_straight P east south west north North kind = north
-by_straight P east south west north NorthEast kind = absurd (false≢true kind)
+by_straight P east south west north e kind = absurd (false≢true kind)
 
 by_aslant : (P : Direction → Type 0) → P SouthEast → P SouthWest → P NorthWest → P NorthEast → (e : Direction) → is_straight e ≡ false → P e
-by_aslant P se sw nw ne East kind = absurd (false≢true (sym kind))
 by_aslant P se sw nw ne SouthEast kind = se
-by_aslant P se sw nw ne South kind = absurd (false≢true (sym kind))
 by_aslant P se sw nw ne SouthWest kind = sw
-by_aslant P se sw nw ne West kind = absurd (false≢true (sym kind))
 by_aslant P se sw nw ne NorthWest kind = nw
-by_aslant P se sw nw ne North kind = absurd (false≢true (sym kind))
 by_aslant P se sw nw ne NorthEast kind = ne
+by_aslant P se sw nw ne e kind = absurd (false≢true (sym kind))
 
 bound_along : (L : Direction → ℕ) (e : Direction) → is_straight e ≡ true → least_along (map L directions) ≤ L e
 bound_along L = by_straight (λ e. least_along (map L directions) ≤ L e) (omega arith) (omega arith) (omega arith) (omega arith)

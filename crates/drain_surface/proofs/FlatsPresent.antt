@@ -2,7 +2,7 @@
 use Rattle.std.proofs.Common.{◌≡◌, ◌≢◌, ℕ, ◌*◌, ◌<◌, ◌≤◌, ◌∙◌, inl, inr, ℤ, pos, ◌≤ℤ◌, ◌<ℤ◌, sym, ap, arith}
 use Rattle.std.proofs.lemmas.Int.{ints}
 use Rattle.drain_grid.specs.declared.direction.Direction.{Direction}
-use Rattle.drain_grid.specs.declared.direction.Direction.TheVariants.{East, SouthEast, South, SouthWest, West, NorthWest, North, NorthEast}
+use Rattle.drain_grid.specs.declared.direction.Direction.TheVariants.{East}
 use Rattle.drain_grid.specs.Direction.{IsCode, code_of}
 use Rattle.drain_grid.specs.Grid.{height_at}
 use Rattle.drain_surface.specs.declared.codes.TheConstants.{NO_HEIGHT}
@@ -19,13 +19,7 @@ no_blank_code z (inr (d, named)) h = by_direction d (sym named ∙ h)
   where
     by_direction : (d : Direction) → pos (code_of d) ≡ pos 255 → ⊥
     by_direction East h = absurd (omega (arith, ints))
-    by_direction SouthEast h = absurd (omega (arith, ints))
-    by_direction South h = absurd (omega (arith, ints))
-    by_direction SouthWest h = absurd (omega (arith, ints))
-    by_direction West h = absurd (omega (arith, ints))
-    by_direction NorthWest h = absurd (omega (arith, ints))
-    by_direction North h = absurd (omega (arith, ints))
-    by_direction NorthEast h = absurd (omega (arith, ints))
+    by_direction d h = absurd (omega (arith, ints))
 
 no_blank_rank : (rank cells : ℕ) → rank < cells → cells ≤ MAX_CELLS → pos rank ≢ pos 4294967295
 no_blank_rank rank cells less few h = absurd (omega (arith, ints))

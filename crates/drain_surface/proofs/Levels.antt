@@ -20,12 +20,6 @@ no_lower con z level other cap low = omega (arith, ints, clamps)
 pub cap_rises : (con z level higher : ℤ) → con ≤ℤ int_max z level → level ≤ℤ higher → con ≤ℤ int_max z higher
 cap_rises con z level higher cap low = omega (arith, ints, clamps)
 
-pub le_trans : (a b c : ℤ) → a ≤ℤ b → b ≤ℤ c → a ≤ℤ c
-le_trans a b c p q = omega (arith, ints)
-
-pub self_max : (z con : ℤ) → con ≤ℤ int_max z con
-self_max z con = omega (arith, ints, clamps)
-
 -- what is raised is neither below its ground nor below what it was raised to
 pub over_ground : (con z from : ℤ) → con ≡ int_max z from → z ≤ℤ con
 over_ground con z from is = omega (arith, ints, clamps)

@@ -7,7 +7,7 @@ use Rattle.std.proofs.lemmas.List.Elements.{All-nil}
 use Rattle.std.proofs.lemmas.List.Sums.{sum_by-set, count_by-le-length}
 use Rattle.drain_grid.specs.declared.cell.Cell.{Cell}
 use Rattle.drain_grid.specs.declared.direction.Direction.{Direction}
-use Rattle.drain_grid.specs.declared.direction.Direction.TheVariants.{East, SouthEast, South, SouthWest, West, NorthWest, North, NorthEast}
+use Rattle.drain_grid.specs.declared.direction.Direction.TheVariants.{East}
 use Rattle.drain_grid.specs.Direction.{code_of, opposite}
 use Rattle.drain_grid.specs.Extent.{index_of, step}
 use Rattle.drain_grid.specs.Grid.{Grid, HasData, IsInside}
@@ -47,13 +47,7 @@ rank_zero rank left cells is less = omega arith
 
 code_no_void : (d : Direction) → code_of d ≢ VOID
 code_no_void East h = absurd (omega arith)
-code_no_void SouthEast h = absurd (omega arith)
-code_no_void South h = absurd (omega arith)
-code_no_void SouthWest h = absurd (omega arith)
-code_no_void West h = absurd (omega arith)
-code_no_void NorthWest h = absurd (omega arith)
-code_no_void North h = absurd (omega arith)
-code_no_void NorthEast h = absurd (omega arith)
+code_no_void d h = absurd (omega arith)
 
 -- the first codes and ranks, and an empty trail
 module _ (g : Grid) (f : Flooding) (w : Laying) (flooded : IsFlooded g f) (codes : AreFirstCodes g f w.way)
@@ -176,11 +170,6 @@ pub way_seen : (e : Extent) (seen now : Laying) (place : ℕ) (c : Cell) → see
     get_or now.way place 0 ≡ way_at e now c
 way_seen e seen now place c view extent at =
     ap (λ k. get_or now.way k 0) (at ∙ (ap (λ (w : Laying). index_of w.extent c) view ∙ ap (λ x. index_of x c) (sym extent)))
-
-pub rank_read : (e : Extent) (seen now : Laying) (place : ℕ) (c : Cell) → seen ≡ now → e ≡ now.extent → place ≡ index_of seen.extent c →
-    get_or now.rnk place 0 ≡ rank_at e now c
-rank_read e seen now place c view extent at =
-    ap (λ k. get_or now.rnk k 0) (at ∙ (ap (λ (w : Laying). index_of w.extent c) view ∙ ap (λ x. index_of x c) (sym extent)))
 
 pub level_seen : (e : Extent) (f : Flooding) (seen now : Laying) (place : ℕ) (c : Cell) → seen ≡ now → e ≡ now.extent → place ≡ index_of seen.extent c →
     get_or f.con place (pos 0) ≡ con_at e f c

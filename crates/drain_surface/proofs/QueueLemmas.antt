@@ -45,10 +45,6 @@ seen_as items firsts lasts behind lowest linked =
     let same : items_at firsts behind ≡ items = λ i m. items_are firsts behind m (items m) linked.few (linked.linked m) i in
     ap (λ n. pairs_from (items_at firsts behind) 0 n) linked.firsts_are ∙ ap (λ q. pairs_from q 0 LEVELS) same
 
--- what is linked is linked by the items that its chains spell
-pub by_items : (firsts lasts behind : List ℕ) (lowest : ℕ) → IsLinked firsts lasts behind lowest → AreLinked (items_at firsts behind) firsts lasts behind lowest
-by_items firsts lasts behind lowest linked = linked
-
 -- where every level is at its end and every item absent, nothing is held
 module _ (firsts lasts behind : List ℕ) (firsts_long : length firsts ≡ LEVELS) (lasts_long : length lasts ≡ LEVELS) (few : length behind ≤ MAX_CELLS)
     (ended : All (λ x. x ≡ END) firsts) (absent : All (λ x. x ≡ ABSENT) behind) where

@@ -4,7 +4,7 @@ use Rattle.std.specs.List.{All}
 use Rattle.std.proofs.lemmas.List.Elements.{All-weaker, All-push, Contains-append_left, Contains-push}
 use Rattle.drain_grid.specs.declared.cell.Cell.{Cell}
 use Rattle.drain_grid.specs.declared.direction.Direction.{Direction}
-use Rattle.drain_grid.specs.declared.direction.Direction.TheVariants.{East, SouthEast, South, SouthWest, West, NorthWest, North, NorthEast}
+use Rattle.drain_grid.specs.declared.direction.Direction.TheVariants.{East}
 use Rattle.drain_grid.specs.Direction.{code_of, opposite}
 use Rattle.drain_grid.specs.Extent.{index_of, step}
 use Rattle.drain_grid.specs.Grid.{Grid, HasData, IsInside}
@@ -19,13 +19,7 @@ use Rattle.drain_surface.proofs.Cells.{none_or_some}
 -- a direction's code isn't the mark of cells without a way
 pub code_settles : (d : Direction) → code_of d ≢ REACHED
 code_settles East h = absurd (omega arith)
-code_settles SouthEast h = absurd (omega arith)
-code_settles South h = absurd (omega arith)
-code_settles SouthWest h = absurd (omega arith)
-code_settles West h = absurd (omega arith)
-code_settles NorthWest h = absurd (omega arith)
-code_settles North h = absurd (omega arith)
-code_settles NorthEast h = absurd (omega arith)
+code_settles d h = absurd (omega arith)
 
 void_differs : (code : ℕ) → code ≡ VOID → code ≡ REACHED → ⊥
 void_differs code void flat = absurd (omega arith)

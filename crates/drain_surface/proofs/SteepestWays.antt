@@ -4,7 +4,7 @@ use Rattle.std.proofs.lemmas.Bool.{ne_eqb}
 use Rattle.std.proofs.lemmas.Int.{ints}
 use Rattle.drain_grid.specs.declared.cell.Cell.{Cell}
 use Rattle.drain_grid.specs.declared.direction.Direction.{Direction}
-use Rattle.drain_grid.specs.declared.direction.Direction.TheVariants.{East, SouthEast, South, SouthWest, West, NorthWest, North, NorthEast}
+use Rattle.drain_grid.specs.declared.direction.Direction.TheVariants.{East}
 use Rattle.drain_grid.specs.Direction.{code_of, cols_right, is_straight, rows_down}
 use Rattle.drain_grid.specs.Extent.{step}
 use Rattle.drain_grid.specs.Grid.{Grid, HasData, IsInside}
@@ -161,23 +161,11 @@ module _ (g : Grid) (f : Flooding) (flooded : IsFlooded g f) (c : Cell) (inside 
 -- a direction's code is put as it is
 code_put : (d : Direction) (mark : ℕ) → (if code_of d == 0 then mark else code_of d) ≡ code_of d
 code_put East mark = refl
-code_put SouthEast mark = refl
-code_put South mark = refl
-code_put SouthWest mark = refl
-code_put West mark = refl
-code_put NorthWest mark = refl
-code_put North mark = refl
-code_put NorthEast mark = refl
+code_put d mark = refl
 
 code_small : (d : Direction) → code_of d < 256
 code_small East = omega arith
-code_small SouthEast = omega arith
-code_small South = omega arith
-code_small SouthWest = omega arith
-code_small West = omega arith
-code_small NorthWest = omega arith
-code_small North = omega arith
-code_small NorthEast = omega arith
+code_small d = omega arith
 
 pub fall_small : (a h b : List ℕ) (col code : ℕ) → code ≡ fall_at a h b col → code < 256
 fall_small a h b col code is =

@@ -1,5 +1,5 @@
 -- The walk along flats: a cell is taken, its neighbours are looked at direction by direction, and it is left.
-use Rattle.std.proofs.Common.{◌≡◌, ◌≢◌, ℕ, suc, ◌+◌, ◌*◌, ◌<◌, ◌≤◌, ◌∙◌, inl, inr, ℤ, ◌==◌, cond, List, [], ◌∷◌, ◌++◌, Some, Contains, length, set, get_or, drop, count_by, min, refl, sym, ap, subst, arith}
+use Rattle.std.proofs.Common.{◌≡◌, ◌≢◌, ℕ, ◌+◌, ◌*◌, ◌<◌, ◌≤◌, ◌∙◌, inl, inr, ℤ, ◌==◌, cond, List, [], ◌∷◌, ◌++◌, Some, Contains, length, set, get_or, drop, count_by, min, refl, sym, ap, subst, arith}
 use Rattle.std.specs.List.{All}
 use Rattle.std.proofs.lemmas.Bool.{cases_order, eq-eqb, ne_eqb}
 use Rattle.std.proofs.lemmas.List.{length-set, length_push, drop-append-le}
@@ -254,12 +254,3 @@ turn g f s0 s1 s2 k c e0 e1 next around laid =
     let inside : IsInside g c = subst (λ e. IsCellOf e c) (sym e0) next.inside in
     let now = next_laid g f s0 s1 k c e0 laid next in
     passed_laid g f s2 k c inside (around g k (index_of g.extent c ∷ []) e1 now.1 now.0)
-
-pub turn_work : (s0 s1 s2 : Laying) (c : Cell) → IsNextPlace s0 s1 c → IsLessWalk s1 s2 →
-    wayless s2 + wayless s2 + length s2.ahead < wayless s0 + wayless s0 + length s0.ahead
-turn_work s0 s1 s2 c next less =
-    by_numbers (wayless s0) (length s0.ahead) (wayless s1) (length s1.ahead) (wayless s2) (length s2.ahead)
-    (ap wayless next.rest) (ap (λ xs. length xs) next.first) less.fewer less.same
-  where
-    by_numbers : (u0 a0 u1 a1 u2 a2 : ℕ) → u1 ≡ u0 → a0 ≡ suc a1 → u2 ≤ u1 → u2 + a2 ≡ u1 + a1 → u2 + u2 + a2 < u0 + u0 + a0
-    by_numbers u0 a0 u1 a1 u2 a2 pu pa fewer same = omega arith
