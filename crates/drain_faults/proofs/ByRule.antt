@@ -1,12 +1,9 @@
 -- What holds of each rule holds of all.
 use Rattle.std.proofs.Common.{◌≡◌, Bool, arith}
-use Rattle.drain_grid.specs.declared.cell.Cell.{Cell}
 use Rattle.drain_grid.specs.declared.rule.Rule.{Rule}
 use Rattle.drain_grid.specs.declared.rule.Rule.TheVariants.{VoidCell, Missing, BadCode, BelowGround, OpenRaised, NoSpill, SpillHeight, SpillRank, NotLeast, Slope, OutletCode, FlatStep, Accumulation, Label, SharedLabel}
 use Rattle.drain_grid.specs.Rule.{IsPatchRule}
 use Rattle.drain_faults.specs.declared.per_rule.PerRule.{PerRule}
-use Rattle.drain_faults.specs.declared.rule_faults.RuleFaults.{RuleFaults}
-use Rattle.drain_faults.specs.CellFaults.{IsWith}
 use Rattle.drain_faults.specs.Flags.{TellsFault}
 use Rattle.drain_faults.specs.PerRule.{of_rule}
 
@@ -51,21 +48,3 @@ tells_every P old new each others shared =
   where
     of : (r : Rule) → IsPatchRule r → TellsFault (of_rule new r) (P r)
     of r own = rw (others r own) (each r own)
-
--- one thing for each rule
-pub same_each : {A : Type 0} (x : A) (things : PerRule A) → things.void_cell ≡ x → things.missing ≡ x → things.bad_code ≡ x → things.below_ground ≡ x →
-    things.open_raised ≡ x → things.no_spill ≡ x → things.spill_height ≡ x → things.spill_rank ≡ x → things.not_least ≡ x → things.slope ≡ x →
-    things.outlet_code ≡ x → things.flat_step ≡ x → things.accumulation ≡ x → things.label ≡ x → things.shared_label ≡ x → (r : Rule) → of_rule things r ≡ x
-same_each x things = by_rule (λ r. of_rule things r ≡ x)
-
--- one cell more for each rule
-pub with_each : (cell : Cell) (fails : PerRule Bool) (old new : PerRule RuleFaults) → IsWith cell fails.void_cell old.void_cell new.void_cell →
-    IsWith cell fails.missing old.missing new.missing → IsWith cell fails.bad_code old.bad_code new.bad_code →
-    IsWith cell fails.below_ground old.below_ground new.below_ground → IsWith cell fails.open_raised old.open_raised new.open_raised →
-    IsWith cell fails.no_spill old.no_spill new.no_spill → IsWith cell fails.spill_height old.spill_height new.spill_height →
-    IsWith cell fails.spill_rank old.spill_rank new.spill_rank → IsWith cell fails.not_least old.not_least new.not_least →
-    IsWith cell fails.slope old.slope new.slope → IsWith cell fails.outlet_code old.outlet_code new.outlet_code →
-    IsWith cell fails.flat_step old.flat_step new.flat_step → IsWith cell fails.accumulation old.accumulation new.accumulation →
-    IsWith cell fails.label old.label new.label → IsWith cell fails.shared_label old.shared_label new.shared_label →
-    (r : Rule) → IsWith cell (of_rule fails r) (of_rule old r) (of_rule new r)
-with_each cell fails old new = by_rule (λ r. IsWith cell (of_rule fails r) (of_rule old r) (of_rule new r))

@@ -74,10 +74,6 @@ module _ (nodata : NoDataNumbers) (p : Patch) where
 
   -- and of all
   void_cell_about : (judged : Judged) → rules_about judged nodata p VoidCell ↔ ((product : SetProduct) → void_of judged product)
-  void_cell_about rasters.Con = void_part rasters.Con refl
-  void_cell_about rasters.ConDir = void_part rasters.ConDir refl
-  void_cell_about rasters.ConDirAcc = void_part rasters.ConDirAcc refl
-  void_cell_about rasters.ConDirBas = void_part rasters.ConDirBas refl
   void_cell_about rasters.All = (
     (λ holds. by_set_product (void_of rasters.All) (λ void. (holds void).con_is) (λ void. (holds void).dir_is) (λ void. (holds void).acc_is) (λ void. (holds void).bas_is) tt),
     (λ each void. record { con_is = each Con void; dir_is = each Dir void; acc_is = each Acc void; bas_is = each Bas void }),
@@ -87,12 +83,9 @@ module _ (nodata : NoDataNumbers) (p : Patch) where
     (λ each void. by_set_product (λ product. value_of p.here (product_of product) ≡ number_for nodata (product_of product))
         (each Con void) (each Dir void) (each Acc void) (each Bas void) (each Rnk void)),
   )
+  void_cell_about judged = void_part judged refl
 
   missing_about : (judged : Judged) → rules_about judged nodata p Missing ↔ ((product : SetProduct) → data_of judged product)
-  missing_about rasters.Con = data_part rasters.Con refl
-  missing_about rasters.ConDir = data_part rasters.ConDir refl
-  missing_about rasters.ConDirAcc = data_part rasters.ConDirAcc refl
-  missing_about rasters.ConDirBas = data_part rasters.ConDirBas refl
   missing_about rasters.All = (
     (λ holds. by_set_product (data_of rasters.All) (λ has. (holds has).con_differs) (λ has. (holds has).dir_differs) (λ has. (holds has).acc_differs)
         (λ has. (holds has).bas_differs) tt),
@@ -103,6 +96,7 @@ module _ (nodata : NoDataNumbers) (p : Patch) where
     (λ each has. by_set_product (λ product. value_of p.here (product_of product) ≢ number_for nodata (product_of product))
         (each Con has) (each Dir has) (each Acc has) (each Bas has) (each Rnk has)),
   )
+  missing_about judged = data_part judged refl
 
 pub void_cell_by_product : (rules : Rules) (p : Patch) → tried rules p VoidCell ↔ ((product : SetProduct) → VoidCellHoldsOf rules product p)
 void_cell_by_product rules p = void_cell_about rules.nodata p rules.judged

@@ -3,7 +3,7 @@ use Rattle.std.proofs.Common.{◌≡◌, ◌↔◌, ◌⊎◌, ℕ, Bool, false,
 use Rattle.std.proofs.lemmas.Bool.{false≢true, true≢false}
 use Rattle.drain_grid.specs.declared.cell.Cell.{Cell}
 use Rattle.drain_grid.specs.declared.judged.Judged.{Judged}
-use Rattle.drain_grid.specs.declared.judged.Judged.TheVariants.{Con, ConDir, ConDirAcc, ConDirBas, All, AllWithRanks}
+use Rattle.drain_grid.specs.declared.judged.Judged.TheVariants.{ConDirBas, All, AllWithRanks}
 use Rattle.drain_grid.specs.declared.judged.Rules.{Rules}
 use Rattle.drain_grid.specs.declared.patch.Patch.{Patch}
 use Rattle.drain_grid.specs.declared.rule.Rule.{Rule}
@@ -23,38 +23,29 @@ use Rattle.drain_faults.proofs.RulePlaces.{any_rule}
 
 -- where labels aren't judged SharedLabel isn't tried, and else it is
 shared_untried : (judged : Judged) → has_bas judged ≡ false → ¬ IsTried judged SharedLabel
-shared_untried Con is own = false≢true own
-shared_untried ConDir is own = false≢true own
-shared_untried ConDirAcc is own = false≢true own
 shared_untried ConDirBas is own = true≢false is
 shared_untried All is own = true≢false is
 shared_untried AllWithRanks is own = true≢false is
+shared_untried judged is own = false≢true own
 
 shared_tried : (judged : Judged) → IsTrue (has_bas judged) → IsTried judged SharedLabel
-shared_tried Con is = is
-shared_tried ConDir is = is
-shared_tried ConDirAcc is = is
-shared_tried ConDirBas is = is
 shared_tried All is = any_rule SharedLabel
 shared_tried AllWithRanks is = any_rule SharedLabel
+shared_tried judged is = is
 
 -- so it is tried, or it isn't
 shared_or_not : (judged : Judged) → IsTried judged SharedLabel ⊎ ¬ IsTried judged SharedLabel
-shared_or_not Con = inr (shared_untried Con refl)
-shared_or_not ConDir = inr (shared_untried ConDir refl)
-shared_or_not ConDirAcc = inr (shared_untried ConDirAcc refl)
 shared_or_not ConDirBas = inl refl
 shared_or_not All = inl (any_rule SharedLabel)
 shared_or_not AllWithRanks = inl (any_rule SharedLabel)
+shared_or_not judged = inr (shared_untried judged refl)
 
 -- and where it is tried labels are judged
 pub labels_judged : (judged : Judged) → IsTried judged SharedLabel → IsTrue (has_bas judged)
-labels_judged Con own = own
-labels_judged ConDir own = own
-labels_judged ConDirAcc own = own
 labels_judged ConDirBas own = refl
 labels_judged All own = refl
 labels_judged AllWithRanks own = refl
+labels_judged judged own = own
 
 -- a rule is tried, or it isn't
 pub tried_or_not : (judged : Judged) (r : Rule) → IsTried judged r ⊎ ¬ IsTried judged r

@@ -6,7 +6,7 @@ use Rattle.std.proofs.lemmas.Bool.{false≢true}
 use Rattle.drain_grid.specs.declared.direction.Direction.{Direction}
 use Rattle.drain_grid.specs.declared.patch.Patch.{Patch}
 use Rattle.drain_grid.specs.declared.rule.Rule.{Rule}
-use Rattle.drain_grid.specs.declared.rule.Rule.TheVariants.{VoidCell, Missing, BadCode, BelowGround, OpenRaised, NoSpill, SpillHeight, SpillRank, NotLeast, Slope, OutletCode, FlatStep, Accumulation, Label, SharedLabel}
+use Rattle.drain_grid.specs.declared.rule.Rule.TheVariants.{VoidCell, Missing, BadCode, BelowGround, OpenRaised, NotLeast, Slope, OutletCode, FlatStep, Accumulation, Label}
 use Rattle.drain_grid.specs.declared.set_product.SetProduct.{SetProduct}
 use Rattle.drain_grid.specs.declared.set_product.SetProduct.TheVariants as held
 use Rattle.drain_grid.specs.SetProduct.{product_of}
@@ -255,16 +255,13 @@ module _ (p q : Patch) (nodata : NoDataNumbers) (alike : AreAlike p q) where
   unranked_there BadCode h = has_code h
   unranked_there BelowGround h = above_ground h
   unranked_there OpenRaised h = at_ground h
-  unranked_there NoSpill h = h
-  unranked_there SpillHeight h = h
-  unranked_there SpillRank h = h
   unranked_there NotLeast h = not_raised h
   unranked_there Slope h = goes_down h
   unranked_there OutletCode h = stops h
   unranked_there FlatStep h = goes_along h
   unranked_there Accumulation h = counts h
   unranked_there Label h = keeps_label h
-  unranked_there SharedLabel h = h
+  unranked_there r h = h
 
   -- and so does each with ranks, where these are the same
   value_same : HaveSameRanks p q → (k : SetProduct) → value_of p.here (product_of k) ≡ value_of q.here (product_of k)
@@ -298,16 +295,5 @@ module _ (p q : Patch) (nodata : NoDataNumbers) (alike : AreAlike p q) where
   pub check_there : HaveSameRanks p q → (r : Rule) → check_rules nodata p r → check_rules nodata q r
   check_there ranks VoidCell h = blank_ranked ranks h
   check_there ranks Missing h = complete_ranked ranks h
-  check_there ranks BadCode h = has_code h
-  check_there ranks BelowGround h = above_ground h
-  check_there ranks OpenRaised h = at_ground h
-  check_there ranks NoSpill h = h
-  check_there ranks SpillHeight h = h
-  check_there ranks SpillRank h = h
-  check_there ranks NotLeast h = not_raised h
-  check_there ranks Slope h = goes_down h
-  check_there ranks OutletCode h = stops h
   check_there ranks FlatStep h = goes_nearer ranks h
-  check_there ranks Accumulation h = counts h
-  check_there ranks Label h = keeps_label h
-  check_there ranks SharedLabel h = h
+  check_there ranks r h = unranked_there r h

@@ -3,7 +3,7 @@
 use Rattle.std.proofs.Common.{◌≡◌, ◌∙◌, IsNone, IsSome, sym}
 use Rattle.drain_grid.specs.declared.cell.Cell.{Cell}
 use Rattle.drain_grid.specs.declared.rule.Rule.{Rule}
-use Rattle.drain_grid.specs.declared.rule.Rule.TheVariants.{VoidCell, Missing, BadCode, BelowGround, OpenRaised, NoSpill, SpillHeight, SpillRank, NotLeast, Slope, OutletCode, FlatStep, Accumulation, Label, SharedLabel}
+use Rattle.drain_grid.specs.declared.rule.Rule.TheVariants.{VoidCell, Missing, OpenRaised, NoSpill, SpillHeight, SpillRank, Slope, OutletCode, FlatStep, SharedLabel}
 use Rattle.drain_grid.specs.declared.set_product.SetProduct.TheVariants as held
 use Rattle.drain_grid.specs.SetProduct.{product_of}
 use Rattle.drain_grid.specs.Values.{NoDataNumbers, number_for, value_of}
@@ -63,20 +63,15 @@ module _ (g p : Grid) (ps qs : Products) (nodata : NoDataNumbers) (padded : AreP
     rules_beyond VoidCell =
         let blank = padded.set.blank c inside beyond in
         λ is_void. record { con_is = blank.con; dir_is = blank.dir; acc_is = blank.acc; bas_is = blank.bas }
-    rules_beyond Missing = λ is_data. absurd (no_data is_data)
-    rules_beyond BadCode = λ is_data. absurd (no_data is_data)
-    rules_beyond BelowGround = λ is_data. absurd (no_data is_data)
     rules_beyond OpenRaised = λ is_open. absurd (no_data is_open.0)
     rules_beyond NoSpill = tt
     rules_beyond SpillHeight = tt
     rules_beyond SpillRank = tt
-    rules_beyond NotLeast = λ is_data. absurd (no_data is_data)
     rules_beyond Slope = λ low. absurd (no_data low.0)
     rules_beyond OutletCode = λ is_open. absurd (no_data is_open.0)
     rules_beyond FlatStep = λ closed. absurd (no_data closed.0)
-    rules_beyond Accumulation = λ is_data. absurd (no_data is_data)
-    rules_beyond Label = λ is_data. absurd (no_data is_data)
     rules_beyond SharedLabel = λ at_c. absurd (beyond (data_back g p padded.grid c at_c).inside)
+    rules_beyond r = λ is_data. absurd (no_data is_data)
 
     pub checks_beyond : ArePaddedRanks g p ps qs nodata → (r : Rule) → HoldsAt (check_rules nodata) p qs c r
     checks_beyond ranks VoidCell =
@@ -89,16 +84,8 @@ module _ (g p : Grid) (ps qs : Products) (nodata : NoDataNumbers) (padded : AreP
           | held.Rnk ↦ ranks.blank c inside beyond
         ])
     checks_beyond ranks Missing = λ is_data. absurd (no_data is_data)
-    checks_beyond ranks BadCode = rules_beyond BadCode
-    checks_beyond ranks BelowGround = rules_beyond BelowGround
-    checks_beyond ranks OpenRaised = rules_beyond OpenRaised
     checks_beyond ranks NoSpill = tt
     checks_beyond ranks SpillHeight = tt
     checks_beyond ranks SpillRank = tt
-    checks_beyond ranks NotLeast = rules_beyond NotLeast
-    checks_beyond ranks Slope = rules_beyond Slope
-    checks_beyond ranks OutletCode = rules_beyond OutletCode
     checks_beyond ranks FlatStep = λ closed. absurd (no_data closed.0)
-    checks_beyond ranks Accumulation = rules_beyond Accumulation
-    checks_beyond ranks Label = rules_beyond Label
-    checks_beyond ranks SharedLabel = rules_beyond SharedLabel
+    checks_beyond ranks r = rules_beyond r

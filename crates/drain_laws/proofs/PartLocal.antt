@@ -6,7 +6,7 @@ use Rattle.std.proofs.Common.{◌≡◌, Bool, true, false, IsNone, IsTrue, refl
 use Rattle.std.proofs.lemmas.Bool.{false≢true}
 use Rattle.drain_grid.specs.declared.cell.Cell.{Cell}
 use Rattle.drain_grid.specs.declared.rule.Rule.{Rule}
-use Rattle.drain_grid.specs.declared.rule.Rule.TheVariants.{VoidCell, Missing, BadCode, BelowGround, OpenRaised, NoSpill, SpillHeight, SpillRank, NotLeast, Slope, OutletCode, FlatStep, Accumulation, Label, SharedLabel}
+use Rattle.drain_grid.specs.declared.rule.Rule.TheVariants.{VoidCell, Missing, BelowGround, OpenRaised, NoSpill, SpillHeight, SpillRank, NotLeast, Slope, OutletCode, FlatStep, Accumulation, Label, SharedLabel}
 use Rattle.drain_grid.specs.Certificate.{RanksAreSteps}
 use Rattle.drain_grid.specs.Grid.{Grid, Products, IsInside, HasData, patch_at, values_at}
 use Rattle.drain_grid.specs.GridRules.{HoldsAt, RulesHold, SharedLabelHolds}
@@ -23,6 +23,7 @@ use Rattle.drain_grid.specs.Judged.{IfJudged, has_acc, has_bas, has_dir}
 use Rattle.drain_laws.specs.PartLaws.{PartIsLocal}
 use Rattle.drain_laws.specs.PartOf.{IsPartOfCorrect, IsSomeWays, joined, joined_numbers}
 use Rattle.drain_grid.specs.RulesAbout.{IsBlankPart, IsCompletePart, IsPartRule, part_rules}
+use Rattle.drain_rules.proofs.RightVoids.{if_judged}
 use Rattle.drain_laws.proofs.CorrectByWays.{correct_by_ways, counts_by_rules, labels_by_rules, sound}
 use Rattle.drain_laws.proofs.OwnRasters.{from_counts-differs, from_counts-void, own_counts-right, own_labels-right, own_numbers, own_ranks-right, own_rasters}
 use Rattle.drain_laws.proofs.SameWays.{ways_there, counts_there, labels_there}
@@ -31,28 +32,21 @@ given_fact : (b : Bool) (P : Type 0) → IsTrue b → IfJudged b P → P
 given_fact true P h fact = fact
 given_fact false P h fact = absurd (false≢true h)
 
-if_given : (b : Bool) (P : Type 0) → P → IfJudged b P
-if_given true P fact = fact
-if_given false P fact = tt
-
 -- the rules about judged rasters say of heights and directions what the rules without ranks say
 pub part_ways : (judged : Judged) (g : Grid) (ps : Products) (nodata : NoDataNumbers) → IsTrue (has_dir judged) →
     RulesHold (part_rules judged nodata) (IsPartRule judged) g ps → RulesHold (unranked nodata) (IsBetween 3 12) g ps
 part_ways judged g ps nodata has rules c VoidCell inside own = absurd (omega (arith, own.0))
 part_ways judged g ps nodata has rules c Missing inside own = absurd (omega (arith, own.0))
-part_ways judged g ps nodata has rules c BadCode inside own = given_fact (has_dir judged) _ has (rules c BadCode inside (omega arith, omega arith))
 part_ways judged g ps nodata has rules c BelowGround inside own = rules c BelowGround inside (omega arith, omega arith)
 part_ways judged g ps nodata has rules c OpenRaised inside own = rules c OpenRaised inside (omega arith, omega arith)
 part_ways judged g ps nodata has rules c NoSpill inside own = tt
 part_ways judged g ps nodata has rules c SpillHeight inside own = tt
 part_ways judged g ps nodata has rules c SpillRank inside own = tt
 part_ways judged g ps nodata has rules c NotLeast inside own = rules c NotLeast inside (omega arith, omega arith)
-part_ways judged g ps nodata has rules c Slope inside own = given_fact (has_dir judged) _ has (rules c Slope inside (omega arith, omega arith))
-part_ways judged g ps nodata has rules c OutletCode inside own = given_fact (has_dir judged) _ has (rules c OutletCode inside (omega arith, omega arith))
-part_ways judged g ps nodata has rules c FlatStep inside own = given_fact (has_dir judged) _ has (rules c FlatStep inside (omega arith, omega arith))
 part_ways judged g ps nodata has rules c Accumulation inside own = absurd (omega (arith, own.1))
 part_ways judged g ps nodata has rules c Label inside own = absurd (omega (arith, own.1))
 part_ways judged g ps nodata has rules c SharedLabel inside own = absurd (omega (arith, own.1))
+part_ways judged g ps nodata has rules c r inside own = given_fact (has_dir judged) _ has (rules c r inside (omega arith, omega arith))
 
 -- what the rules about judged rasters say at a cell, apart from heights and directions
 pub record AreGivenRight (judged : Judged) (g : Grid) (ps : Products) (nodata : NoDataNumbers) (c : Cell) : Type 0 where
@@ -67,19 +61,16 @@ module _ (judged : Judged) (g : Grid) (ps : Products) (nodata : NoDataNumbers) (
   pub part_holds : (r : Rule) → IsPartRule judged r → HoldsAt (part_rules judged nodata) g ps c r
   part_holds VoidCell own = λ void. right.blank void
   part_holds Missing own = λ is_data. right.complete (record { inside = inside; is_data = is_data })
-  part_holds BadCode own = if_given (has_dir judged) _ (ways BadCode (omega arith, omega arith))
   part_holds BelowGround own = ways BelowGround (omega arith, omega arith)
   part_holds OpenRaised own = ways OpenRaised (omega arith, omega arith)
   part_holds NoSpill own = tt
   part_holds SpillHeight own = tt
   part_holds SpillRank own = tt
   part_holds NotLeast own = ways NotLeast (omega arith, omega arith)
-  part_holds Slope own = if_given (has_dir judged) _ (ways Slope (omega arith, omega arith))
-  part_holds OutletCode own = if_given (has_dir judged) _ (ways OutletCode (omega arith, omega arith))
-  part_holds FlatStep own = if_given (has_dir judged) _ (ways FlatStep (omega arith, omega arith))
   part_holds Accumulation own = right.counts
   part_holds Label own = right.label
   part_holds SharedLabel own = given_fact (has_bas judged) _ own right.own_label
+  part_holds r own = if_judged (has_dir judged) _ (ways r (omega arith, omega arith))
 
 -- what a correct set says of judged rasters
 from_part : (judged : Judged) (g : Grid) (ps : Products) (nodata : NoDataNumbers) → IsSomeWays judged → IsPartOfCorrect judged g ps nodata →

@@ -5,13 +5,12 @@ use Rattle.std.specs.Int.{int_max}
 use Rattle.drain_grid.specs.declared.cell.Cell.{Cell}
 use Rattle.drain_grid.specs.declared.direction.Direction.{Direction}
 use Rattle.drain_grid.specs.declared.rule.Rule.{Rule}
-use Rattle.drain_grid.specs.declared.rule.Rule.TheVariants.{VoidCell, Missing, BadCode, BelowGround, OpenRaised, NoSpill, SpillHeight, SpillRank, NotLeast, Slope, OutletCode, FlatStep, Accumulation, Label, SharedLabel}
+use Rattle.drain_grid.specs.declared.rule.Rule.TheVariants.{VoidCell, Missing, OpenRaised, NotLeast, Slope, OutletCode, FlatStep, Accumulation, Label, SharedLabel}
 use Rattle.drain_grid.specs.Direction.{directions}
 use Rattle.drain_grid.specs.Extent.{step}
 use Rattle.drain_grid.specs.Values.{Values, NoDataNumbers}
 use Rattle.drain_grid.specs.Patch.{neighbor}
-use Rattle.drain_grid.specs.PatchRules.{inflow, NotLeastHolds, SlopeHolds, OutletCodeHolds, AccumulationHolds, LabelHolds}
-use Rattle.drain_grid.specs.PatchRules.{OpenRaisedWithoutSpill}
+use Rattle.drain_grid.specs.PatchRules.{inflow, NotLeastHolds, SlopeHolds, OutletCodeHolds, AccumulationHolds, LabelHolds, OpenRaisedWithoutSpill}
 use Rattle.drain_grid.specs.Unranked.{unranked, LevelStepHolds}
 use Rattle.drain_grid.specs.Rule.{IsBetween}
 use Rattle.drain_grid.specs.Grid.{Grid, Products, IsInside, HasData, height_at, values_at, patch_at}
@@ -62,12 +61,7 @@ module _ (g : Grid) (ps rest : Products) (c : Cell) (inside : IsInside g c) wher
       HoldsAt (unranked numbers) g (joined ConDir ps rest) c r
   ways_there nodata numbers VoidCell own h = absurd (omega (arith, own.0))
   ways_there nodata numbers Missing own h = absurd (omega (arith, own.0))
-  ways_there nodata numbers BadCode own h = h
-  ways_there nodata numbers BelowGround own h = h
   ways_there nodata numbers OpenRaised own h = at_ground h
-  ways_there nodata numbers NoSpill own h = h
-  ways_there nodata numbers SpillHeight own h = h
-  ways_there nodata numbers SpillRank own h = h
   ways_there nodata numbers NotLeast own h = not_raised h
   ways_there nodata numbers Slope own h = goes_down h
   ways_there nodata numbers OutletCode own h = stops h
@@ -75,6 +69,7 @@ module _ (g : Grid) (ps rest : Products) (c : Cell) (inside : IsInside g c) wher
   ways_there nodata numbers Accumulation own h = absurd (omega (arith, own.1))
   ways_there nodata numbers Label own h = absurd (omega (arith, own.1))
   ways_there nodata numbers SharedLabel own h = absurd (omega (arith, own.1))
+  ways_there nodata numbers r own h = h
 
 inflow-there : (g : Grid) (ps rest : Products) (o : Option Cell) (d : Direction) →
     inflow (option_map (values_at g (joined ConDirAcc ps rest)) o) d ≡ inflow (option_map (values_at g ps) o) d

@@ -1,12 +1,12 @@
 -- A surface is part of a correct set exactly where it is the filled surface, and its no-data number stands exactly at voids.
 -- A filled surface drains, so it has directions (ChosenWays) with which every run ends; the rest is the law about given
 -- rasters with directions.
-use Rattle.std.proofs.Common.{◌≢◌, inl, inr, ℤ, ◌≤ℤ◌, negsuc, [], sym, ◌∙◌, refl, subst, arith}
+use Rattle.std.proofs.Common.{◌≢◌, inl, inr, ℤ, ◌≤ℤ◌, negsuc, [], sym, ◌∙◌, subst, arith}
 use Rattle.std.specs.Int.{int_max}
 use Rattle.std.proofs.lemmas.Bool.{false≢true}
 use Rattle.drain_grid.specs.declared.cell.Cell.{Cell}
 use Rattle.drain_grid.specs.declared.rule.Rule.{Rule}
-use Rattle.drain_grid.specs.declared.rule.Rule.TheVariants.{VoidCell, Missing, BadCode, BelowGround, OpenRaised, NoSpill, SpillHeight, SpillRank, NotLeast, Slope, OutletCode, FlatStep, Accumulation, Label, SharedLabel}
+use Rattle.drain_grid.specs.declared.rule.Rule.TheVariants.{VoidCell, Missing, BadCode, BelowGround, OpenRaised, NotLeast, Slope, OutletCode, FlatStep, Accumulation, Label, SharedLabel}
 use Rattle.drain_grid.specs.Direction.{IsCode}
 use Rattle.drain_grid.specs.Grid.{Grid, Products, IsInside, HasData, height_at, patch_at}
 use Rattle.drain_grid.specs.GridRules.{HoldsAt, RulesHold}
@@ -51,9 +51,6 @@ module _ (g : Grid) (ps : Products) (nodata : NoDataNumbers) (least : IsLeastSur
   surface_holds BadCode own = λ is_data. codes c (record { inside = inside; is_data = is_data })
   surface_holds BelowGround own = λ is_data. least.covers c (record { inside = inside; is_data = is_data })
   surface_holds OpenRaised own = at_ground g ps least c inside
-  surface_holds NoSpill own = tt
-  surface_holds SpillHeight own = tt
-  surface_holds SpillRank own = tt
   surface_holds NotLeast own = not_raised g ps least c inside
   surface_holds Slope own = ways c Slope inside (omega arith, omega arith)
   surface_holds OutletCode own = ways c OutletCode inside (omega arith, omega arith)
@@ -63,6 +60,7 @@ module _ (g : Grid) (ps : Products) (nodata : NoDataNumbers) (least : IsLeastSur
   surface_holds Accumulation own = absurd (omega (arith, own.1))
   surface_holds Label own = absurd (omega (arith, own.1))
   surface_holds SharedLabel own = absurd (omega (arith, own.1))
+  surface_holds r own = tt
 
 -- no code is below 0
 not_below : (code : ℤ) → IsCode code → code ≢ negsuc 0

@@ -1,20 +1,19 @@
 -- Where all cells are judged, what is found of them is so of the grid.
-use Rattle.std.proofs.Common.{◌≡◌, ℕ, ◌-◌, ◌<◌, ◌≤◌, min, inl, inr, Bool, true, false, IsTrue, map, refl, sym, subst, arith}
-use Rattle.std.specs.List.{flat_map, range_with_len}
+use Rattle.std.proofs.Common.{◌≡◌, ℕ, ◌-◌, ◌<◌, ◌≤◌, inl, inr, Bool, true, false, IsTrue, refl, sym, subst, arith}
 use Rattle.drain_grid.specs.declared.cell.Cell.{Cell}
 use Rattle.drain_grid.specs.declared.cell.TheConstants.{MAX_LENGTH}
 use Rattle.drain_grid.specs.declared.judged.Rules.{Rules}
 use Rattle.drain_grid.specs.declared.rule.Rule.{Rule}
-use Rattle.drain_grid.specs.Extent.{IsEarlier, cells}
+use Rattle.drain_grid.specs.Extent.{IsEarlier}
 use Rattle.drain_grid.specs.Grid.{Grid, Products, IsInside}
-use Rattle.drain_grid.specs.GridRules.{HoldsAt, IsFirstFault, RulesHold}
+use Rattle.drain_grid.specs.GridRules.{HoldsAt}
 use Rattle.drain_grid.specs.PatchRules.{Profile}
 use Rattle.drain_grid.specs.RulesAbout.{IsTried, tried}
 use Rattle.drain_rules.specs.declared.area.Area.{Area}
 use Rattle.drain_rules.specs.declared.tally.Tally.{Tally}
 use Rattle.drain_rules.specs.AreaOutcomes.{AreSound}
 use Rattle.drain_rules.specs.AreaRows.{IsNewLabelBetween}
-use Rattle.drain_rules.specs.Areas.{CountsAmong, HasCell, IsFirstAmong, everywhere}
+use Rattle.drain_rules.specs.Areas.{HasCell, everywhere}
 use Rattle.drain_rules.specs.Compared.{IfCompared, IsTriedIf}
 use Rattle.drain_rules.specs.Labels.{HasNewLabel}
 use Rattle.drain_rules.specs.Rows.{place}
@@ -26,28 +25,6 @@ in_everywhere c few narrow = record { top = omega arith; bottom = omega (arith, 
 module _ (profile : Profile) (IsOwn : Rule → Type 0) (g : Grid) (ps : Products) (few : g.extent.rows ≤ MAX_LENGTH) (narrow : g.extent.cols ≤ MAX_LENGTH) where
   judged : (c : Cell) → IsInside g c → HasCell everywhere c
   judged c inside = in_everywhere c (omega (arith, inside.row, few)) (omega (arith, inside.col, narrow))
-
-  -- rules that hold at all judged cells hold
-  pub all-hold : (Kept : Type 0) (tally : Tally) → AreSound profile IsOwn everywhere g ps g.extent.rows Kept tally → RulesHold profile IsOwn g ps
-  all-hold Kept tally sound c r inside own = sound.holds c r (record { inside = judged c inside; in_row = inside.col; above = inside.row }) own
-
-  -- their counts are those of the grid
-  pub all-counted : (Kept : Type 0) (tally : Tally) → AreSound profile IsOwn everywhere g ps g.extent.rows Kept tally → CountsAmong g ps (cells g.extent) tally
-  all-counted Kept tally sound =
-      let rows : min g.extent.rows 4294967295 - 0 ≡ g.extent.rows = omega (arith, few) in
-      let cols : min 4294967295 g.extent.cols - 0 ≡ g.extent.cols = omega (arith, narrow) in
-      let by_cols : CountsAmong g ps (flat_map (λ row. map (place row) (range_with_len 0 g.extent.cols)) (range_with_len 0 (min g.extent.rows 4294967295 - 0))) tally =
-      subst (λ n. CountsAmong g ps (flat_map (λ row. map (place row) (range_with_len 0 n)) (range_with_len 0 (min g.extent.rows 4294967295 - 0))) tally) cols sound.counted in
-      subst (λ n. CountsAmong g ps (flat_map (λ row. map (place row) (range_with_len 0 g.extent.cols)) (range_with_len 0 n)) tally) rows by_cols
-
-  -- and so is the first fault
-  pub all-first : (c : Cell) (r : Rule) → IsFirstAmong profile IsOwn everywhere g ps c r → IsFirstFault profile IsOwn g ps c r
-  all-first c r first = record {
-    inside = first.in_grid;
-    is_own = first.is_own;
-    fails = first.fails;
-    first = λ b q inside own earlier. first.first b q (judged b inside) inside own earlier;
-  }
 
 -- a new label of a row below sound ones is one of the grid
 new_label : (rules : Rules) (g : Grid) (ps : Products) (row col : ℕ) (Kept : Type 0) (tally : Tally) → row < MAX_LENGTH → g.extent.cols ≤ MAX_LENGTH →

@@ -1,10 +1,10 @@
 -- The least fault of a cell: from its patch, and for every rule from the labels so far, to the grid.
-use Rattle.std.proofs.Common.{◌≡◌, ℕ, ◌<◌, ◌↔◌, Bool, true, false, not, IsTrue, List, Option, Some, None, refl, subst, arith}
+use Rattle.std.proofs.Common.{◌≡◌, ℕ, ◌↔◌, Bool, true, false, not, IsTrue, List, Option, Some, None, refl, subst, arith}
 use Rattle.drain_grid.specs.declared.cell.Cell.{Cell}
 use Rattle.drain_grid.specs.declared.rule.Rule.{Rule}
 use Rattle.drain_grid.specs.declared.rule.Rule.TheVariants.{SharedLabel}
 use Rattle.drain_grid.specs.declared.patch.Patch.{Patch}
-use Rattle.drain_grid.specs.Rule.{IsAnyRule, IsPatchRule, IsLeastFault, rule_number}
+use Rattle.drain_grid.specs.Rule.{IsAnyRule, IsPatchRule, IsLeastFault}
 use Rattle.drain_grid.specs.declared.judged.Judged.{Judged}
 use Rattle.drain_grid.specs.declared.judged.Judged.TheVariants.{Con, ConDir, ConDirAcc, ConDirBas, All, AllWithRanks}
 use Rattle.drain_grid.specs.Judged.{has_bas}
@@ -14,7 +14,7 @@ use Rattle.drain_grid.specs.Values.{Values}
 use Rattle.drain_grid.specs.PatchRules.{Profile}
 use Rattle.drain_grid.specs.GridRules.{HoldsAt, SharedLabelHolds}
 use Rattle.drain_rules.specs.Compared.{IfCompared, IsTriedIf, with_labels}
-use Rattle.drain_rules.specs.Labels.{AreLabelsBefore, HasNoLabel, labelled_profile}
+use Rattle.drain_rules.specs.Labels.{AreLabelsBefore, labelled_profile}
 use Rattle.drain_rules.specs.LabelLaws.{labels-shared}
 
 -- rules that hold alike have one least fault
@@ -58,12 +58,6 @@ pub labelled-HoldsAt : (profile : Profile) (g : Grid) (ps : Products) (labels : 
 labelled-HoldsAt profile g ps labels c SharedLabel inside before = labels-shared g ps labels c inside before
 labelled-HoldsAt profile g ps labels c r inside before = (λ h. h, λ h. h)
 
-pub IsLeastFault-cell : (profile : Profile) (IsOwn : Rule → Type 0) (g : Grid) (ps : Products) (labels : List (ℕ × ℕ)) (c : Cell) (p : Patch) (o : Option Rule) →
-    IsInside g c → AreLabelsBefore g ps c labels → p ≡ patch_at g ps c →
-    IsLeastFault IsOwn (labelled_profile profile labels p) o → IsLeastFault IsOwn (HoldsAt profile g ps c) o
-IsLeastFault-cell profile IsOwn g ps labels c p o inside before =
-    least-labelled profile IsOwn (HasNoLabel labels) g ps c p o (λ own. labels-shared g ps labels c inside before)
-
 -- where no rule of the patch fails, none that is tried does if SharedLabel holds or isn't tried
 any_holds : (profile : Profile) (IsNew : Values → Type 0) (p : Patch) → IsLeastFault IsPatchRule (profile p) None →
     IsNew p.here → (r : Rule) → IsAnyRule r → with_labels IsNew profile p r
@@ -94,28 +88,6 @@ pub own_compared : (compares : Bool) (judged : Judged) → IsTriedIf compares ju
 own_compared true judged own = refl
 own_compared false judged own = absurd (omega (arith, own.1))
 
--- and where labels are judged
-shared_tried : (judged : Judged) → IsTrue (has_bas judged) → IsTried judged SharedLabel
-shared_tried Con own = own
-shared_tried ConDir own = own
-shared_tried ConDirAcc own = own
-shared_tried ConDirBas own = own
-shared_tried All own = (omega arith, omega arith)
-shared_tried AllWithRanks own = (omega arith, omega arith)
-
--- rules before it hold where no rule of the patch fails
-any_before : (profile : Profile) (IsNew : Values → Type 0) (p : Patch) → IsLeastFault IsPatchRule (profile p) None → (r : Rule) → rule_number r < rule_number SharedLabel →
-    with_labels IsNew profile p r
-any_before profile IsNew p all SharedLabel less = absurd (omega (arith, less))
-any_before profile IsNew p all r less = all r (omega arith, omega arith)
-
--- so a label that isn't new is the first fault
-pub shared_fault : (compares : Bool) (judged : Judged) (profile : Profile) (IsNew : Values → Type 0) (p : Patch) → IsLeastFault IsPatchRule (profile p) None →
-    IsTrue (has_bas judged) → ¬ IfCompared compares (IsNew p.here) →
-    IsLeastFault (IsTriedIf compares judged) (with_labels (λ v. IfCompared compares (IsNew v)) profile p) (Some SharedLabel)
-shared_fault false judged profile IsNew p all own known = absurd (known tt)
-shared_fault true judged profile IsNew p all own known = (shared_tried judged own, known, λ r tried less. any_before profile IsNew p all r less)
-
 -- what is compared says so
 pub if_compared : (compares : Bool) (P Q : Type 0) → IsTrue compares → P ↔ Q → IfCompared compares P ↔ Q
 if_compared true P Q is same = same
@@ -132,9 +104,6 @@ part_tried judged SharedLabel own = absurd (omega (arith, own.1))
 part_tried judged r own = own
 
 pub patch_tried : (judged : Judged) (r : Rule) → IsPatchRule r → IsTried judged r
-patch_tried Con r own = part_tried Con r own
-patch_tried ConDir r own = part_tried ConDir r own
-patch_tried ConDirAcc r own = part_tried ConDirAcc r own
-patch_tried ConDirBas r own = part_tried ConDirBas r own
 patch_tried All r own = (own.0, omega (arith, own.1))
 patch_tried AllWithRanks r own = (own.0, omega (arith, own.1))
+patch_tried judged r own = part_tried judged r own

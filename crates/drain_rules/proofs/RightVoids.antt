@@ -9,13 +9,12 @@ use Rattle.drain_grid.specs.Grid.{Grid, Products}
 use Rattle.drain_grid.specs.PatchRules.{Profile}
 use Rattle.drain_grid.specs.declared.judged.Judged.{Judged}
 use Rattle.drain_grid.specs.declared.judged.Judged.TheVariants as rasters
-use Rattle.drain_grid.specs.RulesAbout.{IsBlankPart, part_rules, rules_about}
+use Rattle.drain_grid.specs.RulesAbout.{IsBlankPart, part_rules, rules_about, tried}
 use Rattle.drain_grid.specs.Unranked.{IsBlankWithoutRank}
 use Rattle.drain_grid.specs.Values.{IsBlankWithoutSpill, NoDataNumbers, Values}
 use Rattle.drain_grid.proofs.Options.{void_data}
 use Rattle.drain_grid.specs.declared.judged.Rules.{Rules}
 use Rattle.drain_grid.specs.Judged.{IfJudged, has_acc, has_bas, has_dir, has_rnk}
-use Rattle.drain_grid.specs.RulesAbout.{tried}
 use Rattle.drain_kernel.specs.Rules.{rules_with}
 use Rattle.drain_rules.specs.declared.tally.Tally.{Tally}
 use Rattle.drain_rules.specs.BlankVoids.{IsBlankVoid, IsRightVoid}
@@ -37,37 +36,18 @@ holds_at_void : (ranks : Bool) (nodata : NoDataNumbers) (p : Patch) (r : Rule) �
     IfJudged ranks (p.here.rnk ≡ nodata.rnk) → rules_with ranks nodata p r
 holds_at_void true nodata p VoidCell void blank rank = λ again. blank_five nodata p.here blank rank
 holds_at_void false nodata p VoidCell void blank rank = λ again. blank
-holds_at_void true nodata p Missing void blank rank = λ there. void_data p.here.z void there
-holds_at_void false nodata p Missing void blank rank = λ there. void_data p.here.z void there
-holds_at_void true nodata p BadCode void blank rank = λ there. void_data p.here.z void there
-holds_at_void false nodata p BadCode void blank rank = λ there. void_data p.here.z void there
-holds_at_void true nodata p BelowGround void blank rank = λ there. void_data p.here.z void there
-holds_at_void false nodata p BelowGround void blank rank = λ there. void_data p.here.z void there
-holds_at_void true nodata p OpenRaised void blank rank = λ opened. void_data p.here.z void opened.0
-holds_at_void false nodata p OpenRaised void blank rank = λ opened. void_data p.here.z void opened.0
-holds_at_void true nodata p NoSpill void blank rank = tt
-holds_at_void false nodata p NoSpill void blank rank = tt
-holds_at_void true nodata p SpillHeight void blank rank = tt
-holds_at_void false nodata p SpillHeight void blank rank = tt
-holds_at_void true nodata p SpillRank void blank rank = tt
-holds_at_void false nodata p SpillRank void blank rank = tt
-holds_at_void true nodata p NotLeast void blank rank = λ there. void_data p.here.z void there
-holds_at_void false nodata p NotLeast void blank rank = λ there. void_data p.here.z void there
-holds_at_void true nodata p Slope void blank rank = λ lower. void_data p.here.z void lower.0
-holds_at_void false nodata p Slope void blank rank = λ lower. void_data p.here.z void lower.0
-holds_at_void true nodata p OutletCode void blank rank = λ opened. void_data p.here.z void opened.0
-holds_at_void false nodata p OutletCode void blank rank = λ opened. void_data p.here.z void opened.0
-holds_at_void true nodata p FlatStep void blank rank = λ closed. void_data p.here.z void closed.0
-holds_at_void false nodata p FlatStep void blank rank = λ closed. void_data p.here.z void closed.0
-holds_at_void true nodata p Accumulation void blank rank = λ there. void_data p.here.z void there
-holds_at_void false nodata p Accumulation void blank rank = λ there. void_data p.here.z void there
-holds_at_void true nodata p Label void blank rank = λ there. void_data p.here.z void there
-holds_at_void false nodata p Label void blank rank = λ there. void_data p.here.z void there
-holds_at_void true nodata p SharedLabel void blank rank = tt
-holds_at_void false nodata p SharedLabel void blank rank = tt
+holds_at_void ranks nodata p OpenRaised void blank rank = λ opened. void_data p.here.z void opened.0
+holds_at_void ranks nodata p NoSpill void blank rank = tt
+holds_at_void ranks nodata p SpillHeight void blank rank = tt
+holds_at_void ranks nodata p SpillRank void blank rank = tt
+holds_at_void ranks nodata p Slope void blank rank = λ lower. void_data p.here.z void lower.0
+holds_at_void ranks nodata p OutletCode void blank rank = λ opened. void_data p.here.z void opened.0
+holds_at_void ranks nodata p FlatStep void blank rank = λ closed. void_data p.here.z void closed.0
+holds_at_void ranks nodata p SharedLabel void blank rank = tt
+holds_at_void ranks nodata p r void blank rank = λ there. void_data p.here.z void there
 
 -- and so does each rule about some rasters
-if_judged : (b : Bool) (P : Type 0) → P → IfJudged b P
+pub if_judged : (b : Bool) (P : Type 0) → P → IfJudged b P
 if_judged true P holds = holds
 if_judged false P holds = tt
 
@@ -78,16 +58,13 @@ part_at_void judged nodata p Missing void blank = λ there. void_data p.here.z v
 part_at_void judged nodata p BadCode void blank = if_judged (has_dir judged) _ (λ there. void_data p.here.z void there)
 part_at_void judged nodata p BelowGround void blank = λ there. void_data p.here.z void there
 part_at_void judged nodata p OpenRaised void blank = λ opened. void_data p.here.z void opened.0
-part_at_void judged nodata p NoSpill void blank = tt
-part_at_void judged nodata p SpillHeight void blank = tt
-part_at_void judged nodata p SpillRank void blank = tt
 part_at_void judged nodata p NotLeast void blank = λ there. void_data p.here.z void there
 part_at_void judged nodata p Slope void blank = if_judged (has_dir judged) _ (λ lower. void_data p.here.z void lower.0)
 part_at_void judged nodata p OutletCode void blank = if_judged (has_dir judged) _ (λ opened. void_data p.here.z void opened.0)
 part_at_void judged nodata p FlatStep void blank = if_judged (has_dir judged) _ (λ closed. void_data p.here.z void closed.0)
 part_at_void judged nodata p Accumulation void blank = if_judged (has_acc judged) _ (λ there. void_data p.here.z void there)
 part_at_void judged nodata p Label void blank = if_judged (has_bas judged) _ (λ there. void_data p.here.z void there)
-part_at_void judged nodata p SharedLabel void blank = tt
+part_at_void judged nodata p r void blank = tt
 
 -- the four, where all are judged
 blank_four : (nodata : NoDataNumbers) (v : Values) → v.con ≡ nodata.con → v.dir ≡ nodata.dir → v.acc ≡ nodata.acc → v.bas ≡ nodata.bas →
