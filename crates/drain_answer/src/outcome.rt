@@ -1,8 +1,5 @@
 //! The outcome for judged rasters.
 
-ghost use Rattle.std.specs.Prelude.{◌↔◌, IsTrue};
-ghost use Rattle.drain_answer.specs.Outcomes.{IsAcceptedOutcome};
-
 use drain_grid::{Counts, FillCounts, Rule};
 
 /// Accepted exactly if the judged rasters are right: `Accepted` with directions, `AcceptedSurface` of con alone. Else
@@ -15,16 +12,4 @@ pub enum Outcome {
     Rejected { rule: Rule, row: u32, col: u32 },
     NoEnd { row: u32, col: u32 },
     NotFilled { row: u32, col: u32 },
-}
-
-impl Outcome {
-    /// Whether the rasters are accepted.
-    pub fn is_acceptance(&self) -> bool
-        ensures { IsTrue result ↔ IsAcceptedOutcome self.now }
-    {
-        match self {
-            Outcome::Accepted(_) | Outcome::AcceptedSurface(_) => true,
-            Outcome::Rejected { .. } | Outcome::NoEnd { .. } | Outcome::NotFilled { .. } => false,
-        }
-    }
 }

@@ -32,13 +32,12 @@ use Rattle.drain_paths.specs.declared.inflows.TheConstants.{PASSED_ON}
 use Rattle.drain_paths.specs.CellNumbers.{cell_number, IsPutAt, one_of, ones_of}
 use Rattle.drain_paths.specs.Passing.{has_passed, still, IsPassing, IsPassedOn, StaysAway}
 use Rattle.drain_paths.specs.Inflows.{AreInflows}
-use Rattle.drain_paths.specs.OfFlows.{AllFlowsEnd}
+use Rattle.drain_paths.specs.OfFlows.{AllFlowsEnd, OfFlows}
 use Rattle.drain_paths.specs.Upstream.{AreUpstreamCounts}
 use Rattle.drain_paths.proofs.FlowCells.{data_at, flow_of_data, flow_of_void}
 use Rattle.drain_paths.proofs.InflowLemmas.{inflows_few}
 use Rattle.drain_paths.proofs.PassedSums.{passed_most}
 use Rattle.drain_paths.proofs.Shares.{IsMore, share_elsewhere, share_ahead}
-use Rattle.drain_paths.specs.OfFlows.{OfFlows}
 use Rattle.drain_paths.proofs.GridOfFlows.{are_flows, grid_of_flows, products_of_flows}
 
 few_unmarked : (n : ℕ) → n ≤ 8 → nat_eq n PASSED_ON ≡ false

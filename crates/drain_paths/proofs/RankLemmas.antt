@@ -11,7 +11,7 @@ use Rattle.drain_paths.specs.CellNumbers.{cell_number}
 use Rattle.drain_paths.specs.Ranks.{AreRanks}
 use Rattle.drain_paths.specs.RunSteps.{AreRunSteps}
 
-pos_at : (xs : List ℕ) (k : ℕ) → get_or (map (λ n. pos n) xs) k (pos 0) ≡ pos (get_or xs k 0)
+pub pos_at : (xs : List ℕ) (k : ℕ) → get_or (map (λ n. pos n) xs) k (pos 0) ≡ pos (get_or xs k 0)
 pos_at [] k = refl
 pos_at (x ∷ xs) zero = refl
 pos_at (x ∷ xs) (suc k) = pos_at xs k

@@ -4,7 +4,7 @@ use Rattle.drain_grid.specs.declared.cell.Cell.{Cell}
 use Rattle.drain_grid.specs.Extent.{IsCellOf, index_of}
 use Rattle.drain_grid.specs.Size.{Extent}
 use Rattle.drain_paths.specs.declared.flow.Flow.{Flow}
-use Rattle.drain_paths.specs.declared.flow.Flow.TheVariants.{Void, Lost, Ends, ToEast, ToSouthEast, ToSouth, ToSouthWest, ToWest, ToNorthWest, ToNorth, ToNorthEast}
+use Rattle.drain_paths.specs.declared.flow.Flow.TheVariants.{Void}
 
 -- the number of a cell; 0 past the last
 abbrev pub cell_number : Extent → List ℕ → Cell → ℕ
@@ -19,16 +19,7 @@ pub record IsPutAt (e : Extent) (before after : List ℕ) (c : Cell) (number : �
 -- 1 for a data cell, 0 for a void
 abbrev pub one_of : Flow → ℕ
 one_of Void = 0
-one_of Lost = 1
-one_of Ends = 1
-one_of ToEast = 1
-one_of ToSouthEast = 1
-one_of ToSouth = 1
-one_of ToSouthWest = 1
-one_of ToWest = 1
-one_of ToNorthWest = 1
-one_of ToNorth = 1
-one_of ToNorthEast = 1
+one_of f = 1
 
 -- the same for each flow
 abbrev pub ones_of : List Flow → List ℕ

@@ -4,23 +4,14 @@ use Rattle.drain_grid.specs.Certificate.{run_steps}
 use Rattle.drain_grid.specs.Grid.{Grid, Products}
 use Rattle.drain_grid.specs.Size.{Extent}
 use Rattle.drain_paths.specs.declared.flow.Flow.{Flow}
-use Rattle.drain_paths.specs.declared.flow.Flow.TheVariants.{Void, Lost, Ends, ToEast, ToSouthEast, ToSouth, ToSouthWest, ToWest, ToNorthWest, ToNorth, ToNorthEast}
+use Rattle.drain_paths.specs.declared.flow.Flow.TheVariants.{Ends}
 use Rattle.drain_paths.specs.declared.steps.TheConstants.{UNKNOWN}
 use Rattle.drain_paths.specs.PathNumbers.{AreNumbers}
 
 -- what is known before any walk: the run of an outlet makes no step
 abbrev pub first_step : Flow → ℕ
-first_step Void = UNKNOWN
-first_step Lost = UNKNOWN
 first_step Ends = 0
-first_step ToEast = UNKNOWN
-first_step ToSouthEast = UNKNOWN
-first_step ToSouth = UNKNOWN
-first_step ToSouthWest = UNKNOWN
-first_step ToWest = UNKNOWN
-first_step ToNorthWest = UNKNOWN
-first_step ToNorth = UNKNOWN
-first_step ToNorthEast = UNKNOWN
+first_step f = UNKNOWN
 
 -- the same of each flow
 abbrev pub first_steps_of : List Flow → List ℕ
