@@ -1,5 +1,5 @@
 -- The listed sinks that are voids, noted row by row.
-use Rattle.std.proofs.Common.{◌≡◌, ℕ, ◌+◌, ◌<◌, ◌&&◌, ◌||◌, ◌==◌, nat_lt, is_none, Bool, true, false, List, [], length, inl, inr, arith, refl, sym, ap, subst, ◌∙◌}
+use Rattle.std.proofs.Common.{◌≡◌, ℕ, ◌+◌, ◌<◌, ◌&&◌, ◌||◌, ◌==◌, nat_lt, is_none, true, false, List, [], length, inl, inr, arith, refl, sym, ap, subst, ◌∙◌}
 use Rattle.std.proofs.lemmas.Bool.{cases_eq, lt-ltb, le-ltb}
 use Rattle.std.proofs.lemmas.Bool.Decides.{nat_tests}
 use Rattle.drain_grid.specs.declared.cell.Cell.{Cell}
@@ -20,9 +20,6 @@ in-row g ps r col row is across =
     let wide = is.numbers.cols_are in
     rw (lt-ltb col (length row.numbers.z) (omega (arith, across, wide)), is.sinks col across, is.numbers.elevation col across)
     (let here : (r == r) ≡ true = grind (arith, nat_tests) in rw here refl)
-
-at-row : (before after sunk : Bool) → before ≡ false → after ≡ sunk → (before || after) ≡ sunk
-at-row before after sunk none is = rw (none, is) refl
 
 -- one row more is noted
 pub voids-more : (g : Grid) (ps : Products) (r : ℕ) (voids next : List Cell) (row : MarkedRow) → (r < g.extent.rows → IsRowOf g ps r row) → AreVoidsBefore g r voids →

@@ -7,7 +7,6 @@ use Rattle.drain_grid.specs.declared.rule.Rule.{Rule}
 use Rattle.drain_grid.specs.Extent.{IsEarlier}
 use Rattle.drain_grid.specs.Grid.{Grid, Products, IsInside}
 use Rattle.drain_grid.specs.GridRules.{HoldsAt}
-use Rattle.drain_grid.specs.PatchRules.{Profile}
 use Rattle.drain_grid.specs.RulesAbout.{IsTried, tried}
 use Rattle.drain_rules.specs.declared.area.Area.{Area}
 use Rattle.drain_rules.specs.declared.tally.Tally.{Tally}
@@ -21,10 +20,6 @@ use Rattle.drain_rules.specs.Rows.{place}
 -- a cell of a small grid is judged
 in_everywhere : (c : Cell) → c.row ≤ MAX_LENGTH → c.col ≤ MAX_LENGTH → HasCell everywhere c
 in_everywhere c few narrow = record { top = omega arith; bottom = omega (arith, few); left = omega arith; right = omega (arith, narrow) }
-
-module _ (profile : Profile) (IsOwn : Rule → Type 0) (g : Grid) (ps : Products) (few : g.extent.rows ≤ MAX_LENGTH) (narrow : g.extent.cols ≤ MAX_LENGTH) where
-  judged : (c : Cell) → IsInside g c → HasCell everywhere c
-  judged c inside = in_everywhere c (omega (arith, inside.row, few)) (omega (arith, inside.col, narrow))
 
 -- a new label of a row below sound ones is one of the grid
 new_label : (rules : Rules) (g : Grid) (ps : Products) (row col : ℕ) (Kept : Type 0) (tally : Tally) → row < MAX_LENGTH → g.extent.cols ≤ MAX_LENGTH →

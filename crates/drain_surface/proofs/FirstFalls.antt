@@ -25,6 +25,7 @@ pub record IsFirstFall (level : ℕ) (L : Direction → ℕ) (d : Direction) : T
   pub greatest : (e : Direction) → key_of level L e ≤ key_of level L d
   pub first : (e : Direction) → order_of e < order_of d → key_of level L e < key_of level L d
 
+-- twice a square is a square only at 0
 of_even : (x y z : ℕ) → y ≡ 2 * z → 2 * (x * x) ≡ y * y → 2 * (z * z) ≡ x * x
 of_even x y z even twice =
     let square : y * y ≡ (2 * z) * (2 * z) = ap (λ n. n * n) even in
@@ -304,22 +305,19 @@ none_lower level L most d =
       | inr aslant ↦ (let bound = bound_across L d aslant in omega (arith, bound, most))
     ]
 
+not_less : (a b : ℕ) → nat_lt a b ≡ false → b ≤ a
+not_less a b h = grind (arith, nat_tests)
+
 by_tests : (level : ℕ) (L : Direction → ℕ) (some steeper : Bool) →
     nat_lt (min (least_along (map L directions)) (least_across (map L directions))) level ≡ some →
     is_steeper level (least_along (map L directions)) (least_across (map L directions)) ≡ steeper →
     MeansFall level L (if some then (if steeper then first_along (map L directions) (least_along (map L directions))
     else first_across (map L directions) (least_across (map L directions))) else 0)
 by_tests level L false steeper is_some is_steeper = inl (refl, none_lower level L (not_less _ _ is_some))
-  where
-    not_less : (a b : ℕ) → nat_lt a b ≡ false → b ≤ a
-    not_less a b h = grind (arith, nat_tests)
 by_tests level L true true is_some is_steeper =
     let f = along L in inr (f.way, f.code_is, straight_first level L _ f ((Decides-ltb _ _).0 is_steeper))
 by_tests level L true false is_some is_steeper =
     let f = across L in inr (f.way, f.code_is, across_first level L _ f (not_less _ _ is_steeper) ((Decides-ltb _ _).0 is_some))
-  where
-    not_less : (a b : ℕ) → nat_lt a b ≡ false → b ≤ a
-    not_less a b h = grind (arith, nat_tests)
 
 pub fall_means : (lane : ℕ) (L : Direction → ℕ) → MeansFall (level_of_lane lane) L (fall_in lane (map L directions))
 unfolding fall_in

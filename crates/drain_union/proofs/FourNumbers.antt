@@ -3,7 +3,7 @@
 use Rattle.std.proofs.Common.{◌≡◌, refl, sym, ◌∙◌, arith}
 use Rattle.drain_grid.specs.declared.cell.Cell.{Cell}
 use Rattle.drain_grid.specs.declared.rule.Rule.{Rule}
-use Rattle.drain_grid.specs.declared.rule.Rule.TheVariants.{VoidCell, Missing, BadCode, BelowGround, OpenRaised, NoSpill, SpillHeight, SpillRank, NotLeast, Slope, OutletCode, FlatStep, Accumulation, Label, SharedLabel}
+use Rattle.drain_grid.specs.declared.rule.Rule.TheVariants.{VoidCell, Missing, SharedLabel}
 use Rattle.drain_grid.specs.Grid.{Grid, Products}
 use Rattle.drain_grid.specs.GridRules.{HoldsAt}
 use Rattle.drain_grid.specs.Rule.{IsPatchRule}
@@ -26,18 +26,7 @@ module _ (a b : NoDataNumbers) (con : a.con ≡ b.con) (dir : a.dir ≡ b.dir) (
         bas_differs = λ is. there.bas_differs (is ∙ sym bas);
       })
   same g ps c SharedLabel own holds = absurd (omega arith)
-  same g ps c BadCode own holds = holds
-  same g ps c BelowGround own holds = holds
-  same g ps c OpenRaised own holds = holds
-  same g ps c NoSpill own holds = holds
-  same g ps c SpillHeight own holds = holds
-  same g ps c SpillRank own holds = holds
-  same g ps c NotLeast own holds = holds
-  same g ps c Slope own holds = holds
-  same g ps c OutletCode own holds = holds
-  same g ps c FlatStep own holds = holds
-  same g ps c Accumulation own holds = holds
-  same g ps c Label own holds = holds
+  same g ps c r own holds = holds
 
 pub four_numbers : FourNumbers
 four_numbers nodata w = (

@@ -138,7 +138,7 @@ module _ (p : Place) where
       ∙ range_one (λ k. f (place c.row k)) left cols c.col col.0 col.1 (λ k other. others (place c.row k) (λ same. other (ap (λ (x : Cell). x.col) same)))
 
 -- a place puts two cells at one cell only where they are one
-one_cell : (p : Place) (a b : Cell) → in_union p a ≡ in_union p b → a ≡ b
+pub one_cell : (p : Place) (a b : Cell) → in_union p a ≡ in_union p b → a ≡ b
 one_cell p a b same =
     let row : p.top + a.row ≡ p.top + b.row = ap (λ (c : Cell). c.row) same in
     let col : p.left + a.col ≡ p.left + b.col = ap (λ (c : Cell). c.col) same in

@@ -1,5 +1,5 @@
 -- Reports that can be merged are on windows that agree, so what they say is said of one union.
-use Rattle.std.proofs.Common.{◌≡◌, ℕ, ◌+◌, ◌<◌, ◌⊎◌, inl, inr, ◌↔◌, List, [], ◌∷◌, length, map, slice_index_or, IsTrue, sym, ap, subst, ◌∙◌, arith}
+use Rattle.std.proofs.Common.{◌≡◌, ℕ, ◌<◌, ◌⊎◌, inl, inr, ◌↔◌, List, [], ◌∷◌, length, map, slice_index_or, IsTrue, sym, ap, subst, ◌∙◌, arith}
 use Rattle.std.specs.List.{Contains, AllPairs}
 use Rattle.std.proofs.lemmas.Bool.{cases_order}
 use Rattle.std.proofs.lemmas.List.{get_or_default, get_or-map, length-map}
@@ -9,13 +9,13 @@ use Rattle.drain_grid.specs.Values.{NoDataNumbers}
 use Rattle.drain_grid.specs.Extent.{IsCellOf}
 use Rattle.drain_grid.specs.Grid.{Grid, Products, IsInside, values_at}
 use Rattle.drain_grid.specs.Correct.{IsCorrect}
-use Rattle.drain_grid.proofs.Neighbors.{same_place}
 use Rattle.drain_union.specs.declared.outlet.Outlet.{Outlet}
 use Rattle.drain_union.specs.Outlets.{IsSortedByLabel, NoneBesideShares, ListsOutlets, HoldsAllOf}
 use Rattle.drain_union.specs.Reports.{Report, IsReportOf, OverlapInSeams, ShowTheSame, CanMerge}
 use Rattle.drain_union.specs.declared.place.Place.{Place}
 use Rattle.drain_union.specs.Windows.{Window, in_union, IsPlaceIn, IsJudgedIn, JudgeAll, RulesHoldInside, NoLabelIsShared, AreLaidIn, OverlapsAgree, AreWindowsOf}
 use Rattle.drain_union.specs.Laws.{MergeIsExact}
+use Rattle.drain_union.proofs.JudgedCounts.{one_cell}
 use Rattle.drain_union.proofs.Merges.{merge_tells_shared}
 use Rattle.drain_union.proofs.Unions.{correct_by_windows, windows_make_union}
 
@@ -48,13 +48,6 @@ pairs R xs all x y has_x has_y =
       | inr (inl before) ↦ inr (inl (subst (λ z. R z y) has_x.2 (subst (R (slice_index_or xs has_x.0 x)) at_y (all has_x.0 has_y.0 x before has_y.1))))
       | inr (inr after) ↦ inr (inr (subst (R y) has_x.2 (subst (λ z. R z (slice_index_or xs has_x.0 x)) at_y (all has_y.0 has_x.0 x after has_x.1))))
     ]
-
--- a place puts two cells at one cell only where they are one
-one_cell : (p : Place) (a b : Cell) → in_union p a ≡ in_union p b → a ≡ b
-one_cell p a b same =
-    let row : p.top + a.row ≡ p.top + b.row = ap (λ (c : Cell). c.row) same in
-    let col : p.left + a.col ≡ p.left + b.col = ap (λ (c : Cell). c.col) same in
-    same_place a b (omega (arith, row)) (omega (arith, col))
 
 module _ (depth : ℕ) (e : Extent) (nodata : NoDataNumbers) (reports : List Report) (window_of : Report → Window)
     (of : (r : Report) → Contains reports r → IsReportOf depth (window_of r) r) (holds : (r : Report) → Contains reports r → IsTrue r.holds)
