@@ -8,7 +8,7 @@ use Rattle.drain_hgt.specs.Corner.{Corner}
 use Rattle.drain_hgt.specs.Name.{name_of, spelled}
 use Rattle.std.specs.Fmt.{signed_decimal}
 use Rattle.drain_report.specs.declared.fault.ReportFault.{ReportFault}
-use Rattle.drain_report.specs.declared.fault.ReportFault.TheVariants.{WrongVersion, MissingLine, BadLine, OutOfRange, AfterEnd, OutOfMemory}
+use Rattle.drain_report.specs.declared.fault.ReportFault.TheVariants.{MissingLine, BadLine, OutOfRange}
 use Rattle.drain_report.specs.declared.head.Head.{Head}
 use Rattle.drain_report.specs.Lines.{AreLong, IsInk, line, spaced}
 use Rattle.drain_report.specs.Facts.{tile_line}
@@ -83,12 +83,10 @@ some_feed (x ∷ xs) (suc k) less here = let more = some_feed xs k (omega arith)
 
 -- a fault of a later line
 pub from_later : (feeds first n : ℕ) (fault : ReportFault) → first ≤ n → IsLineFault feeds n fault → IsLineFault feeds first fault
-from_later feeds first n WrongVersion less is = absurd is
 from_later feeds first n (MissingLine k) less is = (omega (arith, is.0), is.1)
 from_later feeds first n (BadLine k) less is = (omega (arith, is.0), is.1)
 from_later feeds first n (OutOfRange k) less is = (omega (arith, is.0), is.1)
-from_later feeds first n AfterEnd less is = absurd is
-from_later feeds first n OutOfMemory less is = absurd is
+from_later feeds first n fault less is = absurd is
 
 pub list_later : (feeds first n : ℕ) (fault : ReportFault) → first ≤ n → IsListFault feeds n fault → IsListFault feeds first fault
 list_later feeds first n fault less (inl of_line) = inl (from_later feeds first n fault less of_line)
@@ -96,12 +94,10 @@ list_later feeds first n fault less (inr memory) = inr memory
 
 -- what a fault of a line says of the whole text
 pub line_fits : (text : List ℕ) (n : ℕ) (fault : ReportFault) → HasVersion text → 2 ≤ n → IsLineFault (line_feeds text) n fault → FaultFits text fault
-line_fits text n WrongVersion version least is = absurd is
 line_fits text n (MissingLine k) version least is = (version, from_later (line_feeds text) 2 n (MissingLine k) least is)
 line_fits text n (BadLine k) version least is = (version, from_later (line_feeds text) 2 n (BadLine k) least is)
 line_fits text n (OutOfRange k) version least is = (version, from_later (line_feeds text) 2 n (OutOfRange k) least is)
-line_fits text n AfterEnd version least is = absurd is
-line_fits text n OutOfMemory version least is = absurd is
+line_fits text n fault version least is = absurd is
 
 -- the lines before this one are counted, and the first of them is read
 pub record IsLater (text : List ℕ) (n : ℕ) (rest : List ℕ) : Type 0 where

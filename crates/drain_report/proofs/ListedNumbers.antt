@@ -15,15 +15,6 @@ pub exact_from : (i n : ℕ) (ns : List ℤ) → i + n ≡ length ns → drop i 
 exact_from i zero ns e = drop_all i ns (omega arith)
 exact_from i (suc n) ns e = drop_more ns i (pos 0) (omega arith) ∙ ap (λ t. get_or ns i (pos 0) ∷ t) (exact_from (i + 1) n ns (omega arith))
 
-pub three : (ns : List ℤ) (x y z : ℤ) → length ns ≡ 3 → get_or ns 0 (pos 0) ≡ x → get_or ns 1 (pos 0) ≡ y → get_or ns 2 (pos 0) ≡ z → ns ≡ x ∷ y ∷ z ∷ []
-three ns x y z long a b c = let all : ns ≡ get_or ns 0 (pos 0) ∷ get_or ns 1 (pos 0) ∷ get_or ns 2 (pos 0) ∷ [] = exact_from 0 3 ns (omega arith) in all ∙ rw (a, b, c) refl
-
--- of ten numbers the first two are before the others
-pub ten : (ns : List ℤ) (x y : ℤ) (rest : List ℤ) → length ns ≡ 10 → get_or ns 0 (pos 0) ≡ x → get_or ns 1 (pos 0) ≡ y → drop 2 ns ≡ rest → ns ≡ x ∷ y ∷ rest
-ten [] x y rest long a b others = absurd (omega arith)
-ten (n ∷ []) x y rest long a b others = absurd (omega arith)
-ten (n ∷ (m ∷ ns)) x y rest long a b others = rw (a, b, others) refl
-
 pub eight : (ns : List ℤ) (p q r s t u v w : ℤ) → length ns ≡ 10 → get_or ns 2 (pos 0) ≡ p → get_or ns 3 (pos 0) ≡ q → get_or ns 4 (pos 0) ≡ r → get_or ns 5 (pos 0) ≡ s
     → get_or ns 6 (pos 0) ≡ t → get_or ns 7 (pos 0) ≡ u → get_or ns 8 (pos 0) ≡ v → get_or ns 9 (pos 0) ≡ w → drop 2 ns ≡ p ∷ q ∷ r ∷ s ∷ t ∷ u ∷ v ∷ w ∷ []
 eight ns p q r s t u v w long a b c d e f g h =

@@ -1,6 +1,6 @@
 -- A number after a space: where its word ends, and that no other number is written so.
 use Rattle.std.proofs.Common.{◌≡◌, ℕ, zero, suc, ◌<◌, ◌⊎◌, true, false, List, [], ◌∷◌, ◌++◌, ℤ, pos, negsuc, length, take, drop, arith, refl, ap, ◌∙◌, length-append}
-use Rattle.std.specs.Prelude.{slice_index, decimal, not, Result, Ok, Err, Some, None}
+use Rattle.std.specs.Prelude.{slice_index, decimal, not, Result, Ok, Err}
 use Rattle.std.specs.Str.{bytes_eq}
 use Rattle.std.proofs.lemmas.Slice.Eq.{bytes_eq-Decides}
 use Rattle.std.specs.Fmt.{signed_decimal}
@@ -67,12 +67,6 @@ ok_same r a b p q = cc
 
 pub not_both : {E : Type 0} (r : Result ℤ E) (e : E) (b : ℤ) → r ≡ Err e → r ≡ Ok b → ⊥
 not_both r e b p q = cc
-
-pub some_same : {X : Type 0} (a b : X) → Some a ≡ Some b → a ≡ b
-some_same a b e = cc
-
-pub none_some : {X : Type 0} (b : X) → None ≡ Some b → ⊥
-none_some b e = cc
 
 -- a test for difference that fails at equal texts
 pub differ : (xs ys : List ℕ) → not (bytes_eq xs ys) ≡ true → xs ≡ ys → ⊥

@@ -1,7 +1,7 @@
 use Rattle.std.proofs.Common.{◌++◌, ◌∙◌, ap, arith, sym}
 use Rattle.drain_report.specs.Lines.{line}
-use Rattle.drain_report.proofs.NumberLemmas.{none_some, some_same}
 use Rattle.drain_report.proofs.fact.read_fact.Goals as goal
+use Rattle.drain_grid.proofs.Options.{none_some, same_some}
 
 pub returns-in-Err-clause-back : goal.returns-in-Err-clause-back
 returns-in-Err-clause-back g c = λ x rest fit many is. c.in-Err.ensures.back (g.T.Fact.numbers_of x) rest (many ∙ sym c.requires) is
@@ -17,7 +17,7 @@ returns-clause-sound g c = c.in-Ok.ensures.sound ∙ ap (λ ns. line c.args.word
 pub returns-clause-back : goal.returns-clause-back
 returns-clause-back g c = λ x rest fit many is.
     let read = c.in-Ok.ensures.back (g.T.Fact.numbers_of x) rest (many ∙ sym c.requires) is in
-    (some_same c.in-Some.fact x (c.in-Some.ensures.back x fit read.0), read.1)
+    (same_some c.in-Some.fact x (c.in-Some.ensures.back x fit read.0), read.1)
 
 pub returns-in_default-clause-place : goal.returns-in_default-clause-place
 returns-in_default-clause-place g c = λ feeds few none at. let next = c.in-Ok.ensures.place feeds few none at in (omega arith, omega (arith, next))

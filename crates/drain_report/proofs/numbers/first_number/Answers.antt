@@ -1,8 +1,9 @@
 use Rattle.std.specs.Int.{w64}
 use Rattle.std.specs.Fmt.{signed_decimal}
 use Rattle.std.proofs.lemmas.Int.{to_z-of_z}
-use Rattle.drain_report.proofs.NumberLemmas.{signed_ink, some_same, none_some}
+use Rattle.drain_report.proofs.NumberLemmas.{signed_ink}
 use Rattle.drain_report.proofs.numbers.first_number.Goals as goal
+use Rattle.drain_grid.proofs.Options.{none_some, same_some}
 
 pub returns-in_default-clause-back : goal.returns-in_default-clause-back
 returns-in_default-clause-back c = λ n e rest h.
@@ -16,5 +17,5 @@ returns-in_default-number-clause-back c = λ n e rest h.
 pub returns-clause-back : goal.returns-clause-back
 returns-clause-back c = λ n e rest h.
     let word = c.in-Some.ensures.back (signed_decimal n) e rest (record { ink = signed_ink n h.long; ends = h.ends; is = h.is }) in
-    let same = some_same c.in-Some-number.number n (c.in-Some-number.ensures.back n h.long word.0) in
+    let same = same_some c.in-Some-number.number n (c.in-Some-number.ensures.back n h.long word.0) in
     (rw same (to_z-of_z w64 n h.long), word.1)

@@ -1,9 +1,9 @@
 use Rattle.std.proofs.Common.{arith, sym, ap, ◌∙◌}
 use Rattle.drain_report.specs.Facts.{values_numbers}
-use Rattle.drain_report.proofs.NumberLemmas.{some_same}
 use Rattle.drain_report.proofs.ListedNumbers.{held, after, eight}
 use Rattle.drain_report.proofs.SameFacts.{if_some, some_of, same_values}
 use Rattle.drain_report.proofs.seams.values.Goals as goal
+use Rattle.drain_grid.proofs.Options.{same_some}
 
 pub returns-clause-sound : goal.returns-clause-sound
 returns-clause-sound c =
@@ -29,7 +29,7 @@ returns-clause-back c = λ v height range is.
     let at7 = sym (held ns 7 c.at-4.result long (omega arith) c.at-4.ensures) ∙ after ns 2 5 (values_numbers v) is in
     let at8 = sym (held ns 8 c.at-5.result long (omega arith) c.at-5.ensures) ∙ after ns 2 6 (values_numbers v) is in
     let at9 = sym (held ns 9 c.at-6.result long (omega arith) c.at-6.ensures) ∙ after ns 2 7 (values_numbers v) is in
-    let z = some_same c.in-Some.z v.z (c.in-Some.ensures.back v.z height range.z_ok at2) in
-    let sink = some_same c.in-Some-flag_at.sink v.sink (c.in-Some-flag_at.ensures.back v.sink at3) in
+    let z = same_some c.in-Some.z v.z (c.in-Some.ensures.back v.z height range.z_ok at2) in
+    let sink = same_some c.in-Some-flag_at.sink v.sink (c.in-Some-flag_at.ensures.back v.sink at3) in
     let same = same_values v c.in-Some.z c.in-Some-flag_at.sink _ _ _ _ _ _ z sink at4 at5 at6 at7 at8 at9 in
     some_of c.new.result v _ (c.new.ensures.valid.1 (rw same range)) c.new.ensures.value same

@@ -1,11 +1,11 @@
 use Rattle.std.proofs.Common.{◌∙◌, get_or, pos, drop, ap, sym}
 use Rattle.std.specs.Prelude.{Some}
 use Rattle.std.proofs.lemmas.Bool.{false≢true}
-use Rattle.drain_report.proofs.NumberLemmas.{none_some, some_same}
 use Rattle.drain_report.proofs.FactLemmas.{corner_of, size_of, corner_narrow, size_narrow}
 use Rattle.drain_report.proofs.ListedNumbers.{four_then}
 use Rattle.drain_report.proofs.SameFacts.{same_place}
 use Rattle.drain_report.proofs.place.PlaceFact.from_numbers.Goals as goal
+use Rattle.drain_grid.proofs.Options.{none_some, same_some}
 
 pub returns-in_err-corner-clause-back : goal.returns-in_err-corner-clause-back
 returns-in_err-corner-clause-back c = λ p fit is.
@@ -17,7 +17,7 @@ returns-in_err-size-clause-back c = λ p fit is.
 
 pub returns-in_err-extent-clause-back : goal.returns-in_err-extent-clause-back
 returns-in_err-extent-clause-back c = λ p fit is.
-    let size = some_same c.in_ok-size.size (size_of p) (c.in_ok-size.ensures.back (size_of p) (size_narrow p fit) (ap (λ ns. get_or ns 2 (pos 0)) is) (ap (λ ns. get_or ns 3 (pos 0)) is)) in
+    let size = same_some c.in_ok-size.size (size_of p) (c.in_ok-size.ensures.back (size_of p) (size_narrow p fit) (ap (λ ns. get_or ns 2 (pos 0)) is) (ap (λ ns. get_or ns 3 (pos 0)) is)) in
     absurd (false≢true (c.in_err-extent.ensures.valid.1 (rw size fit.extent)))
 
 pub returns-in_err-inner-clause-back : goal.returns-in_err-inner-clause-back
@@ -34,7 +34,7 @@ returns-clause-sound c =
 
 pub returns-clause-back : goal.returns-clause-back
 returns-clause-back c = λ p fit is.
-    let corner = some_same c.in_ok-corner.corner (corner_of p) (c.in_ok-corner.ensures.back (corner_of p) (corner_narrow p fit) (ap (λ ns. get_or ns 0 (pos 0)) is) (ap (λ ns. get_or ns 1 (pos 0)) is)) in
-    let size = some_same c.in_ok-size.size (size_of p) (c.in_ok-size.ensures.back (size_of p) (size_narrow p fit) (ap (λ ns. get_or ns 2 (pos 0)) is) (ap (λ ns. get_or ns 3 (pos 0)) is)) in
-    let inner = some_same c.in_ok-inner.inner p.inner (c.in_ok-inner.ensures.back p.inner (ap (λ ns. drop 4 ns) is)) in
+    let corner = same_some c.in_ok-corner.corner (corner_of p) (c.in_ok-corner.ensures.back (corner_of p) (corner_narrow p fit) (ap (λ ns. get_or ns 0 (pos 0)) is) (ap (λ ns. get_or ns 1 (pos 0)) is)) in
+    let size = same_some c.in_ok-size.size (size_of p) (c.in_ok-size.ensures.back (size_of p) (size_narrow p fit) (ap (λ ns. get_or ns 2 (pos 0)) is) (ap (λ ns. get_or ns 3 (pos 0)) is)) in
+    let inner = same_some c.in_ok-inner.inner p.inner (c.in_ok-inner.ensures.back p.inner (ap (λ ns. drop 4 ns) is)) in
     ap (λ x. Some x) (same_place p _ _ _ _ (ap (λ x. x.row) corner) (ap (λ x. x.col) corner) (c.in_ok-extent.ensures.value ∙ rw size) inner)

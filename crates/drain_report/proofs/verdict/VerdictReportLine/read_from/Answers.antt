@@ -1,8 +1,8 @@
 use Rattle.std.proofs.Common.{◌≡◌, rules, refl, arith, ap}
 use Rattle.std.specs.Prelude.{MatchResult}
 use Rattle.drain_grid.specs.declared.verdict.Verdict.TheVariants.{Accepted}
+use Rattle.drain_grid.proofs.Options.{none_some, same_some}
 use Rattle.drain_report.specs.Facts.{count_numbers, fault_numbers}
-use Rattle.drain_report.proofs.NumberLemmas.{none_some, some_same}
 use Rattle.drain_report.proofs.FactLemmas.{counts_long}
 use Rattle.drain_report.proofs.SameFacts.{by_kind, not_both_kinds}
 use Rattle.drain_report.proofs.verdict.VerdictReportLine.read_from.Goals as goal
@@ -28,7 +28,7 @@ returns-clause-back c = λ v rest fit is.
     by_kind (λ w. (Accepted c.in-Some.counts ≡ w) × (c.in-Ok.next.rest.now ≡ rest)) c.args.lines.rest.now rest
     (λ k fits here.
     let read = c.in-Ok.ensures.back (count_numbers k) rest (search rules) (record { long = counts_long k fits; is = here }) in
-    (ap (λ x. Accepted x) (some_same c.in-Some.counts k (c.in-Some.ensures.back k fits read.0)), read.1))
+    (ap (λ x. Accepted x) (same_some c.in-Some.counts k (c.in-Some.ensures.back k fits read.0)), read.1))
     (λ r x fits here. absurd (not_both_kinds c.args.lines.rest.now c.in-Ok.next.rest.now rest c.read_line.new.numbers (fault_numbers r x.row x.col) c.in-Ok.ensures.sound here))
     v fit is
 
