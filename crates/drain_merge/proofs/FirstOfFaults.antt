@@ -8,6 +8,7 @@ use Rattle.drain_merge.specs.declared.faults.Fault.{Fault}
 use Rattle.drain_union.specs.declared.window_report.WindowReport.{WindowReport}
 use Rattle.drain_merge.specs.Faults.{union_fault, ComesBefore, IsEarlierFault, IsFirstOfFaults}
 use Rattle.drain_grid.proofs.CellOrder.{earlier_differs}
+use Rattle.drain_grid.proofs.Options.{none_some, same_some}
 
 before_trans : (a b c : Fault) → ComesBefore a b → ComesBefore b c → ComesBefore a c
 before_trans a b c first second = pair_trans a.cell b.cell c.cell a.rule b.rule c.rule (inl first) second
@@ -15,9 +16,6 @@ before_trans a b c first second = pair_trans a.cell b.cell c.cell a.rule b.rule 
 not_before_itself : (a : Fault) → ¬ ComesBefore a a
 not_before_itself a (inl earlier) = earlier_differs a.cell a.cell earlier refl
 not_before_itself a (inr same) = absurd (omega (arith, same.1))
-
-some_same : (a b : Fault) → Some a ≡ Some b → a ≡ b
-some_same a b same = cc
 
 module _ (ws : List WindowReport) (w : WindowReport) where
   -- a window of those before, or this one
@@ -35,32 +33,26 @@ module _ (ws : List WindowReport) (w : WindowReport) where
   fault_more None (Some b) found is none earlier = subst (IsFirstOfFaults (ws ++ w ∷ [])) (sym earlier) (
     (w, Contains-push ws w, is),
     λ x other has here. old_or_new (λ x. union_fault x ≡ Some other → ¬ ComesBefore other b)
-        (λ x has here. absurd (none_and_some (sym (none x has) ∙ here)))
-        (λ here before. not_before_itself b (subst (λ f. ComesBefore f b) (some_same other b (sym here ∙ is)) before)) x has here,
+        (λ x has here. absurd (none_some other (sym (none x has) ∙ here)))
+        (λ here before. not_before_itself b (subst (λ f. ComesBefore f b) (same_some other b (sym here ∙ is)) before)) x has here,
   )
-    where
-      none_and_some : {f : Fault} → None ≡ Some f → ⊥
-      none_and_some same = cc
   fault_more (Some a) None found is first earlier = subst (IsFirstOfFaults (ws ++ w ∷ [])) (sym earlier) (
     (first.0.0, Contains-append_left ws (w ∷ []) first.0.0 first.0.1, first.0.2),
     λ x other has here. old_or_new (λ x. union_fault x ≡ Some other → ¬ ComesBefore other a)
         (λ x has here. first.1 x other has here)
-        (λ here. absurd (none_and_some (sym is ∙ here))) x has here,
+        (λ here. absurd (none_some other (sym is ∙ here))) x has here,
   )
-    where
-      none_and_some : {f : Fault} → None ≡ Some f → ⊥
-      none_and_some same = cc
   fault_more (Some a) (Some b) found is first (inl new) = subst (IsFirstOfFaults (ws ++ w ∷ [])) (sym new.0) (
     (w, Contains-push ws w, is),
     λ x other has here. old_or_new (λ x. union_fault x ≡ Some other → ¬ ComesBefore other b)
         (λ x has here before. first.1 x other has here (before_trans other b a before new.1))
-        (λ here before. not_before_itself b (subst (λ f. ComesBefore f b) (some_same other b (sym here ∙ is)) before)) x has here,
+        (λ here before. not_before_itself b (subst (λ f. ComesBefore f b) (same_some other b (sym here ∙ is)) before)) x has here,
   )
   fault_more (Some a) (Some b) found is first (inr old) = subst (IsFirstOfFaults (ws ++ w ∷ [])) (sym old.0) (
     (first.0.0, Contains-append_left ws (w ∷ []) first.0.0 first.0.1, first.0.2),
     λ x other has here. old_or_new (λ x. union_fault x ≡ Some other → ¬ ComesBefore other a)
         (λ x has here. first.1 x other has here)
-        (λ here before. old.1 (subst (λ f. ComesBefore f a) (some_same other b (sym here ∙ is)) before)) x has here,
+        (λ here before. old.1 (subst (λ f. ComesBefore f a) (same_some other b (sym here ∙ is)) before)) x has here,
   )
 
 pub fault_of_next : (ws : List WindowReport) (n : ℕ) (w : WindowReport) (first found : Option Fault) → n < length ws → w ≡ slice_index_or ws n w →

@@ -1,16 +1,12 @@
 -- A refusal of the windows that are counted from their box is one of the windows on the map.
-use Rattle.std.proofs.Common.{◌≡◌, inl, inr, List, map, subst, ap, ◌∙◌}
+use Rattle.std.proofs.Common.{◌≡◌, inr, List, map, subst, ap, ◌∙◌}
 use Rattle.drain_union.specs.declared.window_report.WindowReport.{WindowReport}
 use Rattle.drain_merge.specs.declared.map_merge.UnionBox.{UnionBox}
 use Rattle.drain_merge.specs.declared.merge_verdict.MergeRefusal.{MergeRefusal}
 use Rattle.drain_merge.specs.declared.merge_verdict.MergeRefusal.TheVariants.{OutOfMemory}
 use Rattle.drain_merge.specs.declared.union_sinks.UnionSinks.{UnionSinks}
-use Rattle.drain_merge.specs.MapBoxes.{box_of, boxed, HaveOneSide, IsBoxRefusal, IsMapRefusal, IsSideRefusal}
+use Rattle.drain_merge.specs.MapBoxes.{box_of, boxed, HaveOneSide, IsBoxRefusal, IsMapRefusal}
 use Rattle.drain_merge.specs.Moved.{judged_from}
-
-pub of_sides : (sinks : UnionSinks) (ws : List WindowReport) (r : MergeRefusal) → IsSideRefusal ws r → IsMapRefusal sinks ws r
-of_sides sinks ws OutOfMemory is = tt
-of_sides sinks ws r is = inl is
 
 of_box : (sinks : UnionSinks) (ws : List WindowReport) (r : MergeRefusal) → HaveOneSide ws → IsBoxRefusal (box_of ws).size sinks (boxed ws) r → IsMapRefusal sinks ws r
 of_box sinks ws OutOfMemory one is = tt

@@ -11,6 +11,7 @@ use Rattle.drain_grid.specs.Unranked.{unranked}
 use Rattle.drain_grid.specs.Values.{NoDataNumbers}
 use Rattle.drain_grid.specs.declared.verdict.Verdict.{Verdict}
 use Rattle.drain_grid.specs.declared.verdict.Verdict.TheVariants.{Accepted as WindowAccepted, Rejected as WindowRejected}
+use Rattle.drain_grid.proofs.Options.{none_some}
 use Rattle.drain_union.specs.declared.place.Place.{Place}
 use Rattle.drain_merge.specs.declared.faults.Fault.{Fault}
 use Rattle.drain_union.specs.declared.window_report.WindowReport.{WindowReport}
@@ -24,19 +25,13 @@ use Rattle.drain_merge.proofs.MergedCounts.{union_counts}
 use Rattle.drain_merge.proofs.MergedUnions.{can_merge, union_of_all, is_correct, not_correct, first_of_patches, first_shared_label}
 
 rejected_if : (p : Place) (v : Verdict) (fault : Fault) → fault_in p v ≡ Some fault → IsRejected v
-rejected_if p (WindowAccepted counts) fault is = none_some is
-  where
-    none_some : {f : Fault} → None ≡ Some f → ⊥
-    none_some same = cc
+rejected_if p (WindowAccepted counts) fault is = none_some fault is
 rejected_if p (WindowRejected rule row col) fault is = tt
 
 -- a rejected window has a fault
 faulty : (p : Place) (v : Verdict) → IsRejected v → ¬ (fault_in p v ≡ None)
 faulty p (WindowAccepted counts) never = absurd never
-faulty p (WindowRejected rule row col) rejected = some_none
-  where
-    some_none : {f : Fault} → Some f ≡ None → ⊥
-    some_none same = cc
+faulty p (WindowRejected rule row col) rejected = λ is. none_some _ (sym is)
 
 some_rejected : (ws : List WindowReport) (fault : Fault) → IsFirstOfFaults ws (Some fault) → SomeIsRejected ws
 some_rejected ws fault first = (first.0.0, first.0.1, rejected_if first.0.0.report.place first.0.0.verdict fault first.0.2)

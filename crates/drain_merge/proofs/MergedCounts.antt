@@ -1,5 +1,5 @@
 -- The counts of the reports add up to those of the union's cells.
-use Rattle.std.proofs.Common.{◌≡◌, ℕ, ◌-◌, ◌*◌, ◌^◌, ◌<◌, ◌≤◌, Bool, true, false, cond, Some, None, List, [], ◌∷◌, length, slice_index_or, sym, ap, subst, ◌∙◌, arith}
+use Rattle.std.proofs.Common.{◌≡◌, ℕ, ◌-◌, ◌*◌, ◌^◌, ◌<◌, ◌≤◌, Bool, true, false, cond, None, List, [], ◌∷◌, length, slice_index_or, sym, ap, subst, ◌∙◌, arith}
 use Rattle.std.specs.List.{AllPairs, Contains, sum_by}
 use Rattle.std.proofs.lemmas.List.{get_or-map, length-map}
 use Rattle.std.proofs.lemmas.List.Elements.{Contains-get_or}
@@ -12,6 +12,7 @@ use Rattle.drain_grid.proofs.CellSums.{sum_by_cells_le}
 use Rattle.drain_rules.specs.Verdicts.{has_outlet_code}
 use Rattle.drain_grid.specs.declared.verdict.Verdict.{Verdict}
 use Rattle.drain_grid.specs.declared.verdict.Verdict.TheVariants.{Accepted, Rejected}
+use Rattle.drain_grid.proofs.Options.{none_some}
 use Rattle.drain_union.specs.declared.place.Place.{Place}
 use Rattle.drain_union.specs.Judged.{BothJudgeOne}
 use Rattle.drain_union.specs.JudgedCounts.{judged_data, judged_raised, judged_outlets}
@@ -19,7 +20,6 @@ use Rattle.drain_union.specs.Reports.{Report}
 use Rattle.drain_union.specs.Windows.{Window, AreWindowsOf, JudgeAll}
 use Rattle.drain_union.specs.declared.window_report.WindowReport.{WindowReport}
 use Rattle.drain_union.proofs.JudgedCounts.{counts_add_up, listed_same, sum_by_map}
-use Rattle.drain_merge.specs.declared.faults.Fault.{Fault}
 use Rattle.drain_merge.specs.declared.totals.UnionCounts.{UnionCounts}
 use Rattle.drain_merge.specs.Faults.{fault_in, IsFirstOfFaults}
 use Rattle.drain_merge.specs.Lists.{reports_of, places_of}
@@ -32,10 +32,7 @@ use Rattle.drain_merge.proofs.MergedUnions.{judge}
 counts_in : (n : NoDataNumbers) (w : Window) (p : Place) (v : Verdict) → fault_in p v ≡ None → IsVerdictInside n w v →
     (data_cells_in v ≡ judged_data w) × (raised_in v ≡ judged_raised w) × (outlets_in v ≡ judged_outlets w)
 counts_in n w p (Accepted counts) is inside = (inside.1.data_cells, inside.1.raised, inside.1.outlets)
-counts_in n w p (Rejected rule row col) is inside = absurd (some_none is)
-  where
-    some_none : {f : Fault} → Some f ≡ None → ⊥
-    some_none same = cc
+counts_in n w p (Rejected rule row col) is inside = absurd (none_some _ (sym is))
 
 first_of : {X : Type 0} (xs : List X) → 0 < length xs → X
 first_of [] some = absurd (omega arith)

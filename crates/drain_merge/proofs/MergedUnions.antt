@@ -18,6 +18,7 @@ use Rattle.drain_grid.proofs.Exactly.{correct_by_rules_alone}
 use Rattle.drain_grid.proofs.Neighbors.{place}
 use Rattle.drain_grid.specs.declared.verdict.Verdict.{Verdict}
 use Rattle.drain_grid.specs.declared.verdict.Verdict.TheVariants.{Accepted as WindowAccepted, Rejected as WindowRejected}
+use Rattle.drain_grid.proofs.Options.{none_some, same_some}
 use Rattle.drain_union.specs.declared.outlet.Outlet.{Outlet}
 use Rattle.drain_union.specs.declared.place.Place.{Place}
 use Rattle.drain_union.specs.declared.place.TheConstants.{SEAM_DEPTH}
@@ -86,24 +87,15 @@ can_merge e nodata ws one fill same = record {
 -- the fault of a rejected window, at the window's cell
 fault_inside : (n : NoDataNumbers) (w : Window) (p : Place) (v : Verdict) (fault : Fault) → fault_in p v ≡ Some fault → IsVerdictInside n w v →
     (c : Cell) × IsFirstInside n w c fault.rule × (cell_there p c.row c.col ≡ fault.cell)
-fault_inside n w p (WindowAccepted counts) fault is inside = absurd (none_some is)
-  where
-    none_some : {f : Fault} → None ≡ Some f → ⊥
-    none_some same = cc
+fault_inside n w p (WindowAccepted counts) fault is inside = absurd (none_some fault is)
 fault_inside n w p (WindowRejected rule row col) fault is inside =
-    let same : record { cell = cell_there p row col; rule = rule } ≡ fault = some_same is in
+    let same : record { cell = cell_there p row col; rule = rule } ≡ fault = same_some _ _ is in
     (place row col, subst (IsFirstInside n w (place row col)) (ap (λ (f : Fault). f.rule) same) inside, ap (λ (f : Fault). f.cell) same)
-  where
-    some_same : {f g : Fault} → Some f ≡ Some g → f ≡ g
-    some_same same = cc
 
 -- a window without a fault is accepted
 holds_inside : (n : NoDataNumbers) (w : Window) (p : Place) (v : Verdict) → fault_in p v ≡ None → IsVerdictInside n w v → RulesHoldInside n w
 holds_inside n w p (WindowAccepted counts) is inside = inside.0
-holds_inside n w p (WindowRejected rule row col) is inside = absurd (some_none is)
-  where
-    some_none : {f : Fault} → Some f ≡ None → ⊥
-    some_none same = cc
+holds_inside n w p (WindowRejected rule row col) is inside = absurd (none_some _ (sym is))
 
 -- the cell that a report tells is the union's, where the union's size fits 32 bits
 there_is : (e : Extent) (p : Place) (c : Cell) → e.rows < 2 ^ 32 → e.cols < 2 ^ 32 → IsPlaceIn e p → IsCellOf p.extent c → cell_there p c.row c.col ≡ in_union p c
