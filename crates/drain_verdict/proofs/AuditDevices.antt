@@ -7,7 +7,7 @@ use Rattle.drain_device.specs.declared.counts.FaultCounts.{FaultCounts}
 use Rattle.drain_device.specs.Counts.{Answered}
 use Rattle.drain_device.specs.FaultLists.{AnsweredEach, Faults, SomeReadFails}
 use Rattle.drain_device.specs.Patience.{full_patience}
-use Rattle.drain_device.proofs.FaultLists.{SomeReadFails-none, SomeReadFails-then, any-cases, any-either, any-first, any-later, any-left, any-none, any-right, gave_up}
+use Rattle.drain_device.proofs.FaultLists.{SomeReadFails-then, any-cases, any-either, any-first, any-later, any-left, any-none, any-right, gave_up}
 use Rattle.drain_hgt.specs.declared.input.TileInput.{TileInput}
 use Rattle.drain_hgt.specs.Inputs.{names_of, tile_devices}
 use Rattle.drain_verdict.specs.AuditInputs.{audit_devices, with_con_for_ranks}
@@ -149,7 +149,3 @@ module _ {R : Type 0} (counts : R → FaultCounts) where
             length-map tiles (λ t. t.name),
             length-map tiles_then (λ t. t.name),
           )
-
-  -- no device was called
-  pub four_none : (tiles : List (TileInput R)) (ps : AuditProducts R) {F : Type 0} → ¬ F → SomeReadFails (map counts (audit_devices tiles ps)) (map counts (audit_devices tiles ps)) F
-  four_none tiles ps not = SomeReadFails-none (map counts (audit_devices tiles ps)) not

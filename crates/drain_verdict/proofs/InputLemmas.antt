@@ -10,7 +10,7 @@ use Rattle.drain_raster.specs.declared.raster_rows.RasterRows.{RasterRows}
 use Rattle.drain_verdict.specs.InputReads.{RasterHasRead, RastersHaveRead, gave_up, told_by}
 use Rattle.drain_verdict.specs.Inputs.{Products}
 use Rattle.drain_answer.specs.declared.refusal.Refusal.{Refusal}
-use Rattle.drain_answer.specs.declared.refusal.Refusal.TheVariants.{BadSide, BadName, NoTiles, RepeatedTile, BoxTooLarge, BadHeader, WrongShape, Misplaced, BadTileLength, RasterShort, SeamMismatch, BadSinkLine, SinkNotData, OutOfMemory, ReadFailed}
+use Rattle.drain_answer.specs.declared.refusal.Refusal.TheVariants.{ReadFailed}
 
 abbrev pub Answer : Type 0
 Answer = Result (Unit {0}) Refusal
@@ -26,21 +26,8 @@ over_err (Err e) P Q step h = step e h
 
 -- a refusal by which a device failed for good
 pub only_failed : (refusal : Refusal) → IsTrue (gave_up None (Some refusal)) → refusal ≡ ReadFailed
-only_failed BadSide up = absurd (let no = up in cc)
-only_failed (BadName k) up = absurd (let no = up in cc)
-only_failed NoTiles up = absurd (let no = up in cc)
-only_failed (RepeatedTile c) up = absurd (let no = up in cc)
-only_failed BoxTooLarge up = absurd (let no = up in cc)
-only_failed (BadHeader p fault) up = absurd (let no = up in cc)
-only_failed (WrongShape p) up = absurd (let no = up in cc)
-only_failed (Misplaced p) up = absurd (let no = up in cc)
-only_failed (BadTileLength c) up = absurd (let no = up in cc)
-only_failed (RasterShort p) up = absurd (let no = up in cc)
-only_failed (SeamMismatch c) up = absurd (let no = up in cc)
-only_failed (BadSinkLine n) up = absurd (let no = up in cc)
-only_failed (SinkNotData n) up = absurd (let no = up in cc)
-only_failed OutOfMemory up = absurd (let no = up in cc)
 only_failed ReadFailed up = refl
+only_failed refusal up = absurd (let no = up in cc)
 
 abbrev pub HasFailed : Answer → Type 0
 HasFailed answer = told_by answer ≡ Some ReadFailed

@@ -9,7 +9,7 @@ mod HeaderTexts
 pub mod InputLemmas
 pub mod LayoutAnswers
 pub mod MosaicRowSteps
-mod Naming
+pub mod Naming
 pub mod Order
 pub mod OutcomeLemmas
 mod Places

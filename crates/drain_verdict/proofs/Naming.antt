@@ -14,7 +14,7 @@ use Rattle.drain_hgt.specs.Inputs.{names_of}
 use Rattle.drain_verdict.specs.Refusals.{IsBadName}
 use Rattle.drain_verdict.specs.Stages.{IsFirstBadName}
 
-AllZip-more : {A B : Type 0} (R : A → B → Type 0) (xs : List A) (ys : List B) (x : A) (y : B) → AllZip R xs ys → R x y → AllZip R (xs ++ x ∷ []) (ys ++ y ∷ [])
+pub AllZip-more : {A B : Type 0} (R : A → B → Type 0) (xs : List A) (ys : List B) (x : A) (y : B) → AllZip R xs ys → R x y → AllZip R (xs ++ x ∷ []) (ys ++ y ∷ [])
 AllZip-more R [] [] x y all here = (here, tt)
 AllZip-more R [] (b ∷ ys) x y all here = absurd all
 AllZip-more R (a ∷ xs) [] x y all here = absurd all

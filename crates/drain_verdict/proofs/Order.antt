@@ -60,20 +60,7 @@ at_off_data i P line b e = absurd (omega arith)
 -- no refusal before the first kind applies
 pub none_first : (i : Inputs) → NoneStandsBefore i 1
 none_first i BadSide less = omega arith
-none_first i (BadName k) less = omega arith
-none_first i NoTiles less = omega arith
-none_first i (RepeatedTile c) less = omega arith
-none_first i BoxTooLarge less = omega arith
-none_first i (BadHeader p fault) less = omega arith
-none_first i (WrongShape p) less = omega arith
-none_first i (Misplaced p) less = omega arith
-none_first i (BadTileLength c) less = omega arith
-none_first i (RasterShort p) less = omega arith
-none_first i (SeamMismatch c) less = omega arith
-none_first i (BadSinkLine n) less = omega arith
-none_first i (SinkNotData n) less = omega arith
-none_first i OutOfMemory less = omega arith
-none_first i ReadFailed less = omega arith
+none_first i r less = omega arith
 
 -- what holds of no refusal before this kind, and of none of this kind, holds of none before the next
 pub none_more : (i : Inputs) (Holds : Refusal → Type 0) (kind : ℕ) → ((b : Refusal) → (refusal_order i b).0 < kind → ¬ Holds b) → ((b : Refusal) → (refusal_order i b).0 ≡ kind → ¬ Holds b)

@@ -1,13 +1,11 @@
 -- The outcome for judged rasters, from the verdict of the rules about them and from the paths, or from the filled surface.
-use Rattle.std.proofs.Common.{◌≡◌, ◌↔◌, ◌⊎◌, inl, inr, ℕ, Bool, true, false, IsTrue, List, Option, Some, None, MatchOption, Result, Ok, Err, IfOk, IsErrOf, arith, refl, sym, subst, ap}
+use Rattle.std.proofs.Common.{◌≡◌, ◌↔◌, ◌⊎◌, inl, inr, ℕ, false, IsTrue, List, Option, Some, None, Result, Ok, Err, IfOk, IsErrOf, arith, refl, sym, subst, ap}
 use Rattle.std.proofs.lemmas.Bool.{false≢true}
 use Rattle.drain_answer.specs.declared.refusal.Refusal.{Refusal}
 use Rattle.drain_answer.specs.declared.refusal.Refusal.TheVariants.{BadSinkLine, OutOfMemory, ReadFailed}
-use Rattle.drain_filled.specs.Unfilled.{IsFirstUnfilled}
 use Rattle.drain_grid.specs.declared.cell.Cell.{Cell}
-use Rattle.drain_grid.specs.declared.rule.Rule.TheVariants.{VoidCell, Missing, BadCode, BelowGround, OpenRaised, NoSpill, SpillHeight, SpillRank, NotLeast, Slope, OutletCode, FlatStep, Accumulation, Label, SharedLabel}
+use Rattle.drain_grid.specs.declared.rule.Rule.TheVariants.{VoidCell, Missing, BadCode, BelowGround, OpenRaised, NoSpill, SpillHeight, SpillRank, NotLeast, SharedLabel}
 use Rattle.drain_grid.specs.declared.sink_line.SinkLine.{SinkLine}
-use Rattle.drain_grid.specs.Certificate.{IsFirstEndless}
 use Rattle.drain_grid.specs.Grid.{Grid, Products}
 use Rattle.drain_grid.specs.GridRules.{RulesHold}
 use Rattle.drain_grid.specs.Path.{IsLeastSurface}
@@ -19,7 +17,7 @@ use Rattle.drain_grid.specs.declared.judged.Judged.{Judged}
 use Rattle.drain_grid.specs.declared.judged.Judged.TheVariants.{Con, ConDir, ConDirAcc, ConDirBas, All, AllWithRanks}
 use Rattle.drain_grid.specs.Judged.{has_dir, has_rnk}
 use Rattle.drain_laws.specs.PartLaws.{PartIsLocal, SurfaceIsPart}
-use Rattle.drain_laws.specs.PartOf.{AreRight, IsPartOfCorrect, IsRightSurface, IsSomeWays}
+use Rattle.drain_laws.specs.PartOf.{AreRight, IsPartOfCorrect, IsRightSurface}
 use Rattle.drain_grid.specs.RulesAbout.{IsPartRule, IsTried, part_rules, tried}
 use Rattle.drain_grid.specs.Laws.{CorrectIsLocal}
 use Rattle.drain_rows.specs.Runs.{AllRunsEnd}
@@ -51,12 +49,7 @@ con_keeps g ps nodata rules c SpillRank inside own = tt
 con_keeps g ps nodata rules c VoidCell inside own = absurd (omega (arith, own.0))
 con_keeps g ps nodata rules c Missing inside own = absurd (omega (arith, own.0))
 con_keeps g ps nodata rules c BadCode inside own = absurd (omega (arith, own.0))
-con_keeps g ps nodata rules c Slope inside own = absurd (omega (arith, own.1))
-con_keeps g ps nodata rules c OutletCode inside own = absurd (omega (arith, own.1))
-con_keeps g ps nodata rules c FlatStep inside own = absurd (omega (arith, own.1))
-con_keeps g ps nodata rules c Accumulation inside own = absurd (omega (arith, own.1))
-con_keeps g ps nodata rules c Label inside own = absurd (omega (arith, own.1))
-con_keeps g ps nodata rules c SharedLabel inside own = absurd (omega (arith, own.1))
+con_keeps g ps nodata rules c r inside own = absurd (omega (arith, own.1))
 
 -- of con, the verdict of the rules and the first cell that isn't filled give the outcome
 of_surface : (g : Grid) (ps : Products) (nodata : NoDataNumbers) (verdict : Verdict) (unfilled : Option Cell) (outcome : Outcome) →
@@ -84,21 +77,15 @@ of_ranks g ps nodata (checked.Rejected rule row col) None outcome is none rules 
 pub outcome_is : (judged : Judged) (g : Grid) (ps : Products) (nodata : NoDataNumbers) (verdict : Verdict) (cell : Option Cell) (outcome : Outcome) →
     IsOutcomeOf judged verdict cell outcome → IsVerdictBy (rules_of judged nodata) g ps verdict → IsDecided judged g ps verdict cell → IsOutcome judged g ps nodata outcome
 outcome_is Con g ps nodata verdict cell outcome is rules decided = of_surface g ps nodata verdict cell outcome is rules decided
-outcome_is ConDir g ps nodata verdict cell outcome is rules decided = of_ways ConDir g ps nodata verdict cell outcome is decided rules
-outcome_is ConDirAcc g ps nodata verdict cell outcome is rules decided = of_ways ConDirAcc g ps nodata verdict cell outcome is decided rules
-outcome_is ConDirBas g ps nodata verdict cell outcome is rules decided = of_ways ConDirBas g ps nodata verdict cell outcome is decided rules
-outcome_is All g ps nodata verdict cell outcome is rules decided = of_ways All g ps nodata verdict cell outcome is decided rules
 outcome_is AllWithRanks g ps nodata verdict cell outcome is rules decided = of_ranks g ps nodata verdict cell outcome is decided rules
+outcome_is judged g ps nodata verdict cell outcome is rules decided = of_ways judged g ps nodata verdict cell outcome is decided rules
 
 -- what decides of rasters with directions and without ranks
 pub decided_by_flows : (judged : Judged) (g : Grid) (ps : Products) (verdict : Verdict) (cell : Option Cell) → IsTrue (has_dir judged) → has_rnk judged ≡ false →
     IsEndlessCell g ps cell → IsDecided judged g ps verdict cell
 decided_by_flows Con g ps verdict cell has none is = absurd (false≢true has)
-decided_by_flows ConDir g ps verdict cell has none is = is
-decided_by_flows ConDirAcc g ps verdict cell has none is = is
-decided_by_flows ConDirBas g ps verdict cell has none is = is
-decided_by_flows All g ps verdict cell has none is = is
 decided_by_flows AllWithRanks g ps verdict cell has none is = absurd (false≢true (sym none))
+decided_by_flows judged g ps verdict cell has none is = is
 
 -- the flows that are left where paths decide
 pub flows_left : (judged : Judged) (g : Grid) (ps : Products) (extent : Extent) (flows : List Flow) →
@@ -129,19 +116,11 @@ con_holds : (g : Grid) (ps : Products) (nodata : NoDataNumbers) → IsRightSurfa
 con_holds g ps nodata right c VoidCell inside own = λ void. record { con_is = right.voids c inside void; dir_is = tt; acc_is = tt; bas_is = tt }
 con_holds g ps nodata right c Missing inside own =
     λ is_data. record { con_differs = right.complete c (record { inside = inside; is_data = is_data }); dir_differs = tt; acc_differs = tt; bas_differs = tt }
-con_holds g ps nodata right c BadCode inside own = tt
 con_holds g ps nodata right c BelowGround inside own = λ is_data. right.least.covers c (record { inside = inside; is_data = is_data })
 con_holds g ps nodata right c OpenRaised inside own = at_ground g ps right.least c inside
-con_holds g ps nodata right c NoSpill inside own = tt
-con_holds g ps nodata right c SpillHeight inside own = tt
-con_holds g ps nodata right c SpillRank inside own = tt
 con_holds g ps nodata right c NotLeast inside own = not_raised g ps right.least c inside
-con_holds g ps nodata right c Slope inside own = tt
-con_holds g ps nodata right c OutletCode inside own = tt
-con_holds g ps nodata right c FlatStep inside own = tt
-con_holds g ps nodata right c Accumulation inside own = tt
-con_holds g ps nodata right c Label inside own = tt
 con_holds g ps nodata right c SharedLabel inside own = absurd (false≢true own)
+con_holds g ps nodata right c r inside own = tt
 
 -- and where they hold and it is the least surface, it is right
 right_of : (g : Grid) (ps : Products) (nodata : NoDataNumbers) → RulesHold (part_rules Con nodata) (IsPartRule Con) g ps → IsLeastSurface g ps.con → IsRightSurface g ps nodata
@@ -183,11 +162,9 @@ way_exactly judged g ps nodata Right (NotFilled row col) local is = absurd is
 pub exactly : CorrectIsLocal → PartIsLocal → SurfaceIsPart → (judged : Judged) (g : Grid) (ps : Products) (nodata : NoDataNumbers) (outcome : Outcome) →
     has_rnk judged ≡ false → IsOutcome judged g ps nodata outcome → IsAcceptedOutcome outcome ↔ AreRight judged g ps nodata
 exactly whole local surface Con g ps nodata outcome none is = con_exactly surface g ps nodata outcome is
-exactly whole local surface ConDir g ps nodata outcome none is = way_exactly ConDir g ps nodata _ outcome (local ConDir g ps nodata tt) is
-exactly whole local surface ConDirAcc g ps nodata outcome none is = way_exactly ConDirAcc g ps nodata _ outcome (local ConDirAcc g ps nodata tt) is
-exactly whole local surface ConDirBas g ps nodata outcome none is = way_exactly ConDirBas g ps nodata _ outcome (local ConDirBas g ps nodata tt) is
 exactly whole local surface All g ps nodata outcome none is = way_exactly All g ps nodata _ outcome (whole g ps nodata) is
 exactly whole local surface AllWithRanks g ps nodata outcome none is = absurd (false≢true (sym none))
+exactly whole local surface judged g ps nodata outcome none is = way_exactly judged g ps nodata _ outcome (local judged g ps nodata tt) is
 
 -- a fact of the inputs that follows from an answer that is an outcome
 pub when_judged : (Told : Inputs → Type 0) (judged : Judged) (Fact : Outcome → Inputs → Type 0) → ((outcome : Outcome) (i : Inputs) → IsOutcomeAnswer judged i (Ok outcome) → Fact outcome i) →

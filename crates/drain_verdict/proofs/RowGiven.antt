@@ -79,10 +79,7 @@ next_given bl old new from now ps ps_then row kept is mosaic product rows n befo
     list_by_list : (t : ToGive) → ((p : SetProduct) → IsNextRow (of_product new.rasters p) (bl (of_product ps_then p).body) (t.product p) n (of_product row.products p)) →
         (p : SetProduct) → of_product row.products p ≡ of_product (given t n).products p
     list_by_list t each Con = (each Con).out_is
-    list_by_list t each Dir = (each Dir).out_is
-    list_by_list t each Acc = (each Acc).out_is
-    list_by_list t each Bas = (each Bas).out_is
-    list_by_list t each Rnk = (each Rnk).out_is
+    list_by_list t each p = (each p).out_is
 
 -- one call more
 pub come_more : {R : Type 0} (bl : R → Option (List ℕ)) (ct : R → FaultCounts) (start : Reading R) (old new : InputRows) (from now : List (TileInput R)) (ps ps_then : Products R) (row : RowNumbers) (calls : ℕ) →

@@ -11,16 +11,13 @@ ghost use Rattle.drain_verdict.specs.Uses.{AuditUses};
 
 use crate::audit_products::AuditProducts;
 use crate::both_verdict::verdict_of_both;
-use crate::judgement::judge;
-use crate::layout::layout_of;
+use crate::judgement::judge_tiles;
 use drain_answer::{AuditVerdict, Refusal};
 use drain_device::ByteSource;
 use drain_grid::Judged;
 use drain_grid::laws::{correct_is_local, ranks_play_no_part, sound_from_correct};
 use drain_hgt::TileInput;
-use drain_hgt::laws::one_name;
 use drain_mosaic::laws::agreement_gives_elevation;
-use drain_rules::Walk;
 use std::alloc::Global;
 
 /// Whether the four products of the tiles are correct, or the first refusal.
@@ -71,10 +68,6 @@ fn audit_of<R: ByteSource>(
     ensures answer { ForAudit R.bytes_left side tiles.old sinks.now products.old (λ inputs. IsAnswerWithoutRanks inputs result) }
     ensures uses { AuditUses R.bytes_left R.counts side (tiles.old, products.old) (tiles.new, products.new) result }
 {
-    // The law that bytes name one tile.
-    one_name();
-    let layout = layout_of(alloc, side, tiles)?;
-    let walk = Walk::new(alloc);
-    let judgement = judge(alloc, &layout, sinks, tiles, products, Judged::All, walk)?;
+    let judgement = judge_tiles(alloc, side, tiles, sinks, products, Judged::All)?;
     Ok(verdict_of_both(&judgement.verdict, judgement.cell))
 }

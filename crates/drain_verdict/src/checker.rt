@@ -8,16 +8,13 @@ ghost use Rattle.drain_verdict.specs.Headline.{AcceptedMeans, IsRight};
 ghost use Rattle.drain_verdict.specs.Uses.{CheckUses};
 
 use crate::input::Products;
-use crate::judgement::judge;
-use crate::layout::layout_of;
+use crate::judgement::judge_tiles;
 use drain_answer::Refusal;
 use drain_device::ByteSource;
 use drain_grid::laws::correct_from_rules;
 use drain_grid::{Judged, Verdict};
 use drain_hgt::TileInput;
-use drain_hgt::laws::one_name;
 use drain_mosaic::laws::agreement_gives_elevation;
-use drain_rules::Walk;
 use std::alloc::Global;
 
 /// The verdict on products of the tiles, or the first refusal.
@@ -65,11 +62,7 @@ fn answer_of<R: ByteSource>(
     ensures answer { (inputs : Inputs) → Tell R.bytes_left side tiles.old sinks.now products.old inputs → IsAnswer inputs result }
     ensures uses { CheckUses R.bytes_left R.counts side (tiles.old, products.old) (tiles.new, products.new) result }
 {
-    // The law that bytes name one tile.
-    one_name();
-    let layout = layout_of(alloc, side, tiles)?;
-    let walk = Walk::new(alloc);
     let ranked = Judged::AllWithRanks;
-    let judgement = judge(alloc, &layout, sinks, tiles, products, ranked, walk)?;
+    let judgement = judge_tiles(alloc, side, tiles, sinks, products, ranked)?;
     Ok(judgement.verdict)
 }

@@ -16,10 +16,12 @@ ghost use Rattle.drain_verdict.specs.Stages.{IsLayoutOf};
 ghost use Rattle.drain_verdict.specs.Uses.{UsesInputs};
 
 use crate::decider::Decider;
+use crate::layout::layout_of;
 use crate::product_inputs::ProductInputs;
 use crate::ranks_decider::RanksDecide;
 use crate::read_inputs::read_inputs;
 use drain_answer::Refusal;
+use drain_basin::OutletLabels;
 use drain_device::ByteSource;
 use drain_filled::ConRows;
 use drain_grid::{Cell, Judged, OutOfMemory, Verdict};
@@ -28,6 +30,7 @@ use drain_hgt::laws::one_name;
 use drain_mosaic::Layout;
 use drain_paths::CellFlows;
 use drain_rows::{BothVisitors, VerdictVisitor};
+use drain_rules::Walk;
 use std::alloc::Global;
 
 /// The verdict of the rules about judged rasters, the cell that decides against these whatever the rules say, the flow
@@ -38,6 +41,25 @@ pub struct Judgement<W> {
     pub cell: Option<Cell>,
     pub flows: CellFlows,
     pub walk: W,
+}
+
+/// Judges inputs of these tiles by the walk that stops at the first fault. See `check` for the order of refusals.
+pub(crate) fn judge_tiles<R: ByteSource, P: ProductInputs<R>>(
+    alloc: Global,
+    side: u32,
+    tiles: &mut [TileInput<R>],
+    sinks: &[u8],
+    products: &mut P,
+    judged: Judged,
+) -> Result<Judgement<Walk<OutletLabels>>, Refusal>
+    ensures answer { (inputs : Inputs) → Tell R.bytes_left side tiles.old sinks.now (P.inputs products.old) inputs → IsJudgement judged inputs result }
+    ensures uses { UsesInputs P.inputs (λ ts ps. devices_of ts (P.inputs ps)) R.bytes_left R.counts side (tiles.old, products.old) (tiles.new, products.new) result }
+{
+    // The law that bytes name one tile.
+    one_name();
+    let layout = layout_of(alloc, side, tiles)?;
+    let walk = Walk::new(alloc);
+    judge(alloc, &layout, sinks, tiles, products, judged, walk)
 }
 
 /// Judges inputs of this mosaic, or returns the first refusal: the headers of its products, the bytes of its tiles and

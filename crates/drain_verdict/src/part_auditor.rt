@@ -8,17 +8,14 @@ ghost use Rattle.drain_verdict.specs.Outcomes.{AreJudgedRight, IsOutcomeAnswer};
 ghost use Rattle.drain_verdict.specs.Uses.{AuditUses};
 
 use crate::audit_products::AuditProducts;
-use crate::judgement::judge;
-use crate::layout::layout_of;
+use crate::judgement::judge_tiles;
 use crate::outcome::outcome_of;
 use drain_answer::{Outcome, Refusal};
 use drain_device::ByteSource;
 use drain_grid::Judged;
 use drain_grid::laws::correct_is_local;
 use drain_hgt::TileInput;
-use drain_hgt::laws::one_name;
 use drain_laws::parts::{part_is_local, surface_is_part};
-use drain_rules::Walk;
 use std::alloc::Global;
 
 /// Whether the judged rasters are right, or the first refusal: some are if they are part of a correct set.
@@ -65,10 +62,6 @@ fn answer_of<R: ByteSource>(
     ensures answer { ForAudit R.bytes_left side tiles.old sinks.now products.old (λ inputs. IsOutcomeAnswer judged inputs result) }
     ensures uses { AuditUses R.bytes_left R.counts side (tiles.old, products.old) (tiles.new, products.new) result }
 {
-    // The law that bytes name one tile.
-    one_name();
-    let layout = layout_of(alloc, side, tiles)?;
-    let walk = Walk::new(alloc);
-    let judgement = judge(alloc, &layout, sinks, tiles, products, judged, walk)?;
+    let judgement = judge_tiles(alloc, side, tiles, sinks, products, judged)?;
     Ok(outcome_of(judged, &judgement.verdict, judgement.cell))
 }
