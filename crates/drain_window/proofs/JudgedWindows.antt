@@ -63,10 +63,6 @@ judged_back p c has =
       east = cols.1;
     }
 
--- the place's cell that is this one
-cell_back : Place → Cell → Cell
-cell_back p c = record { row = c.row - p.top; col = c.col - p.left }
-
 back_is : (p : Place) (c : Cell) → HasCell (judged_area p) c → (x : Cell) × IsJudgedIn p x × (in_union p x ≡ c)
 back_is p c has =
     let x : Cell = record { row = c.row - p.top; col = c.col - p.left } in
@@ -76,11 +72,11 @@ back_is p c has =
     (x, judged_back p x (subst (HasCell (judged_area p)) (sym same) has), same)
 
 -- a place moved to the union judges the same cells
-moved_judged : (origin : Cell) (p : Place) (c : Cell) → IsJudgedIn p c → IsJudgedIn (moved origin p) c
+pub moved_judged : (origin : Cell) (p : Place) (c : Cell) → IsJudgedIn p c → IsJudgedIn (moved origin p) c
 moved_judged origin p c judged =
     record { inside = judged.inside; north = judged.north; south = judged.south; west = judged.west; east = judged.east }
 
-judged_moved : (origin : Cell) (p : Place) (c : Cell) → IsJudgedIn (moved origin p) c → IsJudgedIn p c
+pub judged_moved : (origin : Cell) (p : Place) (c : Cell) → IsJudgedIn (moved origin p) c → IsJudgedIn p c
 judged_moved origin p c judged =
     record { inside = judged.inside; north = judged.north; south = judged.south; west = judged.west; east = judged.east }
 

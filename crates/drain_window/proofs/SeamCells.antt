@@ -78,13 +78,6 @@ seams-more origin p g ps row col old new here on is so_far x = (to, back)
       | inr behind ↦ at_last before.col (omega (arith, behind, before.to)) before.shown
     ]
 
--- no row was passed
-pub above-none : (origin : Cell) (p : Place) (g : Grid) (ps : Products) (xs : List Shown) → xs ≡ [] → ListsSeamsAbove origin p g ps 0 xs
-above-none origin p g ps xs none x = (
-  (λ has. (let in_none : Contains [] x = subst (λ ys. Contains ys x) none has in absurd (omega (arith, in_none.1)))),
-  (λ (found : (c : Cell) × IsSeamAbove p 0 c × IsShownAt origin p g ps c x). absurd (omega (arith, found.1.above))),
-)
-
 -- one row of the box more
 pub above-more : (origin : Cell) (p : Place) (g : Grid) (ps : Products) (row : ℕ) (old new : List Shown) → p.top ≤ row → row < p.top + p.extent.rows →
     ListsSeamsAbove origin p g ps row old → AddsSeams origin p g ps (row - p.top) p.extent.cols old new → ListsSeamsAbove origin p g ps (row + 1) new

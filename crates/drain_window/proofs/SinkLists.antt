@@ -7,19 +7,14 @@ use Rattle.drain_grid.specs.declared.sink_line.SinkLine.{SinkLine}
 use Rattle.drain_grid.specs.Grid.{Grid, Products}
 use Rattle.drain_grid.specs.SinkLines.{is_listed}
 use Rattle.drain_grid.proofs.Neighbors.{same_place}
+use Rattle.drain_window.proofs.JudgedWindows.{judged_moved, moved_judged}
 use Rattle.drain_union.specs.declared.place.Place.{Place}
 use Rattle.drain_union.proofs.ListedLines.{line_of, listed_there}
 use Rattle.drain_union.specs.Cuts.{window_at}
 use Rattle.drain_union.specs.Judged.{IsJudgedAt}
 use Rattle.drain_union.specs.Reports.{ListsSinks}
-use Rattle.drain_union.specs.Windows.{in_union, moved, IsJudgedIn}
+use Rattle.drain_union.specs.Windows.{in_union, moved}
 use Rattle.drain_window.specs.JudgedSinks.{AreLinesInside, union_cell}
-
-judged_moved : (origin : Cell) (p : Place) (c : Cell) → IsJudgedIn p c → IsJudgedIn (moved origin p) c
-judged_moved origin p c is = record { inside = is.inside; north = is.north; south = is.south; west = is.west; east = is.east }
-
-judged_there : (origin : Cell) (p : Place) (c : Cell) → IsJudgedIn (moved origin p) c → IsJudgedIn p c
-judged_there origin p c is = record { inside = is.inside; north = is.north; south = is.south; west = is.west; east = is.east }
 
 -- a cell of a place, and of the place in the union
 moved_cell : (origin : Cell) (p : Place) (c : Cell) → union_cell origin (in_union p c) ≡ in_union (moved origin p) c
@@ -37,7 +32,7 @@ lists_sinks origin p g ps lines xs sinks inside = record {
       let at = f.4 in
       let is = f.5 in (
         at.0,
-        judged_moved origin p at.0 at.1,
+        moved_judged origin p at.0 at.1,
         ap (λ (h : Cell → _). h (in_union p at.0)) sinks ∙ ap (is_listed lines) at.2 ∙ listed_there lines f.0 s f.3,
         sym (moved_cell origin p at.0) ∙ ap (union_cell origin) at.2 ∙ is,
       ));
@@ -45,14 +40,7 @@ lists_sinks origin p g ps lines xs sinks inside = record {
       (let f = line_of lines (in_union p c) (sym (ap (λ (h : Cell → _). h (in_union p c)) sinks) ∙ is) in
       let s = f.2 in
       subst (λ (k : Cell). Contains xs k) (ap (union_cell origin) (sym f.4) ∙ moved_cell origin p c)
-      (inside.complete f.0 s f.1 f.3 (c, judged_there origin p c judged, f.4)));
-}
-
--- no line is judged yet
-pub none_inside : (origin : Cell) (p : Place) (lines : List SinkLine) → AreLinesInside origin p lines 0 []
-none_inside origin p lines = record {
-  sound = λ x has. absurd (omega (arith, has.1));
-  complete = λ k s less. absurd (omega (arith, less));
+      (inside.complete f.0 s f.1 f.3 (c, judged_moved origin p c judged, f.4)));
 }
 
 the_one : (c x : Cell) → Contains (c ∷ []) x → c ≡ x

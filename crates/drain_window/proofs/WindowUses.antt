@@ -7,6 +7,7 @@ use Rattle.drain_device.proofs.FaultLists.{SomeReadFails-iff}
 use Rattle.drain_hgt.specs.declared.input.TileInput.{TileInput}
 use Rattle.drain_mosaic.specs.Tiling.{Tiling}
 use Rattle.drain_grid.specs.declared.verdict.Verdict.{Verdict}
+use Rattle.drain_verdict.proofs.OutcomeLemmas.{memory_alike}
 use Rattle.drain_verdict.specs.Refusals.{IsOfBodies}
 use Rattle.drain_verdict.specs.Uses.{AuditUses}
 use Rattle.drain_verdict.specs.declared.audit_products.AuditProducts.{AuditProducts}
@@ -15,7 +16,6 @@ use Rattle.drain_union.specs.Reports.{Report}
 use Rattle.drain_union.specs.declared.window_report.WindowReport.{WindowReport}
 use Rattle.drain_window.specs.WindowAnswers.{as_refused, IsWithTiles}
 use Rattle.drain_window.specs.declared.window_answer.WindowRefusal.{WindowRefusal}
-use Rattle.drain_window.proofs.WindowVerdicts.{memory_alike}
 
 module _ {R : Type 0} (bytes_left : R → Option (List ℕ)) (counts : R → FaultCounts) (side : ℕ) (old new : List (TileInput R) × AuditProducts R) where
   -- two answers say alike that a read failed

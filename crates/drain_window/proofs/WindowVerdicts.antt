@@ -1,6 +1,6 @@
 -- What follows from the answer to the inputs.
-use Rattle.std.proofs.Common.{◌≡◌, ◌↔◌, Result, Ok, Err, IfOk, IsErrOf, sym, ap, subst, ◌∙◌}
-use Rattle.drain_answer.specs.declared.refusal.Refusal.TheVariants.{BoxTooLarge, OutOfMemory, ReadFailed}
+use Rattle.std.proofs.Common.{◌≡◌, Result, Ok, Err, IfOk, IsErrOf, sym, ap, subst, ◌∙◌}
+use Rattle.drain_answer.specs.declared.refusal.Refusal.TheVariants.{BoxTooLarge, ReadFailed}
 use Rattle.drain_grid.specs.declared.cell.Cell.{Cell}
 use Rattle.drain_grid.specs.declared.rule.Rule.{Rule}
 use Rattle.drain_grid.specs.declared.verdict.Verdict.{Verdict}
@@ -54,10 +54,6 @@ pub with_tiles_agree : (t : Tiling) (v : Verdict) (r : Report) (result : Result 
 with_tiles_agree t v r (Ok a) (side, tiles, verdict, report) agree =
     subst (λ (q : Report). Agree a.verdict q) (sym report) (subst (λ (w : Verdict). Agree w r) (sym verdict) agree)
 with_tiles_agree t v r (Err refusal) same agree = tt
-
--- neither says that a read failed
-pub memory_alike : {A B : Type 0} (a : A) → IsErrOf (Ok a) ReadFailed ↔ IsErrOf {T = B} (Err OutOfMemory) ReadFailed
-memory_alike a = (λ is. absurd (let no = is in cc), λ is. absurd (let no = is in cc))
 
 -- nor does a place outside the mosaic
 pub outside_reads_none : {T : Type 0} → ¬ IsErrOf {T = T} (Err BoxTooLarge) ReadFailed

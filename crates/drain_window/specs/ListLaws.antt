@@ -1,8 +1,7 @@
 -- What listed outlets say, as the place goes on in row order. The laws are this project's own.
-use Rattle.std.proofs.Common.{◌≡◌, ℕ, ◌+◌, ◌≤◌, ◌↔◌, ◌⊎◌, inl, inr, [], List, false, IsTrue, refl, sym, ◌∙◌, ap, subst, arith}
+use Rattle.std.proofs.Common.{◌≡◌, ℕ, ◌+◌, ◌↔◌, inl, inr, List, false, IsTrue, refl, sym, ◌∙◌, ap, subst, arith}
 use Rattle.std.specs.List.{Contains}
 use Rattle.drain_grid.specs.declared.cell.Cell.{Cell}
-use Rattle.drain_grid.specs.declared.cell.TheConstants.{MAX_LENGTH}
 use Rattle.drain_grid.specs.Extent.{IsEarlier}
 use Rattle.drain_grid.specs.Grid.{Grid, Products, IsInside, values_at}
 use Rattle.drain_grid.specs.Values.{Values}
@@ -17,20 +16,6 @@ use Rattle.drain_window.specs.JudgedAreas.{AddsOutlet, AreListed, IsBefore, IsOu
 -- no list is compared
 pub not_compared : {P : Type 0} → IsTrue false → P
 not_compared is = absurd (let no : ⊥ = cc in no)
-
--- nothing lies before the first cell
-pub listed-none : (a : Area) (origin : Cell) (g : Grid) (ps : Products) (xs : List Outlet) → xs ≡ [] → AreListed a origin g ps (place 0 0) xs
-listed-none a origin g ps xs none x = (to, back)
-  where
-    to : Contains xs x → (c : Cell) × IsBefore a (place 0 0) c × IsOutletAt g ps origin c x
-    to has = let in_none : Contains [] x = subst (λ ys. Contains ys x) none has in absurd (omega (arith, in_none.1))
-
-    before : (c : Cell) → IsEarlier c (place 0 0) → ⊥
-    before c (inl above) = absurd (omega (arith, above))
-    before c (inr beside) = absurd (omega (arith, beside.1))
-
-    back : (c : Cell) × IsBefore a (place 0 0) c × IsOutletAt g ps origin c x → Contains xs x
-    back (c, is, outlet) = absurd (before c is.earlier)
 
 -- with a judged cell the list is that before the next place
 one_more : (g : Grid) (ps : Products) (row col : ℕ) (here : Values) (a : Area) (origin : Cell) (old new : List Outlet) → IsInside g (place row col) → HasCell a (place row col) →

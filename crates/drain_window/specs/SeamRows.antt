@@ -5,7 +5,6 @@ use Rattle.drain_grid.specs.declared.cell.Cell.{Cell}
 use Rattle.drain_grid.specs.declared.cell.TheConstants.{MAX_LENGTH}
 use Rattle.drain_grid.specs.declared.patch.Patch.{Patch}
 use Rattle.drain_grid.specs.Grid.{Grid, Products, values_at}
-use Rattle.drain_grid.specs.Values.{Values}
 use Rattle.drain_rules.specs.PatchRows.{AreRowPatches}
 use Rattle.drain_rules.specs.Rows.{place}
 use Rattle.drain_union.specs.declared.place.Place.{Place}
@@ -39,11 +38,6 @@ pub record IsSeamBefore (origin : Cell) (p : Place) (g : Grid) (ps : Products) (
 -- a list with what is shown at those cells more
 abbrev pub AddsSeams : Cell → Place → Grid → Products → ℕ → ℕ → List Shown → List Shown → Type 0
 AddsSeams origin p g ps row end old new = (x : Shown) → Contains new x ↔ (Contains old x ⊎ IsSeamBefore origin p g ps row end x)
-
--- a list with one more
-pub record IsShownAs (cell : Cell) (v : Values) (x : Shown) : Type 0 where
-  pub cell_is : x.cell ≡ cell
-  pub values_are : x.values ≡ v
 
 -- this holds of each grid that is wide enough for the box, and where these are the patches of a row of the box
 abbrev pub OfSeamRow : Place → ℕ → ℕ → (ℕ → Patch) → (Grid → Products → Type 0) → Type 0

@@ -4,6 +4,7 @@ use Rattle.drain_grid.specs.declared.cell.Cell.{Cell}
 use Rattle.drain_grid.specs.Size.{Extent, IsExtent}
 use Rattle.drain_grid.specs.SinkLines.{is_listed}
 use Rattle.drain_grid.specs.SinkTexts.{sinks_of}
+use Rattle.drain_verdict.proofs.OutcomeLemmas.{memory_alike}
 use Rattle.drain_mosaic.specs.Tiling.{extent_of}
 use Rattle.drain_verdict.specs.AuditInputs.{with_con_for_ranks}
 use Rattle.drain_verdict.specs.Meaning.{input_grid, input_products, lines_in, nodata_numbers}
@@ -14,7 +15,6 @@ use Rattle.drain_verdict.proofs.Uses.{four_used}
 use Rattle.drain_union.specs.Windows.{IsPlaceIn}
 use Rattle.drain_window.specs.MapOrigins.{map_origin}
 use Rattle.drain_window.specs.WindowAnswers.{IsAnswerOn}
-use Rattle.drain_window.proofs.WindowVerdicts.{memory_alike}
 use Rattle.drain_window.proofs.judge.answer_at.Goals as goal
 
 pub read_inputs-requires-clause-unnoted : goal.read_inputs-requires-clause-unnoted
