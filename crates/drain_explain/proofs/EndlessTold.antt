@@ -1,11 +1,11 @@
 -- Where the path without an end leads that an outcome names.
-use Rattle.std.proofs.Common.{◌≡◌, ℕ, List, Option, Some, None, subst}
+use Rattle.std.proofs.Common.{ℕ, List, Option, Some, None, subst}
 use Rattle.std.specs.Prelude.{IfSome}
 use Rattle.drain_answer.specs.declared.outcome.Outcome.{Outcome}
 use Rattle.drain_answer.specs.declared.outcome.Outcome.TheVariants.{NoEnd}
 use Rattle.drain_grid.specs.declared.cell.Cell.{Cell}
 use Rattle.drain_grid.specs.declared.judged.Judged.{Judged}
-use Rattle.drain_grid.specs.declared.judged.Judged.TheVariants.{Con, ConDir, ConDirAcc, ConDirBas, All, AllWithRanks}
+use Rattle.drain_grid.specs.declared.judged.Judged.TheVariants.{Con, AllWithRanks}
 use Rattle.drain_grid.specs.Grid.{Grid, Products}
 use Rattle.drain_grid.specs.Size.{Extent}
 use Rattle.drain_paths.specs.declared.endless_path.EndlessPath.{EndlessPath}
@@ -36,8 +36,5 @@ module _ (i : Inputs) (outcome : Outcome) where
     pub endless-told : (judged : Judged) → IsOutcome judged (input_grid i) (input_products i) (nodata_numbers i) outcome →
         AreFlowsFor judged (input_grid i) (input_products i) extent flows → IfSome told (IsEndlessOf i outcome)
     endless-told Con is left = unnamed (IsConOutcome (input_grid i) (input_products i) (nodata_numbers i)) (λ row col no. no) told is named
-    endless-told ConDir is left = of_ways ConDir told is named (run (input_grid i) (input_products i) left.known)
-    endless-told ConDirAcc is left = of_ways ConDirAcc told is named (run (input_grid i) (input_products i) left.known)
-    endless-told ConDirBas is left = of_ways ConDirBas told is named (run (input_grid i) (input_products i) left.known)
-    endless-told All is left = of_ways All told is named (run (input_grid i) (input_products i) left.known)
     endless-told AllWithRanks is left = unnamed (IsRankOutcome (input_grid i) (input_products i) (nodata_numbers i)) (λ row col no. no) told is named
+    endless-told judged is left = of_ways judged told is named (run (input_grid i) (input_products i) left.known)

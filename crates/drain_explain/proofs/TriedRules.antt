@@ -33,12 +33,9 @@ of_judged false P is not holds = absurd (false≢true is)
 -- of each kind of rules at once: those about some rasters, those without ranks and those with them
 about : (some : Judged) (nodata : NoDataNumbers) (p : Patch) (r : Rule) → ¬ part_rules some nodata p r → ¬ unranked nodata p r → ¬ check_rules nodata p r →
     ¬ rules_about some nodata p r
-about rasters.Con nodata p r part plain ranked = part
-about rasters.ConDir nodata p r part plain ranked = part
-about rasters.ConDirAcc nodata p r part plain ranked = part
-about rasters.ConDirBas nodata p r part plain ranked = part
 about rasters.All nodata p r part plain ranked = plain
 about rasters.AllWithRanks nodata p r part plain ranked = ranked
+about some nodata p r part plain ranked = part
 
 in_each : (rules : Rules) (p : Patch) (r : Rule) → ¬ part_rules rules.judged rules.nodata p r → ¬ unranked rules.nodata p r → ¬ check_rules rules.nodata p r → IsBroken rules r
 in_each rules p r part plain ranked = (p, about rules.judged rules.nodata p r part plain ranked)

@@ -1,5 +1,5 @@
 -- A rule about a product that isn't judged requires nothing.
-use Rattle.std.proofs.Common.{◌≡◌, ◌≢◌, Bool, true, false, IsTrue, Some, None, refl}
+use Rattle.std.proofs.Common.{◌≡◌, ◌≢◌, Bool, true, false, IsTrue, Some, refl}
 use Rattle.drain_grid.specs.declared.judged.Judged.{Judged}
 use Rattle.drain_grid.specs.declared.judged.Judged.TheVariants as rasters
 use Rattle.drain_grid.specs.declared.judged.Rules.{Rules}
@@ -21,22 +21,16 @@ not_judged false P not = tt
 
 -- of each kind of rules at once
 about : (some : Judged) (nodata : NoDataNumbers) (p : Patch) (r : Rule) → part_rules some nodata p r → unranked nodata p r → check_rules nodata p r → rules_about some nodata p r
-about rasters.Con nodata p r part plain ranked = part
-about rasters.ConDir nodata p r part plain ranked = part
-about rasters.ConDirAcc nodata p r part plain ranked = part
-about rasters.ConDirBas nodata p r part plain ranked = part
 about rasters.All nodata p r part plain ranked = plain
 about rasters.AllWithRanks nodata p r part plain ranked = ranked
+about some nodata p r part plain ranked = part
 
 -- where a product of all sets isn't judged, the rules are those about some rasters
 about_some : (has : Judged → Bool) → IsTrue (has rasters.All) → IsTrue (has rasters.AllWithRanks) → (some : Judged) → ¬ IsTrue (has some) →
     (nodata : NoDataNumbers) (p : Patch) (r : Rule) → part_rules some nodata p r → rules_about some nodata p r
-about_some has all ranked rasters.Con not nodata p r part = part
-about_some has all ranked rasters.ConDir not nodata p r part = part
-about_some has all ranked rasters.ConDirAcc not nodata p r part = part
-about_some has all ranked rasters.ConDirBas not nodata p r part = part
 about_some has all ranked rasters.All not nodata p r part = absurd (not all)
 about_some has all ranked rasters.AllWithRanks not nodata p r part = absurd (not ranked)
+about_some has all ranked some not nodata p r part = part
 
 pub untried_rule : (rules : Rules) (r : Rule) → r ≢ VoidCell → r ≢ Missing →
     ((product : SetProduct) → judged r ≡ Some product → ¬ IsTrue (has_product rules.judged product)) → (p : Patch) → tried rules p r
