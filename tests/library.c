@@ -155,11 +155,31 @@ static void test_refusals(void) {
     judge_refused("a sink off the mosaic", side, &tile, 1, "1 1\n51 0\n", &rasters, "refused SinkNotData 2");
 }
 
-/* The audit and the check of the files. The check takes con for ranks, so its answer is that of a poor certificate. */
-static uint32_t call(int checks, drain_answer *answer) {
+/* An audit of some rasters, with NULL for the others. */
+static uint32_t audit_only(uint32_t judged, const drain_audit_rasters *given, drain_answer *answer) {
+    drain_raster null = {drain_bytes_of(NULL, 5), drain_bytes_of(NULL, 5)};
+    drain_audit_rasters some = {given->con, judged & 2 ? given->dir : null, judged & 4 ? given->acc : null, judged & 8 ? given->bas : null};
+    return drain_audit_only(side, &tile, 1, no_sinks, 0, &some, judged, answer);
+}
+
+/* The calls that are tried with memory refused and in threads. */
+enum { AUDIT, CHECK, AUDIT_CON, AUDIT_WAYS, CALLS };
+static const char *const call_names[CALLS] = {"audit", "check", "audit of con", "audit of con and dir"};
+
+/* One of them, of the files. The check takes con for ranks, so its answer is that of a poor certificate. */
+static uint32_t call(int which, drain_answer *answer) {
     drain_check_rasters checked = {rasters.con, rasters.dir, rasters.acc, rasters.bas, rasters.con};
     *answer = unwritten();
-    return checks ? drain_check(side, &tile, 1, no_sinks, 0, &checked, answer) : drain_audit(side, &tile, 1, no_sinks, 0, &rasters, answer);
+    switch (which) {
+    case CHECK:
+        return drain_check(side, &tile, 1, no_sinks, 0, &checked, answer);
+    case AUDIT_CON:
+        return audit_only(DRAIN_CON, &rasters, answer);
+    case AUDIT_WAYS:
+        return audit_only(DRAIN_CON_DIR, &rasters, answer);
+    default:
+        return drain_audit(side, &tile, 1, no_sinks, 0, &rasters, answer);
+    }
 }
 
 /* The places and sizes that drain_answer_layout is proved to give. */
@@ -187,22 +207,57 @@ static void test_layout(void) {
     judge(room.answer.status == 0 && room.answer.rule == 4 && room.answer.row == 8 && room.answer.col == 12, "places: status %u, rule %u, row %u, col %u", room.answer.status,
           room.answer.rule, room.answer.row, room.answer.col);
     judge(are_all(room.answer.line, 164, 255) && are_all(room.behind, sizeof room.behind, 0x5a), "the line of an answer, and what lies behind it");
-    call(0, &room.answer);
+    call(AUDIT, &room.answer);
     judge(are_all(room.behind, sizeof room.behind, 0x5a), "an audit writes behind its answer");
 }
 
-/* acc counts one cell too many at row 3, column 7. By rule 13 that cell is wrong, and no earlier one: it flows south. */
-static void test_rejection(void) {
+/* The rasters, but acc counts one cell too many at row 3, column 7. By rule 13 that cell is wrong, and no earlier one: it
+ * flows south. */
+static drain_audit_rasters with_wrong_count(void) {
     drain_audit_rasters others = rasters;
-    drain_answer answer = unwritten();
     uint8_t *pixels = __real_malloc(rasters.acc.pixels.length);
     memcpy(pixels, rasters.acc.pixels.at, rasters.acc.pixels.length);
     pixels[4 * (3 * side + 7)]++;
-    others.acc.pixels = drain_bytes_of(pixels, rasters.acc.pixels.length);
+    others.acc.pixels.at = pixels;
+    return others;
+}
+
+static void test_rejection(void) {
+    drain_audit_rasters others = with_wrong_count();
+    drain_answer answer = unwritten();
     uint32_t status = drain_audit(side, &tile, 1, no_sinks, 0, &others, &answer);
     judge(status == 1 && says(&answer, 1, "rejected rule=13 Accumulation row=3 col=7") && answer.rule == 13 && answer.row == 3 && answer.col == 7,
           "a wrong count: status %u, rule %u, row %u, col %u: %.164s", answer.status, answer.rule, answer.row, answer.col, answer.line);
-    __real_free(pixels);
+}
+
+/* Each choice of rasters accepts the files, with this line; con alone counts no outlets. A wrong count is seen exactly where
+ * acc is judged, and NULL only in the place of a judged raster. Other numbers are refused, and nothing is read for them. */
+static void test_choices(const char *line) {
+    static const uint32_t choices[] = {DRAIN_CON, DRAIN_CON_DIR, DRAIN_CON_DIR_ACC, DRAIN_CON_DIR_BAS, DRAIN_ALL};
+    static const uint32_t others[] = {0, 2, 5, 9, 13, 14, 16, 31, UINT32_MAX};
+    drain_audit_rasters wrong = with_wrong_count(), none = {drain_no_raster(), drain_no_raster(), drain_no_raster(), drain_no_raster()};
+    const char *outlets = strstr(line, " outlets=");
+    for (size_t i = 0; i < sizeof choices / sizeof *choices; i++) {
+        uint32_t choice = choices[i];
+        drain_answer answer = unwritten();
+        char accepted[164] = "";
+        memcpy(accepted, line, choice == DRAIN_CON ? (size_t)(outlets - line) : strlen(line));
+        uint32_t status = audit_only(choice, &rasters, &answer);
+        judge(!status && says(&answer, 0, accepted) && !answer.rule && !answer.row && !answer.col, "choice %u: status %u: %.164s", choice, status, answer.line);
+        status = audit_only(choice, &wrong, &answer);
+        if (choice & 4)
+            judge(status == 1 && says(&answer, 1, "rejected rule=13 Accumulation row=3 col=7") && answer.rule == 13 && answer.row == 3 && answer.col == 7, "choice %u of a wrong count: %.164s", choice, answer.line);
+        else
+            judge(!status && says(&answer, 0, accepted), "choice %u beside a wrong count: %.164s", choice, answer.line);
+        drain_audit_rasters missing = rasters;
+        (choice & 8 ? &missing.bas : choice & 4 ? &missing.acc : choice & 2 ? &missing.dir : &missing.con)->pixels = drain_bytes_of(NULL, 1);
+        judge(audit_only(choice, &missing, &answer) == 2 && says(&answer, 2, "refused NullBytes"), "choice %u of NULL: %.164s", choice, answer.line);
+    }
+    for (size_t i = 0; i < sizeof others / sizeof *others; i++) {
+        drain_answer answer = unwritten();
+        uint32_t status = drain_audit_only(side, &tile, 1, no_sinks, 0, &none, others[i], &answer);
+        judge(status == 2 && says(&answer, 2, "refused BadChoice") && !answer.rule && !answer.row && !answer.col, "choice %u: status %u: %.164s", others[i], status, answer.line);
+    }
 }
 
 /* NULL for bytes that should be there, in each place of an audit and of a check. */
@@ -258,12 +313,12 @@ static void test_long_headers(void) {
 
 /* Refuses each request for memory of a call: alone, and with every later one. The answer is out of memory, or, where the
  * library does without, the same as with it. Nothing is left allocated. */
-static void test_memory(int checks) {
+static void test_memory(int which) {
     drain_answer right, answer;
-    const char *name = checks ? "check" : "audit";
+    const char *name = call_names[which];
     long before = held, wants = 0;
     calls = 0;
-    call(checks, &right);
+    call(which, &right);
     long requests = calls;
     judge(held == before, "%s: %ld blocks are left", name, held - before);
     judge(requests > 5, "%s: %ld requests for memory", name, requests);
@@ -271,7 +326,7 @@ static void test_memory(int checks) {
         for (long at = 0; at < requests; at++) {
             only_one = alone;
             granted = at;
-            call(checks, &answer);
+            call(which, &answer);
             granted = -1;
             int failed_well = says(&answer, DRAIN_FAILED, "failed OutOfMemory") && !answer.rule && !answer.row && !answer.col;
             wants += failed_well;
@@ -279,7 +334,7 @@ static void test_memory(int checks) {
                   alone ? "" : " and all later ones", answer.status, answer.line, held - before);
         }
     judge(wants > 5, "%s: out of memory in %ld answers", name, wants);
-    call(checks, &answer);
+    call(which, &answer);
     judge(!memcmp(&answer, &right, sizeof right), "%s: another answer after refusals", name);
 }
 
@@ -290,17 +345,17 @@ static void *repeat(void *right) {
     long same = 0;
     for (int i = 0; i < ROUNDS; i++) {
         drain_answer answer;
-        call(i % 2, &answer);
-        same += !memcmp(&answer, &((drain_answer *)right)[i % 2], sizeof answer);
+        call(i % CALLS, &answer);
+        same += !memcmp(&answer, &((drain_answer *)right)[i % CALLS], sizeof answer);
     }
     return (void *)same;
 }
 
 static void test_threads(void) {
-    drain_answer right[2];
+    drain_answer right[CALLS];
     pthread_t threads[THREADS];
-    call(0, &right[0]);
-    call(1, &right[1]);
+    for (int i = 0; i < CALLS; i++)
+        call(i, &right[i]);
     for (int i = 0; i < THREADS; i++)
         if (pthread_create(&threads[i], NULL, repeat, right))
             exit(4);
@@ -324,15 +379,16 @@ int main(int argc, char **argv) {
         each[i]->header = read_file(argv[2], names[i][0]);
         each[i]->pixels = read_file(argv[2], names[i][1]);
     }
-    judge(!call(0, &answer) && says(&answer, DRAIN_ACCEPTED, argv[5]) && !answer.rule && !answer.row && !answer.col, "the audit: %.164s", answer.line);
-    judge(call(1, &answer) == DRAIN_REJECTED && answer.status == DRAIN_REJECTED && answer.rule, "the check: %.164s", answer.line);
+    judge(!call(AUDIT, &answer) && says(&answer, DRAIN_ACCEPTED, argv[5]) && !answer.rule && !answer.row && !answer.col, "the audit: %.164s", answer.line);
+    judge(call(CHECK, &answer) == DRAIN_REJECTED && answer.status == DRAIN_REJECTED && answer.rule, "the check: %.164s", answer.line);
     test_layout();
     test_rejection();
+    test_choices(argv[5]);
     test_refusals();
     test_null();
     test_long_headers();
-    test_memory(0);
-    test_memory(1);
+    for (int i = 0; i < CALLS; i++)
+        test_memory(i);
     test_threads();
     printf("%d passed, %d failed\n", passed, failed);
     return failed > 0;

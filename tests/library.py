@@ -1,5 +1,5 @@
 #!/usr/bin/env python3
-"""Tests of libdrain from Python: where the members of an answer lie, a rejection, and NULL for bytes.
+"""Tests of libdrain from Python: where the members of an answer lie, a rejection, choices, and NULL for bytes.
 
 Usage: tests/library.py LIBDRAIN.so    (the repository's examples and samples are read)
 
@@ -50,6 +50,18 @@ def is_rejection_right(drain: judge.Drain) -> bool:
     return answer == judge.Answer(1, 13, 3, 7, "rejected rule=13 Accumulation row=3 col=7")
 
 
+def are_choices_right(drain: judge.Drain) -> bool:
+    """Each choice of rasters accepts the set, and another is refused."""
+    rasters = dict(zip(judge.AUDITED, read_rasters()))
+    lines = {
+        names: drain.audit_only(SIDE, [TILE], {name: rasters[name] for name in names.split()}).line
+        for names in ("con", "con dir", "con dir acc", "con dir bas", "con dir acc bas", "dir", "con acc")
+    }
+    surface = "accepted rows=51 cols=51 data=2601 raised=59"
+    whole = surface + " outlets=10"
+    return list(lines.values()) == [surface, whole, whole, whole, whole, "refused BadChoice", "refused BadChoice"]
+
+
 def line_with(drain: judge.Drain, data: judge.Bytes) -> str:
     """The line of an audit that is passed these bytes for the pixels of bas."""
     tile = judge.Pair(TILE[0].encode(), TILE[1])
@@ -65,6 +77,7 @@ def main(path: str) -> int:
     tests = {
         "where members lie": is_layout_right(drain),
         "a rejection": is_rejection_right(drain),
+        "choices of rasters": are_choices_right(drain),
         "NULL for no bytes": line_with(drain, judge.Bytes(None)) == "refused RasterShort bas",
         "NULL for 5 bytes": line_with(drain, judge.Bytes(None, 5)) == "refused NullBytes",
     }

@@ -10,7 +10,7 @@ from __future__ import annotations
 
 import ctypes
 import sys
-from collections.abc import Sequence
+from collections.abc import Mapping, Sequence
 from dataclasses import dataclass
 from pathlib import Path
 
@@ -59,17 +59,27 @@ class Drain:
 
     def __init__(self, path: str) -> None:
         self._library = ctypes.CDLL(path)
-        for function in (self._library.drain_audit, self._library.drain_check):
+        given = [
+            ctypes.c_uint32, ctypes.POINTER(Pair), ctypes.c_size_t, ctypes.c_char_p, ctypes.c_size_t, ctypes.c_void_p,
+        ]
+        answer = ctypes.POINTER(RawAnswer)
+        self._library.drain_audit.argtypes = [*given, answer]
+        self._library.drain_check.argtypes = [*given, answer]
+        self._library.drain_audit_only.argtypes = [*given, ctypes.c_uint32, answer]
+        for function in (self._library.drain_audit, self._library.drain_check, self._library.drain_audit_only):
             function.restype = ctypes.c_uint32
-            function.argtypes = [
-                ctypes.c_uint32, ctypes.POINTER(Pair), ctypes.c_size_t, ctypes.c_char_p, ctypes.c_size_t,
-                ctypes.c_void_p, ctypes.POINTER(RawAnswer),
-            ]
 
     def audit(self, side: int, tiles: Sequence[tuple[str, bytes]], rasters: Sequence[tuple[bytes, bytes]],
               sinks: bytes = b"") -> Answer:
         """Audits con, dir, acc and bas, each a header and pixels, for tiles, each a name and samples."""
         return self._call(self._library.drain_audit, len(AUDITED), side, tiles, rasters, sinks)
+
+    def audit_only(self, side: int, tiles: Sequence[tuple[str, bytes]], rasters: Mapping[str, tuple[bytes, bytes]],
+                   sinks: bytes = b"") -> Answer:
+        """Audits some rasters, by name: con, con and dir, these with acc or with bas, or all four."""
+        judged = sum(1 << AUDITED.index(name) for name in rasters)
+        others = [rasters.get(name, (b"", b"")) for name in AUDITED]
+        return self._call(self._library.drain_audit_only, len(AUDITED), side, tiles, others, sinks, judged)
 
     def check(self, side: int, tiles: Sequence[tuple[str, bytes]], rasters: Sequence[tuple[bytes, bytes]],
               sinks: bytes = b"") -> Answer:
@@ -78,14 +88,14 @@ class Drain:
 
     @staticmethod
     def _call(function, count: int, side: int, tiles: Sequence[tuple[str, bytes]],
-              rasters: Sequence[tuple[bytes, bytes]], sinks: bytes) -> Answer:
+              rasters: Sequence[tuple[bytes, bytes]], sinks: bytes, *more: int) -> Answer:
         if len(rasters) != count:
             raise ValueError(f"{count} rasters are needed")
         # An array of no tiles still has an address, which C needs.
         given = (Pair * max(len(tiles), 1))(*(Pair(name.encode(), samples) for name, samples in tiles))
         products = (Pair * count)(*(Pair(header, pixels) for header, pixels in rasters))
         raw = RawAnswer()
-        function(side, given, len(tiles), sinks, len(sinks), products, raw)
+        function(side, given, len(tiles), sinks, len(sinks), products, *more, raw)
         return Answer(raw.status, raw.rule, raw.row, raw.col, raw.line.decode("ascii"))
 
 

@@ -1,8 +1,8 @@
 /* libdrain: whether drainage rasters are correct for the elevation tiles that they were made from.
  *
- * Two functions judge, each proved to give the right answer to the bytes that it is passed (the contracts are in
- * crates/drain_c/src/exported_audit.rt and exported_check.rt). They read memory only: no file, no output, no state
- * between calls. A third says where the members of an answer lie.
+ * The functions are proved to give the right answer to the bytes that they are passed: the contract of drain_NAME is in
+ * crates/drain_c/src/exported_NAME.rt. They read memory only: no file, no output, no state between calls. Another one says
+ * where the members of an answer lie.
  *
  * What is proved holds where the caller keeps the rules below. Nothing checks a caller in C.
  *
@@ -12,9 +12,9 @@
  * Memory. The library reads samples and pixels where they lie, and copies names and headers. Of a header it reads and
  *   copies at most 65,537 bytes. It keeps nothing after it returns. It calls malloc, realloc and free, which align and
  *   behave as the C standard says. An audit takes a byte for each cell, beside some rows, the labels of outlets and the
- *   list of sinks; a check takes those alone.
+ *   list of sinks; a check takes those alone; an audit of con alone takes the elevations, con and a flood.
  *   *answer overlaps no other argument, and nothing else writes to any argument during a call.
- * Threads. Calls may run at the same time, each with an answer of its own. Call neither function from a signal handler,
+ * Threads. Calls may run at the same time, each with an answer of its own. Call no function from a signal handler,
  *   nor in a child that was forked while several threads ran.
  * Machine. x86-64-v2 or newer, Linux. The library doesn't test the processor.
  */
@@ -73,7 +73,7 @@ typedef struct drain_check_rasters {
 enum {
     DRAIN_ACCEPTED = 0, /* of an audit: the rasters are correct; of a check: correct, and the ranks show it */
     DRAIN_REJECTED = 1, /* of an audit: the rasters aren't correct; of a check: or the ranks don't show it */
-    DRAIN_REFUSED = 2,  /* no verdict: the side, a name, a header, a length, a seam, the list of sinks, or NULL */
+    DRAIN_REFUSED = 2,  /* no verdict: the side, a name, a header, a length, a seam, the list of sinks, NULL, a choice */
     DRAIN_FAILED = 3    /* out of memory; the contracts allow a failed read too, which memory never gives */
 };
 
@@ -83,7 +83,8 @@ enum { DRAIN_LINE_SIZE = 164 };
 /* An answer. Every member is written by each call. */
 typedef struct drain_answer {
     uint32_t status; /* one of the statuses above */
-    uint32_t rule;   /* where a rule fails: its number, 1 to 15 (docs/RULES.md); else 0, also where a path doesn't end */
+    uint32_t rule;   /* where a rule fails: its number, 1 to 15 (docs/RULES.md); else 0, also where a path doesn't end or
+                      * con alone isn't filled */
     uint32_t row;    /* of a rejection: the cell's row, from 0 at the north; else 0 */
     uint32_t col;    /* of a rejection: the cell's column, from 0 at the west; else 0 */
     char line[DRAIN_LINE_SIZE]; /* the line that the program `drain` prints, in ASCII, without a line end */
@@ -97,6 +98,24 @@ typedef struct drain_answer {
  * Returns answer->status. */
 uint32_t drain_audit(uint32_t side, const drain_tile *tiles, size_t tile_count, const uint8_t *sinks,
                      size_t sinks_length, const drain_audit_rasters *rasters, drain_answer *answer);
+
+/* Which rasters are judged: the sum of theirs. No other sum can be judged alone. */
+enum {
+    DRAIN_CON = 1,
+    DRAIN_CON_DIR = 3,
+    DRAIN_CON_DIR_ACC = 7,
+    DRAIN_CON_DIR_BAS = 11,
+    DRAIN_ALL = 15
+};
+
+/* Whether the judged rasters are right for the tiles: part of a correct set. judged: one of the numbers above, else the
+ * answer is `refused BadChoice`. The other rasters aren't read: make each by drain_no_raster(). The other arguments are
+ * those of drain_audit. With status 1 the rule is 0 where a path doesn't end, and of con alone where a cell is below the
+ * filled surface.
+ * Returns answer->status. */
+uint32_t drain_audit_only(uint32_t side, const drain_tile *tiles, size_t tile_count, const uint8_t *sinks,
+                          size_t sinks_length, const drain_audit_rasters *rasters, uint32_t judged,
+                          drain_answer *answer);
 
 /* Whether ranks show that the rasters are correct for the tiles. The arguments are those of drain_audit.
  * Returns answer->status. */
@@ -115,6 +134,14 @@ static inline drain_bytes drain_bytes_of(const void *at, size_t length) {
     bytes.length = at ? length : 0;
     bytes.missing = at ? 0 : length;
     return bytes;
+}
+
+/* No raster, in the place of one that isn't judged. */
+static inline drain_raster drain_no_raster(void) {
+    drain_raster raster;
+    raster.header = drain_bytes_of(NULL, 0);
+    raster.pixels = drain_bytes_of(NULL, 0);
+    return raster;
 }
 
 #ifdef __cplusplus

@@ -1,3 +1,4 @@
+pub mod Choices
 pub mod GivenInputs
 pub mod LongHeaders
 pub mod Spelling

@@ -21,13 +21,16 @@ use Rattle.drain_hgt.specs.Samples.{IsTile}
 use Rattle.drain_raster.specs.Pixels.{header_extent, IsShort}
 use Rattle.drain_mosaic.specs.Tiling.{extent_of}
 use Rattle.drain_grid.specs.declared.verdict.Verdict.{Verdict}
+use Rattle.drain_grid.specs.declared.judged.Judged.{Judged}
 use Rattle.drain_answer.specs.declared.audit_verdict.AuditVerdict.{AuditVerdict}
+use Rattle.drain_answer.specs.declared.outcome.Outcome.{Outcome}
 use Rattle.drain_answer.specs.declared.refusal.Refusal.{Refusal}
 use Rattle.drain_answer.specs.declared.refusal.Refusal.TheVariants.{BadSide, BadName, NoTiles, RepeatedTile, BoxTooLarge, BadHeader, WrongShape, Misplaced, BadTileLength, RasterShort, SeamMismatch, BadSinkLine, SinkNotData, OutOfMemory, ReadFailed}
 use Rattle.drain_verdict.specs.Answers.{AreReadable, IsAnswer, IsRefusal}
 use Rattle.drain_verdict.specs.Audits.{IsAuditAnswer}
 use Rattle.drain_verdict.specs.Inputs.{Inputs}
 use Rattle.drain_verdict.specs.Meaning.{tiling_of}
+use Rattle.drain_verdict.specs.Outcomes.{IsOutcomeAnswer}
 use Rattle.drain_verdict.specs.Refusals.{Stands, refusal_order, HasBadLength, IsPlaced}
 
 -- nothing comes before a text that is too long
@@ -278,6 +281,10 @@ same_inputs i readable =
 pub audit_kept : (i : Inputs) (answer : Result AuditVerdict Refusal) → IsAuditAnswer (cut i) answer → IsAuditAnswer i answer
 audit_kept i (Ok verdict) is = subst (λ j. IsAuditAnswer j (Ok verdict)) (same_inputs i is.0) is
 audit_kept i (Err refusal) is = refusal_kept i refusal is
+
+pub outcome_kept : (judged : Judged) (i : Inputs) (answer : Result Outcome Refusal) → IsOutcomeAnswer judged (cut i) answer → IsOutcomeAnswer judged i answer
+outcome_kept judged i (Ok outcome) is = subst (λ j. IsOutcomeAnswer judged j (Ok outcome)) (same_inputs i is.0) is
+outcome_kept judged i (Err refusal) is = refusal_kept i refusal is
 
 pub check_kept : (i : Inputs) (answer : Result Verdict Refusal) → IsAnswer (cut i) answer → IsAnswer i answer
 check_kept i (Ok verdict) is = subst (λ j. IsAnswer j (Ok verdict)) (same_inputs i is.0) is

@@ -16,6 +16,10 @@ pub record ShowsAnswer (found : Found) (line : List ℕ) (shown : Answer) : Type
 abbrev pub ShowsMissing : Answer → Type 0
 ShowsMissing shown = ShowsAnswer (status_only 2) (codes "refused NullBytes") shown
 
+-- that the number names no rasters that can be judged: status 2, and the name of the refusal
+abbrev pub ShowsBadChoice : Answer → Type 0
+ShowsBadChoice shown = ShowsAnswer (status_only 2) (codes "refused BadChoice") shown
+
 -- what is shown is an answer of this kind
 pub record Reports {A : Type 0} (Is : A → Type 0) (found : A → Found) (line : A → List ℕ) (shown : Answer) : Type 0 where
   pub value : A

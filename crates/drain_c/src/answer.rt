@@ -1,7 +1,7 @@
 //! An answer as C reads it: numbers, and the line that the program prints.
 
 ghost use Rattle.std.specs.Prelude.{◌≡◌, ◌-◌, ◌≤◌, ◌++◌, length, replicate};
-ghost use Rattle.drain_c.specs.Shown.{ShowsAnswer, ShowsMissing};
+ghost use Rattle.drain_c.specs.Shown.{ShowsAnswer, ShowsBadChoice, ShowsMissing};
 
 use crate::found::{Found, status_only};
 
@@ -38,6 +38,13 @@ pub fn show_missing(answer: &mut Answer)
     ensures { ShowsMissing answer.new }
 {
     show(answer, status_only(2), "refused NullBytes");
+}
+
+/// Says that a number names no rasters that can be judged.
+pub fn show_bad_choice(answer: &mut Answer)
+    ensures { ShowsBadChoice answer.new }
+{
+    show(answer, status_only(2), "refused BadChoice");
 }
 
 /// These bytes and zeros behind them.

@@ -1,12 +1,14 @@
-//! An audit and a check of bytes in memory, for C and what calls C. `include/drain.h` declares both.
+//! Audits and a check of bytes in memory, for C and what calls C. `include/drain.h` declares the calls.
 #![tactic(auto)]
 
 pub mod answer;
 pub mod exported_audit;
+pub mod exported_audit_only;
 pub mod exported_check;
 pub mod found;
 pub mod given;
 mod judge;
+mod judged;
 pub mod laws;
 pub mod layout;
 mod sources;
