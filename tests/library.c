@@ -260,6 +260,16 @@ static void test_choices(const char *line) {
     }
 }
 
+/* The version: whole with zeros behind it, its first bytes, and none of it. */
+static void test_version(void) {
+    char whole[64], start[6] = "xxxxx";
+    memset(whole, 'x', sizeof whole);
+    size_t length = drain_version((uint8_t *)whole, sizeof whole);
+    judge(length > 5 && length < sizeof whole && are_all(whole + length, sizeof whole - length, 0) && strlen(whole) == length, "a version of %zu bytes: %.64s", length, whole);
+    judge(drain_version((uint8_t *)start, 0) == length && !strcmp(start, "xxxxx"), "no byte of the version: %s", start);
+    judge(drain_version((uint8_t *)start, 4) == length && !memcmp(start, whole, 4) && !strcmp(start + 4, "x"), "four bytes of the version: %s", start);
+}
+
 /* NULL for bytes that should be there, in each place of an audit and of a check. */
 static void test_null(void) {
     drain_bytes null = drain_bytes_of(NULL, 5);
@@ -384,6 +394,7 @@ int main(int argc, char **argv) {
     test_layout();
     test_rejection();
     test_choices(argv[5]);
+    test_version();
     test_refusals();
     test_null();
     test_long_headers();

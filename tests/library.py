@@ -62,6 +62,11 @@ def are_choices_right(drain: judge.Drain) -> bool:
     return list(lines.values()) == [surface, whole, whole, whole, whole, "refused BadChoice", "refused BadChoice"]
 
 
+def is_version_right(drain: judge.Drain) -> bool:
+    """Whether the library has the version that the program prints."""
+    return f"drain {drain.version()}\n" == (ROOT / "tests/program/expected/version.txt").read_text()
+
+
 def line_with(drain: judge.Drain, data: judge.Bytes) -> str:
     """The line of an audit that is passed these bytes for the pixels of bas."""
     tile = judge.Pair(TILE[0].encode(), TILE[1])
@@ -78,6 +83,7 @@ def main(path: str) -> int:
         "where members lie": is_layout_right(drain),
         "a rejection": is_rejection_right(drain),
         "choices of rasters": are_choices_right(drain),
+        "the version": is_version_right(drain),
         "NULL for no bytes": line_with(drain, judge.Bytes(None)) == "refused RasterShort bas",
         "NULL for 5 bytes": line_with(drain, judge.Bytes(None, 5)) == "refused NullBytes",
     }

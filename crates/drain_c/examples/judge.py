@@ -68,6 +68,14 @@ class Drain:
         self._library.drain_audit_only.argtypes = [*given, ctypes.c_uint32, answer]
         for function in (self._library.drain_audit, self._library.drain_check, self._library.drain_audit_only):
             function.restype = ctypes.c_uint32
+        self._library.drain_version.argtypes = [ctypes.c_char_p, ctypes.c_size_t]
+        self._library.drain_version.restype = ctypes.c_size_t
+
+    def version(self) -> str:
+        """The version, and the logic of the toolchain in a second line."""
+        text = ctypes.create_string_buffer(256)
+        self._library.drain_version(text, 256)
+        return text.value.decode("ascii")
 
     def audit(self, side: int, tiles: Sequence[tuple[str, bytes]], rasters: Sequence[tuple[bytes, bytes]],
               sinks: bytes = b"") -> Answer:

@@ -122,6 +122,11 @@ uint32_t drain_audit_only(uint32_t side, const drain_tile *tiles, size_t tile_co
 uint32_t drain_check(uint32_t side, const drain_tile *tiles, size_t tile_count, const uint8_t *sinks,
                      size_t sinks_length, const drain_check_rasters *rasters, drain_answer *answer);
 
+/* Writes the version of the library, as `drain --version` prints it after the name: two lines, the version and the logic
+ * of the toolchain, without a last line end. text is never NULL; as many bytes are written as there is room for, and zeros
+ * behind them. Returns how many bytes the version has. */
+size_t drain_version(uint8_t *text, size_t room);
+
 /* Writes to each number of an answer its place in the struct, 0, 4, 8 and 12, and 255 to each byte of the line. A
  * caller with a declaration of its own, as in another language, can compare. It writes 180 bytes, the size that it
  * returns. */

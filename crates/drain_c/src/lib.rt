@@ -5,6 +5,7 @@ pub mod answer;
 pub mod exported_audit;
 pub mod exported_audit_only;
 pub mod exported_check;
+pub mod exported_version;
 pub mod found;
 pub mod given;
 mod judge;
