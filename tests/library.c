@@ -162,15 +162,22 @@ static uint32_t audit_only(uint32_t judged, const drain_audit_rasters *given, dr
     return drain_audit_only(side, &tile, 1, no_sinks, 0, &some, judged, answer);
 }
 
+/* The cells of the files, whose side is 51. */
+enum { MAP_LENGTH = 51 * 51 };
+
 /* The calls that are tried with memory refused and in threads. */
-enum { AUDIT, CHECK, AUDIT_CON, AUDIT_WAYS, CALLS };
-static const char *const call_names[CALLS] = {"audit", "check", "audit of con", "audit of con and dir"};
+enum { AUDIT, CHECK, AUDIT_CON, AUDIT_WAYS, EXPLAIN, CALLS };
+static const char *const call_names[CALLS] = {"audit", "check", "audit of con", "audit of con and dir", "explanation"};
 
 /* One of them, of the files. The check takes con for ranks, so its answer is that of a poor certificate. */
 static uint32_t call(int which, drain_answer *answer) {
     drain_check_rasters checked = {rasters.con, rasters.dir, rasters.acc, rasters.bas, rasters.con};
+    drain_faults faults;
+    uint8_t map[MAP_LENGTH];
     *answer = unwritten();
     switch (which) {
+    case EXPLAIN:
+        return drain_explain(side, &tile, 1, no_sinks, 0, &rasters, DRAIN_ALL, map, sizeof map, &faults, answer);
     case CHECK:
         return drain_check(side, &tile, 1, no_sinks, 0, &checked, answer);
     case AUDIT_CON:
@@ -186,6 +193,10 @@ static uint32_t call(int which, drain_answer *answer) {
 _Static_assert(offsetof(drain_answer, status) == 0 && offsetof(drain_answer, rule) == 4, "status and rule");
 _Static_assert(offsetof(drain_answer, row) == 8 && offsetof(drain_answer, col) == 12, "row and col");
 _Static_assert(offsetof(drain_answer, line) == 16 && DRAIN_LINE_SIZE == 164 && sizeof(drain_answer) == 180, "the line");
+
+/* And of faults drain_faults_layout. */
+_Static_assert(offsetof(drain_fault_cells, cells) == 0 && offsetof(drain_fault_cells, row) == 4, "cells and row");
+_Static_assert(offsetof(drain_fault_cells, col) == 8 && sizeof(drain_faults) == 180, "col and the size");
 
 /* Whether all of these bytes are this one. */
 static int are_all(const void *bytes, size_t length, uint8_t byte) {
@@ -207,6 +218,16 @@ static void test_layout(void) {
     judge(room.answer.status == 0 && room.answer.rule == 4 && room.answer.row == 8 && room.answer.col == 12, "places: status %u, rule %u, row %u, col %u", room.answer.status,
           room.answer.rule, room.answer.row, room.answer.col);
     judge(are_all(room.answer.line, 164, 255) && are_all(room.behind, sizeof room.behind, 0x5a), "the line of an answer, and what lies behind it");
+    struct {
+        drain_faults faults;
+        uint8_t behind[64];
+    } faults;
+    memset(&faults, 0x5a, sizeof faults);
+    size = drain_faults_layout(&faults.faults);
+    int are_right = size == 180 && are_all(faults.behind, sizeof faults.behind, 0x5a);
+    for (uint32_t i = 0; i < 15; i++)
+        are_right &= faults.faults.rules[i].cells == 12 * i && faults.faults.rules[i].row == 12 * i + 4 && faults.faults.rules[i].col == 12 * i + 8;
+    judge(are_right, "the places of faults, the size %zu, and what lies behind them", size);
     call(AUDIT, &room.answer);
     judge(are_all(room.behind, sizeof room.behind, 0x5a), "an audit writes behind its answer");
 }
@@ -258,6 +279,49 @@ static void test_choices(const char *line) {
         uint32_t status = drain_audit_only(side, &tile, 1, no_sinks, 0, &none, others[i], &answer);
         judge(status == 2 && says(&answer, 2, "refused BadChoice") && !answer.rule && !answer.row && !answer.col, "choice %u: status %u: %.164s", others[i], status, answer.line);
     }
+}
+
+/* acc counts one cell too many at row 3, column 7, so that cell is wrong by rule 13, and so is the one to which it flows, south of
+ * it; no other is. The map has a byte for each cell, and nothing is written where its memory has another length, where the
+ * inputs are refused, or for a number that names no choice. */
+static void test_explanation(const char *line) {
+    static const size_t lengths[] = {0, 1, MAP_LENGTH - 1, MAP_LENGTH + 1};
+    drain_audit_rasters wrong = with_wrong_count();
+    drain_faults faults, none, before;
+    drain_answer answer = unwritten();
+    uint8_t map[MAP_LENGTH + 1], untouched[MAP_LENGTH + 1];
+    memset(&none, 0, sizeof none);
+    memset(&before, 0x5a, sizeof before);
+    memset(untouched, 0x5a, sizeof untouched);
+    memset(map, 0x5a, sizeof map);
+    uint32_t status = drain_explain(side, &tile, 1, no_sinks, 0, &rasters, DRAIN_ALL, map, MAP_LENGTH, &faults, &answer);
+    judge(!status && says(&answer, 0, line), "a right set explained: status %u: %.164s", status, answer.line);
+    judge(!memcmp(&faults, &none, sizeof none) && are_all(map, MAP_LENGTH, 0) && map[MAP_LENGTH] == 0x5a, "faults or a map of a right set");
+    status = drain_explain(side, &tile, 1, no_sinks, 0, &wrong, DRAIN_ALL, map, MAP_LENGTH, &faults, &answer);
+    judge(status == 1 && says(&answer, 1, "rejected rule=13 Accumulation row=3 col=7") && answer.rule == 13 && answer.row == 3 && answer.col == 7, "a wrong count explained: status %u: %.164s", status, answer.line);
+    judge(faults.rules[12].cells == 2 && faults.rules[12].row == 3 && faults.rules[12].col == 7, "rule 13: %u cells, row %u, col %u", faults.rules[12].cells, faults.rules[12].row, faults.rules[12].col);
+    memset(&faults.rules[12], 0, sizeof faults.rules[12]);
+    judge(!memcmp(&faults, &none, sizeof none), "faults of other rules");
+    judge(map[3 * 51 + 7] == 13 && map[4 * 51 + 7] == 13, "the map at the wrong cells: %u, %u", map[3 * 51 + 7], map[4 * 51 + 7]);
+    map[3 * 51 + 7] = map[4 * 51 + 7] = 0;
+    judge(are_all(map, MAP_LENGTH, 0), "the map at the other cells");
+    wrong.acc = drain_no_raster();
+    status = drain_explain(side, &tile, 1, no_sinks, 0, &wrong, DRAIN_CON_DIR_BAS, map, MAP_LENGTH, &faults, &answer);
+    judge(!status && !memcmp(&faults, &none, sizeof none), "an explanation without acc: status %u: %.164s", status, answer.line);
+    memcpy(map, untouched, sizeof map);
+    faults = before;
+    for (size_t i = 0; i < sizeof lengths / sizeof *lengths; i++) {
+        status = drain_explain(side, &tile, 1, no_sinks, 0, &rasters, DRAIN_ALL, map, lengths[i], &faults, &answer);
+        judge(status == 2 && says(&answer, 2, "refused BadMapLength") && !answer.rule && !answer.row && !answer.col, "a map of %zu bytes: status %u: %.164s", lengths[i], status, answer.line);
+    }
+    status = drain_explain(side, &tile, 1, no_sinks, 0, &rasters, 12, map, MAP_LENGTH, &faults, &answer);
+    judge(status == 2 && says(&answer, 2, "refused BadChoice"), "an explanation of acc and bas: %.164s", answer.line);
+    status = drain_explain(side - 1, &tile, 1, no_sinks, 0, &rasters, DRAIN_ALL, map, MAP_LENGTH, &faults, &answer);
+    judge(status == 2 && says(&answer, 2, "refused WrongShape con"), "an explanation of refused inputs: %.164s", answer.line);
+    wrong.con.header = drain_bytes_of(NULL, 1);
+    status = drain_explain(side, &tile, 1, no_sinks, 0, &wrong, DRAIN_CON, map, MAP_LENGTH, &faults, &answer);
+    judge(status == 2 && says(&answer, 2, "refused NullBytes"), "an explanation of NULL: %.164s", answer.line);
+    judge(!memcmp(map, untouched, sizeof map) && !memcmp(&faults, &before, sizeof faults), "a map or faults are written without a verdict");
 }
 
 /* The version: whole with zeros behind it, its first bytes, and none of it. */
@@ -394,6 +458,7 @@ int main(int argc, char **argv) {
     test_layout();
     test_rejection();
     test_choices(argv[5]);
+    test_explanation(argv[5]);
     test_version();
     test_refusals();
     test_null();

@@ -62,6 +62,25 @@ def are_choices_right(drain: judge.Drain) -> bool:
     return list(lines.values()) == [surface, whole, whole, whole, whole, "refused BadChoice", "refused BadChoice"]
 
 
+def is_explanation_right(drain: judge.Drain) -> bool:
+    """A wrong count at row 3, column 7 breaks rule 13 there and at the cell south of it, to which that one flows."""
+    rasters = dict(zip(judge.AUDITED, read_rasters()))
+    wrong = bytearray(rasters["acc"][1])
+    wrong[4 * (3 * SIDE + 7)] += 1
+    rasters["acc"] = (rasters["acc"][0], bytes(wrong))
+    drawn = bytearray(SIDE * SIDE)
+    answer, faults = drain.explain(SIDE, [TILE], rasters, drawn)
+    found = [(rule + 1, cells.cells, cells.row, cells.col) for rule, cells in enumerate(faults.rules) if cells.cells]
+    cells = [divmod(place, SIDE) for place, number in enumerate(drawn) if number]
+    short, _ = drain.explain(SIDE, [TILE], rasters, bytearray(SIDE * SIDE - 1))
+    return (
+        answer.line == "rejected rule=13 Accumulation row=3 col=7"
+        and found == [(13, 2, 3, 7)]
+        and cells == [(3, 7), (4, 7)]
+        and short == judge.Answer(2, 0, 0, 0, "refused BadMapLength")
+    )
+
+
 def is_version_right(drain: judge.Drain) -> bool:
     """Whether the library has the version that the program prints."""
     return f"drain {drain.version()}\n" == (ROOT / "tests/program/expected/version.txt").read_text()
@@ -83,6 +102,7 @@ def main(path: str) -> int:
         "where members lie": is_layout_right(drain),
         "a rejection": is_rejection_right(drain),
         "choices of rasters": are_choices_right(drain),
+        "an explanation": is_explanation_right(drain),
         "the version": is_version_right(drain),
         "NULL for no bytes": line_with(drain, judge.Bytes(None)) == "refused RasterShort bas",
         "NULL for 5 bytes": line_with(drain, judge.Bytes(None, 5)) == "refused NullBytes",

@@ -43,6 +43,18 @@ class RawAnswer(ctypes.Structure):
     _fields_ = [(name, ctypes.c_uint32) for name in ("status", "rule", "row", "col")] + [("line", ctypes.c_char * 164)]
 
 
+class FaultCells(ctypes.Structure):
+    """drain_fault_cells: at how many cells a rule fails, and the first."""
+
+    _fields_ = [(name, ctypes.c_uint32) for name in ("cells", "row", "col")]
+
+
+class Faults(ctypes.Structure):
+    """drain_faults: rules[12] is rule 13."""
+
+    _fields_ = [("rules", FaultCells * 15)]
+
+
 @dataclass(frozen=True)
 class Answer:
     """The status (0 accepted, 1 rejected, 2 refused, 3 failed), the rule and the cell of a rejection, the line."""
@@ -66,8 +78,11 @@ class Drain:
         self._library.drain_audit.argtypes = [*given, answer]
         self._library.drain_check.argtypes = [*given, answer]
         self._library.drain_audit_only.argtypes = [*given, ctypes.c_uint32, answer]
-        for function in (self._library.drain_audit, self._library.drain_check, self._library.drain_audit_only):
-            function.restype = ctypes.c_uint32
+        self._library.drain_explain.argtypes = [
+            *given, ctypes.c_uint32, ctypes.c_void_p, ctypes.c_size_t, ctypes.POINTER(Faults), answer,
+        ]
+        for name in ("audit", "check", "audit_only", "explain"):
+            getattr(self._library, "drain_" + name).restype = ctypes.c_uint32
         self._library.drain_version.argtypes = [ctypes.c_char_p, ctypes.c_size_t]
         self._library.drain_version.restype = ctypes.c_size_t
 
@@ -85,9 +100,17 @@ class Drain:
     def audit_only(self, side: int, tiles: Sequence[tuple[str, bytes]], rasters: Mapping[str, tuple[bytes, bytes]],
                    sinks: bytes = b"") -> Answer:
         """Audits some rasters, by name: con, con and dir, these with acc or with bas, or all four."""
-        judged = sum(1 << AUDITED.index(name) for name in rasters)
-        others = [rasters.get(name, (b"", b"")) for name in AUDITED]
-        return self._call(self._library.drain_audit_only, len(AUDITED), side, tiles, others, sinks, judged)
+        return self._call(self._library.drain_audit_only, len(AUDITED), side, tiles, *choice_of(rasters, sinks))
+
+    def explain(self, side: int, tiles: Sequence[tuple[str, bytes]], rasters: Mapping[str, tuple[bytes, bytes]],
+                fault_map, sinks: bytes = b"") -> tuple[Answer, Faults]:
+        """The same with what explains it. fault_map: a bytearray or an array of a byte for each cell, to be written."""
+        cells = memoryview(fault_map).nbytes
+        place = (ctypes.c_uint8 * cells).from_buffer(fault_map)
+        faults = Faults()
+        more = (place, cells, ctypes.byref(faults))
+        answer = self._call(self._library.drain_explain, len(AUDITED), side, tiles, *choice_of(rasters, sinks), *more)
+        return answer, faults
 
     def check(self, side: int, tiles: Sequence[tuple[str, bytes]], rasters: Sequence[tuple[bytes, bytes]],
               sinks: bytes = b"") -> Answer:
@@ -96,7 +119,7 @@ class Drain:
 
     @staticmethod
     def _call(function, count: int, side: int, tiles: Sequence[tuple[str, bytes]],
-              rasters: Sequence[tuple[bytes, bytes]], sinks: bytes, *more: int) -> Answer:
+              rasters: Sequence[tuple[bytes, bytes]], sinks: bytes, *more) -> Answer:
         if len(rasters) != count:
             raise ValueError(f"{count} rasters are needed")
         # An array of no tiles still has an address, which C needs.
@@ -105,6 +128,12 @@ class Drain:
         raw = RawAnswer()
         function(side, given, len(tiles), sinks, len(sinks), products, *more, raw)
         return Answer(raw.status, raw.rule, raw.row, raw.col, raw.line.decode("ascii"))
+
+
+def choice_of(rasters: Mapping[str, tuple[bytes, bytes]], sinks: bytes) -> tuple[list[tuple[bytes, bytes]], bytes, int]:
+    """The four rasters, with none for those that aren't judged, the sinks, and the number of the choice."""
+    judged = sum(1 << AUDITED.index(name) for name in rasters)
+    return [rasters.get(name, (b"", b"")) for name in AUDITED], sinks, judged
 
 
 def main(words: Sequence[str]) -> int:

@@ -1,8 +1,8 @@
 /* libdrain: whether drainage rasters are correct for the elevation tiles that they were made from.
  *
- * The functions are proved to give the right answer to the bytes that they are passed: the contract of drain_NAME is in
- * crates/drain_c/src/exported_NAME.rt. They read memory only: no file, no output, no state between calls. Another one says
- * where the members of an answer lie.
+ * The functions are proved to give the right answer to the bytes that they are passed: the contract of drain_NAME is
+ * in crates/drain_c/src/exported_NAME.rt. They read memory only: no file, no output, no state between calls. The last
+ * ones say where members lie.
  *
  * What is proved holds where the caller keeps the rules below. Nothing checks a caller in C.
  *
@@ -12,8 +12,10 @@
  * Memory. The library reads samples and pixels where they lie, and copies names and headers. Of a header it reads and
  *   copies at most 65,537 bytes. It keeps nothing after it returns. It calls malloc, realloc and free, which align and
  *   behave as the C standard says. An audit takes a byte for each cell, beside some rows, the labels of outlets and the
- *   list of sinks; a check takes those alone; an audit of con alone takes the elevations, con and a flood.
- *   *answer overlaps no other argument, and nothing else writes to any argument during a call.
+ *   list of sinks; a check takes those alone; an audit of con alone takes the elevations, con and a flood;
+ *   an explanation takes a byte for each cell more.
+ *   What a call writes (*answer, a map, *faults, a text) overlaps no other argument, and nothing else writes to any
+ *   argument during a call.
  * Threads. Calls may run at the same time, each with an answer of its own. Call no function from a signal handler,
  *   nor in a child that was forked while several threads ran.
  * Machine. x86-64-v2 or newer, Linux. The library doesn't test the processor.
@@ -73,7 +75,7 @@ typedef struct drain_check_rasters {
 enum {
     DRAIN_ACCEPTED = 0, /* of an audit: the rasters are correct; of a check: correct, and the ranks show it */
     DRAIN_REJECTED = 1, /* of an audit: the rasters aren't correct; of a check: or the ranks don't show it */
-    DRAIN_REFUSED = 2,  /* no verdict: the side, a name, a header, a length, a seam, the list of sinks, NULL, a choice */
+    DRAIN_REFUSED = 2,  /* no verdict: the side, a name, a header, a length, a seam, the list of sinks, NULL, .. */
     DRAIN_FAILED = 3    /* out of memory; the contracts allow a failed read too, which memory never gives */
 };
 
@@ -83,8 +85,8 @@ enum { DRAIN_LINE_SIZE = 164 };
 /* An answer. Every member is written by each call. */
 typedef struct drain_answer {
     uint32_t status; /* one of the statuses above */
-    uint32_t rule;   /* where a rule fails: its number, 1 to 15 (docs/RULES.md); else 0, also where a path doesn't end or
-                      * con alone isn't filled */
+    uint32_t rule;   /* where a rule fails: its number, 1 to 15 (docs/RULES.md); else 0, also where a path doesn't end
+                      * or con alone isn't filled */
     uint32_t row;    /* of a rejection: the cell's row, from 0 at the north; else 0 */
     uint32_t col;    /* of a rejection: the cell's column, from 0 at the west; else 0 */
     char line[DRAIN_LINE_SIZE]; /* the line that the program `drain` prints, in ASCII, without a line end */
@@ -108,10 +110,10 @@ enum {
     DRAIN_ALL = 15
 };
 
-/* Whether the judged rasters are right for the tiles: part of a correct set. judged: one of the numbers above, else the
- * answer is `refused BadChoice`. The other rasters aren't read: make each by drain_no_raster(). The other arguments are
- * those of drain_audit. With status 1 the rule is 0 where a path doesn't end, and of con alone where a cell is below the
- * filled surface.
+/* Whether the judged rasters are right for the tiles: part of a correct set. judged: one of the numbers above, else
+ * the answer is `refused BadChoice`. The other rasters aren't read: make each by drain_no_raster(). The other arguments
+ * are those of drain_audit. With status 1 the rule is 0 where a path doesn't end, and of con alone where a cell is below
+ * the filled surface.
  * Returns answer->status. */
 uint32_t drain_audit_only(uint32_t side, const drain_tile *tiles, size_t tile_count, const uint8_t *sinks,
                           size_t sinks_length, const drain_audit_rasters *rasters, uint32_t judged,
@@ -122,15 +124,40 @@ uint32_t drain_audit_only(uint32_t side, const drain_tile *tiles, size_t tile_co
 uint32_t drain_check(uint32_t side, const drain_tile *tiles, size_t tile_count, const uint8_t *sinks,
                      size_t sinks_length, const drain_check_rasters *rasters, drain_answer *answer);
 
-/* Writes the version of the library, as `drain --version` prints it after the name: two lines, the version and the logic
- * of the toolchain, without a last line end. text is never NULL; as many bytes are written as there is room for, and zeros
- * behind them. Returns how many bytes the version has. */
+/* The cells at which a rule fails: how many, and the first in row order. Zeros where there is none. */
+typedef struct drain_fault_cells {
+    uint32_t cells;
+    uint32_t row;
+    uint32_t col;
+} drain_fault_cells;
+
+/* These of each rule, in the order of their numbers: rules[12] is rule 13. Zeros too where a rule isn't tried: rules 6
+ * to 8, and those about a raster that isn't judged. */
+typedef struct drain_faults {
+    drain_fault_cells rules[15];
+} drain_faults;
+
+/* The answer of drain_audit_only with what explains it. map: rows * cols bytes, map_length of them, row by row from the
+ * north: of each cell the number of the least rule that fails there, else 0, or 255 at a void; what
+ * `drain explain --map` writes. With another length, where the inputs aren't refused, the answer is
+ * `refused BadMapLength`. With status 2 or 3 neither map nor *faults is written; map is never NULL.
+ * Returns answer->status. */
+uint32_t drain_explain(uint32_t side, const drain_tile *tiles, size_t tile_count, const uint8_t *sinks,
+                       size_t sinks_length, const drain_audit_rasters *rasters, uint32_t judged, uint8_t *map,
+                       size_t map_length, drain_faults *faults, drain_answer *answer);
+
+/* Writes the version of the library, as `drain --version` prints it after the name: two lines, the version and the
+ * logic of the toolchain, without a last line end. text is never NULL; as many bytes are written as there is room for,
+ * and zeros behind them. Returns how many bytes the version has. */
 size_t drain_version(uint8_t *text, size_t room);
 
 /* Writes to each number of an answer its place in the struct, 0, 4, 8 and 12, and 255 to each byte of the line. A
  * caller with a declaration of its own, as in another language, can compare. It writes 180 bytes, the size that it
  * returns. */
 size_t drain_answer_layout(drain_answer *answer);
+
+/* The same of faults: for rules[i] the places 12 * i, 12 * i + 4 and 12 * i + 8, and the size 180. */
+size_t drain_faults_layout(drain_faults *faults);
 
 /* These bytes. NULL with length 0 is no bytes; NULL with another length is refused by the call that is passed it. */
 static inline drain_bytes drain_bytes_of(const void *at, size_t length) {

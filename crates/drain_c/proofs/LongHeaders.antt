@@ -251,7 +251,7 @@ first_kept i refusal is =
           first e.other (sooner (refusal_order i e.other) (refusal_order i b) (refusal_order i refusal) e.no_later before) e.stands);
     }
 
-refusal_kept : (i : Inputs) (refusal : Refusal) → IsRefusal (cut i) refusal → IsRefusal i refusal
+pub refusal_kept : (i : Inputs) (refusal : Refusal) → IsRefusal (cut i) refusal → IsRefusal i refusal
 refusal_kept i BadSide is = first_kept i BadSide is
 refusal_kept i (BadName k) is = first_kept i (BadName k) is
 refusal_kept i NoTiles is = first_kept i NoTiles is

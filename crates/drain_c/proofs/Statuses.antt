@@ -19,7 +19,7 @@ use Rattle.drain_verdict.specs.Audits.{IsAcceptance}
 use Rattle.drain_verdict.specs.Inputs.{Inputs}
 
 -- a refusal has a status from 2 on
-from_two : (refusal : Refusal) → 2 ≤ (refusal_found refusal).status
+pub from_two : (refusal : Refusal) → 2 ≤ (refusal_found refusal).status
 from_two BadSide = omega arith
 from_two (BadName place) = omega arith
 from_two NoTiles = omega arith

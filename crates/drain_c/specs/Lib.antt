@@ -2,6 +2,8 @@ pub mod Given
 pub mod Judged
 pub mod Whole
 pub mod Sources
+pub mod Faults
 pub mod Found
 pub mod Shown
+pub mod Explained
 pub mod Laws

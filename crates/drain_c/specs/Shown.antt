@@ -20,6 +20,10 @@ ShowsMissing shown = ShowsAnswer (status_only 2) (codes "refused NullBytes") sho
 abbrev pub ShowsBadChoice : Answer → Type 0
 ShowsBadChoice shown = ShowsAnswer (status_only 2) (codes "refused BadChoice") shown
 
+-- that the memory for a map has another length than the map
+abbrev pub ShowsBadMap : Answer → Type 0
+ShowsBadMap shown = ShowsAnswer (status_only 2) (codes "refused BadMapLength") shown
+
 -- what is shown is an answer of this kind
 pub record Reports {A : Type 0} (Is : A → Type 0) (found : A → Found) (line : A → List ℕ) (shown : Answer) : Type 0 where
   pub value : A

@@ -1,7 +1,7 @@
 //! An answer as C reads it: numbers, and the line that the program prints.
 
 ghost use Rattle.std.specs.Prelude.{◌≡◌, ◌-◌, ◌≤◌, ◌++◌, length, replicate};
-ghost use Rattle.drain_c.specs.Shown.{ShowsAnswer, ShowsBadChoice, ShowsMissing};
+ghost use Rattle.drain_c.specs.Shown.{ShowsAnswer, ShowsBadChoice, ShowsBadMap, ShowsMissing};
 
 use crate::found::{Found, status_only};
 
@@ -45,6 +45,13 @@ pub fn show_bad_choice(answer: &mut Answer)
     ensures { ShowsBadChoice answer.new }
 {
     show(answer, status_only(2), "refused BadChoice");
+}
+
+/// Says that the memory for a map has another length than the map.
+pub fn show_bad_map(answer: &mut Answer)
+    ensures { ShowsBadMap answer.new }
+{
+    show(answer, status_only(2), "refused BadMapLength");
 }
 
 /// These bytes and zeros behind them.
