@@ -1,6 +1,7 @@
 /* Tests of libdrain that no file can show: where the members of an answer lie, arguments that are refused, memory that is
- * refused at each call of malloc and realloc, what is left allocated, and calls of several threads at once.
- * tests/library.sh builds it with -Wl,--wrap=malloc,--wrap=realloc,--wrap=free, so it sees each such call of the library.
+ * refused at each call of malloc and realloc, what is left allocated, and calls of several threads at once; with those
+ * of library_calls.c. tests/library.sh builds both with -Wl,--wrap=malloc,--wrap=realloc,--wrap=free, so library.c sees
+ * each such call of the library.
  *
  * Usage: library SIDE DIRECTORY TILE NAME LINE    (an audit of these files answers LINE; DIRECTORY has no ranks, so the
  * check that is tried takes con for them)
@@ -14,7 +15,7 @@
 #include <string.h>
 #include <sys/mman.h>
 
-#include "drain.h"
+#include "library.h"
 
 void *__real_malloc(size_t);
 void *__real_realloc(void *, size_t);
@@ -60,7 +61,7 @@ void __wrap_free(void *at) {
 
 static int passed, failed;
 
-static void judge(int is_right, const char *format, ...) {
+void judge(int is_right, const char *format, ...) {
     va_list words;
     if (is_right) {
         passed++;
@@ -75,14 +76,14 @@ static void judge(int is_right, const char *format, ...) {
 }
 
 /* An answer whose members were 0xff before a call. */
-static drain_answer unwritten(void) {
+drain_answer unwritten(void) {
     drain_answer answer;
     memset(&answer, 0xff, sizeof answer);
     return answer;
 }
 
 /* Whether the answer has this status, this line and zeros behind it. */
-static int says(const drain_answer *answer, uint32_t status, const char *line) {
+int says(const drain_answer *answer, uint32_t status, const char *line) {
     size_t length = strlen(line);
     if (answer->status != status || length > 160 || memcmp(answer->line, line, length))
         return 0;
@@ -107,10 +108,10 @@ static drain_bytes read_file(const char *directory, const char *name) {
     return drain_bytes_of(bytes, length);
 }
 
-static uint32_t side;
-static drain_tile tile;
-static drain_audit_rasters rasters;
-static const uint8_t no_sinks[] = "";
+uint32_t side;
+drain_tile tile;
+drain_audit_rasters rasters;
+const uint8_t no_sinks[] = "";
 
 /* One audit that is refused, with zero in the numbers of a rejection. */
 static void judge_refused(const char *name, uint32_t its_side, const drain_tile *tiles, size_t count, const char *sinks, const drain_audit_rasters *given, const char *line) {
@@ -156,26 +157,26 @@ static void test_refusals(void) {
 }
 
 /* An audit of some rasters, with NULL for the others. */
-static uint32_t audit_only(uint32_t judged, const drain_audit_rasters *given, drain_answer *answer) {
+uint32_t audit_only(uint32_t judged, const drain_audit_rasters *given, drain_answer *answer) {
     drain_raster null = {drain_bytes_of(NULL, 5), drain_bytes_of(NULL, 5)};
     drain_audit_rasters some = {given->con, judged & 2 ? given->dir : null, judged & 4 ? given->acc : null, judged & 8 ? given->bas : null};
     return drain_audit_only(side, &tile, 1, no_sinks, 0, &some, judged, answer);
 }
 
-/* The cells of the files, whose side is 51. */
-enum { MAP_LENGTH = 51 * 51 };
-
 /* The calls that are tried with memory refused and in threads. */
-enum { AUDIT, CHECK, AUDIT_CON, AUDIT_WAYS, EXPLAIN, CALLS };
-static const char *const call_names[CALLS] = {"audit", "check", "audit of con", "audit of con and dir", "explanation"};
+enum { AUDIT, CHECK, AUDIT_CON, AUDIT_WAYS, EXPLAIN, DERIVE, CALLS };
+static const char *const call_names[CALLS] = {"audit", "check", "audit of con", "audit of con and dir", "explanation", "derivation"};
 
 /* One of them, of the files. The check takes con for ranks, so its answer is that of a poor certificate. */
 static uint32_t call(int which, drain_answer *answer) {
     drain_check_rasters checked = {rasters.con, rasters.dir, rasters.acc, rasters.bas, rasters.con};
     drain_faults faults;
     uint8_t map[MAP_LENGTH];
+    uint32_t acc[MAP_LENGTH], bas[MAP_LENGTH], rnk[MAP_LENGTH];
     *answer = unwritten();
     switch (which) {
+    case DERIVE:
+        return drain_derive(side, &tile, 1, &rasters.dir, acc, MAP_LENGTH, bas, MAP_LENGTH, rnk, MAP_LENGTH, answer);
     case EXPLAIN:
         return drain_explain(side, &tile, 1, no_sinks, 0, &rasters, DRAIN_ALL, map, sizeof map, &faults, answer);
     case CHECK:
@@ -199,7 +200,7 @@ _Static_assert(offsetof(drain_fault_cells, cells) == 0 && offsetof(drain_fault_c
 _Static_assert(offsetof(drain_fault_cells, col) == 8 && sizeof(drain_faults) == 180, "col and the size");
 
 /* Whether all of these bytes are this one. */
-static int are_all(const void *bytes, size_t length, uint8_t byte) {
+int are_all(const void *bytes, size_t length, uint8_t byte) {
     for (size_t i = 0; i < length; i++)
         if (((const uint8_t *)bytes)[i] != byte)
             return 0;
@@ -234,7 +235,7 @@ static void test_layout(void) {
 
 /* The rasters, but acc counts one cell too many at row 3, column 7. By rule 13 that cell is wrong, and no earlier one: it
  * flows south. */
-static drain_audit_rasters with_wrong_count(void) {
+drain_audit_rasters with_wrong_count(void) {
     drain_audit_rasters others = rasters;
     uint8_t *pixels = __real_malloc(rasters.acc.pixels.length);
     memcpy(pixels, rasters.acc.pixels.at, rasters.acc.pixels.length);
@@ -249,89 +250,6 @@ static void test_rejection(void) {
     uint32_t status = drain_audit(side, &tile, 1, no_sinks, 0, &others, &answer);
     judge(status == 1 && says(&answer, 1, "rejected rule=13 Accumulation row=3 col=7") && answer.rule == 13 && answer.row == 3 && answer.col == 7,
           "a wrong count: status %u, rule %u, row %u, col %u: %.164s", answer.status, answer.rule, answer.row, answer.col, answer.line);
-}
-
-/* Each choice of rasters accepts the files, with this line; con alone counts no outlets. A wrong count is seen exactly where
- * acc is judged, and NULL only in the place of a judged raster. Other numbers are refused, and nothing is read for them. */
-static void test_choices(const char *line) {
-    static const uint32_t choices[] = {DRAIN_CON, DRAIN_CON_DIR, DRAIN_CON_DIR_ACC, DRAIN_CON_DIR_BAS, DRAIN_ALL};
-    static const uint32_t others[] = {0, 2, 5, 9, 13, 14, 16, 31, UINT32_MAX};
-    drain_audit_rasters wrong = with_wrong_count(), none = {drain_no_raster(), drain_no_raster(), drain_no_raster(), drain_no_raster()};
-    const char *outlets = strstr(line, " outlets=");
-    for (size_t i = 0; i < sizeof choices / sizeof *choices; i++) {
-        uint32_t choice = choices[i];
-        drain_answer answer = unwritten();
-        char accepted[164] = "";
-        memcpy(accepted, line, choice == DRAIN_CON ? (size_t)(outlets - line) : strlen(line));
-        uint32_t status = audit_only(choice, &rasters, &answer);
-        judge(!status && says(&answer, 0, accepted) && !answer.rule && !answer.row && !answer.col, "choice %u: status %u: %.164s", choice, status, answer.line);
-        status = audit_only(choice, &wrong, &answer);
-        if (choice & 4)
-            judge(status == 1 && says(&answer, 1, "rejected rule=13 Accumulation row=3 col=7") && answer.rule == 13 && answer.row == 3 && answer.col == 7, "choice %u of a wrong count: %.164s", choice, answer.line);
-        else
-            judge(!status && says(&answer, 0, accepted), "choice %u beside a wrong count: %.164s", choice, answer.line);
-        drain_audit_rasters missing = rasters;
-        (choice & 8 ? &missing.bas : choice & 4 ? &missing.acc : choice & 2 ? &missing.dir : &missing.con)->pixels = drain_bytes_of(NULL, 1);
-        judge(audit_only(choice, &missing, &answer) == 2 && says(&answer, 2, "refused NullBytes"), "choice %u of NULL: %.164s", choice, answer.line);
-    }
-    for (size_t i = 0; i < sizeof others / sizeof *others; i++) {
-        drain_answer answer = unwritten();
-        uint32_t status = drain_audit_only(side, &tile, 1, no_sinks, 0, &none, others[i], &answer);
-        judge(status == 2 && says(&answer, 2, "refused BadChoice") && !answer.rule && !answer.row && !answer.col, "choice %u: status %u: %.164s", others[i], status, answer.line);
-    }
-}
-
-/* acc counts one cell too many at row 3, column 7, so that cell is wrong by rule 13, and so is the one to which it flows, south of
- * it; no other is. The map has a byte for each cell, and nothing is written where its memory has another length, where the
- * inputs are refused, or for a number that names no choice. */
-static void test_explanation(const char *line) {
-    static const size_t lengths[] = {0, 1, MAP_LENGTH - 1, MAP_LENGTH + 1};
-    drain_audit_rasters wrong = with_wrong_count();
-    drain_faults faults, none, before;
-    drain_answer answer = unwritten();
-    uint8_t map[MAP_LENGTH + 1], untouched[MAP_LENGTH + 1];
-    memset(&none, 0, sizeof none);
-    memset(&before, 0x5a, sizeof before);
-    memset(untouched, 0x5a, sizeof untouched);
-    memset(map, 0x5a, sizeof map);
-    uint32_t status = drain_explain(side, &tile, 1, no_sinks, 0, &rasters, DRAIN_ALL, map, MAP_LENGTH, &faults, &answer);
-    judge(!status && says(&answer, 0, line), "a right set explained: status %u: %.164s", status, answer.line);
-    judge(!memcmp(&faults, &none, sizeof none) && are_all(map, MAP_LENGTH, 0) && map[MAP_LENGTH] == 0x5a, "faults or a map of a right set");
-    status = drain_explain(side, &tile, 1, no_sinks, 0, &wrong, DRAIN_ALL, map, MAP_LENGTH, &faults, &answer);
-    judge(status == 1 && says(&answer, 1, "rejected rule=13 Accumulation row=3 col=7") && answer.rule == 13 && answer.row == 3 && answer.col == 7, "a wrong count explained: status %u: %.164s", status, answer.line);
-    judge(faults.rules[12].cells == 2 && faults.rules[12].row == 3 && faults.rules[12].col == 7, "rule 13: %u cells, row %u, col %u", faults.rules[12].cells, faults.rules[12].row, faults.rules[12].col);
-    memset(&faults.rules[12], 0, sizeof faults.rules[12]);
-    judge(!memcmp(&faults, &none, sizeof none), "faults of other rules");
-    judge(map[3 * 51 + 7] == 13 && map[4 * 51 + 7] == 13, "the map at the wrong cells: %u, %u", map[3 * 51 + 7], map[4 * 51 + 7]);
-    map[3 * 51 + 7] = map[4 * 51 + 7] = 0;
-    judge(are_all(map, MAP_LENGTH, 0), "the map at the other cells");
-    wrong.acc = drain_no_raster();
-    status = drain_explain(side, &tile, 1, no_sinks, 0, &wrong, DRAIN_CON_DIR_BAS, map, MAP_LENGTH, &faults, &answer);
-    judge(!status && !memcmp(&faults, &none, sizeof none), "an explanation without acc: status %u: %.164s", status, answer.line);
-    memcpy(map, untouched, sizeof map);
-    faults = before;
-    for (size_t i = 0; i < sizeof lengths / sizeof *lengths; i++) {
-        status = drain_explain(side, &tile, 1, no_sinks, 0, &rasters, DRAIN_ALL, map, lengths[i], &faults, &answer);
-        judge(status == 2 && says(&answer, 2, "refused BadMapLength") && !answer.rule && !answer.row && !answer.col, "a map of %zu bytes: status %u: %.164s", lengths[i], status, answer.line);
-    }
-    status = drain_explain(side, &tile, 1, no_sinks, 0, &rasters, 12, map, MAP_LENGTH, &faults, &answer);
-    judge(status == 2 && says(&answer, 2, "refused BadChoice"), "an explanation of acc and bas: %.164s", answer.line);
-    status = drain_explain(side - 1, &tile, 1, no_sinks, 0, &rasters, DRAIN_ALL, map, MAP_LENGTH, &faults, &answer);
-    judge(status == 2 && says(&answer, 2, "refused WrongShape con"), "an explanation of refused inputs: %.164s", answer.line);
-    wrong.con.header = drain_bytes_of(NULL, 1);
-    status = drain_explain(side, &tile, 1, no_sinks, 0, &wrong, DRAIN_CON, map, MAP_LENGTH, &faults, &answer);
-    judge(status == 2 && says(&answer, 2, "refused NullBytes"), "an explanation of NULL: %.164s", answer.line);
-    judge(!memcmp(map, untouched, sizeof map) && !memcmp(&faults, &before, sizeof faults), "a map or faults are written without a verdict");
-}
-
-/* The version: whole with zeros behind it, its first bytes, and none of it. */
-static void test_version(void) {
-    char whole[64], start[6] = "xxxxx";
-    memset(whole, 'x', sizeof whole);
-    size_t length = drain_version((uint8_t *)whole, sizeof whole);
-    judge(length > 5 && length < sizeof whole && are_all(whole + length, sizeof whole - length, 0) && strlen(whole) == length, "a version of %zu bytes: %.64s", length, whole);
-    judge(drain_version((uint8_t *)start, 0) == length && !strcmp(start, "xxxxx"), "no byte of the version: %s", start);
-    judge(drain_version((uint8_t *)start, 4) == length && !memcmp(start, whole, 4) && !strcmp(start + 4, "x"), "four bytes of the version: %s", start);
 }
 
 /* NULL for bytes that should be there, in each place of an audit and of a check. */
@@ -459,6 +377,7 @@ int main(int argc, char **argv) {
     test_rejection();
     test_choices(argv[5]);
     test_explanation(argv[5]);
+    test_derivation(argv[5]);
     test_version();
     test_refusals();
     test_null();

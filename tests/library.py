@@ -81,6 +81,22 @@ def is_explanation_right(drain: judge.Drain) -> bool:
     )
 
 
+def is_derivation_right(drain: judge.Drain) -> bool:
+    """The set's own counts follow from its directions, and a check accepts what was derived."""
+    con, dir_, (header, counts), _ = read_rasters()
+    acc, bas, rnk = (bytearray(4 * SIDE * SIDE) for _ in range(3))
+    answer = drain.derive(SIDE, [TILE], dir_, acc, bas, rnk)
+    without = header[:header.index(b"NODATA")]
+    checked = drain.check(SIDE, [TILE], [con, dir_, *((without, bytes(numbers)) for numbers in (acc, bas, rnk))])
+    short = drain.derive(SIDE, [TILE], dir_, acc, bas, rnk[:-4])
+    return (
+        answer == judge.Answer(0, 0, 0, 0, "derived rows=51 cols=51")
+        and bytes(acc) == counts
+        and checked.line == "accepted rows=51 cols=51 data=2601 raised=59 outlets=10"
+        and short.line == "refused BadRasterLength"
+    )
+
+
 def is_version_right(drain: judge.Drain) -> bool:
     """Whether the library has the version that the program prints."""
     return f"drain {drain.version()}\n" == (ROOT / "tests/program/expected/version.txt").read_text()
@@ -103,6 +119,7 @@ def main(path: str) -> int:
         "a rejection": is_rejection_right(drain),
         "choices of rasters": are_choices_right(drain),
         "an explanation": is_explanation_right(drain),
+        "a derivation": is_derivation_right(drain),
         "the version": is_version_right(drain),
         "NULL for no bytes": line_with(drain, judge.Bytes(None)) == "refused RasterShort bas",
         "NULL for 5 bytes": line_with(drain, judge.Bytes(None, 5)) == "refused NullBytes",

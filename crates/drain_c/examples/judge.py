@@ -81,7 +81,9 @@ class Drain:
         self._library.drain_explain.argtypes = [
             *given, ctypes.c_uint32, ctypes.c_void_p, ctypes.c_size_t, ctypes.POINTER(Faults), answer,
         ]
-        for name in ("audit", "check", "audit_only", "explain"):
+        rasters = [ctypes.c_void_p, ctypes.c_size_t] * 3
+        self._library.drain_derive.argtypes = [*given[:3], ctypes.POINTER(Pair), *rasters, answer]
+        for name in ("audit", "check", "audit_only", "explain", "derive"):
             getattr(self._library, "drain_" + name).restype = ctypes.c_uint32
         self._library.drain_version.argtypes = [ctypes.c_char_p, ctypes.c_size_t]
         self._library.drain_version.restype = ctypes.c_size_t
@@ -112,6 +114,17 @@ class Drain:
         answer = self._call(self._library.drain_explain, len(AUDITED), side, tiles, *choice_of(rasters, sinks), *more)
         return answer, faults
 
+    def derive(self, side: int, tiles: Sequence[tuple[str, bytes]], directions: tuple[bytes, bytes],
+               *rasters) -> Answer:
+        """Writes acc, bas and rnk of directions into three arrays of an unsigned number of 32 bits for each cell."""
+        places = []
+        for numbers in rasters:
+            count = memoryview(numbers).nbytes // 4
+            places += [(ctypes.c_uint32 * count).from_buffer(numbers), count]
+        raw = RawAnswer()
+        self._library.drain_derive(side, tiles_of(tiles), len(tiles), Pair(*directions), *places, raw)
+        return answer_of(raw)
+
     def check(self, side: int, tiles: Sequence[tuple[str, bytes]], rasters: Sequence[tuple[bytes, bytes]],
               sinks: bytes = b"") -> Answer:
         """Checks con, dir, acc, bas and rnk."""
@@ -122,12 +135,20 @@ class Drain:
               rasters: Sequence[tuple[bytes, bytes]], sinks: bytes, *more) -> Answer:
         if len(rasters) != count:
             raise ValueError(f"{count} rasters are needed")
-        # An array of no tiles still has an address, which C needs.
-        given = (Pair * max(len(tiles), 1))(*(Pair(name.encode(), samples) for name, samples in tiles))
         products = (Pair * count)(*(Pair(header, pixels) for header, pixels in rasters))
         raw = RawAnswer()
-        function(side, given, len(tiles), sinks, len(sinks), products, *more, raw)
-        return Answer(raw.status, raw.rule, raw.row, raw.col, raw.line.decode("ascii"))
+        function(side, tiles_of(tiles), len(tiles), sinks, len(sinks), products, *more, raw)
+        return answer_of(raw)
+
+
+def tiles_of(tiles: Sequence[tuple[str, bytes]]) -> ctypes.Array:
+    """The tiles for C. An array of none still has an address, which C needs."""
+    return (Pair * max(len(tiles), 1))(*(Pair(name.encode(), samples) for name, samples in tiles))
+
+
+def answer_of(raw: RawAnswer) -> Answer:
+    """The answer that C wrote."""
+    return Answer(raw.status, raw.rule, raw.row, raw.col, raw.line.decode("ascii"))
 
 
 def choice_of(rasters: Mapping[str, tuple[bytes, bytes]], sinks: bytes) -> tuple[list[tuple[bytes, bytes]], bytes, int]:

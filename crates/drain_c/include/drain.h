@@ -14,8 +14,8 @@
  *   behave as the C standard says. An audit takes a byte for each cell, beside some rows, the labels of outlets and the
  *   list of sinks; a check takes those alone; an audit of con alone takes the elevations, con and a flood;
  *   an explanation takes a byte for each cell more.
- *   What a call writes (*answer, a map, *faults, a text) overlaps no other argument, and nothing else writes to any
- *   argument during a call.
+ *   What a call writes (*answer, a map, *faults, rasters, a text) overlaps no other argument, and nothing else writes to
+ *   any argument during a call.
  * Threads. Calls may run at the same time, each with an answer of its own. Call no function from a signal handler,
  *   nor in a child that was forked while several threads ran.
  * Machine. x86-64-v2 or newer, Linux. The library doesn't test the processor.
@@ -73,7 +73,7 @@ typedef struct drain_check_rasters {
 
 /* The statuses: those that the program `drain` exits with. */
 enum {
-    DRAIN_ACCEPTED = 0, /* of an audit: the rasters are correct; of a check: correct, and the ranks show it */
+    DRAIN_ACCEPTED = 0, /* of an audit: the rasters are correct; of a check: correct, and the ranks show it; derived */
     DRAIN_REJECTED = 1, /* of an audit: the rasters aren't correct; of a check: or the ranks don't show it */
     DRAIN_REFUSED = 2,  /* no verdict: the side, a name, a header, a length, a seam, the list of sinks, NULL, .. */
     DRAIN_FAILED = 3    /* out of memory; the contracts allow a failed read too, which memory never gives */
@@ -112,8 +112,8 @@ enum {
 
 /* Whether the judged rasters are right for the tiles: part of a correct set. judged: one of the numbers above, else
  * the answer is `refused BadChoice`. The other rasters aren't read: make each by drain_no_raster(). The other arguments
- * are those of drain_audit. With status 1 the rule is 0 where a path doesn't end, and of con alone where a cell is below
- * the filled surface.
+ * are those of drain_audit. With status 1 the rule is 0 where a path doesn't end, and of con alone where a cell is
+ * below the filled surface.
  * Returns answer->status. */
 uint32_t drain_audit_only(uint32_t side, const drain_tile *tiles, size_t tile_count, const uint8_t *sinks,
                           size_t sinks_length, const drain_audit_rasters *rasters, uint32_t judged,
@@ -145,6 +145,17 @@ typedef struct drain_faults {
 uint32_t drain_explain(uint32_t side, const drain_tile *tiles, size_t tile_count, const uint8_t *sinks,
                        size_t sinks_length, const drain_audit_rasters *rasters, uint32_t judged, uint8_t *map,
                        size_t map_length, drain_faults *faults, drain_answer *answer);
+
+/* Accumulation, basin labels and ranks that follow from directions: what `drain derive` writes. dir: the raster of
+ * directions. acc, bas, rnk: memory for rows * cols numbers each, row by row from the north; ..count of them. A void
+ * has 0 in acc and bas, and 4294967295 in rnk. With another count, where the inputs aren't refused and every path ends, the
+ * answer is `refused BadRasterLength`. With status 0 the line is `derived rows=R cols=C`; with status 1 it is
+ * `rejected NoEnd row=R col=C`, the first cell whose path doesn't end. With another status than 0 no number is written.
+ * No address is NULL. It takes 14 bytes for each cell.
+ * Returns answer->status. */
+uint32_t drain_derive(uint32_t side, const drain_tile *tiles, size_t tile_count, const drain_raster *dir,
+                      uint32_t *acc, size_t acc_count, uint32_t *bas, size_t bas_count, uint32_t *rnk,
+                      size_t rnk_count, drain_answer *answer);
 
 /* Writes the version of the library, as `drain --version` prints it after the name: two lines, the version and the
  * logic of the toolchain, without a last line end. text is never NULL; as many bytes are written as there is room for,

@@ -8,9 +8,9 @@ use Rattle.drain_answer.specs.declared.outcome.Outcome.TheVariants.{Accepted, Ac
 use Rattle.drain_answer.specs.declared.refusal.Refusal.{Refusal}
 use Rattle.drain_c.specs.declared.answer.Answer.{Answer}
 use Rattle.drain_c.specs.declared.faults.Faults.{Faults}
-use Rattle.drain_c.specs.Explained.{Explains, IsMap, ShowsExplained, ShowsExplanation, ShowsOutcome, fits, has_map_length, mapped_found, mapped_line}
+use Rattle.drain_c.specs.Explained.{Explains, IsMap, ShowsExplained, ShowsExplanation, fits, has_map_length, mapped_found, mapped_line}
 use Rattle.drain_c.specs.Found.{outcome_found, refusal_found}
-use Rattle.drain_c.specs.Shown.{Reports, ShowsBadMap}
+use Rattle.drain_c.specs.Shown.{Reports, ShowsBadMap, ShowsOutcome}
 use Rattle.drain_c.proofs.Statuses.{from_two}
 use Rattle.drain_explain.specs.declared.explanation.Explanation.{Explanation}
 use Rattle.drain_explain.specs.Explanations.{AreFindingsOf, answer_in}

@@ -3,13 +3,13 @@ use Rattle.std.specs.Prelude.{◌≡◌, ℕ, ◌*◌, ◌==◌, Bool, true, fal
 use Rattle.drain_answer.specs.declared.outcome.Outcome.{Outcome}
 use Rattle.drain_answer.specs.declared.refusal.Refusal.{Refusal}
 use Rattle.drain_answer.specs.Lines.{refusal_line}
-use Rattle.drain_answer.specs.OutcomeLines.{outcome_line, outcome_report_line}
+use Rattle.drain_answer.specs.OutcomeLines.{outcome_line}
 use Rattle.drain_c.specs.declared.answer.Answer.{Answer}
 use Rattle.drain_c.specs.declared.faults.Faults.{Faults}
 use Rattle.drain_c.specs.declared.found.Found.{Found}
 use Rattle.drain_c.specs.Faults.{ShowsFaults}
 use Rattle.drain_c.specs.Found.{outcome_found, refusal_found, status_only}
-use Rattle.drain_c.specs.Shown.{ShowsAnswer, ShowsBadMap}
+use Rattle.drain_c.specs.Shown.{ShowsBadMap, ShowsOutcome}
 use Rattle.drain_explain.specs.declared.explanation.Explanation.{Explanation}
 use Rattle.drain_faults.specs.declared.per_rule.PerRule.{PerRule}
 use Rattle.drain_faults.specs.declared.rule_faults.RuleFaults.{RuleFaults}
@@ -42,10 +42,6 @@ mapped_found fits (Err refusal) = refusal_found refusal
 abbrev pub mapped_line : Bool → Result Outcome Refusal → List ℕ
 mapped_line fits (Ok outcome) = if fits then outcome_line outcome else codes "refused BadMapLength"
 mapped_line fits (Err refusal) = refusal_line refusal
-
--- what is written of an answer
-abbrev pub ShowsOutcome : Result Outcome Refusal → Answer → Type 0
-ShowsOutcome answer shown = ShowsAnswer (outcome_found answer) (outcome_report_line answer) shown
 
 -- a map was drawn, and has the length of this memory
 abbrev pub fits : Option FaultMap → List ℕ → Bool

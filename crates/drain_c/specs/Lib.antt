@@ -6,4 +6,5 @@ pub mod Faults
 pub mod Found
 pub mod Shown
 pub mod Explained
+pub mod Derived
 pub mod Laws

@@ -1,24 +1,22 @@
 //! The explanation of an audit that C calls. `include/drain.h` declares it.
 
 ghost use Rattle.std.specs.Prelude.{◌≡◌, ◌<◌, ◌≤◌, IfSome, IsFalse, IsNone, IsTrue};
-ghost use Rattle.drain_c.specs.Explained.{Explains, ShowsExplained, ShowsExplanation, ShowsOutcome, fits, has_map_length, mapped_found, mapped_line};
+ghost use Rattle.drain_c.specs.Explained.{Explains, ShowsExplained, ShowsExplanation, fits, has_map_length, mapped_found, mapped_line};
 ghost use Rattle.drain_c.specs.Given.{OfBytes, audit_raster};
 ghost use Rattle.drain_c.specs.Judged.{OfJudgedBytes, judged_bytes, judged_of};
 ghost use Rattle.drain_c.specs.Shown.{Reports, ShowsBadChoice, ShowsBadMap, ShowsMissing};
 ghost use Rattle.drain_c.specs.Whole.{is_audit_whole};
 ghost use Rattle.drain_verdict.specs.Outcomes.{IsOutcomeAnswer};
 
-use crate::answer::{Answer, show, show_bad_choice, show_bad_map, show_missing};
+use crate::answer::{Answer, show_bad_choice, show_bad_map, show_missing, show_outcome};
 use crate::faults::{Faults, faults_of};
-use crate::found::outcome_found;
 use crate::given::{AuditBytes, TileBytes};
 use crate::judge::judge_explained;
 use crate::judged::{judged_bytes, judged_of};
 use crate::whole::is_audit_whole;
-use drain_answer::outcome_report;
 use drain_explain::Explanation;
 use drain_grid::Judged;
-use drain_verdict::{Outcome, Refusal};
+use drain_verdict::Refusal;
 use std::alloc::Global;
 
 /// The answer of `drain_audit_only` with what explains it: the cells at which each rule about the judged rasters fails,
@@ -126,15 +124,4 @@ fn show_explanation(
         }
         None => show_bad_map(answer),
     }
-}
-
-/// Writes the answer of an audit of some rasters.
-fn show_outcome(outcome: &Result<Outcome, Refusal>, answer: &mut Answer)
-    ensures { ShowsOutcome outcome.now answer.new }
-{
-    show(
-        answer,
-        outcome_found(outcome),
-        outcome_report(outcome).as_str(),
-    );
 }

@@ -1,10 +1,13 @@
-//! Audits and a check of bytes in memory, for C and what calls C. `include/drain.h` declares the calls.
+//! Audits, a check, explanations and derived rasters of bytes in memory, for C and what calls C. `include/drain.h`
+//! declares the calls.
 #![tactic(auto)]
 
 pub mod answer;
+mod derived;
 pub mod exported_audit;
 pub mod exported_audit_only;
 pub mod exported_check;
+pub mod exported_derive;
 pub mod exported_explain;
 pub mod exported_version;
 pub mod faults;
