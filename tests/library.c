@@ -379,6 +379,7 @@ int main(int argc, char **argv) {
     test_explanation(argv[5]);
     test_derivation(argv[5]);
     test_version();
+    test_arrays(argv[5]);
     test_refusals();
     test_null();
     test_long_headers();

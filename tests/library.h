@@ -23,5 +23,6 @@ void test_choices(const char *line);
 void test_explanation(const char *line);
 void test_derivation(const char *line);
 void test_version(void);
+void test_arrays(const char *line);
 
 #endif

@@ -1,5 +1,5 @@
 #!/usr/bin/env python3
-"""Tests of libdrain from Python: where the members of an answer lie, a rejection, choices, and NULL for bytes.
+"""Tests of libdrain from Python: where the members of an answer lie, each call once or more, and arrays.
 
 Usage: tests/library.py LIBDRAIN.so    (the repository's examples and samples are read)
 
@@ -97,6 +97,18 @@ def is_derivation_right(drain: judge.Drain) -> bool:
     )
 
 
+def are_arrays_right(drain: judge.Drain) -> bool:
+    """The set as arrays of rows by columns is accepted, con with the high byte first."""
+    kinds = {1: "B", 2: "h", 4: "I"}
+    arrays = [memoryview(pixels).cast(kinds[len(pixels) // SIDE**2], (SIDE, SIDE)) for _, pixels in read_rasters()]
+    turned = ((ctypes.c_int16.__ctype_be__ * SIDE) * SIDE)(*(tuple(row) for row in arrays[0].tolist()))
+    given = [
+        judge.raster_of(array, nodata, SIDE, [TILE[0]])
+        for array, nodata in zip([turned, *arrays[1:]], (-32768, 255, 0, 0))
+    ]
+    return drain.audit(SIDE, [TILE], given).line == "accepted rows=51 cols=51 data=2601 raised=59 outlets=10"
+
+
 def is_version_right(drain: judge.Drain) -> bool:
     """Whether the library has the version that the program prints."""
     return f"drain {drain.version()}\n" == (ROOT / "tests/program/expected/version.txt").read_text()
@@ -120,6 +132,7 @@ def main(path: str) -> int:
         "choices of rasters": are_choices_right(drain),
         "an explanation": is_explanation_right(drain),
         "a derivation": is_derivation_right(drain),
+        "arrays": are_arrays_right(drain),
         "the version": is_version_right(drain),
         "NULL for no bytes": line_with(drain, judge.Bytes(None)) == "refused RasterShort bas",
         "NULL for 5 bytes": line_with(drain, judge.Bytes(None, 5)) == "refused NullBytes",

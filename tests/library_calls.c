@@ -132,3 +132,29 @@ void test_version(void) {
     judge(drain_version((uint8_t *)start, 0) == length && !strcmp(start, "xxxxx"), "no byte of the version: %s", start);
     judge(drain_version((uint8_t *)start, 4) == length && !memcmp(start, whole, 4) && !strcmp(start + 4, "x"), "four bytes of the version: %s", start);
 }
+
+/* The files as arrays without headers: con as it is and with the high byte first, and rasters of another size. */
+void test_arrays(const char *line) {
+    uint8_t turned[2 * MAP_LENGTH];
+    char texts[5][DRAIN_HEADER_SIZE];
+    drain_answer answer = unwritten();
+    drain_array con = {rasters.con.pixels.at, 51, 51, 16, 1, 0, -32768};
+    drain_array dir = {rasters.dir.pixels.at, 51, 51, 8, 0, 0, 255};
+    drain_array acc = {rasters.acc.pixels.at, 51, 51, 32, 0, 0, 0};
+    drain_array bas = {rasters.bas.pixels.at, 51, 51, 32, 0, 0, 0};
+    drain_array other = {turned, 51, 51, 16, 1, 1, -32768};
+    for (size_t i = 0; i < sizeof turned; i++)
+        turned[i] = rasters.con.pixels.at[i ^ 1];
+    drain_audit_rasters given = {drain_raster_of(&con, side, -85, 37, texts[0]), drain_raster_of(&dir, side, -85, 37, texts[1]), drain_raster_of(&acc, side, -85, 37, texts[2]),
+                                 drain_raster_of(&bas, side, -85, 37, texts[3])};
+    uint32_t status = drain_audit(side, &tile, 1, no_sinks, 0, &given, &answer);
+    judge(!status && says(&answer, 0, line), "arrays: status %u: %.164s", status, answer.line);
+    given.con = drain_raster_of(&other, side, -85, 37, texts[4]);
+    status = drain_audit(side, &tile, 1, no_sinks, 0, &given, &answer);
+    judge(!status && says(&answer, 0, line), "an array with the high byte first: status %u: %.164s", status, answer.line);
+    other.rows = 50;
+    given.con = drain_raster_of(&other, side, -85, 37, texts[4]);
+    judge(drain_audit(side, &tile, 1, no_sinks, 0, &given, &answer) == 2 && says(&answer, 2, "refused WrongShape con"), "an array of 50 rows: %.164s", answer.line);
+    given.con = drain_raster_of(&con, side, -84, 37, texts[4]);
+    judge(drain_audit(side, &tile, 1, no_sinks, 0, &given, &answer) == 2 && says(&answer, 2, "refused Misplaced con"), "an array elsewhere: %.164s", answer.line);
+}

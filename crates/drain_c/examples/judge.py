@@ -157,6 +157,33 @@ def choice_of(rasters: Mapping[str, tuple[bytes, bytes]], sinks: bytes) -> tuple
     return [rasters.get(name, (b"", b"")) for name in AUDITED], sinks, judged
 
 
+def raster_of(array, nodata: int, side: int, tiles: Sequence[str]) -> tuple[bytes, bytes]:
+    """Header and pixels of an array of rows by columns, as of numpy, that lies where the tiles of these names do.
+
+    Its numbers are whole ones of 8, 16 or 32 bits, in either order of bytes.
+    """
+    view = memoryview(array)
+    rows, cols = view.shape
+    kind = view.format[-1]
+    if kind.lower() not in "bhilq":
+        raise ValueError(f"not whole numbers: {view.format}")
+    corners = [(int(name[4:7]) * (1 if name[3] in "Ee" else -1), int(name[1:3]) * (1 if name[0] in "Nn" else -1))
+               for name in tiles]
+    lines = [
+        f"BYTEORDER {'M' if view.format[0] in '>!' else 'I'}",
+        f"NROWS {rows}",
+        f"NCOLS {cols}",
+        f"NBITS {8 * view.itemsize}",
+        f"PIXELTYPE {'SIGNEDINT' if kind.islower() else 'UNSIGNEDINT'}",
+        f"ULXMAP {min(west for west, _ in corners)}",
+        f"ULYMAP {max(south for _, south in corners) + 1}",
+        f"XDIM {1 / (side - 1):.15f}",
+        f"YDIM {1 / (side - 1):.15f}",
+        f"NODATA {nodata}",
+    ]
+    return "\n".join(lines).encode(), view.tobytes()
+
+
 def main(words: Sequence[str]) -> int:
     if len(words) < 5 or words[1] not in ("audit", "check"):
         print("usage: judge.py LIBDRAIN.so audit|check SIDE DIRECTORY TILE...", file=sys.stderr)

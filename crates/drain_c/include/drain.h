@@ -14,8 +14,8 @@
  *   behave as the C standard says. An audit takes a byte for each cell, beside some rows, the labels of outlets and the
  *   list of sinks; a check takes those alone; an audit of con alone takes the elevations, con and a flood;
  *   an explanation takes a byte for each cell more.
- *   What a call writes (*answer, a map, *faults, rasters, a text) overlaps no other argument, and nothing else writes to
- *   any argument during a call.
+ *   What a call writes (*answer, a map, *faults, rasters, a text) overlaps no other argument, and nothing else writes
+ *   to any argument during a call.
  * Threads. Calls may run at the same time, each with an answer of its own. Call no function from a signal handler,
  *   nor in a child that was forked while several threads ran.
  * Machine. x86-64-v2 or newer, Linux. The library doesn't test the processor.
@@ -25,6 +25,7 @@
 
 #include <stddef.h>
 #include <stdint.h>
+#include <stdio.h>
 
 #ifdef __cplusplus
 extern "C" {
@@ -147,11 +148,11 @@ uint32_t drain_explain(uint32_t side, const drain_tile *tiles, size_t tile_count
                        size_t map_length, drain_faults *faults, drain_answer *answer);
 
 /* Accumulation, basin labels and ranks that follow from directions: what `drain derive` writes. dir: the raster of
- * directions. acc, bas, rnk: memory for rows * cols numbers each, row by row from the north; ..count of them. A void
- * has 0 in acc and bas, and 4294967295 in rnk. With another count, where the inputs aren't refused and every path ends, the
- * answer is `refused BadRasterLength`. With status 0 the line is `derived rows=R cols=C`; with status 1 it is
- * `rejected NoEnd row=R col=C`, the first cell whose path doesn't end. With another status than 0 no number is written.
- * No address is NULL. It takes 14 bytes for each cell.
+ * directions. acc, bas, rnk: memory for rows * cols numbers each, row by row from the north; ..count of them, and no
+ * address is NULL. A void has 0 in acc and bas, and 4294967295 in rnk. With another count, where the inputs aren't
+ * refused and every path ends, the answer is `refused BadRasterLength`. With status 0 the line is
+ * `derived rows=R cols=C`; with status 1 it is `rejected NoEnd row=R col=C`, the first cell whose path doesn't end. With
+ * another status than 0 no number is written. It takes 14 bytes for each cell.
  * Returns answer->status. */
 uint32_t drain_derive(uint32_t side, const drain_tile *tiles, size_t tile_count, const drain_raster *dir,
                       uint32_t *acc, size_t acc_count, uint32_t *bas, size_t bas_count, uint32_t *rnk,
@@ -177,6 +178,38 @@ static inline drain_bytes drain_bytes_of(const void *at, size_t length) {
     bytes.length = at ? length : 0;
     bytes.missing = at ? 0 : length;
     return bytes;
+}
+
+/* Pixels in memory without a header: rows by columns, row by row from the north, without gaps between rows. bits: 8, 16
+ * or 32. */
+typedef struct drain_array {
+    const void *pixels;
+    uint32_t rows;
+    uint32_t cols;
+    uint32_t bits;
+    int is_signed;
+    int high_byte_first;
+    int64_t nodata; /* the no-data number */
+} drain_array;
+
+/* The bytes for the text of their header. */
+enum { DRAIN_HEADER_SIZE = 400 };
+
+/* These pixels as a raster. Its header is written into text, which has to last as long. west, north: the least
+ * longitude and the greatest latitude of the mosaic, in whole degrees. Tested, not proved; the library reads the text. */
+static inline drain_raster drain_raster_of(const drain_array *array, uint32_t side, int west, int north,
+                                           char text[DRAIN_HEADER_SIZE]) {
+    unsigned long long unit = 1000000000000000ull, spacing = unit / (side > 1 ? side - 1 : 1);
+    drain_raster raster;
+    int length = snprintf(text, DRAIN_HEADER_SIZE,
+                          "BYTEORDER %c\nNROWS %lu\nNCOLS %lu\nNBITS %lu\nPIXELTYPE %s\nULXMAP %d\nULYMAP %d\n"
+                          "XDIM %llu.%015llu\nYDIM %llu.%015llu\nNODATA %lld\n",
+                          array->high_byte_first ? 'M' : 'I', (unsigned long)array->rows, (unsigned long)array->cols,
+                          (unsigned long)array->bits, array->is_signed ? "SIGNEDINT" : "UNSIGNEDINT", west, north,
+                          spacing / unit, spacing % unit, spacing / unit, spacing % unit, (long long)array->nodata);
+    raster.header = drain_bytes_of(text, length < 0 ? 0 : (size_t)length);
+    raster.pixels = drain_bytes_of(array->pixels, (size_t)array->rows * array->cols * (array->bits / 8));
+    return raster;
 }
 
 /* No raster, in the place of one that isn't judged. */
