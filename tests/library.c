@@ -1,6 +1,7 @@
 /* Tests of libdrain that no file can show: where the members of an answer lie, arguments that are refused, memory that is
- * refused at each call of malloc and realloc, what is left allocated, and calls of several threads at once.
- * tests/library.sh builds it with -Wl,--wrap=malloc,--wrap=realloc,--wrap=free, so it sees each such call of the library.
+ * refused at each call of malloc and realloc, what is left allocated, and calls of several threads at once; with those
+ * of library_calls.c. tests/library.sh builds both with -Wl,--wrap=malloc,--wrap=realloc,--wrap=free, so library.c sees
+ * each such call of the library.
  *
  * Usage: library SIDE DIRECTORY TILE NAME LINE    (an audit of these files answers LINE; DIRECTORY has no ranks, so the
  * check that is tried takes con for them)
@@ -14,7 +15,7 @@
 #include <string.h>
 #include <sys/mman.h>
 
-#include "drain.h"
+#include "library.h"
 
 void *__real_malloc(size_t);
 void *__real_realloc(void *, size_t);
@@ -60,7 +61,7 @@ void __wrap_free(void *at) {
 
 static int passed, failed;
 
-static void judge(int is_right, const char *format, ...) {
+void judge(int is_right, const char *format, ...) {
     va_list words;
     if (is_right) {
         passed++;
@@ -75,14 +76,14 @@ static void judge(int is_right, const char *format, ...) {
 }
 
 /* An answer whose members were 0xff before a call. */
-static drain_answer unwritten(void) {
+drain_answer unwritten(void) {
     drain_answer answer;
     memset(&answer, 0xff, sizeof answer);
     return answer;
 }
 
 /* Whether the answer has this status, this line and zeros behind it. */
-static int says(const drain_answer *answer, uint32_t status, const char *line) {
+int says(const drain_answer *answer, uint32_t status, const char *line) {
     size_t length = strlen(line);
     if (answer->status != status || length > 160 || memcmp(answer->line, line, length))
         return 0;
@@ -107,10 +108,10 @@ static drain_bytes read_file(const char *directory, const char *name) {
     return drain_bytes_of(bytes, length);
 }
 
-static uint32_t side;
-static drain_tile tile;
-static drain_audit_rasters rasters;
-static const uint8_t no_sinks[] = "";
+uint32_t side;
+drain_tile tile;
+drain_audit_rasters rasters;
+const uint8_t no_sinks[] = "";
 
 /* One audit that is refused, with zero in the numbers of a rejection. */
 static void judge_refused(const char *name, uint32_t its_side, const drain_tile *tiles, size_t count, const char *sinks, const drain_audit_rasters *given, const char *line) {
@@ -155,11 +156,38 @@ static void test_refusals(void) {
     judge_refused("a sink off the mosaic", side, &tile, 1, "1 1\n51 0\n", &rasters, "refused SinkNotData 2");
 }
 
-/* The audit and the check of the files. The check takes con for ranks, so its answer is that of a poor certificate. */
-static uint32_t call(int checks, drain_answer *answer) {
+/* An audit of some rasters, with NULL for the others. */
+uint32_t audit_only(uint32_t judged, const drain_audit_rasters *given, drain_answer *answer) {
+    drain_raster null = {drain_bytes_of(NULL, 5), drain_bytes_of(NULL, 5)};
+    drain_audit_rasters some = {given->con, judged & 2 ? given->dir : null, judged & 4 ? given->acc : null, judged & 8 ? given->bas : null};
+    return drain_audit_only(side, &tile, 1, no_sinks, 0, &some, judged, answer);
+}
+
+/* The calls that are tried with memory refused and in threads. */
+enum { AUDIT, CHECK, AUDIT_CON, AUDIT_WAYS, EXPLAIN, DERIVE, CALLS };
+static const char *const call_names[CALLS] = {"audit", "check", "audit of con", "audit of con and dir", "explanation", "derivation"};
+
+/* One of them, of the files. The check takes con for ranks, so its answer is that of a poor certificate. */
+static uint32_t call(int which, drain_answer *answer) {
     drain_check_rasters checked = {rasters.con, rasters.dir, rasters.acc, rasters.bas, rasters.con};
+    drain_faults faults;
+    uint8_t map[MAP_LENGTH];
+    uint32_t acc[MAP_LENGTH], bas[MAP_LENGTH], rnk[MAP_LENGTH];
     *answer = unwritten();
-    return checks ? drain_check(side, &tile, 1, no_sinks, 0, &checked, answer) : drain_audit(side, &tile, 1, no_sinks, 0, &rasters, answer);
+    switch (which) {
+    case DERIVE:
+        return drain_derive(side, &tile, 1, &rasters.dir, acc, MAP_LENGTH, bas, MAP_LENGTH, rnk, MAP_LENGTH, answer);
+    case EXPLAIN:
+        return drain_explain(side, &tile, 1, no_sinks, 0, &rasters, DRAIN_ALL, map, sizeof map, &faults, answer);
+    case CHECK:
+        return drain_check(side, &tile, 1, no_sinks, 0, &checked, answer);
+    case AUDIT_CON:
+        return audit_only(DRAIN_CON, &rasters, answer);
+    case AUDIT_WAYS:
+        return audit_only(DRAIN_CON_DIR, &rasters, answer);
+    default:
+        return drain_audit(side, &tile, 1, no_sinks, 0, &rasters, answer);
+    }
 }
 
 /* The places and sizes that drain_answer_layout is proved to give. */
@@ -167,8 +195,12 @@ _Static_assert(offsetof(drain_answer, status) == 0 && offsetof(drain_answer, rul
 _Static_assert(offsetof(drain_answer, row) == 8 && offsetof(drain_answer, col) == 12, "row and col");
 _Static_assert(offsetof(drain_answer, line) == 16 && DRAIN_LINE_SIZE == 164 && sizeof(drain_answer) == 180, "the line");
 
+/* And of faults drain_faults_layout. */
+_Static_assert(offsetof(drain_fault_cells, cells) == 0 && offsetof(drain_fault_cells, row) == 4, "cells and row");
+_Static_assert(offsetof(drain_fault_cells, col) == 8 && sizeof(drain_faults) == 180, "col and the size");
+
 /* Whether all of these bytes are this one. */
-static int are_all(const void *bytes, size_t length, uint8_t byte) {
+int are_all(const void *bytes, size_t length, uint8_t byte) {
     for (size_t i = 0; i < length; i++)
         if (((const uint8_t *)bytes)[i] != byte)
             return 0;
@@ -187,22 +219,37 @@ static void test_layout(void) {
     judge(room.answer.status == 0 && room.answer.rule == 4 && room.answer.row == 8 && room.answer.col == 12, "places: status %u, rule %u, row %u, col %u", room.answer.status,
           room.answer.rule, room.answer.row, room.answer.col);
     judge(are_all(room.answer.line, 164, 255) && are_all(room.behind, sizeof room.behind, 0x5a), "the line of an answer, and what lies behind it");
-    call(0, &room.answer);
+    struct {
+        drain_faults faults;
+        uint8_t behind[64];
+    } faults;
+    memset(&faults, 0x5a, sizeof faults);
+    size = drain_faults_layout(&faults.faults);
+    int are_right = size == 180 && are_all(faults.behind, sizeof faults.behind, 0x5a);
+    for (uint32_t i = 0; i < 15; i++)
+        are_right &= faults.faults.rules[i].cells == 12 * i && faults.faults.rules[i].row == 12 * i + 4 && faults.faults.rules[i].col == 12 * i + 8;
+    judge(are_right, "the places of faults, the size %zu, and what lies behind them", size);
+    call(AUDIT, &room.answer);
     judge(are_all(room.behind, sizeof room.behind, 0x5a), "an audit writes behind its answer");
 }
 
-/* acc counts one cell too many at row 3, column 7. By rule 13 that cell is wrong, and no earlier one: it flows south. */
-static void test_rejection(void) {
+/* The rasters, but acc counts one cell too many at row 3, column 7. By rule 13 that cell is wrong, and no earlier one: it
+ * flows south. */
+drain_audit_rasters with_wrong_count(void) {
     drain_audit_rasters others = rasters;
-    drain_answer answer = unwritten();
     uint8_t *pixels = __real_malloc(rasters.acc.pixels.length);
     memcpy(pixels, rasters.acc.pixels.at, rasters.acc.pixels.length);
     pixels[4 * (3 * side + 7)]++;
-    others.acc.pixels = drain_bytes_of(pixels, rasters.acc.pixels.length);
+    others.acc.pixels.at = pixels;
+    return others;
+}
+
+static void test_rejection(void) {
+    drain_audit_rasters others = with_wrong_count();
+    drain_answer answer = unwritten();
     uint32_t status = drain_audit(side, &tile, 1, no_sinks, 0, &others, &answer);
     judge(status == 1 && says(&answer, 1, "rejected rule=13 Accumulation row=3 col=7") && answer.rule == 13 && answer.row == 3 && answer.col == 7,
           "a wrong count: status %u, rule %u, row %u, col %u: %.164s", answer.status, answer.rule, answer.row, answer.col, answer.line);
-    __real_free(pixels);
 }
 
 /* NULL for bytes that should be there, in each place of an audit and of a check. */
@@ -258,12 +305,12 @@ static void test_long_headers(void) {
 
 /* Refuses each request for memory of a call: alone, and with every later one. The answer is out of memory, or, where the
  * library does without, the same as with it. Nothing is left allocated. */
-static void test_memory(int checks) {
+static void test_memory(int which) {
     drain_answer right, answer;
-    const char *name = checks ? "check" : "audit";
+    const char *name = call_names[which];
     long before = held, wants = 0;
     calls = 0;
-    call(checks, &right);
+    call(which, &right);
     long requests = calls;
     judge(held == before, "%s: %ld blocks are left", name, held - before);
     judge(requests > 5, "%s: %ld requests for memory", name, requests);
@@ -271,7 +318,7 @@ static void test_memory(int checks) {
         for (long at = 0; at < requests; at++) {
             only_one = alone;
             granted = at;
-            call(checks, &answer);
+            call(which, &answer);
             granted = -1;
             int failed_well = says(&answer, DRAIN_FAILED, "failed OutOfMemory") && !answer.rule && !answer.row && !answer.col;
             wants += failed_well;
@@ -279,7 +326,7 @@ static void test_memory(int checks) {
                   alone ? "" : " and all later ones", answer.status, answer.line, held - before);
         }
     judge(wants > 5, "%s: out of memory in %ld answers", name, wants);
-    call(checks, &answer);
+    call(which, &answer);
     judge(!memcmp(&answer, &right, sizeof right), "%s: another answer after refusals", name);
 }
 
@@ -290,17 +337,17 @@ static void *repeat(void *right) {
     long same = 0;
     for (int i = 0; i < ROUNDS; i++) {
         drain_answer answer;
-        call(i % 2, &answer);
-        same += !memcmp(&answer, &((drain_answer *)right)[i % 2], sizeof answer);
+        call(i % CALLS, &answer);
+        same += !memcmp(&answer, &((drain_answer *)right)[i % CALLS], sizeof answer);
     }
     return (void *)same;
 }
 
 static void test_threads(void) {
-    drain_answer right[2];
+    drain_answer right[CALLS];
     pthread_t threads[THREADS];
-    call(0, &right[0]);
-    call(1, &right[1]);
+    for (int i = 0; i < CALLS; i++)
+        call(i, &right[i]);
     for (int i = 0; i < THREADS; i++)
         if (pthread_create(&threads[i], NULL, repeat, right))
             exit(4);
@@ -324,15 +371,20 @@ int main(int argc, char **argv) {
         each[i]->header = read_file(argv[2], names[i][0]);
         each[i]->pixels = read_file(argv[2], names[i][1]);
     }
-    judge(!call(0, &answer) && says(&answer, DRAIN_ACCEPTED, argv[5]) && !answer.rule && !answer.row && !answer.col, "the audit: %.164s", answer.line);
-    judge(call(1, &answer) == DRAIN_REJECTED && answer.status == DRAIN_REJECTED && answer.rule, "the check: %.164s", answer.line);
+    judge(!call(AUDIT, &answer) && says(&answer, DRAIN_ACCEPTED, argv[5]) && !answer.rule && !answer.row && !answer.col, "the audit: %.164s", answer.line);
+    judge(call(CHECK, &answer) == DRAIN_REJECTED && answer.status == DRAIN_REJECTED && answer.rule, "the check: %.164s", answer.line);
     test_layout();
     test_rejection();
+    test_choices(argv[5]);
+    test_explanation(argv[5]);
+    test_derivation(argv[5]);
+    test_version();
+    test_arrays(argv[5]);
     test_refusals();
     test_null();
     test_long_headers();
-    test_memory(0);
-    test_memory(1);
+    for (int i = 0; i < CALLS; i++)
+        test_memory(i);
     test_threads();
     printf("%d passed, %d failed\n", passed, failed);
     return failed > 0;

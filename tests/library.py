@@ -1,5 +1,5 @@
 #!/usr/bin/env python3
-"""Tests of libdrain from Python: where the members of an answer lie, a rejection, and NULL for bytes.
+"""Tests of libdrain from Python: where the members of an answer lie, each call once or more, and arrays.
 
 Usage: tests/library.py LIBDRAIN.so    (the repository's examples and samples are read)
 
@@ -50,6 +50,70 @@ def is_rejection_right(drain: judge.Drain) -> bool:
     return answer == judge.Answer(1, 13, 3, 7, "rejected rule=13 Accumulation row=3 col=7")
 
 
+def are_choices_right(drain: judge.Drain) -> bool:
+    """Each choice of rasters accepts the set, and another is refused."""
+    rasters = dict(zip(judge.AUDITED, read_rasters()))
+    lines = {
+        names: drain.audit_only(SIDE, [TILE], {name: rasters[name] for name in names.split()}).line
+        for names in ("con", "con dir", "con dir acc", "con dir bas", "con dir acc bas", "dir", "con acc")
+    }
+    surface = "accepted rows=51 cols=51 data=2601 raised=59"
+    whole = surface + " outlets=10"
+    return list(lines.values()) == [surface, whole, whole, whole, whole, "refused BadChoice", "refused BadChoice"]
+
+
+def is_explanation_right(drain: judge.Drain) -> bool:
+    """A wrong count at row 3, column 7 breaks rule 13 there and at the cell south of it, to which that one flows."""
+    rasters = dict(zip(judge.AUDITED, read_rasters()))
+    wrong = bytearray(rasters["acc"][1])
+    wrong[4 * (3 * SIDE + 7)] += 1
+    rasters["acc"] = (rasters["acc"][0], bytes(wrong))
+    drawn = bytearray(SIDE * SIDE)
+    answer, faults = drain.explain(SIDE, [TILE], rasters, drawn)
+    found = [(rule + 1, cells.cells, cells.row, cells.col) for rule, cells in enumerate(faults.rules) if cells.cells]
+    cells = [divmod(place, SIDE) for place, number in enumerate(drawn) if number]
+    short, _ = drain.explain(SIDE, [TILE], rasters, bytearray(SIDE * SIDE - 1))
+    return (
+        answer.line == "rejected rule=13 Accumulation row=3 col=7"
+        and found == [(13, 2, 3, 7)]
+        and cells == [(3, 7), (4, 7)]
+        and short == judge.Answer(2, 0, 0, 0, "refused BadMapLength")
+    )
+
+
+def is_derivation_right(drain: judge.Drain) -> bool:
+    """The set's own counts follow from its directions, and a check accepts what was derived."""
+    con, dir_, (header, counts), _ = read_rasters()
+    acc, bas, rnk = (bytearray(4 * SIDE * SIDE) for _ in range(3))
+    answer = drain.derive(SIDE, [TILE], dir_, acc, bas, rnk)
+    without = header[:header.index(b"NODATA")]
+    checked = drain.check(SIDE, [TILE], [con, dir_, *((without, bytes(numbers)) for numbers in (acc, bas, rnk))])
+    short = drain.derive(SIDE, [TILE], dir_, acc, bas, rnk[:-4])
+    return (
+        answer == judge.Answer(0, 0, 0, 0, "derived rows=51 cols=51")
+        and bytes(acc) == counts
+        and checked.line == "accepted rows=51 cols=51 data=2601 raised=59 outlets=10"
+        and short.line == "refused BadRasterLength"
+    )
+
+
+def are_arrays_right(drain: judge.Drain) -> bool:
+    """The set as arrays of rows by columns is accepted, con with the high byte first."""
+    kinds = {1: "B", 2: "h", 4: "I"}
+    arrays = [memoryview(pixels).cast(kinds[len(pixels) // SIDE**2], (SIDE, SIDE)) for _, pixels in read_rasters()]
+    turned = ((ctypes.c_int16.__ctype_be__ * SIDE) * SIDE)(*(tuple(row) for row in arrays[0].tolist()))
+    given = [
+        judge.raster_of(array, nodata, SIDE, [TILE[0]])
+        for array, nodata in zip([turned, *arrays[1:]], (-32768, 255, 0, 0))
+    ]
+    return drain.audit(SIDE, [TILE], given).line == "accepted rows=51 cols=51 data=2601 raised=59 outlets=10"
+
+
+def is_version_right(drain: judge.Drain) -> bool:
+    """Whether the library has the version that the program prints."""
+    return f"drain {drain.version()}\n" == (ROOT / "tests/program/expected/version.txt").read_text()
+
+
 def line_with(drain: judge.Drain, data: judge.Bytes) -> str:
     """The line of an audit that is passed these bytes for the pixels of bas."""
     tile = judge.Pair(TILE[0].encode(), TILE[1])
@@ -65,6 +129,11 @@ def main(path: str) -> int:
     tests = {
         "where members lie": is_layout_right(drain),
         "a rejection": is_rejection_right(drain),
+        "choices of rasters": are_choices_right(drain),
+        "an explanation": is_explanation_right(drain),
+        "a derivation": is_derivation_right(drain),
+        "arrays": are_arrays_right(drain),
+        "the version": is_version_right(drain),
         "NULL for no bytes": line_with(drain, judge.Bytes(None)) == "refused RasterShort bas",
         "NULL for 5 bytes": line_with(drain, judge.Bytes(None, 5)) == "refused NullBytes",
     }

@@ -3,6 +3,7 @@
 use crate::{explain_texts, help_texts, window_texts};
 use clap::builder::ValueParser;
 use clap::{Arg, ArgAction, Command};
+use drain_version::VERSION;
 use std::alloc::{AllocError, Global};
 
 /// A command: its name, its help texts, and its arguments, in the order of its help.
@@ -37,10 +38,6 @@ enum ArgSpec {
 pub(crate) const DEFAULT_SIDE: u32 = 1201;
 
 const DEFAULT_SIDE_TEXT: &str = "1201";
-
-/// The program's version, and the logic of the toolchain that its sources are written for, as `rt version` names it.
-const VERSION: &str = "0.1.0
-logic dac8208d650f15bf";
 
 pub(crate) const AUDIT: CommandSpec = CommandSpec {
     name: "audit",

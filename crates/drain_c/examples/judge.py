@@ -10,7 +10,7 @@ from __future__ import annotations
 
 import ctypes
 import sys
-from collections.abc import Sequence
+from collections.abc import Mapping, Sequence
 from dataclasses import dataclass
 from pathlib import Path
 
@@ -43,6 +43,18 @@ class RawAnswer(ctypes.Structure):
     _fields_ = [(name, ctypes.c_uint32) for name in ("status", "rule", "row", "col")] + [("line", ctypes.c_char * 164)]
 
 
+class FaultCells(ctypes.Structure):
+    """drain_fault_cells: at how many cells a rule fails, and the first."""
+
+    _fields_ = [(name, ctypes.c_uint32) for name in ("cells", "row", "col")]
+
+
+class Faults(ctypes.Structure):
+    """drain_faults: rules[12] is rule 13."""
+
+    _fields_ = [("rules", FaultCells * 15)]
+
+
 @dataclass(frozen=True)
 class Answer:
     """The status (0 accepted, 1 rejected, 2 refused, 3 failed), the rule and the cell of a rejection, the line."""
@@ -59,17 +71,59 @@ class Drain:
 
     def __init__(self, path: str) -> None:
         self._library = ctypes.CDLL(path)
-        for function in (self._library.drain_audit, self._library.drain_check):
-            function.restype = ctypes.c_uint32
-            function.argtypes = [
-                ctypes.c_uint32, ctypes.POINTER(Pair), ctypes.c_size_t, ctypes.c_char_p, ctypes.c_size_t,
-                ctypes.c_void_p, ctypes.POINTER(RawAnswer),
-            ]
+        given = [
+            ctypes.c_uint32, ctypes.POINTER(Pair), ctypes.c_size_t, ctypes.c_char_p, ctypes.c_size_t, ctypes.c_void_p,
+        ]
+        answer = ctypes.POINTER(RawAnswer)
+        self._library.drain_audit.argtypes = [*given, answer]
+        self._library.drain_check.argtypes = [*given, answer]
+        self._library.drain_audit_only.argtypes = [*given, ctypes.c_uint32, answer]
+        self._library.drain_explain.argtypes = [
+            *given, ctypes.c_uint32, ctypes.c_void_p, ctypes.c_size_t, ctypes.POINTER(Faults), answer,
+        ]
+        rasters = [ctypes.c_void_p, ctypes.c_size_t] * 3
+        self._library.drain_derive.argtypes = [*given[:3], ctypes.POINTER(Pair), *rasters, answer]
+        for name in ("audit", "check", "audit_only", "explain", "derive"):
+            getattr(self._library, "drain_" + name).restype = ctypes.c_uint32
+        self._library.drain_version.argtypes = [ctypes.c_char_p, ctypes.c_size_t]
+        self._library.drain_version.restype = ctypes.c_size_t
+
+    def version(self) -> str:
+        """The version, and the logic of the toolchain in a second line."""
+        text = ctypes.create_string_buffer(256)
+        self._library.drain_version(text, 256)
+        return text.value.decode("ascii")
 
     def audit(self, side: int, tiles: Sequence[tuple[str, bytes]], rasters: Sequence[tuple[bytes, bytes]],
               sinks: bytes = b"") -> Answer:
         """Audits con, dir, acc and bas, each a header and pixels, for tiles, each a name and samples."""
         return self._call(self._library.drain_audit, len(AUDITED), side, tiles, rasters, sinks)
+
+    def audit_only(self, side: int, tiles: Sequence[tuple[str, bytes]], rasters: Mapping[str, tuple[bytes, bytes]],
+                   sinks: bytes = b"") -> Answer:
+        """Audits some rasters, by name: con, con and dir, these with acc or with bas, or all four."""
+        return self._call(self._library.drain_audit_only, len(AUDITED), side, tiles, *choice_of(rasters, sinks))
+
+    def explain(self, side: int, tiles: Sequence[tuple[str, bytes]], rasters: Mapping[str, tuple[bytes, bytes]],
+                fault_map, sinks: bytes = b"") -> tuple[Answer, Faults]:
+        """The same with what explains it. fault_map: a bytearray or an array of a byte for each cell, to be written."""
+        cells = memoryview(fault_map).nbytes
+        place = (ctypes.c_uint8 * cells).from_buffer(fault_map)
+        faults = Faults()
+        more = (place, cells, ctypes.byref(faults))
+        answer = self._call(self._library.drain_explain, len(AUDITED), side, tiles, *choice_of(rasters, sinks), *more)
+        return answer, faults
+
+    def derive(self, side: int, tiles: Sequence[tuple[str, bytes]], directions: tuple[bytes, bytes],
+               *rasters) -> Answer:
+        """Writes acc, bas and rnk of directions into three arrays of an unsigned number of 32 bits for each cell."""
+        places = []
+        for numbers in rasters:
+            count = memoryview(numbers).nbytes // 4
+            places += [(ctypes.c_uint32 * count).from_buffer(numbers), count]
+        raw = RawAnswer()
+        self._library.drain_derive(side, tiles_of(tiles), len(tiles), Pair(*directions), *places, raw)
+        return answer_of(raw)
 
     def check(self, side: int, tiles: Sequence[tuple[str, bytes]], rasters: Sequence[tuple[bytes, bytes]],
               sinks: bytes = b"") -> Answer:
@@ -78,15 +132,56 @@ class Drain:
 
     @staticmethod
     def _call(function, count: int, side: int, tiles: Sequence[tuple[str, bytes]],
-              rasters: Sequence[tuple[bytes, bytes]], sinks: bytes) -> Answer:
+              rasters: Sequence[tuple[bytes, bytes]], sinks: bytes, *more) -> Answer:
         if len(rasters) != count:
             raise ValueError(f"{count} rasters are needed")
-        # An array of no tiles still has an address, which C needs.
-        given = (Pair * max(len(tiles), 1))(*(Pair(name.encode(), samples) for name, samples in tiles))
         products = (Pair * count)(*(Pair(header, pixels) for header, pixels in rasters))
         raw = RawAnswer()
-        function(side, given, len(tiles), sinks, len(sinks), products, raw)
-        return Answer(raw.status, raw.rule, raw.row, raw.col, raw.line.decode("ascii"))
+        function(side, tiles_of(tiles), len(tiles), sinks, len(sinks), products, *more, raw)
+        return answer_of(raw)
+
+
+def tiles_of(tiles: Sequence[tuple[str, bytes]]) -> ctypes.Array:
+    """The tiles for C. An array of none still has an address, which C needs."""
+    return (Pair * max(len(tiles), 1))(*(Pair(name.encode(), samples) for name, samples in tiles))
+
+
+def answer_of(raw: RawAnswer) -> Answer:
+    """The answer that C wrote."""
+    return Answer(raw.status, raw.rule, raw.row, raw.col, raw.line.decode("ascii"))
+
+
+def choice_of(rasters: Mapping[str, tuple[bytes, bytes]], sinks: bytes) -> tuple[list[tuple[bytes, bytes]], bytes, int]:
+    """The four rasters, with none for those that aren't judged, the sinks, and the number of the choice."""
+    judged = sum(1 << AUDITED.index(name) for name in rasters)
+    return [rasters.get(name, (b"", b"")) for name in AUDITED], sinks, judged
+
+
+def raster_of(array, nodata: int, side: int, tiles: Sequence[str]) -> tuple[bytes, bytes]:
+    """Header and pixels of an array of rows by columns, as of numpy, that lies where the tiles of these names do.
+
+    Its numbers are whole ones of 8, 16 or 32 bits, in either order of bytes.
+    """
+    view = memoryview(array)
+    rows, cols = view.shape
+    kind = view.format[-1]
+    if kind.lower() not in "bhilq":
+        raise ValueError(f"not whole numbers: {view.format}")
+    corners = [(int(name[4:7]) * (1 if name[3] in "Ee" else -1), int(name[1:3]) * (1 if name[0] in "Nn" else -1))
+               for name in tiles]
+    lines = [
+        f"BYTEORDER {'M' if view.format[0] in '>!' else 'I'}",
+        f"NROWS {rows}",
+        f"NCOLS {cols}",
+        f"NBITS {8 * view.itemsize}",
+        f"PIXELTYPE {'SIGNEDINT' if kind.islower() else 'UNSIGNEDINT'}",
+        f"ULXMAP {min(west for west, _ in corners)}",
+        f"ULYMAP {max(south for _, south in corners) + 1}",
+        f"XDIM {1 / (side - 1):.15f}",
+        f"YDIM {1 / (side - 1):.15f}",
+        f"NODATA {nodata}",
+    ]
+    return "\n".join(lines).encode(), view.tobytes()
 
 
 def main(words: Sequence[str]) -> int:

@@ -1,8 +1,8 @@
 /* libdrain: whether drainage rasters are correct for the elevation tiles that they were made from.
  *
- * Two functions judge, each proved to give the right answer to the bytes that it is passed (the contracts are in
- * crates/drain_c/src/exported_audit.rt and exported_check.rt). They read memory only: no file, no output, no state
- * between calls. A third says where the members of an answer lie.
+ * The functions are proved to give the right answer to the bytes that they are passed: the contract of drain_NAME is
+ * in crates/drain_c/src/exported_NAME.rt. They read memory only: no file, no output, no state between calls. The last
+ * ones say where members lie.
  *
  * What is proved holds where the caller keeps the rules below. Nothing checks a caller in C.
  *
@@ -12,9 +12,11 @@
  * Memory. The library reads samples and pixels where they lie, and copies names and headers. Of a header it reads and
  *   copies at most 65,537 bytes. It keeps nothing after it returns. It calls malloc, realloc and free, which align and
  *   behave as the C standard says. An audit takes a byte for each cell, beside some rows, the labels of outlets and the
- *   list of sinks; a check takes those alone.
- *   *answer overlaps no other argument, and nothing else writes to any argument during a call.
- * Threads. Calls may run at the same time, each with an answer of its own. Call neither function from a signal handler,
+ *   list of sinks; a check takes those alone; an audit of con alone takes the elevations, con and a flood;
+ *   an explanation takes a byte for each cell more.
+ *   What a call writes (*answer, a map, *faults, rasters, a text) overlaps no other argument, and nothing else writes
+ *   to any argument during a call.
+ * Threads. Calls may run at the same time, each with an answer of its own. Call no function from a signal handler,
  *   nor in a child that was forked while several threads ran.
  * Machine. x86-64-v2 or newer, Linux. The library doesn't test the processor.
  */
@@ -23,6 +25,7 @@
 
 #include <stddef.h>
 #include <stdint.h>
+#include <stdio.h>
 
 #ifdef __cplusplus
 extern "C" {
@@ -71,9 +74,9 @@ typedef struct drain_check_rasters {
 
 /* The statuses: those that the program `drain` exits with. */
 enum {
-    DRAIN_ACCEPTED = 0, /* of an audit: the rasters are correct; of a check: correct, and the ranks show it */
+    DRAIN_ACCEPTED = 0, /* of an audit: the rasters are correct; of a check: correct, and the ranks show it; derived */
     DRAIN_REJECTED = 1, /* of an audit: the rasters aren't correct; of a check: or the ranks don't show it */
-    DRAIN_REFUSED = 2,  /* no verdict: the side, a name, a header, a length, a seam, the list of sinks, or NULL */
+    DRAIN_REFUSED = 2,  /* no verdict: the side, a name, a header, a length, a seam, the list of sinks, NULL, .. */
     DRAIN_FAILED = 3    /* out of memory; the contracts allow a failed read too, which memory never gives */
 };
 
@@ -83,7 +86,8 @@ enum { DRAIN_LINE_SIZE = 164 };
 /* An answer. Every member is written by each call. */
 typedef struct drain_answer {
     uint32_t status; /* one of the statuses above */
-    uint32_t rule;   /* where a rule fails: its number, 1 to 15 (docs/RULES.md); else 0, also where a path doesn't end */
+    uint32_t rule;   /* where a rule fails: its number, 1 to 15 (docs/RULES.md); else 0, also where a path doesn't end
+                      * or con alone isn't filled */
     uint32_t row;    /* of a rejection: the cell's row, from 0 at the north; else 0 */
     uint32_t col;    /* of a rejection: the cell's column, from 0 at the west; else 0 */
     char line[DRAIN_LINE_SIZE]; /* the line that the program `drain` prints, in ASCII, without a line end */
@@ -98,15 +102,74 @@ typedef struct drain_answer {
 uint32_t drain_audit(uint32_t side, const drain_tile *tiles, size_t tile_count, const uint8_t *sinks,
                      size_t sinks_length, const drain_audit_rasters *rasters, drain_answer *answer);
 
+/* Which rasters are judged: the sum of theirs. No other sum can be judged alone. */
+enum {
+    DRAIN_CON = 1,
+    DRAIN_CON_DIR = 3,
+    DRAIN_CON_DIR_ACC = 7,
+    DRAIN_CON_DIR_BAS = 11,
+    DRAIN_ALL = 15
+};
+
+/* Whether the judged rasters are right for the tiles: part of a correct set. judged: one of the numbers above, else
+ * the answer is `refused BadChoice`. The other rasters aren't read: make each by drain_no_raster(). The other arguments
+ * are those of drain_audit. With status 1 the rule is 0 where a path doesn't end, and of con alone where a cell is
+ * below the filled surface.
+ * Returns answer->status. */
+uint32_t drain_audit_only(uint32_t side, const drain_tile *tiles, size_t tile_count, const uint8_t *sinks,
+                          size_t sinks_length, const drain_audit_rasters *rasters, uint32_t judged,
+                          drain_answer *answer);
+
 /* Whether ranks show that the rasters are correct for the tiles. The arguments are those of drain_audit.
  * Returns answer->status. */
 uint32_t drain_check(uint32_t side, const drain_tile *tiles, size_t tile_count, const uint8_t *sinks,
                      size_t sinks_length, const drain_check_rasters *rasters, drain_answer *answer);
 
+/* The cells at which a rule fails: how many, and the first in row order. Zeros where there is none. */
+typedef struct drain_fault_cells {
+    uint32_t cells;
+    uint32_t row;
+    uint32_t col;
+} drain_fault_cells;
+
+/* These of each rule, in the order of their numbers: rules[12] is rule 13. Zeros too where a rule isn't tried: rules 6
+ * to 8, and those about a raster that isn't judged. */
+typedef struct drain_faults {
+    drain_fault_cells rules[15];
+} drain_faults;
+
+/* The answer of drain_audit_only with what explains it. map: rows * cols bytes, map_length of them, row by row from the
+ * north: of each cell the number of the least rule that fails there, else 0, or 255 at a void; what
+ * `drain explain --map` writes. With another length, where the inputs aren't refused, the answer is
+ * `refused BadMapLength`. With status 2 or 3 neither map nor *faults is written; map is never NULL.
+ * Returns answer->status. */
+uint32_t drain_explain(uint32_t side, const drain_tile *tiles, size_t tile_count, const uint8_t *sinks,
+                       size_t sinks_length, const drain_audit_rasters *rasters, uint32_t judged, uint8_t *map,
+                       size_t map_length, drain_faults *faults, drain_answer *answer);
+
+/* Accumulation, basin labels and ranks that follow from directions: what `drain derive` writes. dir: the raster of
+ * directions. acc, bas, rnk: memory for rows * cols numbers each, row by row from the north; ..count of them, and no
+ * address is NULL. A void has 0 in acc and bas, and 4294967295 in rnk. With another count, where the inputs aren't
+ * refused and every path ends, the answer is `refused BadRasterLength`. With status 0 the line is
+ * `derived rows=R cols=C`; with status 1 it is `rejected NoEnd row=R col=C`, the first cell whose path doesn't end. With
+ * another status than 0 no number is written. It takes 14 bytes for each cell.
+ * Returns answer->status. */
+uint32_t drain_derive(uint32_t side, const drain_tile *tiles, size_t tile_count, const drain_raster *dir,
+                      uint32_t *acc, size_t acc_count, uint32_t *bas, size_t bas_count, uint32_t *rnk,
+                      size_t rnk_count, drain_answer *answer);
+
+/* Writes the version of the library, as `drain --version` prints it after the name: two lines, the version and the
+ * logic of the toolchain, without a last line end. text is never NULL; as many bytes are written as there is room for,
+ * and zeros behind them. Returns how many bytes the version has. */
+size_t drain_version(uint8_t *text, size_t room);
+
 /* Writes to each number of an answer its place in the struct, 0, 4, 8 and 12, and 255 to each byte of the line. A
  * caller with a declaration of its own, as in another language, can compare. It writes 180 bytes, the size that it
  * returns. */
 size_t drain_answer_layout(drain_answer *answer);
+
+/* The same of faults: for rules[i] the places 12 * i, 12 * i + 4 and 12 * i + 8, and the size 180. */
+size_t drain_faults_layout(drain_faults *faults);
 
 /* These bytes. NULL with length 0 is no bytes; NULL with another length is refused by the call that is passed it. */
 static inline drain_bytes drain_bytes_of(const void *at, size_t length) {
@@ -115,6 +178,46 @@ static inline drain_bytes drain_bytes_of(const void *at, size_t length) {
     bytes.length = at ? length : 0;
     bytes.missing = at ? 0 : length;
     return bytes;
+}
+
+/* Pixels in memory without a header: rows by columns, row by row from the north, without gaps between rows. bits: 8, 16
+ * or 32. */
+typedef struct drain_array {
+    const void *pixels;
+    uint32_t rows;
+    uint32_t cols;
+    uint32_t bits;
+    int is_signed;
+    int high_byte_first;
+    int64_t nodata; /* the no-data number */
+} drain_array;
+
+/* The bytes for the text of their header. */
+enum { DRAIN_HEADER_SIZE = 400 };
+
+/* These pixels as a raster. Its header is written into text, which has to last as long. west, north: the least
+ * longitude and the greatest latitude of the mosaic, in whole degrees. Tested, not proved; the library reads the text. */
+static inline drain_raster drain_raster_of(const drain_array *array, uint32_t side, int west, int north,
+                                           char text[DRAIN_HEADER_SIZE]) {
+    unsigned long long unit = 1000000000000000ull, spacing = unit / (side > 1 ? side - 1 : 1);
+    drain_raster raster;
+    int length = snprintf(text, DRAIN_HEADER_SIZE,
+                          "BYTEORDER %c\nNROWS %lu\nNCOLS %lu\nNBITS %lu\nPIXELTYPE %s\nULXMAP %d\nULYMAP %d\n"
+                          "XDIM %llu.%015llu\nYDIM %llu.%015llu\nNODATA %lld\n",
+                          array->high_byte_first ? 'M' : 'I', (unsigned long)array->rows, (unsigned long)array->cols,
+                          (unsigned long)array->bits, array->is_signed ? "SIGNEDINT" : "UNSIGNEDINT", west, north,
+                          spacing / unit, spacing % unit, spacing / unit, spacing % unit, (long long)array->nodata);
+    raster.header = drain_bytes_of(text, length < 0 ? 0 : (size_t)length);
+    raster.pixels = drain_bytes_of(array->pixels, (size_t)array->rows * array->cols * (array->bits / 8));
+    return raster;
+}
+
+/* No raster, in the place of one that isn't judged. */
+static inline drain_raster drain_no_raster(void) {
+    drain_raster raster;
+    raster.header = drain_bytes_of(NULL, 0);
+    raster.pixels = drain_bytes_of(NULL, 0);
+    return raster;
 }
 
 #ifdef __cplusplus

@@ -1,3 +1,6 @@
+pub mod Choices
+pub mod Derivations
+pub mod Explained
 pub mod GivenInputs
 pub mod LongHeaders
 pub mod Spelling

@@ -13,7 +13,7 @@ use Rattle.drain_grid.specs.SetProduct.{OfSetProduct, product_of, place_of}
 use Rattle.drain_text.specs.First.{IsBefore, IsFirst}
 use Rattle.drain_text.specs.Text.{lines_of}
 use Rattle.drain_header.specs.declared.fault.HeaderFault.{HeaderFault}
-use Rattle.drain_header.specs.declared.fault.HeaderFault.TheVariants.{TooLong}
+use Rattle.drain_header.specs.declared.fault.HeaderFault.TheVariants.{TooLong, RepeatedKey, BadValue, MissingKey, NotOneBand, BadBits, BadPixelType, RowTooShort}
 use Rattle.drain_header.specs.Header.{header_of}
 use Rattle.drain_header.specs.Faults.{fault_order, HasFault, Answers}
 use Rattle.drain_hgt.specs.Corner.{Corner}
@@ -21,19 +21,28 @@ use Rattle.drain_hgt.specs.Samples.{IsTile}
 use Rattle.drain_raster.specs.Pixels.{header_extent, IsShort}
 use Rattle.drain_mosaic.specs.Tiling.{extent_of}
 use Rattle.drain_grid.specs.declared.verdict.Verdict.{Verdict}
+use Rattle.drain_grid.specs.declared.judged.Judged.{Judged}
 use Rattle.drain_answer.specs.declared.audit_verdict.AuditVerdict.{AuditVerdict}
+use Rattle.drain_answer.specs.declared.outcome.Outcome.{Outcome}
 use Rattle.drain_answer.specs.declared.refusal.Refusal.{Refusal}
 use Rattle.drain_answer.specs.declared.refusal.Refusal.TheVariants.{BadSide, BadName, NoTiles, RepeatedTile, BoxTooLarge, BadHeader, WrongShape, Misplaced, BadTileLength, RasterShort, SeamMismatch, BadSinkLine, SinkNotData, OutOfMemory, ReadFailed}
 use Rattle.drain_verdict.specs.Answers.{AreReadable, IsAnswer, IsRefusal}
 use Rattle.drain_verdict.specs.Audits.{IsAuditAnswer}
 use Rattle.drain_verdict.specs.Inputs.{Inputs}
 use Rattle.drain_verdict.specs.Meaning.{tiling_of}
+use Rattle.drain_verdict.specs.Outcomes.{IsOutcomeAnswer}
 use Rattle.drain_verdict.specs.Refusals.{Stands, refusal_order, HasBadLength, IsPlaced}
 
 -- nothing comes before a text that is too long
 none_earlier : (b : HeaderFault) → IsBefore (fault_order b) (1, 0) → ⊥
 none_earlier TooLong before = elim before [ inl lower ↦ omega (arith, lower) | inr same ↦ omega (arith, same.1) ]
-none_earlier b before = elim before [ inl lower ↦ omega (arith, lower) | inr same ↦ omega (arith, same.1) ]
+none_earlier (RepeatedKey n) before = elim before [ inl lower ↦ omega (arith, lower) | inr same ↦ omega (arith, same.1) ]
+none_earlier (BadValue n) before = elim before [ inl lower ↦ omega (arith, lower) | inr same ↦ omega (arith, same.1) ]
+none_earlier (MissingKey key) before = elim before [ inl lower ↦ omega (arith, lower) | inr same ↦ omega (arith, same.1) ]
+none_earlier NotOneBand before = elim before [ inl lower ↦ omega (arith, lower) | inr same ↦ omega (arith, same.1) ]
+none_earlier BadBits before = elim before [ inl lower ↦ omega (arith, lower) | inr same ↦ omega (arith, same.1) ]
+none_earlier BadPixelType before = elim before [ inl lower ↦ omega (arith, lower) | inr same ↦ omega (arith, same.1) ]
+none_earlier RowTooShort before = elim before [ inl lower ↦ omega (arith, lower) | inr same ↦ omega (arith, same.1) ]
 
 too_long : (text : List ℕ) → 65536 < length text → IsFirst fault_order (HasFault text) TooLong
 too_long text long = record { holds = long; first = λ b before has. none_earlier b before }
@@ -41,7 +50,13 @@ too_long text long = record { holds = long; first = λ b before has. none_earlie
 -- of a text that is too long that is the one fault
 only_too_long : (text : List ℕ) (fault : HeaderFault) → 65536 < length text → IsFirst fault_order (HasFault text) fault → fault ≡ TooLong
 only_too_long text TooLong long is = refl
-only_too_long text fault long is = absurd (is.first TooLong (inl (omega arith)) long)
+only_too_long text (RepeatedKey n) long is = absurd (is.first TooLong (inl (omega arith)) long)
+only_too_long text (BadValue n) long is = absurd (is.first TooLong (inl (omega arith)) long)
+only_too_long text (MissingKey key) long is = absurd (is.first TooLong (inl (omega arith)) long)
+only_too_long text NotOneBand long is = absurd (is.first TooLong (inl (omega arith)) long)
+only_too_long text BadBits long is = absurd (is.first TooLong (inl (omega arith)) long)
+only_too_long text BadPixelType long is = absurd (is.first TooLong (inl (omega arith)) long)
+only_too_long text RowTooShort long is = absurd (is.first TooLong (inl (omega arith)) long)
 
 -- a text is its first bytes, or both are too long
 record IsLong (text : List ℕ) : Type 0 where
@@ -80,7 +95,20 @@ IsRasterShort i h text = IsShort (header_of (lines_of text)) (i.raster h)
 
 same_order : (i : Inputs) (refusal : Refusal) → refusal_order (cut i) refusal ≡ refusal_order i refusal
 same_order i BadSide = refl
-same_order i refusal = refl
+same_order i (BadName k) = refl
+same_order i NoTiles = refl
+same_order i (RepeatedTile c) = refl
+same_order i BoxTooLarge = refl
+same_order i (BadHeader p fault) = refl
+same_order i (WrongShape p) = refl
+same_order i (Misplaced p) = refl
+same_order i (BadTileLength c) = refl
+same_order i (RasterShort p) = refl
+same_order i (SeamMismatch c) = refl
+same_order i (BadSinkLine n) = refl
+same_order i (SinkNotData n) = refl
+same_order i OutOfMemory = refl
+same_order i ReadFailed = refl
 
 -- the held product of which a fact is
 record Held (P : SetProduct → Type 0) (p : Product) : Type 0 where
@@ -98,7 +126,10 @@ held_of P product.Spl fact = absurd fact
 
 of_product : (P : SetProduct → Type 0) (h : SetProduct) → P h → OfSetProduct P (product_of h)
 of_product P held.Con fact = fact
-of_product P h fact = fact
+of_product P held.Dir fact = fact
+of_product P held.Acc fact = fact
+of_product P held.Bas fact = fact
+of_product P held.Rnk fact = fact
 
 of_held : (P : SetProduct → Type 0) (p : Product) → Held P p → OfSetProduct P p
 of_held P p h = subst (OfSetProduct P) (sym h.is) (of_product P h.held h.holds)
@@ -151,8 +182,11 @@ of_header i refusal p Q stands no_later fact =
     ]
 
 earlier : (i : Inputs) (refusal : Refusal) → Stands i refusal → Earlier i refusal
+earlier i BadSide stands = itself i BadSide stands
 earlier i (BadName k) stands = itself i (BadName k) stands
+earlier i NoTiles stands = itself i NoTiles stands
 earlier i (RepeatedTile c) stands = itself i (RepeatedTile c) stands
+earlier i BoxTooLarge stands = itself i BoxTooLarge stands
 earlier i (BadHeader p fault) stands = of_header i (BadHeader p fault) p (λ h text. Answers text (Err fault)) (λ s. s) (inr (refl, omega arith)) stands
 earlier i (WrongShape p) stands = of_header i (WrongShape p) p (HasOtherShape i) (λ s. s) (inr (refl, omega arith)) stands
 earlier i (Misplaced p) stands = of_header i (Misplaced p) p (LiesElsewhere i) (λ s. s) (inr (refl, omega arith)) stands
@@ -163,7 +197,6 @@ earlier i (BadSinkLine n) stands = itself i (BadSinkLine n) stands
 earlier i (SinkNotData n) stands = itself i (SinkNotData n) stands
 earlier i OutOfMemory stands = absurd stands
 earlier i ReadFailed stands = absurd stands
-earlier i refusal stands = itself i refusal stands
 
 -- what applies to the first bytes of a header that isn't too long applies to the header
 of_first_bytes : (i : Inputs) (p : Product) (Q : SetProduct → List ℕ → Type 0) → (Stands (cut i) (BadHeader p TooLong) → ⊥) →
@@ -200,9 +233,11 @@ first_applies i (WrongShape p) stands first = of_first_bytes i p (HasOtherShape 
 first_applies i (Misplaced p) stands first = of_first_bytes i p (LiesElsewhere i) (first (BadHeader p TooLong) (inr (refl, omega arith))) stands
 first_applies i (BadTileLength c) stands first = other_length (cut i) i c refl refl refl stands
 first_applies i (RasterShort p) stands first = of_first_bytes i p (IsRasterShort i) (first (BadHeader p TooLong) (inl (omega arith))) stands
+first_applies i (SeamMismatch c) stands first = stands
+first_applies i (BadSinkLine n) stands first = stands
+first_applies i (SinkNotData n) stands first = stands
 first_applies i OutOfMemory stands first = absurd stands
 first_applies i ReadFailed stands first = absurd stands
-first_applies i refusal stands first = stands
 
 -- the first refusal of the first bytes is that of the inputs
 first_kept : (i : Inputs) (refusal : Refusal) → IsFirst (refusal_order (cut i)) (Stands (cut i)) refusal → IsFirst (refusal_order i) (Stands i) refusal
@@ -216,9 +251,12 @@ first_kept i refusal is =
           first e.other (sooner (refusal_order i e.other) (refusal_order i b) (refusal_order i refusal) e.no_later before) e.stands);
     }
 
-refusal_kept : (i : Inputs) (refusal : Refusal) → IsRefusal (cut i) refusal → IsRefusal i refusal
+pub refusal_kept : (i : Inputs) (refusal : Refusal) → IsRefusal (cut i) refusal → IsRefusal i refusal
+refusal_kept i BadSide is = first_kept i BadSide is
 refusal_kept i (BadName k) is = first_kept i (BadName k) is
+refusal_kept i NoTiles is = first_kept i NoTiles is
 refusal_kept i (RepeatedTile c) is = first_kept i (RepeatedTile c) is
+refusal_kept i BoxTooLarge is = first_kept i BoxTooLarge is
 refusal_kept i (BadHeader p fault) is = first_kept i (BadHeader p fault) is
 refusal_kept i (WrongShape p) is = first_kept i (WrongShape p) is
 refusal_kept i (Misplaced p) is = first_kept i (Misplaced p) is
@@ -229,7 +267,6 @@ refusal_kept i (BadSinkLine n) is = first_kept i (BadSinkLine n) is
 refusal_kept i (SinkNotData n) is = first_kept i (SinkNotData n) is
 refusal_kept i OutOfMemory is = tt
 refusal_kept i ReadFailed is = tt
-refusal_kept i refusal is = first_kept i refusal is
 
 -- where the first bytes are readable, they are the inputs
 pub same_inputs : (i : Inputs) → AreReadable (cut i) → cut i ≡ i
@@ -244,6 +281,10 @@ same_inputs i readable =
 pub audit_kept : (i : Inputs) (answer : Result AuditVerdict Refusal) → IsAuditAnswer (cut i) answer → IsAuditAnswer i answer
 audit_kept i (Ok verdict) is = subst (λ j. IsAuditAnswer j (Ok verdict)) (same_inputs i is.0) is
 audit_kept i (Err refusal) is = refusal_kept i refusal is
+
+pub outcome_kept : (judged : Judged) (i : Inputs) (answer : Result Outcome Refusal) → IsOutcomeAnswer judged (cut i) answer → IsOutcomeAnswer judged i answer
+outcome_kept judged i (Ok outcome) is = subst (λ j. IsOutcomeAnswer judged j (Ok outcome)) (same_inputs i is.0) is
+outcome_kept judged i (Err refusal) is = refusal_kept i refusal is
 
 pub check_kept : (i : Inputs) (answer : Result Verdict Refusal) → IsAnswer (cut i) answer → IsAnswer i answer
 check_kept i (Ok verdict) is = subst (λ j. IsAnswer j (Ok verdict)) (same_inputs i is.0) is

@@ -13,10 +13,8 @@ use Rattle.drain_hgt.specs.Inputs.{names_of, AreBodies}
 use Rattle.drain_grid.specs.declared.verdict.Verdict.{Verdict}
 use Rattle.drain_grid.specs.declared.verdict.Verdict.TheVariants.{Accepted, Rejected}
 use Rattle.drain_rules.specs.Verdicts.{IfAccepted}
-use Rattle.drain_answer.specs.declared.audit_verdict.AuditVerdict.{AuditVerdict}
 use Rattle.drain_answer.specs.declared.refusal.Refusal.{Refusal}
 use Rattle.drain_verdict.specs.Answers.{AreReadable, IsAnswer}
-use Rattle.drain_verdict.specs.Audits.{IsAuditAnswer}
 use Rattle.drain_verdict.specs.Inputs.{Inputs, Tell, Products}
 use Rattle.drain_verdict.specs.Headline.{ForCheck, AcceptedMeans}
 
@@ -73,14 +71,15 @@ readable_bytes Fact bytes_left side given sinks raster tiles ps are_tiles are_ra
     let told = tells bytes_left side given sinks raster tiles ps are_tiles are_rasters i are in
     subst Fact (same_inputs i (readable (cut i) told)) (fact (cut i) told)
 
--- where there is a verdict, the same
-pub of_bytes_if : {R : Type 0} (Fact : AuditVerdict → Inputs → Type 0) (answer : Result AuditVerdict Refusal) (bytes_left : R → Option (List ℕ)) (side : ℕ)
+-- where there is a verdict, the same; such answers are to readable inputs alone
+pub of_bytes_if : {R V : Type 0} (Is : Inputs → Result V Refusal → Type 0) → ((v : V) (i : Inputs) → Is i (Ok v) → AreReadable i) →
+    (Fact : V → Inputs → Type 0) (answer : Result V Refusal) (bytes_left : R → Option (List ℕ)) (side : ℕ)
     (given : List TileBytes) (sinks : List ℕ) (raster : SetProduct → RasterBytes) (tiles : List (TileInput R)) (ps : Products R) →
-    AreTilesOf bytes_left given tiles → AreRastersOf bytes_left raster ps → ForCheck bytes_left side tiles sinks ps (λ i. IsAuditAnswer i answer) →
+    AreTilesOf bytes_left given tiles → AreRastersOf bytes_left raster ps → ForCheck bytes_left side tiles sinks ps (λ i. Is i answer) →
     IfOk answer (λ v. ForCheck bytes_left side tiles sinks ps (Fact v)) → IfOk answer (λ v. OfBytes side given sinks raster (Fact v))
-of_bytes_if Fact (Ok v) bytes_left side given sinks raster tiles ps are_tiles are_rasters is fact =
-    readable_bytes (Fact v) bytes_left side given sinks raster tiles ps are_tiles are_rasters (λ i told. (is i told).0) fact
-of_bytes_if Fact (Err refusal) bytes_left side given sinks raster tiles ps are_tiles are_rasters is fact = tt
+of_bytes_if Is readable Fact (Ok v) bytes_left side given sinks raster tiles ps are_tiles are_rasters is fact =
+    readable_bytes (Fact v) bytes_left side given sinks raster tiles ps are_tiles are_rasters (λ i told. readable v i (is i told)) fact
+of_bytes_if Is readable Fact (Err refusal) bytes_left side given sinks raster tiles ps are_tiles are_rasters is fact = tt
 
 -- if the answer is an acceptance, the same
 pub of_bytes_accepted : {R : Type 0} (Fact : Inputs → Type 0) (answer : Result Verdict Refusal) (bytes_left : R → Option (List ℕ)) (side : ℕ) (given : List TileBytes)

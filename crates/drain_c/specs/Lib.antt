@@ -1,6 +1,10 @@
 pub mod Given
+pub mod Judged
 pub mod Whole
 pub mod Sources
+pub mod Faults
 pub mod Found
 pub mod Shown
+pub mod Explained
+pub mod Derived
 pub mod Laws

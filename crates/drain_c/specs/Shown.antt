@@ -1,8 +1,11 @@
 -- What an answer shows to C.
-use Rattle.std.specs.Prelude.{◌≡◌, ℕ, ◌-◌, List, ◌++◌, length, replicate, codes}
+use Rattle.std.specs.Prelude.{◌≡◌, ℕ, ◌-◌, List, ◌++◌, length, replicate, codes, Result}
 use Rattle.drain_c.specs.declared.answer.Answer.{Answer}
 use Rattle.drain_c.specs.declared.found.Found.{Found}
-use Rattle.drain_c.specs.Found.{status_only}
+use Rattle.drain_c.specs.Found.{outcome_found, status_only}
+use Rattle.drain_answer.specs.OutcomeLines.{outcome_report_line}
+use Rattle.drain_answer.specs.declared.outcome.Outcome.{Outcome}
+use Rattle.drain_answer.specs.declared.refusal.Refusal.{Refusal}
 
 -- these numbers, and this line with zeros behind it
 pub record ShowsAnswer (found : Found) (line : List ℕ) (shown : Answer) : Type 0 where
@@ -15,6 +18,22 @@ pub record ShowsAnswer (found : Found) (line : List ℕ) (shown : Answer) : Type
 -- that bytes are missing: status 2, and the name of the refusal
 abbrev pub ShowsMissing : Answer → Type 0
 ShowsMissing shown = ShowsAnswer (status_only 2) (codes "refused NullBytes") shown
+
+-- that the number names no rasters that can be judged: status 2, and the name of the refusal
+abbrev pub ShowsBadChoice : Answer → Type 0
+ShowsBadChoice shown = ShowsAnswer (status_only 2) (codes "refused BadChoice") shown
+
+-- that the memory for a map has another length than the map
+abbrev pub ShowsBadMap : Answer → Type 0
+ShowsBadMap shown = ShowsAnswer (status_only 2) (codes "refused BadMapLength") shown
+
+-- that the memory for a raster has another length than the raster
+abbrev pub ShowsBadRaster : Answer → Type 0
+ShowsBadRaster shown = ShowsAnswer (status_only 2) (codes "refused BadRasterLength") shown
+
+-- the answer of an audit of some rasters
+abbrev pub ShowsOutcome : Result Outcome Refusal → Answer → Type 0
+ShowsOutcome answer shown = ShowsAnswer (outcome_found answer) (outcome_report_line answer) shown
 
 -- what is shown is an answer of this kind
 pub record Reports {A : Type 0} (Is : A → Type 0) (found : A → Found) (line : A → List ℕ) (shown : Answer) : Type 0 where

@@ -1,9 +1,11 @@
 //! An answer as C reads it: numbers, and the line that the program prints.
 
 ghost use Rattle.std.specs.Prelude.{◌≡◌, ◌-◌, ◌≤◌, ◌++◌, length, replicate};
-ghost use Rattle.drain_c.specs.Shown.{ShowsAnswer, ShowsMissing};
+ghost use Rattle.drain_c.specs.Shown.{ShowsAnswer, ShowsBadChoice, ShowsBadMap, ShowsBadRaster, ShowsMissing, ShowsOutcome};
 
-use crate::found::{Found, status_only};
+use crate::found::{Found, outcome_found, status_only};
+use drain_answer::outcome_report;
+use drain_verdict::{Outcome, Refusal};
 
 /// How many bytes an answer has for its line: 160 at most, and zeros behind it.
 pub const LINE_SIZE: usize = 164;
@@ -38,6 +40,38 @@ pub fn show_missing(answer: &mut Answer)
     ensures { ShowsMissing answer.new }
 {
     show(answer, status_only(2), "refused NullBytes");
+}
+
+/// Says that a number names no rasters that can be judged.
+pub fn show_bad_choice(answer: &mut Answer)
+    ensures { ShowsBadChoice answer.new }
+{
+    show(answer, status_only(2), "refused BadChoice");
+}
+
+/// Says that the memory for a map has another length than the map.
+pub fn show_bad_map(answer: &mut Answer)
+    ensures { ShowsBadMap answer.new }
+{
+    show(answer, status_only(2), "refused BadMapLength");
+}
+
+/// Says that the memory for a raster has another length than the raster.
+pub fn show_bad_raster(answer: &mut Answer)
+    ensures { ShowsBadRaster answer.new }
+{
+    show(answer, status_only(2), "refused BadRasterLength");
+}
+
+/// Writes the answer of an audit of some rasters.
+pub fn show_outcome(outcome: &Result<Outcome, Refusal>, answer: &mut Answer)
+    ensures { ShowsOutcome outcome.now answer.new }
+{
+    show(
+        answer,
+        outcome_found(outcome),
+        outcome_report(outcome).as_str(),
+    );
 }
 
 /// These bytes and zeros behind them.

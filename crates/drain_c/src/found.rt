@@ -1,10 +1,10 @@
 //! An answer in numbers: its status, and where a rule fails.
 
 ghost use Rattle.std.specs.Prelude.{◌≡◌};
-ghost use Rattle.drain_c.specs.Found.{audit_found, check_found, refusal_found, rejection_found, status_only};
+ghost use Rattle.drain_c.specs.Found.{audit_found, check_found, outcome_found, place_found, refusal_found, rejection_found, status_only};
 
 use drain_grid::{Rule, Verdict};
-use drain_verdict::{AuditVerdict, Refusal};
+use drain_verdict::{AuditVerdict, Outcome, Refusal};
 
 /// The status, as the program exits with it; of a rejection the number of the rule that fails, and the cell. What an
 /// answer lacks is 0.
@@ -23,12 +23,22 @@ pub fn audit_found(answer: &Result<AuditVerdict, Refusal>) -> Found
     match answer {
         Ok(AuditVerdict::Accepted(_)) => status_only(0),
         Ok(AuditVerdict::Rejected { rule, row, col }) => rejection_found(*rule, *row, *col),
-        Ok(AuditVerdict::NoEnd { row, col }) => Found {
-            status: 1,
-            rule: 0,
-            row: *row,
-            col: *col,
-        },
+        Ok(AuditVerdict::NoEnd { row, col }) => place_found(*row, *col),
+        Err(refusal) => refusal_found(*refusal),
+    }
+}
+
+/// The numbers of the answer of an audit of some rasters. A path without an end is of no rule, and neither is a cell that
+/// isn't filled: rule 0.
+pub fn outcome_found(answer: &Result<Outcome, Refusal>) -> Found
+    ensures { result ≡ outcome_found answer.now }
+{
+    match answer {
+        Ok(Outcome::Accepted(_)) => status_only(0),
+        Ok(Outcome::AcceptedSurface(_)) => status_only(0),
+        Ok(Outcome::Rejected { rule, row, col }) => rejection_found(*rule, *row, *col),
+        Ok(Outcome::NoEnd { row, col }) => place_found(*row, *col),
+        Ok(Outcome::NotFilled { row, col }) => place_found(*row, *col),
         Err(refusal) => refusal_found(*refusal),
     }
 }
@@ -51,6 +61,18 @@ fn rejection_found(rule: Rule, row: u32, col: u32) -> Found
     Found {
         status: 1,
         rule: u32::from(rule.number()),
+        row,
+        col,
+    }
+}
+
+/// The numbers of a rejection at this cell, by no rule.
+fn place_found(row: u32, col: u32) -> Found
+    ensures { result ≡ place_found row col }
+{
+    Found {
+        status: 1,
+        rule: 0,
         row,
         col,
     }

@@ -1,6 +1,7 @@
 //! The bytes that C passes in: each slice is a pointer and a length there.
 
 /// Bytes. Where C had NULL for them, there are none, and `missing` is how many there should be.
+#[derive(Clone, Copy)]
 #[repr(C)]
 pub struct GivenBytes<'a> {
     pub bytes: &'a [u8],
@@ -15,6 +16,7 @@ pub struct TileBytes<'a> {
 }
 
 /// A raster: the text of its header and the bytes of its pixels.
+#[derive(Clone, Copy)]
 #[repr(C)]
 pub struct RasterBytes<'a> {
     pub header: GivenBytes<'a>,
@@ -22,6 +24,7 @@ pub struct RasterBytes<'a> {
 }
 
 /// The four rasters of an audit.
+#[derive(Clone, Copy)]
 #[repr(C)]
 pub struct AuditBytes<'a> {
     pub con: RasterBytes<'a>,

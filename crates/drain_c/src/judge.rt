@@ -1,16 +1,21 @@
-//! The answers of an audit and of a check to the bytes of a call.
+//! The answers of audits and of a check to the bytes of a call.
 
-ghost use Rattle.std.specs.Prelude.{◌↔◌, IfOk};
+ghost use Rattle.std.specs.Prelude.{◌≡◌, ◌↔◌, IfOk, IsSome, false};
 ghost use Rattle.drain_c.specs.Given.{OfBytes, audit_raster, check_raster};
+ghost use Rattle.drain_answer.specs.Outcomes.{IsAcceptedOutcome};
+ghost use Rattle.drain_explain.specs.Explanations.{AreFindingsOf, answer_in};
+ghost use Rattle.drain_grid.specs.Judged.{has_rnk};
 ghost use Rattle.drain_rules.specs.Verdicts.{IfAccepted};
 ghost use Rattle.drain_verdict.specs.Answers.{IsAnswer};
 ghost use Rattle.drain_verdict.specs.Audits.{AreCorrect, IsAcceptance, IsAuditAnswer};
 ghost use Rattle.drain_verdict.specs.Headline.{IsRight, TilesAreOne, ElevationIsTheirs};
+ghost use Rattle.drain_verdict.specs.Outcomes.{AreJudgedRight, IsOutcomeAnswer};
 
 use crate::given::{AuditBytes, CheckBytes, TileBytes};
 use crate::sources::{audit_inputs, check_inputs, tile_inputs};
-use drain_grid::Verdict;
-use drain_verdict::{AuditVerdict, Refusal, audit, check};
+use drain_explain::{Explanation, Mapping, explain_audit};
+use drain_grid::{Judged, Verdict};
+use drain_verdict::{AuditVerdict, Outcome, Refusal, audit, audit_part, check};
 use std::alloc::Global;
 
 /// The answer of an audit.
@@ -29,6 +34,50 @@ pub fn judge_audit<'a>(
     let mut tiles = tile_inputs(alloc, tiles)?;
     let mut products = audit_inputs(alloc, products)?;
     audit(alloc, side, tiles.as_mut_slice(), sinks, &mut products)
+}
+
+/// The answer of an audit of some rasters.
+pub fn judge_some<'a>(
+    alloc: Global,
+    side: u32,
+    tiles: &[TileBytes<'a>],
+    sinks: &[u8],
+    products: &AuditBytes<'a>,
+    judged: Judged,
+) -> Result<Outcome, Refusal>
+    ensures answer { OfBytes side tiles.now sinks.now (audit_raster products.now) (λ inputs. IsOutcomeAnswer judged inputs result) }
+    ensures exactly { has_rnk judged ≡ false → IfOk result (λ outcome. OfBytes side tiles.now sinks.now (audit_raster products.now) (λ inputs. IsAcceptedOutcome outcome ↔ AreJudgedRight judged inputs)) }
+{
+    let mut tiles = tile_inputs(alloc, tiles)?;
+    let mut products = audit_inputs(alloc, products)?;
+    audit_part(
+        alloc,
+        side,
+        tiles.as_mut_slice(),
+        sinks,
+        &mut products,
+        judged,
+    )
+}
+
+/// The answer of an audit of some rasters with what explains it, and a map.
+pub fn judge_explained<'a>(
+    alloc: Global,
+    side: u32,
+    tiles: &[TileBytes<'a>],
+    sinks: &[u8],
+    products: &AuditBytes<'a>,
+    judged: Judged,
+) -> Result<Explanation, Refusal>
+    ensures answer { OfBytes side tiles.now sinks.now (audit_raster products.now) (λ inputs. IsOutcomeAnswer judged inputs (answer_in result)) }
+    ensures explained { IfOk result (λ e. OfBytes side tiles.now sinks.now (audit_raster products.now) (λ inputs. AreFindingsOf judged inputs e.findings)) }
+    ensures drawn { IfOk result (λ e. IsSome e.findings.map) }
+{
+    let mut tiles = tile_inputs(alloc, tiles)?;
+    let mut products = audit_inputs(alloc, products)?;
+    let tiles = tiles.as_mut_slice();
+    let mapping = Mapping::Drawn;
+    explain_audit(alloc, side, tiles, sinks, &mut products, judged, mapping)
 }
 
 /// The answer of a check.

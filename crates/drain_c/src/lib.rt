@@ -1,12 +1,20 @@
-//! An audit and a check of bytes in memory, for C and what calls C. `include/drain.h` declares both.
+//! Audits, a check, explanations and derived rasters of bytes in memory, for C and what calls C. `include/drain.h`
+//! declares the calls.
 #![tactic(auto)]
 
 pub mod answer;
+mod derived;
 pub mod exported_audit;
+pub mod exported_audit_only;
 pub mod exported_check;
+pub mod exported_derive;
+pub mod exported_explain;
+pub mod exported_version;
+pub mod faults;
 pub mod found;
 pub mod given;
 mod judge;
+mod judged;
 pub mod laws;
 pub mod layout;
 mod sources;

@@ -18,17 +18,17 @@ returns-clause-answer c =
 pub returns-clause-exactly : goal.returns-clause-exactly
 returns-clause-exactly c =
     let tiles = subst (AreTilesOf bytes_left-value.it c.args.tiles.now) (sym c.as_mut_slice.ensures.value) c.in_ok-tiles.ensures.same in
-    of_bytes_if (λ verdict inputs. IsAcceptance verdict ↔ AreCorrect inputs) c.audit.result bytes_left-value.it c.args.side c.args.tiles.now c.args.sinks.now
+    of_bytes_if IsAuditAnswer (λ v i is. is.0) (λ verdict inputs. IsAcceptance verdict ↔ AreCorrect inputs) c.audit.result bytes_left-value.it c.args.side c.args.tiles.now c.args.sinks.now
     (audit_raster c.args.products.now) c.as_mut_slice.result.now (with_con_for_ranks c.in_ok-products.products) tiles c.in_ok-products.ensures.same c.audit.ensures.answer c.audit.ensures.exactly
 
 pub returns-clause-tiles_agree : goal.returns-clause-tiles_agree
 returns-clause-tiles_agree c =
     let tiles = subst (AreTilesOf bytes_left-value.it c.args.tiles.now) (sym c.as_mut_slice.ensures.value) c.in_ok-tiles.ensures.same in
-    of_bytes_if (λ verdict. TilesAreOne) c.audit.result bytes_left-value.it c.args.side c.args.tiles.now c.args.sinks.now
+    of_bytes_if IsAuditAnswer (λ v i is. is.0) (λ verdict. TilesAreOne) c.audit.result bytes_left-value.it c.args.side c.args.tiles.now c.args.sinks.now
     (audit_raster c.args.products.now) c.as_mut_slice.result.now (with_con_for_ranks c.in_ok-products.products) tiles c.in_ok-products.ensures.same c.audit.ensures.answer c.audit.ensures.tiles_agree
 
 pub returns-clause-elevation : goal.returns-clause-elevation
 returns-clause-elevation c =
     let tiles = subst (AreTilesOf bytes_left-value.it c.args.tiles.now) (sym c.as_mut_slice.ensures.value) c.in_ok-tiles.ensures.same in
-    of_bytes_if (λ verdict. ElevationIsTheirs) c.audit.result bytes_left-value.it c.args.side c.args.tiles.now c.args.sinks.now
+    of_bytes_if IsAuditAnswer (λ v i is. is.0) (λ verdict. ElevationIsTheirs) c.audit.result bytes_left-value.it c.args.side c.args.tiles.now c.args.sinks.now
     (audit_raster c.args.products.now) c.as_mut_slice.result.now (with_con_for_ranks c.in_ok-products.products) tiles c.in_ok-products.ensures.same c.audit.ensures.answer c.audit.ensures.elevation

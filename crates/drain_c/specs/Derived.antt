@@ -1,0 +1,92 @@
+-- What follows from the directions of a call, as C reads it.
+use Rattle.std.specs.Prelude.{◌≡◌, ℕ, ◌++◌, ◌*◌, ◌==◌, ◌&&◌, length, Bool, true, false, if◌then◌else◌, ℤ, pos, List, map, codes, decimal, Result, Ok, Err, IsTrue, IsFalse}
+use Rattle.drain_answer.specs.OutcomeLines.{outcome_report_line}
+use Rattle.drain_answer.specs.declared.outcome.Outcome.{Outcome}
+use Rattle.drain_answer.specs.declared.outcome.Outcome.TheVariants as outcome
+use Rattle.drain_answer.specs.declared.refusal.Refusal.{Refusal}
+use Rattle.drain_answer.specs.declared.refusal.Refusal.TheVariants.{BadHeader, WrongShape, Misplaced, RasterShort}
+use Rattle.drain_c.specs.declared.answer.Answer.{Answer}
+use Rattle.drain_c.specs.declared.found.Found.{Found}
+use Rattle.drain_c.specs.declared.given.AuditBytes.{AuditBytes}
+use Rattle.drain_c.specs.declared.given.RasterBytes.{RasterBytes}
+use Rattle.drain_c.specs.Found.{outcome_found, status_only}
+use Rattle.drain_c.specs.Shown.{Reports, ShowsAnswer, ShowsBadRaster, ShowsOutcome}
+use Rattle.drain_grid.specs.declared.product.Product.TheVariants.{Con, Dir}
+use Rattle.drain_grid.specs.Product.{default_numbers}
+use Rattle.drain_grid.specs.Rasters.{Pixels}
+use Rattle.drain_grid.specs.Size.{Extent}
+use Rattle.drain_maker.specs.Derivation.{IsDeriveRefusal}
+use Rattle.drain_maker.specs.Derived.{AreDerived}
+use Rattle.drain_maker.specs.declared.derived.Derived.{Derived}
+use Rattle.drain_maker.specs.declared.derivation.DeriveRefusal.{DeriveRefusal}
+use Rattle.drain_maker.specs.declared.derivation.DeriveRefusal.TheVariants.{Refused, NoEnd}
+use Rattle.drain_mosaic.specs.Tiling.{Tiling, extent_of}
+use Rattle.drain_paths.specs.OfFlows.{AllFlowsEnd}
+use Rattle.drain_verdict.specs.Answers.{AreReadable}
+use Rattle.drain_verdict.specs.Inputs.{Inputs}
+use Rattle.drain_verdict.specs.Meaning.{input_grid, input_products}
+
+-- the directions, also in the place of the other rasters
+abbrev pub directions_alone : RasterBytes → AuditBytes
+directions_alone dir = record { con = dir; dir = dir; acc = dir; bas = dir }
+
+-- these numbers in row order, as a raster of the inputs' grid
+abbrev pub raster_of : Inputs → ℤ → List ℕ → Pixels
+raster_of i nodata numbers = record { extent = (input_grid i).extent; nodata = nodata; numbers = map (λ n. pos n) numbers }
+
+-- the numbers follow from the directions, with the default no-data numbers at voids
+abbrev pub AreDerivedNumbers : Inputs → List ℕ → List ℕ → List ℕ → Type 0
+AreDerivedNumbers i acc bas rnk = AreDerived (input_grid i) (input_products i) (raster_of i default_numbers.acc acc) (raster_of i default_numbers.bas bas) (raster_of i default_numbers.rnk rnk)
+
+-- the memory for each raster has a number for each cell
+abbrev pub have_cells : Extent → List ℕ → List ℕ → List ℕ → Bool
+have_cells e acc bas rnk = length acc == e.rows * e.cols && length bas == e.rows * e.cols && length rnk == e.rows * e.cols
+
+-- the numbers are those of these rasters
+pub record AreNumbersOf (d : Derived) (counts labels steps : List ℕ) : Type 0 where
+  pub acc : map (λ n. pos n) counts ≡ d.acc.numbers
+  pub bas : map (λ n. pos n) labels ≡ d.bas.numbers
+  pub rnk : map (λ n. pos n) steps ≡ d.rnk.numbers
+
+-- something follows: no refusal applies and every path ends; else the first reason why nothing does
+abbrev pub IsDerivation : Inputs → Result (Unit {0}) DeriveRefusal → Type 0
+IsDerivation i (Ok done) = AreReadable i × AllFlowsEnd (input_grid i) (input_products i)
+IsDerivation i (Err why) = IsDeriveRefusal i why
+
+-- a refusal of con's raster, which is dir's, is told of dir
+abbrev pub told_of_dir : Refusal → Refusal
+told_of_dir (BadHeader Con fault) = BadHeader Dir fault
+told_of_dir (WrongShape Con) = WrongShape Dir
+told_of_dir (Misplaced Con) = Misplaced Dir
+told_of_dir (RasterShort Con) = RasterShort Dir
+told_of_dir refusal = refusal
+
+-- rows and columns of what follows
+abbrev pub shape_line : Extent → List ℕ
+shape_line e = codes "derived rows=" ++ decimal e.rows ++ codes " cols=" ++ decimal e.cols
+
+-- why nothing follows, as the answer of an audit
+abbrev pub outcome_for : DeriveRefusal → Result Outcome Refusal
+outcome_for (Refused refusal) = Err (told_of_dir refusal)
+outcome_for (NoEnd row col) = Ok (outcome.NoEnd row col)
+
+-- the numbers and the line of what follows, if the memory for it has its length, or of the reason why nothing does
+abbrev pub derived_found : Bool → Result (Unit {0}) DeriveRefusal → Found
+derived_found fits (Ok done) = if fits then status_only 0 else status_only 2
+derived_found fits (Err why) = outcome_found (outcome_for why)
+
+abbrev pub derived_line : Extent → Bool → Result (Unit {0}) DeriveRefusal → List ℕ
+derived_line e fits (Ok done) = if fits then shape_line e else codes "refused BadRasterLength"
+derived_line e fits (Err why) = outcome_report_line (outcome_for why)
+
+-- what is shown is what the inputs give
+abbrev pub ReportsDerivation : Inputs → List ℕ → List ℕ → List ℕ → Answer → Type 0
+ReportsDerivation i acc bas rnk shown =
+    Reports (IsDerivation i) (derived_found (have_cells (input_grid i).extent acc bas rnk)) (derived_line (input_grid i).extent (have_cells (input_grid i).extent acc bas rnk)) shown
+
+-- what is written: rasters, if the memory for each has its length; else that it hasn't, or why nothing follows, and no raster
+abbrev pub ShowsDerivation : Result (Tiling × Derived) DeriveRefusal → (List ℕ × List ℕ × List ℕ) → (List ℕ × List ℕ × List ℕ) → Answer → Type 0
+ShowsDerivation (Ok made) old new shown =
+    (IsTrue (have_cells (extent_of made.0) old.0 old.1 old.2) → ShowsAnswer (status_only 0) (shape_line (extent_of made.0)) shown × AreNumbersOf made.1 new.0 new.1 new.2)
+    × (IsFalse (have_cells (extent_of made.0) old.0 old.1 old.2) → ShowsBadRaster shown × (new.0 ≡ old.0) × (new.1 ≡ old.1) × (new.2 ≡ old.2))
+ShowsDerivation (Err why) old new shown = ShowsOutcome (outcome_for why) shown × (new.0 ≡ old.0) × (new.1 ≡ old.1) × (new.2 ≡ old.2)

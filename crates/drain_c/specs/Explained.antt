@@ -1,0 +1,67 @@
+-- What explains an answer, as C reads it: the cells at which each rule fails, and a map.
+use Rattle.std.specs.Prelude.{◌≡◌, ℕ, ◌*◌, ◌==◌, Bool, true, false, if◌then◌else◌, List, length, codes, Option, Some, None, Result, Ok, Err, IsTrue, IsFalse}
+use Rattle.drain_answer.specs.declared.outcome.Outcome.{Outcome}
+use Rattle.drain_answer.specs.declared.refusal.Refusal.{Refusal}
+use Rattle.drain_answer.specs.Lines.{refusal_line}
+use Rattle.drain_answer.specs.OutcomeLines.{outcome_line}
+use Rattle.drain_c.specs.declared.answer.Answer.{Answer}
+use Rattle.drain_c.specs.declared.faults.Faults.{Faults}
+use Rattle.drain_c.specs.declared.found.Found.{Found}
+use Rattle.drain_c.specs.Faults.{ShowsFaults}
+use Rattle.drain_c.specs.Found.{outcome_found, refusal_found, status_only}
+use Rattle.drain_c.specs.Shown.{ShowsBadMap, ShowsOutcome}
+use Rattle.drain_explain.specs.declared.explanation.Explanation.{Explanation}
+use Rattle.drain_faults.specs.declared.per_rule.PerRule.{PerRule}
+use Rattle.drain_faults.specs.declared.rule_faults.RuleFaults.{RuleFaults}
+use Rattle.drain_faults.specs.declared.fault_map.FaultMap.{FaultMap}
+use Rattle.drain_faults.specs.FaultMaps.{AreMapPixels}
+use Rattle.drain_faults.specs.Faults.{AreFaultsOf}
+use Rattle.drain_grid.specs.declared.judged.Judged.{Judged}
+use Rattle.drain_grid.specs.Extent.{cells}
+use Rattle.drain_verdict.specs.Answers.{rules_at}
+use Rattle.drain_verdict.specs.Inputs.{Inputs}
+use Rattle.drain_verdict.specs.Meaning.{input_grid, input_products}
+
+-- of the rules about judged rasters: the cells at which each fails, and for each cell of the grid the number of the least
+-- that fails there
+pub record Explains (judged : Judged) (i : Inputs) (faults : Faults) (map : List ℕ) : Type 0 where
+  pub by_rule : PerRule RuleFaults
+  pub each_rule : AreFaultsOf (rules_at judged i) (input_grid i) (input_products i) (cells (input_grid i).extent) by_rule
+  pub shown : ShowsFaults by_rule faults
+  pub map_is : AreMapPixels (rules_at judged i) (input_grid i) (input_products i) (cells (input_grid i).extent) map
+
+-- the memory for a map has a byte for each cell
+abbrev pub has_map_length : Inputs → List ℕ → Bool
+has_map_length i map = length map == (input_grid i).extent.rows * (input_grid i).extent.cols
+
+-- the numbers and the line of an answer; of an outcome for which the map has no room these of a refusal
+abbrev pub mapped_found : Bool → Result Outcome Refusal → Found
+mapped_found fits (Ok outcome) = if fits then outcome_found (Ok outcome) else status_only 2
+mapped_found fits (Err refusal) = refusal_found refusal
+
+abbrev pub mapped_line : Bool → Result Outcome Refusal → List ℕ
+mapped_line fits (Ok outcome) = if fits then outcome_line outcome else codes "refused BadMapLength"
+mapped_line fits (Err refusal) = refusal_line refusal
+
+-- a map was drawn, and has the length of this memory
+abbrev pub fits : Option FaultMap → List ℕ → Bool
+fits None memory = false
+fits (Some drawn) memory = length memory == length drawn.pixels.items
+
+-- the bytes are the map
+abbrev pub IsMap : Option FaultMap → List ℕ → Type 0
+IsMap None map = ⊥
+IsMap (Some drawn) map = map ≡ drawn.pixels.items
+
+-- what is written of an outcome with what explains it
+pub record ShowsExplanation (e : Explanation) (map : List ℕ) (faults : Faults) (shown : Answer) : Type 0 where
+  pub answer_is : ShowsOutcome (Ok e.outcome) shown
+  pub faults_are : ShowsFaults e.findings.by_rule faults
+  pub map_is : IsMap e.findings.map map
+
+-- what is written of an answer with what explains it: of an outcome whose map hasn't the length of its memory, or of a
+-- refusal, no map and no faults
+abbrev pub ShowsExplained : Result Explanation Refusal → (List ℕ × Faults) → (List ℕ × Faults) → Answer → Type 0
+ShowsExplained (Ok e) old new shown =
+    (IsTrue (fits e.findings.map old.0) → ShowsExplanation e new.0 new.1 shown) × (IsFalse (fits e.findings.map old.0) → ShowsBadMap shown × (new.0 ≡ old.0) × (new.1 ≡ old.1))
+ShowsExplained (Err refusal) old new shown = ShowsOutcome (Err refusal) shown × (new.0 ≡ old.0) × (new.1 ≡ old.1)

@@ -1,0 +1,83 @@
+//! What follows from the directions of a call, and its numbers as C reads them.
+
+ghost use Rattle.std.specs.Prelude.{◌≡◌, ◌*◌, ◌<◌, [], false, length, map, pos, slice_index_or, IfErr, IfOk};
+ghost use Rattle.drain_c.specs.Derived.{directions_alone};
+ghost use Rattle.drain_c.specs.Given.{OfBytes, audit_raster};
+ghost use Rattle.drain_maker.specs.Derivation.{AreDerivedOf, IsDeriveRefusal};
+ghost use Rattle.drain_maker.specs.Derived.{AreCounts, IsCounts};
+ghost use Rattle.drain_mosaic.specs.Tiling.{extent_of};
+ghost use Rattle.drain_raster.specs.Bytes.{CanSpellIn};
+
+use crate::given::{AuditBytes, RasterBytes, TileBytes};
+use crate::sources::{audit_inputs, tile_inputs};
+use drain_grid::{Cell, Raster};
+use drain_maker::{DeriveRefusal, Derived, derive};
+use drain_mosaic::Layout;
+use std::alloc::Global;
+
+/// The directions, also in the place of the other rasters, of which no number matters.
+pub fn directions_alone<'a>(dir: &RasterBytes<'a>) -> AuditBytes<'a>
+    ensures { result ≡ directions_alone dir.now }
+{
+    AuditBytes {
+        con: *dir,
+        dir: *dir,
+        acc: *dir,
+        bas: *dir,
+    }
+}
+
+/// What follows from the directions.
+pub fn derive_rasters<'a>(
+    alloc: Global,
+    side: u32,
+    tiles: &[TileBytes<'a>],
+    products: &AuditBytes<'a>,
+) -> Result<(Layout, Derived), DeriveRefusal>
+    ensures derived { IfOk result (λ made. OfBytes side tiles.now [] (audit_raster products.now) (λ inputs. AreDerivedOf inputs made.1)) }
+    ensures counts { IfOk result (λ made. AreCounts (extent_of made.0) made.1) }
+    ensures err { IfErr result (λ why. OfBytes side tiles.now [] (audit_raster products.now) (λ inputs. IsDeriveRefusal inputs why)) }
+{
+    let mut tiles = match tile_inputs(alloc, tiles) {
+        Ok(tiles) => tiles,
+        Err(refusal) => return Err(DeriveRefusal::Refused(refusal)),
+    };
+    let mut products = match audit_inputs(alloc, products) {
+        Ok(products) => products,
+        Err(refusal) => return Err(DeriveRefusal::Refused(refusal)),
+    };
+    derive(alloc, side, tiles.as_mut_slice(), &[], &mut products)
+}
+
+/// Writes the numbers of a raster, in row order.
+pub fn write_numbers(raster: &Raster, numbers: &mut [u32])
+    requires counts { IsCounts raster.now.extent raster.now }
+    requires counted { length numbers.old ≡ raster.now.extent.rows * raster.now.extent.cols }
+    ensures { map (λ n. pos n) numbers.new ≡ raster.now.numbers }
+{
+    for place in 0..numbers.len() {
+        numbers[place] = number_in(raster, place);
+    }
+}
+
+/// The number in this place in row order.
+fn number_in(raster: &Raster, place: usize) -> u32
+    requires counts { IsCounts raster.now.extent raster.now }
+    requires inside { place < raster.now.extent.rows * raster.now.extent.cols }
+    ensures { pos result ≡ slice_index_or raster.now.numbers place (pos 0) }
+{
+    let cols = raster.shape().cols() as usize;
+    let cell = Cell {
+        row: (place / cols) as u32,
+        col: (place % cols) as u32,
+    };
+    narrow(raster.value(cell))
+}
+
+/// The number in 32 bits.
+fn narrow(number: i64) -> u32
+    requires { CanSpellIn false 32 number }
+    ensures { pos result ≡ number }
+{
+    number as u32
+}
