@@ -1,7 +1,7 @@
 //! Worked mosaics, from the format's own rows. Seams and layouts have files of their own.
 
 ghost use Rattle.std.specs.Prelude.{◌≡◌, ◌*◌, IfOk, All, map, length};
-ghost use Rattle.drain_grid.specs.Tile.{IsSide};
+ghost use Rattle.drain_grid.specs.Grid.{IsSide};
 
 mod boxes;
 mod layouts;

@@ -3,11 +3,10 @@
 use crate::level_tile::{TILE, four, tile};
 use crate::printed::{Printed, Text, same_bytes, same_line, slow_sink, whole_sink};
 use drain_args::form::Form;
-use drain_cli::runs::explain_page::{ExplainOutput, MapFault};
-use drain_cli::runs::run_explain::run_explain;
+use drain_cli::runs::run_explain::{ExplainOutput, MapFault, run_explain};
 use drain_device::BodyFault;
 use drain_device::faults::{ScriptSink, Scripted, SinkAnswer};
-use drain_explain::{Mapping, SecondLook};
+use drain_explain::{FileLookup, Mapping};
 use drain_files::map_file::write_map;
 use drain_files::open_judged::JudgedProducts;
 use drain_grid::{Judged, Product};
@@ -28,7 +27,7 @@ struct InMemory<'a> {
     raster: ScriptSink<'a>,
 }
 
-impl<'a> SecondLook for InMemory<'a> {
+impl<'a> FileLookup for InMemory<'a> {
     ghost shows = { λ look place start metres. ⊥ };
 
     fn tile_length(&mut self, _place: usize) -> Option<u64> {

@@ -2,7 +2,7 @@
 
 use drain_device::faults::{ScriptSource, Scripted};
 use drain_device::{BodyFault, DeviceFault};
-use drain_files::text_file::read_text;
+use drain_files::whole_input::read_text;
 use std::alloc::Global;
 use std::process::Abort;
 use std::test::Fail;

@@ -7,7 +7,7 @@ use crate::printed::{Printed, room};
 use drain_cli::runs::make_set::make_set;
 use drain_cli::runs::write_set::write_and_place;
 use drain_device::{ByteSink, VecSink};
-use drain_files::placing::Placing;
+use drain_files::open_failure::Placing;
 use drain_maker::follow::Unfollowed;
 use drain_maker::product_files::{FILE_COUNT, SetFault};
 use std::alloc::{AllocError, Global};

@@ -1,8 +1,8 @@
 -- The line for the answer of an audit. Its words are this project's own.
 use Rattle.std.specs.Prelude.{ℕ, List, ◌++◌, Result, Ok, Err, codes, decimal}
 use Rattle.drain_answer.specs.Lines.{accepted_line, refusal_line, rejected_line}
-use Rattle.drain_answer.specs.declared.audit_verdict.AuditVerdict.{AuditVerdict}
-use Rattle.drain_answer.specs.declared.audit_verdict.AuditVerdict.TheVariants.{Accepted, NoEnd, Rejected}
+use Rattle.drain_answer.specs.declared.outcome.AuditVerdict.{AuditVerdict}
+use Rattle.drain_answer.specs.declared.outcome.AuditVerdict.TheVariants.{Accepted, NoEnd, Rejected}
 use Rattle.drain_answer.specs.declared.refusal.Refusal.{Refusal}
 
 -- rejected NoEnd row=R col=C

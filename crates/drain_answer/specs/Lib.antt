@@ -1,8 +1,7 @@
 pub mod AuditLines
-pub mod Failures
+pub mod Outcomes
 pub mod FillLines
 pub mod Lines
 pub mod OutcomeLines
-pub mod Outcomes
 pub mod Printing
 pub mod Statuses

@@ -4,7 +4,7 @@ use Rattle.drain_grid.specs.declared.rule.Rule.{Rule}
 use Rattle.drain_grid.specs.Rule.{rule_number, rule_name}
 use Rattle.drain_grid.specs.Product.{product_name}
 use Rattle.drain_hgt.specs.Name.{name_of as tile_name}
-use Rattle.drain_header.specs.FaultText.{fault_text}
+use Rattle.drain_header.specs.Faults.{fault_text}
 use Rattle.drain_grid.specs.declared.verdict.Counts.{Counts}
 use Rattle.drain_grid.specs.declared.verdict.Verdict.{Verdict}
 use Rattle.drain_grid.specs.declared.verdict.Verdict.TheVariants.{Accepted, Rejected}

@@ -1,11 +1,10 @@
 -- What is printed, and its status.
 use Rattle.std.specs.Prelude.{◌≡◌, ℕ, ◌++◌, List, [], ◌∷◌, Result, Ok, Err, IsErr}
 use Rattle.drain_device.specs.declared.patience.GaveUp.{GaveUp}
-use Rattle.drain_device.specs.Devices.{Sink}
-use Rattle.drain_device.specs.Failing.{WriteFails}
-use Rattle.drain_device.specs.Writes.{HandsOver}
-use Rattle.drain_answer.specs.declared.status.Status.{Status}
-use Rattle.drain_answer.specs.declared.status.Status.TheVariants.{Failed}
+use Rattle.drain_device.specs.Failing.{Sink, WriteFails}
+use Rattle.drain_device.specs.Counts.{HandsOver}
+use Rattle.drain_answer.specs.declared.outcome.Status.{Status}
+use Rattle.drain_answer.specs.declared.outcome.Status.TheVariants.{Failed}
 use Rattle.drain_answer.specs.Statuses.{status_code}
 
 -- the line feed of ASCII

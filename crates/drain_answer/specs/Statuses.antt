@@ -2,8 +2,8 @@
 use Rattle.std.specs.Prelude.{ℕ}
 use Rattle.drain_answer.specs.declared.refusal.Refusal.{Refusal}
 use Rattle.drain_answer.specs.declared.refusal.Refusal.TheVariants.{OutOfMemory, ReadFailed}
-use Rattle.drain_answer.specs.declared.status.Status.{Status}
-use Rattle.drain_answer.specs.declared.status.Status.TheVariants.{Done, Rejected, Refused, Failed}
+use Rattle.drain_answer.specs.declared.outcome.Status.{Status}
+use Rattle.drain_answer.specs.declared.outcome.Status.TheVariants.{Done, Rejected, Refused, Failed}
 
 abbrev pub status_code : Status → ℕ
 status_code Done = 0

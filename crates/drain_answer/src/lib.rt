@@ -2,17 +2,12 @@
 //! answer, how it is printed, and the exit statuses of the program.
 #![tactic(auto)]
 
-pub mod audit_verdict;
 pub mod laws;
 pub mod lines;
 pub mod outcome;
-pub mod outcome_line;
 pub mod print;
 pub mod refusal;
-pub mod status;
 
-pub use audit_verdict::AuditVerdict;
 pub use lines::{audit_report, fill_report, report};
-pub use outcome::Outcome;
-pub use outcome_line::outcome_report;
+pub use outcome::{AuditVerdict, Outcome, outcome_report};
 pub use refusal::Refusal;

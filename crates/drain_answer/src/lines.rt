@@ -8,7 +8,7 @@ ghost use Rattle.drain_answer.specs.AuditLines.{audit_report_line, audit_line, n
 ghost use Rattle.drain_answer.specs.FillLines.{fill_line, fill_accepted_line};
 ghost use Rattle.drain_answer.specs.Lines.{report_line, refusal_line, verdict_line, accepted_line, counted_line, rejected_line};
 
-use crate::audit_verdict::AuditVerdict;
+use crate::outcome::AuditVerdict;
 use crate::refusal::Refusal;
 use arrayvec::ArrayString;
 use drain_grid::{Cell, Counts, FillCounts, FillRefusal, FillVerdict, Product, Rule, Verdict};

@@ -1,11 +1,11 @@
 //! Printing the result of a run: one line, or the text of a header.
 
 ghost use Rattle.std.specs.Prelude.{◌≡◌};
-ghost use Rattle.drain_answer.specs.Failures.{failure_text};
+ghost use Rattle.drain_answer.specs.Outcomes.{failure_text};
 ghost use Rattle.drain_answer.specs.Printing.{Prints, PrintsText};
 
 use crate::lines::{LINE_LENGTH, Line};
-use crate::status::Status;
+use crate::outcome::Status;
 use arrayvec::ArrayString;
 use drain_device::{BodyFault, ByteSink, Patience, write_all};
 

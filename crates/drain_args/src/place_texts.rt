@@ -2,7 +2,7 @@
 
 ghost use Rattle.std.specs.Prelude.{◌≡◌, ◌≢◌, ◌∷◌, [], ℕ, MatchOption, Option, Some, List, false};
 ghost use Rattle.std.specs.List.{list_all};
-ghost use Rattle.drain_grid.specs.Size.{IsExtent};
+ghost use Rattle.drain_grid.specs.Extent.{IsExtent};
 ghost use Rattle.drain_union.specs.declared.place.Place.{Place};
 ghost use Rattle.drain_args.specs.PlaceTexts.{IsBox, IsInner, has, is_side_letter, numbers_of};
 

@@ -13,16 +13,14 @@ use Rattle.drain_c.proofs.LongHeaders.{cut, refusal_kept, same_inputs}
 use Rattle.drain_c.proofs.Spelling.{of_bytes}
 use Rattle.drain_c.proofs.Statuses.{from_two}
 use Rattle.drain_grid.specs.declared.set_product.SetProduct.{SetProduct}
-use Rattle.drain_grid.specs.Extent.{IsCellOf}
+use Rattle.drain_grid.specs.Extent.{IsCellOf, Extent}
 use Rattle.drain_grid.specs.Product.{default_numbers}
-use Rattle.drain_grid.specs.Rasters.{Pixels}
-use Rattle.drain_grid.specs.Size.{Extent}
+use Rattle.drain_grid.specs.Grid.{Pixels}
 use Rattle.drain_hgt.specs.declared.input.TileInput.{TileInput}
-use Rattle.drain_maker.specs.Derivation.{AreDerivedOf, IsDeriveRefusal}
-use Rattle.drain_maker.specs.Derived.{AreCounts, AreDerived}
+use Rattle.drain_maker.specs.Derived.{AreDerivedOf, IsDeriveRefusal, AreCounts, AreDerived}
 use Rattle.drain_maker.specs.declared.derivation.DeriveRefusal.{DeriveRefusal}
 use Rattle.drain_maker.specs.declared.derivation.DeriveRefusal.TheVariants.{Refused, NoEnd}
-use Rattle.drain_maker.specs.declared.derived.Derived.{Derived}
+use Rattle.drain_maker.specs.declared.derivation.Derived.{Derived}
 use Rattle.drain_mosaic.specs.Tiling.{Tiling, extent_of}
 use Rattle.drain_verdict.specs.Headline.{ForCheck}
 use Rattle.drain_verdict.specs.Inputs.{Inputs, Products}

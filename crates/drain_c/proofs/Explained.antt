@@ -12,16 +12,15 @@ use Rattle.drain_c.specs.Explained.{Explains, IsMap, ShowsExplained, ShowsExplan
 use Rattle.drain_c.specs.Found.{outcome_found, refusal_found}
 use Rattle.drain_c.specs.Shown.{Reports, ShowsBadMap, ShowsOutcome}
 use Rattle.drain_c.proofs.Statuses.{from_two}
-use Rattle.drain_explain.specs.declared.explanation.Explanation.{Explanation}
+use Rattle.drain_explain.specs.declared.findings.Explanation.{Explanation}
 use Rattle.drain_explain.specs.Explanations.{AreFindingsOf, answer_in}
 use Rattle.drain_faults.specs.declared.fault_map.FaultMap.{FaultMap}
 use Rattle.drain_faults.specs.FaultMaps.{AreMapPixels, IsMapOfCells}
 use Rattle.drain_grid.specs.declared.cell.Cell.{Cell}
 use Rattle.drain_grid.specs.declared.judged.Judged.{Judged}
 use Rattle.drain_grid.specs.declared.judged.Rules.{Rules}
-use Rattle.drain_grid.specs.Extent.{cells, row_cells}
+use Rattle.drain_grid.specs.Extent.{cells, row_cells, Extent}
 use Rattle.drain_grid.specs.Grid.{Grid, Products}
-use Rattle.drain_grid.specs.Size.{Extent}
 use Rattle.drain_raster.proofs.LengthLemmas.{length-lists}
 use Rattle.drain_verdict.specs.Answers.{rules_at}
 use Rattle.drain_verdict.specs.Inputs.{Inputs}

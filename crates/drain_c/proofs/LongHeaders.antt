@@ -22,12 +22,11 @@ use Rattle.drain_raster.specs.Pixels.{header_extent, IsShort}
 use Rattle.drain_mosaic.specs.Tiling.{extent_of}
 use Rattle.drain_grid.specs.declared.verdict.Verdict.{Verdict}
 use Rattle.drain_grid.specs.declared.judged.Judged.{Judged}
-use Rattle.drain_answer.specs.declared.audit_verdict.AuditVerdict.{AuditVerdict}
+use Rattle.drain_answer.specs.declared.outcome.AuditVerdict.{AuditVerdict}
 use Rattle.drain_answer.specs.declared.outcome.Outcome.{Outcome}
 use Rattle.drain_answer.specs.declared.refusal.Refusal.{Refusal}
 use Rattle.drain_answer.specs.declared.refusal.Refusal.TheVariants.{BadSide, BadName, NoTiles, RepeatedTile, BoxTooLarge, BadHeader, WrongShape, Misplaced, BadTileLength, RasterShort, SeamMismatch, BadSinkLine, SinkNotData, OutOfMemory, ReadFailed}
-use Rattle.drain_verdict.specs.Answers.{AreReadable, IsAnswer, IsRefusal}
-use Rattle.drain_verdict.specs.Audits.{IsAuditAnswer}
+use Rattle.drain_verdict.specs.Answers.{AreReadable, IsAnswer, IsRefusal, IsAuditAnswer}
 use Rattle.drain_verdict.specs.Inputs.{Inputs}
 use Rattle.drain_verdict.specs.Meaning.{tiling_of}
 use Rattle.drain_verdict.specs.Outcomes.{IsOutcomeAnswer}

@@ -15,7 +15,7 @@ use Rattle.drain_grid.specs.declared.verdict.Verdict.TheVariants.{Accepted, Reje
 use Rattle.drain_rules.specs.Verdicts.{IfAccepted}
 use Rattle.drain_answer.specs.declared.refusal.Refusal.{Refusal}
 use Rattle.drain_verdict.specs.Answers.{AreReadable, IsAnswer}
-use Rattle.drain_verdict.specs.Inputs.{Inputs, Tell, Products}
+use Rattle.drain_verdict.specs.Inputs.{Inputs, Encode, Products}
 use Rattle.drain_verdict.specs.Headline.{ForCheck, AcceptedMeans}
 
 -- one tile more is taken
@@ -45,7 +45,7 @@ bodies bytes_left (g ∷ given) (tile ∷ tiles) are = (are.0.1, bodies bytes_le
 -- the sources have the bytes of the inputs, and the first bytes of each header
 pub tells : {R : Type 0} (bytes_left : R → Option (List ℕ)) (side : ℕ) (given : List TileBytes) (sinks : List ℕ) (raster : SetProduct → RasterBytes)
     (tiles : List (TileInput R)) (ps : Products R) → AreTilesOf bytes_left given tiles → AreRastersOf bytes_left raster ps →
-    (i : Inputs) → AreOfBytes side given sinks raster i → Tell bytes_left side tiles sinks ps (cut i)
+    (i : Inputs) → AreOfBytes side given sinks raster i → Encode bytes_left side tiles sinks ps (cut i)
 tells bytes_left side given sinks raster tiles ps are_tiles are_rasters i are = record {
   side_is = are.side_is;
   names_are = are.names_are ∙ same_names bytes_left given tiles are_tiles;

@@ -8,14 +8,14 @@ use Rattle.drain_grid.specs.declared.set_product.SetProduct.{SetProduct}
 use Rattle.drain_grid.specs.declared.verdict.Verdict.{Verdict}
 use Rattle.drain_grid.specs.declared.verdict.Verdict.TheVariants as checked
 use Rattle.drain_rules.specs.Verdicts.{IfAccepted}
-use Rattle.drain_answer.specs.declared.audit_verdict.AuditVerdict.{AuditVerdict}
-use Rattle.drain_answer.specs.declared.audit_verdict.AuditVerdict.TheVariants.{Accepted, Rejected, NoEnd}
+use Rattle.drain_answer.specs.declared.outcome.AuditVerdict.{AuditVerdict}
+use Rattle.drain_answer.specs.declared.outcome.AuditVerdict.TheVariants.{Accepted, Rejected, NoEnd}
 use Rattle.drain_answer.specs.declared.outcome.Outcome.{Outcome}
 use Rattle.drain_answer.specs.declared.outcome.Outcome.TheVariants as judged
 use Rattle.drain_answer.specs.declared.refusal.Refusal.{Refusal}
 use Rattle.drain_answer.specs.declared.refusal.Refusal.TheVariants.{BadSide, BadName, NoTiles, RepeatedTile, BoxTooLarge, BadHeader, WrongShape, Misplaced, BadTileLength, RasterShort, SeamMismatch, BadSinkLine, SinkNotData, OutOfMemory, ReadFailed}
 use Rattle.drain_answer.specs.Outcomes.{IsAcceptedOutcome}
-use Rattle.drain_verdict.specs.Audits.{IsAcceptance}
+use Rattle.drain_verdict.specs.Answers.{IsAcceptance}
 use Rattle.drain_verdict.specs.Inputs.{Inputs}
 
 -- a refusal has a status from 2 on

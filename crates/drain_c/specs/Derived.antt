@@ -13,15 +13,14 @@ use Rattle.drain_c.specs.Found.{outcome_found, status_only}
 use Rattle.drain_c.specs.Shown.{Reports, ShowsAnswer, ShowsBadRaster, ShowsOutcome}
 use Rattle.drain_grid.specs.declared.product.Product.TheVariants.{Con, Dir}
 use Rattle.drain_grid.specs.Product.{default_numbers}
-use Rattle.drain_grid.specs.Rasters.{Pixels}
-use Rattle.drain_grid.specs.Size.{Extent}
-use Rattle.drain_maker.specs.Derivation.{IsDeriveRefusal}
-use Rattle.drain_maker.specs.Derived.{AreDerived}
-use Rattle.drain_maker.specs.declared.derived.Derived.{Derived}
+use Rattle.drain_grid.specs.Grid.{Pixels}
+use Rattle.drain_grid.specs.Extent.{Extent}
+use Rattle.drain_maker.specs.Derived.{IsDeriveRefusal, AreDerived}
+use Rattle.drain_maker.specs.declared.derivation.Derived.{Derived}
 use Rattle.drain_maker.specs.declared.derivation.DeriveRefusal.{DeriveRefusal}
 use Rattle.drain_maker.specs.declared.derivation.DeriveRefusal.TheVariants.{Refused, NoEnd}
 use Rattle.drain_mosaic.specs.Tiling.{Tiling, extent_of}
-use Rattle.drain_paths.specs.OfFlows.{AllFlowsEnd}
+use Rattle.drain_paths.specs.Flows.{AllFlowsEnd}
 use Rattle.drain_verdict.specs.Answers.{AreReadable}
 use Rattle.drain_verdict.specs.Inputs.{Inputs}
 use Rattle.drain_verdict.specs.Meaning.{input_grid, input_products}

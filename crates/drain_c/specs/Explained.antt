@@ -10,9 +10,9 @@ use Rattle.drain_c.specs.declared.found.Found.{Found}
 use Rattle.drain_c.specs.Faults.{ShowsFaults}
 use Rattle.drain_c.specs.Found.{outcome_found, refusal_found, status_only}
 use Rattle.drain_c.specs.Shown.{ShowsBadMap, ShowsOutcome}
-use Rattle.drain_explain.specs.declared.explanation.Explanation.{Explanation}
+use Rattle.drain_explain.specs.declared.findings.Explanation.{Explanation}
 use Rattle.drain_faults.specs.declared.per_rule.PerRule.{PerRule}
-use Rattle.drain_faults.specs.declared.rule_faults.RuleFaults.{RuleFaults}
+use Rattle.drain_faults.specs.declared.patch_faults.RuleFaults.{RuleFaults}
 use Rattle.drain_faults.specs.declared.fault_map.FaultMap.{FaultMap}
 use Rattle.drain_faults.specs.FaultMaps.{AreMapPixels}
 use Rattle.drain_faults.specs.Faults.{AreFaultsOf}

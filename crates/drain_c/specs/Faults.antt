@@ -3,8 +3,8 @@ use Rattle.std.specs.Prelude.{◌≡◌, ℕ, ◌-◌, Option, Some, None, slice
 use Rattle.drain_c.specs.declared.faults.FaultCells.{FaultCells}
 use Rattle.drain_c.specs.declared.faults.Faults.{Faults}
 use Rattle.drain_faults.specs.declared.per_rule.PerRule.{PerRule}
-use Rattle.drain_faults.specs.declared.rule_faults.RuleFaults.{RuleFaults}
-use Rattle.drain_faults.specs.PerRule.{of_rule}
+use Rattle.drain_faults.specs.declared.patch_faults.RuleFaults.{RuleFaults}
+use Rattle.drain_faults.specs.CellFaults.{of_rule}
 use Rattle.drain_grid.specs.declared.cell.Cell.{Cell}
 use Rattle.drain_grid.specs.declared.rule.Rule.{Rule}
 use Rattle.drain_grid.specs.Rule.{rule_number}

@@ -5,8 +5,8 @@ use Rattle.drain_grid.specs.Rule.{rule_number}
 use Rattle.drain_grid.specs.declared.rule.Rule.{Rule}
 use Rattle.drain_grid.specs.declared.verdict.Verdict.{Verdict}
 use Rattle.drain_grid.specs.declared.verdict.Verdict.TheVariants as checked
-use Rattle.drain_answer.specs.declared.audit_verdict.AuditVerdict.{AuditVerdict}
-use Rattle.drain_answer.specs.declared.audit_verdict.AuditVerdict.TheVariants.{Accepted, Rejected, NoEnd}
+use Rattle.drain_answer.specs.declared.outcome.AuditVerdict.{AuditVerdict}
+use Rattle.drain_answer.specs.declared.outcome.AuditVerdict.TheVariants.{Accepted, Rejected, NoEnd}
 use Rattle.drain_answer.specs.declared.outcome.Outcome.{Outcome}
 use Rattle.drain_answer.specs.declared.outcome.Outcome.TheVariants as judged
 use Rattle.drain_answer.specs.declared.refusal.Refusal.{Refusal}

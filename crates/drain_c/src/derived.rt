@@ -3,8 +3,7 @@
 ghost use Rattle.std.specs.Prelude.{◌≡◌, ◌*◌, ◌<◌, [], false, length, map, pos, slice_index_or, IfErr, IfOk};
 ghost use Rattle.drain_c.specs.Derived.{directions_alone};
 ghost use Rattle.drain_c.specs.Given.{OfBytes, audit_raster};
-ghost use Rattle.drain_maker.specs.Derivation.{AreDerivedOf, IsDeriveRefusal};
-ghost use Rattle.drain_maker.specs.Derived.{AreCounts, IsCounts};
+ghost use Rattle.drain_maker.specs.Derived.{AreDerivedOf, IsDeriveRefusal, AreCounts, IsCounts};
 ghost use Rattle.drain_mosaic.specs.Tiling.{extent_of};
 ghost use Rattle.drain_raster.specs.Bytes.{CanSpellIn};
 

@@ -6,7 +6,7 @@ ghost use Rattle.drain_c.specs.Given.{OfBytes, audit_raster};
 ghost use Rattle.drain_c.specs.Shown.{Reports, ShowsMissing};
 ghost use Rattle.drain_c.specs.Whole.{is_audit_whole};
 ghost use Rattle.drain_answer.specs.AuditLines.{audit_report_line};
-ghost use Rattle.drain_verdict.specs.Audits.{AreCorrect, IsAuditAnswer};
+ghost use Rattle.drain_verdict.specs.Answers.{AreCorrect, IsAuditAnswer};
 ghost use Rattle.drain_verdict.specs.Headline.{TilesAreOne, ElevationIsTheirs};
 
 use crate::answer::{Answer, show, show_missing};

@@ -6,8 +6,7 @@ ghost use Rattle.drain_answer.specs.Outcomes.{IsAcceptedOutcome};
 ghost use Rattle.drain_explain.specs.Explanations.{AreFindingsOf, answer_in};
 ghost use Rattle.drain_grid.specs.Judged.{has_rnk};
 ghost use Rattle.drain_rules.specs.Verdicts.{IfAccepted};
-ghost use Rattle.drain_verdict.specs.Answers.{IsAnswer};
-ghost use Rattle.drain_verdict.specs.Audits.{AreCorrect, IsAcceptance, IsAuditAnswer};
+ghost use Rattle.drain_verdict.specs.Answers.{IsAnswer, AreCorrect, IsAcceptance, IsAuditAnswer};
 ghost use Rattle.drain_verdict.specs.Headline.{IsRight, TilesAreOne, ElevationIsTheirs};
 ghost use Rattle.drain_verdict.specs.Outcomes.{AreJudgedRight, IsOutcomeAnswer};
 

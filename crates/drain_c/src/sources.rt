@@ -4,7 +4,7 @@
 ghost use Rattle.std.specs.Prelude.{◌≡◌, take, IfOk, IfErr};
 ghost use Rattle.drain_c.specs.Given.{audit_raster, check_raster};
 ghost use Rattle.drain_c.specs.Sources.{AreTilesOf, AreRastersOf, IsRasterOf, IsTileOf};
-ghost use Rattle.drain_verdict.specs.AuditInputs.{with_con_for_ranks};
+ghost use Rattle.drain_verdict.specs.Inputs.{as_five};
 
 use crate::given::{AuditBytes, CheckBytes, RasterBytes, TileBytes};
 use drain_device::{ByteList, ByteSource, SliceSource};
@@ -83,7 +83,7 @@ pub fn audit_inputs<'a>(
     alloc: Global,
     given: &AuditBytes<'a>,
 ) -> Result<AuditProducts<SliceSource<'a>>, Refusal>
-    ensures same { IfOk result (λ products. AreRastersOf ⟦<SliceSource<'a> as ByteSource>⟧.bytes_left (audit_raster given.now) (with_con_for_ranks products)) }
+    ensures same { IfOk result (λ products. AreRastersOf ⟦<SliceSource<'a> as ByteSource>⟧.bytes_left (audit_raster given.now) (as_five products)) }
     ensures memory { IfErr result (λ refusal. refusal ≡ Refusal.OutOfMemory) }
 {
     Ok(AuditProducts {

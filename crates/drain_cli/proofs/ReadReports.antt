@@ -1,22 +1,60 @@
 -- What is read of a window's report is the report on that window.
-use Rattle.std.proofs.Common.{◌≡◌, sym, ap, subst}
+use Rattle.std.proofs.Common.{◌≡◌, ◌<◌, ◌++◌, List, ℕ, Option, None, Some, Result, Ok, Err, length, refl, sym, ap, ◌∙◌, arith, subst}
+use Rattle.std.specs.Io.KnownBytes.{Consumes, IsAtEnd}
+use Rattle.std.proofs.lemmas.List.{append-nil}
+use Rattle.drain_device.specs.declared.patience.GaveUp.{GaveUp}
+use Rattle.drain_maker.specs.declared.product_files.SetFault.{SetFault}
+use Rattle.drain_answer.specs.Printing.{status_after}
+use Rattle.drain_answer.specs.Statuses.{status_code}
+use Rattle.drain_answer.specs.declared.outcome.Status.{Status}
+use Rattle.drain_answer.specs.declared.outcome.Status.TheVariants.{Failed}
+use Rattle.drain_report.specs.Contents.{ContentsFit, contents_of, report_text, Contents}
+use Rattle.drain_union.specs.declared.report.WindowReport.{WindowReport}
+use Rattle.drain_union.specs.Reports.{Agree, audited, Report, IsReportOf}
+use Rattle.drain_cli.specs.WindowRuns.{IsReadable, text_of}
 use Rattle.drain_merge.specs.UnionVerdicts.{IsVerdictInside}
-use Rattle.drain_report.specs.Contents.{Contents}
 use Rattle.drain_grid.specs.declared.verdict.Verdict.{Verdict}
 use Rattle.drain_grid.specs.declared.verdict.Verdict.TheVariants.{Accepted, Rejected}
 use Rattle.drain_grid.specs.declared.cell.Cell.{Cell}
 use Rattle.drain_grid.specs.Grid.{Grid, Products}
 use Rattle.drain_grid.specs.Values.{NoDataNumbers}
 use Rattle.drain_verdict.specs.Meaning.{input_grid, input_products, nodata_numbers, tiling_of}
-use Rattle.drain_window.specs.MapOrigins.{map_origin}
+use Rattle.drain_window.specs.WindowLines.{map_origin}
 use Rattle.drain_window.specs.WindowAnswers.{IsJudgedVerdict, window_of}
-use Rattle.drain_union.specs.Cuts.{window_at}
+use Rattle.drain_union.specs.Windows.{window_at}
 use Rattle.drain_union.specs.Laws.{FourNumbers}
-use Rattle.drain_union.specs.NoData.{audited}
-use Rattle.drain_union.specs.Reports.{Report, IsReportOf}
 use Rattle.drain_union.specs.declared.place.Place.{Place}
 use Rattle.drain_union.specs.declared.place.TheConstants.{SEAM_DEPTH}
-use Rattle.drain_cli.specs.RunLaws.{ReadIsJudged}
+use Rattle.drain_cli.specs.RoundTrip.{ReadIsJudged}
+
+-- The text of a report.
+
+pub text_is : (w : WindowReport) → text_of w ≡ report_text (contents_of w)
+unfolding text_of
+text_is w = refl
+
+-- it isn't empty
+pub some_text : (w : WindowReport) → 0 < length (text_of w)
+unfolding text_of
+some_text w = omega arith
+
+-- what was written is read again
+pub readable : (w : WindowReport) (done : Result (Unit {0}) SetFault) → (Agree w.verdict w.report → ContentsFit (contents_of w)) → IsReadable w done
+readable w (Ok done) fits = fits
+readable w (Err fault) fits = tt
+
+-- all bytes of a source that were known are the text
+pub all_read : (old new : Option (List ℕ)) (bytes text : List ℕ) → old ≡ Some bytes → Consumes old new text → IsAtEnd new → text ≡ bytes
+all_read None new bytes text is reads end = absurd (let no : ⊥ = cc in no)
+all_read (Some xs) None bytes text is reads end = absurd reads
+all_read (Some xs) (Some ys) bytes text is reads end =
+    let known : xs ≡ bytes = cc in
+    sym (append-nil text) ∙ ap (λ rest. text ++ rest) (sym end) ∙ sym reads ∙ known
+
+-- the number of a failure is 3, whether its line was printed or not
+pub failed_code : (done : Result (Unit {0}) GaveUp) (status : Status) (code : ℕ) → status ≡ Failed → code ≡ status_code (status_after done status) → code ≡ 3
+failed_code (Ok all) status code failed is = is ∙ ap status_code failed
+failed_code (Err gave_up) status code failed is = is
 
 -- a verdict with all no-data numbers is one with those of an audit
 inside : FourNumbers → (n : NoDataNumbers) (origin : Cell) (p : Place) (g : Grid) (ps : Products) (v : Verdict) → IsJudgedVerdict n origin p g ps v →

@@ -1,7 +1,19 @@
 -- A check reads what was written into empty files, and so accepts it.
-use Rattle.std.proofs.Common.{◌≡◌, ℕ, suc, ◌<◌, List, [], ◌∷◌, map, length, slice_index_or, Option, Some, None, Ok, inl, inr, arith, refl, sym, ap, ◌∙◌, subst}
+use Rattle.std.proofs.Common.{◌≡◌, ℕ, ◌<◌, ◌++◌, List, [], length, true, false, arith, refl, sym, ap, ◌∙◌, take, inl, inr, suc, ◌∷◌, map, slice_index_or, subst}
+use Rattle.std.specs.Prelude.{◌↔◌, nat_le, Option, Some, None, Result, Ok, Err, IsErrOf}
+use Rattle.std.proofs.lemmas.Bool.{leb-true, leb-false}
+use Rattle.std.proofs.lemmas.List.{take_all, take-append-drop, length-take-le, length-take}
+use Rattle.drain_device.specs.Reads.{ReadsUpTo, TakesAtMost}
+use Rattle.drain_device.specs.declared.read.BodyFault.{BodyFault}
+use Rattle.drain_device.specs.declared.read.BodyFault.TheVariants.{ReadFailed, OutOfMemory}
+use Rattle.drain_text.specs.First.{IsBefore, IsFirst}
+use Rattle.drain_header.specs.declared.fault.HeaderFault.{HeaderFault}
+use Rattle.drain_header.specs.declared.fault.HeaderFault.TheVariants.{TooLong, RepeatedKey, BadValue, MissingKey, NotOneBand, BadBits, BadPixelType, RowTooShort}
+use Rattle.drain_header.specs.Header.{Fields}
+use Rattle.drain_header.specs.Faults.{fault_order, HasFault, Answers}
+use Rattle.drain_cli.specs.FillRuns.{HeaderOutcome, IsAnswerToldAs, IsToldAs, AnswersHeaderTold}
 use Rattle.std.specs.Io.KnownBytes.{Appends}
-use Rattle.drain_device.specs.Devices.{Sink}
+use Rattle.drain_device.specs.Failing.{Sink}
 use Rattle.drain_grid.specs.declared.set_product.SetProduct.{SetProduct}
 use Rattle.drain_grid.specs.SinkTexts.{sinks_of}
 use Rattle.drain_grid.specs.declared.set_product.SetProduct.TheVariants.{Con, Dir, Acc, Bas, Rnk}
@@ -13,11 +25,82 @@ use Rattle.drain_mosaic.specs.Tiling.{Tiling}
 use Rattle.drain_raster.specs.Bytes.{raster_bytes}
 use Rattle.drain_verdict.specs.Inputs.{Inputs}
 use Rattle.drain_maker.specs.Mosaics.{IsMosaicOf}
-use Rattle.drain_maker.specs.Headers.{made_header}
+use Rattle.drain_maker.specs.ProductFiles.{made_header, WritesFiles, set_bytes}
 use Rattle.drain_maker.specs.Made.{AreMade}
 use Rattle.drain_maker.specs.Accepted.{MadeIsAccepted}
-use Rattle.drain_maker.specs.ProductFiles.{WritesFiles, set_bytes}
 use Rattle.drain_cli.specs.RoundTrip.{WhatIsWrittenIsAccepted, files_given}
+
+-- The first 65,537 bytes of a text have its answer, and what is left after reading them.
+
+-- nothing comes before a text that is too long
+none_earlier : (b : HeaderFault) → IsBefore (fault_order b) (1, 0) → ⊥
+none_earlier TooLong before = elim before [ inl lower ↦ omega (arith, lower) | inr same ↦ omega (arith, same.1) ]
+none_earlier (RepeatedKey n) before = elim before [ inl lower ↦ omega (arith, lower) | inr same ↦ omega (arith, same.1) ]
+none_earlier (BadValue n) before = elim before [ inl lower ↦ omega (arith, lower) | inr same ↦ omega (arith, same.1) ]
+none_earlier (MissingKey key) before = elim before [ inl lower ↦ omega (arith, lower) | inr same ↦ omega (arith, same.1) ]
+none_earlier NotOneBand before = elim before [ inl lower ↦ omega (arith, lower) | inr same ↦ omega (arith, same.1) ]
+none_earlier BadBits before = elim before [ inl lower ↦ omega (arith, lower) | inr same ↦ omega (arith, same.1) ]
+none_earlier BadPixelType before = elim before [ inl lower ↦ omega (arith, lower) | inr same ↦ omega (arith, same.1) ]
+none_earlier RowTooShort before = elim before [ inl lower ↦ omega (arith, lower) | inr same ↦ omega (arith, same.1) ]
+
+too_long : (text : List ℕ) → 65536 < length text → IsFirst fault_order (HasFault text) TooLong
+too_long text long = record { holds = long; first = λ b before has. none_earlier b before }
+
+-- of a text that is too long the answer says so
+only_too_long : (text : List ℕ) (answer : Result Fields HeaderFault) → 65536 < length text → Answers text answer → answer ≡ Err TooLong
+only_too_long text (Ok h) long is = absurd (is.sound TooLong long)
+only_too_long text (Err TooLong) long is = refl
+only_too_long text (Err (RepeatedKey n)) long is = absurd (is.first TooLong (inl (omega arith)) long)
+only_too_long text (Err (BadValue n)) long is = absurd (is.first TooLong (inl (omega arith)) long)
+only_too_long text (Err (MissingKey key)) long is = absurd (is.first TooLong (inl (omega arith)) long)
+only_too_long text (Err NotOneBand) long is = absurd (is.first TooLong (inl (omega arith)) long)
+only_too_long text (Err BadBits) long is = absurd (is.first TooLong (inl (omega arith)) long)
+only_too_long text (Err BadPixelType) long is = absurd (is.first TooLong (inl (omega arith)) long)
+only_too_long text (Err RowTooShort) long is = absurd (is.first TooLong (inl (omega arith)) long)
+
+first_bytes_answer : (text : List ℕ) (answer : Result Fields HeaderFault) → Answers (take 65537 text) answer → Answers text answer
+first_bytes_answer text answer is = elim (nat_le (length text) 65537) as (λ b. nat_le (length text) 65537 ≡ b → Answers text answer) [
+  | true ↦ λ short. rw (take_all 65537 text (leb-true (length text) 65537 short)) at is
+  | false ↦ λ long. (
+      let whole : 65536 < length text = (let p = leb-false (length text) 65537 long in omega (arith, p)) in
+      let first : 65536 < length (take 65537 text) = omega (arith, length-take-le 65537 text (omega (arith, whole)), whole) in
+      let told = only_too_long (take 65537 text) answer first is in
+      rw told (too_long text whole))
+] refl
+
+pub answer_told : (old new : Option (List ℕ)) (items body : List ℕ) (answer : Result Fields HeaderFault) → body ≡ items → ReadsUpTo 65537 old new items → Answers body answer → AnswersHeaderTold old (Ok answer)
+answer_told None new items body answer same reads is = _
+answer_told (Some xs) None items body answer same reads is = absurd reads
+answer_told (Some xs) (Some ys) items body answer same reads is = first_bytes_answer xs answer (rw (same ∙ reads.0) at is)
+
+-- what was read is no failure to read
+pub read_told : {T U : Type 0} (read : Result T BodyFault) (body : T) (answer : U) (Fails : Type 0) → read ≡ Ok body → (IsErrOf read ReadFailed ↔ Fails) → IsErrOf {T = U} (Ok answer) ReadFailed ↔ Fails
+read_told read body answer Fails is exactly = (λ e. cc, λ f. (let p = exactly.1 f in cc))
+
+-- what is said of an answer or an outcome
+pub told_header : (answer : Result Fields HeaderFault) (h : Fields) → answer ≡ Ok h → IsAnswerToldAs answer (Ok (Ok h))
+told_header answer h is = rw is (inl refl)
+
+pub told_no_memory : (answer : Result Fields HeaderFault) (h : Fields) → answer ≡ Ok h → IsAnswerToldAs answer (Err OutOfMemory)
+told_no_memory answer h is = rw is (inr refl)
+
+pub told_fault : (answer : Result Fields HeaderFault) (fault : HeaderFault) → answer ≡ Err fault → IsAnswerToldAs answer (Ok (Err fault))
+told_fault answer fault is = rw is refl
+
+pub told_answer : (outcome told : HeaderOutcome) (answer : Result Fields HeaderFault) → outcome ≡ Ok answer → IsAnswerToldAs answer told → IsToldAs outcome told
+told_answer outcome told answer is as_told = rw is as_told
+
+pub told_failure : (outcome : HeaderOutcome) (fault : BodyFault) → outcome ≡ Err fault → IsToldAs outcome (Err fault)
+told_failure outcome fault is = rw is refl
+
+pub taken : (n : ℕ) (old new : Option (List ℕ)) (body : List ℕ) → ReadsUpTo n old new body → TakesAtMost n old new
+taken n None new body reads = ([], _, omega arith)
+taken n (Some xs) None body reads = absurd reads
+taken n (Some xs) (Some ys) body reads = (
+  take n xs,
+  sym (take-append-drop n xs) ∙ ap (λ rest. take n xs ++ rest) (sym reads.1),
+  omega (arith, length-take n xs),
+)
 
 -- what was appended to no bytes is all there is
 from-nothing : (new : Option (List ℕ)) (bytes : List ℕ) → Appends (Some []) new bytes → new ≡ Some bytes

@@ -1,33 +1,67 @@
 -- How a run of `drain check` or `drain audit` ends: with a verdict, or with the first refusal.
-use Rattle.std.specs.Prelude.{ℕ, List, Result}
-use Rattle.drain_answer.specs.declared.audit_verdict.AuditVerdict.{AuditVerdict}
+use Rattle.std.specs.Prelude.{ℕ, List, Ok, Err, Result}
 use Rattle.drain_answer.specs.declared.refusal.Refusal.{Refusal}
-use Rattle.drain_device.specs.Devices.{Source}
-use Rattle.drain_hgt.specs.declared.input.TileInput.{TileInput}
+use Rattle.drain_cli.specs.declared.answer.Answer.{Answer}
+use Rattle.drain_cli.specs.declared.answer.Answer.TheVariants.{Check, Audit, Part}
+use Rattle.drain_answer.specs.AuditLines.{audit_report_line}
+use Rattle.drain_answer.specs.Lines.{report_line}
+use Rattle.drain_answer.specs.OutcomeLines.{outcome_report_line}
 use Rattle.drain_answer.specs.declared.outcome.Outcome.{Outcome}
+use Rattle.drain_answer.specs.Statuses.{refusal_status}
+use Rattle.drain_answer.specs.declared.outcome.Status.{Status}
+use Rattle.drain_answer.specs.declared.outcome.Status.TheVariants.{Done, Rejected}
+use Rattle.drain_answer.specs.declared.outcome.AuditVerdict.{AuditVerdict}
+use Rattle.drain_device.specs.Failing.{Source, Sink}
+use Rattle.drain_hgt.specs.declared.input.TileInput.{TileInput}
 use Rattle.drain_answer.specs.Printing.{Prints}
-use Rattle.drain_cli.specs.AnswerStatuses.{answer_line, answer_status}
-use Rattle.drain_cli.specs.declared.answer.Answer.TheVariants as answer
-use Rattle.drain_device.specs.Devices.{Sink}
 use Rattle.drain_files.specs.declared.open_judged.JudgedProducts.{JudgedProducts}
 use Rattle.drain_files.specs.declared.open_judged.JudgedProducts.TheVariants.{Five, Four}
 use Rattle.drain_grid.specs.declared.judged.Judged.{Judged}
 use Rattle.drain_grid.specs.declared.judged.Judged.TheVariants.{Con, ConDir, ConDirAcc, ConDirBas, All, AllWithRanks}
 use Rattle.drain_verdict.specs.Outcomes.{IsOutcomeAnswer}
 use Rattle.drain_grid.specs.declared.verdict.Verdict.{Verdict}
-use Rattle.drain_verdict.specs.Answers.{IsAnswer}
-use Rattle.drain_verdict.specs.AuditInputs.{audit_devices, with_con_for_ranks}
-use Rattle.drain_verdict.specs.Audits.{IsAuditAnswer}
-use Rattle.drain_verdict.specs.Devices.{devices_of}
-use Rattle.drain_verdict.specs.Inputs.{Inputs, Products, Tell}
-use Rattle.drain_verdict.specs.Uses.{UsesInputs}
+use Rattle.drain_verdict.specs.Answers.{IsAnswer, IsAuditAnswer}
+use Rattle.drain_verdict.specs.Inputs.{audit_devices, as_five, Inputs, Products, Encode}
+use Rattle.drain_verdict.specs.Uses.{devices_of, UsesInputs}
 use Rattle.drain_verdict.specs.declared.audit_products.AuditProducts.{AuditProducts}
+use Rattle.drain_answer.specs.declared.outcome.AuditVerdict.TheVariants as audit
+use Rattle.drain_answer.specs.declared.outcome.Outcome.TheVariants as outcome
+use Rattle.drain_grid.specs.declared.verdict.Verdict.TheVariants as check
+use Rattle.drain_cli.specs.declared.answer.Answer.TheVariants as answer
+
+-- The line and the status of an answer.
+
+-- done if judged rasters are accepted, rejected if there is another outcome, else that of the refusal
+abbrev pub outcome_status : Result Outcome Refusal → Status
+outcome_status (Ok (outcome.Accepted counts)) = Done
+outcome_status (Ok (outcome.AcceptedSurface counts)) = Done
+outcome_status (Ok (outcome.Rejected rule row col)) = Rejected
+outcome_status (Ok (outcome.NoEnd row col)) = Rejected
+outcome_status (Ok (outcome.NotFilled row col)) = Rejected
+outcome_status (Err refusal) = refusal_status refusal
+
+-- done if the products are accepted, rejected if there is another verdict, else that of the refusal
+abbrev pub answer_status : Answer → Status
+answer_status (Check (Ok (check.Accepted counts))) = Done
+answer_status (Check (Ok (check.Rejected rule row col))) = Rejected
+answer_status (Check (Err refusal)) = refusal_status refusal
+answer_status (Audit (Ok (audit.Accepted counts))) = Done
+answer_status (Audit (Ok (audit.Rejected rule row col))) = Rejected
+answer_status (Audit (Ok (audit.NoEnd row col))) = Rejected
+answer_status (Audit (Err refusal)) = refusal_status refusal
+answer_status (Part answer) = outcome_status answer
+
+-- the line of an answer
+abbrev pub answer_line : Answer → List ℕ
+answer_line (Check answer) = report_line answer
+answer_line (Audit answer) = audit_report_line answer
+answer_line (Part answer) = outcome_report_line answer
 
 -- the answer is that of the bytes that the devices had left, if they are known, and says how the inputs are used; the
 -- products are read as these five, from these devices
 pub record IsJudgement {R P V : Type 0} (inputs_of : P → Products R) (devices : List (TileInput R) → P → List R) (IsAnswerTo : Inputs → Result V Refusal → Type 0)
     (source : Source R) (side : ℕ) (tiles_old tiles_new : List (TileInput R)) (sinks : List ℕ) (products_old products_new : P) (outcome : Result V Refusal) : Type 0 where
-  pub answer : (i : Inputs) → Tell source.bytes_left side tiles_old sinks (inputs_of products_old) i → IsAnswerTo i outcome
+  pub answer : (i : Inputs) → Encode source.bytes_left side tiles_old sinks (inputs_of products_old) i → IsAnswerTo i outcome
   pub uses : UsesInputs inputs_of devices source.bytes_left source.counts side (tiles_old, products_old) (tiles_new, products_new) outcome
 
 -- of the five products of a check
@@ -37,12 +71,12 @@ IsCheckOutcome source side tiles_old tiles_new sinks old new outcome = IsJudgeme
 -- of the four products of an audit
 abbrev pub IsAuditOutcome : {R : Type 0} → Source R → ℕ → List (TileInput R) → List (TileInput R) → List ℕ → AuditProducts R → AuditProducts R → Result AuditVerdict Refusal → Type 0
 IsAuditOutcome source side tiles_old tiles_new sinks old new outcome =
-    IsJudgement with_con_for_ranks audit_devices IsAuditAnswer source side tiles_old tiles_new sinks old new outcome
+    IsJudgement as_five audit_devices IsAuditAnswer source side tiles_old tiles_new sinks old new outcome
 
 -- of those of the four products that are judged
 abbrev pub IsPartOutcome : {R : Type 0} → Source R → Judged → ℕ → List (TileInput R) → List (TileInput R) → List ℕ → AuditProducts R → AuditProducts R → Result Outcome Refusal → Type 0
 IsPartOutcome source judged side tiles_old tiles_new sinks old new outcome =
-    IsJudgement with_con_for_ranks audit_devices (IsOutcomeAnswer judged) source side tiles_old tiles_new sinks old new outcome
+    IsJudgement as_five audit_devices (IsOutcomeAnswer judged) source side tiles_old tiles_new sinks old new outcome
 
 -- the answer that the line and the status print
 abbrev pub PrintsAnswer : {R W : Type 0} → Source R → Sink W → Judged → ℕ → List (TileInput R) → List (TileInput R) → List ℕ → AuditProducts R → AuditProducts R → W → W → ℕ → Type 0

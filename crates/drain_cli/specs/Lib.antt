@@ -1,14 +1,9 @@
-pub mod AnswerStatuses
+pub mod JudgedRuns
 pub mod DerivedSets
 pub mod ExplainRuns
 pub mod FillRuns
-pub mod HeaderRuns
-pub mod JudgedRuns
 pub mod MadeSets
 pub mod MergeRuns
 pub mod ReportInputs
-pub mod ReportOutputs
-pub mod RoundTrip
-pub mod RunLaws
-pub mod SetRuns
 pub mod WindowRuns
+pub mod RoundTrip

@@ -15,12 +15,12 @@ use Rattle.drain_merge.specs.declared.merge_verdict.MergeRefusal.{MergeRefusal}
 use Rattle.drain_merge.specs.declared.merge_verdict.MergeRefusal.TheVariants.{OutOfMemory}
 use Rattle.drain_merge.specs.declared.merge_verdict.MergeVerdict.{MergeVerdict}
 use Rattle.drain_merge.specs.declared.merge_verdict.MergeVerdict.TheVariants.{Accepted, Rejected}
-use Rattle.drain_merge.specs.declared.union_sinks.UnionSinks.{UnionSinks}
-use Rattle.drain_answer.specs.declared.status.Status.{Status}
-use Rattle.drain_answer.specs.declared.status.Status.TheVariants as status
+use Rattle.drain_merge.specs.declared.totals.UnionSinks.{UnionSinks}
+use Rattle.drain_answer.specs.declared.outcome.Status.{Status}
+use Rattle.drain_answer.specs.declared.outcome.Status.TheVariants as status
 use Rattle.drain_union.specs.Reports.{Report}
 use Rattle.drain_union.specs.Windows.{Window, AreWindowsOf}
-use Rattle.drain_union.specs.declared.window_report.WindowReport.{WindowReport}
+use Rattle.drain_union.specs.declared.report.WindowReport.{WindowReport}
 
 -- the verdict on the union, which has these sinks unless a window is rejected; or the first refusal
 abbrev pub IsMergeOutcome : UnionSinks → List WindowReport → Result MapVerdict MergeRefusal → Type 0

@@ -2,13 +2,12 @@
 use Rattle.std.specs.Prelude.{◌⊎◌, ℕ, List, ◌++◌, codes, decimal}
 use Rattle.std.specs.Io.KnownBytes.{Consumes, IsAtEnd}
 use Rattle.drain_device.specs.Counts.{Answered}
-use Rattle.drain_device.specs.Devices.{Source}
-use Rattle.drain_device.specs.Patience.{GivesUp, full_patience}
+use Rattle.drain_device.specs.Failing.{Source, GivesUp, full_patience}
 use Rattle.drain_device.specs.declared.read.BodyFault.TheVariants as body
-use Rattle.drain_files.specs.LongTexts.{TakesMoreThan}
-use Rattle.drain_files.specs.declared.text_file.TheConstants.{MAX_TEXT_BYTES}
-use Rattle.drain_answer.specs.declared.status.Status.{Status}
-use Rattle.drain_answer.specs.declared.status.Status.TheVariants.{Refused, Failed}
+use Rattle.drain_files.specs.Files.{TakesMoreThan}
+use Rattle.drain_files.specs.declared.whole_input.TheConstants.{MAX_TEXT_BYTES}
+use Rattle.drain_answer.specs.declared.outcome.Status.{Status}
+use Rattle.drain_answer.specs.declared.outcome.Status.TheVariants.{Refused, Failed}
 use Rattle.drain_report.specs.Faults.{FaultFits}
 use Rattle.drain_report.specs.declared.fault.ReportFault.TheVariants.{WrongVersion, MissingLine, BadLine, OutOfRange, AfterEnd, OutOfMemory}
 use Rattle.drain_cli.specs.declared.runs.report_input.BadReport.{BadReport}

@@ -1,7 +1,13 @@
 -- From tiles to products, to files, and to the check of these files: what was made and written is accepted.
-use Rattle.std.specs.Prelude.{◌≡◌, ℕ, List, [], ◌∷◌, map, Option, Some, Result, Ok}
+use Rattle.std.specs.Prelude.{◌≡◌, Ok, ℕ, List, [], ◌∷◌, map, Option, Some, Result}
+use Rattle.drain_merge.specs.UnionVerdicts.{IsJudgedFrom}
+use Rattle.drain_report.specs.Contents.{contents_of}
+use Rattle.drain_verdict.specs.Inputs.{Inputs}
+use Rattle.drain_window.specs.WindowAnswers.{IsWindowAnswer, window_of}
+use Rattle.drain_union.specs.declared.place.Place.{Place}
+use Rattle.drain_union.specs.declared.report.WindowReport.{WindowReport}
 use Rattle.std.specs.List.{All, flat_map}
-use Rattle.drain_device.specs.Devices.{Sink}
+use Rattle.drain_device.specs.Failing.{Sink}
 use Rattle.drain_grid.specs.declared.product_set.ProductSet.{ProductSet}
 use Rattle.drain_grid.specs.WholeGrid.{grid_of, products_of}
 use Rattle.drain_grid.specs.SetProduct.{products}
@@ -9,12 +15,19 @@ use Rattle.drain_hgt.specs.declared.input.TileInput.{TileInput}
 use Rattle.drain_mosaic.specs.Tiling.{Tiling}
 use Rattle.drain_grid.specs.declared.verdict.Verdict.{Verdict}
 use Rattle.drain_answer.specs.declared.refusal.Refusal.{Refusal}
-use Rattle.drain_verdict.specs.Inputs.{Inputs}
 use Rattle.drain_maker.specs.Mosaics.{TellTiles}
 use Rattle.drain_verdict.specs.Answers.{IsAnswer}
 use Rattle.drain_maker.specs.Accepted.{IsMadeAcceptance}
 use Rattle.drain_maker.specs.ProductFiles.{WritesFiles, set_bytes}
 use Rattle.drain_cli.specs.MadeSets.{IsSetOf}
+
+-- How a run of `drain window` and a run of `drain merge` go together. The law is this project's own.
+
+-- what is read again of what a window's inputs were answered is the report on that window
+abbrev pub ReadIsJudged : Type 0
+ReadIsJudged =
+    (p : Place) (i : Inputs) (written read : WindowReport) → IsWindowAnswer p i (Ok written) → contents_of read ≡ contents_of written →
+    IsJudgedFrom (window_of p i) read
 
 -- the bytes that a check is given of the products: of each its header, and then its raster
 unfoldable pub files_given : Inputs → List (List ℕ)

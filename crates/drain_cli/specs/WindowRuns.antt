@@ -1,20 +1,54 @@
 -- How the first part of a run of `drain window` ends: with what is to be reported, or with the reason why there is none.
-use Rattle.std.specs.Prelude.{◌≡◌, ℕ, List, Result, Ok, Err}
-use Rattle.drain_device.specs.Devices.{Sink, Source}
+use Rattle.std.specs.Prelude.{ℕ, List, Result, Ok, Err, codes, ◌≡◌}
+use Rattle.drain_answer.specs.Lines.{verdict_line}
+use Rattle.drain_maker.specs.declared.product_files.SetFault.{SetFault}
+use Rattle.drain_maker.specs.declared.product_files.SetFault.TheVariants.{WriteFailed, OutOfMemory}
+use Rattle.drain_answer.specs.declared.outcome.Status.{Status}
+use Rattle.drain_answer.specs.declared.outcome.Status.TheVariants.{Done, Rejected, Failed, Refused}
+use Rattle.drain_report.specs.Contents.{ContentsFit, contents_of, report_text}
+use Rattle.drain_grid.specs.declared.verdict.Verdict.{Verdict}
+use Rattle.drain_union.specs.Reports.{Agree}
+use Rattle.drain_union.specs.declared.report.WindowReport.{WindowReport}
+use Rattle.drain_device.specs.Failing.{Sink, Source}
 use Rattle.drain_hgt.specs.declared.input.TileInput.{TileInput}
 use Rattle.drain_answer.specs.Printing.{Prints}
 use Rattle.drain_answer.specs.Statuses.{refusal_status}
-use Rattle.drain_answer.specs.declared.status.Status.{Status}
-use Rattle.drain_answer.specs.declared.status.Status.TheVariants.{Refused}
-use Rattle.drain_verdict.specs.Audits.{ForAudit}
+use Rattle.drain_verdict.specs.Answers.{ForAudit}
 use Rattle.drain_verdict.specs.Uses.{AuditUses}
 use Rattle.drain_verdict.specs.declared.audit_products.AuditProducts.{AuditProducts}
 use Rattle.drain_window.specs.WindowAnswers.{as_refused, IsWindowAnswer}
 use Rattle.drain_window.specs.WindowLines.{refusal_line}
-use Rattle.drain_window.specs.declared.window_answer.WindowRefusal.{WindowRefusal}
-use Rattle.drain_window.specs.declared.window_answer.WindowRefusal.TheVariants.{Inputs, OutsideMosaic}
+use Rattle.drain_window.specs.declared.answered.WindowRefusal.{WindowRefusal}
+use Rattle.drain_window.specs.declared.answered.WindowRefusal.TheVariants.{Inputs, OutsideMosaic}
 use Rattle.drain_union.specs.declared.place.Place.{Place}
-use Rattle.drain_union.specs.declared.window_report.WindowReport.{WindowReport}
+use Rattle.drain_grid.specs.declared.verdict.Verdict.TheVariants as window
+
+-- The line and the status for a report that was written, or couldn't be. The words are this project's own.
+
+-- the text of what is handed over of a window
+unfoldable pub text_of : WindowReport → List ℕ
+text_of w = report_text (contents_of w)
+
+-- what was written is read again, if the report agrees with the verdict
+abbrev pub IsReadable : WindowReport → Result (Unit {0}) SetFault → Type 0
+IsReadable w (Ok done) = Agree w.verdict w.report → ContentsFit (contents_of w)
+IsReadable w (Err fault) = Unit {0}
+
+-- the line of the verdict, if its report was written
+abbrev pub reported_line : Verdict → Result (Unit {0}) SetFault → List ℕ
+reported_line v (Ok done) = verdict_line v
+reported_line v (Err WriteFailed) = codes "failed WriteFailed"
+reported_line v (Err OutOfMemory) = codes "failed OutOfMemory"
+
+-- the status of a verdict
+abbrev pub verdict_status : Verdict → Status
+verdict_status (window.Accepted counts) = Done
+verdict_status (window.Rejected rule row col) = Rejected
+
+-- its status, if its report was written
+abbrev pub reported_status : Verdict → Result (Unit {0}) SetFault → Status
+reported_status v (Ok done) = verdict_status v
+reported_status v (Err fault) = Failed
 
 -- the outcome is the answer to the bytes that the devices had left, if they are known; they are read as by an audit
 pub record IsWindowOutcome {R : Type 0} (source : Source R) (p : Place) (side : ℕ) (tiles_old tiles_new : List (TileInput R)) (sinks : List ℕ)

@@ -3,11 +3,11 @@
 ghost use Rattle.std.specs.Prelude.{◌≡◌, ◌<◌};
 ghost use Rattle.drain_answer.specs.Printing.{Prints};
 ghost use Rattle.drain_answer.specs.Statuses.{status_code};
-ghost use Rattle.drain_cli.specs.AnswerStatuses.{answer_line, answer_status, outcome_status};
+ghost use Rattle.drain_cli.specs.JudgedRuns.{answer_line, answer_status, outcome_status};
 
 use drain_answer::lines::Line;
+use drain_answer::outcome::Status;
 use drain_answer::print::print_line;
-use drain_answer::status::Status;
 use drain_answer::{AuditVerdict, Outcome, Refusal, audit_report, outcome_report, report};
 use drain_device::ByteSink;
 use drain_grid::Verdict;

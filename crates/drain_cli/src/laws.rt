@@ -2,8 +2,7 @@
 //!
 //! A law is a function with an empty body: its contract is the law, and a caller gets the law by calling it.
 
-ghost use Rattle.drain_cli.specs.RoundTrip.{WhatIsWrittenIsAccepted};
-ghost use Rattle.drain_cli.specs.RunLaws.{ReadIsJudged};
+ghost use Rattle.drain_cli.specs.RoundTrip.{WhatIsWrittenIsAccepted, ReadIsJudged};
 
 use drain_device::{ByteSink, ByteSource};
 use drain_maker::laws::made_is_accepted;

@@ -1,26 +1,25 @@
 //! The program `drain`: it reads the arguments, opens the standard streams and the named files as devices, passes them
 //! to a run, and returns its status. What a run does is in the other modules, each with its contract.
 
-use crate::runs::derive_files::derive_files;
+use crate::runs::derive_set::derive_files;
 use crate::runs::explain_files::explain_files;
 use crate::runs::judge::run_judged;
-use crate::runs::make_files::make_from_files;
-use crate::runs::merge_files::merge_files;
-use crate::runs::no_page::print_no_object;
+use crate::runs::make_set::make_from_files;
+use crate::runs::run_explain::print_out_of_memory;
 use crate::runs::run_fill::run_fill;
 use crate::runs::run_header::run_header;
-use crate::runs::window_files::window_files;
+use crate::runs::run_merge::merge_files;
+use crate::runs::run_window::window_files;
 use clap::Error;
 use clap::error::ErrorKind;
+use drain_answer::outcome::Status;
 use drain_answer::print::{print_failure, print_text};
-use drain_answer::status::Status;
 use drain_args::form::{Form, requested_form};
 use drain_args::requests::{ProductArgs, Request, parse};
 use drain_device::{BodyFault, ByteSink, Reader, Writer};
-use drain_files::open_failure::{print_open_failure, print_open_fault};
+use drain_files::open_failure::{Reason, print_open_failure, print_open_fault, print_reason};
 use drain_files::open_files::Opener;
 use drain_files::open_judged::{OpenFiles, open_judged};
-use drain_files::reason::{Reason, print_reason};
 use drain_grid::Judged;
 use drain_progress::progress::Progress;
 use std::fs::File;
@@ -65,7 +64,7 @@ fn run(rt: &HostRuntime, args: &[String], out: &mut impl ByteSink) -> u8 {
 fn print_no_memory(rt: &HostRuntime, out: &mut impl ByteSink) -> u8 {
     match requested_form(rt) {
         Form::Text => print_failure(out, BodyFault::OutOfMemory),
-        Form::Json => print_no_object(out),
+        Form::Json => print_out_of_memory(out),
     }
 }
 

@@ -1,14 +1,9 @@
 //! A run for each command, over any source and any sink.
 
-pub mod derive_files;
 pub mod derive_set;
 pub mod explain_files;
-pub mod explain_page;
 pub mod judge;
-pub mod make_files;
 pub mod make_set;
-pub mod merge_files;
-pub mod no_page;
 pub mod report_input;
 pub mod report_output;
 pub mod run_explain;
@@ -16,6 +11,4 @@ pub mod run_fill;
 pub mod run_header;
 pub mod run_merge;
 pub mod run_window;
-pub mod second_look;
-pub mod window_files;
 pub mod write_set;

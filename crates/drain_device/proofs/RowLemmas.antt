@@ -6,10 +6,8 @@ use Rattle.drain_device.specs.declared.row_source.RowStep.{RowStep}
 use Rattle.drain_device.specs.declared.row_source.RowStep.TheVariants.{Row}
 use Rattle.drain_device.specs.declared.row_source.ReadFault.{ReadFault}
 use Rattle.drain_device.specs.declared.row_source.ReadFault.TheVariants.{WrongLength, ReadFailed, OutOfMemory, AlreadyFailed}
-use Rattle.drain_device.specs.RowBytes.{RowComes, EndComes}
-use Rattle.drain_device.specs.ComingRows.{Coming}
-use Rattle.drain_device.specs.ComingRows.Coming.{Next, Wrong}
-use Rattle.drain_device.specs.RowSteps.{Gives, Steps, ReadsWithin}
+use Rattle.drain_device.specs.RowSteps.{RowComes, EndComes, Coming, Gives, Steps, ReadsWithin}
+use Rattle.drain_device.specs.RowSteps.Coming.{Next, Wrong}
 
 -- a step on the bytes taken, whatever follows them
 gives-part : (before after : List ℕ → Coming) (old new : Option (List ℕ)) (answer : Result RowStep ReadFault) (out : List ℤ) (bytes : List ℕ) →

@@ -1,9 +1,26 @@
--- The faults of many devices: what each answered, and when a read of one of them fails.
+-- Which of std's errors is which fault of a device.
+use Rattle.std.specs.declared.io.Error.{Error}
+use Rattle.std.specs.declared.io.ErrorKind.{ErrorKind}
+use Rattle.std.specs.IoError.{error_kind}
+use Rattle.drain_device.specs.declared.fault.DeviceFault.{DeviceFault}
+use Rattle.drain_device.specs.declared.fault.DeviceFault.TheVariants.{Interrupted, Failed}
 use Rattle.std.specs.Prelude.{ℕ, ◌↔◌, List, [], ◌∷◌}
 use Rattle.std.specs.List.{Any}
 use Rattle.drain_device.specs.declared.counts.FaultCounts.{FaultCounts}
 use Rattle.drain_device.specs.Counts.{Answered}
-use Rattle.drain_device.specs.Patience.{GivesUp, full_patience}
+use Rattle.drain_device.specs.Failing.{GivesUp, full_patience}
+use Rattle.std.specs.declared.io.ErrorKind.TheVariants as kind
+
+-- an interruption is one, and every other error is a failure
+abbrev pub fault_of_kind : ErrorKind → DeviceFault
+fault_of_kind kind.Interrupted = Interrupted
+fault_of_kind _ = Failed
+
+-- the fault for an error of std
+abbrev pub fault_of : Error → DeviceFault
+fault_of error = fault_of_kind (error_kind error)
+
+-- The faults of many devices: what each answered, and when a read of one of them fails.
 
 -- how many failures and interruptions a device answered
 pub record Faults : Type 0 where

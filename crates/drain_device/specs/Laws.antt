@@ -1,7 +1,7 @@
 -- What the definitions of rows to come promise.
 use Rattle.std.specs.Prelude.{◌≡◌, ℕ, ℤ, List}
-use Rattle.drain_device.specs.ComingRows.{Coming, IsNthRow, after_rows}
-use Rattle.drain_device.specs.ComingRows.Coming.{Next}
+use Rattle.drain_device.specs.RowSteps.{Coming, IsNthRow, after_rows}
+use Rattle.drain_device.specs.RowSteps.Coming.{Next}
 
 -- after n rows, a row that comes is the next one
 abbrev pub RowsComeInOrder : Type 0

@@ -39,7 +39,7 @@ impl Patience {
     }
 
     /// Counts one more interruption, and returns whether it is one too many.
-    pub fn bear(&mut self) -> Result<(), GaveUp>
+    pub fn tolerate(&mut self) -> Result<(), GaveUp>
         ensures too_many { IsErr result ↔ (self.old ≡ 0) }
         ensures left { self.new ≡ self.old - 1 }
     {

@@ -4,8 +4,8 @@
 //! end can only be seen by requesting one byte more.
 
 ghost use Rattle.std.specs.Prelude.{◌≡◌, ℕ, List, length, IsErrOf};
-ghost use Rattle.drain_device.specs.PartFailing.{PartFails};
-ghost use Rattle.drain_device.specs.RowBytes.{EndComes, PartComes};
+ghost use Rattle.drain_device.specs.Failing.{PartFails};
+ghost use Rattle.drain_device.specs.RowSteps.{EndComes, PartComes};
 
 use crate::patience::Patience;
 use crate::read::read_full;

@@ -4,9 +4,8 @@
 //! together, with one row of each in memory.
 
 ghost use Rattle.std.specs.Prelude.{◌≡◌, ◌≢◌, ℕ, List, IsErrOf};
-ghost use Rattle.drain_device.specs.ComingRows.{Coming};
-ghost use Rattle.drain_device.specs.PartFailing.{PartFails};
-ghost use Rattle.drain_device.specs.RowSteps.{Gives, IsEmptyUnlessRow, IsLong, ReadsWithin, StaysEnded, progress_after};
+ghost use Rattle.drain_device.specs.RowSteps.{Coming, Gives, IsEmptyUnlessRow, IsLong, ReadsWithin, StaysEnded, progress_after};
+ghost use Rattle.drain_device.specs.Failing.{PartFails};
 ghost use Rattle.drain_device.specs.declared.row_source.Progress.{Progress};
 
 use crate::source::ByteSource;

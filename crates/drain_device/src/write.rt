@@ -1,9 +1,8 @@
 //! Writing to a device that may be interrupted, or take fewer bytes than it is given.
 
 ghost use Rattle.std.specs.Prelude.{◌≡◌, ◌-◌, ◌↔◌, ℕ, IsErr};
-ghost use Rattle.drain_device.specs.Counts.{Answered, counted};
-ghost use Rattle.drain_device.specs.Patience.{GivesUpWriting};
-ghost use Rattle.drain_device.specs.Writes.{HandsOver};
+ghost use Rattle.drain_device.specs.Counts.{Answered, counted, HandsOver};
+ghost use Rattle.drain_device.specs.Failing.{GivesUpWriting};
 
 use crate::fault::DeviceFault;
 use crate::patience::{GaveUp, Patience};
@@ -30,7 +29,7 @@ pub fn write_all<W: ByteSink>(
             Ok(0) => return Err(GaveUp),
             Ok(n) => at += n,
             Err(DeviceFault::Failed) => return Err(GaveUp),
-            Err(DeviceFault::Interrupted) => patience.bear()?,
+            Err(DeviceFault::Interrupted) => patience.tolerate()?,
         }
     }
     Ok(())

@@ -1,6 +1,3 @@
-mod BrokenRules
-mod EndlessTold
-mod LineSteps
-mod Noting
 mod TriedRules
+mod Noting
 mod UntriedRules

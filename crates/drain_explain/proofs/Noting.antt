@@ -1,16 +1,85 @@
 -- Notes of faults, row by row.
-use Rattle.std.proofs.Common.{◌≡◌, ◌↔◌, ◌+◌, ◌∙◌, ℕ, Option, Some, None, is_some, refl, sym, subst, ap}
-use Rattle.std.specs.Prelude.{IsSome}
+use Rattle.std.proofs.Common.{◌≡◌, ◌-◌, ◌≤◌, ◌∷◌, [], ℕ, zero, suc, List, Option, Some, None, slice_get, drop, length, refl, arith, subst, ◌↔◌, ◌+◌, ◌∙◌, is_some, sym, ap}
+use Rattle.drain_text.specs.Parts.{IsFirstLine}
+use Rattle.drain_text.specs.Text.{lines_of}
+use Rattle.std.proofs.lemmas.Option.{slice_get_past}
+use Rattle.std.proofs.lemmas.List.{length-drop}
+use Rattle.std.specs.Prelude.{IfSome, IsSome}
+use Rattle.drain_answer.specs.declared.outcome.Outcome.{Outcome}
+use Rattle.drain_answer.specs.declared.outcome.Outcome.TheVariants.{NoEnd}
+use Rattle.drain_grid.specs.declared.cell.Cell.{Cell}
+use Rattle.drain_grid.specs.declared.judged.Judged.{Judged}
+use Rattle.drain_grid.specs.declared.judged.Judged.TheVariants.{Con, AllWithRanks}
+use Rattle.drain_grid.specs.Grid.{Grid, Products}
+use Rattle.drain_grid.specs.Extent.{Extent}
+use Rattle.drain_paths.specs.declared.endless_path.EndlessPath.{EndlessPath}
+use Rattle.drain_paths.specs.declared.flow.Flow.{Flow}
+use Rattle.drain_paths.specs.Walks.{AreKnownFlows}
+use Rattle.drain_verdict.specs.Deciding.{AreFlowsFor}
+use Rattle.drain_verdict.specs.Inputs.{Inputs}
+use Rattle.drain_verdict.specs.Meaning.{input_grid, input_products, nodata_numbers}
+use Rattle.drain_verdict.specs.Outcomes.{IsConOutcome, IsOutcome, IsRankOutcome, IsWayOutcome}
+use Rattle.drain_explain.specs.Explanations.{IsEndlessOf, IsNamed, LeadsAt, AreFaultNotes}
 use Rattle.std.proofs.lemmas.Bool.{false≢true}
 use Rattle.drain_grid.specs.declared.patch.Patch.{Patch}
-use Rattle.drain_grid.specs.Grid.{Grid, Products}
 use Rattle.drain_grid.specs.declared.judged.Rules.{Rules}
-use Rattle.drain_rules.specs.PatchRows.{AreRowPatches}
+use Rattle.drain_rules.specs.Rows.{AreRowPatches}
 use Rattle.drain_faults.specs.declared.fault_map.FaultMap.{FaultMap}
 use Rattle.drain_faults.specs.FaultMaps.{IsMapOf, OfNextRowDrawn}
 use Rattle.drain_faults.specs.FaultWalks.{IsCountedOf, IsRightTally, OfNextFaultRow, OfNextRowCounted}
-use Rattle.drain_explain.specs.FaultVisitor.{AreFaultNotes}
 use Rattle.drain_explain.specs.declared.fault_visitor.FaultVisitor.{FaultVisitor}
+
+-- A list from which some items are dropped: its next item, and what is behind it.
+
+-- the first item left is the one of that number, and one more may be dropped
+pub next_of : {X : Type 0} (xs : List X) (k : ℕ) (y : X) (ys : List X) → drop k xs ≡ y ∷ ys → (slice_get xs k ≡ Some y) × (drop (suc k) xs ≡ ys)
+next_of [] zero y ys e = cc
+next_of [] (suc k) y ys e = cc
+next_of (x ∷ xs) zero y ys e = (cc, cc)
+next_of (x ∷ xs) (suc k) y ys e = next_of xs k y ys e
+
+-- behind the last item there is none
+pub none_behind : {X : Type 0} (xs : List X) (k n : ℕ) (y : X) → drop k xs ≡ y ∷ [] → suc k ≤ n → slice_get xs n ≡ None
+none_behind xs k n y e less =
+    let gone = (next_of xs k y [] e).1 in
+    let counted : length (drop (suc k) xs) ≡ 0 = rw gone refl in
+    slice_get_past xs n (omega (arith, length-drop (suc k) xs, counted, less))
+
+-- a text begins with its first line
+pub begins : (text line : List ℕ) (rest : Option (List ℕ)) → IsFirstLine text line rest → (ys : List (List ℕ)) × (lines_of text ≡ line ∷ ys)
+begins text line None is = ([], is)
+begins text line (Some rest) is = (lines_of rest, is)
+
+-- a count from 1 ends at its number, or is 1 if that is 0
+pub same_place : (counter number : ℕ) → number ≤ counter → (1 ≤ number → counter ≤ number) → (number ≡ 0 → counter ≡ 1) → counter - 1 ≡ number - 1
+same_place counter zero reached bound first = rw (first refl) refl
+same_place counter (suc n) reached bound first =
+    let less : 1 ≤ suc n = omega arith in
+    omega (arith, reached, bound less)
+
+-- Where the path without an end leads that an outcome names.
+
+module _ (i : Inputs) (outcome : Outcome) where
+  -- where paths decide, the cell that the outcome names has data
+  of_ways : (judged : Judged) (told : Option (Cell × EndlessPath)) → IsWayOutcome judged (input_grid i) (input_products i) (nodata_numbers i) outcome →
+      IfSome told (IsNamed outcome) → IfSome told (LeadsAt (input_grid i) (input_products i)) → IfSome told (IsEndlessOf i outcome)
+  of_ways judged None is named run = tt
+  of_ways judged (Some (cell, path)) is named run =
+      (named, run (subst (IsWayOutcome judged (input_grid i) (input_products i) (nodata_numbers i)) named is).here)
+
+  -- and elsewhere it names none
+  unnamed : (Is : Outcome → Type 0) → ((row col : ℕ) → ¬ Is (NoEnd row col)) → (told : Option (Cell × EndlessPath)) → Is outcome →
+      IfSome told (IsNamed outcome) → IfSome told (IsEndlessOf i outcome)
+  unnamed Is not None is named = tt
+  unnamed Is not (Some (cell, path)) is named = absurd (not cell.row cell.col (subst Is named is))
+
+  module _ (extent : Extent) (flows : List Flow) (told : Option (Cell × EndlessPath)) (named : IfSome told (IsNamed outcome))
+      (run : (g : Grid) (ps : Products) → AreKnownFlows g ps extent flows → IfSome told (LeadsAt g ps)) where
+    pub endless-told : (judged : Judged) → IsOutcome judged (input_grid i) (input_products i) (nodata_numbers i) outcome →
+        AreFlowsFor judged (input_grid i) (input_products i) extent flows → IfSome told (IsEndlessOf i outcome)
+    endless-told Con is left = unnamed (IsConOutcome (input_grid i) (input_products i) (nodata_numbers i)) (λ row col no. no) told is named
+    endless-told AllWithRanks is left = unnamed (IsRankOutcome (input_grid i) (input_products i) (nodata_numbers i)) (λ row col no. no) told is named
+    endless-told judged is left = of_ways judged told is named (run (input_grid i) (input_products i) left.known)
 
 -- there is a map after a row exactly where there was one
 pub still_drawn : (new old : Option FaultMap) → IsSome new ↔ IsSome old → is_some new ≡ is_some old

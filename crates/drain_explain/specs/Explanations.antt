@@ -1,22 +1,75 @@
 -- The explanation of an answer. Source: this project's own.
-use Rattle.std.specs.Prelude.{◌≡◌, Result, Ok, Err}
+use Rattle.std.specs.Prelude.{Bool, Option, Some, None, ◌≡◌, ◌<◌, ℕ, Result, Ok, Err}
+use Rattle.drain_grid.specs.declared.rule.Rule.{Rule}
+use Rattle.drain_grid.specs.declared.rule.Rule.TheVariants.{VoidCell, Missing, BadCode, BelowGround, OpenRaised, NoSpill, SpillHeight, SpillRank, NotLeast, Slope, OutletCode, FlatStep, Accumulation, Label, SharedLabel}
+use Rattle.drain_grid.specs.declared.set_product.SetProduct.{SetProduct}
+use Rattle.drain_grid.specs.declared.set_product.SetProduct.TheVariants.{Con, Dir, Acc, Bas}
+use Rattle.drain_grid.specs.Judged.{has_product}
+use Rattle.drain_grid.specs.PatchRules.{Profile}
+use Rattle.drain_grid.specs.RulesAbout.{tried}
+use Rattle.drain_explain.specs.declared.findings.Findings.{Findings}
+use Rattle.drain_grid.specs.Grid.{Grid, Products, HasData}
+use Rattle.drain_grid.specs.declared.judged.Rules.{Rules}
+use Rattle.drain_faults.specs.FaultMaps.{IsMapOf, IsMapOfCells}
+use Rattle.drain_faults.specs.FaultWalks.{IsCountedOf, IsRightTally}
+use Rattle.drain_faults.specs.declared.fault_walk.FaultWalk.{FaultWalk}
+use Rattle.drain_explain.specs.declared.fault_visitor.FaultVisitor.{FaultVisitor}
 use Rattle.drain_answer.specs.declared.outcome.Outcome.{Outcome}
 use Rattle.drain_answer.specs.declared.outcome.Outcome.TheVariants.{NoEnd}
 use Rattle.drain_answer.specs.declared.refusal.Refusal.{Refusal}
 use Rattle.drain_grid.specs.declared.cell.Cell.{Cell}
 use Rattle.drain_grid.specs.declared.judged.Judged.{Judged}
 use Rattle.drain_grid.specs.Extent.{cells}
-use Rattle.drain_grid.specs.Grid.{Grid, Products, HasData}
 use Rattle.drain_faults.specs.ByProduct.{AreFaultsByProduct}
-use Rattle.drain_faults.specs.FaultMaps.{IsMapOfCells}
 use Rattle.drain_faults.specs.Faults.{AreFaultsOf, IsFirstPatch}
 use Rattle.drain_paths.specs.EndlessPaths.{IsEndlessPath}
 use Rattle.drain_paths.specs.declared.endless_path.EndlessPath.{EndlessPath}
 use Rattle.drain_verdict.specs.Answers.{rules_at}
 use Rattle.drain_verdict.specs.Inputs.{Inputs}
 use Rattle.drain_verdict.specs.Meaning.{input_grid, input_products}
-use Rattle.drain_explain.specs.declared.explanation.Explanation.{Explanation}
-use Rattle.drain_explain.specs.declared.findings.Findings.{Findings}
+use Rattle.drain_explain.specs.declared.findings.Explanation.{Explanation}
+
+-- Which products and rules an explanation is about.
+
+-- the product was looked at: it is judged
+abbrev pub looks_at : Findings → SetProduct → Bool
+looks_at f product = has_product f.rules.judged product
+
+-- the product whose number the rule judges
+abbrev pub judged : Rule → Option SetProduct
+judged VoidCell = None
+judged Missing = None
+judged BadCode = Some Dir
+judged BelowGround = Some Con
+judged OpenRaised = Some Con
+judged NoSpill = None
+judged SpillHeight = None
+judged SpillRank = None
+judged NotLeast = Some Con
+judged Slope = Some Dir
+judged OutletCode = Some Dir
+judged FlatStep = Some Dir
+judged Accumulation = Some Acc
+judged Label = Some Bas
+judged SharedLabel = Some Bas
+
+-- the rules that were tried
+abbrev pub rules_of : Findings → Profile
+rules_of f = tried f.rules
+
+-- Notes of the faults of a grid's first rows.
+
+-- what was found, the counts, and the map if there is one, are those of n rows
+pub record IsWalkNoted (rules : Rules) (g : Grid) (ps : Products) (rows : ℕ) (walk : FaultWalk) : Type 0 where
+  pub rows_are : walk.rows ≡ rows
+  pub found : IsRightTally rules g ps walk
+  pub counted : IsCountedOf g ps walk
+  pub map : IsMapOf rules g ps walk
+
+-- and these were the rules
+pub record AreFaultNotes (rules : Rules) (g : Grid) (ps : Products) (rows : ℕ) (notes : FaultVisitor) : Type 0 where
+  pub walk_is : IsWalkNoted rules g ps rows notes.walk
+  pub rules_are : 0 < rows → notes.rules ≡ rules
 
 -- the answer that is explained
 abbrev pub answer_in : Result Explanation Refusal → Result Outcome Refusal

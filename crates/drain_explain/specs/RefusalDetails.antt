@@ -1,23 +1,77 @@
 -- What an explanation reports of refused inputs: what was expected, and what was found.
-use Rattle.std.specs.Prelude.{◌≡◌, ℕ, ℤ, List, [], Ok, Some, slice_get}
+use Rattle.std.specs.Prelude.{◌≡◌, ◌&&◌, ◌-◌, ◌∷◌, ℕ, List, length, take, nat_lt, Some, slice_get, if◌then◌else◌, ◌≢◌, ◌+◌, ◌*◌, ◌<◌, ℤ, [], Ok}
+use Rattle.drain_mosaic.specs.Tiling.{Tiling, extent_of, left_of, top_of, north_edge, spacing_of, west_edge}
+use Rattle.drain_explain.specs.declared.refusal_detail.NotData.TheVariants.{Void, Outside}
+use Rattle.drain_explain.specs.declared.refusal_detail.RefusalDetail.{RefusalDetail}
+use Rattle.drain_explain.specs.declared.refusal_detail.RefusalDetail.TheVariants.{SinkLine, SinkCell, Seam, Side, Name, Shape, Position, TileLength, RasterLength}
+use Rattle.drain_explain.specs.declared.refusal_detail.TheConstants.{SHOWN_BYTES}
+use Rattle.drain_text.specs.Text.{lines_of, words_of, whole_number}
+use Rattle.drain_grid.specs.declared.cell.Cell.{Cell}
+use Rattle.drain_grid.specs.declared.tile.TheConstants.{VOID}
+use Rattle.drain_explain.specs.declared.refusal_detail.TileValue.{TileValue}
 use Rattle.drain_answer.specs.declared.refusal.Refusal.{Refusal}
-use Rattle.drain_answer.specs.declared.refusal.Refusal.TheVariants as refusal
 use Rattle.drain_grid.specs.declared.product.Product.{Product}
-use Rattle.drain_grid.specs.declared.product.Product.TheVariants as product
 use Rattle.drain_grid.specs.declared.set_product.SetProduct.{SetProduct}
-use Rattle.drain_grid.specs.declared.set_product.SetProduct.TheVariants as held
 use Rattle.drain_header.specs.Faults.{Answers}
-use Rattle.drain_header.specs.Fields.{Fields}
+use Rattle.drain_header.specs.Header.{Fields}
 use Rattle.drain_header.specs.declared.header.Place.{Place}
 use Rattle.drain_hgt.specs.Corner.{Corner}
 use Rattle.drain_hgt.specs.Samples.{tile_length}
-use Rattle.drain_mosaic.specs.Tiling.{Tiling, extent_of, north_edge, spacing_of, west_edge}
 use Rattle.drain_raster.specs.Pixels.{needed_len}
 use Rattle.drain_verdict.specs.Stages.{IsLayoutOf}
-use Rattle.drain_explain.specs.SeamDetails.{IsSeamDetail}
-use Rattle.drain_explain.specs.SinkDetails.{IsCellDetail, IsLineDetail}
-use Rattle.drain_explain.specs.declared.refusal_detail.RefusalDetail.{RefusalDetail}
-use Rattle.drain_explain.specs.declared.refusal_detail.RefusalDetail.TheVariants.{Side, Name, Shape, Position, TileLength, RasterLength}
+use Rattle.drain_answer.specs.declared.refusal.Refusal.TheVariants as refusal
+use Rattle.drain_grid.specs.declared.product.Product.TheVariants as product
+use Rattle.drain_grid.specs.declared.set_product.SetProduct.TheVariants as held
+
+-- What an explanation reports of a refused line of a list of sinks.
+
+-- the list has this line, counted from 1
+abbrev pub HasLine : List ℕ → ℕ → List ℕ → Type 0
+HasLine list number line = slice_get (lines_of list) (number - 1) ≡ Some line
+
+-- a bad line: its number, its first bytes, and how many it has
+abbrev pub IsLineDetail : List ℕ → ℕ → RefusalDetail → Type 0
+IsLineDetail list number (SinkLine n start bytes) =
+    (n ≡ number) × ((line : List ℕ) × HasLine list number line × (start.items ≡ take SHOWN_BYTES line) × (bytes ≡ length line))
+IsLineDetail list number other = ⊥
+
+-- a line whose cell has no data: its number, the row and the column in its first two words, and whether the mosaic has
+-- that cell
+abbrev pub IsCellDetail : Tiling → List ℕ → ℕ → RefusalDetail → Type 0
+IsCellDetail t list number (SinkCell n row col why) =
+    (n ≡ number) × ((line : List ℕ) × (first : List ℕ) × (second : List ℕ) × (more : List (List ℕ)) × HasLine list number line
+    × (words_of line ≡ first ∷ second ∷ more) × (whole_number first ≡ Some row) × (whole_number second ≡ Some col)
+    × (why ≡ (if nat_lt row (extent_of t).rows && nat_lt col (extent_of t).cols then Void else Outside)))
+IsCellDetail t list number other = ⊥
+
+-- What an explanation reports of a cell where two tiles have different heights.
+
+-- the tile in this place of the list covers the cell, in this row and column of its own, and a look gave this height
+-- there, where each sample has two bytes; it is no void
+pub record IsHeightAt {L : Type 0} (shows : L → ℕ → ℕ → ℤ → Type 0) (t : Tiling) (cell : Cell) (place : ℕ) (value : TileValue) : Type 0 where
+  pub tile_is : slice_get t.corners place ≡ Some value.tile
+  pub row : ℕ
+  pub col : ℕ
+  pub row_inside : row < t.side
+  pub col_inside : col < t.side
+  pub row_is : cell.row ≡ top_of t value.tile + row
+  pub col_is : cell.col ≡ left_of t value.tile + col
+  pub look : L
+  pub shown : shows look place (2 * (row * t.side + col)) value.metres
+  pub no_void : value.metres ≢ VOID
+
+-- two tiles have different heights at the cell, the first in the list before the other
+pub record AreTwoHeights {L : Type 0} (shows : L → ℕ → ℕ → ℤ → Type 0) (t : Tiling) (cell : Cell) (first other : TileValue) : Type 0 where
+  pub place : ℕ
+  pub place_of_other : ℕ
+  pub earlier : place < place_of_other
+  pub here : IsHeightAt shows t cell place first
+  pub there : IsHeightAt shows t cell place_of_other other
+  pub differ : first.metres ≢ other.metres
+
+abbrev pub IsSeamDetail : {L : Type 0} → (L → ℕ → ℕ → ℤ → Type 0) → Tiling → Cell → RefusalDetail → Type 0
+IsSeamDetail shows t cell (Seam first other) = AreTwoHeights shows t cell first other
+IsSeamDetail shows t cell other = ⊥
 
 -- the side
 abbrev pub IsSideDetail : ℕ → RefusalDetail → Type 0

@@ -5,24 +5,22 @@ ghost use Rattle.drain_explain.specs.Explanations.{AreFindingsOf, IsEndlessOf, a
 ghost use Rattle.drain_explain.specs.declared.fault_visitor.Mapping.TheVariants.{Drawn};
 ghost use Rattle.drain_grid.specs.declared.judged.Judged.TheVariants.{AllWithRanks};
 ghost use Rattle.drain_hgt.specs.Inputs.{names_of};
-ghost use Rattle.drain_verdict.specs.Audits.{ForAudit};
-ghost use Rattle.drain_verdict.specs.Devices.{devices_of};
-ghost use Rattle.drain_verdict.specs.Inputs.{Inputs, Tell};
+ghost use Rattle.drain_verdict.specs.Answers.{ForAudit};
+ghost use Rattle.drain_verdict.specs.Uses.{devices_of, AuditUses, CheckUses, UsesInputs};
+ghost use Rattle.drain_verdict.specs.Inputs.{Inputs, Encode};
 ghost use Rattle.drain_verdict.specs.Outcomes.{IsOutcomeAnswer};
 ghost use Rattle.drain_verdict.specs.Stages.{IsLayoutOf};
-ghost use Rattle.drain_verdict.specs.Uses.{AuditUses, CheckUses, UsesInputs};
 
-use crate::endless::endless_of;
-use crate::explanation::{Explanation, findings_of};
 use crate::fault_visitor::{FaultVisitor, Mapping};
+use crate::findings::{Explanation, endless_of, findings_of};
 use drain_answer::Refusal;
 use drain_device::ByteSource;
 use drain_grid::{Judged, OutOfMemory};
 use drain_hgt::TileInput;
 use drain_hgt::laws::one_name;
-use drain_verdict::layout::layout_of;
+use drain_verdict::audit_products::ProductInputs;
 use drain_verdict::outcome::outcome_of;
-use drain_verdict::product_inputs::ProductInputs;
+use drain_verdict::stages::layout_of;
 use drain_verdict::{AuditProducts, Products, judge};
 use std::alloc::Global;
 
@@ -40,10 +38,10 @@ pub fn explain_check<R: ByteSource>(
     mapping: Mapping,
 ) -> Result<Explanation, Refusal>
     // The answer is a check's.
-    ensures answer { (inputs : Inputs) → Tell R.bytes_left side tiles.old sinks.now products.old inputs → IsOutcomeAnswer AllWithRanks inputs (answer_in result) }
+    ensures answer { (inputs : Inputs) → Encode R.bytes_left side tiles.old sinks.now products.old inputs → IsOutcomeAnswer AllWithRanks inputs (answer_in result) }
 
     // For an outcome, what every cell showed, with a map if one is required.
-    ensures explained { IfOk result (λ e. (inputs : Inputs) → Tell R.bytes_left side tiles.old sinks.now products.old inputs → AreFindingsOf AllWithRanks inputs e.findings) }
+    ensures explained { IfOk result (λ e. (inputs : Inputs) → Encode R.bytes_left side tiles.old sinks.now products.old inputs → AreFindingsOf AllWithRanks inputs e.findings) }
     ensures drawn { IfOk result (λ e. IsSome e.findings.map ↔ (mapping ≡ Drawn)) }
     ensures layout { IfOk result (λ e. IsLayoutOf side (names_of tiles.old) e.findings.layout) }
 
@@ -99,9 +97,9 @@ fn explain<R: ByteSource, P: ProductInputs<R>>(
     judged: Judged,
     mapping: Mapping,
 ) -> Result<Explanation, Refusal>
-    ensures answer { (inputs : Inputs) → Tell R.bytes_left side tiles.old sinks.now (P.inputs products.old) inputs → IsOutcomeAnswer judged inputs (answer_in result) }
-    ensures explained { IfOk result (λ e. (inputs : Inputs) → Tell R.bytes_left side tiles.old sinks.now (P.inputs products.old) inputs → AreFindingsOf judged inputs e.findings) }
-    ensures endless { IfOk result (λ e. (inputs : Inputs) → Tell R.bytes_left side tiles.old sinks.now (P.inputs products.old) inputs → IfSome e.findings.endless (IsEndlessOf inputs e.outcome)) }
+    ensures answer { (inputs : Inputs) → Encode R.bytes_left side tiles.old sinks.now (P.inputs products.old) inputs → IsOutcomeAnswer judged inputs (answer_in result) }
+    ensures explained { IfOk result (λ e. (inputs : Inputs) → Encode R.bytes_left side tiles.old sinks.now (P.inputs products.old) inputs → AreFindingsOf judged inputs e.findings) }
+    ensures endless { IfOk result (λ e. (inputs : Inputs) → Encode R.bytes_left side tiles.old sinks.now (P.inputs products.old) inputs → IfSome e.findings.endless (IsEndlessOf inputs e.outcome)) }
     ensures drawn { IfOk result (λ e. IsSome e.findings.map ↔ (mapping ≡ Drawn)) }
     ensures layout { IfOk result (λ e. IsLayoutOf side (names_of tiles.old) e.findings.layout) }
     ensures uses { UsesInputs P.inputs (λ ts ps. devices_of ts (P.inputs ps)) R.bytes_left R.counts side (tiles.old, products.old) (tiles.new, products.new) result }

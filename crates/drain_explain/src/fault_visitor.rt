@@ -3,7 +3,7 @@
 ghost use Rattle.std.specs.Prelude.{◌≡◌, ◌↔◌, IfOk, IsSome};
 ghost use Rattle.drain_grid.specs.Grid.{Grid, Products};
 ghost use Rattle.drain_grid.specs.declared.judged.Rules.{Rules};
-ghost use Rattle.drain_explain.specs.FaultVisitor.{AreFaultNotes, IsWalkNoted};
+ghost use Rattle.drain_explain.specs.Explanations.{AreFaultNotes, IsWalkNoted};
 ghost use Rattle.drain_explain.specs.declared.fault_visitor.Mapping.TheVariants.{Drawn};
 
 use drain_faults::FaultWalk;
@@ -63,7 +63,7 @@ fn new_walk(alloc: Global, shape: Shape, mapping: Mapping) -> Result<FaultWalk, 
 
 impl RowVisitor for FaultVisitor {
     ghost use Rattle.std.specs.Prelude.{◌≡◌, is_some};
-    ghost use Rattle.drain_explain.specs.FaultVisitor.{AreFaultNotes};
+    ghost use Rattle.drain_explain.specs.Explanations.{AreFaultNotes};
 
     ghost counts = { λ n notes. notes.walk.rows ≡ n };
 

@@ -1,13 +1,49 @@
 //! What the rules say of every cell of a mosaic, and which rules and products were looked at.
 
-ghost use Rattle.std.specs.Prelude.{◌≡◌, ◌≢◌, IsTrue};
+ghost use Rattle.std.specs.Prelude.{◌≡◌, IfOk, IfSome, ◌≢◌, IsTrue, ◌↔◌, IsSome};
+ghost use Rattle.drain_explain.specs.Explanations.{IsNamed, LeadsAt, AreFindingsOf, answer_in, judged, looks_at, rules_of, AreFaultNotes};
+ghost use Rattle.drain_grid.specs.Grid.{Grid, Products};
+ghost use Rattle.drain_paths.specs.Walks.{AreKnownFlows};
 ghost use Rattle.drain_grid.specs.declared.patch.Patch.{Patch};
-ghost use Rattle.drain_explain.specs.Findings.{judged, looks_at, rules_of};
+ghost use Rattle.drain_grid.specs.declared.judged.Judged.{Judged};
+ghost use Rattle.drain_verdict.specs.Answers.{AreNotesOf};
+ghost use Rattle.drain_verdict.specs.Inputs.{Inputs};
 
+use crate::fault_visitor::FaultVisitor;
+use drain_answer::{Outcome, Refusal};
 use drain_faults::{FaultMap, FaultyPatch, PerRule, ProductFaults, RuleFaults};
-use drain_grid::{Cell, PerProduct, Rule, Rules, SetProduct};
+use drain_grid::{Cell, OutOfMemory, PerProduct, Rule, Rules, SetProduct, Shape};
 use drain_mosaic::Layout;
-use drain_paths::EndlessPath;
+use drain_paths::{CellFlows, EndlessPath};
+use std::alloc::Global;
+
+/// The cell whose path doesn't end, if the outcome names one, and where its path leads, from the flows of the grid's
+/// cells.
+pub(crate) fn endless_of(
+    alloc: Global,
+    flows: &CellFlows,
+    shape: Shape,
+    outcome: &Outcome,
+) -> Result<Option<(Cell, EndlessPath)>, OutOfMemory>
+    ensures named { IfOk result (λ told. IfSome told (IsNamed outcome.now)) }
+    ensures run { IfOk result (λ told. (g : Grid) (ps : Products) → AreKnownFlows g ps shape flows.now → IfSome told (LeadsAt g ps)) }
+{
+    let Outcome::NoEnd { row, col } = outcome else {
+        return Ok(None);
+    };
+    let cell = Cell {
+        row: *row,
+        col: *col,
+    };
+    // flows of sources whose bytes are known are those of the cells, and the cell is one of them
+    if flows.len() != shape.cells() || cell.row >= shape.rows() || cell.col >= shape.cols() {
+        return Ok(None);
+    }
+    match flows.endless_path(alloc, shape, cell)? {
+        Some(run) => Ok(Some((cell, run))),
+        None => Ok(None),
+    }
+}
 
 /// What every cell of a mosaic showed.
 #[derive(Drop)]
@@ -69,5 +105,49 @@ pub fn judged_product(rule: Rule) -> Option<SetProduct>
         Rule::BadCode | Rule::Slope | Rule::OutletCode | Rule::FlatStep => Some(SetProduct::Dir),
         Rule::Accumulation => Some(SetProduct::Acc),
         Rule::Label | Rule::SharedLabel => Some(SetProduct::Bas),
+    }
+}
+
+/// The outcome for judged rasters of a mosaic, and what every cell showed.
+#[derive(Drop)]
+pub struct Explanation {
+    pub outcome: Outcome,
+    pub findings: Findings,
+}
+
+/// The answer that is explained, and what every cell showed if it is an outcome.
+pub fn answer_and_findings(
+    explained: Result<Explanation, Refusal>,
+) -> (Result<Outcome, Refusal>, Option<Findings>)
+    ensures { result.0 ≡ answer_in explained }
+{
+    match explained {
+        Ok(Explanation { outcome, findings }) => (Ok(outcome), Some(findings)),
+        Err(refusal) => (Err(refusal), None),
+    }
+}
+
+/// What every cell showed, by notes of all rows.
+pub(crate) fn findings_of(
+    layout: Layout,
+    notes: FaultVisitor,
+    endless: Option<(Cell, EndlessPath)>,
+) -> Findings
+    ensures layout { result.layout ≡ layout }
+    ensures endless { result.endless ≡ endless }
+    ensures drawn { IsSome result.map ↔ IsSome notes.walk.map }
+    ensures found { (judged : Judged) (inputs : Inputs) → AreNotesOf AreFaultNotes judged inputs notes → AreFindingsOf judged inputs result }
+{
+    let first = notes.walk.first_patch();
+    let rules = notes.rules;
+    let (by_rule, by_product, map) = notes.walk.into_faults();
+    Findings {
+        layout,
+        rules,
+        by_rule,
+        by_product,
+        first,
+        map,
+        endless,
     }
 }

@@ -5,22 +5,15 @@
 //! (`drain_faults`). If there is a path without an end, it says where that path leads.
 #![tactic(auto)]
 
-mod endless;
 pub mod explain;
-pub mod explanation;
 pub mod fault_visitor;
 pub mod findings;
 pub mod laws;
 pub mod refusal_detail;
 pub mod refused;
-mod seam_detail;
-pub mod second_look;
-mod sink_detail;
 
 pub use explain::{explain_audit, explain_check};
-pub use explanation::{Explanation, answer_and_findings};
 pub use fault_visitor::{FaultVisitor, Mapping};
-pub use findings::{Findings, judged_product};
+pub use findings::{Explanation, Findings, answer_and_findings, judged_product};
 pub use refusal_detail::{Extent, NotData, RefusalDetail, SHOWN_BYTES, TileValue};
-pub use refused::detail_of;
-pub use second_look::SecondLook;
+pub use refused::{FileLookup, detail_of};

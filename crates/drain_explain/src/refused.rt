@@ -1,16 +1,15 @@
 //! What was expected and found in refused inputs: from the inputs as they were handed in, and a second look at files for
 //! their lengths and the heights at a seam.
 
-ghost use Rattle.std.specs.Prelude.{◌≡◌, IfSome};
+ghost use Rattle.std.specs.Prelude.{IfSome, ℕ, ℤ, ◌≡◌};
 ghost use Rattle.drain_explain.specs.RefusalDetails.{IsDetailOf, IsNameDetail, IsPositionDetail, IsRasterLengthDetail, IsShapeDetail, IsTileLengthDetail, place_for, text_given};
 ghost use Rattle.drain_grid.specs.PerProduct.{of_product};
 ghost use Rattle.drain_hgt.specs.Inputs.{names_of};
 ghost use Rattle.drain_verdict.specs.Stages.{IsLayoutOf};
 
-use crate::refusal_detail::{Extent, RefusalDetail};
-use crate::seam_detail::seam_detail;
-use crate::second_look::SecondLook;
-use crate::sink_detail::{sink_cell_detail, sink_line_detail};
+use crate::refusal_detail::{
+    Extent, RefusalDetail, seam_detail, sink_cell_detail, sink_line_detail,
+};
 use drain_answer::Refusal;
 use drain_grid::{PerProduct, Product};
 use drain_header::{Place, parse_header};
@@ -18,12 +17,28 @@ use drain_hgt::tile::tile_length;
 use drain_hgt::{TileInput, TileName};
 use drain_mosaic::Layout;
 use drain_raster::needed_len;
-use drain_verdict::layout::layout_of;
+use drain_verdict::stages::layout_of;
 use std::alloc::Global;
+
+/// A second look at the files of inputs. It gives nothing if a file can't be looked at again.
+pub trait FileLookup {
+    /// In this state a look gives this height for the sample that begins at this byte of the tile in this place.
+    ghost shows: { Self → ℕ → ℕ → ℤ → Type 0 };
+
+    /// How many bytes the tile in this place of the list has.
+    fn tile_length(&mut self, place: usize) -> Option<u64>;
+
+    /// How many bytes the product's raster has.
+    fn raster_length(&mut self, product: Product) -> Option<u64>;
+
+    /// The sample that begins at this byte of the tile in this place of the list.
+    fn sample(&mut self, place: usize, start: u64) -> Option<i16>
+        ensures { IfSome result (λ metres. shows self.old place start metres) };
+}
 
 /// The details of a refusal beyond its line, of these inputs. None if there are none, memory runs out, or a file can't be
 /// looked at again.
-pub fn detail_of<R, L: SecondLook>(
+pub fn detail_of<R, L: FileLookup>(
     alloc: Global,
     refusal: Refusal,
     side: u32,
@@ -141,7 +156,7 @@ fn place_for(layout: &Layout) -> Place
 }
 
 /// The bytes that a tile has, and those of the file.
-fn tile_length_detail<L: SecondLook>(
+fn tile_length_detail<L: FileLookup>(
     layout: &Layout,
     tile: TileName,
     look: &mut L,
@@ -161,7 +176,7 @@ fn tile_length_detail<L: SecondLook>(
 }
 
 /// The bytes that a raster needs by its header, and those of the file.
-fn raster_length_detail<L: SecondLook>(
+fn raster_length_detail<L: FileLookup>(
     product: Product,
     text: &[u8],
     look: &mut L,

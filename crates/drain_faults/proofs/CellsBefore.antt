@@ -5,7 +5,7 @@ use Rattle.std.proofs.lemmas.List.FromFn.{length-map-range_with_len, map-range_w
 use Rattle.std.proofs.Math.Nat.{mul-le-mul_right}
 use Rattle.drain_grid.specs.Extent.{row_cells}
 use Rattle.drain_grid.specs.Grid.{Grid}
-use Rattle.drain_rules.specs.RowOutcomes.{cells_above}
+use Rattle.drain_rules.specs.Walks.{cells_above}
 use Rattle.drain_rules.specs.Rows.{place}
 use Rattle.drain_rules.proofs.GridLemmas.{cells_above-more}
 use Rattle.drain_faults.specs.FaultWalks.{cells_before}

@@ -1,37 +1,74 @@
 -- What was found, with one cell more or a run of sound cells; and from row to row.
-use Rattle.std.proofs.Common.{◌≡◌, ℕ, ◌+◌, ◌<◌, ◌≤◌, ◌^◌, IsTrue, List, [], ◌∷◌, ◌++◌, length, inl, inr, refl, sym, ◌∙◌, subst, arith}
+use Rattle.std.proofs.Common.{◌≡◌, ◌∙◌, ℕ, ◌+◌, ◌<◌, ◌≤◌, int_lt, unwrap_or, pos, refl, sym, ap, subst, arith, ◌^◌, IsTrue, List, [], ◌∷◌, ◌++◌, length, inl, inr}
+use Rattle.std.specs.Ordering.{int_eq}
+use Rattle.drain_grid.specs.declared.patch.Patch.{Patch}
+use Rattle.drain_grid.specs.Grid.{Grid, Products, IsInside, patch_at, values_at}
+use Rattle.drain_grid.specs.PatchRules.{Profile}
+use Rattle.drain_grid.specs.Extent.{Extent}
+use Rattle.drain_rules.specs.declared.walk.Tally.{Tally}
+use Rattle.drain_grid.specs.declared.verdict.Counts.{Counts}
+use Rattle.drain_rules.specs.Fill.{IsRightVoid}
+use Rattle.drain_rules.specs.Walks.{CountsAbove, cells_above}
+use Rattle.drain_rules.specs.Rows.{AreRowPatches, IsAtMost, CountsAlong, place}
+use Rattle.drain_rules.specs.Verdicts.{counts_of}
+use Rattle.drain_rules.proofs.RowLemmas.{CountsAlong-more, along_run}
+use Rattle.drain_rules.proofs.RightVoids.{void_counts, void_is_no_data}
 use Rattle.drain_basin.specs.Admitted.{IsAdmitted}
 use Rattle.drain_grid.specs.declared.cell.Cell.{Cell}
 use Rattle.drain_grid.specs.declared.judged.Rules.{Rules}
-use Rattle.drain_grid.specs.declared.patch.Patch.{Patch}
-use Rattle.drain_grid.specs.Grid.{Grid, Products, IsInside, patch_at, values_at}
 use Rattle.drain_grid.specs.GridRules.{HoldsAt}
 use Rattle.drain_grid.specs.Judged.{has_bas}
 use Rattle.drain_grid.specs.RulesAbout.{tried}
-use Rattle.drain_kernel.specs.Kept.{IsKept}
-use Rattle.drain_rules.specs.BlankVoids.{IsRightVoid}
+use Rattle.drain_kernel.specs.Columns.{IsKept}
 use Rattle.drain_rules.specs.Labels.{IsOutletByCode}
-use Rattle.drain_rules.specs.PatchRows.{AreRowPatches}
-use Rattle.drain_rules.specs.RowOutcomes.{cells_above}
-use Rattle.drain_rules.specs.Rows.{place}
-use Rattle.drain_rules.proofs.LabelsBefore.{AreLabelsBefore-more, AreLabelsBefore-row}
-use Rattle.drain_rules.proofs.RowRuns.{along_run}
+use Rattle.drain_rules.proofs.LabelSteps.{AreLabelsBefore-more, AreLabelsBefore-row}
 use Rattle.drain_rules.proofs.PassedCells.{inside-row}
-use Rattle.drain_faults.specs.declared.fault_tally.FaultTally.{FaultTally}
-use Rattle.drain_faults.specs.declared.rule_faults.RuleFaults.{RuleFaults}
-use Rattle.drain_faults.specs.CellFaults.{IsNotedAt}
+use Rattle.drain_faults.specs.declared.row_faults.FaultTally.{FaultTally}
+use Rattle.drain_faults.specs.declared.patch_faults.RuleFaults.{RuleFaults}
+use Rattle.drain_faults.specs.CellFaults.{IsNotedAt, of_rule, HoldsIfTried}
 use Rattle.drain_faults.specs.Faults.{AreFaultsOf}
 use Rattle.drain_faults.specs.FaultWalks.{IsFound, IsFoundAbove, IsFoundBefore, IsNewOutletAt, cells_before}
 use Rattle.drain_faults.specs.Noted.{IsNoted}
-use Rattle.drain_faults.specs.PerRule.{of_rule}
-use Rattle.drain_faults.specs.TriedRules.{HoldsIfTried}
 use Rattle.drain_faults.proofs.CellsBefore.{cells_before-all, cells_before-few, cells_before-more, cells_before-none}
-use Rattle.drain_faults.proofs.FirstPatches.{patch_noted, patch_past}
-use Rattle.drain_faults.proofs.Flags.{noted_same}
+use Rattle.drain_faults.proofs.TriedRules.{patch_noted, patch_past, IsSound, no_label, of_kept, of_void, sound_holds, least_at, shared_at, tried_at}
+use Rattle.drain_faults.proofs.PatchFlags.{noted_same}
 use Rattle.drain_faults.proofs.NumbersWithout.{holding_more, noted_more}
-use Rattle.drain_faults.proofs.ProductSteps.{products_noted, products_sound}
-use Rattle.drain_faults.proofs.SoundCells.{IsSound, no_label, of_kept, of_void, sound_holds}
-use Rattle.drain_faults.proofs.TriedRules.{least_at, shared_at, tried_at}
+use Rattle.drain_faults.proofs.ProductParts.{products_noted, products_sound}
+
+-- The counts of no cell, of voids, and of all rows.
+
+-- no cell was counted
+abbrev pub no_cell : Tally
+no_cell = record { data_cells = 0; raised = 0; outlets = 0 }
+
+pub counted_none : (g : Grid) (ps : Products) (row : ℕ) (tally : Tally) → tally ≡ no_cell → CountsAlong g ps row 0 tally
+counted_none g ps row tally is = subst (CountsAlong g ps row 0) (sym is) (record { data_cells = refl; raised = refl; outlets = refl })
+
+pub none_at_most : (tally : Tally) → tally ≡ no_cell → IsAtMost 0 tally
+none_at_most tally is = subst (IsAtMost 0) (sym is) (record { data_cells = omega arith; raised = omega arith; outlets = omega arith })
+
+-- voids add nothing
+module _ (profile : Profile) (g : Grid) (ps : Products) (row cols : ℕ) (shown : ℕ → Patch) (are : AreRowPatches g ps row cols shown) (tally : Tally) where
+  pub counted_voids : (from end : ℕ) → from ≤ end → end ≤ cols → ((col : ℕ) → from ≤ col → col < end → IsRightVoid profile (shown col)) →
+      CountsAlong g ps row from tally → CountsAlong g ps row end tally
+  counted_voids = along_run (λ col. CountsAlong g ps row col tally) (λ col. IsRightVoid profile (shown col)) cols one
+    where
+      one : (col : ℕ) → col < cols → IsRightVoid profile (shown col) → CountsAlong g ps row col tally → CountsAlong g ps row (col + 1) tally
+      one col less right so_far =
+          let here = (shown col).here in
+          CountsAlong-more g ps row col here tally tally (ap (λ (p : Patch). p.here) (are.patches_are col less)) so_far
+          (omega (arith, void_is_no_data here.z right.is_void)) (omega (arith, void_counts here.z (int_lt (unwrap_or here.z (pos 0)) here.con) right.is_void))
+          (omega (arith, void_counts here.z (int_eq here.dir (pos 0)) right.is_void))
+
+-- the counts of all rows are those of the grid
+pub counts_are : (g : Grid) (ps : Products) (e : Extent) (rows n m : ℕ) (tally : Tally) → g.extent ≡ e → n ≡ e.rows → m ≡ e.cols → rows ≡ g.extent.rows →
+    CountsAbove g ps rows tally →
+    ◌≡◌ {A = Counts} (record { rows = n; cols = m; data_cells = tally.data_cells; raised = tally.raised; outlets = tally.outlets }) (counts_of g ps)
+counts_are g ps e rows n m tally extent n_is m_is all counted =
+    let of_rows : n ≡ g.extent.rows = n_is ∙ sym (ap (λ (x : Extent). x.rows) extent) in
+    let of_cols : m ≡ g.extent.cols = m_is ∙ sym (ap (λ (x : Extent). x.cols) extent) in
+    let whole : CountsAbove g ps g.extent.rows tally = subst (λ k. CountsAbove g ps k tally) all counted in
+    λ i. record { rows = of_rows i; cols = of_cols i; data_cells = whole.data_cells i; raised = whole.raised i; outlets = whole.outlets i }
 
 -- of a fact that holds nothing was counted
 none_counted : (P : Type 0) (cell : Cell) (old new : RuleFaults) → P → IsNotedAt P cell old new → new ≡ old

@@ -9,21 +9,19 @@ use Rattle.drain_grid.specs.declared.rule.Rule.{Rule}
 use Rattle.drain_grid.specs.Grid.{Grid, Products, patch_at}
 use Rattle.drain_grid.specs.Rule.{IsAnyRule, IsLeastFault}
 use Rattle.drain_grid.specs.RulesAbout.{tried}
-use Rattle.drain_kernel.specs.Kept.{IsKept}
-use Rattle.drain_rules.specs.BlankVoids.{IsRightVoid}
-use Rattle.drain_rules.specs.RowOutcomes.{cells_above}
-use Rattle.drain_rules.specs.PatchRows.{AreRowPatches}
-use Rattle.drain_rules.specs.Rows.{place}
+use Rattle.drain_kernel.specs.Columns.{IsKept}
+use Rattle.drain_rules.specs.Fill.{IsRightVoid}
+use Rattle.drain_rules.specs.Walks.{cells_above}
+use Rattle.drain_rules.specs.Rows.{AreRowPatches, place}
 use Rattle.drain_faults.specs.declared.fault_map.FaultMap.{FaultMap}
 use Rattle.drain_faults.specs.declared.fault_map.TheConstants.{SOUND, SOUND_VOID}
-use Rattle.drain_faults.specs.declared.fault_tally.FaultTally.{FaultTally}
+use Rattle.drain_faults.specs.declared.row_faults.FaultTally.{FaultTally}
 use Rattle.drain_faults.specs.FaultMaps.{AreDrawn, AreMapPixels, IsMapOfCells, IsMapPixel, fault_pixel}
 use Rattle.drain_faults.specs.FaultWalks.{IsFoundBefore, cells_before}
-use Rattle.drain_faults.specs.TriedRules.{HoldsIfTried}
+use Rattle.drain_faults.specs.CellFaults.{HoldsIfTried}
 use Rattle.drain_faults.proofs.CellsBefore.{cells_before-all, cells_before-more, cells_before-none}
 use Rattle.drain_faults.proofs.FaultSteps.{inside_row}
-use Rattle.drain_faults.proofs.SoundCells.{of_kept, of_void, sound_holds}
-use Rattle.drain_faults.proofs.TriedRules.{least_at}
+use Rattle.drain_faults.proofs.TriedRules.{of_kept, of_void, sound_holds, least_at}
 
 -- there is a map still where there was one
 pub drawn_still : (old new : Option FaultMap) (more : List ℕ) → AreDrawn old new more → IsSome new ↔ IsSome old

@@ -9,9 +9,9 @@ use Rattle.drain_grid.specs.Judged.{IfJudged}
 use Rattle.drain_grid.specs.Rule.{IsLeastFault, IsPatchRule}
 use Rattle.drain_grid.specs.RulesAbout.{part_rules}
 use Rattle.drain_grid.specs.Values.{NoDataNumbers}
-use Rattle.drain_grid.proofs.RuleNumbers.{same_rule}
-use Rattle.drain_faults.specs.Flags.{TellsFault}
-use Rattle.drain_faults.proofs.Flags.{tells_least}
+use Rattle.drain_grid.proofs.AllRules.{same_rule}
+use Rattle.drain_faults.specs.CellFaults.{TellsFault}
+use Rattle.drain_faults.proofs.PatchFlags.{tells_least}
 
 -- a flag of a rule, and one of it if its raster is judged
 told_judged : (judged fails : Bool) (P : Type 0) → TellsFault fails P → TellsFault (judged && fails) (IfJudged judged P)

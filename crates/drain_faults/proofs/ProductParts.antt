@@ -1,11 +1,10 @@
 -- The rules VoidCell and Missing hold exactly where each judged product keeps its part of them.
-use Rattle.std.proofs.Common.{◌≡◌, ◌≢◌, ◌↔◌, Bool, true, false, IsNone, IsTrue, inl, refl, subst}
+use Rattle.std.proofs.Common.{◌≡◌, ◌≢◌, ◌↔◌, Bool, true, false, IsNone, IsTrue, inl, refl, subst, ◌+◌, ◌<◌, ◌^◌, List, [], ◌∷◌, ◌++◌, length, arith}
 use Rattle.std.proofs.lemmas.Bool.{true≢false}
 use Rattle.drain_grid.specs.declared.set_product.SetProduct.{SetProduct}
 use Rattle.drain_grid.specs.declared.set_product.SetProduct.TheVariants.{Con, Dir, Acc, Bas, Rnk}
 use Rattle.drain_grid.specs.declared.cell.Cell.{Cell}
 use Rattle.drain_grid.specs.declared.judged.Judged.{Judged}
-use Rattle.drain_grid.specs.declared.judged.Judged.TheVariants as rasters
 use Rattle.drain_grid.specs.declared.judged.Rules.{Rules}
 use Rattle.drain_grid.specs.declared.patch.Patch.{Patch}
 use Rattle.drain_grid.specs.declared.per_product.PerProduct.{PerProduct}
@@ -17,8 +16,13 @@ use Rattle.drain_grid.specs.Patch.{IsDataCell}
 use Rattle.drain_grid.specs.Values.{NoDataNumbers, number_for, value_of}
 use Rattle.drain_grid.proofs.ByProduct.{by_set_product}
 use Rattle.drain_faults.specs.declared.product_faults.ProductFaults.{ProductFaults}
-use Rattle.drain_faults.specs.ByProduct.{AreProductsNotedAt, MissingHoldsOf, VoidCellHoldsOf}
-use Rattle.drain_faults.specs.Flags.{TellsFault}
+use Rattle.drain_faults.specs.ByProduct.{AreProductsNotedAt, MissingHoldsOf, VoidCellHoldsOf, AreFaultsByProduct}
+use Rattle.drain_faults.specs.CellFaults.{TellsFault}
+use Rattle.drain_grid.specs.Grid.{Grid, Products, patch_at}
+use Rattle.drain_grid.specs.PerProduct.{of_product}
+use Rattle.drain_faults.proofs.NumbersWithout.{holding_more, noted_more}
+use Rattle.drain_faults.proofs.TriedRules.{IsSound}
+use Rattle.drain_grid.specs.declared.judged.Judged.TheVariants as rasters
 
 -- a fact about a raster if it is judged, on a condition
 within : (b : Bool) (N P : Type 0) → (N → IfJudged b P) → IfJudged b (N → P)
@@ -111,3 +115,26 @@ none_noted rules cell p faults void_cell missing unset unset_too tells tells_too
   at_void = inl ((void_cell_by_product rules p).0 (subst (λ b. TellsFault b (tried rules p VoidCell)) unset tells) product, refl);
   at_data = inl ((missing_by_product rules p).0 (subst (λ b. TellsFault b (tried rules p Missing)) unset_too tells_too) product, refl);
 }
+
+-- The faults of each product, with one cell more.
+
+module _ (rules : Rules) (g : Grid) (ps : Products) (cs : List Cell) (c : Cell) where
+  -- a sound cell
+  pub products_sound : (faults : PerProduct ProductFaults) → IsSound (tried rules) (patch_at g ps c) → AreFaultsByProduct rules g ps cs faults →
+      AreFaultsByProduct rules g ps (cs ++ c ∷ []) faults
+  products_sound faults at so_far = λ product. record {
+    at_voids = holding_more (λ b. VoidCellHoldsOf rules product (patch_at g ps b)) cs c (of_product faults product).at_voids
+        ((void_cell_by_product rules (patch_at g ps c)).0 (at.holds VoidCell (omega arith, omega arith)) product) (so_far product).at_voids;
+    at_data = holding_more (λ b. MissingHoldsOf rules product (patch_at g ps b)) cs c (of_product faults product).at_data
+        ((missing_by_product rules (patch_at g ps c)).0 (at.holds Missing (omega arith, omega arith)) product) (so_far product).at_data;
+  }
+
+  -- one that was noted
+  pub products_noted : (old new : PerProduct ProductFaults) → length cs + 1 < 2 ^ 32 → AreProductsNotedAt rules c (patch_at g ps c) old new →
+      AreFaultsByProduct rules g ps cs old → AreFaultsByProduct rules g ps (cs ++ c ∷ []) new
+  products_noted old new few noted so_far = λ product. record {
+    at_voids = noted_more (λ b. VoidCellHoldsOf rules product (patch_at g ps b)) cs c (of_product old product).at_voids (of_product new product).at_voids few
+        (noted product).at_void (so_far product).at_voids;
+    at_data = noted_more (λ b. MissingHoldsOf rules product (patch_at g ps b)) cs c (of_product old product).at_data (of_product new product).at_data few
+        (noted product).at_data (so_far product).at_data;
+  }

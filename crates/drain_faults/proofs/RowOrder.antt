@@ -7,13 +7,13 @@ use Rattle.drain_grid.specs.Grid.{Grid, Products}
 use Rattle.drain_grid.specs.declared.judged.Rules.{Rules}
 use Rattle.drain_grid.specs.GridRules.{IsFirstFault, RulesHold}
 use Rattle.drain_grid.specs.RulesAbout.{IsTried, tried}
-use Rattle.drain_rules.specs.RowOutcomes.{cells_above}
+use Rattle.drain_rules.specs.Walks.{cells_above}
 use Rattle.drain_rules.specs.Rows.{place}
 use Rattle.drain_rules.proofs.GridLemmas.{IsFirstFault-row, cells_above-more}
 use Rattle.drain_rules.proofs.RowLemmas.{IsRowFault-cell}
-use Rattle.drain_faults.specs.declared.faulty_patch.FaultyPatch.{FaultyPatch}
+use Rattle.drain_faults.specs.declared.patch_faults.FaultyPatch.{FaultyPatch}
 use Rattle.drain_faults.specs.Faults.{IsFirstFaulty, IsFirstWithout}
-use Rattle.drain_faults.specs.TriedRules.{AllHoldAt, IsLeastAt}
+use Rattle.drain_faults.specs.CellFaults.{AllHoldAt, IsLeastAt}
 
 module _ (P : Cell → Type 0) where
   -- where none of two lists lacks the fact, none of either does

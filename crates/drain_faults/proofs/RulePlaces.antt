@@ -4,7 +4,7 @@ use Rattle.drain_grid.specs.declared.rule.Rule.{Rule}
 use Rattle.drain_grid.specs.declared.rule.Rule.TheVariants.{VoidCell}
 use Rattle.drain_grid.specs.Rule.{IsAnyRule, rule_number}
 use Rattle.drain_grid.proofs.Decisions.{each_below, same_number}
-use Rattle.drain_grid.proofs.RuleNumbers.{numbered, rules}
+use Rattle.drain_grid.proofs.AllRules.{numbered, rules}
 
 -- what is at a place has the number after it
 pub place_at : (k : ℕ) → k < 15 → rule_number (get_or rules k VoidCell) ≡ k + 1

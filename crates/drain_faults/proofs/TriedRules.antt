@@ -1,25 +1,90 @@
 -- The rules that are tried: what they say of a patch with labels, and of a cell.
-use Rattle.std.proofs.Common.{◌≡◌, ◌↔◌, ◌⊎◌, ℕ, Bool, false, IsTrue, List, Option, Some, None, inl, inr, refl, arith}
-use Rattle.std.proofs.lemmas.Bool.{false≢true, true≢false}
+use Rattle.std.proofs.Common.{◌≡◌, List, [], ◌∷◌, ◌++◌, Option, Some, None, sym, subst, ℕ, ℤ, ◌↔◌, ◌⊎◌, IsNone, IsSome, inl, inr, arith, Bool, false, IsTrue, refl}
 use Rattle.drain_grid.specs.declared.cell.Cell.{Cell}
-use Rattle.drain_grid.specs.declared.judged.Judged.{Judged}
-use Rattle.drain_grid.specs.declared.judged.Judged.TheVariants.{ConDirBas, All, AllWithRanks}
 use Rattle.drain_grid.specs.declared.judged.Rules.{Rules}
 use Rattle.drain_grid.specs.declared.patch.Patch.{Patch}
 use Rattle.drain_grid.specs.declared.rule.Rule.{Rule}
+use Rattle.drain_grid.specs.Grid.{Grid, Products, patch_at, IsInside}
+use Rattle.drain_faults.specs.declared.patch_faults.FaultyPatch.{FaultyPatch}
+use Rattle.drain_faults.specs.CellFaults.{IsFirstNoted, AllHoldAt, IsLeastAt, TellsFault, HoldsIfTried}
+use Rattle.drain_faults.specs.Faults.{IsFirstPatch}
+use Rattle.drain_faults.proofs.NumbersWithout.{first_found, first_past, first_stays}
+use Rattle.drain_basin.specs.Admitted.{IsAdmitted}
 use Rattle.drain_grid.specs.declared.rule.Rule.TheVariants.{SharedLabel}
-use Rattle.drain_grid.specs.Grid.{Grid, Products, IsInside, patch_at}
 use Rattle.drain_grid.specs.GridRules.{HoldsAt}
-use Rattle.drain_grid.specs.Judged.{has_bas}
 use Rattle.drain_grid.specs.PatchRules.{Profile}
-use Rattle.drain_grid.specs.Rule.{IsAnyRule, IsLeastFault, IsPatchRule}
+use Rattle.drain_grid.specs.Rule.{IsPatchRule, IsLeastFault, IsAnyRule}
+use Rattle.drain_kernel.specs.Columns.{IsKept}
+use Rattle.drain_rules.specs.Fill.{IsRightVoid}
+use Rattle.drain_rules.specs.Labels.{IsLabelOf, IsOutletByCode, AreLabelsBefore, labelled_profile}
+use Rattle.std.proofs.lemmas.Bool.{false≢true, true≢false}
+use Rattle.drain_grid.specs.declared.judged.Judged.{Judged}
+use Rattle.drain_grid.specs.declared.judged.Judged.TheVariants.{ConDirBas, All, AllWithRanks}
+use Rattle.drain_grid.specs.Judged.{has_bas}
 use Rattle.drain_grid.specs.RulesAbout.{IsTried, tried}
-use Rattle.drain_rules.specs.Labels.{AreLabelsBefore, labelled_profile}
 use Rattle.drain_rules.proofs.Faults.{labelled-HoldsAt, patch_tried}
-use Rattle.drain_faults.specs.Flags.{TellsFault}
-use Rattle.drain_faults.specs.TriedRules.{HoldsIfTried, IsLeastAt}
-use Rattle.drain_faults.proofs.Flags.{tells_same}
+use Rattle.drain_faults.proofs.PatchFlags.{tells_same}
 use Rattle.drain_faults.proofs.RulePlaces.{any_rule}
+
+-- The first cell of a list at which some rule that is tried fails, with one cell more.
+
+module _ (rules : Rules) (g : Grid) (ps : Products) where
+  -- one cell more, at which every rule that is tried holds
+  pub patch_past : (cs : List Cell) (c : Cell) (o : Option FaultyPatch) → AllHoldAt rules g ps c → IsFirstPatch rules g ps cs o →
+      IsFirstPatch rules g ps (cs ++ c ∷ []) o
+  patch_past cs c None holds first = first_past (AllHoldAt rules g ps) cs c None holds first
+  patch_past cs c (Some found) holds first = record {
+    first_is = first_past (AllHoldAt rules g ps) cs c (Some found.cell) holds first.first_is;
+    patch_is = first.patch_is;
+    least = first.least;
+  }
+
+  -- one cell more that was noted
+  pub patch_noted : (cs : List Cell) (c : Cell) (p : Patch) (least : Option Rule) (old new : Option FaultyPatch) → p ≡ patch_at g ps c →
+      IsLeastAt rules g ps c least → IsFirstNoted least c p old new → IsFirstPatch rules g ps cs old → IsFirstPatch rules g ps (cs ++ c ∷ []) new
+  patch_noted cs c p least (Some found) new is fault noted first =
+      subst (IsFirstPatch rules g ps (cs ++ c ∷ [])) (sym noted)
+      (record { first_is = first_stays (AllHoldAt rules g ps) cs (c ∷ []) found.cell first.first_is; patch_is = first.patch_is; least = first.least })
+  patch_noted cs c p None None new is fault noted first =
+      subst (IsFirstPatch rules g ps (cs ++ c ∷ [])) (sym noted) (first_past (AllHoldAt rules g ps) cs c None fault first)
+  patch_noted cs c p (Some rule) None new is fault noted first =
+      subst (IsFirstPatch rules g ps (cs ++ c ∷ [])) (sym noted)
+      (record { first_is = first_found (AllHoldAt rules g ps) cs c None (λ all. fault.1 (all rule fault.0)) first; patch_is = is; least = fault })
+
+-- Cells at which no rule fails and that have no label to admit: cleared cells, and voids with no-data numbers.
+
+-- every rule of a patch holds at the cell, and it is no outlet by its code
+pub record IsSound (profile : Profile) (p : Patch) : Type 0 where
+  pub holds : IsLeastFault IsPatchRule (profile p) None
+  pub no_outlet : ¬ IsOutletByCode p.here
+
+-- a cleared cell is one
+pub of_kept : (profile : Profile) (p : Patch) → IsKept profile p → IsSound profile p
+of_kept profile p kept = record { holds = kept.holds; no_outlet = λ outlet. kept.no_outlet outlet.code }
+
+-- and so is a void at which no rule fails
+no_data : (z : Option ℤ) → IsNone z → ¬ IsSome z
+no_data None void there = grind (arith, there)
+no_data (Some h) void there = grind (arith, void)
+
+pub of_void : (profile : Profile) (p : Patch) → IsRightVoid profile p → IsSound profile p
+of_void profile p right = record { holds = right.holds; no_outlet = λ outlet. no_data p.here.z right.is_void outlet.has_data }
+
+-- every rule holds at a sound cell
+pub sound_holds : (profile : Profile) (g : Grid) (ps : Products) (c : Cell) → IsSound profile (patch_at g ps c) → (r : Rule) → HoldsAt profile g ps c r
+sound_holds profile g ps c sound SharedLabel = λ here code. absurd (sound.no_outlet (record { has_data = here.is_data; code = code }))
+sound_holds profile g ps c sound r = sound.holds r (omega arith, omega arith)
+
+-- and it has no label to admit
+pub no_label : (profile : Profile) (labels : List (ℕ × ℕ)) (p : Patch) → IsSound profile p → (label : ℤ) →
+    IsAdmitted labels label ↔ (IsLabelOf p.here label ⊎ IsAdmitted labels label)
+no_label profile labels p sound label = (
+  (λ admitted. inr admitted),
+  (λ either. elim either [
+    | inl own ↦ absurd (sound.no_outlet own.outlet)
+    | inr admitted ↦ admitted
+  ]),
+)
 
 -- where labels aren't judged SharedLabel isn't tried, and else it is
 shared_untried : (judged : Judged) → has_bas judged ≡ false → ¬ IsTried judged SharedLabel

@@ -1,11 +1,59 @@
 -- What one cell more adds to what was found of one rule, and to the first fault.
-use Rattle.std.specs.Prelude.{◌≡◌, ◌+◌, ◌^◌, ◌<◌, ◌⊎◌, Bool, true, false, Option, Some, None, unwrap_or}
-use Rattle.drain_grid.specs.declared.cell.Cell.{Cell}
-use Rattle.drain_grid.specs.declared.patch.Patch.{Patch}
+use Rattle.std.specs.Prelude.{Bool, true, false, ℕ, List, Option, ◌≡◌, ◌+◌, ◌^◌, ◌<◌, ◌⊎◌, Some, None, unwrap_or}
 use Rattle.drain_grid.specs.declared.rule.Rule.{Rule}
-use Rattle.drain_grid.specs.Rule.{IsAnyRule, IsLeastFault}
-use Rattle.drain_faults.specs.declared.faulty_patch.FaultyPatch.{FaultyPatch}
-use Rattle.drain_faults.specs.declared.rule_faults.RuleFaults.{RuleFaults}
+use Rattle.drain_grid.specs.declared.rule.Rule.TheVariants.{VoidCell, Missing, BadCode, BelowGround, OpenRaised, NoSpill, SpillHeight, SpillRank, NotLeast, Slope, OutletCode, FlatStep, Accumulation, Label, SharedLabel}
+use Rattle.drain_faults.specs.declared.per_rule.PerRule.{PerRule}
+use Rattle.drain_grid.specs.declared.cell.Cell.{Cell}
+use Rattle.drain_grid.specs.declared.judged.Rules.{Rules}
+use Rattle.drain_grid.specs.declared.patch.Patch.{Patch}
+use Rattle.drain_grid.specs.Grid.{Grid, Products}
+use Rattle.drain_grid.specs.GridRules.{HoldsAt}
+use Rattle.drain_grid.specs.Rule.{IsLeastFault, IsAnyRule}
+use Rattle.drain_grid.specs.RulesAbout.{IsTried, tried}
+use Rattle.drain_rules.specs.Labels.{labelled_profile}
+use Rattle.drain_faults.specs.declared.patch_faults.FaultyPatch.{FaultyPatch}
+use Rattle.drain_faults.specs.declared.patch_faults.RuleFaults.{RuleFaults}
+
+-- Flags of failing rules.
+
+-- the flag says whether something fails: true if it doesn't hold, false if it holds
+abbrev pub TellsFault : Bool → Type 0 → Type 0
+TellsFault true P = ¬ P
+TellsFault false P = P
+
+-- Fifteen things, one for each rule.
+
+-- the rule's own
+abbrev pub of_rule : {A : Type 0} → PerRule A → Rule → A
+of_rule things VoidCell = things.void_cell
+of_rule things Missing = things.missing
+of_rule things BadCode = things.bad_code
+of_rule things BelowGround = things.below_ground
+of_rule things OpenRaised = things.open_raised
+of_rule things NoSpill = things.no_spill
+of_rule things SpillHeight = things.spill_height
+of_rule things SpillRank = things.spill_rank
+of_rule things NotLeast = things.not_least
+of_rule things Slope = things.slope
+of_rule things OutletCode = things.outlet_code
+of_rule things FlatStep = things.flat_step
+of_rule things Accumulation = things.accumulation
+of_rule things Label = things.label
+of_rule things SharedLabel = things.shared_label
+
+-- What the rules that are tried say of a cell. They are this project's own.
+
+-- the rule, if it is tried, holds at the patch: SharedLabel against these labels
+abbrev pub HoldsIfTried : Rules → List (ℕ × ℕ) → Patch → Rule → Type 0
+HoldsIfTried rules labels p r = IsTried rules.judged r → labelled_profile (tried rules) labels p r
+
+-- each rule that is tried holds at the cell
+abbrev pub AllHoldAt : Rules → Grid → Products → Cell → Type 0
+AllHoldAt rules g ps c = (r : Rule) → IsTried rules.judged r → HoldsAt (tried rules) g ps c r
+
+-- the rule is the least of them that fails at the cell, and none where each holds
+abbrev pub IsLeastAt : Rules → Grid → Products → Cell → Option Rule → Type 0
+IsLeastAt rules g ps c = IsLeastFault (IsTried rules.judged) (HoldsAt (tried rules) g ps c)
 
 -- the cell is counted, if the count fits 32 bits, and is the first if there was none
 pub record IsWithFault (cell : Cell) (old new : RuleFaults) : Type 0 where

@@ -6,14 +6,14 @@ use Rattle.drain_grid.specs.declared.patch.Patch.{Patch}
 use Rattle.drain_grid.specs.declared.rule.Rule.{Rule}
 use Rattle.drain_grid.specs.Grid.{Grid, Products}
 use Rattle.drain_grid.specs.Rule.{rule_number}
-use Rattle.drain_rules.specs.RowOutcomes.{cells_above}
-use Rattle.drain_rules.specs.PatchRows.{AreRowPatches}
+use Rattle.drain_rules.specs.Walks.{cells_above}
+use Rattle.drain_rules.specs.Rows.{AreRowPatches}
 use Rattle.drain_faults.specs.declared.fault_map.FaultMap.{FaultMap}
 use Rattle.drain_faults.specs.declared.fault_map.TheConstants.{SOUND, SOUND_VOID}
 use Rattle.drain_faults.specs.declared.fault_walk.FaultWalk.{FaultWalk}
-use Rattle.drain_faults.specs.declared.fault_tally.FaultTally.{FaultTally}
+use Rattle.drain_faults.specs.declared.row_faults.FaultTally.{FaultTally}
 use Rattle.drain_faults.specs.FaultWalks.{IsFoundAbove}
-use Rattle.drain_faults.specs.TriedRules.{IsLeastAt}
+use Rattle.drain_faults.specs.CellFaults.{IsLeastAt}
 
 -- that of the least rule that fails at the cell; if none fails that of a sound data cell, or of a sound void
 abbrev pub fault_pixel : Option Rule → Bool → ℕ

@@ -7,12 +7,11 @@ use Rattle.drain_grid.specs.Extent.{row_cells}
 use Rattle.drain_grid.specs.Grid.{Grid, Products, HasData}
 use Rattle.drain_grid.specs.GridRules.{SharedLabelHolds}
 use Rattle.drain_grid.specs.Judged.{has_bas}
-use Rattle.drain_rules.specs.RowOutcomes.{CountsAbove, cells_above}
+use Rattle.drain_rules.specs.Walks.{CountsAbove, cells_above}
 use Rattle.drain_rules.specs.Labels.{AreLabelsBefore}
-use Rattle.drain_rules.specs.PatchRows.{AreRowPatches}
-use Rattle.drain_rules.specs.Rows.{place}
+use Rattle.drain_rules.specs.Rows.{AreRowPatches, place}
 use Rattle.drain_faults.specs.declared.fault_walk.FaultWalk.{FaultWalk}
-use Rattle.drain_faults.specs.declared.fault_tally.FaultTally.{FaultTally}
+use Rattle.drain_faults.specs.declared.row_faults.FaultTally.{FaultTally}
 use Rattle.drain_faults.specs.ByProduct.{AreFaultsByProduct}
 use Rattle.drain_faults.specs.Faults.{AreFaultsOf, IsFirstPatch}
 

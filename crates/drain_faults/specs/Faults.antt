@@ -6,11 +6,10 @@ use Rattle.drain_grid.specs.declared.rule.Rule.{Rule}
 use Rattle.drain_grid.specs.Grid.{Grid, Products, patch_at}
 use Rattle.drain_grid.specs.GridRules.{HoldsAt}
 use Rattle.drain_grid.specs.RulesAbout.{IsTried, tried}
-use Rattle.drain_faults.specs.declared.faulty_patch.FaultyPatch.{FaultyPatch}
+use Rattle.drain_faults.specs.declared.patch_faults.FaultyPatch.{FaultyPatch}
 use Rattle.drain_faults.specs.declared.per_rule.PerRule.{PerRule}
-use Rattle.drain_faults.specs.declared.rule_faults.RuleFaults.{RuleFaults}
-use Rattle.drain_faults.specs.PerRule.{of_rule}
-use Rattle.drain_faults.specs.TriedRules.{AllHoldAt, IsLeastAt}
+use Rattle.drain_faults.specs.declared.patch_faults.RuleFaults.{RuleFaults}
+use Rattle.drain_faults.specs.CellFaults.{of_rule, AllHoldAt, IsLeastAt}
 
 -- it is the number of the list's cells at which the fact doesn't hold
 abbrev pub IsNumberWithout : (Cell → Type 0) → List Cell → ℕ → Type 0

@@ -3,7 +3,4 @@ pub mod CellFaults
 pub mod FaultMaps
 pub mod FaultWalks
 pub mod Faults
-pub mod Flags
 pub mod Noted
-pub mod PerRule
-pub mod TriedRules

@@ -7,11 +7,9 @@ use Rattle.drain_grid.specs.declared.patch.Patch.{Patch}
 use Rattle.drain_grid.specs.declared.rule.Rule.{Rule}
 use Rattle.drain_grid.specs.Judged.{has_bas}
 use Rattle.drain_rules.specs.Labels.{IsLabelOf}
-use Rattle.drain_faults.specs.declared.fault_tally.FaultTally.{FaultTally}
+use Rattle.drain_faults.specs.declared.row_faults.FaultTally.{FaultTally}
 use Rattle.drain_faults.specs.ByProduct.{AreProductsNotedAt}
-use Rattle.drain_faults.specs.CellFaults.{IsLeastNoted, IsNotedAt}
-use Rattle.drain_faults.specs.PerRule.{of_rule}
-use Rattle.drain_faults.specs.TriedRules.{HoldsIfTried}
+use Rattle.drain_faults.specs.CellFaults.{IsLeastNoted, IsNotedAt, of_rule, HoldsIfTried}
 
 -- each rule and each product is recorded here, SharedLabel by the labels so far; where labels are judged the cell's is
 -- added if it is an outlet by code

@@ -1,20 +1,18 @@
 //! The walk over a grid, row by row.
 
 ghost use Rattle.drain_grid.specs.declared.cell.TheConstants.{MAX_LENGTH};
-ghost use Rattle.drain_rules.specs.PatchRows.{IsAtMost};
+ghost use Rattle.drain_rules.specs.Rows.{IsAtMost};
 ghost use Rattle.std.specs.Prelude.{◌*◌};
 
 use crate::fault_map::FaultMap;
-use crate::fault_tally::FaultTally;
-use crate::faulty_patch::FaultyPatch;
+use crate::patch_faults::{FaultyPatch, RuleFaults};
 use crate::per_rule::PerRule;
 use crate::product_faults::{ProductFaults, no_faults};
-use crate::row_faults::note_row_of;
-use crate::rule_faults::RuleFaults;
+use crate::row_faults::{FaultTally, note_row_of};
 use drain_basin::OutletLabels;
 use drain_grid::{Counts, OutOfMemory, PerProduct, Rules, Shape, Verdict};
 use drain_rules::PatchRow;
-use drain_rules::tally::Tally;
+use drain_rules::walk::Tally;
 use std::alloc::Global;
 
 /// How many rows were scanned, their counts, the results at their cells, and a map of them if required.
@@ -32,7 +30,7 @@ impl FaultWalk {
     ghost use Rattle.drain_grid.specs.Grid.{Grid, Products};
     ghost use Rattle.drain_grid.specs.declared.judged.Rules.{Rules};
     ghost use Rattle.drain_grid.specs.Judged.{has_bas};
-    ghost use Rattle.drain_rules.specs.RowOutcomes.{cells_above};
+    ghost use Rattle.drain_rules.specs.Walks.{cells_above};
     ghost use Rattle.drain_rules.specs.Verdicts.{IsVerdictBy};
     ghost use Rattle.drain_faults.specs.ByProduct.{AreFaultsByProduct};
     ghost use Rattle.drain_faults.specs.Faults.{AreFaultsOf, IsFirstPatch};

@@ -8,23 +8,16 @@
 //! passed at once. It counts as that one does, so it gives the verdict too.
 #![tactic(auto)]
 
-pub mod cell_faults;
 pub mod fault_map;
-pub mod fault_tally;
 pub mod fault_walk;
-pub mod faulty_patch;
 pub mod laws;
-mod part_faults;
 pub mod patch_faults;
 pub mod per_rule;
 pub mod product_faults;
-pub mod product_presence;
 pub mod row_faults;
-pub mod rule_faults;
 
 pub use fault_map::{FaultMap, SOUND, SOUND_VOID};
 pub use fault_walk::FaultWalk;
-pub use faulty_patch::FaultyPatch;
+pub use patch_faults::{FaultyPatch, RuleFaults};
 pub use per_rule::{PerRule, RULES};
 pub use product_faults::ProductFaults;
-pub use rule_faults::RuleFaults;

@@ -3,7 +3,7 @@
 ghost use Rattle.std.specs.Prelude.{◌≡◌, false};
 ghost use Rattle.drain_grid.specs.declared.rule.Rule.{Rule};
 ghost use Rattle.drain_grid.specs.Rule.{IsAnyRule, IsLeastFault};
-ghost use Rattle.drain_faults.specs.PerRule.{of_rule};
+ghost use Rattle.drain_faults.specs.CellFaults.{of_rule};
 
 use drain_grid::Rule;
 

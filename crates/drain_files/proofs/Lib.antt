@@ -1,3 +1,1 @@
-pub mod ClashLemmas
 pub mod PathLemmas
-pub mod TileNames

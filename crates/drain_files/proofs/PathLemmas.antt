@@ -1,9 +1,38 @@
 -- What follows the last slash of a path, and what precedes it.
-use Rattle.std.proofs.Common.{◌≡◌, ℕ, ◌+◌, ◌-◌, ◌<◌, ◌≤◌, List, [], ◌∷◌, ◌++◌, length, drop, take, get_or, inl, inr, refl, sym, ap, ◌∙◌, arith, length-drop, take-append-drop}
+use Rattle.std.proofs.Common.{List, [], ◌∷◌, ◌++◌, ◌≡◌, ℕ, ◌+◌, ◌<◌, get_or, take, ◌⊎◌, inl, inr, sym, subst, below_more, ◌-◌, ◌≤◌, length, drop, refl, ap, ◌∙◌, arith, length-drop, take-append-drop}
+use Rattle.std.specs.List.{AllZip}
+use Rattle.std.proofs.lemmas.Option.{get_or_from_slice_get}
+use Rattle.drain_files.specs.FileIds.{Clashes, IsInput, MeetsSome}
+use Rattle.drain_files.specs.declared.file_id.FileId.{FileId}
+use Rattle.drain_files.specs.declared.file_id.Target.{Target}
 use Rattle.std.specs.Prelude.{◌≢◌, slice_range}
 use Rattle.std.proofs.lemmas.List.{drop_more, get_or-drop, take_more}
 use Rattle.std.proofs.lemmas.List.Elements.{All-from_get_or}
 use Rattle.drain_files.specs.FilePaths.{slash, IsFolderPart, IsLastPart}
+
+-- The names of tiles that were opened one after the other.
+
+-- one more on either side
+pub AllZip-more : {A B : Type 0} (R : A → B → Type 0) (xs : List A) (ys : List B) (x : A) (y : B) → AllZip R xs ys → R x y → AllZip R (xs ++ x ∷ []) (ys ++ y ∷ [])
+AllZip-more R [] [] x y all here = (here, tt)
+AllZip-more R [] (b ∷ ys) x y all here = absurd all
+AllZip-more R (a ∷ xs) [] x y all here = absurd all
+AllZip-more R (a ∷ xs) (b ∷ ys) x y all here = (all.0, AllZip-more R xs ys x y all.1 here)
+
+-- The first output that clashes, place by place.
+
+-- an output that is no input and meets no earlier output is one more that doesn't clash
+pub no_clash_more : (outputs : List Target) (inputs : List FileId) (k : ℕ) (d : Target) → ¬ IsInput (get_or outputs k d) inputs → ¬ MeetsSome (get_or outputs k d) (take k outputs)
+    → ((j : ℕ) → j < k → ¬ Clashes outputs inputs j) → (j : ℕ) → j < k + 1 → ¬ Clashes outputs inputs j
+no_clash_more outputs inputs k d no_input meets_none before = below_more (λ j. ¬ Clashes outputs inputs j) k before here
+  where
+    here : ¬ Clashes outputs inputs k
+    here clash =
+        either clash.0 (sym (get_or_from_slice_get outputs k clash.0 d clash.1)) clash.2
+      where
+        either : (other : Target) → other ≡ get_or outputs k d → (IsInput other inputs ⊎ MeetsSome other (take k outputs)) → ⊥
+        either other same (inl input) = no_input (subst (λ o. IsInput o inputs) same input)
+        either other same (inr meets) = meets_none (subst (λ o. MeetsSome o (take k outputs)) same meets)
 
 -- the path is what precedes its slash in this place, the slash, and what follows
 split_at_slash : (path : List ℕ) (at : ℕ) → at < length path → get_or path at 0 ≡ slash → path ≡ take at path ++ slash ∷ drop (at + 1) path

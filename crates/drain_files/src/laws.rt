@@ -4,8 +4,7 @@
 
 ghost use Rattle.std.specs.Prelude.{◌≡◌};
 
-use crate::text_file::MAX_TEXT_BYTES;
-use crate::whole_input::CHUNK_BYTES;
+use crate::whole_input::{CHUNK_BYTES, MAX_TEXT_BYTES};
 
 /// The numerals of the constants in definitions: a text has at most 2^32 bytes and is read by 16,384 of them. This
 /// project's own.

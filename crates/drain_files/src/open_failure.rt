@@ -1,15 +1,76 @@
 //! The line for a file that can't be opened.
 
-ghost use Rattle.std.specs.Prelude.{◌≡◌, IfOk, List, ℕ};
-ghost use Rattle.drain_files.specs.OpenFailures.{open_failure_line, IsOpenFailure};
+ghost use Rattle.std.specs.Prelude.{Result, ◌≡◌, IfOk, List, ℕ};
+ghost use Rattle.drain_files.specs.Files.{IsNamed, open_failure_line, IsOpenFailure};
+ghost use Rattle.drain_maker.specs.declared.product_files.SetFault.{SetFault};
 ghost use Rattle.drain_answer.specs.Printing.{PrintsText};
 
 use crate::open_files::OpenFault;
-use crate::reason::print_reason;
+use drain_answer::outcome::Status;
 use drain_answer::print::{print_failure, print_text};
-use drain_answer::status::Status;
 use drain_device::{BodyFault, ByteSink};
+use drain_maker::product_files::SetFault;
 use std::alloc::{AllocError, Global};
+use std::io;
+use std::io::ErrorKind;
+
+/// Why a file can't be opened or written.
+#[derive(Clone, Copy)]
+pub enum Reason {
+    /// The system's error of this number.
+    System(i32),
+    /// An error without a number.
+    Other(ErrorKind),
+    /// The file is an input or another output.
+    Taken,
+}
+
+impl Reason {
+    /// The reason of an error.
+    pub fn of(error: &io::Error) -> Reason {
+        match error.raw_os_error() {
+            Some(number) => Reason::System(number),
+            None => Reason::Other(error.kind()),
+        }
+    }
+}
+
+/// Prints the reason as `error: PATH: REASON`. Whether that can be written doesn't change the run.
+pub fn print_reason(rt: &HostRuntime, path: &str, reason: Reason) {
+    match reason {
+        Reason::System(number) => print_error(rt, path, &io::Error::from_raw_os_error(number)),
+        Reason::Other(kind) => print_error(rt, path, &io::Error::from(kind)),
+        Reason::Taken => {
+            let _ = eprintln!(rt; "error: {path}: it is an input or another output");
+        }
+    }
+}
+
+fn print_error(rt: &HostRuntime, path: &str, error: &io::Error) {
+    let _ = eprintln!(rt; "error: {path}: {error}");
+}
+
+/// Files that are written under other names, and take their own when they are whole.
+pub trait Placing {
+    /// A call led from the one state to the other, with this result.
+    ghost has_placed: { Self → Self → Result (Unit {0}) SetFault → Type 0 };
+
+    /// Gives each file its own name.
+    fn place(&mut self) -> Result<(), SetFault>
+        ensures { has_placed self.old self.new result };
+}
+
+/// Gives the files their names if all of them were written, and returns what is to be reported. If one wasn't, no name
+/// changes; a name that can't be given may come after others that were.
+pub fn place_written<P: Placing>(
+    written: Result<(), SetFault>,
+    places: &mut P,
+) -> Result<(), SetFault>
+    ensures { IsNamed P.has_placed places.old places.new written result }
+{
+    written?;
+    places.place()
+}
 
 /// Prints `failed Open` and the path, and returns the status of a failure. If there is no memory for the text, it
 /// prints that.

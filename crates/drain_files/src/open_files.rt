@@ -8,10 +8,10 @@ ghost use Rattle.drain_maker.specs.declared.product_files.TheConstants.{FILE_COU
 
 use crate::file_id::FileId;
 use crate::file_paths::tile_name;
+use crate::open_failure::Reason;
 use crate::outputs::{OutputSink, Outputs};
-use crate::reason::Reason;
 use crate::source_or_zeros::SourceOrZeros;
-use crate::text_file::read_text;
+use crate::whole_input::read_text;
 use drain_device::{BodyFault, ByteList, Reader, Writer};
 use drain_hgt::TileInput;
 use drain_maker::product_files::{Part, SET_FILES, SetFile};

@@ -5,7 +5,7 @@ ghost use Rattle.std.specs.Prelude.{◌≡◌, [], IfOk, None};
 ghost use Rattle.std.specs.List.{AllZip};
 ghost use Rattle.drain_hgt.specs.Inputs.{names_of};
 ghost use Rattle.drain_files.specs.FilePaths.{IsLastPart};
-ghost use Rattle.drain_files.specs.JudgedFiles.{AreOf};
+ghost use Rattle.drain_files.specs.Files.{AreOf};
 
 use crate::file_paths::{header_path, raster_path};
 use crate::open_files::{InputFile, OpenFault, Opener, list_at, open_tiles};

@@ -6,9 +6,8 @@ ghost use Rattle.std.specs.Prelude.{◌≡◌, IfOk, length, vec_len};
 
 use crate::file_id::{FileId, Target, first_clash, meets};
 use crate::file_paths::{folder_of, part_path};
+use crate::open_failure::{Placing, Reason, print_reason};
 use crate::open_files::OpenFault;
-use crate::placing::Placing;
-use crate::reason::{Reason, print_reason};
 use drain_device::Writer;
 use drain_maker::product_files::SetFault;
 use std::alloc::Global;

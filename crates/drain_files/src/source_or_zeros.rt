@@ -22,7 +22,7 @@ impl<R> SourceOrZeros<R> {
 }
 
 impl<R: ByteSource> ByteSource for SourceOrZeros<R> {
-    ghost use Rattle.drain_files.specs.SourceOrZeros.{bytes_of, source_counts};
+    ghost use Rattle.drain_files.specs.Files.{bytes_of, source_counts};
 
     ghost bytes_left = { bytes_of R.bytes_left };
 

@@ -1,17 +1,91 @@
 -- One row more of the lists of a grid's samples and conditioned elevations.
-use Rattle.std.proofs.Common.{◌≡◌, ◌<◌, ◌+◌, ◌*◌, ◌++◌, ◌∙◌, inl, inr, ℕ, ℤ, pos, List, length, map, get_or, length-append, sym, ap, arith}
-use Rattle.std.proofs.lemmas.Bool.{cases_order}
+use Rattle.std.proofs.Common.{◌≡◌, ℕ, ◌+◌, ◌<◌, ◌∙◌, inl, inr, ◌⊎◌, ℤ, pos, false, List, IsSome, is_some, slice_index_or, sym, subst, arith, Option, Some, None, MatchOption, get_or, refl, ◌*◌, ◌++◌, length, map, length-append, ap}
+use Rattle.std.proofs.lemmas.Bool.{cases_order, false≢true}
+use Rattle.drain_grid.specs.declared.cell.Cell.{Cell}
+use Rattle.drain_grid.specs.Extent.{IsCellOf, index_of}
+use Rattle.drain_grid.specs.Grid.{Heights, Grid, Products, IsInside, IsSample, height_from}
+use Rattle.drain_grid.specs.WholeGrid.{elevation_at, grid_of}
+use Rattle.drain_grid.proofs.Alike.{same_index, before_row}
+use Rattle.drain_filled.specs.Compared.{listed_at, AreOneBefore, HasHeight, AreOneSurface, HasCellsOf, HasHeights, IsFirstUnfilled}
+use Rattle.drain_grid.specs.declared.sink_line.SinkLine.{SinkLine}
+use Rattle.drain_grid.specs.declared.tile.TheConstants.{GREATEST_SAMPLE, LEAST_SAMPLE, VOID}
+use Rattle.drain_grid.specs.GridRules.{RulesHold}
+use Rattle.drain_grid.specs.Path.{Drains, IsLeastSurface, Surface}
+use Rattle.drain_grid.specs.PatchRules.{surface_rules}
+use Rattle.drain_grid.specs.Rule.{IsFillRule}
+use Rattle.drain_filled.proofs.LeastSurfaces.{rules_keep_con_between, same_cells_same_surface, same_numbers_same_cell}
+use Rattle.drain_filled.specs.ConRows.{HasSinks, IsGroundAndCon, AreFirstCon, ConLists, narrowed, with_row}
+use Rattle.drain_filled.proofs.FirstUnfilled.{narrowed-sample, IsSample-narrowed}
 use Rattle.std.proofs.lemmas.List.{get_or_append_left, get_or-append-add, get_or-map, length-map}
 use Rattle.std.proofs.lemmas.List.Elements.{All-append, All-map}
 use Rattle.std.specs.List.{All}
-use Rattle.drain_grid.specs.declared.cell.Cell.{Cell}
-use Rattle.drain_grid.specs.declared.tile.TheConstants.{VOID}
-use Rattle.drain_grid.specs.Extent.{index_of}
-use Rattle.drain_grid.specs.Grid.{Grid, Products, IsInside}
-use Rattle.drain_grid.specs.Tile.{IsSample, height_from}
-use Rattle.drain_grid.proofs.CellOrder.{before_row}
-use Rattle.drain_filled.specs.ConRows.{AreFirstCon, ConLists, narrowed, with_row}
-use Rattle.drain_filled.proofs.NarrowRows.{IsSample-narrowed, narrowed-sample}
+
+-- What a comparison place by place says of cells.
+
+-- one place more, where the lists have one number or no cell has data
+pub one_more_place : (h : Heights) (con least : List ℤ) (place : ℕ) →
+    ((c : Cell) → HasHeight h c → index_of h.extent c ≡ place → listed_at h.extent con c ≡ listed_at h.extent least c) →
+    AreOneBefore h con least place → AreOneBefore h con least (place + 1)
+one_more_place h con least place here before c has below =
+    elim (last (index_of h.extent c) place below) [
+      | inl earlier ↦ before c has earlier
+      | inr at ↦ here c has at
+    ]
+  where
+    last : (k n : ℕ) → k < n + 1 → (k < n) ⊎ (k ≡ n)
+    last k n less = by_order (cases_order k n)
+      where
+        by_order : (k ≡ n) ⊎ ((k < n) ⊎ (n < k)) → (k < n) ⊎ (k ≡ n)
+        by_order (inl same) = inr same
+        by_order (inr (inl before)) = inl before
+        by_order (inr (inr after)) = absurd (omega arith)
+
+-- a cell at the place has data exactly where the cell found there has
+pub no_data_at : (h : Heights) (con least : List ℤ) (place : ℕ) (found : Cell) → IsCellOf h.extent found → index_of h.extent found ≡ place →
+    is_some (elevation_at h found) ≡ false →
+    (c : Cell) → HasHeight h c → index_of h.extent c ≡ place → listed_at h.extent con c ≡ listed_at h.extent least c
+no_data_at h con least place found inside there void c has at =
+    let one = same_index h.extent c found has.inside inside (at ∙ sym there) in
+    absurd (false≢true (sym void ∙ subst (λ (x : Cell). IsSome (elevation_at h x)) one has.is_data))
+
+-- a number at a place is that of the cell there
+pub same_at : (h : Heights) (con least : List ℤ) (place : ℕ) → slice_index_or con place (pos 0) ≡ slice_index_or least place (pos 0) →
+    (c : Cell) → HasHeight h c → index_of h.extent c ≡ place → listed_at h.extent con c ≡ listed_at h.extent least c
+same_at h con least place same c has at = subst (λ k. slice_index_or con k (pos 0) ≡ slice_index_or least k (pos 0)) (sym at) same
+
+-- Conditioned elevations in 16 bits, where rules 4, 5 and 9 hold.
+--
+-- There con lies between the bounds of the elevations, which are of 16 bits. So it was kept as it is, and what a comparison says
+-- of the kept numbers it says of con.
+
+module _ (g : Grid) (ps : Products) (ground : Heights) (con : List ℤ) (sinks : List SinkLine) (parts : IsGroundAndCon g ps ground con)
+    (listed : HasSinks g sinks) (rules : RulesHold surface_rules IsFillRule g ps) where
+  -- the surface of the kept numbers
+  abbrev kept : Surface
+  kept c = get_or con (index_of g.extent c) (pos 0)
+
+  same_cells : HasCellsOf g (grid_of ground sinks)
+  same_cells = record { extent = parts.extent; elevation = parts.elevation; sink = listed }
+
+  -- where some surface drains they are con
+  kept_as_is : (t : Surface) → Drains g t → AreOneSurface g ps.con kept
+  kept_as_is t drains c here =
+      let between = rules_keep_con_between g ps t LEAST_SAMPLE GREATEST_SAMPLE rules drains
+      (λ x at. (let fits = parts.fits x at.inside in (fits.low, fits.high))) c here in
+      sym (parts.con_is c here.inside ∙ narrowed-sample (ps.con c) (record { low = between.0; high = between.1 }))
+
+  its_own : HasCellsOf g g
+  its_own = record { extent = refl; elevation = λ c inside. refl; sink = λ c inside. refl }
+
+  by_answer : (found : Option Cell) → MatchOption found (IsLeastSurface g kept) (IsFirstUnfilled g kept) →
+      MatchOption found (IsLeastSurface g ps.con) (IsFirstUnfilled g ps.con)
+  by_answer None least = same_cells_same_surface g g ps.con kept its_own (kept_as_is kept least.drains) least
+  by_answer (Some c) first = same_numbers_same_cell g ps.con kept (kept_as_is first.filled.0 first.filled.1.drains) c first
+
+  pub con_compared : (found : Option Cell) →
+      ((s : Surface) → HasCellsOf g (grid_of ground sinks) → HasHeights g s con → MatchOption found (IsLeastSurface g s) (IsFirstUnfilled g s)) →
+      MatchOption found (IsLeastSurface g ps.con) (IsFirstUnfilled g ps.con)
+  con_compared found answer = by_answer found (answer kept same_cells (λ c here. refl))
 
 -- numbers of a row of the grid
 pub record AreRowOf (g : Grid) (ps : Products) (row : ℕ) (samples con : List ℤ) : Type 0 where

@@ -8,16 +8,15 @@ use Rattle.std.proofs.lemmas.Int.{ints}
 use Rattle.drain_grid.specs.declared.cell.Cell.{Cell}
 use Rattle.drain_grid.specs.declared.rule.Rule.TheVariants.{BelowGround}
 use Rattle.drain_grid.specs.declared.direction.Direction.{Direction}
-use Rattle.drain_grid.specs.Extent.{IsCellOf, step}
+use Rattle.drain_grid.specs.Extent.{IsCellOf, step, Extent}
 use Rattle.drain_grid.specs.Grid.{Grid, HasData, IsOpenCell, height_at}
 use Rattle.drain_grid.specs.Open.{IsOpenAmong}
 use Rattle.drain_grid.specs.Path.{IsPath, Surface, NeverRises, Drains, CoversGround}
-use Rattle.drain_grid.specs.Size.{Extent}
-use Rattle.drain_grid.proofs.Least.{HasData-path, con_below, con_below_crest, levels}
+use Rattle.drain_grid.proofs.Lowered.{HasData-path, con_below, con_below_crest, levels}
 use Rattle.drain_grid.proofs.Neighbors.{step_lies}
-use Rattle.drain_grid.proofs.OpenAmong.{IsOpenAmong-alike}
+use Rattle.drain_grid.proofs.OpenCells.{IsOpenAmong-alike}
 use Rattle.drain_filled.specs.Laws.{AreBetween, OneLeastSurface, RulesKeepConBetween, RulesKeepConLow, SameCellsSameSurface, SameNumbersSameCell, UnfilledIsTooLow}
-use Rattle.drain_filled.specs.Unfilled.{AreOneSurface, HasCellsOf}
+use Rattle.drain_filled.specs.Compared.{AreOneSurface, HasCellsOf}
 
 -- two numbers, each at most the other
 both_ways : (a b : ℤ) → a ≤ℤ b → b ≤ℤ a → a ≡ b

@@ -6,11 +6,9 @@ use Rattle.drain_grid.specs.declared.cell.Cell.{Cell}
 use Rattle.drain_grid.specs.declared.sink_line.SinkLine.{SinkLine}
 use Rattle.drain_grid.specs.declared.tile.TheConstants.{GREATEST_SAMPLE, LEAST_SAMPLE, VOID}
 use Rattle.drain_grid.specs.Extent.{index_of}
-use Rattle.drain_grid.specs.Grid.{Grid, Products, IsInside, height_at}
-use Rattle.drain_grid.specs.Rasters.{Heights}
-use Rattle.drain_grid.specs.SinkLines.{is_listed}
-use Rattle.drain_grid.specs.Tile.{IsSample, height_from}
-use Rattle.drain_grid.specs.Whole.{elevation_at}
+use Rattle.drain_grid.specs.Grid.{Grid, Products, IsInside, height_at, Heights, IsSample, height_from}
+use Rattle.drain_grid.specs.SinkTexts.{is_listed}
+use Rattle.drain_grid.specs.WholeGrid.{elevation_at}
 
 -- the number, or the nearest that 16 bits hold
 abbrev pub narrowed : ℤ → ℤ

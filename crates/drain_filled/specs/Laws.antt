@@ -6,7 +6,7 @@ use Rattle.drain_grid.specs.GridRules.{RulesHold}
 use Rattle.drain_grid.specs.Path.{Drains, IsLeastSurface, Surface}
 use Rattle.drain_grid.specs.PatchRules.{surface_rules}
 use Rattle.drain_grid.specs.Rule.{IsFillRule}
-use Rattle.drain_filled.specs.Unfilled.{AreOneSurface, HasCellsOf, IsFirstUnfilled}
+use Rattle.drain_filled.specs.Compared.{AreOneSurface, HasCellsOf, IsFirstUnfilled}
 
 -- two least surfaces are equal at each data cell
 abbrev pub OneLeastSurface : Type 0

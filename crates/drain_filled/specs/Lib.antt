@@ -1,4 +1,3 @@
 pub mod Compared
 pub mod ConRows
 pub mod Laws
-pub mod Unfilled

@@ -5,11 +5,10 @@ ghost use Rattle.drain_grid.specs.declared.cell.Cell.{Cell};
 ghost use Rattle.drain_grid.specs.Grid.{Grid};
 ghost use Rattle.drain_grid.specs.Path.{IsLeastSurface, Surface};
 ghost use Rattle.drain_grid.specs.WholeGrid.{grid_of};
-ghost use Rattle.drain_filled.specs.Compared.{AreOneBefore, IsFirstOther};
-ghost use Rattle.drain_filled.specs.Unfilled.{HasCellsOf, HasHeights, IsFirstUnfilled};
+ghost use Rattle.drain_filled.specs.Compared.{AreOneBefore, IsFirstOther, HasCellsOf, HasHeights, IsFirstUnfilled};
 
+use drain_flood::fill;
 use drain_grid::{Cell, Elevation, OutOfMemory, Sinks};
-use drain_surface::fill;
 use std::alloc::Global;
 
 /// The first data cell where the heights in row order, one for each cell, differ from the least surface that covers

@@ -4,13 +4,37 @@ ghost use Rattle.std.specs.Prelude.{◌≡◌, ◌*◌, IfSome, IsSome, OnErr, O
 ghost use Rattle.drain_grid.specs.Grid.{Grid, Products};
 ghost use Rattle.drain_filled.specs.ConRows.{AreFirstCon, IsGroundAndCon, with_row};
 
-use crate::ground_and_con::GroundAndCon;
 use crate::narrow_rows::push_row;
-use drain_grid::{Elevation, OutOfMemory, Shape};
+use crate::surfaces::Surfaces;
+use drain_grid::{Elevation, OutOfMemory, Rules, Shape};
 use drain_pixels::PixelRow;
 use drain_pixels::stored::AnyPixels;
+use drain_rows::{RowBuffer, RowVisitor};
+use drain_rules::ThreeRows;
 use std::alloc::Global;
 use std::marker::Model;
+
+impl RowVisitor for ConRows {
+    ghost use Rattle.std.specs.Prelude.{true};
+    ghost use Rattle.drain_filled.specs.ConRows.{AreFirstCon};
+
+    ghost counts = { λ n lists. Unit {0} };
+
+    ghost are_of = { λ rules g ps rows lists. AreFirstCon g ps rows lists };
+
+    ghost wants = { λ rules g ps. Unit {0} };
+
+    ghost lasting = { λ lists. true };
+
+    fn note(
+        &mut self,
+        row: &RowBuffer,
+        _rows: &ThreeRows<'_>,
+        _rules: &Rules,
+    ) -> Result<(), OutOfMemory> {
+        self.push_row(row.z.as_slice(), &row.products.con)
+    }
+}
 
 /// The sample and the conditioned elevation of each cell that was taken so far, in row order.
 #[derive(Drop)]
@@ -56,7 +80,7 @@ impl ConRows {
 
     /// The elevations and the conditioned elevations of a grid of this shape, if each of its cells was taken and no
     /// other.
-    pub fn into_parts(self, shape: Shape) -> Option<GroundAndCon>
+    pub fn into_parts(self, shape: Shape) -> Option<Surfaces>
         ensures all { (g : Grid) (ps : Products) → g.extent ≡ shape → AreFirstCon g ps shape.rows self → IsSome result }
         ensures parts { IfSome result (λ both. (g : Grid) (ps : Products) → g.extent ≡ shape → AreFirstCon g ps shape.rows self → IsGroundAndCon g ps both.ground both.con.items) }
         ensures extent { IfSome result (λ both. both.ground.extent ≡ shape) }
@@ -66,7 +90,7 @@ impl ConRows {
         if self.samples.len() != cells || self.con.len() != cells {
             return None;
         }
-        Some(GroundAndCon {
+        Some(Surfaces {
             ground: Elevation::new(shape, self.samples),
             con: self.con,
         })

@@ -4,11 +4,10 @@
 
 pub mod compare;
 pub mod con_rows;
-pub mod ground_and_con;
 pub mod laws;
 mod narrow_rows;
-mod row_con;
+pub mod surfaces;
 
 pub use compare::first_unfilled;
 pub use con_rows::ConRows;
-pub use ground_and_con::GroundAndCon;
+pub use surfaces::Surfaces;

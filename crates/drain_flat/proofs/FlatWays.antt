@@ -6,7 +6,7 @@ use Rattle.drain_grid.specs.declared.patch.Patch.{Patch}
 use Rattle.drain_grid.specs.Direction.{Names}
 use Rattle.drain_grid.specs.Patch.{IsClosed, HasLower}
 use Rattle.drain_grid.specs.PatchRules.{FlatStepHolds}
-use Rattle.drain_grid.proofs.NamedNeighbors.{same_direction}
+use Rattle.drain_grid.proofs.Neighbors.{same_direction}
 use Rattle.drain_flat.specs.Ways.{IsFlatWay}
 
 pub keeps_by_flat_way : (p : Patch) (d : Direction) → IsClosed p → ¬ HasLower p → Names p.here.dir d → FlatStepHolds p ↔ IsFlatWay p d

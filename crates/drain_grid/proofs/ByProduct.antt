@@ -1,10 +1,38 @@
--- What holds of each product holds of all, and what holds of each that a set holds, of all these.
-use Rattle.std.proofs.Common.{◌↔◌}
+-- The least of rules 1 to 3, from what holds of a data cell.
+use Rattle.std.proofs.Common.{◌<◌, Some, sym, subst, inl, inr, arith, ◌↔◌}
+use Rattle.std.proofs.lemmas.Bool.{cases_eq}
+use Rattle.drain_grid.specs.declared.patch.Patch.{Patch}
+use Rattle.drain_grid.specs.declared.rule.Rule.{Rule}
+use Rattle.drain_grid.specs.declared.rule.Rule.TheVariants.{VoidCell, Missing, BadCode}
+use Rattle.drain_grid.specs.Direction.{IsCode}
+use Rattle.drain_grid.specs.Values.{NoDataNumbers, IsComplete}
+use Rattle.drain_grid.specs.Rule.{rule_number, IsPresenceRule, IsLeastFault}
+use Rattle.drain_grid.specs.Patch.{IsDataCell}
+use Rattle.drain_grid.specs.PatchRules.{profile1, VoidCellHolds}
+use Rattle.drain_grid.proofs.AllRules.{same_rule}
 use Rattle.drain_grid.specs.declared.product.Product.{Product}
 use Rattle.drain_grid.specs.declared.product.Product.TheVariants.{Con, Dir, Acc, Bas, Spl, Rnk}
 use Rattle.drain_grid.specs.declared.set_product.SetProduct.{SetProduct}
-use Rattle.drain_grid.specs.declared.set_product.SetProduct.TheVariants as held
 use Rattle.drain_grid.specs.SetProduct.{OfSetProduct, product_of}
+use Rattle.drain_grid.specs.declared.set_product.SetProduct.TheVariants as held
+
+-- a data cell is no void
+void_holds : (nodata : NoDataNumbers) (p : Patch) → IsDataCell p → VoidCellHolds nodata p
+void_holds nodata p has_data is_void = grind arith
+
+-- of a data cell with every number, rule 3 is the first that fails
+pub bad_code_least : (nodata : NoDataNumbers) (p : Patch) → IsDataCell p → IsComplete nodata p.here → ¬ IsCode p.here.spl →
+    IsLeastFault IsPresenceRule (profile1 nodata p) (Some BadCode)
+bad_code_least nodata p has_data whole no_code = ((omega arith, omega arith), (λ h. no_code (h has_data).1), earlier)
+  where
+    earlier : (q : Rule) → IsPresenceRule q → rule_number q < 3 → profile1 nodata p q
+    earlier q own less =
+        elim (cases_eq (rule_number q) 1) [
+          | inl first ↦ subst (profile1 nodata p) (sym (same_rule q VoidCell first)) (void_holds nodata p has_data)
+          | inr later ↦ subst (profile1 nodata p) (sym (same_rule q Missing (omega arith))) (λ _. whole)
+        ]
+
+-- What holds of each product holds of all, and what holds of each that a set holds, of all these.
 
 pub by_product : (P : Product → Type 0) → P Con → P Dir → P Acc → P Bas → P Spl → P Rnk → (p : Product) → P p
 by_product P con dir acc bas spl rnk Con = con

@@ -3,18 +3,22 @@ use Rattle.std.proofs.Common.{◌≡◌, ◌∙◌, ◌↔◌, inl, inr, pos, �
 use Rattle.std.proofs.Math.IntN.{pos-+ℤ-pos}
 use Rattle.drain_grid.specs.declared.cell.Cell.{Cell}
 use Rattle.drain_grid.specs.Extent.{IsEarlier}
-use Rattle.drain_grid.specs.Grid.{Grid, Products, IsInside, HasData, patch_at}
-use Rattle.drain_grid.specs.GridRules.{SharedLabelHolds}
-use Rattle.drain_grid.specs.PatchRules.{AccumulationHolds, LabelHolds}
-use Rattle.drain_grid.specs.Run.{RunEnds, ShareBasin, upstream_count}
+use Rattle.drain_grid.specs.Grid.{Grid, Products, IsInside, HasData, patch_at, values_at}
+use Rattle.drain_grid.specs.GridRules.{SharedLabelHolds, RulesHold}
+use Rattle.drain_grid.specs.PatchRules.{AccumulationHolds, LabelHolds, flow_rules}
+use Rattle.drain_grid.specs.Run.{RunEnds, ShareBasin, upstream_count, run_end}
 use Rattle.drain_grid.specs.Values.{Values}
 use Rattle.drain_grid.proofs.Codes.{next-named}
-use Rattle.drain_grid.proofs.EndedRuns.{ended-run_end, ended_chains}
+use Rattle.drain_grid.proofs.Runs.{ended-run_end, ended_chains, run_end-zero, along_runs, run_end-next, run_end-stops}
 use Rattle.drain_grid.proofs.HandedOn.{handed_on, handed_total}
 use Rattle.drain_grid.proofs.Inflows.{HasData-flow}
 use Rattle.drain_grid.proofs.Patches.{cell_shown}
-use Rattle.drain_grid.proofs.Runs.{run_end-zero}
 use Rattle.drain_grid.proofs.Upstream.{upstream_count-parts}
+use Rattle.drain_grid.specs.declared.rule.Rule.TheVariants.{Label, SharedLabel}
+use Rattle.drain_grid.specs.Rule.{IsWayRule, IsLabelRule}
+use Rattle.drain_grid.specs.Laws.{LabelsAreBasins}
+use Rattle.drain_grid.proofs.Alike.{cases_earlier}
+use Rattle.drain_grid.proofs.Steps.{LeadsOn}
 
 module _ (g : Grid) (ps : Products) (ends : (c : Cell) → HasData g c → RunEnds g ps c) (c : Cell) (inside : IsInside g c) where
   data_here : IsSome (g.elevation c) → HasData g c
@@ -48,3 +52,43 @@ module _ (g : Grid) (ps : Products) (ends : (c : Cell) → HasData g c → RunEn
         not_before : IsEarlier c c → ⊥
         not_before (inl less) = absurd (omega arith)
         not_before (inr less) = absurd (omega arith)
+
+-- Rules 10 to 12, 14 and 15: labels are equal exactly where runs end in one cell.
+--
+-- A label goes along a run unchanged, by induction along runs (Runs): rule 14 says so of each step. So a cell has the label of
+-- the cell where its run ends, and cells whose runs end in one cell have one label. For the converse, two runs end at cells with
+-- code 0 and one label: of two such cells one would be earlier in row order, which rule 15 forbids the later one.
+
+module _ (g : Grid) (ps : Products) (ways : RulesHold flow_rules IsWayRule g ps)
+    (rules : RulesHold flow_rules IsLabelRule g ps) where
+  -- the label of a cell is that of the cell where its code leads
+  pub label-next : (c n : Cell) → HasData g c → LeadsOn g ps c n → ps.bas c ≡ ps.bas n
+  label-next c n here on = rules c Label here.inside (omega arith, omega arith) here.is_data on.way (values_at g ps n) on.code on.beside
+
+  -- and that of the cell where its run ends
+  pub label-run_end : (c : Cell) → HasData g c → ps.bas c ≡ ps.bas (run_end g ps c)
+  label-run_end c here = along_runs g ps ways (λ c. ps.bas c ≡ ps.bas (run_end g ps c))
+      (λ c here stops. sym (ap ps.bas (run_end-zero g ps c stops.code)))
+      (λ c n here on same. label-next c n here on ∙ same ∙ sym (ap ps.bas (run_end-next g ps ways c n here on.follows)))
+      c here
+
+  -- two cells with code 0 and the same label are one
+  pub one_outlet : (a b : Cell) → HasData g a → HasData g b → ps.dir a ≡ pos 0 → ps.dir b ≡ pos 0 → ps.bas a ≡ ps.bas b → a ≡ b
+  one_outlet a b at_a at_b zero_a zero_b same =
+      elim (cases_earlier a b) [
+        | inl one ↦ one
+        | inr (inl before) ↦ absurd (rules b SharedLabel at_b.inside (omega arith, omega arith) at_b zero_b a at_a before zero_a same)
+        | inr (inr after) ↦ absurd (rules a SharedLabel at_a.inside (omega arith, omega arith) at_a zero_a b at_b after zero_b (sym same))
+      ]
+
+-- labels are equal exactly where runs end in the same cell
+pub labels_are_basins : LabelsAreBasins
+labels_are_basins g ps ways rules a b at_a at_b =
+    let end_a = run_end-stops g ps ways a at_a in
+    let end_b = run_end-stops g ps ways b at_b in
+    let label_a = label-run_end g ps ways rules a at_a in
+    let label_b = label-run_end g ps ways rules b at_b in (
+      (λ same. one_outlet g ps ways rules (run_end g ps a) (run_end g ps b) end_a.0 end_b.0 end_a.1.code end_b.1.code
+          (sym label_a ∙ same ∙ label_b)),
+      (λ same. label_a ∙ ap ps.bas same ∙ sym label_b),
+    )

@@ -6,10 +6,9 @@
 use Rattle.std.proofs.Common.{◌≡◌, ◌*◌, ◌∷◌, ℤ, negsuc, refl, subst, arith}
 use Rattle.drain_grid.specs.declared.cell.Cell.{Cell}
 use Rattle.drain_grid.specs.PatchRules.{check_rules}
-use Rattle.drain_grid.specs.Unranked.{level_rules}
+use Rattle.drain_grid.specs.Unranked.{level_rules, with_ranks, with_rank_nodata}
 use Rattle.drain_grid.specs.GridRules.{RulesHold}
 use Rattle.drain_grid.specs.Rule.{IsAnyRule, IsCountRule, IsFlowRule}
-use Rattle.drain_grid.specs.Certificate.{with_ranks, with_rank_nodata}
 use Rattle.drain_grid.specs.Laws.{RulesAreCorrect, CorrectIsLocal, CorrectByRulesAlone, RanksPlayNoPart, SoundFromCorrect}
 use Rattle.drain_grid.specs.Grid.{Grid, Products}
 use Rattle.drain_grid.specs.Run.{IsOutlet, VisitsOnce, run_end}

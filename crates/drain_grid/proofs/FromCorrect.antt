@@ -13,8 +13,7 @@ use Rattle.drain_grid.specs.declared.rule.Rule.{Rule}
 use Rattle.drain_grid.specs.declared.rule.Rule.TheVariants.{VoidCell, Missing, BadCode, BelowGround, OpenRaised, NoSpill, SpillHeight, SpillRank, NotLeast, Slope, OutletCode, FlatStep, Accumulation, Label, SharedLabel}
 use Rattle.drain_grid.specs.Values.{Values, NoDataNumbers}
 use Rattle.drain_grid.specs.Grid.{Grid, Products, IsInside, HasData, height_at, values_at, patch_at}
-use Rattle.drain_grid.specs.PatchRules.{BelowGroundHolds, NotLeastHolds, SlopeHolds, OutletCodeHolds}
-use Rattle.drain_grid.specs.PatchRules.{BadCodeWithoutSpill, OpenRaisedWithoutSpill}
+use Rattle.drain_grid.specs.PatchRules.{BelowGroundHolds, NotLeastHolds, SlopeHolds, OutletCodeHolds, BadCodeWithoutSpill, OpenRaisedWithoutSpill}
 use Rattle.drain_grid.specs.Unranked.{unranked, VoidCellWithoutRank, MissingWithoutRank, LevelStepHolds}
 use Rattle.drain_grid.specs.GridRules.{HoldsAt, RulesHold}
 use Rattle.drain_grid.specs.Rule.{IsAnyRule}
@@ -25,8 +24,7 @@ use Rattle.drain_grid.proofs.Patches.{IsOpen-patch_at, cell_shown, shown_cell}
 use Rattle.drain_grid.proofs.Codes.{named-next}
 use Rattle.drain_grid.proofs.Slopes.{lower_shown, HasLower-lower_cell, IsSteepest-cell}
 use Rattle.drain_grid.proofs.Ranks.{own_ranks_play_no_part}
-use Rattle.drain_grid.proofs.Lowered.{least_at_open, least_beside}
-use Rattle.drain_grid.proofs.Least.{HasData-path}
+use Rattle.drain_grid.proofs.Lowered.{least_at_open, least_beside, HasData-path}
 use Rattle.drain_grid.proofs.CountRules.{counts_inflows, has_own_label, keeps_label}
 
 module _ (g : Grid) (ps : Products) (nodata : NoDataNumbers) (correct : IsCorrect g ps nodata) (c : Cell)

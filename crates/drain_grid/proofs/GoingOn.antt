@@ -16,8 +16,7 @@ use Rattle.drain_grid.proofs.Decisions.{Decision, cases, both, no, same}
 use Rattle.drain_grid.proofs.PatchDecisions.{data_cell, has_lower, is_open}
 use Rattle.drain_grid.proofs.Patches.{cell_shown}
 use Rattle.drain_grid.proofs.Codes.{next-named}
-use Rattle.drain_grid.proofs.Runs.{steps-zero, steps-next}
-use Rattle.drain_grid.proofs.EndedRuns.{HasData-next, steps-more}
+use Rattle.drain_grid.proofs.Runs.{steps-zero, steps-next, HasData-next, steps-more}
 use Rattle.drain_grid.proofs.Taken.{AreStepBefore}
 
 -- a code that names a data neighbour of the patch leads to a data cell

@@ -7,7 +7,7 @@ use Rattle.std.proofs.lemmas.List.{get_or-drop, length-drop, take-append-drop, t
 use Rattle.std.proofs.lemmas.List.Sums.{fold-append}
 use Rattle.drain_grid.specs.declared.cell.Cell.{Cell}
 use Rattle.drain_grid.specs.declared.numbered_cells.LineRun.{LineRun}
-use Rattle.drain_grid.specs.LineNumbers.{counted_on, line_number_at, numbered_from, numbered}
+use Rattle.drain_grid.specs.OffData.{counted_on, line_number_at, numbered_from, numbered}
 
 -- a run that begins at the cell or before it counts on, and one that begins later doesn't
 counted_in : (i number : ℕ) (run : LineRun) → run.first ≤ i → counted_on i number run ≡ run.line + (i - run.first)

@@ -11,14 +11,12 @@ use Rattle.drain_grid.specs.Values.{Values, NoDataNumbers, number_for, value_of}
 use Rattle.drain_grid.proofs.ByProduct.{by_set_product}
 use Rattle.drain_grid.specs.Grid.{Grid, Products, IsInside, HasData, patch_at}
 use Rattle.drain_grid.specs.GridRules.{HoldsAt}
-use Rattle.drain_grid.specs.PatchRules.{FlatStepHolds}
-use Rattle.drain_grid.specs.PatchRules.{check_rules, VoidCellWithoutSpill, MissingWithoutSpill}
-use Rattle.drain_grid.specs.Unranked.{unranked, VoidCellWithoutRank, MissingWithoutRank, LevelStepHolds}
+use Rattle.drain_grid.specs.PatchRules.{FlatStepHolds, check_rules, VoidCellWithoutSpill, MissingWithoutSpill}
+use Rattle.drain_grid.specs.Unranked.{unranked, VoidCellWithoutRank, MissingWithoutRank, LevelStepHolds, RanksAreSteps}
 use Rattle.drain_grid.specs.Run.{next, RunEnds}
-use Rattle.drain_grid.specs.Certificate.{RanksAreSteps}
 use Rattle.drain_grid.proofs.Patches.{cell_shown}
 use Rattle.drain_grid.proofs.Codes.{next-named}
-use Rattle.drain_grid.proofs.EndedRuns.{ended-run_steps}
+use Rattle.drain_grid.proofs.Runs.{ended-run_steps}
 
 module _ (g : Grid) (ps : Products) (nodata : NoDataNumbers) (ends : (c : Cell) → HasData g c → RunEnds g ps c)
     (ranks : RanksAreSteps g ps nodata) (c : Cell) (inside : IsInside g c) where

@@ -8,8 +8,8 @@ use Rattle.std.proofs.lemmas.Grind.{common_steps}
 use Rattle.std.proofs.lemmas.List.{get_or-drop, get_or-take, get_or_default, length-drop, take-append-drop, take_rest}
 use Rattle.std.proofs.lemmas.List.Folds.{list_any-append, list_any_more, list_any_none}
 use Rattle.drain_grid.specs.declared.sink_line.SinkLine.{SinkLine}
-use Rattle.drain_grid.specs.SinkLines.{is_listed, ArePlaces}
-use Rattle.drain_grid.proofs.SinkSearch.{listed_by_places}
+use Rattle.drain_grid.specs.SinkTexts.{is_listed, ArePlaces}
+use Rattle.drain_grid.proofs.SinkFaults.{listed_by_places}
 
 -- some place is that of the column, in the row that begins at `first`
 abbrev pub is_passed : ℕ → ℕ → List ℕ → Bool

@@ -4,14 +4,13 @@ use Rattle.std.proofs.Common.{◌≡◌, ℕ, ◌∙◌, inl, inr, Bool, true, f
 use Rattle.std.specs.List.{sum_by}
 use Rattle.std.proofs.lemmas.Bool.{cases_Bool, false≢true, false_from_ne_true}
 use Rattle.drain_grid.specs.declared.cell.Cell.{Cell}
-use Rattle.drain_grid.specs.Size.{Extent}
-use Rattle.drain_grid.specs.Extent.{IsCellOf, same_cell, cells}
+use Rattle.drain_grid.specs.Extent.{Extent, IsCellOf, same_cell, cells}
 use Rattle.drain_grid.specs.Grid.{Grid, Products, HasData}
 use Rattle.drain_grid.specs.Run.{next}
-use Rattle.drain_grid.proofs.Options.{same_some}
+use Rattle.drain_grid.proofs.Tallies.{same_some}
 use Rattle.drain_grid.proofs.CellSums.{sum_by_same, sum_by_zero, sum_by_swap, sum_by_cells_one, same_cell_true, same_cell_self}
 use Rattle.drain_grid.proofs.Inflows.{FlowsFrom, HasData-flow, next-flow, flow-next, flow_unique}
-use Rattle.drain_grid.proofs.EndedRuns.{HasData-next}
+use Rattle.drain_grid.proofs.Runs.{HasData-next}
 use Rattle.drain_grid.proofs.HandedOn.{handed_on, handed_none, handed_one, handed_same, handed_sum}
 
 -- the number of x where m is x, and else 0

@@ -6,8 +6,7 @@ use Rattle.drain_grid.specs.declared.cell.Cell.{Cell}
 use Rattle.drain_grid.specs.declared.direction.Direction.{Direction}
 use Rattle.drain_grid.specs.declared.direction.Direction.TheVariants.{East, SouthEast, South, SouthWest, West, NorthWest, North, NorthEast}
 use Rattle.drain_grid.specs.Direction.{cols_right, rows_down}
-use Rattle.drain_grid.specs.Extent.{IsCellOf}
-use Rattle.drain_grid.specs.Size.{Extent}
+use Rattle.drain_grid.specs.Extent.{IsCellOf, Extent}
 use Rattle.drain_grid.proofs.Neighbors.{place, reach}
 
 -- the row in which the neighbour in a direction lies

@@ -10,13 +10,11 @@ use Rattle.drain_grid.specs.declared.rule.Rule.TheVariants.{VoidCell, Missing, B
 use Rattle.drain_grid.specs.Direction.{directions}
 use Rattle.drain_grid.specs.Values.{Values, NoDataNumbers}
 use Rattle.drain_grid.specs.Patch.{neighbor, IsOpen, HasLower}
-use Rattle.drain_grid.specs.PatchRules.{inflow, total, NotLeastHolds, SlopeHolds, OutletCodeHolds, AccumulationHolds, LabelHolds}
-use Rattle.drain_grid.specs.PatchRules.{OpenRaisedWithoutSpill}
-use Rattle.drain_grid.specs.Unranked.{unranked, VoidCellWithoutRank, MissingWithoutRank, LevelStepHolds}
+use Rattle.drain_grid.specs.PatchRules.{inflow, total, NotLeastHolds, SlopeHolds, OutletCodeHolds, AccumulationHolds, LabelHolds, OpenRaisedWithoutSpill}
+use Rattle.drain_grid.specs.Unranked.{unranked, VoidCellWithoutRank, MissingWithoutRank, LevelStepHolds, run_steps, RanksAreSteps, with_ranks, with_rank_nodata}
 use Rattle.drain_grid.specs.Extent.{step}
 use Rattle.drain_grid.specs.Grid.{Grid, Products, IsInside, HasData, height_at, values_at, patch_at}
 use Rattle.drain_grid.specs.GridRules.{HoldsAt}
-use Rattle.drain_grid.specs.Certificate.{run_steps, RanksAreSteps, with_ranks, with_rank_nodata}
 use Rattle.drain_grid.proofs.Patches.{IsOpen-patch_at, neighbor-patch_at, cell_shown, shown_cell}
 use Rattle.drain_grid.proofs.Slopes.{lower_shown, HasLower-lower_cell, steepest_cell, IsSteepest-cell}
 use Rattle.drain_grid.proofs.Alike.{lower_there, steepest_there, run_steps-alike}

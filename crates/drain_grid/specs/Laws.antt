@@ -10,8 +10,7 @@ use Rattle.drain_grid.specs.Grid.{Grid, Products, IsInside, HasData, IsOpenCell}
 use Rattle.drain_grid.specs.Path.{IsFilled}
 use Rattle.drain_grid.specs.Run.{RunEnds, upstream_count, ShareBasin}
 use Rattle.drain_grid.specs.Rule.{IsAnyRule, IsFillRule, IsWayRule, IsCountRule, IsLabelRule}
-use Rattle.drain_grid.specs.Unranked.{level_rules, unranked}
-use Rattle.drain_grid.specs.Certificate.{RanksAreSteps, with_ranks, with_rank_nodata}
+use Rattle.drain_grid.specs.Unranked.{level_rules, unranked, RanksAreSteps, with_ranks, with_rank_nodata}
 use Rattle.drain_grid.specs.PatchRules.{check_rules, fill_rules, flow_rules, profile1, profile2, surface_rules}
 use Rattle.drain_grid.specs.GridRules.{HoldsAt, RulesHold}
 use Rattle.drain_grid.specs.Correct.{RunsAreSound, IsCorrect}

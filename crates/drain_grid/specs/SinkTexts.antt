@@ -1,11 +1,35 @@
--- Sink lists as texts: a line for each sink, its row and its column. The form is this project's own.
-use Rattle.std.specs.Prelude.{◌≡◌, ℕ, ◌+◌, List, [], ◌∷◌, Option, Some, Result, Ok, Err}
+-- A list of sinks: the cells that a user lists as open, each with its line number. Inland sinks are this project's own.
+use Rattle.std.specs.Prelude.{◌+◌, ◌*◌, ◌^◌, ◌<◌, ℕ, Bool, List, map, ◌≡◌, [], ◌∷◌, Option, Some, Result, Ok, Err}
+use Rattle.std.specs.List.{All, list_any}
+use Rattle.std.specs.List.Sorted.{IsNonDecreasing, IsPermutation}
+use Rattle.drain_grid.specs.declared.cell.Cell.{Cell}
 use Rattle.drain_grid.specs.declared.sink_line.SinkLine.{SinkLine}
+use Rattle.drain_grid.specs.Extent.{same_cell}
 use Rattle.drain_grid.specs.declared.sink_line.LineSays.{LineSays}
 use Rattle.drain_grid.specs.declared.sink_line.LineSays.TheVariants.{Nothing, Sink, NoSink}
 use Rattle.drain_grid.specs.declared.sink_text.SinkFault.{SinkFault}
 use Rattle.drain_grid.specs.declared.sink_text.SinkFault.TheVariants.{BadSinkLine, OutOfMemory}
 use Rattle.drain_text.specs.Text.{lines_of, words_of, whole_number}
+
+-- some line lists the cell
+abbrev pub is_listed : List SinkLine → Cell → Bool
+is_listed sinks c = list_any (λ s. same_cell c s.cell) sinks
+
+-- the cell's place in row order on a grid of 2^32 columns: so each cell has a place of its own, whatever the grid
+abbrev pub wide_place : Cell → ℕ
+wide_place c = c.row * 2 ^ 32 + c.col
+
+-- each listed column is below 2^32
+abbrev pub AreNarrow : List SinkLine → Type 0
+AreNarrow sinks = All (λ s. s.cell.col < 2 ^ 32) sinks
+
+-- the places of the listed cells, rising
+pub record ArePlaces (sinks : List SinkLine) (places : List ℕ) : Type 0 where
+  pub rising : IsNonDecreasing places
+  pub theirs : IsPermutation (map (λ s. wide_place s.cell) sinks) places
+  pub narrow : AreNarrow sinks
+
+-- Sink lists as texts: a line for each sink, its row and its column. The form is this project's own.
 
 -- two whole numbers are a row and a column
 abbrev pub numbers_say : Option ℕ → Option ℕ → LineSays

@@ -4,8 +4,7 @@
 
 ghost use Rattle.std.specs.Prelude.{◌≡◌};
 ghost use Rattle.drain_grid.specs.declared.cell.Cell.{Cell};
-ghost use Rattle.drain_grid.specs.Extent.{IsCellOf};
-ghost use Rattle.drain_grid.specs.Size.{Extent};
+ghost use Rattle.drain_grid.specs.Extent.{IsCellOf, Extent};
 ghost use Rattle.drain_grid.specs.Values.{Values};
 
 use crate::cell::{Cell, Shape};

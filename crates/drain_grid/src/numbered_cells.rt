@@ -6,7 +6,7 @@ ghost use Rattle.std.specs.Prelude.{◌≡◌, ◌↔◌, ℕ, ◌+◌, ◌-◌,
 ghost use Rattle.std.specs.List.{All};
 ghost use Rattle.std.specs.List.Sorted.{IsNonDecreasingBy};
 ghost use Rattle.drain_grid.specs.declared.numbered_cells.LineRun.{LineRun};
-ghost use Rattle.drain_grid.specs.LineNumbers.{line_number_at, AreRuns};
+ghost use Rattle.drain_grid.specs.OffData.{line_number_at, AreRuns};
 
 use crate::cell::Cell;
 use crate::memory::OutOfMemory;
@@ -31,7 +31,7 @@ pub struct NumberedCells {
 impl Model for NumberedCells {
     ghost use Rattle.std.specs.Prelude.{List, length};
     ghost use Rattle.drain_grid.specs.declared.sink_line.SinkLine.{SinkLine};
-    ghost use Rattle.drain_grid.specs.LineNumbers.{numbered, AreRuns};
+    ghost use Rattle.drain_grid.specs.OffData.{numbered, AreRuns};
 
     ghost Value = { List SinkLine };
 

@@ -1,7 +1,7 @@
 //! Numbers of a few bits, copied as numbers of 64 bits.
 
 ghost use Rattle.std.specs.Prelude.{◌≡◌, ◌≤◌, ◌<◌, ◌+◌, ℕ, pos, All, length, slice_index, slice_index_or};
-ghost use Rattle.drain_grid.specs.Tile.{IsSample};
+ghost use Rattle.drain_grid.specs.Grid.{IsSample};
 
 /// Copies bytes from this place on, one to each place.
 pub fn copy_bytes(out: &mut [i64], bytes: &[u8], first: usize)

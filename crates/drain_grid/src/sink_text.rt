@@ -1,8 +1,7 @@
 //! Sink lists as texts: lines `ROW COL`, where empty lines don't count.
 
 ghost use Rattle.std.specs.Prelude.{◌≡◌, ℕ, Ok, IfOk, IfErr};
-ghost use Rattle.drain_grid.specs.SinkLines.{AreNarrow};
-ghost use Rattle.drain_grid.specs.SinkTexts.{sinks_of, IsSinkFault};
+ghost use Rattle.drain_grid.specs.SinkTexts.{AreNarrow, sinks_of, IsSinkFault};
 
 use crate::memory::OutOfMemory;
 use crate::numbered_cells::NumberedCells;

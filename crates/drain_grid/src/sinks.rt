@@ -5,7 +5,7 @@
 //! compares no pairs, and an empty list needs no comparison.
 
 ghost use Rattle.std.specs.Prelude.{◌≡◌, ℕ, ◌+◌, ◌*◌, ◌^◌, ◌<◌, ◌≤◌, [], false, length, map, slice_get, slice_index_or, Some, IfOk};
-ghost use Rattle.drain_grid.specs.SinkLines.{is_listed, wide_place, AreNarrow, ArePlaces};
+ghost use Rattle.drain_grid.specs.SinkTexts.{is_listed, wide_place, AreNarrow, ArePlaces};
 
 use crate::cell::Cell;
 use crate::memory::OutOfMemory;
@@ -26,7 +26,7 @@ pub struct Sinks {
 impl Model for Sinks {
     ghost use Rattle.std.specs.Prelude.{List};
     ghost use Rattle.drain_grid.specs.declared.sink_line.SinkLine.{SinkLine};
-    ghost use Rattle.drain_grid.specs.SinkLines.{ArePlaces};
+    ghost use Rattle.drain_grid.specs.SinkTexts.{ArePlaces};
 
     ghost Value = { List SinkLine };
 

@@ -3,7 +3,7 @@ use Rattle.std.proofs.Common.{◌≡◌, ℕ, ◌≤◌, Bool, true, false, List
 use Rattle.std.specs.Prelude.{ℤ, pos, neg_ℤ, ◌≤ℤ◌, ◌&&◌, cond, Option, Some, None, option_and_then}
 use Rattle.std.proofs.lemmas.Int.{ints}
 use Rattle.drain_grid.specs.Values.{IsNoData}
-use Rattle.drain_header.specs.Fields.{IsCoordinate}
+use Rattle.drain_header.specs.Header.{IsCoordinate}
 use Rattle.drain_header.specs.Decimals.{decimal_of, is_small, is_whole, in_units, with_sign, coordinate_of, decimal_nodata}
 use Rattle.drain_header.proofs.Units.{small_magnitude}
 

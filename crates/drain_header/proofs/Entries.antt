@@ -1,16 +1,108 @@
+-- A text that grows by one part after another.
+use Rattle.std.proofs.Common.{◌≡◌, ◌/◌, ◌^◌, List, [], ◌∷◌, ◌++◌, ℕ, ℤ, ap, ◌∙◌, append_assoc, zero, suc, ◌<◌, Bool, true, false, arith, refl, inl, inr, ◌+◌, ◌*◌, ◌≤◌, length, sym, length-append}
+use Rattle.std.specs.Prelude.{decimal, unsigned_abs, codes, Option, Some, None, ◌⊎◌, ◌||◌, cond, find, nat_eq, nat_lt, slice_get, option_and_then}
+use Rattle.std.specs.Fmt.{sign_text}
+use Rattle.std.specs.Int.{is_negative}
+use Rattle.drain_header.specs.declared.header.Place.{Place}
+use Rattle.drain_header.specs.declared.key.Key.{Key}
+use Rattle.drain_header.specs.declared.key.Key.TheVariants.{Nrows, Ncols, Nbands, Nbits, ByteOrder, Layout, PixelType, SkipBytes, BandRowBytes, TotalRowBytes, Ulxmap, Ulymap, Xdim, Ydim, Nodata}
+use Rattle.drain_header.specs.Header.{Fields}
+use Rattle.drain_header.specs.Lines.{key_name, key_order, named_key, line_key, line_value, value_at, is_some_key, takes, takes_some}
+use Rattle.drain_header.specs.Text.{line, fraction_text, places_text, ordering_text, signedness_text, shape_lines, pixel_lines, place_lines}
+use Rattle.std.specs.Option.{option_or}
+use Rattle.std.specs.List.{list_all}
+use Rattle.drain_text.specs.Text.{lines_of, words_of}
+use Rattle.drain_text.proofs.Joining.{IsWord, ink_told, spaced, line_first, two_words}
+
+-- one part more
+more : (before after known part : List ℕ) → after ≡ before ++ part → before ≡ known → after ≡ known ++ part
+more before after known part grows is = grows ∙ ap (λ t. t ++ part) is
+
+-- the line of a number in units of 10^-15, part by part
+pub degrees_line : (key : Key) (z : ℤ) (t0 t1 t2 t3 t4 t5 t6 : List ℕ) → t1 ≡ t0 ++ key_name key → t2 ≡ t1 ++ 32 ∷ [] → t3 ≡ t2 ++ sign_text (is_negative z)
+    → t4 ≡ t3 ++ decimal (unsigned_abs z / 10 ^ 15) → t5 ≡ t4 ++ 46 ∷ [] → t6 ≡ t5 ++ fraction_text (unsigned_abs z) → t6 ++ 10 ∷ [] ≡ t0 ++ line key (places_text z)
+unfolding line places_text
+degrees_line key z t0 t1 t2 t3 t4 t5 t6 name space signed whole point fraction =
+    ap (λ t. t ++ 10 ∷ []) (more t5 t6 _ (fraction_text (unsigned_abs z)) fraction (more t4 t5 _ (46 ∷ []) point (more t3 t4 _ (decimal (unsigned_abs z / 10 ^ 15)) whole (more t2 t3 _ (sign_text (is_negative z)) signed (more t1 t2 _ (32 ∷ []) space name)))))
+    ∙ simp append_assoc
+
+-- the lines of the shape, one by one
+pub shape_joined : (h : Fields) (word : List ℕ) (t0 t1 t2 t3 t4 : List ℕ) → word ≡ ordering_text h.order → t1 ≡ t0 ++ line ByteOrder word → t2 ≡ t1 ++ line Layout (codes "BIL")
+    → t3 ≡ t2 ++ line Nrows (decimal h.rows) → t4 ≡ t3 ++ line Ncols (decimal h.cols) → t4 ++ line Nbands (decimal 1) ≡ t0 ++ shape_lines h
+unfolding shape_lines
+shape_joined h word t0 t1 t2 t3 t4 says order layout rows cols =
+    ap (λ t. t ++ line Nbands (decimal 1)) (more t3 t4 _ (line Ncols (decimal h.cols)) cols (more t2 t3 _ (line Nrows (decimal h.rows)) rows (more t1 t2 _ (line Layout (codes "BIL")) layout (order ∙ ap (λ w. t0 ++ line ByteOrder w) says))))
+    ∙ simp append_assoc
+
+-- the lines of the pixels
+pub pixels_joined : (h : Fields) (word : List ℕ) (t0 t1 t2 t3 t4 : List ℕ) → word ≡ signedness_text h.signed → t1 ≡ t0 ++ line Nbits (decimal h.bits) → t2 ≡ t1 ++ line BandRowBytes (decimal h.row_bytes)
+    → t3 ≡ t2 ++ line TotalRowBytes (decimal h.row_bytes) → t4 ≡ t3 ++ line SkipBytes (decimal h.skip) → t4 ++ line PixelType word ≡ t0 ++ pixel_lines h
+unfolding pixel_lines
+pixels_joined h word t0 t1 t2 t3 t4 says bits band total skip =
+    ap (λ w. t4 ++ line PixelType w) says
+    ∙ ap (λ t. t ++ line PixelType (signedness_text h.signed)) (more t3 t4 _ (line SkipBytes (decimal h.skip)) skip (more t2 t3 _ (line TotalRowBytes (decimal h.row_bytes)) total (more t1 t2 _ (line BandRowBytes (decimal h.row_bytes)) band bits)))
+    ∙ simp append_assoc
+
+-- the lines of the place
+pub place_joined : (place : Place) (t0 t1 t2 t3 : List ℕ) → t1 ≡ t0 ++ line Ulxmap (places_text place.ulx) → t2 ≡ t1 ++ line Ulymap (places_text place.uly)
+    → t3 ≡ t2 ++ line Xdim (places_text place.xdim) → t3 ++ line Ydim (places_text place.ydim) ≡ t0 ++ place_lines place
+unfolding place_lines
+place_joined place t0 t1 t2 t3 ulx uly xdim =
+    ap (λ t. t ++ line Ydim (places_text place.ydim)) (more t2 t3 _ (line Xdim (places_text place.xdim)) xdim (more t1 t2 _ (line Ulymap (places_text place.uly)) uly ulx))
+    ∙ simp append_assoc
+
+-- The first number below a bound at which something is found.
+
+abbrev pub any_below : (ℕ → Bool) → ℕ → Bool
+any_below p zero = false
+any_below p (suc n) = p n || any_below p n
+
+abbrev pub first_below : {A : Type 0} → (ℕ → Option A) → ℕ → Option A
+first_below f zero = None
+first_below f (suc n) = option_or (first_below f n) (f n)
+
+-- below n, or n
+lower_or_same : (m n : ℕ) → m < suc n → (m < n) ⊎ (m ≡ n)
+lower_or_same m n h = grind arith
+
+pub any_below-true : (p : ℕ → Bool) (n : ℕ) → any_below p n ≡ true → (m : ℕ) × (m < n) × (p m ≡ true)
+any_below-true p zero e = cc
+any_below-true p (suc n) e = elim (p n) as (λ b. p n ≡ b → (b || any_below p n) ≡ true → (m : ℕ) × (m < suc n) × (p m ≡ true)) [
+  | true ↦ λ is _. (n, omega arith, is)
+  | false ↦ λ is f. let found = any_below-true p n f in (found.0, omega (arith, found.1), found.2)
+] refl e
+
+pub any_below-false : (p : ℕ → Bool) (n : ℕ) → any_below p n ≡ false → (m : ℕ) → m < n → p m ≡ false
+any_below-false p zero e m h = absurd (omega arith)
+any_below-false p (suc n) e m h = elim (p n) as (λ b. p n ≡ b → (b || any_below p n) ≡ false → p m ≡ false) [
+  | true ↦ λ is f. cc
+  | false ↦ λ is f. elim (lower_or_same m n h) [ inl below ↦ any_below-false p n f m below | inr same ↦ rw same is ]
+] refl e
+
+pub first_below-none : {A : Type 0} (f : ℕ → Option A) (n : ℕ) → first_below f n ≡ None → (m : ℕ) → m < n → f m ≡ None
+first_below-none f zero e m h = absurd (omega arith)
+first_below-none {A} f (suc n) e m h = elim (first_below f n) as (λ o. first_below f n ≡ o → option_or o (f n) ≡ None → f m ≡ None) [
+  | None ↦ λ is last. elim (lower_or_same m n h) [ inl below ↦ first_below-none f n is m below | inr same ↦ rw same last ]
+  | Some a ↦ λ is last. cc
+] refl e
+
+pub record IsFirstAt {A : Type 0} (f : ℕ → Option A) (n : ℕ) (a : A) : Type 0 where
+  pub at : ℕ
+  pub below : at < n
+  pub is : f at ≡ Some a
+  pub first : (m : ℕ) → m < at → f m ≡ None
+
+pub first_below-some : {A : Type 0} (f : ℕ → Option A) (n : ℕ) (a : A) → first_below f n ≡ Some a → IsFirstAt f n a
+first_below-some f zero a e = cc
+first_below-some f (suc n) a e = elim (first_below f n) as (λ o. first_below f n ≡ o → option_or o (f n) ≡ Some a → IsFirstAt f (suc n) a) [
+  | None ↦ λ is last. record { at = n; below = omega arith; is = last; first = first_below-none f n is }
+  | Some b ↦ λ is last. let found = first_below-some f n a (is ∙ last) in record { at = found.at; below = omega (arith, found.below); is = found.is; first = found.first }
+] refl e
+
 -- A text made of lines that each have a keyword and its value, and what is read back from it.
 --
 -- An entry is a keyword and its value. Everything goes by recursion along a list of entries: the lines of the text are those
 -- of the entries, and the value at a keyword is that of the first entry with the keyword.
-use Rattle.std.proofs.Common.{◌≡◌, ℕ, zero, suc, ◌+◌, ◌*◌, ◌<◌, ◌≤◌, Bool, true, false, List, [], ◌∷◌, ◌++◌, length, arith, refl, sym, ap, ◌∙◌, length-append, append_assoc}
-use Rattle.std.specs.Prelude.{cond, find, nat_eq, nat_lt, slice_get, Option, Some, None, option_and_then}
-use Rattle.std.specs.List.{list_all}
-use Rattle.drain_text.specs.Text.{lines_of, words_of}
-use Rattle.drain_text.proofs.Joining.{IsWord, ink_told, spaced, line_first, two_words}
-use Rattle.drain_header.specs.declared.key.Key.{Key}
-use Rattle.drain_header.specs.declared.key.Key.TheVariants.{Nrows, Ncols, Nbands, Nbits, ByteOrder, Layout, PixelType, SkipBytes, BandRowBytes, TotalRowBytes, Ulxmap, Ulymap, Xdim, Ydim, Nodata}
-use Rattle.drain_header.specs.Lines.{key_name, key_order, named_key, line_key, line_value, value_at, is_some_key, takes, takes_some}
-use Rattle.drain_header.specs.Text.{line}
 
 -- a keyword, a space and its value
 abbrev pub bare : Key → List ℕ → List ℕ

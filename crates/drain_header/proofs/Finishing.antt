@@ -11,12 +11,11 @@ use Rattle.drain_header.specs.declared.key.Key.TheVariants as keys
 use Rattle.drain_header.specs.declared.value.Value.TheVariants.{Number, Signed}
 use Rattle.drain_header.specs.declared.fault.HeaderFault.{HeaderFault}
 use Rattle.drain_header.specs.declared.fault.HeaderFault.TheVariants.{NotOneBand, BadBits, BadPixelType, RowTooShort}
-use Rattle.drain_header.specs.Fields.{Fields, IsCoordinate}
+use Rattle.drain_header.specs.Header.{Fields, IsCoordinate, said, packed_row, row_bytes_of, header_of}
 use Rattle.drain_header.specs.Decimals.{coordinate_of, decimal_nodata}
 use Rattle.drain_header.specs.Lines.{value_at, size_of, signedness_of}
-use Rattle.drain_header.specs.Header.{said, packed_row, row_bytes_of, header_of}
 use Rattle.drain_header.specs.Reading.{Seen}
-use Rattle.drain_header.specs.Lacking.{lacking, is_unseen}
+use Rattle.drain_header.specs.Faults.{lacking, is_unseen}
 use Rattle.drain_header.specs.Said.{said_by, sign_in}
 use Rattle.drain_header.specs.Finished.{number_or, packed_row_in, row_bytes_in, is_other_type_in, is_pixel_size, header_in, finished, IsSize, AreTaken}
 use Rattle.drain_header.proofs.AnswerFunction.{is_bad_type, last_answer}

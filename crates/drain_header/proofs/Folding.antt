@@ -14,9 +14,9 @@ use Rattle.drain_header.specs.declared.fault.HeaderFault.{HeaderFault}
 use Rattle.drain_header.specs.declared.fault.HeaderFault.TheVariants.{RepeatedKey, BadValue}
 use Rattle.drain_header.specs.Lines.{key_order, line_key, line_value, is_some_key, takes, takes_some}
 use Rattle.drain_header.specs.Faults.{line_at}
-use Rattle.drain_header.specs.Values.{value_read}
+use Rattle.drain_header.specs.Header.{value_read}
 use Rattle.drain_header.specs.Reading.{Seen, nothing, with_value, with_key, with_lines, follow}
-use Rattle.drain_header.proofs.Search.{any_below, first_below}
+use Rattle.drain_header.proofs.Entries.{any_below, first_below}
 use Rattle.drain_header.proofs.AnswerFunction.{key_on, is_repeated, is_bad, line_fault}
 use Rattle.drain_header.proofs.AnswerTests.{place_below, is_some_key-true}
 

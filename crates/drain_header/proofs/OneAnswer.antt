@@ -5,7 +5,7 @@ use Rattle.std.proofs.lemmas.Bool.{eq-eqb, ne_eqb}
 use Rattle.drain_text.specs.First.{IsFirst}
 use Rattle.drain_header.specs.declared.fault.HeaderFault.{HeaderFault}
 use Rattle.drain_header.specs.declared.fault.HeaderFault.TheVariants.{TooLong, RepeatedKey, BadValue, MissingKey, NotOneBand, BadBits, BadPixelType, RowTooShort}
-use Rattle.drain_header.specs.Fields.{Fields}
+use Rattle.drain_header.specs.Header.{Fields}
 use Rattle.drain_header.specs.Lines.{keys}
 use Rattle.drain_header.specs.Faults.{fault_order, HasFault, Answers}
 use Rattle.drain_header.proofs.AnswerTests.{key_place}

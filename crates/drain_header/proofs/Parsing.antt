@@ -7,16 +7,15 @@ use Rattle.drain_text.specs.Text.{lines_of}
 use Rattle.drain_header.specs.declared.key.Key.{Key}
 use Rattle.drain_header.specs.declared.fault.HeaderFault.{HeaderFault}
 use Rattle.drain_header.specs.declared.fault.HeaderFault.TheVariants.{TooLong, MissingKey}
-use Rattle.drain_header.specs.Fields.{Fields}
-use Rattle.drain_header.specs.Faults.{Answers}
+use Rattle.drain_header.specs.Header.{Fields}
+use Rattle.drain_header.specs.Faults.{Answers, lacking}
 use Rattle.drain_header.specs.Reading.{Seen, nothing, with_lines}
-use Rattle.drain_header.specs.Lacking.{lacking}
 use Rattle.drain_header.specs.Finished.{finished, AreTaken}
-use Rattle.drain_header.proofs.Search.{first_below}
+use Rattle.drain_header.proofs.Entries.{first_below}
 use Rattle.drain_header.proofs.AnswerFunction.{line_fault, last_answer, key_answer, line_answer, answer_of}
 use Rattle.drain_header.proofs.AnswerMeaning.{answer_is}
 use Rattle.drain_header.proofs.Folding.{IsSeen, Outcome, lines_read}
-use Rattle.drain_header.proofs.Missing.{missing_is}
+use Rattle.drain_header.proofs.TextReads.{missing_is}
 use Rattle.drain_header.proofs.Finishing
 
 -- the answer of a call whose fault is passed on

@@ -11,12 +11,12 @@ use Rattle.std.proofs.lemmas.Str.Parse.{digit_from_value}
 use Rattle.std.proofs.lemmas.Float.Parse.{scan_numeral-text_of}
 use Rattle.std.proofs.lemmas.Int.{ints}
 use Rattle.drain_grid.specs.Values.{IsNoData}
-use Rattle.drain_header.specs.Fields.{IsCoordinate}
+use Rattle.drain_header.specs.Header.{IsCoordinate}
 use Rattle.drain_header.specs.Decimals.{unsigned_part, are_decimal, decimal_from, decimal_of, is_small, is_whole, in_units, with_sign, coordinate_of, decimal_nodata}
 use Rattle.drain_header.specs.Lines.{size_of}
 use Rattle.drain_header.specs.Text.{fraction_text, places_text}
 use Rattle.drain_text.proofs.LastDigits.{length-last_digits, last_digits_are}
-use Rattle.drain_header.proofs.DecimalText.{value_of_places, pointed, pointed_reads}
+use Rattle.drain_header.proofs.WorkedDecimals.{value_of_places, pointed, pointed_reads}
 use Rattle.drain_header.proofs.Units.{coordinate_is, nodata_is}
 use Rattle.drain_text.proofs.Joining.{AllInk, IsWord, ink-append}
 use Rattle.drain_text.proofs.Printed.{two, chosen, digits_ink, decimal_word, decimal_short, whole_read}

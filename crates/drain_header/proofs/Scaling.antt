@@ -3,7 +3,7 @@ use Rattle.std.proofs.Common.{◌≡◌, ℕ, zero, suc, ◌+◌, ◌-◌, ◌*�
 use Rattle.std.specs.Prelude.{◌&&◌, ◌==◌, nat_lt}
 use Rattle.std.specs.Str.Parse.{digits_value, digits_value_after, AllDigits}
 use Rattle.std.specs.Float.Numeral.{Parts, tens_up, tens_down}
-use Rattle.drain_header.specs.Numerals.{IsScaled}
+use Rattle.drain_header.specs.Decimals.{IsScaled}
 use Rattle.std.proofs.lemmas.Bool.{ne_eqb, ltb-true, ltb-false}
 use Rattle.std.proofs.lemmas.List.{take-append-drop, take_min, drop_min, length-drop, length-append}
 use Rattle.std.proofs.lemmas.Nat.{pow-add}

@@ -1,9 +1,23 @@
--- The text of a header within its bounds describes the header.
---
--- The text is that of a list of entries, each of which its keyword takes. So its lines are known, each keyword is on
--- one line alone, and the value at each keyword is the one that was printed.
-use Rattle.std.proofs.Common.{◌≡◌, inl, inr, ℕ, zero, suc, ◌*◌, ◌/◌, ◌≤◌, Bool, true, false, List, [], ◌∷◌, ◌++◌, length, arith, refl, sym, ap, ◌∙◌, append-nil, append_assoc}
-use Rattle.std.specs.Prelude.{ℤ, pos, unsigned_abs, ◌==◌, IfSome, Option, Some, None, is_some, option_and_then, slice_get, unwrap_or, decimal, codes}
+-- Words that are compared in capitals, letter by letter.
+use Rattle.std.proofs.Common.{◌≡◌, ℕ, ◌<◌, true, false, List, length, map, get_or, arith, refl, sym, ◌∙◌, suc, Bool, ap, ◌+◌, ◌≤◌, [], drop, inl, inr, zero, ◌*◌, ◌/◌, ◌∷◌, ◌++◌, append-nil, append_assoc}
+use Rattle.std.specs.Prelude.{bytes_eq, not, cond, Option, Some, None, is_some, is_none, slice_range, slice_index, ◌==◌, if◌then◌else◌, ℤ, pos, unsigned_abs, IfSome, option_and_then, slice_get, unwrap_or, decimal, codes}
+use Rattle.std.specs.Char.{to_ascii_uppercase}
+use Rattle.std.proofs.lemmas.List.{same_lists, get_or-map, get_or_default, length-map}
+use Rattle.std.proofs.lemmas.Slice.Eq.{bytes_eq-Decides}
+use Rattle.drain_header.specs.Lines.{reads, line_key, line_value, value_at, takes, takes_some, ordering_of, signedness_of}
+use Rattle.std.specs.Option.{option_or}
+use Rattle.drain_header.specs.declared.key.Key.{Key}
+use Rattle.drain_header.specs.declared.key.Key.TheVariants.{Nrows, Ncols, Ulxmap, Ulymap, Xdim, Ydim, Nbands, Nbits, ByteOrder, Layout, PixelType, SkipBytes, BandRowBytes, TotalRowBytes, Nodata}
+use Rattle.drain_header.specs.declared.value.Value.{Value}
+use Rattle.drain_header.specs.Reading.{Seen}
+use Rattle.drain_header.specs.Faults.{lacking, is_unseen, line_at, HasKey, HasFault, IsRequired, Describes}
+use Rattle.drain_header.proofs.AnswerFunction.{is_absent, first_missing}
+use Rattle.drain_header.proofs.Folding.{IsSeen, at}
+use Rattle.std.specs.Str.Parse.{AllDigits}
+use Rattle.std.specs.Float.Numeral.{Parts, scan_numeral, digits_end, exponent_start, has_exponent, dot}
+use Rattle.drain_header.specs.declared.numeral.Numeral.{Numeral}
+use Rattle.drain_header.specs.Decimals.{parts_of, IsOfDigits, coordinate_of, decimal_nodata}
+use Rattle.drain_text.proofs.Digits.{counted_digits, append_digits}
 use Rattle.std.specs.Fmt.{signed_decimal}
 use Rattle.std.proofs.Math.Logic.{∥∥₁_elim}
 use Rattle.std.proofs.Math.Bridge.{le_prop}
@@ -12,20 +26,106 @@ use Rattle.drain_grid.specs.Values.{IsNoData}
 use Rattle.drain_header.specs.declared.header.ByteOrdering.{ByteOrdering}
 use Rattle.drain_header.specs.declared.header.ByteOrdering.TheVariants.{Least, Most}
 use Rattle.drain_header.specs.declared.header.Place.{Place}
-use Rattle.drain_header.specs.declared.key.Key.{Key}
-use Rattle.drain_header.specs.declared.key.Key.TheVariants.{Nrows, Ncols, Nbands, Nbits, ByteOrder, Layout, PixelType, SkipBytes, BandRowBytes, TotalRowBytes, Ulxmap, Ulymap, Xdim, Ydim, Nodata}
 use Rattle.drain_header.specs.declared.fault.HeaderFault.{HeaderFault}
 use Rattle.drain_header.specs.declared.fault.HeaderFault.TheVariants.{TooLong, RepeatedKey, BadValue, MissingKey, NotOneBand, BadBits, BadPixelType, RowTooShort}
-use Rattle.drain_header.specs.Fields.{Fields, IsCoordinate, IsPixelSize, AreWithinBounds}
-use Rattle.drain_header.specs.Header.{said, packed_row, row_bytes_of, header_of}
-use Rattle.drain_header.specs.Lines.{line_key, line_value, value_at, takes, takes_some, ordering_of, signedness_of}
-use Rattle.drain_header.specs.Decimals.{coordinate_of, decimal_nodata}
-use Rattle.drain_header.specs.Faults.{line_at, HasKey, HasFault, IsRequired, Describes}
+use Rattle.drain_header.specs.Header.{Fields, IsCoordinate, IsPixelSize, AreWithinBounds, said, packed_row, row_bytes_of, header_of}
 use Rattle.drain_header.specs.Text.{line, nodata_line, ordering_text, signedness_text, places_text, shape_lines, pixel_lines, place_lines, text_of}
 use Rattle.drain_text.proofs.Joining.{IsWord, ink_told}
 use Rattle.drain_header.proofs.Entries.{line_number, entries_text, entries_lines, AllGood, IsGood, value_in, lines_entries, value_entries, told_at, entries_short, key_bare}
 use Rattle.drain_text.proofs.Printed.{decimal_word, decimal_short, whole_read}
 use Rattle.drain_header.proofs.ReadBack.{size_read, coordinate_read, nodata_read, nodata_small, places_word, places_short, nodata_word, nodata_short}
+
+pub reads_same : (text word : List ℕ) → length word ≡ length text → ((k : ℕ) → k < length word → to_ascii_uppercase (get_or word k 0) ≡ get_or text k 0) → true ≡ reads text word
+reads_same text word long same =
+    let capitals = map to_ascii_uppercase word in
+    let count = length-map word to_ascii_uppercase in
+    let each : (k d : ℕ) → k < length capitals → get_or capitals k d ≡ get_or text k d = λ k d h. (
+    let inside : k < length word = omega arith in
+    get_or-map to_ascii_uppercase word k 0 d inside ∙ same k inside ∙ get_or_default text k 0 d (omega arith)) in
+    sym ((bytes_eq-Decides capitals text).1 (same_lists capitals text (omega arith) each))
+
+pub reads_other : (text word : List ℕ) → (map to_ascii_uppercase word ≡ text → ⊥) → false ≡ reads text word
+reads_other text word other =
+    elim (bytes_eq (map to_ascii_uppercase word) text) as (λ b. bytes_eq (map to_ascii_uppercase word) text ≡ b → false ≡ b) [
+      | true ↦ λ e. absurd (other ((bytes_eq-Decides (map to_ascii_uppercase word) text).0 e))
+      | false ↦ λ e. refl
+    ] refl
+
+-- The first keyword that the lines lack is the first that their values lack.
+
+abbrev either : Bool → Key → Option Key
+either b key = cond b (Some key) None
+
+-- the first six of the keywords in the order of the table, with those between that may be absent
+chain : (a b c d e f : Bool) → option_or (option_or (option_or (option_or (option_or (option_or (option_or (option_or (option_or (option_or (option_or (option_or (option_or (option_or (option_or None (either a Nrows)) (either b Ncols)) None) None) None) None) None) None) None) None) (either c Ulxmap)) (either d Ulymap)) (either e Xdim)) (either f Ydim)) None
+    ≡ cond a (Some Nrows) (cond b (Some Ncols) (cond c (Some Ulxmap) (cond d (Some Ulymap) (cond e (Some Xdim) (cond f (Some Ydim) None)))))
+chain true b c d e f = refl
+chain false true c d e f = refl
+chain false false true d e f = refl
+chain false false false true e f = refl
+chain false false false false true f = refl
+chain false false false false false true = refl
+chain false false false false false false = refl
+
+unseen : (o : Option Value) → not (is_some o) ≡ is_none o
+unseen None = refl
+unseen (Some v) = refl
+
+absent : (lines : List (List ℕ)) (seen : Seen) → IsSeen lines lines (suc (length lines)) seen → (key : Key) → is_absent lines key ≡ is_unseen seen key
+absent lines seen s key = ap not (s.there key) ∙ unseen (at key seen)
+
+pub missing_is : (lines : List (List ℕ)) (seen : Seen) → IsSeen lines lines (suc (length lines)) seen → first_missing lines ≡ lacking seen
+missing_is lines seen s =
+    chain (is_absent lines Nrows) (is_absent lines Ncols) (is_absent lines Ulxmap) (is_absent lines Ulymap) (is_absent lines Xdim) (is_absent lines Ydim)
+    ∙ ap (λ b. cond b (Some Nrows) (cond (is_absent lines Ncols) (Some Ncols) (cond (is_absent lines Ulxmap) (Some Ulxmap) (cond (is_absent lines Ulymap) (Some Ulymap) (cond (is_absent lines Xdim) (Some Xdim) (cond (is_absent lines Ydim) (Some Ydim) None)))))) (absent lines seen s Nrows)
+    ∙ ap (λ b. cond (is_unseen seen Nrows) (Some Nrows) (cond b (Some Ncols) (cond (is_absent lines Ulxmap) (Some Ulxmap) (cond (is_absent lines Ulymap) (Some Ulymap) (cond (is_absent lines Xdim) (Some Xdim) (cond (is_absent lines Ydim) (Some Ydim) None)))))) (absent lines seen s Ncols)
+    ∙ ap (λ b. cond (is_unseen seen Nrows) (Some Nrows) (cond (is_unseen seen Ncols) (Some Ncols) (cond b (Some Ulxmap) (cond (is_absent lines Ulymap) (Some Ulymap) (cond (is_absent lines Xdim) (Some Xdim) (cond (is_absent lines Ydim) (Some Ydim) None)))))) (absent lines seen s Ulxmap)
+    ∙ ap (λ b. cond (is_unseen seen Nrows) (Some Nrows) (cond (is_unseen seen Ncols) (Some Ncols) (cond (is_unseen seen Ulxmap) (Some Ulxmap) (cond b (Some Ulymap) (cond (is_absent lines Xdim) (Some Xdim) (cond (is_absent lines Ydim) (Some Ydim) None)))))) (absent lines seen s Ulymap)
+    ∙ ap (λ b. cond (is_unseen seen Nrows) (Some Nrows) (cond (is_unseen seen Ncols) (Some Ncols) (cond (is_unseen seen Ulxmap) (Some Ulxmap) (cond (is_unseen seen Ulymap) (Some Ulymap) (cond b (Some Xdim) (cond (is_absent lines Ydim) (Some Ydim) None)))))) (absent lines seen s Xdim)
+    ∙ ap (λ b. cond (is_unseen seen Nrows) (Some Nrows) (cond (is_unseen seen Ncols) (Some Ncols) (cond (is_unseen seen Ulxmap) (Some Ulxmap) (cond (is_unseen seen Ulymap) (Some Ulymap) (cond (is_unseen seen Xdim) (Some Xdim) (cond b (Some Ydim) None)))))) (absent lines seen s Ydim)
+
+-- The parts of a scanned decimal are of digits.
+
+run : (bs : List ℕ) (i : ℕ) → AllDigits 10 (slice_range bs i (digits_end bs i))
+run bs i = counted_digits (drop i bs) _ (omega arith)
+
+-- where an exponent would begin
+abbrev mantissa_end : List ℕ → ℕ
+mantissa_end bs = if slice_index bs (digits_end bs 0) == dot then digits_end bs (digits_end bs 0 + 1) else digits_end bs 0
+
+maybe : (b : Bool) (xs : List ℕ) → AllDigits 10 xs → AllDigits 10 (cond b xs [])
+maybe true xs h = h
+maybe false xs h = tt
+
+fraction_run : (bs : List ℕ) (a : ℕ) (b : Bool) → AllDigits 10 (cond b (slice_range bs (a + 1) (cond b (digits_end bs (a + 1)) a)) [])
+fraction_run bs a true = run bs (a + 1)
+fraction_run bs a false = tt
+
+whole_digits : (bs : List ℕ) → AllDigits 10 (scan_numeral bs).whole
+unfolding scan_numeral
+whole_digits bs = run bs 0
+
+fraction_digits : (bs : List ℕ) → AllDigits 10 (scan_numeral bs).fraction
+unfolding scan_numeral
+fraction_digits bs = fraction_run bs (digits_end bs 0) (slice_index bs (digits_end bs 0) == dot)
+
+exponent_digits : (bs : List ℕ) → AllDigits 10 (scan_numeral bs).exponent
+unfolding scan_numeral
+exponent_digits bs =
+    let c = exponent_start bs (mantissa_end bs) in
+    maybe (has_exponent bs (mantissa_end bs)) (slice_range bs c (digits_end bs c)) (run bs c)
+
+pub scanned_digits : (n : Numeral) (bs : List ℕ) → parts_of n ≡ scan_numeral bs → length n.exponent.now ≤ 3 → IsOfDigits n
+scanned_digits n bs is short = record {
+  mantissa = append_digits _ _ (rw (sym (ap (λ (p : Parts). p.whole) is)) at (whole_digits bs)) (rw (sym (ap (λ (p : Parts). p.fraction) is)) at (fraction_digits bs));
+  exponent = rw (sym (ap (λ (p : Parts). p.exponent) is)) at (exponent_digits bs);
+  short = short;
+}
+
+-- The text of a header within its bounds describes the header.
+--
+-- The text is that of a list of entries, each of which its keyword takes. So its lines are known, each keyword is on
+-- one line alone, and the value at each keyword is the one that was printed.
 
 abbrev nodata_entries : Option ℤ → List (Key × List ℕ)
 nodata_entries None = []

@@ -4,8 +4,7 @@ use Rattle.std.specs.Prelude.{◌&&◌, ◌==◌, ◌⊎◌, nat_lt, ℤ, cond, 
 use Rattle.std.proofs.lemmas.Nat.{div_below, div-mul-add, mod-mul-add}
 use Rattle.std.proofs.lemmas.Bool.{le-leb, leb-true, lt-leb, eqb-true, eqb-false, ltb-true, ltb-false}
 use Rattle.std.specs.Float.Numeral.{Parts, numeral_digits, tens_up, tens_down}
-use Rattle.drain_header.specs.Decimals.{Decimal, decimal_from, decimal_of, is_small, is_whole, in_units, with_sign, coordinate_of, decimal_nodata}
-use Rattle.drain_header.specs.Numerals.{IsScaled}
+use Rattle.drain_header.specs.Decimals.{Decimal, decimal_from, decimal_of, is_small, is_whole, in_units, with_sign, coordinate_of, decimal_nodata, IsScaled}
 use Rattle.std.proofs.Math.Nat.{mul-le-mul_right, one-le-pow}
 
 -- a quotient below the limit, or at the limit with no rest

@@ -9,7 +9,7 @@ use Rattle.drain_header.specs.declared.value.Value.{Value}
 use Rattle.drain_header.specs.declared.value.Value.TheVariants.{Signed}
 use Rattle.drain_header.specs.declared.fault.HeaderFault.{HeaderFault}
 use Rattle.drain_header.specs.declared.fault.HeaderFault.TheVariants.{NotOneBand, BadBits, BadPixelType, RowTooShort}
-use Rattle.drain_header.specs.Fields.{Fields, IsCoordinate}
+use Rattle.drain_header.specs.Header.{Fields, IsCoordinate}
 use Rattle.drain_header.specs.Lines.{key_order}
 use Rattle.drain_header.specs.Reading.{Seen}
 use Rattle.drain_header.specs.Said.{said_by, said_number, ordering_in, sign_in, coordinate_in, said_nodata}

@@ -1,14 +1,9 @@
-pub mod Fields
+pub mod Header
 pub mod Decimals
 pub mod Lines
-pub mod Header
 pub mod Faults
 pub mod Text
-pub mod FaultText
-pub mod Numerals
-pub mod Values
 pub mod Reading
-pub mod Lacking
 pub mod Said
 pub mod Finished
 pub mod Laws

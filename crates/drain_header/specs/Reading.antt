@@ -5,7 +5,7 @@ use Rattle.drain_header.specs.declared.value.Value.{Value}
 use Rattle.drain_header.specs.declared.fault.HeaderFault.{HeaderFault}
 use Rattle.drain_header.specs.declared.fault.HeaderFault.TheVariants.{RepeatedKey, BadValue}
 use Rattle.drain_header.specs.Lines.{key_order, line_key, line_value}
-use Rattle.drain_header.specs.Values.{value_read}
+use Rattle.drain_header.specs.Header.{value_read}
 
 -- the value of each keyword so far, at the keyword's place in the table
 abbrev pub Seen : Type 0

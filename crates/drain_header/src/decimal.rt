@@ -6,8 +6,7 @@
 
 ghost use Rattle.std.specs.Prelude.{◌≡◌, ◌+◌, ◌*◌, ◌-◌, ◌^◌, ◌<◌, ◌≤◌, ◌==◌, if◌then◌else◌, length, ℕ, min, option_map, IfSome};
 ghost use Rattle.std.specs.Str.Parse.{digits_value, digits_value_after, AllDigits};
-ghost use Rattle.drain_header.specs.Numerals.{parts_of, decimal_from_parts, IsOfDigits, IsScaled, Compares};
-ghost use Rattle.drain_header.specs.Decimals.{with_sign, decimal_of, coordinate_of, decimal_nodata};
+ghost use Rattle.drain_header.specs.Decimals.{parts_of, decimal_from_parts, IsOfDigits, IsScaled, Compares, with_sign, decimal_of, coordinate_of, decimal_nodata};
 
 use crate::numeral::{Numeral, scan};
 

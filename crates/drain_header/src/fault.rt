@@ -1,7 +1,7 @@
 //! What can be wrong with a header, and its text.
 
 ghost use Rattle.std.specs.Prelude.{◌≡◌, ◌+◌, ◌≤◌, ◌++◌, length, codes, decimal};
-ghost use Rattle.drain_header.specs.FaultText.{fault_text};
+ghost use Rattle.drain_header.specs.Faults.{fault_text};
 
 use crate::key::Key;
 use arrayvec::ArrayString;

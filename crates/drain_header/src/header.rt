@@ -33,7 +33,7 @@ pub struct Header {
 }
 
 impl Model for Header {
-    ghost use Rattle.drain_header.specs.Fields.{Fields, AreWithinBounds};
+    ghost use Rattle.drain_header.specs.Header.{Fields, AreWithinBounds};
 
     ghost Value = { Fields };
 

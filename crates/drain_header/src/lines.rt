@@ -2,7 +2,7 @@
 
 ghost use Rattle.std.specs.Prelude.{◌≡◌, ◌≤◌, None, is_some, length, slice_index_or};
 ghost use Rattle.drain_text.specs.Text.{lines_of};
-ghost use Rattle.drain_header.specs.Lacking.{lacking};
+ghost use Rattle.drain_header.specs.Faults.{lacking};
 ghost use Rattle.drain_header.specs.Lines.{key_order};
 ghost use Rattle.drain_header.specs.Reading.{nothing, with_header_line as line_added, with_lines as lines_added};
 

@@ -2,7 +2,7 @@
 
 ghost use Rattle.std.specs.Prelude.{◌≡◌, ◌+◌, ◌≤◌, ◌<◌, ◌&&◌, ◌==◌, [], nat_lt, length, slice_index, slice_range, if◌then◌else◌};
 ghost use Rattle.std.specs.Float.Numeral.{minus, scan_numeral, digits_end as end_of_digits, exponent_start, has_exponent};
-ghost use Rattle.drain_header.specs.Numerals.{parts_of};
+ghost use Rattle.drain_header.specs.Decimals.{parts_of};
 
 /// The parts of a decimal, each a part of the text.
 #[derive(Clone, Copy)]

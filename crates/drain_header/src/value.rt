@@ -2,7 +2,7 @@
 
 ghost use Rattle.std.specs.Prelude.{◌≡◌};
 ghost use Rattle.drain_header.specs.Lines.{size_of as size_that, ordering_of as ordering_that, is_layout as layout_that, signedness_of as signedness_that};
-ghost use Rattle.drain_header.specs.Values.{value_read};
+ghost use Rattle.drain_header.specs.Header.{value_read};
 
 use crate::decimal::{coordinate, nodata};
 use crate::header::ByteOrdering;

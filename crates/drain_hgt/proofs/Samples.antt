@@ -7,7 +7,7 @@ use Rattle.std.proofs.lemmas.List.{take_rest}
 use Rattle.std.proofs.lemmas.Bool.Decides.{nat_tests}
 use Rattle.byteorder.specs.Endian.{twos_complement, big_number, IsReadBy}
 use mir.Val.{to_z, of_z}
-use Rattle.drain_grid.specs.Tile.{IsSample}
+use Rattle.drain_grid.specs.Grid.{IsSample}
 use Rattle.drain_hgt.specs.Samples.{samples_of}
 
 -- the sample of the first two bytes

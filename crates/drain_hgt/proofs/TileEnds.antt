@@ -2,7 +2,7 @@
 use Rattle.std.proofs.Common.{◌≡◌, ◌↔◌, ℕ, zero, suc, ◌*◌, List, [], ◌∷◌, length, drop, true, false, IsTrue, inl, inr, arith, refl}
 use Rattle.std.proofs.lemmas.Bool.{cases_lt, lt-ltb, le-ltb}
 use Rattle.std.proofs.lemmas.List.{length-drop}
-use Rattle.drain_device.specs.ComingRows.{ends_wrong}
+use Rattle.drain_device.specs.RowSteps.{ends_wrong}
 use Rattle.drain_hgt.specs.TileRows.{tile_rows}
 use Rattle.drain_hgt.specs.Laws.{TileRowsTellLengths}
 

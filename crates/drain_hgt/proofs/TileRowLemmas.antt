@@ -6,9 +6,8 @@ use Rattle.drain_device.specs.declared.row_source.RowStep.TheVariants.{Row}
 use Rattle.drain_device.specs.declared.row_source.ReadFault.{ReadFault}
 use Rattle.drain_device.specs.declared.row_source.Progress.{Progress}
 use Rattle.drain_device.specs.declared.row_source.Progress.TheVariants.{Going}
-use Rattle.drain_device.specs.ComingRows.Coming.{Next, Wrong}
-use Rattle.drain_device.specs.RowSteps.{Gives, ReadsWithin, coming_at, most_at}
-use Rattle.drain_device.specs.RowBytes.{RowComes, EndComes}
+use Rattle.drain_device.specs.RowSteps.Coming.{Next, Wrong}
+use Rattle.drain_device.specs.RowSteps.{Gives, ReadsWithin, coming_at, most_at, RowComes, EndComes}
 use Rattle.drain_device.proofs.RowLemmas.{gives-row, gives-no_row, gives-no_end, within-row}
 use Rattle.drain_hgt.specs.Samples.{samples_of}
 use Rattle.drain_hgt.specs.TileRows.{tile_rows}

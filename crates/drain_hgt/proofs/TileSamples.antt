@@ -4,7 +4,7 @@ use Rattle.std.specs.Prelude.{slice_index_or}
 use Rattle.std.proofs.lemmas.Bool.{le-ltb}
 use Rattle.std.proofs.lemmas.List.{length-take-le, length-drop, get_or_append_left, get_or-append-add}
 use Rattle.byteorder.specs.Endian.{twos_complement}
-use Rattle.drain_device.specs.ComingRows.{nth_row}
+use Rattle.drain_device.specs.RowSteps.{nth_row}
 use Rattle.drain_grid.specs.declared.tile.TheConstants.{VOID}
 use Rattle.drain_hgt.specs.Samples.{samples_of}
 use Rattle.drain_hgt.specs.TileRows.{tile_rows}

@@ -4,7 +4,7 @@
 //! row from west to east, without a header. Source: the SRTM HGT documentation.
 
 ghost use Rattle.std.specs.Prelude.{◌≡◌, ◌*◌, ◌↔◌, IfOk, IsErrOf, length};
-ghost use Rattle.drain_grid.specs.Tile.{IsSide};
+ghost use Rattle.drain_grid.specs.Grid.{IsSide};
 ghost use Rattle.drain_hgt.specs.Samples.{IsTile, samples_of, tile_length};
 
 use byteorder::{BigEndian, ByteOrder};

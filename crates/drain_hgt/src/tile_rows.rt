@@ -3,12 +3,10 @@
 ghost use Rattle.std.specs.Prelude.{◌≡◌, ◌≢◌, ◌↔◌, ◌≤◌, ◌*◌, ◌+◌, ℕ, List, length, All, Ok, IsErrOf, IsTrue, OnOk};
 ghost use Rattle.std.specs.Int.{cast_signed, w16};
 ghost use Rattle.byteorder.specs.Endian.{big_number};
-ghost use Rattle.drain_device.specs.PartFailing.{PartFails};
-ghost use Rattle.drain_device.specs.Patience.{full_patience};
-ghost use Rattle.drain_device.specs.RowBytes.{RowComes};
-ghost use Rattle.drain_device.specs.RowSteps.{Gives, IsEmptyUnlessRow, IsLong, ReadsWithin, StaysEnded, progress_after};
+ghost use Rattle.drain_device.specs.Failing.{PartFails, full_patience};
+ghost use Rattle.drain_device.specs.RowSteps.{RowComes, Gives, IsEmptyUnlessRow, IsLong, ReadsWithin, StaysEnded, progress_after};
 ghost use Rattle.drain_device.specs.declared.row_source.Progress.{Progress};
-ghost use Rattle.drain_grid.specs.Tile.{IsSample, IsSide};
+ghost use Rattle.drain_grid.specs.Grid.{IsSample, IsSide};
 ghost use Rattle.drain_hgt.specs.Samples.{samples_of};
 
 use byteorder::{BigEndian, ByteOrder};

@@ -1,7 +1,36 @@
 -- The count along one column more, and along columns where two tests agree.
-use Rattle.std.proofs.Common.{◌≡◌, ℕ, zero, suc, ◌+◌, ◌-◌, ◌≤◌, ◌<◌, Bool, cond, map, List, [], ◌∷◌, sym, refl, ◌∙◌, ap, subst, add-one, arith}
+use Rattle.std.proofs.Common.{◌≡◌, ℕ, ◌+◌, ℤ, pos, ◌+ℤ◌, Bool, true, false, ◌&&◌, refl, arith, if◌then◌else◌, zero, suc, ◌-◌, ◌≤◌, ◌<◌, cond, map, List, [], ◌∷◌, sym, ◌∙◌, ap, subst, add-one, ◌≢◌, ◌<ℤ◌, ◌==◌, nat_lt, int_lt, Some, None, IsSome, is_some, unwrap_or, slice_index}
+use Rattle.std.proofs.lemmas.Bool.{false≢true}
+use Rattle.std.proofs.lemmas.Int.{ints}
 use Rattle.std.specs.List.{sum_by, count_by, range_with_len}
 use Rattle.std.proofs.lemmas.List.FromFn.{sum_by-map-range_with_len_more}
+use Rattle.drain_grid.specs.declared.patch.Patch.{Patch}
+use Rattle.drain_grid.specs.declared.rule.Rule.{Rule}
+use Rattle.drain_grid.specs.declared.rule.Rule.TheVariants.{VoidCell, Missing, BadCode, BelowGround, OpenRaised, NoSpill, SpillHeight, SpillRank, NotLeast, Slope, OutletCode, FlatStep, Accumulation, Label, SharedLabel}
+use Rattle.drain_grid.specs.PatchRules.{Profile}
+use Rattle.drain_grid.specs.Judged.{IfJudged}
+use Rattle.drain_kernel.specs.Rules.{tested, without_sums}
+use Rattle.std.proofs.lemmas.Bool.Decides.{Decides-ltb}
+use Rattle.drain_grid.specs.Values.{Values}
+use Rattle.drain_grid.proofs.Decisions.{less_complete, less_sound}
+use Rattle.drain_kernel.specs.declared.lanes.Lanes.{Lanes}
+use Rattle.drain_kernel.specs.Columns.{is_raised_at}
+use Rattle.drain_kernel.specs.Laws.{is_above_ground, RaisedAreCounted}
+use Rattle.drain_kernel.specs.Shown.{Shows, lowered, height_of}
+use Rattle.drain_kernel.proofs.Keys.{same_tests}
+
+-- What eight neighbours pass on.
+
+-- a neighbour with data passes on its number where its code leads here
+pub inflow_passed : (has_z named : Bool) (acc : ℕ) → has_z ≡ true → (if has_z && named then pos acc else pos 0) ≡ pos (if named then acc else 0)
+inflow_passed true true acc h = refl
+inflow_passed true false acc h = refl
+inflow_passed false named acc h = absurd (false≢true h)
+
+pub total_is : (acc a b c d e f g h : ℕ) (a2 b2 c2 d2 e2 f2 g2 h2 : ℤ) → a2 ≡ pos a → b2 ≡ pos b → c2 ≡ pos c → d2 ≡ pos d →
+    e2 ≡ pos e → f2 ≡ pos f → g2 ≡ pos g → h2 ≡ pos h → acc ≡ ((((a + b) + c) + d) + (((e + f) + g) + h)) + 1 →
+    pos acc ≡ pos 1 +ℤ (a2 +ℤ (b2 +ℤ (c2 +ℤ (d2 +ℤ (e2 +ℤ (f2 +ℤ (g2 +ℤ (h2 +ℤ pos 0))))))))
+total_is acc a b c d e f g h a2 b2 c2 d2 e2 f2 g2 h2 is_a is_b is_c is_d is_e is_f is_g is_h is = omega (arith, ints)
 
 same_list : (xs : List ℕ) → map (λ j. j) xs ≡ xs
 same_list [] = refl
@@ -31,3 +60,68 @@ count_alike p q from (suc n) same =
     subst (λ m. count_by p (range_with_len from m) ≡ count_by q (range_with_len from m)) (add-one n)
     (one_longer p from n (from + n) refl ∙ ap (λ c. c + cond (p (from + n)) 1 0) before ∙ ap (λ b. count_by q (range_with_len from n) + cond b 1 0) at ∙
     sym (one_longer q from n (from + n) refl))
+
+-- Rules with and without sums.
+
+-- what follows from a fact follows where it is tested
+pub if_tested : (sums : Bool) (P Q : Type 0) → (P → Q) → IfJudged sums P → IfJudged sums Q
+if_tested true P Q gives known = gives known
+if_tested false P Q gives known = tt
+
+-- where all others hold, and that of the accumulation if sums are tested, all that are tried hold
+pub summed : (sums : Bool) (profile : Profile) (p : Patch) → IfJudged sums (profile p Accumulation) → ((r : Rule) → without_sums profile p r) →
+    (r : Rule) → tested sums profile p r
+summed false profile p sum others r = others r
+summed true profile p sum others VoidCell = others VoidCell
+summed true profile p sum others Missing = others Missing
+summed true profile p sum others BadCode = others BadCode
+summed true profile p sum others BelowGround = others BelowGround
+summed true profile p sum others OpenRaised = others OpenRaised
+summed true profile p sum others NoSpill = others NoSpill
+summed true profile p sum others SpillHeight = others SpillHeight
+summed true profile p sum others SpillRank = others SpillRank
+summed true profile p sum others NotLeast = others NotLeast
+summed true profile p sum others Slope = others Slope
+summed true profile p sum others OutletCode = others OutletCode
+summed true profile p sum others FlatStep = others FlatStep
+summed true profile p sum others Accumulation = sum
+summed true profile p sum others Label = others Label
+summed true profile p sum others SharedLabel = others SharedLabel
+
+-- The columns that lanes count as raised are those whose shown values are.
+
+lt_lowered : (a b : ℕ) → a < b → lowered a <ℤ lowered b
+lt_lowered a b h = omega (arith, ints)
+
+lt_from_lowered : (a b : ℕ) → lowered a <ℤ lowered b → a < b
+lt_from_lowered a b h = omega (arith, ints)
+
+-- heights are ordered as their lanes are
+same_order : (a b : ℕ) → nat_lt a b ≡ int_lt (lowered a) (lowered b)
+same_order a b =
+    let lanes = Decides-ltb a b in
+    same_tests (nat_lt a b) (int_lt (lowered a) (lowered b)) (λ h. less_complete _ _ (lt_lowered a b (lanes.0 h)))
+    (λ h. lanes.1 (lt_from_lowered a b (less_sound _ _ h)))
+
+-- a lane that holds a height
+height_there : (n : ℕ) → is_some (height_of n) ≡ true → unwrap_or (height_of n) (pos 0) ≡ lowered n
+height_there n h = by_test (n == 0) h
+  where
+    by_test : (b : Bool) → is_some (if b then None else Some (lowered n)) ≡ true → unwrap_or (if b then None else Some (lowered n)) (pos 0) ≡ lowered n
+    by_test true e = absurd (false≢true e)
+    by_test false e = refl
+
+data_there : (n : ℕ) → is_some (height_of n) ≡ true → n ≢ 0
+data_there n h void = false≢true (sym (ap (λ m. is_some (height_of m)) void) ∙ h)
+
+same_at : (lanes : Lanes) (k : ℕ) (v : Values) → Shows lanes k v → IsSome v.z → is_raised_at lanes k ≡ is_above_ground v
+same_at lanes k v shows has =
+    let there = ap is_some (sym shows.z_is) ∙ has in
+    let ground : unwrap_or v.z (pos 0) ≡ lowered (slice_index lanes.z.items k) =
+    ap (λ o. unwrap_or o (pos 0)) shows.z_is ∙ height_there _ there in
+    same_order _ _ ∙ ap (λ z. int_lt z (lowered (slice_index lanes.con.items k))) (sym ground) ∙ ap (int_lt (unwrap_or v.z (pos 0))) (sym (shows.con_is (data_there _ there)))
+
+pub raised_are_counted : RaisedAreCounted
+raised_are_counted lanes from end shown shows has =
+    count_alike (is_raised_at lanes) (λ k. is_above_ground (shown k)) from (end - from)
+    (λ k low high. let inside : k < end = omega arith in same_at lanes k (shown k) (shows k low inside) (has k low inside))

@@ -13,15 +13,14 @@ use Rattle.drain_kernel.specs.declared.lane_rows.LaneRows.{LaneRows}
 use Rattle.drain_grid.specs.declared.judged.Rules.{Rules}
 use Rattle.drain_grid.specs.Judged.{IfJudged, has_acc, has_rnk}
 use Rattle.drain_kernel.specs.Falls.{FallsAt, keeps_fall}
-use Rattle.drain_kernel.specs.Kept.{IsKept}
-use Rattle.drain_kernel.specs.LaneRows.{HaveRanks, IsShownRoundIn}
+use Rattle.drain_kernel.specs.Columns.{IsKept, HaveRanks, IsShownRoundIn}
 use Rattle.drain_grid.specs.RulesAbout.{tried}
 use Rattle.drain_kernel.proofs.ClearedRules.{cleared}
 use Rattle.drain_kernel.proofs.Inland.{le_from, no_void, some_height}
 use Rattle.drain_kernel.proofs.Meaning.{are_complete, no_outlet, not_zero}
 use Rattle.drain_kernel.proofs.NamedNumbers.{named_is, names_some}
 use Rattle.drain_kernel.proofs.Numbers.{Numbers, numbers_in, patch_of, values_are}
-use Rattle.drain_kernel.proofs.Summed.{if_tested}
+use Rattle.drain_kernel.proofs.Counting.{if_tested}
 use Rattle.drain_kernel.proofs.Ways.{AreSeen, steepest_from}
 use Rattle.drain_kernel.proofs.OnGround.{IsSound, keeps_rules, rank_from}
 use Rattle.drain_kernel.proofs.SeenNumbers.{are_seen, numbers_seen, sum_from}

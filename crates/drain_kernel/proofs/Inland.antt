@@ -11,7 +11,7 @@ use Rattle.drain_grid.specs.Values.{Values}
 use Rattle.drain_grid.specs.Open.{IsGap}
 use Rattle.drain_grid.specs.Patch.{neighbor, height, IsDataNeighbor, IsOpen}
 use Rattle.drain_grid.specs.PatchRules.{BelowGroundHolds, NotLeastHolds}
-use Rattle.drain_grid.proofs.Options.{same_some}
+use Rattle.drain_grid.proofs.Tallies.{same_some}
 use Rattle.drain_kernel.specs.Shown.{lowered, height_of}
 use Rattle.drain_kernel.specs.Tests.{keeps_surface}
 use Rattle.drain_kernel.proofs.Numbers.{Numbers, values_of, patch_of}

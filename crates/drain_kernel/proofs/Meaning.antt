@@ -18,9 +18,7 @@ use Rattle.drain_kernel.specs.declared.lane_rows.LaneRows.{LaneRows}
 use Rattle.drain_kernel.specs.declared.lanes.Lanes.{Lanes}
 use Rattle.drain_grid.specs.declared.judged.Rules.{Rules}
 use Rattle.drain_grid.specs.Judged.{IfJudged, has_acc, has_rnk}
-use Rattle.drain_kernel.specs.Columns.{HasCountsAt, HasWayAt, IsInlandAt, PassesAt, RanksPassAt}
-use Rattle.drain_kernel.specs.Kept.{IsKept}
-use Rattle.drain_kernel.specs.LaneRows.{HaveRanks, IsShownIn}
+use Rattle.drain_kernel.specs.Columns.{HasCountsAt, HasWayAt, IsInlandAt, PassesAt, RanksPassAt, IsKept, HaveRanks, IsShownIn}
 use Rattle.drain_grid.specs.RulesAbout.{tried}
 use Rattle.drain_kernel.proofs.ClearedRules.{cleared}
 use Rattle.drain_kernel.specs.Rules.{rules_with, tested, without_sums}
@@ -28,8 +26,7 @@ use Rattle.drain_kernel.specs.Shown.{lowered, height_of, HasDataAt, HasRanks, ro
 use Rattle.drain_kernel.specs.Tests.{adds_up}
 use Rattle.drain_kernel.proofs.Inland.{IsInland, inland_from, of_each, not_open, OfSurface, of_surface}
 use Rattle.drain_kernel.proofs.Numbers.{Numbers, HaveDataAt, values_of, patch_of, numbers_in, numbers_beside, patch_is, neighbor_is}
-use Rattle.drain_kernel.proofs.PassedOn.{inflow_passed, total_is}
-use Rattle.drain_kernel.proofs.Summed.{if_tested, summed}
+use Rattle.drain_kernel.proofs.Counting.{inflow_passed, total_is, if_tested, summed}
 use Rattle.drain_kernel.proofs.Ways.{OfDirection, of_direction, of_label, IsRanked, ranked_from, flat_step_from}
 
 -- the four numbers aren't their products' no-data numbers

@@ -13,13 +13,12 @@ use Rattle.drain_grid.specs.PatchRules.{AccumulationHolds, LabelHolds, OutletCod
 use Rattle.drain_grid.specs.Unranked.{unranked}
 use Rattle.drain_kernel.specs.declared.lane_rows.LaneRows.{LaneRows}
 use Rattle.drain_grid.specs.Judged.{IfJudged}
-use Rattle.drain_kernel.specs.Columns.{HasRankAt}
-use Rattle.drain_kernel.specs.LaneRows.{HaveRanks}
+use Rattle.drain_kernel.specs.Columns.{HasRankAt, HaveRanks}
 use Rattle.drain_kernel.specs.Rules.{rules_with, tested, without_sums}
 use Rattle.drain_kernel.specs.Shown.{lowered, height_of, HasDataAt, Shows}
 use Rattle.drain_kernel.proofs.Meaning.{AreComplete, is_complete}
 use Rattle.drain_kernel.proofs.Numbers.{Numbers, patch_of}
-use Rattle.drain_kernel.proofs.Summed.{summed}
+use Rattle.drain_kernel.proofs.Counting.{summed}
 
 -- a data cell that is not raised, whose code and label are right, and whose numbers are there
 pub record IsSound (nodata : NoDataNumbers) (here : Numbers) (around : List (Option Values)) : Type 0 where

@@ -1,18 +1,18 @@
 -- An outlet beside a void keeps every rule of its patch.
-use Rattle.std.proofs.Common.{◌≡◌, ◌≢◌, ◌⊎◌, ℕ, min, Option, option_map, pos, true, map, List, Some, None, IsSome, slice_index, inl, inr, refl, sym, ◌∙◌, ap, subst, arith}
-use Rattle.std.proofs.lemmas.Bool.{and_parts}
+use Rattle.std.proofs.Common.{◌≡◌, ℕ, ◌+◌, ◌-◌, ◌≤◌, ◌<◌, Bool, true, false, ◌==◌, IsTrue, slice_index, sym, ◌∙◌, arith, if◌then◌else◌, ◌≢◌, ◌⊎◌, min, Option, option_map, pos, map, List, Some, None, IsSome, inl, inr, refl, ap, subst}
 use Rattle.std.proofs.lemmas.Bool.Decides.{Decides-eqb, leb_tells}
+use Rattle.drain_kernel.specs.declared.lane_rows.LaneRows.{LaneRows}
+use Rattle.drain_kernel.specs.Columns.{Along, HaveLabelAt, keeps_label_at, HaveRanks, IsShownRoundIn}
+use Rattle.std.proofs.lemmas.Bool.{and_parts}
 use Rattle.drain_grid.specs.declared.direction.Direction.{Direction}
 use Rattle.drain_grid.specs.declared.direction.Direction.TheVariants.{East, SouthEast, South, SouthWest, West, NorthWest, North, NorthEast}
 use Rattle.drain_grid.specs.declared.patch.Patch.{Patch}
 use Rattle.drain_grid.specs.Direction.{directions, code_of}
 use Rattle.drain_grid.specs.Values.{Values}
 use Rattle.drain_grid.specs.Patch.{HasLower, IsOpen}
-use Rattle.drain_kernel.specs.declared.lane_rows.LaneRows.{LaneRows}
 use Rattle.drain_kernel.specs.declared.lanes.Lanes.{Lanes}
 use Rattle.drain_grid.specs.declared.judged.Rules.{Rules}
 use Rattle.drain_grid.specs.Judged.{IfJudged, has_acc, has_rnk}
-use Rattle.drain_kernel.specs.LaneRows.{HaveRanks, IsShownRoundIn}
 use Rattle.drain_grid.specs.RulesAbout.{tried}
 use Rattle.drain_kernel.specs.Rules.{rules_with}
 use Rattle.drain_kernel.proofs.ClearedRules.{cleared, tested_too}
@@ -20,15 +20,38 @@ use Rattle.drain_kernel.specs.Shown.{height_of, IsShownRound, row_beside, col_be
 use Rattle.drain_kernel.proofs.Inland.{le_from, no_void, some_height}
 use Rattle.drain_kernel.proofs.Meaning.{are_complete, no_outlet, not_zero}
 use Rattle.drain_kernel.proofs.Numbers.{Numbers, numbers_in, patch_of, values_are}
-use Rattle.drain_kernel.proofs.Ways.{AreSeen}
+use Rattle.drain_kernel.proofs.Ways.{AreSeen, number_of_lower}
 use Rattle.drain_grid.specs.Rule.{IsLeastFault, IsPatchRule}
 use Rattle.drain_grid.specs.Open.{IsGap}
 use Rattle.drain_kernel.specs.Around.{least_straight_in, least_across_in}
 use Rattle.drain_kernel.specs.Outlets.{OutletAt, keeps_outlet}
 use Rattle.drain_kernel.proofs.NamedNumbers.{least_bound}
-use Rattle.drain_kernel.proofs.Ways.{number_of_lower}
 use Rattle.drain_kernel.proofs.OnGround.{IsSound, keeps_rules, rank_from}
 use Rattle.drain_kernel.proofs.SeenNumbers.{are_seen, numbers_seen, sum_from}
+
+-- Where all labels are one, a code leads to this label.
+
+either : (b : Bool) (x y label : ℕ) → x ≡ label → y ≡ label → (if b then x else y) ≡ label
+either true x y label one two = one
+either false x y label one two = two
+
+pub one_label : (rows : LaneRows) (label from end : ℕ) → 1 ≤ from → Along (from - 1) (end + 1) (HaveLabelAt rows label) → Along from end (λ k. IsTrue (keeps_label_at rows k))
+one_label rows label from end inner all k low high =
+    let code = slice_index rows.here.now.dir.items k in
+    let left : from - 1 ≤ k - 1 = omega (arith, low) in
+    let at : from - 1 ≤ k = omega (arith, low) in
+    let right : from - 1 ≤ k + 1 = omega (arith, low) in
+    let left_in : k - 1 < end + 1 = omega (arith, high) in
+    let at_in : k < end + 1 = omega (arith, high) in
+    let right_in : k + 1 < end + 1 = omega (arith, high) in
+    let one = either (code == 2) _ _ label (all (k + 1) right right_in).below_is (all (k + 1) right right_in).here_is in
+    let two = either (code == 4) _ _ label (all k at at_in).below_is one in
+    let three = either (code == 8) _ _ label (all (k - 1) left left_in).below_is two in
+    let four = either (code == 16) _ _ label (all (k - 1) left left_in).here_is three in
+    let five = either (code == 32) _ _ label (all (k - 1) left left_in).above_is four in
+    let six = either (code == 64) _ _ label (all k at at_in).above_is five in
+    let seven = either (code == 128) _ _ label (all (k + 1) right right_in).above_is six in
+    (Decides-eqb _ _).1 (seven ∙ sym (all k at at_in).here_is)
 
 zero_of_min : (a b : ℕ) → min a b ≡ 0 → (a ≡ 0) ⊎ (b ≡ 0)
 zero_of_min a b h = elim (leb_tells a b) [ inl told ↦ inl (omega (arith, h, told.1)) | inr told ↦ inr (omega (arith, h, told.1)) ]

@@ -8,14 +8,14 @@ use Rattle.drain_grid.specs.declared.patch.Patch.{Patch}
 use Rattle.drain_grid.specs.Direction.{directions, code_of, names, opposite}
 use Rattle.drain_grid.specs.Values.{Values}
 use Rattle.drain_grid.specs.PatchRules.{AccumulationHolds, inflow}
-use Rattle.drain_grid.proofs.Options.{same_some}
+use Rattle.drain_grid.proofs.Tallies.{same_some}
 use Rattle.drain_kernel.specs.declared.lanes.Lanes.{Lanes}
 use Rattle.drain_kernel.specs.Falls.{seen_code, seen_con}
 use Rattle.drain_kernel.specs.Shown.{lowered, height_of, HasDataAt, IsShownRound, Shows, row_beside, col_beside}
 use Rattle.drain_kernel.specs.Tests.{adds_up, passed_on}
 use Rattle.drain_kernel.proofs.Inland.{of_each, some_height}
 use Rattle.drain_kernel.proofs.Numbers.{Numbers, numbers_in, patch_of, values_of}
-use Rattle.drain_kernel.proofs.PassedOn.{inflow_passed, total_is}
+use Rattle.drain_kernel.proofs.Counting.{inflow_passed, total_is}
 use Rattle.drain_kernel.proofs.Ways.{AreSeen}
 
 -- what is seen of a neighbour with data is its number

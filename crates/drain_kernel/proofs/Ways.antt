@@ -10,7 +10,7 @@ use Rattle.drain_grid.specs.Patch.{IsDataNeighbor, IsLower, HasLower}
 use Rattle.drain_grid.specs.Slope.{slope_key, IsSteepest}
 use Rattle.drain_grid.specs.PatchRules.{SlopeHolds, FlatStepHolds, LabelHolds}
 use Rattle.drain_grid.specs.Unranked.{IsLevelStep, LevelStepHolds}
-use Rattle.drain_grid.proofs.Options.{same_some}
+use Rattle.drain_grid.proofs.Tallies.{same_some}
 use Rattle.drain_kernel.specs.Around.{least_straight_in, least_across_in}
 use Rattle.drain_kernel.specs.Shown.{lowered}
 use Rattle.drain_kernel.specs.Tests.{keeps_direction, keeps_label, falls_steepest, steps_along, is_ranked}

@@ -1,13 +1,88 @@
 -- The tests at a column of three rows of lanes.
-use Rattle.std.specs.Prelude.{◌≡◌, ◌≢◌, ℕ, ◌≤◌, ◌<◌, ◌+◌, ◌-◌, pos, Bool, IsTrue, List, slice_index}
-use Rattle.drain_grid.specs.Values.{NoDataNumbers}
-use Rattle.drain_kernel.specs.declared.lane_rows.LaneRows.{LaneRows}
+use Rattle.std.specs.Prelude.{◌≢◌, pos, IsSome, None, ℕ, ◌-◌, Bool, nat_lt, slice_index, ◌≡◌, ℤ, List, length, ◌≤◌, ◌<◌, ◌+◌, IsTrue}
+use Rattle.drain_grid.specs.declared.patch.Patch.{Patch}
+use Rattle.drain_grid.specs.PatchRules.{Profile}
+use Rattle.drain_grid.specs.Rule.{IsPatchRule, IsLeastFault}
+use Rattle.std.specs.List.{count_by, range_with_len}
 use Rattle.drain_kernel.specs.declared.lanes.Lanes.{Lanes}
+use Rattle.drain_grid.specs.declared.per_product.PerProduct.{PerProduct}
+use Rattle.drain_pixels.specs.Lanes.{AreLanes, AreElevationLanes, AreHeightLanes}
+use Rattle.drain_kernel.specs.Shown.{cols, HasRanks, IsInner, IsShown, IsShownRound, HasDataAt, lowered}
+use Rattle.drain_kernel.specs.declared.lane_rows.LaneRows.{LaneRows}
+use Rattle.drain_grid.specs.Values.{NoDataNumbers}
 use Rattle.drain_grid.specs.declared.judged.Rules.{Rules}
 use Rattle.drain_kernel.specs.Around.{around_in}
 use Rattle.drain_grid.specs.Judged.{IfJudged, has_acc, has_rnk}
-use Rattle.drain_kernel.specs.Shown.{HasDataAt, lowered}
 use Rattle.drain_kernel.specs.Tests.{keeps_surface, keeps_direction, keeps_label, adds_up, is_ranked}
+
+-- What is known of a cleared cell, of rules that look at its patch only.
+
+-- every rule from VoidCell to Label holds at it, and it is a data cell that is no outlet by its code
+pub record IsKept (profile : Profile) (p : Patch) : Type 0 where
+  pub holds : IsLeastFault IsPatchRule (profile p) None
+  pub has_data : IsSome p.here.z
+  pub no_outlet : p.here.dir ≢ pos 0
+
+-- How many columns of a row have con above the ground.
+
+-- con is above the ground at a column
+abbrev pub is_raised_at : Lanes → ℕ → Bool
+is_raised_at row k = nat_lt (slice_index row.z.items k) (slice_index row.con.items k)
+
+-- the columns from one up to another
+abbrev pub raised_lanes : Lanes → ℕ → ℕ → ℕ
+raised_lanes row from end = count_by (is_raised_at row) (range_with_len from (end - from))
+
+-- The lanes of a row's numbers.
+
+-- as many lanes as numbers, each with its column's number, at a void only the elevation's; ranks if they were taken
+pub record AreLanesOf (lanes : Lanes) (z : List ℤ) (products : PerProduct (List ℤ)) : Type 0 where
+  pub len : cols lanes ≡ length z
+  pub elevations : AreElevationLanes z lanes.z.items (length z)
+  pub con : AreHeightLanes lanes.z.items products.con lanes.con.items (length z)
+  pub dir : AreLanes lanes.z.items products.dir lanes.dir.items (length z)
+  pub acc : AreLanes lanes.z.items products.acc lanes.acc.items (length z)
+  pub bas : AreLanes lanes.z.items products.bas lanes.bas.items (length z)
+  pub rnk : HasRanks lanes → AreLanes lanes.z.items products.rnk lanes.rnk.items (length z)
+
+-- Three rows of lanes: the columns that have eight neighbours in them, and the patches that they show.
+
+-- the column, and those left and right of it, are in all three rows
+abbrev pub IsInnerColumn : LaneRows → ℕ → Type 0
+IsInnerColumn rows k = IsInner rows.above.now rows.here.now rows.below.now k
+
+-- the column is in all three rows
+pub record IsInRows (rows : LaneRows) (k : ℕ) : Type 0 where
+  pub above_in : k < cols rows.above.now
+  pub here_in : k < cols rows.here.now
+  pub below_in : k < cols rows.below.now
+
+-- so is each column from one up to another, with those beside it; there may be none
+pub record IsStretch (rows : LaneRows) (from end : ℕ) : Type 0 where
+  pub left : 1 ≤ from
+  pub ordered : from ≤ end
+  pub above_right : end < cols rows.above.now
+  pub here_right : end < cols rows.here.now
+  pub below_right : end < cols rows.below.now
+
+-- ranks were taken of all three rows
+pub record HaveRanks (rows : LaneRows) : Type 0 where
+  pub above_has : HasRanks rows.above.now
+  pub here_has : HasRanks rows.here.now
+  pub below_has : HasRanks rows.below.now
+
+-- the rows have as many columns
+pub record AreAsLong (rows : LaneRows) : Type 0 where
+  pub above_len : cols rows.above.now ≡ cols rows.here.now
+  pub below_len : cols rows.below.now ≡ cols rows.here.now
+
+-- the patch that the rows show round a column, of a cell that is not listed as a sink
+abbrev pub IsShownIn : LaneRows → ℕ → Patch → Type 0
+IsShownIn rows = IsShown rows.above.now rows.here.now rows.below.now
+
+-- the patch of a cell that may be listed
+abbrev pub IsShownRoundIn : LaneRows → ℕ → Patch → Type 0
+IsShownRoundIn rows = IsShownRound rows.above.now rows.here.now rows.below.now
 
 -- a column is no void in any of three rows
 pub record AreDataAt (rows : LaneRows) (k : ℕ) : Type 0 where

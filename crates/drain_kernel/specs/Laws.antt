@@ -3,13 +3,11 @@ use Rattle.std.specs.Prelude.{◌≡◌, ℕ, ◌-◌, ◌<◌, ℤ, pos, Bool, 
 use Rattle.std.specs.List.{count_by, range_with_len}
 use Rattle.drain_grid.specs.declared.per_product.PerProduct.{PerProduct}
 use Rattle.drain_grid.specs.declared.tile.TheConstants.{VOID}
-use Rattle.drain_grid.specs.Tile.{height_from}
+use Rattle.drain_grid.specs.Grid.{height_from}
 use Rattle.drain_grid.specs.Values.{Values}
 use Rattle.drain_kernel.specs.declared.lanes.Lanes.{Lanes}
-use Rattle.drain_kernel.specs.Columns.{Along}
-use Rattle.drain_kernel.specs.Counts.{raised_lanes}
+use Rattle.drain_kernel.specs.Columns.{Along, raised_lanes, AreLanesOf}
 use Rattle.drain_kernel.specs.Shown.{Shows}
-use Rattle.drain_kernel.specs.Taken.{AreLanesOf}
 
 -- the values of a row's numbers at a column, of a cell that may be a listed sink; of spill parents 0
 abbrev pub values_from : List ℤ → PerProduct (List ℤ) → ℕ → Bool → Values

@@ -1,13 +1,9 @@
-pub mod Kept
+pub mod Columns
 pub mod Rules
 pub mod Shown
-pub mod Taken
 pub mod Around
 pub mod Images
 pub mod Tests
-pub mod LaneRows
-pub mod Columns
-pub mod Counts
 pub mod Laws
 pub mod Falls
 pub mod Outlets

@@ -25,7 +25,7 @@ pub(crate) trait ColumnTest {
 
 /// Whether each column of `from..end` passes the test.
 #[inline(never)]
-#[tactic(auto, using(crate::proofs::Alongs::along_more))]
+#[tactic(auto, using(crate::proofs::VouchedNumbers::along_more))]
 pub(crate) fn passes_along<T: ColumnTest>(test: &T, from: usize, end: usize) -> bool
     requires ordered { from ≤ end }
     requires tested { Along from end (T.CanTest test.now) }

@@ -1,8 +1,7 @@
 //! The tests at a column of three rows. Each comment says what holds where the column passes.
 
 ghost use Rattle.std.specs.Prelude.{◌≡◌, ◌<◌, ◌+◌, IsTrue, false, slice_index, vec_len};
-ghost use Rattle.drain_kernel.specs.Columns.{adds_up_at, AreDataAt, HasCountsAt, HaveLabelAt, HasWayAt, KeepsWayAt, keeps_direction_at, keeps_label_at, keeps_surface_at};
-ghost use Rattle.drain_kernel.specs.LaneRows.{IsInnerColumn, IsInRows};
+ghost use Rattle.drain_kernel.specs.Columns.{adds_up_at, AreDataAt, HasCountsAt, HaveLabelAt, HasWayAt, KeepsWayAt, keeps_direction_at, keeps_label_at, keeps_surface_at, IsInnerColumn, IsInRows};
 ghost use Rattle.drain_kernel.specs.Shown.{cols};
 
 use crate::around::around;

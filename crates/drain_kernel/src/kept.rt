@@ -3,9 +3,7 @@
 ghost use Rattle.std.specs.Prelude.{◌≤◌, IsTrue};
 ghost use Rattle.drain_grid.specs.declared.patch.Patch.{Patch};
 ghost use Rattle.drain_grid.specs.Judged.{IfJudged, has_rnk};
-ghost use Rattle.drain_kernel.specs.Columns.{Along, PassesAt};
-ghost use Rattle.drain_kernel.specs.Kept.{IsKept};
-ghost use Rattle.drain_kernel.specs.LaneRows.{HaveRanks, IsInnerColumn, IsShownIn, IsStretch};
+ghost use Rattle.drain_kernel.specs.Columns.{Along, PassesAt, IsKept, HaveRanks, IsInnerColumn, IsShownIn, IsStretch};
 ghost use Rattle.drain_grid.specs.RulesAbout.{tried};
 ghost use Rattle.drain_kernel.specs.Shown.{cols, IsInner, IsShown};
 

@@ -17,7 +17,7 @@ impl LaneRows<'_> {
     ghost use Rattle.drain_grid.specs.Judged.{IfJudged, has_rnk};
     ghost use Rattle.drain_kernel.specs.Columns.{accs_round, codes_round, cons_round, heights_round, labels_round, ranks_round};
     ghost use Rattle.drain_kernel.specs.Images.{EachHasImage, at_most, lower, upper};
-    ghost use Rattle.drain_kernel.specs.LaneRows.{AreAsLong, HaveRanks, IsInnerColumn};
+    ghost use Rattle.drain_kernel.specs.Columns.{AreAsLong, HaveRanks, IsInnerColumn};
 
     /// Whether all three rows have ranks, if ranks are judged.
     fn have_ranks(&self, judged: Judged) -> bool
@@ -86,7 +86,7 @@ impl LaneRows<'_> {
 
     /// The ranks of the eight neighbours of a column, capped.
     #[inline(always)]
-    #[tactic(auto, using(crate::proofs::Images::around_images))]
+    #[tactic(auto, using(crate::proofs::VouchedNumbers::around_images))]
     pub(crate) fn capped_ranks_round(&self, k: usize) -> [u16; 8]
         requires inner { IsInnerColumn self.now k }
         requires ranks { HaveRanks self.now }
@@ -102,7 +102,7 @@ impl LaneRows<'_> {
 
     /// The lower halves of these ranks.
     #[inline(always)]
-    #[tactic(auto, using(crate::proofs::Images::around_images))]
+    #[tactic(auto, using(crate::proofs::VouchedNumbers::around_images))]
     pub(crate) fn low_ranks_round(&self, k: usize) -> [u16; 8]
         requires inner { IsInnerColumn self.now k }
         requires ranks { HaveRanks self.now }
@@ -118,7 +118,7 @@ impl LaneRows<'_> {
 
     /// Their upper halves.
     #[inline(always)]
-    #[tactic(auto, using(crate::proofs::Images::around_images))]
+    #[tactic(auto, using(crate::proofs::VouchedNumbers::around_images))]
     pub(crate) fn high_ranks_round(&self, k: usize) -> [u16; 8]
         requires inner { IsInnerColumn self.now k }
         requires ranks { HaveRanks self.now }

@@ -40,9 +40,9 @@ impl Lanes {
     ghost use Rattle.std.specs.Prelude.{◌≤◌, ◌<◌, ◌-◌, ◌^◌, cond, false, slice_index};
     ghost use Rattle.drain_grid.specs.declared.set_product.SetProduct.{SetProduct};
     ghost use Rattle.drain_grid.specs.PerProduct.{of_product, per_product};
-    ghost use Rattle.drain_kernel.specs.Counts.{is_raised_at, raised_lanes};
+    ghost use Rattle.drain_kernel.specs.Columns.{is_raised_at, raised_lanes};
     ghost use Rattle.drain_kernel.specs.Shown.{cols, HasRanks};
-    ghost use Rattle.drain_kernel.specs.Taken.{AreLanesOf};
+    ghost use Rattle.drain_kernel.specs.Columns.{AreLanesOf};
 
     /// No row. It takes no memory.
     pub fn new(alloc: Global) -> Lanes

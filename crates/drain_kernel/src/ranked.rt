@@ -1,8 +1,7 @@
 //! The tests of ranks at a column.
 
 ghost use Rattle.std.specs.Prelude.{◌≡◌, ◌≢◌, ◌<◌, IsTrue, false, pos, vec_len};
-ghost use Rattle.drain_kernel.specs.Columns.{HasRankAt, KeepsRankedWayAt, is_ranked_at, keeps_direction_at};
-ghost use Rattle.drain_kernel.specs.LaneRows.{HaveRanks, IsInnerColumn};
+ghost use Rattle.drain_kernel.specs.Columns.{HasRankAt, KeepsRankedWayAt, is_ranked_at, keeps_direction_at, HaveRanks, IsInnerColumn};
 ghost use Rattle.drain_kernel.specs.Tests.{is_ranked, is_ranked_by_halves, keeps_direction};
 
 use crate::around::{least_across, least_straight, named};
@@ -110,7 +109,7 @@ impl ColumnTest for RanksTest<'_> {
     ghost Failed = { λ test k. is_ranked_at test.0.now k ≡ false };
 
     #[inline(always)]
-    #[tactic(auto, using(crate::proofs::RankHalves::by_halves))]
+    #[tactic(auto, using(crate::proofs::CappedSums::by_halves))]
     fn passes(&self, k: usize) -> bool {
         let rows = self.0;
         let here = rows.here;

@@ -1,8 +1,7 @@
 //! Tests of voids and of labels along columns, with the columns beside them.
 
 ghost use Rattle.std.specs.Prelude.{◌≡◌, ◌≤◌, ◌<◌, ◌+◌, IsTrue, slice_index};
-ghost use Rattle.drain_kernel.specs.Columns.{Along, IsDataRound, IsInlandAt, keeps_label_at};
-ghost use Rattle.drain_kernel.specs.LaneRows.{IsInnerColumn, IsStretch};
+ghost use Rattle.drain_kernel.specs.Columns.{Along, IsDataRound, IsInlandAt, keeps_label_at, IsInnerColumn, IsStretch};
 ghost use Rattle.drain_kernel.specs.Shown.{cols};
 
 use crate::column_test::passes_along;
@@ -30,7 +29,7 @@ pub fn is_inland(rows: &LaneRows, k: usize) -> bool
 }
 
 /// Whether the cells and their neighbours all have data.
-#[tactic(auto, using(crate::proofs::Alongs::inland))]
+#[tactic(auto, using(crate::proofs::VouchedNumbers::inland))]
 pub fn all_inland(rows: &LaneRows, from: usize, end: usize) -> bool
     requires { IsStretch rows.now from end }
     ensures { IsTrue result → Along from end (IsInlandAt rows.now) }
@@ -39,7 +38,7 @@ pub fn all_inland(rows: &LaneRows, from: usize, end: usize) -> bool
 }
 
 /// Whether the cells and their neighbours have one label.
-#[tactic(auto, using(crate::proofs::Labels::one_label))]
+#[tactic(auto, using(crate::proofs::RightOutlets::one_label))]
 pub fn have_one_label(rows: &LaneRows, from: usize, end: usize) -> bool
     requires { IsStretch rows.now from end }
     ensures led { IsTrue result → Along from end (λ k. IsTrue (keeps_label_at rows.now k)) }

@@ -2,8 +2,7 @@
 
 ghost use Rattle.std.specs.Prelude.{◌≤◌, IsTrue};
 ghost use Rattle.drain_grid.specs.Judged.{IfJudged, has_acc, has_rnk};
-ghost use Rattle.drain_kernel.specs.Columns.{adds_up_at, Along, HasWayAt, IsInlandAt, KeepsCountsAt, KeepsRankedWayAt, KeepsWayAt, PassesAt, RanksPassAt};
-ghost use Rattle.drain_kernel.specs.LaneRows.{HaveRanks, IsStretch};
+ghost use Rattle.drain_kernel.specs.Columns.{adds_up_at, Along, HasWayAt, IsInlandAt, KeepsCountsAt, KeepsRankedWayAt, KeepsWayAt, PassesAt, RanksPassAt, HaveRanks, IsStretch};
 
 use crate::column_test::passes_along;
 use crate::columns::{

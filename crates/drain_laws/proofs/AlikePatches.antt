@@ -17,7 +17,7 @@ use Rattle.drain_grid.specs.Patch.{neighbor, height, IsDataNeighbor, IsOpen, IsC
 use Rattle.drain_grid.specs.Slope.{slope_key, key_to, IsSteepest}
 use Rattle.drain_grid.specs.PatchRules.{BelowGroundHolds, NotLeastHolds, SlopeHolds, OutletCodeHolds, FlatStepHolds, AccumulationHolds, LabelHolds, VoidCellWithoutSpill, MissingWithoutSpill, BadCodeWithoutSpill, OpenRaisedWithoutSpill, inflow, check_rules}
 use Rattle.drain_grid.specs.Unranked.{VoidCellWithoutRank, MissingWithoutRank, LevelStepHolds, unranked}
-use Rattle.drain_grid.proofs.OpenAmong.{gap_from_void}
+use Rattle.drain_grid.proofs.OpenCells.{gap_from_void}
 use Rattle.drain_grid.proofs.WithoutRanks.{total-same}
 
 -- the numbers that rules without ranks look at, at a neighbour too

@@ -19,7 +19,7 @@ use Rattle.drain_grid.proofs.PatchDecisions.{has_lower, is_open, data_cell}
 use Rattle.drain_grid.proofs.Patches.{shown_cell}
 use Rattle.drain_grid.proofs.Slopes.{steepest_cell, IsSteepest-cell}
 use Rattle.drain_laws.proofs.NearEdges.{IsStepOn, rank_of, step_on}
-use Rattle.drain_laws.proofs.SameHeights.{steepest_there, open_there, open_back, low_there, low_back}
+use Rattle.drain_laws.proofs.SameWays.{steepest_there, open_there, open_back, low_there, low_back}
 use Rattle.drain_laws.proofs.SteepestWays.{some_steepest}
 
 module _ (g : Grid) (ps : Products) (drains : Drains g ps.con) where

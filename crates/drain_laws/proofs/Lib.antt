@@ -1,17 +1,13 @@
 mod AlikePatches
-mod MadePadding
 mod PaddedCells
-mod PaddedCounts
+mod PaddedVerdicts
 mod PaddedRules
 mod PaddedRuns
-mod PaddedVerdicts
 pub mod ChosenWays
 pub mod CorrectByWays
-pub mod LeastNumbers
+pub mod SameWays
 pub mod NearEdges
 pub mod OwnRasters
 pub mod PartLocal
-pub mod SameHeights
-pub mod SameWays
 pub mod SteepestWays
 pub mod SurfacePart

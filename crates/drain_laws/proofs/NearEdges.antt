@@ -11,12 +11,12 @@ use Rattle.drain_grid.specs.Grid.{Grid, Products, HasData, patch_at}
 use Rattle.drain_grid.specs.Patch.{IsOpen, HasLower}
 use Rattle.drain_grid.specs.Path.{IsPath, NeverRises, Drains}
 use Rattle.drain_grid.proofs.Decisions.{Decision, cases, both, either, same, some_direction}
-use Rattle.drain_grid.proofs.Least.{HasData-path}
+use Rattle.drain_grid.proofs.Lowered.{HasData-path}
 use Rattle.drain_grid.proofs.Neighbors.{direction_between, step_gives}
 use Rattle.drain_grid.proofs.PatchDecisions.{data_cell, has_lower, is_open}
 use Rattle.drain_grid.proofs.Patches.{IsOpen-patch_at}
 use Rattle.drain_grid.proofs.Slopes.{HasLower-lower_cell}
-use Rattle.drain_laws.proofs.LeastNumbers.{IsLeastNumber, least_number, least-le}
+use Rattle.drain_laws.proofs.SameWays.{IsLeastNumber, least_number, least-le}
 
 -- there is a cell, and the fact holds of it
 abbrev pub OfSome : Option Cell → (Cell → Type 0) → Type 0

@@ -2,13 +2,12 @@
 use Rattle.std.proofs.Common.{◌≡◌, ◌≢◌, ◌↔◌, ◌∙◌, ℕ, ℤ, pos, negsuc, if◌then◌else◌, Option, Some, None, IsNone, IsSome, is_some, refl, sym, ap}
 use Rattle.std.proofs.lemmas.Bool.{false≢true}
 use Rattle.drain_grid.specs.declared.cell.Cell.{Cell}
-use Rattle.drain_grid.specs.Certificate.{run_steps, RanksAreSteps}
+use Rattle.drain_grid.specs.Unranked.{run_steps, RanksAreSteps}
 use Rattle.drain_grid.specs.Extent.{index_of}
 use Rattle.drain_grid.specs.Grid.{Grid, Products, IsInside, HasData}
 use Rattle.drain_grid.specs.Run.{run_end, ShareBasin, upstream_count}
 use Rattle.drain_grid.specs.Values.{NoDataNumbers}
-use Rattle.drain_grid.proofs.Alike.{run_end-alike, run_steps-alike, upstream-alike}
-use Rattle.drain_grid.proofs.CellOrder.{same_index}
+use Rattle.drain_grid.proofs.Alike.{run_end-alike, run_steps-alike, upstream-alike, same_index}
 
 -- at a data cell the number, at a void -1
 pub from_counts : Grid → (Cell → ℕ) → Cell → ℤ

@@ -11,7 +11,7 @@ use Rattle.drain_grid.specs.Grid.{Grid, Products, IsInside, patch_at, values_at}
 use Rattle.drain_grid.specs.PatchRules.{check_rules}
 use Rattle.drain_grid.specs.Unranked.{unranked}
 use Rattle.drain_grid.specs.GridRules.{HoldsAt, SharedLabelHolds}
-use Rattle.drain_grid.proofs.Options.{void_data}
+use Rattle.drain_grid.proofs.Tallies.{void_data}
 use Rattle.drain_laws.specs.Padding.{ArePadded, ArePaddedRanks}
 use Rattle.drain_laws.specs.Laws.{AreKept}
 use Rattle.drain_laws.proofs.AlikePatches.{alike_turned, ranks_turned, unranked_there, check_there}

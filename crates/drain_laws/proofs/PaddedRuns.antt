@@ -12,14 +12,13 @@ use Rattle.drain_grid.specs.Extent.{same_cell, step}
 use Rattle.drain_grid.specs.Values.{NoDataNumbers}
 use Rattle.drain_grid.specs.Grid.{Grid, Products, IsInside, HasData}
 use Rattle.drain_grid.specs.Run.{only_data, next, continued, steps_from, last_from, run_end, RunEnds, drains_through}
-use Rattle.drain_grid.proofs.EndedRuns.{HasData-next, steps-more}
-use Rattle.drain_grid.proofs.Runs.{cell_count, steps-next}
+use Rattle.drain_grid.proofs.Runs.{HasData-next, steps-more, cell_count, steps-next}
 use Rattle.drain_grid.proofs.Walks.{EndsAfter-zero}
 use Rattle.drain_paths.proofs.Shorter.{RunEnds-before}
 use Rattle.drain_laws.specs.Padding.{ArePadded}
 use Rattle.drain_laws.specs.Laws.{PaddingKeepsSteps, PaddingKeepsRuns, PaddingKeepsFirstEndless, PaddingKeepsAccumulation, PaddingKeepsBasins}
 use Rattle.drain_laws.proofs.PaddedCells.{step_alike, within, data_there, data_back}
-use Rattle.drain_laws.proofs.PaddedCounts.{padding_keeps_tallies}
+use Rattle.drain_laws.proofs.PaddedVerdicts.{padding_keeps_tallies}
 
 only_none : (g : Grid) (o : Option Cell) → ((n : Cell) → o ≡ Some n → IsNone (g.elevation n)) → option_and_then (only_data g) o ≡ None
 only_none g None none = refl

@@ -7,21 +7,19 @@ use Rattle.std.proofs.lemmas.Bool.{false≢true}
 use Rattle.drain_grid.specs.declared.cell.Cell.{Cell}
 use Rattle.drain_grid.specs.declared.rule.Rule.{Rule}
 use Rattle.drain_grid.specs.declared.rule.Rule.TheVariants.{VoidCell, Missing, BelowGround, OpenRaised, NoSpill, SpillHeight, SpillRank, NotLeast, Slope, OutletCode, FlatStep, Accumulation, Label, SharedLabel}
-use Rattle.drain_grid.specs.Certificate.{RanksAreSteps}
+use Rattle.drain_grid.specs.Unranked.{RanksAreSteps, unranked}
 use Rattle.drain_grid.specs.Grid.{Grid, Products, IsInside, HasData, patch_at, values_at}
 use Rattle.drain_grid.specs.GridRules.{HoldsAt, RulesHold, SharedLabelHolds}
 use Rattle.drain_grid.specs.PatchRules.{AccumulationHolds, LabelHolds}
 use Rattle.drain_grid.specs.Rule.{IsBetween, IsFillRule, IsWayRule, IsCountRule, IsLabelRule}
 use Rattle.drain_grid.specs.Run.{RunEnds}
-use Rattle.drain_grid.specs.Unranked.{unranked}
 use Rattle.drain_grid.specs.Values.{NoDataNumbers}
 use Rattle.drain_grid.proofs.Alike.{RunEnds-alike}
 use Rattle.drain_grid.proofs.Exactly.{correct_is_local}
 use Rattle.drain_grid.specs.declared.judged.Judged.{Judged}
 use Rattle.drain_grid.specs.declared.judged.Judged.TheVariants.{Con, ConDir, ConDirAcc, ConDirBas, All, AllWithRanks}
 use Rattle.drain_grid.specs.Judged.{IfJudged, has_acc, has_bas, has_dir}
-use Rattle.drain_laws.specs.PartLaws.{PartIsLocal}
-use Rattle.drain_laws.specs.PartOf.{IsPartOfCorrect, IsSomeWays, joined, joined_numbers}
+use Rattle.drain_laws.specs.PartOf.{PartIsLocal, IsPartOfCorrect, IsSomeWays, joined, joined_numbers}
 use Rattle.drain_grid.specs.RulesAbout.{IsBlankPart, IsCompletePart, IsPartRule, part_rules}
 use Rattle.drain_rules.proofs.RightVoids.{if_judged}
 use Rattle.drain_laws.proofs.CorrectByWays.{correct_by_ways, counts_by_rules, labels_by_rules, sound}

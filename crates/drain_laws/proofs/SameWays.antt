@@ -1,26 +1,95 @@
 -- The rules on heights and directions look at these alone: they hold of products where they hold of others with the
 -- same heights and directions. The rule on the accumulation looks at this too, and that on labels at these.
-use Rattle.std.proofs.Common.{◌≡◌, ◌∙◌, pos, ◌+ℤ◌, ◌≤ℤ◌, Option, Some, None, option_map, refl, sym, ap, subst, arith}
-use Rattle.std.specs.Int.{int_max}
 use Rattle.drain_grid.specs.declared.cell.Cell.{Cell}
+use Rattle.drain_grid.specs.Grid.{Grid, Products, IsInside, patch_at, HasData, height_at, values_at}
+use Rattle.drain_grid.specs.Patch.{IsOpen, HasLower, neighbor}
+use Rattle.drain_grid.specs.Run.{IsLowerCell, IsSteepestCell}
+use Rattle.drain_grid.proofs.Patches.{IsOpen-patch_at, neighbor-patch_at, cell_shown, shown_cell}
+use Rattle.drain_grid.proofs.Slopes.{lower_shown, HasLower-lower_cell, steepest_cell, IsSteepest-cell}
+use Rattle.drain_grid.specs.declared.judged.Judged.TheVariants.{Con, ConDir, ConDirAcc, ConDirBas}
+use Rattle.drain_laws.specs.PartOf.{joined}
+use Rattle.std.proofs.Common.{ℕ, zero, suc, ◌<◌, ◌≤◌, ◌⊎◌, inl, inr, subst, arith, ◌≡◌, ◌∙◌, pos, ◌+ℤ◌, ◌≤ℤ◌, Option, Some, None, option_map, refl, sym, ap}
+use Rattle.std.proofs.lemmas.Bool.{cases_lt, cases_order}
+use Rattle.drain_grid.proofs.Decisions.{Decision, cases}
+use Rattle.std.specs.Int.{int_max}
 use Rattle.drain_grid.specs.declared.direction.Direction.{Direction}
 use Rattle.drain_grid.specs.declared.rule.Rule.{Rule}
 use Rattle.drain_grid.specs.declared.rule.Rule.TheVariants.{VoidCell, Missing, OpenRaised, NotLeast, Slope, OutletCode, FlatStep, Accumulation, Label, SharedLabel}
 use Rattle.drain_grid.specs.Direction.{directions}
 use Rattle.drain_grid.specs.Extent.{step}
 use Rattle.drain_grid.specs.Values.{Values, NoDataNumbers}
-use Rattle.drain_grid.specs.Patch.{neighbor}
 use Rattle.drain_grid.specs.PatchRules.{inflow, NotLeastHolds, SlopeHolds, OutletCodeHolds, AccumulationHolds, LabelHolds, OpenRaisedWithoutSpill}
 use Rattle.drain_grid.specs.Unranked.{unranked, LevelStepHolds}
 use Rattle.drain_grid.specs.Rule.{IsBetween}
-use Rattle.drain_grid.specs.Grid.{Grid, Products, IsInside, HasData, height_at, values_at, patch_at}
 use Rattle.drain_grid.specs.GridRules.{HoldsAt}
-use Rattle.drain_grid.proofs.Patches.{neighbor-patch_at, cell_shown, shown_cell}
-use Rattle.drain_grid.proofs.Slopes.{steepest_cell, IsSteepest-cell}
 use Rattle.drain_grid.proofs.WithoutRanks.{total-same}
-use Rattle.drain_grid.specs.declared.judged.Judged.TheVariants.{ConDir, ConDirAcc, ConDirBas}
-use Rattle.drain_laws.specs.PartOf.{joined}
-use Rattle.drain_laws.proofs.SameHeights.{steepest_there, open_there, open_back, low_there, low_back}
+
+-- What is lower, steepest and open looks at heights alone.
+
+module _ (g : Grid) (ps rest : Products) where
+  lower_there : (c n : Cell) → IsLowerCell g ps c n → IsLowerCell g (joined Con ps rest) c n
+  lower_there c n h = record { from_data = h.from_data; to_data = h.to_data; beside = h.beside; below = h.below }
+
+  lower_back : (c n : Cell) → IsLowerCell g (joined Con ps rest) c n → IsLowerCell g ps c n
+  lower_back c n h = record { from_data = h.from_data; to_data = h.to_data; beside = h.beside; below = h.below }
+
+  pub steepest_there : (c n : Cell) → IsSteepestCell g ps c n → IsSteepestCell g (joined Con ps rest) c n
+  steepest_there c n h = record { lower = lower_there c n h.lower; greatest = λ m lower. h.greatest m (lower_back c m lower) }
+
+pub open_there : (g : Grid) (ps rest : Products) (c : Cell) → IsInside g c → IsOpen (patch_at g ps c) →
+    IsOpen (patch_at g (joined Con ps rest) c)
+open_there g ps rest c inside h = (IsOpen-patch_at g (joined Con ps rest) c inside).1 ((IsOpen-patch_at g ps c inside).0 h)
+
+pub low_there : (g : Grid) (ps rest : Products) (c : Cell) → IsInside g c → HasLower (patch_at g ps c) →
+    HasLower (patch_at g (joined Con ps rest) c)
+low_there g ps rest c inside low =
+    let lower = lower_shown g ps c low.1.0 low.1.1.0 (record { inside = inside; is_data = low.0 }) low.1.1.1 in
+    HasLower-lower_cell g (joined Con ps rest) c lower.0 (lower_there g ps rest c lower.0 lower.1.1)
+
+pub open_back : (g : Grid) (ps rest : Products) (c : Cell) → IsInside g c → IsOpen (patch_at g (joined Con ps rest) c) → IsOpen (patch_at g ps c)
+open_back g ps rest c inside h = open_there g (joined Con ps rest) ps c inside h
+
+pub low_back : (g : Grid) (ps rest : Products) (c : Cell) → IsInside g c → HasLower (patch_at g (joined Con ps rest) c) → HasLower (patch_at g ps c)
+low_back g ps rest c inside h = low_there g (joined Con ps rest) ps c inside h
+
+-- The least number of which a fact holds, where the fact is decided of each number and holds of one.
+
+-- the fact holds of this number, and of none before
+pub record IsLeastNumber (P : ℕ → Type 0) (m : ℕ) : Type 0 where
+  pub holds : P m
+  pub none_before : (j : ℕ) → j < m → ¬ P j
+
+first_below : {P : ℕ → Type 0} → ((k : ℕ) → Decision (P k)) → (n : ℕ) → ((m : ℕ) × IsLeastNumber P m) ⊎ ((j : ℕ) → j < n → ¬ P j)
+first_below d zero = inr (λ j less h. absurd (omega arith))
+first_below {P} d (suc n) =
+    elim (first_below d n) [
+      | inl found ↦ inl found
+      | inr none ↦
+          elim (cases (d n)) [
+            | inl here ↦ inl (n, record { holds = here; none_before = none })
+            | inr fails ↦ inr (λ j less h.
+                elim (cases_order j n) [
+                  | inl same ↦ fails (subst P same h)
+                  | inr (inl before) ↦ none j before h
+                  | inr (inr after) ↦ absurd (omega arith)
+                ])
+          ]
+    ]
+
+pub least_number : {P : ℕ → Type 0} → ((k : ℕ) → Decision (P k)) → (k : ℕ) → P k → (m : ℕ) × IsLeastNumber P m
+least_number d k here =
+    elim (first_below d (suc k)) [
+      | inl found ↦ found
+      | inr none ↦ absurd (none k (omega arith) here)
+    ]
+
+-- the least number is at most any other
+pub least-le : {P : ℕ → Type 0} (m k : ℕ) → IsLeastNumber P m → P k → m ≤ k
+least-le m k least here =
+    elim (cases_lt k m) [
+      | inl before ↦ absurd (least.none_before k before here)
+      | inr past ↦ past
+    ]
 
 module _ (g : Grid) (ps rest : Products) (c : Cell) (inside : IsInside g c) where
   at_ground : OpenRaisedWithoutSpill (patch_at g ps c) → OpenRaisedWithoutSpill (patch_at g (joined ConDir ps rest) c)

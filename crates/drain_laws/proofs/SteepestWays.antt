@@ -9,7 +9,7 @@ use Rattle.drain_grid.specs.Patch.{neighbor, IsLower, IsLowerAt, HasLower}
 use Rattle.drain_grid.specs.Slope.{key_to, IsSteepest}
 use Rattle.drain_grid.specs.Values.{Values}
 use Rattle.drain_grid.proofs.Decisions.{cases}
-use Rattle.drain_grid.proofs.Options.{same_some}
+use Rattle.drain_grid.proofs.Tallies.{same_some}
 use Rattle.drain_grid.proofs.PatchDecisions.{is_lower_at}
 
 -- the direction is in the list

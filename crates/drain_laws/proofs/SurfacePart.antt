@@ -16,14 +16,12 @@ use Rattle.drain_grid.specs.Rule.{IsBetween, IsWayRule}
 use Rattle.drain_grid.specs.Run.{RunEnds}
 use Rattle.drain_grid.specs.Unranked.{unranked}
 use Rattle.drain_grid.specs.Values.{Values, NoDataNumbers}
-use Rattle.drain_grid.proofs.Least.{HasData-path}
-use Rattle.drain_grid.proofs.Lowered.{least_at_open, least_beside}
+use Rattle.drain_grid.proofs.Lowered.{HasData-path, least_at_open, least_beside}
 use Rattle.drain_grid.proofs.Neighbors.{AreNeighbors-lies}
 use Rattle.drain_grid.proofs.Patches.{IsOpen-patch_at, cell_shown}
 use Rattle.drain_grid.proofs.Runs.{runs_end}
 use Rattle.drain_grid.specs.declared.judged.Judged.TheVariants.{Con, ConDir}
-use Rattle.drain_laws.specs.PartLaws.{SurfaceIsPart}
-use Rattle.drain_laws.specs.PartOf.{IsPartOfCorrect, IsRightSurface, joined, joined_numbers}
+use Rattle.drain_laws.specs.PartOf.{SurfaceIsPart, IsPartOfCorrect, IsRightSurface, joined, joined_numbers}
 use Rattle.drain_grid.specs.RulesAbout.{IsPartRule, part_rules}
 use Rattle.drain_laws.proofs.ChosenWays.{routed, void_code, data_code, way_rules}
 use Rattle.drain_laws.proofs.PartLocal.{part_holds, to_part}

@@ -1,4 +1,3 @@
 pub mod Laws
 pub mod Padding
-pub mod PartLaws
 pub mod PartOf

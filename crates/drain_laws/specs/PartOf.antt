@@ -1,5 +1,5 @@
 -- What it means that judged rasters are right: they are part of a correct set.
-use Rattle.std.specs.Prelude.{◌≡◌, ◌≢◌, IsNone}
+use Rattle.std.specs.Prelude.{◌≡◌, ◌≢◌, IsNone, ◌↔◌}
 use Rattle.drain_grid.specs.declared.cell.Cell.{Cell}
 use Rattle.drain_grid.specs.Correct.{IsCorrect}
 use Rattle.drain_grid.specs.Grid.{Grid, Products, HasData, IsInside}
@@ -7,6 +7,9 @@ use Rattle.drain_grid.specs.Path.{IsLeastSurface}
 use Rattle.drain_grid.specs.Values.{NoDataNumbers}
 use Rattle.drain_grid.specs.declared.judged.Judged.{Judged}
 use Rattle.drain_grid.specs.declared.judged.Judged.TheVariants.{Con, ConDir, ConDirAcc, ConDirBas, All, AllWithRanks}
+use Rattle.drain_grid.specs.GridRules.{RulesHold}
+use Rattle.drain_grid.specs.Run.{RunEnds}
+use Rattle.drain_grid.specs.RulesAbout.{IsPartRule, part_rules}
 
 -- the judged rasters of one set, and the others of another
 abbrev pub joined : Judged → Products → Products → Products
@@ -53,3 +56,17 @@ AreRight ConDirAcc = IsPartOfCorrect ConDirAcc
 AreRight ConDirBas = IsPartOfCorrect ConDirBas
 AreRight All = IsCorrect
 AreRight AllWithRanks = IsCorrect
+
+-- What the rules about judged rasters mean together.
+
+-- judged rasters with directions are part of a correct set exactly where every path ends and every rule about them holds
+-- at every cell
+abbrev pub PartIsLocal : Type 0
+PartIsLocal =
+    (judged : Judged) (g : Grid) (ps : Products) (nodata : NoDataNumbers) → IsSomeWays judged →
+    IsPartOfCorrect judged g ps nodata ↔ (((c : Cell) → HasData g c → RunEnds g ps c) × RulesHold (part_rules judged nodata) (IsPartRule judged) g ps)
+
+-- given heights alone are part of a correct set exactly where they are the filled surface, with their no-data number
+-- exactly at voids
+abbrev pub SurfaceIsPart : Type 0
+SurfaceIsPart = (g : Grid) (ps : Products) (nodata : NoDataNumbers) → IsPartOfCorrect Con g ps nodata ↔ IsRightSurface g ps nodata

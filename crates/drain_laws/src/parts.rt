@@ -2,7 +2,7 @@
 //!
 //! A law is a function with an empty body: its contract is the law.
 
-ghost use Rattle.drain_laws.specs.PartLaws.{PartIsLocal, SurfaceIsPart};
+ghost use Rattle.drain_laws.specs.PartOf.{PartIsLocal, SurfaceIsPart};
 
 /// Judged rasters with directions are part of a correct set exactly if every path ends and every rule about them holds at
 /// every cell.

@@ -7,19 +7,16 @@ use Rattle.drain_grid.specs.declared.product.Product.TheVariants.{Spl}
 use Rattle.drain_grid.specs.SetProduct.{product_of}
 use Rattle.drain_grid.specs.declared.product_set.ProductSet.{ProductSet}
 use Rattle.drain_grid.specs.declared.sink_line.SinkLine.{SinkLine}
-use Rattle.drain_grid.specs.SinkLines.{is_listed}
-use Rattle.drain_grid.specs.SinkTexts.{sinks_of}
-use Rattle.drain_grid.specs.Extent.{IsCellOf, index_of}
+use Rattle.drain_grid.specs.SinkTexts.{is_listed, sinks_of}
+use Rattle.drain_grid.specs.Extent.{IsCellOf, index_of, Extent}
 use Rattle.drain_grid.specs.Product.{default_no_data, default_numbers}
-use Rattle.drain_grid.specs.Rasters.{Heights, Pixels}
-use Rattle.drain_grid.specs.Size.{Extent}
+use Rattle.drain_grid.specs.Grid.{Heights, Pixels}
 use Rattle.drain_grid.specs.Values.{NoDataNumbers}
-use Rattle.drain_grid.specs.Whole.{number_at}
+use Rattle.drain_grid.specs.WholeGrid.{number_at, raster_in}
 use Rattle.drain_grid.specs.WholeGrid as whole
-use Rattle.drain_grid.specs.WholeGrid.{raster_in}
 use Rattle.drain_header.specs.declared.fault.HeaderFault.{HeaderFault}
 use Rattle.drain_header.specs.Faults.{Answers, Describes}
-use Rattle.drain_header.specs.Fields.{Fields}
+use Rattle.drain_header.specs.Header.{Fields}
 use Rattle.drain_header.specs.Laws.{TextReadsBack}
 use Rattle.drain_raster.specs.Bytes.{raster_bytes}
 use Rattle.drain_raster.specs.Laws.{ReadBack, BytesReadBack, NumbersArePixels}
@@ -36,7 +33,7 @@ use Rattle.drain_verdict.specs.Meaning.{tiling_of, input_grid, listed_in, lines_
 use Rattle.drain_verdict.specs.Refusals.{HasShape, IsPlaced}
 use Rattle.drain_maker.specs.Mosaics.{IsMosaicOf}
 use Rattle.drain_verdict.specs.Answers.{AreReadable, IsAnswer}
-use Rattle.drain_maker.specs.Headers.{made_header}
+use Rattle.drain_maker.specs.ProductFiles.{made_header}
 use Rattle.drain_maker.specs.Made.{AreMade, AreOnData}
 use Rattle.drain_maker.specs.Accepted.{AreNamed, AreFilesOf, IsMadeAcceptance, MadeIsAccepted}
 use Rattle.drain_grid.proofs.ByProduct.{none_of_held}

@@ -2,13 +2,12 @@
 -- three is one about what is derived.
 use Rattle.std.proofs.Common.{◌≡◌, ◌≢◌, ◌∙◌, ◌==◌, ◌||◌, ℤ, ◌-ℤ◌, ◌≤ℤ◌, ◌<ℤ◌, inl, inr, Option, Some, option_and_then, refl, sym, ap, subst}
 use Rattle.drain_grid.specs.declared.cell.Cell.{Cell}
-use Rattle.drain_grid.specs.Certificate.{RanksAreSteps}
+use Rattle.drain_grid.specs.Unranked.{RanksAreSteps}
 use Rattle.drain_grid.specs.Correct.{IsCorrect, NeverClimbs}
 use Rattle.drain_grid.specs.Direction.{named_direction}
 use Rattle.drain_grid.specs.Extent.{step}
-use Rattle.drain_grid.specs.Grid.{Grid, Products}
+use Rattle.drain_grid.specs.Grid.{Grid, Products, Pixels}
 use Rattle.drain_grid.specs.Path.{IsLeastSurface}
-use Rattle.drain_grid.specs.Rasters.{Pixels}
 use Rattle.drain_grid.specs.Run.{IsLowerCell, IsSteepestCell, IsFlatCell, IsOutlet, only_data, next}
 use Rattle.drain_grid.specs.Slope.{slope_key}
 use Rattle.drain_grid.specs.Values.{NoDataNumbers}
@@ -16,8 +15,7 @@ use Rattle.drain_grid.proofs.AllRules.{correct_from_rules}
 use Rattle.drain_grid.proofs.FromCorrect.{rules_from_correct}
 use Rattle.drain_paths.specs.Laws.{AreRouted}
 use Rattle.drain_paths.proofs.Completing.{routed_part, with_counts}
-use Rattle.drain_maker.specs.Derived.{AreDerived}
-use Rattle.drain_maker.specs.DerivedLaws.{with_derived, AreDefaultBut, DerivedCompletes}
+use Rattle.drain_maker.specs.Derived.{AreDerived, with_derived, AreDefaultBut, DerivedCompletes}
 
 lower : (g : Grid) (ps qs : Products) → ps.con ≡ qs.con → (c n : Cell) → IsLowerCell g ps c n → IsLowerCell g qs c n
 lower g ps qs con c n h = record {

@@ -1,20 +1,113 @@
 -- Rasters of counts, labels and steps that are right.
-use Rattle.std.proofs.Common.{◌≡◌, ◌∙◌, ℕ, pos, List, map, sym, ap, rules}
+use Rattle.std.proofs.Common.{ℤ, Bool, Option, subst, ◌≡◌, ◌↔◌, Result, Ok, Err, IfOk, IfErr, IsErrOf, refl, sym, ◌∙◌, ℕ, pos, List, map, ap, rules}
 use Rattle.drain_grid.specs.declared.cell.Cell.{Cell}
+use Rattle.drain_grid.specs.Grid.{Grid, Products, HasData, Pixels}
+use Rattle.drain_grid.specs.Extent.{Extent}
+use Rattle.drain_paths.specs.Basins.{ends_before, AreBasinLabels}
+use Rattle.drain_maker.specs.Derived.{AreDerived, DerivedByDirections, IsDeriveRefusal, IsFlowsRefusal, IsRefusalFor}
+use Rattle.drain_paths.specs.declared.flow.CertifyRefusal.{CertifyRefusal}
+use Rattle.drain_answer.specs.declared.refusal.Refusal.{Refusal}
+use Rattle.drain_answer.specs.declared.refusal.Refusal.TheVariants.{OutOfMemory, ReadFailed}
+use Rattle.drain_verdict.specs.Answers.{AreReadable, IsRefusal}
+use Rattle.drain_verdict.specs.Inputs.{Inputs}
+use Rattle.drain_verdict.specs.Meaning.{input_grid, input_products}
+use Rattle.drain_verdict.specs.Refusals.{IsOfBodies}
+use Rattle.drain_maker.specs.declared.derivation.DeriveRefusal.{DeriveRefusal}
+use Rattle.drain_maker.specs.declared.derivation.DeriveRefusal.TheVariants.{Refused, NoEnd}
 use Rattle.drain_grid.specs.declared.product.Product.{Product}
 use Rattle.drain_grid.specs.declared.product.Product.TheVariants.{Acc, Bas, Rnk}
-use Rattle.drain_grid.specs.Grid.{Grid, Products}
 use Rattle.drain_grid.specs.Product.{default_no_data}
-use Rattle.drain_grid.specs.Rasters.{Pixels}
-use Rattle.drain_grid.specs.Size.{Extent}
-use Rattle.drain_grid.specs.Whole.{number_at}
-use Rattle.drain_paths.specs.Basins.{AreBasinLabels}
+use Rattle.drain_grid.specs.WholeGrid.{number_at}
 use Rattle.drain_paths.specs.CellNumbers.{cell_number}
-use Rattle.drain_paths.specs.Upstream.{AreUpstreamCounts}
+use Rattle.drain_paths.specs.Inflows.{AreUpstreamCounts}
 use Rattle.drain_paths.proofs.Completing.{upstream_some}
-use Rattle.drain_paths.proofs.RankLemmas.{number_at-raster}
-use Rattle.drain_maker.specs.Derived.{AreDerived}
-use Rattle.drain_paths.specs.RunSteps.{AreRunSteps}
+use Rattle.drain_paths.proofs.StepLemmas.{number_at-raster}
+use Rattle.drain_paths.specs.Walks.{AreRunSteps}
+use Rattle.drain_paths.specs.declared.flow.CertifyRefusal.TheVariants as certify
+use Rattle.drain_paths.specs.Ways as certified
+
+-- Nothing that is derived looks at sinks, or at a product but dir.
+
+-- the grid with other sinks
+abbrev pub with_sinks : Grid → (Cell → Bool) → Grid
+with_sinks g sink = record { extent = g.extent; elevation = g.elevation; sink = sink }
+
+-- the products with these directions
+abbrev pub with_dir : Products → (Cell → ℤ) → Products
+with_dir qs dir = record { con = qs.con; dir = dir; acc = qs.acc; bas = qs.bas; spl = qs.spl; rnk = qs.rnk }
+
+others : (g : Grid) (sink : Cell → Bool) (ps qs : Products) (acc bas rnk : Pixels) → AreDerived g ps acc bas rnk →
+    AreDerived (with_sinks g sink) (with_dir qs ps.dir) acc bas rnk
+unfolding ends_before
+others g sink ps qs acc bas rnk derived =
+    let at : (c : Cell) → HasData (with_sinks g sink) c → HasData g c = λ c here. record { inside = here.inside; is_data = here.is_data } in
+    record {
+      acc_extent = derived.acc_extent;
+      bas_extent = derived.bas_extent;
+      rnk_extent = derived.rnk_extent;
+      acc_nodata = derived.acc_nodata;
+      bas_nodata = derived.bas_nodata;
+      rnk_nodata = derived.rnk_nodata;
+      ends = λ c here. derived.ends c (at c here);
+      counts = λ c here. derived.counts c (at c here);
+      numbered = λ c here. derived.numbered c (at c here);
+      labels = λ a b at_a at_b. derived.labels a b (at a at_a) (at b at_b);
+      steps = λ c here. derived.steps c (at c here);
+      void_acc = derived.void_acc;
+      void_bas = derived.void_bas;
+      void_rnk = derived.void_rnk;
+      data_acc = λ c here. derived.data_acc c (at c here);
+      data_bas = λ c here. derived.data_bas c (at c here);
+      data_rnk = λ c here. derived.data_rnk c (at c here);
+    }
+
+pub derived_by_directions : DerivedByDirections
+derived_by_directions g h ps qs acc bas rnk extent elevation dir derived =
+    subst (λ (e : Extent). AreDerived (record { extent = e; elevation = h.elevation; sink = h.sink }) qs acc bas rnk) extent
+    (subst (λ (z : Cell → Option ℤ). AreDerived (record { extent = g.extent; elevation = z; sink = h.sink }) qs acc bas rnk) elevation
+    (subst (λ (d : Cell → ℤ). AreDerived (with_sinks g h.sink) (with_dir qs d) acc bas rnk) dir (others g h.sink ps qs acc bas rnk derived)))
+
+-- Answers to what was read: which say that memory ran out, and none that a read failed.
+
+-- what holds of a value holds of an answer with that value
+pub if_same : {A B : Type 0} (answer : Result A B) (a : A) (P : A → Type 0) → IfOk answer (λ x. x ≡ a) → P a → IfOk answer P
+if_same (Ok x) a P same holds = subst P (sym same) holds
+if_same (Err why) a P same holds = tt
+
+-- what holds of no memory holds of an answer that says no more
+pub of_memory_says_nothing : {A : Type 0} (answer : Result A Refusal) (P : Refusal → Type 0) → IfErr answer (λ refusal. refusal ≡ OutOfMemory) → P OutOfMemory → IfErr answer P
+of_memory_says_nothing (Ok x) P same holds = tt
+of_memory_says_nothing (Err why) P same holds = subst P (sym same) holds
+
+-- no read failed where all was read, nor where memory ran out then
+no_memory_alone : {A : Type 0} (answer : Result A Refusal) → IfErr answer (λ refusal. refusal ≡ OutOfMemory) → ¬ IsErrOf answer ReadFailed
+no_memory_alone (Ok x) of_memory is = cc
+no_memory_alone (Err why) of_memory is = (let same : why ≡ ReadFailed = cc in let memory : why ≡ OutOfMemory = of_memory in cc)
+
+pub counted_alike : {A B : Type 0} (read : A) (answer : Result B Refusal) → IfErr answer (λ refusal. refusal ≡ OutOfMemory) →
+    IsErrOf {T = A} (Ok read) ReadFailed ↔ IsErrOf answer ReadFailed
+counted_alike read answer of_memory = ((λ is. absurd (let no = is in cc)), (λ is. absurd (no_memory_alone answer of_memory is)))
+
+-- and that memory ran out says nothing of devices
+pub counted_untouched : {A : Type 0} (Same : Type 0) (answer : Result A Refusal) → IfErr answer (λ refusal. refusal ≡ OutOfMemory) →
+    IfErr answer (λ refusal. ¬ IsOfBodies refusal → Same)
+counted_untouched Same (Ok x) of_memory = tt
+counted_untouched Same (Err why) of_memory = λ not. absurd (not (subst IsOfBodies (sym of_memory) tt))
+
+-- what follows from two facts about an answer
+pub if_ok_both : {A B : Type 0} (answer : Result A B) (P Q R : A → Type 0) → IfOk answer P → IfOk answer Q → ((a : A) → P a → Q a → R a) → IfOk answer R
+if_ok_both (Ok a) P Q R one other both = both a one other
+if_ok_both (Err why) P Q R one other both = tt
+
+-- a refusal of flows, as one of this crate
+pub flows_refusal : (g : Grid) (ps : Products) (refusal : CertifyRefusal) (why : DeriveRefusal) → IsRefusalFor refusal why → certified.IsRankRefusal g ps refusal → IsFlowsRefusal g ps why
+flows_refusal g ps (certify.NoEnd c) why is first = subst (IsFlowsRefusal g ps) (sym is) first
+flows_refusal g ps certify.OutOfMemory why is none = subst (IsFlowsRefusal g ps) (sym is) refl
+
+-- and as one of the inputs whose flows they are
+pub derive_refusal : (i : Inputs) (why : DeriveRefusal) → AreReadable i → IsFlowsRefusal (input_grid i) (input_products i) why → IsDeriveRefusal i why
+derive_refusal i (Refused refusal) readable is = subst (IsRefusal i) (sym is) tt
+derive_refusal i (NoEnd row col) readable first = (readable, first)
 
 -- the raster of a product with these numbers
 abbrev pub counts_raster : Extent → Product → List ℕ → Pixels

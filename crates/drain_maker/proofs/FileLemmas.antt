@@ -1,33 +1,56 @@
 -- From the writes of single files to those of a set.
-use Rattle.std.proofs.Common.{◌≡◌, ◌↔◌, ℕ, zero, suc, ◌+◌, ◌<◌, ◌≤◌, inl, inr, List, [], ◌∷◌, ◌++◌, length, map, slice_index_or, Option, Some, None, Result, Ok, Err, IsErrOf, arith, refl, sym, ap, ◌∙◌, length-append, append_assoc, append-nil}
+use Rattle.std.proofs.Common.{◌≡◌, ◌*◌, ◌^◌, ◌<◌, ℕ, ℤ, pos, List, true, false, map, length, get_or, arith, ◌↔◌, zero, suc, ◌+◌, ◌≤◌, inl, inr, [], ◌∷◌, ◌++◌, slice_index_or, Option, Some, None, Result, Ok, Err, IsErrOf, refl, sym, ap, ◌∙◌, length-append, append_assoc, append-nil}
+use Rattle.std.specs.List.{All}
+use Rattle.std.proofs.lemmas.Int.{ints}
+use Rattle.std.proofs.lemmas.List.Elements.{All-get_or, All-map}
+use Rattle.drain_grid.specs.declared.cell.Cell.{Cell}
+use Rattle.drain_grid.specs.Extent.{IsCellOf, index_of}
+use Rattle.drain_grid.specs.Grid.{Pixels}
+use Rattle.drain_grid.specs.WholeGrid.{number_at, raster_in}
+use Rattle.drain_grid.proofs.Runs.{index_of-below}
+use Rattle.drain_grid.specs.declared.product_set.ProductSet.{ProductSet}
+use Rattle.drain_grid.specs.declared.set_product.SetProduct.TheVariants.{Con, Dir, Acc, Bas, Rnk}
+use Rattle.drain_raster.specs.Bytes.{CanSpellAllIn, CanSpellIn, CanSpellAll, IsFirstOutOfRange, raster_bytes}
+use Rattle.drain_maker.specs.Made.{AreMadeSpelled, CanBeWritten}
 use Rattle.std.specs.Prelude.{slice_set}
 use Rattle.std.specs.Io.KnownBytes.{Appends}
-use Rattle.drain_device.specs.Devices.{Sink}
-use Rattle.drain_device.specs.Failing.{WriteFails}
-use Rattle.drain_device.specs.Writes.{HandsOver}
-use Rattle.drain_device.specs.Patience.{full_patience, GivesUpWriting}
+use Rattle.drain_device.specs.Failing.{Sink, WriteFails, full_patience, GivesUpWriting}
+use Rattle.drain_device.specs.Counts.{HandsOver}
 use Rattle.std.proofs.lemmas.List.{get_or-map}
-use Rattle.drain_grid.specs.declared.product_set.ProductSet.{ProductSet}
 use Rattle.drain_grid.specs.declared.set_product.SetProduct.{SetProduct}
-use Rattle.drain_grid.specs.declared.set_product.SetProduct.TheVariants.{Con, Dir, Acc, Bas, Rnk}
-use Rattle.drain_grid.specs.WholeGrid.{raster_in}
-use Rattle.drain_header.specs.Fields.{Fields}
+use Rattle.drain_header.specs.Header.{Fields}
 use Rattle.drain_header.specs.Text.{text_of, shape_lines, pixel_lines, place_lines, nodata_line, line}
 use Rattle.drain_mosaic.specs.Tiling.{Tiling, extent_of}
-use Rattle.drain_grid.specs.declared.cell.Cell.{Cell}
-use Rattle.drain_grid.specs.Rasters.{Pixels}
 use Rattle.drain_raster.specs.declared.fault.WriteFault.{WriteFault}
-use Rattle.drain_raster.specs.declared.fault.WriteFault.TheVariants as write
-use Rattle.drain_raster.specs.Bytes.{CanSpellAll, IsFirstOutOfRange, raster_bytes}
 use Rattle.drain_maker.specs.declared.product_files.SetFault.{SetFault}
 use Rattle.drain_maker.specs.declared.product_files.SetFault.TheVariants.{WriteFailed, OutOfMemory}
 use Rattle.drain_maker.specs.declared.product_files.SetFile.{SetFile}
 use Rattle.drain_maker.specs.declared.product_files.TheConstants.{SET_FILES, DERIVED_COUNT, DERIVED_FILES}
-use Rattle.drain_maker.specs.declared.derived.Derived.{Derived}
+use Rattle.drain_maker.specs.declared.derivation.Derived.{Derived}
 use Rattle.drain_maker.specs.Derived.{AreCounts}
-use Rattle.drain_maker.specs.Made.{CanBeWritten}
 use Rattle.drain_maker.specs.ProductFiles.{CanBeDerived, FitHeaders, IsDerived, WritesFile, WritesFiles, derived_bytes, derived_raster, file_bytes, set_bytes}
-use Rattle.drain_maker.proofs.ListPlaces.{get-seam, set-seam}
+use Rattle.drain_maker.proofs.TileLists.{get-seam, set-seam}
+use Rattle.drain_raster.specs.declared.fault.WriteFault.TheVariants as write
+
+-- What holds of each number of a raster holds of the number at each cell; and numbers of n bits fit them.
+
+pub at_each_cell : (P : ℤ → Type 0) (p : Pixels) → length p.numbers ≡ p.extent.rows * p.extent.cols → All P p.numbers → (c : Cell) → IsCellOf p.extent c → P (number_at p c)
+at_each_cell P p counted each c inside =
+    let place = index_of-below p.extent c inside in
+    All-get_or P p.numbers (index_of p.extent c) (pos 0) (omega (arith, place, counted)) each
+
+-- numbers without a sign
+pub are_spelled : (bits : ℕ) (xs : List ℕ) → ((i d : ℕ) → i < length xs → get_or xs i d < 2 ^ bits) → All (CanSpellIn false bits) (map (λ n. pos n) xs)
+are_spelled bits xs fit = All-map (CanSpellIn false bits) (λ n. pos n) xs (λ i d less. let h = fit i d less in record { low = omega (arith, ints, h); high = omega (arith, ints, h) })
+
+-- what can be encoded of each raster of a product set can be of all
+pub each_spelled : (ps : ProductSet) → CanSpellAllIn true 16 ps.con → CanSpellAllIn false 8 ps.dir → CanSpellAllIn false 32 ps.acc →
+    CanSpellAllIn false 32 ps.bas → CanSpellAllIn false 32 ps.rnk → AreMadeSpelled ps
+each_spelled ps con dir acc bas rnk Con = con
+each_spelled ps con dir acc bas rnk Dir = dir
+each_spelled ps con dir acc bas rnk Acc = acc
+each_spelled ps con dir acc bas rnk Bas = bas
+each_spelled ps con dir acc bas rnk Rnk = rnk
 
 -- no byte was taken
 appends-nothing : (taken : Option (List ℕ)) → Appends taken taken []

@@ -6,12 +6,12 @@ use Rattle.drain_grid.specs.declared.degree.TheConstants.{UNITS_PER_DEGREE}
 use Rattle.drain_grid.specs.declared.product.Product.{Product}
 use Rattle.drain_grid.specs.declared.product.Product.TheVariants.{Con, Dir, Acc, Bas, Spl, Rnk}
 use Rattle.drain_grid.specs.Product.{default_no_data}
-use Rattle.drain_grid.specs.Tile.{IsSide}
+use Rattle.drain_grid.specs.Grid.{IsSide}
 use Rattle.drain_grid.specs.Values.{IsNoData}
-use Rattle.drain_header.specs.Fields.{IsPixelSize, IsCoordinate, AreWithinBounds}
+use Rattle.drain_header.specs.Header.{IsPixelSize, IsCoordinate, AreWithinBounds}
 use Rattle.drain_mosaic.specs.Tiling.{Tiling, west_of, north_of, west_edge, north_edge, tiles_down, tiles_across}
 use Rattle.drain_verdict.specs.Refusals.{IsPlaced}
-use Rattle.drain_maker.specs.Headers.{bits_of, made_header, mosaic_place}
+use Rattle.drain_maker.specs.ProductFiles.{bits_of, made_header, mosaic_place}
 use Rattle.drain_maker.proofs.Placing.{IsNear, spacing, no_way}
 
 -- a tiling of at most 8 by 8 tiles of a lawful side, whose edges are degrees

@@ -1,35 +1,121 @@
 -- What the stages of tiles alone say of the inputs: their mosaic, or the first refusal of the tiles, in the order of a
 -- check without the products.
-use Rattle.std.proofs.Common.{◌≡◌, ℕ, ◌<◌, List, ℤ, arith, refl, ap, subst, ◌∙◌}
-use Rattle.std.specs.Prelude.{Option}
-use Rattle.std.specs.List.{All}
-use Rattle.drain_grid.specs.Size.{Extent}
-use Rattle.drain_grid.specs.Extent.{IsCellOf, index_of}
-use Rattle.drain_text.specs.First.{IsFirst}
-use Rattle.drain_grid.specs.Rasters.{Heights}
-use Rattle.drain_grid.specs.Whole.{elevation_at}
-use Rattle.drain_hgt.specs.declared.input.TileInput.{TileInput}
-use Rattle.drain_hgt.specs.Laws.{OneName}
-use Rattle.drain_hgt.specs.Samples.{IsTile}
-use Rattle.drain_hgt.specs.Inputs.{names_of}
+use Rattle.std.proofs.Common.{◌≡◌, is_some, ℕ, true, false, List, length, Option, inl, inr, arith, refl, sym, ◌∙◌, ℤ, Some, None, map, subst, ◌≢◌, ◌+◌, take, ap, ◌<◌}
+use Rattle.std.proofs.lemmas.Bool.{cases_lt, lt-ltb, le-ltb}
+use Rattle.drain_grid.specs.declared.cell.Cell.{Cell}
+use Rattle.drain_grid.specs.declared.sink_line.SinkLine.{SinkLine}
+use Rattle.drain_grid.specs.Grid.{HasData, Heights}
+use Rattle.drain_grid.specs.OffData.{FoundOffDataIsRight, IsLeastOff, IsOffAnswer, has_data}
+use Rattle.drain_grid.specs.WholeGrid.{elevation_at, grid_of}
+use Rattle.drain_grid.specs.Extent.{IsCellOf, Extent, index_of}
+use Rattle.drain_hgt.specs.Samples.{samples_of, IsTile, tile_length}
+use Rattle.drain_mosaic.specs.declared.seams.SeamFault.{SeamFault}
 use Rattle.drain_mosaic.specs.Tiling.{Tiling, extent_of}
-use Rattle.drain_mosaic.specs.Mosaic as mosaic
+use Rattle.drain_mosaic.specs.Mosaic.{first_value}
 use Rattle.drain_mosaic.specs.Laws.{AgreementGivesElevation}
 use Rattle.drain_answer.specs.declared.refusal.Refusal.{Refusal}
-use Rattle.drain_answer.specs.declared.refusal.Refusal.TheVariants.{BadSide, BadName, NoTiles, RepeatedTile, BoxTooLarge, BadTileLength, SeamMismatch, OutOfMemory, ReadFailed}
 use Rattle.drain_verdict.specs.Inputs.{Inputs}
 use Rattle.drain_verdict.specs.Meaning.{tiling_of, input_tiles}
+use Rattle.drain_maker.specs.Mosaics.{IsSeamFaultAs, IsSeamRefusal, AreSamplesOf, IsElevationOf, TellTiles, IsOfTiles, StandsOfTiles, IsMosaicOf, IsMosaicRefusal}
+use Rattle.std.proofs.lemmas.List.{length-take, take_all}
+use Rattle.drain_device.specs.Reads.{ReadsUpTo}
+use Rattle.std.specs.List.{All}
+use Rattle.drain_text.specs.First.{IsFirst}
+use Rattle.drain_hgt.specs.declared.input.TileInput.{TileInput}
+use Rattle.drain_hgt.specs.Laws.{OneName}
+use Rattle.drain_hgt.specs.Inputs.{names_of}
+use Rattle.drain_answer.specs.declared.refusal.Refusal.TheVariants.{BadSide, BadName, NoTiles, RepeatedTile, BoxTooLarge, BadTileLength, SeamMismatch, OutOfMemory, ReadFailed}
 use Rattle.drain_verdict.specs.Refusals.{Stands, NoneStandsBefore, refusal_order, place_among}
 use Rattle.drain_verdict.specs.Answers.{IsRefusal}
-use Rattle.drain_verdict.specs.Stages.{IsLayoutOf, IsLayoutRefusal}
-use Rattle.drain_verdict.specs.Stages.{IsTileRefusal}
-use Rattle.drain_maker.specs.TileStages.{AreSamplesOf, IsElevationOf, IsSeamRefusal}
-use Rattle.drain_maker.specs.Mosaics.{TellTiles, IsOfTiles, StandsOfTiles, IsMosaicOf, IsMosaicRefusal}
+use Rattle.drain_verdict.specs.Stages.{IsLayoutOf, IsLayoutRefusal, IsTileRefusal}
 use Rattle.drain_verdict.proofs.Order.{at_header, at_tile, at_raster, at_seam, at_bad_line, at_off_data, none_more, first_of}
 use Rattle.drain_verdict.proofs.LayoutAnswers.{layout_is, layout_none, layout_refused}
 use Rattle.drain_verdict.proofs.StartAnswers.{told_of_inputs}
 use Rattle.drain_verdict.proofs.BodyAnswers.{none_of_another_length, first_of_another_length, none_of_two_values, first_of_two_values}
-use Rattle.drain_maker.proofs.SeamAnswers.{elevation_is_first_value, of_inputs}
+use Rattle.drain_mosaic.specs.declared.seams.SeamFault.TheVariants as seam
+use Rattle.drain_mosaic.specs.Mosaic as mosaic
+
+-- What elevations in memory say of listed sinks.
+
+-- the test of a cell is whether it has data
+told : (e : Heights) (sinks : List SinkLine) (c : Cell) → (has_data e c ≡ true → HasData (grid_of e sinks) c) × (has_data e c ≡ false → ¬ HasData (grid_of e sinks) c)
+told e sinks c = elim (cases_lt c.row e.extent.rows) [
+  | inr past ↦ (
+    λ is. absurd (let no : false ≡ true = sym (rw (le-ltb c.row e.extent.rows past) refl) ∙ is in cc),
+    λ is has. (let row = has.inside.row in omega (arith, past, row)),
+  )
+  | inl row ↦ elim (cases_lt c.col e.extent.cols) [
+    | inr past ↦ (
+      λ is. absurd (let no : false ≡ true = sym (rw (lt-ltb c.row e.extent.rows row, le-ltb c.col e.extent.cols past) refl) ∙ is in cc),
+      λ is has. (let col = has.inside.col in omega (arith, past, col)),
+    )
+    | inl col ↦ (let said : has_data e c ≡ is_some (elevation_at e c) = rw (lt-ltb c.row e.extent.rows row, lt-ltb c.col e.extent.cols col) refl in (
+      λ is. record { inside = record { row = row; col = col }; is_data = sym said ∙ is },
+      λ is has. (let no : true ≡ false = sym has.is_data ∙ sym said ∙ is in cc),
+    ))
+  ]
+]
+
+-- so the least line that was found is the grid's
+pub found_there : FoundOffDataIsRight → (e : Heights) (sinks : List SinkLine) (found : Option ℕ) → IsLeastOff (has_data e) sinks (length sinks) found → IsOffAnswer (grid_of e sinks) sinks found
+found_there law e sinks found least = law (grid_of e sinks) sinks (has_data e) found (λ k s at. told e sinks s.cell) least
+
+-- What joined tiles say of the inputs; their elevation is at each cell the first value that a tile gives.
+
+-- what holds of the tiling and its tiles holds of the inputs
+pub of_inputs : (P : Tiling → List mosaic.Tile → Type 0) (i : Inputs) (t : Tiling) (samples : List (List ℤ)) → t ≡ tiling_of i → samples ≡ map samples_of i.tiles →
+    P t (mosaic.tiles_of t.corners samples) → P (tiling_of i) (input_tiles i)
+of_inputs P i t samples tiling_is samples_are holds =
+    subst (λ (s : List (List ℤ)). P (tiling_of i) (mosaic.tiles_of i.corners s)) samples_are
+    (subst (λ (u : Tiling). P u (mosaic.tiles_of u.corners samples)) tiling_is holds)
+
+-- a fault of the seams gives their refusal
+pub fault_refused : (t : Tiling) (samples : List (List ℤ)) (fault : SeamFault) (refusal : Refusal) → IsSeamFaultAs fault refusal →
+    ((c : Cell) → fault ≡ seam.SeamMismatch c → mosaic.IsFirstSeam t (mosaic.tiles_of t.corners samples) c) →
+    (fault ≡ seam.OutOfMemory → mosaic.TilesAgree t (mosaic.tiles_of t.corners samples)) → IsSeamRefusal t samples refusal
+fault_refused t samples (seam.SeamMismatch c) refusal told first agree = subst (IsSeamRefusal t samples) (sym told) (first c refl)
+fault_refused t samples seam.OutOfMemory refusal told first agree = subst (IsSeamRefusal t samples) (sym told) (agree refl)
+
+-- two options that are the same value where either is one
+options_same : (o p : Option ℤ) → ((v : ℤ) → o ≡ Some v → p ≡ Some v) → ((v : ℤ) → p ≡ Some v → o ≡ Some v) → o ≡ p
+options_same None None forth back = refl
+options_same None (Some x) forth back = back x refl
+options_same (Some x) p forth back = sym (forth x refl)
+
+pub elevation_is_first_value : (t : Tiling) (tiles : List mosaic.Tile) (e : Heights) → AgreementGivesElevation → mosaic.TilesAgree t tiles →
+    mosaic.IsElevation t tiles (elevation_at e) → (c : Cell) → IsCellOf (extent_of t) c → elevation_at e c ≡ first_value t tiles c
+elevation_is_first_value t tiles e law agree is c inside =
+    options_same (elevation_at e c) (first_value t tiles c)
+    (λ v at. (law t tiles agree c v inside).1 ((is c v inside).0 at))
+    (λ v at. (is c v inside).1 ((law t tiles agree c v inside).0 at))
+
+-- The meaning of a tile's bytes, if they were read up to one byte more than a tile has.
+
+-- what came is the front of the bytes that were left
+reads-front : (limit : ℕ) (old new : Option (List ℕ)) (body : List ℕ) → ReadsUpTo limit old new body → (bytes : List ℕ) → old ≡ Some bytes → body ≡ take limit bytes
+reads-front limit None new body reads bytes is = cc
+reads-front limit (Some xs) None body reads bytes is = absurd reads
+reads-front limit (Some xs) (Some ys) body reads bytes is = let same : xs ≡ bytes = cc in reads.0 ∙ ap (take limit) same
+
+-- one byte more than a tile has shows that it is longer
+front-tile : (n : ℕ) (bytes : List ℕ) → length (take (n + 1) bytes) ≡ n → length bytes ≡ n
+front-tile n bytes is = omega (arith, length-take (n + 1) bytes, is)
+
+-- a length that isn't another one is this one
+pub length-is : (a b : ℕ) → ((a ≢ b) → ⊥) → a ≡ b
+length-is a b not_other = elim (cases_lt a b) [
+  | inl less ↦ absurd (not_other (λ e. omega arith))
+  | inr not_less ↦ elim (cases_lt b a) [ inl more ↦ absurd (not_other (λ e. omega arith)) | inr not_more ↦ omega arith ]
+]
+
+-- the samples of what came are those of the bytes
+pub tile-samples : (side n : ℕ) (old new : Option (List ℕ)) (body : List ℕ) (samples : List ℤ) → n ≡ tile_length side → ReadsUpTo (n + 1) old new body →
+    IsTile side body → samples ≡ samples_of body → (bytes : List ℕ) → old ≡ Some bytes → IsTile side bytes × (samples ≡ samples_of bytes)
+tile-samples side n old new body samples n_is reads whole are bytes is =
+    let front = reads-front (n + 1) old new body reads bytes is in
+    let long : length bytes ≡ n = front-tile n bytes (ap length (sym front) ∙ whole ∙ sym n_is) in
+    let same : body ≡ bytes = front ∙ take_all (n + 1) bytes (omega (arith, long)) in
+    (long ∙ n_is, are ∙ ap samples_of same)
 
 -- the lengths of the tiles, said of the inputs
 lengths_of : (i : Inputs) (t : Tiling) (samples : List (List ℤ)) → t ≡ tiling_of i → AreSamplesOf t.side i.tiles samples → AreSamplesOf i.side i.tiles samples

@@ -5,7 +5,7 @@ use Rattle.std.specs.Int.{int_min, int_max}
 use Rattle.std.specs.List.{All, AllZip}
 use Rattle.std.proofs.lemmas.List.Elements.{All-nil, All-cons, All-head, All-tail}
 use Rattle.std.proofs.Math.Decide.{dec_lt}
-use Rattle.drain_grid.specs.Tile.{IsSide}
+use Rattle.drain_grid.specs.Grid.{IsSide}
 use Rattle.drain_hgt.specs.Corner.{Corner, IsWithin, IsOnMap}
 use Rattle.drain_hgt.specs.Name.{IsNameOf}
 use Rattle.drain_mosaic.specs.Tiling.{Tiling, least, greatest, west_of, north_of}

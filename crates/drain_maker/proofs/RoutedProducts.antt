@@ -25,20 +25,19 @@ use Rattle.drain_grid.proofs.PatchDecisions.{has_lower}
 use Rattle.drain_grid.proofs.Runs.{runs_end, index_of-below}
 use Rattle.drain_grid.proofs.Slopes.{steepest_cell, HasLower-lower_cell}
 use Rattle.drain_paths.specs.declared.flow.Flow.TheVariants.{Void}
-use Rattle.drain_paths.specs.Flows.{cell_flow, code_flow, AreFlowsOf}
-use Rattle.drain_surface.specs.declared.codes.TheConstants as surface_codes
-use Rattle.drain_surface.specs.declared.level_queue.TheConstants.{MAX_CELLS}
-use Rattle.drain_surface.specs.Flats.{Laying, AreWaysOnFlats, ShowsWays}
-use Rattle.drain_surface.specs.Floods.{Flooding, IsFlooded}
-use Rattle.drain_surface.specs.Laws.{ArePresent}
-use Rattle.drain_surface.proofs.Filling.{flood_is_filled}
-use Rattle.drain_surface.proofs.FlatRules.{flats_keep_rules}
-use Rattle.drain_surface.proofs.FlatsPresent.{flats_are_present}
-use Rattle.drain_paths.specs.declared.code_flows.TheConstants.{NO_CODE}
-use Rattle.drain_paths.specs.CodeFlows.{byte_flow, bytes_flows}
+use Rattle.drain_paths.specs.Flows.{cell_flow, code_flow, AreFlowsOf, byte_flow, bytes_flows}
+use Rattle.drain_flood.specs.declared.layers.TheConstants as surface_codes
+use Rattle.drain_flood.specs.declared.level_queue.TheConstants.{MAX_CELLS}
+use Rattle.drain_flood.specs.Flats.{Laying, AreWaysOnFlats, ShowsWays}
+use Rattle.drain_flood.specs.Floods.{Flooding, IsFlooded}
+use Rattle.drain_flood.specs.Laws.{ArePresent}
+use Rattle.drain_flood.proofs.Looking.{flood_is_filled}
+use Rattle.drain_flood.proofs.FlatRules.{flats_keep_rules}
+use Rattle.drain_flood.proofs.FlatsPresent.{flats_are_present}
+use Rattle.drain_paths.specs.declared.flow.TheConstants.{NO_CODE}
 use Rattle.drain_paths.specs.Laws.{AreCompleted, AreRouted}
 use Rattle.drain_paths.proofs.Completing.{correct_by_routing}
-use Rattle.drain_maker.specs.RoutedProducts.{AreCountsAndLabels, listed, shown, RoutesEnd, RoutesKeepRules}
+use Rattle.drain_maker.specs.Made.{AreCountsAndLabels, listed, shown, RoutesEnd, RoutesKeepRules}
 
 pub pos_at : (xs : List ℕ) (k : ℕ) → get_or (map (λ n. pos n) xs) k (pos 0) ≡ pos (get_or xs k 0)
 pos_at [] k = refl

@@ -3,18 +3,14 @@ use Rattle.std.proofs.Common.{◌≡◌, ◌∙◌, ℕ, ◌≤◌, ◌*◌, ℤ
 use Rattle.drain_grid.specs.declared.product.Product.{Product}
 use Rattle.drain_grid.specs.declared.product.Product.TheVariants.{Con, Dir, Acc, Bas, Rnk}
 use Rattle.drain_grid.specs.declared.sink_line.SinkLine.{SinkLine}
-use Rattle.drain_grid.specs.Grid.{Products}
+use Rattle.drain_grid.specs.Grid.{Products, Heights, Pixels}
 use Rattle.drain_grid.specs.Product.{default_no_data}
-use Rattle.drain_grid.specs.Rasters.{Heights, Pixels}
-use Rattle.drain_grid.specs.Size.{Extent}
-use Rattle.drain_grid.specs.Whole.{number_at}
-use Rattle.drain_grid.specs.WholeGrid.{grid_of}
+use Rattle.drain_grid.specs.Extent.{Extent}
+use Rattle.drain_grid.specs.WholeGrid.{number_at, grid_of}
 use Rattle.drain_paths.specs.declared.flow.Flow.{Flow}
-use Rattle.drain_paths.specs.Flows.{AreFlowsOf}
-use Rattle.drain_surface.specs.declared.level_queue.TheConstants.{MAX_CELLS}
-use Rattle.drain_paths.specs.CodeFlows.{bytes_flows}
-use Rattle.drain_paths.specs.OfFlows.{OfFlows}
-use Rattle.drain_maker.specs.RoutedProducts.{AreCountsAndLabels, AreRightProducts, AreRoutes, SomeRunsEnd, shown}
+use Rattle.drain_paths.specs.Flows.{AreFlowsOf, bytes_flows, OfFlows}
+use Rattle.drain_flood.specs.declared.level_queue.TheConstants.{MAX_CELLS}
+use Rattle.drain_maker.specs.Made.{AreCountsAndLabels, AreRightProducts, AreRoutes, SomeRunsEnd, shown}
 use Rattle.drain_maker.proofs.RoutedProducts.{routes_end, routes_keep_rules}
 
 abbrev pub heights : Extent → Product → List ℤ → Pixels

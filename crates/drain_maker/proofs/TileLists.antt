@@ -1,6 +1,6 @@
 -- The results of reading some tiles: those read, the one that stopped, and those after it, whose devices weren't
 -- called.
-use Rattle.std.proofs.Common.{◌≡◌, ◌↔◌, ℕ, ◌+◌, ◌*◌, ◌<◌, ◌⊎◌, inl, inr, ℤ, List, [], ◌∷◌, ◌++◌, map, length, get_or, slice_index_or, All, Option, Some, arith, refl, sym, ap, ◌∙◌, length-append, append_assoc, append-nil}
+use Rattle.std.proofs.Common.{◌≡◌, List, [], ◌∷◌, ◌++◌, length, slice_index_or, Some, refl, ap, ◌↔◌, ℕ, ◌+◌, ◌*◌, ◌<◌, ◌⊎◌, inl, inr, ℤ, map, get_or, All, Option, arith, sym, ◌∙◌, length-append, append_assoc, append-nil}
 use Rattle.std.specs.Prelude.{slice_get, slice_set}
 use Rattle.std.specs.List.{AllZip}
 use Rattle.std.proofs.Math.ListN.{set}
@@ -18,9 +18,22 @@ use Rattle.drain_answer.specs.declared.refusal.Refusal.{Refusal}
 use Rattle.drain_answer.specs.declared.refusal.Refusal.TheVariants.{BadSide, BadName, NoTiles, RepeatedTile, BoxTooLarge, BadHeader, WrongShape, Misplaced, BadTileLength, RasterShort, SeamMismatch, BadSinkLine, SinkNotData, OutOfMemory, ReadFailed}
 use Rattle.drain_device.specs.FaultLists.{SomeReadFails}
 use Rattle.drain_verdict.specs.Stages.{IsTileRefusal}
-use Rattle.drain_maker.specs.TileStages.{AreSamplesOf, IsOneTileRefusal}
+use Rattle.drain_maker.specs.Mosaics.{AreSamplesOf, IsOneTileRefusal}
 use Rattle.drain_device.proofs.FaultLists.{SomeReadFails-none, SomeReadFails-one, SomeReadFails-then, takes-none}
-use Rattle.drain_maker.proofs.ListPlaces.{get-seam, set-seam, slice_get-seam}
+
+-- The place in a list where one part ends and the next begins.
+
+pub slice_get-seam : {A : Type 0} (xs : List A) (y : A) (ys : List A) → slice_get (xs ++ y ∷ ys) (length xs) ≡ Some y
+slice_get-seam [] y ys = refl
+slice_get-seam (x ∷ xs) y ys = slice_get-seam xs y ys
+
+pub set-seam : {A : Type 0} (xs : List A) (y v : A) (ys : List A) → slice_set (xs ++ y ∷ ys) (length xs) v ≡ xs ++ v ∷ ys
+set-seam [] y v ys = refl
+set-seam (x ∷ xs) y v ys = ap (λ l. x ∷ l) (set-seam xs y v ys)
+
+pub get-seam : {A : Type 0} (xs : List A) (y d : A) (ys : List A) → slice_index_or (xs ++ y ∷ ys) (length xs) d ≡ y
+get-seam [] y d ys = refl
+get-seam (x ∷ xs) y d ys = get-seam xs y d ys
 
 -- a relation of two lists, place by place, holds of the parts, and of parts together
 AllZip-then : {A B : Type 0} (P : A → B → Type 0) (xs us : List A) (ys vs : List B) → AllZip P xs ys → AllZip P us vs → AllZip P (xs ++ us) (ys ++ vs)

@@ -6,8 +6,7 @@ use Rattle.drain_grid.specs.SetProduct.{product_of}
 use Rattle.drain_grid.specs.declared.product_set.ProductSet.{ProductSet}
 use Rattle.drain_grid.specs.declared.sink_line.SinkLine.{SinkLine}
 use Rattle.drain_grid.specs.SinkTexts.{sinks_of}
-use Rattle.drain_grid.specs.Grid.{Grid, Products}
-use Rattle.drain_grid.specs.Rasters.{Heights}
+use Rattle.drain_grid.specs.Grid.{Grid, Products, Heights}
 use Rattle.drain_grid.specs.WholeGrid.{grid_of, products_of, raster_in}
 use Rattle.drain_hgt.specs.Name.{IsNameOf}
 use Rattle.drain_header.specs.Text.{text_of}
@@ -21,7 +20,7 @@ use Rattle.drain_verdict.specs.Inputs.{Inputs, AreNames}
 use Rattle.drain_verdict.specs.Meaning.{tiling_of}
 use Rattle.drain_maker.specs.Mosaics.{IsMosaicOf}
 use Rattle.drain_verdict.specs.Answers.{IsAnswer}
-use Rattle.drain_maker.specs.Headers.{made_header}
+use Rattle.drain_maker.specs.ProductFiles.{made_header}
 use Rattle.drain_maker.specs.Made.{AreMade}
 
 -- if each name names a tile, the corners are those of the named tiles

@@ -1,17 +1,32 @@
 -- What follows from the directions of a grid, as rasters.
-use Rattle.std.specs.Prelude.{◌≡◌, ◌≢◌, ◌↔◌, pos, false, IsNone}
+use Rattle.std.specs.Prelude.{◌≡◌, ◌≢◌, ◌↔◌, pos, false, IsNone, List, Result, Ok, Err}
 use Rattle.drain_grid.specs.declared.cell.Cell.{Cell}
-use Rattle.drain_grid.specs.Certificate.{run_steps}
-use Rattle.drain_grid.specs.Grid.{Grid, Products, IsInside, HasData}
+use Rattle.drain_grid.specs.Unranked.{run_steps, IsFirstEndless}
+use Rattle.drain_grid.specs.Grid.{Grid, Products, IsInside, HasData, Pixels, ArePixels}
 use Rattle.drain_grid.specs.Product.{default_numbers}
-use Rattle.drain_grid.specs.Rasters.{Pixels, ArePixels}
 use Rattle.drain_grid.specs.Run.{run_end, upstream_count, ShareBasin}
-use Rattle.drain_grid.specs.Size.{Extent}
-use Rattle.drain_grid.specs.Whole.{number_at}
+use Rattle.drain_grid.specs.Extent.{Extent}
+use Rattle.drain_grid.specs.WholeGrid.{number_at}
 use Rattle.drain_raster.specs.Bytes.{CanSpellAllIn}
 use Rattle.drain_paths.specs.Basins.{end_number}
-use Rattle.drain_paths.specs.OfFlows.{AllFlowsEnd}
-use Rattle.drain_maker.specs.declared.derived.Derived.{Derived}
+use Rattle.drain_paths.specs.Flows.{AllFlowsEnd, AreFlowsOf}
+use Rattle.drain_maker.specs.declared.derivation.Derived.{Derived}
+use Rattle.drain_paths.specs.declared.flow.Flow.{Flow}
+use Rattle.drain_paths.specs.declared.flow.CertifyRefusal.{CertifyRefusal}
+use Rattle.drain_answer.specs.declared.refusal.Refusal.{Refusal}
+use Rattle.drain_answer.specs.declared.refusal.Refusal.TheVariants.{OutOfMemory}
+use Rattle.drain_verdict.specs.Answers.{AreReadable, IsRefusal}
+use Rattle.drain_verdict.specs.Inputs.{Inputs}
+use Rattle.drain_verdict.specs.Meaning.{input_grid, input_products}
+use Rattle.drain_maker.specs.declared.derivation.DeriveRefusal.{DeriveRefusal}
+use Rattle.drain_maker.specs.declared.derivation.DeriveRefusal.TheVariants.{Refused, NoEnd}
+use Rattle.drain_grid.specs.Correct.{IsCorrect}
+use Rattle.drain_grid.specs.GridRules.{RulesHold}
+use Rattle.drain_grid.specs.PatchRules.{check_rules}
+use Rattle.drain_grid.specs.Rule.{IsAnyRule}
+use Rattle.drain_grid.specs.Values.{NoDataNumbers}
+use Rattle.drain_paths.specs.Laws.{AreRouted}
+use Rattle.drain_paths.specs.declared.flow.CertifyRefusal.TheVariants as certify
 
 -- every run ends. At each data cell acc is the number of data cells that drain through it, bas the number of the outlet
 -- where its run ends, in row order from 1, and rnk the number of steps of its run; so labels are equal exactly where
@@ -46,3 +61,66 @@ pub record AreCounts (e : Extent) (d : Derived) : Type 0 where
   pub acc : IsCounts e d.acc
   pub bas : IsCounts e d.bas
   pub rnk : IsCounts e d.rnk
+
+-- What is answered to tiles and directions that are read row by row.
+
+-- the rasters follow from the directions of these inputs, to which no refusal applies
+abbrev pub AreDerivedOf : Inputs → Derived → Type 0
+AreDerivedOf i d = AreReadable i × AreDerived (input_grid i) (input_products i) d.acc d.bas d.rnk
+
+-- no refusal applies to these inputs, and these are the flows of their grid
+abbrev pub HasFlows : Inputs → Extent → List Flow → Type 0
+HasFlows i e flows = AreReadable i × AreFlowsOf (input_grid i) (input_products i) e flows
+
+-- why nothing follows from flows: the first data cell whose run doesn't end, or no memory
+abbrev pub IsFlowsRefusal : Grid → Products → DeriveRefusal → Type 0
+IsFlowsRefusal g ps (Refused refusal) = refusal ≡ OutOfMemory
+IsFlowsRefusal g ps (NoEnd row col) = IsFirstEndless g ps (record { row = row; col = col })
+
+-- the refusal for one of flows
+abbrev pub IsRefusalFor : CertifyRefusal → DeriveRefusal → Type 0
+IsRefusalFor (certify.NoEnd c) why = why ≡ NoEnd c.row c.col
+IsRefusalFor certify.OutOfMemory why = why ≡ Refused OutOfMemory
+
+-- why nothing follows from these inputs: the first refusal that applies, else the first data cell whose run doesn't end
+abbrev pub IsDeriveRefusal : Inputs → DeriveRefusal → Type 0
+IsDeriveRefusal i (Refused refusal) = IsRefusal i refusal
+IsDeriveRefusal i (NoEnd row col) = AreReadable i × IsFirstEndless (input_grid i) (input_products i) (record { row = row; col = col })
+
+-- what the answer says of the reading: a run without an end is found once all was read
+abbrev pub reading_in : {T : Type 0} → Result T DeriveRefusal → Result (Unit {0}) Refusal
+reading_in (Ok made) = Ok tt
+reading_in (Err (Refused refusal)) = Err refusal
+reading_in (Err (NoEnd row col)) = Ok tt
+
+-- Rasters that follow from directions, as products: that nothing else is left to be right.
+
+-- these products with the numbers of these rasters
+abbrev pub with_derived : Products → Pixels → Pixels → Pixels → Products
+with_derived ps acc bas rnk = record { con = ps.con; dir = ps.dir; acc = number_at acc; bas = number_at bas; spl = ps.spl; rnk = number_at rnk }
+
+-- the no-data numbers of acc, bas and rnk are the default ones; those of con and dir may be any
+pub record AreDefaultBut (nodata : NoDataNumbers) : Type 0 where
+  pub acc : nodata.acc ≡ default_numbers.acc
+  pub bas : nodata.bas ≡ default_numbers.bas
+  pub rnk : nodata.rnk ≡ default_numbers.rnk
+
+-- the products with these rasters are correct exactly if con and dir are right, and every rule of a check holds of them
+-- at every cell exactly then
+pub record IsCompleted (g : Grid) (ps : Products) (acc bas rnk : Pixels) (nodata : NoDataNumbers) : Type 0 where
+  pub correct : AreRouted g ps nodata ↔ IsCorrect g (with_derived ps acc bas rnk) nodata
+  pub rules : AreRouted g ps nodata ↔ RulesHold (check_rules nodata) IsAnyRule g (with_derived ps acc bas rnk)
+
+-- of every grid and products, whatever cells are listed as sinks: what is derived never spoils a right con and dir, and
+-- never hides a wrong one
+abbrev pub DerivedCompletes : Type 0
+DerivedCompletes =
+    (g : Grid) (ps : Products) (acc bas rnk : Pixels) (nodata : NoDataNumbers) → AreDefaultBut nodata → AreDerived g ps acc bas rnk →
+    IsCompleted g ps acc bas rnk nodata
+
+-- what is derived follows from elevations and directions alone: grids may differ in their sinks, and products in all
+-- other numbers
+abbrev pub DerivedByDirections : Type 0
+DerivedByDirections =
+    (g h : Grid) (ps qs : Products) (acc bas rnk : Pixels) → g.extent ≡ h.extent → g.elevation ≡ h.elevation → ps.dir ≡ qs.dir →
+    AreDerived g ps acc bas rnk → AreDerived h qs acc bas rnk

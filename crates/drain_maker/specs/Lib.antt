@@ -1,10 +1,5 @@
-pub mod Headers
 pub mod ProductFiles
 pub mod Made
 pub mod Accepted
-pub mod RoutedProducts
 pub mod Mosaics
-pub mod TileStages
 pub mod Derived
-pub mod DerivedLaws
-pub mod Derivation

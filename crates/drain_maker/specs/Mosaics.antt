@@ -1,20 +1,57 @@
 -- What reading only tiles returns: their mosaic, or the first refusal of the tiles.
-use Rattle.std.specs.Prelude.{◌≡◌, ℕ, List, Option, Some}
-use Rattle.std.specs.List.{AllZip}
+use Rattle.std.specs.Prelude.{◌≡◌, ℕ, ℤ, List, map, Option, Some}
+use Rattle.std.specs.List.{All, AllZip}
+use Rattle.drain_grid.specs.Grid.{Heights}
+use Rattle.drain_grid.specs.WholeGrid.{elevation_at}
+use Rattle.drain_hgt.specs.Corner.{Corner}
+use Rattle.drain_hgt.specs.Samples.{IsTile, samples_of}
+use Rattle.drain_mosaic.specs.declared.seams.SeamFault.{SeamFault}
+use Rattle.drain_mosaic.specs.Mosaic.{tiles_of, TilesAgree, IsElevation, IsFirstSeam}
+use Rattle.drain_answer.specs.declared.refusal.Refusal.{Refusal}
+use Rattle.drain_answer.specs.declared.refusal.Refusal.TheVariants.{BadTileLength, SeamMismatch, OutOfMemory, ReadFailed, BadHeader, WrongShape, Misplaced, RasterShort, BadSinkLine, SinkNotData}
 use Rattle.drain_grid.specs.declared.cell.Cell.{Cell}
 use Rattle.drain_grid.specs.Extent.{IsCellOf}
 use Rattle.drain_text.specs.First.{IsFirst}
-use Rattle.drain_grid.specs.Rasters.{Heights}
-use Rattle.drain_grid.specs.Whole.{elevation_at}
 use Rattle.drain_hgt.specs.declared.input.TileInput.{TileInput}
 use Rattle.drain_hgt.specs.Name.{IsNameOf}
 use Rattle.drain_hgt.specs.Inputs.{names_of}
 use Rattle.drain_mosaic.specs.Tiling.{Tiling, extent_of}
-use Rattle.drain_answer.specs.declared.refusal.Refusal.{Refusal}
-use Rattle.drain_answer.specs.declared.refusal.Refusal.TheVariants.{BadHeader, WrongShape, Misplaced, RasterShort, BadSinkLine, SinkNotData, OutOfMemory, ReadFailed}
 use Rattle.drain_verdict.specs.Inputs.{Inputs, AreNames}
 use Rattle.drain_verdict.specs.Meaning.{tiling_of, input_grid}
 use Rattle.drain_verdict.specs.Refusals.{Stands, refusal_order}
+use Rattle.drain_mosaic.specs.declared.seams.SeamFault.TheVariants as seam
+use Rattle.drain_mosaic.specs.Tiling as tiling
+
+-- What reading tiles finds: their samples and their elevation; or the first refusal of them.
+
+-- the bodies have the length of tiles, and these are their samples
+pub record AreSamplesOf (side : ℕ) (bodies : List (List ℕ)) (samples : List (List ℤ)) : Type 0 where
+  pub lengths : All (IsTile side) bodies
+  pub samples_are : samples ≡ map samples_of bodies
+
+-- why the body of the tile at a corner is refused
+abbrev pub IsOneTileRefusal : ℕ → Corner → List ℕ → Refusal → Type 0
+IsOneTileRefusal side corner body (BadTileLength c) = (c ≡ corner) × ¬ IsTile side body
+IsOneTileRefusal side corner body OutOfMemory = Unit {0}
+IsOneTileRefusal side corner body ReadFailed = Unit {0}
+IsOneTileRefusal side corner body refusal = ⊥
+
+-- the tiles agree, and give this elevation together
+pub record IsElevationOf (t : tiling.Tiling) (samples : List (List ℤ)) (e : Heights) : Type 0 where
+  pub shape : e.extent ≡ tiling.extent_of t
+  pub agree : TilesAgree t (tiles_of t.corners samples)
+  pub values : IsElevation t (tiles_of t.corners samples) (elevation_at e)
+
+-- why tiles give no elevation; memory can run out only if they agree
+abbrev pub IsSeamRefusal : tiling.Tiling → List (List ℤ) → Refusal → Type 0
+IsSeamRefusal t samples (SeamMismatch c) = IsFirstSeam t (tiles_of t.corners samples) c
+IsSeamRefusal t samples OutOfMemory = TilesAgree t (tiles_of t.corners samples)
+IsSeamRefusal t samples refusal = ⊥
+
+-- the refusal for a fault of the seams
+abbrev pub IsSeamFaultAs : SeamFault → Refusal → Type 0
+IsSeamFaultAs (seam.SeamMismatch c) refusal = refusal ≡ SeamMismatch c
+IsSeamFaultAs seam.OutOfMemory refusal = refusal ≡ OutOfMemory
 
 -- the arguments encode the tiles of these inputs, where the bytes of devices are known
 pub record TellTiles {R : Type 0} (bytes_left : R → Option (List ℕ)) (side : ℕ) (tiles : List (TileInput R)) (i : Inputs) : Type 0 where

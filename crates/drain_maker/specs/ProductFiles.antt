@@ -1,29 +1,70 @@
 -- The files of a product set or of derived rasters: their bytes, what has to hold so that they can be written, and the
 -- result of writing them one after the other.
-use Rattle.std.specs.Prelude.{◌≡◌, ℕ, ◌⊎◌, List, [], ◌∷◌, Result, Ok, Err, IsErr}
-use Rattle.std.specs.List.{flat_map}
-use Rattle.drain_device.specs.Devices.{Sink}
-use Rattle.drain_device.specs.Failing.{WriteFails}
-use Rattle.drain_device.specs.Writes.{HandsOver}
+use Rattle.std.specs.Prelude.{ℕ, ◌*◌, ◌/◌, Bool, true, false, Some, ◌≡◌, ◌⊎◌, List, [], ◌∷◌, Result, Ok, Err, IsErr}
 use Rattle.drain_grid.specs.declared.product.Product.{Product}
+use Rattle.drain_grid.specs.declared.product.Product.TheVariants.{Con, Dir, Acc, Bas, Spl, Rnk}
+use Rattle.drain_grid.specs.Product.{default_no_data}
+use Rattle.drain_header.specs.declared.header.ByteOrdering.TheVariants.{Least}
+use Rattle.drain_header.specs.declared.header.Place.{Place}
+use Rattle.drain_header.specs.Header.{Fields}
+use Rattle.drain_mosaic.specs.Tiling.{Tiling, west_edge, north_edge, spacing_of, extent_of}
+use Rattle.std.specs.List.{flat_map}
+use Rattle.drain_device.specs.Failing.{Sink, WriteFails}
+use Rattle.drain_device.specs.Counts.{HandsOver}
 use Rattle.drain_grid.specs.declared.product_set.ProductSet.{ProductSet}
-use Rattle.drain_grid.specs.declared.product.Product.TheVariants.{Acc, Bas, Rnk}
 use Rattle.drain_grid.specs.declared.set_product.SetProduct.{SetProduct}
-use Rattle.drain_grid.specs.declared.set_product.SetProduct.TheVariants as held
-use Rattle.drain_grid.specs.Rasters.{Pixels}
+use Rattle.drain_grid.specs.Grid.{Pixels}
 use Rattle.drain_grid.specs.WholeGrid.{raster_in}
 use Rattle.drain_grid.specs.SetProduct.{product_of, products}
-use Rattle.drain_header.specs.Fields.{Fields}
 use Rattle.drain_header.specs.Text.{text_of}
-use Rattle.drain_mosaic.specs.Tiling.{Tiling, extent_of}
 use Rattle.drain_raster.specs.Bytes.{CanSpellAll, raster_bytes}
-use Rattle.drain_maker.specs.Headers.{made_header}
-use Rattle.drain_maker.specs.declared.derived.Derived.{Derived}
+use Rattle.drain_maker.specs.declared.derivation.Derived.{Derived}
 use Rattle.drain_maker.specs.declared.product_files.Part.{Part}
 use Rattle.drain_maker.specs.declared.product_files.Part.TheVariants.{Header, Raster}
 use Rattle.drain_maker.specs.declared.product_files.SetFile.{SetFile}
 use Rattle.drain_maker.specs.declared.product_files.SetFault.{SetFault}
 use Rattle.drain_maker.specs.declared.product_files.SetFault.TheVariants.{WriteFailed}
+use Rattle.drain_grid.specs.declared.set_product.SetProduct.TheVariants as held
+
+-- The headers of the rasters of `make`.
+-- Source: the Esri description of BIL headers; sizes, byte order and no-data numbers are this project's own
+
+-- heights have 16 bits, codes 8, counts, labels and ranks 32
+abbrev pub bits_of : Product → ℕ
+bits_of Con = 16
+bits_of Dir = 8
+bits_of Acc = 32
+bits_of Bas = 32
+bits_of Spl = 8
+bits_of Rnk = 32
+
+-- only heights can be negative
+abbrev pub is_signed : Product → Bool
+is_signed Con = true
+is_signed p = false
+
+-- the corner of the mosaic, and the spacing of its samples
+abbrev pub mosaic_place : Tiling → Place
+mosaic_place t = record {
+  ulx = west_edge t;
+  uly = north_edge t;
+  xdim = spacing_of t;
+  ydim = spacing_of t;
+}
+
+-- the header of a product: the least significant byte first, nothing to skip, rows without padding
+abbrev pub made_header : Tiling → Product → Fields
+made_header t p = record {
+  rows = (extent_of t).rows;
+  cols = (extent_of t).cols;
+  bits = bits_of p;
+  order = Least;
+  signed = is_signed p;
+  skip = 0;
+  row_bytes = (extent_of t).cols * (bits_of p / 8);
+  place = mosaic_place t;
+  nodata = Some (default_no_data p);
+}
 
 -- the bytes of a file: a header's text, or a raster's bytes
 abbrev pub part_bytes : Part → Fields → Pixels → List ℕ

@@ -1,30 +1,66 @@
 //! Directions that are read row by row with their tiles, and what follows from them.
 
 ghost use Rattle.std.specs.Prelude.{◌≡◌, ◌*◌, length, IfOk, IfErr};
+ghost use Rattle.drain_paths.specs.Ways.{IsRankRefusal};
+ghost use Rattle.drain_paths.specs.Flows.{OfFlows};
+ghost use Rattle.drain_maker.specs.Derived.{AreDerived, AreCounts, AreDerivedOf, HasFlows, IsDeriveRefusal, IsFlowsRefusal, IsRefusalFor, reading_in};
 ghost use Rattle.drain_hgt.specs.Inputs.{names_of};
 ghost use Rattle.drain_mosaic.specs.Tiling.{extent_of};
-ghost use Rattle.drain_paths.specs.OfFlows.{OfFlows};
-ghost use Rattle.drain_verdict.specs.Answers.{IsRefusal};
-ghost use Rattle.drain_verdict.specs.Audits.{ForAudit};
+ghost use Rattle.drain_verdict.specs.Answers.{IsRefusal, ForAudit};
 ghost use Rattle.drain_verdict.specs.Stages.{IsLayoutOf};
 ghost use Rattle.drain_verdict.specs.Uses.{AuditUses};
-ghost use Rattle.drain_maker.specs.Derived.{AreDerived, AreCounts};
 ghost use Rattle.drain_maker.specs.ProductFiles.{CanBeDerived};
-ghost use Rattle.drain_maker.specs.Derivation.{AreDerivedOf, HasFlows, IsDeriveRefusal, IsFlowsRefusal, IsRefusalFor, reading_in};
 
-use crate::derived::{Derived, derive_from_flows};
+use crate::products::raster_of_counts;
 use drain_answer::Refusal;
 use drain_device::ByteSource;
-use drain_grid::{Judged, Shape};
+use drain_grid::{Judged, OutOfMemory, Product, Raster, Shape};
 use drain_hgt::TileInput;
 use drain_hgt::laws::one_name;
 use drain_mosaic::Layout;
-use drain_paths::{CellFlows, CertifyRefusal};
+use drain_paths::{CellFlows, CertifyRefusal, Flow, accumulate, count_steps, label_basins};
 use drain_verdict::AuditProducts;
-use drain_verdict::layout::layout_of;
 use drain_verdict::read_inputs::read_inputs;
+use drain_verdict::stages::layout_of;
 use std::alloc::Global;
 use thiserror::Error;
+
+/// What follows from the directions of a grid.
+#[derive(Drop)]
+pub struct Derived {
+    /// How many data cells drain through each, itself included.
+    pub acc: Raster,
+    /// The number of the outlet where the run of each ends, in row order from 1.
+    pub bas: Raster,
+    /// How many steps the run of each makes.
+    pub rnk: Raster,
+}
+
+/// Accumulation, labels and ranks of the flows of all cells of a grid, with the default no-data numbers at voids.
+///
+/// Returns `NoEnd` with the first data cell in row order whose run doesn't reach a code 0, exactly if there is one, and
+/// `OutOfMemory` if memory runs out. It takes 13 bytes per cell beside the flows, and frees one of them at the end.
+pub fn derive_from_flows(
+    alloc: Global,
+    flows: &[Flow],
+    shape: Shape,
+) -> Result<Derived, CertifyRefusal>
+    requires counted { length flows.now ≡ shape.rows * shape.cols }
+    ensures derived { IfOk result (λ d. OfFlows shape flows.now (λ g ps. AreDerived g ps d.acc d.bas d.rnk)) }
+    ensures counts { IfOk result (AreCounts shape) }
+    ensures err { IfErr result (λ why. OfFlows shape flows.now (λ g ps. IsRankRefusal g ps why)) }
+{
+    let steps = count_steps(alloc, flows, shape)?;
+    let labels = label_basins(alloc, flows, shape)?;
+    let Ok(counts) = accumulate(alloc, flows, shape) else {
+        return Err(CertifyRefusal::OutOfMemory);
+    };
+    Ok(Derived {
+        acc: raster_of_counts(shape, Product::Acc, counts),
+        bas: raster_of_counts(shape, Product::Bas, labels),
+        rnk: raster_of_counts(shape, Product::Rnk, steps),
+    })
+}
 
 /// Why nothing was derived.
 #[derive(Clone, Copy, PartialEq, Eq, Debug, Error)]

@@ -4,8 +4,8 @@
 //! it.
 
 ghost use Rattle.drain_maker.specs.Accepted.{MadeIsAccepted};
-ghost use Rattle.drain_maker.specs.DerivedLaws.{DerivedByDirections, DerivedCompletes};
-ghost use Rattle.drain_maker.specs.RoutedProducts.{RoutesEnd, RoutesKeepRules};
+ghost use Rattle.drain_maker.specs.Derived.{DerivedByDirections, DerivedCompletes};
+ghost use Rattle.drain_maker.specs.Made.{RoutesEnd, RoutesKeepRules};
 
 use drain_header::laws::text_reads_back;
 use drain_raster::laws::{bytes_read_back, numbers_are_pixels};

@@ -1,25 +1,85 @@
-//! The files of a product set or of derived rasters: which they are, their order, and writing them.
+//! The files of a set: names, headers, pixels.
 
 ghost use Rattle.std.specs.Prelude.{◌≡◌, length, map};
+ghost use Rattle.drain_header.specs.Header.{IsCoordinate};
+ghost use Rattle.drain_maker.specs.ProductFiles.{made_header, mosaic_place, bits_of, is_signed, CanBeDerived, FitHeaders, IsDerived, WritesFile, WritesFiles, derived_bytes, derived_raster, file_bytes, set_bytes};
 ghost use Rattle.std.specs.List.{All};
-ghost use Rattle.drain_grid.specs.Rasters.{Pixels};
+ghost use Rattle.drain_grid.specs.Grid.{Pixels};
 ghost use Rattle.drain_grid.specs.WholeGrid.{raster_in};
 ghost use Rattle.drain_grid.specs.declared.set_product.SetProduct.{SetProduct};
 ghost use Rattle.drain_header.specs.Text.{text_of};
 ghost use Rattle.drain_mosaic.specs.Tiling.{extent_of};
-ghost use Rattle.drain_raster.specs.Pixels as pixels;
+ghost use Rattle.drain_raster.specs.{Pixels as pixels};
 ghost use Rattle.drain_raster.specs.Bytes.{CanSpellAll, raster_bytes};
 ghost use Rattle.drain_maker.specs.Made.{CanBeWritten};
-ghost use Rattle.drain_maker.specs.ProductFiles.{CanBeDerived, FitHeaders, IsDerived, WritesFile, WritesFiles, derived_bytes, derived_raster, file_bytes, set_bytes};
 
-use crate::derived::Derived;
-use crate::header::product_header;
+use crate::derivation::Derived;
 use drain_device::{ByteSink, GaveUp, Patience, write_all};
-use drain_grid::{ProductSet, Raster, SetProduct};
-use drain_header::{Header, header_text};
+use drain_grid::{Product, ProductSet, Raster, SetProduct};
+use drain_header::{ByteOrdering, Header, Place, header_text};
 use drain_mosaic::Layout;
 use drain_raster::write_raster;
 use std::alloc::Global;
+
+/// The header of a product of this mosaic.
+///
+/// Pixels of 16 bits signed for con, 8 for dir and spl, 32 for acc, bas and rnk; the least significant byte first, nothing to skip and
+/// rows without padding. The place is the mosaic's north-west corner and the spacing of its samples, in units of 10^-15 degree, the
+/// spacing rounded down. The no-data number is the product's default. It needs no memory.
+pub fn product_header(layout: &Layout, product: Product) -> Header
+    ensures { result ≡ made_header layout.now product }
+{
+    let shape = layout.shape();
+    let bits = bits_of(product);
+    Header {
+        rows: shape.rows(),
+        cols: shape.cols(),
+        bits,
+        order: ByteOrdering::Least,
+        signed: is_signed(product),
+        skip: 0,
+        row_bytes: shape.cols() * u32::from(bits / 8),
+        place: mosaic_place(layout),
+        nodata: Some(product.default_no_data()),
+    }
+}
+
+/// How many bits a pixel of the product has.
+fn bits_of(product: Product) -> u8
+    ensures { result ≡ bits_of product }
+{
+    match product {
+        Product::Dir | Product::Spl => 8,
+        Product::Con => 16,
+        Product::Acc | Product::Bas | Product::Rnk => 32,
+    }
+}
+
+/// Whether numbers of the product can be negative.
+fn is_signed(product: Product) -> bool
+    ensures { result ≡ is_signed product }
+{
+    product == Product::Con
+}
+
+/// The mosaic's place, and the spacing of its samples.
+fn mosaic_place(layout: &Layout) -> Place
+    ensures place { result ≡ mosaic_place layout.now }
+
+    // Each number fits a header.
+    ensures ulx_ok { IsCoordinate result.ulx }
+    ensures uly_ok { IsCoordinate result.uly }
+    ensures xdim_ok { IsCoordinate result.xdim }
+    ensures ydim_ok { IsCoordinate result.ydim }
+{
+    let spacing = layout.spacing();
+    Place {
+        ulx: layout.west_edge(),
+        uly: layout.north_edge(),
+        xdim: spacing,
+        ydim: spacing,
+    }
+}
 
 /// What a file holds of a product.
 #[derive(Clone, Copy, PartialEq, Eq, Debug)]

@@ -1,23 +1,167 @@
-//! Products of elevations that are right by proof: routes, then what follows from them.
+//! The five rasters of an elevation.
 
-ghost use Rattle.std.specs.Prelude.{◌≡◌, List, IfOk};
-ghost use Rattle.drain_grid.specs.declared.sink_line.SinkLine.{SinkLine};
-ghost use Rattle.drain_grid.specs.Product.{default_numbers};
-ghost use Rattle.drain_grid.specs.Rasters.{Heights};
+ghost use Rattle.std.specs.Prelude.{◌≡◌, ◌*◌, pos, map, true, false, All, vec_len, IfOk, length, List};
+ghost use Rattle.drain_grid.specs.Product.{default_no_data, default_numbers};
+ghost use Rattle.drain_grid.specs.Grid.{ArePixels, Heights, Grid};
+ghost use Rattle.drain_raster.specs.Bytes.{CanSpellIn, CanSpellAllIn};
 ghost use Rattle.drain_grid.specs.WholeGrid.{grid_of, products_of, nodata_of};
-ghost use Rattle.drain_surface.specs.Floods.{IsFlooded};
-ghost use Rattle.drain_maker.specs.Made.{AreRasters, AreMadeSpelled};
-ghost use Rattle.drain_maker.specs.RoutedProducts.{AreRightProducts};
+ghost use Rattle.drain_flood.specs.Floods.{IsFlooded};
+ghost use Rattle.drain_maker.specs.Made.{AreRoutes, SomeRunsEnd, AreCountsAndLabels, AreRightProducts, AreRasters, AreMadeSpelled};
+ghost use Rattle.drain_paths.specs.Basins.{AreBasinLabels};
+ghost use Rattle.drain_paths.specs.Flows.{bytes_flows, OfFlows};
+ghost use Rattle.drain_paths.specs.Inflows.{AreUpstreamCounts};
+ghost use Rattle.drain_grid.specs.declared.sink_line.SinkLine.{SinkLine};
 
-use crate::as_elevation::AsElevation;
-use crate::counts_and_labels::count_and_label;
-use crate::follow::Follow;
+use crate::follow::{Follow, Part};
 use crate::laws::routes_keep_rules;
-use crate::rasters::{raster_of_codes, raster_of_counts, raster_of_heights};
-use crate::route::{flooded, route};
-use drain_grid::{OutOfMemory, Product, ProductSet, Sinks};
-use drain_surface::Flood;
+use crate::mosaic::AsElevation;
+use drain_flood::{Flood, fill, ways_on_flats};
+use drain_grid::{Elevation, OutOfMemory, Product, ProductSet, Raster, Shape, Sinks};
+use drain_paths::{CertifyRefusal, accumulate, flows_of_codes, label_code_basins};
 use std::alloc::Global;
+
+/// The raster of a product of heights.
+pub(crate) fn raster_of_heights(shape: Shape, product: Product, heights: Vec<i16>) -> Raster
+    requires { vec_len heights ≡ shape.rows * shape.cols }
+    ensures is { result ≡ record { extent = shape; nodata = default_no_data product; numbers = heights.items } }
+    ensures pixels { ArePixels result }
+    ensures spelled { CanSpellAllIn true 16 result }
+{
+    look_at_each(&heights);
+    Raster::of_heights(shape, product.default_no_data(), heights)
+}
+
+/// The raster of a product of codes.
+pub(crate) fn raster_of_codes(shape: Shape, product: Product, codes: Vec<u8>) -> Raster
+    requires { vec_len codes ≡ shape.rows * shape.cols }
+    ensures is { result ≡ record { extent = shape; nodata = default_no_data product; numbers = map (λ n. pos n) codes.items } }
+    ensures pixels { ArePixels result }
+    ensures spelled { CanSpellAllIn false 8 result }
+{
+    Raster::of_bytes(shape, product.default_no_data(), codes)
+}
+
+/// The raster of a product of counts, labels or ranks.
+pub(crate) fn raster_of_counts(shape: Shape, product: Product, counts: Vec<u32>) -> Raster
+    requires { vec_len counts ≡ shape.rows * shape.cols }
+    ensures is { result ≡ record { extent = shape; nodata = default_no_data product; numbers = map (λ n. pos n) counts.items } }
+    ensures pixels { ArePixels result }
+    ensures spelled { CanSpellAllIn false 32 result }
+{
+    Raster::of_counts(shape, product.default_no_data(), counts)
+}
+
+/// Each height is a number of 16 bits. The body only shows this to the prover, height by height.
+fn look_at_each(heights: &[i16])
+    ensures { All (CanSpellIn true 16) heights.now }
+{
+    for place in 0..heights.len() {
+        look_at(heights[place]);
+    }
+}
+
+/// A height is a number of 16 bits.
+fn look_at(_height: i16)
+    ensures { CanSpellIn true 16 _height }
+{}
+
+/// The conditioned elevation, the rank and the code of each cell, in row order.
+#[derive(Drop)]
+pub(crate) struct Routes {
+    pub con: Vec<i16>,
+    pub rnk: Vec<u32>,
+    pub dir: Vec<u8>,
+}
+
+/// Fills a grid.
+pub(crate) fn flooded(
+    alloc: Global,
+    elevation: &Elevation,
+    sinks: &Sinks,
+    follow: &mut impl Follow,
+) -> Result<Flood, OutOfMemory>
+    ensures extent { IfOk result (λ flood. flood.extent ≡ elevation.now.extent) }
+    ensures flooded { IfOk result (IsFlooded (grid_of elevation.now sinks.now)) }
+{
+    follow.begin(Part::Surface);
+    fill(alloc, elevation, sinks)
+}
+
+/// Gives each cell of a flooded grid its way. What only the flood needs is freed first.
+pub(crate) fn route(
+    alloc: Global,
+    flood: Flood,
+    follow: &mut impl Follow,
+) -> Result<Routes, OutOfMemory>
+    ensures con { IfOk result (λ routes. vec_len routes.con ≡ flood.extent.rows * flood.extent.cols) }
+    ensures rnk { IfOk result (λ routes. vec_len routes.rnk ≡ flood.extent.rows * flood.extent.cols) }
+    ensures dir { IfOk result (λ routes. vec_len routes.dir ≡ flood.extent.rows * flood.extent.cols) }
+    ensures routes { IfOk result (λ routes. (g : Grid) → g.extent ≡ flood.extent → IsFlooded g flood → AreRoutes g routes.con.items routes.rnk.items routes.dir.items) }
+{
+    follow.begin(Part::Directions);
+    let surface = flood.into_surface(alloc)?;
+    let flats = ways_on_flats(alloc, &surface)?;
+    let con = surface.into_heights();
+    let ways = flats.into_codes_and_ranks();
+    Ok(Routes {
+        con,
+        rnk: ways.rnk,
+        dir: ways.way,
+    })
+}
+
+/// The count and the label of each cell, in row order.
+#[derive(Drop)]
+pub(crate) struct CountsAndLabels {
+    pub counts: Vec<u32>,
+    pub labels: Vec<u32>,
+}
+
+/// The counts and labels of the codes of all cells of a grid, a byte per cell, where every run ends. Labels come last and
+/// take the codes alone, so no more than both is in memory then.
+pub(crate) fn count_and_label(
+    alloc: Global,
+    codes: &[u8],
+    shape: Shape,
+    follow: &mut impl Follow,
+) -> Result<CountsAndLabels, OutOfMemory>
+    requires counted { length codes.now ≡ shape.rows * shape.cols }
+    requires ends { SomeRunsEnd shape (bytes_flows codes.now) }
+    ensures counts { IfOk result (λ both. vec_len both.counts ≡ shape.rows * shape.cols) }
+    ensures labels { IfOk result (λ both. vec_len both.labels ≡ shape.rows * shape.cols) }
+    ensures right { IfOk result (λ both. OfFlows shape (bytes_flows codes.now) (λ g ps. AreCountsAndLabels g ps shape both.counts.items both.labels.items)) }
+{
+    follow.begin(Part::Counts);
+    let counts = count_ended(alloc, codes, shape)?;
+    follow.begin(Part::Labels);
+    let labels = label_ended(alloc, codes, shape)?;
+    Ok(CountsAndLabels { counts, labels })
+}
+
+/// The counts alone. Their flows are freed.
+fn count_ended(alloc: Global, codes: &[u8], shape: Shape) -> Result<Vec<u32>, OutOfMemory>
+    requires counted { length codes.now ≡ shape.rows * shape.cols }
+    requires ends { SomeRunsEnd shape (bytes_flows codes.now) }
+    ensures counted { IfOk result (λ counts. vec_len counts ≡ shape.rows * shape.cols) }
+    ensures counts { IfOk result (λ counts. OfFlows shape (bytes_flows codes.now) (λ g ps. AreUpstreamCounts g ps shape counts.items)) }
+{
+    let flows = flows_of_codes(alloc, codes)?;
+    accumulate(alloc, &flows, shape)
+}
+
+/// The labels alone.
+fn label_ended(alloc: Global, codes: &[u8], shape: Shape) -> Result<Vec<u32>, OutOfMemory>
+    requires counted { length codes.now ≡ shape.rows * shape.cols }
+    requires ends { SomeRunsEnd shape (bytes_flows codes.now) }
+    ensures counted { IfOk result (λ labels. vec_len labels ≡ shape.rows * shape.cols) }
+    ensures labels { IfOk result (λ labels. OfFlows shape (bytes_flows codes.now) (λ g ps. AreBasinLabels g ps shape labels.items)) }
+{
+    match label_code_basins(alloc, codes, shape) {
+        Ok(labels) => Ok(labels),
+        Err(CertifyRefusal::OutOfMemory) => Err(OutOfMemory),
+        Err(CertifyRefusal::NoEnd(_)) => unreachable!(),
+    }
+}
 
 /// The products of a grid's elevations with these sinks, with the default no-data numbers. The elevations are dropped
 /// once the grid is flooded.
@@ -40,7 +184,7 @@ pub(crate) fn build<E: AsElevation + Drop>(
 
 /// The products of a flooded grid. It isn't inlined, so that a profile shows it.
 #[inline(never)]
-#[tactic(auto, using(crate::proofs::Spelling::each_spelled))]
+#[tactic(auto, using(crate::proofs::FileLemmas::each_spelled))]
 fn build_on(
     alloc: Global,
     flood: Flood,

@@ -1,17 +1,11 @@
 pub mod CornerCells
-pub mod FirstLemmas
-pub mod JudgedEdges
 pub mod FirstOfFaults
 pub mod NewNumbers
 pub mod SortedOutlets
 pub mod SameValues
 pub mod SortedSeams
-pub mod SameNoData
-pub mod FlatLists
 pub mod MergedUnions
 pub mod MergedCounts
 pub mod MergeMeaning
-pub mod MapRefusals
 pub mod MovedWindows
-pub mod CellLists
 pub mod TakenSinks

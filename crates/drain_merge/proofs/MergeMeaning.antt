@@ -6,20 +6,20 @@ use Rattle.drain_grid.specs.declared.rule.Rule.TheVariants.{SharedLabel}
 use Rattle.drain_grid.specs.Grid.{Grid, Products}
 use Rattle.drain_grid.specs.GridRules.{IsFirstFault}
 use Rattle.drain_grid.specs.Rule.{IsAnyRule, IsPatchRule}
-use Rattle.drain_grid.specs.Size.{Extent}
+use Rattle.drain_grid.specs.Extent.{Extent}
 use Rattle.drain_grid.specs.Unranked.{unranked}
 use Rattle.drain_grid.specs.Values.{NoDataNumbers}
 use Rattle.drain_grid.specs.declared.verdict.Verdict.{Verdict}
 use Rattle.drain_grid.specs.declared.verdict.Verdict.TheVariants.{Accepted as WindowAccepted, Rejected as WindowRejected}
-use Rattle.drain_grid.proofs.Options.{none_some}
+use Rattle.drain_grid.proofs.Tallies.{none_some}
 use Rattle.drain_union.specs.declared.place.Place.{Place}
-use Rattle.drain_merge.specs.declared.faults.Fault.{Fault}
-use Rattle.drain_union.specs.declared.window_report.WindowReport.{WindowReport}
+use Rattle.drain_merge.specs.declared.merge_verdict.Fault.{Fault}
+use Rattle.drain_union.specs.declared.report.WindowReport.{WindowReport}
 use Rattle.drain_merge.specs.declared.merge_verdict.MergeVerdict.{MergeVerdict}
 use Rattle.drain_merge.specs.declared.merge_verdict.MergeVerdict.TheVariants.{Accepted, Rejected}
-use Rattle.drain_merge.specs.Faults.{fault_in, IsFirstOfFaults}
+use Rattle.drain_merge.specs.Seams.{fault_in, IsFirstOfFaults}
 use Rattle.drain_merge.specs.Merges.{IsMerged}
-use Rattle.drain_merge.specs.Sizes.{FitsNumbers}
+use Rattle.drain_merge.specs.Places.{FitsNumbers}
 use Rattle.drain_merge.specs.UnionVerdicts.{IsRejected, SomeIsRejected, IsTriedWith, IsUnionVerdict}
 use Rattle.drain_merge.proofs.MergedCounts.{union_counts}
 use Rattle.drain_merge.proofs.MergedUnions.{can_merge, union_of_all, is_correct, not_correct, first_of_patches, first_shared_label}

@@ -4,25 +4,24 @@ use Rattle.std.specs.List.{AllPairs, Contains, sum_by}
 use Rattle.std.proofs.lemmas.List.{get_or-map, length-map}
 use Rattle.std.proofs.lemmas.List.Elements.{Contains-get_or}
 use Rattle.std.proofs.lemmas.Nat.{mul-le}
-use Rattle.drain_grid.specs.Counts.{is_data, is_raised}
+use Rattle.drain_grid.specs.GridRules.{is_data, is_raised}
 use Rattle.drain_grid.specs.Grid.{Grid, Products}
-use Rattle.drain_grid.specs.Size.{Extent}
+use Rattle.drain_grid.specs.Extent.{Extent}
 use Rattle.drain_grid.specs.Values.{NoDataNumbers}
 use Rattle.drain_grid.proofs.CellSums.{sum_by_cells_le}
 use Rattle.drain_rules.specs.Verdicts.{has_outlet_code}
 use Rattle.drain_grid.specs.declared.verdict.Verdict.{Verdict}
 use Rattle.drain_grid.specs.declared.verdict.Verdict.TheVariants.{Accepted, Rejected}
-use Rattle.drain_grid.proofs.Options.{none_some}
+use Rattle.drain_grid.proofs.Tallies.{none_some}
 use Rattle.drain_union.specs.declared.place.Place.{Place}
-use Rattle.drain_union.specs.Judged.{BothJudgeOne}
+use Rattle.drain_union.specs.Windows.{BothJudgeOne, Window, AreWindowsOf, JudgeAll}
 use Rattle.drain_union.specs.JudgedCounts.{judged_data, judged_raised, judged_outlets}
 use Rattle.drain_union.specs.Reports.{Report}
-use Rattle.drain_union.specs.Windows.{Window, AreWindowsOf, JudgeAll}
-use Rattle.drain_union.specs.declared.window_report.WindowReport.{WindowReport}
+use Rattle.drain_union.specs.declared.report.WindowReport.{WindowReport}
 use Rattle.drain_union.proofs.JudgedCounts.{counts_add_up, listed_same, sum_by_map}
 use Rattle.drain_merge.specs.declared.totals.UnionCounts.{UnionCounts}
-use Rattle.drain_merge.specs.Faults.{fault_in, IsFirstOfFaults}
-use Rattle.drain_merge.specs.Lists.{reports_of, places_of}
+use Rattle.drain_merge.specs.Seams.{fault_in, IsFirstOfFaults}
+use Rattle.drain_merge.specs.Places.{reports_of, places_of}
 use Rattle.drain_merge.specs.Merges.{HaveNoData, FillUnion}
 use Rattle.drain_merge.specs.Totals.{AreCountsOf, AreUnionCounts, capped, data_cells_in, data_cells_of, outlets_in, outlets_of, raised_in, raised_of}
 use Rattle.drain_merge.specs.UnionVerdicts.{IsVerdictInside, AreJudgedFrom, windows_of}

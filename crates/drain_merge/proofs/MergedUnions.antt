@@ -7,39 +7,35 @@ use Rattle.drain_grid.specs.declared.cell.Cell.{Cell}
 use Rattle.drain_grid.specs.declared.rule.Rule.{Rule}
 use Rattle.drain_grid.specs.declared.rule.Rule.TheVariants.{SharedLabel}
 use Rattle.drain_grid.specs.Correct.{IsCorrect}
-use Rattle.drain_grid.specs.Extent.{IsCellOf, IsEarlier}
+use Rattle.drain_grid.specs.Extent.{IsCellOf, IsEarlier, Extent}
 use Rattle.drain_grid.specs.Grid.{Grid, Products, IsInside, HasData}
 use Rattle.drain_grid.specs.GridRules.{HoldsAt, IsEarlierPair, IsFirstFault}
 use Rattle.drain_grid.specs.Rule.{IsAnyRule, IsPatchRule}
-use Rattle.drain_grid.specs.Size.{Extent}
 use Rattle.drain_grid.specs.Unranked.{unranked}
 use Rattle.drain_grid.specs.Values.{NoDataNumbers}
 use Rattle.drain_grid.proofs.Exactly.{correct_by_rules_alone}
 use Rattle.drain_grid.proofs.Neighbors.{place}
 use Rattle.drain_grid.specs.declared.verdict.Verdict.{Verdict}
 use Rattle.drain_grid.specs.declared.verdict.Verdict.TheVariants.{Accepted as WindowAccepted, Rejected as WindowRejected}
-use Rattle.drain_grid.proofs.Options.{none_some, same_some}
-use Rattle.drain_union.specs.declared.outlet.Outlet.{Outlet}
+use Rattle.drain_grid.proofs.Tallies.{none_some, same_some}
+use Rattle.drain_union.specs.declared.report.Outlet.{Outlet}
 use Rattle.drain_union.specs.declared.place.Place.{Place}
 use Rattle.drain_union.specs.declared.place.TheConstants.{SEAM_DEPTH}
 use Rattle.drain_union.specs.declared.report.Shown.{Shown}
-use Rattle.drain_union.specs.Outlets.{ListsOutlets, ShareNoLabel}
-use Rattle.drain_union.specs.Judged.{BothJudgeOne, JudgesSome}
-use Rattle.drain_union.specs.Reports.{Report, IsReportOf, CanMerge, ShowTheSame}
-use Rattle.drain_union.specs.Windows.{Window, in_union, IsPlaceIn, IsJudgedIn, IsJudgedAtSome, JudgeAll, RulesHoldInside, IsFirstInside, IsNotBefore, IsJudgedOutlet, NoLabelIsShared, AreWindowsOf}
+use Rattle.drain_union.specs.Reports.{ListsOutlets, ShareNoLabel, Report, IsReportOf, CanMerge, ShowTheSame}
+use Rattle.drain_union.specs.Windows.{BothJudgeOne, JudgesSome, Window, in_union, IsPlaceIn, IsJudgedIn, IsJudgedAtSome, JudgeAll, RulesHoldInside, IsFirstInside, IsNotBefore, IsJudgedOutlet, NoLabelIsShared, AreWindowsOf}
 use Rattle.drain_union.proofs.FirstFaults.{least_fault_is_first}
 use Rattle.drain_union.proofs.ApartPlaces.{judged_apart}
 use Rattle.drain_union.proofs.ReportMerges.{from_map, to_map, one_union}
 use Rattle.drain_union.proofs.Unions.{by_patch, correct_by_windows, outlet_there, outlet_back, bas_same}
 use Rattle.drain_union.proofs.WindowPatches.{patch_of_window}
-use Rattle.drain_merge.specs.declared.faults.Fault.{Fault}
-use Rattle.drain_union.specs.declared.window_report.WindowReport.{WindowReport}
-use Rattle.drain_merge.specs.Faults.{cell_there, fault_in, union_fault, IsFirstOfFaults}
-use Rattle.drain_merge.specs.Lists.{reports_of, places_of, all_outlets, all_seams}
+use Rattle.drain_merge.specs.declared.merge_verdict.Fault.{Fault}
+use Rattle.drain_union.specs.declared.report.WindowReport.{WindowReport}
+use Rattle.drain_merge.specs.Seams.{cell_there, fault_in, union_fault, IsFirstOfFaults, IsFirstSharing}
+use Rattle.drain_merge.specs.Places.{reports_of, places_of, all_outlets, all_seams}
 use Rattle.drain_merge.specs.Merges.{HaveNoData, FillUnion}
-use Rattle.drain_merge.specs.Shared.{IsFirstSharing}
 use Rattle.drain_merge.specs.UnionVerdicts.{IsVerdictInside, AreJudgedFrom, windows_of}
-use Rattle.drain_merge.proofs.FlatLists.{from_flat, in_flat, same_places}
+use Rattle.drain_merge.proofs.SortedSeams.{from_flat, in_flat, same_places}
 
 -- an element of the reports is a window's
 from_reports : (ws : List WindowReport) (r : Report) → Contains (reports_of ws) r → (j : WindowReport) × Contains ws j × (j.report ≡ r)

@@ -1,5 +1,12 @@
 -- What is handed over of a window of a map is so of the window that is counted from another cell.
-use Rattle.std.proofs.Common.{◌≡◌, ℕ, zero, suc, ◌+◌, ◌-◌, ◌≤◌, ◌^◌, ◌≤ℤ◌, min, fold, List, [], ◌∷◌, length, map, slice_index_or, sym, ap, subst, ◌∙◌, arith}
+use Rattle.std.proofs.Common.{◌≡◌, inr, List, map, subst, ap, ◌∙◌, ℕ, zero, suc, ◌+◌, ◌-◌, ◌≤◌, ◌^◌, ◌≤ℤ◌, min, fold, [], ◌∷◌, length, slice_index_or, sym, arith}
+use Rattle.drain_union.specs.declared.report.WindowReport.{WindowReport}
+use Rattle.drain_merge.specs.declared.map_merge.UnionBox.{UnionBox}
+use Rattle.drain_merge.specs.declared.merge_verdict.MergeRefusal.{MergeRefusal}
+use Rattle.drain_merge.specs.declared.merge_verdict.MergeRefusal.TheVariants.{OutOfMemory}
+use Rattle.drain_merge.specs.declared.totals.UnionSinks.{UnionSinks}
+use Rattle.drain_merge.specs.MapBoxes.{box_of, boxed, HaveOneSide, IsBoxRefusal, IsMapRefusal, top_of, left_of, JudgedFromMap, BoxBegins}
+use Rattle.drain_merge.specs.Places.{judged_from, cell_from, place_from, outlet_from, shown_from, window_from}
 use Rattle.std.specs.List.{Contains}
 use Rattle.std.proofs.lemmas.List.{get_or-map, length-map}
 use Rattle.drain_grid.specs.declared.cell.Cell.{Cell}
@@ -8,19 +15,27 @@ use Rattle.drain_grid.specs.Values.{NoDataNumbers}
 use Rattle.drain_grid.proofs.Neighbors.{place}
 use Rattle.drain_grid.specs.declared.verdict.Verdict.{Verdict}
 use Rattle.drain_grid.specs.declared.verdict.Verdict.TheVariants.{Accepted, Rejected}
-use Rattle.drain_union.specs.declared.outlet.Outlet.{Outlet}
+use Rattle.drain_union.specs.declared.report.Outlet.{Outlet}
 use Rattle.drain_union.specs.declared.place.Place.{Place}
 use Rattle.drain_union.specs.declared.place.TheConstants.{SEAM_DEPTH}
 use Rattle.drain_union.specs.declared.report.Shown.{Shown}
-use Rattle.drain_union.specs.Outlets.{ListsOutlets, IsSortedByLabel}
-use Rattle.drain_union.specs.Reports.{IsOnSeam, ListsSeams, ListsSinks}
+use Rattle.drain_union.specs.Reports.{ListsOutlets, IsSortedByLabel, IsOnSeam, ListsSeams, ListsSinks}
 use Rattle.drain_union.specs.Windows.{Window, in_union, IsJudgedIn, IsJudgedOutlet, RulesHoldInside}
 use Rattle.drain_union.proofs.ReportMerges.{from_map, to_map}
-use Rattle.drain_union.specs.declared.window_report.WindowReport.{WindowReport}
-use Rattle.drain_merge.specs.MapBoxes.{top_of, left_of}
-use Rattle.drain_merge.specs.MapLaws.{JudgedFromMap, BoxBegins}
-use Rattle.drain_merge.specs.Moved.{cell_from, place_from, outlet_from, shown_from, window_from}
 use Rattle.drain_merge.specs.UnionVerdicts.{IsVerdictInside}
+
+-- A refusal of the windows that are counted from their box is one of the windows on the map.
+
+of_box : (sinks : UnionSinks) (ws : List WindowReport) (r : MergeRefusal) → HaveOneSide ws → IsBoxRefusal (box_of ws).size sinks (boxed ws) r → IsMapRefusal sinks ws r
+of_box sinks ws OutOfMemory one is = tt
+of_box sinks ws r one is = inr (one, is)
+
+pub map_refusal : (sinks : UnionSinks) (ws moved : List WindowReport) (b : UnionBox) (r : MergeRefusal) → HaveOneSide ws → b ≡ box_of ws →
+    moved ≡ map (judged_from b.origin) ws → IsBoxRefusal b.size sinks moved r → IsMapRefusal sinks ws r
+map_refusal sinks ws moved b r one bounds is refused =
+    let all : moved ≡ boxed ws = is ∙ ap (λ (x : UnionBox). map (judged_from x.origin) ws) bounds in
+    of_box sinks ws r one
+    (subst (λ (x : UnionBox). IsBoxRefusal x.size sinks (boxed ws) r) bounds (subst (λ (xs : List WindowReport). IsBoxRefusal b.size sinks xs r) all refused))
 
 module _ (o : Cell) (p : Place) (top : o.row ≤ p.top) (left : o.col ≤ p.left) where
   -- a cell of the place, counted from the other cell

@@ -5,7 +5,7 @@ use Rattle.std.specs.List.{Contains}
 use Rattle.std.specs.List.Sorted.{IsNonDecreasing}
 use Rattle.std.proofs.lemmas.List.{get_or_default}
 use Rattle.drain_grid.proofs.Decisions.{cases, same_number, less_number}
-use Rattle.drain_merge.specs.Corners.{IsNewBelow}
+use Rattle.drain_merge.specs.Seams.{IsNewBelow}
 
 -- the first so many of the numbers, as far as they are below the end, have the property
 abbrev pub Passed : (ℕ → Type 0) → List ℕ → ℕ → ℕ → Type 0

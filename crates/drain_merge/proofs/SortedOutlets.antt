@@ -11,12 +11,12 @@ use Rattle.std.proofs.lemmas.List.Elements.{Contains-get_or}
 use Rattle.drain_grid.specs.declared.cell.Cell.{Cell}
 use Rattle.drain_grid.specs.Extent.{IsEarlier}
 use Rattle.drain_grid.proofs.Neighbors.{place}
-use Rattle.drain_grid.proofs.CellOrder.{earlier_trans, earlier_differs}
+use Rattle.drain_grid.proofs.Alike.{earlier_trans, earlier_differs}
 use Rattle.drain_grid.proofs.Lowered.{same_or_not}
-use Rattle.drain_union.specs.declared.outlet.Outlet.{Outlet}
-use Rattle.drain_union.specs.Outlets.{SharesAt}
-use Rattle.drain_merge.proofs.FirstLemmas.{both_permuted, pair_permuted}
-use Rattle.drain_merge.specs.Shared.{IsNoSooner, AreInOrder, IsLeastSharing, SharesWithEarlier, IsFirstSharing, IsEarlierOf}
+use Rattle.drain_union.specs.declared.report.Outlet.{Outlet}
+use Rattle.drain_union.specs.Reports.{SharesAt}
+use Rattle.drain_merge.proofs.FirstOfFaults.{both_permuted, pair_permuted}
+use Rattle.drain_merge.specs.Seams.{IsNoSooner, AreInOrder, IsLeastSharing, SharesWithEarlier, IsFirstSharing, IsEarlierOf}
 
 -- what a comparison of cells says
 pub cell_order : (a b : Cell) → is_lt (ordering_then (nat_cmp b.row a.row) (nat_cmp b.col a.col)) ≡ false → IsEarlier a b ⊎ (a ≡ b)

@@ -1,19 +1,68 @@
 -- What is shown, sorted in row order: what neighbours in the list say of the rest.
-use Rattle.std.proofs.Common.{◌≡◌, ℕ, zero, suc, ◌+◌, ◌-◌, ◌<◌, ◌≤◌, ◌⊎◌, inl, inr, Option, Some, None, List, length, slice_index_or, refl, sym, ap, subst, ◌∙◌, arith}
-use Rattle.std.specs.List.{Contains}
-use Rattle.std.specs.List.Sorted.{IsPermutation}
-use Rattle.std.proofs.lemmas.Bool.{cases_order}
-use Rattle.std.proofs.lemmas.List.{get_or_default}
-use Rattle.std.proofs.lemmas.List.Elements.{Contains-get_or}
-use Rattle.std.proofs.lemmas.List.Sorted.{all_adjacent_more}
+use Rattle.std.proofs.Common.{◌≡◌, ℕ, zero, suc, true, inl, inr, Some, List, [], ◌∷◌, slice_get, sym, ap, arith, map, refl, subst, ◌+◌, ◌-◌, ◌<◌, ◌≤◌, ◌⊎◌, Option, None, length, slice_index_or, ◌∙◌}
+use Rattle.std.specs.List.{Contains, flat_map}
+use Rattle.std.proofs.lemmas.Bool.{false≢true, or_cases, cases_order}
 use Rattle.drain_grid.specs.declared.cell.Cell.{Cell}
-use Rattle.drain_grid.specs.Extent.{IsEarlier}
+use Rattle.drain_grid.specs.Extent.{same_cell, IsEarlier}
+use Rattle.drain_grid.proofs.CellSums.{same_cell_true}
+use Rattle.drain_grid.specs.CellLists.{is_among}
+use Rattle.std.proofs.lemmas.List.Elements.{Contains-append_left, Contains-append_right, Contains-append_cases, Contains-get_or}
+use Rattle.drain_union.specs.declared.place.Place.{Place}
+use Rattle.drain_union.specs.declared.report.WindowReport.{WindowReport}
+use Rattle.drain_merge.specs.Places.{reports_of, places_of}
+use Rattle.std.specs.List.Sorted.{IsPermutation}
+use Rattle.std.proofs.lemmas.List.{get_or_default}
+use Rattle.std.proofs.lemmas.List.Sorted.{all_adjacent_more}
 use Rattle.drain_union.specs.declared.report.Shown.{Shown}
 use Rattle.drain_merge.specs.Seams.{Differ, IsFirstDifference, AreInRowOrder, NoneDiffersBelow, IsFirstDiffering}
 use Rattle.drain_grid.proofs.Decisions.{cases, passes}
-use Rattle.drain_grid.proofs.CellOrder.{earlier_trans, earlier_differs}
-use Rattle.drain_merge.proofs.FirstLemmas.{both_permuted, pair_permuted}
+use Rattle.drain_grid.proofs.Alike.{earlier_trans, earlier_differs}
+use Rattle.drain_merge.proofs.FirstOfFaults.{both_permuted, pair_permuted}
 use Rattle.drain_merge.proofs.SameValues.{values_test, same_values, values_pass}
+
+-- Cells of a list, by a test and by their places.
+
+-- a cell that passes the test is in the list
+pub contained_if_has : (cells : List Cell) (c : Cell) → is_among cells c ≡ true → Contains cells c
+contained_if_has [] c is = absurd (false≢true is)
+contained_if_has (d ∷ cells) c is =
+    elim (or_cases (same_cell c d) (is_among cells c) is) [
+      | inl same ↦ (0, omega arith, sym (same_cell_true c d same))
+      | inr more ↦ (let at = contained_if_has cells c more in (suc at.0, omega (arith, at.1), at.2))
+    ]
+
+-- the place of a cell in the list
+pub at_place : (cells : List Cell) (c : Cell) → Contains cells c → (k : ℕ) × (slice_get cells k ≡ Some c)
+at_place [] c has = absurd (omega (arith, has.1))
+at_place (d ∷ cells) c (zero, below, is) = (0, ap Some is)
+at_place (d ∷ cells) c (suc k, below, is) = (let at = at_place cells c (k, omega (arith, below), is) in (suc at.0, at.1))
+
+-- What the lists of all windows hold.
+
+first_one : {X : Type 0} (x : X) (xs : List X) → Contains (x ∷ xs) x
+first_one x xs = (0, omega arith, refl)
+
+later_one : {X : Type 0} (v x : X) (xs : List X) → Contains xs x → Contains (v ∷ xs) x
+later_one v x xs has = (suc has.0, omega (arith, has.1), has.2)
+
+pub from_flat : {X Y : Type 0} (f : X → List Y) (xs : List X) (y : Y) → Contains (flat_map f xs) y → (x : X) × Contains xs x × Contains (f x) y
+from_flat f [] y has = absurd (omega (arith, has.1))
+from_flat f (x ∷ xs) y has =
+    elim (Contains-append_cases (f x) (flat_map f xs) y has) [
+      | inl here ↦ (x, first_one x xs, here)
+      | inr rest ↦ (let found = from_flat f xs y rest in (found.0, later_one x found.0 xs found.1, found.2))
+    ]
+
+pub in_flat : {X Y : Type 0} (f : X → List Y) (xs : List X) (x : X) (y : Y) → Contains xs x → Contains (f x) y → Contains (flat_map f xs) y
+in_flat f [] x y at inside = absurd (omega (arith, at.1))
+in_flat f (v ∷ xs) x y (zero, below, is) inside = Contains-append_left (f v) (flat_map f xs) y (subst (λ z. Contains (f z) y) (sym is) inside)
+in_flat f (v ∷ xs) x y (suc k, below, is) inside =
+    Contains-append_right (f v) (flat_map f xs) y (in_flat f xs x y (k, omega (arith, below), is) inside)
+
+-- where the windows lie, as their reports say
+pub same_places : (ws : List WindowReport) → map (λ r. r.place) (reports_of ws) ≡ places_of ws
+same_places [] = refl
+same_places (w ∷ ws) = ap (λ (ps : List Place). w.report.place ∷ ps) (same_places ws)
 
 -- x stands before y in row order, or they are of one cell
 abbrev IsBeforeOrAt : Shown → Shown → Type 0

@@ -4,32 +4,29 @@ use Rattle.std.proofs.Common.{◌≡◌, ◌⊎◌, Bool, true, false, inl, inr,
 use Rattle.std.specs.List.{Contains}
 use Rattle.drain_grid.specs.declared.cell.Cell.{Cell}
 use Rattle.drain_grid.specs.declared.sink_line.SinkLine.{SinkLine}
-use Rattle.drain_grid.specs.Extent.{IsCellOf}
+use Rattle.drain_grid.specs.Extent.{IsCellOf, Extent}
 use Rattle.drain_grid.specs.Grid.{Grid, Products}
-use Rattle.drain_grid.specs.SinkLines.{is_listed}
-use Rattle.drain_grid.specs.Size.{Extent}
+use Rattle.drain_grid.specs.SinkTexts.{is_listed}
 use Rattle.drain_grid.specs.Values.{Values, NoDataNumbers}
 use Rattle.drain_grid.specs.declared.verdict.Verdict.{Verdict}
 use Rattle.drain_grid.specs.declared.verdict.Verdict.TheVariants.{Accepted, Rejected}
 use Rattle.drain_union.specs.declared.place.Place.{Place}
 use Rattle.drain_union.specs.declared.place.TheConstants.{SEAM_DEPTH}
-use Rattle.drain_union.specs.declared.window_report.WindowReport.{WindowReport}
+use Rattle.drain_union.specs.declared.report.WindowReport.{WindowReport}
 use Rattle.drain_union.specs.Reports.{Report, ListsSinks, CanMerge}
 use Rattle.drain_union.specs.Windows.{Window, in_union, IsJudgedIn, RulesHoldInside, AreWindowsOf}
-use Rattle.drain_union.proofs.ListedLines.{line_of}
+use Rattle.drain_union.proofs.Merges.{line_of}
 use Rattle.drain_union.proofs.ReportMerges.{from_map, to_map}
 use Rattle.drain_merge.specs.declared.map_merge.UnionBox.{UnionBox}
 use Rattle.drain_merge.specs.declared.merge_verdict.MergeVerdict.{MergeVerdict}
-use Rattle.drain_merge.specs.declared.union_sinks.UnionSinks.{UnionSinks}
-use Rattle.drain_merge.specs.declared.union_sinks.UnionSinks.TheVariants.{AsTaken, Listed}
-use Rattle.drain_merge.specs.Lists.{reports_of, all_sinks}
+use Rattle.drain_merge.specs.declared.totals.UnionSinks.{UnionSinks}
+use Rattle.drain_merge.specs.declared.totals.UnionSinks.TheVariants.{AsTaken, Listed}
+use Rattle.drain_merge.specs.Places.{reports_of, all_sinks, judged_from}
 use Rattle.drain_merge.specs.MapBoxes.{AreTaken, box_of, boxed, HasMapSinks}
-use Rattle.drain_merge.specs.Moved.{judged_from}
 use Rattle.drain_grid.specs.CellLists.{is_among}
 use Rattle.drain_merge.specs.UnionSinks.{HasSinks, TakeLines}
 use Rattle.drain_merge.specs.UnionVerdicts.{IsVerdictInside, AreJudgedFrom, IsRejected, IsUnionVerdict, SomeIsRejected, windows_of}
-use Rattle.drain_merge.proofs.CellLists.{contained_if_has, at_place}
-use Rattle.drain_merge.proofs.FlatLists.{from_flat, in_flat}
+use Rattle.drain_merge.proofs.SortedSeams.{contained_if_has, at_place, from_flat, in_flat}
 
 -- two tests of which each passes where the other does
 one_test : (a b : Bool) → (a ≡ true → b ≡ true) → (b ≡ true → a ≡ true) → a ≡ b

@@ -1,15 +1,7 @@
-pub mod Corners
-pub mod Faults
-pub mod Lists
-pub mod Places
 pub mod Seams
-pub mod Shared
+pub mod Places
 pub mod Totals
 pub mod UnionSinks
 pub mod Merges
 pub mod UnionVerdicts
-pub mod Sizes
-pub mod Moved
 pub mod MapBoxes
-pub mod MapLaws
-pub mod MergeLines

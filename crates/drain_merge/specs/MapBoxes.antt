@@ -1,22 +1,22 @@
 -- The box on a map that holds windows, and the verdict on it. These definitions are this project's own.
-use Rattle.std.specs.Prelude.{◌≡◌, ℕ, ◌+◌, ◌-◌, ◌^◌, ◌⊎◌, min, max, Some, List, map, fold, slice_index_or}
-use Rattle.std.specs.List.{All}
+use Rattle.std.specs.Prelude.{◌≡◌, ℕ, ◌+◌, ◌-◌, ◌^◌, ◌⊎◌, min, max, Some, List, map, fold, slice_index_or, ◌≤◌}
+use Rattle.std.specs.List.{All, Contains}
 use Rattle.drain_grid.specs.Grid.{Grid, Products}
-use Rattle.drain_grid.specs.Size.{Extent}
+use Rattle.drain_grid.specs.Extent.{Extent}
 use Rattle.drain_union.specs.Reports.{Report}
 use Rattle.drain_union.specs.Windows.{Window, AreWindowsOf}
-use Rattle.drain_union.specs.declared.window_report.WindowReport.{WindowReport}
+use Rattle.drain_union.specs.declared.report.WindowReport.{WindowReport}
 use Rattle.drain_merge.specs.declared.map_merge.MapVerdict.{MapVerdict}
 use Rattle.drain_merge.specs.declared.map_merge.UnionBox.{UnionBox}
 use Rattle.drain_merge.specs.declared.merge_verdict.MergeRefusal.{MergeRefusal}
 use Rattle.drain_merge.specs.declared.merge_verdict.MergeRefusal.TheVariants.{OtherSide, OutOfMemory}
 use Rattle.drain_merge.specs.declared.merge_verdict.MergeVerdict.{MergeVerdict}
-use Rattle.drain_merge.specs.declared.union_sinks.UnionSinks.{UnionSinks}
+use Rattle.drain_merge.specs.declared.totals.UnionSinks.{UnionSinks}
 use Rattle.drain_merge.specs.Merges.{IsMergeRefusal}
-use Rattle.drain_merge.specs.Moved.{judged_from}
-use Rattle.drain_merge.specs.Places.{IsFirstFailing}
+use Rattle.drain_merge.specs.Places.{judged_from, IsFirstFailing, window_from}
 use Rattle.drain_merge.specs.UnionSinks.{HasSinks, IsSinkRefusal, TakeSinks}
-use Rattle.drain_merge.specs.UnionVerdicts.{AreJudgedFrom, IsUnionVerdict, SomeIsRejected, windows_of}
+use Rattle.drain_merge.specs.UnionVerdicts.{AreJudgedFrom, IsUnionVerdict, SomeIsRejected, windows_of, IsJudgedFrom}
+use Rattle.drain_grid.specs.declared.cell.Cell.{Cell}
 
 -- the least and the greatest number that windows have
 abbrev pub least_by : (WindowReport → ℕ) → List WindowReport → ℕ
@@ -94,3 +94,17 @@ abbrev pub IsMapRefusal : UnionSinks → List WindowReport → MergeRefusal → 
 IsMapRefusal sinks windows OutOfMemory = Unit {0}
 IsMapRefusal sinks windows refusal =
     IsSideRefusal windows refusal ⊎ (HaveOneSide windows × IsBoxRefusal (box_of windows).size sinks (boxed windows) refusal)
+
+-- What the box on a map has to do with the windows there. The laws are this project's own.
+
+-- what is handed over of a window of a map is, counted from a cell before it, so of the window counted from there
+abbrev pub JudgedFromMap : Type 0
+JudgedFromMap =
+    (origin : Cell) (w : Window) (j : WindowReport) → IsJudgedFrom w j → origin.row ≤ j.report.place.top → origin.col ≤ j.report.place.left →
+    IsJudgedFrom (window_from origin w) (judged_from origin j)
+
+-- no window begins before the box that holds them all
+abbrev pub BoxBegins : Type 0
+BoxBegins =
+    (windows : List WindowReport) (j : WindowReport) → Contains windows j →
+    ((box_of windows).origin.row ≤ j.report.place.top) × ((box_of windows).origin.col ≤ j.report.place.left)

@@ -3,23 +3,17 @@ use Rattle.std.specs.Prelude.{◌≡◌, ◌⊎◌, Some, None, List, [], slice_
 use Rattle.std.specs.List.{All, AllPairs}
 use Rattle.drain_grid.specs.declared.cell.Cell.{Cell}
 use Rattle.drain_grid.specs.declared.rule.Rule.TheVariants.{SharedLabel}
-use Rattle.drain_grid.specs.Extent.{IsCellOf}
-use Rattle.drain_grid.specs.Size.{Extent}
+use Rattle.drain_grid.specs.Extent.{IsCellOf, Extent}
 use Rattle.drain_grid.specs.Values.{NoDataNumbers}
 use Rattle.drain_union.specs.declared.place.Place.{Place}
-use Rattle.drain_union.specs.Judged.{BothJudgeOne, JudgesSome}
-use Rattle.drain_union.specs.Windows.{IsPlaceIn, IsJudgedAtSome}
-use Rattle.drain_union.specs.declared.window_report.WindowReport.{WindowReport}
+use Rattle.drain_union.specs.Windows.{BothJudgeOne, JudgesSome, IsPlaceIn, IsJudgedAtSome}
+use Rattle.drain_union.specs.declared.report.WindowReport.{WindowReport}
 use Rattle.drain_merge.specs.declared.merge_verdict.MergeRefusal.{MergeRefusal}
 use Rattle.drain_merge.specs.declared.merge_verdict.MergeRefusal.TheVariants.{NoReports, OtherSide, OtherNoData, OutsideUnion, JudgesNothing, Overlap, LeftOut, SeamsDiffer, SinkLeftOut, SinkNotListed, OutOfMemory}
 use Rattle.drain_merge.specs.declared.merge_verdict.MergeVerdict.{MergeVerdict}
 use Rattle.drain_merge.specs.declared.merge_verdict.MergeVerdict.TheVariants.{Accepted, Rejected}
-use Rattle.drain_merge.specs.Corners.{IsFirstUnjudged}
-use Rattle.drain_merge.specs.Faults.{IsFirstOfFaults}
-use Rattle.drain_merge.specs.Lists.{places_of, all_outlets, all_seams}
-use Rattle.drain_merge.specs.Places.{IsFirstFailing, IsFirstClash}
-use Rattle.drain_merge.specs.Seams.{IsFirstDifference}
-use Rattle.drain_merge.specs.Shared.{IsFirstSharing}
+use Rattle.drain_merge.specs.Seams.{IsFirstUnjudged, IsFirstOfFaults, IsFirstDifference, IsFirstSharing}
+use Rattle.drain_merge.specs.Places.{places_of, all_outlets, all_seams, IsFirstFailing, IsFirstClash}
 use Rattle.drain_merge.specs.Totals.{AreCountsOf}
 
 -- all windows have these no-data numbers

@@ -1,9 +1,44 @@
 -- When places of windows make a union. These definitions are this project's own.
-use Rattle.std.specs.Prelude.{ℕ, ◌<◌, Option, Some, None, List, length, slice_index_or}
-use Rattle.std.specs.List.{All, AllPairs, AllWithin, HoldsAt}
+use Rattle.std.specs.Prelude.{◌<◌, ◌^◌, List, map, ℕ, Option, Some, None, length, slice_index_or, ◌-◌}
+use Rattle.drain_grid.specs.Extent.{Extent}
+use Rattle.std.specs.List.{flat_map, All, AllPairs, AllWithin, HoldsAt}
+use Rattle.drain_grid.specs.declared.cell.Cell.{Cell}
+use Rattle.drain_union.specs.declared.report.Outlet.{Outlet}
 use Rattle.drain_union.specs.declared.place.Place.{Place}
-use Rattle.drain_union.specs.Judged.{BothJudgeOne}
+use Rattle.drain_union.specs.declared.report.Shown.{Shown}
+use Rattle.drain_union.specs.Reports.{Report}
+use Rattle.drain_union.specs.declared.report.WindowReport.{WindowReport}
+use Rattle.drain_union.specs.Windows.{BothJudgeOne, Window}
 use Rattle.drain_merge.specs.declared.places.Clash.{Clash}
+
+-- The size of a union.
+
+-- rows and columns are numbers of 32 bits
+pub record FitsNumbers (e : Extent) : Type 0 where
+  pub rows : e.rows < 2 ^ 32
+  pub cols : e.cols < 2 ^ 32
+
+-- What the windows of a union hand over. These definitions are this project's own.
+
+-- the reports
+abbrev pub reports_of : List WindowReport → List Report
+reports_of windows = map (λ w. w.report) windows
+
+-- where the windows lie
+abbrev pub places_of : List WindowReport → List Place
+places_of windows = map (λ w. w.report.place) windows
+
+-- the outlets of all windows
+abbrev pub all_outlets : List WindowReport → List Outlet
+all_outlets windows = flat_map (λ w. w.report.outlets) windows
+
+-- the listed sinks that all windows took
+abbrev pub all_sinks : List WindowReport → List Cell
+all_sinks windows = flat_map (λ w. w.report.sinks) windows
+
+-- what all windows show along their seams
+abbrev pub all_seams : List WindowReport → List Shown
+all_seams windows = flat_map (λ w. w.report.seams) windows
 
 -- the place in the list of the first element without the property, none where all have it
 abbrev pub IsFirstFailing : {X : Type 0} → (X → Type 0) → List X → Option ℕ → Type 0
@@ -21,3 +56,34 @@ IsFirstClash places None = AllPairs (λ p q. ¬ BothJudgeOne p q) places
 IsFirstClash places (Some clash) =
     (clash.earlier < clash.later) × (clash.later < length places)
     × ((d : Place) → BothJudgeOne (slice_index_or places clash.earlier d) (slice_index_or places clash.later d))
+
+-- What a window hands over, with rows and columns counted from another cell. These definitions are this project's own.
+
+abbrev pub cell_from : Cell → Cell → Cell
+cell_from origin c = record { row = c.row - origin.row; col = c.col - origin.col }
+
+abbrev pub place_from : Cell → Place → Place
+place_from origin p = record { top = p.top - origin.row; left = p.left - origin.col; extent = p.extent; inner = p.inner }
+
+abbrev pub outlet_from : Cell → Outlet → Outlet
+outlet_from origin x = record { label = x.label; cell = cell_from origin x.cell }
+
+abbrev pub shown_from : Cell → Shown → Shown
+shown_from origin x = record { cell = cell_from origin x.cell; values = x.values }
+
+abbrev pub report_from : Cell → Report → Report
+report_from origin r = record {
+  place = place_from origin r.place;
+  nodata = r.nodata;
+  holds = r.holds;
+  outlets = map (outlet_from origin) r.outlets;
+  seams = map (shown_from origin) r.seams;
+  sinks = map (cell_from origin) r.sinks;
+}
+
+abbrev pub judged_from : Cell → WindowReport → WindowReport
+judged_from origin j = record { side = j.side; tiles = j.tiles; verdict = j.verdict; report = report_from origin j.report }
+
+-- the window, as one of a union that begins at this cell
+abbrev pub window_from : Cell → Window → Window
+window_from origin w = record { place = place_from origin w.place; grid = w.grid; products = w.products }

@@ -1,10 +1,81 @@
 -- What windows show along their seams. These definitions are this project's own.
-use Rattle.std.specs.Prelude.{◌≡◌, ◌≢◌, ℕ, ◌-◌, ◌<◌, ◌⊎◌, Option, Some, None, List, length, slice_index_or}
+use Rattle.std.specs.Prelude.{◌≡◌, ℕ, ◌<◌, ◌⊎◌, ◌<ℤ◌, Option, Some, None, List, length, slice_index_or, ◌≢◌, ◌-◌, slice_index, ◌+◌, ◌^◌, min}
 use Rattle.std.specs.List.{AllAdjacentBelow, Contains}
 use Rattle.drain_grid.specs.declared.cell.Cell.{Cell}
-use Rattle.drain_grid.specs.Extent.{IsEarlier}
+use Rattle.drain_grid.specs.Extent.{IsEarlier, IsCellOf, Extent}
+use Rattle.drain_union.specs.declared.report.Outlet.{Outlet}
+use Rattle.drain_union.specs.Reports.{SharesAt, ShareNoLabel, ShowTheSame}
+use Rattle.drain_union.specs.declared.place.Place.{Place}
+use Rattle.drain_union.specs.Windows.{IsJudgedAtSome}
 use Rattle.drain_union.specs.declared.report.Shown.{Shown}
-use Rattle.drain_union.specs.Reports.{ShowTheSame}
+use Rattle.drain_grid.specs.GridRules.{IsEarlierPair}
+use Rattle.drain_grid.specs.declared.verdict.Verdict.{Verdict}
+use Rattle.drain_grid.specs.declared.verdict.Verdict.TheVariants.{Accepted, Rejected}
+use Rattle.drain_merge.specs.declared.merge_verdict.Fault.{Fault}
+use Rattle.drain_union.specs.declared.report.WindowReport.{WindowReport}
+
+-- Labels that two outlets share. These definitions are this project's own.
+
+-- x and y have one label, and x is at an earlier cell
+abbrev pub SharesWithEarlier : Outlet → Outlet → Type 0
+SharesWithEarlier x y = (x.label ≡ y.label) × IsEarlier x.cell y.cell
+
+-- the first cell in row order of an outlet with the label of one at an earlier cell, none where no label is shared
+abbrev pub IsFirstSharing : List Outlet → Option Cell → Type 0
+IsFirstSharing xs None = ShareNoLabel xs xs
+IsFirstSharing xs (Some c) =
+    ((x : Outlet) × (y : Outlet) × Contains xs x × Contains xs y × SharesWithEarlier x y × (y.cell ≡ c))
+    × ((x y : Outlet) → Contains xs x → Contains xs y → SharesWithEarlier x y → ¬ IsEarlier y.cell c)
+
+-- y has a greater label, or the same and is no earlier cell
+abbrev pub IsNoSooner : Outlet → Outlet → Type 0
+IsNoSooner x y = (x.label <ℤ y.label) ⊎ ((x.label ≡ y.label) × (IsEarlier x.cell y.cell ⊎ (x.cell ≡ y.cell)))
+
+-- labels never fall along the list, and outlets with one label are in row order
+abbrev pub AreInOrder : List Outlet → Type 0
+AreInOrder xs = AllAdjacentBelow IsNoSooner xs (length xs)
+
+-- up to this place, the first cell of the outlets that have the label of the one before them and are another cell
+abbrev pub IsLeastSharing : List Outlet → ℕ → Option Cell → Type 0
+IsLeastSharing xs high None = (k : ℕ) → 0 < k → k < high → ¬ SharesAt xs k
+IsLeastSharing xs high (Some c) =
+    ((k : ℕ) × (0 < k) × (k < high) × SharesAt xs k × ((d : Outlet) → (slice_index_or xs k d).cell ≡ c))
+    × ((k : ℕ) (d : Outlet) → 0 < k → k < high → SharesAt xs k → ¬ IsEarlier (slice_index_or xs k d).cell c)
+
+-- of a cell that may be missing and another the earlier one
+abbrev pub IsEarlierOf : Option Cell → Cell → Cell → Type 0
+IsEarlierOf None c e = e ≡ c
+IsEarlierOf (Some b) c e = ((e ≡ b) × ¬ IsEarlier c b) ⊎ ((e ≡ c) × IsEarlier c b)
+
+-- The first cell of a union that no window judges. These definitions are this project's own.
+
+-- the first cell in row order of a union of this size that is judged at no place, none where each cell is judged
+abbrev pub IsFirstUnjudged : Extent → List Place → Option Cell → Type 0
+IsFirstUnjudged e places None = (c : Cell) → IsCellOf e c → IsJudgedAtSome places c
+IsFirstUnjudged e places (Some c) =
+    IsCellOf e c × (¬ IsJudgedAtSome places c) × ((b : Cell) → IsCellOf e b → IsEarlier b c → IsJudgedAtSome places b)
+
+-- this column of the row is judged at some place
+abbrev pub IsJudgedCrossing : List Place → ℕ → ℕ → Type 0
+IsJudgedCrossing places row col = IsJudgedAtSome places (record { row = row; col = col })
+
+-- the first of these columns below the end that isn't judged in this row, none where all are
+abbrev pub IsFirstInRow : ℕ → ℕ → List ℕ → List Place → Option ℕ → Type 0
+IsFirstInRow end row cols places None = (col : ℕ) → Contains cols col → col < end → IsJudgedCrossing places row col
+IsFirstInRow end row cols places (Some col) =
+    Contains cols col × (col < end) × (¬ IsJudgedCrossing places row col)
+    × ((b : ℕ) → Contains cols b → b < col → IsJudgedCrossing places row b)
+
+-- the first crossing of these rows and columns in a union of this size that isn't judged, none where all are
+abbrev pub IsFirstCrossing : Extent → List ℕ → List ℕ → List Place → Option Cell → Type 0
+IsFirstCrossing e rows cols places None = (c : Cell) → Contains rows c.row → Contains cols c.col → IsCellOf e c → IsJudgedAtSome places c
+IsFirstCrossing e rows cols places (Some c) =
+    Contains rows c.row × Contains cols c.col × IsCellOf e c × (¬ IsJudgedAtSome places c)
+    × ((b : Cell) → Contains rows b.row → Contains cols b.col → IsCellOf e b → IsEarlier b c → IsJudgedAtSome places b)
+
+-- the number at this place is below the end, and it isn't the one before it
+abbrev pub IsNewBelow : List ℕ → ℕ → ℕ → Type 0
+IsNewBelow numbers k end = (slice_index numbers k < end) × (0 < k → slice_index numbers (k - 1) ≢ slice_index numbers k)
 
 -- x and y are of one cell and show other values
 abbrev pub Differ : Shown → Shown → Type 0
@@ -33,3 +104,34 @@ NoneDiffersBelow xs high = AllAdjacentBelow (λ x y. x.cell ≡ y.cell → x.val
 abbrev pub IsFirstDiffering : List Shown → Option ℕ → Type 0
 IsFirstDiffering xs None = NoneDiffersBelow xs (length xs)
 IsFirstDiffering xs (Some k) = (0 < k) × (k < length xs) × DiffersAt xs k × NoneDiffersBelow xs k
+
+-- The first faults of windows, at the union's cells. These definitions are this project's own.
+
+-- the union's cell at this row and column of a place; one that no union has where the numbers don't fit
+abbrev pub cell_there : Place → ℕ → ℕ → Cell
+cell_there p row col = record { row = min (p.top + row) (2 ^ 32 - 1); col = min (p.left + col) (2 ^ 32 - 1) }
+
+-- the fault of a rejected window
+abbrev pub fault_in : Place → Verdict → Option Fault
+fault_in p (Accepted counts) = None
+fault_in p (Rejected rule row col) = Some (record { cell = cell_there p row col; rule = rule })
+
+abbrev pub union_fault : WindowReport → Option Fault
+union_fault w = fault_in w.report.place w.verdict
+
+-- at an earlier cell, or at one cell of an earlier rule
+abbrev pub ComesBefore : Fault → Fault → Type 0
+ComesBefore a b = IsEarlierPair a.cell a.rule b.cell b.rule
+
+-- of two faults that may be missing, one before which the other doesn't come
+abbrev pub IsEarlierFault : Option Fault → Option Fault → Option Fault → Type 0
+IsEarlierFault None second found = found ≡ second
+IsEarlierFault (Some a) None found = found ≡ Some a
+IsEarlierFault (Some a) (Some b) found = ((found ≡ Some b) × ComesBefore b a) ⊎ ((found ≡ Some a) × ¬ ComesBefore b a)
+
+-- a fault of some window before which none of another comes, none where each window is accepted
+abbrev pub IsFirstOfFaults : List WindowReport → Option Fault → Type 0
+IsFirstOfFaults windows None = (w : WindowReport) → Contains windows w → union_fault w ≡ None
+IsFirstOfFaults windows (Some fault) =
+    ((w : WindowReport) × Contains windows w × (union_fault w ≡ Some fault))
+    × ((w : WindowReport) (other : Fault) → Contains windows w → union_fault w ≡ Some other → ¬ ComesBefore other fault)

@@ -1,12 +1,12 @@
 -- The counts of a union. These definitions are this project's own.
 use Rattle.std.specs.Prelude.{◌≡◌, ℕ, ◌-◌, ◌^◌, min, List, sum_by}
-use Rattle.drain_grid.specs.Counts.{data_count, raised_count}
+use Rattle.drain_grid.specs.GridRules.{data_count, raised_count}
 use Rattle.drain_grid.specs.Grid.{Grid, Products}
-use Rattle.drain_grid.specs.Size.{Extent}
+use Rattle.drain_grid.specs.Extent.{Extent}
 use Rattle.drain_grid.specs.declared.verdict.Verdict.{Verdict}
 use Rattle.drain_grid.specs.declared.verdict.Verdict.TheVariants.{Accepted, Rejected}
 use Rattle.drain_rules.specs.Verdicts.{outlet_count}
-use Rattle.drain_union.specs.declared.window_report.WindowReport.{WindowReport}
+use Rattle.drain_union.specs.declared.report.WindowReport.{WindowReport}
 use Rattle.drain_merge.specs.declared.totals.UnionCounts.{UnionCounts}
 
 -- the number, or the greatest of 64 bits

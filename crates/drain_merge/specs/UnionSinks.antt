@@ -4,14 +4,14 @@ use Rattle.drain_grid.specs.declared.cell.Cell.{Cell}
 use Rattle.drain_grid.specs.declared.sink_line.SinkLine.{SinkLine}
 use Rattle.drain_grid.specs.Extent.{IsCellOf}
 use Rattle.drain_grid.specs.Grid.{Grid}
-use Rattle.drain_grid.specs.SinkLines.{is_listed}
+use Rattle.drain_grid.specs.SinkTexts.{is_listed}
 use Rattle.drain_grid.specs.CellLists.{is_among}
-use Rattle.drain_union.specs.declared.window_report.WindowReport.{WindowReport}
+use Rattle.drain_union.specs.declared.report.WindowReport.{WindowReport}
 use Rattle.drain_merge.specs.declared.merge_verdict.MergeRefusal.{MergeRefusal}
 use Rattle.drain_merge.specs.declared.merge_verdict.MergeRefusal.TheVariants.{SinkLeftOut, SinkNotListed, OutOfMemory}
-use Rattle.drain_merge.specs.declared.union_sinks.UnionSinks.{UnionSinks}
-use Rattle.drain_merge.specs.declared.union_sinks.UnionSinks.TheVariants.{AsTaken, Listed}
-use Rattle.drain_merge.specs.Lists.{all_sinks}
+use Rattle.drain_merge.specs.declared.totals.UnionSinks.{UnionSinks}
+use Rattle.drain_merge.specs.declared.totals.UnionSinks.TheVariants.{AsTaken, Listed}
+use Rattle.drain_merge.specs.Places.{all_sinks}
 
 -- each line's cell is one of these
 abbrev pub HaveLines : List SinkLine → List Cell → Type 0

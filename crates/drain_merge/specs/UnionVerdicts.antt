@@ -1,5 +1,14 @@
 -- What the verdict on windows says of their union. These definitions are this project's own.
-use Rattle.std.specs.Prelude.{◌≡◌, ◌↔◌, ◌⊎◌, List, map}
+use Rattle.std.specs.Prelude.{ℕ, List, ◌++◌, Result, Ok, Err, codes, decimal, ◌≡◌, ◌↔◌, ◌⊎◌, map}
+use Rattle.drain_grid.specs.declared.cell.Cell.{Cell}
+use Rattle.drain_answer.specs.Lines.{counted_line, rejected_line}
+use Rattle.drain_merge.specs.declared.map_merge.MapVerdict.{MapVerdict}
+use Rattle.drain_merge.specs.declared.merge_verdict.MergeRefusal.{MergeRefusal}
+use Rattle.drain_merge.specs.declared.merge_verdict.MergeRefusal.TheVariants.{NoReports, OtherSide, OtherNoData, OutsideUnion, JudgesNothing, Overlap, LeftOut, SeamsDiffer, SinkLeftOut, SinkNotListed, OutOfMemory}
+use Rattle.drain_merge.specs.declared.merge_verdict.MergeVerdict.{MergeVerdict}
+use Rattle.drain_merge.specs.declared.merge_verdict.MergeVerdict.TheVariants.{Accepted, Rejected}
+use Rattle.drain_merge.specs.declared.places.Clash.{Clash}
+use Rattle.drain_merge.specs.declared.totals.UnionCounts.{UnionCounts}
 use Rattle.std.specs.List.{Contains}
 use Rattle.drain_grid.specs.Correct.{IsCorrect}
 use Rattle.drain_grid.specs.declared.rule.Rule.{Rule}
@@ -7,7 +16,7 @@ use Rattle.drain_grid.specs.declared.rule.Rule.TheVariants.{SharedLabel}
 use Rattle.drain_grid.specs.Grid.{Grid, Products}
 use Rattle.drain_grid.specs.GridRules.{IsFirstFault}
 use Rattle.drain_grid.specs.Rule.{IsAnyRule, IsPatchRule}
-use Rattle.drain_grid.specs.Size.{Extent}
+use Rattle.drain_grid.specs.Extent.{Extent}
 use Rattle.drain_grid.specs.Unranked.{unranked}
 use Rattle.drain_grid.specs.Values.{NoDataNumbers}
 use Rattle.drain_grid.specs.declared.verdict.Verdict.{Verdict}
@@ -16,12 +25,48 @@ use Rattle.drain_union.specs.declared.place.TheConstants.{SEAM_DEPTH}
 use Rattle.drain_union.specs.JudgedCounts.{AreCountsInside}
 use Rattle.drain_union.specs.Reports.{Report, IsReportOf, CanMerge}
 use Rattle.drain_union.specs.Windows.{Window, RulesHoldInside, IsFirstInside, AreWindowsOf}
-use Rattle.drain_union.specs.declared.window_report.WindowReport.{WindowReport}
-use Rattle.drain_merge.specs.declared.merge_verdict.MergeVerdict.{MergeVerdict}
-use Rattle.drain_merge.specs.declared.merge_verdict.MergeVerdict.TheVariants.{Accepted, Rejected}
-use Rattle.drain_merge.specs.Lists.{reports_of}
+use Rattle.drain_union.specs.declared.report.WindowReport.{WindowReport}
+use Rattle.drain_merge.specs.Places.{reports_of}
 use Rattle.drain_merge.specs.Merges.{HaveNoData}
 use Rattle.drain_merge.specs.Totals.{AreUnionCounts}
+
+-- The line for the answer of a merge. Its words are this project's own.
+
+-- accepted rows=R cols=C data=D raised=U outlets=O
+abbrev pub accepted_line : UnionCounts → List ℕ
+accepted_line c = counted_line c.rows c.cols c.data_cells c.raised ++ codes " outlets=" ++ decimal c.outlets
+
+-- the line of a verdict; a fault's as in a check
+abbrev pub union_line : MergeVerdict → List ℕ
+union_line (Accepted counts) = accepted_line counts
+union_line (Rejected fault) = rejected_line fault.rule fault.cell.row fault.cell.col
+
+-- row=R col=C, with a space before each
+abbrev pub cell_text : Cell → List ℕ
+cell_text c = codes " row=" ++ decimal c.row ++ codes " col=" ++ decimal c.col
+
+-- the two windows by their places in the list
+abbrev pub overlap_line : Clash → List ℕ
+overlap_line clash = codes "refused Overlap " ++ decimal clash.earlier ++ codes " " ++ decimal clash.later
+
+-- refused WORD, and what it is about; failed OutOfMemory if memory ran out
+abbrev pub refusal_line : MergeRefusal → List ℕ
+refusal_line NoReports = codes "refused NoReports"
+refusal_line (OtherSide k) = codes "refused OtherSide " ++ decimal k
+refusal_line (OtherNoData k) = codes "refused OtherNoData " ++ decimal k
+refusal_line (OutsideUnion k) = codes "refused OutsideUnion " ++ decimal k
+refusal_line (JudgesNothing k) = codes "refused JudgesNothing " ++ decimal k
+refusal_line (Overlap clash) = overlap_line clash
+refusal_line (LeftOut c) = codes "refused LeftOut" ++ cell_text c
+refusal_line (SeamsDiffer c) = codes "refused SeamsDiffer" ++ cell_text c
+refusal_line (SinkLeftOut n) = codes "refused SinkLeftOut " ++ decimal n
+refusal_line (SinkNotListed c) = codes "refused SinkNotListed" ++ cell_text c
+refusal_line OutOfMemory = codes "failed OutOfMemory"
+
+-- the line of any answer
+abbrev pub merge_line : Result MapVerdict MergeRefusal → List ℕ
+merge_line (Ok union) = union_line union.verdict
+merge_line (Err refusal) = refusal_line refusal
 
 -- accepted where the rules hold at each judged cell, with the counts of these cells, else rejected with the first fault
 -- there

@@ -2,7 +2,7 @@
 //!
 //! Each law is a function with an empty body: its contract is the law.
 
-ghost use Rattle.drain_merge.specs.MapLaws.{BoxBegins, JudgedFromMap};
+ghost use Rattle.drain_merge.specs.MapBoxes.{BoxBegins, JudgedFromMap};
 
 /// The report of a window of a map, counted from a cell before it, is a report of the window counted from there. So what
 /// `merge` promises of windows of a union holds of those of a map.

@@ -2,15 +2,14 @@
 
 ghost use Rattle.std.specs.Prelude.{◌≡◌, ◌-◌, ◌^◌, min, map, IfOk, IfErr, OnOk};
 ghost use Rattle.drain_merge.specs.MapBoxes.{AreTaken, box_of, HasMapSinks, IsBoxRefusal, IsMapVerdict, IsMapRefusal};
-ghost use Rattle.drain_merge.specs.Moved.{judged_from};
+ghost use Rattle.drain_merge.specs.Places.{judged_from};
 ghost use Rattle.drain_merge.specs.UnionVerdicts.{IsUnionVerdict};
 
-use crate::in_common::check_sides;
 use crate::merge_verdict::{MergeRefusal, MergeVerdict};
 use crate::merger::merge;
-use crate::moved::moved_window;
-use crate::places::UnionSize;
-use crate::union_sinks::{UnionSinks, check_sinks, some_is_rejected};
+use crate::places::{UnionSize, moved_window};
+use crate::shared::check_sides;
+use crate::totals::{UnionSinks, check_sinks, some_is_rejected};
 use drain_grid::{Cell, OutOfMemory};
 use drain_union::place::end_of;
 use drain_union::{Place, WindowReport};

@@ -1,19 +1,15 @@
 //! The verdict on a union, from the reports of its windows.
 
 ghost use Rattle.std.specs.Prelude.{IfOk, IfErr, OnOk};
-ghost use Rattle.drain_merge.specs.Lists.{places_of, all_outlets, all_seams};
-ghost use Rattle.drain_merge.specs.Seams.{IsFirstDifference};
-ghost use Rattle.drain_merge.specs.Shared.{IsFirstSharing};
+ghost use Rattle.drain_merge.specs.Places.{places_of, all_outlets, all_seams};
+ghost use Rattle.drain_merge.specs.Seams.{IsFirstDifference, IsFirstSharing};
 ghost use Rattle.drain_merge.specs.Merges.{HaveOneNoData, FillUnion, IsNoDataRefusal, IsPlaceRefusal, IsMergeRefusal, IsMerged};
 ghost use Rattle.drain_merge.specs.UnionVerdicts.{IsUnionVerdict};
 
-use crate::corners::first_unjudged;
-use crate::faults::{Fault, first_fault};
-use crate::in_common::{first_other_nodata, nodata_of};
-use crate::merge_verdict::{MergeRefusal, MergeVerdict};
+use crate::merge_verdict::{Fault, MergeRefusal, MergeVerdict, first_fault};
 use crate::places::{UnionSize, first_clash, first_idle, first_outside};
-use crate::seams::first_difference;
-use crate::shared::first_sharing;
+use crate::seams::{first_difference, first_unjudged};
+use crate::shared::{first_other_nodata, first_sharing, nodata_of};
 use crate::totals::{outlets, places, seams, total};
 use drain_grid::{Cell, OutOfMemory, Rule};
 use drain_union::{Place, WindowReport};

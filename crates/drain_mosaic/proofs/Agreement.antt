@@ -1,15 +1,120 @@
--- Where tiles agree, the first value is the one value of each cell.
-use Rattle.std.proofs.Common.{◌≡◌, ℕ, zero, suc, ◌+◌, ◌<◌, ℤ, List, [], ◌∷◌, length, Bool, true, false, arith, refl, ap, ◌∙◌, get_or, inl, inr}
-use Rattle.std.specs.Prelude.{◌⊎◌, cond, ◌&&◌, nat_le, nat_lt, Some, None}
+-- The first tile of a list that equals an earlier one, place by place.
+use Rattle.std.proofs.Common.{◌≡◌, ℕ, ◌+◌, ◌<◌, ◌≤◌, Bool, true, false, ◌&&◌, List, length, get_or, take, int_eq, Some, arith, refl, sym, ap, ◌∙◌, below_more, ◌≢◌, ◌*◌, ◌-◌, ℤ, [], inl, inr, nat_abs, subst, zero, suc, ◌∷◌}
+use Rattle.std.proofs.lemmas.Bool.{false≢true, ltb-true, lt-ltb, leb-true, le-leb}
+use Rattle.std.proofs.lemmas.Bool.Decides.{Decides-int_eq}
+use Rattle.std.proofs.lemmas.List.{get_or-take, length-take-le}
+use Rattle.std.proofs.lemmas.Option.{slice_get-get_or, get_or_from_slice_get}
+use Rattle.drain_hgt.specs.Corner.{Corner}
+use Rattle.drain_mosaic.specs.GivenTiles.{IsRepeatedAt, IsFirstRepeated, HasLayoutFault, IsLayout, AreTilingNumbers, AreBoundsOf, layout_fault_order}
+use Rattle.std.specs.Prelude.{◌⊎◌, ◌==◌, cond, nat_le, nat_lt, None}
+use Rattle.drain_text.specs.First.{IsFirst, IsBefore}
+use Rattle.drain_grid.specs.Extent.{Extent}
+use Rattle.drain_grid.specs.Grid.{IsSide, height_from}
+use Rattle.drain_mosaic.specs.declared.layout.TheConstants.{MAX_BOX}
+use Rattle.drain_mosaic.specs.declared.layout.LayoutFault.{LayoutFault}
+use Rattle.drain_mosaic.specs.declared.layout.LayoutFault.TheVariants.{NoTiles, RepeatedTile, BoxTooLarge, OutOfMemory}
+use Rattle.drain_mosaic.specs.Tiling.{Tiling, tiles_down, tiles_across, top_of, left_of}
 use Rattle.std.specs.List.{Any}
 use Rattle.std.specs.Option.{option_or}
-use Rattle.std.proofs.lemmas.Bool.{ltb-true, lt-ltb, leb-true, le-leb}
 use Rattle.drain_grid.specs.declared.cell.Cell.{Cell}
-use Rattle.drain_grid.specs.Tile.{height_from}
-use Rattle.drain_mosaic.specs.Tiling.{Tiling, top_of, left_of}
-use Rattle.drain_mosaic.specs.Mosaic.{Covers, Tile, ShowsSample, IsValue, sample_over}
-use Rattle.drain_mosaic.specs.Joined.{value_from, first_value}
+use Rattle.drain_mosaic.specs.Mosaic.{Covers, Tile, ShowsSample, IsValue, sample_over, value_from, first_value}
 use Rattle.drain_mosaic.specs.Laws.{AgreementGivesElevation}
+
+-- the two tiles have the same degrees
+abbrev pub same_tile : Corner → Corner → Bool
+same_tile c d = int_eq c.lat d.lat && int_eq c.lon d.lon
+
+both : (a b : Bool) → (a && b) ≡ true → (a ≡ true) × (b ≡ true)
+both true b e = (refl, e)
+both false b e = cc
+
+same : (c d : Corner) → same_tile c d ≡ true → c ≡ d
+same c d e =
+    let r = both (int_eq c.lat d.lat) (int_eq c.lon d.lon) e in
+    let lat = (Decides-int_eq c.lat d.lat).0 r.0 in
+    let lon = (Decides-int_eq c.lon d.lon).0 r.1 in
+    ap (λ x. record { lat = x; lon = c.lon }) lat ∙ ap (λ y. record { lat = d.lat; lon = y }) lon
+
+itself : (c : Corner) → same_tile c c ≡ true
+itself c =
+    let lat = (Decides-int_eq c.lat c.lat).1 refl in
+    let lon = (Decides-int_eq c.lon c.lon).1 refl in
+    ap (λ b. b && int_eq c.lon c.lon) lat ∙ lon
+
+pub first_found : (names : List Corner) (i : ℕ) (name : Corner) (k : ℕ) → i < length names → name ≡ get_or names i name → k < length (take i names) → ((d : Corner) → same_tile (get_or (take i names) k d) name ≡ true)
+    → ((k : ℕ) (c : Corner) → k < i → ¬ IsRepeatedAt names k c) → IsFirstRepeated names name
+first_found names i name k inside is within found none =
+    let long = length-take-le i names (omega arith) in
+    let earlier : get_or names k name ≡ name = sym (get_or-take i names k name (omega arith)) ∙ same _ _ (found name) in
+    record {
+      place = i;
+      repeated = record {
+        earlier = k;
+        before = omega arith;
+        here = slice_get-get_or names i name inside ∙ ap (λ c. Some c) (sym is);
+        there = slice_get-get_or names k name (omega arith) ∙ ap (λ c. Some c) earlier;
+      };
+      first = none;
+    }
+
+pub none_more : (names : List Corner) (i : ℕ) (name : Corner) → i < length names → name ≡ get_or names i name → ((k : ℕ) (d : Corner) → 0 ≤ k → k < length (take i names) → same_tile (get_or (take i names) k d) name ≡ false)
+    → ((k : ℕ) (c : Corner) → k < i → ¬ IsRepeatedAt names k c) → (k : ℕ) (c : Corner) → k < i + 1 → ¬ IsRepeatedAt names k c
+none_more names i name inside is apart none k c below = below_more (λ k. (c : Corner) → ¬ IsRepeatedAt names k c) i (λ k h c. none k c h) here k below c
+  where
+    here : (c : Corner) → ¬ IsRepeatedAt names i c
+    here c r =
+        let long = length-take-le i names (omega arith) in
+        let at : c ≡ name = sym (get_or_from_slice_get names i c name r.here) ∙ sym is in
+        let there = get_or-take i names r.earlier name r.before ∙ get_or_from_slice_get names r.earlier c name r.there ∙ at in
+        false≢true (sym (apart r.earlier name (omega arith) (omega (arith, long, r.before))) ∙ ap (λ d. same_tile d name) there ∙ itself name)
+
+-- Which fault of a list of tiles comes first, and that a list without them makes a mosaic.
+
+-- there are tiles, each named once
+pub record AreNamedOnce (t : Tiling) : Type 0 where
+  pub some : t.corners ≢ []
+  pub once : (i : ℕ) (c : Corner) → ¬ IsRepeatedAt t.corners i c
+
+no_fault_before : (t : Tiling) → AreNamedOnce t → (fault : LayoutFault) → IsBefore (layout_fault_order fault) (2, 0) → ¬ HasLayoutFault t fault
+no_fault_before t named NoTiles before h = named.some h
+no_fault_before t named (RepeatedTile c) before h = named.once h.place c h.repeated
+no_fault_before t named BoxTooLarge (inl before) h = absurd (omega arith)
+no_fault_before t named BoxTooLarge (inr before) h = absurd (omega (arith, before.1))
+no_fault_before t named OutOfMemory before h = h
+
+pub too_large : (t : Tiling) → AreNamedOnce t → (MAX_BOX < tiles_down t) ⊎ (MAX_BOX < tiles_across t) → IsFirst layout_fault_order (HasLayoutFault t) BoxTooLarge
+too_large t named large = record { holds = large; first = no_fault_before t named }
+
+pub sound : (t : Tiling) (down across : ℕ) → AreNamedOnce t → down ≡ tiles_down t → across ≡ tiles_across t → down ≤ MAX_BOX → across ≤ MAX_BOX → (fault : LayoutFault) → ¬ HasLayoutFault t fault
+sound t down across named p q few small NoTiles h = named.some h
+sound t down across named p q few small (RepeatedTile c) h = named.once h.place c h.repeated
+sound t down across named p q few small BoxTooLarge (inl h) = absurd (omega (arith, p, few, h))
+sound t down across named p q few small BoxTooLarge (inr h) = absurd (omega (arith, q, small, h))
+sound t down across named p q few small OutOfMemory h = h
+
+pub is_some : (corners : List Corner) (empty : Bool) → empty ≡ false → empty ≡ (length corners == 0) → corners ≢ []
+is_some corners empty full is none = false≢true (sym full ∙ is ∙ ap (λ cs. length cs == 0) none)
+
+-- running out of memory says nothing of the tiles, so it is never their first fault
+pub not_memory : (t : Tiling) (fault : LayoutFault) → IsFirst layout_fault_order (HasLayoutFault t) fault → fault ≢ OutOfMemory
+not_memory t fault first e = subst (HasLayoutFault t) e first.holds
+
+-- tiles without a fault make a mosaic, and the code's numbers are those of its box
+pub layout_is : (t : Tiling) (down across : ℕ) (west north w n : ℤ) (shape : Extent) → IsSide t.side → ((fault : LayoutFault) → ¬ HasLayoutFault t fault) → AreBoundsOf t west north down across
+    → w ≡ west → n ≡ north → shape ≡ record { rows = down * (t.side - 1) + 1; cols = across * (t.side - 1) + 1 } → IsLayout t × AreTilingNumbers t w n shape
+layout_is t down across west north w n shape side sound bounds p q is = (
+  record { side = side; sound = sound },
+  record {
+    west_is = p ∙ bounds.west_is;
+    north_is = q ∙ bounds.north_is;
+    shape_is = is ∙ ap (λ d. record { rows = d * (t.side - 1) + 1; cols = across * (t.side - 1) + 1 }) bounds.down_is
+        ∙ ap (λ a. record { rows = tiles_down t * (t.side - 1) + 1; cols = a * (t.side - 1) + 1 }) bounds.across_is;
+    west_near = subst (λ x. nat_abs x ≤ 180) (sym p) bounds.west_near;
+    north_near = subst (λ x. nat_abs x ≤ 90) (sym q) bounds.north_near;
+  },
+)
+
+-- Where tiles agree, the first value is the one value of each cell.
 
 pub chosen : {A : Type 0} (b : Bool) (x y z : A) → cond b x y ≡ z → ((b ≡ true) × (x ≡ z)) ⊎ ((b ≡ false) × (y ≡ z))
 chosen true x y z e = inl (refl, e)

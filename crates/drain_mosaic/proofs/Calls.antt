@@ -8,7 +8,7 @@ use Rattle.drain_device.specs.declared.counts.FaultCounts.{FaultCounts}
 use Rattle.drain_grid.specs.declared.tile.TheConstants.{VOID}
 use Rattle.drain_hgt.specs.declared.input.TileInput.{TileInput}
 use Rattle.drain_mosaic.specs.JoinedRows.{IsLeastOf, first_of}
-use Rattle.drain_mosaic.proofs.Placing.{any_default}
+use Rattle.drain_mosaic.proofs.Places.{any_default}
 use Rattle.drain_mosaic.proofs.Laying.{values-more, seam-more, seam-none}
 use Rattle.drain_mosaic.proofs.TileCalls.{read-none, read-so}
 use Rattle.drain_mosaic.specs.Streams.{Stream, end_stream, is_seam, next_stream}

@@ -6,11 +6,10 @@ use Rattle.std.proofs.lemmas.Bool.{cases_lt}
 use Rattle.std.proofs.lemmas.List.{take-append-drop}
 use Rattle.std.proofs.lemmas.Option.{same_Some}
 use Rattle.drain_grid.specs.declared.cell.Cell.{Cell}
-use Rattle.drain_grid.specs.Tile.{height_from}
+use Rattle.drain_grid.specs.Grid.{height_from}
 use Rattle.drain_hgt.specs.Samples.{tile_sample_at}
 use Rattle.drain_mosaic.specs.Tiling.{Tiling, top_of, left_of, top_left_of}
-use Rattle.drain_mosaic.specs.Mosaic.{Tile, Covers, HasTwoValues, AreTiles, tiles_of}
-use Rattle.drain_mosaic.specs.Joined.{value_from, first_value}
+use Rattle.drain_mosaic.specs.Mosaic.{Tile, Covers, HasTwoValues, AreTiles, tiles_of, value_from, first_value}
 use Rattle.drain_mosaic.specs.JoinedRows.{AreTwo}
 use Rattle.drain_mosaic.proofs.Values.{first_value_push, GivesAnother, two_keep, two_new, two_split}
 use Rattle.drain_mosaic.proofs.Agreement.{covered}

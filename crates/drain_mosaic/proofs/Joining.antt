@@ -7,11 +7,10 @@ use Rattle.std.proofs.lemmas.Bool.Decides.{Decides-int_eq}
 use Rattle.std.proofs.lemmas.Option.{same_Some}
 use Rattle.drain_grid.specs.declared.cell.Cell.{Cell}
 use Rattle.drain_grid.specs.declared.tile.TheConstants.{VOID}
-use Rattle.drain_grid.specs.Tile.{height_from}
+use Rattle.drain_grid.specs.Grid.{height_from}
 use Rattle.drain_hgt.specs.Samples.{tile_sample_at}
 use Rattle.drain_mosaic.specs.Tiling.{Tiling, extent_of, top_of, left_of}
-use Rattle.drain_mosaic.specs.Mosaic.{Tile, Covers, HasTwoValues}
-use Rattle.drain_mosaic.specs.Joined.{value_from, first_value}
+use Rattle.drain_mosaic.specs.Mosaic.{Tile, Covers, HasTwoValues, value_from, first_value}
 use Rattle.drain_mosaic.specs.JoinedRows.{IsLeastOf, ConflictOver, IsLaidOver, IsJoinedRow, first_of, filled}
 use Rattle.drain_mosaic.proofs.Agreement.{covered, gives_from}
 use Rattle.drain_mosaic.proofs.Values.{or_none, first_value_push, GivesAnother, two_keep, two_new, two_split}

@@ -9,7 +9,7 @@ use Rattle.std.proofs.lemmas.List.FromFn.{fill_by_all}
 use Rattle.drain_grid.specs.declared.tile.TheConstants.{VOID}
 use Rattle.drain_mosaic.specs.JoinedRows.{IsLeastOf, Conflict, ConflictOver, IsLaidOver, filled, first_of}
 use Rattle.drain_mosaic.proofs.Joining.{least_join}
-use Rattle.drain_device.specs.ComingRows.{nth_row}
+use Rattle.drain_device.specs.RowSteps.{nth_row}
 use Rattle.drain_mosaic.specs.Streams.{Stream, Frame, is_over, is_across, sample_given, first_sample, in_conflict, is_seam, first_from, mosaic_row}
 use Rattle.drain_mosaic.specs.PlacedRows.{IsTileRowLaid}
 

@@ -9,8 +9,8 @@ use Rattle.drain_device.specs.declared.row_source.ReadFault.TheVariants.{ReadFai
 use Rattle.drain_device.specs.declared.row_source.Progress.{Progress}
 use Rattle.drain_device.specs.declared.row_source.Progress.TheVariants.{Going, Done, Stopped}
 use Rattle.drain_grid.specs.declared.tile.TheConstants.{VOID}
-use Rattle.drain_grid.specs.Tile.{IsSample}
-use Rattle.drain_grid.proofs.LentVectors.{lent_back}
+use Rattle.drain_grid.specs.Grid.{IsSample}
+use Rattle.drain_grid.proofs.Tallies.{lent_back}
 use Rattle.drain_hgt.specs.declared.input.TileInput.{TileInput}
 use Rattle.drain_mosaic.proofs.MosaicSteps.{have-so}
 use Rattle.drain_mosaic.specs.PlacedRows.{ArePlacedWithin, HaveRead, IsPlacedWithin, IsRowLaid, streams_of}

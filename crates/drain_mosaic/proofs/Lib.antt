@@ -1,6 +1,4 @@
 pub mod Bounds
-pub mod Repeated
-pub mod LayoutOrder
 pub mod Agreement
 pub mod Places
 pub mod Values
@@ -8,19 +6,12 @@ pub mod Joining
 pub mod TileRows
 pub mod CellValues
 pub mod Rows
-pub mod Placing
-pub mod Beginnings
-pub mod RowSamples
+pub mod RowValues
 pub mod Laying
-pub mod Alone
 pub mod TileCalls
 pub mod Calls
 pub mod MosaicSteps
 pub mod Lent
-pub mod WholeRows
 pub mod StreamSteps
-pub mod RowValues
 pub mod RowSeams
-pub mod RowLengths
-pub mod NewRows
 pub mod TileReads

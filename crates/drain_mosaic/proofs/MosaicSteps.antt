@@ -1,22 +1,157 @@
--- One step of a mosaic.
-use Rattle.std.proofs.Common.{◌≡◌, ◌≢◌, ℕ, zero, suc, ◌+◌, ◌-◌, ◌<◌, ◌≤◌, ℤ, List, [], ◌∷◌, length, map, get_or, Option, Some, None, IsTrue, MatchOption, arith, refl, sym, ap, ◌∙◌, subst, true, false, cond}
+-- The rows of a new mosaic are those of the bodies that the devices give.
+use Rattle.std.proofs.Common.{◌≡◌, ℕ, ◌-◌, List, [], ◌∷◌, Option, Some, arith, refl, sym, ap, ◌∙◌, subst, zero, suc, ◌+◌, ◌*◌, ◌/◌, ◌<◌, ◌≤◌, ℤ, ◌++◌, length, map, take, drop, inl, inr, ◌≢◌, get_or, None, IsTrue, MatchOption, true, false, cond}
+use Rattle.std.specs.Prelude.{IsSome, slice_index_or}
+use Rattle.std.specs.List.{AllZip, All}
 use Rattle.std.specs.Option.{option_or}
-use Rattle.std.proofs.lemmas.List.Elements.{All-tail}
-use Rattle.drain_device.specs.declared.counts.FaultCounts.{FaultCounts}
+use Rattle.std.proofs.lemmas.List.Elements.{All-nil, All-cons, All-tail}
+use Rattle.drain_device.specs.RowSteps.{coming_at, nth_row, after_rows, ends_wrong, Coming}
+use Rattle.drain_device.specs.declared.row_source.Progress.{Progress}
+use Rattle.drain_device.specs.declared.row_source.Progress.TheVariants.{Going, Done, Stopped}
+use Rattle.drain_grid.specs.Extent.{Extent}
 use Rattle.drain_grid.specs.declared.cell.Cell.{Cell}
 use Rattle.drain_hgt.specs.declared.input.TileInput.{TileInput}
-use Rattle.drain_device.specs.ComingRows.{after_rows, ends_wrong}
-use Rattle.drain_mosaic.specs.Streams.{Frame, Stream, cell_at, end_stream, first_from, is_over, is_seam, mosaic_row, mosaic_rows, next_stream, seam_from, wrong_from}
-use Rattle.drain_mosaic.specs.PlacedRows.{HasEnded, HaveEnded, HaveRead, IsRowLaid, first_stopped, if_stopped, streams_of}
+use Rattle.drain_hgt.specs.Corner.{Corner}
+use Rattle.drain_hgt.specs.Inputs.{AreBodies}
+use Rattle.drain_hgt.specs.TileRows.{tile_rows}
+use Rattle.drain_mosaic.specs.Tiling.{Tiling, extent_of, top_left_of}
+use Rattle.drain_mosaic.specs.Streams.{Stream, Frame, mosaic_rows, seam_from, wrong_from, cell_at, end_stream, first_from, is_over, is_seam, mosaic_row, next_stream}
+use Rattle.drain_mosaic.specs.GivenTiles.{frame_of, stream_at, tile_streams, given_samples, whole_rows}
+use Rattle.drain_mosaic.specs.PlacedRows.{AreTold, IsAtStart, stream_of, streams_of, HasEnded, HaveEnded, HaveRead, IsRowLaid, first_stopped, if_stopped}
+use Rattle.drain_mosaic.specs.Laws.{NewRowsAreOfBodies, WholeTilesGiveTheirSamples}
+use Rattle.drain_mosaic.specs.declared.placed_rows.PlacedRows.{PlacedRows}
+use Rattle.std.proofs.lemmas.Bool.{cases_lt, lt-ltb, le-ltb}
+use Rattle.std.proofs.lemmas.List.{length-take-le, length-drop, get_or_append_left, get_or-append-add, take_all}
+use Rattle.std.proofs.Math.Nat.{div-eq-sub-div, div-eq_of_lt, div-eq_of_eq-mul_left}
+use Rattle.std.proofs.Math.Seq.{take-add}
+use Rattle.drain_grid.specs.declared.tile.TheConstants.{VOID}
+use Rattle.drain_grid.specs.Grid.{IsSide}
+use Rattle.drain_hgt.specs.Samples.{IsTile, samples_of, tile_sample_at}
+use Rattle.drain_mosaic.specs.Mosaic.{tiles_of}
+use Rattle.drain_hgt.proofs.TileSamples.{samples-append, samples-length}
+use Rattle.drain_device.specs.declared.counts.FaultCounts.{FaultCounts}
 use Rattle.drain_mosaic.specs.JoinedRows.{IsLeastOf}
 use Rattle.drain_mosaic.proofs.Values.{or_assoc, or_none}
 use Rattle.drain_mosaic.proofs.Laying.{first_from-least, row-is}
-use Rattle.drain_device.specs.ComingRows.{Coming}
-use Rattle.drain_device.specs.RowSteps.{coming_at}
-use Rattle.drain_device.specs.ComingRows.Coming.{Next, End, Wrong}
-use Rattle.drain_mosaic.specs.declared.placed_rows.PlacedRows.{PlacedRows}
-use Rattle.drain_device.specs.declared.row_source.Progress.{Progress}
-use Rattle.drain_device.specs.declared.row_source.Progress.TheVariants.{Going, Done, Stopped}
+use Rattle.drain_device.specs.RowSteps.Coming.{Next, End, Wrong}
+
+-- a stream by its place and what is to come
+stream : Cell → Progress → ℕ → ℕ → List ℕ → Stream
+stream place progress side left body = record { place = place; coming = coming_at progress (tile_rows side left body) }
+
+-- a tile at its start
+begins : (t : Tiling) (c : Corner) (p : PlacedRows) (known : Option (List ℕ)) (body : List ℕ) → IsAtStart t c p → known ≡ Some body → stream_of p known ≡ stream_at t c body
+unfolding stream
+begins t c p known body start told =
+    ap (stream_of p) told
+    ∙ ap (λ place. stream place p.rows.progress p.rows.side p.rows.left body) start.place_is
+    ∙ ap (λ progress. stream (top_left_of t c) progress p.rows.side p.rows.left body) start.going
+    ∙ ap (λ side. stream (top_left_of t c) Going side p.rows.left body) start.side_is
+    ∙ ap (λ left. stream (top_left_of t c) Going t.side left body) start.left_is
+
+module _ (R : Type 0) (bytes_left : R → Option (List ℕ)) where
+  streams-begin : (t : Tiling) (corners : List Corner) (tiles : List PlacedRows) (from : List (TileInput R)) (bodies : List (List ℕ)) → AllZip (IsAtStart t) corners tiles → AreBodies bytes_left from bodies →
+      streams_of bytes_left tiles from ≡ tile_streams t corners bodies
+  streams-begin t [] [] from bodies starts bodies_are = refl
+  streams-begin t [] (p ∷ tiles) from bodies starts bodies_are = absurd starts
+  streams-begin t (c ∷ corners) [] from bodies starts bodies_are = absurd starts
+  streams-begin t (c ∷ corners) (p ∷ tiles) [] [] starts bodies_are = refl
+  streams-begin t (c ∷ corners) (p ∷ tiles) [] (body ∷ bodies) starts bodies_are = absurd bodies_are
+  streams-begin t (c ∷ corners) (p ∷ tiles) (x ∷ from) [] starts bodies_are = absurd bodies_are
+  streams-begin t (c ∷ corners) (p ∷ tiles) (x ∷ from) (body ∷ bodies) starts bodies_are =
+      ap (λ s. s ∷ streams_of bytes_left tiles from) (begins t c p (bytes_left x.body) body starts.0 bodies_are.0)
+      ∙ ap (λ ss. stream_at t c body ∷ ss) (streams-begin t corners tiles from bodies starts.1 bodies_are.1)
+
+  told : (from : List (TileInput R)) (bodies : List (List ℕ)) → AreBodies bytes_left from bodies → AreTold bytes_left from
+  told [] [] all = All-nil (λ t. IsSome (bytes_left t.body))
+  told [] (body ∷ bodies) all = absurd all
+  told (x ∷ from) [] all = absurd all
+  told (x ∷ from) (body ∷ bodies) all = All-cons (λ t. IsSome (bytes_left t.body)) x from (subst IsSome (sym all.0) refl) (told from bodies all.1)
+
+  pub new_rows_are_of_bodies : NewRowsAreOfBodies bytes_left
+  new_rows_are_of_bodies t m from bodies begun all = record {
+    told = told from bodies all;
+    rows_are = ap (λ progress. coming_at progress (mosaic_rows (frame m.side m.shape) (m.shape.rows - m.row) m.row ss)) begun.going ∙ sized (λ side shape row. mosaic_rows (frame side shape) (shape.rows - row) row ss) ∙ ap (λ n. mosaic_rows (frame_of t) n 0 ss) all_rows ∙ ap (mosaic_rows (frame_of t) (extent_of t).rows 0) is;
+    seam_is = ap (λ seam. option_or seam (seam_from (frame m.side m.shape) (m.shape.rows - m.row) m.row ss)) begun.no_seam ∙ sized (λ side shape row. seam_from (frame side shape) (shape.rows - row) row ss) ∙ ap (λ n. seam_from (frame_of t) n 0 ss) all_rows ∙ ap (seam_from (frame_of t) (extent_of t).rows 0) is;
+    wrong_is = ap (wrong_from 0) is;
+  }
+    where
+      ss : List Stream
+      ss = streams_of bytes_left m.tiles.items from
+
+      is : ss ≡ tile_streams t t.corners bodies
+      is = streams-begin t t.corners m.tiles.items from bodies begun.tiles_are all
+
+      all_rows : (extent_of t).rows - 0 ≡ (extent_of t).rows
+      all_rows = omega arith
+
+      frame : ℕ → Extent → Frame
+      frame side shape = record { side = side; rows = shape.rows; cols = shape.cols }
+
+      sized : {A : Type 0} (f : ℕ → Extent → ℕ → A) → f m.side m.shape m.row ≡ f t.side (extent_of t) 0
+      sized f = ap (λ side. f side m.shape m.row) begun.side_is ∙ ap (λ shape. f t.side shape m.row) begun.shape_is ∙ ap (f t.side (extent_of t)) begun.row_is
+
+-- What a tile gives, whatever its length: the samples of its whole rows, and voids past them.
+
+-- a body without a whole row
+none_whole : (side : ℕ) (body : List ℕ) → length body < 2 * side → whole_rows side body ≡ []
+none_whole side body short = let none : length body / (2 * side) ≡ 0 = div-eq_of_lt short in let nothing : 0 * (2 * side) ≡ 0 = omega arith in ap (λ n. take (n * (2 * side)) body) none ∙ ap (λ n. take n body) nothing
+
+-- a row, and the whole rows after it
+one_more : (side : ℕ) (body : List ℕ) → 0 < side → 2 * side ≤ length body → whole_rows side body ≡ take (2 * side) body ++ whole_rows side (drop (2 * side) body)
+one_more side body some long =
+    let d = 2 * side in
+    let positive : 0 < d = omega arith in
+    let counted : length body / d ≡ (length body - d) / d + 1 = div-eq-sub-div positive long in
+    let behind : length (drop d body) ≡ length body - d = length-drop d body in
+    let n = length (drop d body) / d in
+    let split : length body / d * d ≡ d + n * d = ap (λ k. k * d) counted ∙ ap (λ k. (k / d + 1) * d) (sym behind) ∙ more n d in
+    ap (λ k. take k body) split ∙ take-add d (n * d) body
+  where
+    more : (n d : ℕ) → (n + 1) * d ≡ d + n * d
+    more n d = omega arith
+
+-- the sample of a row at a column
+pub row-gives : (side left k col : ℕ) (body : List ℕ) → k < left → col < side → slice_index_or (nth_row k (tile_rows side left body)) col VOID ≡ tile_sample_at side (given_samples side body) k col
+row-gives side zero k col body above inside = absurd (omega arith)
+row-gives side (suc left) zero col body above inside = elim (cases_lt (length body) (2 * side)) [
+  | inl short ↦ rw (lt-ltb (length body) (2 * side) short, none_whole side body short) refl
+  | inr long ↦ (
+      let even = length-take-le (2 * side) body (omega (arith, long)) in
+      let wide = samples-length side (take (2 * side) body) even in
+      let place : zero * side + col ≡ col = omega arith in
+      rw (le-ltb (length body) (2 * side) (omega (arith, long)), place, one_more side body (omega (arith, inside)) (omega (arith, long)), samples-append side (take (2 * side) body) (whole_rows side (drop (2 * side) body)) even)
+      (sym (get_or_append_left (samples_of (take (2 * side) body)) (given_samples side (drop (2 * side) body)) VOID col (omega (arith, wide)))))
+]
+row-gives side (suc left) (suc k) col body above inside = elim (cases_lt (length body) (2 * side)) [
+  | inl short ↦ rw (lt-ltb (length body) (2 * side) short, none_whole side body short) refl
+  | inr long ↦ (
+      let even = length-take-le (2 * side) body (omega (arith, long)) in
+      let wide = samples-length side (take (2 * side) body) even in
+      let place : suc k * side + col ≡ length (samples_of (take (2 * side) body)) + (k * side + col) = omega (arith, wide) in
+      rw (le-ltb (length body) (2 * side) (omega (arith, long)), place, one_more side body (omega (arith, inside)) (omega (arith, long)), samples-append side (take (2 * side) body) (whole_rows side (drop (2 * side) body)) even)
+      (row-gives side left k col (drop (2 * side) body) (omega arith) inside
+      ∙ sym (get_or-append-add (samples_of (take (2 * side) body)) (given_samples side (drop (2 * side) body)) (k * side + col) VOID)))
+]
+
+-- a tile of the right length gives all its samples
+all_whole : (side : ℕ) (body : List ℕ) → IsSide side → IsTile side body → whole_rows side body ≡ body
+all_whole side body ok is =
+    let d = 2 * side in
+    let positive : 0 < d = omega (arith, ok.least) in
+    let square : length body ≡ side * d = omega (arith, is) in
+    let counted : length body / d ≡ side = div-eq_of_eq-mul_left positive square in
+    ap (λ n. take (n * d) body) counted ∙ take_all (side * d) body (omega (arith, square))
+
+all_given : (side : ℕ) (bodies : List (List ℕ)) → IsSide side → All (IsTile side) bodies → map (given_samples side) bodies ≡ map samples_of bodies
+all_given side [] ok all = refl
+all_given side (body ∷ more) ok all =
+    ap (λ (xs : List ℕ). samples_of xs ∷ map (given_samples side) more) (all_whole side body ok (all 0 body (omega arith)))
+    ∙ ap (λ (xs : List (List ℤ)). samples_of body ∷ xs) (all_given side more ok (All-tail (IsTile side) body more all))
+
+pub whole_tiles_give_their_samples : WholeTilesGiveTheirSamples
+whole_tiles_give_their_samples t bodies layout all = ap (tiles_of t.corners) (all_given t.side bodies layout.side all)
+
+-- One step of a mosaic.
 
 -- the same calls, stated otherwise
 pub have-so : {R : Type 0} (bl : R → Option (List ℕ)) (ct : R → FaultCounts) (old cur new : List PlacedRows) (from now : List (TileInput R)) (F G : Type 0) → new ≡ cur → (F → G) → (G → F) → HaveRead bl ct old cur from now F → HaveRead bl ct old new from now G

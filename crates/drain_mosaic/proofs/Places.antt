@@ -1,15 +1,85 @@
--- Where a tile lies in its mosaic, from the numbers of the box.
-use Rattle.std.proofs.Common.{◌≡◌, ℕ, ◌+◌, ◌-◌, ◌*◌, ◌<◌, ◌≤◌, ℤ, pos, ◌-ℤ◌, ◌≤ℤ◌, nat_abs, length, map, get_or, Some, option_map, slice_get, to_z, of_z, w16, SFits, arith, refl, sym, ap, ◌∙◌, subst}
+-- The only tile of a mosaic.
+use Rattle.std.proofs.Common.{◌≡◌, ℕ, List, [], ◌∷◌, length, get_or, set, Option, arith, refl, subst, zero, suc, ◌<◌, ap, ◌∙◌, ◌+◌, ◌++◌, take, Bool, true, cond, Some, option_map, slice_get, sym, ◌-◌, ◌*◌, ◌≤◌, ℤ, pos, ◌-ℤ◌, ◌≤ℤ◌, nat_abs, map, to_z, of_z, w16, SFits}
+use Rattle.std.specs.List.{All, AllZip}
+use Rattle.drain_hgt.specs.declared.input.TileInput.{TileInput}
+use Rattle.drain_mosaic.specs.PlacedRows.{stream_of, streams_of, ArePlacedWithin, IsPlacedWithin, IsAtStart}
+use Rattle.drain_mosaic.specs.declared.placed_rows.PlacedRows.{PlacedRows}
+use Rattle.std.proofs.lemmas.List.Elements.{All-set, All-push, All-same}
+use Rattle.drain_hgt.specs.Inputs.{names_of}
+use Rattle.drain_hgt.specs.declared.tile_rows.TileRows.{TileRows}
+use Rattle.std.proofs.lemmas.List.{take_more, get_or-map, length-map}
+use Rattle.drain_device.specs.Failing.{full_patience}
+use Rattle.drain_device.specs.declared.row_source.Progress.TheVariants.{Going}
+use Rattle.drain_hgt.specs.Corner.{Corner}
+use Rattle.drain_mosaic.specs.Tiling.{Tiling, top_left_of, least, greatest, west_of, north_of, extent_of, tiles_down, tiles_across}
+use Rattle.drain_mosaic.proofs.TileRows.{nowhere, place_is}
 use Rattle.std.proofs.lemmas.Int.{ints, to_z-of_z}
-use Rattle.std.proofs.lemmas.List.{get_or-map, length-map}
 use Rattle.std.proofs.lemmas.Option.{slice_get_read}
 use Rattle.drain_grid.specs.declared.cell.Cell.{Cell}
-use Rattle.drain_grid.specs.Size.{Extent}
-use Rattle.drain_grid.specs.Tile.{IsSide}
-use Rattle.drain_hgt.specs.Corner.{Corner}
-use Rattle.drain_mosaic.specs.Tiling.{Tiling, least, greatest, west_of, north_of, extent_of, top_left_of, tiles_down, tiles_across}
-use Rattle.drain_mosaic.specs.LayoutFaults.{AreTilingNumbers}
+use Rattle.drain_grid.specs.Extent.{Extent}
+use Rattle.drain_grid.specs.Grid.{IsSide}
+use Rattle.drain_mosaic.specs.GivenTiles.{AreTilingNumbers}
 use Rattle.drain_mosaic.proofs.Bounds.{least_le, greatest_ge, before_east, before_south, inside_box}
+
+-- what is true of the only element
+pub all-one : {X : Type 0} (P : X → Type 0) (xs : List X) (x : X) → length xs ≡ 1 → P x → All P (set xs 0 x)
+all-one P [] x one here = absurd (omega arith)
+all-one P (y ∷ []) x one here = λ k d inside. subst (λ (j : ℕ). P (get_or (x ∷ []) j d)) (let first : 0 ≡ k = omega arith in first) here
+all-one P (y ∷ z ∷ ys) x one here = absurd (omega arith)
+
+-- its stream
+module _ (R : Type 0) (bl : R → Option (List ℕ)) where
+  pub one-stream : (ts : List PlacedRows) (fs : List (TileInput R)) (p : PlacedRows) (t : TileInput R) → length ts ≡ 1 → length fs ≡ length ts → streams_of bl ts fs ≡ stream_of (get_or ts 0 p) (bl (get_or fs 0 t).body) ∷ []
+  one-stream [] fs p t one same = absurd (omega arith)
+  one-stream (x ∷ ts) [] p t one same = absurd (omega arith)
+  one-stream (x ∷ []) (y ∷ fs) p t one same = refl
+  one-stream (x ∷ z ∷ ts) (y ∷ fs) p t one same = absurd (omega arith)
+
+-- Tiles that go on keep their names and places.
+
+-- for any default of a missing element
+pub any_default : {X : Type 0} (xs : List X) (i : ℕ) (d e : X) → i < length xs → get_or xs i d ≡ get_or xs i e
+any_default [] i d e inside = absurd (omega arith)
+any_default (x ∷ xs) zero d e inside = refl
+any_default (x ∷ xs) (suc i) d e inside = any_default xs i d e (omega arith)
+
+-- names stay
+pub names-kept : {R : Type 0} (xs : List (TileInput R)) (i : ℕ) (d : TileInput R) (b : R) → i < length xs →
+    names_of (set xs i (record { name = (get_or xs i d).name; body = b })) ≡ names_of xs
+names-kept [] i d b inside = absurd (omega arith)
+names-kept (x ∷ xs) zero d b inside = refl
+names-kept (x ∷ xs) (suc i) d b inside = ap (λ (ns : List (List ℕ)). x.name ∷ ns) (names-kept xs i d b (omega arith))
+
+pub kept : (tiles : List PlacedRows) (i : ℕ) (d : PlacedRows) (r : TileRows) (side rows cols : ℕ) → i < length tiles → r.side ≡ (get_or tiles i d).rows.side → ArePlacedWithin side rows cols tiles →
+    ArePlacedWithin side rows cols (set tiles i (record { place = (get_or tiles i d).place; rows = r }))
+kept tiles i d r side rows cols inside same within =
+    let here = within i d inside in
+    let moved : IsPlacedWithin side rows cols (record { place = (get_or tiles i d).place; rows = r }) = record { side_is = same ∙ here.side_is; above = here.above; inside = here.inside } in
+    All-set (IsPlacedWithin side rows cols) tiles i _ moved within
+
+-- Each tile of a new mosaic is at its place, with its first row to come.
+
+AllZip-more : {A B : Type 0} (P : A → B → Type 0) (xs : List A) (ys : List B) (x : A) (y : B) → AllZip P xs ys → P x y → AllZip P (xs ++ x ∷ []) (ys ++ y ∷ [])
+AllZip-more P [] [] x y all here = (here, tt)
+AllZip-more P [] (z ∷ ys) x y all here = absurd all
+AllZip-more P (w ∷ xs) [] x y all here = absurd all
+AllZip-more P (w ∷ xs) (z ∷ ys) x y all here = (all.0, AllZip-more P xs ys x y all.1 here)
+
+-- one tile more
+pub start-more : (t : Tiling) (i : ℕ) (tiles now : List PlacedRows) (p : PlacedRows) (pushed : Bool) → pushed ≡ true → now ≡ cond pushed (tiles ++ p ∷ []) tiles → i < length t.corners →
+    Some p.place ≡ option_map (top_left_of t) (slice_get t.corners i) → p.rows.side ≡ t.side → p.rows.left ≡ t.side → p.rows.progress ≡ Going → p.rows.patience ≡ full_patience →
+    AllZip (IsAtStart t) (take i t.corners) tiles → AllZip (IsAtStart t) (take (i + 1) t.corners) now
+start-more t i tiles now p pushed is_pushed is inside place side left going patience so_far =
+    let here : Corner = get_or t.corners i nowhere in
+    let at : IsAtStart t here p = record { place_is = place_is t i p.place inside place; side_is = side; left_is = left; going = going; patience_is = patience } in
+    subst (AllZip (IsAtStart t) (take (i + 1) t.corners)) (sym (is ∙ ap (λ b. cond b (tiles ++ p ∷ []) tiles) is_pushed))
+    (subst (λ cs. AllZip (IsAtStart t) cs (tiles ++ p ∷ [])) (sym (take_more t.corners i nowhere inside)) (AllZip-more (IsAtStart t) (take i t.corners) tiles here p so_far at))
+
+-- what each tile so far is, where the next is it too
+pub all-more : {X : Type 0} (P : X → Type 0) (xs now : List X) (x : X) (pushed : Bool) → pushed ≡ true → now ≡ cond pushed (xs ++ x ∷ []) xs → All P xs → P x → All P now
+all-more P xs now x pushed is_pushed is all here = All-same P now (xs ++ x ∷ []) (is ∙ ap (λ b. cond b (xs ++ x ∷ []) xs) is_pushed) (All-push P xs x all here)
+
+-- Where a tile lies in its mosaic, from the numbers of the box.
 
 -- a cell by its row and its column
 cell : (row col : ℕ) (c : Cell) → row ≡ c.row → col ≡ c.col → record { row = row; col = col } ≡ c

@@ -8,15 +8,14 @@ use Rattle.drain_grid.specs.declared.cell.Cell.{Cell}
 use Rattle.drain_grid.specs.declared.tile.TheConstants.{VOID}
 use Rattle.drain_hgt.specs.Corner.{Corner}
 use Rattle.drain_mosaic.specs.Tiling.{Tiling, extent_of}
-use Rattle.drain_mosaic.specs.Mosaic.{ShowsSample, HasTwoValues, IsFirstSeam, IsValue, Tile, TilesAgree, tiles_of}
-use Rattle.drain_mosaic.specs.Joined.{first_value, value_from}
+use Rattle.drain_mosaic.specs.Mosaic.{ShowsSample, HasTwoValues, IsFirstSeam, IsValue, Tile, TilesAgree, tiles_of, first_value, value_from}
 use Rattle.drain_mosaic.specs.JoinedRows.{AgreeAbove, IsLeastOf, IsSeamAlong}
 use Rattle.drain_mosaic.proofs.Agreement.{any_here, any_later, from_gives, gives_from, is_some_first, value_of_first}
 use Rattle.drain_mosaic.proofs.Joining.{data_of_height, height_of_data}
 use Rattle.drain_mosaic.proofs.Rows.{agree_more, first_seam, tiles_agree}
 use Rattle.drain_mosaic.specs.Streams.{Stream, cell_at, first_from, first_sample, in_conflict, is_seam, next_stream, sample_given, seam_from}
 use Rattle.drain_mosaic.proofs.Laying.{conflict-tests, least-same, tests-conflict}
-use Rattle.drain_mosaic.specs.RowLaws.{RowsTellSeams}
+use Rattle.drain_mosaic.specs.Laws.{RowsTellSeams}
 use Rattle.drain_mosaic.specs.GivenTiles.{frame_of, given_samples, given_tiles, stream_at, tile_streams}
 use Rattle.drain_mosaic.proofs.StreamSteps.{after-cons, after-more, after-nil, stream_after, streams_after}
 use Rattle.drain_mosaic.proofs.RowValues.{first-value, given_tile, stream-value}

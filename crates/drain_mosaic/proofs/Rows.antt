@@ -6,13 +6,11 @@ use Rattle.std.proofs.lemmas.Bool.Decides.{Decides-int_eq}
 use Rattle.std.proofs.lemmas.List.{get_or_append_left, get_or-append-add, get_or-take, length-append, length-take-le, length-drop}
 use Rattle.std.proofs.Math.Nat.{mul-le-mul_right}
 use Rattle.drain_grid.specs.declared.tile.TheConstants.{VOID}
-use Rattle.drain_grid.specs.Rasters.{Heights}
-use Rattle.drain_grid.specs.Tile.{height_from}
-use Rattle.drain_grid.specs.Whole.{elevation_at}
-use Rattle.drain_grid.proofs.LentVectors.{written_over}
+use Rattle.drain_grid.specs.Grid.{Heights, height_from}
+use Rattle.drain_grid.specs.WholeGrid.{elevation_at}
+use Rattle.drain_grid.proofs.Tallies.{written_over}
 use Rattle.drain_mosaic.specs.Tiling.{Tiling, extent_of}
-use Rattle.drain_mosaic.specs.Mosaic.{Tile, HasTwoValues, TilesAgree, IsElevation, IsFirstSeam}
-use Rattle.drain_mosaic.specs.Joined.{first_value}
+use Rattle.drain_mosaic.specs.Mosaic.{Tile, HasTwoValues, TilesAgree, IsElevation, IsFirstSeam, first_value}
 use Rattle.drain_mosaic.specs.JoinedRows.{IsSeamAlong, IsJoinedRow, AgreeAbove, AreJoinedRows}
 use Rattle.drain_mosaic.proofs.Agreement.{agreement_gives_elevation}
 

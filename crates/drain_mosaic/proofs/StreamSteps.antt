@@ -5,13 +5,12 @@ use Rattle.std.proofs.lemmas.Bool.{cases_lt}
 use Rattle.std.proofs.lemmas.List.FromFn.{get_or-map-range_with_len, length-map-range_with_len}
 use Rattle.drain_grid.specs.declared.tile.TheConstants.{VOID}
 use Rattle.drain_mosaic.specs.Streams.{Stream, Frame, first_sample, mosaic_row, mosaic_rows, next_stream}
-use Rattle.drain_device.specs.ComingRows.{Coming}
-use Rattle.drain_device.specs.ComingRows.Coming.{Next, End, Wrong}
+use Rattle.drain_device.specs.RowSteps.{Coming, after_rows, nth_row}
+use Rattle.drain_device.specs.RowSteps.Coming.{Next, End, Wrong}
 use Rattle.drain_mosaic.specs.Tiling.{extent_of}
 use Rattle.drain_mosaic.specs.GivenTiles.{frame_of, tile_streams}
-use Rattle.drain_mosaic.specs.RowLaws.{RowsAreWhole, RowsEnd}
+use Rattle.drain_mosaic.specs.Laws.{RowsAreWhole, RowsEnd}
 use Rattle.drain_mosaic.proofs.Laying.{over-is, over-not}
-use Rattle.drain_device.specs.ComingRows.{after_rows, nth_row}
 
 -- a tile after k rows of the mosaic, from this row on
 abbrev pub stream_after : ℕ → ℕ → ℕ → Stream → Stream

@@ -4,13 +4,11 @@ use Rattle.std.proofs.Common.{◌≡◌, ◌≢◌, ℕ, ◌+◌, ◌-◌, ◌<�
 use Rattle.std.specs.Prelude.{◌⊎◌, IsSome, unwrap_or}
 use Rattle.std.proofs.KnownBytes.{Consumes-nil}
 use Rattle.drain_device.specs.declared.counts.FaultCounts.{FaultCounts}
-use Rattle.drain_device.proofs.PartFaultLemmas.{PartFails-none, PartFails-same}
-use Rattle.drain_device.specs.ComingRows.{nth_row, after_rows}
+use Rattle.drain_device.proofs.FaultLists.{PartFails-none, PartFails-same}
+use Rattle.drain_device.specs.RowSteps.{nth_row, after_rows, Coming, Gives, IsEmptyUnlessRow, IsLong, ReadsWithin, StaysEnded, Steps, coming_at, progress_after}
 use Rattle.drain_mosaic.specs.Streams.{Stream, is_over, next_stream}
 use Rattle.drain_mosaic.specs.PlacedRows.{HasRead, IsPlacedAt, stop_of}
-use Rattle.drain_device.specs.ComingRows.{Coming}
-use Rattle.drain_device.specs.RowSteps.{Gives, IsEmptyUnlessRow, IsLong, ReadsWithin, StaysEnded, Steps, coming_at, progress_after}
-use Rattle.drain_device.specs.ComingRows.Coming.{Wrong}
+use Rattle.drain_device.specs.RowSteps.Coming.{Wrong}
 use Rattle.drain_hgt.specs.TileRows.{tile_coming, tile_rows}
 use Rattle.drain_mosaic.specs.declared.placed_rows.PlacedRows.{PlacedRows}
 use Rattle.drain_hgt.specs.declared.tile_rows.TileRows.{TileRows}

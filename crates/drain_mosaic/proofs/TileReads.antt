@@ -3,13 +3,11 @@ use Rattle.std.proofs.Common.{◌≡◌, ◌↔◌, ℕ, zero, suc, ◌+◌, ◌
 use Rattle.std.specs.List.{AllZip, Any}
 use Rattle.std.proofs.KnownBytes.{Consumes-trans}
 use Rattle.drain_device.specs.FaultLists.{AnsweredEach, Faults, SomeReadFails}
-use Rattle.drain_device.specs.PartFailing.{PartFails}
-use Rattle.drain_device.specs.Patience.{GivesUp, full_patience}
+use Rattle.drain_device.specs.Failing.{PartFails, GivesUp, full_patience}
 use Rattle.drain_device.specs.Reads.{TakesAtMost}
 use Rattle.drain_device.specs.RowSteps.{ReadsWithin, most_at}
 use Rattle.drain_device.specs.declared.counts.FaultCounts.{FaultCounts}
-use Rattle.drain_device.proofs.FaultLists.{any-cases, any-first, any-later, any-none, gave_up}
-use Rattle.drain_device.proofs.PartFaultLemmas.{PartFails-then}
+use Rattle.drain_device.proofs.FaultLists.{any-cases, any-first, any-later, any-none, gave_up, PartFails-then}
 use Rattle.drain_hgt.specs.declared.input.TileInput.{TileInput}
 use Rattle.drain_hgt.specs.Corner.{Corner}
 use Rattle.drain_hgt.specs.Inputs.{TilesTakeAtMost, tile_devices}

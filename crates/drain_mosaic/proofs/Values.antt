@@ -9,8 +9,7 @@ use Rattle.std.proofs.lemmas.List.Quantifiers.{Any-push}
 use Rattle.std.proofs.lemmas.Option.{same_Some}
 use Rattle.drain_grid.specs.declared.cell.Cell.{Cell}
 use Rattle.drain_mosaic.specs.Tiling.{Tiling}
-use Rattle.drain_mosaic.specs.Mosaic.{Tile, ShowsSample, IsValue, HasTwoValues}
-use Rattle.drain_mosaic.specs.Joined.{value_from, first_value}
+use Rattle.drain_mosaic.specs.Mosaic.{Tile, ShowsSample, IsValue, HasTwoValues, value_from, first_value}
 use Rattle.drain_mosaic.proofs.Agreement.{gives_from, from_gives, value_of_first, is_some_first, any_here, any_later}
 
 pub or_none : {A : Type 0} (o : Option A) → option_or o None ≡ o

@@ -2,10 +2,9 @@
 use Rattle.std.specs.Prelude.{◌≡◌, ◌≢◌, ◌⊎◌, ◌+◌, ◌-◌, ◌*◌, ◌≤◌, ◌<◌, ℕ, ℤ, min, List, length, slice_index_or, Option, Some, None, MatchOption, if◌then◌else◌}
 use Rattle.std.specs.Ordering.{int_eq}
 use Rattle.drain_grid.specs.declared.tile.TheConstants.{VOID}
-use Rattle.drain_grid.specs.Tile.{height_from}
+use Rattle.drain_grid.specs.Grid.{height_from}
 use Rattle.drain_mosaic.specs.Tiling.{Tiling, extent_of}
-use Rattle.drain_mosaic.specs.Mosaic.{Tile, HasTwoValues}
-use Rattle.drain_mosaic.specs.Joined.{first_value}
+use Rattle.drain_mosaic.specs.Mosaic.{Tile, HasTwoValues, first_value}
 
 -- the least place below n that P holds at, none where it holds at none
 abbrev pub IsLeastOf : (ℕ → Type 0) → ℕ → Option ℕ → Type 0

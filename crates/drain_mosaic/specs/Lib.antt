@@ -1,11 +1,7 @@
 pub mod Tiling
-pub mod LayoutFaults
+pub mod GivenTiles
 pub mod Mosaic
-pub mod Joined
 pub mod JoinedRows
 pub mod Laws
 pub mod Streams
-pub mod GivenTiles
 pub mod PlacedRows
-pub mod MosaicRows
-pub mod RowLaws

@@ -1,12 +1,13 @@
 -- A mosaic of tiles: which values its cells have (the SRTM HGT documentation).
-use Rattle.std.specs.Prelude.{◌≡◌, ◌≢◌, ◌↔◌, ◌+◌, ◌-◌, ◌*◌, ◌≤◌, ◌<◌, ℤ, List, [], ◌∷◌, length, Option, Some}
+use Rattle.std.specs.Prelude.{◌≡◌, ◌≢◌, ◌↔◌, ◌+◌, ◌-◌, ◌*◌, ◌≤◌, ◌<◌, ℤ, List, [], ◌∷◌, length, Option, Some, ◌&&◌, nat_le, nat_lt, None, if◌then◌else◌}
 use Rattle.std.specs.List.{All, Any}
 use Rattle.drain_grid.specs.declared.cell.Cell.{Cell}
 use Rattle.drain_grid.specs.Extent.{IsCellOf, IsEarlier}
-use Rattle.drain_grid.specs.Tile.{height_from}
+use Rattle.drain_grid.specs.Grid.{height_from}
 use Rattle.drain_hgt.specs.Corner.{Corner}
 use Rattle.drain_hgt.specs.Samples.{tile_sample_at}
 use Rattle.drain_mosaic.specs.Tiling.{Tiling, extent_of, top_of, left_of}
+use Rattle.std.specs.Option.{option_or}
 
 -- a named tile and its samples
 pub record Tile : Type 0 where
@@ -66,3 +67,19 @@ pub record IsFirstSeam (t : Tiling) (tiles : List Tile) (c : Cell) : Type 0 wher
 pub record AreTiles (t : Tiling) (samples : List (List ℤ)) : Type 0 where
   pub named : length samples ≡ length t.corners
   pub whole : All (λ tile. length tile ≡ t.side * t.side) samples
+
+-- The same as a function: a cell has the value of the first tile that gives one. If the tiles agree it is the cell's
+-- one value, by the law AgreementGivesElevation.
+
+-- the value that the tile gives the cell, none where it gives none
+abbrev pub value_from : Tiling → Tile → Cell → Option ℤ
+value_from t tile c =
+    if nat_le (top_of t tile.corner) c.row && (nat_lt c.row (top_of t tile.corner + t.side)
+    && (nat_le (left_of t tile.corner) c.col && nat_lt c.col (left_of t tile.corner + t.side)))
+    then height_from (sample_over t tile c)
+    else None
+
+-- the value of the first tile that gives one
+abbrev pub first_value : Tiling → List Tile → Cell → Option ℤ
+first_value t [] c = None
+first_value t (tile ∷ more) c = option_or (value_from t tile c) (first_value t more c)

@@ -5,8 +5,7 @@ use Rattle.drain_grid.specs.declared.tile.TheConstants.{VOID}
 use Rattle.drain_hgt.specs.declared.input.TileInput.{TileInput}
 use Rattle.drain_hgt.specs.Corner.{Corner}
 use Rattle.drain_hgt.specs.TileRows.{tile_coming, tile_most_bytes}
-use Rattle.drain_device.specs.Patience.{full_patience}
-use Rattle.drain_device.specs.PartFailing.{PartFails}
+use Rattle.drain_device.specs.Failing.{full_patience, PartFails}
 use Rattle.drain_device.specs.RowSteps.{ReadsWithin}
 use Rattle.drain_device.specs.declared.counts.FaultCounts.{FaultCounts}
 use Rattle.drain_device.specs.declared.row_source.ReadFault.{ReadFault}

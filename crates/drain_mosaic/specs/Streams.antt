@@ -3,8 +3,8 @@ use Rattle.std.specs.Prelude.{ℕ, zero, suc, ◌+◌, ◌-◌, ℤ, Bool, not, 
 use Rattle.std.specs.List.{list_any, range_with_len}
 use Rattle.std.specs.Option.{option_or}
 use Rattle.std.specs.Ordering.{int_eq}
-use Rattle.drain_device.specs.ComingRows.{Coming, after_rows, ends_wrong, nth_row}
-use Rattle.drain_device.specs.ComingRows.Coming.{Next, End}
+use Rattle.drain_device.specs.RowSteps.{Coming, after_rows, ends_wrong, nth_row}
+use Rattle.drain_device.specs.RowSteps.Coming.{Next, End}
 use Rattle.drain_grid.specs.declared.cell.Cell.{Cell}
 use Rattle.drain_grid.specs.declared.tile.TheConstants.{VOID}
 use Rattle.drain_mosaic.specs.JoinedRows.{filled}

@@ -4,7 +4,7 @@ use Rattle.std.specs.List.{fold}
 use Rattle.std.specs.Int.{int_min, int_max}
 use Rattle.drain_grid.specs.declared.cell.Cell.{Cell}
 use Rattle.drain_grid.specs.declared.degree.TheConstants.{UNITS_PER_DEGREE}
-use Rattle.drain_grid.specs.Size.{Extent}
+use Rattle.drain_grid.specs.Extent.{Extent}
 use Rattle.drain_hgt.specs.Corner.{Corner}
 
 -- tiles of one side, by their corners

@@ -4,8 +4,7 @@
 
 ghost use Rattle.std.specs.Prelude.{◌≡◌};
 ghost use Rattle.drain_mosaic.specs.declared.layout.TheConstants.{MAX_BOX};
-ghost use Rattle.drain_mosaic.specs.Laws.{AgreementGivesElevation};
-ghost use Rattle.drain_mosaic.specs.RowLaws.{NewRowsAreOfBodies, RowsAreFirstValues, RowsAreWhole, RowsEnd, RowsTellLengths, RowsTellSeams, WholeTilesGiveTheirSamples};
+ghost use Rattle.drain_mosaic.specs.Laws.{AgreementGivesElevation, NewRowsAreOfBodies, RowsAreFirstValues, RowsAreWhole, RowsEnd, RowsTellLengths, RowsTellSeams, WholeTilesGiveTheirSamples};
 
 use drain_device::ByteSource;
 

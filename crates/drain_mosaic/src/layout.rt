@@ -6,9 +6,9 @@
 
 ghost use Rattle.std.specs.Prelude.{◌≡◌, ◌≢◌, ◌+◌, ◌-◌, ◌*◌, ◌≤◌, ◌<◌, ℕ, map, MatchOption, IfOk, IfErr, IsOk, Some, slice_get, length, option_map, nat_abs, ◌-ℤ◌};
 ghost use Rattle.drain_text.specs.First.{IsFirst};
-ghost use Rattle.drain_grid.specs.Tile.{IsSide};
+ghost use Rattle.drain_grid.specs.Grid.{IsSide};
 ghost use Rattle.drain_hgt.specs.Corner.{Corner, IsWithin};
-ghost use Rattle.drain_mosaic.specs.LayoutFaults.{HasLayoutFault, IsFirstRepeated, IsLayout, IsRepeatedAt, AreBoundsOf, layout_fault_order};
+ghost use Rattle.drain_mosaic.specs.GivenTiles.{HasLayoutFault, IsFirstRepeated, IsLayout, IsRepeatedAt, AreBoundsOf, layout_fault_order};
 ghost use Rattle.drain_mosaic.specs.Tiling.{Tiling, least, greatest, west_of, north_of, extent_of, top_left_of};
 
 use drain_grid::{Cell, Shape};
@@ -49,7 +49,7 @@ pub struct Layout {
 }
 
 impl Model for Layout {
-    ghost use Rattle.drain_mosaic.specs.LayoutFaults.{IsLayout, AreTilingNumbers};
+    ghost use Rattle.drain_mosaic.specs.GivenTiles.{IsLayout, AreTilingNumbers};
     ghost use Rattle.drain_mosaic.specs.Tiling.{Tiling};
 
     ghost Value = { Tiling };

@@ -9,7 +9,7 @@ ghost use Rattle.std.specs.Option.{option_or};
 ghost use Rattle.drain_device.specs.RowSteps.{IsEmptyUnlessRow, IsLong, StaysEnded, Steps, progress_after};
 ghost use Rattle.drain_device.specs.declared.row_source.Progress.{Progress};
 ghost use Rattle.drain_grid.specs.declared.tile.TheConstants.{VOID};
-ghost use Rattle.drain_grid.specs.Tile.{IsSample};
+ghost use Rattle.drain_grid.specs.Grid.{IsSample};
 ghost use Rattle.drain_hgt.specs.Inputs.{names_of};
 ghost use Rattle.drain_mosaic.specs.Streams.{cell_at};
 ghost use Rattle.drain_mosaic.specs.PlacedRows.{AreTold, ArePlacedWithin, HaveEnded, HaveRead, IsPlacedAt, first_stopped};
@@ -43,7 +43,7 @@ pub struct MosaicRows {
 }
 
 impl MosaicRows {
-    ghost use Rattle.drain_mosaic.specs.MosaicRows.{IsBegun, IsToldAtEnd, coming_of, seam_to_tell, wrong_to_tell};
+    ghost use Rattle.drain_mosaic.specs.GivenTiles.{IsBegun, IsToldAtEnd, coming_of, seam_to_tell, wrong_to_tell};
 
     /// The rows of the mosaic of these tiles, from the first byte of each on.
     pub fn new(alloc: Global, layout: &Layout) -> Result<MosaicRows, OutOfMemory>

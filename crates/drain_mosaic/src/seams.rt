@@ -7,7 +7,7 @@
 //! there is one.
 
 ghost use Rattle.std.specs.Prelude.{◌≡◌, ◌⊎◌, ◌+◌, ◌-◌, ◌*◌, ◌≤◌, ◌<◌, map, length, slice_range, IfOk, IfErr, IsOk, EachIndex, slice_index_or};
-ghost use Rattle.drain_grid.specs.Whole.{elevation_at};
+ghost use Rattle.drain_grid.specs.WholeGrid.{elevation_at};
 ghost use Rattle.drain_mosaic.specs.Tiling.{extent_of};
 ghost use Rattle.drain_mosaic.specs.Mosaic.{AreTiles, tiles_of, TilesAgree, IsElevation, IsFirstSeam};
 ghost use Rattle.drain_mosaic.specs.JoinedRows.{IsLeastOf, ConflictAt, IsLaidOver, IsJoinedRow, first_of, filled};

@@ -5,7 +5,7 @@
 
 ghost use Rattle.std.specs.Prelude.{◌≡◌, ◌<◌, ◌≤ℤ◌, ◌+ℤ◌, ◌-ℤ◌, ◌*ℤ◌, neg_ℤ, pos};
 ghost use Rattle.drain_mosaic.specs.Tiling.{north_of, west_of};
-ghost use Rattle.drain_page.specs.Degrees.{IsRounded, steps_of};
+ghost use Rattle.drain_page.specs.Texts.{IsRounded, steps_of};
 
 use crate::names::Shown;
 use drain_mosaic::Layout;

@@ -1,8 +1,12 @@
 //! What the first rule that fails at a cell expected there.
 
+ghost use Rattle.std.specs.Prelude.{◌≡◌};
+
+use crate::json_text::{JsonText, JsonValue};
+use crate::names::{shown_code, shown_number, shown_rule};
 use drain_explain::{Findings, judged_product};
 use drain_faults::FaultyPatch;
-use drain_faults::product_presence::{nodata_of, number_at};
+use drain_faults::product_faults::{nodata_of, number_at};
 use drain_fill::{Opening, greatest_allowed, opening_of};
 use drain_flat::{is_flat_way, is_flat_way_without_ranks};
 use drain_grid::{CellValues, Code, Direction, Judged, Patch, Rule, SetProduct};
@@ -162,5 +166,167 @@ fn opening(rule: Rule, patch: &Patch) -> Option<Opening> {
     match rule {
         Rule::OpenRaised | Rule::OutletCode => opening_of(patch),
         _ => None,
+    }
+}
+
+/// Appends the rule and these lines.
+pub(crate) fn push_expected(
+    text: &mut String,
+    first: &FaultyPatch,
+    findings: &Findings,
+    expected: &Expected,
+) -> Result<(), AllocError> {
+    write!(text, "rule {}\nexpected: ", shown_rule(first.rule))?;
+    push_expectation(text, first.rule, findings.rules.judged, expected)?;
+    text.push_str("\n")?;
+    push_ways(text, &first.patch, &expected.ways)?;
+    match expected.product {
+        Some(product) => {
+            let number = shown_number(&first.patch.here, product, &findings.rules.nodata);
+            writeln!(text, "found: {} {number}", product.product().name())
+        }
+        None => Ok(()),
+    }
+}
+
+/// Appends what was expected.
+fn push_expectation(
+    text: &mut String,
+    rule: Rule,
+    judged: Judged,
+    expected: &Expected,
+) -> Result<(), AllocError> {
+    let open = at_opening(expected.open);
+    match (rule, expected.number) {
+        (Rule::VoidCell, _) => push_products(text, "no data at a void, in ", &expected.products),
+        (Rule::Missing, _) => {
+            push_products(text, "a number at a data cell, in ", &expected.products)
+        }
+        (Rule::BadCode, _) => text.push_str("dir 0, 1, 2, 4, 8, 16, 32, 64 or 128"),
+        (Rule::BelowGround, Some(ground)) => write!(text, "con at least the ground, {ground}"),
+        (Rule::OpenRaised, Some(ground)) => write!(text, "con equal to the ground, {ground}{open}"),
+        (Rule::NotLeast, Some(most)) => write!(text, "con at most {most}"),
+        (Rule::NotLeast, None) => text.push_str("any con"),
+        (Rule::Slope, _) => text.push_str("dir of a steepest descent"),
+        (Rule::OutletCode, _) => write!(text, "dir 0, with no lower neighbour{open}"),
+        (Rule::FlatStep, _) => push_along(text, &expected.codes, judged),
+        (Rule::Accumulation, Some(sum)) => write!(text, "acc {sum}"),
+        (Rule::Label, Some(label)) => {
+            write!(text, "bas of the cell that dir points to, {label}")
+        }
+        (Rule::Label, None) => text.push_str("any bas"),
+        (Rule::SharedLabel, _) => text.push_str("bas that no earlier outlet has"),
+        _ => text.push_str("nothing"),
+    }
+}
+
+/// These words and the products' names.
+fn push_products(
+    text: &mut String,
+    words: &str,
+    products: &[SetProduct],
+) -> Result<(), AllocError> {
+    text.push_str(words)?;
+    let mut separator = "";
+    for product in products {
+        write!(text, "{separator}{}", product.product().name())?;
+        separator = ", ";
+    }
+    Ok(())
+}
+
+/// Why the cell is open.
+fn at_opening(open: Option<Opening>) -> &'static str {
+    match open {
+        Some(Opening::Sink) => ", at a listed sink",
+        Some(Opening::Edge) => ", on the edge of the mosaic",
+        Some(Opening::Void) => ", next to a void",
+        None => "",
+    }
+}
+
+/// The allowed steps along a flat.
+fn push_along(text: &mut String, codes: &[i64], judged: Judged) -> Result<(), AllocError> {
+    text.push_str(if judged.has_rnk() {
+        "dir to a neighbour with the same con and a smaller rnk: "
+    } else {
+        "dir to a neighbour with the same con: "
+    })?;
+    let mut separator = "";
+    for code in codes {
+        write!(text, "{separator}{}", shown_code(*code))?;
+        separator = ", ";
+    }
+    text.push_str(if codes.is_empty() { "none" } else { "" })
+}
+
+/// A line for each way down with its direction, drop and key.
+fn push_ways(text: &mut String, patch: &Patch, ways: &[WayDown]) -> Result<(), AllocError> {
+    for WayDown {
+        direction,
+        drop,
+        key,
+    } in ways {
+        let word = shown_code(direction.code());
+        let end = if is_steepest(patch, *key) {
+            ", steepest"
+        } else {
+            ""
+        };
+        writeln!(text, "  {word}: drop {drop}, key {key}{end}")?;
+    }
+    Ok(())
+}
+
+/// What was expected; null if no rule fails. A member that the rule doesn't use is null or empty.
+pub(crate) fn write_expected(
+    alloc: Global,
+    json: &mut JsonText,
+    findings: &Findings,
+) -> Result<(), AllocError>
+    ensures { json.new ≡ json.old }
+{
+    let Some(first) = &findings.first else {
+        return json.null("expected");
+    };
+    let expected = expected_at(alloc, first, findings)?;
+    let found = match expected.product {
+        Some(product) => Some(number_at(&first.patch.here, product)),
+        None => None,
+    };
+    json.begin_object("expected")?;
+    json.member("rule", first.rule.number())?;
+    json.member("name", first.rule.name())?;
+    json.member("product", expected.product)?;
+    json.member("found", found)?;
+    write_members(json, &expected)
+}
+
+/// The other members, and the end of the object.
+fn write_members(json: &mut JsonText, expected: &Expected) -> Result<(), AllocError>
+    ensures { json.new ≡ json.old }
+{
+    json.member("number", expected.number)?;
+    json.list("products", &expected.products)?;
+    json.list("codes", &expected.codes)?;
+    json.list("ways", &expected.ways)?;
+    json.member("open", expected.open)?;
+    json.end_object()
+}
+
+impl JsonValue for WayDown {
+    fn append(self, json: &mut JsonText) -> Result<(), AllocError> {
+        json.begin_object_item()?;
+        json.member("code", self.direction.code())?;
+        json.member("drop", self.drop)?;
+        json.member("key", self.key)?;
+        json.end_object()
+    }
+}
+
+/// Why a cell is open, by a word.
+impl JsonValue for Opening {
+    fn append(self, json: &mut JsonText) -> Result<(), AllocError> {
+        self.name().append(json)
     }
 }

@@ -2,15 +2,15 @@
 
 ghost use Rattle.std.specs.Prelude.{◌≡◌, IfOk, string_bytes};
 ghost use Rattle.drain_answer.specs.OutcomeLines.{outcome_report_line};
-ghost use Rattle.drain_page.specs.JsonLines.{IsAnswerLine};
+ghost use Rattle.drain_page.specs.Texts.{IsAnswerLine};
 
-use crate::expected_json::write_expected;
+use crate::expected::write_expected;
 use crate::facts::Facts;
 use crate::json_text::JsonText;
 use crate::patch_json::write_patch;
-use crate::refusal_json::write_refusal;
-use crate::rules_json::{write_products, write_rules};
-use crate::run_json::write_run;
+use crate::refusal::write_refusal;
+use crate::rules::{write_products, write_rules};
+use crate::run::write_run;
 use drain_answer::outcome_report;
 use drain_explain::{Findings, RefusalDetail};
 use drain_grid::OutOfMemory;
@@ -33,7 +33,7 @@ pub fn failure_json(alloc: Global, answer: &str) -> Result<String, OutOfMemory>
 }
 
 /// The object for the failure that there is no memory for an object.
-pub const NO_OBJECT: &str =
+pub const OUT_OF_MEMORY_OBJECT: &str =
     "{\"answer\":\"failed OutOfMemory\",\"refusal\":null,\"rows\":null,\"cols\":null,\"ranks\":null,\"rules\":[],\"products\":[],\"patch\":null,\"expected\":null,\"run\":null}\n";
 
 fn object(

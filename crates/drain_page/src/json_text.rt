@@ -4,7 +4,7 @@
 ghost use Rattle.std.specs.Prelude.{◌≡◌, IfOk, string_bytes};
 ghost use Rattle.json.specs.Print.{IsPrintable};
 ghost use Rattle.json.specs.Reads.{token_of};
-ghost use Rattle.drain_page.specs.JsonLines.{IsJsonLine, answer_head};
+ghost use Rattle.drain_page.specs.Texts.{IsJsonLine, answer_head};
 
 use itoa::Buffer;
 use json::{Token, Writer, is_number};
@@ -20,7 +20,7 @@ pub(crate) struct JsonText {
 impl Model for JsonText {
     ghost use Rattle.std.specs.Prelude.{List, take};
     ghost use Rattle.json.specs.Token.{Token};
-    ghost use Rattle.drain_page.specs.JsonTexts.{IsBegun};
+    ghost use Rattle.drain_page.specs.Texts.{IsBegun};
 
     ghost Value = { List Token };
 

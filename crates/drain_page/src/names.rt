@@ -1,7 +1,7 @@
 //! Words for directions, numbers of a raster and rules, for degrees of a header, and for bytes that may be no ASCII.
 
 use arrayvec::ArrayString;
-use drain_faults::product_presence::{nodata_of, number_at};
+use drain_faults::product_faults::{nodata_of, number_at};
 use drain_grid::{CellValues, Code, Direction, NoData, Rule, SetProduct, UNITS_PER_DEGREE};
 use std::alloc::{AllocError, Global};
 use std::fmt::Write;

@@ -4,9 +4,9 @@ ghost use Rattle.std.specs.Prelude.{◌≡◌};
 
 use crate::json_text::{JsonText, JsonValue};
 use crate::patch_text::rows_of;
-use crate::rules_json::CellOf;
+use crate::rules::CellOf;
 use drain_explain::Findings;
-use drain_faults::product_presence::{nodata_of, number_at};
+use drain_faults::product_faults::{nodata_of, number_at};
 use drain_grid::{CellValues, SetProduct};
 use std::alloc::AllocError;
 

@@ -1,8 +1,7 @@
 //! The first cell at which a rule fails: its place, its values and its neighbours', and what the rule expected.
 
 use crate::degrees::{latitude_text, longitude_text};
-use crate::expected::expected_at;
-use crate::expected_text::push_expected;
+use crate::expected::{expected_at, push_expected};
 use crate::names::{Shown, shown_ground, shown_number, shown_word};
 use drain_explain::Findings;
 use drain_faults::FaultyPatch;

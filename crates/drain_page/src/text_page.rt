@@ -5,9 +5,9 @@ ghost use Rattle.drain_answer.specs.OutcomeLines.{outcome_report_line};
 
 use crate::facts::Facts;
 use crate::patch_text::push_first;
-use crate::refusal_text::push_refusal;
-use crate::rules_text::push_rules;
-use crate::run_text::push_run;
+use crate::refusal::push_refusal;
+use crate::rules::push_rules;
+use crate::run::push_run;
 use drain_answer::outcome_report;
 use drain_explain::Findings;
 use drain_grid::OutOfMemory;

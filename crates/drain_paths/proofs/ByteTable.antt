@@ -2,7 +2,7 @@
 use Rattle.std.proofs.Common.{◌≡◌, ◌<◌, ◌+◌, ◌∙◌, ℕ, zero, suc, List, [], ◌∷◌, get_or, ap, arith}
 use Rattle.drain_paths.specs.declared.flow.Flow.{Flow}
 use Rattle.drain_paths.specs.declared.flow.Flow.TheVariants.{Void}
-use Rattle.drain_paths.specs.CodeFlows.{byte_flow, IsByteTable}
+use Rattle.drain_paths.specs.Flows.{byte_flow, IsByteTable}
 
 -- those of n numbers, from the first on
 abbrev pub flows_from : ℕ → ℕ → List Flow

@@ -1,17 +1,29 @@
 -- Numbers of cells, before and after a write at one.
-use Rattle.std.proofs.Common.{◌≡◌, ◌≢◌, ◌∙◌, ℕ, zero, suc, ◌<◌, ◌*◌, ◌+◌, ◌-◌, ◌%◌, inl, inr, List, length, get_or, set, refl, get_or-set_other, get_or-set_same, sym, ap, arith}
+use Rattle.std.proofs.Common.{◌≡◌, ◌<◌, ◌++◌, ◌∷◌, ℕ, zero, suc, List, [], length, slice_get, Some, refl, arith, ◌≢◌, ◌∙◌, ◌*◌, ◌+◌, ◌-◌, ◌%◌, inl, inr, get_or, set, get_or-set_other, get_or-set_same, sym, ap}
 use Rattle.std.proofs.Math.Nat.{mul-le-mul_right}
 use Rattle.std.proofs.lemmas.Bool.{cases_lt}
 use Rattle.std.proofs.lemmas.List.{length-set}
 use lib.ListN.{replicate}
 use Rattle.drain_grid.specs.declared.cell.Cell.{Cell}
-use Rattle.drain_grid.specs.Extent.{IsCellOf, index_of}
-use Rattle.drain_grid.specs.Size.{Extent}
+use Rattle.drain_grid.specs.Extent.{IsCellOf, index_of, Extent}
 use Rattle.drain_grid.proofs.Runs.{cell_at, index_of-below}
-use Rattle.drain_grid.proofs.CellOrder.{same_index}
-use Rattle.drain_paths.specs.declared.inflows.TheConstants.{PASSED_ON}
+use Rattle.drain_grid.proofs.Alike.{same_index}
+use Rattle.drain_paths.specs.declared.accumulation.TheConstants.{DONE}
 use Rattle.drain_paths.specs.CellNumbers.{cell_number, IsPutAt}
-use Rattle.drain_paths.specs.Passing.{IsPassedOn}
+use Rattle.drain_paths.specs.Inflows.{IsPassedOn}
+
+-- A list with one element more.
+
+-- its last is that
+pub nth_seam : {A : Type 0} (xs : List A) (x : A) → slice_get (xs ++ x ∷ []) (length xs) ≡ Some x
+nth_seam [] x = refl
+nth_seam (y ∷ ys) x = nth_seam ys x
+
+-- the others are those that it had
+pub nth_left : {A : Type 0} (xs ys : List A) (k : ℕ) → k < length xs → slice_get (xs ++ ys) k ≡ slice_get xs k
+nth_left [] ys k less = absurd (omega (arith, less))
+nth_left (x ∷ xs) ys zero less = refl
+nth_left (x ∷ xs) ys (suc k) less = nth_left xs ys k (omega (arith, less))
 
 module _ (e : Extent) (numbers : List ℕ) (c : Cell) (place number : ℕ) (inside : IsCellOf e c) (at : place ≡ index_of e c)
     (counted : length numbers ≡ e.rows * e.cols) where
@@ -40,12 +52,12 @@ inside_by_place e c k at col below = record { row = row_below c.row e.rows e.col
 -- one cell passes on to another
 pub IsPassedOn-set : (e : Extent) (waits counts : List ℕ) (from to : Cell) (here there : ℕ) → length waits ≡ e.rows * e.cols → length counts ≡ e.rows * e.cols →
     IsCellOf e from → IsCellOf e to → from ≢ to → 0 < cell_number e waits to → here ≡ index_of e from → there ≡ index_of e to →
-    IsPassedOn e waits (set (set waits there (get_or waits there 0 - 1)) here PASSED_ON) counts (set counts there (get_or counts there 0 + get_or counts here 0)) from to
+    IsPassedOn e waits (set (set waits there (get_or waits there 0 - 1)) here DONE) counts (set counts there (get_or counts there 0 + get_or counts here 0)) from to
 IsPassedOn-set e waits counts from to here there waits_counted counts_counted at_from at_to apart some is_from is_to =
     let less = get_or waits there 0 - 1 in
     let sum = get_or counts there 0 + get_or counts here 0 in
     let first = IsPutAt-set e waits to there less at_to is_to waits_counted in
-    let second = IsPutAt-set e (set waits there less) from here PASSED_ON at_from is_from (first.counted ∙ waits_counted) in
+    let second = IsPutAt-set e (set waits there less) from here DONE at_from is_from (first.counted ∙ waits_counted) in
     let third = IsPutAt-set e counts to there sum at_to is_to counts_counted in
     record {
       waits_counted = second.counted ∙ first.counted;

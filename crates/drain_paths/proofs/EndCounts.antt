@@ -7,7 +7,7 @@ use Rattle.drain_grid.specs.declared.cell.Cell.{Cell}
 use Rattle.drain_grid.specs.Extent.{index_of, same_cell, cells}
 use Rattle.drain_grid.specs.Grid.{Grid, Products, IsInside, HasData}
 use Rattle.drain_grid.proofs.CellSums.{sum_by_same, sum_by_add, sum_by_zero, sum_by_cells_same, sum_by_cells_one, same_cell_true, same_cell_self}
-use Rattle.drain_grid.proofs.CellOrder.{same_index}
+use Rattle.drain_grid.proofs.Alike.{same_index}
 use Rattle.drain_paths.specs.Basins.{is_end, ends_before, end_number}
 
 below_yes : (a k : ℕ) → a < k → nat_lt a k ≡ true

@@ -4,12 +4,12 @@ use Rattle.std.specs.Prelude.{min}
 use Rattle.std.proofs.lemmas.Bool.{cases_Bool, cases_order}
 use Rattle.std.proofs.lemmas.Bool.Decides.{nat_tests}
 use Rattle.std.proofs.lemmas.List.{length-append}
-use Rattle.drain_paths.proofs.CellLists.{nth_left, nth_seam}
+use Rattle.drain_paths.proofs.CellPlaces.{nth_left, nth_seam}
 use Rattle.drain_grid.specs.declared.cell.Cell.{Cell}
 use Rattle.drain_grid.specs.Grid.{Grid, Products, HasData}
 use Rattle.drain_grid.specs.Run.{next}
-use Rattle.drain_grid.proofs.EndedRuns.{HasData-next}
-use Rattle.drain_grid.proofs.Options.{none_some, same_some}
+use Rattle.drain_grid.proofs.Runs.{HasData-next}
+use Rattle.drain_grid.proofs.Tallies.{none_some, same_some}
 use Rattle.drain_paths.specs.EndlessPaths.{IsReached, IsRingFrom, cell_after, told_with}
 use Rattle.drain_paths.specs.declared.endless_path.TheConstants.{RING_TOLD}
 

@@ -7,15 +7,14 @@ use Rattle.drain_grid.specs.declared.cell.Cell.{Cell}
 use Rattle.drain_grid.specs.declared.direction.Direction.{Direction}
 use Rattle.drain_grid.specs.declared.direction.Direction.TheVariants.{East, SouthEast, South, SouthWest, West, NorthWest, North, NorthEast}
 use Rattle.drain_grid.specs.Direction.{named_direction}
-use Rattle.drain_grid.specs.Extent.{IsCellOf, step}
+use Rattle.drain_grid.specs.Extent.{IsCellOf, step, Extent}
 use Rattle.drain_grid.specs.Grid.{Grid, Products, IsInside, HasData}
 use Rattle.drain_grid.specs.Run.{next}
-use Rattle.drain_grid.specs.Size.{Extent}
-use Rattle.drain_grid.proofs.Options.{none_some, void_data}
+use Rattle.drain_grid.proofs.Tallies.{none_some, void_data}
 use Rattle.drain_paths.specs.declared.flow.Flow.{Flow}
 use Rattle.drain_paths.specs.declared.flow.Flow.TheVariants.{Void, Lost, Ends, ToEast, ToSouthEast, ToSouth, ToSouthWest, ToWest, ToNorthWest, ToNorth, ToNorthEast}
 use Rattle.drain_paths.specs.Flows.{direction_of, flow_to, code_flow, cell_flow, flow_at, AreFlowsOf}
-use Rattle.drain_paths.specs.KnownFlows.{IsKnownFlow, AreKnownFlows}
+use Rattle.drain_paths.specs.Walks.{IsKnownFlow, AreKnownFlows}
 use Rattle.drain_paths.proofs.KnownWays.{AreKnownFlows-grid, stuck_outside, stuck_void, leads_on}
 use Rattle.drain_paths.proofs.NextCells.{next-unnamed, next-of_no_code}
 

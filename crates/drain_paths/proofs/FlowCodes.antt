@@ -6,7 +6,7 @@ use Rattle.std.proofs.lemmas.Bool.{cases_Bool}
 use Rattle.drain_grid.specs.declared.direction.Direction.{Direction}
 use Rattle.drain_grid.specs.declared.direction.Direction.TheVariants.{East}
 use Rattle.drain_grid.specs.Direction.{Names, named_direction}
-use Rattle.drain_grid.proofs.Options.{none_some, same_some}
+use Rattle.drain_grid.proofs.Tallies.{none_some, same_some}
 use Rattle.drain_paths.proofs.NextCells.{named_direction-names}
 use Rattle.drain_paths.specs.declared.flow.Flow.{Flow}
 use Rattle.drain_paths.specs.declared.flow.Flow.TheVariants.{Void, Lost, Ends}

@@ -1,18 +1,17 @@
 -- Flows taken row by row are those of the grid: for a caller that takes rows, and then finds which runs end.
-use Rattle.std.proofs.Common.{◌≡◌, ◌<◌, ◌+◌, ◌*◌, ℕ, ◌∙◌, inl, inr, ℤ, pos, List, [], ◌++◌, length, get_or, length-append, sym, ap, arith}
-use Rattle.std.proofs.lemmas.Bool.{cases_order}
+use Rattle.std.proofs.Common.{◌≡◌, ◌<◌, ◌+◌, ◌*◌, ℕ, ◌∙◌, inl, inr, ℤ, pos, List, [], ◌++◌, length, get_or, length-append, sym, ap, arith, Option, Some, None, refl, set, get_or-set_other, get_or-set_same}
+use Rattle.std.proofs.lemmas.Bool.{cases_order, cases_eq}
 use Rattle.std.proofs.lemmas.List.{get_or_default, get_or_append_left, get_or-append-add}
 use Rattle.drain_grid.specs.declared.cell.Cell.{Cell}
 use Rattle.drain_grid.specs.declared.tile.TheConstants.{VOID}
-use Rattle.drain_grid.specs.Extent.{index_of}
-use Rattle.drain_grid.specs.Grid.{Grid, Products, IsInside}
-use Rattle.drain_grid.specs.Size.{Extent}
-use Rattle.drain_grid.specs.Tile.{height_from}
-use Rattle.drain_grid.proofs.CellOrder.{in_grid, before_row}
+use Rattle.drain_grid.specs.Extent.{index_of, Extent, IsCellOf}
+use Rattle.drain_grid.specs.Grid.{Grid, Products, IsInside, height_from, no_sink}
+use Rattle.drain_grid.proofs.Alike.{in_grid, before_row, same_index}
 use Rattle.drain_paths.specs.declared.flow.Flow.{Flow}
-use Rattle.drain_paths.specs.declared.flow.Flow.TheVariants.{Void}
-use Rattle.drain_paths.specs.Flows.{cell_flow, flows_of, flow_at, AreFlowsOf, AreFirstFlows, AreRowOf}
+use Rattle.drain_paths.specs.declared.flow.Flow.TheVariants.{Void, Lost, Ends, ToEast, ToSouthEast, ToSouth, ToSouthWest, ToWest, ToNorthWest, ToNorth, ToNorthEast}
+use Rattle.drain_paths.specs.Flows.{cell_flow, flows_of, flow_at, AreFlowsOf, AreFirstFlows, AreRowOf, OfFlows}
 use Rattle.drain_paths.proofs.RowFlows.{length-flows_of, get_or-flows_of}
+use Rattle.drain_grid.proofs.Runs.{index_of-below}
 
 -- no row
 pub AreFirstFlows-none : (g : Grid) (ps : Products) (e : Extent) → g.extent ≡ e → AreFirstFlows g ps e 0 []
@@ -60,3 +59,63 @@ AreFirstFlows-row g ps e row flows zs ns first are =
         ∙ ap (λ z. cell_flow (height_from z) (get_or ns c.col (pos 0))) (get_or_default zs c.col (pos 0) VOID within)
         ∙ ap (λ z. cell_flow z (get_or ns c.col (pos 0))) (are.elevation c.col inside.col ∙ ap g.elevation is_c)
         ∙ ap (cell_flow (g.elevation c)) (are.code c.col inside.col ∙ ap ps.dir is_c)
+
+-- A grid and products that have given flows: so what holds of each of them holds of some.
+
+abbrev pub height_of_flow : Flow → Option ℤ
+height_of_flow Void = None
+height_of_flow f = Some (pos 0)
+
+abbrev pub code_of_flow : Flow → ℤ
+code_of_flow Void = pos 0
+code_of_flow Lost = pos 3
+code_of_flow Ends = pos 0
+code_of_flow ToEast = pos 1
+code_of_flow ToSouthEast = pos 2
+code_of_flow ToSouth = pos 4
+code_of_flow ToSouthWest = pos 8
+code_of_flow ToWest = pos 16
+code_of_flow ToNorthWest = pos 32
+code_of_flow ToNorth = pos 64
+code_of_flow ToNorthEast = pos 128
+
+flow_back : (f : Flow) → f ≡ cell_flow (height_of_flow f) (code_of_flow f)
+flow_back Void = refl
+flow_back f = refl
+
+pub grid_of_flows : Extent → List Flow → Grid
+grid_of_flows e flows = record { extent = e; elevation = λ c. height_of_flow (flow_at e flows c); sink = no_sink }
+
+pub products_of_flows : Extent → List Flow → Products
+products_of_flows e flows = record {
+  con = λ c. pos 0;
+  dir = λ c. code_of_flow (flow_at e flows c);
+  acc = λ c. pos 0;
+  bas = λ c. pos 0;
+  spl = λ c. pos 0;
+  rnk = λ c. pos 0;
+}
+
+pub are_flows : (e : Extent) (flows : List Flow) → AreFlowsOf (grid_of_flows e flows) (products_of_flows e flows) e flows
+unfolding grid_of_flows products_of_flows
+are_flows e flows = record { extent = refl; each = λ c inside. flow_back (flow_at e flows c) }
+
+-- what names neither the grid nor its products
+pub of_some : (e : Extent) (flows : List Flow) (P : Type 0) → OfFlows e flows (λ g ps. P) → P
+of_some e flows P each = each (grid_of_flows e flows) (products_of_flows e flows) (are_flows e flows)
+
+-- Flows of the cells of a raster, one after the other.
+
+-- the cells with at most k cells before them have their flows
+abbrev pub HaveFlows : Extent → (Cell → Flow) → ℕ → List Flow → Type 0
+HaveFlows e flow_of k flows = (c : Cell) → IsCellOf e c → index_of e c < k → flow_at e flows c ≡ flow_of c
+
+pub HaveFlows-more : (e : Extent) (flow_of : Cell → Flow) (k : ℕ) (flows : List Flow) (c : Cell) (flow : Flow) → length flows ≡ e.rows * e.cols →
+    IsCellOf e c → index_of e c ≡ k → flow ≡ flow_of c → HaveFlows e flow_of k flows → HaveFlows e flow_of (k + 1) (set flows k flow)
+HaveFlows-more e flow_of k flows c flow counted inside at is so_far d there less = elim (cases_eq (index_of e d) k) [
+  | inl same ↦
+      (let below = index_of-below e c inside in
+      ap (λ j. get_or (set flows k flow) j Void) same ∙ (get_or-set_same flows k flow Void (omega (arith, below, at, counted))
+      ∙ (is ∙ ap flow_of (same_index e c d inside there (at ∙ sym same)))))
+  | inr other ↦ get_or-set_other flows k (index_of e d) flow Void other ∙ so_far d there (omega (arith, less, other))
+]

@@ -1,31 +1,70 @@
 -- How many cells flow into one, from three rows of flows; whole rows.
-use Rattle.std.proofs.Common.{◌≡◌, ◌≢◌, ◌∙◌, ℕ, ◌+◌, ◌-◌, ◌*◌, ◌<◌, ◌≤◌, ◌==◌, inl, inr, pos, List, [], ◌∷◌, Option, Some, None, slice_index, slice_index_or, if◌then◌else◌, refl, sym, ap, subst, arith}
-use Rattle.std.specs.List.{sum_by}
-use Rattle.std.proofs.lemmas.Bool.{cases_lt, eq-eqb, ne_eqb}
-use Rattle.std.proofs.lemmas.List.Sums.{sum_by-cons}
+use Rattle.std.proofs.Common.{◌≡◌, ◌≢◌, ◌∙◌, ℕ, ◌+◌, inl, inr, cond, Some, sym, ap, subst, arith, ◌-◌, ◌*◌, ◌<◌, ◌≤◌, ◌==◌, pos, List, [], ◌∷◌, Option, None, slice_index, slice_index_or, if◌then◌else◌, refl}
+use Rattle.std.proofs.lemmas.Bool.{false_from_ne_true, cases_lt, eq-eqb, ne_eqb}
 use Rattle.drain_grid.specs.declared.cell.Cell.{Cell}
+use Rattle.drain_grid.specs.Extent.{same_cell, IsCellOf, index_of, step, Extent}
+use Rattle.drain_grid.specs.Grid.{Grid, Products, HasData}
+use Rattle.drain_grid.specs.Run.{next}
+use Rattle.drain_grid.proofs.CellSums.{same_cell_true, same_cell_self}
+use Rattle.drain_grid.proofs.HandedOn.{handed_on, handed_one, handed_same}
+use Rattle.drain_grid.proofs.Inflows.{FlowsFrom, HasData-flow, next-flow, flow-next, flow_unique}
+use Rattle.drain_grid.proofs.Lowered.{same_or_not}
+use Rattle.drain_paths.proofs.PassedSums.{passed_add, passed_most, passed_sum}
+use Rattle.std.specs.List.{sum_by}
+use Rattle.std.proofs.lemmas.List.Sums.{sum_by-cons}
 use Rattle.drain_grid.specs.declared.direction.Direction.{Direction}
 use Rattle.drain_grid.specs.declared.direction.Direction.TheVariants.{East, SouthEast, South, SouthWest, West, NorthWest, North, NorthEast}
 use Rattle.drain_grid.specs.Direction.{code_of, cols_right, directions, opposite, rows_down}
-use Rattle.drain_grid.specs.Extent.{IsCellOf, index_of, step}
-use Rattle.drain_grid.specs.Grid.{Grid, Products, HasData}
-use Rattle.drain_grid.specs.Size.{Extent}
 use Rattle.drain_grid.proofs.Codes.{names_fact}
-use Rattle.drain_grid.proofs.HandedOn.{handed_on}
-use Rattle.drain_grid.proofs.Inflows.{FlowsFrom, HasData-flow}
 use Rattle.drain_grid.proofs.Neighbors.{step_gives, step_lies}
-use Rattle.drain_grid.proofs.Options.{none_some, some_or_none}
+use Rattle.drain_grid.proofs.Tallies.{none_some, some_or_none}
 use Rattle.drain_grid.proofs.ThreeRows.{row_beside, number_beside, number_in_row, three_rows, col_beside, at_ends, place_in_row, place_in_own_row}
-use Rattle.drain_grid.proofs.CellOrder.{before_row}
+use Rattle.drain_grid.proofs.Alike.{before_row}
 use Rattle.drain_paths.specs.declared.flow.Flow.{Flow}
 use Rattle.drain_paths.specs.declared.flow.Flow.TheVariants.{Void}
 use Rattle.drain_paths.specs.Flows.{AreFlowsOf, code_flow, direction_of, flow_at, flow_to}
-use Rattle.drain_paths.specs.KnownFlows.{AreKnownFlows}
+use Rattle.drain_paths.specs.Walks.{AreKnownFlows}
 use Rattle.drain_paths.proofs.KnownWays.{AreKnownFlows-grid}
 use Rattle.drain_paths.specs.CellNumbers.{cell_number}
 use Rattle.drain_paths.specs.Inflows.{AreFlowLanes, AreInflows, IsInflowOf, inflow_at, lane_of, one_if}
 use Rattle.drain_paths.proofs.FlowCells.{with_height}
-use Rattle.drain_paths.proofs.PassedSums.{passed_most, passed_sum}
+
+-- The sum that the inflows of a cell pass on, when the number of one cell changes: it changes at one cell at most, the
+-- one to which the code leads.
+
+-- more by this amount at this cell, and the same at each other
+pub record IsMore (g : Grid) (f more : Cell → ℕ) (c : Cell) (amount : ℕ) : Type 0 where
+  pub here : more c ≡ f c + amount
+  pub elsewhere : (m : Cell) → HasData g m → m ≢ c → more m ≡ f m
+
+module _ (g : Grid) (ps : Products) (f more : Cell → ℕ) (c : Cell) (amount : ℕ) (is : IsMore g f more c amount) where
+  -- a cell to which it doesn't lead
+  pub share_elsewhere : (x : Cell) → HasData g x → next g ps c ≢ Some x → handed_on g ps x more ≡ handed_on g ps x f
+  share_elsewhere x here other =
+      handed_same g ps x more f (λ d m from_m. is.elsewhere m (HasData-flow g ps x d m from_m)
+      (λ same. other (subst (λ y. next g ps y ≡ Some x) same (next-flow g ps x d m here from_m))))
+
+  -- that to which it leads
+  pub share_ahead : (x : Cell) → HasData g c → next g ps c ≡ Some x → handed_on g ps x more ≡ handed_on g ps x f + amount
+  share_ahead x from leads =
+      let flow = flow-next g ps c x from leads in
+      let added = λ (m : Cell). cond (same_cell c m) amount 0 in
+      let whole = handed_same g ps x more (λ m. f m + added m) (λ d m from_m. at m (HasData-flow g ps x d m from_m)) in
+      let parts = passed_add g ps x f added in
+      let one = handed_one g ps x added flow.1.0 c flow.1.1
+      (λ d m from_m differ. ap (λ b. cond b amount 0) (false_from_ne_true (same_cell c m) (λ same.
+      differ (flow_unique g ps x c d flow.1.0 (subst (λ y. FlowsFrom g ps x d y) (sym (same_cell_true c m same)) from_m) flow.1.1)))) in
+      let here = ap (λ b. cond b amount 0) (same_cell_self c) in
+      omega (arith, whole, parts, one, here)
+    where
+      at : (m : Cell) → HasData g m → more m ≡ f m + cond (same_cell c m) amount 0
+      at m data_m = elim (same_or_not c m) [
+        | inl same ↦ subst (λ y. more y ≡ f y + cond (same_cell c y) amount 0) same (is.here ∙ ap (λ b. f c + cond b amount 0) (sym (same_cell_self c)))
+        | inr other ↦
+            (let kept = is.elsewhere m data_m (λ same. other (sym same)) in
+            let none = ap (λ b. cond b amount 0) (false_from_ne_true (same_cell c m) (λ same. other (same_cell_true c m same))) in
+            omega (arith, kept, none))
+      ]
 
 -- few enough that a byte has room for one more
 pub inflows_few : (g : Grid) (ps : Products) (e : Extent) (waits : List ℕ) (c : Cell) → IsInflowOf g ps e waits c → HasData g c →

@@ -2,20 +2,17 @@
 use Rattle.std.proofs.Common.{◌≡◌, ◌≢◌, ◌∙◌, ℕ, zero, suc, ◌+◌, ◌*◌, inl, inr, pos, cond, List, sym, ap, subst, arith}
 use Rattle.std.proofs.lemmas.Bool.{cases_order}
 use Rattle.drain_grid.specs.declared.cell.Cell.{Cell}
-use Rattle.drain_grid.specs.Extent.{index_of}
+use Rattle.drain_grid.specs.Extent.{index_of, Extent}
 use Rattle.drain_grid.specs.Grid.{Grid, Products, IsInside, HasData}
 use Rattle.drain_grid.specs.Run.{run_end, RunEnds}
-use Rattle.drain_grid.specs.Size.{Extent}
-use Rattle.drain_grid.proofs.EndedRuns.{ended-run_end}
+use Rattle.drain_grid.proofs.Runs.{ended-run_end, index_of-below, run_end-zero}
 use Rattle.drain_grid.proofs.Lowered.{same_or_not}
-use Rattle.drain_grid.proofs.Runs.{index_of-below, run_end-zero}
 use Rattle.drain_grid.proofs.Walks.{Leads, EndsAfter-zero}
-use Rattle.drain_grid.proofs.CellOrder.{in_grid, same_index}
+use Rattle.drain_grid.proofs.Alike.{in_grid, same_index}
 use Rattle.drain_paths.proofs.SameRuns.{last_data}
 use Rattle.drain_paths.proofs.Shorter.{RunEnds-walk}
-use Rattle.drain_paths.specs.CellNumbers.{cell_number, IsPutAt}
+use Rattle.drain_paths.specs.CellNumbers.{cell_number, IsPutAt, IsNumberBehind, AreNumbersSoFar, AreNumbers}
 use Rattle.drain_paths.specs.Basins.{ends_before, end_number, basin_label, AreEndLabels, AreBasinLabels}
-use Rattle.drain_paths.specs.PathNumbers.{IsNumberBehind, AreNumbersSoFar, AreNumbers}
 use Rattle.drain_paths.proofs.EndCounts.{ends_before-none, ends_before-more, end_number-some, end_number-one, is_end_yes, is_end_no}
 
 -- no outlet yet

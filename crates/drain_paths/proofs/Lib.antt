@@ -1,5 +1,4 @@
 pub mod ByteTable
-mod CellLists
 pub mod CellPlaces
 pub mod Completing
 pub mod EndCounts
@@ -8,7 +7,6 @@ pub mod FlowCells
 mod FlowCodes
 pub mod FlowWalks
 pub mod GridFlows
-pub mod GridOfFlows
 pub mod InflowLemmas
 pub mod KnownWays
 pub mod LabelLemmas
@@ -16,11 +14,8 @@ pub mod NextCells
 pub mod NumbersSoFar
 pub mod PassedSums
 pub mod PassingLemmas
-pub mod RankLemmas
-mod RasterFlows
+pub mod StepLemmas
 pub mod Rings
 pub mod RowFlows
 pub mod SameRuns
-pub mod Shares
 pub mod Shorter
-pub mod StepLemmas

@@ -8,7 +8,7 @@ use Rattle.drain_grid.specs.Extent.{step}
 use Rattle.drain_grid.specs.Grid.{Grid, Products}
 use Rattle.drain_grid.specs.Run.{only_data, next}
 use Rattle.drain_grid.proofs.Codes.{names_fact, named_direction-code, find_passes}
-use Rattle.drain_grid.proofs.Options.{none_some}
+use Rattle.drain_grid.proofs.Tallies.{none_some}
 
 -- the direction that a number names is named by it
 pub named_direction-names : (n : ℤ) (d : Direction) → named_direction n ≡ Some d → Names n d

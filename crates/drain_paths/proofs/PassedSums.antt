@@ -14,7 +14,7 @@ use Rattle.drain_grid.proofs.CellSums.{sum_by_directions_one, same_place_same}
 use Rattle.drain_grid.proofs.Codes.{names_fact, named_direction-code}
 use Rattle.drain_grid.proofs.HandedOn.{handed_on, handed_none, handed_one, handed_same, handed_sum}
 use Rattle.drain_grid.proofs.Inflows.{FlowsFrom, share_cases, share_flow, opposite_opposite}
-use Rattle.drain_grid.proofs.Options.{same_some}
+use Rattle.drain_grid.proofs.Tallies.{same_some}
 
 -- two cells that differ by their columns: they choose between two numbers
 first : Cell

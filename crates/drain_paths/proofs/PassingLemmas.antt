@@ -10,40 +10,34 @@ use Rattle.std.proofs.lemmas.Bool.Decides.{nat_tests}
 use Rattle.std.proofs.lemmas.List.{get_or-map}
 use Rattle.drain_grid.specs.declared.cell.Cell.{Cell}
 use Rattle.drain_grid.specs.declared.direction.Direction.{Direction}
-use Rattle.drain_grid.specs.Certificate.{run_steps}
-use Rattle.drain_grid.specs.Extent.{IsCellOf, index_of}
+use Rattle.drain_grid.specs.Unranked.{run_steps}
+use Rattle.drain_grid.specs.Extent.{IsCellOf, index_of, Extent}
 use Rattle.drain_grid.specs.Grid.{Grid, Products, IsInside, HasData}
 use Rattle.drain_grid.specs.Run.{next, drains_through, upstream_count}
-use Rattle.drain_grid.specs.Size.{Extent}
 use Rattle.drain_grid.proofs.CellSums.{sum_by_cells_le}
-use Rattle.drain_grid.proofs.EndedRuns.{ended_chains, ended-run_steps}
+use Rattle.drain_grid.proofs.Runs.{ended_chains, ended-run_steps, cell_count, index_of-below}
 use Rattle.drain_grid.proofs.HandedOn.{handed_on, handed_none, handed_same, handed_at_least}
 use Rattle.drain_grid.proofs.Inflows.{FlowsFrom, HasData-flow, next-flow, flow-next}
 use Rattle.drain_grid.proofs.Lowered.{same_or_not}
-use Rattle.drain_grid.proofs.Options.{none_some, same_some, void_data}
-use Rattle.drain_grid.proofs.Runs.{cell_count, index_of-below}
+use Rattle.drain_grid.proofs.Tallies.{none_some, same_some, void_data}
 use Rattle.drain_grid.proofs.Upstream.{upstream_count-parts}
 use Rattle.drain_grid.proofs.Walks.{run_steps-le}
-use Rattle.drain_grid.proofs.CellOrder.{in_grid}
+use Rattle.drain_grid.proofs.Alike.{in_grid}
 use Rattle.drain_paths.specs.declared.flow.Flow.{Flow}
 use Rattle.drain_paths.specs.declared.flow.Flow.TheVariants.{Void}
-use Rattle.drain_paths.specs.Flows.{flow_at, AreFlowsOf}
-use Rattle.drain_paths.specs.declared.inflows.TheConstants.{PASSED_ON}
+use Rattle.drain_paths.specs.Flows.{flow_at, AreFlowsOf, AllFlowsEnd, OfFlows}
+use Rattle.drain_paths.specs.declared.accumulation.TheConstants.{DONE}
 use Rattle.drain_paths.specs.CellNumbers.{cell_number, IsPutAt, one_of, ones_of}
-use Rattle.drain_paths.specs.Passing.{has_passed, still, IsPassing, IsPassedOn, StaysAway}
-use Rattle.drain_paths.specs.Inflows.{AreInflows}
-use Rattle.drain_paths.specs.OfFlows.{AllFlowsEnd, OfFlows}
-use Rattle.drain_paths.specs.Upstream.{AreUpstreamCounts}
+use Rattle.drain_paths.specs.Inflows.{has_passed, still, IsPassing, IsPassedOn, StaysAway, AreInflows, AreUpstreamCounts}
 use Rattle.drain_paths.proofs.FlowCells.{data_at, flow_of_data, flow_of_void}
-use Rattle.drain_paths.proofs.InflowLemmas.{inflows_few}
+use Rattle.drain_paths.proofs.InflowLemmas.{inflows_few, IsMore, share_elsewhere, share_ahead}
 use Rattle.drain_paths.proofs.PassedSums.{passed_most}
-use Rattle.drain_paths.proofs.Shares.{IsMore, share_elsewhere, share_ahead}
-use Rattle.drain_paths.proofs.GridOfFlows.{are_flows, grid_of_flows, products_of_flows}
+use Rattle.drain_paths.proofs.GridFlows.{are_flows, grid_of_flows, products_of_flows}
 
-few_unmarked : (n : ℕ) → n ≤ 8 → nat_eq n PASSED_ON ≡ false
+few_unmarked : (n : ℕ) → n ≤ 8 → nat_eq n DONE ≡ false
 few_unmarked n few = grind (arith, nat_tests)
 
-marked_some : (n : ℕ) → n ≡ PASSED_ON → n ≢ 0
+marked_some : (n : ℕ) → n ≡ DONE → n ≢ 0
 marked_some n is none = absurd (omega arith)
 
 -- at most as many cells drain through one as there are
@@ -113,7 +107,7 @@ still_more g e waits after c f marks before = record {
 module _ (g : Grid) (ps : Products) (e : Extent) (waits counts : List ℕ) (state : IsPassing g ps e waits counts) (c : Cell) (here : HasData g c)
     (ready : cell_number e waits c ≡ 0) where
   unmarked_here : has_passed e waits c ≡ false
-  unmarked_here = ap (λ n. nat_eq n PASSED_ON) ready
+  unmarked_here = ap (λ n. nat_eq n DONE) ready
 
   none_waits : handed_on g ps c (still e waits (λ m. 1)) ≡ 0
   none_waits = sym (state.waiting c here unmarked_here) ∙ ready
@@ -135,11 +129,11 @@ module _ (g : Grid) (ps : Products) (e : Extent) (waits counts : List ℕ) (stat
       omega (arith, none, state.counted c here)
 
   -- if it leads nowhere
-  pub IsPassing-last : (after : List ℕ) → next g ps c ≡ None → IsPutAt e waits after c PASSED_ON → IsPassing g ps e after counts
+  pub IsPassing-last : (after : List ℕ) → next g ps c ≡ None → IsPutAt e waits after c DONE → IsPassing g ps e after counts
   IsPassing-last after stops put =
       let marks : Marks g e waits after c = record {
-        marked = ap (λ n. nat_eq n PASSED_ON) put.there;
-        kept = λ m data_m differ. ap (λ n. nat_eq n PASSED_ON) (put.elsewhere m (in_grid g e m state.extent data_m.inside) differ);
+        marked = ap (λ n. nat_eq n DONE) put.there;
+        kept = λ m data_m differ. ap (λ n. nat_eq n DONE) (put.elsewhere m (in_grid g e m state.extent data_m.inside) differ);
       } in
       let nowhere : (x : Cell) → next g ps c ≢ Some x = λ x leads. none_some x (sym stops ∙ leads) in
       let same_waits = λ (x : Cell) (data_x : HasData g x).
@@ -214,10 +208,10 @@ module _ (g : Grid) (ps : Products) (e : Extent) (waits counts : List ℕ) (stat
 
       marks : Marks g e waits after c
       marks = record {
-        marked = ap (λ k. nat_eq k PASSED_ON) passed.marked;
+        marked = ap (λ k. nat_eq k DONE) passed.marked;
         kept = λ m data_m differ. elim (same_or_not m n) [
           | inl same ↦ ap (has_passed e after) same ∙ (ahead_after ∙ (sym ahead_unmarked ∙ ap (has_passed e waits) (sym same)))
-          | inr other ↦ ap (λ k. nat_eq k PASSED_ON) (passed.others m (in_grid g e m state.extent data_m.inside) differ other)
+          | inr other ↦ ap (λ k. nat_eq k DONE) (passed.others m (in_grid g e m state.extent data_m.inside) differ other)
         ];
       }
 

@@ -6,7 +6,7 @@ use Rattle.std.proofs.Common.{◌≡◌, ◌≢◌, ◌<◌, ◌+◌, ◌-◌, �
 use Rattle.std.specs.Prelude.{Result, Ok, Err, IfOk, MatchOption}
 use Rattle.std.proofs.lemmas.Bool.{cases_Bool, cases_order}
 use Rattle.drain_grid.specs.declared.cell.Cell.{Cell}
-use Rattle.drain_grid.specs.Certificate.{EndsAfter, run_steps}
+use Rattle.drain_grid.specs.Unranked.{EndsAfter, run_steps}
 use Rattle.drain_grid.specs.Direction.{named_direction}
 use Rattle.drain_grid.specs.Extent.{same_cell, step}
 use Rattle.drain_grid.specs.Grid.{Grid, Products, HasData}
@@ -14,18 +14,17 @@ use Rattle.drain_grid.specs.declared.memory.OutOfMemory.{OutOfMemory}
 use Rattle.drain_grid.specs.Run.{next, only_data, RunEnds}
 use Rattle.drain_grid.proofs.CellSums.{same_cell_true, same_cell_self}
 use Rattle.drain_grid.proofs.Codes.{code-not_zero}
-use Rattle.drain_grid.proofs.EndedRuns.{HasData-next}
-use Rattle.drain_grid.proofs.Options.{none_some, same_some}
-use Rattle.drain_grid.proofs.Runs.{cell_count}
+use Rattle.drain_grid.proofs.Runs.{HasData-next, cell_count}
+use Rattle.drain_grid.proofs.Tallies.{none_some, same_some}
 use Rattle.drain_grid.proofs.Walks.{Leads, IsWalk, EndsAfter-zero, EndsAfter-next, EndsAfter-before, IsWalk-endless, endless-stuck}
 use Rattle.drain_paths.specs.declared.endless_path.EndlessPath.{EndlessPath}
 use Rattle.drain_paths.specs.declared.endless_path.EndlessPath.TheVariants.{Ring, Lost}
 use Rattle.drain_paths.specs.declared.endless_path.LostBy.{LostBy}
 use Rattle.drain_paths.specs.declared.endless_path.LostBy.TheVariants.{NoCode, Outside, Void}
-use Rattle.drain_paths.specs.declared.way.Way.{Way}
-use Rattle.drain_paths.specs.declared.way.Way.TheVariants as way
+use Rattle.drain_paths.specs.declared.flow.Way.{Way}
+use Rattle.drain_paths.specs.declared.flow.Way.TheVariants as way
 use Rattle.drain_paths.specs.EndlessPaths.{IsEndlessPath, IsFarthest, IsLostBy, IsOnNoRing, IsReached, IsRing, IsRingFrom, LeadsOnOrEnds, cell_after}
-use Rattle.drain_paths.specs.KnownFlows.{IsKnownWay}
+use Rattle.drain_paths.specs.Walks.{IsKnownWay}
 use Rattle.drain_paths.proofs.EndlessSteps.{HasWalked}
 use Rattle.drain_paths.proofs.NextCells.{next-of_no_code, next-outside, next-void}
 use Rattle.drain_paths.proofs.Shorter.{IsEnded, ended-fewer, RunEnds-walk}

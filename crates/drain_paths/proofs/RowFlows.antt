@@ -4,7 +4,7 @@ use Rattle.std.specs.List.{All}
 use Rattle.std.proofs.lemmas.Int.{ints, to_z-of_z}
 use Rattle.std.proofs.lemmas.List.{ext_get_or}
 use mir.Val.{to_z, of_z}
-use Rattle.drain_grid.specs.Tile.{IsSample, height_from}
+use Rattle.drain_grid.specs.Grid.{IsSample, height_from}
 use Rattle.drain_grid.specs.Values.{IsPixel}
 use Rattle.drain_paths.specs.declared.flow.Flow.{Flow}
 use Rattle.drain_paths.specs.declared.flow.Flow.TheVariants.{Void}

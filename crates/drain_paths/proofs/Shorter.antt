@@ -9,10 +9,9 @@ use Rattle.drain_grid.specs.declared.cell.Cell.{Cell}
 use Rattle.drain_grid.specs.Extent.{index_of}
 use Rattle.drain_grid.specs.Grid.{Grid, Products, HasData}
 use Rattle.drain_grid.specs.Run.{next, steps_from, run, RunEnds}
-use Rattle.drain_grid.specs.Certificate.{run_steps}
+use Rattle.drain_grid.specs.Unranked.{run_steps}
 use Rattle.drain_grid.proofs.Chains.{AreChains, IsAlone, GoesOn, stands, stands_self, stands_onward, stands_no_longer}
-use Rattle.drain_grid.proofs.EndedRuns.{HasData-next, steps-none, ended-run, ended-run_steps}
-use Rattle.drain_grid.proofs.Runs.{cell_count, cell_at, index_of-below, cell_at-index_of}
+use Rattle.drain_grid.proofs.Runs.{HasData-next, steps-none, ended-run, ended-run_steps, cell_count, cell_at, index_of-below, cell_at-index_of}
 use Rattle.drain_grid.proofs.Tallies.{tally, tally-le, tally-less}
 use Rattle.drain_grid.proofs.Walks.{Leads, IsWalk, EndsAfter-next, EndsAfter-before}
 

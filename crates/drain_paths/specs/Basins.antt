@@ -4,12 +4,11 @@ use Rattle.std.specs.Prelude.{◌≡◌, ◌≢◌, ◌↔◌, ℕ, ◌+◌, ◌
 use Rattle.std.specs.List.{count_by}
 use Rattle.std.specs.Ordering.{int_eq}
 use Rattle.drain_grid.specs.declared.cell.Cell.{Cell}
-use Rattle.drain_grid.specs.Extent.{index_of, cells}
+use Rattle.drain_grid.specs.Extent.{index_of, cells, Extent}
 use Rattle.drain_grid.specs.Grid.{Grid, Products, IsInside, HasData}
 use Rattle.drain_grid.specs.Run.{run_end, ShareBasin}
-use Rattle.drain_grid.specs.Size.{Extent}
 use Rattle.drain_paths.specs.CellNumbers.{cell_number}
-use Rattle.drain_paths.specs.OfFlows.{AllFlowsEnd}
+use Rattle.drain_paths.specs.Flows.{AllFlowsEnd}
 
 -- a data cell with code 0
 abbrev pub is_end : Grid → Products → Cell → Bool

@@ -12,7 +12,7 @@ use Rattle.drain_paths.specs.declared.endless_path.EndlessPath.TheVariants.{Ring
 use Rattle.drain_paths.specs.declared.endless_path.LostBy.{LostBy}
 use Rattle.drain_paths.specs.declared.endless_path.LostBy.TheVariants.{NoCode, Outside, Void}
 use Rattle.drain_paths.specs.declared.endless_path.TheConstants.{RING_TOLD}
-use Rattle.drain_paths.specs.declared.way.Way.TheVariants as way
+use Rattle.drain_paths.specs.declared.flow.Way.TheVariants as way
 use Rattle.drain_paths.specs.Ways.{IsWay}
 
 -- the cell to which the codes lead from a cell in n steps, none if they lead nowhere before

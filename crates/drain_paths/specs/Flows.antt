@@ -1,5 +1,5 @@
 -- What is kept of each cell to find which runs end: whether it has data, and where its code leads.
-use Rattle.std.specs.Prelude.{◌≡◌, ℕ, ◌*◌, ◌<◌, ℤ, pos, List, length, [], ◌∷◌, Option, Some, None, slice_index_or, if◌then◌else◌}
+use Rattle.std.specs.Prelude.{◌≡◌, ℕ, ◌*◌, ◌<◌, ℤ, pos, List, length, [], ◌∷◌, Option, Some, None, slice_index_or, if◌then◌else◌, ◌==◌, map}
 use Rattle.std.specs.Option.{option_map_or}
 use Rattle.std.specs.Ordering.{int_eq}
 use Rattle.drain_grid.specs.declared.cell.Cell.{Cell}
@@ -7,12 +7,12 @@ use Rattle.drain_grid.specs.declared.direction.Direction.{Direction}
 use Rattle.drain_grid.specs.declared.direction.Direction.TheVariants.{East, SouthEast, South, SouthWest, West, NorthWest, North, NorthEast}
 use Rattle.drain_grid.specs.declared.tile.TheConstants.{VOID}
 use Rattle.drain_grid.specs.Direction.{named_direction}
-use Rattle.drain_grid.specs.Extent.{index_of}
-use Rattle.drain_grid.specs.Grid.{Grid, Products, IsInside}
-use Rattle.drain_grid.specs.Size.{Extent}
-use Rattle.drain_grid.specs.Tile.{height_from}
+use Rattle.drain_grid.specs.Extent.{index_of, Extent}
+use Rattle.drain_grid.specs.Grid.{Grid, Products, IsInside, HasData, height_from}
 use Rattle.drain_paths.specs.declared.flow.Flow.{Flow}
 use Rattle.drain_paths.specs.declared.flow.Flow.TheVariants.{Void, Lost, Ends, ToEast, ToSouthEast, ToSouth, ToSouthWest, ToWest, ToNorthWest, ToNorth, ToNorthEast}
+use Rattle.drain_grid.specs.Run.{RunEnds}
+use Rattle.drain_paths.specs.declared.flow.TheConstants.{NO_CODE}
 
 -- on in this direction
 abbrev pub flow_to : Direction → Flow
@@ -76,3 +76,27 @@ pub record AreRowOf (g : Grid) (ps : Products) (row : ℕ) (samples numbers : Li
   pub elevation : (col : ℕ) → col < g.extent.cols →
       height_from (slice_index_or samples col VOID) ≡ g.elevation (record { row = row; col = col })
   pub code : (col : ℕ) → col < g.extent.cols → slice_index_or numbers col (pos 0) ≡ ps.dir (record { row = row; col = col })
+
+-- What holds of every grid and products that have these flows.
+
+-- the fact holds of each grid of this size and products whose flows in row order these are
+abbrev pub OfFlows : Extent → List Flow → (Grid → Products → Type 0) → Type 0
+OfFlows e flows P = (g : Grid) → (ps : Products) → AreFlowsOf g ps e flows → P g ps
+
+-- the run of every data cell ends
+abbrev pub AllFlowsEnd : Grid → Products → Type 0
+AllFlowsEnd g ps = (c : Cell) → HasData g c → RunEnds g ps c
+
+-- Flows of codes that are kept in a byte per cell.
+
+-- that of a void, or the meaning of the code
+abbrev pub byte_flow : ℕ → Flow
+byte_flow code = if code == NO_CODE then Void else code_flow (pos code)
+
+-- the same for each
+abbrev pub bytes_flows : List ℕ → List Flow
+bytes_flows codes = map byte_flow codes
+
+-- each place from 0 to 255 has the flow of its number
+abbrev pub IsByteTable : List Flow → Type 0
+IsByteTable flows = (number : ℕ) → number < 256 → slice_index_or flows number Void ≡ byte_flow number

@@ -1,14 +1,23 @@
 -- How many cells flow into a cell.
-use Rattle.std.specs.Prelude.{◌≡◌, ℕ, ◌+◌, ◌<◌, ◌==◌, List, slice_index, if◌then◌else◌}
+use Rattle.std.specs.Prelude.{◌≡◌, ℕ, List, IsNone, ◌+◌, ◌<◌, ◌==◌, slice_index, if◌then◌else◌, ◌≢◌, ◌⊎◌, Bool, true, false, cond, nat_eq, length}
 use Rattle.drain_grid.specs.declared.cell.Cell.{Cell}
-use Rattle.drain_grid.specs.Extent.{IsCellOf}
-use Rattle.drain_grid.specs.Grid.{Grid, Products, HasData}
-use Rattle.drain_grid.specs.Size.{Extent}
+use Rattle.drain_grid.specs.Grid.{Grid, Products, IsInside, HasData}
+use Rattle.drain_grid.specs.Run.{upstream_count}
+use Rattle.drain_grid.specs.Extent.{Extent, IsCellOf}
+use Rattle.drain_paths.specs.CellNumbers.{cell_number}
 use Rattle.drain_grid.proofs.HandedOn.{handed_on}
 use Rattle.drain_paths.specs.declared.flow.Flow.{Flow}
 use Rattle.drain_paths.specs.declared.flow.Flow.TheVariants.{Void, Lost, Ends, ToEast, ToSouthEast, ToSouth, ToSouthWest, ToWest, ToNorthWest, ToNorth, ToNorthEast}
-use Rattle.drain_paths.specs.Flows.{flow_at}
-use Rattle.drain_paths.specs.CellNumbers.{cell_number}
+use Rattle.drain_paths.specs.Flows.{flow_at, AllFlowsEnd}
+use Rattle.drain_paths.specs.declared.accumulation.TheConstants.{DONE}
+
+-- Counts of the cells upstream.
+
+-- each data cell has the number of data cells that drain through it, and each void 0
+pub record AreUpstreamCounts (g : Grid) (ps : Products) (e : Extent) (counts : List ℕ) : Type 0 where
+  pub extent : g.extent ≡ e
+  pub counts_are : (c : Cell) → HasData g c → cell_number e counts c ≡ upstream_count g ps c
+  pub voids : (c : Cell) → IsInside g c → IsNone (g.elevation c) → cell_number e counts c ≡ 0
 
 -- the number is how many cells flow into the cell, if it has data
 abbrev pub IsInflowOf : Grid → Products → Extent → List ℕ → Cell → Type 0
@@ -50,3 +59,38 @@ inflow_at above here below k =
     one_if (slice_index below k) ToNorthEast) +
     (one_if (slice_index here k) ToEast + one_if (slice_index above k) ToSouthEast + one_if (slice_index above (k + 1)) ToSouth +
     one_if (slice_index above (k + 2)) ToSouthWest)
+
+-- Counts that are passed on along the codes: what holds while some cells have passed theirs on.
+
+-- the cell has passed its count on
+abbrev pub has_passed : Extent → List ℕ → Cell → Bool
+has_passed e waits c = nat_eq (cell_number e waits c) DONE
+
+-- a number that the cell still has to pass on
+abbrev pub still : Extent → List ℕ → (Cell → ℕ) → Cell → ℕ
+still e waits f m = cond (has_passed e waits m) 0 (f m)
+
+-- every run ends. A cell waits for as many inflows as haven't passed on, and for none if it has passed on itself. Its
+-- count and what is still to be passed on to it are together the number of cells that drain through it
+pub record IsPassing (g : Grid) (ps : Products) (e : Extent) (waits counts : List ℕ) : Type 0 where
+  pub extent : g.extent ≡ e
+  pub ends : AllFlowsEnd g ps
+  pub waiting : (c : Cell) → HasData g c → has_passed e waits c ≡ false → cell_number e waits c ≡ handed_on g ps c (still e waits (λ m. 1))
+  pub done : (c : Cell) → HasData g c → has_passed e waits c ≡ true → handed_on g ps c (still e waits (λ m. 1)) ≡ 0
+  pub counted : (c : Cell) → HasData g c →
+      cell_number e counts c + handed_on g ps c (still e waits (upstream_count g ps)) ≡ upstream_count g ps c
+  pub voids : (c : Cell) → IsInside g c → IsNone (g.elevation c) → cell_number e counts c ≡ 0
+
+-- one cell has passed its count on to another
+pub record IsPassedOn (e : Extent) (waits waits_after counts counts_after : List ℕ) (from to : Cell) : Type 0 where
+  pub waits_counted : length waits_after ≡ length waits
+  pub counts_counted : length counts_after ≡ length counts
+  pub marked : cell_number e waits_after from ≡ DONE
+  pub less : cell_number e waits_after to + 1 ≡ cell_number e waits to
+  pub others : (c : Cell) → IsCellOf e c → c ≢ from → c ≢ to → cell_number e waits_after c ≡ cell_number e waits c
+  pub more : cell_number e counts_after to ≡ cell_number e counts to + cell_number e counts from
+  pub same : (c : Cell) → IsCellOf e c → c ≢ to → cell_number e counts_after c ≡ cell_number e counts c
+
+-- the cell waits for some inflow, unless it is the one that is looked at
+abbrev pub StaysAway : Extent → List ℕ → Cell → Cell → Type 0
+StaysAway e waits here c = (c ≡ here) ⊎ (cell_number e waits c ≢ 0)

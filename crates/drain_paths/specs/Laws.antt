@@ -4,7 +4,7 @@ use Rattle.std.specs.Prelude.{◌≡◌, ◌≢◌, ◌↔◌, pos, ℕ, List, I
 use Rattle.drain_grid.specs.declared.cell.Cell.{Cell}
 use Rattle.drain_grid.specs.Correct.{NeverClimbs, GoesSteepest, IsCorrect}
 use Rattle.drain_grid.specs.declared.rule.Rule.{Rule}
-use Rattle.drain_grid.specs.Extent.{IsCellOf}
+use Rattle.drain_grid.specs.Extent.{IsCellOf, Extent}
 use Rattle.drain_grid.specs.Grid.{Grid, Products, IsInside, HasData}
 use Rattle.drain_grid.specs.GridRules.{RulesHold}
 use Rattle.drain_grid.specs.PatchRules.{flow_rules}
@@ -12,11 +12,10 @@ use Rattle.drain_grid.specs.Path.{IsLeastSurface}
 use Rattle.drain_grid.specs.Product.{default_numbers}
 use Rattle.drain_grid.specs.Rule.{IsBetween}
 use Rattle.drain_grid.specs.Run.{IsFlatCell, IsOutlet}
-use Rattle.drain_grid.specs.Size.{Extent}
 use Rattle.drain_grid.specs.Values.{NoDataNumbers}
 use Rattle.drain_paths.specs.Basins.{AreBasinLabels}
 use Rattle.drain_paths.specs.CellNumbers.{cell_number}
-use Rattle.drain_paths.specs.Upstream.{AreUpstreamCounts}
+use Rattle.drain_paths.specs.Inflows.{AreUpstreamCounts}
 
 -- products that show these counts and labels
 pub record ShowsCounts (ps : Products) (e : Extent) (counts labels : List ℕ) : Type 0 where

@@ -1,13 +1,30 @@
 -- Where codes lead, from elevations and directions only.
-use Rattle.std.specs.Prelude.{◌≡◌, ◌≢◌, pos, [], Some, None}
+use Rattle.std.specs.Prelude.{◌≡◌, pos, IsNone, ◌≢◌, [], Some, None}
 use Rattle.drain_grid.specs.declared.cell.Cell.{Cell}
-use Rattle.drain_grid.specs.Rasters.{Heights, Pixels}
-use Rattle.drain_grid.specs.Whole.{number_at}
-use Rattle.drain_grid.specs.Grid.{Grid, Products}
-use Rattle.drain_grid.specs.WholeGrid.{grid_of}
-use Rattle.drain_grid.specs.Run.{next}
-use Rattle.drain_paths.specs.declared.way.Way.{Way}
-use Rattle.drain_paths.specs.declared.way.Way.TheVariants.{Ends, On, Lost}
+use Rattle.drain_grid.specs.Grid.{Pixels, Heights, Grid, Products, IsInside, HasData}
+use Rattle.drain_grid.specs.WholeGrid.{number_at, grid_of}
+use Rattle.drain_grid.specs.Run.{RunEnds, next}
+use Rattle.drain_grid.specs.Unranked.{run_steps, IsFirstEndless}
+use Rattle.drain_paths.specs.declared.flow.CertifyRefusal.{CertifyRefusal}
+use Rattle.drain_paths.specs.declared.flow.CertifyRefusal.TheVariants.{NoEnd, OutOfMemory}
+use Rattle.drain_paths.specs.declared.walk.TheConstants.{UNKNOWN}
+use Rattle.drain_paths.specs.declared.flow.Way.{Way}
+use Rattle.drain_paths.specs.declared.flow.Way.TheVariants.{Ends, On, Lost}
+
+-- The answers of certifying directions.
+
+-- every run ends, each data cell has the number of steps of its run, and each void the no-data number
+pub record AreRanks (g : Grid) (ps : Products) (ranks : Pixels) : Type 0 where
+  pub extent : ranks.extent ≡ g.extent
+  pub nodata : ranks.nodata ≡ pos UNKNOWN
+  pub ends : (c : Cell) → HasData g c → RunEnds g ps c
+  pub steps : (c : Cell) → HasData g c → number_at ranks c ≡ pos (run_steps g ps c)
+  pub voids : (c : Cell) → IsInside g c → IsNone (g.elevation c) → number_at ranks c ≡ pos UNKNOWN
+
+-- the first data cell whose run doesn't end; running out of memory says nothing
+abbrev pub IsRankRefusal : Grid → Products → CertifyRefusal → Type 0
+IsRankRefusal g ps (NoEnd c) = IsFirstEndless g ps c
+IsRankRefusal g ps OutOfMemory = Unit {0}
 
 -- the grid of the elevations; runs don't look at which cells are open
 abbrev pub ground_of : Heights → Grid

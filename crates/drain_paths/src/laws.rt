@@ -10,10 +10,10 @@ ghost use Rattle.drain_paths.specs.declared.endless_path.EndlessPath.{EndlessPat
 ghost use Rattle.drain_paths.specs.EndlessPaths.{IsEndlessPath};
 ghost use Rattle.drain_paths.specs.Laws.{CountsKeepRules, CorrectByRouting};
 
-use crate::code_flows::NO_CODE;
+use crate::accumulation::DONE;
 use crate::endless_path::RING_TOLD;
-use crate::inflows::PASSED_ON;
-use crate::steps::UNKNOWN;
+use crate::flow::NO_CODE;
+use crate::walk::UNKNOWN;
 
 /// The numerals of the constants that definitions name: the greatest number of 32 bits means no number of steps, and at
 /// most 20 cells of a ring are reported. The greatest number of 8 bits marks a cell that has passed its count on, and is
@@ -21,7 +21,7 @@ use crate::steps::UNKNOWN;
 pub fn constants()
     ensures unknown { UNKNOWN ≡ 4294967295 }
     ensures ring_told { RING_TOLD ≡ 20 }
-    ensures handed_on { PASSED_ON ≡ 255 }
+    ensures handed_on { DONE ≡ 255 }
     ensures no_code { NO_CODE ≡ 255 }
 {}
 

@@ -1,23 +1,122 @@
-//! Walks along paths, from a cell to the first whose number is known, and once more to write the numbers.
+//! The walk along a path, from a cell to the first one that is known, and back.
 
-ghost use Rattle.std.specs.Prelude.{◌≡◌, ◌≢◌, ◌<◌, ◌≤◌, ◌*◌, length, slice_index_or, IfSome, MatchOption};
-ghost use Rattle.drain_grid.specs.declared.cell.Cell.{Cell};
-ghost use Rattle.drain_grid.specs.Certificate.{IsFirstEndless};
+ghost use Rattle.std.specs.Prelude.{◌≡◌, IfOk, ◌*◌, length, vec_len, IfErr, MatchOption, ◌≢◌, ◌<◌, ◌≤◌, slice_index_or, IfSome};
+ghost use Rattle.drain_paths.specs.Walks.{first_step, first_steps_of, AreRunSteps, AreKnownFlows, IsAhead};
+ghost use Rattle.drain_grid.specs.Unranked.{run_steps, IsFirstEndless};
+ghost use Rattle.drain_paths.specs.Ways.{IsRankRefusal};
+ghost use Rattle.drain_paths.specs.Flows.{OfFlows, flow_at};
 ghost use Rattle.drain_grid.specs.Extent.{IsCellOf, index_of};
-ghost use Rattle.drain_grid.specs.Grid.{HasData};
+ghost use Rattle.drain_grid.specs.Grid.{Grid, Products, HasData};
 ghost use Rattle.drain_grid.specs.Run.{RunEnds};
+ghost use Rattle.drain_grid.specs.declared.cell.Cell.{Cell};
 ghost use Rattle.drain_paths.specs.declared.flow.Flow.TheVariants.{Void};
-ghost use Rattle.drain_paths.specs.CellNumbers.{cell_number};
-ghost use Rattle.drain_paths.specs.Flows.{flow_at};
-ghost use Rattle.drain_paths.specs.OfFlows.{OfFlows};
-ghost use Rattle.drain_paths.specs.PathNumbers.{AreNumbers, AreNumbersSoFar};
-ghost use Rattle.drain_paths.specs.Walks.{IsAhead};
+ghost use Rattle.drain_paths.specs.CellNumbers.{cell_number, AreNumbers, AreNumbersSoFar};
 
-use crate::cell_numbers::{number_at, put_at};
-use crate::flow::Flow;
-use crate::path_number::PathNumber;
-use crate::ways::{Ways, next_of};
-use drain_grid::{Cell, Shape};
+use crate::cell_flows::CellFlows;
+use crate::cell_numbers::{PathNumber, number_at, put_at};
+use crate::flow::{CertifyRefusal, Flow, Way};
+use crate::ways::{ListedFlows, Ways, next_of, way_of};
+use drain_grid::{Cell, OutOfMemory, Shape};
+use std::alloc::Global;
+
+/// 0 at outlets, and no number at any other cell.
+pub(crate) fn first_steps(alloc: Global, flows: &[Flow]) -> Result<Vec<u32>, OutOfMemory>
+    ensures { IfOk result (λ steps. steps.items ≡ first_steps_of flows.now) }
+{
+    let mut steps = vec![in alloc; UNKNOWN; flows.len()]?;
+    for place in 0..flows.len() {
+        steps[place] = first_step(flows[place]);
+    }
+    Ok(steps)
+}
+
+/// The same at one cell.
+fn first_step(flow: Flow) -> u32
+    ensures { result ≡ first_step flow }
+{
+    if flow == Flow::Ends { 0 } else { UNKNOWN }
+}
+
+/// Marks a number that is not known. No run makes that many steps.
+pub const UNKNOWN: u32 = u32::MAX;
+
+/// The number of steps of each data cell's run, from the flows of all cells of a grid; `UNKNOWN` at voids.
+///
+/// Returns `NoEnd` with the first data cell in row order whose run doesn't reach a code 0, exactly if there is one, and
+/// `OutOfMemory` if memory runs out. Walks pass each cell at most twice. It takes four bytes per cell.
+pub fn count_steps(alloc: Global, flows: &[Flow], shape: Shape) -> Result<Vec<u32>, CertifyRefusal>
+    requires counted { length flows.now ≡ shape.rows * shape.cols }
+    ensures counted { IfOk result (λ steps. vec_len steps ≡ shape.rows * shape.cols) }
+    ensures steps { IfOk result (λ steps. OfFlows shape flows.now (λ g ps. AreRunSteps g ps shape steps.items)) }
+    ensures err { IfErr result (λ why. OfFlows shape flows.now (λ g ps. IsRankRefusal g ps why)) }
+{
+    let Ok(mut steps) = first_steps(alloc, flows) else {
+        return Err(CertifyRefusal::OutOfMemory);
+    };
+    let ways = ListedFlows { flows };
+    match number_paths::<RunSteps, ListedFlows>(&ways, shape, &mut steps) {
+        Some(cell) => Err(CertifyRefusal::NoEnd(cell)),
+        None => Ok(steps),
+    }
+}
+
+/// A number of steps: one more for each step before.
+struct RunSteps;
+
+impl PathNumber for RunSteps {
+    const UNKNOWN: u32 = UNKNOWN;
+
+    ghost use Rattle.drain_paths.specs.declared.walk.TheConstants as constant;
+
+    ghost UNKNOWN = { constant.UNKNOWN };
+
+    ghost number_of = { run_steps };
+
+    #[inline(always)]
+    fn behind(number: u32, steps: usize) -> u32 {
+        // A run that ends makes fewer steps than there are cells: the sum fits.
+        number.saturating_add(steps as u32)
+    }
+}
+
+/// How many steps lead from a data cell to one whose run is known to end, none if its own run doesn't end. Codes that
+/// go round are found by the length of the walk: a run that ends makes fewer steps than there are cells.
+pub fn steps_to_end(flows: &CellFlows, shape: Shape, start: Cell) -> Option<usize>
+    requires counted { length flows.now ≡ shape.rows * shape.cols }
+    requires inside { IsCellOf shape start }
+    ensures { (g : Grid) → (ps : Products) → AreKnownFlows g ps shape flows.now → HasData g start →
+        MatchOption result (¬ RunEnds g ps start) (λ _. RunEnds g ps start) }
+{
+    let mut here = start;
+    for walked in 0..shape.cells() + 1 {
+        match way_of(flows, shape, here) {
+            Way::Ends => return Some(walked),
+            Way::On(next) => here = next,
+            Way::Lost => return None,
+        }
+    }
+    None
+}
+
+/// Records, for n cells along the walk from a cell whose run ends, that their runs end.
+pub fn put_ends(flows: &mut CellFlows, shape: Shape, start: Cell, steps: usize)
+    requires counted { length flows.old ≡ shape.rows * shape.cols }
+    requires inside { IsCellOf shape start }
+    ensures counted { length flows.new ≡ shape.rows * shape.cols }
+    ensures known { (g : Grid) → (ps : Products) → AreKnownFlows g ps shape flows.old → HasData g start → RunEnds g ps start →
+        AreKnownFlows g ps shape flows.new }
+{
+    let mut here = start;
+    for _ in 0..steps {
+        match way_of(flows, shape, here) {
+            Way::On(next) => {
+                flows.set_ended(shape.index(here));
+                here = next;
+            }
+            _ => return,
+        }
+    }
+}
 
 /// Numbers all data cells, from the numbers of the outlets. Returns the first data cell in row order whose run doesn't
 /// end, if there is one. Walks pass each cell at most twice, and no memory is taken.

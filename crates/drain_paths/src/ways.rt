@@ -8,13 +8,10 @@ ghost use Rattle.drain_grid.specs.Grid.{Grid, Products, HasData};
 ghost use Rattle.drain_grid.specs.Run.{next};
 ghost use Rattle.drain_paths.specs.declared.flow.Flow.{Flow};
 ghost use Rattle.drain_paths.specs.declared.flow.Flow.TheVariants.{Void};
-ghost use Rattle.drain_paths.specs.Flows.{direction_of, flow_at};
-ghost use Rattle.drain_paths.specs.KnownFlows.{AreKnownFlows, IsKnownWay, IsWayOfFlows, IsWayWithin};
-ghost use Rattle.drain_paths.specs.OfFlows.{OfFlows};
-ghost use Rattle.drain_paths.specs.Stepping.{stepped};
+ghost use Rattle.drain_paths.specs.Flows.{direction_of, flow_at, OfFlows};
+ghost use Rattle.drain_paths.specs.Walks.{AreKnownFlows, IsKnownWay, IsWayOfFlows, IsWayWithin, stepped};
 
-use crate::flow::Flow;
-use crate::way::Way;
+use crate::flow::{Flow, Way};
 use drain_grid::{Cell, Shape};
 
 /// The flow of each cell of a grid, in row order.

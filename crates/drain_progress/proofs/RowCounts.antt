@@ -1,7 +1,7 @@
 -- How many rows end within n bytes, by a division.
 use Rattle.std.proofs.Common.{◌≡◌, ℕ, ◌+◌, ◌*◌, ◌-◌, ◌/◌, ◌%◌, ◌≤◌, ◌<◌, min, arith}
 use Rattle.std.proofs.lemmas.Nat.{div-add-mod', mod_below, mul-le}
-use Rattle.drain_progress.specs.RowEnds.{IsRowCount}
+use Rattle.drain_progress.specs.Progress.{IsRowCount}
 
 -- not even the first ends
 pub none_ends : (first each bytes : ℕ) → bytes < first → IsRowCount first each bytes 0

@@ -5,7 +5,7 @@ use Rattle.std.specs.Prelude.{nat_lt}
 use Rattle.std.specs.List.{count_by}
 use Rattle.std.proofs.lemmas.Bool.{ltb-true, ltb-false, lt-ltb, le-ltb, and_left, and_right}
 use Rattle.std.proofs.lemmas.List.Sums.{sum_by-cons, sum_by-append}
-use Rattle.drain_progress.specs.Throttle.{line_times, is_in_second, AtMostOneLineInASecond, AtMostTwoLinesInASecond}
+use Rattle.drain_progress.specs.Progress.{line_times, is_in_second, AtMostOneLineInASecond, AtMostTwoLinesInASecond}
 use Rattle.drain_progress.specs.declared.throttle.TheConstants.{APART}
 
 -- 1 for a line in the second, else 0

@@ -1,3 +1,1 @@
-pub mod ProgressLines
-pub mod RowEnds
-pub mod Throttle
+pub mod Progress

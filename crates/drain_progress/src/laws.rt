@@ -3,7 +3,7 @@
 //! A law is a function with an empty body: its contract is the law, and a caller gets the law by calling it.
 
 ghost use Rattle.std.specs.Prelude.{◌≡◌};
-ghost use Rattle.drain_progress.specs.Throttle.{AtMostOneLineInASecond, AtMostTwoLinesInASecond};
+ghost use Rattle.drain_progress.specs.Progress.{AtMostOneLineInASecond, AtMostTwoLinesInASecond};
 
 use crate::throttle::APART;
 

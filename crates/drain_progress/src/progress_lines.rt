@@ -1,7 +1,7 @@
 //! The text of progress lines.
 
 ghost use Rattle.std.specs.Prelude.{◌≡◌, ◌++◌, codes, decimal};
-ghost use Rattle.drain_progress.specs.ProgressLines.{before_row, part_text};
+ghost use Rattle.drain_progress.specs.Progress.{before_row, part_text};
 
 use drain_answer::lines::{Line, push_number, words};
 use drain_maker::follow::Part;

@@ -3,7 +3,7 @@
 
 ghost use Rattle.std.specs.Prelude.{◌≡◌, ◌+◌};
 ghost use Rattle.drain_raster.specs.RasterRows.{packed_len};
-ghost use Rattle.drain_progress.specs.RowEnds.{IsRowCount};
+ghost use Rattle.drain_progress.specs.Progress.{IsRowCount};
 
 use crate::counted_device::CountedDevice;
 use crate::progress::Progress;

@@ -1,7 +1,7 @@
 //! When a line about progress is due: seldom enough that in any one second at most two of all lines come.
 
 ghost use Rattle.std.specs.Prelude.{◌≡◌, ◌+◌, ◌≤◌, ◌↔◌, IsTrue};
-ghost use Rattle.drain_progress.specs.Throttle.{last_line};
+ghost use Rattle.drain_progress.specs.Progress.{last_line};
 
 use std::marker::Model;
 

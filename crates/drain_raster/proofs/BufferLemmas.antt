@@ -6,13 +6,13 @@ use Rattle.std.proofs.lemmas.List.Elements.{All-push}
 use Rattle.std.proofs.lemmas.List.Concat.{flat_map-append}
 use Rattle.std.proofs.lemmas.List.FromFn.{map-range_with_len_more}
 use borrow.Rule.Slice.PartMut.{put_mid}
-use Rattle.drain_device.proofs.FillLemmas.{take-put_mid_part}
+use Rattle.drain_device.proofs.PartLemmas.{take-put_mid_part}
 use Rattle.drain_grid.specs.declared.cell.Cell.{Cell}
-use Rattle.drain_grid.specs.Rasters.{Pixels}
+use Rattle.drain_grid.specs.Grid.{Pixels}
 use Rattle.drain_grid.specs.Values.{IsPixel}
-use Rattle.drain_grid.specs.Whole.{number_at}
+use Rattle.drain_grid.specs.WholeGrid.{number_at}
 use Rattle.drain_raster.specs.Bytes.{cells_bytes, cells_from}
-use Rattle.drain_raster.proofs.CellLists.{cell_of, flat_map-rows_more}
+use Rattle.drain_raster.proofs.CellPlaces.{cell_of, flat_map-rows_more}
 
 -- zeros, and more of them
 pub zeros-more : (m n : ℕ) → replicate {A = ℕ} (m + n) 0 ≡ replicate {A = ℕ} m 0 ++ replicate {A = ℕ} n 0

@@ -3,7 +3,7 @@ use Rattle.std.proofs.Common.{◌≡◌, ◌≢◌, refl, ℕ, ◌*◌, ◌/◌,
 use Rattle.std.proofs.lemmas.List.{ext_get_or}
 use Rattle.std.proofs.Math.Nat.{mul_comm}
 use Rattle.drain_header.specs.declared.header.ByteOrdering.TheVariants.{Least}
-use Rattle.drain_header.specs.Fields.{Fields}
+use Rattle.drain_header.specs.Header.{Fields}
 use Rattle.drain_pixels.specs.declared.pixel_row.PixelKind.{PixelKind}
 use Rattle.drain_pixels.specs.declared.pixel_row.PixelKind.TheVariants.{U8, I16, U16, I32, U32, Any}
 use Rattle.drain_pixels.specs.Stored.{i16_number, i32_number, numbers_as, numbers_of, u16_number, u32_number, u8_number}
@@ -13,7 +13,7 @@ use Rattle.drain_raster.specs.Pixels.{AreSpelled, pixel_len, pixel_of}
 use Rattle.drain_raster.specs.RasterRows.{packed_len, pixels_of}
 use Rattle.drain_raster.proofs.PixelLemmas.{spelled_by-take, spelled-byte, spelled-so}
 use Rattle.drain_raster.proofs.RasterEnds.{numbers_long}
-use Rattle.drain_raster.proofs.RasterPixels.{numbers_of-at}
+use Rattle.drain_raster.proofs.RasterRowLemmas.{numbers_of-at}
 
 -- the number at a column is the pixel's
 same_at : (h : Fields) (n k : ℕ) (number : List ℕ → ℤ) (bytes : List ℕ) → AreSpelled h n number →

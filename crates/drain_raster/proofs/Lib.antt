@@ -1,8 +1,6 @@
-mod Vectors
-pub mod BufferLemmas
-pub mod CellLists
-mod CellPlaces
 pub mod LengthLemmas
+pub mod BufferLemmas
+pub mod CellPlaces
 pub mod PixelLemmas
 pub mod ReadBackLemmas
 pub mod SpellLemmas
@@ -10,5 +8,4 @@ pub mod WritingLemmas
 pub mod RasterRowLemmas
 pub mod RowNumberLemmas
 pub mod RasterEnds
-pub mod RasterPixels
 pub mod KindLemmas

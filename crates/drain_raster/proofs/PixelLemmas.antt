@@ -14,10 +14,10 @@ use mir.Val.{to_z, of_z}
 use Rattle.drain_grid.specs.Values.{IsPixel, IsNoData}
 use Rattle.drain_header.specs.declared.header.ByteOrdering.{ByteOrdering}
 use Rattle.drain_header.specs.declared.header.ByteOrdering.TheVariants.{Least, Most}
-use Rattle.drain_header.specs.Fields.{Fields, IsPixelSize}
+use Rattle.drain_header.specs.Header.{Fields, IsPixelSize}
 use Rattle.drain_raster.specs.Pixels.{pixel_len, needed_len, number_in, spelled_by, pixel_of, pixel_at, AreSpelled}
 use Rattle.drain_raster.specs.Bytes.{least_number, greatest_number, complement_of, bytes_in, AreWritten}
-use Rattle.drain_raster.proofs.CellLists.{cell_of}
+use Rattle.drain_raster.proofs.CellPlaces.{cell_of}
 
 -- a number of this kind, at the place of a pixel, is the pixel's
 pub pixel-found : (h : Fields) (len : ℕ) (number : List ℕ → ℤ) (body : List ℕ) (at row col : ℕ) → AreSpelled h len number →

@@ -2,9 +2,9 @@
 use Rattle.std.proofs.Common.{◌≡◌, ◌↔◌, ℕ, zero, suc, ◌+◌, ◌-◌, ◌*◌, ◌<◌, ◌≤◌, ℤ, List, [], length, take, drop, true, false, IsTrue, inl, inr, arith, refl, ap}
 use Rattle.std.proofs.lemmas.Bool.{cases_lt, lt-ltb, le-ltb}
 use Rattle.std.proofs.lemmas.List.{length-drop}
-use Rattle.drain_device.specs.ComingRows.{after_rows, ends_wrong, nth_row}
-use Rattle.drain_device.specs.ComingRows.Coming.{Wrong}
-use Rattle.drain_header.specs.Fields.{Fields}
+use Rattle.drain_device.specs.RowSteps.{after_rows, ends_wrong, nth_row}
+use Rattle.drain_device.specs.RowSteps.Coming.{Wrong}
+use Rattle.drain_header.specs.Header.{Fields}
 use Rattle.drain_raster.specs.Pixels.{IsShort, needed_len, pixel_len, pixel_of}
 use Rattle.drain_raster.specs.RasterRows.{bytes_of_rows, raster_numbers_of, packed_len, raster_rows}
 use Rattle.drain_raster.specs.Laws.{RasterRowsEnd, RasterRowsTellLengths, RasterRowsTakeWhatIsNeeded}

@@ -5,16 +5,15 @@ use Rattle.std.proofs.lemmas.List.{length-replicate, length-drop, take_all, take
 use Rattle.std.proofs.lemmas.List.FromFn.{length-map-range_with_len}
 use Rattle.std.proofs.Math.Seq.{take-add, drop-append-add}
 use Rattle.drain_grid.specs.declared.cell.Cell.{Cell}
-use Rattle.drain_grid.specs.Size.{Extent}
-use Rattle.drain_grid.specs.Extent.{IsCellOf, row_cells}
-use Rattle.drain_grid.specs.Rasters.{Pixels}
-use Rattle.drain_grid.specs.Whole.{number_at}
-use Rattle.drain_header.specs.Fields.{Fields, AreWithinBounds}
+use Rattle.drain_grid.specs.Extent.{Extent, IsCellOf, row_cells}
+use Rattle.drain_grid.specs.Grid.{Pixels}
+use Rattle.drain_grid.specs.WholeGrid.{number_at}
+use Rattle.drain_header.specs.Header.{Fields, AreWithinBounds}
 use Rattle.drain_raster.specs.Pixels.{IsShort, pixel_len, pixel_place, pixel_of, pixel_at, header_extent}
 use Rattle.drain_raster.specs.Bytes.{CanSpellAll, pixel_bytes, cells_bytes, cells_from, padding_len, bytes_of_row, raster_bytes}
 use Rattle.drain_raster.specs.Laws.{BytesReadBack}
 use Rattle.drain_raster.proofs.BufferLemmas.{cells_bytes-parts, rows-parts}
-use Rattle.drain_raster.proofs.CellLists.{cell_of, map-row_cells_more, map-rows_more}
+use Rattle.drain_raster.proofs.CellPlaces.{cell_of, map-row_cells_more, map-rows_more}
 use Rattle.drain_raster.proofs.LengthLemmas.{length-cells_bytes, length-row, length-lists, length-raster}
 use Rattle.drain_raster.proofs.PixelLemmas.{packed-fits}
 use Rattle.drain_raster.proofs.SpellLemmas.{pixel_of-pixel_bytes}

@@ -4,9 +4,9 @@ use Rattle.std.proofs.lemmas.List.{take_all, take_more_set, take-append-le, drop
 use Rattle.std.proofs.lemmas.List.Elements.{All-append, All-push}
 use Rattle.std.proofs.Math.Nat.{mul-le-mul}
 use borrow.Rule.Slice.PartMut.{put_mid}
-use Rattle.drain_device.proofs.FillLemmas.{take-put_mid_part}
+use Rattle.drain_device.proofs.PartLemmas.{take-put_mid_part}
 use Rattle.drain_grid.specs.Values.{IsPixel}
-use Rattle.drain_header.specs.Fields.{Fields, IsPixelSize}
+use Rattle.drain_header.specs.Header.{Fields, IsPixelSize}
 use Rattle.drain_raster.specs.Pixels.{pixel_len}
 use Rattle.drain_raster.specs.RasterRows.{raster_numbers_of}
 use Rattle.drain_raster.proofs.PixelLemmas.{pixel_len-most}

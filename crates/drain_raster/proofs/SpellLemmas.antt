@@ -8,7 +8,7 @@ use Rattle.byteorder.specs.Endian.{twos_complement}
 use Rattle.byteorder.specs.Numbers.{big_number-reads_back, little_number-reads_back}
 use Rattle.drain_header.specs.declared.header.ByteOrdering.{ByteOrdering}
 use Rattle.drain_header.specs.declared.header.ByteOrdering.TheVariants.{Least, Most}
-use Rattle.drain_header.specs.Fields.{Fields, IsPixelSize}
+use Rattle.drain_header.specs.Header.{Fields, IsPixelSize}
 use Rattle.drain_raster.specs.Pixels.{number_in, spelled_by, pixel_of}
 use Rattle.drain_raster.specs.Bytes.{CanSpell, CanSpellIn, complement_of, bytes_in, pixel_bytes}
 

@@ -6,12 +6,10 @@ use Rattle.std.proofs.Math.Seq.{take-append-add}
 use Rattle.std.proofs.KnownBytes.{Appends-trans}
 use Rattle.std.specs.Io.KnownBytes.{Appends}
 use Rattle.drain_device.specs.declared.counts.FaultCounts.{FaultCounts}
-use Rattle.drain_device.specs.Counts.{Answered, counted}
-use Rattle.drain_device.specs.Patience.{full_patience, GivesUpWriting}
-use Rattle.drain_device.specs.Writes.{HandsOver}
-use Rattle.drain_device.proofs.CountLemmas.{answered_more}
-use Rattle.drain_device.specs.Failing.{WriteFails}
-use Rattle.drain_raster.specs.Writing.{Hands}
+use Rattle.drain_device.specs.Counts.{Answered, counted, HandsOver}
+use Rattle.drain_device.specs.Failing.{full_patience, GivesUpWriting, WriteFails}
+use Rattle.drain_device.proofs.PartLemmas.{answered_more}
+use Rattle.drain_raster.specs.RasterRows.{Hands}
 
 -- a call that didn't fail for good met no failure and no stall, and no more interruptions than its patience
 pub went_on : (patience failures interruptions stalls : ℕ) → (GivesUpWriting patience failures interruptions stalls → ⊥) →

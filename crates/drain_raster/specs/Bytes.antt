@@ -6,11 +6,11 @@ use Rattle.std.specs.List.{flat_map, range_with_len}
 use Rattle.byteorder.specs.Endian.{big_bytes, little_bytes}
 use Rattle.drain_grid.specs.declared.cell.Cell.{Cell}
 use Rattle.drain_grid.specs.Extent.{IsCellOf, IsEarlier, row_cells}
-use Rattle.drain_grid.specs.Rasters.{Pixels}
-use Rattle.drain_grid.specs.Whole.{number_at}
+use Rattle.drain_grid.specs.Grid.{Pixels}
+use Rattle.drain_grid.specs.WholeGrid.{number_at}
 use Rattle.drain_header.specs.declared.header.ByteOrdering.{ByteOrdering}
 use Rattle.drain_header.specs.declared.header.ByteOrdering.TheVariants.{Least, Most}
-use Rattle.drain_header.specs.Fields.{Fields}
+use Rattle.drain_header.specs.Header.{Fields}
 use Rattle.drain_raster.specs.Pixels.{pixel_len}
 
 -- the least number of n bits, in two's complement if signed

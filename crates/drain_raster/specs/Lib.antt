@@ -1,6 +1,5 @@
 pub mod Pixels
 pub mod Bytes
-pub mod Writing
 pub mod RasterRows
 pub mod Kinds
 pub mod Laws

@@ -4,12 +4,11 @@
 use Rattle.std.specs.Prelude.{◌≡◌, ℕ, ◌+◌, ◌-◌, ◌*◌, ◌/◌, ◌<◌, ℤ, pos, Bool, true, false, List, length, drop, map, unwrap_or}
 use Rattle.byteorder.specs.Endian.{big_number, little_number, twos_complement}
 use Rattle.drain_grid.specs.declared.cell.Cell.{Cell}
-use Rattle.drain_grid.specs.Size.{Extent}
-use Rattle.drain_grid.specs.Extent.{cells}
-use Rattle.drain_grid.specs.Rasters.{Pixels}
+use Rattle.drain_grid.specs.Extent.{Extent, cells}
+use Rattle.drain_grid.specs.Grid.{Pixels}
 use Rattle.drain_header.specs.declared.header.ByteOrdering.{ByteOrdering}
 use Rattle.drain_header.specs.declared.header.ByteOrdering.TheVariants.{Least, Most}
-use Rattle.drain_header.specs.Fields.{Fields}
+use Rattle.drain_header.specs.Header.{Fields}
 
 -- how many bytes a pixel takes
 abbrev pub pixel_len : Fields → ℕ

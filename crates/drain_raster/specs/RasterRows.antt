@@ -1,13 +1,29 @@
--- What is to come of a raster's bytes, row by row.
--- Source: the Esri description of BIL files and their headers (NROWS, NCOLS, NBITS, SKIPBYTES, TOTALROWBYTES), of one band
-use Rattle.std.specs.Prelude.{ℕ, zero, suc, ◌+◌, ◌*◌, ℤ, nat_lt, List, [], ◌∷◌, length, take, drop, if◌then◌else◌}
-use Rattle.drain_device.specs.ComingRows.{Coming}
-use Rattle.drain_device.specs.ComingRows.Coming.{Next, End, Wrong}
-use Rattle.drain_device.specs.RowSteps.{coming_at, most_at}
-use Rattle.drain_header.specs.Fields.{Fields}
+-- What a write of many calls left: the bytes that the sink took, and how its faults decide the patience and the answer.
+use Rattle.std.specs.Prelude.{◌≡◌, ◌↔◌, ℕ, ◌-◌, List, Option, Result, IsErr, zero, suc, ◌+◌, ◌*◌, ℤ, nat_lt, [], ◌∷◌, length, take, drop, if◌then◌else◌}
+use Rattle.drain_device.specs.declared.counts.FaultCounts.{FaultCounts}
+use Rattle.drain_device.specs.Counts.{Answered, counted, HandsOver}
+use Rattle.drain_device.specs.Failing.{GivesUpWriting}
+use Rattle.drain_device.specs.RowSteps.{Coming, coming_at, most_at}
+use Rattle.drain_device.specs.RowSteps.Coming.{Next, End, Wrong}
+use Rattle.drain_header.specs.Header.{Fields}
 use Rattle.drain_raster.specs.declared.raster_rows.RasterRows.{RasterRows}
 use Rattle.drain_raster.specs.Bytes.{padding_len}
 use Rattle.drain_raster.specs.Pixels.{pixel_len, pixel_of}
+
+-- a part of a write with one patience before and another after: it wrote the bytes, or failed for good before the end
+pub record Hands {E : Type 0} (taken_old taken_new : Option (List ℕ)) (counts_old counts_new : FaultCounts) (stalls_old stalls_new : ℕ)
+    (patience left : ℕ) (result : Result (Unit {0}) E) (bytes : List ℕ) : Type 0 where
+  pub handed : HandsOver taken_old taken_new result bytes
+  pub failures : ℕ
+  pub interruptions : ℕ
+  pub stalls : ℕ
+  pub answered : Answered counts_old counts_new failures interruptions
+  pub stalled : stalls_new ≡ counted stalls_old stalls
+  pub left_is : left ≡ patience - interruptions
+  pub exactly : IsErr result ↔ GivesUpWriting patience failures interruptions stalls
+
+-- What is to come of a raster's bytes, row by row.
+-- Source: the Esri description of BIL files and their headers (NROWS, NCOLS, NBITS, SKIPBYTES, TOTALROWBYTES), of one band
 
 -- count numbers of equal size, from the front of the bytes
 abbrev pub raster_numbers_of : ℕ → (List ℕ → ℤ) → ℕ → List ℕ → List ℤ

@@ -1,8 +1,8 @@
 //! A row of a raster, read as numbers of 64 bits.
 
 ghost use Rattle.std.specs.Prelude.{◌≡◌, ◌≤◌, ◌*◌, ◌+◌, ℕ, List, length, All, IsErrOf, OnOk};
-ghost use Rattle.drain_device.specs.PartFailing.{PartFails};
-ghost use Rattle.drain_device.specs.RowBytes.{PartComes, RowComes};
+ghost use Rattle.drain_device.specs.Failing.{PartFails};
+ghost use Rattle.drain_device.specs.RowSteps.{PartComes, RowComes};
 ghost use Rattle.drain_grid.specs.Values.{IsPixel};
 ghost use Rattle.drain_raster.specs.Pixels.{AreSpelled};
 ghost use Rattle.drain_raster.specs.declared.number_rows.TheConstants.{CHUNK_BYTES};

@@ -1,8 +1,7 @@
 //! The rows of a raster, one at a time.
 
 ghost use Rattle.std.specs.Prelude.{◌≡◌, ◌≢◌, ◌↔◌, All, IsErrOf, IsTrue};
-ghost use Rattle.drain_device.specs.PartFailing.{PartFails};
-ghost use Rattle.drain_device.specs.Patience.{full_patience};
+ghost use Rattle.drain_device.specs.Failing.{PartFails, full_patience};
 ghost use Rattle.drain_device.specs.RowSteps.{Gives, IsEmptyUnlessRow, IsLong, ReadsWithin, StaysEnded, progress_after};
 ghost use Rattle.drain_device.specs.declared.row_source.Progress.{Progress};
 ghost use Rattle.drain_grid.specs.Values.{IsPixel};

@@ -2,16 +2,15 @@
 
 ghost use Rattle.std.specs.Prelude.{◌≡◌, ◌↔◌, ◌≤◌, ◌<◌, ◌+◌, ◌-◌, ◌*◌, ◌++◌, ℕ, ℤ, List, length, take, map, replicate, Err, IsErrOf};
 ghost use Rattle.std.specs.List.{flat_map, range_with_len};
-ghost use Rattle.drain_device.specs.Patience.{full_patience};
-ghost use Rattle.drain_device.specs.Writes.{HandsOver};
+ghost use Rattle.drain_device.specs.Failing.{full_patience, WriteFails};
+ghost use Rattle.drain_device.specs.Counts.{HandsOver};
 ghost use Rattle.drain_grid.specs.declared.cell.Cell.{Cell};
 ghost use Rattle.drain_grid.specs.Extent.{row_cells};
 ghost use Rattle.drain_grid.specs.declared.cell.TheConstants.{MAX_LENGTH};
-ghost use Rattle.drain_grid.specs.Rasters.{Pixels};
+ghost use Rattle.drain_grid.specs.Grid.{Pixels};
 ghost use Rattle.drain_raster.specs.Pixels.{header_extent};
 ghost use Rattle.drain_raster.specs.Bytes.{AreWritten, CanSpellAll, CanSpellAllIn, IsFirstOutOfRange, cells_bytes, cells_from, bytes_of_row, raster_bytes};
-ghost use Rattle.drain_device.specs.Failing.{WriteFails};
-ghost use Rattle.drain_raster.specs.Writing.{Hands};
+ghost use Rattle.drain_raster.specs.RasterRows.{Hands};
 ghost use Rattle.drain_raster.specs.declared.write.TheConstants.{BUFFER_BYTES};
 
 use crate::fault::WriteFault;

@@ -13,11 +13,10 @@ use Rattle.drain_report.specs.declared.head.Head.{Head}
 use Rattle.drain_report.specs.Lines.{AreLong, IsInk, line, spaced}
 use Rattle.drain_report.specs.Facts.{tile_line}
 use Rattle.drain_report.specs.Faults.{line_feeds, IsAt, IsPast, IsLineFault, IsListFault, IsEndFault, HasVersion, FaultFits}
-use Rattle.drain_report.specs.Head.{head_text, version_line}
-use Rattle.drain_report.specs.Contents.{Contents, end_line, report_text}
+use Rattle.drain_report.specs.Contents.{head_text, version_line, Contents, end_line, report_text}
 use Rattle.drain_report.proofs.NumberLemmas.{signed_ink}
 use Rattle.drain_report.proofs.TextLemmas.{version_first}
-use Rattle.drain_report.proofs.TileLemmas.{tile_split}
+use Rattle.drain_report.proofs.ListLemmas.{tile_split}
 
 pub feeds-append : (xs ys : List ℕ) → line_feeds (xs ++ ys) ≡ line_feeds xs + line_feeds ys
 feeds-append [] ys = omega arith

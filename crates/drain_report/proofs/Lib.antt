@@ -1,9 +1,6 @@
 pub mod NumberLemmas
 pub mod ReadLemmas
 pub mod FactLemmas
-pub mod ListedNumbers
-pub mod SameFacts
 pub mod ListLemmas
-pub mod TileLemmas
 pub mod TextLemmas
 pub mod FaultLemmas

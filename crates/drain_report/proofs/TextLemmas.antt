@@ -5,17 +5,14 @@ use Rattle.drain_grid.specs.declared.cell.Cell.{Cell}
 use Rattle.drain_grid.specs.Values.{NoDataNumbers}
 use Rattle.drain_hgt.specs.Corner.{Corner}
 use Rattle.drain_grid.specs.declared.verdict.Verdict.{Verdict}
-use Rattle.drain_union.specs.Reports.{Report}
-use Rattle.drain_union.specs.declared.outlet.Outlet.{Outlet}
+use Rattle.drain_union.specs.Reports.{Report, is_accepted}
+use Rattle.drain_union.specs.declared.report.Outlet.{Outlet}
 use Rattle.drain_union.specs.declared.place.Place.{Place}
 use Rattle.drain_union.specs.declared.report.Shown.{Shown}
 use Rattle.drain_report.specs.declared.head.Head.{Head}
-use Rattle.drain_union.specs.Verdicts.{is_accepted}
 use Rattle.drain_report.specs.Facts.{count_line, nodata_line, outlet_line, place_line, shown_line, sink_line, tile_line, verdict_line}
 use Rattle.drain_report.specs.Faults.{HasVersion}
-use Rattle.drain_report.specs.Head.{head_text, version_line}
-use Rattle.drain_report.specs.Lists.{list_text}
-use Rattle.drain_report.specs.Contents.{Contents, end_line, head_of}
+use Rattle.drain_report.specs.Contents.{head_text, version_line, list_text, Contents, end_line, head_of}
 
 -- parts that were appended
 pub five : (t0 t1 t2 t3 t4 t5 a b c d e : List ℕ) → t1 ≡ t0 ++ a → t2 ≡ t1 ++ b → t3 ≡ t2 ++ c → t4 ≡ t3 ++ d → t5 ≡ t4 ++ e → t5 ≡ t0 ++ (a ++ (b ++ (c ++ (d ++ e))))

@@ -1,14 +1,46 @@
 -- The text of a whole report. The order of its lines is this project's own.
-use Rattle.std.specs.Prelude.{ℕ, List, ◌++◌, codes}
+use Rattle.std.specs.Prelude.{◌<◌, ◌^◌, ℕ, List, ◌++◌, codes, [], ◌∷◌, length}
+use Rattle.drain_report.specs.declared.head.Head.{Head}
+use Rattle.drain_report.specs.Facts.{count_line, IsPlace, place_line, IsAuditNoData, nodata_line, VerdictFits, verdict_line, IsNarrow, sink_line, IsOutlet, outlet_line, IsShown, shown_line, tile_line}
 use Rattle.drain_grid.specs.declared.verdict.Verdict.{Verdict}
 use Rattle.drain_hgt.specs.Corner.{Corner, IsOnMap}
-use Rattle.drain_union.specs.Reports.{Report}
-use Rattle.drain_union.specs.Verdicts.{Agree}
-use Rattle.drain_union.specs.declared.window_report.WindowReport.{WindowReport}
-use Rattle.drain_report.specs.declared.head.Head.{Head}
-use Rattle.drain_report.specs.Facts.{IsNarrow, sink_line, IsOutlet, outlet_line, IsShown, shown_line, tile_line}
-use Rattle.drain_report.specs.Head.{HeadFits, head_text}
-use Rattle.drain_report.specs.Lists.{IsListOf, list_text}
+use Rattle.drain_union.specs.Reports.{Report, Agree}
+use Rattle.drain_union.specs.declared.report.WindowReport.{WindowReport}
+
+-- The first lines of a report.
+
+-- the version of the form
+abbrev pub version_line : List ℕ
+version_line = codes "drain-window-report 2\n"
+
+abbrev pub head_text : Head → List ℕ
+head_text h = version_line ++ (count_line (codes "side") h.side ++ (place_line h.place ++ (nodata_line h.nodata ++ verdict_line h.verdict)))
+
+-- each number is in its range
+pub record HeadFits (h : Head) : Type 0 where
+  pub side : h.side < 2 ^ 32
+  pub place : IsPlace h.place
+  pub nodata : IsAuditNoData h.nodata
+  pub verdict : VerdictFits h.verdict
+
+-- The lists of a report: a line with how many lines follow, then the lines.
+
+-- a text for each, one after another
+abbrev pub all_text : {X : Type 0} → (X → List ℕ) → List X → List ℕ
+all_text f [] = []
+all_text f (x ∷ xs) = f x ++ all_text f xs
+
+abbrev pub AllAre : {X : Type 0} → (X → Type 0) → List X → Type 0
+AllAre P [] = Unit {0}
+AllAre P (x ∷ xs) = P x × AllAre P xs
+
+-- how many there are is a number of 32 bits, and each of them is such
+pub record IsListOf {X : Type 0} (P : X → Type 0) (xs : List X) : Type 0 where
+  pub short : length xs < 2 ^ 32
+  pub each : AllAre P xs
+
+abbrev pub list_text : {X : Type 0} → List ℕ → (X → List ℕ) → List X → List ℕ
+list_text word f xs = count_line word (length xs) ++ all_text f xs
 
 -- what the text of a report says
 pub record Contents : Type 0 where

@@ -5,11 +5,11 @@ use Rattle.std.specs.Int.RustNames.{FitsSigned}
 use Rattle.drain_grid.specs.declared.cell.Cell.{Cell}
 use Rattle.drain_grid.specs.declared.tile.TheConstants.{VOID}
 use Rattle.drain_grid.specs.Values.{Values, AreInRange, NoDataNumbers, IsNoData}
-use Rattle.drain_union.specs.declared.outlet.Outlet.{Outlet}
+use Rattle.drain_union.specs.declared.report.Outlet.{Outlet}
 use Rattle.drain_union.specs.declared.report.Shown.{Shown}
 use Rattle.drain_union.specs.declared.place.Place.{Place}
 use Rattle.drain_union.specs.declared.place.InnerSides.{InnerSides}
-use Rattle.drain_grid.specs.Size.{IsExtent}
+use Rattle.drain_grid.specs.Extent.{IsExtent}
 use Rattle.drain_grid.specs.Rule.{rule_number}
 use Rattle.drain_grid.specs.declared.rule.Rule.{Rule}
 use Rattle.drain_grid.specs.declared.verdict.Counts.{Counts}

@@ -4,8 +4,7 @@ use Rattle.memchr.specs.Find.{is_byte}
 use Rattle.drain_report.specs.declared.fault.ReportFault.{ReportFault}
 use Rattle.drain_report.specs.declared.fault.ReportFault.TheVariants.{WrongVersion, MissingLine, BadLine, OutOfRange, AfterEnd, OutOfMemory}
 use Rattle.drain_report.specs.declared.head.Head.{Head}
-use Rattle.drain_report.specs.Head.{head_text, version_line}
-use Rattle.drain_report.specs.Contents.{Contents, end_line, report_text}
+use Rattle.drain_report.specs.Contents.{head_text, version_line, Contents, end_line, report_text}
 
 -- how many line feeds a text has
 abbrev pub line_feeds : List ℕ → ℕ

@@ -1,21 +1,15 @@
 //! The text of a window's report: what a run on a window writes into a file, and what a merge reads.
 #![tactic(auto)]
 
-mod count;
-mod fact;
 mod facts;
 mod fault;
 mod head;
 mod lines;
 mod lists;
-mod nodata;
 mod numbers;
-mod outlets;
 mod place;
 mod read;
-mod report_line;
 mod seams;
-mod sinks;
 mod tiles;
 mod verdict;
 mod write;

@@ -1,15 +1,83 @@
 //! Lists of a report: how many lines there are, then the lines.
 
+ghost use Rattle.drain_report.specs.Facts.{IsNarrow, sink_line, sink_numbers, IsOutlet, outlet_numbers, outlet_line};
 ghost use Rattle.std.specs.Prelude.{◌≡◌, ◌<◌, ◌≤◌, ◌^◌, ℕ, List, ◌++◌, IfOk, OnOk, MatchResult, length};
 ghost use Rattle.drain_report.specs.Faults.{IsAt, IsPast, IsListFault, line_feeds};
-ghost use Rattle.drain_report.specs.Lists.{AllAre, IsListOf, all_text, list_text};
+ghost use Rattle.drain_report.specs.Contents.{AllAre, IsListOf, all_text, list_text};
 
-use crate::count::{push_count, read_count};
+use crate::facts::{Fact, ReportLine, at, cell_at, read_fact};
 use crate::fault::ReportFault;
-use crate::lines::Lines;
-use crate::report_line::ReportLine;
-use drain_grid::OutOfMemory;
+use crate::lines::{Lines, push_line};
+use crate::numbers::{push_count, read_count};
+use drain_grid::{Cell, OutOfMemory};
+use drain_union::Outlet;
 use std::alloc::Global;
+
+impl Fact for Cell {
+    ghost numbers_of = { sink_numbers };
+
+    ghost how_many = { 2 };
+
+    ghost is_in_range = { IsNarrow };
+
+    fn from_numbers(numbers: &[i64]) -> Option<Cell> {
+        cell_at(numbers, 0)
+    }
+}
+
+impl ReportLine for Cell {
+    ghost line_of = { sink_line };
+
+    ghost fits = { IsNarrow };
+
+    fn read_from<'a>(lines: Lines<'a>) -> Result<(Cell, Lines<'a>), ReportFault> {
+        let mut numbers = [0i64; 2];
+        read_fact(lines, "sink", &mut numbers)
+    }
+
+    fn push_to(&self, text: &mut Vec<u8>) -> Result<(), OutOfMemory> {
+        let numbers = [i64::from(self.row), i64::from(self.col)];
+        push_line(text, "sink", &numbers)
+    }
+}
+
+impl Fact for Outlet {
+    ghost numbers_of = { outlet_numbers };
+
+    ghost how_many = { 3 };
+
+    ghost is_in_range = { IsOutlet };
+
+    fn from_numbers(numbers: &[i64]) -> Option<Outlet> {
+        let Some(cell) = cell_at(numbers, 1) else {
+            return None;
+        };
+        Some(Outlet {
+            label: at(numbers, 0),
+            cell,
+        })
+    }
+}
+
+impl ReportLine for Outlet {
+    ghost line_of = { outlet_line };
+
+    ghost fits = { IsOutlet };
+
+    fn read_from<'a>(lines: Lines<'a>) -> Result<(Outlet, Lines<'a>), ReportFault> {
+        let mut numbers = [0i64; 3];
+        read_fact(lines, "outlet", &mut numbers)
+    }
+
+    fn push_to(&self, text: &mut Vec<u8>) -> Result<(), OutOfMemory> {
+        let numbers = [
+            self.label,
+            i64::from(self.cell.row),
+            i64::from(self.cell.col),
+        ];
+        push_line(text, "outlet", &numbers)
+    }
+}
 
 /// Reads a list of this word.
 pub fn read_list<'a, T: ReportLine>(

@@ -1,16 +1,14 @@
 //! The line of a window's place.
 
 ghost use Rattle.std.specs.Prelude.{◌≡◌, drop, length, Some, IfSome};
-ghost use Rattle.drain_grid.specs.Size.{IsExtent};
+ghost use Rattle.drain_grid.specs.Extent.{IsExtent};
 ghost use Rattle.drain_union.specs.declared.place.InnerSides.{InnerSides as SidesOf};
 ghost use Rattle.drain_report.specs.Lines.{AreLong};
 ghost use Rattle.drain_report.specs.Facts.{side_numbers, place_numbers, place_line, IsPlace};
 
-use crate::fact::{Fact, read_fact};
-use crate::facts::{cell_at, flag_at};
+use crate::facts::{Fact, ReportLine, cell_at, flag_at, read_fact};
 use crate::fault::ReportFault;
 use crate::lines::{Lines, push_line};
-use crate::report_line::ReportLine;
 use drain_grid::{Cell, OutOfMemory, Shape};
 use drain_union::{InnerSides, Place};
 

@@ -5,11 +5,9 @@ ghost use Rattle.drain_grid.specs.Values.{Values, AreInRange};
 ghost use Rattle.drain_report.specs.Lines.{AreLong};
 ghost use Rattle.drain_report.specs.Facts.{IsHeight, height_number, values_numbers, shown_numbers, shown_line, IsShown};
 
-use crate::fact::{Fact, read_fact};
-use crate::facts::{at, cell_at, flag_at};
+use crate::facts::{Fact, ReportLine, at, cell_at, flag_at, read_fact};
 use crate::fault::ReportFault;
 use crate::lines::{Lines, push_line};
-use crate::report_line::ReportLine;
 use drain_grid::{CellValues, OutOfMemory, VOID};
 use drain_union::Shown;
 

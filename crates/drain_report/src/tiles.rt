@@ -5,9 +5,9 @@ ghost use Rattle.drain_hgt.specs.Corner.{Corner, IsOnMap};
 ghost use Rattle.drain_hgt.specs.Name.{name_of};
 ghost use Rattle.drain_report.specs.Facts.{tile_line};
 
+use crate::facts::ReportLine;
 use crate::fault::ReportFault;
 use crate::lines::{Lines, after_word, push, unread};
-use crate::report_line::ReportLine;
 use drain_grid::OutOfMemory;
 use drain_hgt::TileName;
 use drain_hgt::laws::{name_reads_back, one_name};

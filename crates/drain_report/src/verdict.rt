@@ -7,11 +7,9 @@ ghost use Rattle.drain_grid.specs.Rule.{rule_number};
 ghost use Rattle.drain_report.specs.Faults.{IsAt, IsPast, IsLineFault};
 ghost use Rattle.drain_report.specs.Facts.{IsNarrow, CountsFit, VerdictFits, count_numbers, fault_numbers, verdict_line};
 
-use crate::fact::{Fact, read_fact};
-use crate::facts::{at, cell_at, whole_at};
+use crate::facts::{Fact, ReportLine, at, cell_at, read_fact, whole_at};
 use crate::fault::ReportFault;
 use crate::lines::{Lines, push_line, read_line};
-use crate::report_line::ReportLine;
 use drain_grid::{Cell, Counts, OutOfMemory, Rule, Verdict};
 
 /// The rule of a number from 1 to 15.

@@ -1,3 +1,1 @@
-pub mod RowResults
-mod VoidRows
-mod WindowLemmas
+pub mod WindowLemmas

@@ -1,13 +1,21 @@
 -- The rows of a grid and its products, as they come one after another.
-use Rattle.std.specs.Prelude.{◌≡◌, ℕ, ◌+◌, ◌<◌, List, Option, Some, None}
+use Rattle.std.specs.Prelude.{◌≡◌, ℕ, ◌+◌, ◌<◌, List, Option, Some, None, Bool, ℤ, false, ◌&&◌, ◌==◌, nat_lt, not, is_none, length, slice_index_or}
 use Rattle.drain_grid.specs.declared.cell.Cell.{Cell}
 use Rattle.drain_grid.specs.declared.sink_line.SinkLine.{SinkLine}
-use Rattle.drain_grid.specs.SinkLines.{is_listed}
-use Rattle.drain_grid.specs.Size.{Extent}
-use Rattle.drain_grid.specs.Grid.{Grid, Products, IsInside}
-use Rattle.drain_rules.specs.RowNumbers.{AreNumbersOf, RowNumbers, blank}
-use Rattle.drain_rows.specs.declared.walk_stop.WalkStop.{WalkStop}
-use Rattle.drain_rows.specs.declared.walk_stop.WalkStop.TheVariants.{Source, OutOfMemory}
+use Rattle.drain_grid.specs.SinkTexts.{is_listed}
+use Rattle.drain_grid.specs.Extent.{Extent}
+use Rattle.drain_grid.specs.Grid.{Grid, Products, IsInside, HasData, height_from}
+use Rattle.drain_rules.specs.Rows.{AreNumbersOf, RowNumbers, blank, AreRowPatches}
+use Rattle.drain_rows.specs.declared.row_visitor.WalkStop.{WalkStop}
+use Rattle.drain_rows.specs.declared.row_visitor.WalkStop.TheVariants.{Source, OutOfMemory}
+use Rattle.drain_grid.specs.Run.{RunEnds}
+use Rattle.drain_grid.specs.declared.patch.Patch.{Patch}
+use Rattle.drain_grid.specs.declared.judged.Rules.{Rules}
+use Rattle.drain_rules.specs.declared.walk.Area.{Area}
+use Rattle.drain_rules.specs.declared.walk.Walk.{Walk}
+use Rattle.drain_rules.specs.Walks.{IsRightOf}
+use Rattle.drain_grid.specs.declared.tile.TheConstants.{VOID}
+use Rattle.drain_grid.specs.CellLists.{is_among}
 
 -- these are all rows, after the last there is none, and the grid's sinks are the listed ones
 pub record AreRowsOf (g : Grid) (ps : Products) (sinks : List SinkLine) (rows : ℕ → RowNumbers) : Type 0 where
@@ -36,3 +44,39 @@ IsWalkStop has_read before after calls Wants OutOfMemory = ReadsOn has_read befo
 -- the same after some calls
 abbrev pub IsRowsStop : {State Stop : Type 0} → (State → State → ℕ → Option Stop → Type 0) → State → State → Type 0 → WalkStop Stop → Type 0
 IsRowsStop has_read before after Wants stopped = (calls : ℕ) × IsWalkStop has_read before after calls Wants stopped
+
+-- The paths of all data cells.
+
+-- the path of every data cell ends
+abbrev pub AllRunsEnd : Grid → Products → Type 0
+AllRunsEnd g ps = (c : Cell) → HasData g c → RunEnds g ps c
+
+-- The rows that are noted, and what a walk that stops at the first fault has found of them.
+
+-- this holds of each grid and row that has these numbers and shows these patches
+abbrev pub OfNotedRow : RowNumbers → ℕ → (ℕ → Patch) → (Grid → Products → ℕ → Type 0) → Type 0
+OfNotedRow numbers cols shown P = (g : Grid) (ps : Products) (r : ℕ) → AreNumbersOf g ps r numbers → AreRowPatches g ps r cols shown → P g ps r
+
+-- the walk has passed this number of rows, and its result is right under these rules
+pub record IsWalkOf {L : Type 0} (compares : Bool) (judges : L → Area) (are_before : Grid → Products → Cell → L → Type 0) (rules : Rules) (g : Grid) (ps : Products) (rows : ℕ) (walk : Walk L) : Type 0 where
+  pub rows_are : walk.rows ≡ rows
+  pub right : IsRightOf compares judges are_before rules g ps walk.rows walk.labels walk.outcome
+
+-- Listed sinks that are voids.
+
+-- it lies in the grid, and is none of these voids
+abbrev pub has_data_but : Extent → List Cell → Cell → Bool
+has_data_but e voids c = nat_lt c.row e.rows && (nat_lt c.col e.cols && not (is_among voids c))
+
+-- it is a cell of this row, marked as listed, and its sample is a void's
+abbrev pub is_listed_void : ℕ → List ℤ → List Bool → Cell → Bool
+is_listed_void row z marks c =
+    (c.row == row) && (nat_lt c.col (length z) && (slice_index_or marks c.col false && is_none (height_from (slice_index_or z c.col VOID))))
+
+-- of the rows before this one, these are the listed sinks that are voids
+abbrev pub AreVoidsBefore : Grid → ℕ → List Cell → Type 0
+AreVoidsBefore g row voids = (c : Cell) → IsInside g c → is_among voids c ≡ (nat_lt c.row row && (g.sink c && is_none (g.elevation c)))
+
+-- these are the listed sinks of the grid that are voids
+abbrev pub AreListedVoids : Grid → List Cell → Type 0
+AreListedVoids g voids = (c : Cell) → IsInside g c → is_among voids c ≡ (g.sink c && is_none (g.elevation c))

@@ -1,5 +1,2 @@
 pub mod GridRows
 pub mod RowBuffers
-pub mod ListedVoids
-pub mod NotedRows
-pub mod Runs

@@ -3,10 +3,9 @@ use Rattle.std.specs.Prelude.{◌≡◌, ℕ, ◌<◌, false, IsTrue, List, leng
 use Rattle.drain_grid.specs.declared.set_product.SetProduct.{SetProduct}
 use Rattle.drain_grid.specs.PerProduct.{of_product, per_product}
 use Rattle.drain_grid.specs.declared.sink_line.SinkLine.{SinkLine}
-use Rattle.drain_grid.specs.SinkLines.{is_listed}
-use Rattle.drain_kernel.specs.Taken.{AreLanesOf}
-use Rattle.drain_rules.specs.MarkedRows.{MarkedRow}
-use Rattle.drain_rules.specs.RowNumbers.{RowNumbers}
+use Rattle.drain_grid.specs.SinkTexts.{is_listed}
+use Rattle.drain_kernel.specs.Columns.{AreLanesOf}
+use Rattle.drain_rules.specs.Rows.{MarkedRow, RowNumbers}
 use Rattle.drain_rows.specs.declared.row_buffer.RowBuffer.{RowBuffer}
 
 -- its numbers as lists

@@ -3,21 +3,17 @@
 ghost use Rattle.std.specs.Prelude.{◌≡◌, ◌<◌, ◌+◌, ◌⊎◌, ℕ, [], length, None, IfOk, IfErr, OnErr, OnOk};
 ghost use Rattle.drain_grid.specs.declared.cell.TheConstants.{MAX_LENGTH};
 ghost use Rattle.drain_grid.specs.Grid.{Grid, Products};
-ghost use Rattle.drain_rules.specs.RowNumbers.{AreRowNumbers, RowNumbers, blank};
+ghost use Rattle.drain_rules.specs.Rows.{AreRowNumbers, RowNumbers, blank};
 ghost use Rattle.drain_rules.specs.ThreeRows.{patch_in};
-ghost use Rattle.drain_rows.specs.GridRows.{OfGrid, ReadsOn, IsRowsStop};
+ghost use Rattle.drain_rows.specs.GridRows.{OfGrid, ReadsOn, IsRowsStop, AreListedVoids, OfNotedRow};
 ghost use Rattle.drain_rows.specs.RowBuffers.{LanesMatch, buffer_numbers};
-ghost use Rattle.drain_rows.specs.ListedVoids.{AreListedVoids};
-ghost use Rattle.drain_rows.specs.NotedRows.{OfNotedRow};
-ghost use Rattle.drain_rows.specs.declared.walk_stop.WalkStop.TheVariants as walk_stop;
+ghost use Rattle.drain_rows.specs.declared.row_visitor.WalkStop.TheVariants as walk_stop;
 
 use crate::grid_rows::GridRows;
 use crate::listed_voids::ListedVoids;
-use crate::marked_rows::read_marked;
 use crate::row_buffer::RowBuffer;
-use crate::row_visitor::RowVisitor;
-use crate::walk_stop::WalkStop;
-use crate::window::Window;
+use crate::row_visitor::{RowVisitor, WalkStop};
+use crate::window::{Window, read_marked};
 use drain_grid::{OutOfMemory, Rules, Shape, Sinks};
 use drain_rules::ThreeRows;
 use drain_rules::laws::three_rows_show_patches;

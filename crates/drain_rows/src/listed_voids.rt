@@ -4,7 +4,7 @@ ghost use Rattle.std.specs.Prelude.{◌≡◌, ◌<◌, ◌≤◌, ◌||◌, [],
 ghost use Rattle.drain_grid.specs.declared.cell.Cell.{Cell};
 ghost use Rattle.drain_grid.specs.declared.cell.TheConstants.{MAX_LENGTH};
 ghost use Rattle.drain_grid.specs.CellLists.{is_among};
-ghost use Rattle.drain_rows.specs.ListedVoids.{is_listed_void};
+ghost use Rattle.drain_rows.specs.GridRows.{is_listed_void};
 ghost use Rattle.drain_grid.specs.Extent.{same_cell};
 
 use drain_grid::{Cell, OutOfMemory, VOID};

@@ -2,10 +2,10 @@
 
 ghost use Rattle.std.specs.Prelude.{◌≡◌, ◌↔◌, ◌||◌, ℕ, [], false, slice_index_or, IsTrue, OnOk, OnErr};
 ghost use Rattle.drain_grid.specs.declared.cell.Cell.{Cell};
-ghost use Rattle.drain_rules.specs.RowNumbers.{AreRowNumbers, blank};
+ghost use Rattle.drain_rules.specs.Rows.{AreRowNumbers, blank};
 ghost use Rattle.drain_rows.specs.RowBuffers.{LanesMatch};
 ghost use Rattle.drain_grid.specs.CellLists.{is_among};
-ghost use Rattle.drain_rows.specs.ListedVoids.{is_listed_void};
+ghost use Rattle.drain_rows.specs.GridRows.{is_listed_void};
 
 use crate::listed_voids::ListedVoids;
 use drain_grid::{Judged, OutOfMemory, PerProduct, Sinks};

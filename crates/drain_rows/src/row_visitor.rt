@@ -1,18 +1,28 @@
-//! What is kept of each row of a grid, and what gives the verdict on all of them.
+//! What sees the rows of a grid one after the other.
 
 ghost use Rattle.std.specs.Prelude.{◌≡◌, ◌<◌, ◌+◌, ℕ, Bool, length, OnOk, OnErr};
 ghost use Rattle.drain_grid.specs.declared.cell.TheConstants.{MAX_LENGTH};
 ghost use Rattle.drain_grid.specs.Grid.{Grid, Products};
 ghost use Rattle.drain_grid.specs.declared.judged.Rules.{Rules};
-ghost use Rattle.drain_rules.specs.RowNumbers.{AreRowNumbers};
+ghost use Rattle.drain_rules.specs.Rows.{AreRowNumbers};
 ghost use Rattle.drain_rules.specs.ThreeRows.{patch_in};
 ghost use Rattle.drain_rules.specs.Verdicts.{IsVerdictBy};
 ghost use Rattle.drain_rows.specs.RowBuffers.{buffer_numbers};
-ghost use Rattle.drain_rows.specs.NotedRows.{OfNotedRow};
+ghost use Rattle.drain_rows.specs.GridRows.{OfNotedRow};
 
 use crate::row_buffer::RowBuffer;
+use drain_basin::OutletLabels;
 use drain_grid::{OutOfMemory, Rules, Shape, Verdict};
-use drain_rules::ThreeRows;
+use drain_rules::{Labels, ThreeRows, Walk};
+
+/// Why a walk over rows stopped before the last: its source stopped, or memory ran out elsewhere.
+#[derive(Clone, Copy, PartialEq, Eq, Debug, Drop)]
+pub enum WalkStop<E> {
+    /// The source of the rows stopped, for this reason.
+    Source(E),
+    /// Out of memory.
+    OutOfMemory,
+}
 
 /// Notes of a grid's rows, taken from north to south.
 pub trait RowVisitor {
@@ -50,4 +60,69 @@ pub trait VerdictVisitor: RowVisitor {
     /// The verdict on the grid of this shape, all of whose rows are noted.
     fn verdict(&self, shape: Shape) -> Verdict
         ensures { (rules : Rules) (g : Grid) (ps : Products) → g.extent ≡ shape → Self.are_of rules g ps g.extent.rows self.now → IsVerdictBy rules g ps result };
+}
+
+/// Notes of one kind, and of another, which gives the verdict if it can.
+#[derive(Drop)]
+pub struct BothVisitors<A, B> {
+    pub first: A,
+    pub second: B,
+}
+
+impl<A: RowVisitor, B: RowVisitor> RowVisitor for BothVisitors<A, B> {
+    ghost use Rattle.std.specs.Prelude.{◌⊎◌};
+
+    ghost counts = { λ n both. A.counts n both.first × B.counts n both.second };
+
+    ghost are_of = { λ rules g ps rows both. A.are_of rules g ps rows both.first × B.are_of rules g ps rows both.second };
+
+    ghost wants = { λ rules g ps. A.wants rules g ps ⊎ B.wants rules g ps };
+
+    ghost lasting = { λ both. B.lasting both.second };
+
+    fn note(
+        &mut self,
+        row: &RowBuffer,
+        rows: &ThreeRows<'_>,
+        rules: &Rules,
+    ) -> Result<(), OutOfMemory> {
+        self.first.note(row, rows, rules)?;
+        self.second.note(row, rows, rules)
+    }
+}
+
+impl<A: RowVisitor, B: VerdictVisitor> VerdictVisitor for BothVisitors<A, B> {
+    fn verdict(&self, shape: Shape) -> Verdict {
+        self.second.verdict(shape)
+    }
+}
+
+impl<L: Labels> RowVisitor for Walk<L> {
+    ghost use Rattle.std.specs.Prelude.{◌≡◌, true};
+    ghost use Rattle.drain_rules.specs.Compared.{IfCompared};
+    ghost use Rattle.drain_rules.specs.Labels.{HasNewLabel};
+    ghost use Rattle.drain_rows.specs.GridRows.{IsWalkOf};
+
+    ghost counts = { λ n walk. walk.rows ≡ n };
+
+    ghost are_of = { λ rules g ps rows walk. IsWalkOf L.compares L.judges L.are_before rules g ps rows walk };
+
+    ghost wants = { λ rules g ps. IfCompared L.compares (HasNewLabel rules g ps) };
+
+    ghost lasting = { λ walk. true };
+
+    fn note(
+        &mut self,
+        _row: &RowBuffer,
+        rows: &ThreeRows<'_>,
+        rules: &Rules,
+    ) -> Result<(), OutOfMemory> {
+        self.check_row(rows, rules)
+    }
+}
+
+impl VerdictVisitor for Walk<OutletLabels> {
+    fn verdict(&self, shape: Shape) -> Verdict {
+        self.verdict(shape)
+    }
 }

@@ -8,11 +8,9 @@ use Rattle.drain_grid.specs.Extent.{IsEarlier}
 use Rattle.drain_grid.specs.Grid.{Grid, Products, IsInside}
 use Rattle.drain_grid.specs.GridRules.{HoldsAt}
 use Rattle.drain_grid.specs.RulesAbout.{IsTried, tried}
-use Rattle.drain_rules.specs.declared.area.Area.{Area}
-use Rattle.drain_rules.specs.declared.tally.Tally.{Tally}
-use Rattle.drain_rules.specs.AreaOutcomes.{AreSound}
-use Rattle.drain_rules.specs.AreaRows.{IsNewLabelBetween}
-use Rattle.drain_rules.specs.Areas.{HasCell, everywhere}
+use Rattle.drain_rules.specs.declared.walk.Area.{Area}
+use Rattle.drain_rules.specs.declared.walk.Tally.{Tally}
+use Rattle.drain_rules.specs.Areas.{AreSound, IsNewLabelBetween, HasCell, everywhere}
 use Rattle.drain_rules.specs.Compared.{IfCompared, IsTriedIf}
 use Rattle.drain_rules.specs.Labels.{HasNewLabel}
 use Rattle.drain_rules.specs.Rows.{place}

@@ -6,15 +6,12 @@ use Rattle.std.proofs.lemmas.List.Sums.{sum_by-append}
 use Rattle.std.proofs.lemmas.List.{flat_map_more}
 use Rattle.drain_grid.specs.declared.cell.Cell.{Cell}
 use Rattle.drain_grid.specs.declared.rule.Rule.{Rule}
-use Rattle.drain_grid.specs.Counts.{is_data, is_raised}
+use Rattle.drain_grid.specs.GridRules.{is_data, is_raised, HoldsAt, IsEarlierPair}
 use Rattle.drain_grid.specs.Grid.{Grid, Products, IsInside}
-use Rattle.drain_grid.specs.GridRules.{HoldsAt, IsEarlierPair}
 use Rattle.drain_grid.specs.PatchRules.{Profile}
-use Rattle.drain_rules.specs.declared.area.Area.{Area}
-use Rattle.drain_rules.specs.declared.tally.Tally.{Tally}
-use Rattle.drain_rules.specs.AreaOutcomes.{AreSound, IsAbove}
-use Rattle.drain_rules.specs.AreaRows.{IsAreaTally, IsFaultBetween}
-use Rattle.drain_rules.specs.Areas.{CountsAmong, HasCell, HasRow, IsFirstAmong, cells_in_above, row_cells_in}
+use Rattle.drain_rules.specs.declared.walk.Area.{Area}
+use Rattle.drain_rules.specs.declared.walk.Tally.{Tally}
+use Rattle.drain_rules.specs.Areas.{AreSound, IsAbove, IsAreaTally, IsFaultBetween, CountsAmong, HasCell, HasRow, IsFirstAmong, cells_in_above, row_cells_in}
 use Rattle.drain_rules.specs.Rows.{place}
 use Rattle.drain_rules.specs.Verdicts.{has_outlet_code}
 

@@ -4,10 +4,9 @@ use Rattle.std.specs.Ordering.{int_eq}
 use Rattle.drain_grid.specs.declared.cell.TheConstants.{MAX_LENGTH}
 use Rattle.drain_grid.specs.declared.patch.Patch.{Patch}
 use Rattle.drain_grid.specs.Values.{Values}
-use Rattle.drain_rules.specs.declared.kept.Kept.{Kept}
-use Rattle.drain_rules.specs.declared.tally.Tally.{Tally}
-use Rattle.drain_rules.specs.KeptRuns.{raised_between}
-use Rattle.drain_rules.specs.PatchRows.{IsAtMost}
+use Rattle.drain_rules.specs.declared.row_view.Kept.{Kept}
+use Rattle.drain_rules.specs.declared.walk.Tally.{Tally}
+use Rattle.drain_rules.specs.Rows.{raised_between, IsAtMost}
 use Rattle.drain_rules.proofs.KeptCells.{raised_between-fits}
 
 -- the raised cells of a run, with those before it

@@ -8,13 +8,11 @@ use Rattle.drain_grid.specs.declared.patch.Patch.{Patch}
 use Rattle.drain_grid.specs.declared.rule.Rule.{Rule}
 use Rattle.drain_grid.specs.declared.rule.Rule.TheVariants.{SharedLabel}
 use Rattle.drain_grid.specs.Direction.{directions}
-use Rattle.drain_grid.specs.Size.{Extent}
-use Rattle.drain_grid.specs.Extent.{IsCellOf, cells, step}
+use Rattle.drain_grid.specs.Extent.{Extent, IsCellOf, cells, step}
 use Rattle.drain_grid.specs.Values.{Values}
 use Rattle.drain_grid.specs.Grid.{Grid, Products, IsInside, HasData, values_at, patch_at}
-use Rattle.drain_grid.specs.Counts.{is_data, is_raised}
+use Rattle.drain_grid.specs.GridRules.{is_data, is_raised, SharedLabelHolds, HoldsAt}
 use Rattle.drain_grid.specs.PatchRules.{Profile, check_rules}
-use Rattle.drain_grid.specs.GridRules.{SharedLabelHolds, HoldsAt}
 use Rattle.drain_grid.proofs.CellSums.{sum_by_cells_same}
 use Rattle.drain_grid.proofs.Neighbors.{step_lies}
 use Rattle.drain_grid.specs.declared.verdict.Verdict.{Verdict}

@@ -10,14 +10,13 @@ use Rattle.drain_grid.specs.declared.rule.Rule.{Rule}
 use Rattle.drain_grid.specs.Rule.{IsFillRule}
 use Rattle.drain_grid.specs.Extent.{row_cells, IsEarlier}
 use Rattle.drain_grid.specs.Grid.{Grid, Products, IsInside}
-use Rattle.drain_grid.specs.Counts.{is_data, is_raised}
+use Rattle.drain_grid.specs.GridRules.{is_data, is_raised, HoldsAt, RulesHold, IsEarlierPair, IsFirstFault}
 use Rattle.drain_grid.specs.PatchRules.{Profile, fill_rules}
-use Rattle.drain_grid.specs.GridRules.{HoldsAt, RulesHold, IsEarlierPair, IsFirstFault}
 use Rattle.drain_grid.specs.declared.fill_verdict.FillVerdict.TheVariants as fill
-use Rattle.drain_rules.specs.declared.tally.Tally.{Tally}
-use Rattle.drain_rules.specs.FillVerdicts.{IsFillVerdict}
+use Rattle.drain_rules.specs.declared.walk.Tally.{Tally}
+use Rattle.drain_rules.specs.Fill.{IsFillVerdict}
 use Rattle.drain_rules.specs.Verdicts.{has_outlet_code}
-use Rattle.drain_rules.specs.RowOutcomes.{cells_above, CountsAbove}
+use Rattle.drain_rules.specs.Walks.{cells_above, CountsAbove}
 use Rattle.drain_rules.specs.Rows.{place, HoldAlong, CountsAlong, IsRowFault}
 
 range_with_len-more : (a n : ℕ) → range_with_len a (suc n) ≡ range_with_len a n ++ (a + n) ∷ []

@@ -9,12 +9,10 @@ use Rattle.drain_grid.specs.declared.patch.Patch.{Patch}
 use Rattle.drain_grid.specs.declared.judged.Judged.{Judged}
 use Rattle.drain_grid.specs.Grid.{Grid, Products}
 use Rattle.drain_grid.specs.PatchRules.{Profile}
-use Rattle.drain_kernel.specs.Kept.{IsKept}
-use Rattle.drain_rules.specs.declared.kept.Kept.{Kept}
-use Rattle.drain_rules.specs.declared.tally.Tally.{Tally}
-use Rattle.drain_rules.specs.KeptRuns.{shows_raised, raised_between}
-use Rattle.drain_rules.specs.PatchRows.{AreRowPatches, IsAtMost}
-use Rattle.drain_rules.specs.Rows.{CountsAlong}
+use Rattle.drain_kernel.specs.Columns.{IsKept}
+use Rattle.drain_rules.specs.declared.row_view.Kept.{Kept}
+use Rattle.drain_rules.specs.declared.walk.Tally.{Tally}
+use Rattle.drain_rules.specs.Rows.{shows_raised, raised_between, AreRowPatches, IsAtMost, CountsAlong}
 use Rattle.drain_rules.specs.Compared.{IsTriedIf}
 use Rattle.drain_rules.proofs.PassedCells.{IsPassed, no_outlet-holds, passed-more}
 use Rattle.drain_rules.proofs.RowLemmas.{CountsAlong-more}

@@ -6,17 +6,10 @@ pub mod Faults
 pub mod GridLemmas
 pub mod KeptCells
 pub mod LabelSteps
-pub mod LabelsBefore
-pub mod LanedCounts
 pub mod LanedPatches
 pub mod PartFaults
 pub mod PassedCells
-pub mod PatchFaults
 pub mod RightVoids
-pub mod RowFields
 pub mod RowLemmas
 pub mod RowPasses
 pub mod RowPatches
-pub mod RowRuns
-pub mod RowStops
-pub mod Screens

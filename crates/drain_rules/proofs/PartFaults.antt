@@ -6,7 +6,7 @@ use Rattle.drain_grid.specs.declared.rule.Rule.TheVariants.{VoidCell, BadCode, B
 use Rattle.drain_grid.specs.PatchRules.{surface_rules}
 use Rattle.drain_grid.specs.Rule.{IsFillRule, IsLeastFault, IsPresenceRule}
 use Rattle.drain_grid.specs.Values.{NoDataNumbers}
-use Rattle.drain_grid.proofs.LeastFaults.{IsFrom, found_next}
+use Rattle.drain_grid.proofs.AllRules.{IsFrom, found_next}
 use Rattle.drain_grid.specs.declared.judged.Judged.{Judged}
 use Rattle.drain_grid.specs.RulesAbout.{part_rules}
 use Rattle.drain_rules.proofs.Faults.{IsLeastFault-same}

@@ -9,18 +9,15 @@ use Rattle.drain_grid.specs.declared.judged.Judged.{Judged}
 use Rattle.drain_grid.specs.declared.patch.Patch.{Patch}
 use Rattle.drain_grid.specs.declared.rule.Rule.{Rule}
 use Rattle.drain_grid.specs.Rule.{IsLeastFault, IsPatchRule}
-use Rattle.drain_grid.specs.Counts.{is_data, is_raised}
+use Rattle.drain_grid.specs.GridRules.{is_data, is_raised, HoldsAt, SharedLabelHolds}
 use Rattle.drain_grid.specs.Grid.{Grid, Products, IsInside, patch_at, values_at}
-use Rattle.drain_grid.specs.GridRules.{HoldsAt, SharedLabelHolds}
 use Rattle.drain_grid.specs.PatchRules.{Profile}
 use Rattle.drain_grid.specs.Values.{Values}
-use Rattle.drain_rules.specs.declared.tally.Tally.{Tally}
-use Rattle.drain_rules.specs.AreaRows.{HoldBetween, cells_between}
-use Rattle.drain_rules.specs.Areas.{CountsAmong}
+use Rattle.drain_rules.specs.declared.walk.Tally.{Tally}
+use Rattle.drain_rules.specs.Areas.{HoldBetween, cells_between, CountsAmong}
 use Rattle.drain_rules.specs.Compared.{IsTriedIf}
 use Rattle.drain_rules.specs.Labels.{IsOutletByCode}
-use Rattle.drain_rules.specs.PatchRows.{AreRowPatches}
-use Rattle.drain_rules.specs.Rows.{place}
+use Rattle.drain_rules.specs.Rows.{AreRowPatches, place}
 use Rattle.drain_rules.specs.Verdicts.{has_outlet_code}
 use Rattle.drain_rules.proofs.Faults.{holds_tried, least-labelled}
 

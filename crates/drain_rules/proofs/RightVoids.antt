@@ -12,16 +12,16 @@ use Rattle.drain_grid.specs.declared.judged.Judged.TheVariants as rasters
 use Rattle.drain_grid.specs.RulesAbout.{IsBlankPart, part_rules, rules_about, tried}
 use Rattle.drain_grid.specs.Unranked.{IsBlankWithoutRank}
 use Rattle.drain_grid.specs.Values.{IsBlankWithoutSpill, NoDataNumbers, Values}
-use Rattle.drain_grid.proofs.Options.{void_data}
+use Rattle.drain_grid.proofs.Tallies.{void_data}
 use Rattle.drain_grid.specs.declared.judged.Rules.{Rules}
 use Rattle.drain_grid.specs.Judged.{IfJudged, has_acc, has_bas, has_dir, has_rnk}
 use Rattle.drain_kernel.specs.Rules.{rules_with}
-use Rattle.drain_rules.specs.declared.tally.Tally.{Tally}
-use Rattle.drain_rules.specs.BlankVoids.{IsBlankVoid, IsRightVoid}
-use Rattle.drain_rules.specs.PatchRows.{AreRowPatches}
+use Rattle.drain_rules.specs.declared.walk.Tally.{Tally}
+use Rattle.drain_rules.specs.Fill.{IsBlankVoid, IsRightVoid}
+use Rattle.drain_rules.specs.Rows.{AreRowPatches}
 use Rattle.drain_rules.specs.Compared.{IsTriedIf}
 use Rattle.drain_rules.proofs.PassedCells.{IsPassed, no_outlet-holds, passed-more}
-use Rattle.drain_rules.proofs.RowRuns.{along_run}
+use Rattle.drain_rules.proofs.RowLemmas.{along_run}
 
 -- with the rank, the five are blank
 blank_five : (nodata : NoDataNumbers) (v : Values) → IsBlankWithoutRank nodata v → v.rnk ≡ nodata.rnk → IsBlankWithoutSpill nodata v

@@ -1,5 +1,8 @@
 -- One cell more of a row: what holds along it, and how many of its cells pass a test.
-use Rattle.std.proofs.Common.{◌≡◌, ℕ, ◌+◌, ◌<◌, Bool, cond, ◌&&◌, int_lt, is_some, unwrap_or, pos, None, Some, arith, below_more}
+use Rattle.std.proofs.Common.{◌≡◌, refl, ℕ, zero, suc, ◌+◌, ◌-◌, ◌<◌, ◌≤◌, sym, subst, arith, Bool, cond, ◌&&◌, int_lt, is_some, unwrap_or, pos, None, Some, below_more}
+use Rattle.drain_grid.specs.declared.set_product.SetProduct.{SetProduct}
+use Rattle.drain_grid.specs.PerProduct.{of_product, per_product}
+use Rattle.drain_grid.proofs.ByProduct.{by_set_product}
 use Rattle.std.specs.List.{count_by}
 use Rattle.std.specs.Ordering.{int_eq}
 use Rattle.std.proofs.lemmas.List.FromFn.{sum_by-map-range_with_len_more}
@@ -9,12 +12,35 @@ use Rattle.drain_grid.specs.Rule.{IsLeastFault}
 use Rattle.drain_grid.specs.Extent.{row_cells}
 use Rattle.drain_grid.specs.Values.{Values}
 use Rattle.drain_grid.specs.Grid.{Grid, Products, values_at}
-use Rattle.drain_grid.specs.Counts.{is_data, is_raised}
+use Rattle.drain_grid.specs.GridRules.{is_data, is_raised, HoldsAt}
 use Rattle.drain_grid.specs.PatchRules.{Profile}
-use Rattle.drain_grid.specs.GridRules.{HoldsAt}
-use Rattle.drain_rules.specs.declared.tally.Tally.{Tally}
+use Rattle.drain_rules.specs.declared.walk.Tally.{Tally}
 use Rattle.drain_rules.specs.Verdicts.{has_outlet_code}
 use Rattle.drain_rules.specs.Rows.{place, HoldAlong, CountsAlong, IsRowFault}
+
+-- What is known of a row of numbers, product by product.
+
+-- what a function gives for each product is what it gives for this one
+pub of_per : {A : Type 0} → (give : SetProduct → A) (p : SetProduct) → of_product (per_product give) p ≡ give p
+of_per give = by_set_product (λ p. of_product (per_product give) p ≡ give p) refl refl refl refl refl
+
+-- What stays true with each of some cells along a row stays true with all of them.
+
+-- P is what holds before a column, and Q what a column's cell needs for P to hold with it
+module _ (P Q : ℕ → Type 0) (cols : ℕ) (one : (col : ℕ) → col < cols → Q col → P col → P (col + 1)) where
+  run_some : (from n : ℕ) → from + n ≤ cols → ((col : ℕ) → from ≤ col → col < from + n → Q col) → P from → P (from + n)
+  run_some from zero within each so_far =
+      let here : from + 0 ≡ from = omega arith in
+      subst P (sym here) so_far
+  run_some from (suc n) within each so_far =
+      let before = run_some from n (omega (arith, within)) (λ col past less. each col past (omega (arith, less))) so_far in
+      let next : from + n + 1 ≡ from + suc n = omega arith in
+      subst P next (one (from + n) (omega (arith, within)) (each (from + n) (omega arith) (omega arith)) before)
+
+  pub along_run : (from end : ℕ) → from ≤ end → end ≤ cols → ((col : ℕ) → from ≤ col → col < end → Q col) → P from → P end
+  along_run from end forward within each so_far =
+      let up_to : from + (end - from) ≡ end = omega arith in
+      subst P up_to (run_some from (end - from) (omega (arith, within)) (λ col past less. each col past (omega (arith, less))) so_far)
 
 -- how many pass, with one cell more
 count_by-row_cells_more : (p : Cell → Bool) (row cols : ℕ) →

@@ -1,12 +1,23 @@
 -- What the bytes of a fill input mean: a tile, its conditioned elevations, spill parents and ranks, each row after row,
 -- most significant byte first. The tile is that of the SRTM HGT documentation; the other parts are this project's own.
-use Rattle.std.specs.Prelude.{◌≡◌, ℕ, ◌+◌, ◌*◌, ℤ, pos, List, length, drop}
+use Rattle.std.specs.Prelude.{◌≡◌, ℕ, ◌+◌, ◌*◌, ℤ, pos, List, length, drop, Result, Ok, Err, None, IsNone}
 use Rattle.std.specs.Int.{cast_signed, w16}
 use Rattle.byteorder.specs.Endian.{big_number}
-use Rattle.drain_grid.specs.Extent.{index_of}
-use Rattle.drain_grid.specs.Size.{Extent}
-use Rattle.drain_grid.specs.Tile.{height_from}
-use Rattle.drain_grid.specs.Grid.{Grid, Products, no_sink}
+use Rattle.drain_grid.specs.Extent.{index_of, Extent}
+use Rattle.drain_grid.specs.Grid.{height_from, IsSide, Grid, Products, no_sink}
+use Rattle.drain_grid.specs.declared.fill_verdict.FillVerdict.{FillVerdict}
+use Rattle.drain_grid.specs.declared.fill_verdict.FillVerdict.TheVariants.{Accepted, Rejected}
+use Rattle.drain_grid.specs.declared.fill_verdict.FillRefusal.{FillRefusal}
+use Rattle.drain_grid.specs.GridRules.{data_count, raised_count, RulesHold, IsFirstFault}
+use Rattle.drain_grid.specs.Rule.{IsFillRule, IsPatchRule, IsLeastFault}
+use Rattle.drain_grid.specs.PatchRules.{fill_rules, Profile}
+use Rattle.drain_grid.specs.declared.fill_verdict.FillCounts.{FillCounts}
+use Rattle.drain_grid.specs.declared.fill_verdict.FillRefusal.TheVariants.{BadSide, BadLength}
+use Rattle.drain_grid.specs.declared.patch.Patch.{Patch}
+use Rattle.drain_grid.specs.RulesAbout.{IsBlankPart}
+use Rattle.drain_grid.specs.Values.{Values}
+use Rattle.drain_grid.specs.Judged.{IfJudged, has_rnk}
+use Rattle.drain_grid.specs.declared.judged.Rules.{Rules}
 
 -- the number of n bytes, among numbers of n bytes that begin at start
 abbrev pub fill_number_at : List ℕ → ℕ → ℕ → ℕ → ℕ
@@ -41,3 +52,47 @@ fill_products side bytes = record {
 -- nine bytes for each cell
 abbrev pub IsFillLength : ℕ → List ℕ → Type 0
 IsFillLength side bytes = length bytes ≡ 9 * (side * side)
+
+-- What an acceptance says of the whole tile.
+
+-- the fact holds where the input is accepted
+abbrev pub OnAccepted : Result FillVerdict FillRefusal → Type 0 → Type 0
+OnAccepted (Ok (Accepted counts)) P = P
+OnAccepted (Ok (Rejected rule row col)) P = Unit {0}
+OnAccepted (Err refusal) P = Unit {0}
+
+-- The verdict on a fill input: the first of rules 4 to 9 that fails, or the counts of an acceptance.
+
+-- the size of the tile, and how many of its cells have data and are raised
+abbrev pub fill_counts : Grid → Products → FillCounts
+fill_counts g ps = record {
+  rows = g.extent.rows;
+  cols = g.extent.cols;
+  data_cells = data_count g;
+  raised = raised_count g ps;
+}
+
+-- accepted where rules 4 to 9 hold at every cell, else rejected with the first fault
+abbrev pub IsFillVerdict : Grid → Products → FillVerdict → Type 0
+IsFillVerdict g ps (Accepted counts) = RulesHold fill_rules IsFillRule g ps × (counts ≡ fill_counts g ps)
+IsFillVerdict g ps (Rejected rule row col) = IsFirstFault fill_rules IsFillRule g ps (record { row = row; col = col }) rule
+
+-- the first refusal that applies, else the verdict
+abbrev pub IsFillAnswer : ℕ → List ℕ → Result FillVerdict FillRefusal → Type 0
+IsFillAnswer side bytes (Err BadSide) = ¬ IsSide side
+IsFillAnswer side bytes (Err BadLength) = IsSide side × ¬ IsFillLength side bytes
+IsFillAnswer side bytes (Ok verdict) =
+    IsSide side × IsFillLength side bytes × IsFillVerdict (fill_grid side bytes) (fill_products side bytes) verdict
+
+-- Voids at which no rule fails. The rules are this project's own.
+
+-- a void at which every rule holds that looks at its patch only
+pub record IsRightVoid (profile : Profile) (p : Patch) : Type 0 where
+  pub holds : IsLeastFault IsPatchRule (profile p) None
+  pub is_void : IsNone p.here.z
+
+-- a void with the no-data numbers of the judged rasters
+pub record IsBlankVoid (rules : Rules) (v : Values) : Type 0 where
+  pub is_void : IsNone v.z
+  pub blank : IsBlankPart rules.judged rules.nodata v
+  pub no_rank : IfJudged (has_rnk rules.judged) (v.rnk ≡ rules.nodata.rnk)

@@ -1,16 +1,26 @@
--- What a walk along one row finds.
-use Rattle.std.specs.Prelude.{◌≡◌, ℕ, ◌<◌}
-use Rattle.std.specs.List.{count_by}
+-- Rows of numbers, and the patches that three of them show.
+use Rattle.std.specs.Prelude.{◌≡◌, ℕ, ◌<◌, ◌≤◌, ℤ, pos, List, [], length, slice_index_or, Option, IfSome, ◌-◌, Bool, ◌&&◌, int_lt, is_some, unwrap_or, map, zero, suc, nat_lt, false, Some, None, if◌then◌else◌}
+use Rattle.std.specs.List.{count_by, All, range_with_len}
 use Rattle.drain_grid.specs.declared.cell.Cell.{Cell}
 use Rattle.drain_grid.specs.declared.rule.Rule.{Rule}
 use Rattle.drain_grid.specs.Rule.{rule_number}
 use Rattle.drain_grid.specs.Extent.{row_cells}
-use Rattle.drain_grid.specs.Grid.{Grid, Products}
-use Rattle.drain_grid.specs.Counts.{is_data, is_raised}
+use Rattle.drain_grid.specs.Grid.{Grid, Products, patch_at, set_number_in, IsSample, height_from}
+use Rattle.drain_grid.specs.GridRules.{is_data, is_raised, HoldsAt}
 use Rattle.drain_grid.specs.PatchRules.{Profile}
-use Rattle.drain_grid.specs.GridRules.{HoldsAt}
-use Rattle.drain_rules.specs.declared.tally.Tally.{Tally}
+use Rattle.drain_rules.specs.declared.walk.Tally.{Tally}
 use Rattle.drain_rules.specs.Verdicts.{has_outlet_code}
+use Rattle.drain_grid.specs.declared.patch.Patch.{Patch}
+use Rattle.drain_grid.specs.declared.cell.TheConstants.{MAX_LENGTH}
+use Rattle.drain_grid.specs.declared.set_product.SetProduct.{SetProduct}
+use Rattle.drain_grid.specs.declared.per_product.PerProduct.{PerProduct}
+use Rattle.drain_grid.specs.declared.tile.TheConstants.{VOID}
+use Rattle.drain_grid.specs.PerProduct.{of_product, per_product}
+use Rattle.drain_grid.specs.Values.{IsPixel, Values}
+use Rattle.drain_kernel.specs.declared.lanes.Lanes.{Lanes}
+use Rattle.drain_kernel.specs.Columns.{AreLanesOf}
+
+-- What a walk along one row finds.
 
 -- the cell of a row and a column
 abbrev pub place : ℕ → ℕ → Cell
@@ -39,3 +49,102 @@ pub record CountsAlong (g : Grid) (ps : Products) (row cols : ℕ) (tally : Tall
 pub record IsRowTally (profile : Profile) (IsOwn : Rule → Type 0) (g : Grid) (ps : Products) (row : ℕ) (tally : Tally) : Type 0 where
   pub holds : HoldAlong profile IsOwn g ps row g.extent.cols
   pub counted : CountsAlong g ps row g.extent.cols tally
+
+-- What a walk along a row of patches finds, for any grid whose row it is.
+
+-- n patches, and they are those of the row's cells
+pub record AreRowPatches (g : Grid) (ps : Products) (row cols : ℕ) (shown : ℕ → Patch) : Type 0 where
+  pub inside : row < g.extent.rows
+  pub cols_are : cols ≡ g.extent.cols
+  pub patches_are : (col : ℕ) → col < cols → shown col ≡ patch_at g ps (place row col)
+
+-- the counts of n cells
+pub record IsAtMost (cells : ℕ) (tally : Tally) : Type 0 where
+  pub data_cells : tally.data_cells ≤ cells
+  pub raised : tally.raised ≤ tally.data_cells
+  pub outlets : tally.outlets ≤ tally.data_cells
+
+-- A row of a grid and its products as lists of numbers.
+
+-- the elevations, with the number of a void if there is none, and each product's numbers
+pub record RowNumbers : Type 0 where
+  pub z : List ℤ
+  pub products : PerProduct (List ℤ)
+
+-- no row
+abbrev pub blank : RowNumbers
+blank = record { z = []; products = per_product (λ p. []) }
+
+-- as many numbers of each, at most 28,801, that samples and pixels encode
+pub record AreRowNumbers (row : RowNumbers) : Type 0 where
+  pub narrow : length row.z ≤ MAX_LENGTH
+  pub long : (p : SetProduct) → length (of_product row.products p) ≡ length row.z
+  pub samples : All IsSample row.z
+  pub pixels : (p : SetProduct) → All IsPixel (of_product row.products p)
+
+-- they are the numbers of a grid's row, whose products have no spill parents
+pub record AreNumbersOf (g : Grid) (ps : Products) (row : ℕ) (numbers : RowNumbers) : Type 0 where
+  pub inside : row < g.extent.rows
+  pub cols_are : length numbers.z ≡ g.extent.cols
+  pub elevation : (col : ℕ) → col < g.extent.cols → height_from (slice_index_or numbers.z col VOID) ≡ g.elevation (place row col)
+  pub products : (p : SetProduct) (col : ℕ) → col < g.extent.cols → slice_index_or (of_product numbers.products p) col (pos 0) ≡ set_number_in ps p (place row col)
+  pub no_spill : (col : ℕ) → col < g.extent.cols → ps.spl (place row col) ≡ pos 0
+
+-- Rows of numbers with lanes.
+
+-- where there are lanes, they are those of the row's numbers
+abbrev pub AreLanesIfAny : RowNumbers → Option Lanes → Type 0
+AreLanesIfAny row lanes = IfSome lanes (λ those. AreLanesOf those row.z row.products)
+
+-- a row's numbers, and their lanes if there are any
+pub record IsLanedRow (row : RowNumbers) (lanes : Option Lanes) : Type 0 where
+  pub numbers : AreRowNumbers row
+  pub laned : AreLanesIfAny row lanes
+
+-- How many cells of a run of columns are raised, by the patches that are shown there.
+
+-- the patch's cell has data, and its conditioned elevation is above the ground
+abbrev pub shows_raised : Patch → Bool
+shows_raised p = is_some p.here.z && int_lt (unwrap_or p.here.z (pos 0)) p.here.con
+
+-- how many of the patches from one column up to another show that
+abbrev pub raised_between : (ℕ → Patch) → ℕ → ℕ → ℕ
+raised_between shown from end = count_by shows_raised (map shown (range_with_len from (end - from)))
+
+-- A row of a grid and its products as lists of numbers, and of marks at listed sinks; and its values at a column.
+
+-- the numbers, and a mark for each column, true at a listed sink; columns past the last mark are not listed
+pub record MarkedRow : Type 0 where
+  pub numbers : RowNumbers
+  pub sinks : List Bool
+
+-- the values of the row at a column; of spill parents 0
+abbrev pub values_in : MarkedRow → ℕ → Values
+values_in row col = record {
+  z = height_from (slice_index_or row.numbers.z col VOID);
+  sink = slice_index_or row.sinks col false;
+  con = slice_index_or row.numbers.products.con col (pos 0);
+  dir = slice_index_or row.numbers.products.dir col (pos 0);
+  acc = slice_index_or row.numbers.products.acc col (pos 0);
+  bas = slice_index_or row.numbers.products.bas col (pos 0);
+  spl = pos 0;
+  rnk = slice_index_or row.numbers.products.rnk col (pos 0);
+}
+
+-- none past its last column, and none if there is no row
+abbrev pub beside : MarkedRow → ℕ → Option Values
+beside row col = if nat_lt col (length row.numbers.z) then Some (values_in row col) else None
+
+-- and none to the west of its first
+abbrev pub west_neighbor : MarkedRow → ℕ → Option Values
+west_neighbor row zero = None
+west_neighbor row (suc col) = beside row col
+
+-- no row
+abbrev pub IsNoRow : MarkedRow → Type 0
+IsNoRow row = row.numbers ≡ blank
+
+-- it is a row of the grid, and marks its sinks
+pub record IsRowOf (g : Grid) (ps : Products) (row : ℕ) (marked : MarkedRow) : Type 0 where
+  pub numbers : AreNumbersOf g ps row marked.numbers
+  pub sinks : (col : ℕ) → col < g.extent.cols → slice_index_or marked.sinks col false ≡ g.sink (place row col)

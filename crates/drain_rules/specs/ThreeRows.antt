@@ -3,8 +3,7 @@ use Rattle.std.specs.Prelude.{◌≡◌, ℕ, ◌+◌, ◌<◌, [], ◌∷◌, l
 use Rattle.drain_grid.specs.declared.patch.Patch.{Patch}
 use Rattle.drain_grid.specs.Grid.{Grid, Products}
 use Rattle.drain_rules.specs.declared.three_rows.ThreeRows.{ThreeRows}
-use Rattle.drain_rules.specs.PatchRows.{AreRowPatches}
-use Rattle.drain_rules.specs.MarkedRows.{IsNoRow, IsRowOf, values_in, beside, west_neighbor}
+use Rattle.drain_rules.specs.Rows.{AreRowPatches, IsNoRow, IsRowOf, values_in, beside, west_neighbor}
 
 -- the patch, its neighbours in the order of the directions
 abbrev pub patch_in : ThreeRows → ℕ → Patch

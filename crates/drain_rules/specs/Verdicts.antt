@@ -9,14 +9,15 @@ use Rattle.drain_grid.specs.declared.rule.Rule.{Rule}
 use Rattle.drain_grid.specs.Extent.{cells}
 use Rattle.drain_grid.specs.Values.{NoDataNumbers}
 use Rattle.drain_grid.specs.Grid.{Grid, Products}
-use Rattle.drain_grid.specs.Counts.{is_data, data_count, raised_count}
+use Rattle.drain_grid.specs.GridRules.{is_data, data_count, raised_count, RulesHold, IsFirstFault}
 use Rattle.drain_grid.specs.Rule.{IsAnyRule}
 use Rattle.drain_grid.specs.RulesAbout.{IsTried, tried}
 use Rattle.drain_grid.specs.PatchRules.{Profile, check_rules}
-use Rattle.drain_grid.specs.GridRules.{RulesHold, IsFirstFault}
 use Rattle.drain_grid.specs.declared.verdict.Counts.{Counts}
 use Rattle.drain_grid.specs.declared.verdict.Verdict.{Verdict}
 use Rattle.drain_grid.specs.declared.verdict.Verdict.TheVariants.{Accepted, Rejected}
+use Rattle.drain_rules.specs.declared.fill_input.FillInput.{FillInput}
+use Rattle.drain_rules.specs.Fill.{fill_grid, fill_products}
 
 -- the cell has data, and its direction is 0
 abbrev pub has_outlet_code : Grid → Products → Cell → Bool
@@ -58,3 +59,11 @@ abbrev pub IfAccepted : {E : Type 0} → Result Verdict E → Type 0 → Type 0
 IfAccepted (Ok (Accepted counts)) P = P
 IfAccepted (Ok (Rejected rule row col)) P = Unit {0}
 IfAccepted (Err refusal) P = Unit {0}
+
+-- The meaning of the code's input of the right length.
+
+abbrev pub parts_grid : FillInput → Grid
+parts_grid input = fill_grid input.shape.rows input.bytes.now
+
+abbrev pub parts_products : FillInput → Products
+parts_products input = fill_products input.shape.rows input.bytes.now

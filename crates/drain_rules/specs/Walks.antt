@@ -1,18 +1,44 @@
 -- What the code's walk over the judged cells of a grid has found.
-use Rattle.std.specs.Prelude.{ℕ, Bool, true, List}
+use Rattle.std.specs.Prelude.{◌≡◌, ℕ, ◌*◌, List, Bool, true}
+use Rattle.std.specs.List.{count_by, flat_map, range_with_len}
 use Rattle.drain_grid.specs.declared.cell.Cell.{Cell}
+use Rattle.drain_grid.specs.declared.cell.TheConstants.{MAX_LENGTH}
+use Rattle.drain_grid.specs.Extent.{row_cells}
+use Rattle.drain_grid.specs.Grid.{Grid, Products}
+use Rattle.drain_grid.specs.GridRules.{is_data, is_raised}
+use Rattle.drain_rules.specs.declared.walk.RowOutcome.{RowOutcome}
+use Rattle.drain_rules.specs.declared.walk.RowOutcome.TheVariants.{Sound, Faulty}
+use Rattle.drain_rules.specs.declared.walk.Tally.{Tally}
+use Rattle.drain_rules.specs.Rows.{IsAtMost, AreRowPatches, place}
+use Rattle.drain_rules.specs.Verdicts.{has_outlet_code}
 use Rattle.drain_grid.specs.declared.judged.Rules.{Rules}
 use Rattle.drain_grid.specs.declared.patch.Patch.{Patch}
-use Rattle.drain_grid.specs.Grid.{Grid, Products}
 use Rattle.drain_grid.specs.RulesAbout.{tried}
-use Rattle.drain_rules.specs.declared.area.Area.{Area}
-use Rattle.drain_rules.specs.declared.row_outcome.RowOutcome.{RowOutcome}
-use Rattle.drain_rules.specs.AreaOutcomes.{IsAreaOutcome}
-use Rattle.drain_rules.specs.Areas.{everywhere}
+use Rattle.drain_rules.specs.declared.walk.Area.{Area}
+use Rattle.drain_rules.specs.Areas.{IsAreaOutcome, everywhere}
 use Rattle.drain_rules.specs.Compared.{IsTriedIf}
 use Rattle.drain_rules.specs.Labels.{AreLabelsBefore}
-use Rattle.drain_rules.specs.PatchRows.{AreRowPatches}
-use Rattle.drain_rules.specs.Rows.{place}
+
+-- The counts of the rows above a row.
+
+-- the cells of the first rows
+abbrev pub cells_above : Grid → ℕ → List Cell
+cells_above g rows = flat_map (row_cells g.extent.cols) (range_with_len 0 rows)
+
+-- how many of them have data, are raised, and are outlets by their code
+pub record CountsAbove (g : Grid) (ps : Products) (rows : ℕ) (tally : Tally) : Type 0 where
+  pub data_cells : tally.data_cells ≡ count_by (is_data g) (cells_above g rows)
+  pub raised : tally.raised ≡ count_by (is_raised g ps) (cells_above g rows)
+  pub outlets : tally.outlets ≡ count_by (has_outlet_code g ps) (cells_above g rows)
+
+-- the counts of the rows above, where they are sound
+abbrev pub tally_of : RowOutcome → Tally
+tally_of (Sound tally) = tally
+tally_of (Faulty cell rule) = record { data_cells = 0; raised = 0; outlets = 0 }
+
+-- they are those of n rows
+abbrev pub IsBounded : ℕ → RowOutcome → Type 0
+IsBounded rows outcome = IsAtMost (rows * MAX_LENGTH) (tally_of outcome)
 
 -- its result after so many rows is right of the grid and its products, by these rules
 abbrev pub IsRightOf : {L : Type 0} → Bool → (L → Area) → (Grid → Products → Cell → L → Type 0) → Rules → Grid → Products → ℕ → L → RowOutcome → Type 0

@@ -1,12 +1,29 @@
 //! The four parts of a fill input, read in place: the tile, its conditioned elevations, spill parents and ranks. Only
 //! the nine cells of one patch are copied.
 
-ghost use Rattle.std.specs.Prelude.{◌≡◌, ◌*◌, length};
-ghost use Rattle.drain_grid.specs.Tile.{IsSide};
+ghost use Rattle.std.specs.Prelude.{◌≡◌, IsTrue, ◌*◌, length};
+ghost use Rattle.drain_grid.specs.Judged.{IfJudged, has_rnk};
+ghost use Rattle.drain_rules.specs.Fill.{IsBlankVoid};
+ghost use Rattle.drain_grid.specs.Grid.{IsSide};
 
+use crate::part_rules::is_blank;
 use byteorder::{BigEndian, ByteOrder};
 use drain_grid::tile::height_from;
-use drain_grid::{Cell, CellSource, CellValues, Shape, VOID};
+use drain_grid::{Cell, CellSource, CellValues, Rules, Shape, VOID};
+
+/// Whether the cell is a void, and the judged rasters have their no-data numbers.
+pub fn is_blank_void(here: &CellValues, rules: &Rules) -> bool
+    ensures { IsTrue result → IsBlankVoid rules.now here.now }
+{
+    here.z.is_none() && is_blank(here, rules) && has_no_rank(here, rules)
+}
+
+/// Whether the rank is its no-data number, or isn't judged.
+fn has_no_rank(here: &CellValues, rules: &Rules) -> bool
+    ensures { IsTrue result → IfJudged (has_rnk rules.now.judged) (here.now.rnk ≡ rules.now.nodata.rnk) }
+{
+    !rules.judged.has_rnk() || here.rnk == rules.nodata.rnk
+}
 
 /// How many bytes an input takes: nine for each cell.
 pub fn fill_length(side: u32) -> usize
@@ -32,7 +49,7 @@ impl<'a> FillInput<'a> {
     ghost use Rattle.std.specs.Prelude.{◌≢◌};
     ghost use Rattle.drain_grid.specs.Extent.{IsCellOf};
     ghost use Rattle.drain_rules.specs.Fill.{square, IsFillLength};
-    ghost use Rattle.drain_rules.specs.Parts.{parts_grid, parts_products};
+    ghost use Rattle.drain_rules.specs.Verdicts.{parts_grid, parts_products};
     ghost use Rattle.drain_grid.specs.Values.{IsPixel};
 
     /// The parts of an input of the right length.
@@ -96,7 +113,7 @@ impl<'a> FillInput<'a> {
 impl<'a> CellSource for FillInput<'a> {
     ghost use Rattle.drain_grid.specs.Grid.{values_at};
     ghost use Rattle.drain_rules.specs.Fill.{square};
-    ghost use Rattle.drain_rules.specs.Parts.{parts_grid, parts_products};
+    ghost use Rattle.drain_rules.specs.Verdicts.{parts_grid, parts_products};
 
     ghost size = { λ input. square input.shape.rows };
 

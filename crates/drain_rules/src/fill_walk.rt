@@ -4,14 +4,12 @@ ghost use Rattle.std.specs.Prelude.{◌<◌, IfOk, IfErr};
 ghost use Rattle.drain_grid.specs.Path.{IsLeastSurface, ShowsSpillLevels};
 ghost use Rattle.drain_grid.specs.PatchRules.{fill_rules};
 ghost use Rattle.drain_grid.specs.Rule.{IsFillRule};
-ghost use Rattle.drain_rules.specs.Fill.{fill_grid, fill_products};
-ghost use Rattle.drain_rules.specs.FillVerdicts.{IsFillAnswer, IsFillVerdict};
-ghost use Rattle.drain_rules.specs.Filled.{OnAccepted};
-ghost use Rattle.drain_rules.specs.Parts.{parts_grid, parts_products};
+ghost use Rattle.drain_rules.specs.Fill.{fill_grid, fill_products, IsFillAnswer, IsFillVerdict, OnAccepted};
+ghost use Rattle.drain_rules.specs.Verdicts.{parts_grid, parts_products};
 ghost use Rattle.drain_rules.specs.Rows.{IsRowTally, IsRowFault};
 
 use crate::fill_input::{FillInput, fill_length};
-use crate::tally::Tally;
+use crate::walk::Tally;
 use drain_fill::fault;
 use drain_grid::laws::least_from_rules;
 use drain_grid::tile::is_side;

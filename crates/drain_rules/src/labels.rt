@@ -1,22 +1,30 @@
 //! What a walk keeps of the outlets that it passes.
 
-ghost use Rattle.std.specs.Prelude.{◌≡◌, ◌↔◌, ◌+◌, ◌<◌, ◌≤◌, ℕ, Bool, true, IsTrue, IfOk, OnOk, OnErr};
+ghost use Rattle.std.specs.Prelude.{◌≡◌, ◌↔◌, ◌&&◌, IsTrue, is_some, pos, ◌+◌, ◌<◌, ◌≤◌, ℕ, Bool, true, IfOk, OnOk, OnErr};
+ghost use Rattle.std.specs.Ordering.{int_eq};
+ghost use Rattle.drain_rules.specs.Labels.{IsOutletByCode};
 ghost use Rattle.drain_grid.specs.declared.cell.Cell.{Cell};
 ghost use Rattle.drain_grid.specs.declared.cell.TheConstants.{MAX_LENGTH};
 ghost use Rattle.drain_grid.specs.Extent.{IsEarlier};
 ghost use Rattle.drain_grid.specs.Grid.{Grid, Products, IsInside, values_at};
 ghost use Rattle.drain_grid.specs.GridRules.{SharedLabelHolds};
 ghost use Rattle.drain_grid.specs.Values.{Values};
-ghost use Rattle.drain_rules.specs.declared.area.Area.{Area};
+ghost use Rattle.drain_rules.specs.declared.walk.Area.{Area};
 ghost use Rattle.drain_rules.specs.Areas.{HasCell, IsOutletCell, everywhere};
 ghost use Rattle.drain_rules.specs.Compared.{IfCompared};
-ghost use Rattle.drain_rules.specs.Labels.{IsOutletByCode};
 ghost use Rattle.drain_rules.specs.Rows.{place};
 
-use crate::area::Area;
-use crate::cell_rules::admits_label;
+use crate::walk::{Area, admits_label};
 use drain_basin::OutletLabels;
 use drain_grid::{Cell, CellValues, OutOfMemory};
+
+/// Whether the values are those of a data cell with the code of an outlet, 0.
+pub fn is_outlet_by_code(here: &CellValues) -> bool
+    ensures outlet { IsTrue result ↔ IsOutletByCode here.now }
+    ensures test { result ≡ (is_some here.now.z && int_eq here.now.dir (pos 0)) }
+{
+    here.z.is_some() && here.dir == 0
+}
 
 /// What is kept of the outlets among the judged cells, and which cells these are.
 ///
@@ -71,7 +79,7 @@ impl Labels for OutletLabels {
     ghost use Rattle.drain_basin.specs.Admitted.{IsAdmitted};
     ghost use Rattle.drain_rules.specs.Areas.{everywhere};
     ghost use Rattle.drain_rules.specs.Labels.{AreLabelsBefore, HasNoLabel, IsLabelOf};
-    ghost use Rattle.drain_rules.specs.LabelLaws.{labels-more, labels-passed, labels-shared};
+    ghost use Rattle.drain_rules.specs.Laws.{labels-more, labels-passed, labels-shared};
 
     ghost compares = { true };
 

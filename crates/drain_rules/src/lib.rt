@@ -8,36 +8,23 @@
 //! to 9; that these make the filled surface is the law `least_from_rules`.
 #![tactic(auto)]
 
-pub mod area;
-pub mod blank_void;
-pub mod cell_rules;
 pub mod fill_input;
 pub mod fill_walk;
-pub mod kept;
 pub mod labels;
 pub mod laws;
-pub mod marks;
-pub mod outlet;
 pub mod part_rules;
-pub mod patch_row;
 pub mod patch_rules;
 pub mod raster_walk;
-pub mod row_outcome;
 pub mod row_view;
-pub mod row_walk;
 pub mod screen;
-pub mod tally;
 pub mod three_rows;
 pub mod walk;
 
-pub use area::Area;
 pub use fill_input::fill_length;
 pub use fill_walk::check_fill;
-pub use kept::Kept;
 pub use labels::Labels;
-pub use patch_row::PatchRow;
-pub use patch_rules::patch_fault;
+pub use patch_rules::{PatchRow, patch_fault};
 pub use raster_walk::{RasterRow, verdict_of};
-pub use row_view::RowView;
+pub use row_view::{Kept, RowView};
 pub use three_rows::ThreeRows;
-pub use walk::Walk;
+pub use walk::{Area, Walk};

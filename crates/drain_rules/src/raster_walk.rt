@@ -7,8 +7,8 @@ ghost use Rattle.drain_grid.specs.WholeGrid.{grid_of, products_of, nodata_of};
 ghost use Rattle.drain_rules.specs.Labels.{HasNewLabel};
 ghost use Rattle.drain_rules.specs.Verdicts.{IsVerdict, IfAccepted};
 
-use crate::kept::Kept;
-use crate::patch_row::PatchRow;
+use crate::patch_rules::PatchRow;
+use crate::row_view::Kept;
 use crate::walk::Walk;
 use drain_grid::laws::correct_from_rules;
 use drain_grid::{

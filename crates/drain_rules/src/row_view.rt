@@ -1,23 +1,63 @@
 //! A row of a grid and its products, as slices of numbers and of marks.
 
-ghost use Rattle.std.specs.Prelude.{ℕ, ◌≡◌, ◌≢◌, ◌↔◌, ◌≤◌, ◌<◌, IsTrue, false, Some, option_copied, length, pos, slice_index_or};
+ghost use Rattle.std.specs.Prelude.{◌≡◌, ◌<◌, ◌≤◌, ℕ, false, slice_index_or, ◌≢◌, ◌↔◌, IsTrue, Some, option_copied, length, pos};
 ghost use Rattle.drain_fill.specs.Below.{AreRowHeights, IsBelowAt};
 ghost use Rattle.drain_grid.specs.declared.cell.TheConstants.{MAX_LENGTH};
 ghost use Rattle.drain_grid.specs.declared.tile.TheConstants.{VOID};
 ghost use Rattle.drain_grid.specs.PerProduct.{of_product, per_product};
-ghost use Rattle.drain_grid.specs.Tile.{IsSample, height_from};
+ghost use Rattle.drain_grid.specs.Grid.{IsSample, height_from};
 ghost use Rattle.drain_grid.specs.Values.{IsPixel};
-ghost use Rattle.drain_rules.specs.MarkedRows.{values_in, beside, west_neighbor};
-ghost use Rattle.drain_rules.specs.LanedRows.{AreLanesIfAny};
-ghost use Rattle.drain_rules.specs.RowNumbers.{AreRowNumbers};
+ghost use Rattle.drain_rules.specs.Rows.{values_in, beside, west_neighbor, AreLanesIfAny, AreRowNumbers};
 
-use crate::marks::unmarked_until;
 use crate::screen::cells_above_ground;
 use drain_grid::tile::height_from;
 use drain_grid::{CellValues, PerProduct, SetProduct, VOID};
 use drain_kernel::Lanes;
 use drain_pixels::{PixelKind, PixelRow};
 use std::marker::Model;
+
+/// How many cells from a column on are cleared together, and how many of them are raised. More cells might pass.
+#[derive(Clone, Copy, PartialEq, Eq, Debug)]
+pub struct Kept {
+    /// The first column that isn't cleared.
+    pub end: u32,
+    pub raised: u32,
+}
+
+impl Kept {
+    /// No cell from this column on.
+    pub fn none(from: u32) -> Kept
+        ensures { result ≡ record { end = from; raised = 0 } }
+    {
+        Kept {
+            end: from,
+            raised: 0,
+        }
+    }
+}
+
+/// How many marks are looked at in one go. So a row whose cells are checked one by one isn't scanned to its end each
+/// time.
+const REACH: usize = 128;
+
+/// A place, at most `end`, with no mark from `from` up to it: that of the next mark, if it is among the next 128.
+pub fn unmarked_until(marks: &[bool], from: usize, end: usize) -> usize
+    requires { from ≤ end }
+    ensures forward { from ≤ result }
+    ensures within { result ≤ end }
+    ensures unmarked { (place : ℕ) → from ≤ place → place < result → slice_index_or marks.now place false ≡ false }
+{
+    if from >= marks.len() {
+        return end;
+    }
+    let last = end.min(marks.len()).min(from + REACH);
+    for place in from..last {
+        if marks[place] {
+            return place;
+        }
+    }
+    last
+}
 
 /// One row: elevations, -32768 at a void, and each product's numbers, as many of each; marks, true at a listed sink;
 /// and the lanes of its numbers if they were made. It has no numbers if there is no row; a missing mark means false.
@@ -32,8 +72,8 @@ pub struct RowView<'a> {
 impl<'a> Model for RowView<'a> {
     ghost use Rattle.std.specs.Prelude.{option_copied};
     ghost use Rattle.drain_grid.specs.PerProduct.{of_product, per_product};
-    ghost use Rattle.drain_rules.specs.LanedRows.{IsLanedRow};
-    ghost use Rattle.drain_rules.specs.MarkedRows.{MarkedRow};
+    ghost use Rattle.drain_rules.specs.Rows.{IsLanedRow};
+    ghost use Rattle.drain_rules.specs.Rows.{MarkedRow};
 
     ghost Value = { MarkedRow };
 

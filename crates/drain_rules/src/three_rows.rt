@@ -1,18 +1,15 @@
 //! A row of a grid and its products, with the rows above and below it; and the patch round a column.
 
 ghost use Rattle.std.specs.Prelude.{◌≡◌, ◌≤◌, ◌<◌, ℕ, IsTrue, length};
-ghost use Rattle.drain_rules.specs.BlankVoids.{IsBlankVoid};
-ghost use Rattle.drain_rules.specs.MarkedRows.{values_in};
-ghost use Rattle.drain_kernel.specs.Kept.{IsKept};
+ghost use Rattle.drain_rules.specs.Fill.{IsBlankVoid};
+ghost use Rattle.drain_rules.specs.Rows.{values_in, raised_between};
+ghost use Rattle.drain_kernel.specs.Columns.{IsKept, AreLanesOf};
 ghost use Rattle.drain_grid.specs.RulesAbout.{tried};
-ghost use Rattle.drain_kernel.specs.Taken.{AreLanesOf};
-ghost use Rattle.drain_rules.specs.KeptRuns.{raised_between};
 ghost use Rattle.drain_rules.specs.ThreeRows.{patch_in};
 
-use crate::blank_void::is_blank_void;
-use crate::kept::Kept;
-use crate::patch_row::PatchRow;
-use crate::row_view::RowView;
+use crate::fill_input::is_blank_void;
+use crate::patch_rules::PatchRow;
+use crate::row_view::{Kept, RowView};
 use drain_grid::{CellValues, Patch, Rules};
 use drain_kernel::laws::{lanes_show_numbers, raised_are_counted};
 use drain_kernel::{Lanes, falls_at, kept_until, outlet_holds_at};

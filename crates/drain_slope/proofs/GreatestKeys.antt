@@ -6,7 +6,7 @@ use Rattle.drain_grid.specs.declared.direction.Direction.{Direction}
 use Rattle.drain_grid.specs.declared.direction.Direction.TheVariants.{East}
 use Rattle.drain_grid.specs.declared.patch.Patch.{Patch}
 use Rattle.drain_grid.specs.Direction.{directions}
-use Rattle.drain_grid.proofs.Directions.{of_each}
+use Rattle.drain_grid.proofs.Neighbors.{of_each}
 use Rattle.drain_slope.specs.Key.{key_at, IsGreatestKey}
 
 -- the greatest key of the directions before a place

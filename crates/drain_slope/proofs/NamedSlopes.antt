@@ -5,7 +5,7 @@ use Rattle.drain_grid.specs.declared.direction.Direction.{Direction}
 use Rattle.drain_grid.specs.declared.patch.Patch.{Patch}
 use Rattle.drain_grid.specs.Direction.{Names}
 use Rattle.drain_grid.specs.Slope.{IsSteepest}
-use Rattle.drain_grid.proofs.NamedNeighbors.{same_direction}
+use Rattle.drain_grid.proofs.Neighbors.{same_direction}
 use Rattle.drain_slope.specs.Key.{key_at, IsSteepestKey}
 use Rattle.drain_slope.proofs.Keys.{steepest_from_key, key_from_steepest}
 

@@ -3,15 +3,14 @@
 use Rattle.std.proofs.Common.{◌≡◌, ℕ, ◌+◌, ◌-◌, ◌<◌, ◌≤◌, max, ◌⊎◌, inl, inr, Bool, true, false, IsTrue, if◌then◌else◌, refl, sym, ap, ◌∙◌, arith}
 use Rattle.std.proofs.lemmas.Bool.{false≢true}
 use Rattle.drain_grid.specs.declared.cell.Cell.{Cell}
-use Rattle.drain_grid.specs.Size.{Extent}
+use Rattle.drain_grid.specs.Extent.{Extent}
 use Rattle.drain_grid.proofs.Decisions.{cases, less_number}
 use Rattle.drain_grid.proofs.Neighbors.{place}
 use Rattle.drain_union.specs.declared.place.Place.{Place}
-use Rattle.drain_union.specs.Judged.{IsJudgedAlong, IsJudgedAt, JudgesSome, BothJudgeOne}
-use Rattle.drain_union.specs.Windows.{in_union, IsPlaceIn, judged_top, judged_left, judged_bottom, judged_right}
+use Rattle.drain_union.specs.Windows.{IsJudgedAlong, IsJudgedAt, JudgesSome, BothJudgeOne, in_union, IsPlaceIn, judged_top, judged_left, judged_bottom, judged_right}
 use Rattle.drain_union.specs.Reports.{OverlapInSeams}
 use Rattle.drain_union.specs.Laws.{JudgedApart}
-use Rattle.drain_union.proofs.JudgedCells.{judged_both, judged_at}
+use Rattle.drain_union.proofs.JudgedCounts.{judged_both, judged_at}
 
 -- a judged cell of the union lies between the edges of the judged rows and columns
 pub record IsWithinEdges (p : Place) (c : Cell) : Type 0 where

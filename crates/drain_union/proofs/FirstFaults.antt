@@ -8,7 +8,7 @@ use Rattle.drain_grid.specs.Extent.{IsEarlier}
 use Rattle.drain_grid.specs.Rule.{IsPatchRule, rule_number}
 use Rattle.drain_grid.specs.Unranked.{unranked}
 use Rattle.drain_grid.specs.GridRules.{HoldsAt, IsEarlierPair}
-use Rattle.drain_grid.proofs.CellOrder.{cases_earlier, earlier_trans}
+use Rattle.drain_grid.proofs.Alike.{cases_earlier, earlier_trans}
 use Rattle.drain_union.specs.declared.place.Place.{Place}
 use Rattle.drain_union.specs.Windows.{Window, in_union, IsJudgedIn, RulesHoldInside, IsNotBefore}
 use Rattle.drain_union.specs.Laws.{LeastFaultIsFirst}

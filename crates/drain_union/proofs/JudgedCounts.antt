@@ -1,25 +1,71 @@
 -- The counts of windows that judge each cell of their union once are the union's. Each judged cell is counted at the
 -- union's cell that it is, so the counts are a sum over windows, their cells and the union's cells; in another order that
 -- is a sum over the union's cells, where one window counts, and of it one cell.
-use Rattle.std.proofs.Common.{◌≡◌, ◌≢◌, ℕ, zero, suc, ◌+◌, ◌-◌, ◌<◌, ◌≤◌, inl, inr, pos, Bool, true, false, cond, ◌&&◌, is_some, int_lt, unwrap_or, IsTrue, List, [], ◌∷◌, map, length, slice_index_or, refl, sym, ap, subst, ◌∙◌, arith}
+use Rattle.std.proofs.Common.{◌≡◌, ◌+◌, ◌-◌, ◌<◌, ◌≤◌, ap, arith, ◌≢◌, ℕ, zero, suc, inl, inr, pos, Bool, true, false, cond, ◌&&◌, is_some, int_lt, unwrap_or, IsTrue, List, [], ◌∷◌, map, length, slice_index_or, refl, sym, subst, ◌∙◌}
+use Rattle.drain_grid.specs.declared.cell.Cell.{Cell}
+use Rattle.drain_grid.proofs.Neighbors.{place, same_place}
+use Rattle.drain_union.specs.declared.place.Place.{Place}
+use Rattle.drain_union.specs.Windows.{IsJudgedAlong, IsJudgedAt, BothJudgeOne, Window, in_union, IsJudgedIn, AreWindowsOf, JudgeAll}
 use Rattle.std.specs.Ordering.{int_eq}
 use Rattle.std.specs.List.{AllPairs, Contains, sum_by, flat_map, range_with_len}
 use Rattle.std.proofs.lemmas.Bool.{false≢true, false_from_ne_true, cases_eq, cases_order}
 use Rattle.std.proofs.lemmas.List.Sums.{sum_by-cons, sum_by-append}
-use Rattle.drain_grid.specs.declared.cell.Cell.{Cell}
-use Rattle.drain_grid.specs.Counts.{is_data, is_raised}
-use Rattle.drain_grid.specs.Extent.{IsCellOf, same_cell, cells}
+use Rattle.drain_grid.specs.GridRules.{is_data, is_raised}
+use Rattle.drain_grid.specs.Extent.{IsCellOf, same_cell, cells, Extent}
 use Rattle.drain_grid.specs.Grid.{Grid, Products, values_at}
-use Rattle.drain_grid.specs.Size.{Extent}
 use Rattle.drain_grid.specs.Values.{Values}
 use Rattle.drain_grid.proofs.CellSums.{same_cell_true, same_cell_self, sum_by_cells_one, sum_by_cells_same, sum_by_same, sum_by_swap, sum_by_zero}
-use Rattle.drain_grid.proofs.Neighbors.{place, same_place}
 use Rattle.drain_rules.specs.Verdicts.{has_outlet_code}
-use Rattle.drain_union.specs.declared.place.Place.{Place}
-use Rattle.drain_union.specs.Judged.{IsJudgedAt, BothJudgeOne}
 use Rattle.drain_union.specs.JudgedCounts.{ring, judged_row, judged_cells}
 use Rattle.drain_union.specs.Laws.{CountsAddUp}
-use Rattle.drain_union.specs.Windows.{Window, in_union, IsJudgedIn, AreWindowsOf, JudgeAll}
+
+-- A cell of the union is judged at a place where its row and its column are.
+
+pub record IsJudgedBoth (p : Place) (c : Cell) : Type 0 where
+  pub rows : IsJudgedAlong p.top p.extent.rows p.inner.north p.inner.south c.row
+  pub cols : IsJudgedAlong p.left p.extent.cols p.inner.west p.inner.east c.col
+
+pub judged_both : (p : Place) (c : Cell) → IsJudgedAt p c → IsJudgedBoth p c
+judged_both p c at =
+    let x = at.0 in
+    let judged = at.1 in
+    let row : p.top + x.row ≡ c.row = ap (λ (k : Cell). k.row) at.2 in
+    let col : p.left + x.col ≡ c.col = ap (λ (k : Cell). k.col) at.2 in
+    let in_rows : x.row < p.extent.rows = judged.inside.row in
+    let in_cols : x.col < p.extent.cols = judged.inside.col in
+    record {
+      rows = record {
+        from = omega arith;
+        below = omega arith;
+        before = λ is. (let some : 0 < x.row = judged.north is in omega arith);
+        behind = λ is. (let more : x.row + 1 < p.extent.rows = judged.south is in omega arith);
+      };
+      cols = record {
+        from = omega arith;
+        below = omega arith;
+        before = λ is. (let some : 0 < x.col = judged.west is in omega arith);
+        behind = λ is. (let more : x.col + 1 < p.extent.cols = judged.east is in omega arith);
+      };
+    }
+
+pub judged_at : (p : Place) (c : Cell) → IsJudgedBoth p c → IsJudgedAt p c
+judged_at p c both =
+    let from_row : p.top ≤ c.row = both.rows.from in
+    let from_col : p.left ≤ c.col = both.cols.from in
+    let below_row : c.row < p.top + p.extent.rows = both.rows.below in
+    let below_col : c.col < p.left + p.extent.cols = both.cols.below in
+    let row : p.top + (c.row - p.top) ≡ c.row = omega arith in
+    let col : p.left + (c.col - p.left) ≡ c.col = omega arith in (
+      place (c.row - p.top) (c.col - p.left),
+      record {
+        inside = record { row = omega arith; col = omega arith };
+        north = λ is. (let some : p.top < c.row = both.rows.before is in omega arith);
+        south = λ is. (let more : c.row + 1 < p.top + p.extent.rows = both.rows.behind is in omega arith);
+        west = λ is. (let some : p.left < c.col = both.cols.before is in omega arith);
+        east = λ is. (let more : c.col + 1 < p.left + p.extent.cols = both.cols.behind is in omega arith);
+      },
+      λ i. place (row i) (col i),
+    )
 
 pub sum_by_map : {X Y : Type 0} (f : Y → ℕ) (h : X → Y) (xs : List X) → sum_by f (map h xs) ≡ sum_by (λ x. f (h x)) xs
 sum_by_map f h [] = refl

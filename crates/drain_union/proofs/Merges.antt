@@ -1,13 +1,83 @@
 -- In a sorted list equal labels stand together, so that to look at outlets side by side is enough.
-use Rattle.std.proofs.Common.{◌≡◌, ℕ, zero, suc, ◌+◌, ◌-◌, ◌<◌, inl, inr, ◌≤ℤ◌, List, length, slice_index_or, refl, sym, ap, subst, ◌∙◌, arith}
+use Rattle.std.proofs.Common.{◌≡◌, refl, sym, ◌∙◌, arith, ℕ, suc, ◌<◌, true, inl, inr, Some, List, [], ◌∷◌, length, slice_get, subst, zero, ◌+◌, ◌-◌, ◌≤ℤ◌, slice_index_or, ap}
+use Rattle.drain_grid.specs.declared.cell.Cell.{Cell}
+use Rattle.drain_grid.specs.declared.rule.Rule.{Rule}
+use Rattle.drain_grid.specs.declared.rule.Rule.TheVariants.{VoidCell, Missing, SharedLabel}
+use Rattle.drain_grid.specs.Grid.{Grid, Products}
+use Rattle.drain_grid.specs.GridRules.{HoldsAt}
+use Rattle.drain_grid.specs.Rule.{IsPatchRule}
+use Rattle.drain_grid.specs.Unranked.{unranked}
+use Rattle.drain_grid.specs.Values.{NoDataNumbers}
+use Rattle.drain_union.specs.Laws.{FourNumbers, SortedTellsShared, MergeTellsShared}
+use Rattle.drain_union.specs.Reports.{audited, IsSortedByLabel, NoneBesideShares, ShareNoLabel}
+use Rattle.std.proofs.lemmas.Bool.{false≢true, or_cases, cases_order}
+use Rattle.std.proofs.lemmas.List.Folds.{list_any_at}
+use Rattle.std.proofs.lemmas.Option.{get_or_from_slice_get, slice_get_within}
+use Rattle.drain_grid.specs.declared.sink_line.SinkLine.{SinkLine}
+use Rattle.drain_grid.specs.Extent.{same_cell}
+use Rattle.drain_grid.specs.SinkTexts.{is_listed}
+use Rattle.drain_grid.proofs.CellSums.{same_cell_true, same_cell_self}
 use Rattle.std.specs.List.{Contains}
-use Rattle.std.proofs.lemmas.Bool.{cases_order}
 use Rattle.std.proofs.lemmas.Int.{ints}
 use Rattle.std.proofs.lemmas.List.{get_or_default}
-use Rattle.drain_union.specs.declared.outlet.Outlet.{Outlet}
-use Rattle.drain_union.specs.Outlets.{IsSortedByLabel, NoneBesideShares, ShareNoLabel}
+use Rattle.drain_union.specs.declared.report.Outlet.{Outlet}
 use Rattle.drain_union.specs.Windows.{NoLabelIsShared}
-use Rattle.drain_union.specs.Laws.{SortedTellsShared, MergeTellsShared}
+
+-- The rules without ranks look at four no-data numbers: so where these four are the same, a rule of a patch holds
+-- with the ones as with the others.
+
+module _ (a b : NoDataNumbers) (con : a.con ≡ b.con) (dir : a.dir ≡ b.dir) (acc : a.acc ≡ b.acc) (bas : a.bas ≡ b.bas) where
+  same : (g : Grid) (ps : Products) (c : Cell) (r : Rule) → IsPatchRule r → HoldsAt (unranked a) g ps c r → HoldsAt (unranked b) g ps c r
+  same g ps c VoidCell own holds = λ void.
+      (let blank = holds void in
+      record { con_is = blank.con_is ∙ con; dir_is = blank.dir_is ∙ dir; acc_is = blank.acc_is ∙ acc; bas_is = blank.bas_is ∙ bas })
+  same g ps c Missing own holds = λ full.
+      (let there = holds full in
+      record {
+        con_differs = λ is. there.con_differs (is ∙ sym con);
+        dir_differs = λ is. there.dir_differs (is ∙ sym dir);
+        acc_differs = λ is. there.acc_differs (is ∙ sym acc);
+        bas_differs = λ is. there.bas_differs (is ∙ sym bas);
+      })
+  same g ps c SharedLabel own holds = absurd (omega arith)
+  same g ps c r own holds = holds
+
+pub four_numbers : FourNumbers
+four_numbers nodata w = (
+  (
+    (λ rules c r judged own. there w.grid w.products c r own (rules c r judged own)),
+    (λ rules c r judged own. back w.grid w.products c r own (rules c r judged own)),
+  ),
+  λ c r first. record {
+    judged = first.judged;
+    is_own = first.is_own;
+    fails = λ holds. first.fails (back w.grid w.products c r first.is_own holds);
+    first = λ b q judged own before. there w.grid w.products b q own (first.first b q judged own before);
+  },
+)
+  where
+    there : (g : Grid) (ps : Products) (c : Cell) (r : Rule) → IsPatchRule r → HoldsAt (unranked nodata) g ps c r → HoldsAt (unranked (audited nodata)) g ps c r
+    there = same nodata (audited nodata) refl refl refl refl
+
+    back : (g : Grid) (ps : Products) (c : Cell) (r : Rule) → IsPatchRule r → HoldsAt (unranked (audited nodata)) g ps c r → HoldsAt (unranked nodata) g ps c r
+    back = same (audited nodata) nodata refl refl refl refl
+
+-- A cell is listed exactly if it is that of some line of a list of sinks.
+
+-- the cell of a line is listed
+pub listed_there : (lines : List SinkLine) (k : ℕ) (s : SinkLine) → slice_get lines k ≡ Some s → is_listed lines s.cell ≡ true
+listed_there lines k s at =
+    list_any_at (λ t. same_cell s.cell t.cell) lines k s (slice_get_within lines k s at)
+    (subst (λ (t : SinkLine). same_cell s.cell t.cell ≡ true) (sym (get_or_from_slice_get lines k s s at)) (same_cell_self s.cell))
+
+-- a listed cell is that of some line
+pub line_of : (lines : List SinkLine) (c : Cell) → is_listed lines c ≡ true → (k : ℕ) × (k < length lines) × (s : SinkLine) × (slice_get lines k ≡ Some s) × (c ≡ s.cell)
+line_of [] c is = absurd (false≢true is)
+line_of (s ∷ rest) c is =
+    elim (or_cases (same_cell c s.cell) (is_listed rest c) is) [
+      | inl same ↦ (0, omega arith, s, refl, same_cell_true c s.cell same)
+      | inr more ↦ (let f = line_of rest c more in (suc f.0, omega (arith, f.1), f.2, f.3, f.4))
+    ]
 
 -- y's label is no less, and where it is the same so is its cell
 abbrev Follows : Outlet → Outlet → Type 0

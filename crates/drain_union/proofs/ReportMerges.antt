@@ -4,14 +4,12 @@ use Rattle.std.specs.List.{Contains, AllPairs}
 use Rattle.std.proofs.lemmas.Bool.{cases_order}
 use Rattle.std.proofs.lemmas.List.{get_or_default, get_or-map, length-map}
 use Rattle.drain_grid.specs.declared.cell.Cell.{Cell}
-use Rattle.drain_grid.specs.Size.{Extent}
+use Rattle.drain_grid.specs.Extent.{Extent, IsCellOf}
 use Rattle.drain_grid.specs.Values.{NoDataNumbers}
-use Rattle.drain_grid.specs.Extent.{IsCellOf}
 use Rattle.drain_grid.specs.Grid.{Grid, Products, IsInside, values_at}
 use Rattle.drain_grid.specs.Correct.{IsCorrect}
-use Rattle.drain_union.specs.declared.outlet.Outlet.{Outlet}
-use Rattle.drain_union.specs.Outlets.{IsSortedByLabel, NoneBesideShares, ListsOutlets, HoldsAllOf}
-use Rattle.drain_union.specs.Reports.{Report, IsReportOf, OverlapInSeams, ShowTheSame, CanMerge}
+use Rattle.drain_union.specs.declared.report.Outlet.{Outlet}
+use Rattle.drain_union.specs.Reports.{IsSortedByLabel, NoneBesideShares, ListsOutlets, HoldsAllOf, Report, IsReportOf, OverlapInSeams, ShowTheSame, CanMerge}
 use Rattle.drain_union.specs.declared.place.Place.{Place}
 use Rattle.drain_union.specs.Windows.{Window, in_union, IsPlaceIn, IsJudgedIn, JudgeAll, RulesHoldInside, NoLabelIsShared, AreLaidIn, OverlapsAgree, AreWindowsOf}
 use Rattle.drain_union.specs.Laws.{MergeIsExact}

@@ -5,8 +5,7 @@ use Rattle.drain_grid.specs.declared.cell.Cell.{Cell}
 use Rattle.drain_grid.specs.declared.patch.Patch.{Patch}
 use Rattle.drain_grid.specs.declared.rule.Rule.{Rule}
 use Rattle.drain_grid.specs.declared.rule.Rule.TheVariants.{SharedLabel}
-use Rattle.drain_grid.specs.Size.{Extent}
-use Rattle.drain_grid.specs.Extent.{IsCellOf, IsEarlier}
+use Rattle.drain_grid.specs.Extent.{Extent, IsCellOf, IsEarlier}
 use Rattle.drain_grid.specs.Values.{Values, NoDataNumbers}
 use Rattle.drain_grid.specs.Rule.{IsAnyRule, IsPatchRule}
 use Rattle.drain_grid.specs.PatchRules.{Profile}
@@ -16,7 +15,7 @@ use Rattle.drain_grid.specs.GridRules.{HoldsAt, RulesHold, SharedLabelHolds}
 use Rattle.drain_grid.proofs.Decisions.{cases}
 use Rattle.drain_grid.proofs.Exactly.{correct_by_rules_alone}
 use Rattle.drain_grid.proofs.PatchDecisions.{is_cell_of}
-use Rattle.drain_grid.proofs.CellOrder.{cases_earlier}
+use Rattle.drain_grid.proofs.Alike.{cases_earlier}
 use Rattle.drain_union.specs.Windows.{Window, in_union, IsWindowOf, IsJudgedIn, JudgeAll, RulesHoldInside, IsJudgedOutlet, NoLabelIsShared, AreLaidIn, OverlapsAgree, AreWindowsOf}
 use Rattle.drain_union.specs.Laws.{CorrectByWindows, WindowsMakeUnion, WindowRejects}
 use Rattle.drain_union.proofs.WindowPatches.{there, patch_of_window}

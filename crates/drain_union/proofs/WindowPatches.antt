@@ -4,11 +4,10 @@ use Rattle.std.proofs.Common.{◌≡◌, ◌+◌, ◌-◌, ◌<◌, ◌≤◌, i
 use Rattle.drain_grid.specs.declared.cell.Cell.{Cell}
 use Rattle.drain_grid.specs.declared.direction.Direction.{Direction}
 use Rattle.drain_grid.specs.Direction.{directions, rows_down, cols_right}
-use Rattle.drain_grid.specs.Size.{Extent}
-use Rattle.drain_grid.specs.Extent.{IsCellOf, step}
+use Rattle.drain_grid.specs.Extent.{Extent, IsCellOf, step}
 use Rattle.drain_grid.specs.Values.{Values}
 use Rattle.drain_grid.specs.Grid.{IsInside, values_at}
-use Rattle.drain_grid.proofs.Options.{none_some}
+use Rattle.drain_grid.proofs.Tallies.{none_some}
 use Rattle.drain_grid.specs.declared.patch.Patch.{Patch}
 use Rattle.drain_grid.specs.Patch.{IsOpen}
 use Rattle.drain_grid.proofs.Patches.{IsOpen-patch_at}

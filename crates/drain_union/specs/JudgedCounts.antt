@@ -2,7 +2,7 @@
 use Rattle.std.specs.Prelude.{◌≡◌, ℕ, ◌-◌, Bool, if◌then◌else◌, List, map}
 use Rattle.std.specs.List.{count_by, flat_map, range_with_len}
 use Rattle.drain_grid.specs.declared.cell.Cell.{Cell}
-use Rattle.drain_grid.specs.Counts.{is_data, is_raised}
+use Rattle.drain_grid.specs.GridRules.{is_data, is_raised}
 use Rattle.drain_grid.specs.declared.verdict.Counts.{Counts}
 use Rattle.drain_rules.specs.Rows.{place}
 use Rattle.drain_rules.specs.Verdicts.{has_outlet_code}

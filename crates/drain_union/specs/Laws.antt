@@ -2,26 +2,21 @@
 use Rattle.std.specs.Prelude.{◌≡◌, ◌↔◌, ◌⊎◌, ℕ, IsTrue, List, map}
 use Rattle.std.specs.List.{AllPairs, Contains, sum_by}
 use Rattle.drain_grid.specs.declared.cell.Cell.{Cell}
-use Rattle.drain_grid.specs.Size.{Extent}
-use Rattle.drain_grid.specs.Extent.{IsCellOf}
+use Rattle.drain_grid.specs.Extent.{Extent, IsCellOf}
 use Rattle.drain_grid.specs.Values.{NoDataNumbers}
 use Rattle.drain_grid.specs.Grid.{Grid, Products, IsOpenCell, patch_at}
 use Rattle.drain_grid.specs.declared.rule.Rule.{Rule}
 use Rattle.drain_grid.specs.Rule.{IsPatchRule}
 use Rattle.drain_grid.specs.Unranked.{unranked}
-use Rattle.drain_grid.specs.GridRules.{IsFirstFault}
+use Rattle.drain_grid.specs.GridRules.{IsFirstFault, data_count, raised_count}
 use Rattle.drain_grid.specs.Correct.{IsCorrect}
-use Rattle.drain_grid.specs.Counts.{data_count, raised_count}
 use Rattle.drain_rules.specs.Verdicts.{outlet_count}
-use Rattle.drain_union.specs.declared.outlet.Outlet.{Outlet}
-use Rattle.drain_union.specs.Judged.{JudgesSome, BothJudgeOne}
+use Rattle.drain_union.specs.declared.report.Outlet.{Outlet}
+use Rattle.drain_union.specs.Windows.{JudgesSome, BothJudgeOne, Window, in_union, IsJudgedAtSome, IsCornerRow, IsCornerCol, IsPlaceIn, IsWindowOf, IsJudgedIn, JudgeAll, RulesHoldInside, IsFirstInside, IsNotBefore, NoLabelIsShared, AreLaidIn, OverlapsAgree, AreWindowsOf}
 use Rattle.drain_union.specs.JudgedCounts.{judged_data, judged_raised, judged_outlets}
-use Rattle.drain_union.specs.NoData.{audited}
-use Rattle.drain_union.specs.Outlets.{IsSortedByLabel, NoneBesideShares, ShareNoLabel, ListsOutlets, HoldsAllOf}
-use Rattle.drain_union.specs.Reports.{OverlapInSeams, Report, IsReportOf, CanMerge}
+use Rattle.drain_union.specs.Reports.{audited, IsSortedByLabel, NoneBesideShares, ShareNoLabel, ListsOutlets, HoldsAllOf, OverlapInSeams, Report, IsReportOf, CanMerge}
 use Rattle.drain_union.specs.declared.place.Place.{Place}
 use Rattle.drain_union.specs.declared.place.TheConstants.{SEAM_DEPTH}
-use Rattle.drain_union.specs.Windows.{Window, in_union, IsJudgedAtSome, IsCornerRow, IsCornerCol, IsPlaceIn, IsWindowOf, IsJudgedIn, JudgeAll, RulesHoldInside, IsFirstInside, IsNotBefore, NoLabelIsShared, AreLaidIn, OverlapsAgree, AreWindowsOf}
 
 -- at a judged cell the window's patch is the union's: so what is open there, and what each rule of a patch says, is so
 -- in the union

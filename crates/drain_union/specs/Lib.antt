@@ -1,9 +1,4 @@
-pub mod Cuts
-pub mod Judged
+pub mod Windows
 pub mod JudgedCounts
 pub mod Laws
-pub mod NoData
-pub mod Outlets
 pub mod Reports
-pub mod Verdicts
-pub mod Windows

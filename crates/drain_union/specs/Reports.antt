@@ -1,17 +1,63 @@
 -- What a run on one window hands over, and when reports can be put together.
 -- Source: what each tile of a large raster hands over is its edge (Barnes 2016); these facts are this project's own.
-use Rattle.std.specs.Prelude.{◌≡◌, ◌↔◌, ℕ, ◌+◌, ◌<◌, ◌≤◌, ◌⊎◌, Bool, true, IsTrue, List, map}
-use Rattle.std.specs.List.{Contains, AllPairs}
-use Rattle.drain_grid.specs.declared.cell.Cell.{Cell}
-use Rattle.drain_grid.specs.Size.{Extent}
+use Rattle.std.specs.Prelude.{pos, ◌≡◌, ◌≢◌, ℕ, ◌-◌, ◌<◌, ◌≤ℤ◌, ◌↔◌, Option, Some, None, List, length, slice_index_or, ◌+◌, ◌≤◌, ◌⊎◌, Bool, true, IsTrue, map, false}
 use Rattle.drain_grid.specs.Values.{NoDataNumbers}
-use Rattle.drain_grid.specs.Extent.{IsCellOf}
+use Rattle.std.specs.List.{Contains, AllAdjacentBelow, AllPairs}
+use Rattle.drain_grid.specs.declared.cell.Cell.{Cell}
+use Rattle.drain_union.specs.declared.report.Outlet.{Outlet}
+use Rattle.drain_union.specs.Windows.{Window, in_union, IsJudgedOutlet, IsPlaceIn, IsJudgedIn, IsJudgedAtSome, RulesHoldInside}
+use Rattle.drain_grid.specs.Extent.{Extent, IsCellOf}
 use Rattle.drain_grid.specs.Grid.{values_at}
-use Rattle.drain_union.specs.declared.outlet.Outlet.{Outlet}
 use Rattle.drain_union.specs.declared.place.Place.{Place}
 use Rattle.drain_union.specs.declared.report.Shown.{Shown}
-use Rattle.drain_union.specs.Windows.{Window, in_union, IsPlaceIn, IsJudgedIn, IsJudgedAtSome, RulesHoldInside}
-use Rattle.drain_union.specs.Outlets.{ListsOutlets}
+use Rattle.drain_grid.specs.declared.verdict.Verdict.{Verdict}
+use Rattle.drain_grid.specs.declared.verdict.Verdict.TheVariants.{Accepted, Rejected}
+
+-- The no-data numbers that a report has. Source: this project's own.
+
+-- those of con, dir, acc and bas, the only ones at which the rules without ranks look; the others are 0
+abbrev pub audited : NoDataNumbers → NoDataNumbers
+audited n = record { con = n.con; dir = n.dir; acc = n.acc; bas = n.bas; spl = pos 0; rnk = pos 0 }
+
+-- What windows list of their outlets, and what a merge of sorted lists sees. Source: this project's own.
+
+-- labels never fall along the list
+abbrev pub IsSortedByLabel : List Outlet → Type 0
+IsSortedByLabel xs = AllAdjacentBelow (λ x y. x.label ≤ℤ y.label) xs (length xs)
+
+-- of two outlets side by side, those with one label are one cell
+abbrev pub NoneBesideShares : List Outlet → Type 0
+NoneBesideShares xs = AllAdjacentBelow (λ x y. x.label ≡ y.label → x.cell ≡ y.cell) xs (length xs)
+
+-- outlets of the two lists with one label are one cell
+abbrev pub ShareNoLabel : List Outlet → List Outlet → Type 0
+ShareNoLabel xs ys = (x y : Outlet) → Contains xs x → Contains ys y → x.label ≡ y.label → x.cell ≡ y.cell
+
+-- the list holds the label and the union's cell of each outlet that the window judges, and nothing else
+pub record ListsOutlets (w : Window) (xs : List Outlet) : Type 0 where
+  pub sorted : IsSortedByLabel xs
+  pub sound : (x : Outlet) → Contains xs x →
+      (c : Cell) × IsJudgedOutlet w c × (w.products.bas c ≡ x.label) × (in_union w.place c ≡ x.cell)
+  pub complete : (c : Cell) → IsJudgedOutlet w c → Contains xs (record { label = w.products.bas c; cell = in_union w.place c })
+
+-- ys holds what the lists hold, and nothing else
+abbrev pub HoldsAllOf : List (List Outlet) → List Outlet → Type 0
+HoldsAllOf lists ys = (x : Outlet) → Contains ys x ↔ ((xs : List Outlet) × Contains lists xs × Contains xs x)
+
+-- the outlet at this place has the label of the one before it, and is another cell
+abbrev pub SharesAt : List Outlet → ℕ → Type 0
+SharesAt xs k =
+    (d : Outlet) → ((slice_index_or xs (k - 1) d).label ≡ (slice_index_or xs k d).label)
+    × ((slice_index_or xs (k - 1) d).cell ≢ (slice_index_or xs k d).cell)
+
+-- up to this place, of two outlets side by side those with one label are one cell
+abbrev pub NoneShareBelow : List Outlet → ℕ → Type 0
+NoneShareBelow xs high = AllAdjacentBelow (λ x y. x.label ≡ y.label → x.cell ≡ y.cell) xs high
+
+-- the first place at which one does, none where none does
+abbrev pub IsFirstShared : List Outlet → Option ℕ → Type 0
+IsFirstShared xs None = NoneBesideShares xs
+IsFirstShared xs (Some k) = (0 < k) × (k < length xs) × SharesAt xs k × NoneShareBelow xs k
 
 -- one of the outermost so many rows or columns of an inner side
 pub record IsOnSeam (depth : ℕ) (p : Place) (c : Cell) : Type 0 where
@@ -67,3 +113,13 @@ pub record CanMerge (depth : ℕ) (e : Extent) (nodata : NoDataNumbers) (reports
   pub whole : (c : Cell) → IsCellOf e c → IsJudgedAtSome (map (λ r. r.place) reports) c
   pub overlaps : AllPairs (λ q r. OverlapInSeams depth q.place r.place) reports
   pub agree : AllPairs (λ q r. ShowTheSame q.seams r.seams) reports
+
+-- What a verdict on a window says of its report.
+
+abbrev pub is_accepted : Verdict → Bool
+is_accepted (Accepted counts) = true
+is_accepted (Rejected rule row col) = false
+
+-- the report says that the rules hold exactly where the verdict accepts
+abbrev pub Agree : Verdict → Report → Type 0
+Agree v r = r.holds ≡ is_accepted v

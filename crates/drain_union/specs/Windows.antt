@@ -2,13 +2,12 @@
 -- outermost row or column of a window is its ring: it is looked at, and not judged.
 -- Source: tiles of a raster that is too large for memory, with a ring of cells from their neighbors (Barnes 2016);
 -- which cells are judged is this project's own.
-use Rattle.std.specs.Prelude.{◌≡◌, ℕ, pos, ◌+◌, ◌-◌, ◌<◌, ◌≤◌, ◌⊎◌, IsTrue, List, if◌then◌else◌}
+use Rattle.std.specs.Prelude.{◌≡◌, ℕ, pos, ◌+◌, ◌-◌, ◌<◌, ◌≤◌, ◌⊎◌, IsTrue, List, if◌then◌else◌, Bool}
 use Rattle.std.specs.List.{Contains}
 use Rattle.drain_grid.specs.declared.cell.Cell.{Cell}
 use Rattle.drain_grid.specs.declared.rule.Rule.{Rule}
-use Rattle.drain_grid.specs.Size.{Extent}
+use Rattle.drain_grid.specs.Extent.{Extent, IsCellOf}
 use Rattle.drain_grid.specs.Values.{NoDataNumbers}
-use Rattle.drain_grid.specs.Extent.{IsCellOf}
 use Rattle.drain_grid.specs.Grid.{Grid, Products, IsInside, HasData, values_at}
 use Rattle.drain_grid.specs.Rule.{IsPatchRule}
 use Rattle.drain_grid.specs.Unranked.{unranked}
@@ -126,3 +125,50 @@ pub record IsFirstInside (nodata : NoDataNumbers) (w : Window) (c : Cell) (r : R
 abbrev pub IsNotBefore : NoDataNumbers → Window → Cell → Rule → Type 0
 IsNotBefore nodata w c r =
     (b : Cell) × (q : Rule) × IsFirstInside nodata w b q × ¬ IsEarlierPair (in_union w.place b) q c r
+
+-- A box of a grid as a window of it. Source: this project's own.
+
+-- the elevations and sinks of the box, as a grid of its own
+abbrev pub cut_grid : Place → Grid → Grid
+cut_grid p g = record { extent = p.extent; elevation = λ c. g.elevation (in_union p c); sink = λ c. g.sink (in_union p c) }
+
+-- and its products
+abbrev pub cut_products : Place → Products → Products
+cut_products p ps = record {
+  con = λ c. ps.con (in_union p c);
+  dir = λ c. ps.dir (in_union p c);
+  acc = λ c. ps.acc (in_union p c);
+  bas = λ c. ps.bas (in_union p c);
+  spl = λ c. ps.spl (in_union p c);
+  rnk = λ c. ps.rnk (in_union p c);
+}
+
+-- the window that the box is, where the grid begins at this cell of the union
+abbrev pub window_at : Cell → Place → Grid → Products → Window
+window_at origin p g ps = record { place = moved origin p; grid = cut_grid p g; products = cut_products p ps }
+
+-- a box of a grid is a window of it
+abbrev pub CutIsWindow : Type 0
+CutIsWindow =
+    (p : Place) (g : Grid) (ps : Products) → IsPlaceIn g.extent p → IsWindowOf g ps (record { place = p; grid = cut_grid p g; products = cut_products p ps })
+
+-- Which cells of a union a window judges. These definitions are this project's own.
+
+-- this row is one of so many rows from the first on, and not the outermost one on an inner side; columns likewise
+pub record IsJudgedAlong (first count : ℕ) (inner_before inner_behind : Bool) (at : ℕ) : Type 0 where
+  pub from : first ≤ at
+  pub below : at < first + count
+  pub before : IsTrue inner_before → first < at
+  pub behind : IsTrue inner_behind → at + 1 < first + count
+
+-- the cell of the union is judged at this place
+abbrev pub IsJudgedAt : Place → Cell → Type 0
+IsJudgedAt p c = (x : Cell) × IsJudgedIn p x × (in_union p x ≡ c)
+
+-- the place judges a cell
+abbrev pub JudgesSome : Place → Type 0
+JudgesSome p = (c : Cell) × IsJudgedIn p c
+
+-- a cell of the union is judged at both places
+abbrev pub BothJudgeOne : Place → Place → Type 0
+BothJudgeOne p q = (c : Cell) × IsJudgedAt p c × IsJudgedAt q c

@@ -2,7 +2,7 @@
 //!
 //! Each law is a function with nothing to do: its contract is the law, and a caller that calls it has the law at hand.
 
-ghost use Rattle.drain_union.specs.Cuts.{CutIsWindow};
+ghost use Rattle.drain_union.specs.Windows.{CutIsWindow};
 ghost use Rattle.drain_union.specs.Laws.{PatchOfWindow, CorrectByWindows, WindowsMakeUnion, SortedTellsShared, MergeTellsShared, OpenInWindow, MergeIsExact, CornersTellWhole, WindowRejects, LeastFaultIsFirst, JudgedApart, FourNumbers, CountsAddUp};
 
 /// At a judged cell the patch of a window is the union's.

@@ -1,7 +1,7 @@
 //! Where a window lies.
 
 ghost use Rattle.std.specs.Prelude.{◌≡◌, ◌↔◌, ◌+◌, ◌^◌, ◌<◌, IsTrue};
-ghost use Rattle.drain_union.specs.Judged.{IsJudgedAlong};
+ghost use Rattle.drain_union.specs.Windows.{IsJudgedAlong};
 
 use drain_grid::{Cell, Shape};
 
@@ -28,7 +28,7 @@ pub struct Place {
 }
 
 impl Place {
-    ghost use Rattle.drain_union.specs.Judged.{IsJudgedAt};
+    ghost use Rattle.drain_union.specs.Windows.{IsJudgedAt};
     ghost use Rattle.drain_union.specs.Reports.{IsOnSeam};
     ghost use Rattle.drain_union.specs.Windows.{IsPlaceIn, moved};
 

@@ -1,10 +1,83 @@
 //! A report on one window.
 
-use crate::audit_nodata::AuditNoData;
-use crate::outlet::Outlet;
+ghost use Rattle.std.specs.List.Sorted.{IsPermutation};
+ghost use Rattle.drain_union.specs.Reports.{IsFirstShared, IsSortedByLabel, audited};
+ghost use Rattle.std.specs.Prelude.{◌≡◌};
+
 use crate::place::Place;
-use drain_grid::{Cell, CellValues};
+use drain_grid::{Cell, CellValues, NoData, Verdict};
+use drain_hgt::TileName;
 use std::marker::Model;
+
+/// An outlet's label, and its cell in the union.
+#[derive(Clone, Copy, PartialEq, Eq, PartialOrd, Ord, Debug)]
+pub struct Outlet {
+    pub label: i64,
+    pub cell: Cell,
+}
+
+/// The first place at which a list holds an outlet with the label of the one before it and another cell, none where
+/// there is no such place.
+///
+/// In a list that is sorted by label there is none exactly where no two outlets share a label
+/// (`laws::sorted_tells_shared`).
+pub fn first_shared(outlets: &[Outlet]) -> Option<usize>
+    ensures { IsFirstShared outlets.now result }
+{
+    for place in 1..outlets.len() {
+        let before = &outlets[place - 1];
+        let here = &outlets[place];
+        if before.label == here.label && before.cell != here.cell {
+            return Some(place);
+        }
+    }
+    None
+}
+
+/// Sorts a list by label, and outlets with one label by their cells in row order.
+pub fn sort_by_label(outlets: &mut [Outlet])
+    ensures sorted { IsSortedByLabel outlets.new }
+    ensures permutation { IsPermutation outlets.old outlets.new }
+{
+    outlets.sort_unstable();
+}
+
+/// The no-data numbers of con, dir, acc and bas. An audit looks at no other ones, so windows that differ in another one
+/// are still windows of one union.
+#[derive(Clone, Copy, PartialEq, Eq, Debug)]
+pub struct AuditNoData {
+    pub con: i64,
+    pub dir: i64,
+    pub acc: i64,
+    pub bas: i64,
+}
+
+impl Model for AuditNoData {
+    ghost use Rattle.std.specs.Prelude.{pos};
+    ghost use Rattle.drain_grid.specs.Values.{NoDataNumbers, AreNoDataInRange};
+
+    ghost Value = { NoDataNumbers };
+
+    ghost view = { λ n. record { con = n.con; dir = n.dir; acc = n.acc; bas = n.bas; spl = pos 0; rnk = pos 0 } };
+
+    ghost invariant = { λ n. AreNoDataInRange (record { con = n.con; dir = n.dir; acc = n.acc; bas = n.bas; spl = pos 0; rnk = pos 0 }) };
+
+    ghost inverse = { λ n. record { con = n.con; dir = n.dir; acc = n.acc; bas = n.bas } };
+}
+
+impl AuditNoData {
+    /// Those of an audit among the no-data numbers of all products.
+    pub fn of(nodata: NoData) -> AuditNoData
+        ensures { result ≡ audited nodata }
+    {
+        AuditNoData {
+            con: nodata.con,
+            dir: nodata.dir,
+            acc: nodata.acc,
+            bas: nodata.bas,
+        }
+    }
+}
 
 /// What a window shows at a cell of the union.
 #[derive(Clone, Copy, PartialEq, Eq, Debug)]
@@ -31,4 +104,15 @@ impl Model for Report {
     ghost Value = { Reports.Report };
 
     ghost view = { λ r. record { place = r.place; nodata = r.nodata; holds = r.holds; outlets = r.outlets.items; seams = r.seams.items; sinks = r.sinks.items } };
+}
+
+/// The report on a window with what a user and a merge need beside it: the side of the tiles, their names, and the
+/// verdict on the judged cells, with the size of the window and its counts, or with the first fault in the window's rows
+/// and columns.
+#[derive(Drop)]
+pub struct WindowReport {
+    pub side: u32,
+    pub tiles: Vec<TileName>,
+    pub verdict: Verdict,
+    pub report: Report,
 }

@@ -1,33 +1,91 @@
 -- What an audit finds, and what its verdict means.
-use Rattle.std.proofs.Common.{◌≡◌, ◌≤◌, ◌*◌, ◌↔◌, ◌∙◌, ℕ, ℤ, pos, IsNone, IsSome, Option, Some, None, MatchOption, Ok, Err, IfOk, is_some, arith, cond, refl, sym, ap, subst}
+use Rattle.std.proofs.Common.{◌≡◌, ℕ, List, Bool, IsTrue, Option, Some, None, Ok, Err, IfErr, OnOk, refl, subst, ◌≤◌, ◌*◌, ◌↔◌, ◌∙◌, ℤ, pos, IsNone, IsSome, MatchOption, IfOk, is_some, arith, cond, sym, ap}
+use Rattle.drain_device.specs.declared.counts.FaultCounts.{FaultCounts}
+use Rattle.drain_grid.specs.declared.set_product.SetProduct.{SetProduct}
+use Rattle.drain_grid.specs.declared.set_product.SetProduct.TheVariants.{Con, Dir, Acc, Bas, Rnk}
+use Rattle.drain_grid.specs.declared.per_product.PerProduct.{PerProduct}
+use Rattle.drain_grid.specs.PerProduct.{of_product}
+use Rattle.drain_grid.proofs.ByProduct.{by_set_product}
+use Rattle.drain_raster.specs.declared.raster_rows.RasterRows.{RasterRows}
+use Rattle.drain_verdict.specs.Inputs.{as_five, readers_as_five, Inputs}
+use Rattle.drain_verdict.specs.InputReads.{RasterHasRead, RastersHaveRead, gave_up, told_by}
+use Rattle.drain_verdict.specs.declared.audit_products.AuditProducts.{AuditProducts}
+use Rattle.drain_answer.specs.declared.refusal.Refusal.TheVariants.{OutOfMemory}
+use Rattle.drain_verdict.proofs.InputLemmas.{Answer, Stay, failed_at, some_failed}
 use Rattle.std.specs.Prelude.{Result}
 use Rattle.std.proofs.Math.Nat.{mul-le-mul_right}
 use Rattle.std.proofs.lemmas.Bool.{false≢true}
 use Rattle.drain_grid.specs.declared.cell.Cell.{Cell}
 use Rattle.drain_grid.specs.declared.rule.Rule.{Rule}
-use Rattle.drain_grid.specs.Certificate.{RanksAreSteps, IsFirstEndless, run_steps, with_ranks, with_rank_nodata}
+use Rattle.drain_grid.specs.Unranked.{RanksAreSteps, IsFirstEndless, run_steps, with_ranks, with_rank_nodata, unranked}
 use Rattle.drain_grid.specs.Correct.{IsCorrect, RunsAreSound}
 use Rattle.drain_grid.specs.Grid.{Grid, Products, IsInside}
 use Rattle.drain_grid.specs.GridRules.{HoldsAt}
 use Rattle.drain_grid.specs.Laws.{CorrectIsLocal, RanksPlayNoPart, SoundFromCorrect}
 use Rattle.drain_grid.specs.PatchRules.{check_rules}
-use Rattle.drain_grid.specs.Size.{Extent, IsExtent}
-use Rattle.drain_grid.specs.Unranked.{unranked}
+use Rattle.drain_grid.specs.Extent.{Extent, IsExtent}
 use Rattle.drain_grid.specs.Values.{NoDataNumbers}
 use Rattle.drain_grid.proofs.Walks.{run_steps-le}
 use Rattle.drain_grid.proofs.Alike.{run_steps-alike}
-use Rattle.drain_paths.specs.declared.steps.TheConstants.{UNKNOWN}
+use Rattle.drain_paths.specs.declared.walk.TheConstants.{UNKNOWN}
 use Rattle.drain_rules.specs.Verdicts.{IsVerdictOf}
 use Rattle.drain_grid.specs.declared.verdict.Verdict.{Verdict}
-use Rattle.drain_grid.specs.declared.verdict.Verdict.TheVariants as checked
-use Rattle.drain_rows.specs.Runs.{AllRunsEnd}
-use Rattle.drain_verdict.specs.Answers.{AreReadable}
-use Rattle.drain_verdict.specs.Audits.{AreCorrect, IfAccepts, IsAcceptance, IsAuditAnswer, IsAuditVerdict, IsOfBoth, IsAnswerWithoutRanks, IsPlainVerdict, certified_nodata, certified_ranks}
-use Rattle.drain_verdict.specs.Inputs.{Inputs}
+use Rattle.drain_rows.specs.GridRows.{AllRunsEnd}
+use Rattle.drain_verdict.specs.Answers.{AreReadable, AreCorrect, IfAccepts, IsAcceptance, IsAuditAnswer, IsAuditVerdict, IsOfBoth, IsAnswerWithoutRanks, IsPlainVerdict, certified_nodata, certified_ranks}
 use Rattle.drain_verdict.specs.Meaning.{input_grid, input_products, nodata_numbers}
-use Rattle.drain_answer.specs.declared.audit_verdict.AuditVerdict.{AuditVerdict}
-use Rattle.drain_answer.specs.declared.audit_verdict.AuditVerdict.TheVariants.{Accepted, Rejected, NoEnd}
+use Rattle.drain_answer.specs.declared.outcome.AuditVerdict.{AuditVerdict}
+use Rattle.drain_answer.specs.declared.outcome.AuditVerdict.TheVariants.{Accepted, Rejected, NoEnd}
 use Rattle.drain_answer.specs.declared.refusal.Refusal.{Refusal}
+use Rattle.drain_grid.specs.declared.verdict.Verdict.TheVariants as checked
+
+-- What was read of the devices of an audit's four products: con's device counts for the ranks too.
+
+-- if only memory ran out, no device failed for good
+pub no_device : (before after : Answer) → OnOk before (IfErr after (λ refusal. refusal ≡ OutOfMemory)) → ¬ IsTrue (gave_up (told_by before) (told_by after))
+no_device (Ok done) (Ok done_then) only up = let no = up in cc
+no_device (Ok done) (Err refusal) only up = let no : IsTrue (gave_up None (Some OutOfMemory)) = subst (λ r. IsTrue (gave_up None (Some r))) only up in cc
+no_device (Err refusal) after only up = let no = up in cc
+
+-- whether the product's device failed for good; that of con takes the place of the ranks
+abbrev failed_of_four : (con dir acc bas last : Answer) → SetProduct → Bool
+failed_of_four con dir acc bas last Rnk = failed_at con dir acc bas last Con
+failed_of_four con dir acc bas last p = failed_at con dir acc bas last p
+
+module _ {R : Type 0} (bl : R → Option (List ℕ)) (ct : R → FaultCounts) (old new : PerProduct RasterRows) where
+  -- one product's part
+  abbrev IsPart : R → R → RasterRows → RasterRows → Bool → Type 0
+  IsPart body body_then raster raster_then failed = RasterHasRead (bl body) (bl body_then) (ct body) (ct body_then) raster raster_then (IsTrue failed)
+
+  pub four_read : (lent : AuditProducts R) (con dir acc bas : R) (a b c d e : Answer) → Stay a b c d e → ¬ IsTrue (gave_up (told_by d) (told_by e)) →
+      IsPart lent.con.body con old.con new.con (failed_at a b c d e Con) → IsPart lent.dir.body dir old.dir new.dir (failed_at a b c d e Dir) →
+      IsPart lent.acc.body acc old.acc new.acc (failed_at a b c d e Acc) → IsPart lent.bas.body bas old.bas new.bas (failed_at a b c d e Bas) →
+      RastersHaveRead bl ct (readers_as_five old) (readers_as_five new) (as_five lent)
+      (as_five (record {
+        con = record { header = lent.con.header; body = con };
+        dir = record { header = lent.dir.header; body = dir };
+        acc = record { header = lent.acc.header; body = acc };
+        bas = record { header = lent.bas.header; body = bas };
+      })) (told_by e)
+  four_read lent con dir acc bas a b c d e stay none at_con at_dir at_acc at_bas =
+      let some = some_failed a b c d e stay in
+      let failed = failed_of_four a b c d e in
+      let then : AuditProducts R = record {
+        con = record { header = lent.con.header; body = con };
+        dir = record { header = lent.dir.header; body = dir };
+        acc = record { header = lent.acc.header; body = acc };
+        bas = record { header = lent.bas.header; body = bas };
+      } in
+      record {
+        failed = failed;
+        exactly = (
+          λ is. let found = some.0 is in
+              by_set_product (λ p. IsTrue (failed_at a b c d e p) → (q : SetProduct) × IsTrue (failed q)) (λ up. (Con, up)) (λ up. (Dir, up)) (λ up. (Acc, up)) (λ up. (Bas, up)) (λ up. absurd (none up)) found.0 found.1,
+          λ found. some.1 (by_set_product (λ p. IsTrue (failed p) → (q : SetProduct) × IsTrue (failed_at a b c d e q)) (λ up. (Con, up)) (λ up. (Dir, up)) (λ up. (Acc, up)) (λ up. (Bas, up)) (λ up. (Con, up)) found.0 found.1),
+        );
+        each = by_set_product (λ p. IsPart (of_product (as_five lent) p).body (of_product (as_five then) p).body (of_product (readers_as_five old) p) (of_product (readers_as_five new) p) (failed p))
+            at_con at_dir at_acc at_bas at_con;
+        headers = by_set_product (λ p. (of_product (as_five then) p).header ≡ (of_product (as_five lent) p).header) refl refl refl refl refl;
+      }
 
 -- the verdict of the rules that ask nothing of ranks, and the first run without an end
 pub both_are : (g : Grid) (ps : Products) (nodata : NoDataNumbers) (verdict : Verdict) (endless : Option Cell) (audit : AuditVerdict) →

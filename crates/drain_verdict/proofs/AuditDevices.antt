@@ -1,20 +1,44 @@
 -- The devices of an audit: con's, which is read for the ranks too, counts once.
-use Rattle.std.proofs.Common.{◌≡◌, ◌↔◌, ◌⊎◌, inl, inr, List, [], ◌∷◌, ◌++◌, length, map, Ok, Err, IsErrOf, refl, ap, sym, subst, arith}
-use Rattle.std.specs.List.{Any}
-use Rattle.std.proofs.lemmas.Bool.{cases_order}
+use Rattle.drain_verdict.specs.Inputs.{Products, audit_devices, as_five}
+use Rattle.std.proofs.Common.{◌↔◌, ◌⊎◌, ℕ, List, [], ◌∷◌, ◌++◌, map, Option, ◌≡◌, inl, inr, length, Ok, Err, IsErrOf, refl, ap, sym, subst, arith}
 use Rattle.std.proofs.lemmas.List.{map-append, length-map}
 use Rattle.drain_device.specs.declared.counts.FaultCounts.{FaultCounts}
-use Rattle.drain_device.specs.Counts.{Answered}
-use Rattle.drain_device.specs.FaultLists.{AnsweredEach, Faults, SomeReadFails}
-use Rattle.drain_device.specs.Patience.{full_patience}
-use Rattle.drain_device.proofs.FaultLists.{SomeReadFails-then, any-cases, any-either, any-first, any-later, any-left, any-none, any-right, gave_up}
 use Rattle.drain_hgt.specs.declared.input.TileInput.{TileInput}
-use Rattle.drain_hgt.specs.Inputs.{names_of, tile_devices}
-use Rattle.drain_verdict.specs.AuditInputs.{audit_devices, with_con_for_ranks}
-use Rattle.drain_verdict.specs.Devices.{devices_of}
+use Rattle.drain_hgt.specs.Inputs.{tile_devices, TilesTakeAtMost, names_of}
+use Rattle.drain_device.specs.FaultLists.{SomeReadFails, AnsweredEach, Faults}
+use Rattle.drain_verdict.specs.Uses.{product_devices, devices_of}
+use Rattle.drain_device.proofs.FaultLists.{SomeReadFails-then, SomeReadFails-none, takes-none, any-cases, any-either, any-first, any-later, any-left, any-none, any-right, gave_up}
+use Rattle.std.specs.List.{Any}
+use Rattle.std.proofs.lemmas.Bool.{cases_order}
+use Rattle.drain_device.specs.Counts.{Answered}
+use Rattle.drain_device.specs.Failing.{full_patience}
 use Rattle.drain_verdict.specs.declared.audit_products.AuditProducts.{AuditProducts}
 use Rattle.drain_answer.specs.declared.refusal.Refusal.{Refusal}
 use Rattle.drain_answer.specs.declared.refusal.Refusal.TheVariants.{ReadFailed}
+
+-- The devices of a check, and what is known of them if only a part was called.
+
+-- where no tile was called, nothing was taken
+pub tiles_take_none : {R : Type 0} (bytes_left : R → Option (List ℕ)) (side : ℕ) (tiles : List (TileInput R)) → TilesTakeAtMost bytes_left side tiles tiles
+tiles_take_none bytes_left side [] = tt
+tiles_take_none bytes_left side (t ∷ tiles) = (takes-none _ (bytes_left t.body), tiles_take_none bytes_left side tiles)
+
+-- the faults of the tiles' devices, and then of the products'
+pub devices_then : {R : Type 0} (counts : R → FaultCounts) (old_tiles new_tiles : List (TileInput R)) (old_products new_products : Products R) {F G H : Type 0} →
+    (F ⊎ G) ↔ H → SomeReadFails (map counts (tile_devices old_tiles)) (map counts (tile_devices new_tiles)) F →
+    SomeReadFails (map counts (product_devices old_products)) (map counts (product_devices new_products)) G →
+    SomeReadFails (map counts (devices_of old_tiles old_products)) (map counts (devices_of new_tiles new_products)) H
+devices_then counts old_tiles new_tiles old_products new_products {F} {G} {H} either tiles products =
+    let both : SomeReadFails (map counts (tile_devices old_tiles) ++ map counts (product_devices old_products)) (map counts (tile_devices new_tiles) ++ map counts (product_devices new_products)) H
+    = SomeReadFails-then either tiles products in
+    let old = map-append counts (tile_devices old_tiles) (product_devices old_products) in
+    let new = map-append counts (tile_devices new_tiles) (product_devices new_products) in
+    rw (old, new) both
+
+-- no device was called
+pub devices_none : {R : Type 0} (counts : R → FaultCounts) (tiles : List (TileInput R)) (products : Products R) {F : Type 0} → ¬ F →
+    SomeReadFails (map counts (devices_of tiles products)) (map counts (devices_of tiles products)) F
+devices_none counts tiles products not = SomeReadFails-none (map counts (devices_of tiles products)) not
 
 gave_up_or_not : (f : Faults) → gave_up f ⊎ ¬ gave_up f
 gave_up_or_not f = elim (cases_order 0 f.failures) [
@@ -119,7 +143,7 @@ none_alike a b = (λ is. absurd (let no = is in cc), λ is. absurd (let no = is 
 
 module _ {R : Type 0} (counts : R → FaultCounts) where
   pub devices_of_four : (tiles tiles_then : List (TileInput R)) (ps ps_then : AuditProducts R) {F : Type 0} → names_of tiles_then ≡ names_of tiles →
-      SomeReadFails (map counts (devices_of tiles (with_con_for_ranks ps))) (map counts (devices_of tiles_then (with_con_for_ranks ps_then))) F →
+      SomeReadFails (map counts (devices_of tiles (as_five ps))) (map counts (devices_of tiles_then (as_five ps_then))) F →
       SomeReadFails (map counts (audit_devices tiles ps)) (map counts (audit_devices tiles_then ps_then)) F
   devices_of_four tiles tiles_then ps ps_then {F} names fails =
       let xs = map counts (tile_devices tiles) in

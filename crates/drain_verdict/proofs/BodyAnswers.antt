@@ -12,7 +12,7 @@ use Rattle.drain_hgt.specs.Samples.{IsTile}
 use Rattle.drain_hgt.specs.Inputs.{IsFirstBadLength}
 use Rattle.drain_raster.specs.Pixels.{IsShort}
 use Rattle.drain_mosaic.specs.Tiling as tiling
-use Rattle.drain_mosaic.specs.LayoutFaults.{IsFirstRepeated}
+use Rattle.drain_mosaic.specs.GivenTiles.{IsFirstRepeated}
 use Rattle.drain_mosaic.specs.Mosaic.{TilesAgree, IsFirstSeam}
 use Rattle.drain_answer.specs.declared.refusal.Refusal.{Refusal}
 use Rattle.drain_answer.specs.declared.refusal.Refusal.TheVariants.{RepeatedTile, BadTileLength, RasterShort, SeamMismatch, OutOfMemory, ReadFailed}
@@ -22,7 +22,7 @@ use Rattle.drain_verdict.specs.Refusals.{HasBadLength, IsSeamFault, Stands, None
 use Rattle.drain_verdict.specs.Answers.{IsRefusal}
 use Rattle.drain_verdict.specs.Stages.{IsTileRefusal}
 use Rattle.drain_verdict.proofs.Order.{at_tile, at_raster, at_seam, none_more, first_of}
-use Rattle.drain_verdict.proofs.Places.{place_of_tile, earlier_by_index}
+use Rattle.drain_verdict.proofs.LayoutAnswers.{place_of_tile, earlier_by_index}
 
 -- a body in its place has the length that all have
 length_at : (side : ℕ) (bodies : List (List ℕ)) (k : ℕ) (body : List ℕ) → All (IsTile side) bodies → slice_get bodies k ≡ Some body → IsTile side body

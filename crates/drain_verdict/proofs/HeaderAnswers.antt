@@ -1,24 +1,35 @@
 -- What the stage of the headers says of the inputs: no refusal of its kind applies, or its refusal is the first.
-use Rattle.std.proofs.Common.{◌≡◌, ◌↔◌, Err, ℕ, ◌+◌, ◌*◌, ◌<◌, arith, refl, sym, subst, below_more}
+use Rattle.std.proofs.Common.{◌≡◌, ℕ, List, subst, ◌↔◌, Err, ◌+◌, ◌*◌, ◌<◌, arith, refl, sym, below_more}
 use Rattle.drain_grid.specs.declared.set_product.SetProduct.{SetProduct}
+use Rattle.drain_grid.specs.SetProduct.{product_of, rank_of}
+use Rattle.drain_mosaic.specs.Tiling.{Tiling}
+use Rattle.drain_verdict.specs.Stages.{IsFirstRefusalOf, IsHeaderFor, IsHeaderRefusal, IsFirstHeaderRefusal, AreHeadersFor}
+use Rattle.drain_answer.specs.declared.refusal.Refusal.{Refusal}
 use Rattle.drain_grid.specs.declared.set_product.SetProduct.TheVariants.{Con, Dir, Acc, Bas, Rnk}
 use Rattle.drain_grid.specs.declared.per_product.PerProduct.{PerProduct}
 use Rattle.drain_grid.specs.PerProduct.{of_product}
-use Rattle.drain_grid.specs.SetProduct.{product_of, rank_of}
 use Rattle.drain_grid.proofs.ByProduct.{of_held}
 use Rattle.drain_header.specs.declared.fault.HeaderFault.{HeaderFault}
-use Rattle.drain_header.specs.Fields.{Fields}
+use Rattle.drain_header.specs.Header.{Fields}
 use Rattle.drain_header.specs.Faults.{Answers, Describes}
 use Rattle.drain_raster.specs.Pixels.{header_extent}
-use Rattle.drain_mosaic.specs.Tiling as tiling
-use Rattle.drain_answer.specs.declared.refusal.Refusal.{Refusal}
 use Rattle.drain_answer.specs.declared.refusal.Refusal.TheVariants.{BadHeader, WrongShape, Misplaced}
 use Rattle.drain_verdict.specs.Inputs.{Inputs, Products}
 use Rattle.drain_verdict.specs.Meaning.{tiling_of, fields_of}
 use Rattle.drain_verdict.specs.Refusals.{Stands, NoneStandsBefore, HasShape, IsPlaced, refusal_order}
 use Rattle.drain_verdict.specs.Answers.{IsRefusal}
-use Rattle.drain_verdict.specs.Stages.{IsHeaderFor, IsHeaderRefusal, IsFirstHeaderRefusal, AreHeadersFor}
 use Rattle.drain_verdict.proofs.Order.{at_header, none_more, first_of}
+use Rattle.drain_mosaic.specs.Tiling as tiling
+
+-- Statements on the texts of headers.
+
+-- what is said of texts is said of the same texts by other names
+pub told_of_same : (t : Tiling) (text other : SetProduct → List ℕ) (e : Refusal) → IsFirstRefusalOf t text e → ((p : SetProduct) → text p ≡ other p) → IsFirstRefusalOf t other e
+told_of_same t text other e found same = record {
+  product = found.product;
+  refused = subst (λ x. IsHeaderRefusal t (product_of found.product) x e) (same found.product) found.refused;
+  before = λ q less. let right = found.before q less in (right.0, subst (λ x. IsHeaderFor t x right.0) (same q) right.1);
+}
 
 -- products of one rank are one product
 pub one_rank : (p q : SetProduct) → rank_of p ≡ rank_of q → p ≡ q

@@ -1,16 +1,135 @@
 -- Which product's device failed for good, if each is read only while nothing was refused before.
-use Rattle.std.proofs.Common.{◌≡◌, ℕ, List, ◌↔◌, ◌⊎◌, inl, inr, Bool, IsTrue, Option, Some, None, Result, Ok, Err, IfErr, IfOk, refl, ap, ◌∙◌, sym, subst}
+use Rattle.std.proofs.Common.{◌≡◌, ◌↔◌, ℕ, List, map, Option, Result, Ok, Err, IfErr, IsErrOf, refl, subst, [], ◌∷◌, Some, None, IsSome, sym, ◌⊎◌, inl, inr, Bool, IsTrue, IfOk, ap, ◌∙◌}
 use Rattle.drain_device.specs.declared.counts.FaultCounts.{FaultCounts}
-use Rattle.drain_grid.specs.declared.per_product.PerProduct.{PerProduct}
+use Rattle.drain_device.proofs.FaultLists.{SomeReadFails-iff, SomeReadFails-none, takes-none}
+use Rattle.drain_hgt.specs.declared.input.TileInput.{TileInput}
+use Rattle.drain_hgt.specs.Inputs.{TilesTakeAtMost, names_of}
 use Rattle.drain_grid.specs.PerProduct.{of_product}
+use Rattle.drain_verdict.specs.Inputs.{as_five, Products, AreNames}
+use Rattle.drain_verdict.specs.Uses.{devices_of, AuditUses, UsesInputs}
+use Rattle.drain_verdict.specs.Refusals.{IsOfBodies}
+use Rattle.drain_verdict.specs.declared.audit_products.AuditProducts.{AuditProducts}
+use Rattle.drain_answer.specs.declared.refusal.Refusal.{Refusal}
+use Rattle.drain_answer.specs.declared.refusal.Refusal.TheVariants.{ReadFailed}
+use Rattle.drain_verdict.proofs.AuditDevices.{devices_of_four, failed_alike, tiles_take_none}
+use Rattle.std.specs.List.{All, AllZip}
+use Rattle.std.proofs.lemmas.Bool.{false≢true}
+use Rattle.std.proofs.lemmas.List.Elements.{All-head, All-tail}
+use Rattle.drain_hgt.specs.Corner.{Corner}
+use Rattle.drain_hgt.specs.Name.{IsNameOf}
+use Rattle.drain_hgt.specs.Laws.{NamesGiveCorners}
+use Rattle.drain_verdict.specs.Laws.{InputsAreTold}
+use Rattle.drain_grid.specs.declared.per_product.PerProduct.{PerProduct}
 use Rattle.drain_grid.specs.declared.set_product.SetProduct.{SetProduct}
 use Rattle.drain_grid.proofs.ByProduct.{by_set_product}
 use Rattle.drain_grid.specs.declared.set_product.SetProduct.TheVariants.{Con, Dir, Acc, Bas, Rnk}
 use Rattle.drain_raster.specs.declared.raster_rows.RasterRows.{RasterRows}
 use Rattle.drain_verdict.specs.InputReads.{RasterHasRead, RastersHaveRead, gave_up, told_by}
-use Rattle.drain_verdict.specs.Inputs.{Products}
-use Rattle.drain_answer.specs.declared.refusal.Refusal.{Refusal}
-use Rattle.drain_answer.specs.declared.refusal.Refusal.TheVariants.{ReadFailed}
+
+-- How an answer uses its inputs: where none was called, and of four products of which one is read twice.
+
+-- an answer about bodies may change the inputs
+pub of_bodies_may : {T : Type 0} (Same : Type 0) (answer : Result T Refusal) → IfErr answer IsOfBodies → IfErr answer (λ refusal. ¬ IsOfBodies refusal → Same)
+of_bodies_may Same (Ok x) of_bodies = tt
+of_bodies_may Same (Err refusal) of_bodies = λ not. absurd (not of_bodies)
+
+same_in : {T : Type 0} (Same : Type 0) (answer : Result T Refusal) → Same → IfErr answer (λ refusal. ¬ IsOfBodies refusal → Same)
+same_in Same (Ok x) same = tt
+same_in Same (Err refusal) same = λ not. same
+
+-- if no device was called, all is as it was
+pub uses_none : {R P T : Type 0} (inputs_of : P → Products R) (devices : List (TileInput R) → P → List R) (bytes_left : R → Option (List ℕ)) (counts : R → FaultCounts) (side : ℕ)
+    (tiles : List (TileInput R)) (ps : P) (answer : Result T Refusal) → ¬ IsErrOf answer ReadFailed → UsesInputs inputs_of devices bytes_left counts side (tiles, ps) (tiles, ps) answer
+uses_none inputs_of devices bytes_left counts side tiles ps answer not = record {
+  tiles_within = tiles_take_none bytes_left side tiles;
+  rasters_within = λ p. takes-none _ (bytes_left (of_product (inputs_of ps) p).body);
+  faults = SomeReadFails-none (map counts (devices tiles ps)) not;
+  names = refl;
+  headers = λ p. refl;
+  untouched = same_in _ answer (refl, refl);
+}
+
+-- an answer of another type that says the same of reads and refusals uses them alike, and so with an equal side
+pub uses_alike : {R P A B : Type 0} (inputs_of : P → Products R) (devices : List (TileInput R) → P → List R) (bytes_left : R → Option (List ℕ)) (counts : R → FaultCounts) (side other_side : ℕ)
+    (old new : List (TileInput R) × P) (answer : Result A Refusal) (other : Result B Refusal) →
+    side ≡ other_side → IsErrOf answer ReadFailed ↔ IsErrOf other ReadFailed → IfErr other (λ refusal. ¬ IsOfBodies refusal → (new.0 ≡ old.0) × (new.1 ≡ old.1)) →
+    UsesInputs inputs_of devices bytes_left counts side old new answer → UsesInputs inputs_of devices bytes_left counts other_side old new other
+uses_alike inputs_of devices bytes_left counts side other_side old new answer other same alike untouched uses = record {
+  tiles_within = subst (λ s. TilesTakeAtMost bytes_left s old.0 new.0) same uses.tiles_within;
+  rasters_within = uses.rasters_within;
+  faults = SomeReadFails-iff alike uses.faults;
+  names = uses.names;
+  headers = uses.headers;
+  untouched = untouched;
+}
+
+-- four products of which one is read twice: that one counts once
+pub four_used : {R A B : Type 0} (bytes_left : R → Option (List ℕ)) (counts : R → FaultCounts) (side : ℕ) (old new : List (TileInput R) × AuditProducts R) (answer : Result A Refusal) (audit : Result B Refusal) →
+    IsErrOf answer ReadFailed ↔ IsErrOf audit ReadFailed → IfErr audit (λ refusal. ¬ IsOfBodies refusal → (new.0 ≡ old.0) × (new.1 ≡ old.1)) →
+    UsesInputs as_five (λ ts ps. devices_of ts (as_five ps)) bytes_left counts side old new answer → AuditUses bytes_left counts side old new audit
+four_used bytes_left counts side old new answer audit alike untouched uses = record {
+  tiles_within = uses.tiles_within;
+  rasters_within = uses.rasters_within;
+  faults = SomeReadFails-iff alike (devices_of_four counts old.0 new.0 old.1 new.1 uses.names uses.faults);
+  names = uses.names;
+  headers = uses.headers;
+  untouched = untouched;
+}
+
+-- the same of a refusal
+pub four_failed : {R A B : Type 0} (bytes_left : R → Option (List ℕ)) (counts : R → FaultCounts) (side : ℕ) (old new : List (TileInput R) × AuditProducts R) (refusal : Refusal) →
+    UsesInputs {T = A} as_five (λ ts ps. devices_of ts (as_five ps)) bytes_left counts side old new (Err refusal) → AuditUses {T = B} bytes_left counts side old new (Err refusal)
+four_failed bytes_left counts side old new refusal uses = four_used bytes_left counts side old new (Err refusal) (Err refusal) (failed_alike refusal) uses.untouched uses
+
+-- The inputs that a call encodes: each part is read off the arguments, and each name gives its corner.
+
+-- the known bytes, and none if they aren't known
+abbrev told : Option (List ℕ) → List ℕ
+told (Some bytes) = bytes
+told None = []
+
+told_is : (bytes : Option (List ℕ)) → IsSome bytes → bytes ≡ Some (told bytes)
+told_is (Some bytes) some = refl
+told_is None some = absurd (false≢true some)
+
+-- names that name tiles name those that the function gives
+corners_named : (corner_of : List ℕ → Corner) → ((bytes : List ℕ) (c : Corner) → IsNameOf bytes c → corner_of bytes ≡ c) →
+    (names : List (List ℕ)) → AreNames names → AllZip IsNameOf names (map corner_of names)
+corners_named corner_of gives [] all = tt
+corners_named corner_of gives (name ∷ names) all =
+    let P : List ℕ → Type 0 = λ bytes. (c : Corner) × IsNameOf bytes c in
+    let here : (c : Corner) × IsNameOf name c = All-head P name names all in
+    (subst (IsNameOf name) (sym (gives name here.0 here.1)) here.1, corners_named corner_of gives names (All-tail P name names all))
+
+-- each tile's body is its source's bytes
+bodies_told : {R : Type 0} (bytes_left : R → Option (List ℕ)) (tiles : List (TileInput R)) → All (λ tile. IsSome (bytes_left tile.body)) tiles →
+    AllZip (λ t body. bytes_left t.body ≡ Some body) tiles (map (λ t. told (bytes_left t.body)) tiles)
+bodies_told bytes_left [] all = tt
+bodies_told {R} bytes_left (tile ∷ tiles) all =
+    let P : TileInput R → Type 0 = λ t. IsSome (bytes_left t.body) in
+    (told_is (bytes_left tile.body) (All-head P tile tiles all), bodies_told bytes_left tiles (All-tail P tile tiles all))
+
+pub inputs_are_told : NamesGiveCorners → {R : Type 0} (bytes_left : R → Option (List ℕ)) → InputsAreTold bytes_left
+inputs_are_told corner bytes_left side tiles sinks ps tiles_tell products_tell = (
+  record {
+    side = side;
+    names = names_of tiles;
+    corners = map corner.0 (names_of tiles);
+    tiles = map (λ t. told (bytes_left t.body)) tiles;
+    sinks = sinks;
+    header = λ p. (of_product ps p).header;
+    raster = λ p. told (bytes_left (of_product ps p).body);
+  },
+  record {
+    side_is = refl;
+    names_are = refl;
+    corners_are = corners_named corner.0 corner.1 (names_of tiles);
+    tiles_are = bodies_told bytes_left tiles tiles_tell;
+    sinks_are = refl;
+    headers_are = λ p. refl;
+    rasters_are = λ p. told_is (bytes_left (of_product ps p).body) (products_tell p);
+  },
+)
 
 abbrev pub Answer : Type 0
 Answer = Result (Unit {0}) Refusal

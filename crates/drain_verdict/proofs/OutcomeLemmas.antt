@@ -16,24 +16,22 @@ use Rattle.drain_grid.specs.Values.{NoDataNumbers}
 use Rattle.drain_grid.specs.declared.judged.Judged.{Judged}
 use Rattle.drain_grid.specs.declared.judged.Judged.TheVariants.{Con, ConDir, ConDirAcc, ConDirBas, All, AllWithRanks}
 use Rattle.drain_grid.specs.Judged.{has_dir, has_rnk}
-use Rattle.drain_laws.specs.PartLaws.{PartIsLocal, SurfaceIsPart}
-use Rattle.drain_laws.specs.PartOf.{AreRight, IsPartOfCorrect, IsRightSurface}
+use Rattle.drain_laws.specs.PartOf.{PartIsLocal, SurfaceIsPart, AreRight, IsPartOfCorrect, IsRightSurface}
 use Rattle.drain_grid.specs.RulesAbout.{IsPartRule, IsTried, part_rules, tried}
 use Rattle.drain_grid.specs.Laws.{CorrectIsLocal}
-use Rattle.drain_rows.specs.Runs.{AllRunsEnd}
+use Rattle.drain_rows.specs.GridRows.{AllRunsEnd}
 use Rattle.drain_grid.specs.declared.verdict.Counts.{Counts}
 use Rattle.drain_grid.specs.declared.verdict.Verdict.{Verdict}
 use Rattle.drain_grid.specs.declared.verdict.Verdict.TheVariants as checked
 use Rattle.drain_verdict.specs.Answers.{AreReadable}
 use Rattle.drain_verdict.specs.Inputs.{Inputs}
 use Rattle.drain_verdict.specs.Meaning.{lines_in, listed_in}
-use Rattle.drain_verdict.specs.OutcomesOf.{IsOfSurface, IsOfWays, IsOutcomeOf}
+use Rattle.drain_verdict.specs.Outcomes.{IsOfSurface, IsOfWays, IsOutcomeOf, IsConOutcome, IsOutcome, IsOutcomeAnswer, IsRankOutcome, IsWayOutcome, rules_of}
 use Rattle.drain_laws.proofs.SurfacePart.{at_ground, not_raised}
 use Rattle.drain_verdict.specs.Deciding.{AreFlowsFor, AreFlowsLeft, IsDecided, IsEndlessCell}
-use Rattle.drain_grid.specs.Size.{Extent}
+use Rattle.drain_grid.specs.Extent.{Extent}
 use Rattle.drain_paths.specs.declared.flow.Flow.{Flow}
 use Rattle.drain_answer.specs.Outcomes.{IsAcceptedOutcome}
-use Rattle.drain_verdict.specs.Outcomes.{IsConOutcome, IsOutcome, IsOutcomeAnswer, IsRankOutcome, IsWayOutcome, rules_of}
 use Rattle.drain_rules.specs.Verdicts.{IsVerdictBy}
 use Rattle.drain_answer.specs.declared.outcome.Outcome.{Outcome}
 use Rattle.drain_answer.specs.declared.outcome.Outcome.TheVariants.{Accepted, AcceptedSurface, Rejected, NoEnd, NotFilled}

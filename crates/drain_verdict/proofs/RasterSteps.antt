@@ -1,8 +1,7 @@
 -- One more call of a raster's rows, after a given number.
 use Rattle.std.proofs.Common.{◌≡◌, ◌↔◌, ℕ, zero, suc, ◌+◌, ℤ, List, [], Option, Some, None, Ok, Err, refl, sym, ap, subst, ◌∙◌, arith}
-use Rattle.drain_device.specs.ComingRows.{Coming, after_rows, nth_row}
-use Rattle.drain_device.specs.ComingRows.Coming.{Next, End, Wrong}
-use Rattle.drain_device.specs.RowSteps.{Gives, IsEmptyUnlessRow, Steps, coming_at, progress_after}
+use Rattle.drain_device.specs.RowSteps.{Coming, after_rows, nth_row, Gives, IsEmptyUnlessRow, Steps, coming_at, progress_after}
+use Rattle.drain_device.specs.RowSteps.Coming.{Next, End, Wrong}
 use Rattle.drain_device.specs.declared.row_source.RowStep.{RowStep}
 use Rattle.drain_device.specs.declared.row_source.RowStep.TheVariants.{Row, Ended}
 use Rattle.drain_device.specs.declared.row_source.ReadFault.{ReadFault}

@@ -1,47 +1,104 @@
 -- The answer to the bytes of a check, once all rows are read: the first refusal that applies, or the verdict.
-use Rattle.std.proofs.Common.{◌≡◌, ◌<◌, ℕ, pos, List, [], length, Option, Some, None, MatchOption, Err, arith, refl, sym, ap, subst, ◌∙◌}
-use Rattle.std.specs.Prelude.{slice_index_or, unwrap_or}
-use Rattle.std.specs.List.{All}
-use Rattle.drain_device.specs.ComingRows.{nth_row}
+use Rattle.std.proofs.Common.{◌≡◌, ◌↔◌, ◌+◌, ℕ, List, length, Option, Some, None, refl, sym, ap, subst, ◌∙◌, ◌<◌, pos, [], MatchOption, Err, arith}
+use Rattle.drain_device.specs.RowSteps.{Coming, after_rows, coming_at, nth_row}
+use Rattle.drain_device.specs.RowSteps.Coming.{End, Wrong}
+use Rattle.drain_device.specs.declared.row_source.Progress.{Progress}
+use Rattle.drain_device.specs.declared.row_source.Progress.TheVariants.{Stopped}
 use Rattle.drain_grid.specs.declared.cell.Cell.{Cell}
 use Rattle.drain_grid.specs.declared.per_product.PerProduct.{PerProduct}
 use Rattle.drain_grid.specs.declared.set_product.SetProduct.{SetProduct}
-use Rattle.drain_grid.specs.declared.set_product.SetProduct.TheVariants.{Con, Dir, Acc, Bas, Rnk}
 use Rattle.drain_grid.specs.PerProduct.{of_product}
+use Rattle.drain_grid.specs.Extent.{Extent}
+use Rattle.drain_header.specs.Header.{AreWithinBounds, Fields}
+use Rattle.drain_hgt.specs.declared.input.TileInput.{TileInput}
+use Rattle.drain_mosaic.specs.GivenTiles.{frame_of, mosaic_coming, tile_streams, given_tiles, IsLayout}
+use Rattle.drain_mosaic.specs.PlacedRows.{first_stopped}
+use Rattle.drain_mosaic.specs.Laws.{RowsEnd}
+use Rattle.drain_mosaic.specs.Streams.{seam_from, wrong_from}
+use Rattle.drain_mosaic.specs.Tiling.{Tiling, extent_of}
+use Rattle.drain_raster.specs.Laws.{RasterRowsEnd}
+use Rattle.drain_raster.specs.Pixels.{IsShort}
+use Rattle.drain_raster.specs.RasterRows.{raster_rows}
+use Rattle.drain_raster.specs.declared.raster_rows.RasterRows.{RasterRows}
+use Rattle.drain_verdict.specs.InputRows.{HasStopped, IsFirstOf, IsToldRefusal}
+use Rattle.drain_verdict.specs.Inputs.{Inputs, Products}
+use Rattle.drain_verdict.specs.ToGive.{IsAfter, IsAfterTold, ToGive, given}
+use Rattle.drain_verdict.specs.declared.input_rows.InputRows.{InputRows}
+use Rattle.drain_verdict.specs.Laws.{RowLaws}
+use Rattle.drain_verdict.proofs.RasterSteps.{end_taken}
+use Rattle.drain_verdict.proofs.RowStart.{to_give, is_row_given, row_given}
+use Rattle.std.specs.Prelude.{slice_index_or, unwrap_or}
+use Rattle.std.specs.List.{All}
+use Rattle.drain_grid.specs.declared.set_product.SetProduct.TheVariants.{Con, Dir, Acc, Bas, Rnk}
 use Rattle.drain_grid.specs.declared.product.Product.TheVariants.{Spl}
 use Rattle.drain_grid.specs.Grid.{set_number_in}
 use Rattle.drain_grid.specs.SetProduct.{OfSetProduct, product_of}
 use Rattle.drain_grid.specs.Product.{default_no_data}
-use Rattle.drain_grid.specs.Size.{Extent}
-use Rattle.drain_header.specs.Fields.{Fields}
 use Rattle.drain_hgt.specs.Inputs.{IsFirstBadLength}
 use Rattle.drain_hgt.specs.Samples.{IsTile}
-use Rattle.drain_mosaic.specs.GivenTiles.{given_tiles}
-use Rattle.drain_mosaic.specs.Joined.{first_value}
-use Rattle.drain_mosaic.specs.Mosaic as mosaic
-use Rattle.drain_mosaic.specs.Tiling.{Tiling, extent_of}
-use Rattle.drain_raster.specs.Pixels as pixels
-use Rattle.drain_raster.specs.Pixels.{IsShort}
-use Rattle.drain_rules.specs.RowNumbers.{AreNumbersOf, blank}
-use Rattle.drain_rules.specs.Rows.{place}
+use Rattle.drain_mosaic.specs.Mosaic.{first_value}
+use Rattle.drain_rules.specs.Rows.{AreNumbersOf, blank, place}
 use Rattle.drain_grid.specs.declared.sink_line.SinkLine.{SinkLine}
-use Rattle.drain_grid.specs.SinkLines.{is_listed}
+use Rattle.drain_grid.specs.SinkTexts.{is_listed}
 use Rattle.drain_verdict.specs.Answers.{IsAnswer}
 use Rattle.drain_rows.specs.GridRows.{AreRowsOf}
 use Rattle.drain_rows.specs.RowBuffers.{IsEven}
-use Rattle.drain_verdict.specs.InputRows.{IsFirstOf, IsToldRefusal}
-use Rattle.drain_verdict.specs.Inputs.{Inputs}
 use Rattle.drain_verdict.specs.Meaning.{fields_of, input_grid, listed_in, nodata_in, nodata_numbers, input_nodata, input_products, input_tiles, tiling_of}
 use Rattle.drain_verdict.specs.Refusals.{NoneStandsBefore}
-use Rattle.drain_verdict.specs.ToGive.{ToGive, given}
-use Rattle.drain_verdict.specs.RowLaws.{RowLaws}
 use Rattle.drain_answer.specs.declared.refusal.Refusal.{Refusal}
 use Rattle.drain_answer.specs.declared.refusal.Refusal.TheVariants.{BadTileLength, RasterShort, SeamMismatch}
 use Rattle.drain_verdict.proofs.BodyAnswers.{raster_refused, rasters_none, seam_refused, seams_none, tile_refused, tiles_none}
 use Rattle.drain_grid.proofs.ByProduct.{by_set_product, by_set_product_or_spill, of_held}
-use Rattle.drain_verdict.proofs.RowEnd.{AreAtEnd}
 use Rattle.drain_verdict.proofs.RowGiven.{same_numbers}
-use Rattle.drain_verdict.proofs.RowStart.{is_row_given, row_given, to_give}
+use Rattle.drain_raster.specs.Pixels as pixels
+use Rattle.drain_mosaic.specs.Mosaic as mosaic
+
+-- What a check's rows say of the bytes, once all were read.
+
+-- what the readers hold once all rows were read: the first tile of wrong length, the short products, the first seam
+pub record AreAtEnd (t : Tiling) (hs : PerProduct Fields) (i : Inputs) (wrong : Option ℕ) (Short : SetProduct → Type 0) (seam : Option Cell) : Type 0 where
+  pub layout : IsLayout t
+  pub counted : length i.tiles ≡ length t.corners
+  pub bounds : (p : SetProduct) → AreWithinBounds (of_product hs p)
+  pub shapes : (p : SetProduct) → pixels.header_extent (of_product hs p) ≡ extent_of t
+  pub wrong_is : wrong ≡ wrong_from 0 (tile_streams t t.corners i.tiles)
+  pub short_is : (p : SetProduct) → Short p ↔ IsShort (of_product hs p) (i.raster p)
+  pub seam_is : seam ≡ seam_from (frame_of t) (extent_of t).rows 0 (tile_streams t t.corners i.tiles)
+
+-- a product's rows have stopped exactly where its body is short
+stopped_is_short : RasterRowsEnd → (h : Fields) (body : List ℕ) (raster : RasterRows) (known : Option (List ℕ)) (rows : ℕ) → AreWithinBounds h → h.rows ≡ rows →
+    IsAfterTold raster known (raster_rows h h.rows h.skip body) (rows + 1) → (raster.progress ≡ Stopped) ↔ IsShort h body
+stopped_is_short law h body raster None rows ok same after = absurd after
+stopped_is_short law h body raster (Some bytes) rows ok same after =
+    let told = after.stopped rows refl in
+    let short = (law h body ok).short in (
+      λ stopped. short.0 (subst (λ n. after_rows n (raster_rows h h.rows h.skip body) ≡ Wrong) (sym same) (told.0 stopped)),
+      λ is. told.1 (subst (λ n. after_rows n (raster_rows h h.rows h.skip body) ≡ Wrong) same (short.1 is)),
+    )
+
+-- a mosaic that has reached its end has not been stopped
+not_stopped : (progress : Progress) (rest : Coming) → coming_at progress rest ≡ End → (progress ≡ Stopped → ⊥)
+not_stopped progress rest ended stopped =
+    let wrong : Wrong ≡ coming_at progress rest = ap (λ (p : Progress). coming_at p rest) (sym stopped) in
+    (let no : Wrong ≡ End = wrong ∙ ended in cc)
+
+module _ {R : Type 0} (bl : R → Option (List ℕ)) (t : Tiling) (hs : PerProduct Fields) (i : Inputs) (rows : InputRows) (tiles : List (TileInput R)) (ps : Products R) (after : IsAfter bl rows tiles ps (to_give t hs i.tiles i.raster) ((extent_of t).rows + 1)) where
+  pub mosaic_goes : RowsEnd → (rows.mosaic.progress ≡ Stopped → ⊥)
+  mosaic_goes law = not_stopped rows.mosaic.progress _ (after.mosaic.coming_is ∙ sym (end_taken (extent_of t).rows (mosaic_coming t i.tiles) (law t i.tiles)).left_is)
+
+  pub at_end : RowLaws → IsLayout t → length i.tiles ≡ length t.corners → ((p : SetProduct) → AreWithinBounds (of_product hs p)) → ((p : SetProduct) → pixels.header_extent (of_product hs p) ≡ extent_of t) →
+      AreAtEnd t hs i (first_stopped 0 rows.mosaic.tiles.items) (HasStopped rows) rows.mosaic.seam
+  at_end laws layout counted bounds shapes =
+      let told = after.mosaic.at_end (extent_of t).rows refl (laws.rows_end t i.tiles) in
+      record {
+        layout = layout;
+        counted = counted;
+        bounds = bounds;
+        shapes = shapes;
+        wrong_is = sym told.wrong_is ∙ after.mosaic.wrong_is;
+        short_is = λ p. stopped_is_short laws.raster_end (of_product hs p) (i.raster p) (of_product rows.rasters p) (bl (of_product ps p).body) (extent_of t).rows (bounds p) (ap (λ (e : Extent). e.rows) (shapes p)) (after.product p);
+        seam_is = sym told.seam_is ∙ after.mosaic.seam_is;
+      }
 
 -- what was found where it is none, and where it is one
 at_none : {A : Type 0} (o : Option A) (N : Type 0) (P : A → Type 0) → o ≡ None → MatchOption o N P → N

@@ -11,40 +11,37 @@ use Rattle.drain_grid.specs.Grid.{Grid}
 use Rattle.drain_grid.specs.Grid as grid
 use Rattle.drain_grid.specs.OffData.{FoundOffDataIsRight}
 use Rattle.drain_grid.specs.SinkTexts.{sinks_of}
-use Rattle.drain_grid.specs.Size.{Extent}
+use Rattle.drain_grid.specs.Extent.{Extent}
 use Rattle.drain_grid.specs.Values.{NoDataNumbers}
-use Rattle.drain_header.specs.Fields.{Fields}
+use Rattle.drain_header.specs.Header.{Fields}
 use Rattle.drain_hgt.specs.Inputs.{AreBodies}
 use Rattle.drain_hgt.specs.declared.input.TileInput.{TileInput}
-use Rattle.drain_mosaic.specs.LayoutFaults.{IsLayout}
+use Rattle.drain_mosaic.specs.GivenTiles.{IsLayout}
 use Rattle.drain_mosaic.specs.PlacedRows.{first_stopped}
-use Rattle.drain_mosaic.specs.RowLaws.{NewRowsAreOfBodies}
+use Rattle.drain_mosaic.specs.Laws.{NewRowsAreOfBodies}
 use Rattle.drain_mosaic.specs.Tiling.{Tiling, extent_of}
 use Rattle.drain_raster.specs.Pixels as pixels
 use Rattle.drain_grid.specs.declared.judged.Rules.{Rules}
 use Rattle.drain_verdict.specs.Answers.{AreNotesOf, AreReadable, IsAnswer, IsRefusal, rules_at}
-use Rattle.drain_rows.specs.declared.walk_stop.WalkStop.{WalkStop}
-use Rattle.drain_rows.specs.declared.walk_stop.WalkStop.TheVariants.{Source}
-use Rattle.drain_rows.specs.declared.walk_stop.WalkStop.TheVariants as walk_stop
-use Rattle.drain_rows.specs.GridRows.{IsRowsStop, OfGrid, ReadsOn}
+use Rattle.drain_rows.specs.declared.row_visitor.WalkStop.{WalkStop}
+use Rattle.drain_rows.specs.declared.row_visitor.WalkStop.TheVariants.{Source}
+use Rattle.drain_rows.specs.declared.row_visitor.WalkStop.TheVariants as walk_stop
+use Rattle.drain_rows.specs.GridRows.{IsRowsStop, OfGrid, ReadsOn, AreListedVoids}
 use Rattle.drain_verdict.specs.InputReads.{HaveBeenRead, Reading, products_lent, readers, tiles_lent}
 use Rattle.drain_verdict.specs.InputRows.{AreBegun, HasStopped, IsToldRefusal}
 use Rattle.drain_verdict.specs.Inputs.{Inputs, Products}
-use Rattle.drain_rows.specs.ListedVoids.{AreListedVoids}
-use Rattle.drain_verdict.specs.SinkListings.{IsBadLine, IsToldOfSinks}
-use Rattle.drain_verdict.specs.declared.sink_listing.SinkListing.{SinkListing}
+use Rattle.drain_verdict.specs.Stages.{IsBadLine, IsToldOfSinks, AreRasterBodies}
+use Rattle.drain_verdict.specs.declared.stages.SinkListing.{SinkListing}
 use Rattle.drain_verdict.specs.Meaning.{fields_of, input_grid, listed_in, nodata_in, input_products, tiling_of}
 use Rattle.drain_verdict.specs.Refusals.{IsOfBodies, NoneStandsBefore, refusal_of}
-use Rattle.drain_verdict.specs.Stages.{AreRasterBodies}
 use Rattle.drain_verdict.specs.ToGive.{AreGiven, HaveCome, IsAfter}
 use Rattle.drain_verdict.specs.declared.input_rows.InputRows.{InputRows}
-use Rattle.drain_verdict.specs.RowLaws.{RowLaws}
+use Rattle.drain_verdict.specs.Laws.{RowLaws}
 use Rattle.drain_answer.specs.declared.refusal.Refusal.{Refusal}
 use Rattle.drain_answer.specs.declared.refusal.Refusal.TheVariants.{OutOfMemory, ReadFailed}
-use Rattle.drain_verdict.proofs.RowAnswers.{nodata_are, rows_of_bytes, told_none, told_refusal}
+use Rattle.drain_verdict.proofs.RowAnswers.{nodata_are, rows_of_bytes, told_none, told_refusal, AreAtEnd, at_end, mosaic_goes}
 use Rattle.drain_verdict.proofs.SinkAnswers.{sinks_none, sinks_refused}
 use Rattle.drain_verdict.proofs.RowDevices.{come_none}
-use Rattle.drain_verdict.proofs.RowEnd.{AreAtEnd, at_end, mosaic_goes}
 use Rattle.drain_verdict.proofs.RowStart.{after_none, row_given, start_given, to_give}
 
 -- new readers gave all rows, and then reported this

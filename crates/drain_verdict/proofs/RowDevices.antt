@@ -2,9 +2,7 @@
 use Rattle.std.proofs.Common.{◌≡◌, ◌↔◌, ◌+◌, ℕ, inl, inr, IsTrue, false, List, [], ◌∷◌, length, map, Option, Some, None, arith, refl, sym, ap, subst, ◌∙◌}
 use Rattle.std.specs.List.{Any}
 use Rattle.drain_device.specs.FaultLists.{SomeReadFails}
-use Rattle.drain_device.specs.Failing.{ReadFails}
-use Rattle.drain_device.specs.PartFailing.{PartFails}
-use Rattle.drain_device.specs.Patience.{GivesUp, full_patience}
+use Rattle.drain_device.specs.Failing.{ReadFails, PartFails, GivesUp, full_patience}
 use Rattle.drain_device.specs.Reads.{TakesAtMost}
 use Rattle.drain_device.specs.RowSteps.{most_at}
 use Rattle.drain_device.specs.declared.counts.FaultCounts.{FaultCounts}
@@ -14,7 +12,7 @@ use Rattle.drain_grid.specs.declared.set_product.SetProduct.{SetProduct}
 use Rattle.drain_grid.specs.declared.set_product.SetProduct.TheVariants.{Con, Dir, Acc, Bas, Rnk}
 use Rattle.drain_grid.specs.PerProduct.{of_product}
 use Rattle.drain_grid.specs.SetProduct.{products}
-use Rattle.drain_header.specs.Fields.{AreWithinBounds, Fields}
+use Rattle.drain_header.specs.Header.{AreWithinBounds, Fields}
 use Rattle.drain_hgt.specs.Inputs.{TilesTakeAtMost}
 use Rattle.drain_hgt.specs.declared.input.TileInput.{TileInput}
 use Rattle.drain_mosaic.specs.Tiling.{Tiling}
@@ -24,7 +22,7 @@ use Rattle.drain_raster.specs.Laws.{RasterRowsTakeWhatIsNeeded}
 use Rattle.drain_raster.specs.Pixels.{needed_len}
 use Rattle.drain_raster.specs.RasterRows.{bytes_of_rows, raster_most_bytes}
 use Rattle.drain_raster.specs.declared.raster_rows.RasterRows.{RasterRows}
-use Rattle.drain_verdict.specs.Devices.{BodyTakesAtMost, devices_of, product_devices}
+use Rattle.drain_verdict.specs.Uses.{BodyTakesAtMost, devices_of, product_devices}
 use Rattle.drain_verdict.specs.InputReads.{InputsHaveRead, RasterHasRead}
 use Rattle.drain_verdict.specs.InputRows.{AreBegun, IsRasterBegun}
 use Rattle.drain_verdict.specs.Inputs.{Products}
@@ -32,7 +30,7 @@ use Rattle.drain_verdict.specs.ToGive.{HaveCome, IsAfter}
 use Rattle.drain_verdict.specs.declared.input_rows.InputRows.{InputRows}
 use Rattle.drain_answer.specs.declared.refusal.Refusal.{Refusal}
 use Rattle.drain_answer.specs.declared.refusal.Refusal.TheVariants.{ReadFailed}
-use Rattle.drain_verdict.proofs.Devices.{devices_then}
+use Rattle.drain_verdict.proofs.AuditDevices.{devices_then}
 use Rattle.drain_verdict.proofs.RowReads.{raster_none}
 
 -- no call was made

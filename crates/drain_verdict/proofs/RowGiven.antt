@@ -2,15 +2,15 @@
 use Rattle.std.proofs.Common.{◌≡◌, ◌⊎◌, ◌≤◌, ◌+◌, ℕ, ℤ, inl, inr, List, length, Option, Some, None, refl, sym, subst, ◌∙◌, arith}
 use Rattle.std.specs.List.{All}
 use Rattle.drain_device.specs.declared.counts.FaultCounts.{FaultCounts}
-use Rattle.drain_device.specs.ComingRows.{Coming}
+use Rattle.drain_device.specs.RowSteps.{Coming}
 use Rattle.drain_grid.specs.declared.cell.TheConstants.{MAX_LENGTH}
 use Rattle.drain_grid.specs.declared.set_product.SetProduct.{SetProduct}
 use Rattle.drain_grid.specs.declared.set_product.SetProduct.TheVariants.{Con, Dir, Acc, Bas, Rnk}
 use Rattle.drain_grid.specs.PerProduct.{of_product}
-use Rattle.drain_grid.specs.Tile.{IsSample}
+use Rattle.drain_grid.specs.Grid.{IsSample}
 use Rattle.drain_grid.specs.Values.{IsPixel}
 use Rattle.drain_hgt.specs.declared.input.TileInput.{TileInput}
-use Rattle.drain_rules.specs.RowNumbers.{AreRowNumbers, RowNumbers, blank}
+use Rattle.drain_rules.specs.Rows.{AreRowNumbers, RowNumbers, blank}
 use Rattle.drain_rows.specs.GridRows.{IsNext}
 use Rattle.drain_rows.specs.RowBuffers.{IsEven}
 use Rattle.drain_verdict.specs.InputReads.{InputsHaveRead, Reading}

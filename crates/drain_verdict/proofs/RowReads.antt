@@ -2,7 +2,7 @@
 use Rattle.std.proofs.Common.{◌≡◌, ◌↔◌, ◌⊎◌, ℕ, false, inl, inr, IsTrue, List, [], length, Option, Some, None, refl, ap, subst, sym, ◌∙◌, arith, length-append, ◌++◌}
 use Rattle.std.proofs.KnownBytes.{Consumes-nil, Consumes-trans}
 use Rattle.drain_device.specs.declared.counts.FaultCounts.{FaultCounts}
-use Rattle.drain_device.proofs.PartFaultLemmas.{PartFails-none, PartFails-then}
+use Rattle.drain_device.proofs.FaultLists.{PartFails-none, PartFails-then}
 use Rattle.drain_grid.specs.declared.per_product.PerProduct.{PerProduct}
 use Rattle.drain_grid.specs.PerProduct.{of_product}
 use Rattle.drain_hgt.specs.declared.input.TileInput.{TileInput}

@@ -6,19 +6,17 @@ use Rattle.std.proofs.lemmas.List.Folds.{list_any_at}
 use Rattle.std.proofs.lemmas.Option.{get_or_from_slice_get, slice_get_within}
 use Rattle.drain_grid.specs.declared.cell.Cell.{Cell}
 use Rattle.drain_grid.specs.declared.sink_line.SinkLine.{SinkLine}
-use Rattle.drain_grid.specs.Extent.{IsCellOf, same_cell}
+use Rattle.drain_grid.specs.Extent.{IsCellOf, same_cell, Extent}
 use Rattle.drain_grid.specs.Grid.{HasData}
 use Rattle.drain_grid.specs.OffData.{FoundOffDataIsRight, IsFirstOffData, IsLeastLine, IsLeastOff, IsOffAnswer}
-use Rattle.drain_grid.specs.SinkLines.{is_listed}
-use Rattle.drain_grid.specs.SinkTexts.{sinks_of}
-use Rattle.drain_grid.specs.Size.{Extent}
+use Rattle.drain_grid.specs.SinkTexts.{is_listed, sinks_of}
 use Rattle.drain_verdict.specs.Answers.{AreReadable, IsRefusal}
 use Rattle.drain_verdict.specs.Inputs.{Inputs}
-use Rattle.drain_rows.specs.ListedVoids.{AreListedVoids, has_data_but}
+use Rattle.drain_rows.specs.GridRows.{AreListedVoids, has_data_but}
 use Rattle.drain_verdict.specs.Meaning.{input_grid, listed_in}
 use Rattle.drain_verdict.specs.Refusals.{NoneStandsBefore, Stands, refusal_order}
-use Rattle.drain_verdict.specs.SinkListings.{IsBadLine, IsToldOfSinks}
-use Rattle.drain_verdict.specs.declared.sink_listing.SinkListing.{SinkListing}
+use Rattle.drain_verdict.specs.Stages.{IsBadLine, IsToldOfSinks}
+use Rattle.drain_verdict.specs.declared.stages.SinkListing.{SinkListing}
 use Rattle.drain_answer.specs.declared.refusal.Refusal.{Refusal}
 use Rattle.drain_answer.specs.declared.refusal.Refusal.TheVariants.{BadSinkLine, SinkNotData}
 use Rattle.drain_verdict.proofs.Order.{at_bad_line, at_off_data, first_of, none_more, readable}

@@ -4,7 +4,7 @@ use Rattle.std.specs.Prelude.{Option}
 use Rattle.std.specs.List.{AllZip}
 use Rattle.std.proofs.lemmas.List.{length-map}
 use Rattle.std.proofs.lemmas.Slice.Zip.{AllZip-long}
-use Rattle.drain_grid.specs.Size.{Extent}
+use Rattle.drain_grid.specs.Extent.{Extent}
 use Rattle.drain_grid.specs.declared.set_product.SetProduct.{SetProduct}
 use Rattle.drain_grid.specs.declared.per_product.PerProduct.{PerProduct}
 use Rattle.drain_grid.specs.SetProduct.{product_of}
@@ -14,15 +14,15 @@ use Rattle.drain_hgt.specs.Corner.{Corner}
 use Rattle.drain_hgt.specs.Name.{IsNameOf}
 use Rattle.drain_hgt.specs.Laws.{OneName}
 use Rattle.drain_hgt.specs.Inputs.{names_of}
-use Rattle.drain_header.specs.Fields.{Fields}
+use Rattle.drain_header.specs.Header.{Fields}
 use Rattle.drain_mosaic.specs.Tiling.{Tiling, extent_of}
 use Rattle.drain_answer.specs.declared.refusal.Refusal.{Refusal}
 use Rattle.drain_answer.specs.declared.refusal.Refusal.TheVariants.{ReadFailed}
-use Rattle.drain_verdict.specs.Inputs.{Inputs, Tell, Products}
+use Rattle.drain_verdict.specs.Inputs.{Inputs, Encode, Products}
 use Rattle.drain_verdict.specs.Meaning.{fields_of, input_grid, tiling_of}
 use Rattle.drain_verdict.specs.Refusals.{NoneStandsBefore}
 use Rattle.drain_verdict.specs.Answers.{IsAnswer}
-use Rattle.drain_verdict.specs.Devices.{RasterTakesAtMost, BodyTakesAtMost}
+use Rattle.drain_verdict.specs.Uses.{RasterTakesAtMost, BodyTakesAtMost}
 use Rattle.drain_verdict.specs.Stages.{IsLayoutOf, IsLayoutRefusal, IsHeaderRefusal, IsFirstHeaderRefusal, AreHeadersFor}
 use Rattle.drain_verdict.proofs.LayoutAnswers.{layout_is, layout_none, layout_refused}
 use Rattle.drain_verdict.proofs.HeaderAnswers.{headers_none, headers_are, header_refused}
@@ -36,7 +36,7 @@ pub told_of_inputs : (P : ℕ → List (List ℕ) → Type 0) (i : Inputs) (side
 told_of_inputs P i side names side_is names_are holds = subst (λ s. P s i.names) (sym side_is) (subst (P side) (sym names_are) holds)
 
 layout_told : {R : Type 0} (bytes_left : R → Option (List ℕ)) (side : ℕ) (tiles : List (TileInput R)) (sinks : List ℕ) (ps : Products R) (i : Inputs) (t : Tiling) →
-    Tell bytes_left side tiles sinks ps i → IsLayoutOf side (names_of tiles) t → IsLayoutOf i.side i.names t
+    Encode bytes_left side tiles sinks ps i → IsLayoutOf side (names_of tiles) t → IsLayoutOf i.side i.names t
 layout_told bytes_left side tiles sinks ps i t tell is = told_of_inputs (λ side names. IsLayoutOf side names t) i side (names_of tiles) tell.side_is tell.names_are is
 
 -- the layout of a side and names is one of its own side
@@ -45,22 +45,22 @@ laid side names t is = subst (λ s. IsLayoutOf s names t) (sym is.side_is) is
 
 -- and what is said of the side is said of that
 pub at_side : {R : Type 0} (bytes_left : R → Option (List ℕ)) (side : ℕ) (tiles : List (TileInput R)) (sinks : List ℕ) (ps : Products R) (i : Inputs) (t : Tiling) →
-    IsLayoutOf side (names_of tiles) t → Tell bytes_left side tiles sinks ps i → Tell bytes_left t.side tiles sinks ps i
-at_side bytes_left side tiles sinks ps i t is tell = subst (λ s. Tell bytes_left s tiles sinks ps i) (sym is.side_is) tell
+    IsLayoutOf side (names_of tiles) t → Encode bytes_left side tiles sinks ps i → Encode bytes_left t.side tiles sinks ps i
+at_side bytes_left side tiles sinks ps i t is tell = subst (λ s. Encode bytes_left s tiles sinks ps i) (sym is.side_is) tell
 
 -- it is that of the inputs
 pub layout_of_inputs : OneName → {R : Type 0} (bytes_left : R → Option (List ℕ)) (side : ℕ) (tiles : List (TileInput R)) (sinks : List ℕ) (ps : Products R) (i : Inputs) (t : Tiling) →
-    Tell bytes_left side tiles sinks ps i → IsLayoutOf side (names_of tiles) t → t ≡ tiling_of i
+    Encode bytes_left side tiles sinks ps i → IsLayoutOf side (names_of tiles) t → t ≡ tiling_of i
 layout_of_inputs one bytes_left side tiles sinks ps i t tell is = layout_is one i tell.corners_are t (layout_told bytes_left side tiles sinks ps i t tell is)
 
 -- and a shape of its size is that of the grid
 pub shape_of_inputs : OneName → {R : Type 0} (bytes_left : R → Option (List ℕ)) (t : Tiling) (tiles : List (TileInput R)) (sinks : List ℕ) (ps : Products R) (i : Inputs) (shape : Extent) →
-    Tell bytes_left t.side tiles sinks ps i → IsLayoutOf t.side (names_of tiles) t → shape ≡ extent_of t → shape ≡ (input_grid i).extent
+    Encode bytes_left t.side tiles sinks ps i → IsLayoutOf t.side (names_of tiles) t → shape ≡ extent_of t → shape ≡ (input_grid i).extent
 shape_of_inputs one bytes_left t tiles sinks ps i shape tell is shape_is = shape_is ∙ ap extent_of (layout_of_inputs one bytes_left t.side tiles sinks ps i t tell is)
 
 -- the refusal of the layout is the answer
 pub layout_answer : OneName → {R : Type 0} (bytes_left : R → Option (List ℕ)) (side : ℕ) (tiles : List (TileInput R)) (sinks : List ℕ) (ps : Products R) (i : Inputs) (refusal : Refusal) →
-    Tell bytes_left side tiles sinks ps i → IsLayoutRefusal side (names_of tiles) refusal → IsAnswer i (Err refusal)
+    Encode bytes_left side tiles sinks ps i → IsLayoutRefusal side (names_of tiles) refusal → IsAnswer i (Err refusal)
 layout_answer one bytes_left side tiles sinks ps i refusal tell bad =
     layout_refused one i tell.corners_are refusal
     (told_of_inputs (λ side names. IsLayoutRefusal side names refusal) i side (names_of tiles) tell.side_is tell.names_are bad)
@@ -73,7 +73,7 @@ layout_reads_none side names refusal bad is =
 
 -- the refusal of a header is the answer
 pub header_answer : OneName → {R : Type 0} (bytes_left : R → Option (List ℕ)) (side : ℕ) (tiles : List (TileInput R)) (sinks : List ℕ) (ps : Products R) (i : Inputs) (t : Tiling) (refusal : Refusal) →
-    Tell bytes_left side tiles sinks ps i → IsLayoutOf side (names_of tiles) t → IsFirstHeaderRefusal t ps refusal → IsAnswer i (Err refusal)
+    Encode bytes_left side tiles sinks ps i → IsLayoutOf side (names_of tiles) t → IsFirstHeaderRefusal t ps refusal → IsAnswer i (Err refusal)
 header_answer one bytes_left side tiles sinks ps i t refusal tell is bad =
     let there = layout_told bytes_left side tiles sinks ps i t tell is in
     header_refused i ps refusal tell.headers_are (subst (λ (u : Tiling). IsFirstHeaderRefusal u ps refusal) (layout_is one i tell.corners_are t there) bad)
@@ -86,7 +86,7 @@ header_reads_none t ps refusal bad is =
 
 -- the layout is that of the inputs, the headers are theirs, and no refusal before the tiles applies
 pub started : OneName → {R : Type 0} (bytes_left : R → Option (List ℕ)) (side : ℕ) (tiles : List (TileInput R)) (sinks : List ℕ) (ps : Products R) (i : Inputs) (t : Tiling) (hs : PerProduct Fields) →
-    Tell bytes_left side tiles sinks ps i → IsLayoutOf side (names_of tiles) t → AreHeadersFor t ps hs →
+    Encode bytes_left side tiles sinks ps i → IsLayoutOf side (names_of tiles) t → AreHeadersFor t ps hs →
     (t ≡ tiling_of i) × ((p : SetProduct) → of_product hs p ≡ fields_of i p) × NoneStandsBefore i 5
 started one bytes_left side tiles sinks ps i t hs tell is headers =
     let there = layout_told bytes_left side tiles sinks ps i t tell is in

@@ -1,17 +1,29 @@
 -- The answer to the bytes: the first refusal that applies, else the verdict; and what an acceptance means.
-use Rattle.std.specs.Prelude.{ℕ, Result, Ok, Err}
+use Rattle.std.specs.Prelude.{ℕ, Result, Ok, Err, ◌≡◌, ℤ, pos, is_some, List, Option, Some, None, if◌then◌else◌}
 use Rattle.drain_grid.specs.Grid.{Grid, Products}
 use Rattle.drain_text.specs.First.{IsFirst}
 use Rattle.drain_grid.specs.declared.verdict.Verdict.{Verdict}
 use Rattle.drain_grid.specs.PatchRules.{check_rules}
-use Rattle.drain_rules.specs.Verdicts.{IsVerdictOf}
+use Rattle.drain_rules.specs.Verdicts.{IsVerdictOf, IsVerdict}
 use Rattle.drain_grid.specs.declared.judged.Judged.{Judged}
 use Rattle.drain_grid.specs.declared.judged.Rules.{Rules}
 use Rattle.drain_answer.specs.declared.refusal.Refusal.{Refusal}
 use Rattle.drain_answer.specs.declared.refusal.Refusal.TheVariants.{OutOfMemory, ReadFailed}
-use Rattle.drain_verdict.specs.Inputs.{Inputs}
+use Rattle.drain_verdict.specs.Inputs.{Inputs, as_five, Encode}
 use Rattle.drain_verdict.specs.Meaning.{input_grid, input_products, nodata_numbers}
 use Rattle.drain_verdict.specs.Refusals.{Stands, refusal_order}
+use Rattle.drain_grid.specs.declared.cell.Cell.{Cell}
+use Rattle.drain_grid.specs.Unranked.{run_steps, with_ranks, with_rank_nodata, IsFirstEndless, unranked}
+use Rattle.drain_grid.specs.Correct.{IsCorrect}
+use Rattle.drain_grid.specs.Extent.{IsExtent}
+use Rattle.drain_grid.specs.Values.{NoDataNumbers}
+use Rattle.drain_hgt.specs.declared.input.TileInput.{TileInput}
+use Rattle.drain_rows.specs.GridRows.{AllRunsEnd}
+use Rattle.drain_paths.specs.declared.walk.TheConstants.{UNKNOWN}
+use Rattle.drain_verdict.specs.declared.audit_products.AuditProducts.{AuditProducts}
+use Rattle.drain_answer.specs.declared.outcome.AuditVerdict.{AuditVerdict}
+use Rattle.drain_answer.specs.declared.outcome.AuditVerdict.TheVariants.{Accepted, Rejected, NoEnd}
+use Rattle.drain_grid.specs.declared.verdict.Verdict.TheVariants as checked
 
 -- no refusal applies
 abbrev pub AreReadable : Inputs → Type 0
@@ -40,3 +52,69 @@ rules_at judged i = record { nodata = nodata_numbers i; judged = judged }
 -- notes of a grid's rows that are of all rows of the inputs' grid, under these rules
 abbrev pub AreNotesOf : {K : Type 0} → (Rules → Grid → Products → ℕ → K → Type 0) → Judged → Inputs → K → Type 0
 AreNotesOf are_of judged i notes = are_of (rules_at judged i) (input_grid i) (input_products i) (input_grid i).extent.rows notes
+
+-- What an audit answers: whether four products are correct, with ranks of its own in place of a certificate.
+-- Source: correct products are in the words of the literature; that paths without an end come first is our own.
+
+-- ranks as `certify` gives them: the number of steps of each data cell's path, and 4294967295 at voids
+abbrev pub certified_ranks : Grid → Products → Cell → ℤ
+certified_ranks g ps c = if is_some (g.elevation c) then pos (run_steps g ps c) else pos UNKNOWN
+
+-- the products with these ranks, and the no-data numbers with that of these ranks
+abbrev pub certified : Grid → Products → Products
+certified g ps = with_ranks ps (certified_ranks g ps)
+
+abbrev pub certified_nodata : NoDataNumbers → NoDataNumbers
+certified_nodata nodata = with_rank_nodata nodata (pos UNKNOWN)
+
+-- the first path without an end; else, with certified ranks, the verdict of a check
+abbrev pub IsAuditVerdict : Grid → Products → NoDataNumbers → AuditVerdict → Type 0
+IsAuditVerdict g ps nodata (NoEnd row col) = IsFirstEndless g ps (record { row = row; col = col })
+IsAuditVerdict g ps nodata (Accepted counts) = AllRunsEnd g ps × IsVerdict g (certified g ps) (certified_nodata nodata) (checked.Accepted counts)
+IsAuditVerdict g ps nodata (Rejected rule row col) = AllRunsEnd g ps × IsVerdict g (certified g ps) (certified_nodata nodata) (checked.Rejected rule row col)
+
+-- the answer to the inputs: the first refusal that applies, else the verdict
+abbrev pub IsAuditAnswer : Inputs → Result AuditVerdict Refusal → Type 0
+IsAuditAnswer i (Ok verdict) = AreReadable i × IsAuditVerdict (input_grid i) (input_products i) (nodata_numbers i) verdict
+IsAuditAnswer i (Err refusal) = IsRefusal i refusal
+
+-- the same without ranks: the first path without an end; else the verdict of the rules that ignore them
+abbrev pub IsPlainVerdict : Grid → Products → NoDataNumbers → AuditVerdict → Type 0
+IsPlainVerdict g ps nodata (NoEnd row col) = IsFirstEndless g ps (record { row = row; col = col })
+IsPlainVerdict g ps nodata (Accepted counts) = AllRunsEnd g ps × IsVerdictOf (unranked nodata) g ps (checked.Accepted counts)
+IsPlainVerdict g ps nodata (Rejected rule row col) = AllRunsEnd g ps × IsVerdictOf (unranked nodata) g ps (checked.Rejected rule row col)
+
+abbrev pub IsAnswerWithoutRanks : Inputs → Result AuditVerdict Refusal → Type 0
+IsAnswerWithoutRanks i (Ok verdict) = AreReadable i × IsExtent (input_grid i).extent × IsPlainVerdict (input_grid i) (input_products i) (nodata_numbers i) verdict
+IsAnswerWithoutRanks i (Err refusal) = IsRefusal i refusal
+
+-- the verdict of the rules, and the first path without an end, if there is one, make this one
+abbrev pub IsOfBoth : Verdict → Option Cell → AuditVerdict → Type 0
+IsOfBoth verdict (Some c) both = both ≡ NoEnd c.row c.col
+IsOfBoth (checked.Accepted counts) None both = both ≡ Accepted counts
+IsOfBoth (checked.Rejected rule row col) None both = both ≡ Rejected rule row col
+
+-- it is an acceptance
+abbrev pub IsAcceptance : AuditVerdict → Type 0
+IsAcceptance (Accepted counts) = Unit {0}
+IsAcceptance (Rejected rule row col) = ⊥
+IsAcceptance (NoEnd row col) = ⊥
+
+-- the fact holds of the inputs of the call, with con's bytes in place of ranks, of which no fact says anything
+abbrev pub ForAudit : {R : Type 0} → (R → Option (List ℕ)) → ℕ → List (TileInput R) → List ℕ → AuditProducts R → (Inputs → Type 0) → Type 0
+ForAudit bytes_left side tiles sinks ps Fact = (i : Inputs) → Encode bytes_left side tiles sinks (as_five ps) i → Fact i
+
+-- the fact holds where the answer is an acceptance
+abbrev pub IfAccepts : Result AuditVerdict Refusal → Type 0 → Type 0
+IfAccepts (Ok (Accepted counts)) P = P
+IfAccepts (Ok (Rejected rule row col)) P = Unit {0}
+IfAccepts (Ok (NoEnd row col)) P = Unit {0}
+IfAccepts (Err refusal) P = Unit {0}
+
+-- where the answer is an acceptance, the fact holds of the inputs of the call
+abbrev pub AuditMeans : {R : Type 0} → (Inputs → Type 0) → (R → Option (List ℕ)) → ℕ → List (TileInput R) → List ℕ → AuditProducts R → Result AuditVerdict Refusal → Type 0
+AuditMeans Fact bytes_left side tiles sinks ps answer = IfAccepts answer (ForAudit bytes_left side tiles sinks ps Fact)
+
+-- the products of the inputs are correct
+abbrev pub AreCorrect : Inputs → Type 0
+AreCorrect i = IsCorrect (input_grid i) (input_products i) (nodata_numbers i)

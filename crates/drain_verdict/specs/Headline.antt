@@ -10,12 +10,12 @@ use Rattle.drain_mosaic.specs.Mosaic.{TilesAgree, IsElevation}
 use Rattle.drain_grid.specs.declared.verdict.Verdict.{Verdict}
 use Rattle.drain_rules.specs.Verdicts.{IfAccepted}
 use Rattle.drain_answer.specs.declared.refusal.Refusal.{Refusal}
-use Rattle.drain_verdict.specs.Inputs.{Inputs, Tell, Products}
+use Rattle.drain_verdict.specs.Inputs.{Inputs, Encode, Products}
 use Rattle.drain_verdict.specs.Meaning.{tiling_of, input_tiles, input_grid, input_products, nodata_numbers}
 
 -- the fact holds of the inputs of the call
 abbrev pub ForCheck : {R : Type 0} → (R → Option (List ℕ)) → ℕ → List (TileInput R) → List ℕ → Products R → (Inputs → Type 0) → Type 0
-ForCheck bytes_left side tiles sinks ps Fact = (i : Inputs) → Tell bytes_left side tiles sinks ps i → Fact i
+ForCheck bytes_left side tiles sinks ps Fact = (i : Inputs) → Encode bytes_left side tiles sinks ps i → Fact i
 
 -- where the answer is an acceptance, the fact holds of the inputs of the call
 abbrev pub AcceptedMeans : {R : Type 0} → (Inputs → Type 0) → (R → Option (List ℕ)) → ℕ → List (TileInput R) → List ℕ → Products R → Result Verdict Refusal → Type 0

@@ -1,6 +1,6 @@
 -- What was read of the tiles and products of a check between two of its rows, and which device failed for good.
 use Rattle.std.specs.Prelude.{◌≡◌, ℕ, ◌⊎◌, ◌↔◌, List, length, Option, Some, None, MatchOption, Bool, true, false, IsTrue, Result, Ok, Err}
-use Rattle.drain_device.specs.PartFailing.{PartFails}
+use Rattle.drain_device.specs.Failing.{PartFails}
 use Rattle.drain_device.specs.RowSteps.{ReadsWithin}
 use Rattle.drain_device.specs.declared.counts.FaultCounts.{FaultCounts}
 use Rattle.drain_grid.specs.declared.set_product.SetProduct.{SetProduct}

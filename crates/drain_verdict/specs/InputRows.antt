@@ -1,14 +1,14 @@
 -- Readers of a check's rows at their start, and what they report once all rows are read.
 use Rattle.std.specs.Prelude.{◌≡◌, ℕ, ◌<◌, length, slice_get, Option, Some, None, MatchOption}
-use Rattle.drain_device.specs.Patience.{full_patience}
+use Rattle.drain_device.specs.Failing.{full_patience}
 use Rattle.drain_device.specs.declared.row_source.Progress.TheVariants.{Going, Stopped}
 use Rattle.drain_grid.specs.declared.cell.Cell.{Cell}
 use Rattle.drain_grid.specs.declared.per_product.PerProduct.{PerProduct}
 use Rattle.drain_grid.specs.declared.set_product.SetProduct.{SetProduct}
 use Rattle.drain_grid.specs.PerProduct.{of_product}
 use Rattle.drain_grid.specs.SetProduct.{OfSetProduct, rank_of}
-use Rattle.drain_header.specs.Fields.{AreWithinBounds, Fields}
-use Rattle.drain_mosaic.specs.MosaicRows.{IsBegun}
+use Rattle.drain_header.specs.Header.{AreWithinBounds, Fields}
+use Rattle.drain_mosaic.specs.GivenTiles.{IsBegun}
 use Rattle.drain_mosaic.specs.Tiling.{Tiling}
 use Rattle.drain_raster.specs.declared.raster_rows.RasterRows.{RasterRows}
 use Rattle.drain_verdict.specs.declared.input_rows.InputRows.{InputRows}

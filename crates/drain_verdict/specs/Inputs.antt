@@ -1,5 +1,5 @@
 -- The bytes that a check is about.
-use Rattle.std.specs.Prelude.{◌≡◌, ℕ, List, Option, Some}
+use Rattle.std.specs.Prelude.{◌≡◌, ℕ, List, Option, Some, [], ◌∷◌, ◌++◌}
 use Rattle.std.specs.List.{All, AllZip}
 use Rattle.drain_grid.specs.declared.set_product.SetProduct.{SetProduct}
 use Rattle.drain_grid.specs.declared.per_product.PerProduct.{PerProduct}
@@ -7,8 +7,10 @@ use Rattle.drain_grid.specs.PerProduct.{of_product}
 use Rattle.drain_hgt.specs.declared.input.TileInput.{TileInput}
 use Rattle.drain_hgt.specs.Corner.{Corner}
 use Rattle.drain_hgt.specs.Name.{IsNameOf}
-use Rattle.drain_hgt.specs.Inputs.{names_of, AreBodies}
-use Rattle.drain_verdict.specs.declared.input.RasterInput.{RasterInput}
+use Rattle.drain_hgt.specs.Inputs.{names_of, AreBodies, tile_devices}
+use Rattle.drain_verdict.specs.declared.next_rows.RasterInput.{RasterInput}
+use Rattle.drain_raster.specs.declared.raster_rows.RasterRows.{RasterRows}
+use Rattle.drain_verdict.specs.declared.audit_products.AuditProducts.{AuditProducts}
 
 -- the side, the names of the tiles, which tiles they name, the tiles' bodies, the list of sinks, and each product's header and body
 pub record Inputs : Type 0 where
@@ -29,7 +31,7 @@ abbrev pub AreNames : List (List ℕ) → Type 0
 AreNames names = All (λ name. (c : Corner) × IsNameOf name c) names
 
 -- the arguments encode these inputs, where the bytes of devices are known
-pub record Tell {R : Type 0} (bytes_left : R → Option (List ℕ)) (side : ℕ) (tiles : List (TileInput R)) (sinks : List ℕ) (ps : Products R) (i : Inputs) : Type 0 where
+pub record Encode {R : Type 0} (bytes_left : R → Option (List ℕ)) (side : ℕ) (tiles : List (TileInput R)) (sinks : List ℕ) (ps : Products R) (i : Inputs) : Type 0 where
   pub side_is : i.side ≡ side
   pub names_are : i.names ≡ names_of tiles
   pub corners_are : AreNames i.names → AllZip IsNameOf i.names i.corners
@@ -37,3 +39,17 @@ pub record Tell {R : Type 0} (bytes_left : R → Option (List ℕ)) (side : ℕ)
   pub sinks_are : i.sinks ≡ sinks
   pub headers_are : (p : SetProduct) → i.header p ≡ (of_product ps p).header
   pub rasters_are : (p : SetProduct) → bytes_left (of_product ps p).body ≡ Some (i.raster p)
+
+-- The four products of an audit, as the five that are read: con takes the place of ranks, which an audit ignores.
+
+-- the four, and con once more
+abbrev pub as_five : {R : Type 0} → AuditProducts R → Products R
+as_five ps = record { con = ps.con; dir = ps.dir; acc = ps.acc; bas = ps.bas; rnk = ps.con }
+
+-- the devices of an audit
+abbrev pub audit_devices : {R : Type 0} → List (TileInput R) → AuditProducts R → List R
+audit_devices tiles ps = tile_devices tiles ++ (ps.con.body ∷ ps.dir.body ∷ ps.acc.body ∷ ps.bas.body ∷ [])
+
+-- the readers of the four, and con's once more
+abbrev pub readers_as_five : PerProduct RasterRows → PerProduct RasterRows
+readers_as_five rasters = record { con = rasters.con; dir = rasters.dir; acc = rasters.acc; bas = rasters.bas; rnk = rasters.con }

@@ -2,7 +2,7 @@
 use Rattle.std.specs.Prelude.{Result, Ok, Err}
 use Rattle.drain_answer.specs.declared.refusal.Refusal.{Refusal}
 use Rattle.drain_grid.specs.declared.judged.Judged.{Judged}
-use Rattle.drain_grid.specs.Size.{IsExtent}
+use Rattle.drain_grid.specs.Extent.{IsExtent}
 use Rattle.drain_rules.specs.Verdicts.{IsVerdictBy}
 use Rattle.drain_verdict.specs.Answers.{AreReadable, IsRefusal, rules_at}
 use Rattle.drain_verdict.specs.Deciding.{IsDecided}

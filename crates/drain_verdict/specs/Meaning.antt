@@ -10,15 +10,13 @@ use Rattle.drain_text.specs.Text.{lines_of}
 use Rattle.drain_grid.specs.Values.{NoDataNumbers}
 use Rattle.drain_grid.specs.Grid as grid
 use Rattle.drain_hgt.specs.Samples.{samples_of}
-use Rattle.drain_header.specs.Fields.{Fields}
-use Rattle.drain_header.specs.Header.{header_of}
+use Rattle.drain_header.specs.Header.{Fields, header_of}
 use Rattle.drain_raster.specs.Pixels.{pixel_at}
 use Rattle.drain_grid.specs.declared.sink_line.SinkLine.{SinkLine}
-use Rattle.drain_grid.specs.SinkLines.{is_listed}
-use Rattle.drain_grid.specs.SinkTexts.{sinks_of}
+use Rattle.drain_grid.specs.SinkTexts.{is_listed, sinks_of}
 use Rattle.drain_mosaic.specs.Tiling.{Tiling, extent_of}
 use Rattle.drain_mosaic.specs.Mosaic as mosaic
-use Rattle.drain_mosaic.specs.Joined.{first_value}
+use Rattle.drain_mosaic.specs.Mosaic.{first_value}
 use Rattle.drain_verdict.specs.Inputs.{Inputs}
 
 -- the named tiles and their samples

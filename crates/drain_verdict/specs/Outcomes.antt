@@ -1,26 +1,31 @@
 -- The outcome for judged rasters, and the answer with it.
-use Rattle.std.specs.Prelude.{◌≡◌, Result, Ok, Err}
+use Rattle.std.specs.Prelude.{◌≡◌, Result, Ok, Err, Bool, true, false, Option, Some, None}
 use Rattle.drain_answer.specs.declared.outcome.Outcome.{Outcome}
 use Rattle.drain_answer.specs.declared.outcome.Outcome.TheVariants.{Accepted, AcceptedSurface, Rejected, NoEnd, NotFilled}
 use Rattle.drain_answer.specs.declared.refusal.Refusal.{Refusal}
-use Rattle.drain_filled.specs.Unfilled.{IsFirstUnfilled}
+use Rattle.drain_filled.specs.Compared.{IsFirstUnfilled}
 use Rattle.drain_grid.specs.declared.judged.Judged.{Judged}
 use Rattle.drain_grid.specs.declared.judged.Judged.TheVariants.{Con, ConDir, ConDirAcc, ConDirBas, All, AllWithRanks}
 use Rattle.drain_grid.specs.declared.judged.Rules.{Rules}
-use Rattle.drain_grid.specs.declared.verdict.Verdict.TheVariants as checked
-use Rattle.drain_grid.specs.Certificate.{IsFirstEndless}
+use Rattle.drain_grid.specs.Unranked.{IsFirstEndless}
 use Rattle.drain_grid.specs.Grid.{Grid, Products}
 use Rattle.drain_grid.specs.GridRules.{IsFirstFault, RulesHold}
 use Rattle.drain_grid.specs.Path.{IsLeastSurface}
 use Rattle.drain_grid.specs.RulesAbout.{IsPartRule, part_rules}
 use Rattle.drain_grid.specs.Values.{NoDataNumbers}
 use Rattle.drain_laws.specs.PartOf.{AreRight}
-use Rattle.drain_rows.specs.Runs.{AllRunsEnd}
-use Rattle.drain_rules.specs.FillVerdicts.{fill_counts}
+use Rattle.drain_rows.specs.GridRows.{AllRunsEnd}
+use Rattle.drain_rules.specs.Fill.{fill_counts}
 use Rattle.drain_rules.specs.Verdicts.{IsVerdictBy}
 use Rattle.drain_verdict.specs.Answers.{AreReadable, IsRefusal}
 use Rattle.drain_verdict.specs.Inputs.{Inputs}
 use Rattle.drain_verdict.specs.Meaning.{input_grid, input_products, nodata_numbers}
+use Rattle.drain_grid.specs.declared.cell.Cell.{Cell}
+use Rattle.drain_grid.specs.declared.fill_verdict.FillCounts.{FillCounts}
+use Rattle.drain_grid.specs.declared.verdict.Counts.{Counts}
+use Rattle.drain_grid.specs.declared.verdict.Verdict.{Verdict}
+use Rattle.drain_grid.specs.Judged.{has_dir}
+use Rattle.drain_grid.specs.declared.verdict.Verdict.TheVariants as checked
 
 -- the rules about these rasters
 abbrev pub rules_of : Judged → NoDataNumbers → Rules
@@ -67,3 +72,30 @@ IsOutcomeAnswer judged i (Err refusal) = IsRefusal i refusal
 -- the judged rasters of the inputs are right
 abbrev pub AreJudgedRight : Judged → Inputs → Type 0
 AreJudgedRight judged i = AreRight judged (input_grid i) (input_products i) (nodata_numbers i)
+
+-- How the outcome follows from what the rules, and the paths or the filled surface, say.
+
+-- the first path without an end, else the verdict of the rules
+abbrev pub IsOfWays : Verdict → Option Cell → Outcome → Type 0
+IsOfWays verdict (Some c) outcome = outcome ≡ NoEnd c.row c.col
+IsOfWays (checked.Accepted counts) None outcome = outcome ≡ Accepted counts
+IsOfWays (checked.Rejected rule row col) None outcome = outcome ≡ Rejected rule row col
+
+-- these counts without the outlets
+abbrev pub without_outlets : Counts → FillCounts
+without_outlets counts = record { rows = counts.rows; cols = counts.cols; data_cells = counts.data_cells; raised = counts.raised }
+
+-- the first fault of the rules, else the first cell that isn't filled
+abbrev pub IsOfSurface : Verdict → Option Cell → Outcome → Type 0
+IsOfSurface (checked.Rejected rule row col) unfilled outcome = outcome ≡ Rejected rule row col
+IsOfSurface (checked.Accepted counts) (Some c) outcome = outcome ≡ NotFilled c.row c.col
+IsOfSurface (checked.Accepted counts) None outcome = outcome ≡ AcceptedSurface (without_outlets counts)
+
+-- the one with directions, the other without
+abbrev pub IsOfKind : Bool → Verdict → Option Cell → Outcome → Type 0
+IsOfKind true verdict cell outcome = IsOfWays verdict cell outcome
+IsOfKind false verdict cell outcome = IsOfSurface verdict cell outcome
+
+-- so of judged rasters
+abbrev pub IsOutcomeOf : Judged → Verdict → Option Cell → Outcome → Type 0
+IsOutcomeOf judged = IsOfKind (has_dir judged)

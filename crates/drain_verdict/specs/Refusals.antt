@@ -7,7 +7,7 @@ use Rattle.drain_grid.specs.declared.degree.TheConstants.{UNITS_PER_DEGREE}
 use Rattle.drain_grid.specs.declared.set_product.SetProduct.{SetProduct}
 use Rattle.drain_grid.specs.SetProduct.{OfSetProduct, place_of}
 use Rattle.drain_grid.specs.Extent.{IsCellOf, index_of}
-use Rattle.drain_grid.specs.Tile.{IsSide}
+use Rattle.drain_grid.specs.Grid.{IsSide}
 use Rattle.drain_grid.specs.SinkTexts.{sinks_of}
 use Rattle.drain_grid.specs.OffData.{IsOffData}
 use Rattle.drain_hgt.specs.Corner.{Corner}
@@ -18,12 +18,12 @@ use Rattle.drain_header.specs.Faults.{Answers}
 use Rattle.drain_raster.specs.Pixels.{header_extent, IsShort}
 use Rattle.drain_mosaic.specs.declared.layout.LayoutFault.{LayoutFault}
 use Rattle.drain_mosaic.specs.Tiling as tiling
-use Rattle.drain_mosaic.specs.LayoutFaults.{HasLayoutFault}
+use Rattle.drain_mosaic.specs.GivenTiles.{HasLayoutFault}
 use Rattle.drain_mosaic.specs.Mosaic.{HasTwoValues}
 use Rattle.drain_answer.specs.declared.refusal.Refusal.{Refusal}
 use Rattle.drain_answer.specs.declared.refusal.Refusal.TheVariants.{BadSide, BadName, NoTiles, RepeatedTile, BoxTooLarge, BadHeader, WrongShape, Misplaced, BadTileLength, RasterShort, SeamMismatch, BadSinkLine, SinkNotData, OutOfMemory, ReadFailed}
-use Rattle.drain_rows.specs.declared.walk_stop.WalkStop.{WalkStop}
-use Rattle.drain_rows.specs.declared.walk_stop.WalkStop.TheVariants as walk_stop
+use Rattle.drain_rows.specs.declared.row_visitor.WalkStop.{WalkStop}
+use Rattle.drain_rows.specs.declared.row_visitor.WalkStop.TheVariants as walk_stop
 use Rattle.drain_verdict.specs.Inputs.{Inputs}
 use Rattle.drain_verdict.specs.Meaning.{tiling_of, input_tiles, fields_of, listed_in, input_grid}
 

@@ -1,27 +1,47 @@
 -- What the stages of a check find: the layout, the headers and the tiles; or the first refusal of their kind.
-use Rattle.std.specs.Prelude.{◌≡◌, ℕ, ◌<◌, List, slice_get, Option, Some, Err}
+use Rattle.std.specs.Prelude.{◌≡◌, ℕ, List, length, Option, Some, None, Result, Ok, Err, ◌<◌, slice_get}
+use Rattle.drain_grid.specs.declared.cell.Cell.{Cell}
+use Rattle.drain_grid.specs.declared.sink_line.SinkLine.{SinkLine}
+use Rattle.drain_grid.specs.Extent.{Extent}
+use Rattle.drain_grid.specs.OffData.{IsLeastLine, IsLeastOff}
+use Rattle.drain_rows.specs.GridRows.{has_data_but}
+use Rattle.drain_verdict.specs.declared.stages.SinkListing.{SinkListing}
+use Rattle.drain_answer.specs.declared.refusal.Refusal.{Refusal}
+use Rattle.drain_answer.specs.declared.refusal.Refusal.TheVariants.{BadSinkLine, SinkNotData, BadSide, BadName, NoTiles, RepeatedTile, BoxTooLarge, BadHeader, WrongShape, Misplaced, BadTileLength, OutOfMemory, ReadFailed}
 use Rattle.std.specs.List.{AllZip}
 use Rattle.drain_grid.specs.declared.set_product.SetProduct.{SetProduct}
 use Rattle.drain_grid.specs.declared.product.Product.{Product}
 use Rattle.drain_grid.specs.declared.per_product.PerProduct.{PerProduct}
 use Rattle.drain_text.specs.First.{IsFirst}
-use Rattle.drain_grid.specs.Tile.{IsSide}
+use Rattle.drain_grid.specs.Grid.{IsSide}
 use Rattle.drain_grid.specs.PerProduct.{of_product}
 use Rattle.drain_grid.specs.SetProduct.{product_of, rank_of}
 use Rattle.drain_hgt.specs.Corner.{Corner}
 use Rattle.drain_hgt.specs.Name.{IsNameOf}
 use Rattle.drain_hgt.specs.Inputs.{IsFirstBadLength}
-use Rattle.drain_header.specs.Fields.{Fields}
+use Rattle.drain_header.specs.Header.{Fields}
 use Rattle.drain_header.specs.Faults.{Answers, Describes}
 use Rattle.drain_raster.specs.Pixels.{header_extent}
 use Rattle.drain_mosaic.specs.declared.layout.LayoutFault.{LayoutFault}
-use Rattle.drain_mosaic.specs.declared.layout.LayoutFault.TheVariants as layout
-use Rattle.drain_mosaic.specs.Tiling as tiling
-use Rattle.drain_mosaic.specs.LayoutFaults.{HasLayoutFault, layout_fault_order}
-use Rattle.drain_answer.specs.declared.refusal.Refusal.{Refusal}
-use Rattle.drain_answer.specs.declared.refusal.Refusal.TheVariants.{BadSide, BadName, NoTiles, RepeatedTile, BoxTooLarge, BadHeader, WrongShape, Misplaced, BadTileLength, OutOfMemory, ReadFailed}
+use Rattle.drain_mosaic.specs.GivenTiles.{HasLayoutFault, layout_fault_order}
 use Rattle.drain_verdict.specs.Inputs.{Products}
 use Rattle.drain_verdict.specs.Refusals.{IsBadName, IsPlaced}
+use Rattle.drain_mosaic.specs.declared.layout.LayoutFault.TheVariants as layout
+use Rattle.drain_mosaic.specs.Tiling as tiling
+
+-- A list of sinks in a check, and why it is refused.
+
+-- the first bad line, if there is one
+abbrev pub IsBadLine : Result (List SinkLine) ℕ → Option ℕ → Type 0
+IsBadLine lines None = (sinks : List SinkLine) × (lines ≡ Ok sinks)
+IsBadLine lines (Some bad) = lines ≡ Err bad
+
+-- the bad line is reported, or else the least line whose cell is outside the grid or one of these voids; if any
+abbrev pub IsToldOfSinks : SinkListing → Extent → List Cell → Option Refusal → Type 0
+IsToldOfSinks listing e voids None = (listing.bad ≡ None) × IsLeastOff (has_data_but e voids) listing.sinks (length listing.sinks) None
+IsToldOfSinks listing e voids (Some (BadSinkLine bad)) = listing.bad ≡ Some bad
+IsToldOfSinks listing e voids (Some (SinkNotData line)) = (listing.bad ≡ None) × IsLeastLine (has_data_but e voids) listing.sinks (length listing.sinks) line
+IsToldOfSinks listing e voids (Some refusal) = ⊥
 
 -- the names are those of tiles that make a mosaic
 pub record IsLayoutOf (side : ℕ) (names : List (List ℕ)) (t : tiling.Tiling) : Type 0 where

@@ -1,7 +1,7 @@
 -- What the tiles and products of a check are to give, row by row, and what is to be reported of them at the end.
 use Rattle.std.specs.Prelude.{◌≡◌, ℕ, ◌+◌, ℤ, List, Option, None, MatchOption, ◌↔◌}
-use Rattle.drain_device.specs.ComingRows.{Coming, after_rows, nth_row}
-use Rattle.drain_device.specs.ComingRows.Coming.{End, Wrong}
+use Rattle.drain_device.specs.RowSteps.{Coming, after_rows, nth_row}
+use Rattle.drain_device.specs.RowSteps.Coming.{End, Wrong}
 use Rattle.drain_device.specs.declared.counts.FaultCounts.{FaultCounts}
 use Rattle.drain_device.specs.declared.row_source.Progress.TheVariants.{Stopped}
 use Rattle.drain_grid.specs.declared.cell.Cell.{Cell}
@@ -11,9 +11,9 @@ use Rattle.drain_hgt.specs.declared.input.TileInput.{TileInput}
 use Rattle.drain_raster.specs.declared.raster_rows.RasterRows.{RasterRows}
 use Rattle.drain_raster.specs.RasterRows.{raster_coming}
 use Rattle.drain_mosaic.specs.PlacedRows.{AreTold}
-use Rattle.drain_mosaic.specs.MosaicRows.{IsToldAtEnd, coming_of, seam_to_tell, wrong_to_tell}
+use Rattle.drain_mosaic.specs.GivenTiles.{IsToldAtEnd, coming_of, seam_to_tell, wrong_to_tell}
 use Rattle.drain_mosaic.specs.declared.mosaic_rows.MosaicRows.{MosaicRows}
-use Rattle.drain_rules.specs.RowNumbers.{RowNumbers, blank}
+use Rattle.drain_rules.specs.Rows.{RowNumbers, blank}
 use Rattle.drain_verdict.specs.InputReads.{InputsHaveRead, Reading, products_lent, readers, tiles_lent}
 use Rattle.drain_rows.specs.RowBuffers.{IsEven}
 use Rattle.drain_verdict.specs.Inputs.{Products}

@@ -1,18 +1,39 @@
 -- How an answer uses its inputs.
-use Rattle.std.specs.Prelude.{◌≡◌, ℕ, List, map, Option, Result, IfErr, IsErrOf}
-use Rattle.drain_device.specs.FaultLists.{SomeReadFails}
-use Rattle.drain_device.specs.declared.counts.FaultCounts.{FaultCounts}
+use Rattle.std.specs.Prelude.{ℕ, List, map, ◌++◌, Option, ◌≡◌, Result, IfErr, IsErrOf}
+use Rattle.drain_device.specs.Reads.{TakesAtMost}
 use Rattle.drain_grid.specs.declared.set_product.SetProduct.{SetProduct}
 use Rattle.drain_grid.specs.PerProduct.{of_product}
+use Rattle.drain_grid.specs.SetProduct.{products}
+use Rattle.drain_text.specs.Text.{lines_of}
 use Rattle.drain_hgt.specs.declared.input.TileInput.{TileInput}
-use Rattle.drain_hgt.specs.Inputs.{names_of, TilesTakeAtMost}
-use Rattle.drain_verdict.specs.Devices.{RasterTakesAtMost, devices_of}
-use Rattle.drain_verdict.specs.AuditInputs.{audit_devices, with_con_for_ranks}
-use Rattle.drain_verdict.specs.Inputs.{Products}
+use Rattle.drain_hgt.specs.Inputs.{tile_devices, names_of, TilesTakeAtMost}
+use Rattle.drain_header.specs.Header.{Fields, header_of}
+use Rattle.drain_raster.specs.Pixels.{needed_len}
+use Rattle.drain_verdict.specs.Inputs.{Products, audit_devices, as_five}
+use Rattle.drain_device.specs.FaultLists.{SomeReadFails}
+use Rattle.drain_device.specs.declared.counts.FaultCounts.{FaultCounts}
 use Rattle.drain_verdict.specs.Refusals.{IsOfBodies}
 use Rattle.drain_verdict.specs.declared.audit_products.AuditProducts.{AuditProducts}
 use Rattle.drain_answer.specs.declared.refusal.Refusal.{Refusal}
 use Rattle.drain_answer.specs.declared.refusal.Refusal.TheVariants.{ReadFailed}
+
+-- The devices of a check, and how far it reads from them.
+
+-- the devices of the products
+abbrev pub product_devices : {R : Type 0} → Products R → List R
+product_devices ps = map (λ p. (of_product ps p).body) products
+
+-- the devices of a check
+abbrev pub devices_of : {R : Type 0} → List (TileInput R) → Products R → List R
+devices_of tiles ps = tile_devices tiles ++ product_devices ps
+
+-- of the product's raster nothing past the last byte that this header needs was read
+abbrev pub BodyTakesAtMost : {R : Type 0} → (R → Option (List ℕ)) → Fields → Products R → Products R → SetProduct → Type 0
+BodyTakesAtMost bytes_left h old new p = TakesAtMost (needed_len h) (bytes_left (of_product old p).body) (bytes_left (of_product new p).body)
+
+-- the same of the header in the input
+abbrev pub RasterTakesAtMost : {R : Type 0} → (R → Option (List ℕ)) → Products R → Products R → SetProduct → Type 0
+RasterTakesAtMost bytes_left old new p = BodyTakesAtMost bytes_left (header_of (lines_of (of_product old p).header)) old new p
 
 -- from the tiles and products before to those after. The products are read as these five, from these devices
 pub record UsesInputs {R P T : Type 0} (inputs_of : P → Products R) (devices : List (TileInput R) → P → List R) (bytes_left : R → Option (List ℕ)) (counts : R → FaultCounts) (side : ℕ)
@@ -34,4 +55,4 @@ CheckUses bytes_left counts side old new answer = UsesInputs (λ ps. ps) devices
 
 -- of the four products of an audit
 abbrev pub AuditUses : {R T : Type 0} → (R → Option (List ℕ)) → (R → FaultCounts) → ℕ → List (TileInput R) × AuditProducts R → List (TileInput R) × AuditProducts R → Result T Refusal → Type 0
-AuditUses bytes_left counts side old new answer = UsesInputs with_con_for_ranks audit_devices bytes_left counts side old new answer
+AuditUses bytes_left counts side old new answer = UsesInputs as_five audit_devices bytes_left counts side old new answer

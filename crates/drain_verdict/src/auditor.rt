@@ -5,13 +5,13 @@
 //! separates correct products from all others is a law of `drain_grid`.
 
 ghost use Rattle.std.specs.Prelude.{◌↔◌, IfOk};
-ghost use Rattle.drain_verdict.specs.Audits.{AreCorrect, AuditMeans, IsAcceptance, IsAuditAnswer, IsAnswerWithoutRanks, ForAudit};
+ghost use Rattle.drain_verdict.specs.Answers.{AreCorrect, AuditMeans, IsAcceptance, IsAuditAnswer, IsAnswerWithoutRanks, ForAudit};
 ghost use Rattle.drain_verdict.specs.Headline.{IsRight, TilesAreOne, ElevationIsTheirs};
 ghost use Rattle.drain_verdict.specs.Uses.{AuditUses};
 
 use crate::audit_products::AuditProducts;
-use crate::both_verdict::verdict_of_both;
 use crate::judgement::judge_tiles;
+use crate::outcome::verdict_of_both;
 use drain_answer::{AuditVerdict, Refusal};
 use drain_device::ByteSource;
 use drain_grid::Judged;

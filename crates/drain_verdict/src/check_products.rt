@@ -6,10 +6,9 @@ ghost use Rattle.drain_grid.specs.PerProduct.{of_product};
 ghost use Rattle.drain_verdict.specs.InputRows.{IsFirstProduct};
 ghost use Rattle.drain_verdict.specs.Stages.{AreHeadersFor, IsFirstHeaderRefusal};
 
-use crate::headers::read_headers;
-use crate::input::{Products, RasterInput};
-use crate::next_rows::read_rasters;
-use crate::product_inputs::ProductInputs;
+use crate::audit_products::ProductInputs;
+use crate::next_rows::{Products, RasterInput, read_rasters};
+use crate::stages::read_headers;
 use drain_answer::Refusal;
 use drain_device::ByteSource;
 use drain_grid::{PerProduct, SetProduct};

@@ -2,13 +2,13 @@
 //!
 //! `judgement.rt` says how the answer is found; here is what it means.
 
-ghost use Rattle.drain_verdict.specs.Inputs.{Inputs, Tell};
+ghost use Rattle.drain_verdict.specs.Inputs.{Inputs, Encode};
 ghost use Rattle.drain_verdict.specs.Answers.{IsAnswer};
 ghost use Rattle.drain_verdict.specs.Headline.{AcceptedMeans, IsRight};
 ghost use Rattle.drain_verdict.specs.Uses.{CheckUses};
 
-use crate::input::Products;
 use crate::judgement::judge_tiles;
+use crate::next_rows::Products;
 use drain_answer::Refusal;
 use drain_device::ByteSource;
 use drain_grid::laws::correct_from_rules;
@@ -37,7 +37,7 @@ pub fn check<R: ByteSource>(
     products: &mut Products<R>,
 ) -> Result<Verdict, Refusal>
     // Unless memory ran out or a read failed, the answer is that of the bytes.
-    ensures answer { (inputs : Inputs) → Tell R.bytes_left side tiles.old sinks.now products.old inputs → IsAnswer inputs result }
+    ensures answer { (inputs : Inputs) → Encode R.bytes_left side tiles.old sinks.now products.old inputs → IsAnswer inputs result }
 
     // Whenever it accepts, the inputs are right: `IsRight` has a field for each sentence.
     ensures right { AcceptedMeans IsRight R.bytes_left side tiles.old sinks.now products.old result }
@@ -59,7 +59,7 @@ fn answer_of<R: ByteSource>(
     sinks: &[u8],
     products: &mut Products<R>,
 ) -> Result<Verdict, Refusal>
-    ensures answer { (inputs : Inputs) → Tell R.bytes_left side tiles.old sinks.now products.old inputs → IsAnswer inputs result }
+    ensures answer { (inputs : Inputs) → Encode R.bytes_left side tiles.old sinks.now products.old inputs → IsAnswer inputs result }
     ensures uses { CheckUses R.bytes_left R.counts side (tiles.old, products.old) (tiles.new, products.new) result }
 {
     let ranked = Judged::AllWithRanks;

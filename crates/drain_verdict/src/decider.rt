@@ -1,14 +1,28 @@
-//! What decides a verdict besides the rules: what is kept of all rows.
+//! What decides beside the rules of the patches: directions followed to their ends, ranks, or the filled surface.
 
-ghost use Rattle.std.specs.Prelude.{List};
+ghost use Rattle.std.specs.Prelude.{List, ◌≡◌, IfOk, MatchOption, Ok, IfErr};
 ghost use Rattle.drain_grid.specs.Grid.{Grid, Products};
-ghost use Rattle.drain_grid.specs.Size.{Extent};
-ghost use Rattle.drain_grid.specs.declared.judged.Judged as declared;
+ghost use Rattle.drain_grid.specs.Extent.{Extent};
+ghost use Rattle.drain_grid.specs.declared.judged.{Judged as declared};
 ghost use Rattle.drain_paths.specs.declared.flow.Flow.{Flow};
+ghost use Rattle.drain_filled.specs.ConRows.{AreFirstCon, HasSinks};
+ghost use Rattle.drain_grid.specs.SinkTexts.{sinks_of};
+ghost use Rattle.drain_grid.specs.declared.judged.Judged.TheVariants.{Con};
+ghost use Rattle.drain_grid.specs.declared.sink_line.SinkLine.{SinkLine};
+ghost use Rattle.drain_filled.specs.Compared.{IsFirstUnfilled};
+ghost use Rattle.drain_grid.specs.GridRules.{RulesHold};
+ghost use Rattle.drain_grid.specs.PatchRules.{surface_rules};
+ghost use Rattle.drain_grid.specs.Path.{IsLeastSurface};
+ghost use Rattle.drain_grid.specs.Rule.{IsFillRule};
+ghost use Rattle.drain_paths.specs.Ways.{ground_of, directions_of, AreRanks, IsRankRefusal};
 
-use drain_grid::{Cell, Judged, OutOfMemory, Shape, Verdict};
-use drain_paths::CellFlows;
-use drain_rows::RowVisitor;
+use drain_filled::ConRows;
+use drain_grid::{
+    Cell, Elevation, Judged, OutOfMemory, Raster, Rules, Shape, Verdict, parse_sinks,
+};
+use drain_paths::{CellFlows, CertifyRefusal, UNKNOWN, count_steps, flows_of_rasters};
+use drain_rows::{RowBuffer, RowVisitor, first_endless};
+use drain_rules::ThreeRows;
 use std::alloc::Global;
 
 /// The cell that decides against the rasters, whatever the rules say, or none; and the flow of each cell if directions
@@ -55,4 +69,152 @@ pub trait Decider: RowVisitor {
             → Self.are_of rules g ps shape.rows self → IsVerdictBy rules g ps verdict.now → IsDecided judged g ps verdict.now decided.cell) }
         ensures flows { IfOk result (λ decided. (rules : Rules) (g : Grid) (ps : Products)
             → g.extent ≡ shape → Self.are_of rules g ps shape.rows self → leave g ps shape decided.flows) };
+}
+
+/// The flows are then known to be those of the grid, except for cells whose paths were found to end.
+impl Decider for CellFlows {
+    ghost use Rattle.std.specs.Prelude.{◌≡◌, false, IsTrue};
+    ghost use Rattle.drain_grid.specs.Judged.{has_dir, has_rnk};
+    ghost use Rattle.drain_verdict.specs.Deciding.{AreFlowsLeft};
+
+    ghost decides = { λ judged. IsTrue (has_dir judged) × has_rnk judged ≡ false };
+
+    ghost leave = { λ g ps extent flows. AreFlowsLeft g ps extent flows };
+
+    fn begin(alloc: Global) -> CellFlows {
+        CellFlows::new(alloc)
+    }
+
+    fn decide(
+        self,
+        _alloc: Global,
+        shape: Shape,
+        _sinks: &[u8],
+        judged: Judged,
+        verdict: &Verdict,
+    ) -> Result<Decided, OutOfMemory> {
+        let mut flows = self;
+        let cell = first_endless(&mut flows, shape, judged, verdict);
+        Ok(Decided { cell, flows })
+    }
+}
+
+/// Nothing is kept of any row.
+#[derive(Drop)]
+pub struct RanksDecide;
+
+impl RowVisitor for RanksDecide {
+    ghost use Rattle.std.specs.Prelude.{true};
+
+    ghost counts = { λ n notes. Unit {0} };
+
+    ghost are_of = { λ rules g ps rows notes. Unit {0} };
+
+    ghost wants = { λ rules g ps. Unit {0} };
+
+    ghost lasting = { λ notes. true };
+
+    fn note(
+        &mut self,
+        _row: &RowBuffer,
+        _rows: &ThreeRows<'_>,
+        _rules: &Rules,
+    ) -> Result<(), OutOfMemory> {
+        Ok(())
+    }
+}
+
+impl Decider for RanksDecide {
+    ghost use Rattle.std.specs.Prelude.{◌≡◌};
+    ghost use Rattle.drain_grid.specs.declared.judged.Judged.TheVariants.{AllWithRanks};
+
+    ghost decides = { λ judged. judged ≡ AllWithRanks };
+
+    ghost leave = { λ g ps extent flows. Unit {0} };
+
+    fn begin(_alloc: Global) -> RanksDecide {
+        RanksDecide
+    }
+
+    fn decide(
+        self,
+        alloc: Global,
+        _shape: Shape,
+        _sinks: &[u8],
+        _judged: Judged,
+        _verdict: &Verdict,
+    ) -> Result<Decided, OutOfMemory> {
+        Ok(Decided {
+            cell: None,
+            flows: CellFlows::new(alloc),
+        })
+    }
+}
+
+/// If every rule about con holds, the elevations are flooded, and con is compared with the filled surface.
+impl Decider for ConRows {
+    ghost use Rattle.std.specs.Prelude.{[]};
+
+    ghost decides = { λ judged. judged ≡ Con };
+
+    ghost leave = { λ g ps extent flows. flows ≡ [] };
+
+    fn begin(alloc: Global) -> ConRows {
+        ConRows::new(alloc)
+    }
+
+    fn decide(
+        self,
+        alloc: Global,
+        shape: Shape,
+        sinks: &[u8],
+        _judged: Judged,
+        verdict: &Verdict,
+    ) -> Result<Decided, OutOfMemory> {
+        let cell = match verdict {
+            Verdict::Rejected { .. } => None,
+            Verdict::Accepted(_) => first_unfilled(alloc, self, shape, sinks)?,
+        };
+        Ok(Decided {
+            cell,
+            flows: CellFlows::new(alloc),
+        })
+    }
+}
+
+/// The first cell where con is below the filled surface, where every rule about con holds.
+fn first_unfilled(
+    alloc: Global,
+    rows: ConRows,
+    shape: Shape,
+    sinks: &[u8],
+) -> Result<Option<Cell>, OutOfMemory>
+    ensures first { IfOk result (λ cell. (listed : List SinkLine) (g : Grid) (ps : Products) → g.extent ≡ shape → sinks_of sinks.now ≡ Ok listed → HasSinks g listed → AreFirstCon g ps shape.rows rows → RulesHold surface_rules IsFillRule g ps → MatchOption cell (IsLeastSurface g ps.con) (IsFirstUnfilled g ps.con)) }
+{
+    // The list has no bad line: the rows were read, so it wasn't refused. Of each cell there is a number.
+    let Ok(listed) = parse_sinks(alloc, sinks) else {
+        return Err(OutOfMemory);
+    };
+    let Some(both) = rows.into_parts(shape) else {
+        return Err(OutOfMemory);
+    };
+    both.first_unfilled(alloc, &listed)
+}
+
+/// Ranks that fall at each step along the codes: for each data cell the number of steps to its path's end, for voids
+/// 4294967295, the no-data number.
+///
+/// `NoEnd` names the first data cell in row order whose path reaches no code 0, exactly if there is one; `OutOfMemory`
+/// if memory was refused.
+pub fn certify(alloc: Global, elevation: &Elevation, dir: &Raster) -> Result<Raster, CertifyRefusal>
+    requires same_shape { elevation.now.extent ≡ dir.now.extent }
+    ensures ranks { IfOk result (AreRanks (ground_of elevation.now) (directions_of dir.now)) }
+    ensures err { IfErr result (IsRankRefusal (ground_of elevation.now) (directions_of dir.now)) }
+{
+    let shape = elevation.shape();
+    let Ok(flows) = flows_of_rasters(alloc, elevation, dir) else {
+        return Err(CertifyRefusal::OutOfMemory);
+    };
+    let steps = count_steps(alloc, &flows, shape)?;
+    Ok(Raster::of_counts(shape, i64::from(UNKNOWN), steps))
 }

@@ -6,8 +6,8 @@ ghost use Rattle.drain_grid.specs.declared.cell.TheConstants.{MAX_LENGTH};
 ghost use Rattle.drain_mosaic.specs.PlacedRows.{first_stopped};
 ghost use Rattle.drain_verdict.specs.Refusals.{IsOfBodies};
 
+use crate::audit_products::ProductInputs;
 use crate::next_rows::read_mosaic;
-use crate::product_inputs::ProductInputs;
 use drain_answer::Refusal;
 use drain_device::ByteSource;
 use drain_grid::{OutOfMemory, PerProduct};

@@ -8,18 +8,16 @@ ghost use Rattle.drain_hgt.specs.Inputs.{names_of};
 ghost use Rattle.drain_mosaic.specs.Tiling.{extent_of};
 ghost use Rattle.drain_verdict.specs.Answers.{AreNotesOf};
 ghost use Rattle.drain_verdict.specs.Deciding.{AreFlowsFor};
-ghost use Rattle.drain_verdict.specs.Devices.{devices_of};
-ghost use Rattle.drain_verdict.specs.Inputs.{Inputs, Tell};
+ghost use Rattle.drain_verdict.specs.Uses.{devices_of, UsesInputs};
+ghost use Rattle.drain_verdict.specs.Inputs.{Inputs, Encode};
 ghost use Rattle.drain_verdict.specs.Judgements.{IsJudgement};
 ghost use Rattle.drain_verdict.specs.Meaning.{input_grid, input_products};
 ghost use Rattle.drain_verdict.specs.Stages.{IsLayoutOf};
-ghost use Rattle.drain_verdict.specs.Uses.{UsesInputs};
 
-use crate::decider::Decider;
-use crate::layout::layout_of;
-use crate::product_inputs::ProductInputs;
-use crate::ranks_decider::RanksDecide;
+use crate::audit_products::ProductInputs;
+use crate::decider::{Decider, RanksDecide};
 use crate::read_inputs::read_inputs;
+use crate::stages::layout_of;
 use drain_answer::Refusal;
 use drain_basin::OutletLabels;
 use drain_device::ByteSource;
@@ -52,7 +50,7 @@ pub(crate) fn judge_tiles<R: ByteSource, P: ProductInputs<R>>(
     products: &mut P,
     judged: Judged,
 ) -> Result<Judgement<Walk<OutletLabels>>, Refusal>
-    ensures answer { (inputs : Inputs) → Tell R.bytes_left side tiles.old sinks.now (P.inputs products.old) inputs → IsJudgement judged inputs result }
+    ensures answer { (inputs : Inputs) → Encode R.bytes_left side tiles.old sinks.now (P.inputs products.old) inputs → IsJudgement judged inputs result }
     ensures uses { UsesInputs P.inputs (λ ts ps. devices_of ts (P.inputs ps)) R.bytes_left R.counts side (tiles.old, products.old) (tiles.new, products.new) result }
 {
     // The law that bytes name one tile.
@@ -79,10 +77,10 @@ pub fn judge<R: ByteSource, P: ProductInputs<R>, W: VerdictVisitor + Drop>(
     requires laid { IsLayoutOf layout.now.side (names_of tiles.old) layout.now }
     requires uncounted { W.counts 0 walk }
     requires unnoted { (rules : declared.Rules) (g : Grid) (ps : grid.Products) → W.are_of rules g ps 0 walk }
-    ensures answer { (inputs : Inputs) → Tell R.bytes_left layout.now.side tiles.old sinks.now (P.inputs products.old) inputs → IsJudgement judged inputs result }
+    ensures answer { (inputs : Inputs) → Encode R.bytes_left layout.now.side tiles.old sinks.now (P.inputs products.old) inputs → IsJudgement judged inputs result }
     ensures lasting { IfOk result (λ judgement. W.lasting judgement.walk ≡ W.lasting walk) }
-    ensures noted { IfOk result (λ judgement. (inputs : Inputs) → Tell R.bytes_left layout.now.side tiles.old sinks.now (P.inputs products.old) inputs → AreNotesOf W.are_of judged inputs judgement.walk) }
-    ensures flows { IfOk result (λ judgement. (inputs : Inputs) → Tell R.bytes_left layout.now.side tiles.old sinks.now (P.inputs products.old) inputs → AreFlowsFor judged (input_grid inputs) (input_products inputs) (extent_of layout.now) judgement.flows) }
+    ensures noted { IfOk result (λ judgement. (inputs : Inputs) → Encode R.bytes_left layout.now.side tiles.old sinks.now (P.inputs products.old) inputs → AreNotesOf W.are_of judged inputs judgement.walk) }
+    ensures flows { IfOk result (λ judgement. (inputs : Inputs) → Encode R.bytes_left layout.now.side tiles.old sinks.now (P.inputs products.old) inputs → AreFlowsFor judged (input_grid inputs) (input_products inputs) (extent_of layout.now) judgement.flows) }
     ensures uses { UsesInputs P.inputs (λ ts ps. devices_of ts (P.inputs ps)) R.bytes_left R.counts layout.now.side (tiles.old, products.old) (tiles.new, products.new) result }
 {
     match judged {
@@ -112,10 +110,10 @@ fn judge_by<R: ByteSource, P: ProductInputs<R>, D: Decider + Drop, W: VerdictVis
     requires laid { IsLayoutOf layout.now.side (names_of tiles.old) layout.now }
     requires uncounted { W.counts 0 walk }
     requires unnoted { (rules : declared.Rules) (g : Grid) (ps : grid.Products) → W.are_of rules g ps 0 walk }
-    ensures answer { (inputs : Inputs) → Tell R.bytes_left layout.now.side tiles.old sinks.now (P.inputs products.old) inputs → IsJudgement judged inputs result }
+    ensures answer { (inputs : Inputs) → Encode R.bytes_left layout.now.side tiles.old sinks.now (P.inputs products.old) inputs → IsJudgement judged inputs result }
     ensures lasting { IfOk result (λ judgement. W.lasting judgement.walk ≡ W.lasting walk) }
-    ensures noted { IfOk result (λ judgement. (inputs : Inputs) → Tell R.bytes_left layout.now.side tiles.old sinks.now (P.inputs products.old) inputs → AreNotesOf W.are_of judged inputs judgement.walk) }
-    ensures flows { IfOk result (λ judgement. (inputs : Inputs) → Tell R.bytes_left layout.now.side tiles.old sinks.now (P.inputs products.old) inputs → D.leave (input_grid inputs) (input_products inputs) (extent_of layout.now) judgement.flows) }
+    ensures noted { IfOk result (λ judgement. (inputs : Inputs) → Encode R.bytes_left layout.now.side tiles.old sinks.now (P.inputs products.old) inputs → AreNotesOf W.are_of judged inputs judgement.walk) }
+    ensures flows { IfOk result (λ judgement. (inputs : Inputs) → Encode R.bytes_left layout.now.side tiles.old sinks.now (P.inputs products.old) inputs → D.leave (input_grid inputs) (input_products inputs) (extent_of layout.now) judgement.flows) }
     ensures uses { UsesInputs P.inputs (λ ts ps. devices_of ts (P.inputs ps)) R.bytes_left R.counts layout.now.side (tiles.old, products.old) (tiles.new, products.new) result }
 {
     // The law that bytes name one tile.

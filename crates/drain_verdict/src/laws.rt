@@ -2,10 +2,29 @@
 //!
 //! A law is a function with an empty body: its contract is the law, and a caller gets the law by calling it.
 
-ghost use Rattle.drain_verdict.specs.Laws.{InputsAreTold};
+ghost use Rattle.drain_verdict.specs.Laws.{RowLaws, InputsAreTold};
 
 use drain_device::ByteSource;
 use drain_hgt::laws::names_give_corners;
+use drain_mosaic::laws::{
+    rows_are_first_values, rows_are_whole, rows_end, rows_tell_lengths, rows_tell_seams,
+    whole_tiles_give_their_samples,
+};
+use drain_raster::laws::{raster_rows_are_pixels, raster_rows_end};
+
+/// Which rows the bytes of tiles and rasters give, and what these rows say of the bytes.
+pub(crate) fn row_laws()
+    ensures { RowLaws }
+{
+    rows_end();
+    rows_are_whole();
+    rows_are_first_values();
+    rows_tell_seams();
+    rows_tell_lengths();
+    whole_tiles_give_their_samples();
+    raster_rows_end();
+    raster_rows_are_pixels();
+}
 
 /// If the sources' bytes are known, the arguments encode some inputs, whatever the names are: so what `check` promises
 /// of encoded inputs is promised of each such call.

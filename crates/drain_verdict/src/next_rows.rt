@@ -3,25 +3,34 @@
 
 ghost use Rattle.std.specs.Prelude.{◌≡◌, ◌≤◌, ℕ, None, Err, length, IfErr, IsTrue, OnOk};
 ghost use Rattle.std.specs.List.{All};
-ghost use Rattle.drain_device.specs.ComingRows.{Coming};
+ghost use Rattle.drain_device.specs.RowSteps.{Coming};
 ghost use Rattle.drain_grid.specs.declared.cell.TheConstants.{MAX_LENGTH};
 ghost use Rattle.drain_grid.specs.declared.set_product.SetProduct.{SetProduct};
 ghost use Rattle.drain_grid.specs.PerProduct.{of_product};
-ghost use Rattle.drain_grid.specs.Tile.{IsSample};
+ghost use Rattle.drain_grid.specs.Grid.{IsSample};
 ghost use Rattle.drain_grid.specs.Values.{IsPixel};
 ghost use Rattle.drain_mosaic.specs.PlacedRows.{HaveRead};
 ghost use Rattle.drain_hgt.specs.Inputs.{names_of};
 ghost use Rattle.drain_verdict.specs.InputReads.{IsOfReading, RasterHasRead, RastersHaveRead, gave_up, told_by};
 ghost use Rattle.drain_verdict.specs.ToGive.{IsAfterTold, IsMosaicAfter, IsMosaicOneMore, IsNextRow, ToGive};
 
-use crate::input::Products;
 use drain_answer::Refusal;
-use drain_device::{ByteSource, ReadFault, RowSource};
+use drain_device::{ByteList, ByteSource, ReadFault, RowSource};
 use drain_grid::PerProduct;
 use drain_hgt::TileInput;
 use drain_mosaic::MosaicRows;
 use drain_pixels::PixelRow;
 use drain_raster::RasterRows;
+
+/// A product's whole header, and the source of its raster's bytes.
+#[derive(Drop)]
+pub struct RasterInput<R> {
+    pub header: ByteList,
+    pub body: R,
+}
+
+/// The products of one mosaic.
+pub type Products<R> = PerProduct<RasterInput<R>>;
 
 /// Reads the next row of the mosaic: none after the last.
 pub fn read_mosaic<R: ByteSource>(

@@ -1,9 +1,30 @@
 //! The outcome for judged rasters, from the verdict of the rules and the cell that decides besides.
 
-ghost use Rattle.drain_verdict.specs.OutcomesOf.{IsOfSurface, IsOfWays, IsOutcomeOf};
+ghost use Rattle.drain_verdict.specs.Answers.{IsOfBoth};
+ghost use Rattle.drain_verdict.specs.Outcomes.{IsOfSurface, IsOfWays, IsOutcomeOf};
 
-use drain_answer::Outcome;
+use drain_answer::{AuditVerdict, Outcome};
 use drain_grid::{Cell, FillCounts, Judged, Verdict};
+
+/// The first path without an end, if there is one, else the verdict of the rules.
+pub fn verdict_of_both(verdict: &Verdict, no_end: Option<Cell>) -> AuditVerdict
+    ensures { IsOfBoth verdict.now no_end result }
+{
+    if let Some(cell) = no_end {
+        return AuditVerdict::NoEnd {
+            row: cell.row,
+            col: cell.col,
+        };
+    }
+    match verdict {
+        Verdict::Accepted(counts) => AuditVerdict::Accepted(*counts),
+        Verdict::Rejected { rule, row, col } => AuditVerdict::Rejected {
+            rule: *rule,
+            row: *row,
+            col: *col,
+        },
+    }
+}
 
 /// The outcome for these rasters.
 pub fn outcome_of(judged: Judged, verdict: &Verdict, cell: Option<Cell>) -> Outcome

@@ -3,7 +3,7 @@
 ghost use Rattle.std.specs.Prelude.{◌≡◌, ◌↔◌, false, IfOk};
 ghost use Rattle.drain_answer.specs.Outcomes.{IsAcceptedOutcome};
 ghost use Rattle.drain_grid.specs.Judged.{has_rnk};
-ghost use Rattle.drain_verdict.specs.Audits.{ForAudit};
+ghost use Rattle.drain_verdict.specs.Answers.{ForAudit};
 ghost use Rattle.drain_verdict.specs.Outcomes.{AreJudgedRight, IsOutcomeAnswer};
 ghost use Rattle.drain_verdict.specs.Uses.{AuditUses};
 

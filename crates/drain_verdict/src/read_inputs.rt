@@ -11,31 +11,27 @@ ghost use Rattle.drain_grid.specs.declared.set_product.SetProduct.{SetProduct};
 ghost use Rattle.drain_grid.specs.Grid as grid;
 ghost use Rattle.drain_grid.specs.Grid.{Grid};
 ghost use Rattle.drain_grid.specs.declared.judged.Rules as declared;
-ghost use Rattle.drain_header.specs.Fields.{Fields};
+ghost use Rattle.drain_header.specs.Header.{Fields};
 ghost use Rattle.drain_grid.specs.PerProduct.{of_product};
 ghost use Rattle.drain_mosaic.specs.Tiling as tiling;
 ghost use Rattle.drain_raster.specs.Pixels.{header_extent};
-ghost use Rattle.drain_verdict.specs.Inputs.{Inputs, Tell};
+ghost use Rattle.drain_verdict.specs.Inputs.{Inputs, Encode};
 ghost use Rattle.drain_verdict.specs.InputReads.{HaveBeenRead, as_read, with_rasters};
 ghost use Rattle.drain_verdict.specs.InputRows.{AreBegun};
 ghost use Rattle.drain_grid.specs.SinkTexts.{sinks_of};
 ghost use Rattle.drain_verdict.specs.Meaning.{tiling_of, fields_of, listed_in, nodata_in};
-ghost use Rattle.drain_verdict.specs.SinkListings.{IsBadLine};
+ghost use Rattle.drain_verdict.specs.Stages.{IsBadLine, AreRasterBodies, IsLayoutOf};
 ghost use Rattle.drain_verdict.specs.Refusals as refusals;
 ghost use Rattle.drain_verdict.specs.Refusals.{IsOfBodies, NoneStandsBefore};
 ghost use Rattle.drain_verdict.specs.Answers.{AreNotesOf, IsReadAnswer};
-ghost use Rattle.drain_verdict.specs.Stages.{AreRasterBodies, IsLayoutOf};
 ghost use Rattle.drain_device.specs.FaultLists.{SomeReadFails};
 ghost use Rattle.drain_hgt.specs.Inputs.{names_of, AreBodies, TilesTakeAtMost};
-ghost use Rattle.drain_verdict.specs.Devices.{devices_of, BodyTakesAtMost};
-ghost use Rattle.drain_verdict.specs.Uses.{UsesInputs};
+ghost use Rattle.drain_verdict.specs.Uses.{devices_of, BodyTakesAtMost, UsesInputs};
 
-use crate::headers::nodata_of;
+use crate::audit_products::ProductInputs;
 use crate::input_rows::InputRows;
-use crate::product_inputs::ProductInputs;
-use crate::row_laws::row_laws;
-use crate::sink_listing::{SinkListing, sink_listing};
-use crate::sink_refusal::sink_refusal;
+use crate::laws::row_laws;
+use crate::stages::{SinkListing, nodata_of, sink_listing, sink_refusal};
 use drain_answer::Refusal;
 use drain_device::ByteSource;
 use drain_grid::laws::found_off_data_is_right;
@@ -65,9 +61,9 @@ pub fn read_inputs<R: ByteSource, P: ProductInputs<R>, K: RowVisitor>(
     requires laid { IsLayoutOf layout.now.side (names_of tiles.old) layout.now }
     requires uncounted { K.counts 0 notes.old }
     requires unnoted { (rules : declared.Rules) (g : Grid) (ps : grid.Products) → K.are_of rules g ps 0 notes.old }
-    ensures answer { (inputs : Inputs) → Tell R.bytes_left layout.now.side tiles.old sinks.now (P.inputs products.old) inputs → IsReadAnswer inputs result }
+    ensures answer { (inputs : Inputs) → Encode R.bytes_left layout.now.side tiles.old sinks.now (P.inputs products.old) inputs → IsReadAnswer inputs result }
     ensures lasting { OnOk result (K.lasting notes.new ≡ K.lasting notes.old) }
-    ensures noted { OnOk result ((inputs : Inputs) → Tell R.bytes_left layout.now.side tiles.old sinks.now (P.inputs products.old) inputs → AreNotesOf K.are_of judged inputs notes.new) }
+    ensures noted { OnOk result ((inputs : Inputs) → Encode R.bytes_left layout.now.side tiles.old sinks.now (P.inputs products.old) inputs → AreNotesOf K.are_of judged inputs notes.new) }
     ensures uses { UsesInputs P.inputs (λ ts ps. devices_of ts (P.inputs ps)) R.bytes_left R.counts layout.now.side (tiles.old, products.old) (tiles.new, products.new) result }
 {
     // The law that bytes name one tile.

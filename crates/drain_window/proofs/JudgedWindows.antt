@@ -10,17 +10,15 @@ use Rattle.drain_grid.specs.Rule.{IsPatchRule}
 use Rattle.drain_grid.specs.Unranked.{unranked}
 use Rattle.drain_grid.specs.Values.{NoDataNumbers}
 use Rattle.drain_grid.proofs.Neighbors.{same_place}
-use Rattle.drain_rules.specs.declared.row_outcome.RowOutcome.TheVariants.{Sound, Faulty}
-use Rattle.drain_union.specs.declared.outlet.Outlet.{Outlet}
+use Rattle.drain_rules.specs.declared.walk.RowOutcome.TheVariants.{Sound, Faulty}
+use Rattle.drain_union.specs.declared.report.Outlet.{Outlet}
 use Rattle.drain_union.specs.declared.place.Place.{Place}
 use Rattle.drain_union.specs.declared.place.TheConstants.{SEAM_DEPTH}
-use Rattle.drain_union.specs.Cuts.{cut_grid, cut_products, window_at}
+use Rattle.drain_union.specs.Windows.{cut_grid, cut_products, window_at, Window, in_union, moved, IsFirstInside, IsJudgedIn, IsJudgedOutlet, IsPlaceIn, IsWindowOf, RulesHoldInside}
 use Rattle.drain_union.specs.Reports.{IsOnSeam}
-use Rattle.drain_union.specs.Windows.{Window, in_union, moved, IsFirstInside, IsJudgedIn, IsJudgedOutlet, IsPlaceIn, IsWindowOf, RulesHoldInside}
 use Rattle.drain_union.proofs.Unions.{by_patch}
 use Rattle.drain_union.proofs.WindowPatches.{patch_of_window, there}
-use Rattle.drain_rules.specs.AreaOutcomes.{IsAbove}
-use Rattle.drain_rules.specs.Areas.{CountsAmong, HasCell, IsFirstAmong}
+use Rattle.drain_rules.specs.Areas.{IsAbove, CountsAmong, HasCell, IsFirstAmong}
 use Rattle.drain_rules.specs.Rows.{place}
 use Rattle.drain_window.specs.JudgedAreas.{IsBefore, IsOutletAt, judged_area, ring_of, row_cells_of}
 use Rattle.drain_window.specs.Laws.{WalkJudgesWindow, WalkListsSeams}

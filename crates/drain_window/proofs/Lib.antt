@@ -1,7 +1,5 @@
 pub mod JudgedWindows
 pub mod SeamCells
 pub mod SinkLists
-pub mod WindowCounts
-pub mod WindowReports
-pub mod WindowUses
 pub mod WindowVerdicts
+pub mod WindowReports

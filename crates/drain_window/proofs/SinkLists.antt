@@ -5,16 +5,14 @@ use Rattle.std.proofs.lemmas.List.Elements.{Contains-append_left, Contains-appen
 use Rattle.drain_grid.specs.declared.cell.Cell.{Cell}
 use Rattle.drain_grid.specs.declared.sink_line.SinkLine.{SinkLine}
 use Rattle.drain_grid.specs.Grid.{Grid, Products}
-use Rattle.drain_grid.specs.SinkLines.{is_listed}
+use Rattle.drain_grid.specs.SinkTexts.{is_listed}
 use Rattle.drain_grid.proofs.Neighbors.{same_place}
 use Rattle.drain_window.proofs.JudgedWindows.{judged_moved, moved_judged}
 use Rattle.drain_union.specs.declared.place.Place.{Place}
-use Rattle.drain_union.proofs.ListedLines.{line_of, listed_there}
-use Rattle.drain_union.specs.Cuts.{window_at}
-use Rattle.drain_union.specs.Judged.{IsJudgedAt}
+use Rattle.drain_union.proofs.Merges.{line_of, listed_there}
+use Rattle.drain_union.specs.Windows.{window_at, IsJudgedAt, in_union, moved}
 use Rattle.drain_union.specs.Reports.{ListsSinks}
-use Rattle.drain_union.specs.Windows.{in_union, moved}
-use Rattle.drain_window.specs.JudgedSinks.{AreLinesInside, union_cell}
+use Rattle.drain_window.specs.JudgedAreas.{AreLinesInside, union_cell}
 
 -- a cell of a place, and of the place in the union
 moved_cell : (origin : Cell) (p : Place) (c : Cell) → union_cell origin (in_union p c) ≡ in_union (moved origin p) c

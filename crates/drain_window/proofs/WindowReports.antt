@@ -1,5 +1,21 @@
 -- From the notes of all rows to the report on a window, and the verdict.
-use Rattle.std.proofs.Common.{◌≡◌, ℕ, ◌+◌, ◌-◌, ◌<◌, ◌≤◌, true, false, List, refl, sym, ap, subst, arith}
+use Rattle.std.proofs.Common.{◌≡◌, ◌↔◌, ℕ, Option, List, Result, Ok, Err, IfErr, IsErrOf, sym, subst, ◌+◌, ◌-◌, ◌<◌, ◌≤◌, true, false, refl, ap, arith}
+use Rattle.drain_answer.specs.declared.refusal.Refusal.{Refusal}
+use Rattle.drain_answer.specs.declared.refusal.Refusal.TheVariants.{OutOfMemory, ReadFailed}
+use Rattle.drain_device.specs.declared.counts.FaultCounts.{FaultCounts}
+use Rattle.drain_device.proofs.FaultLists.{SomeReadFails-iff}
+use Rattle.drain_hgt.specs.declared.input.TileInput.{TileInput}
+use Rattle.drain_mosaic.specs.Tiling.{Tiling}
+use Rattle.drain_grid.specs.declared.verdict.Verdict.{Verdict}
+use Rattle.drain_verdict.proofs.OutcomeLemmas.{memory_alike}
+use Rattle.drain_verdict.specs.Refusals.{IsOfBodies}
+use Rattle.drain_verdict.specs.Uses.{AuditUses}
+use Rattle.drain_verdict.specs.declared.audit_products.AuditProducts.{AuditProducts}
+use Rattle.drain_verdict.proofs.AuditDevices.{none_alike}
+use Rattle.drain_union.specs.Reports.{Report, audited, IsSortedByLabel, ListsOutlets, IsReportOf, ListsSeams, ListsSinks}
+use Rattle.drain_union.specs.declared.report.WindowReport.{WindowReport}
+use Rattle.drain_window.specs.WindowAnswers.{as_refused, IsWithTiles}
+use Rattle.drain_window.specs.declared.answered.WindowRefusal.{WindowRefusal}
 use Rattle.std.specs.List.Sorted.{IsPermutation}
 use Rattle.std.proofs.lemmas.List.Sorted.{Contains-permutation, IsPermutation-sym}
 use Rattle.drain_grid.specs.declared.cell.Cell.{Cell}
@@ -10,30 +26,47 @@ use Rattle.drain_grid.proofs.Neighbors.{same_place}
 use Rattle.drain_grid.specs.Values.{NoDataNumbers}
 use Rattle.drain_grid.specs.declared.judged.Judged.TheVariants.{All}
 use Rattle.drain_grid.specs.Rule.{IsPatchRule}
-use Rattle.drain_rules.specs.declared.row_outcome.RowOutcome.TheVariants.{Sound, Faulty}
-use Rattle.drain_rules.specs.declared.tally.Tally.{Tally}
-use Rattle.drain_union.specs.declared.outlet.Outlet.{Outlet}
+use Rattle.drain_rules.specs.declared.walk.RowOutcome.TheVariants.{Sound, Faulty}
+use Rattle.drain_rules.specs.declared.walk.Tally.{Tally}
+use Rattle.drain_union.specs.declared.report.Outlet.{Outlet}
 use Rattle.drain_union.specs.declared.place.Place.{Place}
 use Rattle.drain_union.specs.declared.place.TheConstants.{SEAM_DEPTH}
 use Rattle.drain_union.specs.declared.report.Shown.{Shown}
-use Rattle.drain_union.specs.Cuts.{window_at}
+use Rattle.drain_union.specs.Windows.{window_at, moved, IsFirstInside, IsPlaceIn, RulesHoldInside}
 use Rattle.drain_union.specs.Laws.{FourNumbers}
-use Rattle.drain_union.specs.NoData.{audited}
-use Rattle.drain_union.specs.Outlets.{IsSortedByLabel, ListsOutlets}
-use Rattle.drain_union.specs.Reports.{IsReportOf, ListsSeams, ListsSinks}
-use Rattle.drain_union.specs.Windows.{moved, IsFirstInside, IsPlaceIn, RulesHoldInside}
-use Rattle.drain_rules.specs.declared.area.Area.{Area}
+use Rattle.drain_rules.specs.declared.walk.Area.{Area}
 use Rattle.drain_rules.specs.declared.walk.Walk.{Walk}
-use Rattle.drain_rules.specs.AreaOutcomes.{IsAreaOutcome}
+use Rattle.drain_rules.specs.Areas.{IsAreaOutcome}
 use Rattle.drain_rules.specs.Rows.{place}
 use Rattle.drain_window.specs.JudgedAreas.{AreListed, judged_area}
 use Rattle.drain_window.specs.Laws.{IsOfWindow, ListsJudged, WalkJudgesWindow, WalkListsSeams}
 use Rattle.drain_window.specs.SeamRows.{ListsSeamsAbove}
-use Rattle.drain_window.specs.SeamWalks.{IsSeamWalkOf}
-use Rattle.drain_window.specs.WindowWalks.{IsWindowWalkOf}
+use Rattle.drain_window.specs.WindowWalks.{IsSeamWalkOf, IsWindowWalkOf}
 use Rattle.drain_window.specs.declared.listed_outlets.ListedOutlets.{ListedOutlets}
 use Rattle.drain_window.specs.declared.seam_walk.SeamWalk.{SeamWalk}
 use Rattle.drain_window.specs.WindowNotes.{AreOfWindow}
+
+-- How the inputs are used, from one answer to the next.
+
+module _ {R : Type 0} (bytes_left : R → Option (List ℕ)) (counts : R → FaultCounts) (side : ℕ) (old new : List (TileInput R) × AuditProducts R) where
+  -- two answers say alike that a read failed
+  pub used_again : {A B : Type 0} (a : Result A Refusal) (b : Result B Refusal) → IsErrOf a ReadFailed ↔ IsErrOf b ReadFailed →
+      IfErr b (λ refusal. ¬ IsOfBodies refusal → (new.0 ≡ old.0) × (new.1 ≡ old.1)) → AuditUses bytes_left counts side old new a → AuditUses bytes_left counts side old new b
+  used_again a b alike untouched uses = record {
+    tiles_within = uses.tiles_within;
+    rasters_within = uses.rasters_within;
+    faults = SomeReadFails-iff alike uses.faults;
+    names = uses.names;
+    headers = uses.headers;
+    untouched = untouched;
+  }
+
+  pub with_tiles_uses : (t : Tiling) (v : Verdict) (r : Report) (result : Result WindowReport WindowRefusal) → IsWithTiles t v r result →
+      AuditUses {T = Verdict × Report} bytes_left counts side old new (Ok (v, r)) → AuditUses bytes_left counts side old new (as_refused result)
+  with_tiles_uses t v r (Ok a) is uses = used_again {A = Verdict × Report} (Ok (v, r)) (Ok a) (none_alike {A = Verdict × Report} (v, r) a) tt uses
+  with_tiles_uses t v r (Err refusal) same uses =
+      subst (λ (x : WindowRefusal). AuditUses bytes_left counts side old new (as_refused (Err x))) (sym same)
+      (used_again {A = Verdict × Report} (Ok (v, r)) (Err OutOfMemory) (memory_alike {A = Verdict × Report} (v, r)) (λ not. absurd (not tt)) uses)
 
 -- a sorted list of the same outlets is that of the window
 listed : (nodata : NoDataNumbers) (origin : Cell) (p : Place) (g : Grid) (ps : Products) (outlets sorted : List Outlet) → IsSortedByLabel sorted → IsPermutation outlets sorted →

@@ -1,7 +1,22 @@
 -- What follows from the answer to the inputs.
-use Rattle.std.proofs.Common.{◌≡◌, Result, Ok, Err, IfOk, IsErrOf, sym, ap, subst, ◌∙◌}
-use Rattle.drain_answer.specs.declared.refusal.Refusal.TheVariants.{BoxTooLarge, ReadFailed}
+use Rattle.std.proofs.Common.{◌≡◌, ℕ, zero, suc, ◌+◌, ◌-◌, cond, refl, sym, ap, ◌∙◌, arith, Result, Ok, Err, IfOk, IsErrOf, subst}
+use Rattle.std.specs.List.{sum_by, range_with_len}
+use Rattle.std.proofs.lemmas.List.Sums.{sum_by-cons}
 use Rattle.drain_grid.specs.declared.cell.Cell.{Cell}
+use Rattle.drain_grid.specs.GridRules.{is_data, is_raised}
+use Rattle.drain_grid.specs.Grid.{Grid, Products}
+use Rattle.drain_grid.proofs.CellSums.{sum_by_same}
+use Rattle.drain_grid.proofs.Neighbors.{place}
+use Rattle.drain_rules.specs.declared.walk.Tally.{Tally}
+use Rattle.drain_grid.specs.declared.verdict.Counts.{Counts}
+use Rattle.drain_rules.specs.Verdicts.{has_outlet_code}
+use Rattle.drain_union.specs.declared.place.Place.{Place}
+use Rattle.drain_union.specs.Windows.{window_at, in_union, IsFirstInside, IsPlaceIn}
+use Rattle.drain_union.specs.JudgedCounts.{AreCountsInside, judged_cells, ring}
+use Rattle.drain_union.proofs.JudgedCounts.{by_rows, sum_by_map, sum_by_flat_map}
+use Rattle.drain_rules.specs.Areas.{CountsAmong}
+use Rattle.drain_window.specs.JudgedAreas.{cells_in, judged_area, row_cells_of}
+use Rattle.drain_answer.specs.declared.refusal.Refusal.TheVariants.{BoxTooLarge, ReadFailed}
 use Rattle.drain_grid.specs.declared.rule.Rule.{Rule}
 use Rattle.drain_grid.specs.declared.verdict.Verdict.{Verdict}
 use Rattle.drain_grid.specs.declared.verdict.Verdict.TheVariants.{Accepted, Rejected}
@@ -9,14 +24,54 @@ use Rattle.drain_mosaic.specs.Tiling.{Tiling}
 use Rattle.drain_verdict.specs.Answers.{AreReadable}
 use Rattle.drain_verdict.specs.Inputs.{Inputs}
 use Rattle.drain_verdict.specs.Meaning.{input_grid, input_products, nodata_numbers, tiling_of}
-use Rattle.drain_union.specs.declared.place.Place.{Place}
-use Rattle.drain_union.specs.declared.window_report.WindowReport.{WindowReport}
-use Rattle.drain_union.specs.Reports.{Report}
-use Rattle.drain_union.specs.Verdicts.{Agree}
-use Rattle.drain_union.specs.Windows.{IsFirstInside, IsPlaceIn}
-use Rattle.drain_window.specs.MapOrigins.{map_origin}
+use Rattle.drain_union.specs.declared.report.WindowReport.{WindowReport}
+use Rattle.drain_union.specs.Reports.{Report, Agree}
+use Rattle.drain_window.specs.WindowLines.{map_origin}
 use Rattle.drain_window.specs.WindowAnswers.{IfRejected, IsAnswerOn, IsJudgedVerdict, IsWindowAnswer, IsWithTiles, window_of}
-use Rattle.drain_window.specs.declared.window_answer.WindowRefusal.{WindowRefusal}
+use Rattle.drain_window.specs.declared.answered.WindowRefusal.{WindowRefusal}
+
+-- The cells of a judged area are those that its place judges, each one row and column further than the place begins. So
+-- sums over both are the same.
+
+sum_shift : (f : ℕ → ℕ) (t b n : ℕ) → sum_by f (range_with_len (t + b) n) ≡ sum_by (λ k. f (t + k)) (range_with_len b n)
+sum_shift f t b zero = refl
+sum_shift f t b (suc n) =
+    let next : t + b + 1 ≡ t + (b + 1) = omega arith in
+    let rest = ap (λ m. sum_by f (range_with_len m n)) next ∙ sum_shift f t (b + 1) n in
+    omega (arith, sum_by-cons f (t + b) (range_with_len (t + b + 1) n), sum_by-cons (λ k. f (t + k)) b (range_with_len (b + 1) n), rest)
+
+-- as many from the first judged one on as are judged
+sum_along : (f : ℕ → ℕ) (first before behind count : ℕ) →
+    sum_by f (range_with_len (first + before) (first + count - behind - (first + before))) ≡ sum_by (λ k. f (first + k)) (range_with_len before (count - before - behind))
+sum_along f first before behind count =
+    let many : first + count - behind - (first + before) ≡ count - before - behind = omega arith in
+    ap (λ n. sum_by f (range_with_len (first + before) n)) many ∙ sum_shift f first before (count - before - behind)
+
+area_sum : (f : Cell → ℕ) (p : Place) → sum_by f (cells_in (judged_area p)) ≡ sum_by (λ c. f (in_union p c)) (judged_cells p)
+area_sum f p =
+    let a = judged_area p in
+    let rows = range_with_len a.top (a.bottom - a.top) in
+    let cols = range_with_len a.left (a.right - a.left) in
+    sum_by_flat_map f (row_cells_of a) rows
+    ∙ sum_by_same (λ r. sum_by f (row_cells_of a r)) (λ r. sum_by (λ k. f (place r k)) cols) rows (λ r. sum_by_map f (place r) cols)
+    ∙ sum_along (λ r. sum_by (λ k. f (place r k)) cols) p.top (ring p.inner.north) (ring p.inner.south) p.extent.rows
+    ∙ sum_by_same (λ r. sum_by (λ k. f (place (p.top + r) k)) cols)
+    (λ r. sum_by (λ k. f (place (p.top + r) (p.left + k))) (range_with_len (ring p.inner.west) (p.extent.cols - ring p.inner.west - ring p.inner.east)))
+    (range_with_len (ring p.inner.north) (p.extent.rows - ring p.inner.north - ring p.inner.south))
+    (λ r. sum_along (λ k. f (place (p.top + r) k)) p.left (ring p.inner.west) (ring p.inner.east) p.extent.cols)
+    ∙ sym (by_rows p (λ c. f (in_union p c)))
+
+-- the counts among the cells of a judged area are those of the window there
+pub counts_inside : (origin : Cell) (p : Place) (g : Grid) (ps : Products) (tally : Tally) (k : Counts) → CountsAmong g ps (cells_in (judged_area p)) tally →
+    k.rows ≡ p.extent.rows → k.cols ≡ p.extent.cols → k.data_cells ≡ tally.data_cells → k.raised ≡ tally.raised → k.outlets ≡ tally.outlets →
+    AreCountsInside (window_at origin p g ps) k
+counts_inside origin p g ps tally k among rows cols data_cells raised outlets = record {
+  rows = rows;
+  cols = cols;
+  data_cells = data_cells ∙ among.data_cells ∙ area_sum (λ c. cond (is_data g c) 1 0) p;
+  raised = raised ∙ among.raised ∙ area_sum (λ c. cond (is_raised g ps c) 1 0) p;
+  outlets = outlets ∙ among.outlets ∙ area_sum (λ c. cond (has_outlet_code g ps c) 1 0) p;
+}
 
 -- a fact of the inputs that follows from an answer that is a report
 pub when_answered : (Told : Inputs → Type 0) (p : Place) (Fact : WindowReport → Inputs → Type 0) → ((a : WindowReport) (i : Inputs) → IsWindowAnswer p i (Ok a) → Fact a i) →

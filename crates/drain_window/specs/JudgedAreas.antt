@@ -1,16 +1,18 @@
 -- The cells of a place that are judged, and how their outlets are listed. Source: this project's own.
-use Rattle.std.specs.Prelude.{◌≡◌, ℕ, ◌+◌, ◌-◌, Bool, if◌then◌else◌, pos, ◌↔◌, ◌⊎◌, List, map}
+use Rattle.std.specs.Prelude.{◌≡◌, ℕ, ◌+◌, ◌-◌, Bool, if◌then◌else◌, pos, ◌↔◌, ◌⊎◌, List, map, ◌<◌, Some, slice_get}
 use Rattle.std.specs.List.{Contains, flat_map, range_with_len}
 use Rattle.drain_grid.specs.declared.cell.Cell.{Cell}
 use Rattle.drain_grid.specs.Extent.{IsEarlier}
 use Rattle.drain_grid.specs.Grid.{Grid, Products, HasData}
 use Rattle.drain_grid.specs.Values.{Values}
-use Rattle.drain_rules.specs.declared.area.Area.{Area}
+use Rattle.drain_rules.specs.declared.walk.Area.{Area}
 use Rattle.drain_rules.specs.Areas.{HasCell}
 use Rattle.drain_rules.specs.Labels.{IsOutletByCode}
 use Rattle.drain_rules.specs.Rows.{place}
-use Rattle.drain_union.specs.declared.outlet.Outlet.{Outlet}
+use Rattle.drain_union.specs.declared.report.Outlet.{Outlet}
 use Rattle.drain_union.specs.declared.place.Place.{Place}
+use Rattle.drain_grid.specs.declared.sink_line.SinkLine.{SinkLine}
+use Rattle.drain_union.specs.Windows.{IsJudgedAt}
 
 -- 1 for an inner side, where the ring lies
 abbrev pub ring_of : Bool → ℕ
@@ -67,3 +69,15 @@ pub record AddsOutlet (v : Values) (cell : Cell) (a b : Area) (origin same : Cel
   pub area : b ≡ a
   pub origin_is : same ≡ origin
   pub lists : Lists v (cell_from origin cell) old new
+
+-- The lines of a list of sinks that a window judges. Source: this project's own.
+
+-- the union's cell that is this cell of a grid that begins at the union's cell `origin`
+abbrev pub union_cell : Cell → Cell → Cell
+union_cell origin c = record { row = origin.row + c.row; col = origin.col + c.col }
+
+-- the list holds the union's cell of each of the first n lines whose cell is judged at the place, and nothing else
+pub record AreLinesInside (origin : Cell) (p : Place) (lines : List SinkLine) (n : ℕ) (xs : List Cell) : Type 0 where
+  pub sound : (x : Cell) → Contains xs x →
+      (k : ℕ) × (k < n) × (s : SinkLine) × (slice_get lines k ≡ Some s) × IsJudgedAt p s.cell × (union_cell origin s.cell ≡ x)
+  pub complete : (k : ℕ) (s : SinkLine) → k < n → slice_get lines k ≡ Some s → IsJudgedAt p s.cell → Contains xs (union_cell origin s.cell)

@@ -2,24 +2,27 @@
 use Rattle.std.specs.Prelude.{◌≡◌, List}
 use Rattle.std.specs.List.{Contains}
 use Rattle.drain_grid.specs.declared.cell.Cell.{Cell}
-use Rattle.drain_grid.specs.Grid.{Grid, Products}
+use Rattle.drain_grid.specs.Grid.{Grid, Products, IsInside, values_at}
 use Rattle.drain_grid.specs.Rule.{IsPatchRule}
 use Rattle.drain_grid.specs.Unranked.{unranked}
-use Rattle.drain_grid.specs.Values.{NoDataNumbers}
-use Rattle.drain_rules.specs.declared.row_outcome.RowOutcome.{RowOutcome}
-use Rattle.drain_rules.specs.declared.row_outcome.RowOutcome.TheVariants.{Sound, Faulty}
-use Rattle.drain_rules.specs.AreaOutcomes.{IsAreaOutcome}
-use Rattle.drain_rules.specs.Areas.{CountsAmong}
+use Rattle.drain_grid.specs.Values.{NoDataNumbers, Values}
+use Rattle.drain_rules.specs.declared.walk.RowOutcome.{RowOutcome}
+use Rattle.drain_rules.specs.declared.walk.RowOutcome.TheVariants.{Sound, Faulty}
+use Rattle.drain_rules.specs.Areas.{IsAreaOutcome, CountsAmong, HasCell, IsOutletCell}
 use Rattle.drain_rules.specs.Rows.{place}
-use Rattle.drain_union.specs.declared.outlet.Outlet.{Outlet}
+use Rattle.drain_union.specs.declared.report.Outlet.{Outlet}
 use Rattle.drain_union.specs.declared.place.Place.{Place}
 use Rattle.drain_union.specs.declared.place.TheConstants.{SEAM_DEPTH}
 use Rattle.drain_union.specs.declared.report.Shown.{Shown}
-use Rattle.drain_union.specs.Cuts.{window_at}
+use Rattle.drain_union.specs.Windows.{window_at, Window, in_union, IsFirstInside, IsJudgedOutlet, IsPlaceIn, RulesHoldInside}
 use Rattle.drain_union.specs.Reports.{ListsSeams}
-use Rattle.drain_union.specs.Windows.{Window, in_union, IsFirstInside, IsJudgedOutlet, IsPlaceIn, RulesHoldInside}
-use Rattle.drain_window.specs.JudgedAreas.{AreListed, cells_in, judged_area}
+use Rattle.drain_window.specs.JudgedAreas.{AreListed, cells_in, judged_area, AddsOutlet, IsBefore, IsOutletAt, Lists, cell_from}
 use Rattle.drain_window.specs.SeamRows.{ListsSeamsAbove}
+use Rattle.std.proofs.Common.{ℕ, ◌+◌, ◌↔◌, inl, inr, false, IsTrue, refl, sym, ◌∙◌, ap, subst, arith}
+use Rattle.drain_grid.specs.Extent.{IsEarlier}
+use Rattle.drain_rules.specs.declared.walk.Area.{Area}
+use Rattle.drain_rules.specs.Laws.{earlier-more, earlier-still}
+use Rattle.drain_rules.specs.Labels.{IsOutletByCode}
 
 -- the list holds the label and the union's cell of each outlet that the window judges, and nothing else, in any order
 pub record ListsJudged (w : Window) (xs : List Outlet) : Type 0 where
@@ -45,3 +48,70 @@ abbrev pub WalkListsSeams : Type 0
 WalkListsSeams =
     (origin : Cell) (p : Place) (g : Grid) (ps : Products) (xs : List Shown) → IsPlaceIn g.extent p →
     ListsSeamsAbove origin p g ps g.extent.rows xs → ListsSeams SEAM_DEPTH (window_at origin p g ps) xs
+
+-- What listed outlets say, as the place goes on in row order. The laws are this project's own.
+
+-- no list is compared
+pub not_compared : {P : Type 0} → IsTrue false → P
+not_compared is = absurd (let no : ⊥ = cc in no)
+
+-- with a judged cell the list is that before the next place
+one_more : (g : Grid) (ps : Products) (row col : ℕ) (here : Values) (a : Area) (origin : Cell) (old new : List Outlet) → IsInside g (place row col) → HasCell a (place row col) →
+    here ≡ values_at g ps (place row col) → Lists here (cell_from origin (place row col)) old new → AreListed a origin g ps (place row col) old → AreListed a origin g ps (place row (col + 1)) new
+one_more g ps row col here a origin old new inside judged is lists so_far x = (to, back)
+  where
+    to : Contains new x → (c : Cell) × IsBefore a (place row (col + 1)) c × IsOutletAt g ps origin c x
+    to has = elim ((lists x).0 has) [
+      | inl before ↦
+          (let f = (so_far x).0 before in
+          (f.0, record { inside = f.1.inside; earlier = earlier-still f.0 row col f.1.earlier }, f.2))
+      | inr outlet ↦
+          (let by_code : IsOutletByCode (values_at g ps (place row col)) = subst (λ (v : Values). IsOutletByCode v) is outlet.outlet in (
+            place row col,
+            record { inside = judged; earlier = inr (refl, omega arith) },
+            record {
+              has_data = record { inside = inside; is_data = by_code.has_data };
+              code = by_code.code;
+              label = outlet.label ∙ ap (λ (v : Values). v.bas) is;
+              cell = outlet.cell_is;
+            },
+          ))
+    ]
+
+    at_last : (c : Cell) → c ≡ place row col → IsOutletAt g ps origin c x → Contains new x
+    at_last c same outlet =
+        let here_is : IsOutletAt g ps origin (place row col) x = subst (λ b. IsOutletAt g ps origin b x) same outlet in
+        let by_code : IsOutletByCode (values_at g ps (place row col)) = record { has_data = here_is.has_data.is_data; code = here_is.code } in
+        (lists x).1
+        (inr (record {
+          outlet = subst (λ (v : Values). IsOutletByCode v) (sym is) by_code;
+          label = here_is.label ∙ sym (ap (λ (v : Values). v.bas) is);
+          cell_is = here_is.cell;
+        }))
+
+    back : (c : Cell) × IsBefore a (place row (col + 1)) c × IsOutletAt g ps origin c x → Contains new x
+    back (c, before, outlet) = elim (earlier-more c row col before.earlier) [
+      | inl same ↦ at_last c same outlet
+      | inr earlier ↦ (lists x).1 (inl ((so_far x).1 (c, record { inside = before.inside; earlier = earlier }, outlet)))
+    ]
+
+pub listed-more : (g : Grid) (ps : Products) (row col : ℕ) (here : Values) (a b : Area) (origin same : Cell) (old new : List Outlet) → IsInside g (place row col) → HasCell a (place row col) →
+    here ≡ values_at g ps (place row col) → AddsOutlet here (place row col) a b origin same old new → AreListed a origin g ps (place row col) old → AreListed b same g ps (place row (col + 1)) new
+listed-more g ps row col here a b origin same old new inside judged is adds so_far =
+    subst (λ r. AreListed r same g ps (place row (col + 1)) new) (sym adds.area)
+    (subst (λ o. AreListed a o g ps (place row (col + 1)) new) (sym adds.origin_is)
+    (one_more g ps row col here a origin old new inside judged is adds.lists so_far))
+
+-- cells that aren't judged outlets change nothing
+pub listed-passed : (a : Area) (origin : Cell) (g : Grid) (ps : Products) (p q : Cell) (xs : List Outlet) →
+    ((c : Cell) → HasCell a c → IsOutletCell g ps c → IsEarlier c p ↔ IsEarlier c q) → AreListed a origin g ps p xs → AreListed a origin g ps q xs
+listed-passed a origin g ps p q xs same so_far x = (to, back)
+  where
+    to : Contains xs x → (c : Cell) × IsBefore a q c × IsOutletAt g ps origin c x
+    to has =
+        let f = (so_far x).0 has in
+        (f.0, record { inside = f.1.inside; earlier = (same f.0 f.1.inside (record { has_data = f.2.has_data; code = f.2.code })).0 f.1.earlier }, f.2)
+
+    back : (c : Cell) × IsBefore a q c × IsOutletAt g ps origin c x → Contains xs x
+    back (c, before, outlet) =
+        (so_far x).1 (c, record { inside = before.inside; earlier = (same c before.inside (record { has_data = outlet.has_data; code = outlet.code })).1 before.earlier }, outlet)

@@ -1,11 +1,7 @@
 pub mod JudgedAreas
-pub mod JudgedSinks
 pub mod Laws
-pub mod ListLaws
-pub mod MapOrigins
-pub mod SeamRows
-pub mod SeamWalks
-pub mod WindowAnswers
 pub mod WindowLines
-pub mod WindowNotes
+pub mod SeamRows
 pub mod WindowWalks
+pub mod WindowAnswers
+pub mod WindowNotes

@@ -13,16 +13,14 @@ use Rattle.drain_verdict.specs.Answers.{AreReadable, IsRefusal}
 use Rattle.drain_verdict.specs.Inputs.{Inputs}
 use Rattle.drain_verdict.specs.Meaning.{input_grid, input_products, nodata_numbers, tiling_of}
 use Rattle.drain_union.specs.declared.place.Place.{Place}
-use Rattle.drain_union.specs.declared.window_report.WindowReport.{WindowReport}
+use Rattle.drain_union.specs.declared.report.WindowReport.{WindowReport}
 use Rattle.drain_union.specs.declared.place.TheConstants.{SEAM_DEPTH}
-use Rattle.drain_union.specs.Cuts.{window_at}
+use Rattle.drain_union.specs.Windows.{window_at, Window, IsFirstInside, IsPlaceIn, RulesHoldInside}
 use Rattle.drain_union.specs.JudgedCounts.{AreCountsInside}
-use Rattle.drain_union.specs.NoData.{audited}
-use Rattle.drain_union.specs.Reports.{Report, IsReportOf}
-use Rattle.drain_union.specs.Windows.{Window, IsFirstInside, IsPlaceIn, RulesHoldInside}
-use Rattle.drain_window.specs.MapOrigins.{map_origin}
-use Rattle.drain_window.specs.declared.window_answer.WindowRefusal.{WindowRefusal}
-use Rattle.drain_window.specs.declared.window_answer.WindowRefusal.TheVariants.{Inputs as OfInputs, OutsideMosaic}
+use Rattle.drain_union.specs.Reports.{audited, Report, IsReportOf}
+use Rattle.drain_window.specs.WindowLines.{map_origin}
+use Rattle.drain_window.specs.declared.answered.WindowRefusal.{WindowRefusal}
+use Rattle.drain_window.specs.declared.answered.WindowRefusal.TheVariants.{Inputs as OfInputs, OutsideMosaic}
 
 -- the window that lies at this place of the inputs' mosaic, as a window of a union of all tiles on the map
 abbrev pub window_of : Place → Inputs → Window

@@ -1,9 +1,12 @@
 -- The line for the answer to a window. Its words are this project's own.
-use Rattle.std.specs.Prelude.{ℕ, List, Result, Ok, Err, codes}
+use Rattle.std.specs.Prelude.{ℕ, List, Result, Ok, Err, codes, ◌-◌, ◌*◌, pos, neg_ℤ, ◌-ℤ◌, nat_abs}
 use Rattle.drain_answer.specs.Lines.{verdict_line, refusal_line as inputs_line}
-use Rattle.drain_union.specs.declared.window_report.WindowReport.{WindowReport}
-use Rattle.drain_window.specs.declared.window_answer.WindowRefusal.{WindowRefusal}
-use Rattle.drain_window.specs.declared.window_answer.WindowRefusal.TheVariants.{Inputs, OutsideMosaic}
+use Rattle.drain_union.specs.declared.report.WindowReport.{WindowReport}
+use Rattle.drain_window.specs.declared.answered.WindowRefusal.{WindowRefusal}
+use Rattle.drain_window.specs.declared.answered.WindowRefusal.TheVariants.{Inputs, OutsideMosaic}
+use Rattle.drain_grid.specs.declared.cell.Cell.{Cell}
+use Rattle.drain_hgt.specs.declared.name.TheConstants.{POLE, HALF_TURN}
+use Rattle.drain_mosaic.specs.Tiling.{Tiling, north_of, west_of}
 
 -- the line of a refusal; a box that doesn't fit has a name of its own
 abbrev pub refusal_line : WindowRefusal → List ℕ
@@ -14,3 +17,12 @@ refusal_line OutsideMosaic = codes "refused BadBox"
 abbrev pub window_line : Result WindowReport WindowRefusal → List ℕ
 window_line (Ok window) = verdict_line window.verdict
 window_line (Err refusal) = refusal_line refusal
+
+-- Where a mosaic lies on the map (the SRTM HGT documentation: adjacent tiles share their edges).
+
+-- the row and the column of its first cell, where the map begins at 90 degrees north and 180 degrees west
+abbrev pub map_origin : Tiling → Cell
+map_origin t = record {
+  row = nat_abs (pos POLE -ℤ north_of t) * (t.side - 1);
+  col = nat_abs (west_of t -ℤ neg_ℤ (pos HALF_TURN)) * (t.side - 1);
+}

@@ -1,6 +1,7 @@
 //! The answer from what was noted of the rows.
 
 ghost use Rattle.std.specs.Prelude.{◌≡◌, ◌<◌, IsTrue, IfSome};
+ghost use Rattle.drain_window.specs.WindowLines.{refusal_line, window_line};
 ghost use Rattle.std.specs.List.Sorted.{IsPermutation};
 ghost use Rattle.drain_grid.specs.Grid.{Grid, Products};
 ghost use Rattle.drain_grid.specs.Values.{NoDataNumbers};
@@ -8,25 +9,54 @@ ghost use Rattle.drain_grid.specs.declared.judged.Judged.TheVariants.{All};
 ghost use Rattle.drain_window.specs.WindowAnswers.{IsAnswerOn};
 ghost use Rattle.drain_window.specs.WindowNotes.{AreOfWindow};
 ghost use Rattle.drain_window.specs.SeamRows.{EndsInRange, IsOrigin};
-ghost use Rattle.drain_window.specs.SeamWalks.{IsSeamWalkOf};
-ghost use Rattle.drain_window.specs.WindowWalks.{IsWindowWalkOf};
-ghost use Rattle.drain_union.specs.Cuts.{window_at};
-ghost use Rattle.drain_union.specs.Outlets.{IsSortedByLabel};
-ghost use Rattle.drain_union.specs.Reports.{ListsSinks};
-ghost use Rattle.drain_union.specs.Verdicts.{Agree};
-ghost use Rattle.drain_union.specs.Windows.{IsPlaceIn};
+ghost use Rattle.drain_window.specs.WindowWalks.{IsSeamWalkOf, IsWindowWalkOf};
+ghost use Rattle.drain_union.specs.Windows.{window_at, IsPlaceIn};
+ghost use Rattle.drain_union.specs.Reports.{IsSortedByLabel, ListsSinks, Agree};
 
 use crate::judged_area::judged_area;
 use crate::laws::{walk_judges_window, walk_lists_seams};
 use crate::listed_outlets::ListedOutlets;
 use crate::seam_walk::SeamWalk;
+use drain_answer::Refusal;
+use drain_answer::lines::{self, Line, verdict_line, words};
 use drain_grid::{Cell, Counts, Verdict};
-use drain_rules::row_outcome::RowOutcome;
-use drain_rules::tally::Tally;
+use drain_rules::walk::{RowOutcome, Tally};
 use drain_rules::{Area, Walk};
 use drain_union::laws::four_numbers;
-use drain_union::{AuditNoData, Outlet, Place, Report, sort_by_label};
+use drain_union::{AuditNoData, Outlet, Place, Report, WindowReport, sort_by_label};
 use std::alloc::Global;
+use thiserror::Error;
+
+/// Why a window isn't judged.
+#[derive(Clone, Copy, PartialEq, Eq, Debug, Error)]
+pub enum WindowRefusal {
+    /// Its inputs are refused.
+    #[error("the inputs are refused")]
+    Inputs(Refusal),
+    /// It doesn't lie in the mosaic of the tiles, or a side where the union ends isn't the edge of the mosaic.
+    #[error("the window doesn't fit the mosaic")]
+    OutsideMosaic,
+}
+
+/// The line of an answer, without a line end, in ASCII. Rows and columns are those of the window.
+pub fn window_line(answer: &Result<WindowReport, WindowRefusal>) -> Line
+    ensures { result.bytes ≡ window_line answer.now }
+{
+    match answer {
+        Ok(window) => verdict_line(&window.verdict),
+        Err(refusal) => refusal_line(refusal),
+    }
+}
+
+/// The line of a refusal, or of a failure.
+pub fn refusal_line(refusal: &WindowRefusal) -> Line
+    ensures { result.bytes ≡ refusal_line refusal.now }
+{
+    match refusal {
+        WindowRefusal::Inputs(refusal) => lines::refusal_line(*refusal),
+        WindowRefusal::OutsideMosaic => words("refused BadBox"),
+    }
+}
 
 /// The verdict and the report from the notes of all rows of a grid, for the window at this place of it, and the listed
 /// sinks that it judges. None if the notes are of another window, which never happens.

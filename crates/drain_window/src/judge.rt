@@ -1,40 +1,74 @@
 //! One window of a union, from the bytes of its tiles and products.
 
-ghost use Rattle.std.specs.Prelude.{◌≡◌, Ok, IfOk};
+ghost use Rattle.std.specs.Prelude.{◌≡◌, IfOk, ◌≤◌, ◌*◌, ◌-◌, ◌-ℤ◌, nat_abs, Ok};
+ghost use Rattle.drain_grid.specs.Grid.{IsSide};
+ghost use Rattle.drain_hgt.specs.declared.name.TheConstants.{HALF_TURN};
+ghost use Rattle.drain_window.specs.WindowLines.{map_origin};
+ghost use Rattle.drain_window.specs.SeamRows.{IsOrigin};
 ghost use Rattle.drain_hgt.specs.Inputs.{names_of};
 ghost use Rattle.drain_mosaic.specs.Tiling.{extent_of};
-ghost use Rattle.drain_verdict.specs.Audits.{ForAudit};
+ghost use Rattle.drain_verdict.specs.Answers.{ForAudit};
 ghost use Rattle.drain_verdict.specs.Meaning.{nodata_numbers};
 ghost use Rattle.drain_verdict.specs.Stages.{IsLayoutOf};
 ghost use Rattle.drain_union.specs.declared.place.TheConstants.{SEAM_DEPTH};
-ghost use Rattle.drain_union.specs.NoData.{audited};
-ghost use Rattle.drain_union.specs.Reports.{IsReportOf};
-ghost use Rattle.drain_union.specs.Verdicts.{Agree};
+ghost use Rattle.drain_union.specs.Reports.{audited, IsReportOf, Agree};
 ghost use Rattle.drain_union.specs.Windows.{IsFirstInside, IsPlaceIn};
 ghost use Rattle.drain_verdict.specs.Uses.{AuditUses};
 ghost use Rattle.drain_window.specs.WindowAnswers.{as_refused, IfRejected, IsPlacedAnswer, IsWindowAnswer, IsWithTiles, window_of};
 
-use crate::answered::answered;
-use crate::judged_area::judged_area;
-use crate::judged_sinks::judged_sinks;
+use crate::answered::{WindowRefusal, answered};
+use crate::judged_area::{judged_area, judged_sinks};
 use crate::listed_outlets::ListedOutlets;
-use crate::map_origin::map_origin;
 use crate::seam_walk::SeamWalk;
-use crate::tile_names::tile_names;
-use crate::window_answer::WindowRefusal;
 use drain_answer::Refusal;
 use drain_device::ByteSource;
-use drain_grid::{Judged, Verdict};
-use drain_hgt::TileInput;
+use drain_grid::{Cell, Judged, OutOfMemory, Verdict};
 use drain_hgt::laws::one_name;
+use drain_hgt::name::{HALF_TURN, POLE};
+use drain_hgt::{TileInput, TileName};
 use drain_mosaic::Layout;
 use drain_rows::BothVisitors;
 use drain_rules::Walk;
 use drain_union::{Place, Report, WindowReport};
 use drain_verdict::AuditProducts;
-use drain_verdict::layout::layout_of;
 use drain_verdict::read_inputs::read_inputs;
+use drain_verdict::stages::layout_of;
 use std::alloc::Global;
+
+/// The tiles, in the order given.
+pub(crate) fn tile_names(alloc: Global, layout: &Layout) -> Result<Vec<TileName>, OutOfMemory>
+    ensures { IfOk result (λ tiles. tiles.items ≡ layout.now.corners) }
+{
+    let mut tiles = Vec::new(alloc);
+    for i in 0..layout.len() {
+        tiles.push(layout.name(i))?;
+    }
+    Ok(tiles)
+}
+
+/// The row and the column of the mosaic's first cell on a map of such tiles, which begins at 90 degrees north and 180
+/// degrees west.
+pub fn map_origin(layout: &Layout) -> Cell
+    ensures origin { result ≡ map_origin layout.now }
+    ensures fits { IsOrigin result }
+{
+    let side = layout.side();
+    Cell {
+        row: samples_between(side, layout.north(), POLE as i16),
+        col: samples_between(side, -(HALF_TURN as i16), layout.west()),
+    }
+}
+
+/// How many rows or columns of tiles lie between two degrees.
+fn samples_between(side: u32, from: i16, to: i16) -> u32
+    requires side { IsSide side }
+    requires from { nat_abs from ≤ HALF_TURN }
+    requires to { nat_abs to ≤ HALF_TURN }
+    ensures count { result ≡ nat_abs (to -ℤ from) * (side - 1) }
+    ensures few { result ≤ 235926000 }
+{
+    u32::from((to - from).unsigned_abs()) * (side - 1)
+}
 
 /// Whether the rules hold at the judged cells of one window, with its report; or why that isn't answered.
 ///

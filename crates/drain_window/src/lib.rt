@@ -5,18 +5,12 @@
 //! Cells outside the judged area are looked at only as neighbors.
 #![tactic(auto)]
 
-mod answered;
+pub mod answered;
 pub mod judge;
 mod judged_area;
-mod judged_sinks;
 pub mod laws;
 pub mod listed_outlets;
-pub mod map_origin;
 pub mod seam_walk;
-mod tile_names;
-pub mod window_answer;
-pub mod window_lines;
 
+pub use answered::{WindowRefusal, window_line};
 pub use judge::judge_window;
-pub use window_answer::WindowRefusal;
-pub use window_lines::window_line;

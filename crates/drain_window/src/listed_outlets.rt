@@ -6,7 +6,7 @@ ghost use Rattle.drain_rules.specs.Labels.{IsOutletByCode};
 ghost use Rattle.drain_window.specs.JudgedAreas.{Lists};
 
 use drain_grid::{Cell, CellValues, OutOfMemory};
-use drain_rules::outlet::is_outlet_by_code;
+use drain_rules::labels::is_outlet_by_code;
 use drain_rules::{Area, Labels};
 use drain_union::Outlet;
 use std::alloc::Global;
@@ -45,7 +45,7 @@ impl ListedOutlets {
 impl Labels for ListedOutlets {
     ghost use Rattle.std.specs.Prelude.{false};
     ghost use Rattle.drain_window.specs.JudgedAreas.{AddsOutlet, AreListed};
-    ghost use Rattle.drain_window.specs.ListLaws.{listed-more, listed-passed, not_compared};
+    ghost use Rattle.drain_window.specs.Laws.{listed-more, listed-passed, not_compared};
 
     ghost compares = { false };
 

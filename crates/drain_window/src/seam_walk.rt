@@ -4,7 +4,7 @@ ghost use Rattle.std.specs.Prelude.{◌≡◌, ◌<◌, ◌≤◌, ◌+◌, [], 
 ghost use Rattle.drain_grid.specs.declared.cell.TheConstants.{MAX_LENGTH};
 ghost use Rattle.drain_window.specs.SeamRows.{AddsSeams, EndsInRange, IsOrigin, ListsSeamsAbove, OfSeamRow};
 ghost use Rattle.drain_grid.specs.Grid.{Grid, Products};
-ghost use Rattle.drain_rules.specs.PatchRows.{AreRowPatches};
+ghost use Rattle.drain_rules.specs.Rows.{AreRowPatches};
 
 use drain_grid::{Cell, NoData, OutOfMemory, Rules};
 use drain_rows::{RowBuffer, RowVisitor};
@@ -30,9 +30,9 @@ impl SeamWalk {
     ghost use Rattle.drain_grid.specs.declared.cell.TheConstants.{MAX_LENGTH};
     ghost use Rattle.drain_grid.specs.declared.judged.Rules.{Rules};
     ghost use Rattle.drain_grid.specs.Grid.{Grid, Products};
-    ghost use Rattle.drain_rules.specs.PatchRows.{AreRowPatches};
+    ghost use Rattle.drain_rules.specs.Rows.{AreRowPatches};
     ghost use Rattle.drain_window.specs.SeamRows.{EndsInRange, IsOrigin};
-    ghost use Rattle.drain_window.specs.SeamWalks.{IsSeamWalkOf};
+    ghost use Rattle.drain_window.specs.WindowWalks.{IsSeamWalkOf};
 
     /// No row was passed. This takes no memory.
     pub fn new(alloc: Global, place: Place, origin: Cell) -> SeamWalk
@@ -125,7 +125,7 @@ fn note_seams<R: PatchRow>(
 
 impl RowVisitor for SeamWalk {
     ghost use Rattle.std.specs.Prelude.{◌≡◌, true};
-    ghost use Rattle.drain_window.specs.SeamWalks.{IsSeamWalkOf};
+    ghost use Rattle.drain_window.specs.WindowWalks.{IsSeamWalkOf};
 
     ghost counts = { λ n walk. walk.rows ≡ n };
 

@@ -1,7 +1,7 @@
 //! Mosaics of one tile, their elevations, and products made of them.
 
 ghost use Rattle.std.specs.Prelude.{◌≡◌, IfOk};
-ghost use Rattle.drain_grid.specs.Tile.{IsSide};
+ghost use Rattle.drain_grid.specs.Grid.{IsSide};
 ghost use Rattle.drain_mosaic.specs.Tiling.{extent_of};
 
 use crate::raster_numbers::Numbers;

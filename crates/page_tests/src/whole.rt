@@ -9,7 +9,7 @@ use drain_answer::{Outcome, Refusal};
 use drain_explain::Findings;
 use drain_faults::FaultyPatch;
 use drain_grid::{Cell, Counts, Judged, Patch, Rule};
-use drain_page::{Facts, NO_OBJECT, failure_json};
+use drain_page::{Facts, OUT_OF_MEMORY_OBJECT, failure_json};
 use std::alloc::Global;
 use std::test::Fail;
 
@@ -119,6 +119,6 @@ fn the_line_alone(rt: HostRuntime) -> Result<(), Fail> {
 #[test]
 fn the_object_without_memory(rt: HostRuntime) -> Result<(), Fail> {
     let json = failure_json(rt.alloc(), "failed OutOfMemory")?;
-    same_text(&rt, "no memory", &json, NO_OBJECT);
+    same_text(&rt, "no memory", &json, OUT_OF_MEMORY_OBJECT);
     Ok(())
 }

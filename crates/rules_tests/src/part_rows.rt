@@ -3,9 +3,9 @@
 ghost use Rattle.std.specs.Prelude.{◌≡◌, ◌≤◌, ◌↔◌, IfOk, IsTrue, length};
 ghost use Rattle.std.specs.List.{All};
 ghost use Rattle.drain_grid.specs.PerProduct.{of_product, per_product};
-ghost use Rattle.drain_grid.specs.Tile.{IsSample};
+ghost use Rattle.drain_grid.specs.Grid.{IsSample};
 ghost use Rattle.drain_grid.specs.Values.{IsPixel};
-ghost use Rattle.drain_rules.specs.RowNumbers.{AreRowNumbers};
+ghost use Rattle.drain_rules.specs.Rows.{AreRowNumbers};
 
 use crate::examples::{Part, is_pixel, numbers_at};
 use drain_grid::{Judged, PerProduct};

@@ -6,7 +6,7 @@ ghost use Rattle.std.specs.Prelude.{[], ◌↔◌, IsTrue, IfOk};
 ghost use Rattle.drain_grid.specs.Correct.{IsCorrect};
 ghost use Rattle.drain_grid.specs.Product.{default_numbers};
 ghost use Rattle.drain_grid.specs.WholeGrid.{grid_of, products_of};
-ghost use Rattle.drain_verdict.specs.Audits.{AreCorrect, ForAudit};
+ghost use Rattle.drain_verdict.specs.Answers.{AreCorrect, ForAudit};
 ghost use Rattle.drain_verdict.specs.Headline.{ForCheck, IsRight};
 
 use drain_device::ByteSource;

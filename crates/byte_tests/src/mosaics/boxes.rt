@@ -1,7 +1,7 @@
 //! Boxes of eight tiles, worked by hand, and a wide and a tall mosaic: that memory suffices for them is no clause.
 
 ghost use Rattle.std.specs.Prelude.{◌≡◌, ◌*◌, IfOk, All, map, length};
-ghost use Rattle.drain_grid.specs.Tile.{IsSide};
+ghost use Rattle.drain_grid.specs.Grid.{IsSide};
 
 use super::{samples_made, seam_fault, turn};
 use crate::agree::same;

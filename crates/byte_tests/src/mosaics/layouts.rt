@@ -1,6 +1,6 @@
 //! Worked layouts: boxes, and the faults of lists, up to the 64 tiles of a full box.
 
-ghost use Rattle.drain_grid.specs.Tile.{IsSide};
+ghost use Rattle.drain_grid.specs.Grid.{IsSide};
 
 use crate::agree::same;
 use crate::tiles::{four_named, two_named};

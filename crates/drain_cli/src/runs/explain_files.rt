@@ -3,24 +3,20 @@
 ghost use Rattle.std.specs.Prelude.{◌≡◌, length, IfOk, Some};
 ghost use Rattle.drain_grid.specs.declared.judged.Judged as grid;
 
-use crate::runs::explain_page::{ExplainOutput, MapFault};
-use crate::runs::no_page::print_no_page;
-use crate::runs::run_explain::run_explain;
-use crate::runs::second_look;
-use drain_answer::status::Status;
+use crate::runs::run_explain;
+use crate::runs::run_explain::{ExplainOutput, MapFault, print_page_failure, run_explain};
+use drain_answer::outcome::Status;
 use drain_args::form::Form;
 use drain_args::requests::ExplainArgs;
 use drain_device::{ByteSink, write_nothing};
-use drain_explain::{Mapping, SecondLook};
+use drain_explain::{FileLookup, Mapping};
 use drain_files::file_id::FileId;
 use drain_files::file_paths::{header_path, raster_path};
-use drain_files::map_file::write_map;
-use drain_files::map_place::{MapClash, map_clash, map_paths};
+use drain_files::map_file::{MapClash, map_clash, map_paths, write_map};
+use drain_files::open_failure::{Placing, place_written, print_reason};
 use drain_files::open_files::{OpenFault, Opener};
 use drain_files::open_judged::{OpenFiles, open_judged};
 use drain_files::outputs::{Failure, Outputs, look};
-use drain_files::placing::{Placing, place_written};
-use drain_files::reason::print_reason;
 use drain_grid::{Judged, Product};
 use drain_maker::product_files::SetFault;
 use drain_mosaic::Layout;
@@ -123,7 +119,7 @@ fn print_unopened(rt: &HostRuntime, fault: OpenFault, form: Form, out: &mut impl
     if let OpenFault::Open(path, reason) = &fault {
         print_reason(rt, path.as_str(), *reason);
     }
-    print_no_page(rt.alloc(), &fault.into(), form, out)
+    print_page_failure(rt.alloc(), &fault.into(), form, out)
 }
 
 /// Prints the usage error for a map that must not be written there.
@@ -162,20 +158,20 @@ struct OnDisk<'r, 'a, 'e> {
     inputs: Vec<FileId>,
 }
 
-impl<'r, 'a, 'e> SecondLook for OnDisk<'r, 'a, 'e> {
+impl<'r, 'a, 'e> FileLookup for OnDisk<'r, 'a, 'e> {
     // No clause says what a file gives.
     ghost shows = { λ look place start metres. Unit {0} };
 
     fn tile_length(&mut self, place: usize) -> Option<u64> {
-        second_look::tile_length(self.rt, &self.args.inputs, place)
+        run_explain::tile_length(self.rt, &self.args.inputs, place)
     }
 
     fn raster_length(&mut self, product: Product) -> Option<u64> {
-        second_look::raster_length(self.rt, &self.args.inputs, product)
+        run_explain::raster_length(self.rt, &self.args.inputs, product)
     }
 
     fn sample(&mut self, place: usize, start: u64) -> Option<i16> {
-        second_look::sample(self.rt, &self.args.inputs, place, start)
+        run_explain::sample(self.rt, &self.args.inputs, place, start)
     }
 }
 

@@ -4,10 +4,9 @@
 ghost use Rattle.std.specs.Prelude.{◌≡◌, false, Result};
 ghost use Rattle.drain_answer.specs.AuditLines.{audit_report_line};
 ghost use Rattle.drain_answer.specs.Lines.{report_line};
-ghost use Rattle.drain_answer.specs.declared.audit_verdict.AuditVerdict.{AuditVerdict};
+ghost use Rattle.drain_answer.specs.declared.outcome.AuditVerdict.{AuditVerdict};
 ghost use Rattle.drain_answer.specs.declared.refusal.Refusal.{Refusal};
-ghost use Rattle.drain_cli.specs.AnswerStatuses.{answer_status};
-ghost use Rattle.drain_cli.specs.JudgedRuns.{IsAuditOutcome, IsCheckOutcome, IsJudgedRun, IsPartOutcome};
+ghost use Rattle.drain_cli.specs.JudgedRuns.{answer_status, IsAuditOutcome, IsCheckOutcome, IsJudgedRun, IsPartOutcome};
 ghost use Rattle.drain_answer.specs.OutcomeLines.{outcome_report_line};
 ghost use Rattle.drain_answer.specs.declared.outcome.Outcome.{Outcome};
 ghost use Rattle.drain_cli.specs.declared.answer.Answer.TheVariants.{Audit, Check, Part};
@@ -15,7 +14,7 @@ ghost use Rattle.drain_grid.specs.Judged.{has_rnk};
 ghost use Rattle.drain_verdict.specs.Outcomes.{AreJudgedRight};
 ghost use Rattle.drain_answer.specs.Printing.{Prints};
 ghost use Rattle.drain_grid.specs.declared.verdict.Verdict.{Verdict};
-ghost use Rattle.drain_verdict.specs.Audits.{AreCorrect, ForAudit};
+ghost use Rattle.drain_verdict.specs.Answers.{AreCorrect, ForAudit};
 ghost use Rattle.drain_verdict.specs.Headline.{ForCheck, IsRight};
 
 use crate::answer::{Answer, print_answer};

@@ -5,17 +5,17 @@ ghost use Rattle.std.specs.Io.KnownBytes.{Consumes, IsAtEnd};
 ghost use Rattle.arrayvec.specs.ArrayString.{array_string_len};
 ghost use Rattle.drain_answer.specs.Printing.{Prints};
 ghost use Rattle.drain_report.specs.Contents.{ContentsFit, contents_of};
-ghost use Rattle.drain_union.specs.Verdicts.{Agree};
-ghost use Rattle.drain_union.specs.declared.window_report.WindowReport.{WindowReport as WindowReportOf};
+ghost use Rattle.drain_union.specs.Reports.{Agree};
+ghost use Rattle.drain_union.specs.declared.report.WindowReport.{WindowReport as WindowReportOf};
 ghost use Rattle.drain_cli.specs.ReportInputs.{fault_line, fault_status, IsBadReport};
-ghost use Rattle.drain_cli.specs.ReportOutputs.{text_of};
+ghost use Rattle.drain_cli.specs.WindowRuns.{text_of};
 ghost use Rattle.drain_cli.specs.declared.runs.report_input.BadReport.{BadReport};
 
 use drain_answer::lines::{Line, words};
+use drain_answer::outcome::Status;
 use drain_answer::print::print_line;
-use drain_answer::status::Status;
 use drain_device::{BodyFault, ByteSink, ByteSource};
-use drain_files::text_file::read_text;
+use drain_files::whole_input::read_text;
 use drain_report::{ReportFault, read_report};
 use drain_union::WindowReport;
 use itoa::Buffer;
@@ -54,7 +54,7 @@ pub fn read_or_print<R: ByteSource, W: ByteSink>(
 }
 
 /// The report that the source holds.
-#[tactic(auto, unfolding(crate::specs::ReportOutputs::text_of))]
+#[tactic(auto, unfolding(crate::specs::WindowRuns::text_of))]
 fn read_window<R: ByteSource>(alloc: Global, from: &mut R) -> Result<WindowReport, BadReport>
     ensures read { IfOk result (λ window. Consumes (R.bytes_left from.old) (R.bytes_left from.new) (text_of window) × IsAtEnd (R.bytes_left from.new)) }
     ensures agree { IfOk result (λ window. Agree window.verdict window.report) }

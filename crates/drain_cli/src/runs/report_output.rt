@@ -1,18 +1,18 @@
 //! The last part of a run of `drain window`: the report is written and gets its name, and the verdict is printed.
 
 ghost use Rattle.std.specs.Prelude.{◌≡◌, Result};
-ghost use Rattle.drain_files.specs.Placings.{IsNamed};
+ghost use Rattle.drain_files.specs.Files.{IsNamed};
 ghost use Rattle.drain_maker.specs.ProductFiles.{WritesFile};
 ghost use Rattle.drain_maker.specs.declared.product_files.SetFault.{SetFault};
 ghost use Rattle.drain_answer.specs.Printing.{Prints};
-ghost use Rattle.drain_cli.specs.ReportOutputs.{IsReadable, reported_line, reported_status, text_of, verdict_status};
+ghost use Rattle.drain_cli.specs.WindowRuns.{IsReadable, reported_line, reported_status, text_of, verdict_status};
 
 use drain_answer::lines::{Line, verdict_line, words};
+use drain_answer::outcome::Status;
 use drain_answer::print::print_line;
-use drain_answer::status::Status;
 use drain_device::ByteSink;
-use drain_files::placing::{Placing, place_written};
-use drain_files::whole_output::write_bytes;
+use drain_files::open_failure::{Placing, place_written};
+use drain_files::whole_input::write_bytes;
 use drain_grid::Verdict;
 use drain_maker::product_files::SetFault;
 use drain_report::write_report;

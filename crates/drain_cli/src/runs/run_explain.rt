@@ -1,29 +1,264 @@
-//! A run of `drain explain`: products are checked or audited against their tiles, and what is wrong with them is printed.
+//! A run of `explain`: the answer, its page and its map.
 
-ghost use Rattle.std.specs.Prelude.{Result};
-ghost use Rattle.drain_answer.specs.declared.outcome.Outcome as declared;
-ghost use Rattle.drain_answer.specs.declared.refusal.Refusal as declared_refusal;
-ghost use Rattle.drain_cli.specs.ExplainRuns.{Explains, FailsToSave, IsOutcome};
+ghost use Rattle.std.specs.Prelude.{◌≡◌, ◌++◌, ℕ, List, IfOk, codes, string_bytes, IfErr, Result};
+ghost use Rattle.drain_cli.specs.ExplainRuns.{IsNoPage, IsNoPageLine, IsFailureObject, no_page_answer, no_page_of, Explains, FailsToSave, IsOutcome};
+ghost use Rattle.drain_answer.specs.Printing.{PrintsText};
+ghost use Rattle.drain_cli.specs.declared.runs.run_explain.MapFault.{MapFault};
+ghost use Rattle.drain_answer.specs.declared.outcome.{Outcome as declared};
+ghost use Rattle.drain_answer.specs.declared.refusal.{Refusal as declared_refusal};
 
-use crate::runs::explain_page::{ExplainOutput, explain};
+use crate::answer::outcome_status;
+use drain_answer::outcome::Status;
+use drain_answer::print::{print_failure, print_text};
 use drain_args::form::Form;
-use drain_device::{ByteSink, ByteSource};
+use drain_args::requests::ProductArgs;
+use drain_device::{BodyFault, ByteSink, ByteSource, Patience, Reader, read_full};
 use drain_explain::{
-    Findings, Mapping, RefusalDetail, SecondLook, answer_and_findings, detail_of, explain_audit,
+    FileLookup, Findings, Mapping, RefusalDetail, answer_and_findings, detail_of, explain_audit,
     explain_check,
 };
+use drain_files::file_paths::raster_path;
+use drain_files::open_failure::print_open_failure;
+use drain_files::open_files::OpenFault;
 use drain_files::open_judged::JudgedProducts;
-use drain_grid::PerProduct;
+use drain_grid::{PerProduct, Product};
 use drain_hgt::TileInput;
-use drain_page::Facts;
+use drain_mosaic::Layout;
+use drain_page::{Facts, OUT_OF_MEMORY_OBJECT, failure_json, page_json, page_text};
 use drain_verdict::{Outcome, Refusal};
-use std::alloc::Global;
+use std::alloc::{AllocError, Global};
+use std::fs;
+use std::fs::File;
+use std::io::{Seek, SeekFrom};
+
+/// How many bytes the tile in this place of the arguments has.
+pub fn tile_length(rt: &HostRuntime, args: &ProductArgs<'_>, place: usize) -> Option<u64> {
+    length_of(rt, args.tiles.as_slice().get(place)?)
+}
+
+/// How many bytes the product's raster has.
+pub fn raster_length(rt: &HostRuntime, args: &ProductArgs<'_>, product: Product) -> Option<u64> {
+    let path = raster_path(rt.alloc(), args.folder, product).ok()?;
+    length_of(rt, path.as_str())
+}
+
+/// The sample that begins at this byte of the tile in this place of the arguments.
+pub fn sample(rt: &HostRuntime, args: &ProductArgs<'_>, place: usize, start: u64) -> Option<i16> {
+    let path = args.tiles.as_slice().get(place)?;
+    // a pipe isn't opened again: it may never yield anything
+    length_of(rt, path)?;
+    let mut file = File::open(rt, path).ok()?;
+    file.seek(SeekFrom::Start(start)).ok()?;
+    let mut bytes = [0; 2];
+    let came = read_full(&mut Reader::new(file), &mut bytes, &mut Patience::new()).ok()?;
+    if came < bytes.len() {
+        return None;
+    }
+    Some(i16::from_be_bytes(bytes))
+}
+
+/// How many bytes a plain file has.
+fn length_of(rt: &HostRuntime, path: &str) -> Option<u64> {
+    let metadata = fs::metadata(rt, path).ok()?;
+    if metadata.is_file() {
+        Some(metadata.len())
+    } else {
+        None
+    }
+}
+
+/// Why there is no page.
+#[derive(Drop)]
+pub enum PageFailure {
+    /// The file at this path can't be opened or created.
+    Open(String),
+    /// An input failed, or was interrupted for the 1,000th time; or a list of sinks is too long.
+    ReadFailed,
+    /// A file of a map failed, was interrupted for the 1,000th time, or accepted no byte of some.
+    WriteFailed,
+    /// Memory was refused.
+    OutOfMemory,
+}
+
+impl From<OpenFault> for PageFailure {
+    fn from(fault: OpenFault) -> PageFailure {
+        match fault {
+            OpenFault::Open(path, _) => PageFailure::Open(path),
+            OpenFault::Body(BodyFault::ReadFailed) => PageFailure::ReadFailed,
+            OpenFault::Body(BodyFault::OutOfMemory) => PageFailure::OutOfMemory,
+        }
+    }
+}
+
+impl From<MapFault> for PageFailure {
+    fn from(fault: MapFault) -> PageFailure
+        ensures { result ≡ no_page_of fault }
+    {
+        match fault {
+            MapFault::Open(path) => PageFailure::Open(path),
+            MapFault::WriteFailed => PageFailure::WriteFailed,
+            MapFault::OutOfMemory => PageFailure::OutOfMemory,
+        }
+    }
+}
+
+/// Prints why there is no page in the form of the explanation, and returns the status of a failure. If there is no
+/// memory for the path or for the object, it prints that.
+pub fn print_page_failure<W: ByteSink>(
+    alloc: Global,
+    why: &PageFailure,
+    form: Form,
+    out: &mut W,
+) -> u8
+    ensures { (text : List ℕ) × IsNoPage form why.now text
+        × PrintsText W.ByteSink out.old out.new text Status.Failed result }
+{
+    match form {
+        Form::Text => print_as_line(alloc, why, out),
+        Form::Json => print_as_object(alloc, why, out),
+    }
+}
+
+fn print_as_line<W: ByteSink>(alloc: Global, why: &PageFailure, out: &mut W) -> u8
+    ensures { (text : List ℕ) × IsNoPageLine why.now text
+        × PrintsText W.ByteSink out.old out.new text Status.Failed result }
+{
+    match why {
+        PageFailure::Open(path) => print_open_failure(alloc, out, path.as_str()),
+        PageFailure::ReadFailed => print_failure(out, BodyFault::ReadFailed),
+        PageFailure::WriteFailed => print_text(out, b"failed WriteFailed\n", Status::Failed),
+        PageFailure::OutOfMemory => print_failure(out, BodyFault::OutOfMemory),
+    }
+}
+
+fn print_as_object<W: ByteSink>(alloc: Global, why: &PageFailure, out: &mut W) -> u8
+    ensures { (text : List ℕ) × IsFailureObject (no_page_answer why.now) text
+        × PrintsText W.ByteSink out.old out.new text Status.Failed result }
+{
+    match why {
+        PageFailure::Open(path) => print_failed_open(alloc, path.as_str(), out),
+        PageFailure::ReadFailed => print_object(alloc, "failed ReadFailed", out),
+        PageFailure::WriteFailed => print_object(alloc, "failed WriteFailed", out),
+        PageFailure::OutOfMemory => print_out_of_memory(out),
+    }
+}
+
+fn print_failed_open<W: ByteSink>(alloc: Global, path: &str, out: &mut W) -> u8
+    ensures { (text : List ℕ) × IsFailureObject (codes "failed Open " ++ path.now) text
+        × PrintsText W.ByteSink out.old out.new text Status.Failed result }
+{
+    match failed_open(alloc, path) {
+        Ok(line) => print_object(alloc, line.as_str(), out),
+        Err(_) => print_out_of_memory(out),
+    }
+}
+
+/// The line without a line end.
+fn failed_open(alloc: Global, path: &str) -> Result<String, AllocError>
+    ensures { IfOk result (λ line. string_bytes line ≡ codes "failed Open " ++ path.now) }
+{
+    let mut line = String::from_str(alloc, "failed Open ")?;
+    line.push_str(path)?;
+    Ok(line)
+}
+
+/// Prints the object with this answer.
+fn print_object<W: ByteSink>(alloc: Global, answer: &str, out: &mut W) -> u8
+    ensures { (text : List ℕ) × IsFailureObject answer.now text
+        × PrintsText W.ByteSink out.old out.new text Status.Failed result }
+{
+    match failure_json(alloc, answer) {
+        Ok(object) => print_text(out, object.as_bytes(), Status::Failed),
+        Err(_) => print_out_of_memory(out),
+    }
+}
+
+/// Prints that there is no memory, and returns the status of a failure. It takes none.
+pub fn print_out_of_memory<W: ByteSink>(out: &mut W) -> u8
+    ensures { PrintsText W.ByteSink out.old out.new OUT_OF_MEMORY_OBJECT.now Status.Failed result }
+{
+    print_text(out, OUT_OF_MEMORY_OBJECT.as_bytes(), Status::Failed)
+}
+
+/// Why a map wasn't saved.
+#[derive(Drop)]
+pub enum MapFault {
+    /// The file at this path can't be created.
+    Open(String),
+    /// A file failed, was interrupted for the 1,000th time, or accepted no byte of some.
+    WriteFailed,
+    /// Memory was refused.
+    OutOfMemory,
+}
+
+/// The place of a map.
+pub trait ExplainOutput {
+    /// A call led from the one state to the other, with this result.
+    ghost has_saved: { Self → Self → Result (Unit {0}) MapFault → Type 0 };
+
+    /// Saves the map of the faults.
+    fn save_map(&mut self, layout: &Layout, pixels: &[u8]) -> Result<(), MapFault>
+        ensures { has_saved self.old self.new result };
+}
+
+/// Saves the map, if there is one, then prints the page, and returns the exit status: that of the answer, or that of a
+/// failure.
+///
+/// If the map can't be saved it prints why in place of the page, and if memory is refused for the page it prints that:
+/// in the form of the page.
+pub fn explain<B: ExplainOutput, W: ByteSink>(
+    alloc: Global,
+    facts: &Facts,
+    form: Form,
+    beside: &mut B,
+    out: &mut W,
+) -> u8
+    ensures { Explains W.ByteSink out.old out.new (FailsToSave B.has_saved) form facts.now.answer result }
+{
+    match save(facts, beside) {
+        Ok(()) => print_page(alloc, facts, form, out),
+        Err(fault) => print_page_failure(alloc, &PageFailure::from(fault), form, out),
+    }
+}
+
+/// Saves the map, if there is one.
+fn save<B: ExplainOutput>(facts: &Facts, beside: &mut B) -> Result<(), MapFault>
+    ensures { IfErr result (FailsToSave B.has_saved) }
+{
+    match &facts.findings {
+        Some(
+            Findings {
+                layout,
+                map: Some(map),
+                ..
+            },
+        ) => beside.save_map(layout, &map.pixels),
+        _ => Ok(()),
+    }
+}
+
+/// Prints the page, or that there is no memory for it.
+fn print_page<W: ByteSink>(alloc: Global, facts: &Facts, form: Form, out: &mut W) -> u8
+    ensures { Explains W.ByteSink out.old out.new (λ fault. ⊥) form facts.now.answer result }
+{
+    let status = outcome_status(&facts.answer);
+    match form {
+        Form::Text => match page_text(alloc, facts) {
+            Ok(page) => print_text(out, &page, status),
+            Err(_) => print_page_failure(alloc, &PageFailure::OutOfMemory, form, out),
+        },
+        Form::Json => match page_json(alloc, facts) {
+            Ok(page) => print_text(out, page.as_bytes(), status),
+            Err(_) => print_page_failure(alloc, &PageFailure::OutOfMemory, form, out),
+        },
+    }
+}
 
 /// Explains the answer of a check or of an audit: prints a page that begins with its line, and returns its exit status.
 ///
 /// It reads and reports what `run_check` or `run_audit` does, at the same times. A map is saved before the page is
 /// printed. The status is 3 if memory is refused for the page, the map can't be saved, or the page can't be written.
-pub fn run_explain<R: ByteSource, B: ExplainOutput + SecondLook, W: ByteSink>(
+pub fn run_explain<R: ByteSource, B: ExplainOutput + FileLookup, W: ByteSink>(
     alloc: Global,
     side: u32,
     tiles: &mut [TileInput<R>],

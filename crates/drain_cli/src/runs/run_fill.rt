@@ -2,13 +2,13 @@
 
 ghost use Rattle.std.specs.Prelude.{◌≡◌, ◌+◌, ◌*◌};
 ghost use Rattle.drain_device.specs.Reads.{TakesAtMost};
-ghost use Rattle.drain_grid.specs.Tile.{IsSide};
+ghost use Rattle.drain_grid.specs.Grid.{IsSide};
 ghost use Rattle.drain_cli.specs.FillRuns.{FillOutcome, IsFillOutcome, IsFilledIfTold, outcome_line, outcome_status};
 ghost use Rattle.drain_answer.specs.Printing.{Prints};
 
 use drain_answer::lines::{Line, words};
+use drain_answer::outcome::Status;
 use drain_answer::print::print_line;
-use drain_answer::status::Status;
 use drain_device::{BodyFault, ByteSink, ByteSource};
 use drain_files::whole_input::read_whole;
 use drain_grid::laws::least_from_rules;

@@ -2,13 +2,13 @@
 
 ghost use Rattle.std.specs.Prelude.{◌≡◌, ◌+◌, ◌++◌, codes};
 ghost use Rattle.drain_device.specs.Reads.{TakesAtMost};
-ghost use Rattle.drain_header.specs.FaultText.{fault_text};
-ghost use Rattle.drain_cli.specs.HeaderRuns.{HeaderOutcome, IsHeaderOutcome, IsToldAs, IsAnswerToldAs, header_printed, header_status};
+ghost use Rattle.drain_header.specs.Faults.{fault_text};
+ghost use Rattle.drain_cli.specs.FillRuns.{HeaderOutcome, IsHeaderOutcome, IsToldAs, IsAnswerToldAs, header_printed, header_status};
 ghost use Rattle.drain_answer.specs.Printing.{PrintsText};
 
 use drain_answer::lines::{Line, words};
+use drain_answer::outcome::Status;
 use drain_answer::print::{print_failure, print_line, print_text};
-use drain_answer::status::Status;
 use drain_device::{BodyFault, ByteSink, ByteSource, read_body};
 use drain_header::{Header, HeaderFault, MAX_HEADER_BYTES, header_text, parse_header};
 use std::alloc::Global;

@@ -4,22 +4,84 @@ ghost use Rattle.std.specs.Prelude.{◌≡◌, IfErr, IfOk, List, OnOk, Ok, Resu
 ghost use Rattle.drain_grid.specs.SinkTexts.{IsSinkFault, sinks_of};
 ghost use Rattle.drain_grid.specs.declared.sink_line.SinkLine.{SinkLine};
 ghost use Rattle.drain_grid.specs.declared.sink_text.SinkFault.{SinkFault};
-ghost use Rattle.drain_merge.specs.MergeLines.{merge_line};
+ghost use Rattle.drain_merge.specs.UnionVerdicts.{merge_line};
 ghost use Rattle.drain_merge.specs.declared.map_merge.MapVerdict.{MapVerdict};
 ghost use Rattle.drain_merge.specs.declared.merge_verdict.MergeRefusal.{MergeRefusal};
-ghost use Rattle.drain_merge.specs.declared.union_sinks.UnionSinks.TheVariants.{Listed};
+ghost use Rattle.drain_merge.specs.declared.totals.UnionSinks.TheVariants.{Listed};
 ghost use Rattle.drain_answer.specs.Printing.{Prints};
 ghost use Rattle.drain_cli.specs.MergeRuns.{IsMergeOutcome, list_line, list_status, MakeUnion, merge_status, UnionIsCorrect, UnionIsNotCorrect};
 
+use crate::runs::report_input::read_or_print;
 use drain_answer::Refusal;
 use drain_answer::lines::{Line, refusal_line, words};
-use drain_answer::print::print_line;
-use drain_answer::status::Status;
-use drain_device::ByteSink;
+use drain_answer::outcome::Status;
+use drain_answer::print::{print_failure, print_line};
+use drain_args::requests::MergeArgs;
+use drain_device::{BodyFault, ByteSink};
+use drain_files::open_failure::print_open_fault;
+use drain_files::open_files::{Opener, text_at};
 use drain_grid::{SinkFault, parse_sinks};
 use drain_merge::{MapVerdict, MergeRefusal, MergeVerdict, UnionSinks, merge_line, merge_on_map};
 use drain_union::WindowReport;
 use std::alloc::Global;
+
+/// Reads the reports at these paths, one file open at a time, and the union's list of sinks, prints the line of the
+/// verdict and returns the exit status.
+pub fn merge_files(rt: &HostRuntime, args: &MergeArgs<'_>, out: &mut impl ByteSink) -> u8 {
+    let mut opener = Opener::new(rt);
+    let windows = match reports_at(&mut opener, args.reports.as_slice(), out) {
+        Ok(windows) => windows,
+        Err(status) => return status,
+    };
+    match sinks_at(&mut opener, args.sinks, out) {
+        Ok(sinks) => merge_and_print(rt.alloc(), windows, &sinks, out),
+        Err(status) => status,
+    }
+}
+
+/// The reports at these paths, in their order. The first that can't be read is printed, and its exit status returned.
+fn reports_at(
+    opener: &mut Opener<'_>,
+    paths: &[&str],
+    out: &mut impl ByteSink,
+) -> Result<Vec<WindowReport>, u8> {
+    let mut windows = Vec::new(opener.alloc());
+    for (place, path) in paths.iter().enumerate() {
+        let window = report_at(opener, place, path, out)?;
+        if windows.push(window).is_err() {
+            return Err(print_failure(out, BodyFault::OutOfMemory));
+        }
+    }
+    Ok(windows)
+}
+
+/// The report at this path. Its file is closed again.
+fn report_at(
+    opener: &mut Opener<'_>,
+    place: usize,
+    path: &str,
+    out: &mut impl ByteSink,
+) -> Result<WindowReport, u8> {
+    match opener.open(path) {
+        Ok(mut file) => read_or_print(opener.alloc(), place, &mut file, out),
+        Err(fault) => Err(print_open_fault(opener.rt(), fault, out)),
+    }
+}
+
+/// The sinks of the union: those listed at this path, if there is one.
+fn sinks_at(
+    opener: &mut Opener<'_>,
+    path: Option<&str>,
+    out: &mut impl ByteSink,
+) -> Result<UnionSinks, u8> {
+    let Some(path) = path else {
+        return Ok(UnionSinks::AsTaken);
+    };
+    match text_at(opener, path) {
+        Ok(text) => listed_or_print(opener.alloc(), text.as_slice(), out),
+        Err(fault) => Err(print_open_fault(opener.rt(), fault, out)),
+    }
+}
 
 /// Puts the reports of a union's windows together, prints the line of the verdict and returns the exit status: 0
 /// accepted, 1 rejected, 2 refused, 3 if memory ran out or the line can't be written.

@@ -1,19 +1,135 @@
 //! The first part of a run of `drain window`: the window is judged.
 
-ghost use Rattle.std.specs.Prelude.{◌≡◌, Result};
+ghost use Rattle.std.specs.Prelude.{◌≡◌, ◌++◌, ◌⊎◌, IfOk, IfSome, length, vec_len, Result};
+ghost use Rattle.drain_files.specs.FilePaths.{header_ending, raster_ending};
 ghost use Rattle.drain_cli.specs.WindowRuns.{IsWindowHandedOver, IsWindowOutcome, refusal_code};
-ghost use Rattle.drain_window.specs.declared.window_answer.WindowRefusal.{WindowRefusal};
-ghost use Rattle.drain_union.specs.declared.window_report.WindowReport.{WindowReport};
+ghost use Rattle.drain_window.specs.declared.answered.WindowRefusal.{WindowRefusal};
+ghost use Rattle.drain_union.specs.declared.report.WindowReport.{WindowReport};
 
-use drain_answer::print::print_line;
-use drain_answer::status::Status;
-use drain_device::{ByteSink, ByteSource};
+use crate::runs::report_output::report_and_print;
+use drain_answer::outcome::Status;
+use drain_answer::print::{print_failure, print_line};
+use drain_args::requests::WindowArgs;
+use drain_device::{BodyFault, ByteSink, ByteSource, write_nothing};
+use drain_files::file_id::FileId;
+use drain_files::map_file::is_named_as_product;
+use drain_files::open_failure::print_open_fault;
+use drain_files::open_files::Opener;
+use drain_files::open_judged::{OpenFiles, open_audited};
+use drain_files::output_paths::inputs_or_print;
+use drain_files::outputs::{Failure, Outputs};
 use drain_hgt::TileInput;
+use drain_progress::progress::Progress;
 use drain_union::{Place, WindowReport};
 use drain_verdict::AuditProducts;
-use drain_window::window_lines::refusal_line;
+use drain_window::answered::refusal_line;
 use drain_window::{WindowRefusal, judge_window};
-use std::alloc::Global;
+use std::alloc::{AllocError, Global};
+
+/// Judges a window of the mosaic of these tiles, writes its report, prints the line and returns the exit status. The
+/// report's file is created once nothing is left to refuse.
+pub fn window_files(rt: &HostRuntime, args: &WindowArgs<'_>, out: &mut impl ByteSink) -> u8 {
+    // If standard output is closed no file may be opened, as the first would take its place.
+    if write_nothing(out).is_err() {
+        return Status::Failed.code();
+    }
+    let Ok(path) = report_path(rt.alloc(), args.report) else {
+        return print_failure(out, BodyFault::OutOfMemory);
+    };
+    let progress = Progress::new(rt, args.inputs.progress);
+    let mut opener = Opener::new(rt);
+    match judged_files(&mut opener, args, path.as_slice(), &progress, out) {
+        Ok(window) => write_at(rt, path.as_slice(), opener.ids(), &window, out),
+        Err(status) => status,
+    }
+}
+
+/// The path of the report, as the list of the paths of outputs.
+fn report_path(alloc: Global, path: &str) -> Result<Vec<String>, AllocError>
+    ensures { IfOk result (λ paths. vec_len paths ≡ 1) }
+{
+    let mut paths = Vec::new(alloc);
+    paths.push(String::from_str(alloc, path)?)?;
+    Ok(paths)
+}
+
+/// What is to be reported of the window of these files, which are closed again; or it prints why there is nothing, and
+/// returns the exit status. A report at the path of an input is a usage error, and so is one with the name of a product's
+/// file in the folder of the products, which a later run would take for that product.
+fn judged_files<'a>(
+    opener: &mut Opener<'_>,
+    args: &WindowArgs<'_>,
+    report: &[String],
+    progress: &'a Progress<'a>,
+    out: &mut impl ByteSink,
+) -> Result<WindowReport, u8> {
+    let opened = open_audited(opener, &args.inputs, progress);
+    let OpenFiles {
+        mut tiles,
+        mut products,
+        sinks,
+    } = inputs_or_print(opener, opened, "the report", report, out)?;
+    if let Some(status) = refused_name(opener.rt(), args, out) {
+        return Err(status);
+    }
+    judge_or_print(
+        opener.alloc(),
+        args.inputs.side,
+        tiles.as_mut_slice(),
+        sinks.as_slice(),
+        &mut products,
+        &args.place,
+        out,
+    )
+}
+
+/// If the report has the name of a product's file in the folder of the products, prints the usage error, and returns the
+/// exit status.
+fn refused_name(rt: &HostRuntime, args: &WindowArgs<'_>, out: &mut impl ByteSink) -> Option<u8> {
+    let stem = product_stem(args.report)?;
+    match is_named_as_product(rt, args.inputs.folder, stem) {
+        Ok(false) => None,
+        Ok(true) => {
+            let path = args.report;
+            let _ = eprintln!(rt; "error: the report would be taken for a product: {path}");
+            Some(Status::Refused.code())
+        }
+        Err(fault) => Some(print_open_fault(rt, fault, out)),
+    }
+}
+
+/// The part of a path before the ending of a product's file, none if it ends otherwise.
+fn product_stem(path: &str) -> Option<&str>
+    ensures { IfSome result (λ stem. (path.now ≡ stem.now ++ raster_ending) ⊎ (path.now ≡ stem.now ++ header_ending)) }
+{
+    if let Some(stem) = path.strip_suffix(".bil") {
+        return Some(stem);
+    }
+    path.strip_suffix(".hdr")
+}
+
+/// Creates the file at this path and writes the report, and returns the exit status.
+fn write_at(
+    rt: &HostRuntime,
+    path: &[String],
+    inputs: &[FileId],
+    window: &WindowReport,
+    out: &mut impl ByteSink,
+) -> u8
+    requires { length path.now ≡ 1 }
+{
+    let failure = Failure::none();
+    let mut outputs = Outputs::new(rt, &failure);
+    let status = match outputs.begin(path, inputs) {
+        Ok(mut files) => {
+            let file = &mut files.as_mut_slice()[0];
+            report_and_print(rt.alloc(), window, file, &mut outputs, out)
+        }
+        Err(fault) => print_open_fault(rt, fault, out),
+    };
+    outputs.end();
+    status
+}
 
 /// Judges the window that lies at this place of the mosaic of the tiles, and returns what is to be reported. If there is
 /// no verdict, it prints why and returns the exit status: 2 for a refusal, 3 for `failed OutOfMemory` and `failed

@@ -3,8 +3,8 @@
 
 ghost use Rattle.std.specs.Prelude.{◌≡◌, ◌++◌, ◌≤◌, length, Result, codes, decimal};
 ghost use Rattle.drain_cli.specs.DerivedSets.{derived_line};
-ghost use Rattle.drain_cli.specs.SetRuns.{made_line, written_line, written_status};
-ghost use Rattle.drain_files.specs.Placings.{IsNamed};
+ghost use Rattle.drain_cli.specs.MadeSets.{made_line, written_line, written_status};
+ghost use Rattle.drain_files.specs.Files.{IsNamed};
 ghost use Rattle.drain_maker.specs.Made.{CanBeWritten};
 ghost use Rattle.drain_maker.specs.ProductFiles.{CanBeDerived, WritesFiles, derived_bytes, set_bytes};
 ghost use Rattle.drain_maker.specs.declared.product_files.SetFault.{SetFault};
@@ -13,10 +13,10 @@ ghost use Rattle.drain_mosaic.specs.Tiling.{Tiling, extent_of};
 ghost use Rattle.drain_answer.specs.Printing.{Prints};
 
 use drain_answer::lines::{Line, push_number, words};
+use drain_answer::outcome::Status;
 use drain_answer::print::print_line;
-use drain_answer::status::Status;
 use drain_device::ByteSink;
-use drain_files::placing::{Placing, place_written};
+use drain_files::open_failure::{Placing, place_written};
 use drain_grid::{ProductSet, Shape};
 use drain_maker::Derived;
 use drain_maker::product_files::{SetFault, write_derived, write_files};

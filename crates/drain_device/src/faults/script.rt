@@ -1,7 +1,7 @@
 //! What a scripted device answers at which call.
 
 ghost use Rattle.std.specs.Prelude.{◌≡◌};
-ghost use Rattle.drain_device.specs.Script.{answer_of};
+ghost use Rattle.drain_device.specs.Failing.{answer_of};
 
 /// The answer to some calls, from the first to the last of them. Calls count from 1.
 #[derive(Clone, Copy, PartialEq, Eq, Debug)]

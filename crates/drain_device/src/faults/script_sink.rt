@@ -3,7 +3,7 @@
 ghost use Rattle.std.specs.Prelude.{◌≡◌, ◌<◌, ◌≤◌, min, length, IfOk, IsOkUnless, Some, None};
 ghost use Rattle.std.specs.Io.KnownBytes.{WriteAppends};
 ghost use Rattle.drain_device.specs.Counts.{counted, counts_after, stalls_after, no_faults};
-ghost use Rattle.drain_device.specs.Script.{answer_of, answer_given};
+ghost use Rattle.drain_device.specs.Failing.{answer_of, answer_given};
 ghost use Rattle.drain_device.specs.declared.faults.script.SinkAnswer.{SinkAnswer};
 ghost use Rattle.drain_device.specs.declared.fault.DeviceFault.TheVariants.{Failed};
 

@@ -3,7 +3,7 @@
 ghost use Rattle.std.specs.Prelude.{◌≡◌, ◌<◌, ◌≤◌, ◌↔◌, min, length, IfOk, IsErrOf, Some};
 ghost use Rattle.std.specs.Io.KnownBytes.{ReadConsumes};
 ghost use Rattle.drain_device.specs.Counts.{counted, counts_after, no_faults};
-ghost use Rattle.drain_device.specs.Script.{answer_of};
+ghost use Rattle.drain_device.specs.Failing.{answer_of};
 ghost use Rattle.drain_device.specs.declared.fault.DeviceFault.{DeviceFault};
 
 use super::script::{Scripted, answer_at};

@@ -1,7 +1,7 @@
 use Rattle.std.proofs.Common.{refl, arith}
 use Rattle.drain_grid.specs.declared.rule.Rule.TheVariants.{BelowGround, NotLeast}
 use Rattle.drain_grid.specs.PatchRules.{fill_rules}
-use Rattle.drain_grid.proofs.LeastFaults.{holds_alone, found_next}
+use Rattle.drain_grid.proofs.AllRules.{holds_alone, found_next}
 use Rattle.drain_fill.proofs.fault.Goals as goal
 
 pub returns-then-is_above_ground : goal.returns-then-is_above_ground

@@ -1,4 +1,4 @@
-use Rattle.drain_laws.proofs.MadePadding as lemmas
+use Rattle.drain_laws.proofs.PaddedCells as lemmas
 use Rattle.drain_laws.proofs.every_grid_can_be_padded.Goals as goal
 
 pub returns : goal.returns

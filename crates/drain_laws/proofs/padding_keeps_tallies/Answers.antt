@@ -1,4 +1,4 @@
-use Rattle.drain_laws.proofs.PaddedCounts as lemmas
+use Rattle.drain_laws.proofs.PaddedVerdicts as lemmas
 use Rattle.drain_laws.proofs.padding_keeps_tallies.Goals as goal
 
 pub returns : goal.returns

@@ -1,6 +1,6 @@
 use Rattle.std.proofs.Common.{◌≡◌, ◌≢◌, ℕ, ◌<◌, pos, sym, ◌∙◌, ap, arith, subst}
 use Rattle.drain_grid.specs.Direction.{order_of}
-use Rattle.drain_grid.proofs.Directions.{of_earlier}
+use Rattle.drain_grid.proofs.Neighbors.{of_earlier}
 use Rattle.drain_slope.specs.Key.{key_at}
 use Rattle.drain_slope.proofs.Places.{place_at}
 use Rattle.drain_slope.proofs.first_with_key.Goals as goal

@@ -1,7 +1,7 @@
 use Rattle.std.proofs.Common.{ap, ◌∙◌}
 use Rattle.drain_c.specs.Given.{audit_raster}
 use Rattle.drain_c.proofs.Statuses.{below_two, exactly}
-use Rattle.drain_verdict.specs.Audits.{AreCorrect}
+use Rattle.drain_verdict.specs.Answers.{AreCorrect}
 use Rattle.drain_c.proofs.exported_audit.drain_audit.Goals as goal
 
 pub returns-clause-exactly : goal.returns-clause-exactly

@@ -1,4 +1,4 @@
-use Rattle.drain_device.proofs.ComingLemmas as coming
+use Rattle.drain_device.proofs.PartLemmas as coming
 use Rattle.drain_device.proofs.laws.rows_come_in_order.Goals as goal
 
 pub returns : goal.returns

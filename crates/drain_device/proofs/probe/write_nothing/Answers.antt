@@ -1,9 +1,8 @@
 use Rattle.std.proofs.Common.{arith, inl, inr, refl, ◌∙◌}
 use Rattle.std.proofs.KnownBytes.{Keeps-refl, Keeps-trans}
 use Rattle.std.proofs.lemmas.Bool.{false≢true}
-use Rattle.drain_device.specs.Patience.{full_patience}
-use Rattle.drain_device.proofs.CountLemmas.{answered_failure, answered_interruption}
-use Rattle.drain_device.proofs.NothingWritten.{nothing_taken, no_stall, goes_on}
+use Rattle.drain_device.specs.Failing.{full_patience}
+use Rattle.drain_device.proofs.PartLemmas.{answered_failure, answered_interruption, nothing_taken, no_stall, goes_on}
 use Rattle.drain_device.proofs.probe.write_nothing.Goals as goal
 
 pub loop-tried-init : goal.loop-tried-init

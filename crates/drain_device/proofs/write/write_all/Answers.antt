@@ -2,7 +2,7 @@ use Rattle.std.proofs.Common.{◌≡◌, ◌+◌, ◌-◌, arith, true, inl, inr
 use Rattle.std.proofs.KnownBytes.{Appends-trans}
 use Rattle.std.proofs.Math.Seq.{take-add}
 use Rattle.std.proofs.lemmas.List.{take_rest}
-use Rattle.drain_device.proofs.CountLemmas.{answered_failure, answered_interruption, stalls_after-some}
+use Rattle.drain_device.proofs.PartLemmas.{answered_failure, answered_interruption, stalls_after-some}
 use Rattle.drain_device.proofs.write.write_all.Goals as goal
 
 pub loop-at-preserved-in-Ok : goal.loop-at-preserved-in-Ok
@@ -32,16 +32,16 @@ returns-in-Err-Failed-clause-faults g c =
       (λ _. inl (omega arith), λ _. refl),
     )
 
-pub returns-in_err-bear-in-Err-Interrupted-clause-faults : goal.returns-in_err-bear-in-Err-Interrupted-clause-faults
-returns-in_err-bear-in-Err-Interrupted-clause-faults g c =
+pub returns-in_err-tolerate-in-Err-Interrupted-clause-faults : goal.returns-in_err-tolerate-in-Err-Interrupted-clause-faults
+returns-in_err-tolerate-in-Err-Interrupted-clause-faults g c =
     let inv = c.loop-at.invariant in
     let counts = g.W.ByteSink.counts in
-    let none : c.loop-at.patience ≡ 0 = c.in_err-bear-in-Err-Interrupted.ensures.too_many.0 (refl {a = true}) in (
+    let none : c.loop-at.patience ≡ 0 = c.in_err-tolerate-in-Err-Interrupted.ensures.too_many.0 (refl {a = true}) in (
       0,
       c.args.patience.now - c.loop-at.patience + 1,
       0,
       answered_interruption (counts c.args.to.now) (counts c.loop-at.to) (counts c.write_some.new.self) 0 _ inv.answered (rw c.in-Err-Interrupted.field-0-is at c.in-Err-Interrupted.ensures.counted),
       omega (arith, c.in-Err-Interrupted.ensures.stalled, inv.moved),
-      omega (arith, c.bear.ensures.left),
+      omega (arith, c.tolerate.ensures.left),
       (λ _. inr (inl (omega arith)), λ _. c.from_residual.ensures.0),
     )

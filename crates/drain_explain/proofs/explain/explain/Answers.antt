@@ -2,17 +2,17 @@ use Rattle.std.proofs.Common.{Option, Ok, Err, sym, subst}
 use Rattle.std.specs.Prelude.{IfSome}
 use Rattle.std.proofs.lemmas.Result.{err_from_is_err_and}
 use Rattle.drain_grid.specs.declared.cell.Cell.{Cell}
-use Rattle.drain_grid.specs.Size.{Extent}
+use Rattle.drain_grid.specs.Extent.{Extent}
 use Rattle.drain_paths.specs.declared.endless_path.EndlessPath.{EndlessPath}
 use Rattle.drain_verdict.specs.Deciding.{AreFlowsFor}
-use Rattle.drain_verdict.specs.Devices.{devices_of}
+use Rattle.drain_verdict.specs.Uses.{devices_of}
 use Rattle.drain_verdict.specs.Meaning.{input_grid, input_products, nodata_numbers}
 use Rattle.drain_explain.specs.Explanations.{IsEndlessOf}
 use Rattle.drain_verdict.proofs.AuditDevices.{failed_alike, none_alike}
 use Rattle.drain_verdict.proofs.OutcomeLemmas.{outcome_is}
 use Rattle.drain_verdict.proofs.StartAnswers.{at_side, laid, layout_answer, layout_reads_none}
-use Rattle.drain_verdict.proofs.Uses.{uses_alike, uses_none}
-use Rattle.drain_explain.proofs.EndlessTold.{endless-told}
+use Rattle.drain_verdict.proofs.InputLemmas.{uses_alike, uses_none}
+use Rattle.drain_explain.proofs.Noting.{endless-told}
 use Rattle.drain_explain.proofs.explain.explain.Goals as goal
 
 pub returns-in_err-layout-clause-answer : goal.returns-in_err-layout-clause-answer

@@ -1,4 +1,4 @@
-use Rattle.drain_verdict.proofs.Uses.{four_used}
+use Rattle.drain_verdict.proofs.InputLemmas.{four_used}
 use Rattle.drain_explain.proofs.explain.explain_audit.Goals as goal
 
 pub returns-clause-uses : goal.returns-clause-uses

@@ -1,8 +1,7 @@
 use Rattle.std.proofs.Common.{◌-◌, ◌≤◌, ◌↔◌}
 use Rattle.std.specs.Prelude.{IsSome}
 use Rattle.drain_grid.specs.Grid.{Grid, Products}
-use Rattle.drain_rules.specs.PatchRows.{IsAtMost}
-use Rattle.drain_rules.specs.Rows.{CountsAlong}
+use Rattle.drain_rules.specs.Rows.{IsAtMost, CountsAlong}
 use Rattle.drain_faults.specs.FaultMaps.{IsMapOfCells, OfRowDrawn}
 use Rattle.drain_faults.specs.FaultWalks.{IsFoundBefore, OfRowFound, OfRowPatches, cells_before}
 use Rattle.drain_faults.proofs.row_faults.note_row_of.Given as goal

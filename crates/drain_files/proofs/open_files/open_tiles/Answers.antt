@@ -2,7 +2,7 @@ use Rattle.std.proofs.Common.{◌≡◌, ◌++◌, ◌∷◌, [], take, rules}
 use Rattle.std.proofs.lemmas.List.{take_more, map-append}
 use Rattle.drain_hgt.specs.Inputs.{names_of}
 use Rattle.drain_files.specs.FilePaths.{IsLastPart}
-use Rattle.drain_files.proofs.TileNames.{AllZip-more}
+use Rattle.drain_files.proofs.PathLemmas.{AllZip-more}
 use Rattle.drain_files.proofs.open_files.open_tiles.Goals as goal
 
 pub loop-path-preserved : goal.loop-path-preserved

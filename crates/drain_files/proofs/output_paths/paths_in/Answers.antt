@@ -3,7 +3,7 @@ use Rattle.std.proofs.lemmas.List.{take_more}
 use Rattle.drain_grid.specs.declared.set_product.SetProduct.TheVariants.{Con}
 use Rattle.drain_maker.specs.declared.product_files.Part.TheVariants.{Header}
 use Rattle.drain_files.specs.FilePaths.{IsPathOf}
-use Rattle.drain_files.proofs.TileNames.{AllZip-more}
+use Rattle.drain_files.proofs.PathLemmas.{AllZip-more}
 use Rattle.drain_files.proofs.output_paths.paths_in.Goals as goal
 
 pub loop-file-preserved : goal.loop-file-preserved

@@ -1,9 +1,8 @@
 use Rattle.std.proofs.Common.{◌+◌, ◌-◌, ◌++◌, ◌≤◌, drop, length, take, arith, refl, length-append}
 use Rattle.std.proofs.lemmas.List.{length-take, take-append-le}
 use Rattle.std.proofs.KnownBytes.{Consumes-trans}
-use Rattle.drain_device.specs.Patience.{full_patience}
-use Rattle.drain_device.proofs.CountLemmas.{answered_more, answered_on}
-use Rattle.drain_device.proofs.PatienceLemmas.{bears, gives_up-left, gives_up-full}
+use Rattle.drain_device.specs.Failing.{full_patience}
+use Rattle.drain_device.proofs.PartLemmas.{answered_more, answered_on, bears, gives_up-left, gives_up-full}
 use Rattle.drain_files.proofs.whole_input.read_whole.Goals as goal
 
 pub returns-in_default-clause-within : goal.returns-in_default-clause-within

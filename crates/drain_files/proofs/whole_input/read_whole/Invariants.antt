@@ -1,7 +1,7 @@
 use Rattle.std.proofs.Common.{◌-◌, ◌≤◌, vec_len}
 use Rattle.std.specs.Io.KnownBytes.{Consumes}
 use Rattle.drain_device.specs.Counts.{Answered}
-use Rattle.drain_device.specs.Patience.{full_patience}
+use Rattle.drain_device.specs.Failing.{full_patience}
 use Rattle.drain_files.proofs.whole_input.read_whole.Given as goal
 
 -- the body holds what came, and there were only interruptions, all of them counted

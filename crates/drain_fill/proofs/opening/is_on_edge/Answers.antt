@@ -1,6 +1,6 @@
 use Rattle.std.proofs.Common.{◌≡◌, None, rules, tests}
 use Rattle.std.proofs.lemmas.Iterator.{cases_from_any, YieldsList-from_slice}
-use Rattle.drain_grid.proofs.Directions.{any_direction}
+use Rattle.drain_grid.proofs.Neighbors.{any_direction}
 use Rattle.drain_grid.specs.Direction.{directions}
 use Rattle.drain_grid.specs.declared.direction.Direction.{Direction}
 use Rattle.drain_grid.specs.Patch.{neighbor}

@@ -1,5 +1,5 @@
 use Rattle.std.proofs.Common.{◌∙◌, is_some, rules, sym, ap}
-use Rattle.drain_filled.proofs.Places.{no_data_at, one_more_place, same_at}
+use Rattle.drain_filled.proofs.FirstCon.{no_data_at, one_more_place, same_at}
 use Rattle.drain_filled.proofs.compare.first_other.Goals as goal
 use Rattle.drain_filled.proofs.compare.first_other.Goals.{then-not-is_same_at+else-is_some, else-not-is_same_at}
 

@@ -1,5 +1,5 @@
 use Rattle.std.proofs.Common.{get_or, pos, rules}
-use Rattle.drain_filled.proofs.NarrowRows.{all_narrowed, narrowed-kept, one_more}
+use Rattle.drain_filled.proofs.FirstUnfilled.{all_narrowed, narrowed-kept, one_more}
 use Rattle.drain_filled.proofs.narrow_rows.fill.Goals as goal
 
 pub loop-k-preserved : goal.loop-k-preserved

@@ -1,6 +1,6 @@
 use Rattle.std.proofs.Common.{◌∙◌, pos, rules}
 use Rattle.std.proofs.lemmas.List.{get_or_default}
-use Rattle.drain_grid.proofs.RowCopies.{copied_more, taken}
+use Rattle.drain_grid.proofs.Alike.{copied_more, taken}
 use Rattle.drain_grid.proofs.row_copy.copy_heights.Goals as goal
 
 pub loop-k-preserved : goal.loop-k-preserved

@@ -1,5 +1,5 @@
 use Rattle.std.proofs.Common.{◌<◌, ℕ, pos, get_or}
-use Rattle.drain_grid.proofs.RowCopies.{IsCopied}
+use Rattle.drain_grid.proofs.Alike.{IsCopied}
 use Rattle.drain_grid.proofs.row_copy.copy_heights.Given as goal
 
 -- the heights that were passed are there

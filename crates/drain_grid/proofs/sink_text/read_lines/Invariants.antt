@@ -1,8 +1,7 @@
 use Rattle.std.proofs.Common.{◌≡◌, ◌+◌, ◌≤◌, length}
 use Rattle.drain_text.specs.Text.{lines_of}
-use Rattle.drain_grid.specs.SinkLines.{AreNarrow}
-use Rattle.drain_grid.specs.SinkTexts.{listing, sinks_of}
-use Rattle.drain_grid.proofs.SinkListings.{after_these}
+use Rattle.drain_grid.specs.SinkTexts.{AreNarrow, listing, sinks_of}
+use Rattle.drain_grid.proofs.SinkFaults.{after_these}
 use Rattle.drain_grid.proofs.sink_text.read_lines.Given as goal
 
 abbrev pub invariant-loop-cell : goal.invariant-loop-cell

@@ -2,7 +2,7 @@ use Rattle.std.proofs.Common.{ℕ, List, ◌+◌, ◌-◌, length, drop, arith, 
 use Rattle.std.proofs.lemmas.List.{take_rest}
 use Rattle.std.specs.Str.Parse.{digits_value}
 use Rattle.std.specs.Prelude.{◌==◌, ◌&&◌, cond}
-use Rattle.drain_header.specs.Numerals.{parts_of}
+use Rattle.drain_header.specs.Decimals.{parts_of}
 use Rattle.drain_text.proofs.Digits.{take_digits, drop_digits, first_digits, last_digits}
 use Rattle.drain_header.proofs.Scaling.{scaled}
 use Rattle.drain_header.proofs.decimal.in_units.Goals as goal

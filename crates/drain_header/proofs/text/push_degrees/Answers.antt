@@ -4,7 +4,7 @@ use Rattle.std.specs.Fmt.{sign_text}
 use Rattle.std.specs.Int.{is_negative, w128}
 use Rattle.std.proofs.lemmas.Int.{to_z-of_z}
 use Rattle.drain_header.specs.Text.{fraction_text}
-use Rattle.drain_header.proofs.Pushes.{degrees_line}
+use Rattle.drain_header.proofs.Entries.{degrees_line}
 use Rattle.drain_header.proofs.text.push_degrees.Goals as goal
 
 pub returns : goal.returns

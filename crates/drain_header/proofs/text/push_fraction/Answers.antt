@@ -1,6 +1,6 @@
 use Rattle.std.proofs.Common.{◌≡◌, ◌-◌, ◌∷◌, length, take, drop, arith, ap, ◌∙◌}
 use Rattle.drain_header.specs.Text.{fraction_text}
-use Rattle.drain_header.proofs.DecimalText.{fraction_led, behind_first}
+use Rattle.drain_header.proofs.WorkedDecimals.{fraction_led, behind_first}
 use Rattle.drain_header.proofs.text.push_fraction.Goals as goal
 
 pub slice_bounds-push-count : goal.slice_bounds-push-count

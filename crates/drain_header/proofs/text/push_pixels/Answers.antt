@@ -1,7 +1,7 @@
 use Rattle.std.proofs.Common.{◌++◌, ◌∙◌, ap}
 use Rattle.drain_header.specs.Text.{pixel_lines}
 use Rattle.drain_header.specs.contracts.header.Header.{the_view}
-use Rattle.drain_header.proofs.Pushes.{pixels_joined}
+use Rattle.drain_header.proofs.Entries.{pixels_joined}
 use Rattle.drain_header.proofs.text.push_pixels.Goals as goal
 
 pub returns : goal.returns

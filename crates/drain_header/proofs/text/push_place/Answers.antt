@@ -3,7 +3,7 @@ use Rattle.std.specs.Int.{w128}
 use Rattle.std.proofs.lemmas.Int.{to_z-of_z}
 use Rattle.drain_header.specs.declared.key.Key.TheVariants.{Ulxmap, Ulymap, Xdim}
 use Rattle.drain_header.specs.Text.{line, places_text}
-use Rattle.drain_header.proofs.Pushes.{place_joined}
+use Rattle.drain_header.proofs.Entries.{place_joined}
 use Rattle.drain_header.proofs.text.push_place.Goals as goal
 
 pub returns : goal.returns

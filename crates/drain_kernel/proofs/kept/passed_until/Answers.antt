@@ -1,4 +1,4 @@
-use Rattle.drain_kernel.proofs.Alongs.{along_both}
+use Rattle.drain_kernel.proofs.VouchedNumbers.{along_both}
 use Rattle.drain_kernel.proofs.kept.passed_until.Goals as goal
 
 pub returns-clause-passed : goal.returns-clause-passed

@@ -1,4 +1,4 @@
-use Rattle.drain_kernel.proofs.Readings as lemmas
+use Rattle.drain_kernel.proofs.Keys as lemmas
 use Rattle.drain_kernel.proofs.laws.lanes_show_numbers.Goals as goal
 
 pub returns : goal.returns

@@ -1,5 +1,5 @@
 use Rattle.std.proofs.Common.{min, ◌∙◌}
-use Rattle.drain_kernel.proofs.CappedRanks.{falls_or_ranked}
+use Rattle.drain_kernel.proofs.CappedSums.{falls_or_ranked}
 use Rattle.drain_kernel.proofs.ranked.falls_or_is_ranked.Goals as goal
 
 pub returns : goal.returns

@@ -1,5 +1,5 @@
 use Rattle.std.proofs.Common.{arith}
-use Rattle.drain_kernel.proofs.Alongs.{along_both}
+use Rattle.drain_kernel.proofs.VouchedNumbers.{along_both}
 use Rattle.drain_kernel.proofs.strides.passed_strides.Goals as goal
 
 pub loop-k-preserved : goal.loop-k-preserved

@@ -1,13 +1,13 @@
 use Rattle.std.proofs.Common.{Ok, refl, sym, subst}
 use Rattle.std.proofs.lemmas.Result.{IfErr-weaker, IfOk-weaker}
 use Rattle.drain_mosaic.specs.Tiling.{Tiling}
-use Rattle.drain_verdict.specs.AuditInputs.{audit_devices, with_con_for_ranks}
+use Rattle.drain_verdict.specs.Inputs.{audit_devices, as_five}
 use Rattle.drain_verdict.specs.Meaning.{input_grid, input_products}
-use Rattle.drain_verdict.proofs.Uses.{uses_alike}
+use Rattle.drain_verdict.proofs.InputLemmas.{uses_alike}
 use Rattle.drain_maker.specs.ProductFiles.{CanBeDerived}
-use Rattle.drain_maker.specs.Derivation.{reading_in}
+use Rattle.drain_maker.specs.Derived.{reading_in}
 use Rattle.drain_maker.proofs.FileLemmas.{CanBeDerived-counts}
-use Rattle.drain_maker.proofs.DerivationLemmas.{counted_alike, counted_untouched, derive_refusal, if_ok_both}
+use Rattle.drain_maker.proofs.DerivedRasters.{counted_alike, counted_untouched, derive_refusal, if_ok_both}
 use Rattle.drain_maker.proofs.derivation.derive.Goals as goal
 
 pub returns-in-Ok-clause-derived : goal.returns-in-Ok-clause-derived
@@ -30,6 +30,6 @@ returns-in-Ok-clause-err g c =
 pub returns-in-Ok-clause-uses : goal.returns-in-Ok-clause-uses
 returns-in-Ok-clause-uses g c =
     let answer = reading_in c.derive_read.result in
-    uses_alike with_con_for_ranks audit_devices g.R.ByteSource.bytes_left g.R.ByteSource.counts c.args.side c.args.side (c.args.tiles.now, c.args.products.now)
+    uses_alike as_five audit_devices g.R.ByteSource.bytes_left g.R.ByteSource.counts c.args.side c.args.side (c.args.tiles.now, c.args.products.now)
     (c.read_flows.new.tiles, c.read_flows.new.products) (Ok c.in-Ok.read) answer refl (counted_alike c.in-Ok.read answer c.derive_read.ensures.reading)
     (counted_untouched _ answer c.derive_read.ensures.reading) c.in-Ok.ensures.uses

@@ -1,8 +1,8 @@
 use Rattle.std.proofs.Common.{sym, subst}
-use Rattle.drain_grid.specs.Size.{Extent}
+use Rattle.drain_grid.specs.Extent.{Extent}
 use Rattle.drain_mosaic.specs.Tiling.{extent_of}
 use Rattle.drain_paths.specs.Flows.{AreFlowsOf}
-use Rattle.drain_maker.proofs.DerivationLemmas.{flows_refusal}
+use Rattle.drain_maker.proofs.DerivedRasters.{flows_refusal}
 use Rattle.drain_maker.proofs.derivation.derive_read.Goals as goal
 
 pub returns-in-Ok-clause-derived : goal.returns-in-Ok-clause-derived

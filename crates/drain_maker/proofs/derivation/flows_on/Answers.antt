@@ -1,15 +1,15 @@
 use Rattle.std.proofs.Common.{Ok, Err, refl, sym, ap, subst}
 use Rattle.std.proofs.lemmas.Result.{err_from_is_err_and}
-use Rattle.drain_grid.specs.Size.{Extent}
+use Rattle.drain_grid.specs.Extent.{Extent}
 use Rattle.drain_mosaic.specs.Tiling.{extent_of}
 use Rattle.drain_paths.specs.Flows.{AreFirstFlows, AreFlowsOf}
 use Rattle.drain_paths.proofs.GridFlows.{AreFirstFlows-none, AreFlowsOf-all}
-use Rattle.drain_verdict.specs.AuditInputs.{with_con_for_ranks}
+use Rattle.drain_verdict.specs.Inputs.{as_five}
 use Rattle.drain_verdict.specs.Meaning.{input_grid, input_products}
 use Rattle.drain_verdict.proofs.AuditDevices.{failed_alike}
 use Rattle.drain_verdict.proofs.StartAnswers.{layout_of_inputs}
-use Rattle.drain_verdict.proofs.Uses.{four_used}
-use Rattle.drain_maker.proofs.DerivationLemmas.{counted_alike, counted_untouched, if_same, of_memory_says_nothing}
+use Rattle.drain_verdict.proofs.InputLemmas.{four_used}
+use Rattle.drain_maker.proofs.DerivedRasters.{counted_alike, counted_untouched, if_same, of_memory_says_nothing}
 use Rattle.drain_maker.proofs.derivation.flows_on.Goals as goal
 
 pub read_inputs-requires-clause-unnoted : goal.read_inputs-requires-clause-unnoted
@@ -31,7 +31,7 @@ pub returns-clause-flows : goal.returns-clause-flows
 returns-clause-flows g c =
     if_same c.counted.result c.read_inputs.new.notes _ c.counted.ensures.same (λ inputs tell.
     (let bl = g.R.ByteSource.bytes_left in
-    let qs = with_con_for_ranks c.args.products.now in
+    let qs = as_five c.args.products.now in
     let is = layout_of_inputs c.one_name.ensures bl c.args.layout.now.side c.args.tiles.now c.args.sinks.now qs inputs c.args.layout.now tell c.requires.laid in
     let flows = AreFlowsOf-all (input_grid inputs) (input_products inputs) (input_grid inputs).extent c.read_inputs.new.notes (c.in_ok-read_inputs.ensures.noted inputs tell) in (
       c.in_ok-read_inputs.ensures.answer inputs tell,

@@ -1,4 +1,4 @@
-use Rattle.drain_maker.proofs.ByDirections.{derived_by_directions as law}
+use Rattle.drain_maker.proofs.DerivedRasters.{derived_by_directions as law}
 use Rattle.drain_maker.proofs.laws.derived_by_directions.Goals as goal
 
 pub returns : goal.returns

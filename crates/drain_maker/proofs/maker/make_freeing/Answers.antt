@@ -1,5 +1,5 @@
 use Rattle.std.proofs.Common.{Some, None}
-use Rattle.drain_maker.proofs.SinkGround.{found_there}
+use Rattle.drain_maker.proofs.MosaicAnswers.{found_there}
 use Rattle.drain_maker.proofs.maker.make_freeing.Goals as goal
 
 pub returns-in-Some-clause-sinks : goal.returns-in-Some-clause-sinks

@@ -1,7 +1,7 @@
 use Rattle.std.proofs.Common.{Err, map, refl, ap, subst}
-use Rattle.drain_grid.specs.Whole.{elevation_at}
+use Rattle.drain_grid.specs.WholeGrid.{elevation_at}
 use Rattle.drain_mosaic.specs.Mosaic.{tiles_of, TilesAgree, IsElevation, IsFirstSeam}
-use Rattle.drain_maker.proofs.SeamAnswers.{fault_refused}
+use Rattle.drain_maker.proofs.MosaicAnswers.{fault_refused}
 use Rattle.drain_maker.proofs.mosaic.elevation_of.Goals as goal
 
 pub returns-in-Ok-clause-elevation : goal.returns-in-Ok-clause-elevation

@@ -1,6 +1,6 @@
 use Rattle.std.proofs.Common.{map}
 use Rattle.std.proofs.lemmas.Result.{err_from_is_err_and}
-use Rattle.drain_verdict.proofs.Devices.{tiles_take_none}
+use Rattle.drain_verdict.proofs.AuditDevices.{tiles_take_none}
 use Rattle.drain_device.proofs.FaultLists.{SomeReadFails-none}
 use Rattle.drain_hgt.specs.Inputs.{tile_devices}
 use Rattle.drain_maker.proofs.MosaicAnswers.{layout_told, laid_out, tile_told, seam_told, mosaic_told}

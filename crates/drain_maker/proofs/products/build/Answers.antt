@@ -1,7 +1,7 @@
 use Rattle.std.proofs.Common.{◌∙◌, ap, sym}
 use Rattle.std.proofs.lemmas.Result.{IfOk-weaker}
 use Rattle.drain_grid.specs.WholeGrid.{products_of}
-use Rattle.drain_maker.specs.RoutedProducts.{AreRightProducts}
+use Rattle.drain_maker.specs.Made.{AreRightProducts}
 use Rattle.drain_maker.proofs.products.build.Goals as goal
 
 pub returns-clause-right : goal.returns-clause-right

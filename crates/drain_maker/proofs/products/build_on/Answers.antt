@@ -1,6 +1,6 @@
 use Rattle.std.proofs.Common.{◌≤◌, ◌*◌, ◌∙◌, sym, ap, arith}
-use Rattle.drain_surface.specs.declared.level_queue.TheConstants.{MAX_CELLS}
-use Rattle.drain_paths.specs.CodeFlows.{bytes_flows}
+use Rattle.drain_flood.specs.declared.level_queue.TheConstants.{MAX_CELLS}
+use Rattle.drain_paths.specs.Flows.{bytes_flows}
 use Rattle.drain_maker.proofs.ShownRasters.{ended, right}
 use Rattle.drain_maker.proofs.products.build_on.Goals as goal
 

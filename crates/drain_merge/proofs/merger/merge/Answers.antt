@@ -1,7 +1,7 @@
 use Rattle.std.proofs.Common.{subst}
 use Rattle.std.proofs.lemmas.Result.{IfOk-weaker}
 use Rattle.drain_merge.specs.Merges.{IsMerged}
-use Rattle.drain_merge.specs.Sizes.{FitsNumbers}
+use Rattle.drain_merge.specs.Places.{FitsNumbers}
 use Rattle.drain_merge.specs.UnionVerdicts.{IsUnionVerdict}
 use Rattle.drain_merge.proofs.MergeMeaning.{union_verdict}
 use Rattle.drain_merge.proofs.merger.merge.Goals as goal

@@ -1,6 +1,6 @@
 use Rattle.std.proofs.Common.{ℕ, ◌<◌, slice_index_or}
 use Rattle.drain_union.specs.declared.place.Place.{Place}
-use Rattle.drain_union.specs.Judged.{BothJudgeOne}
+use Rattle.drain_union.specs.Windows.{BothJudgeOne}
 use Rattle.drain_merge.proofs.places.first_clash.Given as goal
 
 abbrev pub invariant-loop-later : goal.invariant-loop-later

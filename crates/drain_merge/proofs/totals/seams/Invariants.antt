@@ -1,5 +1,5 @@
 use Rattle.std.proofs.Common.{◌≡◌, take}
-use Rattle.drain_merge.specs.Lists.{all_seams}
+use Rattle.drain_merge.specs.Places.{all_seams}
 use Rattle.drain_merge.proofs.totals.seams.Given as goal
 
 abbrev pub invariant-loop-window : goal.invariant-loop-window

@@ -1,4 +1,4 @@
-use Rattle.drain_mosaic.proofs.NewRows as lemmas
+use Rattle.drain_mosaic.proofs.MosaicSteps as lemmas
 use Rattle.drain_mosaic.proofs.laws.new_rows_are_of_bodies.Goals as goal
 
 pub returns : goal.returns

@@ -1,4 +1,4 @@
-use Rattle.drain_mosaic.proofs.RowLengths as lemmas
+use Rattle.drain_mosaic.proofs.RowValues as lemmas
 use Rattle.drain_mosaic.proofs.laws.rows_tell_lengths.Goals as goal
 
 pub returns : goal.returns

@@ -1,4 +1,4 @@
-use Rattle.drain_mosaic.proofs.WholeRows as lemmas
+use Rattle.drain_mosaic.proofs.MosaicSteps as lemmas
 use Rattle.drain_mosaic.proofs.laws.whole_tiles_give_their_samples.Goals as goal
 
 pub returns : goal.returns

@@ -1,4 +1,4 @@
-use Rattle.drain_mosaic.proofs.Repeated.{first_found, none_more}
+use Rattle.drain_mosaic.proofs.Agreement.{first_found, none_more}
 use Rattle.drain_mosaic.proofs.layout.first_repeated.Goals as goal
 
 pub returns-then-contains : goal.returns-then-contains

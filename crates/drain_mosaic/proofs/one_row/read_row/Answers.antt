@@ -1,7 +1,7 @@
 use Rattle.std.proofs.Common.{◌≡◌, ◌+◌, List, None, length, get_or, Result, Ok, Err, IfOk, arith, refl, sym, ap, ◌∙◌, subst}
 use Rattle.drain_device.specs.declared.row_source.ReadFault.TheVariants.{ReadFailed}
-use Rattle.drain_grid.specs.Tile.{IsSample}
-use Rattle.drain_mosaic.proofs.Alone.{all-one, one-stream}
+use Rattle.drain_grid.specs.Grid.{IsSample}
+use Rattle.drain_mosaic.proofs.Places.{all-one, one-stream}
 use Rattle.drain_mosaic.proofs.Calls.{gone-fault, gone-more, gone-start, gone-well}
 use Rattle.drain_mosaic.proofs.Lent.{all_back, as_long, lent, lent-voids}
 use Rattle.drain_mosaic.specs.PlacedRows.{ArePlacedWithin, IsPlacedAt, IsPlacedWithin, IsRowLaid}

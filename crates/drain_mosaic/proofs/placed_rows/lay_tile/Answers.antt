@@ -1,6 +1,6 @@
-use Rattle.drain_grid.specs.Tile.{IsSample}
+use Rattle.drain_grid.specs.Grid.{IsSample}
 use Rattle.std.proofs.lemmas.List.Elements.{All-same}
-use Rattle.drain_mosaic.proofs.RowSamples.{laid-samples}
+use Rattle.drain_mosaic.proofs.RowValues.{laid-samples}
 use Rattle.std.proofs.Common.{◌≡◌, ℤ, List, [], length, arith, sym, subst, ◌∙◌}
 use Rattle.std.specs.Prelude.{◌⊎◌}
 use Rattle.drain_mosaic.proofs.Laying.{tile-laid}

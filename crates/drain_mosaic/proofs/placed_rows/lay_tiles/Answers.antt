@@ -1,4 +1,4 @@
-use Rattle.drain_mosaic.proofs.Placing.{names-kept}
+use Rattle.drain_mosaic.proofs.Places.{names-kept}
 use Rattle.std.proofs.Common.{refl, ◌≡◌, ◌<◌, arith, sym, subst, ◌∙◌, get_or, take, length, List, MatchOption, Err}
 use Rattle.std.proofs.lemmas.List.{take_all}
 use Rattle.std.proofs.lemmas.List.Elements.{All-set}

@@ -1,5 +1,5 @@
 use Rattle.std.specs.List.{All}
-use Rattle.drain_grid.specs.Tile.{IsSample}
+use Rattle.drain_grid.specs.Grid.{IsSample}
 use Rattle.std.proofs.Common.{◌≡◌, ℕ, ◌<◌, length, MatchOption}
 use Rattle.drain_hgt.specs.Inputs.{names_of}
 use Rattle.drain_mosaic.specs.PlacedRows.{ArePlacedWithin}

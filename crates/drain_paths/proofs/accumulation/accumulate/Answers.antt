@@ -3,11 +3,11 @@ use Rattle.std.proofs.lemmas.Bool.{cases_order}
 use Rattle.std.proofs.lemmas.List.{length-map}
 use Rattle.drain_grid.specs.Extent.{index_of}
 use Rattle.drain_grid.proofs.Runs.{index_of-below}
-use Rattle.drain_grid.proofs.CellOrder.{in_grid}
-use Rattle.drain_grid.proofs.LentVectors.{lent_back}
+use Rattle.drain_grid.proofs.Alike.{in_grid}
+use Rattle.drain_grid.proofs.Tallies.{lent_back}
 use Rattle.drain_paths.specs.declared.flow.Flow.TheVariants.{Void}
 use Rattle.drain_paths.specs.CellNumbers.{cell_number, one_of}
-use Rattle.drain_paths.specs.Passing.{IsPassing}
+use Rattle.drain_paths.specs.Inflows.{IsPassing}
 use Rattle.drain_paths.proofs.FlowCells.{flow_of_data}
 use Rattle.drain_paths.proofs.PassingLemmas.{IsPassing-start, counts_whole}
 use Rattle.drain_paths.proofs.accumulation.accumulate.Goals as goal

@@ -1,6 +1,6 @@
 use Rattle.std.proofs.Common.{IfOk, subst}
 use Rattle.drain_paths.specs.Basins.{AreBasinLabels}
-use Rattle.drain_paths.specs.OfFlows.{OfFlows}
+use Rattle.drain_paths.specs.Flows.{OfFlows}
 use Rattle.drain_paths.proofs.basins.label_code_basins.Goals as goal
 
 pub returns-clause-labels : goal.returns-clause-labels

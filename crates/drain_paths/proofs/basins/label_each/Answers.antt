@@ -1,7 +1,7 @@
 use Rattle.std.proofs.Common.{subst, sym}
-use Rattle.drain_grid.proofs.LentVectors.{lent_back}
+use Rattle.drain_grid.proofs.Tallies.{lent_back}
 use Rattle.drain_paths.specs.Basins.{basin_label}
-use Rattle.drain_paths.specs.PathNumbers.{AreNumbers, AreNumbersSoFar}
+use Rattle.drain_paths.specs.CellNumbers.{AreNumbers, AreNumbersSoFar}
 use Rattle.drain_paths.proofs.LabelLemmas.{AreBasinLabels-all, AreNumbersSoFar-ends}
 use Rattle.drain_paths.proofs.basins.label_each.Goals as goal
 

@@ -1,5 +1,5 @@
 use Rattle.std.proofs.Common.{◌<◌, ◌∙◌, ap, get_or, length, of_z, pos, rules, to_z, w64}
-use Rattle.drain_grid.specs.Tile.{height_from}
+use Rattle.drain_grid.specs.Grid.{height_from}
 use Rattle.drain_paths.specs.Flows.{cell_flow}
 use Rattle.drain_paths.proofs.RowFlows.{flows_more, flows_filled, place-kept}
 use Rattle.drain_paths.proofs.cell_flows.fill.Goals as goal

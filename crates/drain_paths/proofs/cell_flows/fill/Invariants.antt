@@ -1,6 +1,6 @@
 -- The flows of the cells that were passed are there.
 use Rattle.std.proofs.Common.{◌≡◌, ◌<◌, ℕ, pos, get_or}
-use Rattle.drain_grid.specs.Tile.{height_from}
+use Rattle.drain_grid.specs.Grid.{height_from}
 use Rattle.drain_paths.specs.declared.flow.Flow.TheVariants.{Void}
 use Rattle.drain_paths.specs.Flows.{cell_flow}
 use Rattle.drain_paths.proofs.cell_flows.fill.Given as goal

@@ -1,5 +1,5 @@
 use Rattle.std.proofs.Common.{◌∙◌, ◌*◌, inl, inr, sym, ap, arith}
-use Rattle.drain_grid.specs.Size.{Extent}
+use Rattle.drain_grid.specs.Extent.{Extent}
 use Rattle.drain_paths.specs.EndlessPaths.{cell_after}
 use Rattle.drain_paths.proofs.EndlessSteps.{come-more, come-none, reached-after}
 use Rattle.drain_paths.proofs.Rings.{ends-after}

@@ -3,7 +3,7 @@ use Rattle.std.proofs.Common.{◌≡◌, length}
 use Rattle.std.specs.Prelude.{min}
 use Rattle.drain_grid.specs.Extent.{IsCellOf}
 use Rattle.drain_grid.specs.Grid.{Grid, Products, HasData}
-use Rattle.drain_paths.specs.KnownFlows.{AreKnownFlows}
+use Rattle.drain_paths.specs.Walks.{AreKnownFlows}
 use Rattle.drain_paths.specs.declared.endless_path.TheConstants.{RING_TOLD}
 use Rattle.drain_paths.proofs.EndlessSteps.{ArePassed, HasWalked}
 use Rattle.drain_paths.proofs.endless_path.ring_from.Given as goal

@@ -3,8 +3,7 @@ use Rattle.std.proofs.Common.{◌≡◌, ◌≢◌}
 use Rattle.drain_grid.specs.Extent.{IsCellOf}
 use Rattle.drain_grid.proofs.Walks.{IsWalk}
 use Rattle.drain_paths.specs.declared.flow.Flow.TheVariants.{Void}
-use Rattle.drain_paths.specs.Flows.{flow_at}
-use Rattle.drain_paths.specs.OfFlows.{OfFlows}
+use Rattle.drain_paths.specs.Flows.{flow_at, OfFlows}
 use Rattle.drain_paths.proofs.walk.number_ahead.Given as goal
 
 abbrev pub invariant-loop-steps : goal.invariant-loop-steps

@@ -1,7 +1,7 @@
 use Rattle.std.proofs.Common.{◌≢◌, inl, inr, get_or, sym, subst, arith, rules}
 use Rattle.std.proofs.lemmas.Bool.{cases_order}
 use Rattle.drain_grid.specs.Extent.{index_of}
-use Rattle.drain_grid.proofs.CellOrder.{in_grid}
+use Rattle.drain_grid.proofs.Alike.{in_grid}
 use Rattle.drain_grid.proofs.Runs.{index_of-below}
 use Rattle.drain_paths.specs.declared.flow.Flow.TheVariants.{Void}
 use Rattle.drain_paths.proofs.FlowCells.{flow_of_data}

@@ -3,10 +3,8 @@ use Rattle.std.proofs.Common.{◌≡◌, ◌≢◌, ◌<◌, ◌*◌, length}
 use Rattle.drain_grid.specs.declared.cell.Cell.{Cell}
 use Rattle.drain_grid.specs.Extent.{IsCellOf, index_of}
 use Rattle.drain_paths.specs.declared.flow.Flow.TheVariants.{Void}
-use Rattle.drain_paths.specs.CellNumbers.{cell_number}
-use Rattle.drain_paths.specs.Flows.{flow_at}
-use Rattle.drain_paths.specs.OfFlows.{OfFlows}
-use Rattle.drain_paths.specs.PathNumbers.{AreNumbersSoFar}
+use Rattle.drain_paths.specs.CellNumbers.{cell_number, AreNumbersSoFar}
+use Rattle.drain_paths.specs.Flows.{flow_at, OfFlows}
 use Rattle.drain_paths.proofs.walk.number_paths.Given as goal
 
 abbrev pub invariant-loop-place : goal.invariant-loop-place

@@ -5,7 +5,7 @@ use Rattle.drain_grid.specs.Grid.{Grid, Products}
 use Rattle.drain_grid.proofs.Walks.{IsWalk}
 use Rattle.drain_paths.specs.Flows.{AreFlowsOf}
 use Rattle.drain_paths.proofs.FlowCells.{data_at}
-use Rattle.drain_paths.proofs.GridOfFlows.{of_some}
+use Rattle.drain_paths.proofs.GridFlows.{of_some}
 use Rattle.drain_paths.proofs.NumbersSoFar.{AreNumbersSoFar-put, IsWalk-rest, IsWalk-stuck, known_put, numbered_behind}
 use Rattle.drain_paths.proofs.walk.put_numbers.Goals as goal
 

@@ -4,10 +4,8 @@ use Rattle.drain_grid.specs.declared.cell.Cell.{Cell}
 use Rattle.drain_grid.specs.Extent.{IsCellOf}
 use Rattle.drain_grid.proofs.Walks.{IsWalk}
 use Rattle.drain_paths.specs.declared.flow.Flow.TheVariants.{Void}
-use Rattle.drain_paths.specs.CellNumbers.{cell_number}
-use Rattle.drain_paths.specs.Flows.{flow_at}
-use Rattle.drain_paths.specs.OfFlows.{OfFlows}
-use Rattle.drain_paths.specs.PathNumbers.{AreNumbersSoFar}
+use Rattle.drain_paths.specs.CellNumbers.{cell_number, AreNumbersSoFar}
+use Rattle.drain_paths.specs.Flows.{flow_at, OfFlows}
 use Rattle.drain_paths.proofs.walk.put_numbers.Given as goal
 
 abbrev pub invariant-loop-walked : goal.invariant-loop-walked

@@ -2,9 +2,8 @@ use Rattle.std.proofs.Common.{◌≡◌, ◌+◌, ◌-◌, ◌*◌, ◌++◌, []
 use Rattle.std.proofs.lemmas.List.{length-take, length-take-le, length-drop}
 use Rattle.std.proofs.lemmas.Result.{err_from_is_err_and}
 use Rattle.std.proofs.KnownBytes.{Consumes-trans}
-use Rattle.drain_device.proofs.PartFaultLemmas.{PartFails-ok, PartFails-then}
-use Rattle.drain_device.proofs.PartLemmas.{fails-later}
-use Rattle.drain_device.proofs.FillLemmas.{within-put_mid}
+use Rattle.drain_device.proofs.FaultLists.{PartFails-ok, PartFails-then}
+use Rattle.drain_device.proofs.PartLemmas.{fails-later, within-put_mid}
 use Rattle.drain_raster.specs.RasterRows.{raster_numbers_of}
 use Rattle.drain_raster.proofs.RowNumberLemmas.{chunk_fits, chunk_long, chunk_put, chunk_within}
 use Rattle.drain_raster.proofs.number_rows.read_numbers.Goals as goal

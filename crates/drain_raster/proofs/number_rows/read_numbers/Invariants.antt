@@ -1,7 +1,7 @@
 use Rattle.std.proofs.Common.{◌≡◌, ℕ, ◌-◌, ◌*◌, ◌≤◌, List, length, take, All}
 use Rattle.std.specs.Io.KnownBytes.{Consumes}
 use Rattle.drain_grid.specs.Values.{IsPixel}
-use Rattle.drain_device.specs.PartFailing.{PartFails}
+use Rattle.drain_device.specs.Failing.{PartFails}
 use Rattle.drain_raster.specs.RasterRows.{raster_numbers_of}
 use Rattle.drain_raster.proofs.number_rows.read_numbers.Given as goal
 

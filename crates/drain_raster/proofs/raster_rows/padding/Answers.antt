@@ -1,5 +1,5 @@
 use Rattle.std.proofs.Common.{◌/◌, refl, ap}
-use Rattle.drain_header.specs.Fields.{Fields}
+use Rattle.drain_header.specs.Header.{Fields}
 use Rattle.drain_raster.proofs.LengthLemmas.{padding-fits}
 use Rattle.drain_raster.proofs.raster_rows.padding.Goals as goal
 

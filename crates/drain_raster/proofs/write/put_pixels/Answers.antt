@@ -1,9 +1,9 @@
 use Rattle.std.proofs.Common.{◌≡◌, ◌+◌, ◌-◌, ◌*◌, ◌≤◌, length, take, drop, arith, ap, ◌∙◌}
 use Rattle.std.proofs.lemmas.List.{length-take, length-drop}
 use Rattle.std.proofs.Math.Nat.{mul-le-mul_right}
-use Rattle.drain_grid.specs.Whole.{number_at}
+use Rattle.drain_grid.specs.WholeGrid.{number_at}
 use Rattle.drain_raster.proofs.BufferLemmas.{put-more}
-use Rattle.drain_raster.proofs.CellLists.{cell_of}
+use Rattle.drain_raster.proofs.CellPlaces.{cell_of}
 use Rattle.drain_raster.proofs.PixelLemmas.{pixel-stored}
 use Rattle.drain_raster.proofs.write.put_pixels.Goals as goal
 

@@ -1,9 +1,9 @@
 use Rattle.std.proofs.Common.{◌+◌, ◌-◌, arith, ap, sym}
 use Rattle.std.specs.List.{range_with_len, flat_map}
-use Rattle.drain_header.specs.Fields.{Fields}
+use Rattle.drain_header.specs.Header.{Fields}
 use Rattle.drain_raster.specs.Bytes.{bytes_of_row}
 use Rattle.drain_raster.proofs.BufferLemmas.{rows-parts}
-use Rattle.drain_raster.proofs.CellLists.{flat_map-rows_more}
+use Rattle.drain_raster.proofs.CellPlaces.{flat_map-rows_more}
 use Rattle.drain_raster.proofs.WritingLemmas.{Hands-both, Hands-ended}
 use Rattle.drain_raster.proofs.write.write_rows.Goals as goal
 

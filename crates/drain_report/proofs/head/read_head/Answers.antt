@@ -2,7 +2,7 @@ use Rattle.std.proofs.Common.{◌++◌, ◌∙◌, ◌<◌, ◌^◌, refl, arith
 use Rattle.std.specs.Prelude.{codes}
 use Rattle.drain_report.specs.Facts.{count_line, place_line, nodata_line, verdict_line}
 use Rattle.drain_report.specs.Faults.{line_feeds}
-use Rattle.drain_report.specs.Head.{version_line}
+use Rattle.drain_report.specs.Contents.{version_line}
 use Rattle.drain_report.proofs.FaultLemmas.{at_two, few_feeds, later, line_fits}
 use Rattle.drain_report.proofs.TextLemmas.{five_split, read_five, same_head}
 use Rattle.drain_report.proofs.head.read_head.Goals as goal

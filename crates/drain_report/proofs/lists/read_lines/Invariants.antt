@@ -1,6 +1,6 @@
 use Rattle.std.proofs.Common.{◌≡◌, ◌<◌, ◌≤◌, ◌^◌, ◌++◌, ℕ, List, length}
 use Rattle.drain_report.specs.Faults.{IsAt}
-use Rattle.drain_report.specs.Lists.{all_text, AllAre}
+use Rattle.drain_report.specs.Contents.{all_text, AllAre}
 use Rattle.drain_report.proofs.ListLemmas.{IsToCome}
 use Rattle.drain_report.proofs.lists.read_lines.Given as goal
 

@@ -1,4 +1,4 @@
-use Rattle.drain_report.proofs.ListedNumbers.{four_after}
+use Rattle.drain_report.proofs.ListLemmas.{four_after}
 use Rattle.drain_report.proofs.place.sides.Goals as goal
 
 pub returns-clause-sound : goal.returns-clause-sound

@@ -1,12 +1,10 @@
 use Rattle.std.proofs.Common.{◌∙◌, ◌<◌, ◌^◌, ap, sym, refl, arith}
 use Rattle.std.proofs.lemmas.Bool.{false≢true}
 use Rattle.std.specs.Prelude.{codes}
-use Rattle.drain_report.specs.Contents.{end_line, head_of}
-use Rattle.drain_union.specs.Verdicts.{is_accepted}
+use Rattle.drain_report.specs.Contents.{end_line, head_of, head_text, list_text}
+use Rattle.drain_union.specs.Reports.{is_accepted}
 use Rattle.drain_report.specs.Facts.{outlet_line, shown_line, sink_line, tile_line}
 use Rattle.drain_report.specs.Faults.{line_feeds}
-use Rattle.drain_report.specs.Head.{head_text}
-use Rattle.drain_report.specs.Lists.{list_text}
 use Rattle.drain_report.proofs.FaultLemmas.{end_fits, few_feeds, from_head, later, list_fits}
 use Rattle.drain_report.proofs.TextLemmas.{contents_with, six_then, version_first, after_head, after_tiles, after_sinks, after_outlets, read_six, same_contents}
 use Rattle.drain_report.proofs.read.read_report.Goals as goal

@@ -1,9 +1,9 @@
 use Rattle.std.proofs.Common.{arith, sym, ap, ◌∙◌}
 use Rattle.drain_report.specs.Facts.{values_numbers}
-use Rattle.drain_report.proofs.ListedNumbers.{held, after, eight}
-use Rattle.drain_report.proofs.SameFacts.{if_some, some_of, same_values}
+use Rattle.drain_report.proofs.ListLemmas.{held, after, eight}
+use Rattle.drain_report.proofs.FactLemmas.{if_some, some_of, same_values}
 use Rattle.drain_report.proofs.seams.values.Goals as goal
-use Rattle.drain_grid.proofs.Options.{same_some}
+use Rattle.drain_grid.proofs.Tallies.{same_some}
 
 pub returns-clause-sound : goal.returns-clause-sound
 returns-clause-sound c =

@@ -1,6 +1,6 @@
 use Rattle.std.proofs.Common.{◌∷◌, ◌++◌, ◌∙◌}
 use Rattle.drain_hgt.specs.Name.{name_of}
-use Rattle.drain_report.proofs.TileLemmas.{tile_split}
+use Rattle.drain_report.proofs.ListLemmas.{tile_split}
 use Rattle.drain_report.proofs.tiles.first_tile.Goals as goal
 
 pub returns-in_default-clause-back : goal.returns-in_default-clause-back

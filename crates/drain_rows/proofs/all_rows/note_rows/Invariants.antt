@@ -1,9 +1,8 @@
 use Rattle.std.proofs.Common.{◌≡◌, ◌+◌, ℕ, None, length}
 use Rattle.drain_grid.specs.Grid.{Grid, Products}
-use Rattle.drain_rules.specs.RowNumbers.{AreRowNumbers, RowNumbers}
-use Rattle.drain_rows.specs.GridRows.{OfGrid, ReadsOn}
+use Rattle.drain_rules.specs.Rows.{AreRowNumbers, RowNumbers}
+use Rattle.drain_rows.specs.GridRows.{OfGrid, ReadsOn, AreVoidsBefore}
 use Rattle.drain_rows.specs.RowBuffers.{LanesMatch, IsMarked, marked_of, buffer_numbers}
-use Rattle.drain_rows.specs.ListedVoids.{AreVoidsBefore}
 use Rattle.drain_rows.proofs.WindowLemmas.{AreSetProducts}
 use Rattle.drain_rows.proofs.all_rows.note_rows.Given as goal
 

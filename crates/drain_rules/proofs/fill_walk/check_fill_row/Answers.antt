@@ -2,7 +2,7 @@ use Rattle.std.proofs.Common.{None, Some, arith, ap}
 use Rattle.drain_grid.specs.declared.patch.Patch.{Patch}
 use Rattle.drain_grid.specs.Rule.{IsFillRule}
 use Rattle.drain_grid.specs.PatchRules.{fill_rules}
-use Rattle.drain_rules.specs.Parts.{parts_grid, parts_products}
+use Rattle.drain_rules.specs.Verdicts.{parts_grid, parts_products}
 use Rattle.drain_rules.specs.Rows.{place}
 use Rattle.drain_rules.proofs.Faults.{IsLeastFault-patch}
 use Rattle.drain_rules.proofs.RowLemmas.{HoldAlong-more, IsRowFault-cell, CountsAlong-more}

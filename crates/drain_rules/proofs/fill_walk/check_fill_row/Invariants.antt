@@ -1,7 +1,7 @@
 use Rattle.std.proofs.Common.{◌≤◌}
 use Rattle.drain_grid.specs.Rule.{IsFillRule}
 use Rattle.drain_grid.specs.PatchRules.{fill_rules}
-use Rattle.drain_rules.specs.Parts.{parts_grid, parts_products}
+use Rattle.drain_rules.specs.Verdicts.{parts_grid, parts_products}
 use Rattle.drain_rules.specs.Rows.{HoldAlong, CountsAlong}
 use Rattle.drain_rules.proofs.fill_walk.check_fill_row.Given as goal
 

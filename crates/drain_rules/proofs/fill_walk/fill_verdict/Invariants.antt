@@ -1,9 +1,9 @@
 use Rattle.std.proofs.Common.{ℕ, ◌<◌}
 use Rattle.drain_grid.specs.Rule.{IsFillRule}
 use Rattle.drain_grid.specs.PatchRules.{fill_rules}
-use Rattle.drain_rules.specs.Parts.{parts_grid, parts_products}
+use Rattle.drain_rules.specs.Verdicts.{parts_grid, parts_products}
 use Rattle.drain_rules.specs.Rows.{HoldAlong}
-use Rattle.drain_rules.specs.RowOutcomes.{CountsAbove}
+use Rattle.drain_rules.specs.Walks.{CountsAbove}
 use Rattle.drain_rules.proofs.fill_walk.fill_verdict.Given as goal
 
 -- the rows that were passed keep the rules and are counted

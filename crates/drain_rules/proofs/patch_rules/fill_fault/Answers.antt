@@ -1,7 +1,7 @@
 use Rattle.std.proofs.Common.{arith}
 use Rattle.drain_grid.specs.declared.rule.Rule.TheVariants.{BelowGround, NotLeast}
 use Rattle.drain_grid.specs.PatchRules.{surface_rules}
-use Rattle.drain_grid.proofs.LeastFaults.{holds_alone, found_next}
+use Rattle.drain_grid.proofs.AllRules.{holds_alone, found_next}
 use Rattle.drain_rules.proofs.patch_rules.fill_fault.Goals as goal
 
 pub returns-then-is_above : goal.returns-then-is_above

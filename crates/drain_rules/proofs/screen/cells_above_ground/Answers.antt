@@ -1,5 +1,5 @@
 use Rattle.std.proofs.Common.{◌-◌, arith}
-use Rattle.drain_rules.proofs.Screens.{clear_part}
+use Rattle.drain_rules.proofs.RowPatches.{clear_part}
 use Rattle.drain_rules.proofs.screen.cells_above_ground.Goals as goal
 
 pub returns-then-above-end-clause-above : goal.returns-then-above-end-clause-above

@@ -1,5 +1,5 @@
 use Rattle.std.proofs.Common.{arith, ◌∙◌}
-use Rattle.drain_rules.proofs.Screens.{part_is}
+use Rattle.drain_rules.proofs.RowPatches.{part_is}
 use Rattle.drain_rules.proofs.screen.copy_numbers.Goals as goal
 
 pub returns : goal.returns

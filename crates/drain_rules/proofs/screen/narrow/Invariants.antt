@@ -1,6 +1,6 @@
 use Rattle.std.proofs.Common.{◌≡◌, IsTrue, length}
 use Rattle.drain_fill.specs.Below.{AreRowHeights}
-use Rattle.drain_rules.proofs.Screens.{ArePut}
+use Rattle.drain_rules.proofs.RowPatches.{ArePut}
 use Rattle.drain_rules.proofs.screen.narrow.Given as goal
 
 -- the numbers that were passed are in their places if all of them fit, and else not all numbers do

@@ -2,7 +2,7 @@ use Rattle.std.proofs.Common.{ℕ, ◌<◌, ◌≤◌, inl, inr, arith, below_mo
 use Rattle.std.proofs.lemmas.Bool.{cases_lt}
 use Rattle.drain_grid.specs.declared.patch.Patch.{Patch}
 use Rattle.drain_grid.specs.PatchRules.{Profile}
-use Rattle.drain_kernel.specs.Kept.{IsKept}
+use Rattle.drain_kernel.specs.Columns.{IsKept}
 use Rattle.drain_grid.specs.RulesAbout.{tried}
 use Rattle.drain_rules.specs.ThreeRows.{patch_in}
 use Rattle.drain_rules.proofs.LanedPatches.{patch_shown, patch_shown_round}

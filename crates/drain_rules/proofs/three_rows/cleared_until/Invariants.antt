@@ -1,5 +1,5 @@
 use Rattle.std.proofs.Common.{ℕ, ◌-◌, ◌<◌, ◌≤◌}
-use Rattle.drain_kernel.specs.Kept.{IsKept}
+use Rattle.drain_kernel.specs.Columns.{IsKept}
 use Rattle.drain_grid.specs.RulesAbout.{tried}
 use Rattle.drain_rules.specs.ThreeRows.{patch_in}
 use Rattle.drain_rules.proofs.three_rows.cleared_until.Given as goal

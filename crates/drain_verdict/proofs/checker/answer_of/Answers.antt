@@ -1,8 +1,8 @@
 use Rattle.std.proofs.Common.{Ok, Err, refl}
 use Rattle.std.proofs.lemmas.Result.{err_from_is_err_and}
-use Rattle.drain_verdict.specs.Devices.{devices_of}
+use Rattle.drain_verdict.specs.Uses.{devices_of}
 use Rattle.drain_verdict.proofs.AuditDevices.{failed_alike, none_alike}
-use Rattle.drain_verdict.proofs.Uses.{uses_alike}
+use Rattle.drain_verdict.proofs.InputLemmas.{uses_alike}
 use Rattle.drain_verdict.proofs.checker.answer_of.Goals as goal
 
 pub returns-in_err-judgement-clause-uses : goal.returns-in_err-judgement-clause-uses

@@ -1,15 +1,15 @@
 use Rattle.std.proofs.Common.{◌∙◌, Ok, Err, refl, sym, ap, subst, rules}
 use Rattle.std.proofs.lemmas.Result.{err_from_is_err_and}
 use Rattle.drain_answer.specs.declared.refusal.Refusal.TheVariants.{OutOfMemory}
-use Rattle.drain_grid.specs.Size.{Extent, IsExtent}
+use Rattle.drain_grid.specs.Extent.{Extent, IsExtent}
 use Rattle.drain_grid.specs.SinkTexts.{sinks_of}
 use Rattle.drain_verdict.specs.Answers.{rules_at}
-use Rattle.drain_verdict.specs.Devices.{devices_of}
+use Rattle.drain_verdict.specs.Uses.{devices_of}
 use Rattle.drain_verdict.specs.Meaning.{input_grid, listed_in, input_products}
 use Rattle.drain_verdict.proofs.AuditDevices.{failed_alike, none_alike}
 use Rattle.drain_verdict.proofs.OutcomeLemmas.{listed_ok, memory_alike}
 use Rattle.drain_verdict.proofs.StartAnswers.{shape_of_inputs}
-use Rattle.drain_verdict.proofs.Uses.{uses_alike}
+use Rattle.drain_verdict.proofs.InputLemmas.{uses_alike}
 use Rattle.drain_verdict.proofs.judgement.judge_by.Goals as goal
 
 pub read_inputs-requires-clause-unnoted : goal.read_inputs-requires-clause-unnoted

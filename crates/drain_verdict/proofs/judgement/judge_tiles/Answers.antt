@@ -1,9 +1,8 @@
 use Rattle.std.proofs.Common.{Err, subst}
 use Rattle.std.proofs.lemmas.Result.{err_from_is_err_and}
-use Rattle.drain_verdict.specs.Devices.{devices_of}
-use Rattle.drain_verdict.specs.Uses.{UsesInputs}
+use Rattle.drain_verdict.specs.Uses.{devices_of, UsesInputs}
 use Rattle.drain_verdict.proofs.StartAnswers.{at_side, laid, layout_answer, layout_reads_none}
-use Rattle.drain_verdict.proofs.Uses.{uses_none}
+use Rattle.drain_verdict.proofs.InputLemmas.{uses_none}
 use Rattle.drain_verdict.proofs.judgement.judge_tiles.Goals as goal
 
 pub returns-in_err-layout-clause-answer : goal.returns-in_err-layout-clause-answer

@@ -1,4 +1,4 @@
-use Rattle.drain_verdict.proofs.Telling as telling
+use Rattle.drain_verdict.proofs.InputLemmas as telling
 use Rattle.drain_verdict.proofs.laws.inputs_are_told.Goals as goal
 
 pub returns : goal.returns

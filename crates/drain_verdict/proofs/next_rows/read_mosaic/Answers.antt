@@ -1,6 +1,6 @@
 use Rattle.std.proofs.Common.{ap, Ok, rules}
 use Rattle.drain_device.specs.declared.row_source.RowStep.{RowStep}
-use Rattle.drain_verdict.proofs.MosaicRowSteps.{mosaic_more, narrow}
+use Rattle.drain_verdict.proofs.RowStart.{mosaic_more, narrow}
 use Rattle.drain_verdict.proofs.next_rows.read_mosaic.Goals as goal
 
 pub returns-in-Ok-clause-rows : goal.returns-in-Ok-clause-rows

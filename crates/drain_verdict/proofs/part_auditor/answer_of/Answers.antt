@@ -3,7 +3,7 @@ use Rattle.std.proofs.lemmas.Result.{err_from_is_err_and}
 use Rattle.drain_verdict.specs.Meaning.{input_grid, nodata_numbers, input_products}
 use Rattle.drain_verdict.proofs.AuditDevices.{none_alike}
 use Rattle.drain_verdict.proofs.OutcomeLemmas.{outcome_is}
-use Rattle.drain_verdict.proofs.Uses.{four_failed, four_used}
+use Rattle.drain_verdict.proofs.InputLemmas.{four_failed, four_used}
 use Rattle.drain_verdict.proofs.part_auditor.answer_of.Goals as goal
 
 pub returns-in_err-judgement-clause-uses : goal.returns-in_err-judgement-clause-uses

@@ -2,11 +2,11 @@ use Rattle.std.proofs.Common.{◌≡◌, ℕ, List, ap, subst, sym, ◌∙◌}
 use Rattle.std.proofs.lemmas.Result.{err_from_is_err_and}
 use Rattle.drain_grid.specs.SinkTexts.{sinks_of}
 use Rattle.drain_verdict.specs.Meaning.{lines_in}
-use Rattle.drain_verdict.specs.SinkListings.{IsBadLine}
+use Rattle.drain_verdict.specs.Stages.{IsBadLine}
 use Rattle.drain_answer.specs.declared.refusal.Refusal.TheVariants.{ReadFailed}
 use Rattle.drain_verdict.specs.InputReads.{with_rasters}
-use Rattle.drain_verdict.proofs.Devices.{devices_none, tiles_take_none}
-use Rattle.drain_rows.proofs.RowResults.{on-ok}
+use Rattle.drain_verdict.proofs.AuditDevices.{devices_none, tiles_take_none}
+use Rattle.drain_rows.proofs.WindowLemmas.{on-ok}
 use Rattle.drain_verdict.proofs.RowDevices.{bodies_taken, devices_fail, tiles_taken}
 use Rattle.drain_verdict.proofs.read_inputs.read_bodies.Goals as goal
 

@@ -1,8 +1,8 @@
 use Rattle.std.proofs.lemmas.Result.{err_from_is_err_and}
-use Rattle.drain_rows.proofs.RowResults.{on-ok}
+use Rattle.drain_rows.proofs.WindowLemmas.{on-ok}
 use Rattle.std.proofs.Common.{Err}
-use Rattle.drain_verdict.specs.Devices.{devices_of}
-use Rattle.drain_verdict.proofs.Uses.{of_bodies_may, uses_none}
+use Rattle.drain_verdict.specs.Uses.{devices_of}
+use Rattle.drain_verdict.proofs.InputLemmas.{of_bodies_may, uses_none}
 use Rattle.drain_verdict.proofs.StartAnswers.{named_each, header_answer, header_reads_none, started, takes_as_told}
 use Rattle.drain_verdict.proofs.read_inputs.read_inputs.Goals as goal
 

@@ -1,19 +1,18 @@
 use Rattle.std.proofs.Common.{◌≡◌, ℕ, ◌<◌, ◌∙◌, List, Ok, Err, ap, subst, arith, rules}
 use Rattle.std.proofs.lemmas.Result.{err_from_is_err_and}
 use Rattle.drain_grid.specs.declared.cell.Cell.{Cell}
-use Rattle.drain_grid.specs.Size.{Extent, IsExtent}
-use Rattle.drain_grid.specs.SinkLines.{is_listed}
-use Rattle.drain_grid.specs.SinkTexts.{sinks_of}
+use Rattle.drain_grid.specs.Extent.{Extent, IsExtent}
+use Rattle.drain_grid.specs.SinkTexts.{is_listed, sinks_of}
 use Rattle.drain_verdict.proofs.OutcomeLemmas.{memory_alike}
 use Rattle.drain_mosaic.specs.Tiling.{extent_of}
-use Rattle.drain_verdict.specs.AuditInputs.{with_con_for_ranks}
+use Rattle.drain_verdict.specs.Inputs.{as_five}
 use Rattle.drain_verdict.specs.Meaning.{input_grid, input_products, lines_in, nodata_numbers}
 use Rattle.drain_answer.specs.declared.refusal.Refusal.TheVariants.{OutOfMemory}
 use Rattle.drain_verdict.proofs.AuditDevices.{failed_alike, none_alike}
 use Rattle.drain_verdict.proofs.StartAnswers.{layout_of_inputs}
-use Rattle.drain_verdict.proofs.Uses.{four_used}
+use Rattle.drain_verdict.proofs.InputLemmas.{four_used}
 use Rattle.drain_union.specs.Windows.{IsPlaceIn}
-use Rattle.drain_window.specs.MapOrigins.{map_origin}
+use Rattle.drain_window.specs.WindowLines.{map_origin}
 use Rattle.drain_window.specs.WindowAnswers.{IsAnswerOn}
 use Rattle.drain_window.proofs.judge.answer_at.Goals as goal
 
@@ -38,7 +37,7 @@ returns-in_err-read_inputs-clause-uses g c =
 pub returns-in-Some-clause-answer : goal.returns-in-Some-clause-answer
 returns-in-Some-clause-answer g c = λ inputs tell.
     let is = layout_of_inputs c.one_name.ensures g.R.ByteSource.bytes_left c.args.layout.now.side c.args.tiles.now c.args.sinks.now
-    (with_con_for_ranks c.args.products.now) inputs c.args.layout.now tell c.requires.laid in
+    (as_five c.args.products.now) inputs c.args.layout.now tell c.requires.laid in
     let extent : c.shape-shape.result ≡ (input_grid inputs).extent = c.shape-shape.ensures ∙ ap extent_of is in
     let fits : IsExtent (input_grid inputs).extent = subst IsExtent extent (search rules) in
     let some : 0 < (input_grid inputs).extent.rows = omega (arith, fits.some_row) in

@@ -1,17 +1,17 @@
 use Rattle.std.proofs.Common.{Err}
-use Rattle.drain_verdict.specs.AuditInputs.{audit_devices, with_con_for_ranks}
+use Rattle.drain_verdict.specs.Inputs.{audit_devices, as_five}
 use Rattle.drain_verdict.proofs.StartAnswers.{at_side, laid, layout_answer, layout_reads_none}
-use Rattle.drain_verdict.proofs.Uses.{uses_none}
+use Rattle.drain_verdict.proofs.InputLemmas.{uses_none}
 use Rattle.drain_window.proofs.judge.answer_of.Goals as goal
 
 pub returns-in-Err-clause-answer : goal.returns-in-Err-clause-answer
 returns-in-Err-clause-answer g c = λ inputs tell.
-    layout_answer c.one_name.ensures g.R.ByteSource.bytes_left c.args.side c.args.tiles.now c.args.sinks.now (with_con_for_ranks c.args.products.now) inputs c.in-Err.refusal
+    layout_answer c.one_name.ensures g.R.ByteSource.bytes_left c.args.side c.args.tiles.now c.args.sinks.now (as_five c.args.products.now) inputs c.in-Err.refusal
     tell c.in-Err.ensures.refusal
 
 pub returns-in-Err-clause-uses : goal.returns-in-Err-clause-uses
 returns-in-Err-clause-uses g c =
-    uses_none with_con_for_ranks audit_devices g.R.ByteSource.bytes_left g.R.ByteSource.counts c.args.side c.args.tiles.now c.args.products.now (Err c.in-Err.refusal)
+    uses_none as_five audit_devices g.R.ByteSource.bytes_left g.R.ByteSource.counts c.args.side c.args.tiles.now c.args.products.now (Err c.in-Err.refusal)
     (layout_reads_none _ _ _ c.in-Err.ensures.refusal)
 
 pub answer_in-requires : goal.answer_in-requires
@@ -20,4 +20,4 @@ answer_in-requires g c = record { laid = laid c.args.side _ c.in-Ok.layout c.in-
 pub returns-in-Ok-clause-answer : goal.returns-in-Ok-clause-answer
 returns-in-Ok-clause-answer g c = λ inputs tell.
     c.answer_in.ensures.answer inputs
-    (at_side g.R.ByteSource.bytes_left c.args.side c.args.tiles.now c.args.sinks.now (with_con_for_ranks c.args.products.now) inputs c.in-Ok.layout c.in-Ok.ensures.layout tell)
+    (at_side g.R.ByteSource.bytes_left c.args.side c.args.tiles.now c.args.sinks.now (as_five c.args.products.now) inputs c.in-Ok.layout c.in-Ok.ensures.layout tell)

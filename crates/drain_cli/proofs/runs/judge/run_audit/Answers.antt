@@ -1,8 +1,7 @@
 use Rattle.std.proofs.Common.{arith, ◌∙◌}
-use Rattle.drain_verdict.specs.AuditInputs.{with_con_for_ranks}
-use Rattle.drain_verdict.specs.Audits.{AreCorrect, ForAudit}
+use Rattle.drain_verdict.specs.Inputs.{as_five, Encode}
+use Rattle.drain_verdict.specs.Answers.{AreCorrect, ForAudit}
 use Rattle.drain_verdict.specs.Headline.{IsRight}
-use Rattle.drain_verdict.specs.Inputs.{Tell}
 use Rattle.drain_cli.proofs.AnswerLemmas.{of_audited, not_of_rejected}
 use Rattle.drain_cli.proofs.runs.judge.run_audit.Goals as goal
 
@@ -14,5 +13,5 @@ returns-clause-correct g c zero i told =
 pub returns-clause-not_correct : goal.returns-clause-not_correct
 returns-clause-not_correct g c one i told =
     not_of_rejected c.audit-answer.result (c.print_answer.ensures.answered (omega (arith, one)) ∙ one)
-    (Tell g.R.ByteSource.bytes_left c.args.side c.args.tiles.now c.args.sinks.now (with_con_for_ranks c.args.products.now)) AreCorrect
+    (Encode g.R.ByteSource.bytes_left c.args.side c.args.tiles.now c.args.sinks.now (as_five c.args.products.now)) AreCorrect
     c.audit-answer.ensures.exactly i told

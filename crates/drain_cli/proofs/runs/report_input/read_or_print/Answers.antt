@@ -1,5 +1,5 @@
 use Rattle.std.proofs.Common.{◌∙◌}
-use Rattle.drain_cli.proofs.ReportTexts.{failed_code}
+use Rattle.drain_cli.proofs.ReadReports.{failed_code}
 use Rattle.drain_cli.proofs.runs.report_input.read_or_print.Goals as goal
 
 pub returns-in-Err-clause-back : goal.returns-in-Err-clause-back

@@ -1,9 +1,9 @@
 use Rattle.std.proofs.Common.{ap, ◌∙◌}
 use Rattle.drain_report.specs.Contents.{contents_of}
 use Rattle.drain_cli.specs.ReportInputs.{fault_status}
-use Rattle.drain_cli.specs.ReportOutputs.{text_of}
+use Rattle.drain_cli.specs.WindowRuns.{text_of}
 use Rattle.drain_cli.specs.declared.runs.report_input.BadReport.TheVariants.{NoText}
-use Rattle.drain_cli.proofs.ReportTexts.{all_read, text_is}
+use Rattle.drain_cli.proofs.ReadReports.{all_read, text_is}
 use Rattle.drain_cli.proofs.runs.report_input.read_window.Goals as goal
 
 pub returns-in-Ok-read_report-clause-back : goal.returns-in-Ok-read_report-clause-back

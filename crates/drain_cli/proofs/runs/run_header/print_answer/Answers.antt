@@ -1,7 +1,7 @@
 use Rattle.std.proofs.Common.{◌∙◌}
 use Rattle.std.specs.Prelude.{Ok, Err}
 use Rattle.drain_device.specs.declared.read.BodyFault.TheVariants.{OutOfMemory}
-use Rattle.drain_cli.proofs.HeaderLemmas.{told_header, told_no_memory, told_fault}
+use Rattle.drain_cli.proofs.RoundTrips.{told_header, told_no_memory, told_fault}
 use Rattle.drain_answer.proofs.PrintLemmas.{PrintsText-same, Prints-same}
 use Rattle.drain_cli.proofs.runs.run_header.print_answer.Goals as goal
 

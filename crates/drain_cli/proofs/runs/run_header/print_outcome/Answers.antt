@@ -1,5 +1,5 @@
 use Rattle.std.specs.Prelude.{Err}
-use Rattle.drain_cli.proofs.HeaderLemmas.{told_answer, told_failure}
+use Rattle.drain_cli.proofs.RoundTrips.{told_answer, told_failure}
 use Rattle.drain_cli.proofs.runs.run_header.print_outcome.Goals as goal
 
 pub returns-in-Ok : goal.returns-in-Ok

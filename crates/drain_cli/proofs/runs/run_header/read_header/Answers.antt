@@ -1,4 +1,4 @@
-use Rattle.drain_cli.proofs.HeaderLemmas.{answer_told, read_told, taken}
+use Rattle.drain_cli.proofs.RoundTrips.{answer_told, read_told, taken}
 use Rattle.drain_cli.proofs.runs.run_header.read_header.Goals as goal
 
 pub returns-clause-outcome : goal.returns-clause-outcome

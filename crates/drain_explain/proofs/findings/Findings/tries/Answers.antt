@@ -1,7 +1,7 @@
 use Rattle.std.proofs.Common.{◌≡◌, ◌∙◌, inl, inr, sym, subst, Some, IsTrue}
 use Rattle.drain_grid.specs.Judged.{has_product}
-use Rattle.drain_grid.proofs.Options.{none_some, same_some}
-use Rattle.drain_explain.specs.Findings.{judged}
+use Rattle.drain_grid.proofs.Tallies.{none_some, same_some}
+use Rattle.drain_explain.specs.Explanations.{judged}
 use Rattle.drain_explain.proofs.TriedRules.{IsBroken, IsLookedAt, missing, tried_rule, void_cell}
 use Rattle.drain_explain.proofs.UntriedRules.{untried_rule}
 use Rattle.drain_explain.proofs.findings.Findings.tries.Goals as goal

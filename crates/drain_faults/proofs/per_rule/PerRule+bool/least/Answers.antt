@@ -2,8 +2,8 @@ use Rattle.std.proofs.Common.{◌≡◌, ◌+◌, ◌<◌, false, true, get_or, 
 use Rattle.std.proofs.lemmas.Bool.{false≢true}
 use Rattle.drain_grid.specs.declared.rule.Rule.TheVariants.{VoidCell}
 use Rattle.drain_grid.specs.Rule.{rule_number}
-use Rattle.drain_grid.proofs.RuleNumbers.{rules}
-use Rattle.drain_faults.specs.PerRule.{of_rule}
+use Rattle.drain_grid.proofs.AllRules.{rules}
+use Rattle.drain_faults.specs.CellFaults.{of_rule}
 use Rattle.drain_faults.proofs.RulePlaces.{of_each, of_lesser, place_at}
 use Rattle.drain_faults.proofs.per_rule.PerRule+bool.least.Goals as goal
 

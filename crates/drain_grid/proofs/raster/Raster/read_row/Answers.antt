@@ -2,7 +2,7 @@ use Rattle.std.proofs.Common.{◌≡◌, ◌+◌, ◌*◌, ◌∙◌, pos, lengt
 use Rattle.std.proofs.lemmas.List.Elements.{All-same}
 use Rattle.drain_grid.specs.Numbers.{numbers_of}
 use Rattle.drain_grid.specs.Values.{IsPixel}
-use Rattle.drain_grid.proofs.RowCopies.{All-row, lent, row_copied}
+use Rattle.drain_grid.proofs.Alike.{All-row, lent, row_copied}
 use Rattle.drain_grid.proofs.raster.Raster.read_row.Goals as goal
 
 pub returns-clause-row : goal.returns-clause-row

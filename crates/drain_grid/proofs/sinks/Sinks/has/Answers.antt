@@ -1,6 +1,6 @@
 use Rattle.std.proofs.Common.{◌<◌, ◌^◌, ◌∙◌, ap, rules}
-use Rattle.drain_grid.specs.SinkLines.{is_listed}
-use Rattle.drain_grid.proofs.SinkSearch.{listed_by_search}
+use Rattle.drain_grid.specs.SinkTexts.{is_listed}
+use Rattle.drain_grid.proofs.SinkFaults.{listed_by_search}
 use Rattle.drain_grid.proofs.sinks.Sinks.has.Goals as goal
 
 pub returns : goal.returns

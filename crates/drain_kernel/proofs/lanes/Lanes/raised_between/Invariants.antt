@@ -1,5 +1,5 @@
 use Rattle.std.proofs.Common.{◌≡◌, ◌≤◌, ◌-◌}
-use Rattle.drain_kernel.specs.Counts.{raised_lanes}
+use Rattle.drain_kernel.specs.Columns.{raised_lanes}
 use Rattle.drain_kernel.proofs.lanes.Lanes.raised_between.Given as goal
 
 -- the columns that were passed are counted

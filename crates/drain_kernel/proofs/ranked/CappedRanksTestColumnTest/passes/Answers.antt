@@ -1,4 +1,4 @@
-use Rattle.drain_kernel.proofs.CappedRanks.{ranked_by_capped}
+use Rattle.drain_kernel.proofs.CappedSums.{ranked_by_capped}
 use Rattle.drain_kernel.proofs.ranked.CappedRanksTestColumnTest.passes.Goals as goal
 
 pub returns-clause-passed : goal.returns-clause-passed

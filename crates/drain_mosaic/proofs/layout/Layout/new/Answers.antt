@@ -3,8 +3,8 @@ use Rattle.std.proofs.lemmas.Int.{to_z-of_z}
 use Rattle.drain_hgt.specs.Corner.{Corner}
 use Rattle.drain_mosaic.specs.Tiling.{Tiling}
 use Rattle.drain_mosaic.specs.declared.layout.LayoutFault.TheVariants.{OutOfMemory}
-use Rattle.drain_mosaic.specs.LayoutFaults.{IsLayout, AreTilingNumbers}
-use Rattle.drain_mosaic.proofs.LayoutOrder.{not_memory, layout_is}
+use Rattle.drain_mosaic.specs.GivenTiles.{IsLayout, AreTilingNumbers}
+use Rattle.drain_mosaic.proofs.Agreement.{not_memory, layout_is}
 use Rattle.drain_mosaic.proofs.layout.Layout.new.Goals as goal
 
 pub returns-in-Err-clause-first_fault : goal.returns-in-Err-clause-first_fault

@@ -1,5 +1,5 @@
 use Rattle.std.proofs.Common.{◌≡◌, ◌∙◌, arith, rules, true, is_ok}
-use Rattle.drain_mosaic.proofs.Beginnings.{all-more, start-more}
+use Rattle.drain_mosaic.proofs.Places.{all-more, start-more}
 use Rattle.drain_mosaic.proofs.TileCalls.{at-start}
 use Rattle.drain_mosaic.specs.PlacedRows.{IsPlacedAt, IsPlacedWithin}
 use Rattle.drain_mosaic.specs.Tiling.{extent_of}

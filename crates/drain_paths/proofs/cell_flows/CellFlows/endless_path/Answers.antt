@@ -1,4 +1,4 @@
-use Rattle.drain_paths.specs.KnownFlows.{AreKnownFlows}
+use Rattle.drain_paths.specs.Walks.{AreKnownFlows}
 use Rattle.drain_paths.proofs.Rings.{ring-of}
 use Rattle.drain_paths.proofs.cell_flows.CellFlows.endless_path.Goals as goal
 

@@ -4,7 +4,7 @@ use Rattle.std.specs.Prelude.{OnOk, codes}
 use Rattle.std.proofs.lemmas.Int.{to_z-of_z}
 use Rattle.drain_report.specs.Lines.{line}
 use Rattle.drain_report.specs.Facts.{height_number, flag_number}
-use Rattle.drain_report.proofs.SameFacts.{ten_same, flag_is}
+use Rattle.drain_report.proofs.FactLemmas.{ten_same, flag_is}
 use Rattle.drain_report.proofs.seams.ShownReportLine.push_to.Goals as goal
 
 pub returns-clause-written : goal.returns-clause-written

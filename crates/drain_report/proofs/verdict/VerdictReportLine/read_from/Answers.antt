@@ -1,10 +1,9 @@
 use Rattle.std.proofs.Common.{◌≡◌, rules, refl, arith, ap}
 use Rattle.std.specs.Prelude.{MatchResult}
 use Rattle.drain_grid.specs.declared.verdict.Verdict.TheVariants.{Accepted}
-use Rattle.drain_grid.proofs.Options.{none_some, same_some}
+use Rattle.drain_grid.proofs.Tallies.{none_some, same_some}
 use Rattle.drain_report.specs.Facts.{count_numbers, fault_numbers}
-use Rattle.drain_report.proofs.FactLemmas.{counts_long}
-use Rattle.drain_report.proofs.SameFacts.{by_kind, not_both_kinds}
+use Rattle.drain_report.proofs.FactLemmas.{counts_long, by_kind, not_both_kinds}
 use Rattle.drain_report.proofs.verdict.VerdictReportLine.read_from.Goals as goal
 
 pub returns-in-Err-clause-back : goal.returns-in-Err-clause-back

@@ -2,7 +2,7 @@ use Rattle.std.proofs.Common.{◌≡◌, ◌+◌, ◌++◌, ◌∙◌, ℤ, List
 use Rattle.drain_grid.specs.declared.set_product.SetProduct.TheVariants.{Dir}
 use Rattle.drain_paths.specs.Flows.{AreFirstFlows, flows_of}
 use Rattle.drain_paths.proofs.GridFlows.{AreFirstFlows-row}
-use Rattle.drain_rows.proofs.RowResults.{on-ok}
+use Rattle.drain_rows.proofs.WindowLemmas.{on-ok}
 use Rattle.drain_rows.proofs.row_flows.CellFlowsRowVisitor.note.Goals as goal
 
 pub push_row-requires-clause-cells : goal.push_row-requires-clause-cells

@@ -1,8 +1,8 @@
 use Rattle.std.proofs.Common.{◌≡◌, ◌<◌, length, ap, subst, arith}
 use Rattle.drain_fill.specs.Below.{AreRowHeights, IsBelowAt}
 use Rattle.drain_grid.specs.declared.set_product.SetProduct.TheVariants.{Con}
-use Rattle.drain_rules.specs.MarkedRows.{MarkedRow}
-use Rattle.drain_rules.proofs.Screens.{samples_fit}
+use Rattle.drain_rules.specs.Rows.{MarkedRow}
+use Rattle.drain_rules.proofs.RowPatches.{samples_fit}
 use Rattle.drain_rules.proofs.row_view.RowView.cells_above_ground.Goals as goal
 
 pub cells_above_ground-requires : goal.cells_above_ground-requires

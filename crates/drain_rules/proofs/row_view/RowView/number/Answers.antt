@@ -2,8 +2,8 @@ use Rattle.std.proofs.Common.{◌≡◌, ◌<◌, pos, ℤ, List, length, All, r
 use Rattle.std.proofs.lemmas.List.Elements.{All-get_or}
 use Rattle.drain_grid.specs.PerProduct.{of_product}
 use Rattle.drain_grid.specs.Values.{IsPixel}
-use Rattle.drain_rules.specs.MarkedRows.{MarkedRow}
-use Rattle.drain_rules.proofs.RowFields.{of_per}
+use Rattle.drain_rules.specs.Rows.{MarkedRow}
+use Rattle.drain_rules.proofs.RowLemmas.{of_per}
 use Rattle.drain_rules.proofs.row_view.RowView.number.Goals as goal
 
 pub number_soonest-requires : goal.number_soonest-requires

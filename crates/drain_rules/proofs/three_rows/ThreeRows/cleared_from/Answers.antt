@@ -1,7 +1,6 @@
 use Rattle.std.proofs.Common.{arith, ◌∙◌}
 use Rattle.drain_rules.specs.ThreeRows.{patch_in}
-use Rattle.drain_rules.proofs.LanedCounts.{raised_counts}
-use Rattle.drain_rules.proofs.LanedPatches.{row_shown}
+use Rattle.drain_rules.proofs.LanedPatches.{raised_counts, row_shown}
 use Rattle.drain_rules.proofs.three_rows.ThreeRows.cleared_from.Goals as goal
 
 pub overflow_cast-result : goal.overflow_cast-result

@@ -1,6 +1,6 @@
 use Rattle.std.proofs.Common.{ℕ, ◌-◌, ◌<◌, ◌≤◌}
 use Rattle.drain_grid.specs.RulesAbout.{tried}
-use Rattle.drain_rules.specs.BlankVoids.{IsRightVoid}
+use Rattle.drain_rules.specs.Fill.{IsRightVoid}
 use Rattle.drain_rules.specs.ThreeRows.{patch_in}
 use Rattle.drain_rules.proofs.three_rows.ThreeRowsPatchRow.voids_until.Given as goal
 

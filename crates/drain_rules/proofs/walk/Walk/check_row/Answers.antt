@@ -1,8 +1,7 @@
 use Rattle.std.proofs.Common.{◌+◌, subst, sym, arith}
 use Rattle.drain_grid.specs.RulesAbout.{tried}
-use Rattle.drain_rules.specs.declared.area.Area.{Area}
-use Rattle.drain_rules.specs.AreaOutcomes.{IsAreaOutcome}
-use Rattle.drain_rules.specs.Areas.{HasRow}
+use Rattle.drain_rules.specs.declared.walk.Area.{Area}
+use Rattle.drain_rules.specs.Areas.{IsAreaOutcome, HasRow}
 use Rattle.drain_rules.specs.Compared.{IsTriedIf}
 use Rattle.drain_rules.specs.Rows.{place}
 use Rattle.drain_rules.proofs.AreaGrids.{sound-past}

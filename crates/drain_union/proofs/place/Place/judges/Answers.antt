@@ -1,6 +1,6 @@
 use Rattle.std.proofs.Common.{ℕ, subst, sym}
-use Rattle.drain_union.specs.Judged.{IsJudgedAlong}
-use Rattle.drain_union.proofs.JudgedCells.{judged_both, judged_at}
+use Rattle.drain_union.specs.Windows.{IsJudgedAlong}
+use Rattle.drain_union.proofs.JudgedCounts.{judged_both, judged_at}
 use Rattle.drain_union.proofs.place.Place.judges.Goals as goal
 
 pub returns-then-judges_along : goal.returns-then-judges_along

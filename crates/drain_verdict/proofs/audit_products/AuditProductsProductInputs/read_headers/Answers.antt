@@ -1,16 +1,15 @@
 use Rattle.std.proofs.Common.{◌≡◌, ◌∙◌, ℕ, List, ap, sym, rules, Result, Ok, Err, IfOk}
 use Rattle.drain_text.specs.Text.{lines_of}
-use Rattle.drain_header.specs.Header.{header_of}
+use Rattle.drain_header.specs.Header.{header_of, Fields}
 use Rattle.drain_grid.specs.PerProduct.{of_product}
 use Rattle.drain_grid.proofs.ByProduct.{by_set_product}
 use Rattle.drain_grid.specs.declared.set_product.SetProduct.{SetProduct}
 use Rattle.drain_grid.specs.declared.set_product.SetProduct.TheVariants.{Con, Rnk}
 use Rattle.drain_grid.specs.declared.per_product.PerProduct.{PerProduct}
-use Rattle.drain_header.specs.Fields.{Fields}
 use Rattle.drain_mosaic.specs.Tiling.{Tiling}
 use Rattle.drain_verdict.specs.Stages.{AreHeadersOf}
-use Rattle.drain_verdict.specs.AuditInputs.{with_con_for_ranks}
-use Rattle.drain_verdict.proofs.HeaderTexts.{told_of_same}
+use Rattle.drain_verdict.specs.Inputs.{as_five}
+use Rattle.drain_verdict.proofs.HeaderAnswers.{told_of_same}
 use Rattle.drain_verdict.proofs.InputLemmas.{over_err}
 use Rattle.drain_verdict.proofs.audit_products.AuditProductsProductInputs.read_headers.Goals as goal
 
@@ -25,6 +24,6 @@ returns-clause-alike g c = alike c.read_headers.result c.args.layout.now _ c.rea
 pub returns-clause-refusal : goal.returns-clause-refusal
 returns-clause-refusal g c =
     over_err c.read_headers.result _ _
-    (λ e found. told_of_same c.args.layout.now _ (λ p. (of_product (with_con_for_ranks c.args.self.now) p).header) e found
+    (λ e found. told_of_same c.args.layout.now _ (λ p. (of_product (as_five c.args.self.now) p).header) e found
     (by_set_product _ (search rules) (search rules) (search rules) (search rules) (search rules)))
     c.read_headers.ensures.refusal

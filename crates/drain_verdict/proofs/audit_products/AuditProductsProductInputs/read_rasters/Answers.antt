@@ -1,4 +1,4 @@
-use Rattle.drain_verdict.proofs.AuditReads.{four_read, no_device}
+use Rattle.drain_verdict.proofs.AuditAnswers.{four_read, no_device}
 use Rattle.drain_verdict.proofs.audit_products.AuditProductsProductInputs.read_rasters.Goals as goal
 
 pub returns-clause-read : goal.returns-clause-read

@@ -1,7 +1,7 @@
 use Rattle.std.proofs.Common.{rules}
 use Rattle.drain_grid.specs.PerProduct.{of_product}
 use Rattle.drain_grid.proofs.ByProduct.{by_set_product}
-use Rattle.drain_verdict.proofs.HeaderTexts.{told_of_same}
+use Rattle.drain_verdict.proofs.HeaderAnswers.{told_of_same}
 use Rattle.drain_verdict.proofs.InputLemmas.{over_err}
 use Rattle.drain_verdict.proofs.check_products.PerProductRasterInputProductInputs.read_headers.Goals as goal
 

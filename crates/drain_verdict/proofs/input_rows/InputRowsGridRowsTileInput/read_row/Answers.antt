@@ -3,11 +3,11 @@ use Rattle.std.specs.List.{All}
 use Rattle.drain_grid.specs.declared.set_product.SetProduct.TheVariants.{Con, Dir, Acc, Bas, Rnk}
 use Rattle.drain_grid.specs.PerProduct.{of_product, per_product}
 use Rattle.drain_grid.specs.Values.{IsPixel}
-use Rattle.drain_rules.specs.RowNumbers.{RowNumbers}
+use Rattle.drain_rules.specs.Rows.{RowNumbers}
 use Rattle.drain_rows.specs.RowBuffers.{buffer_numbers}
 use Rattle.drain_verdict.specs.InputReads.{as_read, with_rasters}
 use Rattle.drain_grid.proofs.ByProduct.{by_set_product}
-use Rattle.drain_rows.proofs.RowResults.{told-of}
+use Rattle.drain_rows.proofs.WindowLemmas.{told-of}
 use Rattle.drain_verdict.proofs.RowGiven.{IsKept, come_more, come_refused, kept_numbers, next_given}
 use Rattle.drain_verdict.proofs.RowReads.{by_mosaic, by_rasters, one_read, rasters_none, reads_then}
 use Rattle.drain_verdict.proofs.input_rows.InputRowsGridRowsTileInput.read_row.Goals.{then-not-is_even, else-not-is_even}

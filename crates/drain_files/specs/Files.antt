@@ -1,0 +1,78 @@
+-- What opening, reading and placing of files does.
+use Rattle.std.specs.Prelude.{◌≡◌, Result, Ok, Err, ◌⊎◌, ℕ, ◌++◌, List, [], ◌∷◌, codes, Option, Some, replicate, pos, false, ◌<◌, length}
+use Rattle.drain_maker.specs.declared.product_files.SetFault.{SetFault}
+use Rattle.drain_device.specs.declared.read.BodyFault.TheVariants.{OutOfMemory}
+use Rattle.drain_answer.specs.Outcomes.{failure_text}
+use Rattle.drain_answer.specs.Printing.{line_feed}
+use Rattle.drain_device.specs.declared.counts.FaultCounts.{FaultCounts}
+use Rattle.drain_device.specs.Counts.{no_faults}
+use Rattle.drain_files.specs.declared.source_or_zeros.SourceOrZeros.{SourceOrZeros}
+use Rattle.drain_files.specs.declared.source_or_zeros.SourceOrZeros.TheVariants.{Source, Zeros}
+use Rattle.drain_header.specs.declared.header.ByteOrdering.TheVariants.{Least}
+use Rattle.drain_header.specs.Header.{Fields}
+use Rattle.drain_maker.specs.ProductFiles.{mosaic_place}
+use Rattle.drain_mosaic.specs.Tiling.{Tiling, extent_of}
+use Rattle.std.specs.Io.KnownBytes.{Consumes}
+use Rattle.drain_files.specs.declared.open_judged.JudgedProducts.{JudgedProducts}
+use Rattle.drain_files.specs.declared.open_judged.JudgedProducts.TheVariants.{Five, Four}
+use Rattle.drain_grid.specs.declared.judged.Judged.{Judged}
+use Rattle.drain_grid.specs.declared.judged.Judged.TheVariants.{AllWithRanks}
+
+-- When written files take their own names.
+
+-- the names were given if every file was written, and that is the result; after a fault no name changed, and the fault
+-- is the result
+abbrev pub IsNamed : {P : Type 0} → (P → P → Result (Unit {0}) SetFault → Type 0) → P → P → Result (Unit {0}) SetFault → Result (Unit {0}) SetFault → Type 0
+IsNamed has_placed old new (Ok done) told = has_placed old new told
+IsNamed has_placed old new (Err fault) told = (told ≡ Err fault) × (new ≡ old)
+
+-- The line for a file that can't be opened.
+
+abbrev pub open_failure_line : List ℕ → List ℕ
+open_failure_line path = codes "failed Open " ++ (path ++ line_feed ∷ [])
+
+-- that line, or out of memory for it
+abbrev pub IsOpenFailure : List ℕ → List ℕ → Type 0
+IsOpenFailure path text = (text ≡ open_failure_line path) ⊎ (text ≡ failure_text OutOfMemory)
+
+-- What a source, or zeros in its place, gives.
+
+-- the source's bytes, or the zeros
+abbrev pub bytes_of : {R : Type 0} → (R → Option (List ℕ)) → SourceOrZeros R → Option (List ℕ)
+bytes_of bytes_left (Source source) = bytes_left source
+bytes_of bytes_left (Zeros n) = Some (replicate n 0)
+
+-- the source's faults, or none
+abbrev pub source_counts : {R : Type 0} → (R → FaultCounts) → SourceOrZeros R → FaultCounts
+source_counts counts (Source source) = counts source
+source_counts counts (Zeros n) = no_faults
+
+-- The header of a map of faults.
+-- Source: the Esri description of BIL headers; sizes, byte order and the no-data number are this project's own
+
+-- a byte without a sign for each pixel, nothing to skip, rows without padding, 255 for no data
+abbrev pub map_header : Tiling → Fields
+map_header t = record {
+  rows = (extent_of t).rows;
+  cols = (extent_of t).cols;
+  bits = 8;
+  order = Least;
+  signed = false;
+  skip = 0;
+  row_bytes = (extent_of t).cols;
+  place = mosaic_place t;
+  nodata = Some (pos 255);
+}
+
+-- When a text is too long.
+
+-- more than the given number of bytes were read
+abbrev pub TakesMoreThan : ℕ → Option (List ℕ) → Option (List ℕ) → Type 0
+TakesMoreThan most old new = (bytes : List ℕ) × Consumes old new bytes × (most < length bytes)
+
+-- Which rasters of opened products are judged.
+
+-- all five, or those of the four that are named
+abbrev pub AreOf : {R : Type 0} → Judged → JudgedProducts R → Type 0
+AreOf judged (Five products) = judged ≡ AllWithRanks
+AreOf judged (Four products named) = named ≡ judged

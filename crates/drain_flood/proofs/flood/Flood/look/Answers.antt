@@ -1,0 +1,36 @@
+use Rattle.std.proofs.Common.{◌≡◌, ◌≤ℤ◌, pos, get_or, inl, inr, subst, ap, ◌∙◌, arith, rules}
+use mir.Syntax.{w16}
+use mir.Val.{SFits, to_z, of_z}
+use Rattle.std.specs.Int.{int_max}
+use Rattle.std.proofs.lemmas.Int.{ints, to_z-of_z}
+use Rattle.drain_flood.specs.Floods.{con_at, Reaches}
+use Rattle.drain_flood.proofs.flood.Flood.look.Goals as goal
+use Rattle.drain_flood.proofs.flood.Flood.look.Goals.{else-ground-level-via-then-ground-level+else-not-raises, else-ground-level-via-else-ground-level}
+
+pub returns-clause-look : goal.returns-clause-look
+returns-clause-look c =
+    let s = c.args.self.now in
+    let found = c.in-Some.ensures.fresh in
+    let n = found.0 in
+    let ground : c.level_at-ground.result ≡ con_at s.extent s n = c.level_at-ground.ensures ∙ ap (λ k. get_or s.con k (pos 0)) found.3 in
+    inr (
+      n,
+      record {
+        is = found.1;
+        may = elim c.else-ground-level.branch [
+          | else-ground-level-via-then-ground-level+else-not-raises w ↦ inr (w.if-not-raises.false)
+          | else-ground-level-via-else-ground-level w ↦ inl
+              (let low : c.args.level ≤ℤ c.level_at-ground.result = omega (arith, ints, w.if-ground-level.false) in
+              subst (λ z. c.args.level ≤ℤ z) ground low)
+        ];
+        reaches =
+            let fits : SFits w16 c.level_at-ground.result = search rules in
+            let most : c.max.result ≡ int_max c.level_at-ground.result c.args.level =
+            c.max.ensures.value ∙ (ap (λ z. int_max z (to_z w16 (of_z w16 c.args.level))) (to_z-of_z w16 c.level_at-ground.result fits)
+            ∙ ap (int_max c.level_at-ground.result) (to_z-of_z w16 c.args.level c.ranges.level)) in
+            let fits_most : SFits w16 c.max.result = search rules in
+            let height : to_z w16 (of_z w16 c.max.result) ≡ int_max (con_at s.extent s n) c.args.level =
+            to_z-of_z w16 c.max.result fits_most ∙ subst (λ z. c.max.result ≡ int_max z c.args.level) ground most in
+            subst (λ z. Reaches s.extent s c.reach.new.self n z) height (c.in_ok-reach.ensures.reaches n found.2 found.3);
+      },
+    )

@@ -1,0 +1,40 @@
+use Rattle.std.proofs.Common.{◌≡◌, ◌∙◌, sym, subst, rules}
+use mir.Syntax.{w16}
+use mir.Val.{SFits, to_z, of_z}
+use Rattle.std.proofs.lemmas.Int.{to_z-of_z}
+use Rattle.drain_flood.specs.Floods.{IsFlooded}
+use Rattle.drain_flood.specs.Turns.{IsPopped}
+use Rattle.drain_flood.proofs.Looking.{flood_is_done}
+use Rattle.drain_flood.proofs.Turning.{turn_rises}
+use Rattle.drain_flood.proofs.tracing.spread.Goals as goal
+
+pub loop-level-preserved : goal.loop-level-preserved
+loop-level-preserved c =
+    let l = c.loop-level.invariant in
+    let s0 = c.loop-level.flood in
+    let s1 = c.pop.new.self in
+    let level = to_z w16 (of_z w16 c.in-Some.level) in
+    let fits : SFits w16 c.in-Some.level = search rules in
+    let popped : IsPopped s0 s1 level c.in-Some.cell =
+    subst (λ z. IsPopped s0 s1 z c.in-Some.cell) (sym (to_z-of_z w16 c.in-Some.level fits)) c.in-Some.ensures.popped in
+    record {
+      extent = c.trace-in-Some.ensures.extent ∙ c.look_around.ensures.extent ∙ c.pop.ensures.extent ∙ l.extent;
+      none = c.in_ok-trace-2.ensures.none;
+      done = c.in_ok-trace-2.ensures.done;
+      flood = λ g same before.
+          (let e0 : g.extent ≡ s0.extent = same ∙ sym l.extent in
+          let e1 : g.extent ≡ s1.extent = e0 ∙ sym c.pop.ensures.extent in
+          let e2 : g.extent ≡ c.look_around.new.self.extent = e1 ∙ sym c.look_around.ensures.extent in
+          let stands = l.flood g same before in (
+            level,
+            c.in_ok-trace-2.ensures.flood g e2
+                (turn_rises g s0 s1 c.look_around.new.self stands.0 level c.in-Some.cell c.in_ok-look_around.field-0 e0 e1 popped l.done
+                c.in_ok-look_around.ensures.around stands.1),
+          ));
+    }
+
+pub returns-clause-flooded : goal.returns-clause-flooded
+returns-clause-flooded c = λ g same before.
+    (let empty = c.in_default.ensures.popped in
+    let stands = c.loop-level.invariant.flood g same before in
+    subst (IsFlooded g) (sym empty.same) (flood_is_done g c.loop-level.flood stands.0 stands.1 c.loop-level.invariant.done empty.none))

@@ -1,0 +1,17 @@
+-- What holds of the flood holds at some level; what is left to do falls.
+use Rattle.std.proofs.Common.{◌≡◌, ◌+◌, ℤ, [], length}
+use Rattle.drain_grid.specs.Grid.{Grid}
+use Rattle.drain_flood.specs.declared.layers.TheConstants.{NO_HEIGHT}
+use Rattle.drain_flood.specs.Floods.{unreached, IsFloodOf}
+use Rattle.drain_flood.proofs.tracing.spread.Given as goal
+
+abbrev pub invariant-loop-level : goal.invariant-loop-level
+invariant-loop-level l = record {
+  extent : l.flood.extent ≡ l.fn.flood.extent;
+  none : l.later.items ≡ [];
+  done : l.flood.ahead ≡ [];
+  flood : (g : Grid) → g.extent ≡ l.fn.flood.extent → IsFloodOf g l.fn.flood NO_HEIGHT [] → (stand : ℤ) × IsFloodOf g l.flood stand [];
+}
+
+abbrev pub decreases-loop-level : goal.decreases-loop-level
+decreases-loop-level l = unreached l.flood + length l.flood.waiting

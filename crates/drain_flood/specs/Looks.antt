@@ -1,0 +1,72 @@
+-- The neighbours of a cell: what is done with each, and what holds before and after.
+use Rattle.std.specs.Prelude.{◌≡◌, ℕ, ◌+◌, ◌<◌, ◌⊎◌, ℤ, ◌≤ℤ◌, ◌<ℤ◌, Bool, true, false, List, Some, get_or}
+use Rattle.std.specs.Int.{int_max}
+use Rattle.drain_grid.specs.declared.cell.Cell.{Cell}
+use Rattle.drain_grid.specs.declared.direction.Direction.{Direction}
+use Rattle.drain_grid.specs.declared.direction.Direction.TheVariants.{East}
+use Rattle.drain_grid.specs.Direction.{directions}
+use Rattle.drain_grid.specs.Extent.{IsCellOf, index_of, step, Extent}
+use Rattle.drain_grid.specs.Grid.{Grid, height_at}
+use Rattle.drain_flood.specs.declared.layers.TheConstants.{UNREACHED}
+use Rattle.drain_flood.specs.Floods.{Flooding, con_at, mark_at, IsReachedCell, IsUnreached, IsFloodOf, Reaches}
+
+-- n is the neighbour in this direction, and isn't reached
+pub record IsFreshAt (e : Extent) (f : Flooding) (c : Cell) (d : Direction) (n : Cell) : Type 0 where
+  pub there : step e c d ≡ Some n
+  pub fresh : mark_at e f n ≡ UNREACHED
+
+-- not on the edge of the grid
+pub record IsInnerPlace (e : Extent) (c : Cell) : Type 0 where
+  pub north : 0 < c.row
+  pub west : 0 < c.col
+  pub south : c.row + 1 < e.rows
+  pub east : c.col + 1 < e.cols
+
+-- the place is that of the cell in this direction
+abbrev pub IsPlaceBeside : Extent → Cell → Direction → ℕ → Type 0
+IsPlaceBeside e c d place = (n : Cell) × (step e c d ≡ Some n) × (place ≡ index_of e n)
+
+-- the place is that of an unreached cell in this direction
+abbrev pub IsFreshPlace : Extent → Flooding → Cell → Direction → ℕ → Type 0
+IsFreshPlace e f c d place = (n : Cell) × IsFreshAt e f c d n × IsCellOf e n × (place ≡ index_of e n)
+
+-- there is nothing to reach in this direction, and nothing changed
+pub record Passes (e : Extent) (old new : Flooding) (c : Cell) (d : Direction) : Type 0 where
+  pub none : (n : Cell) → IsFreshAt e old c d n → ⊥
+  pub same : new ≡ old
+
+-- a lower cell is there, and was left
+pub record Leaves (e : Extent) (old new : Flooding) (c : Cell) (d : Direction) (level : ℤ) (raises : Bool) (n : Cell) : Type 0 where
+  pub is : IsFreshAt e old c d n
+  pub unraised : raises ≡ false
+  pub lower : con_at e old n <ℤ level
+  pub same : new ≡ old
+
+-- a cell is there, and was reached: raised to the level if it is lower
+pub record Takes (e : Extent) (old new : Flooding) (c : Cell) (d : Direction) (level : ℤ) (raises : Bool) (n : Cell) : Type 0 where
+  pub is : IsFreshAt e old c d n
+  pub may : (level ≤ℤ con_at e old n) ⊎ (raises ≡ true)
+  pub reaches : Reaches e old new n (int_max (con_at e old n) level)
+
+-- what is done in a direction; whether a lower cell was left there
+abbrev pub IsLook : Extent → Flooding → Flooding → Cell → Direction → ℤ → Bool → Bool → Type 0
+IsLook e old new c d level raises true = (n : Cell) × Leaves e old new c d level raises n
+IsLook e old new c d level raises false = Passes e old new c d ⊎ ((n : Cell) × Takes e old new c d level raises n)
+
+-- a cell whose neighbours are to be looked at: reached, with this conditioned elevation; it raises only at the flood's
+-- level
+pub record IsLookedBefore (g : Grid) (f : Flooding) (stand : ℤ) (busy : List ℕ) (c : Cell) (level : ℤ) (raises : Bool) : Type 0 where
+  pub flood : IsFloodOf g f stand busy
+  pub reached : IsReachedCell g f c
+  pub con : con_at g.extent f c ≡ level
+  pub at_level : raises ≡ true → level ≡ stand
+
+-- an unreached neighbour in a direction was left, and is lower
+abbrev pub PassesLook : Grid → Flooding → Cell → ℤ → Bool → Bool → Direction → Type 0
+PassesLook g f c level raises left d =
+    (n : Cell) → IsUnreached g f n → step g.extent c d ≡ Some n → (left ≡ true) × (height_at g n <ℤ level) × (raises ≡ false)
+
+-- a cell whose neighbours in the first k directions were looked at
+pub record IsAround (g : Grid) (f : Flooding) (stand : ℤ) (busy : List ℕ) (c : Cell) (level : ℤ) (raises : Bool) (left : Bool) (k : ℕ) : Type 0 where
+  pub before : IsLookedBefore g f stand busy c level raises
+  pub passed : (i : ℕ) → i < k → PassesLook g f c level raises left (get_or directions i East)

@@ -1,0 +1,112 @@
+-- What each call does to a flood under way.
+use Rattle.std.specs.Prelude.{◌≡◌, ℕ, ◌≤◌, ◌<◌, ℤ, ◌≤ℤ◌, ◌<ℤ◌, List, ◌∷◌, ◌++◌, Contains, length, get_or, ◌*◌, ◌+◌, ◌⊎◌, Bool, true, false, [], Some}
+use Rattle.std.specs.List.{All}
+use Rattle.drain_grid.specs.Extent.{Extent, IsCellOf, index_of, step}
+use Rattle.drain_flood.specs.declared.level_queue.TheConstants.{MAX_CELLS}
+use Rattle.drain_grid.specs.declared.cell.Cell.{Cell}
+use Rattle.drain_grid.specs.declared.direction.Direction.{Direction}
+use Rattle.drain_grid.specs.Grid.{Grid, height_at}
+use Rattle.drain_flood.specs.Floods.{Flooding, con_at, unreached, IsUnreached, IsFloodOf, IsReachedCell}
+
+-- Pairs of a level and an item, by rising level: the contents of a queue of levels.
+
+-- the pairs in the queue, the first to come out first, of items below a number of cells
+pub record Waiting : Type 0 where
+  pub cells : ℕ
+  pub pairs : List (ℤ × ℕ)
+
+-- a pair with this item is in the queue
+abbrev pub Holds : Waiting → ℕ → Type 0
+Holds w item = (level : ℤ) × Contains w.pairs (level, item)
+
+-- no level is above that of a later pair
+abbrev pub Rises : List (ℤ × ℕ) → Type 0
+Rises pairs = (i j : ℕ) (d : ℤ × ℕ) → i ≤ j → j < length pairs → (get_or pairs i d).0 ≤ℤ (get_or pairs j d).0
+
+-- the new pairs are the old ones with one more, after the last pair of its level or a lower one
+pub record IsPut (level : ℤ) (item : ℕ) (old new : List (ℤ × ℕ)) : Type 0 where
+  pub before : List (ℤ × ℕ)
+  pub after : List (ℤ × ℕ)
+  pub old_are : old ≡ before ++ after
+  pub new_are : new ≡ before ++ (level, item) ∷ after
+  pub not_higher : All (λ p. p.0 ≤ℤ level) before
+  pub higher : All (λ p. level <ℤ p.0) after
+
+-- How the parts of a flood, or of a surface, fit together, whatever is flooded.
+
+-- a number for each cell; the trail has places of cells; the queue has room for each cell, and its levels rise
+pub record AreTogether (e : Extent) (con : List ℤ) (mark trail : List ℕ) (queue : Waiting) : Type 0 where
+  pub few : e.rows * e.cols ≤ MAX_CELLS
+  pub con_long : length con ≡ e.rows * e.cols
+  pub mark_long : length mark ≡ e.rows * e.cols
+  pub queue_long : queue.cells ≡ e.rows * e.cols
+  pub places : All (λ place. place < e.rows * e.cols) trail
+  pub rises : Rises queue.pairs
+
+-- a height and a mark for each cell
+pub record AreCells (e : Extent) (con : List ℤ) (mark : List ℕ) : Type 0 where
+  pub few : e.rows * e.cols ≤ MAX_CELLS
+  pub con_long : length con ≡ e.rows * e.cols
+  pub mark_long : length mark ≡ e.rows * e.cols
+
+-- the same numbers, with another trail and other waiting cells
+abbrev pub with_lists : Flooding → List ℕ → List (ℤ × ℕ) → Flooding
+with_lists f ahead waiting = record { extent = f.extent; con = f.con; mark = f.mark; ahead = ahead; waiting = waiting }
+
+-- one is taken out of a list, from anywhere in it
+pub record IsOut (place : ℕ) (old new : List ℕ) : Type 0 where
+  pub before : List ℕ
+  pub after : List ℕ
+  pub old_are : old ≡ before ++ place ∷ after
+  pub new_are : new ≡ before ++ after
+
+-- the last place of a list is taken out, that of a cell
+pub record IsLast (e : Extent) (old new : List ℕ) (c : Cell) : Type 0 where
+  pub inside : IsCellOf e c
+  pub last : old ≡ new ++ index_of e c ∷ []
+
+-- there is none to take out
+pub record AreNone (old new : List ℕ) : Type 0 where
+  pub none : old ≡ []
+  pub still : new ≡ []
+
+-- some cell is taken from the trail
+pub record IsNextTurn (old new : Flooding) (c : Cell) : Type 0 where
+  pub inside : IsCellOf old.extent c
+  pub out : IsOut (index_of old.extent c) old.ahead new.ahead
+  pub rest : new ≡ with_lists old new.ahead old.waiting
+
+-- the trail was empty, and nothing changed
+pub record IsDone (old new : Flooding) : Type 0 where
+  pub none : old.ahead ≡ []
+  pub same : new ≡ old
+
+-- the first waiting cell is taken from the queue
+pub record IsPopped (old new : Flooding) (level : ℤ) (c : Cell) : Type 0 where
+  pub inside : IsCellOf old.extent c
+  pub rises : Rises old.waiting
+  pub first : old.waiting ≡ (level, index_of old.extent c) ∷ new.waiting
+  pub rest : new ≡ with_lists old old.ahead new.waiting
+
+pub record IsEmptied (old new : Flooding) : Type 0 where
+  pub none : old.waiting ≡ []
+  pub same : new ≡ old
+
+-- the cell waits at this level, or waited before
+pub record IsLeftWaiting (old new : Flooding) (level : ℤ) (c : Cell) : Type 0 where
+  pub waits : IsPut level (index_of old.extent c) old.waiting new.waiting
+      ⊎ (((l : ℤ) × Contains old.waiting (l, index_of old.extent c)) × (new.waiting ≡ old.waiting))
+  pub rest : new ≡ with_lists old old.ahead new.waiting
+
+-- no more is left to do than before: each reached cell is on the trail once
+pub record IsLessWork (old new : Flooding) : Type 0 where
+  pub fewer : unreached new ≤ unreached old
+  pub same : unreached new + length new.ahead ≡ unreached old + length old.ahead
+  pub waiting : new.waiting ≡ old.waiting
+
+-- the neighbours of a cell were looked at: an unreached one was left, and is lower
+pub record IsLookedAround (g : Grid) (f : Flooding) (stand : ℤ) (busy : List ℕ) (c : Cell) (level : ℤ) (raises left : Bool) : Type 0 where
+  pub flood : IsFloodOf g f stand busy
+  pub reached : IsReachedCell g f c
+  pub con : con_at g.extent f c ≡ level
+  pub beside : (n : Cell) (d : Direction) → IsUnreached g f n → step g.extent c d ≡ Some n → (left ≡ true) × (height_at g n <ℤ level) × (raises ≡ false)

@@ -1,0 +1,324 @@
+//! The filled surface: a flood from the open cells inwards, by traces.
+//!
+//! A trace reaches every cell that it can reach without going down, each at its own ground. The first starts at all
+//! open cells, so whole slopes are reached without a queue. A cell with an unreached lower neighbour waits in a queue
+//! at its level. Waiting cells are taken lowest first, and their unreached neighbours are raised to their level, which
+//! is the lowest way out. So a cell's level when it is reached is its conditioned elevation. The order of the cells of
+//! a trace doesn't matter. Time is linear in the cells.
+//!
+//! Source: Priority-Flood (Barnes, Lehman and Mulla 2014), with traces as in Zhou, Sun and Fu (2016).
+
+ghost use Rattle.std.specs.Prelude.{◌≡◌, ◌↔◌, ◌+◌, ◌*◌, ◌<◌, ℕ, ℤ, pos, false, List, [], ◌∷◌, ◌++◌, None, MatchOption, IfSome, IfOk, OnOk, IsTrue, length, slice_index_or, vec_len, if◌then◌else◌};
+ghost use Rattle.drain_grid.specs.declared.sink_line.SinkLine.{SinkLine};
+ghost use Rattle.drain_grid.specs.SinkTexts.{is_listed};
+ghost use Rattle.drain_grid.specs.WholeGrid.{grid_of};
+ghost use Rattle.drain_grid.specs.Path.{IsFilled};
+ghost use Rattle.drain_flood.specs.Laid.{Puts, Lays, IsLaid, IsBlankFlood, IsGapAround};
+ghost use Rattle.drain_grid.specs.declared.cell.Cell.{Cell};
+ghost use Rattle.drain_grid.specs.Extent.{IsCellOf, index_of};
+ghost use Rattle.drain_grid.specs.Grid.{Grid};
+ghost use Rattle.drain_flood.specs.Floods.{Flooding, con_at, mark_at, unreached, IsFloodOf, IsFlooded, Reaches};
+ghost use Rattle.drain_flood.specs.Looks.{IsFreshAt, IsFreshPlace, IsInnerPlace, IsLook, IsLookedBefore};
+ghost use Rattle.drain_flood.specs.Turns.{with_lists, IsNextTurn, IsDone, IsPopped, IsEmptied, IsLeftWaiting, IsLessWork, IsLookedAround};
+
+use crate::laws::flood_is_filled;
+use crate::layers::{NO_HEIGHT, OPEN, REACHED, UNREACHED, VOID, copied, heights, marks, no_places};
+use crate::level_queue::LevelQueue;
+use crate::open_cells::{is_gap_in, is_one, is_open};
+use crate::places::{cell_at, columns_inverse};
+use crate::surface::Surface;
+use crate::tracing::spread;
+use drain_grid::{Cell, Direction, Elevation, OutOfMemory, Shape, Sinks};
+use std::alloc::Global;
+use std::marker::Model;
+
+/// A flood under way.
+#[derive(Drop)]
+pub struct Flood {
+    shape: Shape,
+    /// For the cells of places.
+    inverse: u64,
+    con: Vec<i16>,
+    mark: Vec<u8>,
+    /// Places of reached cells whose neighbours haven't been looked at yet: the one reached last comes first.
+    trail: Vec<u32>,
+    queue: LevelQueue,
+}
+
+impl Model for Flood {
+    ghost use Rattle.drain_flood.specs.Floods.{Flooding};
+    ghost use Rattle.drain_flood.specs.Turns.{AreTogether};
+
+    ghost Value = { Flooding };
+
+    ghost view = { λ f. record { extent = f.shape; con = f.con.items; mark = f.mark.items; ahead = f.trail.items; waiting = f.queue.pairs } };
+
+    ghost invariant = { λ f. AreTogether f.shape f.con.items f.mark.items f.trail.items f.queue };
+}
+
+/// The filled surface: raises each data cell to the lowest level from which water can leave.
+pub fn fill(alloc: Global, elevation: &Elevation, sinks: &Sinks) -> Result<Flood, OutOfMemory>
+    ensures extent { IfOk result (λ flood. flood.extent ≡ elevation.now.extent) }
+    ensures flooded { IfOk result (IsFlooded (grid_of elevation.now sinks.now)) }
+
+    // These levels are the spill level of each data cell, and the least surface that covers the ground and drains.
+    ensures filled { IfOk result (λ flood. IsFilled (grid_of elevation.now sinks.now) (con_at elevation.now.extent flood)) }
+{
+    // The law that a flooded grid is filled.
+    flood_is_filled();
+    let mut flood = Flood::start(alloc, elevation, sinks)?;
+    spread(&mut flood, alloc)?;
+    Ok(flood)
+}
+
+impl Flood {
+    /// Returns the heights in row order, and frees the rest.
+    pub fn into_heights(self) -> Vec<i16>
+        ensures counted { vec_len result ≡ self.extent.rows * self.extent.cols }
+        ensures heights { result.items ≡ self.con }
+    {
+        self.con
+    }
+
+    /// The surface, without what only the flood needs, which is freed. Its heights are copied into memory of just their
+    /// size: where the elevations were, if these are freed before.
+    pub fn into_surface(self, alloc: Global) -> Result<Surface, OutOfMemory>
+        ensures extent { IfOk result (λ surface. surface.extent ≡ self.extent) }
+        ensures flooded { IfOk result (λ surface. (g : Grid) → IsFlooded g self → IsFlooded g surface) }
+    {
+        let con = copied(alloc, &self.con)?;
+        Ok(Surface::new(self.shape, self.inverse, con, self.mark))
+    }
+
+    /// A flood at a level below all ground: the open cells are reached, each at its ground, and are on the trail.
+    #[inline(never)]
+    fn start(alloc: Global, elevation: &Elevation, sinks: &Sinks) -> Result<Flood, OutOfMemory>
+        ensures extent { IfOk result (λ flood. flood.extent ≡ elevation.now.extent) }
+        ensures laid { IfOk result (λ flood. IsFloodOf (grid_of elevation.now sinks.now) flood NO_HEIGHT []) }
+    {
+        let shape = elevation.shape();
+        let mut flood = Flood::blank(alloc, shape)?;
+        let mut listed = Vec::new(alloc);
+        listed.resize(shape.cols() as usize, false)?;
+        for row in 0..shape.rows() {
+            sinks.mark_row(row, listed.as_mut_slice());
+            flood.lay_row(elevation, row, listed.as_slice())?;
+        }
+        Ok(flood)
+    }
+
+    /// A grid of voids.
+    fn blank(alloc: Global, shape: Shape) -> Result<Flood, OutOfMemory>
+        ensures extent { IfOk result (λ flood. flood.extent ≡ shape) }
+        ensures blank { IfOk result IsBlankFlood }
+    {
+        let cells = shape.cells();
+        let con = heights(alloc, NO_HEIGHT, cells)?;
+        let mark = marks(alloc, VOID, cells)?;
+        let queue = LevelQueue::new(alloc, cells)?;
+        let trail = no_places(alloc)?;
+        Ok(Flood {
+            shape,
+            inverse: columns_inverse(shape),
+            con,
+            mark,
+            trail,
+            queue,
+        })
+    }
+
+    /// Starts the cells of a row.
+    fn lay_row(
+        &mut self,
+        elevation: &Elevation,
+        row: u32,
+        listed: &[bool],
+    ) -> Result<(), OutOfMemory>
+        requires same { self.old.extent ≡ elevation.now.extent }
+        requires inside { row < elevation.now.extent.rows }
+        requires counted { length listed.now ≡ elevation.now.extent.cols }
+        ensures extent { self.new.extent ≡ self.old.extent }
+        ensures laid { OnOk result ((sinks : List SinkLine) → ((col : ℕ) → col < length listed.now → slice_index_or listed.now col false ≡ is_listed sinks (record { row = row; col = col })) → IsLaid (grid_of elevation.now sinks) self.old (row * elevation.now.extent.cols) → IsLaid (grid_of elevation.now sinks) self.new ((row + 1) * elevation.now.extent.cols)) }
+    {
+        let mut west = is_gap_in(elevation, row, 0);
+        let mut here = is_gap_in(elevation, row, 1);
+        for col in 0..elevation.shape().cols() {
+            let east = is_gap_in(elevation, row, col as u64 + 2);
+            let beside = is_one(west, here, east);
+            self.lay_cell(elevation, Cell { row, col }, listed[col as usize], beside)?;
+            west = here;
+            here = east;
+        }
+        Ok(())
+    }
+
+    /// Starts a cell: reaches it if it is open, and puts any other data cell at its ground.
+    fn lay_cell(
+        &mut self,
+        elevation: &Elevation,
+        cell: Cell,
+        listed: bool,
+        beside: bool,
+    ) -> Result<(), OutOfMemory>
+        requires same { self.old.extent ≡ elevation.now.extent }
+        requires inside { IsCellOf elevation.now.extent cell }
+        requires beside { IsTrue beside ↔ IsGapAround elevation.now cell }
+        ensures extent { self.new.extent ≡ self.old.extent }
+        ensures laid { OnOk result ((sinks : List SinkLine) → listed ≡ is_listed sinks cell → IsLaid (grid_of elevation.now sinks) self.old (index_of elevation.now.extent cell) → IsLaid (grid_of elevation.now sinks) self.new (index_of elevation.now.extent cell + 1)) }
+    {
+        match elevation.z(cell) {
+            Some(ground) => {
+                let opens = is_open(listed, beside);
+                self.lay(cell, ground, opens)?;
+                Ok(())
+            }
+            None => Ok(()),
+        }
+    }
+
+    /// Starts a data cell.
+    fn lay(&mut self, cell: Cell, ground: i16, opens: bool) -> Result<(), OutOfMemory>
+        requires inside { IsCellOf self.old.extent cell }
+        ensures extent { self.new.extent ≡ self.old.extent }
+        ensures lays { OnOk result (Lays self.old.extent self.old self.new cell ground opens) }
+    {
+        self.put(cell, ground, first_mark(opens));
+        if opens {
+            return self.push(cell);
+        }
+        Ok(())
+    }
+
+    /// Writes the numbers of a cell.
+    fn put(&mut self, cell: Cell, height: i16, mark: u8)
+        requires inside { IsCellOf self.old.extent cell }
+        ensures extent { self.new.extent ≡ self.old.extent }
+        ensures ahead { self.new.ahead ≡ self.old.ahead }
+        ensures waiting { self.new.waiting ≡ self.old.waiting }
+        ensures puts { Puts self.old.extent self.old self.new cell height mark }
+    {
+        let place = self.shape.index(cell);
+        self.con[place] = height;
+        self.mark[place] = mark;
+    }
+
+    /// Puts a cell at the end of the trail.
+    fn push(&mut self, cell: Cell) -> Result<(), OutOfMemory>
+        requires inside { IsCellOf self.old.extent cell }
+        ensures extent { self.new.extent ≡ self.old.extent }
+        ensures pushed { OnOk result (self.new ≡ with_lists self.old (self.old.ahead ++ index_of self.old.extent cell ∷ []) self.old.waiting) }
+    {
+        let place = self.shape.index(cell) as u32;
+        self.trail.push(place)?;
+        Ok(())
+    }
+
+    /// The conditioned elevation of a reached cell, the ground of any other.
+    pub fn height(&self, cell: Cell) -> i16
+        requires { IsCellOf self.now.extent cell }
+        ensures { result ≡ con_at self.now.extent self.now cell }
+    {
+        self.con[self.shape.index(cell)]
+    }
+
+    /// The same, by the cell's place.
+    pub(crate) fn level_at(&self, place: usize) -> i16
+        requires { place < self.now.extent.rows * self.now.extent.cols }
+        ensures { result ≡ slice_index_or self.now.con place (pos 0) }
+    {
+        self.con[place]
+    }
+
+    /// The rows and columns of the grid.
+    pub fn shape(&self) -> Shape
+        ensures { result ≡ self.now.extent }
+    {
+        self.shape
+    }
+
+    /// The inverse of the number of columns.
+    pub(crate) fn inverse(&self) -> u64 {
+        self.inverse
+    }
+
+    /// The mark of a cell.
+    pub fn mark(&self, cell: Cell) -> u8
+        requires { IsCellOf self.now.extent cell }
+        ensures { result ≡ mark_at self.now.extent self.now cell }
+    {
+        self.mark[self.shape.index(cell)]
+    }
+
+    /// Whether the cell at a place is a data cell that isn't reached.
+    #[inline(always)]
+    pub(crate) fn is_unreached(&self, place: usize) -> bool
+        requires { place < self.now.extent.rows * self.now.extent.cols }
+        ensures yes { IsTrue result → slice_index_or self.now.mark place 0 ≡ UNREACHED }
+        ensures no { slice_index_or self.now.mark place 0 ≡ UNREACHED → IsTrue result }
+    {
+        self.mark[place] == UNREACHED
+    }
+
+    /// Reaches the cell at a place, and puts it at the end of the trail.
+    #[inline(always)]
+    pub(crate) fn reach(&mut self, place: usize, height: i16) -> Result<(), OutOfMemory>
+        requires below { place < self.old.extent.rows * self.old.extent.cols }
+        requires fresh { slice_index_or self.old.mark place 0 ≡ UNREACHED }
+        ensures extent { self.new.extent ≡ self.old.extent }
+        ensures reaches { OnOk result ((n : Cell) → IsCellOf self.old.extent n → place ≡ index_of self.old.extent n → Reaches self.old.extent self.old self.new n height) }
+    {
+        self.con[place] = height;
+        self.mark[place] = REACHED;
+        match self.trail.push(place as u32) {
+            Ok(()) => Ok(()),
+            Err(_) => Err(OutOfMemory),
+        }
+    }
+
+    /// Takes the next cell of the trail.
+    pub(crate) fn next(&mut self) -> Option<Cell>
+        ensures extent { self.new.extent ≡ self.old.extent }
+        ensures next { MatchOption result (IsDone self.old self.new) (IsNextTurn self.old self.new) }
+    {
+        match self.trail.pop() {
+            Some(place) => Some(cell_at(self.shape, self.inverse, place as usize)),
+            None => None,
+        }
+    }
+
+    /// Takes the first waiting cell, and its level.
+    pub(crate) fn pop(&mut self) -> Option<(i16, Cell)>
+        ensures extent { self.new.extent ≡ self.old.extent }
+        ensures popped { MatchOption result (IsEmptied self.old self.new) (λ pair. IsPopped self.old self.new pair.0 pair.1) }
+    {
+        match self.queue.pop() {
+            Some((level, item)) => Some((level, cell_at(self.shape, self.inverse, item as usize))),
+            None => None,
+        }
+    }
+
+    /// Makes a cell wait, if it doesn't yet.
+    pub(crate) fn wait(&mut self, cell: Cell, level: i16)
+        requires { IsCellOf self.old.extent cell }
+        ensures { IsLeftWaiting self.old self.new level cell }
+    {
+        let item = self.shape.index(cell) as u32;
+        if !self.queue.holds(item) {
+            self.queue.push(level, item);
+        }
+    }
+}
+
+/// The first mark of a data cell.
+fn first_mark(opens: bool) -> u8
+    ensures { result ≡ (if opens then OPEN else UNREACHED) }
+{
+    if opens { OPEN } else { UNREACHED }
+}
+
+/// Whether two levels are equal.
+pub(crate) fn is_same(level: i16, other: i16) -> bool
+    ensures { IsTrue result ↔ level ≡ other }
+{
+    level == other
+}

@@ -1,0 +1,89 @@
+//! The code of each data cell of a filled surface that has a lower neighbour: the first steepest way down. Any other
+//! cell keeps its mark.
+//!
+//! Source: D8 (O'Callaghan and Mark 1984). Slopes are compared by the squares of their drops, halved across corners, as
+//! whole numbers.
+
+ghost use Rattle.std.specs.Prelude.{◌≡◌, ◌+◌, ◌*◌, IfOk, OnOk, length};
+ghost use Rattle.drain_grid.specs.Direction.{code_of};
+ghost use Rattle.drain_grid.specs.Grid.{Grid};
+ghost use Rattle.drain_flood.specs.Floods.{IsFlooded};
+ghost use Rattle.drain_flood.specs.Ways.{AreFirstCodes};
+
+use crate::falls::put_row;
+use crate::layers::{VOID, lanes, marks};
+use crate::surface::Surface;
+use drain_grid::{Direction, OutOfMemory};
+use std::alloc::Global;
+
+/// The codes in row order: VOID at voids, OPEN at outlets, REACHED at closed cells without a lower neighbour.
+#[inline(never)]
+pub fn directions(alloc: Global, surface: &Surface) -> Result<Vec<u8>, OutOfMemory>
+    ensures counted { IfOk result (λ dirs. length dirs.items ≡ surface.now.extent.rows * surface.now.extent.cols) }
+    ensures codes { IfOk result (λ dirs. (g : Grid) → g.extent ≡ surface.now.extent → IsFlooded g surface.now → AreFirstCodes g surface.now dirs.items) }
+{
+    let shape = surface.shape();
+    let mut dirs = marks(alloc, VOID, shape.cells())?;
+    put_all(alloc, surface, dirs.as_mut_slice())?;
+    Ok(dirs)
+}
+
+/// Puts the code of each cell at its place.
+fn put_all(alloc: Global, surface: &Surface, dirs: &mut [u8]) -> Result<(), OutOfMemory>
+    requires { length dirs.old ≡ surface.now.extent.rows * surface.now.extent.cols }
+    ensures counted { length dirs.new ≡ length dirs.old }
+    ensures codes { OnOk result ((g : Grid) → g.extent ≡ surface.now.extent → IsFlooded g surface.now → AreFirstCodes g surface.now dirs.new) }
+{
+    let cols = surface.shape().cols() as usize;
+    let mut above = lanes(alloc, cols + 2)?;
+    let mut here = lanes(alloc, cols + 2)?;
+    let mut below = lanes(alloc, cols + 2)?;
+    let mut codes = lanes(alloc, cols)?;
+    put_rows(
+        surface,
+        above.as_mut_slice(),
+        here.as_mut_slice(),
+        below.as_mut_slice(),
+        codes.as_mut_slice(),
+        dirs,
+    );
+    Ok(())
+}
+
+/// The same, with room for three rows of lanes and for the codes of a row.
+fn put_rows(
+    surface: &Surface,
+    above: &mut [u16],
+    here: &mut [u16],
+    below: &mut [u16],
+    codes: &mut [u16],
+    dirs: &mut [u8],
+)
+    requires above_len { length above.old ≡ surface.now.extent.cols + 2 }
+    requires here_len { length here.old ≡ surface.now.extent.cols + 2 }
+    requires below_len { length below.old ≡ surface.now.extent.cols + 2 }
+    requires codes_len { length codes.old ≡ surface.now.extent.cols }
+    requires dirs_len { length dirs.old ≡ surface.now.extent.rows * surface.now.extent.cols }
+    ensures counted { length dirs.new ≡ length dirs.old }
+    ensures codes { (g : Grid) → g.extent ≡ surface.now.extent → IsFlooded g surface.now → AreFirstCodes g surface.now dirs.new }
+{
+    for row in 0..surface.shape().rows() {
+        put_row(surface, row, above, here, below, codes, dirs);
+    }
+}
+
+/// The code of a direction, in a byte.
+pub fn code(direction: Direction) -> u8
+    ensures { result ≡ code_of direction }
+{
+    match direction {
+        Direction::East => 1,
+        Direction::SouthEast => 2,
+        Direction::South => 4,
+        Direction::SouthWest => 8,
+        Direction::West => 16,
+        Direction::NorthWest => 32,
+        Direction::North => 64,
+        Direction::NorthEast => 128,
+    }
+}

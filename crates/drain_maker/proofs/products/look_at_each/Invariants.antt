@@ -1,0 +1,7 @@
+use Rattle.std.proofs.Common.{take, true}
+use Rattle.std.specs.List.{All}
+use Rattle.drain_raster.specs.Bytes.{CanSpellIn}
+use Rattle.drain_maker.proofs.products.look_at_each.Given as goal
+
+abbrev pub invariant-loop-place : goal.invariant-loop-place
+invariant-loop-place l = All (CanSpellIn true 16) (take l.place l.fn.heights)

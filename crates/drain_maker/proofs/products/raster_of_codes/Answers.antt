@@ -1,0 +1,11 @@
+use Rattle.std.proofs.Common.{◌<◌, ℕ, pos, false, map, length, get_or, rules}
+use Rattle.std.specs.List.{All}
+use Rattle.drain_raster.specs.Bytes.{CanSpellIn}
+use Rattle.drain_maker.proofs.FileLemmas.{are_spelled, at_each_cell}
+use Rattle.drain_maker.proofs.products.raster_of_codes.Goals as goal
+
+pub returns-clause-spelled : goal.returns-clause-spelled
+returns-clause-spelled c =
+    let fit : (i d : ℕ) → i < length c.args.codes.items → get_or c.args.codes.items i d < 256 = search rules in
+    let each : All (CanSpellIn false 8) (map (λ n. pos n) c.args.codes.items) = are_spelled 8 c.args.codes.items fit in
+    at_each_cell (CanSpellIn false 8) c.of_bytes.result (search rules) (rw c.of_bytes.ensures each)

@@ -1,6 +1,0 @@
-use Rattle.std.proofs.Common.{take}
-use Rattle.drain_merge.specs.Faults.{IsFirstOfFaults}
-use Rattle.drain_merge.proofs.faults.first_fault.Given as goal
-
-abbrev pub invariant-loop-window : goal.invariant-loop-window
-invariant-loop-window l = IsFirstOfFaults (take l.window-index l.windows) l.first

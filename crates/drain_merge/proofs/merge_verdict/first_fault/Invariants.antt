@@ -1,0 +1,6 @@
+use Rattle.std.proofs.Common.{take}
+use Rattle.drain_merge.specs.Seams.{IsFirstOfFaults}
+use Rattle.drain_merge.proofs.merge_verdict.first_fault.Given as goal
+
+abbrev pub invariant-loop-window : goal.invariant-loop-window
+invariant-loop-window l = IsFirstOfFaults (take l.window-index l.windows) l.first

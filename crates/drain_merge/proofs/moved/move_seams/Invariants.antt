@@ -1,6 +1,0 @@
-use Rattle.std.proofs.Common.{◌≡◌, ◌++◌, map, take, drop}
-use Rattle.drain_merge.specs.Moved.{shown_from}
-use Rattle.drain_merge.proofs.moved.move_seams.Given as goal
-
-abbrev pub invariant-loop-i : goal.invariant-loop-i
-invariant-loop-i l = l.seams ≡ map (shown_from l.fn.origin) (take l.i l.initial.seams) ++ drop l.i l.initial.seams

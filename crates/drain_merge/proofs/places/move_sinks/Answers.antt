@@ -1,0 +1,16 @@
+use Rattle.std.proofs.Common.{slice_index_or, slice_set, ap, ◌∙◌, arith}
+use Rattle.std.proofs.lemmas.List.{get_or_default}
+use Rattle.std.proofs.lemmas.List.Edits.{map_over_more}
+use Rattle.drain_grid.specs.declared.cell.Cell.{Cell}
+use Rattle.drain_grid.proofs.Neighbors.{place}
+use Rattle.drain_merge.specs.Places.{cell_from}
+use Rattle.drain_merge.proofs.places.move_sinks.Goals as goal
+
+pub loop-i-preserved : goal.loop-i-preserved
+loop-i-preserved c =
+    let sinks = c.loop-i.sinks in
+    let i = c.loop-i.i in
+    let x = slice_index_or sinks i (place 0 0) in
+    ap (λ (y : Cell). slice_set sinks i y) c.moved_cell.ensures
+    ∙ map_over_more (cell_from c.args.origin) c.args.sinks.now sinks i x c.loop-i-test.true c.loop-i.invariant
+    (get_or_default sinks i (place 0 0) x (omega (arith, c.loop-i.auto.sinks, c.loop-i-test.true)))

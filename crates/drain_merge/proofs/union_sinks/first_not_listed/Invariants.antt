@@ -1,8 +1,0 @@
-use Rattle.std.proofs.Common.{◌≡◌, ℕ, ◌<◌, true, Some, slice_get}
-use Rattle.drain_grid.specs.declared.cell.Cell.{Cell}
-use Rattle.drain_grid.specs.SinkLines.{is_listed}
-use Rattle.drain_merge.proofs.union_sinks.first_not_listed.Given as goal
-
--- the cells before are listed
-abbrev pub invariant-loop-cell : goal.invariant-loop-cell
-invariant-loop-cell l = (j : ℕ) (d : Cell) → j < l.cell-index → slice_get l.taken j ≡ Some d → is_listed l.listed d ≡ true

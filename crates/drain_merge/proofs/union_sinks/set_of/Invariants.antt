@@ -1,8 +1,0 @@
-use Rattle.std.proofs.Common.{◌≡◌, take}
-use Rattle.drain_grid.specs.declared.cell.Cell.{Cell}
-use Rattle.drain_grid.specs.CellLists.{is_among}
-use Rattle.drain_merge.proofs.union_sinks.set_of.Given as goal
-
--- the set has the cells before
-abbrev pub invariant-loop-cell : goal.invariant-loop-cell
-invariant-loop-cell l = (c : Cell) → is_among l.set.keys c ≡ is_among (take l.cell-index l.cells) c

@@ -1,6 +1,0 @@
-use Rattle.std.proofs.Common.{◌≡◌}
-use Rattle.drain_page.proofs.rules_json.write_products.Given as goal
-
--- the head stays
-abbrev pub invariant-loop-product : goal.invariant-loop-product
-invariant-loop-product l = l.json ≡ l.fn.json

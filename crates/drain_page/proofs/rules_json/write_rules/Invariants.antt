@@ -1,6 +1,0 @@
-use Rattle.std.proofs.Common.{◌≡◌}
-use Rattle.drain_page.proofs.rules_json.write_rules.Given as goal
-
--- the head stays
-abbrev pub invariant-loop-rule : goal.invariant-loop-rule
-invariant-loop-rule l = l.json ≡ l.fn.json

@@ -1,6 +1,0 @@
-use Rattle.std.proofs.Common.{◌≡◌}
-use Rattle.drain_page.proofs.run_json.write_ring.Given as goal
-
--- the head stays
-abbrev pub invariant-loop-cell : goal.invariant-loop-cell
-invariant-loop-cell l = l.json ≡ l.fn.json

@@ -1,6 +1,0 @@
-use Rattle.std.proofs.Common.{refl}
-use Rattle.drain_paths.proofs.ByteTable.{IsByteTable-listed}
-use Rattle.drain_paths.proofs.code_flows.byte_table.Goals as goal
-
-pub returns : goal.returns
-returns c = IsByteTable-listed _ refl

@@ -1,7 +1,0 @@
--- The inflows of the rows so far.
-use Rattle.drain_paths.specs.OfFlows.{OfFlows}
-use Rattle.drain_paths.proofs.InflowLemmas.{AreRowInflows}
-use Rattle.drain_paths.proofs.inflows.count_rows.Given as goal
-
-abbrev pub invariant-loop-row : goal.invariant-loop-row
-invariant-loop-row l = OfFlows l.shape l.flows (λ g ps. AreRowInflows g ps l.shape l.row l.waits)

@@ -1,9 +1,0 @@
-use Rattle.std.proofs.Common.{sym, subst}
-use Rattle.drain_paths.specs.Inflows.{AreInflows}
-use Rattle.drain_grid.proofs.LentVectors.{lent_back}
-use Rattle.drain_paths.proofs.inflows.inflows.Goals as goal
-
-pub returns-clause-inflows : goal.returns-clause-inflows
-returns-clause-inflows c = λ g ps are.
-    subst (AreInflows g ps c.args.shape)
-    (sym (lent_back c.as_mut_slice-4.ensures.value c.as_mut_slice-4.ensures.len c.count_rows.ensures.waits_counted)) (c.count_rows.ensures.inflows g ps are)

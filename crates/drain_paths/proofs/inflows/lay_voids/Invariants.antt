@@ -1,9 +1,0 @@
--- The voids so far.
-use Rattle.std.proofs.Common.{◌≡◌, ℕ, ◌<◌, length, slice_index}
-use Rattle.drain_paths.proofs.inflows.lay_voids.Given as goal
-
-abbrev pub invariant-loop-k : goal.invariant-loop-k
-invariant-loop-k l = record {
-  len : length l.lanes ≡ length l.fn.lanes;
-  voids : (k : ℕ) → k < l.k → slice_index l.lanes k ≡ 0;
-}

@@ -1,0 +1,16 @@
+-- The flows are known, and the run of this cell ends.
+use Rattle.std.proofs.Common.{◌≡◌, ◌*◌, length}
+use Rattle.drain_grid.specs.Extent.{IsCellOf}
+use Rattle.drain_grid.specs.Grid.{Grid, Products, HasData}
+use Rattle.drain_grid.specs.Run.{RunEnds}
+use Rattle.drain_paths.specs.Walks.{AreKnownFlows}
+use Rattle.drain_paths.proofs.FlowWalks.{EndsFrom}
+use Rattle.drain_paths.proofs.walk.put_ends.Given as goal
+
+abbrev pub invariant-loop : goal.invariant-loop
+invariant-loop l = record {
+  counted : length l.flows ≡ l.shape.rows * l.shape.cols;
+  inside : IsCellOf l.shape l.here;
+  ends : (g : Grid) → (ps : Products) → AreKnownFlows g ps l.shape l.fn.flows → HasData g l.fn.start → RunEnds g ps l.fn.start →
+      EndsFrom g ps l.shape l.flows l.here;
+}

@@ -1,0 +1,13 @@
+use Rattle.drain_verdict.proofs.laws.row_laws.Goals as goal
+
+pub returns : goal.returns
+returns c = record {
+  rows_end = c.rows_end.ensures;
+  rows_whole = c.rows_are_whole.ensures;
+  first_values = c.rows_are_first_values.ensures;
+  seams = c.rows_tell_seams.ensures;
+  lengths = c.rows_tell_lengths.ensures;
+  samples = c.whole_tiles_give_their_samples.ensures;
+  raster_end = c.raster_rows_end.ensures;
+  raster_pixels = c.raster_rows_are_pixels.ensures;
+}

@@ -1,0 +1,252 @@
+//! What is read before the rows: the list of sinks, the headers, the tiles' places and the layout; each with its refusals.
+
+ghost use Rattle.std.specs.Prelude.{◌≡◌, IfOk, ◌≢◌, Some, IfSome, ◌↔◌, IsTrue, IfErr, ◌-◌, ◌*◌, ◌^◌, ◌≤◌, ◌*ℤ◌, pos, nat_abs};
+ghost use Rattle.drain_grid.specs.SinkTexts.{sinks_of};
+ghost use Rattle.drain_verdict.specs.Meaning.{lines_in, nodata_in};
+ghost use Rattle.drain_verdict.specs.Stages.{IsBadLine, IsToldOfSinks, IsHeaderFor, IsHeaderRefusal, AreHeadersOf, IsFirstRefusalOf, IsLayoutOf, IsLayoutRefusal, IsNameRefusal, IsLayoutFaultAs};
+ghost use Rattle.drain_verdict.specs.Refusals.{IsOfBodies, AreWithin, IsPlaced};
+ghost use Rattle.drain_raster.specs.Pixels.{header_extent};
+ghost use Rattle.drain_mosaic.specs.{Tiling as tiling};
+ghost use Rattle.drain_grid.specs.SetProduct.{product_of};
+ghost use Rattle.drain_grid.specs.PerProduct.{of_product};
+ghost use Rattle.std.specs.List.{AllZip};
+ghost use Rattle.drain_hgt.specs.Name.{IsNameOf};
+ghost use Rattle.drain_hgt.specs.Inputs.{names_of};
+
+use drain_answer::Refusal;
+use drain_grid::tile::is_side;
+use drain_grid::{
+    Cell, NoData, OutOfMemory, PerProduct, Product, SetProduct, Shape, SinkData, SinkFault, Sinks,
+    UNITS_PER_DEGREE, first_off_data, parse_sinks,
+};
+use drain_header::{Header, parse_header};
+use drain_hgt::{TileInput, TileName};
+use drain_mosaic::{Layout, LayoutFault};
+use drain_raster::nodata;
+use drain_rows::ListedVoids;
+use std::alloc::Global;
+
+/// The sinks of a list, none if a line is bad; and the first bad line.
+#[derive(Drop)]
+pub struct SinkListing {
+    pub sinks: Sinks,
+    pub bad: Option<u64>,
+}
+
+/// The sinks of a text.
+pub fn sink_listing(alloc: Global, text: &[u8]) -> Result<SinkListing, OutOfMemory>
+    ensures sinks { IfOk result (λ listing. listing.sinks ≡ lines_in (sinks_of text.now)) }
+    ensures bad { IfOk result (λ listing. IsBadLine (sinks_of text.now) listing.bad) }
+{
+    match parse_sinks(alloc, text) {
+        Ok(sinks) => Ok(SinkListing { sinks, bad: None }),
+        Err(SinkFault::BadSinkLine(line)) => Ok(SinkListing {
+            sinks: Sinks::none(alloc),
+            bad: Some(line),
+        }),
+        Err(SinkFault::OutOfMemory) => Err(OutOfMemory),
+    }
+}
+
+/// The first bad line, else the first that lists a cell outside the grid or one of these voids.
+pub fn sink_refusal(listing: &SinkListing, shape: Shape, voids: &ListedVoids) -> Option<Refusal>
+    ensures told { IsToldOfSinks listing.now shape voids.now result }
+    ensures of_bodies { IfSome result IsOfBodies }
+    ensures no_read { result ≢ Some Refusal.ReadFailed }
+{
+    if let Some(line) = listing.bad {
+        return Some(Refusal::BadSinkLine(line));
+    }
+    match first_off_data(&listing.sinks, &VoidedGrid { shape, voids }) {
+        Some(line) => Some(Refusal::SinkNotData(line)),
+        None => None,
+    }
+}
+
+/// A grid whose listed voids are known.
+#[derive(Clone, Copy)]
+struct VoidedGrid<'a> {
+    shape: Shape,
+    voids: &'a ListedVoids,
+}
+
+impl<'a> SinkData for VoidedGrid<'a> {
+    ghost use Rattle.drain_rows.specs.GridRows.{has_data_but};
+
+    ghost has = { λ grid. has_data_but grid.shape grid.voids.now };
+
+    fn has_data(&self, cell: Cell) -> bool {
+        cell.row < self.shape.rows() && cell.col < self.shape.cols() && !self.voids.has(cell)
+    }
+}
+
+/// Whether the header gives the rows and columns of the mosaic.
+fn has_shape(layout: &Layout, header: &Header) -> bool
+    ensures { IsTrue result ↔ (header_extent header.now ≡ tiling.extent_of layout.now) }
+{
+    let shape = layout.shape();
+    header.rows == shape.rows() && header.cols == shape.cols()
+}
+
+/// The header of one product, or why it is refused: its own fault, then its shape, then its place.
+fn read_header(layout: &Layout, product: Product, text: &[u8]) -> Result<Header, Refusal>
+    ensures header { IfOk result (IsHeaderFor layout.now text.now) }
+    ensures refusal { IfErr result (IsHeaderRefusal layout.now product text.now) }
+{
+    let header = match parse_header(text) {
+        Ok(header) => header,
+        Err(fault) => return Err(Refusal::BadHeader(product, fault)),
+    };
+    if !has_shape(layout, &header) {
+        return Err(Refusal::WrongShape(product));
+    }
+    if !is_placed(layout, &header) {
+        return Err(Refusal::Misplaced(product));
+    }
+    Ok(header)
+}
+
+/// The header of each product, or the first refusal: all refusals of one product's header come before those
+/// of the next product.
+///
+/// A header is refused for its own first fault (`BadHeader`), then if its rows or columns aren't those of the mosaic
+/// (`WrongShape`), then if its corner lies more than 10^-6 degree from the mosaic's or its pixels differ from samples
+/// by more than 10^-9 degree (`Misplaced`).
+pub fn read_headers(
+    layout: &Layout,
+    texts: &PerProduct<&[u8]>,
+) -> Result<PerProduct<Header>, Refusal>
+    ensures headers { IfOk result (AreHeadersOf layout.now (λ p. (of_product texts.now p).now)) }
+    ensures refusal { IfErr result (IsFirstRefusalOf layout.now (λ p. (of_product texts.now p).now)) }
+{
+    let read = |product: SetProduct| -> Result<Header, Refusal>
+        ensures header { IfOk result (IsHeaderFor layout.entry.now (of_product texts.entry.now product).now) }
+        ensures refusal { IfErr result (IsHeaderRefusal layout.entry.now (product_of product) (of_product texts.entry.now product).now) }
+    { read_header(layout, product.product(), texts.of(product)) };
+    PerProduct::from_each(&read)
+}
+
+/// The no-data numbers of the products with these headers; for spl, which is in no set, the default one.
+pub fn nodata_of(headers: &PerProduct<Header>) -> NoData
+    ensures { result ≡ nodata_in headers.now }
+{
+    NoData {
+        con: nodata(&headers.con, Product::Con),
+        dir: nodata(&headers.dir, Product::Dir),
+        acc: nodata(&headers.acc, Product::Acc),
+        bas: nodata(&headers.bas, Product::Bas),
+        spl: Product::Spl.default_no_data(),
+        rnk: nodata(&headers.rnk, Product::Rnk),
+    }
+}
+
+/// How far a raster's corner may lie from the mosaic's: 10^-6 degree, in units of 10^-15 degree.
+const CORNER_TOLERANCE: u128 = 1_000_000_000;
+
+/// How much a pixel's size may differ from a sample's: 10^-9 degree, in units of 10^-15 degree.
+const SIZE_TOLERANCE: u128 = 1_000_000;
+
+/// No distance that is compared is between numbers further from 0 than this.
+const FARTHEST: u128 = 100_000_000_000_000_000_000_000_000_000;
+
+/// Whether two distances are within the given number of units of one another.
+fn are_within(units: u128, a: i128, b: i128) -> bool
+    requires a { nat_abs a ≤ FARTHEST }
+    requires b { nat_abs b ≤ FARTHEST }
+    ensures { IsTrue result ↔ AreWithin units a b }
+{
+    (a - b).unsigned_abs() <= units
+}
+
+/// Whether the raster's west edge is the mosaic's.
+fn is_at_west(layout: &Layout, header: &Header) -> bool
+    ensures { IsTrue result ↔ AreWithin (10 ^ 9) header.now.place.ulx (tiling.west_edge layout.now) }
+{
+    are_within(CORNER_TOLERANCE, header.place.ulx, layout.west_edge())
+}
+
+/// Whether the raster's north edge is the mosaic's.
+fn is_at_north(layout: &Layout, header: &Header) -> bool
+    ensures { IsTrue result ↔ AreWithin (10 ^ 9) header.now.place.uly (tiling.north_edge layout.now) }
+{
+    are_within(CORNER_TOLERANCE, header.place.uly, layout.north_edge())
+}
+
+/// Whether pixels are as wide as samples: those from one edge of a tile to the other make up one degree.
+fn is_as_wide(layout: &Layout, header: &Header) -> bool
+    ensures { IsTrue result ↔ AreWithin (10 ^ 6 * (layout.now.side - 1)) (header.now.place.xdim *ℤ pos (layout.now.side - 1)) (pos UNITS_PER_DEGREE) }
+{
+    let steps = layout.side() - 1;
+    are_within(
+        SIZE_TOLERANCE * u128::from(steps),
+        header.place.xdim * i128::from(steps),
+        UNITS_PER_DEGREE as i128,
+    )
+}
+
+/// Whether pixels are as high as samples.
+fn is_as_high(layout: &Layout, header: &Header) -> bool
+    ensures { IsTrue result ↔ AreWithin (10 ^ 6 * (layout.now.side - 1)) (header.now.place.ydim *ℤ pos (layout.now.side - 1)) (pos UNITS_PER_DEGREE) }
+{
+    let steps = layout.side() - 1;
+    are_within(
+        SIZE_TOLERANCE * u128::from(steps),
+        header.place.ydim * i128::from(steps),
+        UNITS_PER_DEGREE as i128,
+    )
+}
+
+/// Whether the header's raster has the mosaic's place.
+pub fn is_placed(layout: &Layout, header: &Header) -> bool
+    ensures { IsTrue result ↔ IsPlaced layout.now header.now.place }
+{
+    is_at_west(layout, header)
+        && is_at_north(layout, header)
+        && is_as_wide(layout, header)
+        && is_as_high(layout, header)
+}
+
+/// The layout of the named tiles, or why there is none: `BadSide`, `BadName` with the first bad name, then the first
+/// fault of the list of tiles; `OutOfMemory` if there is no memory for the names.
+pub fn layout_of<R>(alloc: Global, side: u32, tiles: &[TileInput<R>]) -> Result<Layout, Refusal>
+    ensures layout { IfOk result (IsLayoutOf side (names_of tiles.now)) }
+    ensures refusal { IfErr result (IsLayoutRefusal side (names_of tiles.now)) }
+{
+    if !is_side(side) {
+        return Err(Refusal::BadSide);
+    }
+    let names = read_names(alloc, tiles)?;
+    match Layout::new(alloc, side, &names) {
+        Ok(layout) => Ok(layout),
+        Err(fault) => Err(refusal_of(fault)),
+    }
+}
+
+/// The named tiles, in their order, or the first name that names none.
+fn read_names<R>(alloc: Global, tiles: &[TileInput<R>]) -> Result<Vec<TileName>, Refusal>
+    ensures names { IfOk result (λ names. AllZip IsNameOf (names_of tiles.now) names.items) }
+    ensures refusal { IfErr result (IsNameRefusal (names_of tiles.now)) }
+{
+    let mut names = Vec::new(alloc);
+    for (place, tile) in tiles.iter().enumerate() {
+        let Ok(name) = TileName::parse(tile.name.as_slice()) else {
+            return Err(Refusal::BadName(place));
+        };
+        let Ok(()) = names.push(name) else {
+            return Err(Refusal::OutOfMemory);
+        };
+    }
+    Ok(names)
+}
+
+/// The refusal for a layout's fault.
+fn refusal_of(fault: LayoutFault) -> Refusal
+    ensures { IsLayoutFaultAs fault result }
+{
+    match fault {
+        LayoutFault::NoTiles => Refusal::NoTiles,
+        LayoutFault::RepeatedTile(name) => Refusal::RepeatedTile(name),
+        LayoutFault::BoxTooLarge => Refusal::BoxTooLarge,
+        LayoutFault::OutOfMemory => Refusal::OutOfMemory,
+    }
+}

@@ -1,5 +1,0 @@
-use Rattle.drain_window.specs.JudgedSinks.{AreLinesInside}
-use Rattle.drain_window.proofs.judged_sinks.sinks_inside.Given as goal
-
-abbrev pub invariant-loop-i : goal.invariant-loop-i
-invariant-loop-i l = AreLinesInside l.fn.origin l.fn.place l.fn.sinks l.i l.cells.items
