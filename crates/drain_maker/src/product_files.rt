@@ -9,7 +9,7 @@ ghost use Rattle.drain_grid.specs.WholeGrid.{raster_in};
 ghost use Rattle.drain_grid.specs.declared.set_product.SetProduct.{SetProduct};
 ghost use Rattle.drain_header.specs.Text.{text_of};
 ghost use Rattle.drain_mosaic.specs.Tiling.{extent_of};
-ghost use Rattle.drain_raster.specs.{Pixels as pixels};
+ghost use Rattle.drain_raster.specs.Pixels as pixels;
 ghost use Rattle.drain_raster.specs.Bytes.{CanSpellAll, raster_bytes};
 ghost use Rattle.drain_maker.specs.Made.{CanBeWritten};
 

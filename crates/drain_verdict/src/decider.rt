@@ -3,7 +3,7 @@
 ghost use Rattle.std.specs.Prelude.{List, ◌≡◌, IfOk, MatchOption, Ok, IfErr};
 ghost use Rattle.drain_grid.specs.Grid.{Grid, Products};
 ghost use Rattle.drain_grid.specs.Extent.{Extent};
-ghost use Rattle.drain_grid.specs.declared.judged.{Judged as declared};
+ghost use Rattle.drain_grid.specs.declared.judged.Judged as declared;
 ghost use Rattle.drain_paths.specs.declared.flow.Flow.{Flow};
 ghost use Rattle.drain_filled.specs.ConRows.{AreFirstCon, HasSinks};
 ghost use Rattle.drain_grid.specs.SinkTexts.{sinks_of};

@@ -6,7 +6,7 @@ ghost use Rattle.drain_verdict.specs.Meaning.{lines_in, nodata_in};
 ghost use Rattle.drain_verdict.specs.Stages.{IsBadLine, IsToldOfSinks, IsHeaderFor, IsHeaderRefusal, AreHeadersOf, IsFirstRefusalOf, IsLayoutOf, IsLayoutRefusal, IsNameRefusal, IsLayoutFaultAs};
 ghost use Rattle.drain_verdict.specs.Refusals.{IsOfBodies, AreWithin, IsPlaced};
 ghost use Rattle.drain_raster.specs.Pixels.{header_extent};
-ghost use Rattle.drain_mosaic.specs.{Tiling as tiling};
+ghost use Rattle.drain_mosaic.specs.Tiling as tiling;
 ghost use Rattle.drain_grid.specs.SetProduct.{product_of};
 ghost use Rattle.drain_grid.specs.PerProduct.{of_product};
 ghost use Rattle.std.specs.List.{AllZip};

@@ -4,8 +4,8 @@ ghost use Rattle.std.specs.Prelude.{◌≡◌, ◌++◌, ℕ, List, IfOk, codes,
 ghost use Rattle.drain_cli.specs.ExplainRuns.{IsNoPage, IsNoPageLine, IsFailureObject, no_page_answer, no_page_of, Explains, FailsToSave, IsOutcome};
 ghost use Rattle.drain_answer.specs.Printing.{PrintsText};
 ghost use Rattle.drain_cli.specs.declared.runs.run_explain.MapFault.{MapFault};
-ghost use Rattle.drain_answer.specs.declared.outcome.{Outcome as declared};
-ghost use Rattle.drain_answer.specs.declared.refusal.{Refusal as declared_refusal};
+ghost use Rattle.drain_answer.specs.declared.outcome.Outcome as declared;
+ghost use Rattle.drain_answer.specs.declared.refusal.Refusal as declared_refusal;
 
 use crate::answer::outcome_status;
 use drain_answer::outcome::Status;
