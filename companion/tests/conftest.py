@@ -1,4 +1,4 @@
-"""What the tests have in common: a command in this process, a program of its own, a set in files, a full disk."""
+"""What the tests have in common: a command in this process or as a program of its own, a set in files, a full disk."""
 
 import contextlib
 import io
@@ -14,10 +14,12 @@ from typing import NamedTuple
 import pytest
 import worlds
 from drain_gis import cli
+from hypothesis import HealthCheck, settings
 
 COMPANION = Path(__file__).resolve().parents[1]
 FIXTURES = COMPANION / "tests/fixtures"
-SIGNALS = (signal.SIGTERM, signal.SIGHUP, signal.SIGINT)
+settings.register_profile("gate", deadline=None, derandomize=True, suppress_health_check=list(HealthCheck))
+settings.load_profile("gate")
 
 
 class Printed(NamedTuple):
@@ -30,17 +32,14 @@ class Printed(NamedTuple):
 
 def drain_gis(*words: object) -> Printed:
     """Runs drain-gis in this process: seconds are saved, as nothing is loaded anew."""
-    out, error = io.StringIO(), io.StringIO()
-    handlers = {number: signal.getsignal(number) for number in SIGNALS}
-    argv, status = sys.argv, 0
+    out, error, status = io.StringIO(), io.StringIO(), 0
+    handlers = {number: signal.getsignal(number) for number in (signal.SIGTERM, signal.SIGHUP, signal.SIGINT)}
     try:
-        sys.argv = ["drain-gis", *map(str, words)]
         with contextlib.redirect_stdout(out), contextlib.redirect_stderr(error):
-            cli.run()
+            cli.run([str(word) for word in words])
     except SystemExit as end:
         status = int(end.code or 0)
     finally:
-        sys.argv = argv
         for number, handler in handlers.items():
             signal.signal(number, handler)
     return Printed(status, out.getvalue(), error.getvalue())
@@ -50,14 +49,9 @@ def start(*words: object, room: int | None = None, **environment: str) -> Printe
     """Runs it as a program of its own; with `room` no file gets longer than this: as on a full disk, a write fails."""
     limit = None if room is None else lambda: resource.setrlimit(resource.RLIMIT_FSIZE, (room, room))
     done = subprocess.run(
-        [sys.executable, "-m", "drain_gis", *map(str, words)],
-        cwd=COMPANION,
-        env={**os.environ, **environment},
-        capture_output=True,
-        encoding="utf-8",
-        errors="surrogateescape",
-        preexec_fn=limit,
-    )
+        [sys.executable, "-m", "drain_gis", *map(str, words)], cwd=COMPANION, env={**os.environ, **environment},
+        capture_output=True, encoding="utf-8", errors="surrogateescape", preexec_fn=limit,
+    )  # fmt: skip
     return Printed(done.returncode, done.stdout, done.stderr)
 
 

@@ -13,9 +13,9 @@ import libraries
 import numpy as np
 import pytest
 import worlds
-from drain_gis import layers
+from drain_gis import layers, surface
 from drain_gis.tools import TOOLS
-from hypothesis import HealthCheck, given, settings
+from hypothesis import given, settings
 from hypothesis import strategies as st
 from hypothesis.extra.numpy import arrays
 
@@ -23,8 +23,6 @@ BLANK, NODATA, AREA = libraries.BLANK, -9999, 250
 PLACE = worlds.Affine(25, 0, 500000.5, 0, -10, 4e6)
 CHANGES = ("none", "con", "dir", "acc", "label", "merge", "blank", "filled void")
 OUTLETS = [name for name, tool in TOOLS.items() if not tool.inland]
-settings.register_profile("gate", deadline=None, derandomize=True, suppress_health_check=list(HealthCheck))
-settings.load_profile("gate")
 
 
 @dataclass
@@ -134,21 +132,17 @@ def cases(draw: Any) -> Case:
 @settings(max_examples=150)
 @given(cases(), st.sampled_from([1, 30, 10**6]), st.booleans())
 def test_a_verdict_is_that_of_libraries(case: Case, window: int, by_files: bool) -> None:
-    given_, options = dict(case.given), dict(case.options)
+    sources, options = dict(case.given), dict(case.options)
     with pytest.MonkeyPatch.context() as patch, TemporaryDirectory() as folder:
         patch.setattr(layers, "WINDOW_CELLS", window)
         if by_files:
-            paths = {n: worlds.write_tif(Path(folder) / f"{n}.tif", a, NODATA, PLACE) for n, a in given_.items()}
-            given_, options["nodata"] = paths, None
-        elif case.options["acc_counts"] == "area":
-            pass  # TODO cell_area
-        try:
-            verdict = drain_gis.audit(**given_, **options)
-        except drain_gis.CannotJudge:
-            assert case.faults()
-            return
-    assert bool(verdict) == (not case.faults()), (verdict, case.faults())
-    if not verdict:
+            sources = {n: worlds.write_tif(Path(folder) / f"{n}.tif", a, NODATA, PLACE) for n, a in sources.items()}
+            options["nodata"] = None
+        elif options["acc_counts"] == "area" and "acc" in sources:
+            options["cell_area"] = AREA
+        verdict = drain_gis.audit(**sources, **options)
+    assert bool(verdict) == (not case.faults()), (str(verdict), case.faults())
+    if not verdict.accepted:
         assert verdict.row < case.z.shape[0] and verdict.col < case.z.shape[1]
         assert not case.void[verdict.row, verdict.col] or case.change == "filled void"
 
@@ -157,43 +151,47 @@ def test_a_verdict_is_that_of_libraries(case: Case, window: int, by_files: bool)
 @given(terrains(), st.sampled_from(["none", "off", "blank", "any code", "no code", "acc", "label", "merge"]))
 def test_flow_is_that_of_libraries(terrain: Any, changed: str) -> None:
     """Directions with rings and without; counts and labels right or changed. No surface takes part."""
-    z, void, rng = terrain
+    _, void, rng = terrain
     codes = libraries.random_steepest(rng.permutation(void.size).reshape(void.shape), void, rng)
-    cell = tuple(np.argwhere(~void)[0])
+    some = ~void & (rng.random(void.shape) < 0.2)
     if changed == "off":
         for code, nowhere in libraries.shifted(void, True).items():
-            codes[nowhere & ~void & (rng.random(void.shape) < 0.2)] = code
+            codes[nowhere & some] = code
     elif changed == "any code":
-        codes[~void & (rng.random(void.shape) < 0.1)] = rng.choice(list(libraries.STEP))
+        codes[some] = rng.choice(list(libraries.STEP))
     elif changed in ("blank", "no code"):
-        codes[cell] = {"blank": 255, "no code": 3}[changed]
-    next_cell, goes = libraries.following(codes, void)
-    graph = libraries.graph_of(next_cell, goes)
-    ring, data = libraries.has_ring(graph), ~void
-    products = {"acc": data.astype(np.int64) if ring else libraries.accumulation(graph, data)}
-    components = products["bas"] = libraries.basins(graph, void.shape).astype(np.int64)
-    products["bas"] = components.copy()
+        codes[tuple(np.argwhere(~void)[0])] = {"blank": BLANK, "no code": 3}[changed]
+    graph, _ = libraries.graph_of(codes, void)
+    acc = (~void).astype(np.int64) if libraries.has_ring(graph) else libraries.accumulation(graph, void)
+    products = {"acc": acc, "bas": libraries.basins(graph, void.shape)}
     if changed in ("acc", "label", "merge"):
         change(changed, products, void, rng)
-    right = not ring and not (data & (codes == 3)).any()
-    right = right and bool((products["acc"] == libraries.accumulation(graph, data))[data].all())
-    right = right and libraries.are_labels(products["bas"], components, data)
     masked = {name: np.ma.array(a, mask=void) for name, a in products.items()}
-    flow = drain_gis.audit_flow(
-        np.ma.array(codes, mask=void | (codes == 255)), **masked, codes="drain", acc_counts="cells"
+    verdict = drain_gis.audit(
+        dir=np.ma.array(codes, mask=void | (codes == BLANK)), **masked, codes="drain", acc_counts="cells"
     )
-    assert bool(flow) == right, flow
+    assert bool(verdict) == (not libraries.flow_faults(codes, products, void)), str(verdict)
 
 
 @settings(max_examples=80)
-@given(terrains(), st.sampled_from(["f4", "f8"]), st.sampled_from(["none", "higher", "lower"]))
-def test_surfaces_of_any_heights_are_that_of_libraries(terrain: Any, kind: str, changed: str) -> None:
+@given(
+    terrains(),
+    st.sampled_from(["f4", "f8"]),
+    st.sampled_from(["none", "higher", "lower"]),
+    st.sampled_from([1, 7, 10**4]),
+)
+def test_surfaces_of_any_heights_are_that_of_libraries(terrain: Any, kind: str, changed: str, size: int) -> None:
+    """Heights without a unit are judged by their ranks, where they are many in slices."""
     _, void, rng = terrain
     z = (rng.random(void.shape) * 100).astype(kind)
     least = libraries.least_surface(z.astype(np.float64), void).astype(kind)
     con, cell = least.copy(), tuple(np.argwhere(~void)[rng.integers((~void).sum())])
     if changed != "none":
         con[cell] = np.nextafter(con[cell], np.array(1e9 if changed == "higher" else -1e9, kind))
-    verdict = drain_gis.audit_surface(np.ma.array(z, mask=void), np.ma.array(con, mask=void))
+    with pytest.MonkeyPatch.context() as patch:
+        patch.setattr(surface, "SLICE", size)
+        verdict = drain_gis.audit(np.ma.array(z, mask=void), con=np.ma.array(con, mask=void), parts=True)
     assert bool(verdict) == (changed == "none")
-    assert np.array_equal(verdict.high, ~void & (con > least)) and np.array_equal(verdict.low, ~void & (con < least))
+    if not verdict:
+        assert (verdict.row, verdict.col) == cell and [tuple(c) for c in np.argwhere(verdict.map % 255)] == [cell]
+        assert f"1 cell too {'high' if changed == 'higher' else 'low'}" in verdict.parts["con"]

@@ -5,6 +5,7 @@ from tempfile import TemporaryDirectory
 from typing import Any
 
 import drain_gis
+import libraries
 import numpy as np
 import pytest
 import rasterio
@@ -76,16 +77,15 @@ def test_faults_of_a_data_array_are_one(tmp_path: Path, world: worlds.World) -> 
 
 def test_windows_are_seamless(monkeypatch: pytest.MonkeyPatch, tmp_path: Path) -> None:
     world = worlds.random_world(seed=3)
-    off = np.ma.array(worlds.leading_off(world), mask=world.void)
-    rim = np.array([[worlds.is_open((r, c), world.void) for c in range(31)] for r in range(23)])
-    blank = np.ma.array(world.dir, mask=world.void | rim)
+    off = np.ma.array(world.leading_off(), mask=world.void)
+    blank = np.ma.array(world.dir, mask=world.void | libraries.open_cells(world.void))
     paths = worlds.write_set(tmp_path, world)
     for cells in (1, 40, 100, 10**6):
         monkeypatch.setattr(layers, "WINDOW_CELLS", cells)
         assert drain_gis.audit(**{**world.given(), "dir": off, "acc": world.masked("acc") - 1.0}, codes="esri")
         assert drain_gis.audit(**{**world.given("con"), "dir": blank}, complete_rim=True, codes="esri")
         assert drain_gis.audit(**paths, codes="esri")
-        assert drain_gis.audit_flow(off, world.masked("acc"), world.masked("bas"), codes="esri")
+        assert drain_gis.audit(dir=off, acc=world.masked("acc"), bas=world.masked("bas"), codes="esri")
 
 
 def part(folder: Path, name: str, a: np.ndarray, row: int, col: int, **more: Any) -> str:
@@ -129,8 +129,8 @@ def test_a_gap_has_no_data_and_the_later_number_counts(tmp_path: Path) -> None:
 def test_tiles_of_other_grids_and_kinds_are_refused(tmp_path: Path, other: dict[str, Any]) -> None:
     z = np.zeros((4, 4), np.int16)
     parts = [part(tmp_path, "first", z, 0, 0), part(tmp_path, "other", other.pop("a", z), 0, 3, **other)]
-    done = command("judge", "--dem", parts[0], "--con", parts[0], parts[1])
-    assert (done.status, "dem" in done.error) == (2, True), done
+    done = command("judge", "--dem", parts[0], "--dem", parts[1], "--con", parts[0])
+    assert done.status == 2 and "dem" in done.out + done.error and "judged: con over" not in done.out, done
 
 
 def test_hgt_tiles_side_by_side(tmp_path: Path) -> None:

@@ -97,12 +97,10 @@ def test_a_right_set_is_accepted_and_one_wrong_direction_is_not(tool: str) -> No
     verdict = audit_in(tool, world, world.dir)
     assert verdict and any(TOOLS[tool].known_by in note for note in verdict.notes)
     codes = world.dir.copy()
-    cell, code = next(
-        (cell, code)
-        for cell in world.cells()
-        for code, other in worlds.beside(cell, world.void)
-        if world.dir[cell] and world.con[other] > world.con[cell]
+    ways = (
+        (cell, code, other) for cell in world.cells() for code, other in world.beside(cell).items() if world.dir[cell]
     )
+    cell, code, _ = next(way for way in ways if world.con[way[2]] > world.con[way[0]])
     codes[cell] = code
     assert audit_in(tool, world, codes).name in ("NoEnd", "Slope")
 
@@ -127,7 +125,7 @@ def test_directions_need_codes(codes: str | None) -> None:
     with pytest.raises(drain_gis.CannotJudge, match="codes=TOOL.*taudem"):
         drain_gis.audit(**world.given("con", "dir"), codes=codes)
     with pytest.raises(drain_gis.CannotJudge, match="codes=TOOL.*taudem"):
-        drain_gis.audit_flow(world.masked("dir"), codes=codes)
+        drain_gis.audit(dir=world.masked("dir"), codes=codes)
 
 
 @pytest.mark.parametrize(("fixture", "tool", "given", "line", "rules"), LINES)
@@ -135,7 +133,7 @@ def test_what_real_tools_made(fixture: str, tool: str, given: str, line: str, ru
     """What they made of fixtures/dem.tif, as they left it: fixtures/make.sh has the versions and the commands."""
     files: dict[str, Any] = {name: FIXTURES / f"{fixture}-{name}.tif" for name in given.split()}
     verdict = drain_gis.audit(FIXTURES / "dem.tif", con=FIXTURES / "saga-con.tif", **files, codes=tool, parts=True)
-    assert verdict.line == line
+    assert verdict.answer.line == line
     assert {number: cells for number, (cells, _) in verdict.rules.items()} == rules
     assert verdict or verdict.parts["con"].startswith("the least surface")
     assert verdict.warning == ""
@@ -157,7 +155,7 @@ def test_each_preset_fits_its_tool_and_no_other(fixture: str, tool: str) -> None
 
 def test_fixtures_are_judged_by_the_command(tmp_path: Path) -> None:
     """One command, from the files that a tool left to a report."""
-    files = {"dem": FIXTURES / "dem.tif"} | {n: FIXTURES / f"saga-{n}.tif" for n in worlds.PRODUCTS}
+    files = {"dem": str(FIXTURES / "dem.tif")} | {n: str(FIXTURES / f"saga-{n}.tif") for n in worlds.PRODUCTS}
     done = command("judge", *worlds.words(files, "saga"), "--out", tmp_path / "report.html")
     assert done.status == 1 and "rejected rule=13 Accumulation row=0 col=1" in done.out
     assert "Accumulation" in (tmp_path / "report.html").read_text()
