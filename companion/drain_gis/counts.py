@@ -175,15 +175,15 @@ def guess_counting(made: "Converted", found: dict[float, int]) -> None:
     """Takes the most frequent number of a cell without water as what one cell counts: 0, 1, or the area of a cell."""
     number = max(found, key=lambda n: found[n])
     share = found[number] / sum(found.values())
-    text = f"acc: {share:.1%} of the cells that get no water have {number:.9g}"
+    text = f"{share:.1%} of the cells that get no water have {number:.9g}"
     named = made.options.acc_counts == "area" or made.options.cell_area is not None
     if number == 0 and named:
-        raise CannotJudge(f"{text}: --acc-counts area needs numbers that count the cell's own area too")
+        raise CannotJudge(f"acc: {text}: --acc-counts area needs numbers that count the cell's own area too")
     if number == 0:
         made.plus = 1
-        made.notes.append(f"{text}: the cell itself isn't counted, and 1 is added to each")
+        made.notes.append(f"acc: {text}: the cell itself isn't counted, and 1 is added to each")
     elif number == 1 and not named:
-        made.notes.append(f"{text}: the cell itself is counted, and each number is taken as it is")
+        made.notes.append(f"acc: {text}: the cell itself is counted, and each number is taken as it is")
     elif not named and share < SURE:
         raise OddRaster(
             "acc",
@@ -193,7 +193,7 @@ def guess_counting(made: "Converted", found: dict[float, int]) -> None:
     else:
         check_area(made, number, text)
         made.per = float(number)
-        made.notes.append(f"{text}, taken for the area of a cell: each number is divided by it")
+        made.notes.append(f"acc: {text}, taken for the area of a cell: each number is divided by it")
 
 
 def check_area(made: "Converted", number: float, text: str) -> None:

@@ -173,9 +173,9 @@ def acc_text(made: "Converted", flow: Flow) -> list[str]:
         lost, over = max(lost, int((drains - have)[bad].max())), max(over, int((have - drains)[bad].max()))
     if not many:
         return []
-    sizes = [f"at most {lost:,} cells lost"] if lost > 0 else []
-    sizes += [f"at most {over:,} too many"] if over > 0 else []
-    at = f"{streams:,} of these cells are on streams (where {least:,} cells or more drain), {outlets:,} are outlets"
+    sizes = [f"at most {cells(lost)} lost"] if lost > 0 else []
+    sizes += [f"at most {cells(over)} too many"] if over > 0 else []
+    at = f"{streams:,} of these lie on streams (where {least:,} cells or more drain), {outlets:,} where paths end"
     return [f"acc differs at {cells(many)}, {', '.join(sizes)}; {at}; {first}"]
 
 
