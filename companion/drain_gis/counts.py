@@ -117,7 +117,7 @@ def take_sums(made: "Converted", counts: np.ndarray, program: Program) -> None:
         for band, around, inner in bands(*codes.shape):
             numbers, none = layer.window(around.start, around.stop - around.start)
             values = np.abs(np.where(none, 0, numbers).astype(np.float64))
-            total = np.full(values.shape, (1 - made.plus) * made.per)
+            total = np.full(values.shape, float((1 - made.plus) * made.per))
             for code in CODES:
                 here, there = shifted(values, code)
                 total[here] += np.where(codes[around][there] == opposite(code), values[there] + made.plus * made.per, 0)
@@ -138,7 +138,9 @@ def take_sums(made: "Converted", counts: np.ndarray, program: Program) -> None:
             "are taken there"
         )
     if lost:
-        made.notes.append(f"acc: {lost:,} numbers of {SINGLE:,} or more in single precision: the tool may have rounded them")
+        made.notes.append(
+            f"acc: {lost:,} numbers of {SINGLE:,} or more in single precision: the tool may have rounded them"
+        )
 
 
 def area_of_cell(made: "Converted") -> float | None:
@@ -203,7 +205,9 @@ def check_area(made: "Converted", number: float, text: str) -> None:
         raise OddRaster("acc", f"{text}, not the {named:.9g} that --cell-area names")
     if named is None and not is_area(number, area):
         known = f"a cell has the area {area:.9g}" if area else "the area of a cell isn't known without a georeference"
-        raise OddRaster("acc", f"{text}: {known}. If that is what one cell counts for, name it (--cell-area {number:.9g})")
+        raise OddRaster(
+            "acc", f"{text}: {known}. If that is what one cell counts for, name it (--cell-area {number:.9g})"
+        )
 
 
 def counts_taken(made: "Converted") -> str:
