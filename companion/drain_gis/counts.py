@@ -117,7 +117,7 @@ def take_sums(made: "Converted", counts: np.ndarray, program: Program) -> None:
         for band, around, inner in bands(*codes.shape):
             numbers, none = layer.window(around.start, around.stop - around.start)
             values = np.abs(np.where(none, 0, numbers).astype(np.float64))
-            total = np.full(values.shape, (1 - made.plus) * made.per)
+            total = np.full(values.shape, float((1 - made.plus) * made.per))
             for code in CODES:
                 here, there = shifted(values, code)
                 total[here] += np.where(codes[around][there] == opposite(code), values[there] + made.plus * made.per, 0)
@@ -138,7 +138,9 @@ def take_sums(made: "Converted", counts: np.ndarray, program: Program) -> None:
             "are taken there"
         )
     if lost:
-        made.notes.append(f"acc: {lost:,} numbers of {SINGLE:,} or more in single precision: the tool may have rounded them")
+        made.notes.append(
+            f"acc: {lost:,} numbers of {SINGLE:,} or more in single precision: the tool may have rounded them"
+        )
 
 
 def area_of_cell(made: "Converted") -> float | None:
@@ -175,15 +177,15 @@ def guess_counting(made: "Converted", found: dict[float, int]) -> None:
     """Takes the most frequent number of a cell without water as what one cell counts: 0, 1, or the area of a cell."""
     number = max(found, key=lambda n: found[n])
     share = found[number] / sum(found.values())
-    text = f"acc: {share:.1%} of the cells that get no water have {number:.9g}"
+    text = f"{share:.1%} of the cells that get no water have {number:.9g}"
     named = made.options.acc_counts == "area" or made.options.cell_area is not None
     if number == 0 and named:
-        raise CannotJudge(f"{text}: --acc-counts area needs numbers that count the cell's own area too")
+        raise CannotJudge(f"acc: {text}: --acc-counts area needs numbers that count the cell's own area too")
     if number == 0:
         made.plus = 1
-        made.notes.append(f"{text}: the cell itself isn't counted, and 1 is added to each")
+        made.notes.append(f"acc: {text}: the cell itself isn't counted, and 1 is added to each")
     elif number == 1 and not named:
-        made.notes.append(f"{text}: the cell itself is counted, and each number is taken as it is")
+        made.notes.append(f"acc: {text}: the cell itself is counted, and each number is taken as it is")
     elif not named and share < SURE:
         raise OddRaster(
             "acc",
@@ -193,7 +195,7 @@ def guess_counting(made: "Converted", found: dict[float, int]) -> None:
     else:
         check_area(made, number, text)
         made.per = float(number)
-        made.notes.append(f"{text}, taken for the area of a cell: each number is divided by it")
+        made.notes.append(f"acc: {text}, taken for the area of a cell: each number is divided by it")
 
 
 def check_area(made: "Converted", number: float, text: str) -> None:
@@ -203,7 +205,9 @@ def check_area(made: "Converted", number: float, text: str) -> None:
         raise OddRaster("acc", f"{text}, not the {named:.9g} that --cell-area names")
     if named is None and not is_area(number, area):
         known = f"a cell has the area {area:.9g}" if area else "the area of a cell isn't known without a georeference"
-        raise OddRaster("acc", f"{text}: {known}. If that is what one cell counts for, name it (--cell-area {number:.9g})")
+        raise OddRaster(
+            "acc", f"{text}: {known}. If that is what one cell counts for, name it (--cell-area {number:.9g})"
+        )
 
 
 def counts_taken(made: "Converted") -> str:

@@ -47,6 +47,8 @@ class Flow:
             self.derive(program, words)
         self.ends = int(((self.codes == OUTLET) & self.data).sum()) - len(self.ring) - len(self.strange)
         self.acc, self.bas = (Product(self.place / f"{name}.bil", name, self.frame) for name in ("acc", "bas"))
+        self.cut = np.unique(self.values(self.bas, np.concatenate([self.ring, self.strange])))
+        """The labels of the cells that don't drain."""
 
     def derive(self, program: Program, words: list[str]) -> Answer | None:
         """Has `drain` derive acc and bas; the answer where a path doesn't end."""
@@ -58,17 +60,22 @@ class Flow:
         (self.place / "dir.hdr").write_text(self.header, encoding="ascii")
         return program.derive(self.place, words)
 
+    def values(self, product: Product, at: np.ndarray) -> np.ndarray:
+        """The numbers of a product at some cells, in row order."""
+        rows, cols = np.divmod(np.sort(at), self.codes.shape[1])
+        found = [np.zeros(0, product.kind)]
+        for band, _, _ in bands(*self.codes.shape) if len(at) else ():
+            first, last = np.searchsorted(rows, (band.start, band.stop))
+            found.append(product[band][rows[first:last] - band.start, cols[first:last]])
+        return np.concatenate(found)
+
     def drained_at(self, at: np.ndarray) -> int:
         """How many cells drain through these, each of which ends a path."""
-        if not len(at):
-            return 0
-        rows, cols = np.divmod(np.sort(at), self.codes.shape[1])
-        total, first = 0, 0
-        for band, _, _ in bands(*self.codes.shape):
-            last = int(np.searchsorted(rows, band.stop))
-            total += int(self.acc[band][rows[first:last] - band.start, cols[first:last]].sum(dtype=np.int64))
-            first = last
-        return total
+        return int(self.values(self.acc, at).sum(dtype=np.int64))
+
+    def drains(self, band: slice) -> np.ndarray:
+        """The cells with data whose path ends where water leaves."""
+        return self.data[band] & ~np.isin(self.bas[band], self.cut) if len(self.cut) else self.data[band]
 
     def first(self, *at: np.ndarray) -> tuple[int, int] | None:
         """The first of some cells in row order."""
@@ -83,7 +90,7 @@ class Flow:
             here, there = shifted(excess, code)
             flows = (self.codes[around][there] == opposite(code)) & self.data[around][there]
             there_is_more[here] -= np.where(flows, excess[there], 0)
-        return (there_is_more != 0)[inner] & self.data[band]
+        return (there_is_more != 0)[inner] & self.drains(band)
 
     def wrong_labels(self, labels: np.ndarray, around: slice, inner: slice) -> np.ndarray:
         """Where, in a band of rows, a label isn't that of the next cell downstream."""
@@ -105,8 +112,10 @@ class Flow:
         of = np.zeros(int(basin.max(initial=0)) + 1, labels.dtype)
         of[basin] = label
         differ = sum(
-            int((self.data[band] & (labels[band] != of[self.bas[band]])).sum()) for band, _, _ in bands(*self.codes.shape)
+            int((self.drains(band) & (labels[band] != of[self.bas[band]])).sum())
+            for band, _, _ in bands(*self.codes.shape)
         )
+        end, label = end[whole := ~np.isin(basin, self.cut)], label[whole]
         later = np.ones(end.size, bool)
         later[np.unique(label, return_index=True)[1]] = False
         return differ, end[later & (label != 0)]
@@ -149,7 +158,7 @@ def flow_text(made: "Converted", flow: Flow) -> tuple[bool, str]:
         differ, shared = flow.label_faults(labels)
         wrong += [f"bas has no label at {cells(lacking)}"] if lacking else []
         wrong += [f"bas differs from its outlet's at {cells(differ)}"] if differ else []
-        wrong += [f"bas: {len(shared):,} outlets have the label of an earlier one"] if len(shared) else []
+        wrong += [f"bas: outlets with the label of an earlier one: {len(shared):,}"] if len(shared) else []
     right = f", and {' and '.join(along)} {'are those' if len(along) > 1 else 'is that'} of dir" if along else ""
     return not wrong, "; ".join(wrong) or f"every path ends{right}; water ends at {cells(flow.ends)}"
 
@@ -161,7 +170,7 @@ def acc_text(made: "Converted", flow: Flow) -> list[str]:
     first = ""
     for band, _, _ in bands(*counts.shape):
         have, drains = counts[band].astype(np.int64), flow.acc[band].astype(np.int64)
-        bad = made.data[band] & (have != drains)
+        bad = flow.drains(band) & (have != drains)
         if not bad.any():
             continue
         if not first:
@@ -173,9 +182,9 @@ def acc_text(made: "Converted", flow: Flow) -> list[str]:
         lost, over = max(lost, int((drains - have)[bad].max())), max(over, int((have - drains)[bad].max()))
     if not many:
         return []
-    sizes = [f"at most {lost:,} cells lost"] if lost > 0 else []
-    sizes += [f"at most {over:,} too many"] if over > 0 else []
-    at = f"{streams:,} of these cells are on streams (where {least:,} cells or more drain), {outlets:,} are outlets"
+    sizes = [f"at most {cells(lost)} lost"] if lost > 0 else []
+    sizes += [f"at most {cells(over)} too many"] if over > 0 else []
+    at = f"{streams:,} of these lie on streams (where {least:,} cells or more drain), {outlets:,} where paths end"
     return [f"acc differs at {cells(many)}, {', '.join(sizes)}; {at}; {first}"]
 
 

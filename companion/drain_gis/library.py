@@ -76,7 +76,10 @@ def audit_in_memory(one: Set, program: Program) -> Answer | None:
         return None
     assert all(array.flags.c_contiguous for array in (*one.tiles, *one.products.values()))
     tiles = (Tile * len(one.tiles))(
-        *(Tile(bytes_of(n.encode(), kept), Bytes(t.ctypes.data, t.nbytes)) for n, t in zip(one.frame.names(), one.tiles))
+        *(
+            Tile(bytes_of(n.encode(), kept), Bytes(t.ctypes.data, t.nbytes))
+            for n, t in zip(one.frame.names(), one.tiles)
+        )
     )
     pixels = {name: Bytes(array.ctypes.data, array.nbytes) for name, array in one.products.items()}
     rasters = (Raster * 4)(*(Raster(bytes_of(one.header(n).encode(), kept), pixels[n]) for n in PRODUCTS))

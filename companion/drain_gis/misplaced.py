@@ -34,7 +34,9 @@ class Misplaced:
             made.notes.append(f"{name}: no data at {cells(self.missing)} with an elevation (rule Missing){hint}")
         if self.over:
             likely = max(self.numbers, key=lambda number: self.numbers[number])
-            text = f"{name}: a number at {cells(self.over)} without an elevation (rule VoidCell), most often {likely:.12g}"
+            text = (
+                f"{name}: a number at {cells(self.over)} without an elevation (rule VoidCell), most often {likely:.12g}"
+            )
             if made.layers[name].nodata is None and not any(
                 ((numbers == likely) & made.data[rows]).any() for rows, numbers, _ in made.windows(name)
             ):

@@ -178,9 +178,15 @@ def read_record(folder: Path) -> Converted:
             back[code] = number
         codes = one.view("dir")
         layers["dir"] = Layer("dir", np.ma.masked_array(back[codes], codes == NO_DIRECTION))
-    made = Converted(one, layers, facts["tool"], tuple(facts["judged"]), facts["options"], unit=unit, notes=facts["notes"])
-    made.own_ground, made.per, made.plus, made.completed = (facts[n] for n in ("own_ground", "per", "plus", "completed"))
+    made = Converted(
+        one, layers, facts["tool"], tuple(facts["judged"]), facts["options"], unit=unit, notes=facts["notes"]
+    )
+    made.own_ground, made.per, made.plus, made.completed = (
+        facts[n] for n in ("own_ground", "per", "plus", "completed")
+    )
     made.data, made.inputs = ground != VOID, [(name, path, hash_) for name, path, hash_ in facts["inputs"]]
     if int(made.data.sum()) != facts["data"]:
-        raise CannotJudge(f"{folder}: {int(made.data.sum())} cells with an elevation, not {facts['data']}: import again")
+        raise CannotJudge(
+            f"{folder}: {int(made.data.sum())} cells with an elevation, not {facts['data']}: import again"
+        )
     return made

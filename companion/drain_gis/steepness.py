@@ -91,7 +91,7 @@ def shares_text(made: "Converted") -> None:
     listed = ", ".join(f"{DISTANCES[name]} {share:.1%}" for name, share in shares.items())
     text = f"dir: of the cells with a lower neighbour go down a steepest way, by {listed}"
     own = tool.spacing[int(in_degrees(made.dem))]
-    text += f"; {made.tool} takes {DISTANCES[own]}, `drain` {DISTANCES['unit']}"
+    text += f"; {made.tool} takes {DISTANCES[own]}" + ("" if own == "unit" else f", `drain` {DISTANCES['unit']}")
     if max(shares.values()) > shares["unit"] + BETTER:
         text += ", so expect Slope. acc and bas along dir can be judged (leave out --dem and --con)"
     made.notes.append(text)

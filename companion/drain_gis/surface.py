@@ -151,7 +151,9 @@ def by_ranks(
 
 def accepted_line(made: "Converted", counts: dict[str, int]) -> str:
     """The line of an acceptance, as `drain` prints one."""
-    return " ".join(["accepted", f"rows={made.dem.rows}", f"cols={made.dem.cols}", *(f"{k}={n}" for k, n in counts.items())])
+    return " ".join(
+        ["accepted", f"rows={made.dem.rows}", f"cols={made.dem.cols}", *(f"{k}={n}" for k, n in counts.items())]
+    )
 
 
 def rules_of_map(shown: np.ndarray) -> dict[int, tuple[int, tuple[int, int]]]:
