@@ -33,15 +33,18 @@ def level(tmp_path: Path) -> dict[str, str]:
 
 
 def each(paths: dict[str, str], odd: Path | str) -> Iterator[Printed]:
-    """Each command that reads rasters, with an odd one."""
+    """Each command that reads rasters, with an odd one: none of them judges or writes it."""
     out = Path(paths["dem"]).parent / "out"
-    yield command("judge", *worlds.words({**paths, "dem": str(odd)}))
-    yield command("judge", *worlds.words({**paths, "acc": str(odd)}))
+    yield command("judge", "--con", odd)
+    yield command("judge", "--from", "esri", "--dir", odd)
+    yield command("judge", "--dem", odd, "--con", odd)
     yield command("import", "--dem", odd, "--con", paths["con"], out)
-    yield command("surface", "--dem", paths["dem"], "--con", odd)
-    yield command("flow", "--from", "esri", "--dir", odd)
     yield command("whole", odd, out)
-    assert not out.exists()
+    yield command("make", odd, f"{out}-con.tif")
+    yield command("derive", "--from", "esri", odd, f"{out}-acc.tif")
+    assert not [path for path in out.parent.iterdir() if path.name.startswith("out")]
+    done = command("judge", *worlds.words({**paths, "bas": str(odd)}))
+    assert done.status == 2 and "not judged: bas: " in done.out and "judged: con, dir, acc over" in done.out, done
 
 
 def test_a_raster_that_names_others_is_refused(tmp_path: Path, level: dict[str, str]) -> None:
@@ -61,7 +64,7 @@ def test_a_tile_that_is_a_vrt_too_stays_a_tile(tmp_path: Path, level: dict[str, 
     tile = tmp_path / "N10E010.hgt"
     tile.write_bytes(content + b"\n" * (2 * 1201 * 1201 - len(content)))
     done = command("judge", "--dem", tile, "--con", level["con"])
-    assert done.status == 2 and "con has 23 rows and 31 columns, dem 1201 and 1201" in done.error, done
+    assert done.status == 2 and "con: 23 rows and 31 columns, dem has 1201 and 1201" in done.error, done
 
 
 @contextmanager
@@ -201,4 +204,4 @@ def test_bands_and_scales_are_refused(tmp_path: Path, level: dict[str, str]) -> 
     with rasterio.open(level["con"], "r+") as file:
         file.scales = [0.1]
     for done in (command("judge", *worlds.words(level)), command("whole", level["con"], tmp_path / "w.tif")):
-        assert done.status == 2 and "the scale and offset (0.1, 0.0)" in done.error, done
+        assert done.status == 2 and "the scale and offset (0.1, 0.0)" in done.out + done.error, done
