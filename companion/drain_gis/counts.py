@@ -17,22 +17,16 @@ from .rules import cells
 if TYPE_CHECKING:
     from .convert import Converted
 
-MOST_COUNT = 1 << 32
-"""One more than the largest count that 32 bits hold."""
-
+MOST_COUNT = 1 << 32  # one more than the largest count that 32 bits hold
+# By which part of itself a number may differ from a whole one; the same in single precision; the most at all.
 SLACK, SLACK_OF_SINGLE, MOST_SLACK = 2.0**-40, 1e-6, 0.01
-"""By which part of itself a number may differ from a whole one; the same in single precision; the most at all."""
-
+# An area in single precision may also differ by its last digit, if that says which whole number of cells is meant.
 DIGIT, MOST_OF_DIGIT = 2.0**-23, 0.25
-"""An area in single precision may also differ by its last digit, if that says which whole number of cells is meant."""
-
 NEAR_AREA, SURE = 1e-6, 0.99
 MOST_KINDS = 1 << 20
-SINGLE = 1 << 24
-"""From here on single precision doesn't hold all whole numbers."""
-
+SINGLE = 1 << 24  # from here on single precision doesn't hold all whole numbers
+# By which part of itself a sum of at most eight numbers and one, in single precision, may differ from the exact one.
 SUM_SLACK = 8 * 2.0**-24
-"""By which part of itself a sum of at most eight numbers and one, in single precision, may differ from the exact one."""
 
 
 def put_counts(made: "Converted", program: Program) -> None:

@@ -30,9 +30,8 @@ class Flow:
             here, there = shifted(self.codes, code)
             off_by_code[here] &= ~self.data[there]
             off |= off_by_code
+        # Cells whose code leads off the grid or into no data, or that have none. As ends of paths they may be meant.
         self.off = np.flatnonzero(self.data & (off | (self.codes == NO_DIRECTION)))
-        """Cells whose code leads off the grid or into no data, or that have none. As ends of paths they may be meant."""
-
         self.strange = np.flatnonzero(self.data & (self.codes == NO_CODE))
         self.ring = np.zeros(0, np.int64)
         self.codes[~self.data] = NO_DIRECTION
@@ -47,8 +46,8 @@ class Flow:
             self.derive(program, words)
         self.ends = int(((self.codes == OUTLET) & self.data).sum()) - len(self.ring) - len(self.strange)
         self.acc, self.bas = (Product(self.place / f"{name}.bil", name, self.frame) for name in ("acc", "bas"))
+        # The labels of the cells that don't drain.
         self.cut = np.unique(self.values(self.bas, np.concatenate([self.ring, self.strange])))
-        """The labels of the cells that don't drain."""
 
     def derive(self, program: Program, words: list[str]) -> Answer | None:
         """Has `drain` derive acc and bas; the answer where a path doesn't end."""

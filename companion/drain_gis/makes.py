@@ -17,8 +17,7 @@ from .maps import write_raster, written_whole
 from .sets import PRODUCTS, Product
 from .tools import TOOLS
 
-NO_CODE = -32768
-"""What a made dir has where it has no data."""
+NO_CODE = -32768  # what a made dir has where it has no data
 
 
 def make(

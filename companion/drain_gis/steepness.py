@@ -15,11 +15,9 @@ from .tools import DISTANCES, TOOLS
 if TYPE_CHECKING:
     from .convert import Converted
 
-SAMPLE = 200_000
-"""About how many cells are looked at."""
-
+SAMPLE = 200_000  # about how many cells are looked at
+# How much larger a share has to be for a warning: by another tool's codes, and by another distance.
 MUCH_BETTER, BETTER = 0.2, 0.01
-"""How much larger a share has to be for a warning: by another tool's codes, and by another distance."""
 
 
 class Sample:

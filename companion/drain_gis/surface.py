@@ -21,8 +21,7 @@ from .sets import STEPS_HELD, VOID, Set
 if TYPE_CHECKING:
     from .convert import Converted
 
-SLICE = STEPS_HELD
-"""Ranks of a slice; one more number says that a height lies below it."""
+SLICE = STEPS_HELD  # ranks of a slice; one more number says that a height lies below it
 
 
 @dataclass
