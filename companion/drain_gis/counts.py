@@ -6,7 +6,7 @@ from typing import TYPE_CHECKING
 
 import numpy as np
 
-from .around import CODES, bands, gets_water, opposite, shifted
+from .around import CODES, Array, bands, gets_water, opposite, shifted
 from .drain import Program
 from .errors import CannotJudge, OddRaster
 from .flow import Flow
@@ -69,7 +69,7 @@ def no_count(row: int, col: int, number: str) -> OddRaster:
     )
 
 
-def magnitude(numbers: np.ndarray) -> np.ndarray:
+def magnitude(numbers: Array) -> Array:
     """The numbers without signs; whole ones as 64 bits without a sign, which hold each."""
     if numbers.dtype.kind == "f":
         return np.abs(numbers)
@@ -77,12 +77,12 @@ def magnitude(numbers: np.ndarray) -> np.ndarray:
     return np.where(numbers < 0, ~wide + np.uint64(1), wide)
 
 
-def large(values: np.ndarray) -> np.ndarray:
+def large(values: Array) -> Array:
     """Where single precision may have rounded a count."""
     return np.abs(values) >= SINGLE
 
 
-def cells_of(sizes: np.ndarray, per: float) -> tuple[np.ndarray, np.ndarray, np.ndarray]:
+def cells_of(sizes: Array, per: float) -> tuple[Array, Array, Array]:
     """How many times `per` each number is; where it is no whole number of times; and where it is one but nearly.
 
     Whole numbers go through no floating-point ones.
@@ -99,7 +99,7 @@ def cells_of(sizes: np.ndarray, per: float) -> tuple[np.ndarray, np.ndarray, np.
     return near.astype(np.uint64), np.abs(near - values) > slack, near != values
 
 
-def take_sums(made: "Converted", counts: np.ndarray, program: Program) -> None:
+def take_sums(made: "Converted", counts: Array, program: Program) -> None:
     """Takes numbers that a sum in single precision may have rounded for the counts along dir that they stand for.
 
     A number counts as one if it differs from the sum of its inflow, as the tool has it, by no more than such a sum may.
