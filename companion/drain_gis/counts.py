@@ -6,7 +6,7 @@ from typing import TYPE_CHECKING
 
 import numpy as np
 
-from .around import CODES, bands, gets_water, opposite, shifted
+from .around import CODES, Array, bands, gets_water, opposite, shifted
 from .drain import Program
 from .errors import CannotJudge, OddRaster
 from .flow import Flow
@@ -17,22 +17,16 @@ from .rules import cells
 if TYPE_CHECKING:
     from .convert import Converted
 
-MOST_COUNT = 1 << 32
-"""One more than the largest count that 32 bits hold."""
-
+MOST_COUNT = 1 << 32  # one more than the largest count that 32 bits hold
+# By which part of itself a number may differ from a whole one; the same in single precision; the most at all.
 SLACK, SLACK_OF_SINGLE, MOST_SLACK = 2.0**-40, 1e-6, 0.01
-"""By which part of itself a number may differ from a whole one; the same in single precision; the most at all."""
-
+# An area in single precision may also differ by its last digit, if that says which whole number of cells is meant.
 DIGIT, MOST_OF_DIGIT = 2.0**-23, 0.25
-"""An area in single precision may also differ by its last digit, if that says which whole number of cells is meant."""
-
 NEAR_AREA, SURE = 1e-6, 0.99
 MOST_KINDS = 1 << 20
-SINGLE = 1 << 24
-"""From here on single precision doesn't hold all whole numbers."""
-
+SINGLE = 1 << 24  # from here on single precision doesn't hold all whole numbers
+# By which part of itself a sum of at most eight numbers and one, in single precision, may differ from the exact one.
 SUM_SLACK = 8 * 2.0**-24
-"""By which part of itself a sum of at most eight numbers and one, in single precision, may differ from the exact one."""
 
 
 def put_counts(made: "Converted", program: Program) -> None:
@@ -75,7 +69,7 @@ def no_count(row: int, col: int, number: str) -> OddRaster:
     )
 
 
-def magnitude(numbers: np.ndarray) -> np.ndarray:
+def magnitude(numbers: Array) -> Array:
     """The numbers without signs; whole ones as 64 bits without a sign, which hold each."""
     if numbers.dtype.kind == "f":
         return np.abs(numbers)
@@ -83,12 +77,12 @@ def magnitude(numbers: np.ndarray) -> np.ndarray:
     return np.where(numbers < 0, ~wide + np.uint64(1), wide)
 
 
-def large(values: np.ndarray) -> np.ndarray:
+def large(values: Array) -> Array:
     """Where single precision may have rounded a count."""
     return np.abs(values) >= SINGLE
 
 
-def cells_of(sizes: np.ndarray, per: float) -> tuple[np.ndarray, np.ndarray, np.ndarray]:
+def cells_of(sizes: Array, per: float) -> tuple[Array, Array, Array]:
     """How many times `per` each number is; where it is no whole number of times; and where it is one but nearly.
 
     Whole numbers go through no floating-point ones.
@@ -105,7 +99,7 @@ def cells_of(sizes: np.ndarray, per: float) -> tuple[np.ndarray, np.ndarray, np.
     return near.astype(np.uint64), np.abs(near - values) > slack, near != values
 
 
-def take_sums(made: "Converted", counts: np.ndarray, program: Program) -> None:
+def take_sums(made: "Converted", counts: Array, program: Program) -> None:
     """Takes numbers that a sum in single precision may have rounded for the counts along dir that they stand for.
 
     A number counts as one if it differs from the sum of its inflow, as the tool has it, by no more than such a sum may.

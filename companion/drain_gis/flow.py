@@ -9,7 +9,7 @@ from typing import TYPE_CHECKING
 
 import numpy as np
 
-from .around import CODES, NO_CODE, NO_DIRECTION, OUTLET, STEPS, bands, opposite, shifted
+from .around import CODES, NO_CODE, NO_DIRECTION, OUTLET, STEPS, Array, bands, opposite, shifted
 from .drain import Answer, Program
 from .rules import cells
 from .sets import Product
@@ -30,9 +30,8 @@ class Flow:
             here, there = shifted(self.codes, code)
             off_by_code[here] &= ~self.data[there]
             off |= off_by_code
+        # Cells whose code leads off the grid or into no data, or that have none. As ends of paths they may be meant.
         self.off = np.flatnonzero(self.data & (off | (self.codes == NO_DIRECTION)))
-        """Cells whose code leads off the grid or into no data, or that have none. As ends of paths they may be meant."""
-
         self.strange = np.flatnonzero(self.data & (self.codes == NO_CODE))
         self.ring = np.zeros(0, np.int64)
         self.codes[~self.data] = NO_DIRECTION
@@ -47,8 +46,8 @@ class Flow:
             self.derive(program, words)
         self.ends = int(((self.codes == OUTLET) & self.data).sum()) - len(self.ring) - len(self.strange)
         self.acc, self.bas = (Product(self.place / f"{name}.bil", name, self.frame) for name in ("acc", "bas"))
+        # The labels of the cells that don't drain.
         self.cut = np.unique(self.values(self.bas, np.concatenate([self.ring, self.strange])))
-        """The labels of the cells that don't drain."""
 
     def derive(self, program: Program, words: list[str]) -> Answer | None:
         """Has `drain` derive acc and bas; the answer where a path doesn't end."""
@@ -56,11 +55,11 @@ class Flow:
         with open(self.place / "dir.bil", "wb") as file:
             for row in range(self.frame.shape[0]):
                 whole[: self.frame.cols] = self.codes[row] if row < self.frame.rows else NO_DIRECTION
-                file.write(whole)
+                file.write(whole.tobytes())
         (self.place / "dir.hdr").write_text(self.header, encoding="ascii")
         return program.derive(self.place, words)
 
-    def values(self, product: Product, at: np.ndarray) -> np.ndarray:
+    def values(self, product: Product, at: Array) -> Array:
         """The numbers of a product at some cells, in row order."""
         rows, cols = np.divmod(np.sort(at), self.codes.shape[1])
         found = [np.zeros(0, product.kind)]
@@ -69,20 +68,20 @@ class Flow:
             found.append(product[band][rows[first:last] - band.start, cols[first:last]])
         return np.concatenate(found)
 
-    def drained_at(self, at: np.ndarray) -> int:
+    def drained_at(self, at: Array) -> int:
         """How many cells drain through these, each of which ends a path."""
         return int(self.values(self.acc, at).sum(dtype=np.int64))
 
-    def drains(self, band: slice) -> np.ndarray:
+    def drains(self, band: slice) -> Array:
         """The cells with data whose path ends where water leaves."""
         return self.data[band] & ~np.isin(self.bas[band], self.cut) if len(self.cut) else self.data[band]
 
-    def first(self, *at: np.ndarray) -> tuple[int, int] | None:
+    def first(self, *at: Array) -> tuple[int, int] | None:
         """The first of some cells in row order."""
         found = [int(one.min()) for one in at if len(one)]
         return divmod(min(found), self.codes.shape[1]) if found else None
 
-    def wrong_counts(self, counts: np.ndarray, band: slice, around: slice, inner: slice) -> np.ndarray:
+    def wrong_counts(self, counts: Array, band: slice, around: slice, inner: slice) -> Array:
         """Where, in a band of rows, a count isn't 1 plus the counts that flow in: where a loss begins."""
         excess = counts[around].astype(np.int64) - self.acc[around]
         there_is_more = excess.copy()
@@ -92,7 +91,7 @@ class Flow:
             there_is_more[here] -= np.where(flows, excess[there], 0)
         return (there_is_more != 0)[inner] & self.drains(band)
 
-    def wrong_labels(self, labels: np.ndarray, around: slice, inner: slice) -> np.ndarray:
+    def wrong_labels(self, labels: Array, around: slice, inner: slice) -> Array:
         """Where, in a band of rows, a label isn't that of the next cell downstream."""
         window, wrong = labels[around], np.zeros(labels[around].shape, bool)
         for code in CODES:
@@ -100,7 +99,7 @@ class Flow:
             wrong[here] |= (self.codes[around][here] == code) & (window[here] != window[there])
         return wrong[inner]
 
-    def label_faults(self, labels: np.ndarray) -> tuple[int, np.ndarray]:
+    def label_faults(self, labels: Array) -> tuple[int, Array]:
         """At how many cells a label differs from its outlet's; and the outlets whose label an earlier one has."""
         ends, basins, theirs = [], [], []
         for band, _, _ in bands(*self.codes.shape):
@@ -121,7 +120,7 @@ class Flow:
         return differ, end[later & (label != 0)]
 
 
-def ring_cells(codes: np.ndarray, data: np.ndarray) -> np.ndarray:
+def ring_cells(codes: Array, data: Array) -> Array:
     """The cells of all rings: what is left when cells that nothing flows into are taken away, again and again."""
     steps = np.zeros(256, np.int32)
     for code, (down, right) in STEPS.items():

@@ -8,8 +8,7 @@ from typing import Any
 from .drain import HOME, Answer, Program, read_line
 from .sets import PRODUCTS, Set
 
-NEEDED = {"ssse3", "sse4_1", "sse4_2", "popcnt", "cx16"}
-"""What the library uses of a processor, and doesn't test."""
+NEEDED = {"ssse3", "sse4_1", "sse4_2", "popcnt", "cx16"}  # what the library uses of a processor, and doesn't test
 
 
 class Bytes(ctypes.Structure):

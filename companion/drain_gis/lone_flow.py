@@ -4,7 +4,7 @@ from typing import TYPE_CHECKING
 
 import numpy as np
 
-from .around import NO_CODE, OUTLET, bands
+from .around import NO_CODE, OUTLET, Array, bands
 from .drain import Answer
 from .flow import Flow
 from .rules import NO_END, RULES, SOUND
@@ -19,7 +19,7 @@ def judge_flow(made: "Converted", flow: Flow) -> Finding:
     shown = np.zeros(made.data.shape, np.uint8)
     found: dict[int, tuple[int, tuple[int, int]]] = {}
 
-    def put(band: slice, where: np.ndarray, number: int) -> None:
+    def put(band: slice, where: Array, number: int) -> None:
         if not where.any():
             return
         row, col = np.argwhere(where)[0]

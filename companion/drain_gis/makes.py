@@ -7,7 +7,7 @@ from typing import Any
 
 import numpy as np
 
-from .around import NO_DIRECTION, OUTLET
+from .around import NO_DIRECTION, OUTLET, Array
 from .convert import Converted, Options, begin, convert, put_heights
 from .drain import Program
 from .errors import CannotJudge
@@ -17,8 +17,7 @@ from .maps import write_raster, written_whole
 from .sets import PRODUCTS, Product
 from .tools import TOOLS
 
-NO_CODE = -32768
-"""What a made dir has where it has no data."""
+NO_CODE = -32768  # what a made dir has where it has no data
 
 
 def make(
@@ -46,7 +45,7 @@ def make(
                 write_raster(new, layer, *(heights(made, product) if name == "con" else numbers(made, name, product)))
 
 
-def heights(made: Converted, con: Product) -> tuple[str, float, Iterator[tuple[int, np.ndarray]]]:
+def heights(made: Converted, con: Product) -> tuple[str, float, Iterator[tuple[int, Array]]]:
     """con in the numbers of dem: each height of the filled surface is one of the elevations."""
     assert made.unit is not None
     kinds = [np.unique(found[~void]) for _, found, void in made.windows("dem")]
@@ -58,7 +57,7 @@ def heights(made: Converted, con: Product) -> tuple[str, float, Iterator[tuple[i
     if (levels == nodata).any():
         raise CannotJudge(f"dem has no number left for no data: {nodata} is a height")
 
-    def parts() -> Iterator[tuple[int, np.ndarray]]:
+    def parts() -> Iterator[tuple[int, Array]]:
         for rows, found, void in made.windows("dem"):
             raised = levels[np.minimum(np.searchsorted(steps, con[rows]), levels.size - 1)]
             filled = np.where(con[rows] == made.unit.whole(found, void), found, raised)  # type: ignore[union-attr]
@@ -67,14 +66,14 @@ def heights(made: Converted, con: Product) -> tuple[str, float, Iterator[tuple[i
     return str(made.dem.dtype), nodata, parts()
 
 
-def numbers(made: Converted, name: str, product: Product) -> tuple[str, float, Iterator[tuple[int, np.ndarray]]]:
+def numbers(made: Converted, name: str, product: Product) -> tuple[str, float, Iterator[tuple[int, Array]]]:
     """dir in the codes of a tool; acc and bas as they are, 0 for no data."""
     tool, table = TOOLS[made.tool], np.full(256, NO_CODE, np.int16)
     for number, code in tool.codes.items():
         table[code] = number
     table[OUTLET], table[NO_DIRECTION] = tool.ends[0], NO_CODE
 
-    def parts() -> Iterator[tuple[int, np.ndarray]]:
+    def parts() -> Iterator[tuple[int, Array]]:
         for top, rows in made.dem.windows():
             found = product.rows(top, rows)
             yield top, table[found] if name == "dir" else found

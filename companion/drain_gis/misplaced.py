@@ -4,6 +4,7 @@ from typing import TYPE_CHECKING
 
 import numpy as np
 
+from .around import Array
 from .rules import cells
 from .tools import TOOLS
 
@@ -17,7 +18,7 @@ class Misplaced:
     def __init__(self) -> None:
         self.missing, self.over, self.numbers = 0, 0, dict[float, int]()
 
-    def add(self, numbers: np.ndarray, none: np.ndarray, data: np.ndarray) -> None:
+    def add(self, numbers: Array, none: Array, data: Array) -> None:
         """Looks at a window."""
         self.missing += int((none & data).sum())
         over = numbers[~none & ~data]

@@ -3,7 +3,6 @@
 import hashlib
 import json
 import re
-from collections.abc import Callable
 from dataclasses import asdict
 from pathlib import Path
 from typing import Any
@@ -16,14 +15,14 @@ from rasterio.transform import Affine
 from .around import NO_DIRECTION
 from .convert import Converted, Options
 from .errors import CannotJudge
-from .heights import MOST_TENS, MOST_TWOS, Unit
+from .heights import EXACT, MOST_TENS, MOST_TWOS, Unit
 from .layers import MOST, Layer
 from .sets import PRODUCTS, VOID, Set, frame_of
 from .tools import TOOLS
 from .version import VERSION
 
 NAME = "import.json"
-HEX, NUMBERS = re.compile("[0-9a-f]{64}"), (int, float)
+HEX = re.compile("[0-9a-f]{64}")
 
 
 def sha256(path: str) -> str:
@@ -55,58 +54,48 @@ def write_record(made: Converted, folder: Path) -> None:
     (folder / NAME).write_text(json.dumps(facts, indent=1, allow_nan=False) + "\n", encoding="utf-8")
 
 
-def whole(low: int, high: int) -> Callable[[Any], bool]:
-    """A whole number within a range."""
-    return lambda value: type(value) is int and low <= value <= high
-
-
-def list_of(check: Callable[[Any], bool], size: int | None = None) -> Callable[[Any], bool]:
-    """A list of values that pass a check."""
-    return lambda value: isinstance(value, list) and all(map(check, value)) and size in (None, len(value))
-
-
-def is_text(value: Any) -> bool:
-    """A text."""
-    return isinstance(value, str)
-
-
-def is_finite(value: Any) -> bool:
-    """A number that isn't too large to be a coordinate."""
-    return type(value) in NUMBERS and abs(value) < 1e300
-
-
-def is_input(value: Any) -> bool:
-    """A raster, a path and a SHA-256."""
-    return list_of(is_text, 3)(value) and value[0] in ("dem", *PRODUCTS) and bool(HEX.fullmatch(value[2]))
-
-
-def is_subset(value: Any) -> bool:
-    """Products in their order."""
-    return bool(value) and list_of(is_text)(value) and value == [name for name in PRODUCTS if name in value]
-
-
-def is_system(value: Any) -> bool:
-    """A coordinate system as WKT, or none."""
-    try:
-        return value is None or is_text(value) and CRS.from_wkt(value).is_valid
-    except (RasterioError, ValueError):
-        return False
-
-
-CHECKS: dict[str, Callable[[Any], bool]] = {
-    "drain_gis": lambda value: value == VERSION, "rows": whole(1, MOST), "cols": whole(1, MOST), "data": whole(1, MOST**2),
-    "tool": lambda value: is_text(value) and value in TOOLS, "judged": is_subset, "products": is_subset,
-    "options": lambda value: isinstance(value, dict) and set(value) == set(asdict(Options())),
-    "unit": lambda value: isinstance(value, dict) and set(value) == {"tens", "twos", "offset"}
-    and whole(0, MOST_TENS)(value["tens"]) and whole(0, MOST_TWOS)(value["twos"]) and whole(-(2**75), 2**75)(value["offset"]),
-    "per": lambda value: type(value) in NUMBERS and 0 < value < 2**53, "plus": whole(0, 1),
-    "own_ground": lambda value: type(value) is bool, "sinks": list_of(list_of(whole(0, MOST), 2)),
-    "inputs": list_of(is_input), "dem": list_of(is_text), "notes": list_of(is_text), "crs": is_system,
-    "transform": lambda value: value is None or list_of(is_finite, 6)(value) and Affine(*value).determinant != 0,
-    "completed": lambda value: isinstance(value, dict) and set(value) <= set(PRODUCTS)
-    and all(map(whole(0, MOST**2), value.values())),
+# The kind of each member: a type, one of several kinds, a list of one kind, or an object of named ones.
+KINDS: dict[str, Any] = {
+    "drain_gis": str, "rows": int, "cols": int, "data": int, "tool": str, "judged": [str], "products": [str],
+    "options": dict, "unit": {"tens": int, "twos": int, "offset": int}, "per": (int, float), "plus": int,
+    "own_ground": bool, "sinks": [[int]], "inputs": [[str]], "dem": [str], "transform": (None, [(int, float)]),
+    "crs": (None, str), "completed": dict, "notes": [str],
 }  # fmt: skip
-"""What each member may be."""
+
+
+def is_kind(value: Any, kind: Any) -> bool:
+    """Whether a value of JSON is of a kind."""
+    if isinstance(kind, tuple):
+        return any(is_kind(value, one) for one in kind)
+    if isinstance(kind, list):
+        return type(value) is list and all(is_kind(one, kind[0]) for one in value)
+    if isinstance(kind, dict):
+        return type(value) is dict and set(value) == set(kind) and all(is_kind(value[n], kind[n]) for n in kind)
+    return value is None if kind is None else type(value) is kind
+
+
+def wrong_member(facts: dict[str, Any]) -> str:
+    """The first member that no import writes; "" if there is none."""
+    wrong = next((name for name, kind in KINDS.items() if not is_kind(facts[name], kind)), "")
+    if wrong:
+        return wrong
+    unit, size, place = facts["unit"], facts["rows"] * facts["cols"], facts["transform"]
+    products, judged, inputs = facts["products"], facts["judged"], facts["inputs"]
+    fits = {
+        "drain_gis": facts["drain_gis"] == VERSION, "tool": facts["tool"] in TOOLS,
+        "rows": 1 <= facts["rows"] <= MOST, "cols": 1 <= facts["cols"] <= MOST, "data": 1 <= facts["data"] <= size,
+        "products": products == [n for n in PRODUCTS if n in products],
+        "judged": bool(judged) and judged == [n for n in products if n in judged],
+        "unit": 0 <= unit["tens"] <= MOST_TENS and 0 <= unit["twos"] <= MOST_TWOS and abs(unit["offset"]) <= 2**75,
+        "per": 0 < facts["per"] < EXACT and ("acc" in products or facts["per"] == 1),
+        "plus": facts["plus"] in (0, 1) and ("acc" in products or not facts["plus"]),
+        "sinks": all(len(cell) == 2 and 0 <= min(cell) and max(cell) < MOST for cell in facts["sinks"]),
+        "inputs": all(len(one) == 3 and one[0] in ("dem", *PRODUCTS) and HEX.fullmatch(one[2]) for one in inputs),
+        "transform": not place or len(place) == 6 and all(abs(n) < 1e300 for n in place) and Affine(*place).determinant,
+        "completed": all(n in products and is_kind(k, int) and 0 <= k <= size for n, k in facts["completed"].items()),
+        "options": set(facts["options"]) == set(asdict(Options())),
+    }  # fmt: skip
+    return next((name for name, fit in fits.items() if not fit), "")
 
 
 def members(pairs: list[tuple[str, Any]]) -> dict[str, Any]:
@@ -122,22 +111,19 @@ def no_number(word: str) -> None:
 
 
 def facts_of(folder: Path) -> dict[str, Any]:
-    """The members of import.json, each of a kind that an import writes."""
+    """The members of import.json, each as an import writes it."""
     try:
         text = (folder / NAME).read_text(encoding="utf-8")
         facts = json.loads(text, object_pairs_hook=members, parse_constant=no_number)
-        if not isinstance(facts, dict) or set(facts) != set(CHECKS):
+        if not isinstance(facts, dict) or set(facts) != set(KINDS):
             raise ValueError("its members aren't those of this version")
-        wrong = next((name for name, check in CHECKS.items() if not check(facts[name])), None)
-        if wrong:
+        if wrong := wrong_member(facts):
             raise ValueError(f"{wrong} is {facts[wrong]!r:.60}")
-        facts["options"] = Options(**facts["options"])
-        fits = facts["data"] <= facts["rows"] * facts["cols"] and set(facts["judged"]) <= set(facts["products"])
-        if not fits or "acc" not in facts["products"] and (facts["per"], facts["plus"]) != (1, 0):
-            raise ValueError("its members don't fit each other")
-    except FileNotFoundError as error:
+        facts["options"], facts["unit"] = Options(**facts["options"]), Unit(**facts["unit"])
+        facts["crs"] = CRS.from_wkt(facts["crs"]) if facts["crs"] else None
+    except (FileNotFoundError, NotADirectoryError) as error:
         raise CannotJudge(f"{folder} has no {NAME}: it isn't a folder that drain-gis import wrote") from error
-    except (OSError, ValueError, RecursionError, CannotJudge) as error:
+    except (OSError, TypeError, ValueError, RecursionError, CannotJudge, RasterioError) as error:
         raise CannotJudge(f"{folder / NAME}: {error}: no import of this version wrote it. Import again") from error
     check_files(folder, facts)
     return facts
@@ -162,14 +148,13 @@ def read_record(folder: Path) -> Converted:
     """The set of a folder, to be judged: its arrays are those of the files."""
     facts = facts_of(folder)
     try:
-        one = Set.of_folder(
-            folder, facts["rows"], facts["cols"], facts["products"], [(row, col) for row, col in facts["sinks"]]
-        )
+        sinks = [(row, col) for row, col in facts["sinks"]]
+        one = Set.of_folder(folder, facts["rows"], facts["cols"], facts["products"], sinks)
     except (OSError, ValueError) as error:
         raise CannotJudge(f"{folder}: {error}: the folder was changed. Import again") from error
-    ground, unit = one.ground(0, facts["rows"]), Unit(**facts["unit"])
+    ground = one.ground(0, facts["rows"])
     dem = Layer("dem", np.ma.masked_equal(ground, VOID))
-    dem.path, dem.crs = facts["dem"] or None, CRS.from_wkt(facts["crs"]) if facts["crs"] else None
+    dem.path, dem.crs = facts["dem"] or None, facts["crs"]
     dem.transform = Affine(*facts["transform"]) if facts["transform"] else None
     layers = {"dem": dem} | {name: Layer(name, one.view(name)) for name in facts["judged"] if name != "dir"}
     if "dir" in facts["products"]:
@@ -178,12 +163,9 @@ def read_record(folder: Path) -> Converted:
             back[code] = number
         codes = one.view("dir")
         layers["dir"] = Layer("dir", np.ma.masked_array(back[codes], codes == NO_DIRECTION))
-    made = Converted(
-        one, layers, facts["tool"], tuple(facts["judged"]), facts["options"], unit=unit, notes=facts["notes"]
-    )
-    made.own_ground, made.per, made.plus, made.completed = (
-        facts[n] for n in ("own_ground", "per", "plus", "completed")
-    )
+    made = Converted(one, layers, facts["tool"], tuple(facts["judged"]), facts["options"], unit=facts["unit"])
+    for name in ("notes", "own_ground", "per", "plus", "completed"):
+        setattr(made, name, facts[name])
     made.data, made.inputs = ground != VOID, [(name, path, hash_) for name, path, hash_ in facts["inputs"]]
     if int(made.data.sum()) != facts["data"]:
         raise CannotJudge(

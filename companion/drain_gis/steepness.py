@@ -7,7 +7,7 @@ from typing import TYPE_CHECKING
 
 import numpy as np
 
-from .around import OUTLET, Around
+from .around import OUTLET, Around, Array
 from .grids import ground_sizes, in_degrees, is_square
 from .layers import Level
 from .tools import DISTANCES, TOOLS
@@ -15,11 +15,9 @@ from .tools import DISTANCES, TOOLS
 if TYPE_CHECKING:
     from .convert import Converted
 
-SAMPLE = 200_000
-"""About how many cells are looked at."""
-
+SAMPLE = 200_000  # about how many cells are looked at
+# How much larger a share has to be for a warning: by another tool's codes, and by another distance.
 MUCH_BETTER, BETTER = 0.2, 0.01
-"""How much larger a share has to be for a warning: by another tool's codes, and by another distance."""
 
 
 class Sample:
@@ -29,7 +27,7 @@ class Sample:
         rows, cols = made.data.shape
         many = max(1, SAMPLE // cols)
         picks = np.arange(rows) if many >= rows else np.sort(np.random.default_rng(1).choice(rows, many, replace=False))
-        self.rows, self.around, self.numbers = [], list[Around](), list[np.ndarray]()
+        self.rows, self.around, self.numbers = [], list[Around](), list[Array]()
         for row in picks:
             top = max(0, int(row) - 1)
             last = min(rows, int(row) + 2)
@@ -43,13 +41,13 @@ class Sample:
         self.lower = sum(int(one.lower.sum()) for one in self.around)
 
     @staticmethod
-    def heights(made: "Converted", top: int, rows: int) -> np.ndarray:
+    def heights(made: "Converted", top: int, rows: int) -> Array:
         """The heights of some rows: whole ones where there are such."""
         if "con" in made.set.products:
             return made.set.view("con")[top : top + rows]
         return made.layers.get("con", made.dem).window(top, rows)[0]
 
-    def codes(self, tool: str) -> list[np.ndarray]:
+    def codes(self, tool: str) -> list[Array]:
         """The codes of dir by a tool's numbers."""
         found = [np.full(numbers.shape, OUTLET, np.uint8) for numbers in self.numbers]
         for number, code in TOOLS[tool].codes.items():

@@ -9,10 +9,11 @@ import shutil
 import tempfile
 from dataclasses import dataclass
 from pathlib import Path
-from typing import TYPE_CHECKING
+from typing import TYPE_CHECKING, Any
 
 import numpy as np
 
+from .around import Array
 from .convert import least_surface
 from .drain import Answer, Program
 from .rules import NOT_FILLED, SOUND, cells
@@ -21,8 +22,7 @@ from .sets import STEPS_HELD, VOID, Set
 if TYPE_CHECKING:
     from .convert import Converted
 
-SLICE = STEPS_HELD
-"""Ranks of a slice; one more number says that a height lies below it."""
+SLICE = STEPS_HELD  # ranks of a slice; one more number says that a height lies below it
 
 
 @dataclass
@@ -30,19 +30,19 @@ class Finding:
     """An answer; after a rejection at how many cells each rule fails, the first of these, and the map."""
 
     answer: Answer
-    map: np.ndarray | None = None
+    map: Array | None = None
     rules: dict[int, tuple[int, tuple[int, int]]] | None = None
 
 
 class Surface:
     """con and the least surface of a set, in steps, and what is known of their difference."""
 
-    def __init__(self, made: "Converted", con: np.ndarray, least: np.ndarray, levels: np.ndarray | None = None) -> None:
+    def __init__(self, made: "Converted", con: Array, least: Any, levels: Array | None = None) -> None:
         """Of a set without a unit con and least are ranks in `levels`, -1 where there are none."""
         self.made, self.con, self.least, self.levels = made, con, least, levels
         self.none = VOID if levels is None else -1
 
-    def off(self, rows: slice) -> np.ndarray:
+    def off(self, rows: slice) -> Array:
         """How much con is above the least surface, in heights; NaN where one of them has none."""
         con, least = self.con[rows], self.least[rows]
         there = self.made.data[rows] & (con != self.none)
@@ -97,7 +97,7 @@ class Surface:
         return "as its own ground it has no depressions: breached, carved or raised surfaces are so, and drain"
 
 
-def ranks_of(made: "Converted") -> tuple[np.ndarray, np.ndarray, np.ndarray]:
+def ranks_of(made: "Converted") -> tuple[Array, Array, Array]:
     """dem and con as ranks among all their heights, -1 where they have none; and these heights."""
     kinds = []
     for name in ("dem", "con"):
@@ -115,14 +115,14 @@ def ranks_of(made: "Converted") -> tuple[np.ndarray, np.ndarray, np.ndarray]:
 
 
 def by_ranks(
-    made: "Converted", program: Program, work: Path, ground: np.ndarray, con: np.ndarray, levels: np.ndarray
+    made: "Converted", program: Program, work: Path, ground: Array, con: Array, levels: Array
 ) -> tuple[Finding, Surface]:
     """con judged above a ground, both as ranks: by `drain audit --only con` of each slice."""
     least, shown = con.copy(), np.zeros(con.shape, np.uint8)
     answers, slices = [], max(1, -(-levels.size // SLICE))
     for k in range(slices):
         place = Path(tempfile.mkdtemp(dir=work))
-        one = Set(*con.shape, place)
+        one = Set(made.dem.rows, made.dem.cols, place)
         one.sinks = made.set.sinks
         below, above = (np.clip(ranks - k * SLICE, -1, SLICE - 1) + VOID + 2 for ranks in (ground, con))
         one.put_ground(0, np.where(ground < 0, VOID, below))
@@ -156,7 +156,7 @@ def accepted_line(made: "Converted", counts: dict[str, int]) -> str:
     )
 
 
-def rules_of_map(shown: np.ndarray) -> dict[int, tuple[int, tuple[int, int]]]:
+def rules_of_map(shown: Any) -> dict[int, tuple[int, tuple[int, int]]]:
     """At how many cells a map has each rule, and the first of these."""
     found: dict[int, tuple[int, tuple[int, int]]] = {}
     counts = np.sum([np.bincount(line, minlength=256) for line in shown], axis=0)
