@@ -10,7 +10,7 @@ import numpy as np
 import pytest
 import worlds
 from conftest import COMPANION
-from drain_gis.drain import library
+from drain_gis.library import library
 
 SLOPE = np.array([[3, 2, 1]] * 3, np.int16)
 RIGHT = {
@@ -31,11 +31,10 @@ def test_an_assertion_says_where() -> None:
 
 def test_verdicts_are_true_exactly_if_right() -> None:
     world = worlds.random_world(voids=0)
-    assert drain_gis.audit_surface(world.dem, world.con)
-    low = drain_gis.audit_surface(world.dem, world.dem).low
-    assert np.array_equal(low, world.con > world.dem) and not drain_gis.audit_surface(world.dem, world.dem)
-    assert drain_gis.audit_flow(world.dir, world.acc, codes="esri")
-    assert not drain_gis.audit_flow(world.dir, world.acc + (world.acc > 5), codes="esri")
+    assert drain_gis.audit(world.dem, con=world.con) and drain_gis.audit(dir=world.dir, acc=world.acc, codes="esri")
+    low = drain_gis.audit(world.dem, con=world.dem)
+    assert not low and low.name == "NotFilled" and np.array_equal(low.map > 0, world.con > world.dem)
+    assert not drain_gis.audit(dir=world.dir, acc=world.acc + (world.acc > 5), codes="esri")
 
 
 def test_nothing_of_the_caller_is_changed() -> None:
@@ -63,7 +62,7 @@ def test_library_and_program_give_one_answer(monkeypatch: pytest.MonkeyPatch, ch
         answers = []
         for drawn in (True, False):
             if not drawn:
-                monkeypatch.setattr("drain_gis.verdict.audit_in_memory", lambda one: None)
+                monkeypatch.setattr("drain_gis.verdict.audit_in_memory", lambda one, program: None)
             verdict = drain_gis.audit(**world.given(), codes="esri", acc_counts="cells")
             assert verdict.is_packaged
             answers.append((verdict.line, str(verdict.rules), None if verdict.map is None else verdict.map.tobytes()))

@@ -55,9 +55,9 @@ def test_judge(files: dict[str, str], wrong: list[str], tmp_path: Path, world: w
 @pytest.mark.parametrize(
     ("names", "over"),
     [
-        ("dem con", "dem"), ("dem dir", "dem"), ("con", "con as its own ground"), ("con dir", "con as its own ground"),
-        ("dem con dir", "dem"), ("dem dir acc", "dem"), ("dem dir bas", "dem"), ("dem con dir bas", "dem"), ("dir", "no heights"),
-        ("dir acc", "no heights"), ("dir bas", "no heights"), ("dir acc bas", "no heights"),
+        ("dem con", "dem"), ("dem dir", "dem"), ("con", "itself"), ("con dir", "itself"),
+        ("dem con dir", "dem"), ("dem dir acc", "dem"), ("dem dir bas", "dem"), ("dem con dir bas", "dem"), ("dir", ""),
+        ("dir acc", ""), ("dir bas", ""), ("dir acc bas", ""),
     ],
 )  # fmt: skip
 def test_any_rasters_together(
