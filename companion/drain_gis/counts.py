@@ -2,7 +2,6 @@
 
 import tempfile
 from pathlib import Path
-from typing import TYPE_CHECKING
 
 import numpy as np
 
@@ -11,11 +10,9 @@ from .drain import Program
 from .errors import CannotJudge, OddRaster
 from .flow import Flow
 from .heights import EXACT
+from .job import Converted
 from .misplaced import Misplaced
 from .rules import cells
-
-if TYPE_CHECKING:
-    from .convert import Converted
 
 MOST_COUNT = 1 << 32  # one more than the largest count that 32 bits hold
 # By which part of itself a number may differ from a whole one; the same in single precision; the most at all.
@@ -29,7 +26,7 @@ SINGLE = 1 << 24  # from here on single precision doesn't hold all whole numbers
 SUM_SLACK = 8 * 2.0**-24
 
 
-def put_counts(made: "Converted", program: Program) -> None:
+def put_counts(made: Converted, program: Program) -> None:
     """Writes acc, and notes what was done."""
     choose_counting(made)
     counts, odd, near, signs, unsure = made.set.add("acc"), Misplaced(), 0, 0, 0
@@ -99,7 +96,7 @@ def cells_of(sizes: Array, per: float) -> tuple[Array, Array, Array]:
     return near.astype(np.uint64), np.abs(near - values) > slack, near != values
 
 
-def take_sums(made: "Converted", counts: Array, program: Program) -> None:
+def take_sums(made: Converted, counts: Array, program: Program) -> None:
     """Takes numbers that a sum in single precision may have rounded for the counts along dir that they stand for.
 
     A number counts as one if it differs from the sum of its inflow, as the tool has it, by no more than such a sum may.
@@ -137,7 +134,7 @@ def take_sums(made: "Converted", counts: Array, program: Program) -> None:
         )
 
 
-def area_of_cell(made: "Converted") -> float | None:
+def area_of_cell(made: Converted) -> float | None:
     """The area of a cell by the georeference, in units of the map squared."""
     return abs(made.dem.transform.determinant) if made.dem.transform else None
 
@@ -147,7 +144,7 @@ def is_area(number: float, area: float | None) -> bool:
     return area is not None and 0 < number < EXACT and abs(number - area) <= NEAR_AREA * area
 
 
-def choose_counting(made: "Converted") -> None:
+def choose_counting(made: Converted) -> None:
     """How numbers become counts: as the user says, or as the cells that get no water show."""
     choice, area = made.options.acc_counts, made.options.cell_area
     if area is not None and not (0 < area < EXACT and choice in ("auto", "area")):
@@ -167,7 +164,7 @@ def choose_counting(made: "Converted") -> None:
         guess_counting(made, found)
 
 
-def guess_counting(made: "Converted", found: dict[float, int]) -> None:
+def guess_counting(made: Converted, found: dict[float, int]) -> None:
     """Takes the most frequent number of a cell without water as what one cell counts: 0, 1, or the area of a cell."""
     number = max(found, key=lambda n: found[n])
     share = found[number] / sum(found.values())
@@ -192,7 +189,7 @@ def guess_counting(made: "Converted", found: dict[float, int]) -> None:
         made.notes.append(f"acc: {text}, taken for the area of a cell: each number is divided by it")
 
 
-def check_area(made: "Converted", number: float, text: str) -> None:
+def check_area(made: Converted, number: float, text: str) -> None:
     """Refuses a number that is neither the area of a cell nor the one that the user named for it."""
     named, area = made.options.cell_area, area_of_cell(made)
     if named is not None and not is_area(number, named):
@@ -204,7 +201,7 @@ def check_area(made: "Converted", number: float, text: str) -> None:
         )
 
 
-def counts_taken(made: "Converted") -> str:
+def counts_taken(made: Converted) -> str:
     """What the numbers of acc were taken for, as the end of an answer's first line; "" where acc isn't judged."""
     if "acc" not in made.judged:
         return ""

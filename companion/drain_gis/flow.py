@@ -5,23 +5,20 @@ Where a path can't go on (a number that is no code, a cell of a ring), it is cut
 
 import tempfile
 from pathlib import Path
-from typing import TYPE_CHECKING
 
 import numpy as np
 
 from .around import CODES, NO_CODE, NO_DIRECTION, OUTLET, STEPS, Array, bands, opposite, shifted
-from .drain import Answer, Program
-from .rules import cells
+from .drain import Answer, Finding, Program, accepted_line
+from .job import Converted
+from .rules import NO_END, RULES, SOUND, cells
 from .sets import Product
-
-if TYPE_CHECKING:
-    from .convert import Converted
 
 
 class Flow:
     """acc and bas along the dir of a set, in a temporary folder."""
 
-    def __init__(self, made: "Converted", program: Program, work: Path) -> None:
+    def __init__(self, made: Converted, program: Program, work: Path) -> None:
         one, self.frame = made.set, made.set.frame
         self.data, self.codes = made.data, np.ascontiguousarray(one.view("dir"))
         off = np.zeros(self.data.shape, bool)
@@ -140,7 +137,7 @@ def ring_cells(codes: Array, data: Array) -> Array:
     return np.flatnonzero(moving)
 
 
-def flow_text(made: "Converted", flow: Flow) -> tuple[bool, str]:
+def flow_text(made: Converted, flow: Flow) -> tuple[bool, str]:
     """Whether all paths end, and acc and bas are those along dir; in words."""
     wrong = []
     if len(flow.ring) or len(flow.strange):
@@ -162,7 +159,7 @@ def flow_text(made: "Converted", flow: Flow) -> tuple[bool, str]:
     return not wrong, "; ".join(wrong) or f"every path ends{right}; water ends at {cells(flow.ends)}"
 
 
-def acc_text(made: "Converted", flow: Flow) -> list[str]:
+def acc_text(made: Converted, flow: Flow) -> list[str]:
     """How acc differs from the counts along dir."""
     counts, least = made.set.view("acc"), stream_least(made)
     many = lost = over = streams = outlets = 0
@@ -187,6 +184,47 @@ def acc_text(made: "Converted", flow: Flow) -> list[str]:
     return [f"acc differs at {cells(many)}, {', '.join(sizes)}; {at}; {first}"]
 
 
-def stream_least(made: "Converted") -> int:
+def stream_least(made: Converted) -> int:
     """How many cells drain through a cell of a stream, at least."""
     return max(20, int(made.data.sum()) // 1000)
+
+
+def judge_flow(made: Converted, flow: Flow) -> Finding:
+    """Accepted exactly if every path ends, and acc and bas are those of dir at each cell with data and no other."""
+    shown = np.zeros(made.data.shape, np.uint8)
+    found: dict[int, tuple[int, tuple[int, int]]] = {}
+
+    def put(band: slice, where: Array, number: int) -> None:
+        if not where.any():
+            return
+        row, col = np.argwhere(where)[0]
+        many, first = found.get(number, (0, (band.start + int(row), int(col))))
+        found[number] = many + int(where.sum()), first
+        shown[band][where & ((shown[band] == SOUND) | (shown[band] > number))] = number
+
+    along = [name for name in ("acc", "bas") if name in made.set.products]
+    shared = flow.label_faults(made.set.view("bas"))[1] if "bas" in along else np.zeros(0, np.int64)
+    at = {15: shared, NO_END: flow.ring}
+    for band, around, inner in bands(*shown.shape):
+        data, numbers = made.data[band], {name: made.set.view(name) for name in along}
+        put(band, ~data & np.logical_or.reduce([numbers[n][band] != 0 for n in along] or [~data & data]), 1)
+        put(band, data & np.logical_or.reduce([numbers[n][band] == 0 for n in along] or [~data & data]), 2)
+        put(band, data & (made.set.view("dir")[band] == NO_CODE), 3)
+        if "acc" in along:
+            put(band, flow.wrong_counts(numbers["acc"], band, around, inner), 13)
+        if "bas" in along:
+            put(band, flow.wrong_labels(numbers["bas"], around, inner) & data, 14)
+        for number, listed in at.items():
+            here = np.zeros(data.shape, bool)
+            start, stop = (edge * data.shape[1] for edge in (band.start, band.stop))
+            here.reshape(-1)[listed[(listed >= start) & (listed < stop)] - start] = True
+            put(band, here, number)
+    if flow.endless:
+        return Finding(flow.endless, shown, found)
+    if not found:
+        counts = {"data": int(made.data.sum()), "outlets": int(((flow.codes == OUTLET) & made.data).sum())}
+        return Finding(Answer(accepted_line(made.dem.rows, made.dem.cols, counts), True, counts))
+    row, col = divmod(int((shown != SOUND).argmax()), shown.shape[1])
+    number = int(shown[row, col])
+    line = f"rejected rule={number} {RULES[number].name} row={row} col={col}"
+    return Finding(Answer(line, False, {}, number, RULES[number].name, row, col), shown, found)

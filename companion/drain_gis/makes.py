@@ -8,10 +8,11 @@ from typing import Any
 import numpy as np
 
 from .around import NO_DIRECTION, OUTLET, Array
-from .convert import Converted, Options, begin, convert, put_heights
+from .convert import begin, convert, put_heights
 from .drain import Program
 from .errors import CannotJudge
 from .flow import Flow
+from .job import Converted, Options
 from .layers import Layer, Level, drivers_of, layer_of
 from .maps import write_raster, written_whole
 from .sets import PRODUCTS, Product

@@ -1,15 +1,12 @@
 """No-data numbers in cells with an elevation, and numbers in voids."""
 
-from typing import TYPE_CHECKING
 
 import numpy as np
 
 from .around import Array
+from .job import Converted
 from .rules import cells
 from .tools import TOOLS
-
-if TYPE_CHECKING:
-    from .convert import Converted
 
 
 class Misplaced:
@@ -27,7 +24,7 @@ class Misplaced:
             if number.item() in self.numbers or len(self.numbers) < 1000:
                 self.numbers[number.item()] = self.numbers.get(number.item(), 0) + int(many)
 
-    def tell(self, made: "Converted", name: str) -> None:
+    def tell(self, made: Converted, name: str) -> None:
         """Notes what was found."""
         if self.missing:
             rim = name == "dir" and TOOLS[made.tool].blank_rim and not made.options.complete_rim

@@ -13,9 +13,9 @@ from rasterio.errors import RasterioError
 from rasterio.transform import Affine
 
 from .around import NO_DIRECTION
-from .convert import Converted, Options
 from .errors import CannotJudge
 from .heights import EXACT, MOST_TENS, MOST_TWOS, Unit
+from .job import Converted, Options
 from .layers import MOST, Layer
 from .sets import PRODUCTS, VOID, Set, frame_of
 from .tools import TOOLS

@@ -3,17 +3,14 @@
 It explains an answer, and decides nothing.
 """
 
-from typing import TYPE_CHECKING
 
 import numpy as np
 
 from .around import OUTLET, Around, Array
 from .grids import ground_sizes, in_degrees, is_square
+from .job import Converted
 from .layers import Level
 from .tools import DISTANCES, TOOLS
-
-if TYPE_CHECKING:
-    from .convert import Converted
 
 SAMPLE = 200_000  # about how many cells are looked at
 # How much larger a share has to be for a warning: by another tool's codes, and by another distance.
@@ -23,7 +20,7 @@ MUCH_BETTER, BETTER = 0.2, 0.01
 class Sample:
     """The neighbours of some cells, all of some rows, and what dir says there."""
 
-    def __init__(self, made: "Converted") -> None:
+    def __init__(self, made: Converted) -> None:
         rows, cols = made.data.shape
         many = max(1, SAMPLE // cols)
         picks = np.arange(rows) if many >= rows else np.sort(np.random.default_rng(1).choice(rows, many, replace=False))
@@ -41,7 +38,7 @@ class Sample:
         self.lower = sum(int(one.lower.sum()) for one in self.around)
 
     @staticmethod
-    def heights(made: "Converted", top: int, rows: int) -> Array:
+    def heights(made: Converted, top: int, rows: int) -> Array:
         """The heights of some rows: whole ones where there are such."""
         if "con" in made.set.products:
             return made.set.view("con")[top : top + rows]
@@ -60,7 +57,7 @@ class Sample:
         hits = sum(int(one.is_steepest(codes).sum()) for one, codes in zip(self.around, self.codes(tool)))
         return hits / max(1, self.lower)
 
-    def share_by(self, tool: str, made: "Converted", ground: bool) -> float:
+    def share_by(self, tool: str, made: Converted, ground: bool) -> float:
         """The same by distances on the ground, or by the cell sizes of the header."""
         hits, t = 0, made.dem.transform
         for one, codes, rows in zip(self.around, self.codes(tool), self.rows):
@@ -69,12 +66,12 @@ class Sample:
         return hits / max(1, self.lower)
 
 
-def can_sample(made: "Converted") -> bool:
+def can_sample(made: Converted) -> bool:
     """Whether there are directions and heights, in the user's own rasters."""
     return "dir" in made.layers and not isinstance(made.dem, Level)
 
 
-def shares_text(made: "Converted") -> None:
+def shares_text(made: Converted) -> None:
     """Notes, of a DEM in degrees or with cells that aren't square, how many cells go steepest by each distance."""
     if not can_sample(made) or not (in_degrees(made.dem) or not is_square(made.dem)):
         return
@@ -95,7 +92,7 @@ def shares_text(made: "Converted") -> None:
     made.notes.append(text)
 
 
-def better_codes(made: "Converted") -> str:
+def better_codes(made: Converted) -> str:
     """Whether another tool's codes fit much better: asked after a rejection."""
     if not can_sample(made):
         return ""

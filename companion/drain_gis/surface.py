@@ -7,37 +7,25 @@ surface exactly if it is in every slice.
 
 import shutil
 import tempfile
-from dataclasses import dataclass
 from pathlib import Path
-from typing import TYPE_CHECKING, Any
+from typing import Any
 
 import numpy as np
 
 from .around import Array
 from .convert import least_surface
-from .drain import Answer, Program
+from .drain import Answer, Finding, Program, accepted_line, rules_of_map
+from .job import Converted
 from .rules import NOT_FILLED, SOUND, cells
 from .sets import STEPS_HELD, VOID, Set
 
-if TYPE_CHECKING:
-    from .convert import Converted
-
 SLICE = STEPS_HELD  # ranks of a slice; one more number says that a height lies below it
-
-
-@dataclass
-class Finding:
-    """An answer; after a rejection at how many cells each rule fails, the first of these, and the map."""
-
-    answer: Answer
-    map: Array | None = None
-    rules: dict[int, tuple[int, tuple[int, int]]] | None = None
 
 
 class Surface:
     """con and the least surface of a set, in steps, and what is known of their difference."""
 
-    def __init__(self, made: "Converted", con: Array, least: Any, levels: Array | None = None) -> None:
+    def __init__(self, made: Converted, con: Array, least: Any, levels: Array | None = None) -> None:
         """Of a set without a unit con and least are ranks in `levels`, -1 where there are none."""
         self.made, self.con, self.least, self.levels = made, con, least, levels
         self.none = VOID if levels is None else -1
@@ -97,7 +85,7 @@ class Surface:
         return "as its own ground it has no depressions: breached, carved or raised surfaces are so, and drain"
 
 
-def ranks_of(made: "Converted") -> tuple[Array, Array, Array]:
+def ranks_of(made: Converted) -> tuple[Array, Array, Array]:
     """dem and con as ranks among all their heights, -1 where they have none; and these heights."""
     kinds = []
     for name in ("dem", "con"):
@@ -115,7 +103,7 @@ def ranks_of(made: "Converted") -> tuple[Array, Array, Array]:
 
 
 def by_ranks(
-    made: "Converted", program: Program, work: Path, ground: Array, con: Array, levels: Array
+    made: Converted, program: Program, work: Path, ground: Array, con: Array, levels: Array
 ) -> tuple[Finding, Surface]:
     """con judged above a ground, both as ranks: by `drain audit --only con` of each slice."""
     least, shown = con.copy(), np.zeros(con.shape, np.uint8)
@@ -144,26 +132,9 @@ def by_ranks(
     wrong = [answer for answer in answers if not answer.accepted]
     if not wrong:
         counts = {"data": int((ground >= 0).sum()), "raised": int((con > ground).sum())}
-        return Finding(Answer(accepted_line(made, counts), True, counts)), surface
+        return Finding(Answer(accepted_line(made.dem.rows, made.dem.cols, counts), True, counts)), surface
     first = min(wrong, key=lambda answer: (answer.rule or 99, answer.row, answer.col))
     return Finding(first, shown, rules_of_map(shown)), surface
-
-
-def accepted_line(made: "Converted", counts: dict[str, int]) -> str:
-    """The line of an acceptance, as `drain` prints one."""
-    return " ".join(
-        ["accepted", f"rows={made.dem.rows}", f"cols={made.dem.cols}", *(f"{k}={n}" for k, n in counts.items())]
-    )
-
-
-def rules_of_map(shown: Any) -> dict[int, tuple[int, tuple[int, int]]]:
-    """At how many cells a map has each rule, and the first of these."""
-    found: dict[int, tuple[int, tuple[int, int]]] = {}
-    counts = np.sum([np.bincount(line, minlength=256) for line in shown], axis=0)
-    for number in np.flatnonzero(counts[1:255]) + 1:
-        at = int((shown == number).argmax())
-        found[int(number)] = int(counts[number]), divmod(at, shown.shape[1])
-    return found
 
 
 def add_low_cells(finding: Finding, surface: Surface) -> None:
