@@ -67,7 +67,7 @@ def test_any_rasters_together(
     done, judged = command("judge", *worlds.words(given)), ", ".join(name for name in names.split() if name != "dem")
     assert done.status == 0 and f"judged: {judged} over {over}" in done.out, done
     a = np.where(world.void, -9999, getattr(world, names.split()[-1]))
-    a[world.cells()[-33]] += 1
+    a[world.cells()[-33]] += -50 if names.endswith("con") else 1
     given[names.split()[-1]] = worlds.write_tif(tmp_path / "odd.tif", a.astype(np.int32), -9999)
     done = command("judge", *worlds.words(given), "--acc-counts", "cells", *outputs(tmp_path))
     assert done.status == 1 and {"r.html", "m.tif", "p.png"} <= {path.name for path in tmp_path.iterdir()}, done
