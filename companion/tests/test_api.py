@@ -95,5 +95,10 @@ def test_examples_run(tmp_path: Path) -> None:
     """What companion/examples shows can be done as it is written."""
     for path in sorted((COMPANION / "examples").glob("test_*.py")):
         words = [sys.executable, "-m", "pytest", "-q", "-p", "no:cacheprovider", "-c", "/dev/null", str(path)]
-        done = subprocess.run(words, env={**os.environ, "PYTHONPATH": str(COMPANION)}, capture_output=True, text=True)
+        done = subprocess.run(
+            words,
+            env={**os.environ, "PYTHONPATH": str(Path(drain_gis.__file__).parents[1])},
+            capture_output=True,
+            text=True,
+        )
         assert done.returncode == 0, done.stdout

@@ -82,27 +82,6 @@ def test_products(imported: Imported, name: str) -> None:
         assert name == "con" or np.array_equal(found[data], right[data])
 
 
-def test_ground(imported: Imported) -> None:
-    """The tiles, by their names: the degree in the name is the place in tiles. Seams have to agree."""
-    whole: dict[tuple[int, int], int] = {}
-    names = list(imported.out.rglob("*.hgt"))
-    down = max(int(path.name[1:3]) for path in names) + 1
-    for path in names:
-        side = round((path.stat().st_size // 2) ** 0.5)
-        north, east = int(path.name[1:3]), int(path.name[4:7])
-        for (i, j), sample in np.ndenumerate(numbers_of(path, ">h", side)):
-            cell = (down - 1 - north) * (side - 1) + i, east * (side - 1) + j
-            assert whole.setdefault(cell, int(sample)) == sample, f"a seam differs at {cell}"
-    first, dem = imported.world.cells()[0], imported.world.dem
-    assert len(whole) == imported.shape[0] * imported.shape[1] and max(whole) == (
-        imported.shape[0] - 1,
-        imported.shape[1] - 1,
-    )
-    for cell, sample in whole.items():
-        outside = cell[0] >= ROWS or cell[1] >= COLS or imported.void[cell]
-        assert sample == (-32768 if outside else dem[cell] + whole[first] - dem[first])
-
-
 def test_sinks_and_facts(imported: Imported) -> None:
     """PCRaster has one number for outlets and sinks: all cells where water ends are listed."""
     ends = np.argwhere((imported.world.dir == 0) & ~imported.void)

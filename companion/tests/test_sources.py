@@ -5,7 +5,6 @@ from tempfile import TemporaryDirectory
 from typing import Any
 
 import drain_gis
-import libraries
 import numpy as np
 import pytest
 import rasterio
@@ -73,19 +72,6 @@ def test_faults_of_a_data_array_are_one(tmp_path: Path, world: worlds.World) -> 
     faults = drain_gis.audit(dem, con=world.masked("dem")).faults
     assert isinstance(faults, xarray.DataArray) and faults.rio.crs.to_epsg() == 32616
     assert np.array_equal(faults.x, dem.x) and np.array_equal(faults.y, dem.y)
-
-
-def test_windows_are_seamless(monkeypatch: pytest.MonkeyPatch, tmp_path: Path) -> None:
-    world = worlds.random_world(seed=3)
-    off = np.ma.array(world.leading_off(), mask=world.void)
-    blank = np.ma.array(world.dir, mask=world.void | libraries.open_cells(world.void))
-    paths = worlds.write_set(tmp_path, world)
-    for cells in (1, 40, 100, 10**6):
-        monkeypatch.setattr(layers, "WINDOW_CELLS", cells)
-        assert drain_gis.audit(**{**world.given(), "dir": off, "acc": world.masked("acc") - 1.0}, codes="esri")
-        assert drain_gis.audit(**{**world.given("con"), "dir": blank}, complete_rim=True, codes="esri")
-        assert drain_gis.audit(**paths, codes="esri")
-        assert drain_gis.audit(dir=off, acc=world.masked("acc"), bas=world.masked("bas"), codes="esri")
 
 
 def part(folder: Path, name: str, a: np.ndarray, row: int, col: int, **more: Any) -> str:

@@ -110,15 +110,6 @@ def test_codes_of_another_tool_are_rejected_and_the_likely_one_is_named() -> Non
     assert not verdict and "WARNING" in str(verdict) and "is it esri or terraflow or terra" in str(verdict)
 
 
-@pytest.mark.parametrize(("number", "text"), [(1.25, "1 cell"), (3, "1 cell")])
-def test_a_number_that_is_no_code(number: float, text: str) -> None:
-    world = worlds.random_world()
-    codes = world.dir.astype(np.float64)
-    codes[next(cell for cell in world.cells() if world.dir[cell] == 1)] = number
-    verdict = drain_gis.audit(**{**world.given("con"), "dir": np.ma.array(codes, mask=world.void)}, codes="esri")
-    assert not verdict and any(note.startswith(f"dir: {text}") and "no code of esri" in note for note in verdict.notes)
-
-
 @pytest.mark.parametrize("codes", [None, "arc", ""])
 def test_directions_need_codes(codes: str | None) -> None:
     world = worlds.random_world()
