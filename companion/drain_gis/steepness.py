@@ -18,52 +18,44 @@ MUCH_BETTER, BETTER = 0.2, 0.01
 
 
 class Sample:
-    """The neighbours of some cells, all of some rows, and what dir says there."""
+    """The neighbours of the cells of some rows, and what dir says there. Rows stand in threes, the picked one amid."""
 
     def __init__(self, made: Converted) -> None:
         rows, cols = made.data.shape
-        many = max(1, SAMPLE // cols)
+        many, whole = max(1, SAMPLE // cols), "con" in made.set.products
         picks = np.arange(rows) if many >= rows else np.sort(np.random.default_rng(1).choice(rows, many, replace=False))
-        self.rows, self.around, self.numbers = [], list[Around](), list[Array]()
-        for row in picks:
-            top = max(0, int(row) - 1)
-            last = min(rows, int(row) + 2)
-            heights = self.heights(made, top, last - top)
-            numbers, none = made.layers["dir"].window(int(row), 1)
-            at = np.flatnonzero(made.data[row] & ~none[0])
-            cells = np.stack([np.full(at.size, row - top), at], axis=1)
-            self.rows.append(np.full(at.size, row))
-            self.around.append(Around(cells, heights, made.data[top:last]))
-            self.numbers.append(numbers[0, at])
-        self.lower = sum(int(one.lower.sum()) for one in self.around)
+        heights, data = np.zeros((3 * picks.size, cols)), np.zeros((3 * picks.size, cols), bool)
+        known, found = [], []
+        for i, row in enumerate(picks.tolist()):
+            top, last = max(0, row - 1), min(rows, row + 2)
+            here = slice(3 * i + top - row + 1, 3 * i + last - row + 1)
+            layer = made.layers.get("con", made.dem)
+            heights[here] = made.set.view("con")[top:last] if whole else layer.window(top, last - top)[0]
+            data[here] = made.data[top:last]
+            numbers, none = made.layers["dir"].window(row, 1)
+            known.append(~none[0] & made.data[row])
+            found.append(numbers[0])
+        at = np.argwhere(np.stack(known))
+        self.rows, self.numbers = picks[at[:, 0]], np.stack(found)[tuple(at.T)]
+        self.around = Around(np.stack([3 * at[:, 0] + 1, at[:, 1]], axis=1), heights, data)
+        self.lower = max(1, int(self.around.lower.sum()))
 
-    @staticmethod
-    def heights(made: Converted, top: int, rows: int) -> Array:
-        """The heights of some rows: whole ones where there are such."""
-        if "con" in made.set.products:
-            return made.set.view("con")[top : top + rows]
-        return made.layers.get("con", made.dem).window(top, rows)[0]
-
-    def codes(self, tool: str) -> list[Array]:
+    def codes(self, tool: str) -> Array:
         """The codes of dir by a tool's numbers."""
-        found = [np.full(numbers.shape, OUTLET, np.uint8) for numbers in self.numbers]
+        codes = np.full(self.numbers.shape, OUTLET, np.uint8)
         for number, code in TOOLS[tool].codes.items():
-            for codes, numbers in zip(found, self.numbers):
-                codes[numbers == number] = code
-        return found
+            codes[self.numbers == number] = code
+        return codes
 
     def share(self, tool: str) -> float:
         """The share of the cells with a lower neighbour that go a steepest way, by unit spacing."""
-        hits = sum(int(one.is_steepest(codes).sum()) for one, codes in zip(self.around, self.codes(tool)))
-        return hits / max(1, self.lower)
+        return int(self.around.is_steepest(self.codes(tool)).sum()) / self.lower
 
     def share_by(self, tool: str, made: Converted, ground: bool) -> float:
         """The same by distances on the ground, or by the cell sizes of the header."""
-        hits, t = 0, made.dem.transform
-        for one, codes, rows in zip(self.around, self.codes(tool), self.rows):
-            widths, height = ground_sizes(made.dem, rows) if ground else (np.full(rows.shape, abs(t.a)), abs(t.e))
-            hits += int(one.is_steepest_by(codes, widths, height).sum())
-        return hits / max(1, self.lower)
+        t, rows = made.dem.transform, self.rows
+        widths, height = ground_sizes(made.dem, rows) if ground else (np.full(rows.shape, abs(t.a)), abs(t.e))
+        return int(self.around.is_steepest_by(self.codes(tool), widths, height).sum()) / self.lower
 
 
 def can_sample(made: Converted) -> bool:
@@ -76,8 +68,6 @@ def shares_text(made: Converted) -> None:
     if not can_sample(made) or not (in_degrees(made.dem) or not is_square(made.dem)):
         return
     sample, tool = Sample(made), TOOLS[made.tool]
-    if not sample.lower:
-        return
     shares = {"unit": sample.share(made.tool)}
     if not is_square(made.dem):
         shares["cells"] = sample.share_by(made.tool, made, ground=False)
