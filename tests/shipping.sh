@@ -98,8 +98,8 @@ fixtures=$top/companion/tests/fixtures
 # Judges what SAGA made by a command drain-gis, with nothing else on the PATH and no other package: it is accepted without acc and bas.
 judges_samples() {
     local words=(judge --from saga --dem "$fixtures/dem.tif" --con "$fixtures/saga-con.tif" --dir "$fixtures/saga-dir.tif")
-    ends 0 'accepted rows=49 cols=61 data=2842 raised=35 outlets=17' env -i PATH=/usr/bin:/bin "$1" "${words[@]}" &&
-        ends 1 'rejected rule=13 Accumulation row=0 col=1' env -i PATH=/usr/bin:/bin "$1" "${words[@]}" --acc "$fixtures/saga-acc.tif"
+    ends 0 'accepted rows=49 cols=61 data=2842 raised=35 outlets=17' env -i PATH=/usr/bin:/bin PYTHONDONTWRITEBYTECODE=1 "$1" "${words[@]}" &&
+        ends 1 'rejected rule=13 Accumulation row=0 col=1' env -i PATH=/usr/bin:/bin PYTHONDONTWRITEBYTECODE=1 "$1" "${words[@]}" --acc "$fixtures/saga-acc.tif"
 }
 has_companion() { "${1:-/usr/bin/python3}" -c 'import rasterio, matplotlib, jinja2, click, tqdm' 2>/dev/null; }
 if has_companion; then

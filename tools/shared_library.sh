@@ -24,7 +24,7 @@ names=$(grep -oE '^(uint32_t|size_t) drain_[a-z_]+\(' "$here/../crates/drain_c/i
 echo "{ global: ${names//$'\n'/; }; local: *; };" >"$scratch/shown"
 gcc -shared -o "$scratch/shared" -Wl,--version-script="$scratch/shown" -Wl,-soname,libdrain.so.0 -Wl,-z,defs,-z,noexecstack,-z,relro,-z,now \
     -Wl,--build-id=none -Wl,--whole-archive "$archive" -Wl,--no-whole-archive
-strip --strip-unneeded "$scratch/shared"
+strip --strip-unneeded -R .comment "$scratch/shared"
 if objdump -p "$scratch/shared" | grep -q TEXTREL; then
     echo "$archive is not position independent" >&2
     exit 1
