@@ -14,7 +14,7 @@ NEEDED = {"ssse3", "sse4_1", "sse4_2", "popcnt", "cx16"}  # what the library use
 class Bytes(ctypes.Structure):
     """drain_bytes."""
 
-    _fields_ = [("at", ctypes.c_void_p), ("length", ctypes.c_size_t)]
+    _fields_ = [("at", ctypes.c_void_p), ("length", ctypes.c_size_t), ("missing", ctypes.c_size_t)]
 
 
 class Tile(ctypes.Structure):
@@ -37,11 +37,15 @@ class LibraryAnswer(ctypes.Structure):
 
 @cache
 def library() -> Any:
-    """libdrain.so; None where the wheel has none, or the processor may lack an instruction."""
+    """libdrain.so; None where the wheel has none, another one, or the processor may lack an instruction."""
     path = HOME / "libdrain.so"
     if not path.is_file() or not is_new_enough():
         return None
-    found = ctypes.CDLL(str(path))
+    found, answer = ctypes.CDLL(str(path)), LibraryAnswer()
+    if hasattr(found, "drain_answer_layout"):
+        size = found.drain_answer_layout(ctypes.byref(answer))
+        if (size, answer.status, answer.rule, answer.row, answer.col) != (ctypes.sizeof(answer), 0, 4, 8, 12):
+            return None
     found.drain_audit.restype = ctypes.c_uint32
     found.drain_audit.argtypes = [ctypes.c_uint32, ctypes.c_void_p, ctypes.c_size_t, ctypes.c_char_p, ctypes.c_size_t]
     found.drain_audit.argtypes += [ctypes.c_void_p, ctypes.POINTER(LibraryAnswer)]
