@@ -91,7 +91,7 @@ def test_sinks_and_facts(imported: Imported) -> None:
         [name, path, hashlib.sha256(Path(path).read_bytes()).hexdigest()] for name, path in imported.paths.items()
     ]
     assert sorted(imported.facts["inputs"]) == sorted(hashes) and imported.facts["data"] == (~imported.void).sum()
-    notes = [line[2:] for line in imported.done.out.splitlines() if re.match("  [a-z]+: ", line)]
+    notes = [line[2:] for line in imported.done.out.split("wrote ")[0].splitlines()]
     assert notes and notes == imported.facts["notes"]
 
 
@@ -195,11 +195,11 @@ def test_a_conversion_that_is_wrong_is_noticed(
     plain = sets.Set.add
 
     class Off(np.ndarray):
-        """Each window's last number is put as another."""
+        """Each window's middle number is put as another."""
 
         def __setitem__(self, key: Any, value: Any) -> None:
             value = np.array(value)
-            value[(-1,) * value.ndim] ^= 1
+            value.flat[value.size // 2] ^= 1
             super().__setitem__(key, value)
 
     monkeypatch.setattr(sets.Set, "add", lambda one, name: plain(one, name).view(Off if name == wrong else np.ndarray))

@@ -18,6 +18,8 @@
         <paletteEntry value="13" color="#d71e90" alpha="255" label="13 Accumulation: wrong count"/>
         <paletteEntry value="14" color="#63c672" alpha="255" label="14 Label: label differs from the next cell downstream"/>
         <paletteEntry value="15" color="#c0faa6" alpha="255" label="15 SharedLabel: another outlet's"/>
+        <paletteEntry value="16" color="#675857" alpha="255" label="NoEnd: a path stops or goes round"/>
+        <paletteEntry value="17" color="#acaea8" alpha="255" label="NotFilled: con too low"/>
       </colorPalette>
     </rasterrenderer>
     <brightnesscontrast brightness="0" contrast="0" gamma="1"/>
