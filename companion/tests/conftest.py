@@ -79,3 +79,17 @@ def small_disk() -> Iterator[Callable[[int], None]]:
     yield lambda size: resource.setrlimit(resource.RLIMIT_FSIZE, (size, old[1]))
     resource.setrlimit(resource.RLIMIT_FSIZE, old)
     signal.signal(signal.SIGXFSZ, old_signal)
+
+
+@pytest.fixture(autouse=True)
+def at_most_two_minutes() -> Iterator[None]:
+    """A test that doesn't end fails."""
+
+    def late(number: int, frame: object) -> None:
+        raise TimeoutError("two minutes are over")
+
+    before = signal.signal(signal.SIGALRM, late)
+    signal.alarm(120)
+    yield
+    signal.alarm(0)
+    signal.signal(signal.SIGALRM, before)

@@ -192,19 +192,20 @@ def test_a_conversion_that_is_wrong_is_noticed(
     monkeypatch: pytest.MonkeyPatch, tmp_path: Path, files: Any, wrong: str
 ) -> None:
     """The read-back knows none of the import's conversions; the import leaves nothing."""
-    plain = sets.Set.add
+    plain, spoilt = sets.Set.add, []
 
     class Off(np.ndarray):
-        """Each window's middle number is put as another."""
+        """The middle number of the first window is put as another."""
 
         def __setitem__(self, key: Any, value: Any) -> None:
             value = np.array(value)
-            value.flat[value.size // 2] ^= 1
+            value.flat[value.size // 2] ^= not spoilt
+            spoilt.append(True)
             super().__setitem__(key, value)
 
     monkeypatch.setattr(sets.Set, "add", lambda one, name: plain(one, name).view(Off if name == wrong else np.ndarray))
     done = command("import", *worlds.words(files), tmp_path / "out")
-    assert done.status == 2 and re.search(f"companion's own.*{wrong}: ", done.error), done
+    assert done.status == 2 and re.search(f"fault of drain-gis itself.*{wrong}: ", done.error), done
     assert not [path for path in tmp_path.iterdir() if "out" in path.name]
 
 

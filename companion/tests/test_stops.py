@@ -28,6 +28,8 @@ def waiting(*words, **more):
     time.sleep(60)
     return result
 module.{function} = waiting
+if hasattr(cli, "{function}"):
+    cli.{function} = waiting
 cli.run()
 """
 
