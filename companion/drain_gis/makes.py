@@ -1,7 +1,7 @@
 """Right rasters: those of `drain make`, and acc and bas of `drain derive`, as GeoTIFFs in the source's grid and a tool's codes."""
 
 import tempfile
-from collections.abc import Iterator, Mapping
+from collections.abc import Iterable, Iterator, Mapping
 from pathlib import Path
 from typing import Any
 
@@ -118,8 +118,11 @@ def check_outs(outs: Mapping[str, Path], names: tuple[str, ...], layers: list[La
     check_apart(outs.values(), [path for layer in layers for path in layer.files()])
 
 
-def check_apart(outs: Any, sources: list[str]) -> None:
-    """Refuses to replace a file that is read."""
+def check_apart(outs: Iterable[str | Path], sources: Iterable[str | Path]) -> None:
+    """Refuses to replace a file that is read, or one output by another."""
+    outs, sources = list(outs), list(sources)
+    if len({Path(out).resolve() for out in outs}) < len(outs):
+        raise CannotJudge(f"{', '.join(map(str, outs))}: each output needs a name of its own")
     for out in outs:
         for source in sources:
             if Path(out).exists() and Path(out).samefile(source):
