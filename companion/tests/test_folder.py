@@ -154,6 +154,13 @@ def test_a_file_that_is_missing_or_changed(changed: Imported, name: str) -> None
         assert done.status in (2, 3) and done.out == "" and "Traceback" not in done.error, done
 
 
+def test_no_output_replaces_a_file_of_the_import(changed: Imported) -> None:
+    for path in [*changed.out.iterdir(), *map(Path, changed.paths.values())]:
+        before = path.read_bytes()
+        assert command("judge", changed.out, "--out", path).status == 2 and path.read_bytes() == before, path
+    assert command("judge", changed.out, "--out", changed.out / "faults.tif").status == 2
+
+
 def test_an_acceptance_of_other_cells_is_none(changed: Imported) -> None:
     """All rasters voided alike would be accepted: of other cells than those that were imported."""
     for path in changed.out.rglob("*.hgt"):
