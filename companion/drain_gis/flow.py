@@ -20,7 +20,7 @@ class Flow:
 
     def __init__(self, made: Converted, program: Program, work: Path) -> None:
         one, self.frame = made.set, made.set.frame
-        self.data, self.codes = made.data, np.ascontiguousarray(one.view("dir"))
+        self.data, self.codes = made.data, np.array(one.view("dir"))
         off = np.zeros(self.data.shape, bool)
         for code in CODES:
             off_by_code = self.codes == code
