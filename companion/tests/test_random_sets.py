@@ -173,7 +173,7 @@ def test_flow_is_that_of_libraries(terrain: Any, changed: str) -> None:
     assert bool(verdict) == (not libraries.flow_faults(codes, products, void)), str(verdict)
 
 
-@settings(max_examples=80)
+@settings(max_examples=35)
 @given(
     terrains(),
     st.sampled_from(["f4", "f8"]),
