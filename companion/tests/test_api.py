@@ -53,7 +53,7 @@ def test_nothing_of_the_caller_is_changed() -> None:
 def test_library_and_program_give_one_answer(monkeypatch: pytest.MonkeyPatch, change: str) -> None:
     if library() is None:
         pytest.skip("no libdrain.so in this package: the wheel's test has it")
-    monkeypatch.delenv("DRAIN")
+    monkeypatch.delenv("DRAIN", raising=False)
     for seed in range(8):
         world = worlds.random_world(9, 11, seed=seed, voids=0.05 * (seed % 2))
         if change:
@@ -61,12 +61,12 @@ def test_library_and_program_give_one_answer(monkeypatch: pytest.MonkeyPatch, ch
             getattr(world, change)[cell] += 3 if change != "dir" else 64 - world.dir[cell]
         answers = []
         for drawn in (True, False):
-            if not drawn:
-                monkeypatch.setattr("drain_gis.verdict.audit_in_memory", lambda one, program: None)
-            verdict = drain_gis.audit(**world.given(), codes="esri", acc_counts="cells")
+            with monkeypatch.context() as patch:
+                if not drawn:
+                    patch.setattr("drain_gis.verdict.audit_in_memory", lambda one, program: None)
+                verdict = drain_gis.audit(**world.given(), codes="esri", acc_counts="cells")
             assert verdict.is_packaged
             answers.append((verdict.line, str(verdict.rules), None if verdict.map is None else verdict.map.tobytes()))
-        monkeypatch.undo()
         assert answers[0] == answers[1]
 
 

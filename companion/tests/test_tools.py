@@ -38,7 +38,7 @@ RUN |= dict.fromkeys(("grass", "grass-fill-dir", "grass-agnps", "terraflow"), "G
 
 # Fixture, tool, products with SAGA's con: the line of an audit, and the cells at which each rule fails. Worked out by
 # tests/program/audit.py and plain_faults.py, which know the rules and nothing of the program. Rules of rasters that
-# weren't given aren't counted.
+# weren't given aren't counted. 16: cells at which a path stops (a walk along each path finds them) or that a ring has.
 LINES = (
     ("saga", "saga", "dir", "accepted rows=49 cols=61 data=2842 raised=35 outlets=17", {}),
     ("saga", "saga", "dir acc", "rejected rule=13 Accumulation row=0 col=1", {13: 229}),
@@ -47,14 +47,14 @@ LINES = (
     ("grass", "grass", "dir", "rejected rule=10 Slope row=0 col=13", {10: 27}),
     ("grass", "grass", "dir acc", "rejected rule=13 Accumulation row=0 col=1", {10: 27, 13: 197}),
     ("grass-stream", "grass", "dir", "rejected rule=10 Slope row=0 col=13", {10: 1157}),
-    ("grass-fill-dir", "grass-fill-dir", "dir", "rejected NoEnd row=0 col=0", {1: 1, 10: 222}),
-    ("grass-agnps", "grass-agnps", "dir", "rejected NoEnd row=0 col=0", {1: 1, 10: 222}),
-    ("terraflow", "terraflow", "dir", "rejected NoEnd row=0 col=0", {1: 25, 10: 222, 12: 42}),
+    ("grass-fill-dir", "grass-fill-dir", "dir", "rejected NoEnd row=0 col=0", {1: 1, 10: 222, 16: 222}),
+    ("grass-agnps", "grass-agnps", "dir", "rejected NoEnd row=0 col=0", {1: 1, 10: 222, 16: 222}),
+    ("terraflow", "terraflow", "dir", "rejected NoEnd row=0 col=0", {1: 25, 10: 222, 12: 42, 16: 222}),
     (
         "terraflow", "terraflow", "dir acc bas", "rejected NoEnd row=0 col=0",
-        {1: 25, 10: 222, 12: 42, 13: 36, 14: 4, 15: 52},
+        {1: 25, 10: 222, 12: 42, 13: 36, 14: 4, 15: 52, 16: 222},
     ),
-    ("terra", "terra", "dir", "rejected NoEnd row=0 col=0", {2: 206, 3: 206, 10: 196, 11: 17}),
+    ("terra", "terra", "dir", "rejected NoEnd row=0 col=0", {2: 206, 3: 206, 10: 196, 11: 17, 16: 227}),
 )  # fmt: skip
 
 
