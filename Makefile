@@ -1,10 +1,13 @@
 # make           proves what the program needs, and builds it to build/drain, with build/libdrain.a
 # make demo      shows it on the bundled samples, in two minutes; without a proved program it runs the sources unproved
 # make library   builds build/libdrain.a alone, for C and Python (docs/LIBRARY.md)
-# make install   puts program, man page, library and its header below PREFIX (/usr/local; DESTDIR goes in front), and
-#                does make install-companion: the program drain-gis, which needs python3-gdal and python3-numpy to run
+# make install   puts program, man pages, libraries and their header below PREFIX (/usr/local; DESTDIR goes in front), and
+#                does make install-companion: the command drain-gis, and drain_gis for Python's import. They need
+#                python3-rasterio, -matplotlib, -jinja2, -click and -tqdm to run
 # make dist      packs a release for users without the toolchain into build/release (RELEASING.md)
 # make deb       packs a .deb there
+# make wheel     packs drain-gis for pip there, with the static program and the library in it
+# make plugin    packs the plugin for QGIS there
 # make same      proves and builds from nothing, and compares with FILE=PROVED of a release
 # make test      passes everything: every proof and test, the edits of the gate, then the program's own tests
 # make companion-test   passes the companion's tests with build/drain, or with DRAIN=PROGRAM
@@ -29,30 +32,47 @@ build/drain.1: build/drain tools/man_page.py
 build/libdrain.a: FORCE
 	@tools/build_library.sh $@
 
-.PHONY: FORCE library demo install install-companion dist deb same test companion-test large edits bench clean
+# What gcc links of the proved object and archive.
+build/drain-static: build/drain FORCE
+	@tools/static_program.sh build/drain build/drain.o $@
+
+build/libdrain.so.0: build/libdrain.a
+	@tools/shared_library.sh $< $@
+
+.PHONY: FORCE library demo install install-companion dist deb wheel plugin same test companion-test large edits bench clean
 
 demo:
 	@tools/run_demo.sh build/drain
 
 library: build/libdrain.a
 
-install: build/drain build/drain.1 build/libdrain.a install-companion
+install: build/drain build/drain.1 build/libdrain.so.0 install-companion
 	install -D -m 755 build/drain "$(DESTDIR)$(PREFIX)/bin/drain"
 	install -D -m 644 build/drain.1 "$(DESTDIR)$(PREFIX)/share/man/man1/drain.1"
 	install -D -m 644 build/libdrain.a "$(DESTDIR)$(PREFIX)/lib/libdrain.a"
+	install -D -m 644 build/libdrain.so.0 "$(DESTDIR)$(PREFIX)/lib/libdrain.so.0"
+	ln -sf libdrain.so.0 "$(DESTDIR)$(PREFIX)/lib/libdrain.so"
 	install -D -m 644 crates/drain_c/include/drain.h "$(DESTDIR)$(PREFIX)/include/drain.h"
 
+# Where Python looks below PREFIX: for /usr/local and ~/.local on Debian lib/python3.11/dist-packages, site-packages.
 install-companion:
-	install -D -m 755 companion/drain-gis "$(DESTDIR)$(PREFIX)/bin/drain-gis"
-	install -d "$(DESTDIR)$(PREFIX)/lib/drain/companion/drain_gis"
-	install -m 644 companion/drain_gis/*.py "$(DESTDIR)$(PREFIX)/lib/drain/companion/drain_gis"
+	@mkdir -p build
+	@cat build/drain.proved build/libdrain.so.0.linked >build/PROVED 2>/dev/null || true
+	@tools/put_companion.sh "$(DESTDIR)" "$(PREFIX)" - build/PROVED
+	@tools/man_page.py companion/drain-gis >build/drain-gis.1
+	install -D -m 644 build/drain-gis.1 "$(DESTDIR)$(PREFIX)/share/man/man1/drain-gis.1"
 
-dist: build/drain
-	@tools/static_program.sh build/drain build/drain.o build/drain-static
-	@tools/dist.sh build/drain build/drain-static build/release
+dist: build/drain build/drain-static build/libdrain.so.0
+	@tools/dist.sh build/drain build/drain-static build/libdrain.so.0 build/release
 
-deb: build/drain
-	@tools/deb.sh build/drain build/release
+deb: build/drain build/libdrain.so.0
+	@tools/deb.sh build/drain build/libdrain.so.0 build/release
+
+wheel: build/drain build/drain-static build/libdrain.so.0
+	@companion/build_wheel.sh build/drain build/drain-static build/libdrain.so.0 build/release
+
+plugin:
+	@tools/plugin.py build/release
 
 same:
 	@tools/same.sh "$(FILE)"

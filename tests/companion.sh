@@ -1,19 +1,18 @@
 #!/usr/bin/env bash
-# Runs the companion's tests (companion/tests) with a program `drain`: its unit tests, and random sets against scipy and scikit-image.
-# It needs Debian's /usr/bin/python3 with GDAL, numpy, scipy and scikit-image, and fails where they are missing; with WITHOUT_COMPANION=1 it
-# then prints that the tests were left out.
-# Usage: tests/companion.sh DRAIN [CASES [SEED]]     (150 random cases of each of two kinds, by seed 1)
+# Runs the companion's tests (companion/tests) by pytest with a program `drain`; more words are passed on to pytest.
+# It needs Debian's /usr/bin/python3 with the packages below, and fails where they are missing; with WITHOUT_COMPANION=1 it then prints
+# that the tests were left out.
+# Usage: tests/companion.sh DRAIN [WORD..]
 set -u
 DRAIN=$(realpath "$1")
-cases=${2:-150}
-seed=${3:-1}
+shift
 export DRAIN PYTHONDONTWRITEBYTECODE=1
-tests=$(cd "$(dirname "$0")/.." && pwd)/companion/tests
+companion=$(cd "$(dirname "$0")/.." && pwd)/companion
 python=/usr/bin/python3
 
 missing=
-for package in osgeo:gdal numpy:numpy scipy:scipy skimage:skimage; do
-    "$python" -c "import ${package%:*}" 2>/dev/null || missing+=" python3-${package#*:}"
+for package in click hypothesis jinja2 matplotlib numpy pytest rasterio rioxarray scipy skimage tqdm xarray; do
+    "$python" -c "import $package" 2>/dev/null || missing+=" python3-$package"
 done
 if [ -n "$missing" ]; then
     if [ "${WITHOUT_COMPANION:-}" = 1 ]; then
@@ -24,44 +23,28 @@ if [ -n "$missing" ]; then
     exit 1
 fi
 
-# The modules of three parts; a fourth has the others.
-presets=(test_presets test_folder test_edges_and_sinks)
-stops=(test_stops test_places test_readback)
-outputs=(test_outputs test_picture test_report)
-others=()
-for module in "$tests"/test_*.py; do
-    module=$(basename "$module" .py)
-    [[ " ${presets[*]} ${stops[*]} ${outputs[*]} " == *" $module "* ]] || others+=("$module")
-done
-
-# Each part runs beside the others, and ends with a line 'N passed, M failed'.
+# pytest ends with a line such as '2 failed, 540 passed, 1 skipped in 30.00s'. Two halves run side by side.
 scratch=$(mktemp -d)
 trap 'rm -rf "$scratch"' EXIT
-part() {
-    local name=$1
-    shift
-    "$python" "$@" >"$scratch/$name" 2>&1 &
-}
-part presets "$tests/run_all.py" "${presets[@]}"
-part stops "$tests/run_all.py" "${stops[@]}"
-part outputs "$tests/run_all.py" "${outputs[@]}"
-part others "$tests/run_all.py" "${others[@]}"
-part sets "$tests/against_libraries.py" "$cases" "$seed"
-part flow "$tests/flow_against_libraries.py" "$cases" "$seed"
+export HYPOTHESIS_STORAGE_DIRECTORY=$scratch/hypothesis
+cd "$companion" || exit 1
+modules=(tests/test_*.py)
+half=$(((${#modules[@]} + 1) / 2))
+run() { "$python" -m pytest -q -p no:cacheprovider --continue-on-collection-errors --basetemp "$scratch/$1.files" "${@:2}" >"$scratch/$1" 2>&1; }
+run one "${modules[@]:0:half}" "$@" &
+run two "${modules[@]:half}" "$@" &
 wait
 
 passed=0
 failed=0
-for report in "$scratch"/*; do
-    if [[ "$(tail -n 1 "$report")" =~ ([0-9]+)\ passed,\ ([0-9]+)\ failed$ ]]; then
-        passed=$((passed + BASH_REMATCH[1]))
-        failed=$((failed + BASH_REMATCH[2]))
-        [ "${BASH_REMATCH[2]}" = 0 ] || cat "$report"
-    else
-        cat "$report"
-        echo "${report##*/}: no line of what passed"
-        failed=$((failed + 1))
-    fi
+for report in "$scratch"/one "$scratch"/two; do
+    last=$(tail -n 1 "$report")
+    [[ $last =~ ([0-9]+)\ passed ]] && passed=$((passed + BASH_REMATCH[1]))
+    bad=0
+    for word in failed error; do [[ $last =~ ([0-9]+)\ $word ]] && bad=$((bad + BASH_REMATCH[1])); done
+    if ! [[ $last =~ passed ]] && [ "$bad" = 0 ]; then bad=1; fi
+    [ "$bad" = 0 ] || cat "$report"
+    failed=$((failed + bad))
 done
 echo "$passed passed, $failed failed"
 [ "$failed" -eq 0 ]

@@ -54,10 +54,6 @@ OTHER_SOURCES = '#!/bin/sh\necho x >>"$LOG.sums"\nwc -l <"$LOG.sums"\n'
 # A part of a test that counts one run, and a program that does, each under its own name.
 PART = "echo 'NAME was read'\n: $((KIND += 1))\n"
 COUNTS = "import sys\nprint(sys.argv[1:])\nprint('NAME: PASSED passed, FAILED failed')\n"
-MODULES = """import sys
-print(*sys.argv[1:], sep="\\n", file=open(LOG, "a"))
-print(f"{len(sys.argv) - 1} passed, 0 failed")
-"""
 ONE_TEST = "import unittest\nclass One(unittest.TestCase):\n    def test(self):\n        pass\n"
 
 
@@ -199,18 +195,14 @@ class Modules(Copies):
 
     def test_each_module_of_the_companion_runs_once(self) -> None:
         self.copy("tests/companion.sh")
-        here = ROOT / "companion/tests"
-        modules = sorted(file.stem for file in here.glob("test_*.py"))
-        programs = [file.name for file in here.glob("*.py") if is_counted(file) and file.name != "run_all.py"]
+        modules = [file.name for file in (ROOT / "companion/tests").glob("test_*.py")]
         for name in modules:
-            self.write(self.top / f"companion/tests/{name}.py")
-        for name in programs:
-            text = COUNTS.replace("PASSED", "1").replace("FAILED", "0").replace("NAME", name)
-            self.write(self.top / "companion/tests" / name, text)
-        self.write(self.top / "companion/tests/run_all.py", MODULES.replace("LOG", repr(str(self.log))))
-        total = len(modules) + len(programs)
-        self.assertEqual(self.run_modules("tests/companion.sh"), f"{total} passed, 0 failed")
-        self.assertEqual(sorted(self.log.read_text().splitlines()), modules)
+            self.write(self.top / "companion/tests" / name, "def test_one():\n    pass\n")
+        self.assertEqual(self.run_modules("tests/companion.sh"), f"{len(modules)} passed, 0 failed")
+        self.write(self.top / "companion/tests" / modules[0], "def test_one():\n    assert False\n")
+        self.write(self.top / "companion/tests" / modules[-1], "import nothing_of_this_name\n")
+        ended = self.run_there("tests/companion.sh", "/bin/true")
+        self.assertEqual((ended.returncode, self.last_line(ended)), (1, f"{len(modules) - 2} passed, 2 failed"))
 
     def test_each_module_of_the_continent_runs(self) -> None:
         self.copy("tests/continent.sh")

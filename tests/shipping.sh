@@ -1,8 +1,8 @@
 #!/usr/bin/env bash
-# Tests what users without the toolchain get: the tarball, the package and the static program. None of them may be made
-# from a program that is not the proved one. Prints the tests that failed, and how many passed and failed. A test that this
+# Tests what users without the toolchain get: the tarball, the package, the wheel, the plugin for QGIS, the static program and
+# the shared library. None of them may be made from a program that is not the proved one. Prints the tests that failed, and how many passed and failed. A test that this
 # machine can't run is left out, in a line that says so.
-# Usage: tests/shipping.sh BUILD_DIR    (drain and drain.proved, and drain.o for the static program)
+# Usage: tests/shipping.sh BUILD_DIR    (drain and drain.proved; drain.o for the static program, libdrain.a for the shared library)
 set -uo pipefail
 [ $# -eq 1 ] || {
     echo 'usage: tests/shipping.sh BUILD_DIR' >&2
@@ -61,10 +61,25 @@ else
     echo "the static program isn't tried: there is no drain.o or no gcc"
 fi
 
+shared=-
+if [ -f "$build/libdrain.a" ] && command -v gcc >/dev/null; then
+    cp "$build/libdrain.a" "$build/libdrain.a.proved" "$scratch/build/"
+    shared=$scratch/build/libdrain.so.0
+    holds 'a shared library is linked' "$top/tools/shared_library.sh" "$scratch/build/libdrain.a" "$shared"
+    holds 'a shared library is linked again' "$top/tools/shared_library.sh" "$scratch/build/libdrain.a" "$scratch/again.so"
+    for part in '' .linked; do holds "the same bytes: libdrain.so.0$part" cmp "$shared$part" "$scratch/again.so$part"; done
+    holds 'the library has a soname' ends 0 'SONAME               libdrain.so.0' objdump -p "$shared"
+    grep -oE '^(uint32_t|size_t) drain_[a-z_]+' "$top/crates/drain_c/include/drain.h" | cut -d ' ' -f 2 | LC_ALL=C sort >"$scratch/declared"
+    holds 'the library shows what drain.h declares' diff "$scratch/declared" <(nm -D --defined-only "$shared" | awk '{ print $3 }' | LC_ALL=C sort)
+    holds 'an archive that was not proved is refused' ends 1 'has no record' "$top/tools/shared_library.sh" /bin/true "$scratch/other.so"
+else
+    echo "the shared library and the wheel aren't tried: there is no libdrain.a or no gcc"
+fi
+
 # The tarball.
-holds 'a tarball is made' "$top/tools/dist.sh" "$drain" $static "$scratch/one"
+holds 'a tarball is made' "$top/tools/dist.sh" "$drain" $static $shared "$scratch/one"
 sleep 1
-holds 'a tarball is made again' otherwise "$top/tools/dist.sh" "$drain" $static "$scratch/two"
+holds 'a tarball is made again' otherwise "$top/tools/dist.sh" "$drain" $static $shared "$scratch/two"
 holds 'tarballs: the same bytes' diff -r "$scratch/one" "$scratch/two"
 holds 'tarball: its sum fits' sh -c "cd '$scratch/one' && sha256sum -c *.sha256"
 mkdir "$scratch/unpacked"
@@ -79,11 +94,22 @@ holds 'tarball: its files have one owner and one time' test "$(wc -l <"$scratch/
 holds 'tarball: it has the proved program' cmp "$drain" "$release/bin/drain"
 holds 'tarball: PROVED begins with the record of the proof' diff "$drain.proved" <(head -n "$(wc -l <"$drain.proved")" "$release/PROVED")
 holds 'tarball: its demo runs' sh -c "cd '$release' && tools/demo.sh"
-if /usr/bin/python3 -c 'import osgeo.gdal, numpy' 2>/dev/null; then
-    fixtures=$top/companion/tests/fixtures
-    holds 'tarball: drain-gis runs the drain beside it' ends 0 'con is the least surface above' \
-        env -i PATH=/usr/bin:/bin "$release/bin/drain-gis" surface --dem "$fixtures/dem.tif" --con "$fixtures/saga-con.tif"
+fixtures=$top/companion/tests/fixtures
+# Judges what SAGA made by a command drain-gis, with nothing else on the PATH and no other package: it is accepted without acc and bas.
+judges_samples() {
+    local words=(judge --from saga --dem "$fixtures/dem.tif" --con "$fixtures/saga-con.tif" --dir "$fixtures/saga-dir.tif")
+    ends 0 'accepted rows=49 cols=61 data=2842 raised=35 outlets=17' env -i PATH=/usr/bin:/bin PYTHONDONTWRITEBYTECODE=1 "$1" "${words[@]}" &&
+        ends 1 'rejected rule=13 Accumulation row=0 col=1' env -i PATH=/usr/bin:/bin PYTHONDONTWRITEBYTECODE=1 "$1" "${words[@]}" --acc "$fixtures/saga-acc.tif"
+}
+has_companion() { "${1:-/usr/bin/python3}" -c 'import rasterio, matplotlib, jinja2, click, tqdm' 2>/dev/null; }
+if has_companion; then
+    holds 'tarball: drain-gis runs the drain beside it' judges_samples "$release/bin/drain-gis"
+    mkdir "$scratch/prefix"
+    "$top/tools/put_companion.sh" "$scratch" /prefix - "$drain.proved" >/dev/null
+    holds 'drain-gis installed beside a program runs that one' sh -c "install -D '$drain' '$scratch/prefix/bin/drain'"
+    holds 'drain-gis installed below a prefix' judges_samples "$scratch/prefix/bin/drain-gis"
 fi
+holds 'tarball: its man page of drain-gis has the commands' grep -q '^.SH "DRAIN.*GIS JUDGE"' "$release/share/man/man1/drain-gis.1"
 holds 'tarball: its man page has the commands' grep -q '^.SH "DRAIN AUDIT"' "$release/share/man/man1/drain.1"
 for file in README.md LICENSE RELEASING.md samples/README.md samples/LICENSE-matplotlib.txt; do
     holds "tarball: it has $file" cmp "$top/$file" "$release/$file"
@@ -139,9 +165,9 @@ fi
 
 # The package.
 if command -v dpkg-deb >/dev/null; then
-    holds 'a package is made' "$top/tools/deb.sh" "$drain" "$scratch/deb"
+    holds 'a package is made' "$top/tools/deb.sh" "$drain" $shared "$scratch/deb"
     sleep 1
-    holds 'a package is made again' otherwise "$top/tools/deb.sh" "$drain" "$scratch/deb2"
+    holds 'a package is made again' otherwise "$top/tools/deb.sh" "$drain" $shared "$scratch/deb2"
     holds 'packages: the same bytes' diff -r "$scratch/deb" "$scratch/deb2"
     deb=$(echo "$scratch"/deb/drain_*-1_amd64.deb)
     dpkg-deb --fsys-tarfile "$deb" | tar -tvf - --full-time | awk '{ print $2, $4, $5 }' | sort -u >"$scratch/times"
@@ -160,7 +186,9 @@ if command -v dpkg-deb >/dev/null; then
     fi
     holds 'package: it has the proved program' cmp "$drain" "$there/usr/bin/drain"
     holds 'package: its program runs' "$there/usr/bin/drain" --version
-    holds 'package: its doc folder has the record of the proof' cmp "$drain.proved" "$there/usr/share/doc/drain/PROVED"
+    holds 'package: its doc folder has the record of the proof' \
+        diff "$drain.proved" <(head -n "$(wc -l <"$drain.proved")" "$there/usr/share/doc/drain/PROVED")
+    if has_companion; then holds 'package: drain-gis runs its drain' judges_samples "$there/usr/bin/drain-gis"; fi
     holds 'package: its demo runs' sh -c "cd '$there/usr/share/doc/drain/examples' && tools/demo.sh '$there/usr/bin/drain'"
     holds 'package: its man page has the commands' sh -c "gzip -dc '$there/usr/share/man/man1/drain.1.gz' | grep -q '^.SH \"DRAIN AUDIT\"'"
     if [ "$(id -u)" = 0 ]; then
@@ -177,6 +205,30 @@ else
     echo "the package isn't tried: there is no dpkg-deb"
 fi
 
+# The wheel: built twice, and installed without an index into a fresh environment, whose other packages are the system's.
+if [ "$shared" != - ] && has_companion; then
+    [ "$static" != - ] || echo "the wheel is tried with the program itself: there is no static program"
+    holds 'a wheel is built' "$top/companion/build_wheel.sh" "$drain" $static "$shared" "$scratch/wheel"
+    sleep 1
+    holds 'a wheel is built again' otherwise "$top/companion/build_wheel.sh" "$drain" $static "$shared" "$scratch/wheel2"
+    holds 'wheels: the same bytes' diff -r "$scratch/wheel" "$scratch/wheel2"
+    holds 'wheel: it is installed' sh -c "/usr/bin/python3 -m venv --system-site-packages '$scratch/venv' &&
+        '$scratch/venv/bin/pip' install --no-index --no-deps '$scratch'/wheel/*.whl"
+    inside=$(echo "$scratch"/venv/lib/python3*/site-packages/drain_gis/_drain)
+    holds 'wheel: it has the program' cmp "$([ "$static" = - ] && echo "$drain" || echo "$static")" "$inside/drain"
+    holds 'wheel: it has the shared library' cmp "$shared" "$inside/libdrain.so"
+    holds 'wheel: PROVED begins with the record of the proof' diff "$drain.proved" <(head -n "$(wc -l <"$drain.proved")" "$inside/PROVED")
+    holds "wheel: PROVED has the library's sum" grep -qx "shared   $(sha256sum <"$shared" | cut -d ' ' -f 1)" "$inside/PROVED"
+    holds 'wheel: drain-gis judges samples' judges_samples "$scratch/venv/bin/drain-gis"
+    holds 'wheel: its drain runs' cmp <("$scratch/venv/bin/drain" --version) <("$drain" --version)
+    holds 'wheel: library and program give one answer' sh -c "cd '$scratch' && DRAIN= '$scratch/venv/bin/python' -m pytest -q \
+        -p no:cacheprovider -c '$top/companion/pyproject.toml' -o pythonpath=tests '$top/companion/tests/test_api.py'"
+    holds 'wheel: no test of them was left out' sh -c "! grep -q skipped '$scratch/said'"
+fi
+holds 'a plugin is packed' "$top/tools/plugin.py" "$scratch/plugin"
+holds 'a plugin is packed again' otherwise "$top/tools/plugin.py" "$scratch/plugin2"
+holds 'plugins: the same bytes' diff -r "$scratch/plugin" "$scratch/plugin2"
+
 # A program that isn't the proved one: a byte changed, another record, none.
 mkdir "$scratch/changed"
 cp "$drain" "$drain.proved" "$scratch/changed/"
@@ -185,8 +237,9 @@ byte=$(od -An -tu1 -j $((size / 2)) -N 1 "$drain")
 printf "\\x$(printf '%02x' $((byte ^ 1)))" | dd of="$scratch/changed/drain" bs=1 seek=$((size / 2)) conv=notrunc status=none
 refused() {
     local name=$1 program=$2
-    holds "$name: no tarball" ends 1 "$program" "$top/tools/dist.sh" "$program" - "$scratch/refused"
-    holds "$name: no package" ends 1 "$program" "$top/tools/deb.sh" "$program" "$scratch/refused"
+    holds "$name: no tarball" ends 1 "$program" "$top/tools/dist.sh" "$program" - - "$scratch/refused"
+    holds "$name: no package" ends 1 "$program" "$top/tools/deb.sh" "$program" - "$scratch/refused"
+    holds "$name: no wheel" ends 1 "$program" "$top/companion/build_wheel.sh" "$program" - - "$scratch/refused"
     holds "$name: nothing is written" is_empty "$scratch/refused"
 }
 refused 'a changed byte of the program' "$scratch/changed/drain"
@@ -201,10 +254,10 @@ if [ "$static" != - ]; then
     for part in drain-static drain-static.o drain-static.linked; do cp "$scratch/build/$part" "$scratch/changed/"; done
     echo >>"$scratch/changed/drain-static"
     holds 'a changed byte of the static program: no tarball' \
-        ends 1 'is not what tools/static_program.sh linked' "$top/tools/dist.sh" "$drain" "$scratch/changed/drain-static" "$scratch/refused"
+        ends 1 'is not what tools/static_program.sh linked' "$top/tools/dist.sh" "$drain" "$scratch/changed/drain-static" - "$scratch/refused"
     sed -i 's/^program .*/program  0/' "$scratch/changed/drain-static.linked"
     holds 'a static program of another program: no tarball' \
-        ends 1 'was not linked from the object of' "$top/tools/dist.sh" "$drain" "$scratch/changed/drain-static" "$scratch/refused"
+        ends 1 'was not linked from the object of' "$top/tools/dist.sh" "$drain" "$scratch/changed/drain-static" - "$scratch/refused"
     holds 'a wrong static program: nothing is written' is_empty "$scratch/refused"
 fi
 

@@ -1,16 +1,25 @@
 #!/usr/bin/env python3
-"""Prints the man page of the program, made from its help.
+"""Prints the man page of a program, made from its help: drain's, or drain-gis's.
 
 Usage: tools/man_page.py PROGRAM
 """
+import os
 import re
 import subprocess
 import sys
 
+NAMES = {
+    "drain": "checks drainage rasters computed from SRTM elevation tiles",
+    "drain-gis": "has drain judge drainage rasters of any tool",
+}
+
 
 def output_of(*arguments):
     """What the program prints."""
-    return subprocess.run([sys.argv[1], *arguments], check=True, capture_output=True, text=True, stdin=subprocess.DEVNULL).stdout
+    words, environment = [sys.argv[1], *arguments], {**os.environ, "COLUMNS": "100", "LC_ALL": "C.UTF-8"}
+    return subprocess.run(
+        words, check=True, capture_output=True, text=True, stdin=subprocess.DEVNULL, env=environment
+    ).stdout
 
 
 def escaped(line):
@@ -31,18 +40,27 @@ def commands(help_text):
     return [it for it in found if it[0] != "help"]
 
 
+def about(help_text):
+    """What the program does: the help's paragraphs up to a list, without its usage."""
+    paragraphs = re.split(r"\n\n(?=Usage:|Options:|Commands:)", help_text)[0].split("\n\n")
+    return [" ".join(text.split()) for text in paragraphs if not text.startswith("Usage:")]
+
+
 def main():
-    overview = output_of("--help")
-    version, logic = output_of("--version").rstrip("\n").split("\n")
-    about = overview.split("\n\n")[0]
-    page = [f'.TH DRAIN 1 "" "{version}" "User Commands"', ".SH NAME", "drain \\- checks drainage rasters computed from SRTM elevation tiles"]
-    page += [".SH SYNOPSIS"]
-    for name, _ in commands(overview):
-        usage = re.search(r"^Usage: (.*)$", output_of(name, "--help"), re.M)[1]
-        page += [escaped(usage), ".br"]
-    page += [".SH DESCRIPTION", escaped(about), escaped(logic[0].upper() + logic[1:] + ".")]
-    for name, does in commands(overview):
-        page += [f'.SH "DRAIN {name.upper()}"', escaped(does) + ".", ".PP", *as_it_is(output_of(name, "--help"))]
+    overview, name = output_of("--help"), os.path.basename(sys.argv[1])
+    version, *logic = output_of("--version").replace(", version", "").rstrip("\n").split("\n")
+    page = [f'.TH {escaped(name.upper())} 1 "" "{version}" "User Commands"', ".SH NAME"]
+    page += [f"{escaped(name)} \\- {NAMES[name]}", ".SH SYNOPSIS"]
+    for command, _ in commands(overview):
+        usage = re.search(r"^Usage: (.*(?:\n {3,}.*)*)$", output_of(command, "--help"), re.M)[1]
+        page += [escaped(" ".join(usage.split())), ".br"]
+    page += [".SH DESCRIPTION"]
+    for text in [*about(overview), *(line[0].upper() + line[1:] + "." for line in logic)]:
+        page += [escaped(text), ".PP"]
+    for command, does in commands(overview):
+        shown = output_of(command, "--help")
+        page += [f'.SH "{escaped(name.upper())} {command.upper()}"', *([] if does in shown else [escaped(does) + ".", ".PP"])]
+        page += as_it_is(shown)
     print("\n".join(page))
 
 

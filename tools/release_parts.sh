@@ -1,4 +1,4 @@
-# What a tarball and a package have in common; tools/dist.sh and tools/deb.sh read this file. They set top, the repository, before.
+# What a tarball, a package and a wheel have in common; tools/dist.sh, tools/deb.sh and companion/build_wheel.sh read this file. They set top, the repository, before.
 
 # The same inputs give the same bytes, so the user's settings play no part.
 export LC_ALL=C TZ=UTC
@@ -31,6 +31,33 @@ take_program() {
     case $(value_of commit "$room/PROVED") in
         *-changed) echo "note: the sources differed from their commit when they were proved, and PROVED says so" >&2 ;;
     esac
+}
+
+# Takes what tools/static_program.sh linked of the program named $2: $room/drain-static, with its lines in PROVED.
+take_static() {
+    local file
+    for file in "$1" "$1.linked" "$1.o"; do
+        [ -f "$file" ] || refuse "$file is not there: tools/static_program.sh makes it"
+    done
+    install -m 755 "$1" "$room/drain-static"
+    [ "$(value_of program "$1.linked")" = "$(sum_of "$room/drain")" ] ||
+        refuse "$1 was not linked from the object of $2: run tools/static_program.sh"
+    [ "$(value_of static "$1.linked")" = "$(sum_of "$room/drain-static")" ] ||
+        refuse "$1 is not what tools/static_program.sh linked"
+    grep -v '^program ' "$1.linked" >>"$room/PROVED"
+}
+
+# Takes what tools/shared_library.sh linked: $room/libdrain.so.0, with its lines in PROVED. Its archive lies beside it, and was proved.
+take_shared() {
+    local archive
+    archive=$(dirname "$1")/libdrain.a
+    "$top/tools/is_proved.sh" "$archive" || exit 1
+    [ -f "$1.linked" ] || refuse "$1.linked is not there: tools/shared_library.sh makes it"
+    install -m 644 "$1" "$room/libdrain.so.0"
+    [ "$(value_of archive "$1.linked")" = "$(sum_of "$archive")" ] || refuse "$1 was not linked from $archive: run tools/shared_library.sh"
+    [ "$(value_of shared "$1.linked")" = "$(sum_of "$room/libdrain.so.0")" ] || refuse "$1 is not what tools/shared_library.sh linked"
+    grep -qF "$(grep '^linker ' "$1.linked")" "$room/PROVED" || grep '^linker ' "$1.linked" >>"$room/PROVED"
+    grep -v '^linker ' "$1.linked" >>"$room/PROVED"
 }
 
 # Copies files and folders of the repository, in a checkout those that git has. One that isn't there is left out.

@@ -1,81 +1,42 @@
-"""No-data numbers in cells with an elevation, and numbers in voids: both stay, and are reported."""
+"""No-data numbers in cells with an elevation, and numbers in voids."""
 
-from dataclasses import dataclass, field
 
 import numpy as np
 
-from .job import Job
-from .place_words import cells_text
-from .rasters import number_text
-
-MOST_KINDS = 1000
-"""How many different numbers are counted apart."""
-
-MOST_SHOWN = 6
+from .around import Array
+from .job import Converted
+from .rules import cells
+from .tools import TOOLS
 
 
-@dataclass
-class Tally:
-    """Numbers that aren't expected, and at how many cells each is."""
-
-    cells: dict[float, int] = field(default_factory=dict)
-    total: int = 0
-
-    def add(self, numbers: np.ndarray) -> None:
-        """Counts these."""
-        self.total += numbers.size
-        for number, cells in zip(*np.unique(numbers, return_counts=True)):
-            if number.item() in self.cells or len(self.cells) < MOST_KINDS:
-                self.cells[number.item()] = self.cells.get(number.item(), 0) + int(cells)
-
-    def most_frequent(self) -> float:
-        """The number of the most cells."""
-        return max(self.cells, key=lambda number: self.cells[number])
-
-    def __str__(self) -> str:
-        ranked = sorted(self.cells.items(), key=lambda item: -item[1])
-        shown = ", ".join(f"{number:.9g} ({cells})" for number, cells in ranked[:MOST_SHOWN])
-        return shown + (", .." if len(ranked) > MOST_SHOWN else "")
-
-
-@dataclass
 class Misplaced:
-    """What a raster has where it shouldn't."""
+    """Where a raster has no number in a data cell, or one in a void: both stay, and are rejected."""
 
-    missing: int = 0
-    """Cells with an elevation, where it has no data."""
+    def __init__(self) -> None:
+        self.missing, self.over, self.numbers = 0, 0, dict[float, int]()
 
-    in_voids: Tally = field(default_factory=Tally)
-    """Its numbers in cells without an elevation."""
+    def add(self, numbers: Array, none: Array, data: Array) -> None:
+        """Looks at a window."""
+        self.missing += int((none & data).sum())
+        over = numbers[~none & ~data]
+        self.over += over.size
+        for number, many in zip(*np.unique(over, return_counts=True)):
+            if number.item() in self.numbers or len(self.numbers) < 1000:
+                self.numbers[number.item()] = self.numbers.get(number.item(), 0) + int(many)
 
-    def add(self, numbers: np.ndarray, none: np.ndarray, void: np.ndarray) -> None:
-        """Looks at a window: `none` where the raster has no data, `void` where the elevations have none."""
-        self.missing += int((none & ~void).sum())
-        self.in_voids.add(numbers[~none & void])
-
-    def report(self, job: Job, name: str) -> None:
-        """Prints what was found."""
+    def tell(self, made: Converted, name: str) -> None:
+        """Notes what was found."""
         if self.missing:
-            hint = ""
-            if name == "dir" and job.tool.blank_rim and not job.options.complete_rim:
-                hint = "; this tool leaves the rim without directions: --complete-rim gives it some"
-            job.note(f"{name}: no data at {cells_text(self.missing)} with an elevation (rule Missing){hint}")
-        if self.in_voids.total:
-            cells = self.in_voids.total
-            text = f"{name}: a number at {cells_text(cells)} without an elevation (rule VoidCell): {self.in_voids}"
-            if job.rasters[name].nodata is None:
-                text += ". It names no number for no data"
-                likely = self.in_voids.most_frequent()
-                if not is_in_data(job, name, likely):
-                    text += f"; --nodata {name}={number_text(likely)} does"
-            job.note(text)
-
-
-def is_in_data(job: Job, name: str, number: float) -> bool:
-    """Whether some cell with an elevation has this number."""
-    for top, rows in job.windows():
-        numbers, _ = job.rasters[name].window(top, rows)
-        _, void = job.dem.window(top, rows)
-        if ((numbers == number) & ~void).any():
-            return True
-    return False
+            rim = name == "dir" and TOOLS[made.tool].blank_rim and not made.options.complete_rim
+            hint = "; this tool leaves the rim without directions: --complete-rim gives it some" if rim else ""
+            made.notes.append(f"{name}: no data at {cells(self.missing)} with an elevation (rule Missing){hint}")
+        if self.over:
+            likely = max(self.numbers, key=lambda number: self.numbers[number])
+            text = (
+                f"{name}: a number at {cells(self.over)} without an elevation (rule VoidCell), most often {likely:.12g}"
+            )
+            if made.layers[name].nodata is None and not any(
+                ((numbers == likely) & made.data[rows]).any() for rows, numbers, _ in made.windows(name)
+            ):
+                text += f". It names no number for no data; --nodata {name}={likely} does"
+            made.notes.append(text)

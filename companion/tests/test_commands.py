@@ -1,323 +1,244 @@
-"""The commands: what they print, their statuses, and what they refuse."""
+"""The commands: what they print and write, their statuses, and what they refuse."""
 
-import io
-import json
 import os
+import shlex
 import subprocess
 import sys
-import tempfile
-import unittest
 from pathlib import Path
-from unittest import mock
 
+import drain_gis
 import numpy as np
+import pytest
+import rasterio
 import worlds
-from drain_gis import commands, progress
-from drain_gis.commands import main
-from drain_gis.presets import TOOLS
-from osgeo import gdal
-from printed import Printed, run
+from conftest import COMPANION, Printed, start
+from conftest import drain_gis as command
 
-COMPANION = Path(__file__).resolve().parents[1]
+COMMANDS = ("judge", "import", "make", "derive", "whole", "tools")
 
 
-def start(*words: object, **environment: str) -> Printed:
-    """Runs drain-gis as a program."""
-    done = subprocess.run(
-        [sys.executable, COMPANION / "drain-gis", *(str(word) for word in words)],
-        capture_output=True, text=True, check=False, env={**os.environ, **environment},
-    )  # fmt: skip
-    return Printed(done.returncode, done.stdout, done.stderr)
+@pytest.fixture
+def wrong(files: dict[str, str], tmp_path: Path, world: worlds.World) -> list[str]:
+    """The arguments of the set with a wrong acc."""
+    acc = world.acc.astype(np.int32)
+    acc[world.cells()[33]] += 7
+    path = worlds.write_tif(tmp_path / "wrong.tif", np.where(world.void, -9999, acc).astype(np.int32), -9999)
+    return worlds.words({**files, "acc": path})
 
 
-class Commands(unittest.TestCase):
-    """A set of TauDEM's, with its codes and numbers for no data."""
-
-    def setUp(self) -> None:
-        folder = tempfile.TemporaryDirectory()
-        self.addCleanup(folder.cleanup)
-        self.base = Path(folder.name)
-        self.world = worlds.random_world(seed=4)
-        codes = worlds.in_codes_of(TOOLS["taudem"], self.world.dir)
-        self.write("dem", np.where(self.world.void, -9999, self.world.z).astype(np.int16), -9999)
-        self.write("fel", np.where(self.world.void, -9999, self.world.con).astype(np.float32), -9999)
-        self.write("p", np.where(self.world.void, -32768, codes).astype(np.int16), -32768)
-        self.write("ad8", np.where(self.world.void, -1, self.world.acc).astype(np.int32), -1)
-        self.write("w", np.where(self.world.void, -1, self.world.bas).astype(np.int32), -1)
-
-    def write(self, name: str, a: np.ndarray, nodata: float | None) -> str:
-        return worlds.write_tif(self.base / f"{name}.tif", a, nodata)
-
-    def words(self, *more: object) -> list[object]:
-        names = {"dem": "dem", "con": "fel", "dir": "p", "acc": "ad8", "bas": "w"}
-        given = [(f"--{name}", self.base / f"{file}.tif") for name, file in names.items()]
-        paths = [word for pair in given if pair[0] not in more for word in pair]
-        return ["import", "--from", "taudem", *paths, *more, self.base / "out"]
-
-    def left(self) -> list[str]:
-        """What an import left."""
-        return sorted(path.name for path in self.base.iterdir() if path.name.startswith("out"))
-
-    def test_import_and_judge(self) -> None:
-        done = run(main, *self.words())
-        self.assertEqual((done.status, done.error), (0, ""), done.error)
-        self.assertIn("to be judged: con, dir, acc, bas", done.out)
-        command = next(line for line in done.out.splitlines() if "drain audit" in line)
-        drain = os.environ.get("DRAIN", "drain")
-        audited = subprocess.run(
-            command.replace("drain audit", f"{drain} audit"), shell=True, capture_output=True, text=True, check=False
-        )
-        self.assertTrue(audited.stdout.startswith("accepted "), audited.stdout + audited.stderr)
-        done = run(main, "judge", self.base / "out")
-        self.assertEqual((done.status, done.error), (0, ""), done.error)
-        self.assertEqual(done.out.splitlines()[0], f"{audited.stdout.strip()}; acc counts: cells")
-        self.assertIn("judged: con, dir, acc, bas over ", done.out)
-        self.assertIn("23 rows and 31 columns, by the codes of taudem", done.out)
-
-    def test_each_line_is_kept(self) -> None:
-        done = run(main, *self.words())
-        told = json.loads((self.base / "out/import.json").read_text())["told"]
-        self.assertEqual([line[2:] for line in done.out.splitlines() if line.startswith("  ")][:-1], told)
-        quiet = run(main, *self.words("--quiet", "--overwrite"))
-        self.assertEqual(len(quiet.out.splitlines()), 2)
-        self.assertEqual(json.loads((self.base / "out/import.json").read_text())["told"], told)
-
-    def test_a_rejection(self) -> None:
-        acc = self.world.acc.astype(np.int32)
-        cell = worlds.data_cells(self.world.void)[33]
-        acc[cell] += 7
-        self.write("ad8", np.where(self.world.void, -1, acc), -1)
-        done = run(main, *self.words("--judge"))
-        self.assertEqual(done.status, 1, done.error)
-        for text in ("rejected rule=13 Accumulation", "  con: the least surface", "  dir: each rule about dir holds"):
-            self.assertIn(text, done.out)
-        self.assertIn("  acc, bas: don't fit dir: Accumulation at ", done.out)
-        faults = gdal.Open(str(self.base / "out/faults.tif")).ReadAsArray()
-        self.assertEqual(faults[cell], 13)
-        picture = gdal.Open(str(self.base / "out/faults.png"))
-        self.assertEqual(picture.GetDriver().ShortName, "PNG")
-        self.assertIn("Accumulation", (self.base / "out/report.html").read_text())
-        self.assertFalse([path for path in (self.base / "out").iterdir() if path.name.startswith(".")])
-
-    def test_parts_may_be_left_out(self) -> None:
-        self.write("ad8", np.where(self.world.void, -1, self.world.acc + 1).astype(np.int32), -1)
-        done = run(main, *self.words("--acc-counts", "cells"))
-        done = run(main, "judge", "--no-parts", self.base / "out")
-        self.assertEqual((done.status, "the least surface" in done.out), (1, False), done.out)
-
-    def test_any_subset(self) -> None:
-        subsets = (
-            ("dem", "con"), ("dem", "dir"), ("con",), ("con", "dir"), ("dem", "con", "dir"), ("dem", "dir", "acc"),
-            ("dem", "dir", "bas"),
-        )  # fmt: skip
-        files = {"dem": "dem", "con": "fel", "dir": "p", "acc": "ad8", "bas": "w"}
-        for names in subsets:
-            words = [word for name in names for word in (f"--{name}", self.base / f"{files[name]}.tif")]
-            done = run(main, "import", "--from", "taudem", *words, "--judge", "--overwrite", self.base / "out")
-            self.assertEqual(done.status, 0, f"{names}: {done.out}{done.error}")
-            judged = ", ".join(name for name in names if name != "dem")
-            self.assertIn(f"judged: {judged} over ", done.out)
-
-    def test_refusals(self) -> None:
-        bands = gdal.GetDriverByName("GTiff").Create(str(self.base / "two.tif"), 31, 23, 2, gdal.GDT_Byte)
-        bands.FlushCache()
-        scaled = self.write("scaled", np.where(self.world.void, -9999, self.world.con).astype(np.int16), -9999)
-        image = gdal.Open(scaled, gdal.GA_Update)
-        image.GetRasterBand(1).SetScale(0.1)
-        image = None
-        cases = (
-            (["--con", self.base / "none.tif"], "none.tif"),
-            (["--con", self.base / "two.tif"], "has 2 bands"),
-            (["--con", scaled], "con has the scale and offset (0.1, 0.0)"),
-            (["--acc", scaled], "acc has the scale and offset (0.1, 0.0)"),
-            (["--nodata", "x=1"], "expected NAME=NUMBER"),
-            (["--nodata", "dir"], "expected NAME=NUMBER"),
-            (["--nodata", "dem=70000"], "can't hold it"),
-            (["--sinks", self.base / "none"], "none"),
-            (["--inland-sinks"], "taudem has no number for inland sinks"),
-        )
-        for words, text in cases:
-            done = run(main, *self.words(*words))
-            self.assertEqual((done.status, done.out.count("wrote")), (2, 0), f"{words} {done.error}")
-            self.assertIn(text, done.error)
-            self.assertTrue(done.error.startswith("can't import: "), done.error)
-            self.assertEqual(self.left(), [], words)
-        done = run(main, "import", *self.words()[3:])
-        self.assertEqual((done.status, "--from TOOL is required" in done.error), (2, True), done.error)
-        self.assertEqual(run(main, "import", "--from", "arc", self.base / "out").status, 2)
-
-    def test_a_folder_that_is_there_is_kept(self) -> None:
-        out = self.base / "out"
-        out.mkdir()
-        self.assertEqual(run(main, *self.words()).status, 0, "an empty folder is filled")
-        before = (out / "import.json").read_bytes()
-        done = run(main, *self.words())
-        self.assertEqual((done.status, "is there already" in done.error), (2, True))
-        self.write("ad8", np.full(self.world.z.shape, 7.5, np.float32), -1)
-        self.assertEqual(run(main, *self.words("--overwrite", "--acc-counts", "cells")).status, 2)
-        self.assertEqual((out / "import.json").read_bytes(), before)
-        self.write("ad8", np.where(self.world.void, -1, self.world.acc).astype(np.int32), -1)
-        self.assertEqual(run(main, *self.words("--overwrite")).status, 0)
-        (out / "import.json").unlink()
-        done = run(main, *self.words("--overwrite"))
-        self.assertEqual((done.status, "no import wrote it" in done.error), (2, True))
-        self.assertEqual(self.left(), ["out"])
-
-    def test_folders_that_are_no_import_are_not_judged(self) -> None:
-        (self.base / "other").mkdir()
-        for folder in ("other", "none"):
-            done = run(main, "judge", self.base / folder)
-            self.assertEqual((done.status, "has no import.json" in done.error), (2, True), done.error)
-        for text in ("{}", "[]", "no json"):
-            (self.base / "other/import.json").write_text(text)
-            self.assertEqual(run(main, "judge", self.base / "other").status, 2, text)
-
-    def test_an_import_that_was_changed_is_refused_by_the_program(self) -> None:
-        run(main, *self.words())
-        with open(self.base / "out/acc.bil", "r+b") as file:
-            file.truncate(100)
-        done = run(main, "judge", self.base / "out")
-        self.assertEqual((done.status, done.error), (3, "failed: drain audit: refused RasterShort acc\n"))
-
-    def test_surface(self) -> None:
-        dem, con = self.base / "dem.tif", self.base / "fel.tif"
-        done = run(main, "surface", "--dem", dem, "--con", con)
-        line = f"accepted: con is the least surface above {dem}\n"
-        self.assertEqual((done.status, done.out, done.error), (0, line, ""))
-        done = run(main, "surface", "--dem", dem, "--con", dem)
-        self.assertEqual((done.status, "0 too high" in done.out or "too low" in done.out), (1, True), done.out)
-
-    def test_flow(self) -> None:
-        words = ["flow", "--from", "taudem", "--dir", self.base / "p.tif"]
-        done = run(main, *words, "--acc", self.base / "ad8.tif", "--bas", self.base / "w.tif")
-        self.assertEqual(done.status, 0, done.error)
-        self.assertIn("acc, bas along dir, by the codes of taudem: accepted: every path ends", done.out)
-        self.write("ad8", np.where(self.world.void, -1, self.world.acc + 1).astype(np.int32), -1)
-        done = run(main, *words, "--acc", self.base / "ad8.tif", "--acc-counts", "cells")
-        self.assertEqual((done.status, "rejected: don't fit dir" in done.out), (1, True), done.out)
-        self.assertEqual(run(main, *words).status, 0)
-
-    def test_whole(self) -> None:
-        z = np.random.default_rng(1).random(self.world.z.shape).astype(np.float32) * 300
-        z[3, 4] = np.nan
-        source, out = self.write("lidar", z, -9999), self.base / "whole.tif"
-        done = run(main, "whole", "--unit", "0.01", source, out)
-        self.assertEqual((done.status, done.error), (0, ""))
-        image = gdal.Open(str(out))
-        whole, there = image.ReadAsArray().astype(np.float64), np.isfinite(z)
-        self.assertLess(np.abs(whole - z)[there].max(), 0.00502)
-        centimetres = np.rint(whole * 100)
-        self.assertTrue((whole == (centimetres / 100).astype(np.float32))[there].all())
-        self.assertEqual((whole[3, 4], image.GetGeoTransform()), (-9999, worlds.UTM))
-        self.assertEqual(run(main, "whole", source, out).status, 2, "an output that is there is kept")
-        filled = np.where(there, worlds.filled(whole.astype(np.float32), ~there), -9999).astype(np.float32)
-        words = ["--dem", out, "--con", self.write("filled", filled, -9999), "--judge", self.base / "out"]
-        done = run(main, "import", *words)
-        self.assertEqual((done.status, "taken as hundredths" in done.out), (0, True), done.out + done.error)
-        large = self.write("large", np.full((2, 2), 123456.79), -9999)
-        done = run(main, "whole", "--unit", "0.001", large, self.base / "large-whole.tif")
-        self.assertEqual((done.status, "too large for single precision" in done.error), (2, True), done.error)
-
-    def test_hgt_tiles_side_by_side(self) -> None:
-        """Two tiles of side 1201 as one raster of 1201 by 2401."""
-        z = np.add.outer(np.arange(1201), np.arange(2401)).astype(">i2")
-        z[600:, 1000:1300] -= 300
-        z[:, :1201].tofile(self.base / "N10E010.hgt")
-        z[:, 1200:].tofile(self.base / "N10E011.hgt")
-        tiles = [self.base / "N10E010.hgt", self.base / "N10E011.hgt"]
-        place = (10 - 0.5 / 1200, 1 / 1200, 0.0, 11 + 0.5 / 1200, 0.0, -1 / 1200)
-        con = worlds.write_tif(self.base / "con.tif", z.astype(np.int16), -32768, place, 4326)
-        done = run(main, "import", "--dem", *tiles, "--con", con, self.base / "out")
-        self.assertEqual(done.status, 0, done.error)
-        self.assertIn("1201 rows, 2401 columns", done.out)
-        hashes = json.loads((self.base / "out/import.json").read_text())["hashes"]
-        self.assertEqual(set(hashes), {str(path) for path in (*tiles, con)})
+def outputs(folder: Path) -> list[str]:
+    """The options that write an answer's files."""
+    names = {"out": "r.html", "map": "m.tif", "picture": "p.png"}
+    return [word for option, name in names.items() for word in (f"--{option}", str(folder / name))]
 
 
-class Bars(unittest.TestCase):
-    """How far a long run is."""
-
-    def shown(self, is_terminal: bool, patience: float) -> str:
-        """What three steps print."""
-        stream = io.StringIO()
-        stream.isatty = lambda: is_terminal
-        with mock.patch.object(sys, "stderr", stream), mock.patch.object(progress, "PATIENCE", patience):
-            bar = progress.Progress()
-            for done in (0, 50, 100):
-                bar.step("heights", done, 100)
-            bar.clear()
-        return stream.getvalue()
-
-    def test_a_bar_on_a_terminal_and_nothing_elsewhere(self) -> None:
-        self.assertEqual(self.shown(False, 0), "")
-        self.assertEqual(self.shown(True, 60), "")
-        shown = self.shown(True, 0)
-        self.assertIn(f"[{'#' * 30}] 100 %", shown)
-        self.assertTrue(shown.endswith("\r"), "the bar is taken away")
+def test_judge(files: dict[str, str], wrong: list[str], tmp_path: Path, world: worlds.World) -> None:
+    done = command("judge", *worlds.words(files))
+    assert (
+        (done.status, done.error) == (0, "")
+        and "\naccepted " in done.out
+        and "judged: con, dir, acc, bas over dem" in done.out
+    )
+    done = command("judge", *wrong, *outputs(tmp_path))
+    assert done.status == 1 and "rejected rule=13 Accumulation" in done.out and "con: the least surface" in done.out
+    assert (
+        "data:image/png;base64," in (tmp_path / "r.html").read_text()
+        and (tmp_path / "p.png").read_bytes()[1:4] == b"PNG"
+    )
+    with rasterio.open(tmp_path / "m.tif") as file:
+        assert file.read(1)[world.cells()[33]] == 13
+    assert not [path for path in tmp_path.iterdir() if path.name.startswith(".")]
+    done = command("judge", "--quiet", "--no-parts", *wrong)
+    assert done.out.startswith("rejected") and "the least surface" not in done.out
 
 
-class Program(unittest.TestCase):
-    """drain-gis as a program of its own."""
+@pytest.mark.parametrize(
+    ("names", "over"),
+    [
+        ("dem con", "dem"), ("dem dir", "dem"), ("con", "itself"), ("con dir", "itself"),
+        ("dem con dir", "dem"), ("dem dir acc", "dem"), ("dem dir bas", "dem"), ("dem con dir bas", "dem"), ("dir", ""),
+        ("dir acc", ""), ("dir bas", ""), ("dir acc bas", ""),
+    ],
+)  # fmt: skip
+def test_any_rasters_together(
+    files: dict[str, str], tmp_path: Path, world: worlds.World, names: str, over: str
+) -> None:
+    given = {name: files[name] for name in names.split()}
+    done, judged = command("judge", *worlds.words(given)), ", ".join(name for name in names.split() if name != "dem")
+    assert done.status == 0 and f"judged: {judged} over {over}" in done.out, done
+    a = np.where(world.void, -9999, getattr(world, names.split()[-1]))
+    a[world.cells()[-33]] += -50 if names.endswith("con") else 1
+    given[names.split()[-1]] = worlds.write_tif(tmp_path / "odd.tif", a.astype(np.int32), -9999)
+    done = command("judge", *worlds.words(given), "--acc-counts", "cells", *outputs(tmp_path))
+    assert done.status == 1 and {"r.html", "m.tif", "p.png"} <= {path.name for path in tmp_path.iterdir()}, done
 
-    def test_installed_beside_the_program(self) -> None:
-        with tempfile.TemporaryDirectory() as prefix:
-            make = ["make", "-s", "-C", str(COMPANION.parent), "install-companion", f"PREFIX={prefix}"]
-            subprocess.run(make, check=True, capture_output=True)
-            drain = Path(prefix, "bin/drain")
-            drain.write_text('#!/bin/sh\necho "accepted rows=1 cols=1 data=2842 raised=0 outlets=1"\n')
-            drain.chmod(0o755)
-            fixture, out = COMPANION / "tests/fixtures", Path(prefix, "out")
-            words = [Path(prefix, "bin/drain-gis"), "import", "--from", "saga", "--dem", fixture / "dem.tif"]
-            words += ["--con", fixture / "saga-con.tif", "--dir", fixture / "saga-dir.tif", "--judge", out]
-            without = {name: value for name, value in os.environ.items() if name != "DRAIN"}
+
+def test_import_then_judge(wrong: list[str], files: dict[str, str], tmp_path: Path) -> None:
+    out = tmp_path / "a set"
+    done = command("import", *wrong, out)
+    assert done.status == 0 and f"cd {shlex.quote(str(out))} && drain audit --products ." in done.out
+    direct, done = command("judge", *wrong, *outputs(tmp_path)), command("judge", out)
+    line = next(line for line in direct.out.splitlines() if line.startswith("rejected"))
+    assert done.status == 1 and line in done.out and files["dem"] in done.out
+    assert (tmp_path / "m.tif").read_bytes() == (out / "faults.tif").read_bytes() and (out / "report.html").exists()
+    assert (
+        command("import", "--con", files["con"], "--dem", files["dem"], tmp_path / "b").status == 0
+    ), "--dem swallows no OUT"
+
+
+def test_make_and_derive(files: dict[str, str], tmp_path: Path) -> None:
+    """GeoTIFFs in the source's grid and coordinate system and in the user's codes, and they are right."""
+    made = {name: str(tmp_path / f"made-{name}.tif") for name in worlds.PRODUCTS}
+    assert command("make", "--to", "taudem", files["dem"], *made.values()).status == 0
+    done = command("judge", *worlds.words({"dem": files["dem"], **made}, "taudem"))
+    assert done.status == 0, done
+    with rasterio.open(made["con"]) as file, rasterio.open(files["dem"]) as dem:
+        assert (file.crs, file.transform, file.shape, file.dtypes) == (dem.crs, dem.transform, dem.shape, dem.dtypes)
+    again = {name: str(tmp_path / f"{name}.tif") for name in ("acc", "bas")}
+    done = command("derive", "--from", "taudem", "--dem", files["dem"], made["dir"], *again.values())
+    assert done.status == 0, done
+    assert command("judge", *worlds.words({"dem": files["dem"], "dir": made["dir"], **again}, "taudem")).status == 0
+    before = Path(files["dem"]).read_bytes()
+    (tmp_path / "link-con.tif").symlink_to(files["dem"])
+    for out in (files["dem"], str(tmp_path / "link-con.tif"), str(tmp_path / "odd.tif")):
+        assert command("make", files["dem"], out).status == 2 and Path(files["dem"]).read_bytes() == before
+    with pytest.raises(drain_gis.CannotJudge, match="doesn't end"):
+        drain_gis.derive(np.array([[1, 16]]), {"acc": tmp_path / "ring-acc.tif"}, "esri")
+
+
+@pytest.mark.parametrize("option", ["--out", "--map", "--picture"])
+def test_no_output_takes_the_place_of_an_input(
+    files: dict[str, str], wrong: list[str], tmp_path: Path, option: str
+) -> None:
+    before = Path(files["dem"]).read_bytes()
+    (tmp_path / "link.tif").symlink_to(files["dem"])
+    os.link(files["dem"], tmp_path / "hard.tif")
+    for name in ("dem.tif", "link.tif", "hard.tif", f"../{tmp_path.name}/dem.tif"):
+        done = command("judge", *wrong, option, tmp_path / name)
+        assert (done.status, Path(files["dem"]).read_bytes() == before) == (2, True), done
+    assert (tmp_path / "link.tif").is_symlink()
+    other = "--out" if option == "--map" else "--map"
+    assert command("judge", *wrong, option, tmp_path / "one", other, tmp_path / "one").status == 2
+
+
+@pytest.mark.parametrize(
+    "words",
+    [
+        "judgement", "judge", "judge --dem {dem}", "judge --dem {dem} --dir {dir}", "judge --con {con} --con {con}",
+        "judge --con nothere.tif", "judge --con {con} --nodata x=1", "judge --con {con} --nodata con", "judge --from arc --con {con}",
+        "judge --con {con} --nodata con=nan", "judge --con {con} --nodata con=1e300", "judge --con {con} --sinks nothere",
+        "judge --from saga --dem {dem} --con {con} --dir {dir} --inland-sinks", "judge {base}/nothere", "judge {base}", "judge {con}",
+        "judge --from hydrosheds --con {con} --inland-sinks", "import --con {con}", "whole --unit 0.02 {dem} {base}/w.tif",
+        "judge --acc {acc}", "make {dem}", "make {dem} {base}/x.tif", "derive {dir} {base}/acc.tif", "surface --con {con}",
+    ],
+)  # fmt: skip
+def test_faults_of_the_command_line(files: dict[str, str], tmp_path: Path, words: str) -> None:
+    before = set(tmp_path.iterdir())
+    done = command(*words.format(**files, base=tmp_path).split())
+    assert (done.status, done.out) == (2, "") and done.error, done
+    assert "Traceback" not in done.error and set(tmp_path.iterdir()) == before
+
+
+@pytest.mark.parametrize(
+    ("text", "reason"),
+    [
+        ("1 1\nx y\n", "line 2"), ("\n1\n", "line 2"), ("1 2 3", "line 1"), ("-1 2", "line 1"), ("1 1\n\n23 0", "row 23, column 0"),
+        ("9" * 5000 + " 1", "line 1"), ("\udcff 1", ""), ("٣ 1", ""),
+    ],
+)  # fmt: skip
+def test_lists_of_sinks(files: dict[str, str], tmp_path: Path, text: str, reason: str) -> None:
+    (tmp_path / "lakes").write_bytes(text.encode("utf-8", "surrogateescape"))
+    done = command("judge", "--dem", files["dem"], "--con", files["con"], "--sinks", tmp_path / "lakes")
+    assert done.status == 2 and reason in done.error and "Traceback" not in done.error, done
+
+
+def test_help_and_version() -> None:
+    overview = command("--help")
+    assert overview.status == 0 and "Tested, not proved" in overview.out
+    for name in COMMANDS:
+        assert f"  {name} " in overview.out and command(name, "--help").status == 0
+    assert drain_gis.__version__ in command("--version").out
+
+
+def test_statuses_of_a_program_of_its_own(files: dict[str, str], wrong: list[str], tmp_path: Path) -> None:
+    """Nobody reads on, standard output is full, a package is missing: none of them ends with 1, a rejection."""
+    program = [sys.executable, "-m", "drain_gis", "judge"]
+    for arguments, status in ((worlds.words(files), 0), (wrong, 1)):
+        with subprocess.Popen(
+            [*program, *arguments], cwd=COMPANION, stdout=subprocess.PIPE, stderr=subprocess.PIPE
+        ) as child:
+            child.stdout.close()
+            assert child.wait() == status and child.stderr.read() == b""
+        with open("/dev/full", "wb") as full:
             done = subprocess.run(
-                [str(word) for word in words], capture_output=True, text=True, check=False, env=without, cwd=prefix
+                [*program, *arguments], cwd=COMPANION, stdout=full, stderr=subprocess.PIPE, check=False
             )
-            self.assertEqual(done.returncode, 0, done.stderr)
-            self.assertIn("accepted rows=1", done.stdout, "the program beside it is run")
-
-    def test_help_version_and_wrong_words(self) -> None:
-        done = start("--help")
-        self.assertEqual(done.status, 0)
-        for command in ("import", "judge", "surface", "flow", "whole"):
-            self.assertIn(f"    {command} ", done.out)
-            self.assertEqual(start(command, "--help").status, 0)
-        self.assertIn("Tested, not proved", done.out)
-        self.assertEqual(start("--version").out, "drain-gis 0.1.0\n")
-        for words in ((), ("judgement",), ("judge",), ("whole", "--unit", "0.02", "a", "b")):
-            self.assertEqual(start(*words).status, 2, words)
-
-    def test_without_its_packages_and_with_a_fault_of_its_own_it_fails(self) -> None:
-        """Python's own status would be 1, which means rejected."""
-        with tempfile.TemporaryDirectory() as base:
-            Path(base, "osgeo.py").write_text("raise ImportError('No module named osgeo')")
-            done = start("--help", PYTHONPATH=base)
-            self.assertEqual((done.status, "needs Debian's packages python3-gdal" in done.error), (3, True), done.error)
-            with mock.patch.dict(commands.COMMANDS, {"judge": lambda arguments: 1 // 0}):
-                done = run(main, "judge", base)
-            self.assertEqual((done.status, "failed: a fault of drain-gis itself" in done.error), (3, True), done.error)
-
-    def test_without_the_program(self) -> None:
-        fixture = COMPANION / "tests/fixtures"
-        with tempfile.TemporaryDirectory() as base:
-            words = ["--from", "saga", "--dem", fixture / "dem.tif", "--con", fixture / "saga-con.tif"]
-            words += ["--dir", fixture / "saga-dir.tif", f"{base}/out"]
-            done = start("import", *words, DRAIN="/no/drain")
-            self.assertEqual((done.status, done.error), (0, ""))
-            self.assertIsNone(json.loads(Path(base, "out/import.json").read_text())["versions"]["drain"])
-            done = start("judge", f"{base}/out", DRAIN="/no/drain")
-            self.assertEqual((done.status, "failed: no program /no/drain" in done.error), (3, True), done.error)
-            done = start("judge", f"{base}/out", "--drain", "/bin/false")
-            self.assertEqual(done.status, 3)
-            self.assertEqual(done.error, "failed: drain audit: a line that isn't known, with status 1: \n")
-
-    def test_nothing_but_the_answer_on_standard_error_elsewhere_than_on_a_terminal(self) -> None:
-        fixture = COMPANION / "tests/fixtures"
-        with tempfile.TemporaryDirectory() as base:
-            words = ["--dem", fixture / "dem.tif", "--con", fixture / "saga-con.tif", "--judge", f"{base}/out"]
-            done = start("import", *words)
-        self.assertEqual((done.status, done.error), (0, ""))
+        assert (done.returncode, b"failed: " in done.stderr) == (3, True)
+    (tmp_path / "rasterio.py").write_text("raise ImportError('No module named rasterio')")
+    launched = subprocess.run(
+        [COMPANION / "drain-gis", "judge", *wrong], env={**os.environ, "PYTHONPATH": str(tmp_path)}, capture_output=True, text=True
+    )  # fmt: skip
+    assert (launched.returncode, "rasterio" in launched.stderr) == (3, True), launched
+    assert start("judge", *worlds.words(files), DRAIN="/no/drain").status == 3
 
 
-if __name__ == "__main__":
-    unittest.main()
+def by(
+    folder: Path, files: dict[str, str], audit: bytes, explain: str, status: int = 1, faults: bytes = b""
+) -> Printed:
+    """Judges with a program that prints these bytes."""
+    for name, content in (("audit", audit), ("explain", explain.encode("latin-1")), ("faults", faults)):
+        (folder / name).write_bytes(content)
+    script = folder / "program"
+    script.write_text(
+        f'#!/bin/sh\ncase "$1" in --version) echo drain;; audit) cat {folder}/audit; exit {status};;\n'
+        f'explain) while [ "$1" != --map ]; do shift; done; cp {folder}/faults "$2"; cat {folder}/explain; exit 1;;\n*) exit 3;; esac\n'
+    )
+    script.chmod(0o755)
+    return command("judge", "--no-parts", "--drain", script, *worlds.words(files))
+
+
+RULE, FIRST = '{"rules": [{"rule": %s, "name": %s, "cells": %s, "first": %s}]}', '{"row": 0, "col": 0}'
+PAGE, REJECTED = RULE % (10, '"Slope"', 1, FIRST), b"rejected rule=10 Slope row=0 col=0"
+
+
+@pytest.mark.parametrize(
+    ("line", "page", "faults"),
+    [
+        *((line, PAGE, b"") for line in (
+            b"", b"\n", b"\xff\xfe\x00odd", b"accepted", b"accepted data=1", b"accepted data=x raised=0 outlets=1", b"rejected Slope",
+            b"accepted data=" + b"9" * 5000 + b" raised=0 outlets=1", b"\x1b[2Jaccepted", b"accepted rows=1 cols=1 data=1 raised=0",
+        )),
+        *((REJECTED, page, b"") for page in (
+            "", "\xff", "[]", "null", "{}", '{"rules": 3}', '{"rules": [3]}', "[" * 10**5, RULE % ('"x"', '"Slope"', 1, FIRST),
+            RULE % (10, '"Slope"', -1, FIRST), RULE % (10, '"Slope"', "NaN", FIRST), RULE % (10, '"Slope"', 1, "{}"),
+        )),
+        *((REJECTED, PAGE, faults) for faults in (b"\x0a", b"\x0a" * 10**6, b"\x07" * 23 * 34)),
+    ],
+    ids=lambda value: repr(value[:30]),
+)  # fmt: skip
+def test_answers_that_are_none(files: dict[str, str], tmp_path: Path, line: bytes, page: str, faults: bytes) -> None:
+    for status in (0, 1, 3) if page is PAGE and not faults else (1,):
+        done = by(tmp_path, files, line, page, status, faults)
+        assert done.status == 3 and "Traceback" not in done.error and done.out == "", done
+
+
+@pytest.mark.parametrize("name", ["/no/such", "/bin/false", "/etc/passwd"])
+def test_no_program_is_a_failure(files: dict[str, str], name: str) -> None:
+    done = command("judge", *worlds.words(files), "--drain", name)
+    assert done.status == 3 and "failed: " in done.error and "Traceback" not in done.error, done
+
+
+def test_one_odd_raster_does_not_stop_the_others(files: dict[str, str], tmp_path: Path, world: worlds.World) -> None:
+    """What can't be read or converted is dropped with a sentence, and the rest is judged: status 2."""
+    (tmp_path / "broken.tif").write_bytes(b"no raster")
+    odd = worlds.write_tif(tmp_path / "odd.tif", world.acc + np.random.default_rng(1).random(world.acc.shape))
+    small = worlds.write_tif(tmp_path / "small.tif", np.ones((3, 3), np.int16))
+    for name, path in (("bas", tmp_path / "broken.tif"), ("acc", odd), ("bas", small)):
+        done, others = command("judge", *worlds.words({**files, name: str(path)})), [
+            n for n in worlds.PRODUCTS if n != name
+        ]
+        assert (
+            done.status == 2
+            and f"judged: {', '.join(others)} over dem" in done.out
+            and f"not judged: {name}: " in done.out
+        ), done

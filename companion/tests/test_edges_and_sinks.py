@@ -1,173 +1,157 @@
-"""Where water leaves: codes that lead off, rims without directions, listed and inland sinks, flat worlds, no data."""
+"""Where water leaves: codes that lead off, rims without directions, listed and inland sinks, flat worlds; one odd cell."""
 
-import unittest
+from typing import Any
 
 import drain_gis
+import libraries
 import numpy as np
+import pytest
 import worlds
 
 BOWL = np.maximum.outer(np.abs(np.arange(5) - 2), np.abs(np.arange(5) - 2)) * 10
+DOWN = libraries.random_steepest(BOWL, np.zeros(BOWL.shape, bool), np.random.default_rng(1))
+"""Directions of the bowl: 0 in its middle."""
 
 
-class Edges(unittest.TestCase):
-    """Outlets, and the rim."""
-
-    def setUp(self) -> None:
-        self.world = worlds.random_world(seed=3)
-
-    def masked(self, a: np.ndarray, more: np.ndarray | None = None) -> np.ndarray:
-        return np.ma.array(a, mask=self.world.void if more is None else self.world.void | more)
-
-    def test_outlets_that_lead_off_get_0(self) -> None:
-        codes = self.masked(worlds.leading_off(self.world))
-        outlets = int((self.world.dir[~self.world.void] == 0).sum())
-        verdict = drain_gis.audit(**self.world.given("con"), dir=codes, codes="esri")
-        self.assertTrue(verdict, verdict)
-        self.assertEqual(verdict.counts["outlets"], outlets)
-        text = f"dir: {outlets} outlets had a code that leads off the grid or into no data, and have 0"
-        self.assertIn(text, verdict.notes)
-        self.assertEqual(drain_gis.audit(**self.world.given("con"), dir=codes, ends=False, codes="esri").name, "NoEnd")
-
-    def test_a_cell_with_a_lower_neighbour_keeps_a_code_that_leads_off(self) -> None:
-        codes = self.world.dir.copy()
-        cell, code = next(
-            (cell, code)
-            for cell in worlds.data_cells(self.world.void)
-            for code in worlds.STEP
-            if codes[cell]
-            and code not in dict(worlds.beside(cell, self.world.void))
-            and min(self.world.con[other] for _, other in worlds.beside(cell, self.world.void)) < self.world.con[cell]
-        )
-        codes[cell] = code
-        self.assertEqual(drain_gis.audit(**self.world.given("con"), dir=self.masked(codes), codes="esri").name, "NoEnd")
-
-    def test_a_rim_without_directions_is_completed_only_on_request(self) -> None:
-        rows, cols = self.world.void.shape
-        rim = np.array([[worlds.is_open((r, c), self.world.void) for c in range(cols)] for r in range(rows)])
-        blank = self.masked(self.world.dir, rim)
-        verdict = drain_gis.audit(**self.world.given("con"), dir=blank, codes="esri")
-        self.assertEqual((verdict.accepted, verdict.judged), (False, ("con", "dir")))
-        verdict = drain_gis.audit(**self.world.given("con"), dir=blank, complete_rim=True, codes="esri")
-        self.assertTrue(verdict, verdict)
-        cells = int((rim & ~self.world.void).sum())
-        text = f"{cells} cells at the edge or beside voids"
-        self.assertTrue(any(text in note for note in verdict.notes), verdict.notes)
-
-    def test_a_number_in_a_void_and_none_in_a_data_cell_are_rejected(self) -> None:
-        void, con = np.argwhere(self.world.void)[0], self.world.con.copy()
-        mask = self.world.void.copy()
-        mask[tuple(void)] = False
-        con[tuple(void)] = 7
-        verdict = drain_gis.audit(**self.world.given("dir"), con=np.ma.array(con, mask=mask), codes="esri")
-        self.assertEqual((verdict.name, verdict.row, verdict.col), ("VoidCell", *void))
-        self.assertTrue(any(note.startswith("con: a number at 1 cell without an") for note in verdict.notes))
-        for code in worlds.STEP:
-            codes = self.world.dir.copy()
-            codes[tuple(void)] = code
-            verdict = drain_gis.audit(**self.world.given("con"), dir=np.ma.array(codes, mask=mask), codes="esri")
-            self.assertEqual((verdict.name, verdict.row, verdict.col), ("VoidCell", *void))
-            self.assertFalse([note for note in verdict.notes if "outlets had a code" in note], code)
-        cell = worlds.data_cells(self.world.void)[60]
-        for name in ("con", "dir", "acc", "bas"):
-            given = self.world.given("con", "dir", "acc", "bas")
-            given[name] = given[name].copy()
-            given[name][cell] = np.ma.masked
-            verdict = drain_gis.audit(**given, parts=True, codes="esri")
-            self.assertFalse(verdict, name)
-            self.assertIn((2, "Missing"), verdict.rules, name)
-            text = f"{name}: no data at 1 cell with an elevation"
-            self.assertTrue(any(note.startswith(text) for note in verdict.notes), verdict.notes)
-            if name == "con":
-                self.assertIn("1 cell too high or without a height, 0 too low", verdict.parts["con"])
-
-    def test_a_no_data_number_that_is_not_named_is_suggested(self) -> None:
-        acc = np.where(self.world.void, -1, self.world.acc)
-        with self.assertRaisesRegex(drain_gis.CannotImport, "acc: -1 at row"):
-            drain_gis.audit(**self.world.given("con", "dir"), acc=acc, codes="esri")
-        bas = np.where(self.world.void, 10**6, self.world.bas)
-        verdict = drain_gis.audit(**self.world.given("con", "dir"), bas=bas, codes="esri")
-        self.assertFalse(verdict)
-        self.assertTrue(any("--nodata bas=1000000 does" in note for note in verdict.notes), verdict.notes)
-        self.assertTrue(
-            drain_gis.audit(**self.world.given("con", "dir"), bas=bas, nodata={"bas": 10**6}, codes="esri")
-        )
+def test_outlets_that_lead_off_get_0() -> None:
+    world = worlds.random_world(seed=3)
+    rasters = {**world.given("con", "acc"), "dir": np.ma.array(world.leading_off(), mask=world.void)}
+    verdict, outlets = drain_gis.audit(**rasters, codes="esri"), int((world.dir[~world.void] == 0).sum())
+    assert verdict and verdict.answer.counts["outlets"] == outlets
+    assert any(f"{outlets} outlets had a code that leads off" in note for note in verdict.notes)
+    verdict = drain_gis.audit(**rasters, ends="keep", parts=True, codes="esri")
+    assert verdict.name == "NoEnd" and verdict.parts["con"] == "the least surface"
 
 
-class Sinks(unittest.TestCase):
-    """Where water may end inland."""
-
-    def test_listed_sinks(self) -> None:
-        codes = worlds.steepest(BOWL, np.zeros(BOWL.shape, bool))
-        self.assertTrue(drain_gis.audit(BOWL, con=BOWL, dir=codes, sinks=[(2, 2)], codes="esri"))
-        self.assertFalse(drain_gis.audit(BOWL, con=BOWL, dir=codes, codes="esri"))
-        full = np.full(BOWL.shape, 20)
-        self.assertTrue(drain_gis.audit(BOWL, con=full))
-        self.assertFalse(drain_gis.audit(BOWL, con=full, sinks=[(2, 2)]))
-        high, low = drain_gis.audit_surface(BOWL, BOWL, sinks=[(2, 2)])
-        self.assertFalse((high | low).any())
-        self.assertTrue(drain_gis.audit_surface(BOWL, BOWL).low.any())
-
-    def test_a_bad_list_of_sinks_is_refused(self) -> None:
-        dem = np.ma.masked_array(BOWL, mask=np.arange(25).reshape(5, 5) == 7)
-        for cell in ((9, 9), (5, 0), (1, 2)):
-            with self.assertRaisesRegex(drain_gis.CannotImport, f"line 2: row {cell[0]}, column {cell[1]} has no"):
-                drain_gis.audit(dem, con=dem, dir=BOWL * 0, sinks=[(2, 2), cell], codes="esri")
-            with self.assertRaisesRegex(drain_gis.CannotImport, "line 1: row"):
-                drain_gis.audit_surface(dem, dem, sinks=[cell])
-
-    def test_inland_sinks_of_a_tool(self) -> None:
-        codes = worlds.steepest(BOWL, np.zeros(BOWL.shape, bool))
-        codes[2, 2] = 255
-        for given in ({"dem": BOWL, "con": BOWL}, {"con": BOWL}):
-            verdict = drain_gis.audit(**given, dir=codes, codes="hydrosheds", inland=True)
-            self.assertTrue(verdict, verdict)
-            self.assertTrue(any("1 cells that dir calls inland sinks are listed" in n for n in verdict.notes))
-            self.assertFalse(drain_gis.audit(**given, dir=codes, codes="hydrosheds"))
-        codes[0, 0] = 255
-        dem = np.ma.masked_array(BOWL, mask=np.arange(25).reshape(5, 5) == 0)
-        verdict = drain_gis.audit(dem, con=dem, dir=codes, codes="hydrosheds", inland=True)
-        self.assertEqual((verdict.name, verdict.row, verdict.col), ("VoidCell", 0, 0), "a void is no sink")
-        with self.assertRaisesRegex(drain_gis.CannotImport, "saga has no number for inland sinks"):
-            drain_gis.audit(BOWL, con=BOWL, dir=codes, codes="saga", inland=True)
-
-    def test_con_as_its_own_ground(self) -> None:
-        world = worlds.random_world(seed=3)
-        verdict = drain_gis.audit(None, con=world.masked("con"), dir=world.masked("dir"), codes="esri")
-        self.assertTrue(verdict, verdict)
-        self.assertTrue(any("con is its own ground" in note for note in verdict.notes))
-        self.assertFalse(drain_gis.audit(None, con=world.masked("dem"), dir=world.masked("dir"), codes="esri"))
+def test_a_cell_with_a_lower_neighbour_keeps_a_code_that_leads_off() -> None:
+    world = worlds.random_world(seed=3)
+    rim = [cell for cell in world.cells() if world.dir[cell] and len(world.beside(cell)) < 8]
+    lower = next(cell for cell in rim if min(world.con[c] for c in world.beside(cell).values()) < world.con[cell])
+    world.dir[lower] = next(code for code in worlds.STEP if code not in world.beside(lower))
+    assert drain_gis.audit(**world.given("con", "dir"), codes="esri").name == "NoEnd"
 
 
-class Flat(unittest.TestCase):
-    """Worlds of one height."""
-
-    def test_flat_worlds(self) -> None:
-        for shape in ((1, 1), (1, 7), (6, 1), (2, 2), (9, 12)):
-            for height in (0, -32767, 32767, 250.5):
-                z, void = np.full(shape, height), np.zeros(shape, bool)
-                codes = worlds.directions(z, void)
-                acc, bas = worlds.counted(codes, void)
-                verdict = drain_gis.audit(z, con=z, dir=codes, acc=acc, bas=bas, acc_counts="cells", codes="esri")
-                self.assertTrue(verdict, f"{shape} {height}: {verdict}")
-                self.assertEqual(verdict.counts["raised"], 0)
-                if min(shape) > 2:
-                    codes[shape[0] // 2, shape[1] // 2] = 0
-                    self.assertFalse(drain_gis.audit(z, con=z, dir=codes, codes="esri"))
-
-    def test_nothing_to_judge_and_no_elevation_are_refused(self) -> None:
-        cases = (
-            ({"dem": BOWL}, "nothing to judge"),
-            ({"dem": BOWL, "acc": BOWL}, "give dir"),
-            ({"dir": BOWL}, "give dem"),
-            ({"dem": BOWL, "con": BOWL[:4]}, "con has 4 rows and 5 columns, dem 5 and 5"),
-            ({"dem": np.full((2, 2), np.nan), "con": np.ones((2, 2))}, "no cell with an elevation"),
-            ({"dem": BOWL[0], "con": BOWL}, "two dimensions"),
-            ({"dem": BOWL[:0], "con": BOWL}, "empty"),
-        )
-        for given, text in cases:
-            with self.assertRaisesRegex(drain_gis.CannotImport, text):
-                drain_gis.audit(**given, codes="esri")
+def test_a_rim_without_directions_is_completed_only_on_request() -> None:
+    world = worlds.random_world(seed=3)
+    rim = libraries.open_cells(world.void)
+    rasters = {**world.given("con"), "dir": np.ma.array(world.dir, mask=world.void | rim)}
+    assert not drain_gis.audit(**rasters, codes="esri")
+    verdict = drain_gis.audit(**rasters, complete_rim=True, codes="esri")
+    assert verdict and any(f"{rim.sum()} cells at the edge" in note for note in verdict.notes)
 
 
-if __name__ == "__main__":
-    unittest.main()
+def test_sinks() -> None:
+    assert drain_gis.audit(BOWL, con=BOWL, dir=DOWN, sinks=[(2, 2)], codes="esri")
+    assert not drain_gis.audit(BOWL, con=BOWL, dir=DOWN, codes="esri")
+    assert drain_gis.audit(BOWL, con=np.full(BOWL.shape, 20))
+    assert not drain_gis.audit(BOWL, con=np.full(BOWL.shape, 20), sinks=[(2, 2)])
+    rough = BOWL * np.pi
+    assert drain_gis.audit(rough, con=rough, sinks=[(2, 2)]) and not drain_gis.audit(rough, con=rough)
+    dem = np.ma.masked_array(BOWL, mask=np.arange(25).reshape(5, 5) == 7)
+    for row, col in ((9, 9), (5, 0), (1, 2), (-1, 0)):
+        with pytest.raises(drain_gis.CannotJudge, match=f"row {row}, column {col} has no elevation"):
+            drain_gis.audit(dem, con=dem, sinks=[(2, 2), (row, col)])
+
+
+def test_inland_sinks_of_a_tool() -> None:
+    codes, dem = DOWN.copy(), np.ma.masked_array(BOWL, mask=np.arange(25).reshape(5, 5) == 0)
+    codes[2, 2] = 255
+    for given in ({"dem": BOWL, "con": BOWL}, {"con": BOWL}):
+        assert drain_gis.audit(**given, dir=codes, codes="hydrosheds", inland_sinks=True)
+        assert not drain_gis.audit(**given, dir=codes, codes="hydrosheds")
+    codes[0, 0] = 255
+    verdict = drain_gis.audit(dem, con=dem, dir=codes, codes="hydrosheds", inland_sinks=True)
+    assert (verdict.name, verdict.row, verdict.col) == ("VoidCell", 0, 0), "a void is no sink"
+    with pytest.raises(drain_gis.CannotJudge, match="saga has no number for inland sinks"):
+        drain_gis.audit(BOWL, con=BOWL, dir=codes, codes="saga", inland_sinks=True)
+
+
+def test_what_is_not_given() -> None:
+    """con that isn't given is drain's own; without dem con is its own ground; without both dir is judged by its paths."""
+    world = worlds.random_world(seed=3)
+    verdict = drain_gis.audit(**world.given("dir", "acc", "bas"), codes="esri")
+    assert verdict and verdict.judged == ("dir", "acc", "bas")
+    verdict = drain_gis.audit(con=world.masked("con"), dir=world.masked("dir"), codes="esri")
+    assert verdict and any("its own ground" in note for note in verdict.notes)
+    assert not drain_gis.audit(con=world.masked("dem"), dir=world.masked("dir"), codes="esri")
+    assert not any("own ground" in note for note in drain_gis.audit(world.masked("dem"), con=world.masked("dem")).notes)
+    assert drain_gis.audit(dir=world.masked("dir"), bas=world.masked("bas"), codes="esri")
+
+
+@pytest.mark.parametrize("shape", [(1, 1), (1, 7), (6, 1), (2, 2), (9, 12)])
+@pytest.mark.parametrize("height", [0, -32767, 32767, 250.5])
+def test_flat_worlds(shape: tuple[int, int], height: float) -> None:
+    world = worlds.world_of(np.full(shape, height), np.zeros(shape, bool))
+    verdict = drain_gis.audit(**world.given(), acc_counts="cells", codes="esri")
+    assert verdict and verdict.answer.counts["raised"] == 0
+    if min(shape) > 2:
+        world.dir[shape[0] // 2, shape[1] // 2] = 0
+        assert not drain_gis.audit(**world.given("con", "dir"), codes="esri")
+
+
+@pytest.mark.parametrize("shape", [(1, 1), (1, 9), (2, 2), (3, 40), (13, 9), (61, 61)])
+def test_codes_along_the_edge_of_every_shape(shape: tuple[int, int]) -> None:
+    """The rasters lie in a larger frame of voids: codes of the last row and column that lead off go into it."""
+    world, options = worlds.random_world(*shape, seed=6, voids=0), {
+        "codes": "esri",
+        "ends": "keep",
+        "acc_counts": "cells",
+    }
+    assert drain_gis.audit(**world.given(), **options)
+    world.dir[-1], world.dir[:, -1] = 4, 1
+    verdict = drain_gis.audit(**world.given(), **options)
+    assert verdict.name == "NoEnd" and verdict.row < shape[0] and verdict.col < shape[1]
+
+
+@pytest.mark.parametrize(
+    ("given", "text"),
+    [
+        ({"dem": BOWL}, "nothing to judge"), ({"dem": BOWL, "acc": BOWL}, "give dir"), ({"acc": BOWL}, "give dir"),
+        ({"dem": BOWL, "con": BOWL[:4]}, "con: 4 rows and 5 columns, dem has 5 and 5"),
+        ({"dem": np.full((2, 2), np.nan), "con": np.ones((2, 2))}, "no cell with an elevation"),
+        ({"con": BOWL[0]}, "two dimensions"), ({"con": BOWL[:0]}, "shape"), ({"con": BOWL * 1j}, "complex"),
+        ({"dem": BOWL, "con": BOWL, "nodata": {"conn": 1}}, "conn: expected names of dem, con"),
+        ({"dem": BOWL, "con": BOWL, "acc_counts": "pixels"}, "acc_counts"), ({"con": BOWL, "ends": "no"}, "ends"),
+        ({"con": BOWL.astype("i2"), "nodata": {"con": 70000}}, "can't hold it"),
+    ],
+)  # fmt: skip
+def test_what_cannot_be_judged_is_refused(given: dict[str, Any], text: str) -> None:
+    with pytest.raises(drain_gis.CannotJudge, match=text):
+        drain_gis.audit(**given, codes="esri")
+
+
+ROWS, COLS, RIDGE, PIT = 3500, 310, 3300, (3450, 150)
+"""A slope on each side of a ridge, of two windows at least: the cells below the ridge are all in the last."""
+
+ROW = np.arange(ROWS)[:, None]
+Z = np.broadcast_to(RIDGE - np.abs(ROW - RIDGE), (ROWS, COLS)).astype(np.int32)
+SLOPES = {
+    "dem": Z,
+    "con": Z,
+    "dir": np.where(ROW % (ROWS - 1) == 0, 0, np.where(ROW < RIDGE, 64, 4)).astype(np.int16) * np.ones(COLS, np.int16),
+    "acc": np.where(ROW < RIDGE, RIDGE - ROW, ROW - RIDGE + 1) * np.ones(COLS, np.int64),
+    "bas": np.where(ROW < RIDGE, 1, 601) + np.arange(COLS),
+}
+
+
+def with_cell(name: str, number: Any, kind: Any = None) -> dict[str, np.ndarray]:
+    """The right set, with another number at one cell of its last window."""
+    a = SLOPES[name].astype(kind or SLOPES[name].dtype)
+    a[PIT] = number
+    return {**SLOPES, name: a}
+
+
+@pytest.mark.parametrize(
+    ("rasters", "text"),
+    [
+        (SLOPES, "accepted"), ({**SLOPES, "bas": np.where(SLOPES["bas"] == SLOPES["bas"][PIT], -7, SLOPES["bas"])}, "accepted"),
+        (with_cell("con", Z[PIT] + 0.5, "f4"), "rejected"), (with_cell("con", Z[PIT] - 0.25, "f8"), "rejected"),
+        (with_cell("dir", 3), "rejected"), (with_cell("bas", 9000), "rejected"),
+        *((with_cell("acc", n, "f8"), f"row {PIT[0]}, column {PIT[1]} is no count") for n in (1.5, -1)),
+        (with_cell("bas", 1.5, "f8"), "no label"),
+    ],
+)  # fmt: skip
+def test_one_odd_cell_in_the_last_window_is_seen(rasters: dict[str, np.ndarray], text: str) -> None:
+    verdict = drain_gis.audit(**rasters, codes="esri")
+    assert verdict.line.startswith(text) or text in "".join(verdict.dropped.values())
+    assert verdict.accepted or verdict.map[PIT] not in (0, 255)

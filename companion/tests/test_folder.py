@@ -1,172 +1,238 @@
-"""Everything that the package writes into OUT, by plain file reading: tiles, headers, rasters, lists and import.json.
+"""The folder of an import, by plain file reading: tiles, headers, rasters, sinks and import.json; and one passed on.
 
 Nothing of the package's readers takes part. What is expected is worked out here from the arrays that were written.
 """
 
 import hashlib
 import json
+import os
 import re
-import shutil
 import struct
-import tempfile
-import unittest
+from collections.abc import Iterator
 from pathlib import Path
+from typing import Any
 
 import numpy as np
+import pytest
 import worlds
-from drain_gis.commands import main
-from drain_gis.presets import TOOLS
-from printed import run
+from conftest import drain_gis as command
+from conftest import left
+from drain_gis import sets
+from drain_gis.tools import TOOLS
 
-FACTS = {
-    "rows", "cols", "side", "down", "across", "tiles", "sinks", "tool", "known_by", "options", "sources", "dem",
-    "hashes", "versions", "nodata", "nodata_given", "place", "srs", "unit", "offset", "data", "per", "plus", "shift",
-    "drop_sign", "changed", "judged", "fits", "told", "own_ground",
-}  # fmt: skip
 FORMS = {"con": ("<h", "SIGNEDINT", -32768), "dir": ("<B", "UNSIGNEDINT", 255), "acc": ("<I", "UNSIGNEDINT", 0)}
 FORMS["bas"] = FORMS["acc"]
-ROWS, COLS = 17, 26
+ROWS, COLS, SINK = 17, 26, (8, 11)
 
 
-def numbers_of(path: Path, form: str, cols: int) -> list[list[int]]:
-    """The rows of a raster without a header."""
-    numbers = [number for (number,) in struct.iter_unpack(form, path.read_bytes())]
-    return [numbers[at : at + cols] for at in range(0, len(numbers), cols)]
-
-
-class Folder(unittest.TestCase):
+class Imported:
     """An import of decimetres, PCRaster's codes with an inland sink, areas, and labels from -3."""
 
-    @classmethod
-    def setUpClass(cls) -> None:
-        folder = tempfile.TemporaryDirectory()
-        cls.addClassCleanup(folder.cleanup)
-        cls.base = Path(folder.name)
-        cls.out = cls.base / "out"
-        rng = np.random.default_rng(17)
-        z = rng.integers(5000, 5090, (ROWS, COLS)).astype(np.int32)
-        cls.void = rng.random(z.shape) < 0.05
-        cls.void[8, 9:14], cls.void[7:10, 10:13] = False, False
-        z[8, 11] = 4000
-        cls.sink = (8, 11)
-        con = worlds.filled(z, cls.void, (cls.sink,))
-        codes = worlds.directions(con, cls.void)
-        acc, bas = worlds.counted(codes, cls.void)
-        labels = np.unique(np.where(cls.void, 0, bas), return_inverse=True)[1].reshape(bas.shape) - 4
-        cls.world = worlds.World(z, cls.void, con, codes, acc, labels)
+    def __init__(self, base: Path) -> None:
+        self.out, rng = base / "out", np.random.default_rng(17)
+        z, self.void = rng.integers(5000, 5090, (ROWS, COLS)).astype(np.int32), rng.random((ROWS, COLS)) < 0.05
+        self.void[8, 9:14], self.void[7:10, 10:13], z[SINK] = False, False, 4000
+        world = self.world = worlds.world_of(z, self.void, sinks=(SINK,))
         rasters = {
-            "dem": (z / 10 + 4000, "f4"),
-            "con": (con / 10 + 4000, "f4"),
-            "dir": (worlds.in_codes_of(TOOLS["pcraster"], codes), "i2"),
-            "acc": (acc * 900, "i4"),
-            "bas": (labels, "i4"),
-        }
-        words = ["--from", "pcraster", "--inland-sinks"]
-        for name, (a, kind) in rasters.items():
-            a = np.where(cls.void, -9999, a).astype(kind)
-            words += [f"--{name}", worlds.write_tif(cls.base / f"{name}.tif", a, -9999)]
-        cls.words = words
-        cls.done = run(main, "import", *words, cls.out)
-        cls.facts = json.loads((cls.out / "import.json").read_text(encoding="utf-8"))
-
-    def test_nothing_else_is_written(self) -> None:
-        self.assertEqual(self.done.status, 0, self.done.error)
-        found = {str(path.relative_to(self.out)) for path in self.out.rglob("*") if path.is_file()}
-        products = {f"{name}.{ending}" for name in FORMS for ending in ("bil", "hdr")}
-        self.assertEqual(found, {*products, *self.facts["tiles"], "sinks.txt", "import.json"})
-        self.assertEqual(self.out.stat().st_mode & 0o777, 0o755)
-
-    def shape(self) -> tuple[int, int]:
-        """The rows and columns of the mosaic."""
-        steps = self.facts["side"] - 1
-        return self.facts["down"] * steps + 1, self.facts["across"] * steps + 1
-
-    def test_headers(self) -> None:
-        rows, cols = self.shape()
-        self.assertTrue(rows >= ROWS and cols >= COLS)
-        step = 1 / (self.facts["side"] - 1)
-        for name, (form, kind, nodata) in FORMS.items():
-            lines = (self.out / f"{name}.hdr").read_text(encoding="ascii").splitlines()
-            fields = dict(line.split() for line in lines)
-            expected = {
-                "BYTEORDER": "I", "LAYOUT": "BIL", "NROWS": str(rows), "NCOLS": str(cols), "NBANDS": "1",
-                "NBITS": str(8 * struct.calcsize(form)), "PIXELTYPE": kind, "ULXMAP": "0",
-                "ULYMAP": str(self.facts["down"]), "NODATA": str(nodata),
-            }  # fmt: skip
-            self.assertEqual(len(lines), 12, name)
-            for key in ("XDIM", "YDIM"):
-                self.assertAlmostEqual(float(fields.pop(key)), step, places=14)
-            self.assertEqual(fields, expected, name)
-
-    def expected(self, name: str) -> list[list[int]]:
-        """What a product should have: the raster, and no data around it."""
-        world, (rows, cols) = self.world, self.shape()
-        heights = {"con": world.con, "dem": world.z}
-        values = {"dir": world.dir, "acc": world.acc, "bas": world.bas + 4}
-        if name in heights:
-            values[name] = heights[name] + 40000 + self.facts["offset"]
-        nodata = -32768 if name == "dem" else FORMS[name][2]
-        whole = np.full((rows, cols), nodata, np.int64)
-        whole[:ROWS, :COLS] = np.where(self.void, nodata, values[name])
-        return whole.tolist()
-
-    def test_products(self) -> None:
-        for name, (form, _, _) in FORMS.items():
-            self.assertEqual(numbers_of(self.out / f"{name}.bil", form, self.shape()[1]), self.expected(name), name)
-
-    def test_tiles(self) -> None:
-        side, down, across = (self.facts[key] for key in ("side", "down", "across"))
-        whole = self.expected("dem")
-        names = []
-        for i in range(down):
-            for j in range(across):
-                names.append(f"tiles/N{down - 1 - i:02d}E{j:03d}.hgt")
-                top, left = i * (side - 1), j * (side - 1)
-                part = [row[left : left + side] for row in whole[top : top + side]]
-                self.assertEqual(numbers_of(self.out / names[-1], ">h", side), part, names[-1])
-        self.assertEqual(self.facts["tiles"], names)
-
-    def test_sinks(self) -> None:
-        """PCRaster has one number for outlets and sinks: all cells where water ends are listed."""
-        ends = np.argwhere((self.world.dir == 0) & ~self.void)
-        self.assertIn(list(self.sink), ends.tolist())
-        self.assertEqual((self.out / "sinks.txt").read_text(), "".join(f"{row} {col}\n" for row, col in ends))
-
-    def test_facts(self) -> None:
-        facts = self.facts
-        self.assertEqual(set(facts), FACTS)
-        paths = {name: str(self.base / f"{name}.tif") for name in ("dem", *FORMS)}
-        expected = {
-            "rows": ROWS, "cols": COLS, "sinks": "sinks.txt", "tool": "pcraster", "sources": paths, "dem": paths["dem"],
-            "known_by": "not run, by its documentation", "nodata": dict.fromkeys(paths, "-9999"),
-            "nodata_given": [],
-            "place": list(worlds.UTM), "unit": 10, "data": int((~self.void).sum()), "per": 900.0, "plus": 0, "shift": 4,
-            "drop_sign": False, "changed": {"dir": 0}, "judged": ["con", "dir", "acc", "bas"],
-            "hashes": {path: hashlib.sha256(Path(path).read_bytes()).hexdigest() for path in paths.values()},
-            "options": {
-                "ends": True, "complete_rim": False, "flatten": False, "inland": True, "acc_counts": "auto",
-                "sinks": None, "cell_area": None, "allow_drivers": None,
-            },
+            "dem": (z / 10 + 4000, "f4"), "con": (world.con / 10 + 4000, "f4"), "acc": (world.acc * 900, "i4"),
+            "dir": (worlds.in_codes_of(TOOLS["pcraster"], world.dir), "i2"), "bas": (world.bas - 4, "i4"),
         }  # fmt: skip
-        for key, value in expected.items():
-            self.assertEqual(facts[key], value, key)
-        self.assertIn("UTM zone 16N", facts["srs"])
-        self.assertEqual(facts["fits"]["pcraster"], 1.0)
-        self.assertEqual(set(facts["fits"]), set(TOOLS))
-        self.assertEqual(set(facts["versions"]), {"drain", "drain_gis", "gdal", "numpy", "python"})
-        self.assertRegex(facts["versions"]["drain"], r"^drain \d+\.\d+\.\d+\nlogic [0-9a-f]{16}$")
-        self.assertRegex(facts["versions"]["gdal"], r"^\d+\.\d+")
-        lines = [line[2:] for line in self.done.out.splitlines() if re.match("  [a-z ,]+: ", line)]
-        self.assertEqual(lines[: len(facts["told"])], facts["told"])
+        self.paths = {
+            name: worlds.write_tif(base / f"{name}.tif", np.where(self.void, -9999, a).astype(kind), -9999)
+            for name, (a, kind) in rasters.items()
+        }
+        self.done = command("import", *worlds.words(self.paths, "pcraster"), "--inland-sinks", self.out)
+        assert self.done.status == 0, self.done
+        self.text = (self.out / "import.json").read_text(encoding="utf-8")
+        self.facts = json.loads(self.text)
+        self.fields = {name: self.header(name) for name in FORMS}
+        self.shape = int(self.fields["con"]["NROWS"]), int(self.fields["con"]["NCOLS"])
 
-    def test_the_program_accepts_it(self) -> None:
-        copy = shutil.copytree(self.out, self.base / "copy")
-        done = run(main, "judge", copy)
-        self.assertEqual(done.status, 0, done.out + done.error)
-        more = {path.name for path in copy.iterdir()} - {path.name for path in self.out.iterdir()}
-        self.assertEqual(more, {"report.html"})
-        self.assertIn(done.out.splitlines()[0], (copy / "report.html").read_text(encoding="utf-8"))
+    def header(self, name: str) -> dict[str, str]:
+        """The lines of a header."""
+        return dict(line.split() for line in (self.out / f"{name}.hdr").read_text("ascii").splitlines())
 
 
-if __name__ == "__main__":
-    unittest.main()
+@pytest.fixture(scope="module")
+def imported(tmp_path_factory: pytest.TempPathFactory) -> Imported:
+    """It is read, and put back where it is changed."""
+    return Imported(tmp_path_factory.mktemp("import"))
+
+
+def numbers_of(path: Path, form: str, cols: int) -> np.ndarray:
+    """The rows of a raster without a header."""
+    return np.array([number for (number,) in struct.iter_unpack(form, path.read_bytes())]).reshape(-1, cols)
+
+
+@pytest.mark.parametrize("name", FORMS)
+def test_products(imported: Imported, name: str) -> None:
+    (form, kind, nodata), fields, world, data = FORMS[name], imported.fields[name], imported.world, ~imported.void
+    expected = {"BYTEORDER": "I", "LAYOUT": "BIL", "NBANDS": "1", "PIXELTYPE": kind, "NODATA": str(nodata)}
+    assert expected.items() <= fields.items() and fields["NBITS"] == str(8 * struct.calcsize(form))
+    numbers = numbers_of(imported.out / f"{name}.bil", form, imported.shape[1])
+    assert numbers.shape == imported.shape and numbers.shape[0] >= ROWS and numbers.shape[1] >= COLS
+    assert (numbers[ROWS:] == nodata).all() and (numbers[:, COLS:] == nodata).all()
+    found, right = numbers[:ROWS, :COLS], getattr(world, name)
+    assert np.array_equal(found == nodata, imported.void)
+    if name == "bas":
+        pairs = set(zip(found[data].tolist(), right[data].tolist()))
+        assert len(pairs) == len({a for a, _ in pairs}) == len({b for _, b in pairs})
+    else:
+        assert np.unique(found[data].astype(int) - right[data]).size == 1, "of con an offset alone"
+        assert name == "con" or np.array_equal(found[data], right[data])
+
+
+def test_sinks_and_facts(imported: Imported) -> None:
+    """PCRaster has one number for outlets and sinks: all cells where water ends are listed."""
+    ends = np.argwhere((imported.world.dir == 0) & ~imported.void)
+    assert list(SINK) in ends.tolist()
+    assert (imported.out / "sinks.txt").read_text() == "".join(f"{row} {col}\n" for row, col in ends)
+    hashes = [
+        [name, path, hashlib.sha256(Path(path).read_bytes()).hexdigest()] for name, path in imported.paths.items()
+    ]
+    assert sorted(imported.facts["inputs"]) == sorted(hashes) and imported.facts["data"] == (~imported.void).sum()
+    notes = [line[2:] for line in imported.done.out.split("wrote ")[0].splitlines()]
+    assert notes and notes == imported.facts["notes"]
+
+
+def test_the_program_accepts_it_by_the_line_that_is_printed(imported: Imported) -> None:
+    line = next(line for line in imported.done.out.splitlines() if "drain audit" in line)
+    assert (
+        os.popen(line.replace("drain audit", f"{os.environ.get('DRAIN', 'drain')} audit"))
+        .read()
+        .startswith("accepted ")
+    )
+
+
+@pytest.fixture
+def changed(imported: Imported) -> Iterator[Imported]:
+    """The folder, to be spoilt; it is put back."""
+    before = {path: path.read_bytes() for path in imported.out.rglob("*") if path.is_file()}
+    yield imported
+    for path in imported.out.rglob("*"):
+        path.unlink()
+    for path, content in before.items():
+        path.write_bytes(content)
+
+
+WRONG = [
+    ("rows", 0), ("rows", 10**9), ("rows", 17.0), ("rows", True), ("rows", "17"), ("rows", 16), ("cols", 30_000), ("cols", -1), ("data", -1),
+    ("judged", []), ("judged", ["con", "con"]), ("judged", ["dem"]), ("judged", "con"), ("products", ["con", "dir"]), ("data", 7),
+    ("tool", "arc"), ("tool", "--from"), ("sinks", "--only"), ("sinks", [[1]]), ("sinks", [["a", "b"]]), ("sinks", [[9, 9]]), ("notes", [1]),
+    ("notes", {"a": 1}), ("transform", [0] * 6), ("transform", ["a", 1, 0, 0, 0, -1]), ("transform", [0, 1]), ("crs", "no WKT"),
+    ("inputs", [["dem", "/d.tif", "no hash"]]), ("inputs", [["dem"]]), ("unit", {}), ("unit", {"tens": 9, "twos": 0, "offset": 0}), ("per", 0),
+    ("plus", 2), ("own_ground", 1), ("options", {}), ("completed", {"dem": 1}), ("dem", 3), ("drain_gis", "0"),
+]  # fmt: skip
+
+
+@pytest.mark.parametrize(("name", "value"), WRONG)
+def test_each_member_of_import_json_is_looked_at(changed: Imported, name: str, value: Any) -> None:
+    """A folder may come from elsewhere: what isn't as an import writes it is refused."""
+    assert name in changed.facts and set(changed.facts) == {name for name, _ in WRONG}
+    (changed.out / "import.json").write_text(json.dumps({**changed.facts, name: value}))
+    done = command("judge", changed.out)
+    assert (done.status, done.out, "Traceback" in done.error) == (2, "", False), done
+
+
+@pytest.mark.parametrize(
+    "text",
+    ["{}", "[]", "null", "no json", "", "[" * 10**5, '{"rows": ' + "9" * 5000 + "}", '{"rows": NaN}', "\udcff"],
+)
+def test_what_is_no_import_is_not_judged(changed: Imported, text: str) -> None:
+    (changed.out / "import.json").write_text(text, errors="surrogateescape")
+    done = command("judge", changed.out)
+    assert (done.status, done.out, "import" in done.error) == (2, "", True), done
+
+
+@pytest.mark.parametrize("name", ["con.bil", "bas.bil", "import.json", "dir.hdr", "sinks.txt"])
+def test_a_file_that_is_missing_or_changed(changed: Imported, name: str) -> None:
+    for spoilt in (None, b"1 1\n"):
+        (changed.out / name).unlink(missing_ok=True)
+        if spoilt is not None:
+            (changed.out / name).write_bytes(spoilt)
+        done = command("judge", changed.out)
+        assert done.status in (2, 3) and done.out == "" and "Traceback" not in done.error, done
+
+
+def test_no_output_replaces_a_file_of_the_import(changed: Imported) -> None:
+    for path in [*changed.out.iterdir(), *map(Path, changed.paths.values())]:
+        before = path.read_bytes()
+        assert command("judge", changed.out, "--out", path).status == 2 and path.read_bytes() == before, path
+    assert command("judge", changed.out, "--out", changed.out / "faults.tif").status == 2
+
+
+def test_an_acceptance_of_other_cells_is_none(changed: Imported) -> None:
+    """All rasters voided alike would be accepted: of other cells than those that were imported."""
+    for path in changed.out.rglob("*.hgt"):
+        path.write_bytes(b"\x80\x00" * (path.stat().st_size // 2))
+    for name, (form, _, nodata) in FORMS.items():
+        path = changed.out / f"{name}.bil"
+        path.write_bytes(struct.pack(form, nodata) * (path.stat().st_size // struct.calcsize(form)))
+    assert command("judge", changed.out).status in (2, 3)
+
+
+def test_what_is_there_is_kept(tmp_path: Path, files: dict[str, str]) -> None:
+    out, words = tmp_path / "out", worlds.words(files)
+    out.mkdir()
+    assert command("import", *words, out).status == 0, "an empty folder is filled"
+    assert "is there already" in command("import", *words, out).error
+    odd, before = worlds.write_tif(tmp_path / "odd.tif", np.full((23, 31), 7.5, np.float32)), left(out)
+    assert (
+        command("import", *worlds.words({**files, "acc": odd}), "--overwrite", out).status == 2 and left(out) == before
+    )
+    assert command("import", *words, "--overwrite", out).status == 0
+    (tmp_path / "link").symlink_to(out)
+    for inside in (out / "con.bil", tmp_path / "link/con.bil"):
+        done = command("import", "--dem", files["dem"], "--con", inside, "--overwrite", out)
+        assert done.status == 2 and inside.exists(), done
+    (out / "notes.txt").write_text("mine")
+    done = command("import", *words, "--overwrite", out)
+    assert done.status == 2 and "notes.txt is in the way" in done.error and (out / "notes.txt").read_text() == "mine"
+    (out / "notes.txt").unlink()
+    (out / "import.json").unlink()
+    assert command("import", *words, "--overwrite", out).status == 2
+    assert {path.name for path in tmp_path.iterdir() if "out" in path.name} == {"out"}
+
+
+@pytest.mark.parametrize("wrong", worlds.PRODUCTS)
+def test_a_conversion_that_is_wrong_is_noticed(
+    monkeypatch: pytest.MonkeyPatch, tmp_path: Path, files: Any, wrong: str
+) -> None:
+    """The read-back knows none of the import's conversions; the import leaves nothing."""
+    plain, spoilt = sets.Set.add, []
+
+    class Off(np.ndarray):
+        """The middle number of the first window is put as another."""
+
+        def __setitem__(self, key: Any, value: Any) -> None:
+            value = np.array(value)
+            value.flat[value.size // 2] ^= not spoilt
+            spoilt.append(True)
+            super().__setitem__(key, value)
+
+    monkeypatch.setattr(sets.Set, "add", lambda one, name: plain(one, name).view(Off if name == wrong else np.ndarray))
+    done = command("import", *worlds.words(files), tmp_path / "out")
+    assert done.status == 2 and re.search(f"fault of drain-gis itself.*{wrong}: ", done.error), done
+    assert not [path for path in tmp_path.iterdir() if "out" in path.name]
+
+
+@pytest.mark.parametrize(
+    ("umask", "folder", "file"), [(0o077, 0o700, 0o600), (0o027, 0o750, 0o640), (0o022, 0o755, 0o644)]
+)
+def test_modes_are_those_of_the_umask(
+    tmp_path: Path, files: dict[str, str], umask: int, folder: int, file: int
+) -> None:
+    words, inputs, before = ["--dem", files["dem"], "--con", files["dem"]], set(tmp_path.iterdir()), os.umask(umask)
+    outs = ["--map", tmp_path / "m.tif", "--picture", tmp_path / "p.png", "--out", tmp_path / "r.html"]
+    try:
+        for _ in range(2):
+            assert command("import", *words, "--overwrite", tmp_path / "o").status == 0
+        assert command("judge", *words, *outs).status == command("judge", tmp_path / "o").status == 1
+        assert command("whole", files["dem"], tmp_path / "w.tif").status == 0
+    finally:
+        os.umask(before)
+    written = {path for path in tmp_path.rglob("*") if path not in inputs}
+    names = {path.name for path in written if path.parent == tmp_path}
+    assert names == {"o", "m.tif", "m.tif.aux.xml", "p.png", "r.html", "w.tif"}
+    for path in written:
+        assert oct(path.stat().st_mode & 0o777) == oct(folder if path.is_dir() else file), path

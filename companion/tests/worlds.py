@@ -1,29 +1,25 @@
-"""Terrain for the tests, and right products of it: by plain loops, from the definitions, with nothing of the package.
+"""Terrain for the tests, right products of it by libraries, and sets as files."""
 
-A world is small, so that slow and plain is good enough.
-"""
-
-import heapq
 from dataclasses import dataclass
 from pathlib import Path
+from typing import Any
 
+import libraries
 import numpy as np
-from osgeo import gdal, osr
+import rasterio
+from libraries import STEP
+from rasterio.transform import Affine
 
-VOID = -32768
-STEP = {1: (0, 1), 2: (1, 1), 4: (1, 0), 8: (1, -1), 16: (0, -1), 32: (-1, -1), 64: (-1, 0), 128: (-1, 1)}
-"""Esri's codes."""
-
-UTM = (500000.0, 30.0, 0.0, 4000000.0, 0.0, -30.0)
-KINDS = {"i2": gdal.GDT_Int16, "i4": gdal.GDT_Int32, "u1": gdal.GDT_Byte, "u4": gdal.GDT_UInt32, "f4": gdal.GDT_Float32}
-KINDS["f8"] = gdal.GDT_Float64
+UTM = Affine(30, 0, 500000, 0, -30, 4000000)
+PRODUCTS = ("con", "dir", "acc", "bas")
+Cell = tuple[int, int]
 
 
 @dataclass
 class World:
-    """Elevations and the right products; numbers in voids mean nothing."""
+    """Elevations and right products; numbers in voids mean nothing."""
 
-    z: np.ndarray
+    dem: np.ndarray
     void: np.ndarray
     con: np.ndarray
     dir: np.ndarray
@@ -31,108 +27,33 @@ class World:
     bas: np.ndarray
 
     def masked(self, name: str) -> np.ndarray:
-        """A raster with its voids masked."""
-        return np.ma.array(getattr(self, "z" if name == "dem" else name), mask=self.void)
+        """A copy of a raster with its voids masked."""
+        return np.ma.array(getattr(self, name), mask=self.void, copy=True)
 
     def given(self, *names: str) -> dict[str, np.ndarray]:
         """The rasters as the arguments of an audit: dem, and these."""
-        return {name: self.masked(name) for name in ("dem", *names)}
+        return {name: self.masked(name) for name in ("dem", *(names or PRODUCTS))}
 
-    def cells(self) -> np.ndarray:
+    def cells(self) -> list[Cell]:
         """The data cells, row by row."""
-        return np.argwhere(~self.void)
+        return [(int(row), int(col)) for row, col in np.argwhere(~self.void)]
+
+    def beside(self, cell: Cell) -> dict[int, Cell]:
+        """Code to cell of the neighbours with data."""
+        there = libraries.shifted(~self.void, False)
+        return {code: (cell[0] + r, cell[1] + c) for code, (r, c) in STEP.items() if there[code][cell]}
+
+    def leading_off(self) -> np.ndarray:
+        """The directions with a code that leads off the grid or into a void at each outlet, as many tools write them."""
+        codes = self.dir.copy()
+        for code, nowhere in libraries.shifted(self.void, True).items():
+            codes[~self.void & (self.dir == 0) & nowhere] = code
+        return codes
 
 
-def beside(cell: tuple[int, int], void: np.ndarray) -> list[tuple[int, tuple[int, int]]]:
-    """(code, cell) of the neighbours with data."""
-    found = []
-    for code, (down, right) in STEP.items():
-        row, col = cell[0] + down, cell[1] + right
-        if 0 <= row < void.shape[0] and 0 <= col < void.shape[1] and not void[row, col]:
-            found.append((code, (row, col)))
-    return found
-
-
-def is_open(cell: tuple[int, int], void: np.ndarray) -> bool:
-    """Whether water may leave here: over the edge or into a void."""
-    return len(beside(cell, void)) < len(STEP)
-
-
-def data_cells(void: np.ndarray) -> list[tuple[int, int]]:
-    """The data cells, row by row."""
-    return [(int(row), int(col)) for row, col in np.argwhere(~void)]
-
-
-def filled(z: np.ndarray, void: np.ndarray, sinks: tuple[tuple[int, int], ...] = ()) -> np.ndarray:
-    """The least surface without depressions, by a heap."""
-    con, done = np.where(void, VOID, z).astype(z.dtype), void.copy()
-    heap = [(z[cell], cell) for cell in data_cells(void) if is_open(cell, void) or cell in sinks]
-    heapq.heapify(heap)
-    for _, cell in heap:
-        done[cell] = True
-    while heap:
-        height, cell = heapq.heappop(heap)
-        for _, other in beside(cell, void):
-            if not done[other]:
-                done[other], con[other] = True, max(height, z[other])
-                heapq.heappush(heap, (con[other], other))
-    return con
-
-
-def steepest(con: np.ndarray, void: np.ndarray) -> np.ndarray:
-    """The first code, from east clockwise, down a steepest way; 0 where no neighbour is lower."""
-    codes = np.zeros(con.shape, np.int16)
-    for cell in data_cells(void):
-        best = 0
-        for code, other in beside(cell, void):
-            drop = int(con[cell]) - int(con[other])
-            slope = drop * drop * (1 if all(STEP[code]) else 2) if drop > 0 else 0
-            if slope > best:
-                best, codes[cell] = slope, code
-    return codes
-
-
-def directions(con: np.ndarray, void: np.ndarray) -> np.ndarray:
-    """Steepest ways, and over flats the shortest way on."""
-    codes = steepest(con, void)
-    front = [cell for cell in data_cells(void) if codes[cell] or is_open(cell, void)]
-    reached = set(front)
-    for cell in front:
-        for code, other in beside(cell, void):
-            if other not in reached and con[other] == con[cell]:
-                reached.add(other)
-                codes[other] = next(back for back, there in beside(other, void) if there == cell)
-                front.append(other)
-    return codes
-
-
-def path_of(cell: tuple[int, int], codes: np.ndarray, void: np.ndarray) -> list[tuple[int, int]]:
-    """The cells from here to where water ends: at a code 0, or where the code leads off."""
-    path = [cell]
-    while len(path) <= codes.size:
-        following = dict(beside(path[-1], void)).get(int(codes[path[-1]]))
-        if following is None:
-            return path
-        path.append(following)
-    raise ValueError(f"a ring from {cell}")
-
-
-def counted(codes: np.ndarray, void: np.ndarray) -> tuple[np.ndarray, np.ndarray]:
-    """Accumulation and labels along codes without rings, by following each path."""
-    acc, bas = np.zeros(codes.shape, np.int64), np.zeros(codes.shape, np.int64)
-    for cell in data_cells(void):
-        path = path_of(cell, codes, void)
-        for other in path:
-            acc[other] += 1
-        bas[cell] = path[-1][0] * codes.shape[1] + path[-1][1] + 1
-    return acc, bas
-
-
-def world_of(z: np.ndarray, void: np.ndarray) -> World:
-    """The right products of these elevations."""
-    con = filled(z, void)
-    codes = directions(con, void)
-    return World(z, void, con, codes, *counted(codes, void))
+def world_of(z: np.ndarray, void: np.ndarray, seed: int = 0, sinks: tuple[Cell, ...] = ()) -> World:
+    """Right products of these elevations."""
+    return World(z, void, **libraries.make(z, void, np.random.default_rng(seed), sinks))
 
 
 def random_world(rows: int = 23, cols: int = 31, seed: int = 1, voids: float = 0.03) -> World:
@@ -142,47 +63,34 @@ def random_world(rows: int = 23, cols: int = 31, seed: int = 1, voids: float = 0
     return world_of(z.astype(np.int32), rng.random((rows, cols)) < voids)
 
 
-def leading_off(world: World) -> np.ndarray:
-    """The directions with a code that leads off the grid or into a void at each outlet, as many tools write them."""
-    codes = world.dir.copy()
-    for cell in data_cells(world.void):
-        if codes[cell] == 0:
-            codes[cell] = next(code for code in STEP if code not in dict(beside(cell, world.void)))
-    return codes
-
-
-def random_codes(shape: tuple[int, int], void: np.ndarray, seed: int) -> np.ndarray:
-    """Directions without rings that have nothing to do with any terrain: down a random permutation."""
-    heights = np.random.default_rng(seed).permutation(shape[0] * shape[1]).reshape(shape)
-    return steepest(heights, void)
-
-
-def in_codes_of(tool: object, codes: np.ndarray) -> np.ndarray:
+def in_codes_of(tool: Any, codes: np.ndarray) -> np.ndarray:
     """Esri's codes as a tool writes them."""
     numbers = {code: number for number, code in tool.codes.items()}
-    plain = [number for number in tool.ends if number not in tool.inland]
-    numbers[0] = (plain or list(tool.ends))[0]
+    numbers[0] = ([number for number in tool.ends if number not in tool.inland] or list(tool.ends))[0]
     return np.vectorize(lambda code: numbers[int(code)], otypes=[np.int32])(codes)
 
 
 def write_tif(
-    path: Path | str,
-    numbers: np.ndarray,
-    nodata: float | None,
-    place: tuple[float, ...] | None = UTM,
-    epsg: int | None = 32616,
+    path: Path, numbers: np.ndarray, nodata: float | None = None, place: Affine | None = UTM, epsg: int | None = 32616
 ) -> str:
     """A GeoTIFF of one band. Returns its path."""
-    rows, cols = numbers.shape
-    image = gdal.GetDriverByName("GTiff").Create(str(path), cols, rows, 1, KINDS[numbers.dtype.str[1:]])
-    if place:
-        image.SetGeoTransform(place)
-    if epsg:
-        system = osr.SpatialReference()
-        system.ImportFromEPSG(epsg)
-        image.SetProjection(system.ExportToWkt())
-    if nodata is not None:
-        image.GetRasterBand(1).SetNoDataValue(nodata)
-    image.GetRasterBand(1).WriteArray(numbers)
-    image.FlushCache()
+    shape = {"height": numbers.shape[0], "width": numbers.shape[1], "count": 1, "dtype": numbers.dtype}
+    where = {"transform": place} if place else {}
+    with rasterio.open(path, "w", driver="GTiff", nodata=nodata, crs=epsg and f"EPSG:{epsg}", **shape, **where) as file:
+        file.write(numbers, 1)
     return str(path)
+
+
+def write_set(folder: Path, world: World, *place: Any, **changed: np.ndarray) -> dict[str, str]:
+    """A world as GeoTIFFs with -9999 for no data, some rasters changed. Returns name to path."""
+    kinds = {"dem": "i2", "con": "i2", "dir": "i2", "acc": "i4", "bas": "i4"}
+    arrays = {name: changed.get(name, getattr(world, name).astype(kind)) for name, kind in kinds.items()}
+    return {
+        name: write_tif(folder / f"{name}.tif", np.where(world.void, -9999, a).astype(a.dtype), -9999, *place)
+        for name, a in arrays.items()
+    }
+
+
+def words(paths: dict[str, str], tool: str = "esri") -> list[str]:
+    """The arguments that name a set."""
+    return ["--from", tool, *(word for name, path in paths.items() for word in (f"--{name}", str(path)))]

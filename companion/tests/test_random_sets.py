@@ -1,0 +1,197 @@
+"""Random sets in random conventions: the verdict is what scipy and scikit-image find in the arrays as they were before.
+
+A failing case is shrunk to a few cells.
+"""
+
+from dataclasses import dataclass
+from pathlib import Path
+from tempfile import TemporaryDirectory
+from typing import Any
+
+import drain_gis
+import libraries
+import numpy as np
+import pytest
+import worlds
+from drain_gis import layers, surface
+from drain_gis.tools import TOOLS
+from hypothesis import given, settings
+from hypothesis import strategies as st
+from hypothesis.extra.numpy import arrays
+
+BLANK, NODATA, AREA = libraries.BLANK, -9999, 250
+PLACE = worlds.Affine(25, 0, 500000.5, 0, -10, 4e6)
+CHANGES = ("none", "con", "dir", "acc", "label", "merge", "blank", "filled void")
+OUTLETS = [name for name, tool in TOOLS.items() if not tool.inland]
+
+
+@dataclass
+class Case:
+    """A set as libraries see it, and as it is given to the companion."""
+
+    change: str
+    z: np.ndarray
+    void: np.ndarray
+    seen: dict[str, np.ndarray]
+    given: dict[str, np.ndarray]
+    options: dict[str, Any]
+
+    def faults(self) -> set[str]:
+        """What libraries find wrong in what is given."""
+        return libraries.faults(self.z, self.void, {name: a for name, a in self.seen.items() if name in self.given})
+
+
+@st.composite
+def terrains(draw: Any, most: int = 9) -> tuple[np.ndarray, np.ndarray, np.random.Generator]:
+    """Heights and voids, at least one cell with data; and a source of choices."""
+    shape = draw(st.tuples(st.integers(1, most), st.integers(1, most)))
+    high = draw(st.sampled_from([1, 3, 9, 40]))
+    z = draw(arrays(np.int32, shape, elements=st.integers(0, high), fill=st.nothing())) + draw(
+        st.sampled_from([0, -5, 3000])
+    )
+    void = draw(arrays(np.bool_, shape, elements=st.booleans(), fill=st.just(False)))
+    void.flat[draw(st.integers(0, void.size - 1))] = False
+    return z, void, np.random.default_rng(draw(st.integers(0, 2**32 - 1)))
+
+
+def change(name: str, products: dict[str, np.ndarray], void: np.ndarray, rng: np.random.Generator) -> None:
+    """Makes one change."""
+    cells = np.argwhere(~void)
+    cell, other = (tuple(cells[rng.integers(len(cells))]) for _ in range(2))
+    bas = products["bas"]
+    if name in ("con", "acc"):
+        products[name][cell] += rng.choice([-1, 1, 5])
+    elif name == "dir":
+        products["dir"][cell] = rng.choice(list(libraries.STEP))
+    elif name == "label":
+        bas[cell] = rng.integers(1, bas.max() + 2)
+    elif name == "merge":
+        bas[bas == bas[cell]] = bas[other]
+    elif name == "blank":
+        products[str(rng.choice(list(products)))][cell] = BLANK
+    elif name == "filled void" and void.any():
+        products["con"][tuple(np.argwhere(void)[0])] = 7
+
+
+def led_off(codes: np.ndarray, void: np.ndarray, rng: np.random.Generator) -> np.ndarray:
+    """Some outlets get a code that leads off the grid or into a void."""
+    codes = codes.copy()
+    for code, nowhere in libraries.shifted(void, True).items():
+        codes[(codes == 0) & ~void & nowhere & (rng.random(codes.shape) < 0.7)] = code
+    return codes
+
+
+def ends_at_0(codes: np.ndarray, con: np.ndarray, void: np.ndarray) -> np.ndarray:
+    """Codes of open cells without a lower neighbour that lead off become 0."""
+    codes = codes.copy()
+    level = np.max(list(libraries.slopes(con, void).values()), axis=0) == 0
+    for code, nowhere in libraries.shifted(void, True).items():
+        codes[(codes == code) & ~void & level & nowhere] = 0
+    return codes
+
+
+@st.composite
+def cases(draw: Any) -> Case:
+    """A set in other codes, units, kinds of numbers and ways of counting, mostly with one change."""
+    z, void, rng = draw(terrains())
+    products = libraries.make(z, void, rng)
+    changed, tool = draw(st.sampled_from(CHANGES)), TOOLS[codes := draw(st.sampled_from(OUTLETS))]
+    for a in products.values():
+        a[void] = BLANK
+    change(changed, products, void, rng)
+    seen, written = dict(products), products["dir"]
+    if draw(st.booleans()):
+        ends, seen["dir"] = "zero", ends_at_0(products["dir"], products["con"], void)
+        written = led_off(seen["dir"], void, rng) if draw(st.booleans()) else written
+    else:
+        ends = "keep"
+    counting = draw(st.sampled_from(["cells", "above", "area"])) if changed != "acc" else "cells"
+    numbers = {code: number for number, code in tool.codes.items()}
+    numbers[0], numbers[BLANK] = (tool.ends[0] if codes == "saga" else 0), NODATA
+    per = draw(st.sampled_from([1, 2, 10, 100])) if np.abs(z).max() < 300 else 1
+    heights = draw(st.sampled_from(["float32", "float64"] + ["int16"] * (per == 1)))
+    acc = {"cells": seen["acc"], "above": seen["acc"] - 1, "area": seen["acc"] * AREA}[counting]
+    arrays_of = {
+        "dem": (np.where(void, BLANK, z) / per, [heights]),
+        "con": (seen["con"] / per, [heights]),
+        "dir": (np.vectorize(numbers.get, otypes=[np.int64])(written), ["int16", "int32", "float32", "float64"]),
+        "acc": (acc, ["int32", "float32", "float64"]),
+        "bas": (seen["bas"] - draw(st.integers(0, 1)), ["int32", "int64", "float64"]),
+    }
+    blank = {"dem": void, **{name: a == BLANK for name, a in seen.items()}}
+    given = {
+        n: np.where(blank[n], NODATA, a).astype(draw(st.sampled_from(kinds))) for n, (a, kinds) in arrays_of.items()
+    }
+    if changed in ("none", "con", "dir"):
+        for name in draw(st.sets(st.sampled_from(["acc", "bas"]))):
+            del given[name]
+    options = {"codes": codes, "ends": ends, "acc_counts": counting, "nodata": dict.fromkeys(given, NODATA)}
+    return Case(changed, z, void, seen, given, options)
+
+
+@settings(max_examples=150)
+@given(cases(), st.sampled_from([1, 30, 10**6]), st.booleans())
+def test_a_verdict_is_that_of_libraries(case: Case, window: int, by_files: bool) -> None:
+    sources, options = dict(case.given), dict(case.options)
+    with pytest.MonkeyPatch.context() as patch, TemporaryDirectory() as folder:
+        patch.setattr(layers, "WINDOW_CELLS", window)
+        if by_files:
+            sources = {n: worlds.write_tif(Path(folder) / f"{n}.tif", a, NODATA, PLACE) for n, a in sources.items()}
+            options["nodata"] = None
+        elif options["acc_counts"] == "area" and "acc" in sources:
+            options["cell_area"] = AREA
+        verdict = drain_gis.audit(**sources, **options)
+    assert bool(verdict) == (not case.faults()), (str(verdict), case.faults())
+    if not verdict.accepted:
+        assert verdict.row < case.z.shape[0] and verdict.col < case.z.shape[1]
+        assert not case.void[verdict.row, verdict.col] or case.change == "filled void"
+
+
+@settings(max_examples=100)
+@given(terrains(), st.sampled_from(["none", "off", "blank", "any code", "no code", "acc", "label", "merge"]))
+def test_flow_is_that_of_libraries(terrain: Any, changed: str) -> None:
+    """Directions with rings and without; counts and labels right or changed. No surface takes part."""
+    _, void, rng = terrain
+    codes = libraries.random_steepest(rng.permutation(void.size).reshape(void.shape), void, rng)
+    some = ~void & (rng.random(void.shape) < 0.2)
+    if changed == "off":
+        for code, nowhere in libraries.shifted(void, True).items():
+            codes[nowhere & some] = code
+    elif changed == "any code":
+        codes[some] = rng.choice(list(libraries.STEP))
+    elif changed in ("blank", "no code"):
+        codes[tuple(np.argwhere(~void)[0])] = {"blank": BLANK, "no code": 3}[changed]
+    graph, _ = libraries.graph_of(codes, void)
+    acc = (~void).astype(np.int64) if libraries.has_ring(graph) else libraries.accumulation(graph, void)
+    products = {"acc": acc, "bas": libraries.basins(graph, void.shape)}
+    if changed in ("acc", "label", "merge"):
+        change(changed, products, void, rng)
+    masked = {name: np.ma.array(a, mask=void) for name, a in products.items()}
+    verdict = drain_gis.audit(
+        dir=np.ma.array(codes, mask=void | (codes == BLANK)), **masked, codes="drain", acc_counts="cells"
+    )
+    assert bool(verdict) == (not libraries.flow_faults(codes, products, void)), str(verdict)
+
+
+@settings(max_examples=35)
+@given(
+    terrains(),
+    st.sampled_from(["f4", "f8"]),
+    st.sampled_from(["none", "higher", "lower"]),
+    st.sampled_from([1, 7, 10**4]),
+)
+def test_surfaces_of_any_heights_are_that_of_libraries(terrain: Any, kind: str, changed: str, size: int) -> None:
+    """Heights without a unit are judged by their ranks, where they are many in slices."""
+    _, void, rng = terrain
+    z = (rng.random(void.shape) * 100).astype(kind)
+    least = libraries.least_surface(z.astype(np.float64), void).astype(kind)
+    con, cell = least.copy(), tuple(np.argwhere(~void)[rng.integers((~void).sum())])
+    if changed != "none":
+        con[cell] = np.nextafter(con[cell], np.array(1e9 if changed == "higher" else -1e9, kind))
+    with pytest.MonkeyPatch.context() as patch:
+        patch.setattr(surface, "SLICE", size)
+        verdict = drain_gis.audit(np.ma.array(z, mask=void), con=np.ma.array(con, mask=void), parts=True)
+    assert bool(verdict) == (changed == "none")
+    if not verdict:
+        assert (verdict.row, verdict.col) == cell and [tuple(c) for c in np.argwhere(verdict.map % 255)] == [cell]
+        assert f"1 cell too {'high' if changed == 'higher' else 'low'}" in verdict.parts["con"]

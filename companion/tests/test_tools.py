@@ -1,0 +1,152 @@
+"""The tools' codes: each table against a drawing, each on a right and a wrong set, and what real tools made."""
+
+from pathlib import Path
+from typing import Any
+
+import drain_gis
+import numpy as np
+import pytest
+import worlds
+from conftest import FIXTURES
+from conftest import drain_gis as command
+from drain_gis.tools import TOOLS, tool_list
+
+ESRI = "32 64 128 / 16 . 1 / 8 4 2"
+
+# Each table as a manual draws it: north-west, north, .. south-east.
+DRAWN = {
+    "esri": ESRI,
+    "terraflow": ESRI,
+    "terra": ESRI,
+    "whitebox-esri": ESRI,
+    "pysheds": ESRI,
+    "hydrosheds": ESRI,
+    "drain": ESRI,
+    "saga": "7 0 1 / 6 . 2 / 5 4 3",
+    "grass": "3 2 1 / 4 . 8 / 5 6 7",
+    "grass-fill-dir": "135 90 45 / 180 . 360 / 225 270 315",
+    "grass-agnps": "8 1 2 / 7 . 3 / 6 5 4",
+    "taudem": "4 3 2 / 5 . 1 / 6 7 8",
+    "whitebox": "64 128 1 / 32 . 2 / 16 8 4",
+    "richdem": "2 3 4 / 1 . 5 / 8 7 6",
+    "pcraster": "7 8 9 / 4 . 6 / 1 2 3",
+}
+
+# The presets whose tool was run: these, and no others, may say so.
+RUN = {"saga": "SAGA 8.5.0", "terra": "terra 1.7.3", "drain": "drain 0.1.0"}
+RUN |= dict.fromkeys(("grass", "grass-fill-dir", "grass-agnps", "terraflow"), "GRASS 8.2.1")
+
+# Fixture, tool, products with SAGA's con: the line of an audit, and the cells at which each rule fails. Worked out by
+# tests/program/audit.py and plain_faults.py, which know the rules and nothing of the program. Rules of rasters that
+# weren't given aren't counted. 16: cells at which a path stops (a walk along each path finds them) or that a ring has.
+LINES = (
+    ("saga", "saga", "dir", "accepted rows=49 cols=61 data=2842 raised=35 outlets=17", {}),
+    ("saga", "saga", "dir acc", "rejected rule=13 Accumulation row=0 col=1", {13: 229}),
+    ("saga", "saga", "dir bas", "rejected rule=14 Label row=0 col=8", {14: 52, 15: 1}),
+    ("saga", "saga", "dir acc bas", "rejected rule=13 Accumulation row=0 col=1", {13: 229, 14: 52, 15: 1}),
+    ("grass", "grass", "dir", "rejected rule=10 Slope row=0 col=13", {10: 27}),
+    ("grass", "grass", "dir acc", "rejected rule=13 Accumulation row=0 col=1", {10: 27, 13: 197}),
+    ("grass-stream", "grass", "dir", "rejected rule=10 Slope row=0 col=13", {10: 1157}),
+    ("grass-fill-dir", "grass-fill-dir", "dir", "rejected NoEnd row=0 col=0", {1: 1, 10: 222, 16: 222}),
+    ("grass-agnps", "grass-agnps", "dir", "rejected NoEnd row=0 col=0", {1: 1, 10: 222, 16: 222}),
+    ("terraflow", "terraflow", "dir", "rejected NoEnd row=0 col=0", {1: 25, 10: 222, 12: 42, 16: 222}),
+    (
+        "terraflow", "terraflow", "dir acc bas", "rejected NoEnd row=0 col=0",
+        {1: 25, 10: 222, 12: 42, 13: 36, 14: 4, 15: 52, 16: 222},
+    ),
+    ("terra", "terra", "dir", "rejected NoEnd row=0 col=0", {2: 206, 3: 206, 10: 196, 11: 17, 16: 227}),
+)  # fmt: skip
+
+
+def code_of(down: int, right: int) -> int:
+    """Esri's code of a step."""
+    return next(code for code, step in worlds.STEP.items() if step == (down, right))
+
+
+def test_tables_are_those_that_manuals_draw() -> None:
+    assert set(DRAWN) == set(TOOLS)
+    for tool, picture in DRAWN.items():
+        lines = [line.split() for line in picture.split("/")]
+        expected = {
+            int(number): code_of(down - 1, right - 1)
+            for down, line in enumerate(lines)
+            for right, number in enumerate(line)
+            if number != "."
+        }
+        assert TOOLS[tool].codes == expected, tool
+
+
+def test_the_list_says_what_was_run() -> None:
+    assert {name: tool.run for name, tool in TOOLS.items() if tool.run} == RUN
+    for name in TOOLS:
+        line = next(line for line in tool_list().splitlines() if line.split()[:1] == [name])
+        assert (f"run: {RUN[name]}" if name in RUN else "not run, by its documentation") in line
+        assert line in command("tools").out
+
+
+def audit_in(tool: str, world: worlds.World, codes: np.ndarray) -> drain_gis.Verdict:
+    """The verdict on a world with these directions in a tool's codes."""
+    written = np.ma.array(worlds.in_codes_of(TOOLS[tool], codes), mask=world.void)
+    return drain_gis.audit(**{**world.given(), "dir": written}, codes=tool)
+
+
+@pytest.mark.parametrize("tool", TOOLS)
+def test_a_right_set_is_accepted_and_one_wrong_direction_is_not(tool: str) -> None:
+    """A cell with a lower neighbour is turned to a higher one."""
+    world = worlds.random_world()
+    verdict = audit_in(tool, world, world.dir)
+    assert verdict and any(TOOLS[tool].known_by in note for note in verdict.notes)
+    codes = world.dir.copy()
+    ways = (
+        (cell, code, other) for cell in world.cells() for code, other in world.beside(cell).items() if world.dir[cell]
+    )
+    cell, code, _ = next(way for way in ways if world.con[way[2]] > world.con[way[0]])
+    codes[cell] = code
+    assert audit_in(tool, world, codes).name in ("NoEnd", "Slope")
+
+
+def test_codes_of_another_tool_are_rejected_and_the_likely_one_is_named() -> None:
+    verdict = drain_gis.audit(**worlds.random_world().given("con", "dir"), codes="whitebox")
+    assert not verdict and "WARNING" in str(verdict) and "is it esri or terraflow or terra" in str(verdict)
+
+
+@pytest.mark.parametrize("codes", [None, "arc", ""])
+def test_directions_need_codes(codes: str | None) -> None:
+    world = worlds.random_world()
+    with pytest.raises(drain_gis.CannotJudge, match="codes=TOOL.*taudem"):
+        drain_gis.audit(**world.given("con", "dir"), codes=codes)
+    with pytest.raises(drain_gis.CannotJudge, match="codes=TOOL.*taudem"):
+        drain_gis.audit(dir=world.masked("dir"), codes=codes)
+
+
+@pytest.mark.parametrize(("fixture", "tool", "given", "line", "rules"), LINES)
+def test_what_real_tools_made(fixture: str, tool: str, given: str, line: str, rules: dict[int, int]) -> None:
+    """What they made of fixtures/dem.tif, as they left it: fixtures/make.sh has the versions and the commands."""
+    files: dict[str, Any] = {name: FIXTURES / f"{fixture}-{name}.tif" for name in given.split()}
+    verdict = drain_gis.audit(FIXTURES / "dem.tif", con=FIXTURES / "saga-con.tif", **files, codes=tool, parts=True)
+    assert verdict.answer.line == line
+    assert {number: cells for number, (cells, _) in verdict.rules.items()} == rules
+    assert verdict or verdict.parts["con"].startswith("the least surface")
+    assert verdict.warning == ""
+
+
+@pytest.mark.parametrize(
+    ("fixture", "tool"), [(f, t) for f, t, given, *_ in LINES if given == "dir" and f != "grass-stream"]
+)
+def test_each_preset_fits_its_tool_and_no_other(fixture: str, tool: str) -> None:
+    """By other codes a set of its is rejected, and the warning names the tool's own."""
+    files = {"con": FIXTURES / "saga-con.tif", "dir": FIXTURES / f"{fixture}-dir.tif"}
+    for other in TOOLS:
+        verdict = drain_gis.audit(FIXTURES / "dem.tif", **files, codes=other)
+        alike = TOOLS[other].codes == TOOLS[tool].codes
+        assert bool(verdict) == (tool == "saga" and alike)
+        assert ("WARNING" in str(verdict)) == (not alike), (other, str(verdict))
+        assert alike or f"is it {tool}" in str(verdict) or f"or {tool}" in str(verdict)
+
+
+def test_fixtures_are_judged_by_the_command(tmp_path: Path) -> None:
+    """One command, from the files that a tool left to a report."""
+    files = {"dem": str(FIXTURES / "dem.tif")} | {n: str(FIXTURES / f"saga-{n}.tif") for n in worlds.PRODUCTS}
+    done = command("judge", *worlds.words(files, "saga"), "--out", tmp_path / "report.html")
+    assert done.status == 1 and "rejected rule=13 Accumulation row=0 col=1" in done.out
+    assert "Accumulation" in (tmp_path / "report.html").read_text()
