@@ -82,14 +82,14 @@ def small_disk() -> Iterator[Callable[[int], None]]:
 
 
 @pytest.fixture(autouse=True)
-def at_most_two_minutes() -> Iterator[None]:
+def at_most_ten_minutes() -> Iterator[None]:
     """A test that doesn't end fails."""
 
     def late(number: int, frame: object) -> None:
-        raise TimeoutError("two minutes are over")
+        raise TimeoutError("ten minutes are over")
 
     before = signal.signal(signal.SIGALRM, late)
-    signal.alarm(120)
+    signal.alarm(600)
     yield
     signal.alarm(0)
     signal.signal(signal.SIGALRM, before)
