@@ -81,6 +81,10 @@ def small_disk() -> Iterator[Callable[[int], None]]:
     signal.signal(signal.SIGXFSZ, old_signal)
 
 
+# A shell has what runs in the background ignore an interrupt, and a program inherits that; then no test could interrupt one.
+signal.signal(signal.SIGINT, signal.default_int_handler)
+
+
 @pytest.fixture(autouse=True)
 def at_most_ten_minutes() -> Iterator[None]:
     """A test that doesn't end fails."""
