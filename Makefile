@@ -11,7 +11,8 @@
 # make same      proves and builds from nothing, and compares with FILE=PROVED of a release
 # make test      passes everything: every proof and test, the edits of the gate, then the program's own tests
 # make companion-test   passes the companion's tests with build/drain, or with DRAIN=PROGRAM
-# make large     runs each command on 100 million cells: 4 GB of disk, 2 GB of memory, some minutes
+# make large     runs each command on 100 million cells: 4 GB of disk, 2 GB of memory, some minutes; and drain_gis on
+#                30 million cells in memory
 # make edits     tries all edits, those that the gate leaves out too; CRATES=".." names the crates (all of them)
 # make bench     measures it beside its twins in plain Rust (docs/BENCH.md)
 # make clean     drops what these made
@@ -77,8 +78,9 @@ plugin:
 same:
 	@tools/same.sh "$(FILE)"
 
-large: build/drain
+large: build/drain build/libdrain.so.0
 	tests/program/sizes.py build/drain --largest
+	cd companion && DRAIN=$(abspath build/drain) /usr/bin/python3 -m pytest -q -p no:cacheprovider -m large tests
 
 edits:
 	tools/try_edits.sh $(CRATES)

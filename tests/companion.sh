@@ -1,5 +1,6 @@
 #!/usr/bin/env bash
-# Runs the companion's tests (companion/tests) by pytest with a program `drain`; more words are passed on to pytest.
+# Runs the companion's tests (companion/tests) by pytest with a program `drain`; those marked `large` are left out (make
+# large). More words are passed on to pytest.
 # It needs Debian's /usr/bin/python3 with the packages below, and fails where they are missing; with WITHOUT_COMPANION=1 it then prints
 # that the tests were left out.
 # Usage: tests/companion.sh DRAIN [WORD..]

@@ -34,6 +34,7 @@ tools/build_library.sh build/libdrain.a .
 tests/library.sh build/libdrain.a
 tests/first_run.sh build/drain
 tests/shipping.sh build
+tools/shared_library.sh build/libdrain.a build/libdrain.so.0
 tests/companion.sh build/drain
 tests/continent.sh build/drain
 tests/program/run.sh build/drain
@@ -58,8 +59,9 @@ ONE_TEST = "import unittest\nclass One(unittest.TestCase):\n    def test(self):\
 
 
 def is_counted(file: Path) -> bool:
-    """Whether a program's last line has how many of its runs passed."""
-    return "passed, {" in file.read_text(encoding="utf-8")
+    """Whether this is a program whose last line has how many of its runs passed."""
+    text = file.read_text(encoding="utf-8")
+    return os.access(file, os.X_OK) and ("passed, {" in text or "sys.exit(judge_random(" in text)
 
 
 class Copies(unittest.TestCase):

@@ -1,7 +1,7 @@
 /* Tests of libdrain that no file can show: where the members of an answer lie, arguments that are refused, memory that is
  * refused at each call of malloc and realloc, what is left allocated, and calls of several threads at once; with those
- * of library_calls.c. tests/library.sh builds both with -Wl,--wrap=malloc,--wrap=realloc,--wrap=free, so library.c sees
- * each such call of the library.
+ * of library_calls.c and library_dem.c. tests/library.sh builds them with -Wl,--wrap=malloc,--wrap=realloc,--wrap=free, so
+ * library.c sees each such call of the library.
  *
  * Usage: library SIDE DIRECTORY TILE NAME LINE    (an audit of these files answers LINE; DIRECTORY has no ranks, so the
  * check that is tried takes con for them)
@@ -164,8 +164,8 @@ uint32_t audit_only(uint32_t judged, const drain_audit_rasters *given, drain_ans
 }
 
 /* The calls that are tried with memory refused and in threads. */
-enum { AUDIT, CHECK, AUDIT_CON, AUDIT_WAYS, EXPLAIN, DERIVE, CALLS };
-static const char *const call_names[CALLS] = {"audit", "check", "audit of con", "audit of con and dir", "explanation", "derivation"};
+enum { AUDIT, CHECK, AUDIT_CON, AUDIT_WAYS, AUDIT_DEM, CHECK_DEM, EXPLAIN, DERIVE, CALLS };
+static const char *const call_names[CALLS] = {"audit", "check", "audit of con", "audit of con and dir", "audit of one raster", "check of one raster", "explanation", "derivation"};
 
 /* One of them, of the files. The check takes con for ranks, so its answer is that of a poor certificate. */
 static uint32_t call(int which, drain_answer *answer) {
@@ -181,6 +181,10 @@ static uint32_t call(int which, drain_answer *answer) {
         return drain_explain(side, &tile, 1, no_sinks, 0, &rasters, DRAIN_ALL, map, sizeof map, &faults, answer);
     case CHECK:
         return drain_check(side, &tile, 1, no_sinks, 0, &checked, answer);
+    case AUDIT_DEM:
+        return audit_samples(answer);
+    case CHECK_DEM:
+        return check_samples(answer);
     case AUDIT_CON:
         return audit_only(DRAIN_CON, &rasters, answer);
     case AUDIT_WAYS:
@@ -273,7 +277,7 @@ static void test_null(void) {
 }
 
 /* Headers before a page that can't be read: one that fills the limit, and those of 65,537 bytes and of 5 GB, which differ
- * in what lies on that page alone. */
+ * in what lies on that page alone. Each raster's is tried over the tile and over one raster, and that one's too. */
 static void test_long_headers(void) {
     const size_t readable = 17 * 4096, most = 65537, five_gb = (size_t)5 << 30;
     uint8_t *start = mmap(NULL, readable + five_gb, PROT_NONE, MAP_PRIVATE | MAP_ANONYMOUS | MAP_NORESERVE, -1, 0);
@@ -282,23 +286,24 @@ static void test_long_headers(void) {
         exit(4);
     }
     uint8_t *header = start + readable - most;
+    char text[DRAIN_HEADER_SIZE];
     drain_audit_rasters others = rasters;
-    drain_raster *each[] = {&others.con, &others.dir, &others.acc, &others.bas};
-    const char *lines[] = {"refused BadHeader con TooLong", "refused BadHeader dir TooLong", "refused BadHeader acc TooLong", "refused BadHeader bas TooLong"};
-    for (int i = 0; i < 4; i++) {
-        drain_bytes had = each[i]->header;
-        drain_answer answer = unwritten();
+    drain_raster dem = dem_of_samples(text), *each[] = {&others.con, &others.dir, &others.acc, &others.bas, &dem};
+    const char *lines[] = {"refused BadHeader con TooLong", "refused BadHeader dir TooLong", "refused BadHeader acc TooLong", "refused BadHeader bas TooLong", "refused BadHeader dem TooLong"};
+    const size_t lengths[] = {most - 1, most, five_gb};
+    for (int i = 0; i < 9; i++) {
+        drain_bytes *given = &each[i % 5]->header, had = *given;
         memset(header, '\n', most);
         memcpy(header, had.at, had.length);
-        each[i]->header = drain_bytes_of(header, most - 1);
-        judge(!drain_audit(side, &tile, 1, no_sinks, 0, &others, &answer) && answer.status == 0, "a header of 65,536 bytes: %.164s", answer.line);
-        largest = 0;
-        each[i]->header.length = most;
-        judge_refused("a header of 65,537 bytes", side, &tile, 1, "", &others, lines[i]);
-        each[i]->header.length = five_gb;
-        judge_refused("a header of 5 GB", side, &tile, 1, "", &others, lines[i]);
-        judge(largest == most, "a block of %zu bytes for a header", largest);
-        each[i]->header = had;
+        for (int j = 0; j < 3; j++) {
+            drain_answer answer = unwritten();
+            *given = drain_bytes_of(header, lengths[j]);
+            largest = 0;
+            uint32_t status = i < 4 ? drain_audit(side, &tile, 1, no_sinks, 0, &others, &answer) : drain_audit_dem(&dem, no_sinks, 0, &others, &answer);
+            judge(j ? status == 2 && says(&answer, 2, lines[i % 5]) : !status, "a header of %zu bytes: status %u: %.164s", lengths[j], status, answer.line);
+            judge(!j || largest == most, "a block of %zu bytes for a header", largest);
+        }
+        *given = had;
     }
     munmap(start, readable + five_gb);
 }
@@ -380,6 +385,7 @@ int main(int argc, char **argv) {
     test_derivation(argv[5]);
     test_version();
     test_arrays(argv[5]);
+    test_dem(argv[5]);
     test_refusals();
     test_null();
     test_long_headers();

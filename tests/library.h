@@ -1,4 +1,5 @@
-/* What the tests of libdrain share: the files that library.c has read, how it judges, and the tests of library_calls.c. */
+/* What the tests of libdrain share: the files that library.c has read, how it judges, and the tests of library_calls.c and
+ * library_dem.c. */
 #ifndef LIBRARY_H
 #define LIBRARY_H
 
@@ -19,10 +20,16 @@ int are_all(const void *bytes, size_t length, uint8_t byte);
 uint32_t audit_only(uint32_t judged, const drain_audit_rasters *given, drain_answer *answer);
 drain_audit_rasters with_wrong_count(void);
 
+/* The tile's samples as one raster of elevations in the tile's place, and calls over it. */
+drain_raster dem_of_samples(char text[DRAIN_HEADER_SIZE]);
+uint32_t audit_samples(drain_answer *answer);
+uint32_t check_samples(drain_answer *answer);
+
 void test_choices(const char *line);
 void test_explanation(const char *line);
 void test_derivation(const char *line);
 void test_version(void);
 void test_arrays(const char *line);
+void test_dem(const char *line);
 
 #endif

@@ -109,6 +109,26 @@ def are_arrays_right(drain: judge.Drain) -> bool:
     return drain.audit(SIDE, [TILE], given).line == "accepted rows=51 cols=51 data=2601 raised=59 outlets=10"
 
 
+def is_dem_right(drain: judge.Drain) -> bool:
+    """The tile's samples as one raster have the answers of the tile, with labels and ranks of the directions too."""
+    con, dir_, acc, bas = read_rasters()
+    samples = memoryview((ctypes.c_int16.__ctype_be__ * SIDE * SIDE).from_buffer_copy(TILE[1]))
+    dem = judge.raster_of(samples, -32768, SIDE, [TILE[0]])
+    header = acc[0][:acc[0].index(b"NODATA")]
+    derived = [bytearray(4 * SIDE * SIDE) for _ in range(3)]
+    drain.derive(SIDE, [TILE], dir_, *derived)
+    ranked = [con, dir_, *((header, bytes(numbers)) for numbers in derived)]
+    accepted = "accepted rows=51 cols=51 data=2601 raised=59 outlets=10"
+    return (
+        drain.audit_dem(dem, [con, dir_, acc, bas]).line == accepted
+        and drain.check_dem(dem, ranked).line == accepted
+        and drain.audit_only_dem(dem, {"con": con}).line == "accepted rows=51 cols=51 data=2601 raised=59"
+        and drain.audit_dem(dem, [con, dir_, acc, bas], b"51 0").line == "refused SinkNotData 1"
+        and drain.check_dem((dem[0], dem[1][:-1]), ranked).line == "refused RasterShort dem"
+        and drain.audit_dem((b"", dem[1]), [con, dir_, acc, bas]).line == "refused BadHeader dem MissingKey NROWS"
+    )
+
+
 def is_version_right(drain: judge.Drain) -> bool:
     """Whether the library has the version that the program prints."""
     return f"drain {drain.version()}\n" == (ROOT / "tests/program/expected/version.txt").read_text()
@@ -133,6 +153,7 @@ def main(path: str) -> int:
         "an explanation": is_explanation_right(drain),
         "a derivation": is_derivation_right(drain),
         "arrays": are_arrays_right(drain),
+        "one raster of elevations": is_dem_right(drain),
         "the version": is_version_right(drain),
         "NULL for no bytes": line_with(drain, judge.Bytes(None)) == "refused RasterShort bas",
         "NULL for 5 bytes": line_with(drain, judge.Bytes(None, 5)) == "refused NullBytes",

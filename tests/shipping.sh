@@ -221,7 +221,7 @@ if [ "$shared" != - ] && has_companion; then
     holds "wheel: PROVED has the library's sum" grep -qx "shared   $(sha256sum <"$shared" | cut -d ' ' -f 1)" "$inside/PROVED"
     holds 'wheel: drain-gis judges samples' judges_samples "$scratch/venv/bin/drain-gis"
     holds 'wheel: its drain runs' cmp <("$scratch/venv/bin/drain" --version) <("$drain" --version)
-    holds 'wheel: library and program give one answer' sh -c "cd '$scratch' && DRAIN= '$scratch/venv/bin/python' -m pytest -q \
+    holds 'wheel: the package's own test passes' sh -c "cd '$scratch' && DRAIN= '$scratch/venv/bin/python' -m pytest -q \
         -p no:cacheprovider -c '$top/companion/pyproject.toml' -o pythonpath=tests '$top/companion/tests/test_api.py'"
     holds 'wheel: no test of them was left out' sh -c "! grep -q skipped '$scratch/said'"
 fi

@@ -40,6 +40,7 @@ time tools/build_library.sh build/libdrain.a .
 time tests/library.sh build/libdrain.a
 time tests/first_run.sh build/drain
 time tests/shipping.sh build
+tools/shared_library.sh build/libdrain.a build/libdrain.so.0
 time tests/companion.sh build/drain
 time tests/continent.sh build/drain
 time tests/program/run.sh build/drain

@@ -1,17 +1,13 @@
 """acc: the tool's numbers become counts of cells, each with the cell itself."""
 
-import tempfile
-from pathlib import Path
-
 import numpy as np
 
-from .around import CODES, Array, bands, gets_water, opposite, shifted
-from .drain import Program
+from .around import Array, bands, gets_water, leading
 from .errors import CannotJudge, OddRaster
 from .flow import Flow
+from .grids import cell_area
 from .heights import EXACT
-from .job import Converted
-from .misplaced import Misplaced
+from .job import Converted, note_misplaced
 from .rules import cells
 
 MOST_COUNT = 1 << 32  # one more than the largest count that 32 bits hold
@@ -26,43 +22,42 @@ SINGLE = 1 << 24  # from here on single precision doesn't hold all whole numbers
 SUM_SLACK = 8 * 2.0**-24
 
 
-def put_counts(made: Converted, program: Program) -> None:
+def put_counts(made: Converted) -> None:
     """Writes acc, and notes what was done."""
     choose_counting(made)
-    counts, odd, near, signs, unsure = made.set.add("acc"), Misplaced(), 0, 0, 0
-    bad_cell: tuple[int, int, str] | None = None
-    is_single = made.layers["acc"].dtype == np.float32
+    counts, near, signs, unsure = made.set.add("acc"), 0, 0, 0
+    refusal: OddRaster | None = None
+    is_single, signed = made.layers["acc"].dtype == np.float32, made.job.tool == "grass"
     for rows, numbers, none in made.windows("acc"):
         values = np.where(none, numbers.dtype.type(0), numbers)
-        signs += int((values < 0).sum()) if made.tool == "grass" else 0
+        signs += int((values < 0).sum()) if signed else 0
         whole, bad, rounded = cells_of(magnitude(values), made.per)
-        bad = ~none & (bad | (whole >= MOST_COUNT - made.plus) | ((values < 0) & (made.tool != "grass")))
+        bad = ~none & (bad | (whole >= MOST_COUNT - made.plus) | ((values < 0) & (not signed)))
         near += int((~none & rounded).sum())
-        if is_single:
-            unsure += int((bad | large(values)).sum())
-        if bad.any() and bad_cell is None:
-            row, col = np.argwhere(bad)[0]
-            bad_cell = int(rows.start + row), int(col), str(numbers[row, col])
+        unsure += int((bad | (np.abs(values) >= SINGLE)).sum()) if is_single else 0
+        refusal = refusal or no_count(rows.start, bad, numbers)
         counts[rows] = np.where(none | bad, 0, whole + np.uint64(made.plus)).astype(np.uint32)
-        odd.add(numbers, none, made.data[rows])
-    if bad_cell and not is_single:
-        raise no_count(*bad_cell)
+    if refusal and not is_single:
+        raise refusal
     if unsure:
-        take_sums(made, counts, program)
-    odd.tell(made, "acc")
+        take_sums(made)
+    note_misplaced(made, "acc")
     if signs:
-        made.notes.append(f"acc: {signs:,} numbers are below 0 (may get water from outside): their sign is dropped")
+        made.note(f"acc: {signs:,} numbers are below 0 (may get water from outside): their sign is dropped")
     if near:
-        made.notes.append(f"acc: {near:,} numbers are whole but for a millionth of themselves, and are rounded")
+        made.note(f"acc: {near:,} numbers are whole but for a millionth of themselves, and are rounded")
 
 
-def no_count(row: int, col: int, number: str) -> OddRaster:
-    """The refusal of a number."""
+def no_count(top: int, bad: Array, numbers: Array) -> OddRaster | None:
+    """The refusal of the first bad number of some rows, if there is one."""
+    if not bad.any():
+        return None
+    row, col = np.argwhere(bad)[0]
     return OddRaster(
         "acc",
-        f"{number} at row {row}, column {col} is no count. Directions into several cells (D-infinity, MFD), weights and "
-        "unequal areas can't be judged: have the tool count cells along one direction (SAGA -METHOD 0, r.watershed -s, "
-        "Whitebox --out_type=cells)",
+        f"{numbers[row, col]} at row {top + row}, column {col} is no count. Directions into several cells (D-infinity, "
+        "MFD), weights and unequal areas can't be judged: have the tool count cells along one direction (SAGA -METHOD 0, "
+        "r.watershed -s, Whitebox --out_type=cells)",
     )
 
 
@@ -72,11 +67,6 @@ def magnitude(numbers: Array) -> Array:
         return np.abs(numbers)
     wide = numbers.astype(np.uint64)
     return np.where(numbers < 0, ~wide + np.uint64(1), wide)
-
-
-def large(values: Array) -> Array:
-    """Where single precision may have rounded a count."""
-    return np.abs(values) >= SINGLE
 
 
 def cells_of(sizes: Array, per: float) -> tuple[Array, Array, Array]:
@@ -96,47 +86,35 @@ def cells_of(sizes: Array, per: float) -> tuple[Array, Array, Array]:
     return near.astype(np.uint64), np.abs(near - values) > slack, near != values
 
 
-def take_sums(made: Converted, counts: Array, program: Program) -> None:
+def take_sums(made: Converted) -> None:
     """Takes numbers that a sum in single precision may have rounded for the counts along dir that they stand for.
 
     A number counts as one if it differs from the sum of its inflow, as the tool has it, by no more than such a sum may.
     """
-    taken = lost = 0
-    layer, codes = made.layers["acc"], made.set.view("dir")
-    with tempfile.TemporaryDirectory(prefix="drain-gis-") as work:
-        flow = Flow(made, program, Path(work))
-        for band, around, inner in bands(*codes.shape):
-            numbers, none = layer.window(around.start, around.stop - around.start)
-            values = np.abs(np.where(none, 0, numbers).astype(np.float64))
-            total = np.full(values.shape, float((1 - made.plus) * made.per))
-            for code in CODES:
-                here, there = shifted(values, code)
-                total[here] += np.where(codes[around][there] == opposite(code), values[there] + made.plus * made.per, 0)
-            fits = (np.abs(total - values) <= SUM_SLACK * values)[inner]
-            sizes, none = values[inner], none[inner]
-            bad = cells_of(sizes.astype(np.float32), made.per)[1] & ~none
-            if (bad & ~fits).any():
-                row, col = np.argwhere(bad & ~fits)[0]
-                raise no_count(band.start + int(row), int(col), str(numbers[inner][row, col]))
-            sums = (bad | large(sizes)) & ~none
-            lost += int((sums & ~fits).sum())
-            counts[band] = np.where(sums & fits, flow.acc[band], counts[band])
-            taken += int((sums & fits).sum())
+    taken, lost, layer, flow = 0, 0, made.layers["acc"], Flow(made)
+    codes, counts = made.set["dir"], made.set["acc"]
+    for band, around, inner in bands(*codes.shape):
+        numbers, none = layer.window(around.start, around.stop - around.start)
+        values = np.abs(np.where(none, 0, numbers).astype(np.float64))
+        total = np.full(values.shape, float((1 - made.plus) * made.per))
+        for here, there, leads in leading(codes[around]):
+            total[there] += np.where(leads, values[here] + made.plus * made.per, 0)
+        fits = (np.abs(total - values) <= SUM_SLACK * values)[inner]
+        sizes, none = values[inner], none[inner]
+        bad = cells_of(sizes.astype(np.float32), made.per)[1] & ~none
+        if refusal := no_count(band.start, bad & ~fits, numbers[inner]):
+            raise refusal
+        sums = (bad | (sizes >= SINGLE)) & ~none
+        lost += int((sums & ~fits).sum())
+        counts[band] = np.where(sums & fits, flow.acc[band], counts[band])
+        taken += int((sums & fits).sum())
     made.completed["acc"] = taken
     if taken:
-        made.notes.append(
-            f"acc: {cells(taken)} with a sum in single precision that is right but for rounding: the counts along dir "
-            "are taken there"
+        made.note(
+            f"acc: {cells(taken)} with a sum in single precision that is right but for rounding: counted along dir"
         )
     if lost:
-        made.notes.append(
-            f"acc: {lost:,} numbers of {SINGLE:,} or more in single precision: the tool may have rounded them"
-        )
-
-
-def area_of_cell(made: Converted) -> float | None:
-    """The area of a cell by the georeference, in units of the map squared."""
-    return abs(made.dem.transform.determinant) if made.dem.transform else None
+        made.note(f"acc: {lost:,} numbers of {SINGLE:,} or more in single precision: the tool may have rounded them")
 
 
 def is_area(number: float, area: float | None) -> bool:
@@ -146,59 +124,50 @@ def is_area(number: float, area: float | None) -> bool:
 
 def choose_counting(made: Converted) -> None:
     """How numbers become counts: as the user says, or as the cells that get no water show."""
-    choice, area = made.options.acc_counts, made.options.cell_area
+    choice, area = made.job.options.acc_counts, made.job.options.cell_area
     if area is not None and not (0 < area < EXACT and choice in ("auto", "area")):
         raise CannotJudge(f"--cell-area {area:g}: expected a number above 0, and areas (--acc-counts area or auto)")
     if choice in ("cells", "above"):
         made.plus = int(choice == "above")
-        made.notes.append(f"acc: {'1 is added to each' if made.plus else 'taken as it is'} (--acc-counts {choice})")
+        made.note(f"acc: {'1 is added to each' if made.plus else 'taken as it is'} (--acc-counts {choice})")
         return
     found: dict[float, int] = {}
-    dry = made.data & ~gets_water(made.set.view("dir"), made.data)
+    dry = made.data & ~gets_water(made.set["dir"], made.data)
     for rows, numbers, none in made.windows("acc"):
         for number, many in zip(*np.unique(magnitude(numbers[dry[rows] & ~none]), return_counts=True)):
             found[number.item()] = found.get(number.item(), 0) + int(many)
         if len(found) > MOST_KINDS:
             break
     if found:
-        guess_counting(made, found)
+        guess_counting(made, found, choice == "area" or area is not None)
 
 
-def guess_counting(made: Converted, found: dict[float, int]) -> None:
-    """Takes the most frequent number of a cell without water as what one cell counts: 0, 1, or the area of a cell."""
-    number = max(found, key=lambda n: found[n])
+def guess_counting(made: Converted, found: dict[float, int], named: bool) -> None:
+    """Takes the most frequent number of a cell without water as what one cell counts: 0, 1, or the area of a cell.
+
+    `named`: the user says that it is an area.
+    """
+    number, known, area = max(found, key=lambda n: found[n]), made.job.options.cell_area, cell_area(made.dem)
     share = found[number] / sum(found.values())
     text = f"{share:.1%} of the cells that get no water have {number:.9g}"
-    named = made.options.acc_counts == "area" or made.options.cell_area is not None
     if number == 0 and named:
         raise CannotJudge(f"acc: {text}: --acc-counts area needs numbers that count the cell's own area too")
-    if number == 0:
-        made.plus = 1
-        made.notes.append(f"acc: {text}: the cell itself isn't counted, and 1 is added to each")
-    elif number == 1 and not named:
-        made.notes.append(f"acc: {text}: the cell itself is counted, and each number is taken as it is")
-    elif not named and share < SURE:
-        raise OddRaster(
-            "acc",
-            "directions into several cells are the likely cause (SAGA's default; -METHOD 0 is one direction): cells that "
-            f"get no water have {len(found):,} different numbers, most often {number:.9g}, so these are no counts",
-        )
-    else:
-        check_area(made, number, text)
-        made.per = float(number)
-        made.notes.append(f"acc: {text}, taken for the area of a cell: each number is divided by it")
-
-
-def check_area(made: Converted, number: float, text: str) -> None:
-    """Refuses a number that is neither the area of a cell nor the one that the user named for it."""
-    named, area = made.options.cell_area, area_of_cell(made)
-    if named is not None and not is_area(number, named):
-        raise OddRaster("acc", f"{text}, not the {named:.9g} that --cell-area names")
-    if named is None and not is_area(number, area):
-        known = f"a cell has the area {area:.9g}" if area else "the area of a cell isn't known without a georeference"
-        raise OddRaster(
-            "acc", f"{text}: {known}. If that is what one cell counts for, name it (--cell-area {number:.9g})"
-        )
+    if number in (0, 1) and not named:
+        made.plus = int(number == 0)
+        way = "isn't counted, and 1 is added to each" if made.plus else "is counted, and each number is taken as it is"
+        made.note(f"acc: {text}: the cell itself {way}")
+        return
+    if not named and share < SURE:
+        text = "directions into several cells are the likely cause (SAGA's default; -METHOD 0 is one direction): cells that "
+        text += f"get no water have {len(found):,} different numbers, most often {number:.9g}, so these are no counts"
+        raise OddRaster("acc", text)
+    if known is not None and not is_area(number, known):
+        raise OddRaster("acc", f"{text}, not the {known:.9g} that --cell-area names")
+    if known is None and not is_area(number, area):
+        size = f"a cell has the area {area:.9g}" if area else "the area of a cell isn't known without a georeference"
+        raise OddRaster("acc", f"{text}: {size}. If one cell counts for that, name it (--cell-area {number:.9g})")
+    made.per = float(number)
+    made.note(f"acc: {text}, taken for the area of a cell: each number is divided by it")
 
 
 def counts_taken(made: Converted) -> str:
@@ -207,7 +176,7 @@ def counts_taken(made: Converted) -> str:
         return ""
     if made.per == 1:
         return f"; acc counts: {'cells above each, 1 added' if made.plus else 'cells'}"
-    if is_area(made.per, area_of_cell(made)):
+    if is_area(made.per, cell_area(made.dem)):
         crs = made.dem.crs
         metric = crs and crs.is_projected and crs.linear_units_factor[1] == 1
         return f"; acc counts: area of a cell, {made.per:.9g} {'m2' if metric else 'square units of the map'}"

@@ -1,120 +1,188 @@
-"""Paths along dir, and the counts and labels that `drain derive` gives for them, whatever surface dir came from.
+"""Paths along dir, and the counts and labels that `drain` derives for them, whatever surface dir came from.
 
 Where a path can't go on (a number that is no code, a cell of a ring), it is cut, so that the other cells are counted.
 """
 
-import tempfile
-from pathlib import Path
+from collections.abc import Iterator
 
 import numpy as np
 
-from .around import CODES, NO_CODE, NO_DIRECTION, OUTLET, STEPS, Array, bands, opposite, shifted
-from .drain import Answer, Finding, Program, accepted_line
+from .around import CODES, NO_CODE, NO_DIRECTION, OUTLET, STEPS, Array, bands, leading
+from .drain import Answer, Finding, accepted, rejected
+from .errors import DrainFailed
 from .job import Converted
-from .rules import NO_END, RULES, SOUND, cells
-from .sets import Product
+from .rules import NO_END, SOUND, Cell, Counted, cells
+from .sets import Rows
+
+STOPS = {NO_CODE: "its number is no code", NO_DIRECTION: "it has no direction"}
 
 
 class Flow:
-    """acc and bas along the dir of a set, in a temporary folder."""
+    """acc and bas along the dir of a set. Paths are cut in a copy of dir."""
 
-    def __init__(self, made: Converted, program: Program, work: Path) -> None:
-        one, self.frame = made.set, made.set.frame
-        self.data, self.codes = made.data, np.array(one.view("dir"))  # a copy: paths are cut in it
-        off = np.zeros(self.data.shape, bool)
-        for code in CODES:
-            off_by_code = self.codes == code
-            here, there = shifted(self.codes, code)
-            off_by_code[here] &= ~self.data[there]
-            off |= off_by_code
-        # Cells whose code leads off the grid or into no data, or that have none. As ends of paths they may be meant.
-        self.off = np.flatnonzero(self.data & (off | (self.codes == NO_DIRECTION)))
-        self.strange = np.flatnonzero(self.data & (self.codes == NO_CODE))
-        self.ring = np.zeros(0, np.int64)
-        self.codes[~self.data] = NO_DIRECTION
-        self.codes.ravel()[self.off] = OUTLET
-        home, self.place, self.header = one.folder, Path(tempfile.mkdtemp(dir=work)), one.header("dir")
-        words = one.save(home or self.place).words(own=False)
-        one.folder = home
-        self.endless: Answer | None = self.derive(program, words)
-        if self.endless:
-            self.ring = ring_cells(self.codes, self.data)
-            self.codes.ravel()[np.concatenate([self.ring, self.strange])] = OUTLET
-            self.derive(program, words)
-        self.ends = int(((self.codes == OUTLET) & self.data).sum()) - len(self.ring) - len(self.strange)
-        self.acc, self.bas = (Product(self.place / f"{name}.bil", name, self.frame) for name in ("acc", "bas"))
+    def __init__(self, made: Converted) -> None:
+        self.made, self.data, self.ring = made, made.data, np.zeros(0, np.int64)
+        self.codes = np.where(self.data, made.set["dir"], np.uint8(NO_DIRECTION))
+        goes = self.codes == OUTLET
+        for here, there, leads in leading(self.codes):
+            goes[here] |= leads & self.data[there]
+        self.strange = np.flatnonzero(self.codes == NO_CODE)
+        # Cells whose code leads off the grid or into no data, or that have none. As ends of paths they may be meant, but
+        # for those that were left by `complete_open`: where heights are known, a path stops there.
+        off = np.flatnonzero(self.data & ~goes & (self.codes != NO_CODE))
+        self.stops = np.concatenate([self.strange, off if made.is_whole else off[:0]])
+        self.codes.flat[off] = OUTLET
+        self.endless: Answer | None = None
+        found = self.derive()
+        if isinstance(found, Answer):
+            self.endless, self.ring = found, ring_cells(self.codes, self.data)
+            self.codes.flat[np.concatenate([self.ring, self.strange])] = OUTLET
+            found = self.derive()
+        if isinstance(found, Answer):
+            raise DrainFailed(f"drain derive: {found.line}, where each path was cut")
+        self.acc, self.bas = found
+        self.lost = np.unique(np.concatenate([self.stops, self.ring]))  # cells that end a path, and aren't outlets
         # The labels of the cells that don't drain.
         self.cut = np.unique(self.values(self.bas, np.concatenate([self.ring, self.strange])))
 
-    def derive(self, program: Program, words: list[str]) -> Answer | None:
-        """Has `drain` derive acc and bas; the answer where a path doesn't end."""
-        whole = np.full(self.frame.shape[1], NO_DIRECTION, np.uint8)
-        with open(self.place / "dir.bil", "wb") as file:
-            for row in range(self.frame.shape[0]):
-                whole[: self.frame.cols] = self.codes[row] if row < self.frame.rows else NO_DIRECTION
-                file.write(whole.tobytes())
-        (self.place / "dir.hdr").write_text(self.header, encoding="ascii")
-        return program.derive(self.place, words)
+    def derive(self) -> Answer | tuple[Rows, Rows]:
+        """Has `drain` derive acc and bas; or the answer where a path doesn't end."""
+        return self.made.job.program.derive(self.made.set, self.codes, self.made.job.work)
 
-    def values(self, product: Product, at: Array) -> Array:
+    def values(self, product: Rows, at: Array) -> Array:
         """The numbers of a product at some cells, in row order."""
         rows, cols = np.divmod(np.sort(at), self.codes.shape[1])
-        found = [np.zeros(0, product.kind)]
+        found = [np.zeros(0, product.dtype)]
         for band, _, _ in bands(*self.codes.shape) if len(at) else ():
             first, last = np.searchsorted(rows, (band.start, band.stop))
             found.append(product[band][rows[first:last] - band.start, cols[first:last]])
         return np.concatenate(found)
 
-    def drained_at(self, at: Array) -> int:
-        """How many cells drain through these, each of which ends a path."""
-        return int(self.values(self.acc, at).sum(dtype=np.int64))
+    def lost_text(self) -> str:
+        """How many cells don't drain, and why; "" where each does."""
+        if not len(self.lost):
+            return ""
+        many, stops = int(self.values(self.acc, self.lost).sum(dtype=np.int64)), len(self.stops)
+        text = f"{cells(many)} of {self.made.many:,} don't drain: {cells(len(self.ring))} in rings, {stops:,} at which a path stops"
+        row, col = divmod(int(self.lost[0]), self.codes.shape[1])
+        return f"{text}, first at row {row}, column {col}"
+
+    def way_text(self, row: int, col: int) -> str:
+        """Where the path from a cell goes round, or stops."""
+        seen, codes = dict[Cell, int](), self.made.set["dir"]
+        while (row, col) not in seen:
+            seen[row, col], code = len(seen), int(codes[row, col])
+            if code not in STEPS:
+                return f"the first stops at row {row}, column {col}: {STOPS.get(code, 'it is no outlet')}"
+            down, right = row + STEPS[code][0], col + STEPS[code][1]
+            if not (0 <= down < codes.shape[0] and 0 <= right < codes.shape[1]):
+                return f"the first stops at row {row}, column {col}: it leads off the grid"
+            if not self.data[down, right]:
+                return f"the first stops at row {row}, column {col}: it leads into a void"
+            row, col = down, right
+        ring = list(seen)[seen[row, col] :]
+        listed = ", ".join(map(str, ring[:20])) + (", .." if len(ring) > 20 else "")
+        return f"the first reaches a ring of {cells(len(ring))}, at {listed}"
 
     def drains(self, band: slice) -> Array:
         """The cells with data whose path ends where water leaves."""
-        return self.data[band] & ~np.isin(self.bas[band], self.cut) if len(self.cut) else self.data[band]
+        return np.asarray(self.data[band] & ~np.isin(self.bas[band], self.cut))
 
-    def first(self, *at: Array) -> tuple[int, int] | None:
-        """The first of some cells in row order."""
-        found = [int(one.min()) for one in at if len(one)]
-        return divmod(min(found), self.codes.shape[1]) if found else None
-
-    def wrong_counts(self, counts: Array, band: slice, around: slice, inner: slice) -> Array:
+    def wrong_counts(self, band: slice, around: slice, inner: slice) -> Array:
         """Where, in a band of rows, a count isn't 1 plus the counts that flow in: where a loss begins."""
-        excess = counts[around].astype(np.int64) - self.acc[around]
-        there_is_more = excess.copy()
-        for code in CODES:
-            here, there = shifted(excess, code)
-            flows = (self.codes[around][there] == opposite(code)) & self.data[around][there]
-            there_is_more[here] -= np.where(flows, excess[there], 0)
-        return (there_is_more != 0)[inner] & self.drains(band)
+        excess = self.made.set["acc"][around].astype(np.int64) - self.acc[around]
+        rest = excess.copy()
+        for here, there, leads in leading(self.codes[around]):
+            rest[there] -= np.where(leads & self.data[around][here], excess[here], 0)
+        return np.asarray((rest != 0)[inner] & self.drains(band))
 
-    def wrong_labels(self, labels: Array, around: slice, inner: slice) -> Array:
+    def wrong_labels(self, band: slice, around: slice, inner: slice) -> Array:
         """Where, in a band of rows, a label isn't that of the next cell downstream."""
-        window, wrong = labels[around], np.zeros(labels[around].shape, bool)
-        for code in CODES:
-            here, there = shifted(window, code)
-            wrong[here] |= (self.codes[around][here] == code) & (window[here] != window[there])
-        return wrong[inner]
+        labels = self.made.set["bas"][around]
+        wrong = np.zeros(labels.shape, bool)
+        for here, there, leads in leading(self.codes[around]):
+            wrong[here] |= leads & (labels[here] != labels[there])
+        return np.asarray(wrong[inner] & self.data[band])
 
-    def label_faults(self, labels: Array) -> tuple[int, Array]:
-        """At how many cells a label differs from its outlet's; and the outlets whose label an earlier one has."""
-        ends, basins, theirs = [], [], []
+    def shared_labels(self) -> Array:
+        """The outlets whose label an earlier one has."""
+        labels, found = self.made.set["bas"], []
         for band, _, _ in bands(*self.codes.shape):
-            at = np.flatnonzero((self.codes[band] == OUTLET) & self.data[band])
-            ends.append(at + band.start * self.codes.shape[1])
-            basins.append(self.bas[band].reshape(-1)[at])
-            theirs.append(np.ascontiguousarray(labels[band]).reshape(-1)[at])
-        end, basin, label = (np.concatenate(one) for one in (ends, basins, theirs))
-        of = np.zeros(int(basin.max(initial=0)) + 1, labels.dtype)
-        of[basin] = label
-        differ = sum(
-            int((self.drains(band) & (labels[band] != of[self.bas[band]])).sum())
-            for band, _, _ in bands(*self.codes.shape)
-        )
-        end, label = end[whole := ~np.isin(basin, self.cut)], label[whole]
+            rows, cols = np.nonzero((self.codes[band] == OUTLET) & self.drains(band))
+            found.append(((rows + band.start) * self.codes.shape[1] + cols, labels[band][rows, cols]))
+        end, label = (np.concatenate(one) for one in zip(*found))
+        end, label = end[kept := ~np.isin(end, self.lost)], label[kept]
         later = np.ones(end.size, bool)
         later[np.unique(label, return_index=True)[1]] = False
-        return differ, end[later & (label != 0)]
+        return np.asarray(end[later & (label != 0)])
+
+    def text(self) -> str:
+        """Whether all paths end, and acc and bas are those along dir; in words."""
+        along = [name for name in ("acc", "bas") if name in self.made.set.products and name in self.made.judged]
+        wrong = self.acc_texts() if "acc" in along else []
+        if "bas" in along:
+            missing, shared = int((self.data & (self.made.set["bas"] == 0)).sum()), len(self.shared_labels())
+            differ = sum(int(self.wrong_labels(*three).sum()) for three in bands(*self.codes.shape))
+            wrong += [f"bas has no label at {cells(missing)}"] if missing else []
+            wrong += [f"bas differs from that of the next cell downstream at {cells(differ)}"] if differ else []
+            wrong += [f"bas: outlets with the label of an earlier one: {shared:,}"] if shared else []
+        right = f"{' and '.join(along)} {'are those' if len(along) > 1 else 'is that'} of dir" if along else ""
+        ends = int(((self.codes == OUTLET) & self.data).sum()) - len(self.lost)
+        paths = self.lost_text() or ("" if wrong else f"every path ends; water ends at {cells(ends)}")
+        return "; ".join(filter(None, [paths, *wrong, "" if wrong else right]))
+
+    def acc_texts(self) -> list[str]:
+        """How acc differs from the counts along dir, at cells that drain."""
+        counts, many, lost, over, first = self.made.set["acc"], 0, 0, 0, ""
+        for band, _, _ in bands(*counts.shape):
+            less = np.where(self.drains(band), self.acc[band].astype(np.int64) - counts[band], 0)
+            if not first and less.any():
+                row, col = np.argwhere(less)[0]
+                through = int(self.acc[band][row, col])
+                through_text = f"{through:,} {'cell drains' if through == 1 else 'cells drain'} through it"
+                first = f"first at row {band.start + row}, column {col}: {counts[band][row, col]:,}, and {through_text}"
+            many, lost, over = many + int((less != 0).sum()), max(lost, int(less.max())), max(over, -int(less.min()))
+        sizes = [f"at most {cells(n)} {word}" for n, word in ((lost, "lost"), (over, "too many")) if n > 0]
+        return [f"acc differs at {cells(many)}, {', '.join(sizes)}; {first}"] if many else []
+
+    def judge(self) -> Finding:
+        """Accepted exactly if every path ends, and acc and bas are those of dir at each cell with data and no other."""
+        shown, found = np.zeros(self.data.shape, np.uint8), dict[int, tuple[int, Cell]]()
+        for band, number, where in self.faults():
+            if where.any():
+                row, col = np.argwhere(where)[0]
+                many, first = found.get(number, (0, (band.start + int(row), int(col))))
+                found[number] = many + int(where.sum()), first
+                shown[band][where & ((shown[band] == SOUND) | (shown[band] > number))] = number
+        if self.endless:
+            return Finding(self.endless, shown, found)
+        if not found:
+            ends = int(((self.codes == OUTLET) & self.data).sum())
+            return accepted(self.data.shape, {"data": self.made.many, "outlets": ends})
+        row, col = divmod(int((shown != SOUND).argmax()), shown.shape[1])
+        return rejected(int(shown[row, col]), (row, col), shown, found)
+
+    def faults(self) -> Iterator[tuple[slice, int, Array]]:
+        """Where each rule about dir, acc and bas fails, band by band."""
+        numbers = [self.made.set[name] for name in ("acc", "bas") if name in self.made.set.products]
+        has = self.made.set.products
+        shared, cols = self.shared_labels() if "bas" in has else self.ring[:0], self.data.shape[1]
+        for band, around, inner in bands(*self.data.shape):
+            data = self.data[band]
+            blank = [one[band] == 0 for one in numbers] or [~data]
+            yield band, 1, ~data & ~np.logical_and.reduce(blank)
+            yield band, 2, data & np.logical_or.reduce(blank)
+            yield band, 3, data & (self.made.set["dir"][band] == NO_CODE)
+            if "acc" in has:
+                yield band, 13, self.wrong_counts(band, around, inner)
+            if "bas" in has:
+                yield band, 14, self.wrong_labels(band, around, inner)
+            for number, listed in ((15, shared), (NO_END, self.ring)):
+                here = np.zeros(data.shape, bool)
+                here.flat[
+                    listed[(listed >= band.start * cols) & (listed < band.stop * cols)] - band.start * cols
+                ] = True
+                yield band, number, here
 
 
 def ring_cells(codes: Array, data: Array) -> Array:
@@ -123,9 +191,8 @@ def ring_cells(codes: Array, data: Array) -> Array:
     for code, (down, right) in STEPS.items():
         steps[code] = down * codes.shape[1] + right
     inflow, flat = np.zeros(codes.shape, np.uint8), codes.ravel()
-    for code in CODES:
-        here, there = shifted(codes, code)
-        inflow[there] += (codes[here] == code) & data[here]
+    for here, there, leads in leading(codes):
+        inflow[there] += leads & data[here]
     moving, inflow = (data & np.isin(codes, CODES)).ravel(), inflow.ravel()
     front = np.flatnonzero(moving & (inflow == 0)).astype(np.int32)
     while front.size:
@@ -137,94 +204,6 @@ def ring_cells(codes: Array, data: Array) -> Array:
     return np.flatnonzero(moving)
 
 
-def flow_text(made: Converted, flow: Flow) -> tuple[bool, str]:
-    """Whether all paths end, and acc and bas are those along dir; in words."""
-    wrong = []
-    if len(flow.ring) or len(flow.strange):
-        row, col = flow.first(flow.ring, flow.strange) or (0, 0)
-        wrong.append(
-            f"{cells(flow.drained_at(np.concatenate([flow.ring, flow.strange])))} don't drain: {len(flow.ring):,} lie in "
-            f"rings, {len(flow.strange):,} have no code, first at row {row}, column {col}"
-        )
-    along = [name for name in ("acc", "bas") if name in made.set.products and name in made.judged]
-    wrong += acc_text(made, flow) if "acc" in along else []
-    if "bas" in along:
-        labels = made.set.view("bas")
-        lacking = sum(int((made.data[band] & (labels[band] == 0)).sum()) for band, _, _ in bands(*made.data.shape))
-        differ, shared = flow.label_faults(labels)
-        wrong += [f"bas has no label at {cells(lacking)}"] if lacking else []
-        wrong += [f"bas differs from its outlet's at {cells(differ)}"] if differ else []
-        wrong += [f"bas: outlets with the label of an earlier one: {len(shared):,}"] if len(shared) else []
-    right = f", and {' and '.join(along)} {'are those' if len(along) > 1 else 'is that'} of dir" if along else ""
-    return not wrong, "; ".join(wrong) or f"every path ends{right}; water ends at {cells(flow.ends)}"
-
-
-def acc_text(made: Converted, flow: Flow) -> list[str]:
-    """How acc differs from the counts along dir."""
-    counts, least = made.set.view("acc"), stream_least(made)
-    many = lost = over = streams = outlets = 0
-    first = ""
-    for band, _, _ in bands(*counts.shape):
-        have, drains = counts[band].astype(np.int64), flow.acc[band].astype(np.int64)
-        bad = flow.drains(band) & (have != drains)
-        if not bad.any():
-            continue
-        if not first:
-            row, col = np.argwhere(bad)[0]
-            place = f"first at row {band.start + row}, column {col}"
-            first = f"{place}: {have[row, col]:,}, and {drains[row, col]:,} {'cell drains' if drains[row, col] == 1 else 'cells drain'} through it"
-        many, streams = many + int(bad.sum()), streams + int((bad & (drains >= least)).sum())
-        outlets += int((bad & (flow.codes[band] == OUTLET)).sum())
-        lost, over = max(lost, int((drains - have)[bad].max())), max(over, int((have - drains)[bad].max()))
-    if not many:
-        return []
-    sizes = [f"at most {cells(lost)} lost"] if lost > 0 else []
-    sizes += [f"at most {cells(over)} too many"] if over > 0 else []
-    at = f"{streams:,} of these lie on streams (where {least:,} cells or more drain), {outlets:,} where paths end"
-    return [f"acc differs at {cells(many)}, {', '.join(sizes)}; {at}; {first}"]
-
-
 def stream_least(made: Converted) -> int:
     """How many cells drain through a cell of a stream, at least."""
-    return max(20, int(made.data.sum()) // 1000)
-
-
-def judge_flow(made: Converted, flow: Flow) -> Finding:
-    """Accepted exactly if every path ends, and acc and bas are those of dir at each cell with data and no other."""
-    shown = np.zeros(made.data.shape, np.uint8)
-    found: dict[int, tuple[int, tuple[int, int]]] = {}
-
-    def put(band: slice, where: Array, number: int) -> None:
-        if not where.any():
-            return
-        row, col = np.argwhere(where)[0]
-        many, first = found.get(number, (0, (band.start + int(row), int(col))))
-        found[number] = many + int(where.sum()), first
-        shown[band][where & ((shown[band] == SOUND) | (shown[band] > number))] = number
-
-    along = [name for name in ("acc", "bas") if name in made.set.products]
-    shared = flow.label_faults(made.set.view("bas"))[1] if "bas" in along else np.zeros(0, np.int64)
-    at = {15: shared, NO_END: flow.ring}
-    for band, around, inner in bands(*shown.shape):
-        data, numbers = made.data[band], {name: made.set.view(name) for name in along}
-        put(band, ~data & np.logical_or.reduce([numbers[n][band] != 0 for n in along] or [~data & data]), 1)
-        put(band, data & np.logical_or.reduce([numbers[n][band] == 0 for n in along] or [~data & data]), 2)
-        put(band, data & (made.set.view("dir")[band] == NO_CODE), 3)
-        if "acc" in along:
-            put(band, flow.wrong_counts(numbers["acc"], band, around, inner), 13)
-        if "bas" in along:
-            put(band, flow.wrong_labels(numbers["bas"], around, inner) & data, 14)
-        for number, listed in at.items():
-            here = np.zeros(data.shape, bool)
-            start, stop = (edge * data.shape[1] for edge in (band.start, band.stop))
-            here.reshape(-1)[listed[(listed >= start) & (listed < stop)] - start] = True
-            put(band, here, number)
-    if flow.endless:
-        return Finding(flow.endless, shown, found)
-    if not found:
-        counts = {"data": int(made.data.sum()), "outlets": int(((flow.codes == OUTLET) & made.data).sum())}
-        return Finding(Answer(accepted_line(made.dem.rows, made.dem.cols, counts), True, counts))
-    row, col = divmod(int((shown != SOUND).argmax()), shown.shape[1])
-    number = int(shown[row, col])
-    line = f"rejected rule={number} {RULES[number].name} row={row} col={col}"
-    return Finding(Answer(line, False, {}, number, RULES[number].name, row, col), shown, found)
+    return max(20, made.many // 1000)

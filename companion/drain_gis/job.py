@@ -1,18 +1,28 @@
 """A conversion while it runs: the options, the set, and what is needed to talk of it in the user's terms."""
 
+from collections import Counter
 from collections.abc import Callable, Iterator
 from dataclasses import dataclass, field
+from pathlib import Path
 
 import numpy as np
 
-from .around import Array
+from .around import Array, bands
+from .drain import Program
 from .errors import CannotJudge
-from .heights import Unit
+from .heights import Ranks, Unit
 from .layers import Layer, Level
+from .rules import Cell, cells
 from .sets import Set
+from .tools import TOOLS
 
+MOST_LOOKED_AT = 1 << 16  # numbers in voids of each window that may name the one for no data
 Progress = Callable[[str, int, int], None]
 CHOICES = {"ends": ("zero", "keep"), "acc_counts": ("auto", "cells", "above", "area")}
+
+
+def no_progress(name: str, done: int, total: int) -> None:
+    """Tells nobody."""
 
 
 @dataclass(frozen=True)
@@ -34,19 +44,32 @@ class Options:
 
 
 @dataclass
+class Job:
+    """What is asked for, beside the rasters."""
+
+    program: Program
+    work: Path  # a temporary folder, which is there until all is done
+    tool: str = "drain"
+    options: Options = Options()
+    sinks: list[Cell] = field(default_factory=list)
+    folder: Path | None = None  # where the set is written, if not in `work`
+    sources: dict[str, str] = field(default_factory=dict)  # raster to where it is from, in words
+    progress: Progress = no_progress
+
+
+@dataclass
 class Converted:
     """A set, what was done to numbers, and what is needed to talk of it in the user's terms."""
 
+    job: Job
     set: Set
     layers: dict[str, Layer]
-    tool: str
     judged: tuple[str, ...]
-    options: Options
-    # Name to the reason, of each raster that was given and can't be judged.
-    dropped: dict[str, str] = field(default_factory=dict)
+    dropped: dict[str, str]  # name to the reason, of each raster that was given and can't be judged
+    own_ground: bool
     # None where no heights were given, or none that are whole in a unit: then con is judged by ranks, dir isn't.
     unit: Unit | None = None
-    own_ground: bool = False
+    scale: Unit | Ranks = Unit()  # what turns heights into the numbers of the set: the unit, or ranks
     notes: list[str] = field(default_factory=list)
     data: Array = field(default_factory=lambda: np.zeros((0, 0), bool))
     plus: int = 0
@@ -55,7 +78,6 @@ class Converted:
     completed: dict[str, int] = field(default_factory=dict)
     # Raster, path and SHA-256 of each file, of a folder that was imported before.
     inputs: list[tuple[str, str, str]] | None = None
-    progress: Progress = lambda name, done, total: None
 
     @property
     def dem(self) -> Layer:
@@ -63,20 +85,56 @@ class Converted:
         return self.layers["dem"]
 
     @property
-    def ground(self) -> str:
-        """What the rasters are judged over, in words."""
-        if isinstance(self.dem, Level):
-            return "no heights"
-        return "itself" if self.own_ground else "dem" if self.unit else "the order of the heights of dem"
+    def many(self) -> int:
+        """How many cells have an elevation."""
+        return int(self.data.sum())
+
+    @property
+    def scope(self) -> str:
+        """What is judged over what, in words, and over how many rows and columns."""
+        ground = "itself" if self.own_ground else "dem" if self.unit else "the order of the heights of dem"
+        ground = "no heights" if isinstance(self.dem, Level) else ground
+        return f"{', '.join(self.judged) or 'paths'} over {ground}, {self.dem.rows:,} rows by {self.dem.cols:,} columns"
 
     @property
     def is_whole(self) -> bool:
-        """Whether heights are given, so that `drain` judges all of it at once."""
-        return self.unit is not None and "con" in self.set.products
+        """Whether heights are given, whole in a unit, so that `drain` judges all of it at once."""
+        return self.unit is not None and "con" in self.set.arrays
 
     def windows(self, name: str) -> Iterator[tuple[slice, Array, Array]]:
         """(slice of rows, numbers, where they are none) of each window of a layer."""
         layer = self.layers[name]
         for top, rows in layer.windows():
             yield slice(top, top + rows), *layer.window(top, rows)
-            self.progress(name, top + rows, layer.rows)
+            self.job.progress(name, top + rows, layer.rows)
+
+    def note(self, text: str) -> None:
+        """Says what was done, or found."""
+        self.notes.append(text)
+
+    def drop(self, name: str, reason: str) -> None:
+        """Says that a raster isn't judged."""
+        self.dropped[name] = reason
+        self.judged = tuple(one for one in self.judged if one != name)
+
+
+def note_misplaced(made: Converted, name: str) -> None:
+    """Notes no-data numbers in cells with an elevation, and numbers in voids: both stay, and are rejected."""
+    product, (_, blank), missing, over = made.set[name], made.set.kinds[name], 0, 0
+    for band, _, _ in bands(*made.data.shape):
+        none, data = product[band] == blank, made.data[band]
+        missing, over = missing + int((none & data).sum()), over + int((~none & ~data).sum())
+    if missing:
+        rim = name == "dir" and TOOLS[made.job.tool].blank_rim and not made.job.options.complete_rim
+        hint = "; this tool leaves the rim without directions: --complete-rim gives it some" if rim else ""
+        hint = hint if missing < made.many else ": it has no number at all. Is its no-data number right?"
+        made.note(f"{name}: no data at {cells(missing)} with an elevation (rule Missing){hint}")
+    if over:
+        found, used = Counter[float](), set[float]()
+        for rows, numbers, none in made.windows(name):
+            found.update(numbers[~none & ~made.data[rows]][:MOST_LOOKED_AT].tolist())
+            used.update(np.unique(numbers[~none & made.data[rows]]).tolist())
+        likely, where = found.most_common(1)[0][0], f"{cells(over)} without an elevation (rule VoidCell)"
+        text = f"{name}: a number at {where}, most often {likely:.12g}"
+        named = made.layers[name].nodata is not None or likely in used
+        made.note(text + ("" if named else f". It names no number for no data; --nodata {name}={likely} does"))

@@ -1,24 +1,29 @@
-"""Right rasters: those of `drain make`, and acc and bas of `drain derive`, as GeoTIFFs in the source's grid and a tool's codes."""
+"""Rasters that are made: right ones by `drain make` and `drain derive`, on the source's grid and in a tool's codes; and
+elevations whose heights are whole in a unit, for a tool to run on."""
 
 import tempfile
-from collections.abc import Iterable, Iterator, Mapping
+from collections.abc import Iterable, Iterator, Mapping, Sequence
 from pathlib import Path
 from typing import Any
 
 import numpy as np
 
 from .around import NO_DIRECTION, OUTLET, Array
-from .convert import begin, convert, put_heights
+from .convert import convert, put_heights
 from .drain import Program
 from .errors import CannotJudge
 from .flow import Flow
-from .job import Converted, Options
-from .layers import Layer, Level, drivers_of, layer_of
+from .grids import check_grid
+from .heights import find_unit
+from .job import Converted, Job
+from .layers import DRIVERS, Layer, Level, drivers_of, layer_of, open_file
 from .maps import write_raster, written_whole
-from .sets import PRODUCTS, Product
+from .sets import PLAIN, PRODUCTS, Rows, Set
+from .tiles import BITS, FIRST, levels_of, run_make
 from .tools import TOOLS
 
-NO_CODE = -32768  # what a made dir has where it has no data
+NO_CODE, NO_HEIGHT = -32768, -9999  # what a made dir, and made heights, have where there is no data
+Written = tuple[str, float, Iterator[tuple[int, Array]]]  # type, no-data number, rows
 
 
 def make(
@@ -29,57 +34,51 @@ def make(
 
     con has the type and the unit of dem, dir the codes of a tool. Raises CannotJudge, or DrainFailed.
     """
-    layer, drain = layer_of("dem", dem, nodata, drivers_of(allow_drivers)), Program(program)
+    layer = layer_of("dem", dem, nodata, drivers_of(allow_drivers))
     check_outs(outs, PRODUCTS, [layer], codes)
+    check_grid(layer, layer)
+    unit, kind = find_unit(layer, bits=BITS)
     with tempfile.TemporaryDirectory(prefix="drain-gis-") as work:
-        made = begin({"dem": layer, "con": layer}, {}, codes, Options(), None)
-        if made.unit is None:
-            raise CannotJudge(made.notes[-1])
-        del made.layers["con"]
+        job, one = Job(Program(program), Path(work), codes), Set(Path(work), (layer.rows, layer.cols), PLAIN)
+        one.take_heights(kind)
+        one.sinks = [(int(row), int(col)) for row, col in sinks or []]
+        made = Converted(job, one, {"dem": layer}, (), {}, False, unit, unit)
         put_heights(made)
-        made.set.sinks = [(int(row), int(col)) for row, col in sinks or []]
-        place = Path(tempfile.mkdtemp(dir=work))
-        drain.make(made.set.save(place), place)
+        low = int(levels_of(one)[0])
+        products = run_make(job, one, lambda steps: steps.astype(np.int64) - low, Path(work))
         for name, path in outs.items():
-            product = Product(place / f"{name}.bil", name, made.set.frame)
             with written_whole(path) as new:
-                write_raster(new, layer, *(heights(made, product) if name == "con" else numbers(made, name, product)))
+                done = heights(made, products["con"]) if name == "con" else numbers(made, name, products[name])
+                write_raster(new, layer, *done)
 
 
-def heights(made: Converted, con: Product) -> tuple[str, float, Iterator[tuple[int, Array]]]:
+def heights(made: Converted, con: Rows) -> Written:
     """con in the numbers of dem: each height of the filled surface is one of the elevations."""
-    assert made.unit is not None
-    kinds = [np.unique(found[~void]) for _, found, void in made.windows("dem")]
-    levels = np.unique(np.concatenate(kinds))
-    steps = made.unit.whole(levels, np.zeros(levels.shape, bool))
-    nodata = made.dem.nodata
+    levels = np.unique(np.concatenate([np.unique(found[~void]) for _, found, void in made.windows("dem")]))
+    steps, nodata = made.scale.whole(levels, np.zeros(levels.shape, bool)), made.dem.nodata
+    plus = FIRST - steps[0]
     if nodata is None or not made.dem.holds(nodata) or (levels == nodata).any():
-        nodata = -9999 if made.dem.dtype.kind == "f" else int(np.iinfo(made.dem.dtype).min)
+        nodata = NO_HEIGHT if made.dem.dtype.kind == "f" else int(np.iinfo(made.dem.dtype).min)
     if (levels == nodata).any():
         raise CannotJudge(f"dem has no number left for no data: {nodata} is a height")
 
     def parts() -> Iterator[tuple[int, Array]]:
         for rows, found, void in made.windows("dem"):
-            raised = levels[np.minimum(np.searchsorted(steps, con[rows]), levels.size - 1)]
-            filled = np.where(con[rows] == made.unit.whole(found, void), found, raised)  # type: ignore[union-attr]
+            raised = levels[np.minimum(np.searchsorted(steps + plus, con[rows]), levels.size - 1)]
+            filled = np.where(con[rows] == made.scale.whole(found, void) + plus, found, raised)
             yield rows.start, np.where(void, found.dtype.type(nodata), filled)
 
     return str(made.dem.dtype), nodata, parts()
 
 
-def numbers(made: Converted, name: str, product: Product) -> tuple[str, float, Iterator[tuple[int, Array]]]:
+def numbers(made: Converted, name: str, product: Rows) -> Written:
     """dir in the codes of a tool; acc and bas as they are, 0 for no data."""
-    tool, table = TOOLS[made.tool], np.full(256, NO_CODE, np.int16)
+    tool, table = TOOLS[made.job.tool], np.full(256, NO_CODE, np.int16)
     for number, code in tool.codes.items():
         table[code] = number
     table[OUTLET], table[NO_DIRECTION] = tool.ends[0], NO_CODE
-
-    def parts() -> Iterator[tuple[int, Array]]:
-        for top, rows in made.dem.windows():
-            found = product.rows(top, rows)
-            yield top, table[found] if name == "dir" else found
-
-    return ("int16", NO_CODE, parts()) if name == "dir" else ("uint32", 0, parts())
+    parts = ((top, product[top : top + rows]) for top, rows in made.dem.windows())
+    return ("int16", NO_CODE, ((top, table[a]) for top, a in parts)) if name == "dir" else ("uint32", 0, parts)
 
 
 def derive(
@@ -91,22 +90,45 @@ def derive(
     Raises CannotJudge, also where a path doesn't end, or DrainFailed.
     """
     drivers, given = drivers_of(allow_drivers), {"dem": dem, "dir": dir}
-    unknown = set(nodata or {}) - set(given)
-    if unknown:
+    if unknown := set(nodata or {}) - set(given):
         raise CannotJudge(f"nodata of {', '.join(sorted(unknown))}: expected dem or dir")
     layers = {n: layer_of(n, one, (nodata or {}).get(n), drivers) for n, one in given.items() if one is not None}
     check_outs(outs, ("acc", "bas"), list(layers.values()), codes)
-    drain = Program(program)
-    if dem is not None:
-        layers["dem"] = Level([layers["dem"]])
-    made = convert(layers, {}, codes, Options(), drain)
+    layers |= {"dem": Level([layers["dem"]])} if dem is not None else {}
     with tempfile.TemporaryDirectory(prefix="drain-gis-") as work:
-        flow = Flow(made, drain, Path(work))
+        made = convert(Job(Program(program), Path(work), codes), layers, {})
+        flow = Flow(made)
         if flow.endless:
             raise CannotJudge(f"dir: the path from row {flow.endless.row}, column {flow.endless.col} doesn't end")
         for name, path in outs.items():
             with written_whole(path) as new:
                 write_raster(new, layers["dir"], *numbers(made, name, flow.acc if name == "acc" else flow.bas))
+
+
+def make_whole(source: str, out: Path, per: int, nodata: int | float | None, drivers: Sequence[str] = DRIVERS) -> float:
+    """Writes a GeoTIFF of heights in single precision, whole in 1 / per or not at all. Returns the most that one moved."""
+    layer, most = open_file("dem", source, nodata, drivers), [0.0]
+    if layer.scaling != (1.0, 0.0):
+        raise CannotJudge(f"{source} has the scale and offset {layer.scaling}: write its heights plainly")
+    if out.exists():
+        raise CannotJudge(f"{out} is there already")
+
+    def parts() -> Iterator[tuple[int, Array]]:
+        for top, rows in layer.windows():
+            found, blank = layer.window(top, rows)
+            exact = np.where(blank, 0, found).astype(np.float64)
+            near = np.rint(exact * per)
+            written = np.where(blank, NO_HEIGHT, near / per).astype(np.float32)
+            if (np.rint(written.astype(np.float64) * per) != np.where(blank, NO_HEIGHT * per, near)).any():
+                raise CannotJudge(f"{source}: heights in steps of {1 / per:g} are too large for single precision")
+            if (~blank & (written == NO_HEIGHT)).any():
+                raise CannotJudge(f"{source}: a height of {NO_HEIGHT}, which means no data in what is written")
+            most[0] = max(most[0], float(np.abs(exact - near / per).max(initial=0)))
+            yield top, written
+
+    with written_whole(out) as new:
+        write_raster(new, layer, "float32", NO_HEIGHT, parts())
+    return most[0]
 
 
 def check_outs(outs: Mapping[str, Path], names: tuple[str, ...], layers: list[Layer], codes: str) -> None:
@@ -124,6 +146,5 @@ def check_apart(outs: Iterable[str | Path], sources: Iterable[str | Path]) -> No
     if len({Path(out).resolve() for out in outs}) < len(outs):
         raise CannotJudge(f"{', '.join(map(str, outs))}: each output needs a name of its own")
     for out in outs:
-        for source in sources:
-            if Path(out).exists() and Path(out).samefile(source):
-                raise CannotJudge(f"{out} is read, and would be replaced: name another")
+        if Path(out).exists() and any(Path(out).samefile(source) for source in sources):
+            raise CannotJudge(f"{out} is read, and would be replaced: name another")

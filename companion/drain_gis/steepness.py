@@ -3,11 +3,10 @@
 It explains an answer, and decides nothing.
 """
 
-
 import numpy as np
 
-from .around import OUTLET, Around, Array
-from .grids import ground_sizes, in_degrees, is_square
+from .around import OUTLET, Around
+from .grids import cell_sizes, in_degrees, is_square
 from .job import Converted
 from .layers import Level
 from .tools import DISTANCES, TOOLS
@@ -17,45 +16,23 @@ SAMPLE = 200_000  # about how many cells are looked at
 MUCH_BETTER, BETTER = 0.2, 0.01
 
 
-class Sample:
-    """The neighbours of the cells of some rows, and what dir says there. Rows stand in threes, the picked one amid."""
-
-    def __init__(self, made: Converted) -> None:
-        rows, cols = made.data.shape
-        many, whole = max(1, SAMPLE // cols), "con" in made.set.products
-        picks = np.arange(rows) if many >= rows else np.sort(np.random.default_rng(1).choice(rows, many, replace=False))
-        heights, data = np.zeros((3 * picks.size, cols)), np.zeros((3 * picks.size, cols), bool)
-        known, found = [], []
-        for i, row in enumerate(picks.tolist()):
-            top, last = max(0, row - 1), min(rows, row + 2)
-            here = slice(3 * i + top - row + 1, 3 * i + last - row + 1)
-            layer = made.layers.get("con", made.dem)
-            heights[here] = made.set.view("con")[top:last] if whole else layer.window(top, last - top)[0]
-            data[here] = made.data[top:last]
-            numbers, none = made.layers["dir"].window(row, 1)
-            known.append(~none[0] & made.data[row])
-            found.append(numbers[0])
-        at = np.argwhere(np.stack(known))
-        self.rows, self.numbers = picks[at[:, 0]], np.stack(found)[tuple(at.T)]
-        self.around = Around(np.stack([3 * at[:, 0] + 1, at[:, 1]], axis=1), heights, data)
-        self.lower = max(1, int(self.around.lower.sum()))
-
-    def codes(self, tool: str) -> Array:
-        """The codes of dir by a tool's numbers."""
-        codes = np.full(self.numbers.shape, OUTLET, np.uint8)
-        for number, code in TOOLS[tool].codes.items():
-            codes[self.numbers == number] = code
-        return codes
-
-    def share(self, tool: str) -> float:
-        """The share of the cells with a lower neighbour that go a steepest way, by unit spacing."""
-        return int(self.around.is_steepest(self.codes(tool)).sum()) / self.lower
-
-    def share_by(self, tool: str, made: Converted, ground: bool) -> float:
-        """The same by distances on the ground, or by the cell sizes of the header."""
-        t, rows = made.dem.transform, self.rows
-        widths, height = ground_sizes(made.dem, rows) if ground else (np.full(rows.shape, abs(t.a)), abs(t.e))
-        return int(self.around.is_steepest_by(self.codes(tool), widths, height).sum()) / self.lower
+def shares(made: Converted, ways: list[tuple[str, str]]) -> list[float]:
+    """The share of the cells with a lower neighbour that go a steepest way, by each tool's codes and distance."""
+    (rows, cols), layer = made.data.shape, made.layers.get("con", made.dem)
+    found, lower = [0] * len(ways), 0
+    for row in range(0, rows, -(-rows * cols // SAMPLE)):
+        top, last = max(0, row - 1), min(rows, row + 2)
+        heights = made.set["con"][top:last] if made.is_whole else layer.window(top, last - top)[0]
+        numbers, none = made.layers["dir"].window(row, 1)
+        at = np.flatnonzero(~none[0] & made.data[row])
+        around = Around(np.stack([np.full(at.size, row - top), at], axis=1), heights, made.data[top:last])
+        lower += int(around.lower.sum())
+        for n, (tool, distance) in enumerate(ways):
+            codes = np.full(at.size, OUTLET, np.uint8)
+            for number, code in TOOLS[tool].codes.items():
+                codes[numbers[0, at] == number] = code
+            found[n] += int(around.is_steepest(codes, cell_sizes(made.dem, distance, row)).sum())
+    return [many / max(1, lower) for many in found]
 
 
 def can_sample(made: Converted) -> bool:
@@ -63,36 +40,34 @@ def can_sample(made: Converted) -> bool:
     return "dir" in made.layers and not isinstance(made.dem, Level)
 
 
-def shares_text(made: Converted) -> None:
+def note_shares(made: Converted) -> None:
     """Notes, of a DEM in degrees or with cells that aren't square, how many cells go steepest by each distance."""
-    if not can_sample(made) or not (in_degrees(made.dem) or not is_square(made.dem)):
+    name, dem = made.job.tool, made.dem
+    if not can_sample(made) or not (in_degrees(dem) or not is_square(dem)):
         return
-    sample, tool = Sample(made), TOOLS[made.tool]
-    shares = {"unit": sample.share(made.tool)}
-    if not is_square(made.dem):
-        shares["cells"] = sample.share_by(made.tool, made, ground=False)
-    if in_degrees(made.dem):
-        shares["ground"] = sample.share_by(made.tool, made, ground=True)
-    listed = ", ".join(f"{DISTANCES[name]} {share:.1%}" for name, share in shares.items())
-    text = f"dir: of the cells with a lower neighbour go down a steepest way, by {listed}"
-    own = tool.spacing[int(in_degrees(made.dem))]
-    text += f"; {made.tool} takes {DISTANCES[own]}" + ("" if own == "unit" else f", `drain` {DISTANCES['unit']}")
-    if max(shares.values()) > shares["unit"] + BETTER:
+    ways = ["unit", *([] if is_square(dem) else ["cells"]), *(["ground"] if in_degrees(dem) else [])]
+    found = shares(made, [(name, way) for way in ways])
+    listed = ", ".join(f"{DISTANCES[way]} {share:.1%}" for way, share in zip(ways, found))
+    own = TOOLS[name].spacing[int(in_degrees(dem))]
+    text = (
+        f"dir: of the cells with a lower neighbour go down a steepest way, by {listed}; {name} takes {DISTANCES[own]}"
+    )
+    text += "" if own == "unit" else f", `drain` {DISTANCES['unit']}"
+    if max(found) > found[0] + BETTER:
         text += ", so expect Slope. acc and bas along dir can be judged (leave out --dem and --con)"
-    made.notes.append(text)
+    made.note(text)
 
 
 def better_codes(made: Converted) -> str:
     """Whether another tool's codes fit much better: asked after a rejection."""
     if not can_sample(made):
         return ""
-    sample = Sample(made)
-    fits = {name: sample.share(name) for name in TOOLS}
+    fits, own = dict(zip(TOOLS, shares(made, [(name, "unit") for name in TOOLS]))), made.job.tool
     best = max(fits, key=lambda name: fits[name])
-    if fits[best] <= fits[made.tool] + MUCH_BETTER:
+    if fits[best] <= fits[own] + MUCH_BETTER:
         return ""
     alike = " or ".join(name for name, tool in TOOLS.items() if tool.codes == TOOLS[best].codes)
     return (
-        f"WARNING: by the codes of {made.tool} {fits[made.tool]:.1%} of the cells with a lower neighbour go down a "
-        f"steepest way, by those of {best} {fits[best]:.1%}: is it {alike}?"
+        f"WARNING: by the codes of {own} {fits[own]:.1%} of the cells with a lower neighbour go down a steepest way, by "
+        f"those of {best} {fits[best]:.1%}: is it {alike}?"
     )

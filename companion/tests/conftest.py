@@ -55,6 +55,12 @@ def start(*words: object, room: int | None = None, **environment: str) -> Printe
     return Printed(done.returncode, done.stdout, done.stderr)
 
 
+def outputs(folder: Path) -> list[str]:
+    """The options that write an answer's files."""
+    names = {"out": "r.html", "map": "m.tif", "picture": "p.png"}
+    return [word for option, name in names.items() for word in (f"--{option}", str(folder / name))]
+
+
 def left(folder: Path) -> dict[str, int]:
     """Path to size, of all files below a folder."""
     return {str(path.relative_to(folder)): path.stat().st_size for path in folder.rglob("*") if path.is_file()}

@@ -14,7 +14,7 @@ from skimage.morphology import reconstruction
 STEP = {1: (0, 1), 2: (1, 1), 4: (1, 0), 8: (1, -1), 16: (0, -1), 32: (-1, -1), 64: (-1, 0), 128: (-1, 1)}
 """Esri's codes."""
 
-BLANK, HIGH = -99, 10**7
+BLANK, HIGH = -99, 10**9
 """No data in an array that is judged, and more than any height."""
 
 

@@ -3,7 +3,6 @@
 import base64
 import re
 import xml.etree.ElementTree as xml
-from collections.abc import Callable
 from html.parser import HTMLParser
 from itertools import combinations
 from pathlib import Path
@@ -16,7 +15,7 @@ import pytest
 import worlds
 from conftest import COMPANION, left
 from drain_gis.maps import write_map
-from drain_gis.picture import write_picture
+from drain_gis.picture import Map, legend_of, write_picture
 from drain_gis.report import write_report
 from drain_gis.rules import RULES
 from matplotlib.colors import to_rgb
@@ -104,7 +103,7 @@ def test_a_report_says_what_there_is_to_say_and_loads_nothing(tmp_path: Path, re
     ]
     for n, (cells, (row, col)) in rejected.rules.items():
         texts += [RULES[n].name, f"{cells:,}", f"row {row}, column {col}"]
-    texts += ["30 rows by 40 columns", "esri", "Tested, not proved", rejected.version.split("\n")[0]]
+    texts += ["30 rows by 40 columns", "esri", "Tested, not proved", rejected.program.version.split("\n")[0]]
     assert [text for text in texts if " ".join(text.split()) not in page.text] == []
     assert page.addresses == ["data:image/png;base64," + base64.b64encode(b"\x89PNG any bytes").decode()]
     assert not {"script", "link", "a", "iframe"} & set(page.seen) and "http" not in page.html.replace("http-equiv", "")
@@ -147,16 +146,25 @@ def drawn(folder: Path, shape: tuple[int, int], cells: dict[int, Any], path: str
 
 def test_one_cell_of_many_is_seen(tmp_path: Path) -> None:
     image = drawn(tmp_path, (1500, 900), {12: (700, 300), 10: np.s_[::2, 500:]})
-    dots = np.argwhere(seen(image, 12))
-    assert (
-        max(image.shape) < 1700 and len(dots[dots[:, 0] < image.shape[0] - 120]) > 20 and seen(image, 10).sum() > 10_000
-    )
+    dots, lowest = np.argwhere(seen(image, 12)), image.shape[0] - 120
+    assert max(image.shape) < 1700 and len(dots[dots[:, 0] < lowest]) > 20 and seen(image, 10).sum() > 10_000
 
 
 @pytest.mark.parametrize("failing", [(4, 13), tuple(CELLWISE)])
 def test_the_legend_has_each_rule_that_fails_and_no_other(tmp_path: Path, failing: tuple[int, ...]) -> None:
     image = drawn(tmp_path, (300, 300), {n: (20 * k + 5, slice(5, 8)) for k, n in enumerate(failing)})
     assert [n for n in CELLWISE if seen(image[-30 * len(RULES) :], n).any()] == list(failing)
+
+
+def test_the_legend_says_why_fewer_cells_are_drawn_and_that_no_rule_fails(rejected: drain_gis.Verdict) -> None:
+    rejected.rules = {**rejected.rules, 15: (9, (0, 0))}
+    labels = [str(line.get_label()) for line in legend_of(rejected, Map(rejected))]
+    assert (
+        "15 SharedLabel: another outlet's, 9 cells (0 drawn; the others fail a rule with a smaller number too)"
+        in labels
+    )
+    right = drain_gis.audit(**worlds.random_world(seed=4).given("con"))
+    assert [line.get_label() for line in legend_of(right, Map(right))] == ["no rule fails at any cell", "void"]
 
 
 @pytest.mark.parametrize("shape", [(1, 1), (1, 500), (3000, 3), (2, 9000), (37, 41)])
@@ -174,9 +182,7 @@ def test_the_user_s_style_and_odd_names_change_no_picture(tmp_path: Path, reject
         drawn(tmp_path, (20, 30), {9: (3, 3)}, path=path)
 
 
-def test_a_full_disk_leaves_nothing(
-    tmp_path: Path, rejected: drain_gis.Verdict, small_disk: Callable[[int], None]
-) -> None:
+def test_a_full_disk_leaves_nothing(tmp_path: Path, rejected: drain_gis.Verdict, small_disk: Any) -> None:
     small_disk(400)
     for write in (write_picture, write_map, lambda path, verdict: write_report(path, verdict, None, [])):
         with pytest.raises(OSError):

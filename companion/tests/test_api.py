@@ -1,19 +1,19 @@
-"""The package as a tool's developer uses it: assertions, the library in memory beside the program, and little memory."""
+"""The package as a tool's developer uses it: assertions, and little memory."""
 
 import os
 import subprocess
 import sys
 from pathlib import Path
+from typing import Any
 
 import drain_gis
 import numpy as np
 import pytest
 import worlds
 from conftest import COMPANION
-from drain_gis.library import library
 
 SLOPE = np.array([[3, 2, 1]] * 3, np.int16)
-RIGHT = {
+RIGHT: dict[str, Any] = {
     "con": SLOPE, "dir": np.array([[1, 1, 0]] * 3, np.uint8), "acc": np.array([[1, 2, 3]] * 3),
     "bas": np.array([[1] * 3, [2] * 3, [3] * 3]), "codes": "esri",
 }  # fmt: skip
@@ -27,6 +27,8 @@ def test_an_assertion_says_where() -> None:
     lines = [line.split() for line in str(caught.value).splitlines()]
     at = next(number for number, words in enumerate(lines) if words[0] == "acc" and words[1] == "row")
     assert [words[-2:] for words in lines[at : at + 2]] == [["2", "*4"], ["2", "3"]]
+    with pytest.raises(AssertionError, match="not judged: acc: 1.5 at row 0"):
+        drain_gis.assert_correct(SLOPE, **{**RIGHT, "acc": RIGHT["acc"] + 0.5}, acc_counts="cells")
 
 
 def test_verdicts_are_true_exactly_if_right() -> None:
@@ -38,36 +40,13 @@ def test_verdicts_are_true_exactly_if_right() -> None:
 
 
 def test_nothing_of_the_caller_is_changed() -> None:
-    world = worlds.random_world(seed=5)
-    rasters = {name: a.copy() for name, a in world.given().items()}
+    rasters = {name: a.copy() for name, a in worlds.random_world(seed=5).given().items()}
+    before = {name: a.copy() for name, a in rasters.items()}
     for a in rasters.values():
         a.data.flags.writeable = False
-    before = {name: a.copy() for name, a in rasters.items()}
     drain_gis.audit(**rasters, codes="esri", parts=True)
-    assert all(
-        np.array_equal(a.data, before[n].data) and np.array_equal(a.mask, before[n].mask) for n, a in rasters.items()
-    )
-
-
-@pytest.mark.parametrize("change", ["", "con", "dir", "acc", "bas"])
-def test_library_and_program_give_one_answer(monkeypatch: pytest.MonkeyPatch, change: str) -> None:
-    if library() is None:
-        pytest.skip("no libdrain.so in this package: the wheel's test has it")
-    monkeypatch.delenv("DRAIN", raising=False)
-    for seed in range(8):
-        world = worlds.random_world(9, 11, seed=seed, voids=0.05 * (seed % 2))
-        if change:
-            cell = world.cells()[-7]
-            getattr(world, change)[cell] += 3 if change != "dir" else 64 - world.dir[cell]
-        answers = []
-        for drawn in (True, False):
-            with monkeypatch.context() as patch:
-                if not drawn:
-                    patch.setattr("drain_gis.verdict.audit_in_memory", lambda one, program: None)
-                verdict = drain_gis.audit(**world.given(), codes="esri", acc_counts="cells")
-            assert verdict.is_packaged
-            answers.append((verdict.line, str(verdict.rules), None if verdict.map is None else verdict.map.tobytes()))
-        assert answers[0] == answers[1]
+    for name, a in rasters.items():
+        assert np.array_equal(a.data, before[name].data) and np.array_equal(a.mask, before[name].mask)
 
 
 MEMORY = """
@@ -75,30 +54,32 @@ import resource, sys
 import numpy as np
 import drain_gis
 rows, cols = 6000, 5000
-z = (np.add.outer(np.arange(rows), np.arange(cols)) % 30000).astype(np.int16)
-con = z.copy()
-con[4000, 3000] += int(sys.argv[1])
-print(drain_gis.audit(z, con=con).line)
-print(resource.getrusage(resource.RUSAGE_SELF).ru_maxrss // 1024)
+z = np.tile(np.arange(cols, dtype=np.int16), (rows, 1))
+whole = {"dir": np.where(z > 0, 16, 0).astype(np.uint8), "acc": (cols - z).astype(np.uint32), "codes": "esri"}
+whole["bas"] = np.repeat(np.arange(1, rows + 1, dtype=np.uint32), cols).reshape(rows, cols)
+whole, con = whole if sys.argv[1] == "whole" else {}, z.copy()
+con[4000, 3000] += int(sys.argv[2])
+before = sum(a.nbytes for a in whole.values() if hasattr(a, "nbytes"))
+print(drain_gis.audit(z, con=con, **whole, parts=True).line)
+print(resource.getrusage(resource.RUSAGE_SELF).ru_maxrss // 1024 - before // 2**20)
 """
 
 
 @pytest.mark.large
+@pytest.mark.parametrize("given", ["con", "whole"])
 @pytest.mark.parametrize("change", [0, 1])
-def test_30_million_cells_take_less_than_700_megabytes(change: int) -> None:
-    done = subprocess.run([sys.executable, "-c", MEMORY, str(change)], cwd=COMPANION, capture_output=True, text=True)
+def test_30_million_cells_take_less_than_700_megabytes(given: str, change: int) -> None:
+    """Beside the caller's own dir, acc and bas; those of dem and con are counted."""
+    words = [sys.executable, "-c", MEMORY, given, str(change)]
+    done = subprocess.run(words, cwd=COMPANION, capture_output=True, text=True, check=True)
     line, most = done.stdout.splitlines()
     assert line.startswith("rejected" if change else "accepted") and int(most) < 700, (line, most)
 
 
-def test_examples_run(tmp_path: Path) -> None:
+def test_examples_run() -> None:
     """What companion/examples shows can be done as it is written."""
     for path in sorted((COMPANION / "examples").glob("test_*.py")):
         words = [sys.executable, "-m", "pytest", "-q", "-p", "no:cacheprovider", "-c", "/dev/null", str(path)]
-        done = subprocess.run(
-            words,
-            env={**os.environ, "PYTHONPATH": str(Path(drain_gis.__file__).parents[1])},
-            capture_output=True,
-            text=True,
-        )
+        place = {**os.environ, "PYTHONPATH": str(Path(drain_gis.__file__).parents[1])}
+        done = subprocess.run(words, env=place, capture_output=True, text=True)
         assert done.returncode == 0, done.stdout

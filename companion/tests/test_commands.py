@@ -11,8 +11,9 @@ import numpy as np
 import pytest
 import rasterio
 import worlds
-from conftest import COMPANION, Printed, start
+from conftest import COMPANION, Printed, outputs, start
 from conftest import drain_gis as command
+from matplotlib.image import imread
 
 COMMANDS = ("judge", "import", "make", "derive", "whole", "tools")
 
@@ -26,27 +27,18 @@ def wrong(files: dict[str, str], tmp_path: Path, world: worlds.World) -> list[st
     return worlds.words({**files, "acc": path})
 
 
-def outputs(folder: Path) -> list[str]:
-    """The options that write an answer's files."""
-    names = {"out": "r.html", "map": "m.tif", "picture": "p.png"}
-    return [word for option, name in names.items() for word in (f"--{option}", str(folder / name))]
-
-
 def test_judge(files: dict[str, str], wrong: list[str], tmp_path: Path, world: worlds.World) -> None:
-    done = command("judge", *worlds.words(files))
-    assert (
-        (done.status, done.error) == (0, "")
-        and "\naccepted " in done.out
-        and "judged: con, dir, acc, bas over dem" in done.out
-    )
     done = command("judge", *wrong, *outputs(tmp_path))
     assert done.status == 1 and "rejected rule=13 Accumulation" in done.out and "con: the least surface" in done.out
-    assert (
-        "data:image/png;base64," in (tmp_path / "r.html").read_text()
-        and (tmp_path / "p.png").read_bytes()[1:4] == b"PNG"
-    )
+    assert "data:image/png;base64," in (tmp_path / "r.html").read_text()
     with rasterio.open(tmp_path / "m.tif") as file:
         assert file.read(1)[world.cells()[33]] == 13
+    picture = imread(tmp_path / "p.png")
+    done = command("judge", *worlds.words(files), *outputs(tmp_path))
+    assert (done.status, done.error) == (0, "") and "\naccepted " in done.out
+    assert "judged: con, dir, acc, bas over dem, 23 rows by 31 columns\n" in done.out
+    assert "no rule fails: map and picture show no fault" in done.out and "ACCEPTED" not in done.out
+    assert not np.array_equal(imread(tmp_path / "p.png"), picture), "no older picture stays that looks like this one's"
     assert not [path for path in tmp_path.iterdir() if path.name.startswith(".")]
     done = command("judge", "--quiet", "--no-parts", *wrong)
     assert done.out.startswith("rejected") and "the least surface" not in done.out
@@ -81,22 +73,19 @@ def test_import_then_judge(wrong: list[str], files: dict[str, str], tmp_path: Pa
     line = next(line for line in direct.out.splitlines() if line.startswith("rejected"))
     assert done.status == 1 and line in done.out and files["dem"] in done.out
     assert (tmp_path / "m.tif").read_bytes() == (out / "faults.tif").read_bytes() and (out / "report.html").exists()
-    assert (
-        command("import", "--con", files["con"], "--dem", files["dem"], tmp_path / "b").status == 0
-    ), "--dem swallows no OUT"
+    done = command("import", "--con", files["con"], "--dem", files["dem"], tmp_path / "b")
+    assert done.status == 0, "--dem swallows no OUT"
 
 
 def test_make_and_derive(files: dict[str, str], tmp_path: Path) -> None:
     """GeoTIFFs in the source's grid and coordinate system and in the user's codes, and they are right."""
     made = {name: str(tmp_path / f"made-{name}.tif") for name in worlds.PRODUCTS}
     assert command("make", "--to", "taudem", files["dem"], *made.values()).status == 0
-    done = command("judge", *worlds.words({"dem": files["dem"], **made}, "taudem"))
-    assert done.status == 0, done
+    assert command("judge", *worlds.words({"dem": files["dem"], **made}, "taudem")).status == 0
     with rasterio.open(made["con"]) as file, rasterio.open(files["dem"]) as dem:
         assert (file.crs, file.transform, file.shape, file.dtypes) == (dem.crs, dem.transform, dem.shape, dem.dtypes)
     again = {name: str(tmp_path / f"{name}.tif") for name in ("acc", "bas")}
-    done = command("derive", "--from", "taudem", "--dem", files["dem"], made["dir"], *again.values())
-    assert done.status == 0, done
+    assert command("derive", "--from", "taudem", "--dem", files["dem"], made["dir"], *again.values()).status == 0
     assert command("judge", *worlds.words({"dem": files["dem"], "dir": made["dir"], **again}, "taudem")).status == 0
     before = Path(files["dem"]).read_bytes()
     (tmp_path / "link-con.tif").symlink_to(files["dem"])
@@ -162,17 +151,13 @@ def test_help_and_version() -> None:
 
 def test_statuses_of_a_program_of_its_own(files: dict[str, str], wrong: list[str], tmp_path: Path) -> None:
     """Nobody reads on, standard output is full, a package is missing: none of them ends with 1, a rejection."""
-    program = [sys.executable, "-m", "drain_gis", "judge"]
+    program, piped = [sys.executable, "-m", "drain_gis", "judge"], {"cwd": COMPANION, "stderr": subprocess.PIPE}
     for arguments, status in ((worlds.words(files), 0), (wrong, 1)):
-        with subprocess.Popen(
-            [*program, *arguments], cwd=COMPANION, stdout=subprocess.PIPE, stderr=subprocess.PIPE
-        ) as child:
+        with subprocess.Popen([*program, *arguments], stdout=subprocess.PIPE, **piped) as child:
             child.stdout.close()
             assert child.wait() == status and child.stderr.read() == b""
         with open("/dev/full", "wb") as full:
-            done = subprocess.run(
-                [*program, *arguments], cwd=COMPANION, stdout=full, stderr=subprocess.PIPE, check=False
-            )
+            done = subprocess.run([*program, *arguments], stdout=full, **piped)
         assert (done.returncode, b"failed: " in done.stderr) == (3, True)
     (tmp_path / "rasterio.py").write_text("raise ImportError('No module named rasterio')")
     launched = subprocess.run(
@@ -212,7 +197,7 @@ PAGE, REJECTED = RULE % (10, '"Slope"', 1, FIRST), b"rejected rule=10 Slope row=
             "", "\xff", "[]", "null", "{}", '{"rules": 3}', '{"rules": [3]}', "[" * 10**5, RULE % ('"x"', '"Slope"', 1, FIRST),
             RULE % (10, '"Slope"', -1, FIRST), RULE % (10, '"Slope"', "NaN", FIRST), RULE % (10, '"Slope"', 1, "{}"),
         )),
-        *((REJECTED, PAGE, faults) for faults in (b"\x0a", b"\x0a" * 10**6, b"\x07" * 23 * 34)),
+        *((REJECTED, PAGE, faults) for faults in (b"\x0a", b"\x0a" * 10**6, b"\x07" * 23 * 31)),
     ],
     ids=lambda value: repr(value[:30]),
 )  # fmt: skip
@@ -229,16 +214,16 @@ def test_no_program_is_a_failure(files: dict[str, str], name: str) -> None:
 
 
 def test_one_odd_raster_does_not_stop_the_others(files: dict[str, str], tmp_path: Path, world: worlds.World) -> None:
-    """What can't be read or converted is dropped with a sentence, and the rest is judged: status 2."""
+    """What can't be read or converted is dropped with a sentence, and the rest is judged: status 2, and the report says so."""
     (tmp_path / "broken.tif").write_bytes(b"no raster")
     odd = worlds.write_tif(tmp_path / "odd.tif", world.acc + np.random.default_rng(1).random(world.acc.shape))
     small = worlds.write_tif(tmp_path / "small.tif", np.ones((3, 3), np.int16))
-    for name, path in (("bas", tmp_path / "broken.tif"), ("acc", odd), ("bas", small)):
-        done, others = command("judge", *worlds.words({**files, name: str(path)})), [
-            n for n in worlds.PRODUCTS if n != name
-        ]
+    for name, path in (("bas", str(tmp_path / "broken.tif")), ("acc", odd), ("bas", small)):
+        done = command("judge", *worlds.words({**files, name: path}), "--out", tmp_path / "r.html")
+        others = ", ".join(n for n in worlds.PRODUCTS if n != name)
         assert (
-            done.status == 2
-            and f"judged: {', '.join(others)} over dem" in done.out
-            and f"not judged: {name}: " in done.out
+            done.status == 2 and f"judged: {others} over dem" in done.out and f"not judged: {name}: " in done.out
         ), done
+        head, inputs = (tmp_path / "r.html").read_text().split("What was judged")[0], (tmp_path / "r.html").read_text()
+        assert f'<header class="partly"><p class="answer">accepted; not judged: {name}</p>' in head
+        assert f"<b>{name}</b></td>" in inputs.split("<h2>Inputs")[1] and f"{path}; not judged: " in inputs

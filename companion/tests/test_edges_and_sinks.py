@@ -59,6 +59,8 @@ def test_inland_sinks_of_a_tool() -> None:
     for given in ({"dem": BOWL, "con": BOWL}, {"con": BOWL}):
         assert drain_gis.audit(**given, dir=codes, codes="hydrosheds", inland_sinks=True)
         assert not drain_gis.audit(**given, dir=codes, codes="hydrosheds")
+    verdict = drain_gis.audit(BOWL, dir=codes, codes="hydrosheds", inland_sinks=True)
+    assert verdict and any("drain's own filled surface" in note for note in verdict.notes), "made with these sinks"
     codes[0, 0] = 255
     verdict = drain_gis.audit(dem, con=dem, dir=codes, codes="hydrosheds", inland_sinks=True)
     assert (verdict.name, verdict.row, verdict.col) == ("VoidCell", 0, 0), "a void is no sink"
@@ -91,12 +93,9 @@ def test_flat_worlds(shape: tuple[int, int], height: float) -> None:
 
 @pytest.mark.parametrize("shape", [(1, 1), (1, 9), (2, 2), (3, 40), (13, 9), (61, 61)])
 def test_codes_along_the_edge_of_every_shape(shape: tuple[int, int]) -> None:
-    """The rasters lie in a larger frame of voids: codes of the last row and column that lead off go into it."""
-    world, options = worlds.random_world(*shape, seed=6, voids=0), {
-        "codes": "esri",
-        "ends": "keep",
-        "acc_counts": "cells",
-    }
+    """Codes of the last row and column that lead off lead nowhere."""
+    world, options = worlds.random_world(*shape, seed=6, voids=0), {"ends": "keep", "acc_counts": "cells"}
+    options["codes"] = "esri"
     assert drain_gis.audit(**world.given(), **options)
     world.dir[-1], world.dir[:, -1] = 4, 1
     verdict = drain_gis.audit(**world.given(), **options)
@@ -148,7 +147,7 @@ def with_cell(name: str, number: Any, kind: Any = None) -> dict[str, np.ndarray]
         (with_cell("con", Z[PIT] + 0.5, "f4"), "rejected"), (with_cell("con", Z[PIT] - 0.25, "f8"), "rejected"),
         (with_cell("dir", 3), "rejected"), (with_cell("bas", 9000), "rejected"),
         *((with_cell("acc", n, "f8"), f"row {PIT[0]}, column {PIT[1]} is no count") for n in (1.5, -1)),
-        (with_cell("bas", 1.5, "f8"), "no label"),
+        (with_cell("bas", 1.5, "f8"), f"1.5 at row {PIT[0]}, column {PIT[1]} is no label"),
     ],
 )  # fmt: skip
 def test_one_odd_cell_in_the_last_window_is_seen(rasters: dict[str, np.ndarray], text: str) -> None:

@@ -7,43 +7,12 @@ import libraries
 import numpy as np
 import pytest
 import worlds
+from conftest import FIXTURES
 from hypothesis import given, settings
 from hypothesis import strategies as st
 from test_random_sets import terrains
 
-
-def wrong_numbers(world: worlds.World, name: str, cell: worlds.Cell) -> list[int]:
-    """The numbers that are wrong at a cell where the others stay."""
-    if name == "bas":
-        others = {int(label) for label in world.bas[~world.void]} - {int(world.bas[cell])}
-        return [*others, *([10**6] if (world.bas[~world.void] == world.bas[cell]).sum() > 1 else [])]
-    if name != "dir":
-        return [int(getattr(world, name)[cell]) + change for change in (-1, 1, 7)]
-    codes, found = world.dir.copy(), [3, 5, 99]
-    for code in (0, *worlds.STEP):
-        codes[cell] = code
-        if not libraries.right_codes(world.con, codes, world.void)[cell]:
-            found.append(code)
-    return found
-
-
-@settings(max_examples=70)
-@given(terrains(7), st.sampled_from(worlds.PRODUCTS), st.randoms())
-def test_one_wrong_number_is_found(terrain: Any, name: str, random: Any) -> None:
-    z, void, _ = terrain
-    world = worlds.world_of(z, void)
-    cell, options = random.choice(world.cells()), {"codes": "esri", "ends": "keep", "acc_counts": "cells"}
-    assert drain_gis.audit(**world.given(), **options)
-    numbers = [number for number in wrong_numbers(world, name, cell) if name != "acc" or number >= 0]
-    if not numbers:
-        return  # of one cell any label is right
-    wrong = world.masked(name)
-    wrong[cell] = random.choice(numbers)
-    verdict = drain_gis.audit(**{**world.given(), name: wrong}, **options, parts=True)
-    row, col = cell
-    near = verdict.map[max(0, row - 1) : row + 2, max(0, col - 1) : col + 2]
-    assert not verdict and np.array_equal(verdict.map == 255, void)
-    assert verdict.name in ("NoEnd", "SharedLabel") or ((near > 0) & (near < 255)).any(), str(verdict)
+PLAIN: dict[str, Any] = {"codes": "esri", "acc_counts": "cells"}
 
 
 @settings(max_examples=30)
@@ -53,21 +22,29 @@ def test_a_number_in_a_void_and_none_in_a_data_cell_are_found(terrain: Any, name
     world = worlds.world_of(z, void)
     missing, over = world.masked(name), world.masked(name)
     missing[random.choice(world.cells())] = np.ma.masked
-    verdict = drain_gis.audit(**{**world.given(), name: missing}, codes="esri", acc_counts="cells", parts=True)
+    verdict = drain_gis.audit(**{**world.given(), name: missing}, **PLAIN, parts=True)
     assert not verdict and (2 in verdict.rules or verdict.name == "NoEnd")
     assert any(note.startswith(f"{name}: no data at 1 cell") for note in verdict.notes), verdict.notes
     if void.any():
         cell = tuple(map(int, random.choice(np.argwhere(void).tolist())))
         over[cell] = 1
-        verdict = drain_gis.audit(**{**world.given(), name: over}, codes="esri", acc_counts="cells")
+        verdict = drain_gis.audit(**{**world.given(), name: over}, **PLAIN)
         assert (verdict.name, verdict.row, verdict.col) == ("VoidCell", *cell)
         assert any(note.startswith(f"{name}: a number at 1 cell without") for note in verdict.notes)
+
+
+@pytest.mark.parametrize("name", worlds.PRODUCTS)
+def test_a_raster_without_any_number_is_noted(name: str) -> None:
+    world = worlds.random_world(seed=9)
+    verdict = drain_gis.audit(**{**world.given(), name: np.ma.masked_all_like(world.masked(name))}, **PLAIN)
+    text = f"{name}: no data at {(~world.void).sum()} cells with an elevation (rule Missing): it has no number at all"
+    assert not verdict and any(text in note for note in verdict.notes), verdict.notes
 
 
 @pytest.mark.parametrize(
     ("name", "change", "part", "text", "size"),
     [
-        ("con", 3, "con", "1 cell too high, by at most 3 ", "off by at most 3, 3 on average"),
+        ("con", 3, "con", "1 cell too high, by at most 3 ", "NotLeast: 1 cell, "),
         ("con", -1, "con", "1 cell too low, by at most 1 ", ""),
         ("acc", -7, "acc, bas", "acc differs at 1 cell", "at most 7 cells lost"),
         ("bas", 10**6, "acc, bas", "at 1 cell", ""),
@@ -80,13 +57,22 @@ def test_the_part_with_the_fault_and_its_size_are_told(name: str, change: int, p
     cell = {"con": tuple(raised[3]), "acc": mouth, "bas": next(c for c in world.cells() if world.acc[c] == 1)}[name]
     wrong = world.masked(name)
     wrong[cell] += change
-    verdict = drain_gis.audit(**{**world.given(), name: wrong}, codes="esri", acc_counts="cells", parts=True)
+    verdict = drain_gis.audit(**{**world.given(), name: wrong}, **PLAIN, parts=True)
     assert not verdict and text in verdict.parts[part]
     assert name == "bas" or f"row {cell[0]}, column {cell[1]}" in verdict.parts[part]
-    assert name == "con" or (
-        verdict.parts["con"].startswith("the least surface") and "each rule" in verdict.parts["dir"]
-    )
+    others = verdict.parts["con"].startswith("the least surface") and "each rule" in verdict.parts["dir"]
+    assert name == "con" or others
     assert all(line in str(verdict) for line in (verdict.line, verdict.where, *verdict.parts.values(), size))
+
+
+def test_where_con_is_too_low_nobody_says_that_it_is_too_high() -> None:
+    """Rule 9 fails beside cells that are too low: cells that are too high and too low are counted apart."""
+    world = worlds.random_world(seed=9)
+    raised = (world.con > world.dem) & ~world.void
+    verdict = drain_gis.audit(**{**world.given(), "con": world.masked("con") - raised}, **PLAIN, parts=True)
+    assert "too low, by at most 1 " in verdict.parts["con"] and "too high" not in verdict.parts["con"]
+    assert 9 not in verdict.sizes or "too high" not in verdict.sizes[9]
+    assert "a neighbour's too low" in drain_gis.rules.RULES[9].label
 
 
 def test_a_surface_that_drains_as_its_own_ground_is_told() -> None:
@@ -112,4 +98,14 @@ def test_paths_without_an_end() -> None:
     assert verdict.name == "NoEnd" and f"{len(lost)} cells of {(~world.void).sum()} don't drain" in str(verdict)
     assert "ring of 2 cells" in str(verdict) and all(verdict.map[row, col + i] not in (0, 255) for i in (0, 1))
     flow = drain_gis.audit(dir=world.masked("dir"), codes="esri")
-    assert flow.name == "NoEnd" and f"{len(lost)} cells" in str(flow)
+    assert flow.name == "NoEnd" and f"{len(lost)} cells of" in flow.ends and "ring of 2 cells" in flow.ends
+
+
+def test_how_many_cells_do_not_drain_is_told_once() -> None:
+    """r.fill.dir's rim leads off the grid though a neighbour is lower: no part says that every path ends."""
+    files = {"con": FIXTURES / "saga-con.tif", "dir": FIXTURES / "grass-fill-dir-dir.tif"}
+    verdict = drain_gis.audit(FIXTURES / "dem.tif", **files, codes="grass-fill-dir", parts=True)
+    lost = verdict.ends.split(";")[0]
+    assert "222 at which a path stops" in lost and "it leads off the grid" in verdict.ends
+    assert verdict.parts["paths"].startswith(lost) and "every path ends" not in str(verdict)
+    assert any("lead off the grid, even if a neighbour is lower" in note for note in verdict.notes)

@@ -1,4 +1,4 @@
-"""The folder of an import, by plain file reading: tiles, headers, rasters, sinks and import.json; and one passed on.
+"""The folder of an import, by plain file reading: headers, rasters, sinks and import.json; and one passed on.
 
 Nothing of the package's readers takes part. What is expected is worked out here from the arrays that were written.
 """
@@ -20,8 +20,9 @@ from conftest import left
 from drain_gis import sets
 from drain_gis.tools import TOOLS
 
-FORMS = {"con": ("<h", "SIGNEDINT", -32768), "dir": ("<B", "UNSIGNEDINT", 255), "acc": ("<I", "UNSIGNEDINT", 0)}
-FORMS["bas"] = FORMS["acc"]
+FORMS = dict.fromkeys(("dem", "con"), ("<i", "SIGNEDINT", -(2**31)))
+FORMS |= {"dir": ("<B", "UNSIGNEDINT", 255)} | dict.fromkeys(("acc", "bas"), ("<I", "UNSIGNEDINT", 0))
+PLACE = {"ULXMAP": 500015, "ULYMAP": 3999985, "XDIM": 30, "YDIM": 30}  # of the middle of the first cell, and of cells
 ROWS, COLS, SINK = 17, 26, (8, 11)
 
 
@@ -45,8 +46,6 @@ class Imported:
         assert self.done.status == 0, self.done
         self.text = (self.out / "import.json").read_text(encoding="utf-8")
         self.facts = json.loads(self.text)
-        self.fields = {name: self.header(name) for name in FORMS}
-        self.shape = int(self.fields["con"]["NROWS"]), int(self.fields["con"]["NCOLS"])
 
     def header(self, name: str) -> dict[str, str]:
         """The lines of a header."""
@@ -59,27 +58,22 @@ def imported(tmp_path_factory: pytest.TempPathFactory) -> Imported:
     return Imported(tmp_path_factory.mktemp("import"))
 
 
-def numbers_of(path: Path, form: str, cols: int) -> np.ndarray:
-    """The rows of a raster without a header."""
-    return np.array([number for (number,) in struct.iter_unpack(form, path.read_bytes())]).reshape(-1, cols)
-
-
 @pytest.mark.parametrize("name", FORMS)
-def test_products(imported: Imported, name: str) -> None:
-    (form, kind, nodata), fields, world, data = FORMS[name], imported.fields[name], imported.world, ~imported.void
+def test_rasters(imported: Imported, name: str) -> None:
+    (form, kind, nodata), fields, world, data = FORMS[name], imported.header(name), imported.world, ~imported.void
     expected = {"BYTEORDER": "I", "LAYOUT": "BIL", "NBANDS": "1", "PIXELTYPE": kind, "NODATA": str(nodata)}
-    assert expected.items() <= fields.items() and fields["NBITS"] == str(8 * struct.calcsize(form))
-    numbers = numbers_of(imported.out / f"{name}.bil", form, imported.shape[1])
-    assert numbers.shape == imported.shape and numbers.shape[0] >= ROWS and numbers.shape[1] >= COLS
-    assert (numbers[ROWS:] == nodata).all() and (numbers[:, COLS:] == nodata).all()
-    found, right = numbers[:ROWS, :COLS], getattr(world, name)
+    expected |= {"NBITS": str(8 * struct.calcsize(form)), "NROWS": str(ROWS), "NCOLS": str(COLS)}
+    assert expected.items() <= fields.items() and all(float(fields[key]) == number for key, number in PLACE.items())
+    pixels = (imported.out / f"{name}.bil").read_bytes()
+    found = np.array([number for (number,) in struct.iter_unpack(form, pixels)]).reshape(ROWS, COLS)
+    right = getattr(world, name)
     assert np.array_equal(found == nodata, imported.void)
     if name == "bas":
         pairs = set(zip(found[data].tolist(), right[data].tolist()))
         assert len(pairs) == len({a for a, _ in pairs}) == len({b for _, b in pairs})
-    else:
-        assert np.unique(found[data].astype(int) - right[data]).size == 1, "of con an offset alone"
-        assert name == "con" or np.array_equal(found[data], right[data])
+    else:  # a float of 32 bits between 4096 and 8192 is a whole number of steps of 2^-11
+        right = (right / 10 + 4000).astype(np.float32) * 2048 if name in ("dem", "con") else right
+        assert np.array_equal(found[data], right[data])
 
 
 def test_sinks_and_facts(imported: Imported) -> None:
@@ -87,9 +81,7 @@ def test_sinks_and_facts(imported: Imported) -> None:
     ends = np.argwhere((imported.world.dir == 0) & ~imported.void)
     assert list(SINK) in ends.tolist()
     assert (imported.out / "sinks.txt").read_text() == "".join(f"{row} {col}\n" for row, col in ends)
-    hashes = [
-        [name, path, hashlib.sha256(Path(path).read_bytes()).hexdigest()] for name, path in imported.paths.items()
-    ]
+    hashes = [[n, path, hashlib.sha256(Path(path).read_bytes()).hexdigest()] for n, path in imported.paths.items()]
     assert sorted(imported.facts["inputs"]) == sorted(hashes) and imported.facts["data"] == (~imported.void).sum()
     notes = [line[2:] for line in imported.done.out.split("wrote ")[0].splitlines()]
     assert notes and notes == imported.facts["notes"]
@@ -97,11 +89,8 @@ def test_sinks_and_facts(imported: Imported) -> None:
 
 def test_the_program_accepts_it_by_the_line_that_is_printed(imported: Imported) -> None:
     line = next(line for line in imported.done.out.splitlines() if "drain audit" in line)
-    assert (
-        os.popen(line.replace("drain audit", f"{os.environ.get('DRAIN', 'drain')} audit"))
-        .read()
-        .startswith("accepted ")
-    )
+    program = f"{os.environ.get('DRAIN', 'drain')} audit"
+    assert os.popen(line.replace("drain audit", program)).read().startswith("accepted ")
 
 
 @pytest.fixture
@@ -120,31 +109,40 @@ WRONG = [
     ("judged", []), ("judged", ["con", "con"]), ("judged", ["dem"]), ("judged", "con"), ("products", ["con", "dir"]), ("data", 7),
     ("tool", "arc"), ("tool", "--from"), ("sinks", "--only"), ("sinks", [[1]]), ("sinks", [["a", "b"]]), ("sinks", [[9, 9]]), ("notes", [1]),
     ("notes", {"a": 1}), ("transform", [0] * 6), ("transform", ["a", 1, 0, 0, 0, -1]), ("transform", [0, 1]), ("crs", "no WKT"),
-    ("inputs", [["dem", "/d.tif", "no hash"]]), ("inputs", [["dem"]]), ("unit", {}), ("unit", {"tens": 9, "twos": 0, "offset": 0}), ("per", 0),
-    ("plus", 2), ("own_ground", 1), ("options", {}), ("completed", {"dem": 1}), ("dem", 3), ("drain_gis", "0"),
+    ("inputs", [["dem", "/d.tif", "no hash"]]), ("inputs", [["dem"]]), ("unit", {}), ("unit", {"tens": 9, "twos": 0}), ("per", 0),
+    *(("heights", odd) for odd in ([], ["<f4", 0], ["<i4", 7], ["<i8", -(2**63)], ["<u4", 0], ["<i4", -(2.0**31)], 4, [["<i4"], 0])),
+    ("per", "1"), ("plus", 2), ("own_ground", 1), ("dem", 3), ("drain_gis", "0"), ("judged", ["dir", "con"]), ("crs", None),
 ]  # fmt: skip
+
+
+def put_facts(changed: Imported, facts: Any) -> Any:
+    """Judges the folder with other facts, written as an import writes them."""
+    (changed.out / "import.json").write_text(json.dumps(facts, indent=1) + "\n", encoding="utf-8")
+    return command("judge", changed.out)
 
 
 @pytest.mark.parametrize(("name", "value"), WRONG)
 def test_each_member_of_import_json_is_looked_at(changed: Imported, name: str, value: Any) -> None:
     """A folder may come from elsewhere: what isn't as an import writes it is refused."""
-    assert name in changed.facts and set(changed.facts) == {name for name, _ in WRONG}
-    (changed.out / "import.json").write_text(json.dumps({**changed.facts, name: value}))
-    done = command("judge", changed.out)
+    assert set(changed.facts) == {name for name, _ in WRONG}
+    done = put_facts(changed, {**changed.facts, name: value})
+    if (name, value) == ("crs", None):  # of a set without a coordinate system
+        assert (done.status, "longitude" in done.out) == (0, False), done
+        return
     assert (done.status, done.out, "Traceback" in done.error) == (2, "", False), done
+    for facts in ({n: v for n, v in changed.facts.items() if n != name}, {**changed.facts, "more": value}):
+        assert put_facts(changed, facts).status == 2
+    assert put_facts(changed, changed.facts).status == 0
 
 
-@pytest.mark.parametrize(
-    "text",
-    ["{}", "[]", "null", "no json", "", "[" * 10**5, '{"rows": ' + "9" * 5000 + "}", '{"rows": NaN}', "\udcff"],
-)
+@pytest.mark.parametrize("text", ["{}", "[]", "null", "no json", "", "[" * 10**5, '{"rows": ' + "9" * 5000 + "}", '{"rows": NaN}', "\udcff"])  # fmt: skip
 def test_what_is_no_import_is_not_judged(changed: Imported, text: str) -> None:
     (changed.out / "import.json").write_text(text, errors="surrogateescape")
     done = command("judge", changed.out)
     assert (done.status, done.out, "import" in done.error) == (2, "", True), done
 
 
-@pytest.mark.parametrize("name", ["con.bil", "bas.bil", "import.json", "dir.hdr", "sinks.txt"])
+@pytest.mark.parametrize("name", ["dem.bil", "con.bil", "bas.bil", "import.json", "dir.hdr", "dem.hdr", "sinks.txt"])
 def test_a_file_that_is_missing_or_changed(changed: Imported, name: str) -> None:
     for spoilt in (None, b"1 1\n"):
         (changed.out / name).unlink(missing_ok=True)
@@ -163,8 +161,6 @@ def test_no_output_replaces_a_file_of_the_import(changed: Imported) -> None:
 
 def test_an_acceptance_of_other_cells_is_none(changed: Imported) -> None:
     """All rasters voided alike would be accepted: of other cells than those that were imported."""
-    for path in changed.out.rglob("*.hgt"):
-        path.write_bytes(b"\x80\x00" * (path.stat().st_size // 2))
     for name, (form, _, nodata) in FORMS.items():
         path = changed.out / f"{name}.bil"
         path.write_bytes(struct.pack(form, nodata) * (path.stat().st_size // struct.calcsize(form)))
@@ -177,9 +173,8 @@ def test_what_is_there_is_kept(tmp_path: Path, files: dict[str, str]) -> None:
     assert command("import", *words, out).status == 0, "an empty folder is filled"
     assert "is there already" in command("import", *words, out).error
     odd, before = worlds.write_tif(tmp_path / "odd.tif", np.full((23, 31), 7.5, np.float32)), left(out)
-    assert (
-        command("import", *worlds.words({**files, "acc": odd}), "--overwrite", out).status == 2 and left(out) == before
-    )
+    done = command("import", *worlds.words({**files, "acc": odd}), "--overwrite", out)
+    assert done.status == 2 and left(out) == before
     assert command("import", *words, "--overwrite", out).status == 0
     (tmp_path / "link").symlink_to(out)
     for inside in (out / "con.bil", tmp_path / "link/con.bil"):
@@ -194,34 +189,36 @@ def test_what_is_there_is_kept(tmp_path: Path, files: dict[str, str]) -> None:
     assert {path.name for path in tmp_path.iterdir() if "out" in path.name} == {"out"}
 
 
-@pytest.mark.parametrize("wrong", worlds.PRODUCTS)
+@pytest.mark.parametrize("wrong", [*worlds.PRODUCTS, "one label"])
 def test_a_conversion_that_is_wrong_is_noticed(
-    monkeypatch: pytest.MonkeyPatch, tmp_path: Path, files: Any, wrong: str
+    monkeypatch: Any, tmp_path: Path, files: Any, world: Any, wrong: str
 ) -> None:
     """The read-back knows none of the import's conversions; the import leaves nothing."""
-    plain, spoilt = sets.Set.add, []
+    plain, spoilt, name = sets.Set.add, [], wrong if wrong in worlds.PRODUCTS else "bas"
+    alone = next(c for c in world.cells() if (world.bas[~world.void] == world.bas[c]).sum() == 1)
 
     class Off(np.ndarray):
-        """The middle number of the first window is put as another."""
+        """The middle number of the first window is put as another; or the only cell of a basin as a label of nobody's."""
 
         def __setitem__(self, key: Any, value: Any) -> None:
             value = np.array(value)
-            value.flat[value.size // 2] ^= not spoilt
+            middle, odd = value.size // 2, value.flat[value.size // 2] ^ 1
+            if wrong != name:
+                middle, odd = np.ravel_multi_index(alone, value.shape), 9999
+            value.flat[middle] = value.flat[middle] if spoilt else odd
             spoilt.append(True)
             super().__setitem__(key, value)
 
-    monkeypatch.setattr(sets.Set, "add", lambda one, name: plain(one, name).view(Off if name == wrong else np.ndarray))
+    monkeypatch.setattr(sets.Set, "add", lambda one, n: plain(one, n).view(Off if n == name else np.ndarray))
     done = command("import", *worlds.words(files), tmp_path / "out")
-    assert done.status == 2 and re.search(f"fault of drain-gis itself.*{wrong}: ", done.error), done
+    assert done.status == 2 and re.search(f"fault of drain-gis itself.*{name}: ", done.error), done
     assert not [path for path in tmp_path.iterdir() if "out" in path.name]
 
 
 @pytest.mark.parametrize(
     ("umask", "folder", "file"), [(0o077, 0o700, 0o600), (0o027, 0o750, 0o640), (0o022, 0o755, 0o644)]
 )
-def test_modes_are_those_of_the_umask(
-    tmp_path: Path, files: dict[str, str], umask: int, folder: int, file: int
-) -> None:
+def test_modes_are_those_of_the_umask(tmp_path: Path, files: Any, umask: int, folder: int, file: int) -> None:
     words, inputs, before = ["--dem", files["dem"], "--con", files["dem"]], set(tmp_path.iterdir()), os.umask(umask)
     outs = ["--map", tmp_path / "m.tif", "--picture", tmp_path / "p.png", "--out", tmp_path / "r.html"]
     try:

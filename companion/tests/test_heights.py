@@ -9,10 +9,9 @@ import numpy as np
 import pytest
 import worlds
 from conftest import drain_gis as command
-from drain_gis import heights, sets
+from drain_gis import heights, sets, tiles
 from drain_gis.layers import Layer, layer_of
-from hypothesis import given, settings
-from hypothesis import strategies as st
+from drain_gis.rules import NOT_FILLED
 
 BIG = 2**53
 """From here on double precision no longer holds all whole numbers."""
@@ -24,7 +23,7 @@ CODES = np.array([[0, 16, 16, 1, 0]], np.uint8)
 
 def unit_of(a: Any) -> heights.Unit:
     """The unit of an array."""
-    return heights.find_unit(Layer("dem", np.asarray(a)))
+    return heights.find_unit(Layer("dem", a))[0]
 
 
 @pytest.mark.parametrize("kind", ["f4", "f8"])
@@ -33,34 +32,32 @@ def test_all_numbers_stay_apart_and_exact_in_each_unit(kind: str, per: int) -> N
     a = (np.arange(-(1 << 15) + 1, 1 << 15) / per).astype(kind).reshape(5, -1)
     unit = unit_of(a)
     whole = unit.whole(a, a != a).ravel()
-    assert (np.diff(whole) > 0).all()
-    assert np.array_equal(((whole.astype(np.int64) - unit.offset) / unit.per).astype(kind), a.ravel())
-
-
-@settings(max_examples=60)
-@given(
-    st.lists(st.integers(-3000, 3000), min_size=2, max_size=9), st.sampled_from([1, 2, 4, 10, 100, 1000]),
-    st.sampled_from(["i2", "f4", "f8"]), st.integers(0, 8),
-)  # fmt: skip
-def test_a_verdict_is_the_same_in_each_unit(steps: list[int], per: int, kind: str, at: int) -> None:
-    """A row of heights in some unit is its own least surface, and one that differs by a unit is not."""
-    z, per = np.array([steps], np.int64), 1 if kind == "i2" else per
-    changed = z.copy()
-    changed[0, at % z.size] += 1
-    assert drain_gis.audit((z / per).astype(kind), con=(z / per).astype(kind))
-    assert not drain_gis.audit((z / per).astype(kind), con=(changed / per).astype(kind))
+    assert (np.diff(whole) > 0).all() and np.array_equal(unit.heights(whole).astype(kind), a.ravel())
 
 
 @pytest.mark.parametrize(
-    ("factor", "plus"), [(0.1, 0), (0.01, 5.0), (0.001, -3.0), (1, 40000), (0.5, 0), (2**-7, 90)]
+    ("factor", "plus"), [(0.1, 0), (0.01, 5.0), (0.001, -3.0), (1, 40000), (0.5, 0), (2**-7, 90), (1e-4, 9000)]
 )
-def test_a_whole_set_in_each_unit_and_offset(factor: float, plus: float) -> None:
+def test_a_whole_set_in_each_unit(factor: float, plus: float) -> None:
     world = worlds.random_world(seed=12)
     dem, con = (np.ma.array((a * factor + plus).round(7), mask=world.void) for a in (world.dem, world.con))
     rest = {name: world.masked(name) for name in ("dir", "acc", "bas")}
     assert drain_gis.audit(dem, con=con, **rest, codes="esri")
     con[world.cells()[40]] += factor
     assert not drain_gis.audit(dem, con=con, **rest, codes="esri")
+
+
+@pytest.mark.parametrize(
+    ("low", "high", "own", "expected"),
+    [
+        (0, 254, "u1", ("|u1", 255)), (1, 255, "u1", ("|u1", 0)), (0, 255, "u1", ("<i4", -(2**31))), (-9, 40, "i1", ("|i1", -128)),
+        (-32768, 5, ">i2", ("<i2", 32767)), (-32768, 32767, "i2", ("<i4", -(2**31))), (-5, 70_000, "u2", ("<i4", -(2**31))),
+        (-(2**31), 9, None, ("<i4", 2**31 - 1)), (-(2**31), 2**31 - 1, None, None), (0, 2**31, None, ("<u4", 2**32 - 1)),
+        (1, 2**32 - 1, None, ("<u4", 0)), (0, 2**32 - 1, None, None), (-1, 2**31, None, None),
+    ],
+)  # fmt: skip
+def test_pixels_hold_the_heights_and_one_number_more(low: int, high: int, own: Any, expected: Any) -> None:
+    assert sets.heights_kind(low, high, own and np.dtype(own)) == expected
 
 
 def test_units_need_the_precision_that_tells_them_apart() -> None:
@@ -79,45 +76,131 @@ def test_heights_without_a_unit_are_judged_but_for_steepness() -> None:
     world = worlds.random_world(seed=3)
     rasters = {**world.given(), "dem": world.masked("dem") * np.pi, "con": world.masked("con") * np.pi}
     verdict = drain_gis.audit(**rasters, codes="esri", parts=True)
-    assert (
-        verdict.accepted
-        and not verdict
-        and verdict.judged == ("con", "acc", "bas")
-        and "steepest" in verdict.dropped["dir"]
-    )
+    assert verdict.accepted and not verdict and verdict.judged == ("con", "acc", "bas")
+    assert "steepest" in verdict.dropped["dir"] and "above" not in verdict.dropped["dir"]
     assert any("drain-gis whole" in note for note in verdict.notes) and "not judged: dir" in str(verdict)
     for name in ("con", "acc", "bas"):
         wrong = {**rasters, name: rasters[name].copy()}
         wrong[name][world.cells()[-30]] += 1
         assert not drain_gis.audit(**wrong, codes="esri", acc_counts="cells").accepted
+    low = drain_gis.audit(**{**rasters, "con": rasters["dem"]}, codes="esri", acc_counts="cells")
+    assert low.name == "NotFilled" and set(low.rules) == {NOT_FILLED}
+
+
+@pytest.mark.parametrize("tool", ["saga", "esri"])
+def test_slopes_that_a_tool_gave_to_flats_are_named(tool: str) -> None:
+    """SAGA's own option is told, not rounding; and --flatten."""
+    world = worlds.random_world(seed=3)
+    con = world.masked("con") + np.random.default_rng(1).random(world.con.shape) / 100
+    notes = "\n".join(drain_gis.audit(world.masked("dem"), con=con, dir=world.masked("dir"), codes=tool).notes)
+    assert "-MINSLOPE 0" in notes and "--flatten" in notes and "drain-gis whole" not in notes
+    assert ("fill with -MINSLOPE 0" in notes.split("heights: ")[1]) == (tool == "saga")
 
 
 def test_heights_without_data_do_not_count() -> None:
     assert unit_of(np.array([[1.0, np.nan, np.inf]])).per == 1
-    assert heights.find_unit(Layer("dem", np.ma.array([[1.0, np.pi]], mask=[[False, True]]))).per == 1
+    assert unit_of(np.ma.array([[1.0, np.pi]], mask=[[False, True]])).per == 1
 
 
 def test_ranges() -> None:
-    most = sets.STEPS_HELD
-    for low, high in ((400.0, 900.01), (-600.5, 40.25), (300.0, 955.34), (0, most), (-most, 0)):
-        a = np.array([[low, high]])
-        numbers, per = unit_of(a).whole(a, a != a)[0].tolist(), unit_of(a).per
-        assert numbers[1] - numbers[0] == round((high - low) * per) and all(
-            n > sets.VOID and n < -sets.VOID for n in numbers
-        )
-    with pytest.raises(drain_gis.CannotJudge, match=f"{most + 1:,} whole numbers"):
-        unit_of(np.array([[0, most + 1]], np.int64))
+    """All whole numbers of 32 bits but one, with a sign or without; heights are judged at both ends."""
+    for low, high in (
+        (400.0, 900.01),
+        (-600.5, 40.25),
+        (300.0, 955.34),
+        (0, 2**32 - 2),
+        (1, 2**32 - 1),
+        (-(2**31) + 1, 2**31 - 1),
+    ):
+        a = np.array([[low, high, low]])
+        first, last, _ = unit_of(a).whole(a, a != a)[0].tolist()
+        assert last - first == round((high - low) * unit_of(a).per)
+        for kind in ("f8", "i8") if isinstance(low, int) else ("f8",):
+            dem = a.astype(kind)
+            assert drain_gis.audit(dem, con=dem, dir=np.array([[0, 1, 0]]), codes="esri").line.endswith("outlets=2")
+            assert drain_gis.audit(dem, con=dem, dir=np.array([[0, 0, 0]]), codes="esri").rule == 10
+    with pytest.raises(drain_gis.CannotJudge, match=f"{2**32 - 1:,} whole numbers"):
+        unit_of(np.array([[0, 2**32 - 1]], np.int64))
 
 
 @pytest.mark.parametrize(("kind", "plus"), [("i8", 2**60), ("i8", -(2**63) + 1), ("u8", 2**64 - 9)])
 def test_whole_heights_of_64_bits_stay_apart(kind: str, plus: int) -> None:
+    """Heights that 32 bits don't hold are judged by their order."""
     dem = DEM.astype(kind) + np.array(plus, kind)
-    assert drain_gis.audit(dem, con=dem, dir=CODES, codes="esri")
-    con = dem.copy()
-    con[0, 1] += np.array(1, kind)
-    assert not drain_gis.audit(dem, con=con, dir=CODES, codes="esri").accepted
-    spread = np.where(DEM == 3, np.array(2**62, kind), dem)  # more than any unit holds: by ranks
+    verdict = drain_gis.audit(dem, con=dem, dir=CODES, codes="esri")
+    assert verdict.accepted and "steepest" in verdict.dropped["dir"]
+    for cell, by in (((0, 1), 1), ((0, 2), -1)):
+        con = dem.copy()
+        con[cell] += np.array(by).astype(kind)
+        assert not drain_gis.audit(dem, con=con).accepted
+    spread = np.where(DEM == 3, np.array(2**62, kind), dem)
+    assert drain_gis.audit(spread, con=spread)
     assert not drain_gis.audit(spread, con=np.where(DEM == 3, spread + np.array(1, kind), spread)).accepted
+
+
+GROUND = np.cumsum(np.random.default_rng(8).random((17, 40)) - 0.45, axis=1) * 60
+DEGREES = worlds.Affine(1 / 3600, 0, 11.5, 0, -1 / 3600, 47.25)
+
+
+@pytest.mark.parametrize(
+    ("z", "per", "place", "epsg", "unit"),
+    [
+        pytest.param((GROUND + 900).astype("f4"), 2**16, worlds.UTM, 32616, "steps of 2^-", id="float32 in UTM"),
+        pytest.param((GROUND + 900).astype("f4"), 2**16, DEGREES, 4326, "steps of 2^-", id="float32 in degrees"),
+        pytest.param((GROUND + 2500).round(2), 100, worlds.UTM, 32616, "hundredths", id="hundredths"),
+        pytest.param((GROUND + 2500).round(4), 10_000, DEGREES, 4326, "10^-4", id="10^-4 in degrees"),
+        pytest.param((GROUND * 1e6).astype("i4"), 1, worlds.UTM, 32616, "whole numbers", id="signed"),
+        pytest.param((GROUND * 1e5 + 3e9).astype("u4"), 1, None, None, "whole numbers", id="unsigned"),
+    ],
+)
+def test_elevations_of_32_bits_are_judged_whole(
+    tmp_path: Path, z: Any, per: int, place: Any, epsg: Any, unit: str
+) -> None:
+    """A rectangle with faults of steepness and without: each raster is judged, and a way that is less steep is found."""
+    steps = np.rint(z.astype(np.float64) * per).astype(np.int64)
+    steps -= steps.min()
+    assert np.ptp(steps) > (20_000 if per == 100 else 65_535)
+    world = worlds.world_of(steps, np.zeros(z.shape, bool))
+    heights_of = dict(zip(steps.ravel().tolist(), z.ravel().tolist()))
+    con = np.vectorize(heights_of.get, otypes=[z.dtype])(world.con)
+    arrays = {
+        "dem": z,
+        "con": con,
+        "dir": world.dir.astype("u1"),
+        "acc": world.acc.astype("i4"),
+        "bas": world.bas.astype("i4"),
+    }
+    paths = {name: worlds.write_tif(tmp_path / f"{name}.tif", a, None, place, epsg) for name, a in arrays.items()}
+    done = command("judge", *worlds.words(paths))
+    assert (done.status, f"accepted rows=17 cols=40 data={z.size} " in done.out) == (0, True), done
+    assert (
+        "judged: con, dir, acc, bas over dem, 17 rows by 40 columns" in done.out
+        and unit in done.out.split("heights: ")[1]
+    )
+    keys = libraries.slopes(world.con, world.void)
+    best, codes = np.max(list(keys.values()), axis=0), world.dir.copy()
+    row, col = np.argwhere(sum((0 < key) & (key < best) for key in keys.values()) > 0)[-1]
+    codes[row, col] = next(code for code, key in keys.items() if 0 < key[row, col] < best[row, col])
+    paths["dir"] = worlds.write_tif(tmp_path / "odd.tif", codes.astype("u1"), None, place, epsg)
+    for names in (("dem", "con", "dir"), ("dem", "dir")):
+        done = command("judge", "--no-parts", *worlds.words({name: paths[name] for name in names}))
+        assert done.status == 1 and f"rule 10 Slope: 1 cell, first at row {row}, column {col}" in done.out, done
+
+
+def test_made_rasters_of_heights_that_tiles_hold(tmp_path: Path) -> None:
+    """Whole numbers and floats of any offset; one step more is refused."""
+    outs = {name: tmp_path / f"{name}.tif" for name in worlds.PRODUCTS}
+    for factor, plus, kind in ((1, 9_000_000, "i4"), (0.1, 385, "f4"), (0.01, -400, "f8"), (2**-9, 3, "f4")):
+        world = worlds.random_world(seed=8)
+        dem, con = (np.ma.array((a * factor + plus).astype(kind), mask=world.void) for a in (world.dem, world.con))
+        drain_gis.make(dem, outs, "esri")
+        assert drain_gis.audit(dem, **outs, codes="esri", acc_counts="cells")
+        assert np.array_equal(layer_of("con", outs["con"]).window(0, len(con))[0][~world.void], con.compressed())
+    drain_gis.make(np.array([[7, tiles.STEPS + 7]]), outs)
+    with pytest.raises(drain_gis.CannotJudge, match="65,535 whole numbers.*16 bits"):
+        drain_gis.make(np.array([[7, tiles.STEPS + 8]]), outs)
+    with pytest.raises(drain_gis.CannotJudge, match="whole --unit 1 rounds"):
+        drain_gis.make(np.array([[0.1, 9000.2]], np.float32), outs)
 
 
 @pytest.mark.parametrize("height", [2.0**53, 2.0**60, 1e300])

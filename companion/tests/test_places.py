@@ -18,24 +18,27 @@ DEGREES = Affine(1 / 1200, 0, 10, 0, -1 / 1200, 50)
 TURNED = Affine(24, 18, 500000, 18, -24, 4000000)
 
 
-def wrong_set(folder: Path, world: worlds.World, cell: worlds.Cell, *place: Any) -> list[str]:
+def wrong_set(folder: Path, world: worlds.World, cell: worlds.Cell, *place: Any, by: int = 3) -> list[str]:
     """The arguments of a set with a wrong count at a cell."""
     acc = world.acc.astype(np.int32)
-    acc[cell] += 3
+    acc[cell] += by
     return worlds.words(worlds.write_set(folder, world, *place, acc=acc))
 
 
 @pytest.mark.parametrize(("place", "epsg"), [(UTM, 32616), (DEGREES, 4326), (TURNED, 32616), (None, None)], ids=str)
 def test_the_map_lies_where_the_source_does(tmp_path: Path, world: worlds.World, place: Any, epsg: Any) -> None:
-    done = command("judge", *wrong_set(tmp_path, world, (2, 3), place, epsg), "--map", tmp_path / "faults.tif")
-    assert (done.status, "longitude" in done.out) == (1, bool(place)), done
-    with rasterio.open(tmp_path / "faults.tif") as file:
-        faults, colours = file.read(1), file.colormap(1)
-        assert file.transform == (place or Affine.identity()) and (file.crs and file.crs.to_epsg()) == epsg
-        assert file.nodata == 255 and faults.dtype == np.uint8
-    assert faults[2, 3] == 13 and np.array_equal(faults == 255, world.void)
+    """Of an acceptance too: then it takes the place of an older one, and shows no fault."""
+    for by in (3, 0):
+        done = command("judge", *wrong_set(tmp_path, world, (2, 3), place, epsg, by=by), "--map", tmp_path / "m.tif")
+        assert (done.status, "longitude" in done.out) == (int(by > 0), bool(place and by)), done
+        with rasterio.open(tmp_path / "m.tif") as file:
+            faults, colours = file.read(1), file.colormap(1)
+            assert file.transform == (place or Affine.identity()) and (file.crs and file.crs.to_epsg()) == epsg
+            assert file.nodata == 255 and faults.dtype == np.uint8
+        assert faults[2, 3] == (13 if by else 0) and np.array_equal(faults == 255, world.void)
+        assert by or (set(np.unique(faults)) == {0, 255} and "no rule fails: map and picture show no fault" in done.out)
     assert all("#%02x%02x%02x" % colours[n][:3] == rule.colour for n, rule in RULES.items())
-    names = [one.text for one in ElementTree.parse(tmp_path / "faults.tif.aux.xml").iter("Category")]
+    names = [one.text for one in ElementTree.parse(tmp_path / "m.tif.aux.xml").iter("Category")]
     assert names[13] == RULES[13].label and {n for n, name in enumerate(names) if name} == {0, *RULES, 255}
 
 
@@ -77,19 +80,16 @@ def test_another_grid_is_not_judged(tmp_path: Path, world: worlds.World, place: 
     right = worlds.write_set(tmp_path, world)
     for name in worlds.PRODUCTS:
         a = np.where(world.void, -9999, getattr(world, name)).astype(np.int32)
-        done = command(
-            "judge", *worlds.words({**right, name: worlds.write_tif(tmp_path / "o.tif", a, -9999, place, epsg)})
-        )
+        other = worlds.write_tif(tmp_path / "o.tif", a, -9999, place, epsg)
+        done = command("judge", *worlds.words({**right, name: other}))
         assert done.status == (2 if text else 0), done
         assert not text or re.search(f"not judged: {name}: .*{text}", done.out), done
 
 
 @pytest.mark.parametrize("shape", [(3, 3), (31, 23), (24, 31)])
 def test_another_size_is_not_judged(tmp_path: Path, world: worlds.World, shape: tuple[int, int]) -> None:
-    right = worlds.write_set(tmp_path, world)
-    done = command(
-        "judge", *worlds.words({**right, "bas": worlds.write_tif(tmp_path / "o.tif", np.zeros(shape, np.int16))})
-    )
+    other = worlds.write_tif(tmp_path / "o.tif", np.zeros(shape, np.int16))
+    done = command("judge", *worlds.words({**worlds.write_set(tmp_path, world), "bas": other}))
     assert done.status == 2 and f"bas: {shape[0]} rows and {shape[1]} columns, dem has 23 and 31" in done.out, done
 
 

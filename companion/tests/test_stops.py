@@ -10,7 +10,7 @@ from pathlib import Path
 import numpy as np
 import pytest
 import worlds
-from conftest import COMPANION, FIXTURES, left, start
+from conftest import COMPANION, FIXTURES, left, outputs, start
 
 SAGA = worlds.words(
     {"dem": str(FIXTURES / "dem.tif")} | {n: str(FIXTURES / f"saga-{n}.tif") for n in worlds.PRODUCTS}, "saga"
@@ -32,12 +32,6 @@ if hasattr(cli, "{function}"):
     cli.{function} = waiting
 cli.run()
 """
-
-
-def outputs(folder: Path) -> list[str]:
-    """The options that write an answer's files."""
-    names = {"out": "r.html", "map": "m.tif", "picture": "p.png"}
-    return [word for option, name in names.items() for word in (f"--{option}", str(folder / name))]
 
 
 def test_a_full_disk_leaves_nothing(tmp_path: Path) -> None:
@@ -62,7 +56,7 @@ def test_whole_heights_on_a_full_disk_leave_nothing(tmp_path: Path) -> None:
 
 
 STEPS = [
-    ("import", "convert", "put_heights"), ("import", "convert", "put_labels"), ("import", "record", "write_record"),
+    ("import", "convert", "put_heights"), ("import", "convert", "put_labels"), ("import", "folder", "record_of"),
     ("judge", "convert", "put_counts"), ("judge", "picture", "write_picture"), ("judge", "maps", "write_map"),
     ("judge", "report", "write_report"),
 ]  # fmt: skip

@@ -14,14 +14,7 @@ from drain_gis.tools import TOOLS, tool_list
 ESRI = "32 64 128 / 16 . 1 / 8 4 2"
 
 # Each table as a manual draws it: north-west, north, .. south-east.
-DRAWN = {
-    "esri": ESRI,
-    "terraflow": ESRI,
-    "terra": ESRI,
-    "whitebox-esri": ESRI,
-    "pysheds": ESRI,
-    "hydrosheds": ESRI,
-    "drain": ESRI,
+DRAWN = dict.fromkeys(("esri", "terraflow", "terra", "whitebox-esri", "pysheds", "hydrosheds", "drain"), ESRI) | {
     "saga": "7 0 1 / 6 . 2 / 5 4 3",
     "grass": "3 2 1 / 4 . 8 / 5 6 7",
     "grass-fill-dir": "135 90 45 / 180 . 360 / 225 270 315",
@@ -40,7 +33,7 @@ RUN |= dict.fromkeys(("grass", "grass-fill-dir", "grass-agnps", "terraflow"), "G
 # tests/program/audit.py and plain_faults.py, which know the rules and nothing of the program. Rules of rasters that
 # weren't given aren't counted. 16: cells at which a path stops (a walk along each path finds them) or that a ring has.
 LINES = (
-    ("saga", "saga", "dir", "accepted rows=49 cols=61 data=2842 raised=35 outlets=17", {}),
+    ("saga", "saga", "dir", "accepted rows=47 cols=61 data=2842 raised=35 outlets=17", {}),
     ("saga", "saga", "dir acc", "rejected rule=13 Accumulation row=0 col=1", {13: 229}),
     ("saga", "saga", "dir bas", "rejected rule=14 Label row=0 col=8", {14: 52, 15: 1}),
     ("saga", "saga", "dir acc bas", "rejected rule=13 Accumulation row=0 col=1", {13: 229, 14: 52, 15: 1}),
@@ -58,22 +51,15 @@ LINES = (
 )  # fmt: skip
 
 
-def code_of(down: int, right: int) -> int:
-    """Esri's code of a step."""
-    return next(code for code, step in worlds.STEP.items() if step == (down, right))
+CODE = {step: code for code, step in worlds.STEP.items()}  # Esri's
 
 
 def test_tables_are_those_that_manuals_draw() -> None:
     assert set(DRAWN) == set(TOOLS)
     for tool, picture in DRAWN.items():
         lines = [line.split() for line in picture.split("/")]
-        expected = {
-            int(number): code_of(down - 1, right - 1)
-            for down, line in enumerate(lines)
-            for right, number in enumerate(line)
-            if number != "."
-        }
-        assert TOOLS[tool].codes == expected, tool
+        places = ((int(n), (i - 1, j - 1)) for i, line in enumerate(lines) for j, n in enumerate(line) if n != ".")
+        assert TOOLS[tool].codes == {number: CODE[step] for number, step in places}, tool
 
 
 def test_the_list_says_what_was_run() -> None:
@@ -82,32 +68,6 @@ def test_the_list_says_what_was_run() -> None:
         line = next(line for line in tool_list().splitlines() if line.split()[:1] == [name])
         assert (f"run: {RUN[name]}" if name in RUN else "not run, by its documentation") in line
         assert line in command("tools").out
-
-
-def audit_in(tool: str, world: worlds.World, codes: np.ndarray) -> drain_gis.Verdict:
-    """The verdict on a world with these directions in a tool's codes."""
-    written = np.ma.array(worlds.in_codes_of(TOOLS[tool], codes), mask=world.void)
-    return drain_gis.audit(**{**world.given(), "dir": written}, codes=tool)
-
-
-@pytest.mark.parametrize("tool", TOOLS)
-def test_a_right_set_is_accepted_and_one_wrong_direction_is_not(tool: str) -> None:
-    """A cell with a lower neighbour is turned to a higher one."""
-    world = worlds.random_world()
-    verdict = audit_in(tool, world, world.dir)
-    assert verdict and any(TOOLS[tool].known_by in note for note in verdict.notes)
-    codes = world.dir.copy()
-    ways = (
-        (cell, code, other) for cell in world.cells() for code, other in world.beside(cell).items() if world.dir[cell]
-    )
-    cell, code, _ = next(way for way in ways if world.con[way[2]] > world.con[way[0]])
-    codes[cell] = code
-    assert audit_in(tool, world, codes).name in ("NoEnd", "Slope")
-
-
-def test_codes_of_another_tool_are_rejected_and_the_likely_one_is_named() -> None:
-    verdict = drain_gis.audit(**worlds.random_world().given("con", "dir"), codes="whitebox")
-    assert not verdict and "WARNING" in str(verdict) and "is it esri or terraflow or terra" in str(verdict)
 
 
 @pytest.mark.parametrize("codes", [None, "arc", ""])
@@ -127,7 +87,9 @@ def test_what_real_tools_made(fixture: str, tool: str, given: str, line: str, ru
     assert verdict.answer.line == line
     assert {number: cells for number, (cells, _) in verdict.rules.items()} == rules
     assert verdict or verdict.parts["con"].startswith("the least surface")
-    assert verdict.warning == ""
+    remark = TOOLS[tool].remark
+    assert verdict.warning == "" and any(note.lower().endswith(remark.lower()) for note in verdict.notes)
+    assert tool != "grass" or "a label for each segment of a stream, not for each outlet" in remark
 
 
 @pytest.mark.parametrize(
@@ -142,11 +104,3 @@ def test_each_preset_fits_its_tool_and_no_other(fixture: str, tool: str) -> None
         assert bool(verdict) == (tool == "saga" and alike)
         assert ("WARNING" in str(verdict)) == (not alike), (other, str(verdict))
         assert alike or f"is it {tool}" in str(verdict) or f"or {tool}" in str(verdict)
-
-
-def test_fixtures_are_judged_by_the_command(tmp_path: Path) -> None:
-    """One command, from the files that a tool left to a report."""
-    files = {"dem": str(FIXTURES / "dem.tif")} | {n: str(FIXTURES / f"saga-{n}.tif") for n in worlds.PRODUCTS}
-    done = command("judge", *worlds.words(files, "saga"), "--out", tmp_path / "report.html")
-    assert done.status == 1 and "rejected rule=13 Accumulation row=0 col=1" in done.out
-    assert "Accumulation" in (tmp_path / "report.html").read_text()

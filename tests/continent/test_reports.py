@@ -153,7 +153,7 @@ class Reports(UnionCase):
         lines = text.splitlines(keepends=True)
         report = self.folder / "report"
         for name, changed, fault in [
-            ("another version", text.replace("report 2", "report 1", 1), "WrongVersion"),
+            ("another version", text.replace("report 3", "report 2", 1), "WrongVersion"),
             ("nothing", "", "WrongVersion"),
             ("cut behind a line", "".join(lines[:-1]), f"MissingLine {len(lines)}"),
             ("cut within a line", text[:-1], f"MissingLine {len(lines)}"),

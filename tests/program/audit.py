@@ -3,6 +3,7 @@
 some 200,000 cells.
 
 audit.py --side N --products DIR [--only LIST] [--sinks FILE] TILE..     ends with the status that goes with the line
+audit.py --dem FILE --products DIR [--only LIST] [--sinks FILE]          elevations come from one raster
 
 It knows nothing of ranks: it follows each run of directions to its end. LIST has the given rasters, as con,dir; files of
 others aren't opened.
@@ -14,7 +15,7 @@ import sys
 
 sys.dont_write_bytecode = True
 from make_products import PRODUCTS, RULES, Rules, Terrain, flood, verdict
-from plain_inputs import Header, Mosaic, Refused, listed_sinks
+from plain_inputs import Dem, Header, Mosaic, Refused, listed_sinks
 
 NO_DATA = {name: nodata for name, _, _, _, nodata in PRODUCTS if name != "rnk"}
 STATUSES = ["accepted", "rejected", "refused", "failed"]
@@ -72,38 +73,62 @@ def first_not_filled(rules):
     return next((cell for cell in rules.terrain.data_cells() if rules.con[cell] < filled[cell]), None)
 
 
-def headers_of(mosaic, texts):
-    """The headers of the given products, each of the shape and place of the mosaic."""
+class TileFiles:
+    """The tiles at these paths, with this side."""
+
+    def __init__(self, side, paths):
+        self.side, self.paths = side, paths
+
+    def read(self):
+        self.body = [contents(path) for path in self.paths]
+
+    def ground(self):
+        return Mosaic(self.side, [os.fsencode(path).split(b"/")[-1] for path in self.paths])
+
+
+class DemFile:
+    """The raster of elevations at this path, with its header beside it."""
+
+    def __init__(self, path):
+        self.path = str(path)
+
+    def read(self):
+        ending = {".bil": ".hdr", ".BIL": ".HDR"}[self.path[-4:]]
+        self.header, self.body = contents(self.path[:-4] + ending), contents(self.path)
+
+    def ground(self):
+        return Dem(self.header)
+
+
+def headers_of(ground, texts):
+    """The headers of the given products, each of the shape and place of the ground."""
     headers = {}
     for name, text in texts.items():
         try:
             headers[name] = header = Header(text)
         except Refused as fault:
             raise Refused(f"BadHeader {name} {fault}") from None
-        if (header.rows, header.cols) != (mosaic.rows, mosaic.cols):
+        if (header.rows, header.cols) != (ground.rows, ground.cols):
             raise Refused(f"WrongShape {name}")
-        if not header.is_placed(mosaic):
+        if not ground.holds(header):
             raise Refused(f"Misplaced {name}")
     return headers
 
 
-def audited(side, names, tiles, texts, bodies, sinks):
-    """The line for these bytes: of the tiles with their names, of the headers and rasters by product, and of a list of sinks."""
-    mosaic = Mosaic(side, names)
-    headers = headers_of(mosaic, texts)
-    for name, tile in zip(names, tiles):
-        if len(tile) != 2 * side**2:
-            raise Refused(f"BadTileLength {name[:-4].decode().upper()}.hgt")
+def audited(ground, body, texts, bodies, sinks):
+    """The line for these bytes: of the elevations, of the headers and rasters by product, and of a list of sinks."""
+    headers = headers_of(ground, texts)
+    ground.judge_lengths(body)
     products = {name: headers[name].pixels(bodies[name]) for name in texts}
     for name, pixels in products.items():
         if pixels is None:
             raise Refused(f"RasterShort {name}")
-    z = mosaic.elevations(tiles)
+    z = ground.elevations(body)
     listed = listed_sinks(sinks)
     for number, row, col in listed:
-        if row >= mosaic.rows or col >= mosaic.cols or z[row * mosaic.cols + col] is None:
+        if row >= ground.rows or col >= ground.cols or z[row * ground.cols + col] is None:
             raise Refused(f"SinkNotData {number}")
-    terrain = Terrain(mosaic.rows, mosaic.cols, z, [(row, col) for _, row, col in listed])
+    terrain = Terrain(ground.rows, ground.cols, z, [(row, col) for _, row, col in listed])
     nodata = {name: NO_DATA[name] if header.nodata is None else header.nodata for name, header in headers.items()}
     return line_of(terrain, products, nodata)
 
@@ -113,17 +138,16 @@ def contents(path):
         return file.read()
 
 
-def audit(side, folder, sinks, tiles, given=tuple(NO_DATA)):
-    """The line for the files at these paths, of these products, which are read in the order of the program."""
+def audit(files, folder, sinks, given=tuple(NO_DATA)):
+    """The line for these files of elevations and the products at these paths, read in the order of the program."""
     try:
-        bodies_of_tiles = [contents(tile) for tile in tiles]
+        files.read()
         texts, bodies = {}, {}
         for name in given:
             texts[name] = contents(os.path.join(folder, name + ".hdr"))
             bodies[name] = contents(os.path.join(folder, name + ".bil"))
         list_ = contents(sinks) if sinks else b""
-        names = [os.fsencode(tile).split(b"/")[-1] for tile in tiles]
-        return audited(side, names, bodies_of_tiles, texts, bodies, list_)
+        return audited(files.ground(), files.body, texts, bodies, list_)
     except FileNotFoundError as fault:
         return f"failed Open {fault.filename}"
     except Refused as fault:
@@ -133,12 +157,14 @@ def audit(side, folder, sinks, tiles, given=tuple(NO_DATA)):
 def main():
     words = argparse.ArgumentParser(description=__doc__, formatter_class=argparse.RawDescriptionHelpFormatter)
     words.add_argument("--side", type=int, default=1201)
+    words.add_argument("--dem")
     words.add_argument("--products", required=True)
     words.add_argument("--only", choices=LISTS, default=LISTS[-1])
     words.add_argument("--sinks")
     words.add_argument("tiles", nargs="*")
     given = words.parse_args()
-    line = audit(given.side, given.products, given.sinks, given.tiles, given.only.split(","))
+    files = DemFile(given.dem) if given.dem else TileFiles(given.side, given.tiles)
+    line = audit(files, given.products, given.sinks, given.only.split(","))
     print(line)
     return STATUSES.index(line.split(" ")[0])
 

@@ -2,6 +2,7 @@
 """Prints the right line of `drain derive`, and writes its six files: slow and plain, for up to some 20,000 cells.
 
 derive.py --side N --products DIR --out OUT [--sinks FILE] TILE..     ends with the status that goes with the line
+derive.py --dem FILE --products DIR --out OUT [--sinks FILE]          elevations come from one raster
 
 It follows the path of each cell, step by step: a cell's accumulation is the number of paths that it lies on, its label
 the number of the outlet at the end of its own, its rank how many steps lead there. Headers are those of docs/FORMATS.md.
@@ -13,9 +14,9 @@ import struct
 import sys
 
 sys.dont_write_bytecode = True
-from audit import STATUSES, contents, headers_of
-from make_products import STEPS, Terrain, fixed
-from plain_inputs import Mosaic, Refused, listed_sinks
+from audit import STATUSES, DemFile, TileFiles, contents, headers_of
+from make_products import STEPS, Terrain, header_at
+from plain_inputs import Refused, listed_sinks
 
 BLANK = {"acc": 0, "bas": 0, "rnk": 4294967295}
 
@@ -51,64 +52,55 @@ def derived(terrain, codes):
     return rasters
 
 
-def header(mosaic, blank):
-    """The header of a raster with 32 bits a cell."""
-    step = fixed(10**15 // (mosaic.side - 1))
-    west, north = fixed(mosaic.west * 10**15), fixed(mosaic.north * 10**15)
-    return (f"BYTEORDER I\nLAYOUT BIL\nNROWS {mosaic.rows}\nNCOLS {mosaic.cols}\nNBANDS 1\nNBITS 32\nBANDROWBYTES {4 * mosaic.cols}\n"
-            f"TOTALROWBYTES {4 * mosaic.cols}\nSKIPBYTES 0\nPIXELTYPE UNSIGNEDINT\nULXMAP {west}\nULYMAP {north}\nXDIM {step}\n"
-            f"YDIM {step}\nNODATA {blank}\n")
-
-
-def read(side, folder, sinks, tiles):
-    """The mosaic, its terrain and the directions of the files at these paths."""
-    bodies = [contents(tile) for tile in tiles]
+def read(files, folder, sinks):
+    """The ground of these files, its terrain, and the directions at these paths."""
+    files.read()
     text, body = (contents(os.path.join(folder, "dir" + ending)) for ending in (".hdr", ".bil"))
     listing = contents(sinks) if sinks else b""
-    mosaic = Mosaic(side, [os.fsencode(tile).split(b"/")[-1] for tile in tiles])
-    headers = headers_of(mosaic, {"dir": text})
-    for tile, bytes_of in zip(tiles, bodies):
-        if len(bytes_of) != 2 * side**2:
-            raise Refused(f"BadTileLength {os.path.basename(tile)[:-4].upper()}.hgt")
+    ground = files.ground()
+    headers = headers_of(ground, {"dir": text})
+    ground.judge_lengths(files.body)
     codes = headers["dir"].pixels(body)
     if codes is None:
         raise Refused("RasterShort dir")
-    z = mosaic.elevations(bodies)
+    z = ground.elevations(files.body)
     for number, row, col in listed_sinks(listing):
-        if row >= mosaic.rows or col >= mosaic.cols or z[row * mosaic.cols + col] is None:
+        if row >= ground.rows or col >= ground.cols or z[row * ground.cols + col] is None:
             raise Refused(f"SinkNotData {number}")
-    return mosaic, Terrain(mosaic.rows, mosaic.cols, z), codes
+    return ground, Terrain(ground.rows, ground.cols, z), codes
 
 
-def derive(side, folder, sinks, tiles, out):
+def derive(files, folder, sinks, out):
     """The line; files are written if it is `derived`."""
     try:
-        mosaic, terrain, codes = read(side, folder, sinks, tiles)
+        ground, terrain, codes = read(files, folder, sinks)
     except FileNotFoundError as fault:
         return f"failed Open {fault.filename}"
     except Refused as fault:
         return f"refused {fault}"
     rasters = derived(terrain, codes)
     if isinstance(rasters, int):
-        return f"rejected NoEnd row={rasters // mosaic.cols} col={rasters % mosaic.cols}"
+        return f"rejected NoEnd row={rasters // ground.cols} col={rasters % ground.cols}"
     os.makedirs(out, exist_ok=True)
     for name, numbers in rasters.items():
         with open(os.path.join(out, name + ".hdr"), "w", newline="\n") as file:
-            file.write(header(mosaic, BLANK[name]))
+            file.write(header_at(ground.rows, ground.cols, ground.place, 32, False, BLANK[name]))
         with open(os.path.join(out, name + ".bil"), "wb") as file:
             file.write(struct.pack(f"<{len(numbers)}I", *numbers))
-    return f"derived rows={mosaic.rows} cols={mosaic.cols}"
+    return f"derived rows={ground.rows} cols={ground.cols}"
 
 
 def main():
     words = argparse.ArgumentParser(description=__doc__, formatter_class=argparse.RawDescriptionHelpFormatter)
     words.add_argument("--side", type=int, default=1201)
+    words.add_argument("--dem")
     words.add_argument("--products", required=True)
     words.add_argument("--out", required=True)
     words.add_argument("--sinks")
     words.add_argument("tiles", nargs="*")
     given = words.parse_args()
-    line = derive(given.side, given.products, given.sinks, given.tiles, given.out)
+    files = DemFile(given.dem) if given.dem else TileFiles(given.side, given.tiles)
+    line = derive(files, given.products, given.sinks, given.out)
     print(line)
     return (["derived", *STATUSES[1:]]).index(line.split(" ")[0])
 

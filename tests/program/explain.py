@@ -10,7 +10,6 @@ plain_page.py writes the pages and objects. The line and status are those of `dr
 import json
 import random
 import shutil
-import struct
 import subprocess
 import sys
 import tempfile
@@ -18,26 +17,19 @@ from itertools import zip_longest
 from pathlib import Path
 
 sys.dont_write_bytecode = True
-from audit import LISTS
-from make_products import PRODUCTS, fixed
-from plain_faults import ALL_NO_DATA, Explained, ground
-from plain_page import Page
-from random_audits import Case
+from audit import LISTS, DemFile, TileFiles
+from make_products import PRODUCTS, header_at
+from plain_faults import ALL_NO_DATA, Explained, ground_of
+from plain_page import ON_RASTER, Page
+from random_audits import RandomTiles
+from random_dems import RandomDem
+from random_sets import Case
 from worked_sets import WORKED
 
 SAMPLES = Path(__file__).resolve().parents[2] / "samples"
 RANDOM_SETS = 240
 CHANGED_SETS = 12
-MEMBERS = ["answer", "refusal", "rows", "cols", "ranks", "rules", "products", "patch", "expected", "run"]
-
-
-def map_header(mosaic):
-    """The header of a map, in the form that `drain header` prints."""
-    step = fixed(10**15 // (mosaic.side - 1))
-    lines = ["BYTEORDER I", "LAYOUT BIL", f"NROWS {mosaic.rows}", f"NCOLS {mosaic.cols}", "NBANDS 1", "NBITS 8", f"BANDROWBYTES {mosaic.cols}",
-             f"TOTALROWBYTES {mosaic.cols}", "SKIPBYTES 0", "PIXELTYPE UNSIGNEDINT", f"ULXMAP {fixed(mosaic.west * 10**15)}",
-             f"ULYMAP {fixed(mosaic.north * 10**15)}", f"XDIM {step}", f"YDIM {step}", "NODATA 255"]
-    return "".join(line + "\n" for line in lines)
+MEMBERS = ["answer", "refusal", "rows", "cols", "elevation", "ranks", "rules", "products", "patch", "expected", "run"]
 
 
 class Wrong(Exception):
@@ -69,14 +61,14 @@ class Explanation:
         status, object_text = self.output("explain", "--json", "--map", self.map)
         same("the status with JSON", status, self.plain.status())
         page = json.loads(object_text)
-        same("the members", list(page), MEMBERS)
         wanted = Page(self.plain, self.ring_start(page))
+        same("the members", list(page), [it for it in MEMBERS if it != "elevation" or wanted.words == ON_RASTER])
         for member, value in wanted.as_object().items():
             same(f"{member} in JSON", page[member], value)
         for told, line in zip_longest(text.split("\n"), wanted.as_text().split("\n")):
             same("a line of the page", told, line)
         same("the map", self.map.read_bytes(), bytes(self.plain.map))
-        same("the header of the map", self.map.with_suffix(".hdr").read_text(), map_header(self.plain.mosaic))
+        same("the header of the map", self.map.with_suffix(".hdr").read_text(), header_at(self.plain.terrain.rows, self.plain.terrain.cols, self.plain.ground.place, 8, False, 255))
 
     def ring_start(self, page):
         """The cell that the program takes for the first of a ring, which is its choice."""
@@ -89,14 +81,18 @@ class Sets:
         self.drain, self.scratch = drain, scratch
         self.passed, self.failed = 0, 0
 
-    def judge(self, name, side, folder, sinks, tiles, ranks):
-        """Compares the explanation of all rasters, with ranks or not, and that of each list."""
-        words = ["--side", str(side), "--products", str(folder), *(["--sinks", str(sinks)] if sinks else []), *map(str, tiles)]
-        mosaic, terrain = ground(side, tiles, sinks)
+    def judge_tiles(self, name, side, folder, sinks, tiles, ranks):
+        self.judge(name, TileFiles(side, tiles), ["--side", side, *tiles], folder, sinks, ranks)
+
+    def judge(self, name, files, elevations, folder, sinks, ranks):
+        """Compares the explanation of all rasters, with ranks or not, and that of each list. The elevations are words of the
+        command line, and files."""
+        words = [*map(str, elevations), "--products", str(folder), *(["--sinks", str(sinks)] if sinks else [])]
+        ground, terrain = ground_of(files, sinks)
         whole = [name for name in ALL_NO_DATA if ranks or name != "rnk"]
         for given, only in [(whole, []), *((list_.split(","), ["--only", list_]) for list_ in LISTS)]:
             try:
-                Explanation(self.drain, [*only, *words], Explained(mosaic, terrain, folder, given), self.scratch).compare()
+                Explanation(self.drain, [*only, *words], Explained(ground, terrain, folder, given), self.scratch).compare()
                 self.passed += 1
             except Wrong as wrong:
                 self.failed += 1
@@ -105,9 +101,9 @@ class Sets:
     def samples(self):
         for folder in sorted((SAMPLES / "other-tools").iterdir()):
             if folder.is_dir():
-                self.judge(f"other tools, {folder.name}", 51, folder, None, [SAMPLES / "other-tools/N36W085.hgt"], ranks=False)
-        self.judge("pit-3", 3, SAMPLES / "pit-3", None, [SAMPLES / "pit-3/N00E000.hgt"], ranks=True)
-        self.judge("jacksboro", 121, SAMPLES / "jacksboro", None, [SAMPLES / "jacksboro/N36W085.hgt"], ranks=True)
+                self.judge_tiles(f"other tools, {folder.name}", 51, folder, None, [SAMPLES / "other-tools/N36W085.hgt"], ranks=False)
+        self.judge_tiles("pit-3", 3, SAMPLES / "pit-3", None, [SAMPLES / "pit-3/N00E000.hgt"], ranks=True)
+        self.judge_tiles("jacksboro", 121, SAMPLES / "jacksboro", None, [SAMPLES / "jacksboro/N36W085.hgt"], ranks=True)
 
     def changed(self):
         """Real terrain with many numbers of one product changed."""
@@ -127,7 +123,7 @@ class Sets:
             if not ranks:
                 (folder / "rnk.hdr").unlink()
                 (folder / "rnk.bil").unlink()
-            self.judge(f"changed terrain {number}", 121, folder, None, [folder / "N36W085.hgt"], ranks)
+            self.judge_tiles(f"changed terrain {number}", 121, folder, None, [folder / "N36W085.hgt"], ranks)
 
     def worked(self):
         """Drawn sets, with ranks and without."""
@@ -135,21 +131,30 @@ class Sets:
             for ranks in (True, False):
                 folder = self.scratch / f"worked{number}{ranks}"
                 tiles = it.write(folder, ranks)
-                self.judge(f"{it.name}, ranks {ranks}", it.side, folder, folder / "sinks.txt", tiles, ranks)
+                self.judge_tiles(f"{it.name}, ranks {ranks}", it.side, folder, folder / "sinks.txt", tiles, ranks)
 
-    def random(self):
+    def valley(self):
+        """Sets of one raster of elevations."""
+        valley = SAMPLES / "valley"
+        for folder in sorted(it for it in valley.iterdir() if it.is_dir()):
+            dem = valley / "dem.bil"
+            ranks = (folder / "rnk.bil").exists()
+            self.judge(f"valley, {folder.name}", DemFile(dem), ["--dem", dem], folder, valley / "sinks.txt", ranks)
+
+    def random(self, ground_of):
+        """Small sets over grounds of this kind."""
         for number in range(RANDOM_SETS):
             dice = random.Random(number)
             folder = self.scratch / f"random{number}"
             folder.mkdir()
-            case = Case(dice, folder)
+            case = Case(dice, folder, ground_of(dice))
             for _ in range(dice.choice([0, 1, 1, 3, 10])):
                 dice.choice([case.change, case.change, case.turn])()
             case.write()
             ranks = number % 2 == 0
             if ranks:
                 self.write_ranks(case)
-            self.judge(f"random set {number}", case.side, folder, folder / "sinks.txt", [folder / name for name in case.names], ranks)
+            self.judge(f"random set {number}", case.ground.files(folder), case.ground.words(folder), folder, folder / "sinks.txt", ranks)
             shutil.rmtree(folder)
 
     def write_ranks(self, case):
@@ -157,10 +162,9 @@ class Sets:
         numbers = [4294967295 if rank is None else rank for rank in case.products["rnk"]]
         for _ in range(case.dice.choice([0, 0, 1, 5])):
             numbers[case.dice.randrange(len(numbers))] = case.dice.choice([0, 1, 7, 4294967295])
-        case.nodata["rnk"] = 4294967295
-        header = case.header("rnk", 32, "I").replace("SIGNEDINT", "UNSIGNEDINT")
+        header, body = case.ground.raster("rnk", 4294967295, numbers)
         (case.folder / "rnk.hdr").write_text(header)
-        (case.folder / "rnk.bil").write_bytes(struct.pack(f"<{len(numbers)}I", *numbers))
+        (case.folder / "rnk.bil").write_bytes(body)
 
 
 def main():
@@ -171,7 +175,9 @@ def main():
         sets.samples()
         sets.changed()
         sets.worked()
-        sets.random()
+        sets.valley()
+        sets.random(RandomTiles)
+        sets.random(RandomDem)
     print(f"explanations: {sets.passed} passed, {sets.failed} failed")
     return 1 if sets.failed else 0
 

@@ -120,6 +120,10 @@ class Faults:
         self.audit = Run(drain, ["audit", *self.check.words[1:]], self.check.line)
         parts = {"con": "accepted rows=3 cols=3 data=9 raised=1\n", "con,dir": self.check.line, "con,dir,bas": self.check.line}
         self.parts = [Run(drain, ["audit", "--only", list_, *self.check.words[1:]], line) for list_, line in parts.items()]
+        self.dem = scratch / "dem.bil"
+        given = ["--dem", str(self.dem), "--products", str(self.products)]
+        self.dems = [Run(drain, [run.words[0], *given], run.line) for run in (self.check, self.audit)]
+        self.dems.append(Run(drain, [*self.dems[1].words, "--only", "con"], parts["con"]))
         self.derive, self.derive_over = (Run(drain, ["derive", "--out", str(self.made), *self.check.words[1:]], "derived rows=3 cols=3\n") for _ in range(2))
         self.make = Run(drain, ["make", "--side", "3", "--out", str(self.made), str(self.tile)], "made rows=3 cols=3\n")
         self.list = scratch / "sinks.txt"
@@ -172,6 +176,8 @@ class Faults:
         for name in FILES:
             shutil.copy(PIT / "pit-3" / name, self.products / name)
         shutil.copy(PIT / "pit-3" / "N00E000.hgt", self.tile)
+        shutil.copy(self.tile, self.dem)
+        self.dem.with_suffix(".hdr").write_text((PIT / "pit-3/con.hdr").read_text().replace("BYTEORDER I", "BYTEORDER M"))
         for report, text in zip(self.reports, self.texts):
             report.write_bytes(text)
 
@@ -314,6 +320,7 @@ class Faults:
         begins = ("accepted ", "derived ", "rejected ", "refused RasterShort ", "refused BadTileLength ", "refused BadReport ", "failed ReadFailed")
         rasters = [self.products / f"{product}.bil" for product in PRODUCTS]
         parts = [(self.parts[0], [self.tile, *rasters[:1]]), (self.parts[1], [self.tile, *rasters[:2]]), (self.derive, [self.tile, rasters[1]])]
+        parts += [(run, [self.dem, rasters[0]]) for run in self.dems]
         four = [self.tile, *rasters[:-1]]
         for run, files in ((self.check, [self.tile, *rasters]), (self.audit, four), (self.window, four), (self.merge, self.reports), *parts):
             for file in files:
@@ -349,7 +356,7 @@ class Faults:
     def all(self):
         makers = [self.make, self.make_listed, self.make_over, self.derive, self.derive_over, self.window, self.window_over]
         explained = [self.explain, self.explain_object, self.explain_over]
-        judged = [self.check, self.audit, *self.parts, self.check_listed, self.audit_listed, self.con_listed, self.merge, self.merge_listed]
+        judged = [self.check, self.audit, *self.parts, *self.dems, self.check_listed, self.audit_listed, self.con_listed, self.merge, self.merge_listed]
         runs = [*judged, *explained, *makers, self.fill, self.header]
         self.makers = makers
         self.calls = {call: runs for call in TELLS}

@@ -1,5 +1,6 @@
 #!/usr/bin/env python3
-"""Makes the five products of one tile, or checks such products: slow and plain, for sides up to about 400.
+"""Makes the five products of one tile, or checks such products: slow and plain, for sides up to about 400. Elevations may be
+of any width for those who call `make`.
 
 make_products.py [--sinks LIST] SIDE TILE FOLDER             writes con, dir, acc, bas and rnk, each a .hdr and a .bil
 make_products.py --verify [--sinks LIST] SIDE TILE FOLDER    prints the right line of `drain check` for these rasters
@@ -138,40 +139,53 @@ def fixed(units):
     return f"{sign}{units // 10**15}.{units % 10**15:015d}"
 
 
-def header(side, tile, bits, signed, nodata):
-    """The header of a raster over the tile of this name, in the form that `drain header` prints."""
-    name = os.path.basename(tile).upper()
-    south = int(name[1:3]) * (1 if name[0] == "N" else -1)
-    west = int(name[4:7]) * (1 if name[3] == "E" else -1)
-    row_bytes = side * bits // 8
+def header_at(rows, cols, place, bits, signed, nodata):
+    """The header of a raster at a place (ULXMAP, ULYMAP, XDIM, YDIM, in units of 10^-15), as `drain header` prints it."""
+    row_bytes = cols * bits // 8
     lines = [
         "BYTEORDER I",
         "LAYOUT BIL",
-        f"NROWS {side}",
-        f"NCOLS {side}",
+        f"NROWS {rows}",
+        f"NCOLS {cols}",
         "NBANDS 1",
         f"NBITS {bits}",
         f"BANDROWBYTES {row_bytes}",
         f"TOTALROWBYTES {row_bytes}",
         "SKIPBYTES 0",
         f"PIXELTYPE {'SIGNEDINT' if signed else 'UNSIGNEDINT'}",
-        f"ULXMAP {fixed(west * 10**15)}",
-        f"ULYMAP {fixed((south + 1) * 10**15)}",
-        f"XDIM {fixed(10**15 // (side - 1))}",
-        f"YDIM {fixed(10**15 // (side - 1))}",
+        *(f"{key} {fixed(units)}" for key, units in zip(("ULXMAP", "ULYMAP", "XDIM", "YDIM"), place)),
         f"NODATA {nodata}",
     ]
     return "".join(line + "\n" for line in lines)
 
 
-def write(side, tile, products, folder):
+def place_of(side, tile):
+    """The place of the tile of this name."""
+    name = os.path.basename(tile).upper()
+    south = int(name[1:3]) * (1 if name[0] == "N" else -1)
+    west = int(name[4:7]) * (1 if name[3] == "E" else -1)
+    step = 10**15 // (side - 1)
+    return west * 10**15, (south + 1) * 10**15, step, step
+
+
+def header(side, tile, bits, signed, nodata):
+    """The header of a raster over the tile of this name."""
+    return header_at(side, side, place_of(side, tile), bits, signed, nodata)
+
+
+def write_raster(stem, header, form, numbers):
+    """Writes a header and the pixels of a raster, least significant byte first."""
+    with open(stem + ".hdr", "w", newline="\n") as file:
+        file.write(header)
+    with open(stem + ".bil", "wb") as file:
+        file.write(struct.pack(f"<{len(numbers)}{form}", *numbers))
+
+
+def write(rows, cols, place, products, folder, kinds=tuple(PRODUCTS)):
     os.makedirs(folder, exist_ok=True)
-    for name, bits, signed, form, nodata in PRODUCTS:
+    for name, bits, signed, form, nodata in kinds:
         numbers = [nodata if number is None else number for number in products[name]]
-        with open(os.path.join(folder, name + ".hdr"), "w", newline="\n") as file:
-            file.write(header(side, tile, bits, signed, nodata))
-        with open(os.path.join(folder, name + ".bil"), "wb") as file:
-            file.write(struct.pack(f"<{len(numbers)}{form}", *numbers))
+        write_raster(os.path.join(folder, name), header_at(rows, cols, place, bits, signed, nodata), form, numbers)
 
 
 def read(side, folder):
@@ -310,7 +324,7 @@ def main():
     if judging:
         print(verdict(Rules(terrain, read(side, folder))))
     else:
-        write(side, tile, make(terrain), folder)
+        write(side, side, place_of(side, tile), make(terrain), folder)
 
 
 if __name__ == "__main__":

@@ -6,7 +6,7 @@ import sys
 sys.dont_write_bytecode = True
 from audit import RULES_ABOUT, STATUSES, AuditRules, contents, first_endless, line_of
 from make_products import PRODUCTS, RULES, Rules, Terrain, verdict
-from plain_inputs import Header, Mosaic, listed_sinks
+from plain_inputs import Header, listed_sinks
 
 ALL_NO_DATA = {name: nodata for name, _, _, _, nodata in PRODUCTS}
 SOUND, SOUND_VOID = 0, 255
@@ -20,19 +20,19 @@ class CheckRules(Rules):
         self.nodata = nodata
 
 
-def ground(side, tiles, sinks):
-    """The mosaic of these tiles, and its terrain with the listed sinks."""
-    mosaic = Mosaic(side, [tile.name.encode() for tile in tiles])
-    z = mosaic.elevations([contents(tile) for tile in tiles])
+def ground_of(files, sinks):
+    """The ground of these files, and its terrain with the listed sinks."""
+    files.read()
+    ground = files.ground()
     listed = listed_sinks(contents(sinks) if sinks else b"")
-    return mosaic, Terrain(mosaic.rows, mosaic.cols, z, [(row, col) for _, row, col in listed])
+    return ground, Terrain(ground.rows, ground.cols, ground.elevations(files.body), [(row, col) for _, row, col in listed])
 
 
 class Explained:
     """What there is to report of given products that aren't refused, as con and dir; with rnk it is a check."""
 
-    def __init__(self, mosaic, terrain, folder, given):
-        self.mosaic, self.terrain = mosaic, terrain
+    def __init__(self, ground, terrain, folder, given):
+        self.ground, self.terrain = ground, terrain
         self.ranks = "rnk" in given
         headers = {name: Header(contents(folder / f"{name}.hdr")) for name in given}
         products = {name: headers[name].pixels(contents(folder / f"{name}.bil")) for name in given}

@@ -1,6 +1,8 @@
 """Reads tiles, headers, rasters and lists of sinks in the forms of docs/FORMATS.md: slow and plain.
 
-What can't be read is raised as Refused, with the words that stand behind `refused`.
+What can't be read is raised as Refused, with the words that stand behind `refused`. Elevations come from a ground: a
+Mosaic of tiles, or a Dem, one raster. Each has rows and cols, the place that made rasters get, says which headers lie on it
+(holds), refuses bytes that are too few (judge_lengths), and has the elevation of each cell (elevations).
 """
 
 import re
@@ -15,6 +17,8 @@ MOST_HEADER_BYTES = 65536
 MOST_ROWS = 28801
 WHOLE_KEYS = ["NROWS", "NCOLS", "NBANDS", "NBITS", "SKIPBYTES", "BANDROWBYTES", "TOTALROWBYTES"]
 PLACE_KEYS = ["ULXMAP", "ULYMAP", "XDIM", "YDIM"]
+# Of the numbers of a place.
+UNIT = 10**15
 NEEDED_KEYS = ["NROWS", "NCOLS", *PLACE_KEYS]
 WORD_KEYS = {"BYTEORDER": ["I", "M"], "LAYOUT": ["BIL", "BIP", "BSQ"]}
 
@@ -72,6 +76,19 @@ class Mosaic:
         if max(down, across) > MOST_BOX:
             raise Refused("BoxTooLarge")
         self.rows, self.cols = down * (side - 1) + 1, across * (side - 1) + 1
+        spacing = UNIT // (side - 1)
+        self.place = [self.west * UNIT, self.north * UNIT, spacing, spacing]
+
+    def holds(self, header):
+        """Whether a raster with this header lies where the mosaic does."""
+        step = Fraction(1, self.side - 1)
+        corner = max(abs(header.ulx - self.west), abs(header.uly - self.north))
+        return corner <= Fraction(1, 10**6) and max(abs(header.xdim - step), abs(header.ydim - step)) <= Fraction(1, 10**9)
+
+    def judge_lengths(self, tiles):
+        for corner, tile in zip(self.corners, tiles):
+            if len(tile) != 2 * self.side**2:
+                raise Refused(f"BadTileLength {name_of(corner)}")
 
     def values_at(self, tiles):
         """The data values that tiles give to each cell, as a set in each place."""
@@ -172,12 +189,6 @@ class Header:
         self.form = ("<" if fields.get("BYTEORDER", "I") == "I" else ">") + (form if signed == "SIGNEDINT" else form.upper())
         self.nodata = fields.get("NODATA")
 
-    def is_placed(self, mosaic):
-        """Whether the raster lies where the mosaic does."""
-        step = Fraction(1, mosaic.side - 1)
-        corner = max(abs(self.ulx - mosaic.west), abs(self.uly - mosaic.north))
-        return corner <= Fraction(1, 10**6) and max(abs(self.xdim - step), abs(self.ydim - step)) <= Fraction(1, 10**9)
-
     def pixels(self, body):
         """The numbers of a raster in row order, None where a byte of some pixel is missing."""
         size = self.bits // 8
@@ -185,6 +196,38 @@ class Header:
             return None
         starts = (self.skip + row * self.stride for row in range(self.rows))
         return [number for start in starts for (number,) in struct.iter_unpack(self.form, body[start:start + self.cols * size])]
+
+
+# One raster of elevations
+
+
+class Dem:
+    """The raster of elevations with this header."""
+
+    def __init__(self, text):
+        try:
+            self.header = Header(text)
+        except Refused as fault:
+            raise Refused(f"BadHeader dem {fault}") from None
+        if self.header.xdim <= 0 or self.header.ydim <= 0:
+            raise Refused("BadPixelSize dem")
+        self.rows, self.cols = self.header.rows, self.header.cols
+        self.place = [int(UNIT * it) for it in (self.header.ulx, self.header.uly, self.header.xdim, self.header.ydim)]
+
+    def holds(self, header):
+        """Whether a raster with this header lies on it: the corner within a hundredth of a pixel, and no more than another
+        hundredth that the sizes of pixels add up to over all columns, and over all rows."""
+        across = [header.ulx - self.header.ulx, self.cols * (header.xdim - self.header.xdim)]
+        down = [header.uly - self.header.uly, self.rows * (header.ydim - self.header.ydim)]
+        return max(map(abs, across)) <= self.header.xdim / 100 and max(map(abs, down)) <= self.header.ydim / 100
+
+    def judge_lengths(self, body):
+        if self.header.pixels(body) is None:
+            raise Refused("RasterShort dem")
+
+    def elevations(self, body):
+        """The elevation of each cell in row order, None where the pixel is the header's no-data number, if it has one."""
+        return [None if number == self.header.nodata else number for number in self.header.pixels(body)]
 
 
 # Lists of sinks

@@ -5,17 +5,19 @@ of docs/CAUSES.md, and of the pages written by hand in crates/page_tests.
 """
 
 import sys
+from dataclasses import dataclass
 from fractions import Fraction
 
 sys.dont_write_bytecode = True
-from make_products import PRODUCTS, RULES, STEPS, key
+from make_products import PRODUCTS, RULES, STEPS, fixed, key
 from plain_faults import Explained
+from plain_inputs import UNIT, Dem
 
 PLACES = 10**7
 RING_TOLD = 20
 LETTERS = {1: "E", 2: "SE", 4: "S", 8: "SW", 16: "W", 32: "NW", 64: "N", 128: "NE"}
-OPENINGS = {"sink": "at a listed sink", "edge": "on the edge of the mosaic", "void": "next to a void"}
-LOST = {"no_code": "is no direction code", "outside": "points outside the mosaic", "void": "points to a void"}
+OPENINGS = {"sink": "at a listed sink", "edge": "on the edge of the {}", "void": "next to a void"}
+LOST = {"no_code": "is no direction code", "outside": "points outside the {}", "void": "points to a void"}
 ANY_CODE = [0, *STEPS]
 ALL_RULES = sorted([(6, "NoSpill"), (7, "SpillHeight"), (8, "SpillRank"), *((number, name) for number, name, _ in RULES)])
 
@@ -26,9 +28,31 @@ def degrees_text(degrees: Fraction) -> str:
     return f"{'-' if degrees < 0 and units else ''}{units // PLACES}.{units % PLACES:07d}"
 
 
+@dataclass(frozen=True)
+class Words:
+    """How a page names a ground and the directions on it, and how many columns a coordinate takes."""
+
+    whole: str
+    east: str
+    north: str
+    columns: int
+
+    def text(self, coordinate: Fraction) -> str:
+        """A coordinate: degrees, or with the places of a header."""
+        return degrees_text(coordinate) if self == ON_TILES else fixed(int(UNIT * coordinate))
+
+
+ON_TILES = Words("mosaic", "longitude", "latitude", 14)
+ON_RASTER = Words("raster", "x", "y", 26)
+
+
 def code_text(number: int) -> str:
     """A direction's letters and code, 'outlet 0', or a number that is no code."""
     return f"{'outlet' if number == 0 else LETTERS.get(number, '?')} {number}"
+
+
+def words_of(plain: Explained) -> Words:
+    return ON_RASTER if isinstance(plain.ground, Dem) else ON_TILES
 
 
 class Expected:
@@ -65,7 +89,7 @@ class Expected:
 
     def open_raised(self) -> None:
         self.product, self.number, self.open = "con", self.rules.z[self.cell], self.opening()
-        self.words = f"con equal to the ground, {self.number}, {OPENINGS[self.open]}"
+        self.words = f"con equal to the ground, {self.number}, {self.opening_text()}"
 
     def not_least(self) -> None:
         around = self.plain.terrain.data_neighbors(self.cell)
@@ -83,7 +107,7 @@ class Expected:
 
     def outlet_code(self) -> None:
         self.product, self.number, self.codes, self.open = "dir", 0, [0], self.opening()
-        self.words = f"dir 0, with no lower neighbour, {OPENINGS[self.open]}"
+        self.words = f"dir 0, with no lower neighbour, {self.opening_text()}"
 
     def flat_step(self) -> None:
         level = [
@@ -121,6 +145,9 @@ class Expected:
             return "sink"
         return "edge" if None in (self.plain.terrain.beside(self.cell, code) for code in STEPS) else "void"
 
+    def opening_text(self) -> str:
+        return OPENINGS[self.open].format(words_of(self.plain).whole)
+
     def as_object(self) -> dict:
         return {
             "rule": self.rule,
@@ -148,7 +175,7 @@ class Page:
     """The page of products that aren't refused. Which cell of a ring is the first is the program's choice."""
 
     def __init__(self, plain: Explained, ring_start: dict | None) -> None:
-        self.plain, self.rules = plain, plain.rules
+        self.plain, self.rules, self.words = plain, plain.rules, words_of(plain)
         self.expected = None if plain.first is None else Expected(plain, plain.first)
         self.ring: list[int] | None = None
         self.lost: int | None = None
@@ -161,10 +188,14 @@ class Page:
                 at = cells.index(start) if start in cells else 0
                 self.ring = cells[at:] + cells[:at]
 
-    def degrees(self, place: dict) -> tuple[Fraction, Fraction]:
-        """The longitude and latitude of a cell."""
-        steps, mosaic = self.plain.mosaic.side - 1, self.plain.mosaic
-        return mosaic.west + Fraction(place["col"], steps), mosaic.north - Fraction(place["row"], steps)
+    def coordinates(self, place: dict) -> tuple[Fraction, Fraction]:
+        """How far east and north a cell lies."""
+        ground = self.plain.ground
+        if isinstance(ground, Dem):
+            west, north, width, height = (Fraction(it, UNIT) for it in ground.place)
+        else:
+            west, north, width, height = ground.west, ground.north, Fraction(1, ground.side - 1), Fraction(1, ground.side - 1)
+        return west + place["col"] * width, north - place["row"] * height
 
     def lost_by(self) -> str:
         code = self.rules.dir[self.lost]
@@ -174,12 +205,19 @@ class Page:
 
     # As JSON
 
+    def elevations(self) -> list[int]:
+        """The elevations of data cells of a raster of elevations; none of tiles, whose pages don't have them."""
+        return [z for z in self.rules.z if z is not None] if self.words == ON_RASTER else []
+
     def as_object(self) -> dict:
+        found = self.elevations()
+        elevation = {"least": min(found), "greatest": max(found)} if found else None
         return {
             "answer": self.plain.line,
             "refusal": None,
             "rows": self.plain.terrain.rows,
             "cols": self.plain.terrain.cols,
+            **({"elevation": elevation} if self.words == ON_RASTER else {}),
             "ranks": self.plain.ranks,
             "rules": [{"rule": it["rule"], "name": it["name"], **self.faults(it)} for it in self.plain.by_rule],
             "products": [
@@ -196,8 +234,8 @@ class Page:
         }
 
     def cell_object(self, place: dict) -> dict:
-        longitude, latitude = self.degrees(place)
-        return {**place, "longitude": float(longitude), "latitude": float(latitude)}
+        east, north = self.coordinates(place)
+        return {**place, self.words.east: float(east), self.words.north: float(north)}
 
     def faults(self, faults: dict) -> dict:
         return {"cells": faults["cells"], "first": faults["first"] and self.cell_object(faults["first"])}
@@ -237,7 +275,9 @@ class Page:
     # As text
 
     def as_text(self) -> str:
-        parts = [[self.plain.line], self.rule_lines()]
+        found = self.elevations()
+        range_lines = [f"elevation from {min(found)} to {max(found)}"] if found else []
+        parts = [[self.plain.line], range_lines + self.rule_lines()]
         if self.expected:
             parts.append([*self.patch_lines(), *self.expected.lines()])
         if self.ring is not None or self.lost is not None:
@@ -245,9 +285,9 @@ class Page:
         return "\n".join("".join(line + "\n" for line in part) for part in parts)
 
     def fault_columns(self, faults: dict) -> str:
-        longitude, latitude = map(degrees_text, self.degrees(faults["first"]))
         first = faults["first"]
-        return f"{faults['cells']:10}{first['row']:7}{first['col']:7}{longitude:>14}{latitude:>14}"
+        shown = "".join(self.words.text(it).rjust(self.words.columns) for it in self.coordinates(first))
+        return f"{faults['cells']:10}{first['row']:7}{first['col']:7}{shown}"
 
     def rule_lines(self) -> list[str]:
         lines = []
@@ -259,8 +299,8 @@ class Page:
                     if product[part]["cells"]:
                         lines.append(f"  {product['product']:13}" + self.fault_columns(product[part]))
         if lines:
-            heading = f"{'rule':15}{'cells':>10}{'row':>7}{'column':>7}{'longitude':>14}{'latitude':>14}"
-            lines.insert(0, heading)
+            shown = "".join(word.rjust(self.words.columns) for word in (self.words.east, self.words.north))
+            lines.insert(0, f"{'rule':15}{'cells':>10}{'row':>7}{'column':>7}{shown}")
         holding = ", ".join(f"{rule['rule']} {rule['name']}" for rule in self.plain.by_rule if not rule["cells"])
         tried = [number for number, _, _ in self.plain.tried]
         untried = ", ".join(f"{number} {name}" for number, name in ALL_RULES if number not in tried)
@@ -282,9 +322,9 @@ class Page:
         return code_text(number) if product == "dir" else str(number)
 
     def patch_lines(self) -> list[str]:
-        longitude, latitude = map(degrees_text, self.degrees(self.plain.place(self.plain.first)))
-        lines = [f"first fault: {self.cell_words(self.plain.first)}, longitude {longitude}, latitude {latitude}"]
-        lines.append("- outside the mosaic, * listed as a sink")
+        east, north = map(self.words.text, self.coordinates(self.plain.place(self.plain.first)))
+        lines = [f"first fault: {self.cell_words(self.plain.first)}, {self.words.east} {east}, {self.words.north} {north}"]
+        lines.append(f"- outside the {self.words.whole}, * listed as a sink")
         for name in ["ground", *self.rules.nodata]:
             lines.append(name)
             for row in self.around():
@@ -302,7 +342,7 @@ class Page:
     def run_lines(self) -> list[str]:
         line = f"path without an end: from {self.cell_words(self.plain.endless)}"
         if self.ring is None:
-            return [line, f"  path stops at {self.cell_words(self.lost)}: dir {LOST[self.lost_by()]}"]
+            return [line, f"  path stops at {self.cell_words(self.lost)}: dir {LOST[self.lost_by()].format(self.words.whole)}"]
         cells = [f"  {self.cell_words(cell)}" for cell in self.ring[:RING_TOLD]]
         rest = ["  and so on"] if len(self.ring) > RING_TOLD else []
         return [f"{line} into a ring of {len(self.ring)} cells", *cells, *rest]

@@ -1,28 +1,21 @@
 #!/usr/bin/env python3
-"""Audits small random sets, right ones and ones with one number changed, whole and by each list of rasters, and derives rasters of
-their directions; compares with audit.py, derive.py and with the meaning of correct products.
+"""Audits small random sets of tiles, right ones and ones with one number changed, whole and by each list of rasters, and derives
+rasters of their directions; compares with audit.py, derive.py and with the meaning of correct products (random_sets.py).
 
 random_audits.py [DRAIN]     without the program only the others are compared
 
-What products mean is judged here by paths, runs and sets (docs/DEFINITIONS.md), and by no rule. Some rasters are right if they
-are part of a correct set. Prints how many sets passed.
+Prints how many sets passed.
 """
 
-import random
 import struct
-import subprocess
 import sys
-import tempfile
-from pathlib import Path
 
 sys.dont_write_bytecode = True
-from audit import LISTS, NO_DATA, STATUSES, audit
-from derive import BLANK, derive
-from make_products import STEPS, VOID, Terrain, fixed, key, make
+from audit import NO_DATA, TileFiles
+from make_products import VOID, header_at
 from plain_inputs import Mosaic
+from random_sets import judge_random
 
-CASES = 600
-FORMS = {8: "b", 16: "h", 32: "i"}
 # A tile, two beside each other or at a corner, four in a square, and eight in a row or a column.
 TILES = [
     ["N00E000.hgt"],
@@ -37,83 +30,19 @@ TILES = [
 ]
 
 
-def least_surface(terrain):
-    """The spill level of each cell: lowered along neighbours until nothing changes."""
-    level = [terrain.z[cell] if terrain.is_open(cell) else None for cell in range(len(terrain.z))]
-    changed = True
-    while changed:
-        changed = False
-        for cell in terrain.data_cells():
-            for _, other in terrain.data_neighbors(cell):
-                if level[other] is not None:
-                    lowest = max(terrain.z[cell], level[other])
-                    if level[cell] is None or lowest < level[cell]:
-                        level[cell], changed = lowest, True
-    return level
+class RandomTiles:
+    """One to eight tiles whose common edges agree."""
 
+    lowest = 0
 
-class Meaning:
-    """Products without no-data numbers at data cells and with them at voids, and what they mean."""
-
-    def __init__(self, terrain, products):
-        self.terrain, self.cells = terrain, terrain.data_cells()
-        self.con, self.dir, self.acc, self.bas = (products[name] for name in NO_DATA)
-
-    def way(self, cell):
-        """The data neighbour that the code leads to, None where it leads nowhere."""
-        return dict(self.terrain.data_neighbors(cell)).get(self.dir[cell])
-
-    def run(self, cell):
-        """The cells of a run, None where it has no end."""
-        run = [cell]
-        while self.dir[run[-1]] != 0:
-            run.append(self.way(run[-1]))
-            if run[-1] is None or len(run) > len(self.cells):
-                return None
-        return run
-
-    def is_right_way(self, cell):
-        """A steepest descent; where nothing is lower 0 at an open cell, and else along the flat."""
-        drops = {code: self.con[cell] - self.con[other] for code, other in self.terrain.data_neighbors(cell)}
-        slopes = {code: key(code, drop) for code, drop in drops.items() if drop > 0}
-        if slopes:
-            return slopes.get(self.dir[cell]) == max(slopes.values())
-        if self.terrain.is_open(cell):
-            return self.dir[cell] == 0
-        return drops.get(self.dir[cell]) == 0
-
-    def is_correct(self):
-        levels = least_surface(self.terrain)
-        runs = {cell: self.run(cell) for cell in self.cells}
-        if None in runs.values() or any(self.con[cell] != levels[cell] or not self.is_right_way(cell) for cell in self.cells):
-            return False
-        through = [cell for run in runs.values() for cell in run]
-        if any(self.acc[cell] != through.count(cell) for cell in self.cells):
-            return False
-        pairs = {(self.bas[cell], run[-1]) for cell, run in runs.items()}
-        return len(pairs) == len({label for label, _ in pairs}) == len({outlet for _, outlet in pairs})
-
-
-class Case:
-    """Tiles, a list of sinks and four rasters, written into a folder."""
-
-    def __init__(self, dice, folder):
-        self.dice, self.folder = dice, folder
+    def __init__(self, dice):
+        self.dice = dice
         self.side = dice.choice([2, 3, 3, 4, 5])
         self.names = dice.choice(TILES)
         self.mosaic = Mosaic(self.side, [name.encode() for name in self.names])
+        self.rows, self.cols = self.mosaic.rows, self.mosaic.cols
         self.tiles = self.random_tiles()
         self.z = self.mosaic.elevations(self.tiles)
-        data = [cell for cell, ground in enumerate(self.z) if ground is not None]
-        listed = dice.sample(data, min(len(data), dice.choice([0, 0, 1, 3])))
-        self.sinks = [(cell // self.mosaic.cols, cell % self.mosaic.cols) for cell in listed]
-        self.terrain = Terrain(self.mosaic.rows, self.mosaic.cols, self.z, self.sinks)
-        self.products = make(self.terrain)
-        self.nodata = {name: dice.choice([number, number, 7, 99]) for name, number in NO_DATA.items()}
-        if any(self.nodata[name] in self.products[name] for name in NO_DATA):
-            self.nodata = dict(NO_DATA)
-        for name, blank in self.nodata.items():
-            self.products[name] = [blank if number is None else number for number in self.products[name]]
 
     def random_tiles(self):
         """Tiles whose common edges agree: samples by the place of a cell in the box."""
@@ -126,179 +55,33 @@ class Case:
             tiles.append(struct.pack(f">{self.side**2}h", *(sample for row in rows for sample in row)))
         return tiles
 
-    def change(self):
-        """Changes one number of a product, as one near it, one of another cell, or any."""
-        numbers = self.products[self.dice.choice(list(NO_DATA))]
-        cell = self.dice.randrange(len(numbers))
-        near = [numbers[cell] + 1, max(numbers[cell] - 1, 0)]
-        numbers[cell] = self.dice.choice([*near, self.dice.choice(numbers), self.dice.choice([0, 3, *STEPS])])
+    def no_data_of(self, products):
+        nodata = {name: self.dice.choice([number, number, 7, 99]) for name, number in NO_DATA.items()}
+        return dict(NO_DATA) if any(nodata[name] in products[name] for name in NO_DATA) else nodata
 
-    def turn(self):
-        """Turns one direction, and counts acc and bas anew where runs still end: rings and needless ways come of it."""
-        cell = self.dice.randrange(len(self.z))
-        self.products["dir"][cell] = self.dice.choice([0, *STEPS])
-        meaning = Meaning(self.terrain, self.products)
-        runs = [meaning.run(start) for start in meaning.cells]
-        if self.z[cell] is not None and None not in runs:
-            through = [passed for run in runs for passed in run]
-            for run in runs:
-                self.products["acc"][run[0]], self.products["bas"][run[0]] = through.count(run[0]), run[-1] + 1000
+    def can_spell(self, _):
+        return True
 
-    def lower(self):
-        """Takes depressions as they are, as if nothing was filled: every rule about con alone still holds."""
-        self.products["con"] = [self.nodata["con"] if ground is None else ground for ground in self.z]
+    def raster(self, name, nodata, numbers):
+        """The header and the bytes of a raster."""
+        form, order = "I" if name == "rnk" else self.dice.choice("hi"), self.dice.choice("IM")
+        header = header_at(self.rows, self.cols, self.mosaic.place, 8 * struct.calcsize(form), form != "I", nodata)
+        body = struct.pack(f"{'<' if order == 'I' else '>'}{len(numbers)}{form}", *numbers)
+        return header.replace("BYTEORDER I", f"BYTEORDER {order}"), body
 
-    def header(self, name, bits, order):
-        step = fixed(10**15 // (self.side - 1))
-        return (f"NROWS {self.mosaic.rows}\nNCOLS {self.mosaic.cols}\nNBITS {bits}\nPIXELTYPE SIGNEDINT\nBYTEORDER {order}\nULXMAP {self.mosaic.west}\n"
-                f"ULYMAP {self.mosaic.north}\nXDIM {step}\nYDIM {step}\nNODATA {self.nodata[name]}\n")
-
-    def write(self):
+    def write(self, folder):
         for name, tile in zip(self.names, self.tiles):
-            (self.folder / name).write_bytes(tile)
-        (self.folder / "sinks.txt").write_text("".join(f"{row} {col}\n" for row, col in self.sinks))
-        for name in NO_DATA:
-            bits, order = self.dice.choice([16, 32]), self.dice.choice("IM")
-            (self.folder / f"{name}.hdr").write_text(self.header(name, bits, order))
-            numbers = self.products[name]
-            (self.folder / f"{name}.bil").write_bytes(struct.pack(f"{'<' if order == 'I' else '>'}{len(numbers)}{FORMS[bits]}", *numbers))
+            (folder / name).write_bytes(tile)
 
-    def tile_paths(self):
-        return [self.folder / name for name in self.names]
+    def paths(self, folder):
+        return [folder / name for name in self.names]
 
-    def line(self, given):
-        """The line by audit.py, of these products."""
-        return audit(self.side, self.folder, self.folder / "sinks.txt", self.tile_paths(), given)
+    def files(self, folder):
+        return TileFiles(self.side, self.paths(folder))
 
-    def is_part_of_correct(self, given):
-        """Whether values of the other products exist that make a correct set with these. If there are any, then those that
-        are made of the tiles are such values of dir, and counts and labels by runs are of acc and bas."""
-        blanks = {cell: [self.products[name][cell] == self.nodata[name] for name in given] for cell in range(len(self.z))}
-        if not all(all(blank) if self.z[cell] is None else not any(blank) for cell, blank in blanks.items()):
-            return False
-        joined = dict(self.products)
-        if "dir" not in given:
-            joined |= {name: numbers for name, numbers in make(self.terrain).items() if name in ("dir", "acc", "bas")}
-            return Meaning(self.terrain, joined).is_correct()
-        counted = self.counted()
-        if counted is None:
-            return False
-        return Meaning(self.terrain, joined | {name: counted[name] for name in ("acc", "bas") if name not in given}).is_correct()
-
-    def counted(self):
-        """Counts and labels by the runs of the directions, None where one has no end."""
-        meaning = Meaning(self.terrain, self.products)
-        runs = {cell: meaning.run(cell) for cell in meaning.cells}
-        if None in runs.values():
-            return None
-        through = [passed for run in runs.values() for passed in run]
-        return {"acc": {cell: through.count(cell) for cell in runs}, "bas": {cell: run[-1] for cell, run in runs.items()}}
-
-    def answer(self, drain, *words):
-        """What the program ends with and prints."""
-        command = [drain, *words, "--side", str(self.side), "--products", self.folder, "--sinks", self.folder / "sinks.txt", *self.tile_paths()]
-        ended = subprocess.run(command, stdout=subprocess.PIPE, stderr=subprocess.PIPE, timeout=120, check=False)
-        return ended.returncode, ended.stdout.decode()
-
-    def wrong_derivation(self, drain):
-        """What is wrong with the rasters that derive.py and the program derive of the directions, None where nothing is."""
-        other, out = self.folder / "other", self.folder / "out"
-        line = derive(self.side, self.folder, self.folder / "sinks.txt", self.tile_paths(), other)
-        counted = self.counted()
-        if line.startswith("derived") != (counted is not None):
-            return f"{line!r}, and runs {'have' if counted else 'have no'} ends"
-        if counted and (wrong := self.wrong_counts(other, counted)):
-            return wrong
-        out.mkdir()
-        if drain and self.answer(drain, "derive", "--out", out) != (int(counted is None), line + "\n"):
-            return f"{self.answer(drain, 'derive', '--out', out)}, not {line!r}"
-        files = [f"{name}.{part}" for name in BLANK for part in ("hdr", "bil")] if drain and counted else []
-        if drain and sorted(path.name for path in out.iterdir()) != sorted(files):
-            return "other derived files"
-        return next((f"{file} derived otherwise" for file in files if (out / file).read_bytes() != (other / file).read_bytes()), None)
-
-    def wrong_counts(self, folder, counted):
-        """What is wrong with the numbers of derive.py."""
-        numbers = {name: struct.unpack(f"<{len(self.z)}I", (folder / f"{name}.bil").read_bytes()) for name in BLANK}
-        outlets = sorted(set(counted["bas"].values()))
-        for cell, ground in enumerate(self.z):
-            expected = (0, 0) if ground is None else (counted["acc"][cell], outlets.index(counted["bas"][cell]) + 1)
-            if (numbers["acc"][cell], numbers["bas"][cell]) != expected:
-                return f"derive.py has other numbers at cell {cell}"
-        return None
-
-
-def kind_of(line):
-    return " ".join(line.split(" ")[:2]) if line.startswith("rejected") else line.split(" ")[0]
-
-
-def judge_list(case, list_, drain, is_right):
-    """What is wrong with the answers about these products, None where nothing is, and the kind of their line."""
-    given = list_.split(",")
-    line = case.line(given)
-    kind, is_part = kind_of(line), case.is_part_of_correct(given)
-    if (kind == "accepted") != is_part:
-        return f"{list_}: {line!r}, and the products are {'' if is_part else 'not '}part of a correct set", kind
-    if is_right and kind != "accepted":
-        return f"{list_}: {line!r} of right products", kind
-    words = [["audit", "--only", list_]]
-    if list_ == LISTS[-1]:
-        words.append(["audit"])
-    for command in words if drain else []:
-        answer = case.answer(drain, *command)
-        if answer != (STATUSES.index(kind.split(" ")[0]), line + "\n"):
-            return f"{list_}: {answer}, not {line!r}", kind
-    return None, kind
-
-
-def judge(number, drain, folder):
-    """What is wrong with the answers to a case, and the kinds of lines by list."""
-    case = Case(random.Random(number), folder)
-    changes = [lambda: None, case.change, case.change, case.turn, case.lower]
-    changes[number % len(changes)]()
-    case.write()
-    wrong, kinds = [], {}
-    for list_ in LISTS:
-        fault, kinds[list_] = judge_list(case, list_, drain, number % len(changes) == 0)
-        wrong.append(fault)
-    wrong.append(case.wrong_derivation(drain))
-    return [fault for fault in wrong if fault], kinds
-
-
-# The kinds of lines that random sets have, by list.
-ABOUT_CON = ["accepted", *(f"rejected rule={rule}" for rule in (1, 2, 4, 5, 9))]
-ABOUT_DIR = [*ABOUT_CON, "rejected NoEnd", *(f"rejected rule={rule}" for rule in (10, 11, 12))]
-KINDS = {
-    "con": [*ABOUT_CON, "rejected NotFilled"],
-    "con,dir": ABOUT_DIR,
-    "con,dir,acc": [*ABOUT_DIR, "rejected rule=13"],
-    "con,dir,bas": [*ABOUT_DIR, "rejected rule=14", "rejected rule=15"],
-    "con,dir,acc,bas": [*ABOUT_DIR, *(f"rejected rule={rule}" for rule in (13, 14, 15))],
-}
-
-
-def main():
-    drain = Path(sys.argv[1]).resolve() if sys.argv[1:] else None
-    passed, failed = 0, 0
-    found = {list_: set() for list_ in LISTS}
-    with tempfile.TemporaryDirectory() as scratch:
-        for number in range(CASES):
-            folder = Path(scratch) / str(number)
-            folder.mkdir()
-            wrong, kinds = judge(number, drain, folder)
-            for list_, kind in kinds.items():
-                found[list_].add(kind)
-            passed, failed = passed + (not wrong), failed + bool(wrong)
-            for fault in wrong:
-                print(f"FAILED random set {number}: {fault}")
-    for list_ in LISTS:
-        for kind in KINDS[list_]:
-            if kind not in found[list_]:
-                failed += 1
-                print(f"FAILED random sets: none is {kind}, of {list_}")
-    print(f"random audits: {passed} passed, {failed} failed")
-    return 1 if failed else 0
+    def words(self, folder):
+        return ["--side", str(self.side), *self.paths(folder)]
 
 
 if __name__ == "__main__":
-    sys.exit(main())
+    sys.exit(judge_random("audits", RandomTiles))

@@ -74,6 +74,7 @@ done < <(sed -E 's/ *\| */|/g; s/^ +| +$//g' "$here/table.txt")
 . "$here/make.sh"
 . "$here/sinks.sh"
 . "$here/audit.sh"
+. "$here/dem.sh"
 . "$here/only.sh"
 . "$here/derive.sh"
 . "$here/explain.sh"
@@ -105,8 +106,10 @@ is_static || {
 }
 
 add_runs "$here/worked_lines.py" "$drain"
+add_runs "$here/worked_dems.py" "$drain"
 add_runs "$here/cut_inputs.py" "$drain"
 add_runs "$here/random_audits.py" "$drain"
+add_runs "$here/random_dems.py" "$drain"
 add_runs "$here/explain.py" "$drain"
 
 # A library that is loaded before the C library's makes calls of the program fail, so a C compiler is needed. A static

@@ -7,87 +7,13 @@ Prints the cases that failed and, in its last line, how many passed.
 """
 
 import struct
-import subprocess
 import sys
 import tempfile
-from dataclasses import dataclass, field, replace
+from dataclasses import replace
 from pathlib import Path
 
-PIXELS = {
-    "con": ("h", "NBITS 16\nPIXELTYPE SIGNEDINT\n"),
-    "dir": ("B", "NBITS 8\n"),
-    "acc": ("I", "NBITS 32\nPIXELTYPE UNSIGNEDINT\n"),
-    "bas": ("I", "NBITS 32\nPIXELTYPE UNSIGNEDINT\n"),
-    "rnk": ("I", "NBITS 32\nPIXELTYPE UNSIGNEDINT\n"),
-}
-VOID, NO_RANK = -32768, 4294967295
-TILE = "N00E000.hgt"
-STATUSES = {"accepted": 0, "rejected": 1, "refused": 2, "failed": 3}
-
-
-def grid(rows: int, cols: int, ulx: object = 0, uly: object = 1, xdim: object = 0.5, ydim: object = None) -> str:
-    """The lines of a header on the grid, with square cells unless a height is given."""
-    height = xdim if ydim is None else ydim
-    return f"NROWS {rows}\nNCOLS {cols}\nULXMAP {ulx}\nULYMAP {uly}\nXDIM {xdim}\nYDIM {height}\n"
-
-
-@dataclass(frozen=True)
-class Set:
-    """Tiles by name, the numbers of the products, and what a run of the check is given besides."""
-
-    side: int
-    tiles: list[tuple[str, list[int]]]
-    numbers: dict[str, list[int]]
-    grid: str
-    sinks: str = ""
-    headers: dict[str, str] = field(default_factory=dict)
-    lengths: dict[str, int] = field(default_factory=dict)
-
-    def changed(self, **changes: dict[int, int]) -> "Set":
-        """The same with other numbers at some places of products, or of the first tile (`z`)."""
-        name, samples = self.tiles[0] if self.tiles else (TILE, [])
-        tile = [changes.get("z", {}).get(place, it) for place, it in enumerate(samples)]
-        numbers = {
-            product: [changes.get(product, {}).get(place, it) for place, it in enumerate(its)]
-            for product, its in self.numbers.items()
-        }
-        return replace(self, tiles=[(name, tile), *self.tiles[1:]], numbers=numbers)
-
-    def headed(self, **grids: str) -> "Set":
-        """The same with these lines on the grid in the headers of some products."""
-        return replace(self, headers={product: f"{lines}{PIXELS[product][1]}" for product, lines in grids.items()})
-
-    def longer(self, **lengths: int) -> "Set":
-        """The same with some bytes more, or fewer, in rasters or in the tile of a place (`tile0`)."""
-        return replace(self, lengths=lengths)
-
-    def listing(self, sinks: str) -> "Set":
-        return replace(self, sinks=sinks)
-
-    def with_length(self, name: str, body: bytes) -> bytes:
-        more = self.lengths.get(name, 0)
-        return body[: len(body) + more] if more < 0 else body + bytes(more)
-
-    def write(self, folder: Path) -> list[str]:
-        """Writes the files, and returns the arguments of the check."""
-        for place, (name, samples) in enumerate(self.tiles):
-            tile = struct.pack(f">{len(samples)}h", *samples)
-            (folder / name).write_bytes(self.with_length(f"tile{place}", tile))
-        for product, (form, lines) in PIXELS.items():
-            numbers = self.numbers[product]
-            (folder / f"{product}.hdr").write_text(self.headers.get(product, self.grid + lines), newline="")
-            body = struct.pack(f"<{len(numbers)}{form}", *numbers)
-            (folder / f"{product}.bil").write_bytes(self.with_length(product, body))
-        (folder / "sinks.txt").write_text(self.sinks, newline="")
-        paths = [str(folder / name) for name, _ in self.tiles]
-        return ["--side", str(self.side), "--products", str(folder), "--sinks", str(folder / "sinks.txt"), *paths]
-
-
-def one_tile(side: int, z: list[int], con: list[int], *others: list[int], name: str = TILE) -> Set:
-    """A tile with its products: con, then dir, acc, bas and rnk."""
-    numbers = dict(zip(PIXELS, [con, *others], strict=True))
-    return Set(side, [(name, z)], numbers, grid(side, side, xdim=f"{10**15 // (side - 1) / 10**15:.15f}"))
-
+sys.dont_write_bytecode = True
+from small_sets import NO_RANK, PIXELS, VOID, Lines, Set, grid, one_tile
 
 PIT = one_tile(
     3,
@@ -130,23 +56,23 @@ CREST = one_tile(
 )
 # Two flats with a column of voids between them, which no tile covers.
 GAP = Set(
-    3,
-    [("N00E000.hgt", [0] * 9), ("N00E002.hgt", [0] * 9)],
-    {
+    side=3,
+    tiles=[("N00E000.hgt", [0] * 9), ("N00E002.hgt", [0] * 9)],
+    numbers={
         "con": [0, 0, 0, VOID, 0, 0, 0] * 3,
         "dir": [0, 0, 0, 255, 0, 0, 0, 0, 1, 0, 255, 0, 16, 0, 0, 0, 0, 255, 0, 0, 0],
         "acc": [1, 1, 1, 0, 1, 1, 1, 1, 1, 2, 0, 2, 1, 1, 1, 1, 1, 0, 1, 1, 1],
         "bas": [1, 2, 3, 0, 4, 5, 6, 7, 8, 8, 0, 9, 9, 10, 11, 12, 13, 0, 14, 15, 16],
         "rnk": [0, 0, 0, NO_RANK, 0, 0, 0, 0, 1, 0, NO_RANK, 0, 1, 0, 0, 0, 0, NO_RANK, 0, 0, 0],
     },
-    grid(3, 7),
+    grid=grid(3, 7),
 )
 # Two tiles of side 2 that differ in the middle of the first row.
 TORN = Set(
-    2,
-    [("N00E000.hgt", [1, 2, 3, 4]), ("N00E001.hgt", [9, 5, 4, 6])],
-    {product: [0] * 6 for product in PIXELS},
-    grid(2, 3, xdim=1),
+    side=2,
+    tiles=[("N00E000.hgt", [1, 2, 3, 4]), ("N00E001.hgt", [9, 5, 4, 6])],
+    numbers={product: [0] * 6 for product in PIXELS},
+    grid=grid(2, 3, xdim=1),
 )
 # The same with a void in every other cell, and no no-data number in the products.
 TORN_VOIDS = replace(
@@ -164,8 +90,9 @@ UNLISTED = "rejected rule=12 FlatStep row=1 col=1"
 
 def bare(side: int, names: list[str], lines: str) -> Set:
     """Tiles and rasters without a byte, and this header for each product."""
-    empty = Set(side, [(name, []) for name in names], {product: [] for product in PIXELS}, "")
-    return replace(empty, headers=dict.fromkeys(PIXELS, lines))
+    tiles: list[tuple[str, list[int]]] = [(name, []) for name in names]
+    empty: dict[str, list[int]] = {product: [] for product in PIXELS}
+    return Set(side=side, tiles=tiles, numbers=empty, grid="", headers=dict.fromkeys(PIXELS, lines))
 
 
 ACCEPTED = [
@@ -360,21 +287,6 @@ CHECKED = [
 ]
 
 
-class Lines:
-    """Counts the runs whose line, status and silence on standard error are as expected, and prints the others."""
-
-    def __init__(self, drain: Path) -> None:
-        self.drain, self.passed, self.failed = drain, 0, 0
-
-    def expect(self, name: str, line: str, arguments: list[str], text: bytes = b"") -> None:
-        run = subprocess.run([self.drain, *arguments], input=text, capture_output=True, timeout=60)
-        if (run.stdout, run.stderr, run.returncode) == (f"{line}\n".encode(), b"", STATUSES[line.split()[0]]):
-            self.passed += 1
-        else:
-            self.failed += 1
-            print(f"FAILED {name}: {run.stdout}{run.stderr} with status {run.returncode}, expected {line}")
-
-
 def main() -> None:
     lines = Lines(Path(sys.argv[1]).resolve())
     for place, (products, line) in enumerate(CHECKED):
@@ -389,8 +301,8 @@ def main() -> None:
             if any(out.iterdir()):
                 lines.failed += 1
                 print(f"FAILED make {place}: files are left")
-    for place, (side, text, line) in enumerate(FILLED):
-        lines.expect(f"fill {place}", line, ["fill", "--side", str(side)], text)
+    for place, (side, stream, line) in enumerate(FILLED):
+        lines.expect(f"fill {place}", line, ["fill", "--side", str(side)], stream)
     print(f"worked lines: {lines.passed} passed, {lines.failed} failed")
 
 

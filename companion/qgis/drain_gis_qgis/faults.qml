@@ -11,7 +11,7 @@
         <paletteEntry value="3" color="#502c14" alpha="255" label="3 BadCode: no direction code"/>
         <paletteEntry value="4" color="#0005b9" alpha="255" label="4 BelowGround: con below the ground"/>
         <paletteEntry value="5" color="#2691e1" alpha="255" label="5 OpenRaised: con above an outlet"/>
-        <paletteEntry value="9" color="#14f0ff" alpha="255" label="9 NotLeast: con too high"/>
+        <paletteEntry value="9" color="#14f0ff" alpha="255" label="9 NotLeast: con too high, or a neighbour's too low"/>
         <paletteEntry value="10" color="#d31522" alpha="255" label="10 Slope: not a steepest way"/>
         <paletteEntry value="11" color="#f77f05" alpha="255" label="11 OutletCode: an outlet without 0"/>
         <paletteEntry value="12" color="#f3ec1c" alpha="255" label="12 FlatStep: leads nowhere on a flat"/>

@@ -5,23 +5,7 @@ import subprocess
 from pathlib import Path
 from typing import Any
 
-from qgis.core import (
-    QgsProcessing,
-    QgsProcessingAlgorithm,
-    QgsProcessingContext,
-    QgsProcessingException,
-    QgsProcessingFeedback,
-    QgsProcessingLayerPostProcessorInterface,
-    QgsProcessingOutputBoolean,
-    QgsProcessingOutputString,
-    QgsProcessingParameterBoolean,
-    QgsProcessingParameterEnum,
-    QgsProcessingParameterFileDestination,
-    QgsProcessingParameterMultipleLayers,
-    QgsProcessingParameterRasterDestination,
-    QgsProcessingParameterRasterLayer,
-    QgsProcessingParameterString,
-)
+from qgis import core
 
 PRODUCTS = {
     "con": "Filled elevations",
@@ -52,10 +36,10 @@ Water flows one way from each cell (D8), slopes are drop over distance with cell
 the edge and at voids. Tested, not proved: that what drain reads says what the layers say."""
 
 
-class FaultStyle(QgsProcessingLayerPostProcessorInterface):
+class FaultStyle(core.QgsProcessingLayerPostProcessorInterface):
     """Gives the map of faults the colours and names of its rules."""
 
-    def postProcessLayer(self, layer: Any, context: QgsProcessingContext, feedback: QgsProcessingFeedback) -> None:
+    def postProcessLayer(self, layer: Any, context: Any, feedback: Any) -> None:
         """Called when the layer was loaded."""
         layer.loadNamedStyle(str(STYLE))
         layer.triggerRepaint()
@@ -65,7 +49,7 @@ STYLER = FaultStyle()
 """QGIS doesn't keep it alive."""
 
 
-class Judge(QgsProcessingAlgorithm):
+class Judge(core.QgsProcessingAlgorithm):
     """Judges filled elevations, directions, accumulation and basins."""
 
     def name(self) -> str:
@@ -81,55 +65,45 @@ class Judge(QgsProcessingAlgorithm):
         return Judge()
 
     def initAlgorithm(self, config: dict[str, Any] | None = None) -> None:
-        """The parameters and the outputs."""
-        raster = QgsProcessing.TypeRaster
-        self.addParameter(
-            QgsProcessingParameterMultipleLayers("DEM", "Elevations: one raster, or tiles", raster, None, True)
-        )
+        add, raster = self.addParameter, core.QgsProcessing.TypeRaster
+        add(core.QgsProcessingParameterMultipleLayers("DEM", "Elevations: one raster, or tiles", raster, None, True))
         for name, text in PRODUCTS.items():
-            self.addParameter(QgsProcessingParameterRasterLayer(name.upper(), text, optional=True))
+            add(core.QgsProcessingParameterRasterLayer(name.upper(), text, optional=True))
         tool, counts = "Tool whose codes the directions have", "What the accumulation counts"
-        self.addParameter(QgsProcessingParameterEnum("TOOL", tool, TOOLS, False, None, True, True))
-        self.addParameter(QgsProcessingParameterEnum("COUNTS", counts, COUNTS, False, "auto", False, True))
+        add(core.QgsProcessingParameterEnum("TOOL", tool, TOOLS, False, None, True, True))
+        add(core.QgsProcessingParameterEnum("COUNTS", counts, COUNTS, False, "auto", False, True))
         for name, text in SWITCHES.items():
-            self.addParameter(QgsProcessingParameterBoolean(name.upper().replace("-", "_"), text, False))
+            add(core.QgsProcessingParameterBoolean(name.upper().replace("-", "_"), text, False))
         nodata = "No-data numbers that the files don't name, such as dem=-9999 dir=0"
-        self.addParameter(QgsProcessingParameterString("NODATA", nodata, optional=True))
+        add(core.QgsProcessingParameterString("NODATA", nodata, optional=True))
         program = "The command drain-gis: its name on the PATH, or its path"
-        self.addParameter(QgsProcessingParameterString("PROGRAM", program, "drain-gis"))
-        self.addParameter(QgsProcessingParameterRasterDestination("FAULTS", "Map of faults", optional=True))
-        self.addParameter(QgsProcessingParameterFileDestination("REPORT", "Report", "HTML (*.html)", optional=True))
-        self.addOutput(QgsProcessingOutputBoolean("ACCEPTED", "Accepted"))
-        self.addOutput(QgsProcessingOutputString("LINE", "The line of drain"))
+        add(core.QgsProcessingParameterString("PROGRAM", program, "drain-gis"))
+        add(core.QgsProcessingParameterRasterDestination("FAULTS", "Map of faults", optional=True))
+        add(core.QgsProcessingParameterFileDestination("REPORT", "Report", "HTML (*.html)", optional=True))
+        self.addOutput(core.QgsProcessingOutputBoolean("ACCEPTED", "Accepted"))
+        self.addOutput(core.QgsProcessingOutputString("LINE", "The line of drain"))
 
-    def processAlgorithm(
-        self, parameters: dict[str, Any], context: QgsProcessingContext, feedback: QgsProcessingFeedback
-    ) -> dict[str, Any]:
+    def processAlgorithm(self, parameters: dict[str, Any], context: Any, feedback: Any) -> dict[str, Any]:
         """Judges, and has the map loaded in its colours."""
         program = shutil.which(self.parameterAsString(parameters, "PROGRAM", context))
         if not program:
-            raise QgsProcessingException(
-                "There is no command drain-gis: pip install --user drain-gis, or pipx install drain-gis"
-            )
+            text = "There is no command drain-gis: pip install --user drain-gis, or pipx install drain-gis"
+            raise core.QgsProcessingException(text)
         faults = self.parameterAsOutputLayer(parameters, "FAULTS", context)
         report = self.parameterAsFileOutput(parameters, "REPORT", context)
-        words = [
-            *self.words(parameters, context),
-            *(["--map", faults] if faults else []),
-            *(["--out", report] if report else []),
-        ]
-        status, lines = run([program, "judge", *words], feedback)
+        outputs = [*(["--map", faults] if faults else []), *(["--out", report] if report else [])]
+        status, lines = run([program, "judge", *self.words(parameters, context), *outputs], feedback)
         if status not in (ACCEPTED, REJECTED):
-            raise QgsProcessingException("drain-gis gave no verdict: the log says why")
+            raise core.QgsProcessingException("drain-gis gave no verdict on all of it: the log says why")
         line = next((one for one in lines if one.startswith(("accepted", "rejected"))), "")
         found = {"ACCEPTED": status == ACCEPTED, "LINE": line, **({"REPORT": report} if report else {})}
-        if faults and status == REJECTED:
+        if faults:
             found["FAULTS"] = faults
             if context.willLoadLayerOnCompletion(faults):
                 context.layerToLoadOnCompletionDetails(faults).setPostProcessor(STYLER)
         return found
 
-    def words(self, parameters: dict[str, Any], context: QgsProcessingContext) -> list[str]:
+    def words(self, parameters: dict[str, Any], context: Any) -> list[str]:
         """The arguments that name the rasters, and what their numbers mean."""
         found = []
         for layer in self.parameterAsLayerList(parameters, "DEM", context) or []:
@@ -141,15 +115,14 @@ class Judge(QgsProcessingAlgorithm):
         found += ["--from", codes] if codes else []
         found += ["--acc-counts", self.parameterAsEnumString(parameters, "COUNTS", context)]
         for name in SWITCHES:
-            found += (
-                [f"--{name}"] if self.parameterAsBoolean(parameters, name.upper().replace("-", "_"), context) else []
-            )
+            is_on = self.parameterAsBoolean(parameters, name.upper().replace("-", "_"), context)
+            found += [f"--{name}"] if is_on else []
         for number in self.parameterAsString(parameters, "NODATA", context).split():
             found += ["--nodata", number]
         return found
 
 
-def run(words: list[str], feedback: QgsProcessingFeedback) -> tuple[int, list[str]]:
+def run(words: list[str], feedback: Any) -> tuple[int, list[str]]:
     """Runs a program, shows each line in the log, and stops it when the user cancels."""
     feedback.pushCommandInfo(" ".join(words))
     lines = []
@@ -162,5 +135,5 @@ def run(words: list[str], feedback: QgsProcessingFeedback) -> tuple[int, list[st
             if feedback.isCanceled():
                 process.terminate()
     if feedback.isCanceled():
-        raise QgsProcessingException("cancelled")
+        raise core.QgsProcessingException("cancelled")
     return process.returncode, lines

@@ -18,6 +18,8 @@ mod pixel_row_kinds;
 #[cfg(test)]
 mod pixel_rows;
 #[cfg(test)]
+mod placing;
+#[cfg(test)]
 mod raster_writes;
 #[cfg(test)]
 mod rasters;

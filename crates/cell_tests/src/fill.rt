@@ -53,7 +53,7 @@ fn is_above_ground(patch: &Patch) -> bool
     ensures { IsTrue result ↔ BelowGroundHolds patch.now }
 {
     match patch.here.z {
-        Some(ground) => i64::from(ground) <= patch.here.con,
+        Some(ground) => ground <= patch.here.con,
         None => true,
     }
 }

@@ -4,7 +4,7 @@ ghost use Rattle.std.specs.Prelude.{◌≡◌, ◌<◌, IfOk};
 
 use drain_grid::{Cell, Elevation, OutOfMemory, Raster, Shape, VOID};
 use drain_paths::{CellFlows, CertifyRefusal, EndlessPath, count_steps, flows_of_rasters};
-use drain_pixels::PixelRow;
+use drain_pixels::{GroundRow, PixelRow};
 use std::alloc::Global;
 use std::test::Fail;
 
@@ -145,7 +145,7 @@ fn endless_of(
 /// The flows of a grid, row by row.
 fn taken(alloc: Global, grid: &Grid) -> Result<CellFlows, OutOfMemory> {
     let mut flows = CellFlows::new(alloc);
-    let mut samples = Vec::new(alloc);
+    let mut samples = GroundRow::new(alloc);
     let mut dir = PixelRow::new(alloc);
     for row in 0..grid.shape.rows() {
         take_row(&mut flows, grid, row, &mut samples, &mut dir)?;
@@ -158,12 +158,14 @@ fn take_row(
     flows: &mut CellFlows,
     grid: &Grid,
     row: u32,
-    samples: &mut Vec<i64>,
+    samples: &mut GroundRow,
     dir: &mut PixelRow,
 ) -> Result<(), OutOfMemory>
     requires { row < grid.now.shape.rows }
 {
-    grid.elevation.read_row(row, samples)?;
+    let mut heights = samples.take_numbers();
+    grid.elevation.read_row(row, &mut heights)?;
+    samples.put_numbers(Some(VOID.into()), heights);
     let mut numbers = dir.take_numbers();
     grid.dir.read_row(row, &mut numbers)?;
     dir.put_numbers(numbers);

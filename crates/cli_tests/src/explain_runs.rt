@@ -10,8 +10,8 @@ use drain_explain::{FileLookup, Mapping};
 use drain_files::map_file::write_map;
 use drain_files::open_judged::JudgedProducts;
 use drain_grid::{Judged, Product};
+use drain_header::Header;
 use drain_maker::product_files::SetFault;
-use drain_mosaic::Layout;
 use std::alloc::{AllocError, Global};
 use std::test::Fail;
 
@@ -34,6 +34,10 @@ impl<'a> FileLookup for InMemory<'a> {
         None
     }
 
+    fn dem_length(&mut self) -> Option<u64> {
+        None
+    }
+
     fn raster_length(&mut self, _product: Product) -> Option<u64> {
         None
     }
@@ -46,14 +50,8 @@ impl<'a> FileLookup for InMemory<'a> {
 impl<'a> ExplainOutput for InMemory<'a> {
     ghost has_saved = { λ old new result. Unit {0} };
 
-    fn save_map(&mut self, layout: &Layout, pixels: &[u8]) -> Result<(), MapFault> {
-        match write_map(
-            self.alloc,
-            layout,
-            pixels,
-            &mut self.header,
-            &mut self.raster,
-        ) {
+    fn save_map(&mut self, like: &Header, pixels: &[u8]) -> Result<(), MapFault> {
+        match write_map(self.alloc, like, pixels, &mut self.header, &mut self.raster) {
             Ok(()) => Ok(()),
             Err(SetFault::WriteFailed) => Err(MapFault::WriteFailed),
             Err(SetFault::OutOfMemory) => Err(MapFault::OutOfMemory),

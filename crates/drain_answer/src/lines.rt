@@ -80,6 +80,9 @@ pub fn refusal_line(refusal: Refusal) -> Line
         Refusal::SeamMismatch(cell) => seam_mismatch(cell),
         Refusal::BadSinkLine(line) => of_line("refused BadSinkLine ", line),
         Refusal::SinkNotData(line) => of_line("refused SinkNotData ", line),
+        Refusal::BadDemHeader(fault) => bad_dem_header(fault),
+        Refusal::BadPixelSize => words("refused BadPixelSize dem"),
+        Refusal::DemShort => words("refused RasterShort dem"),
         Refusal::OutOfMemory => words("failed OutOfMemory"),
         Refusal::ReadFailed => words("failed ReadFailed"),
     }
@@ -134,6 +137,15 @@ fn bad_header(product: Product, fault: HeaderFault) -> Line
     line.push_str(" ");
     line.push_str(fault.text().as_str());
     line
+}
+
+/// The line that the header of a raster of elevations has a fault.
+fn bad_dem_header(fault: HeaderFault) -> Line
+    ensures { result.bytes ≡ refusal_line (Refusal.BadDemHeader fault) }
+{
+    let mut text = words("refused BadHeader dem ");
+    text.push_str(fault.text().as_str());
+    text
 }
 
 /// The line that two tiles differ at a cell.

@@ -48,6 +48,16 @@ pub enum Refusal {
     /// This line of the list of sinks, counted from 1, lists a cell without data: a void, or outside the mosaic.
     #[error("a listed sink is no data cell")]
     SinkNotData(u64),
+    /// The header of the one raster of elevations has this fault. It comes before all else, in place of the refusals of
+    /// sides, names and layouts.
+    #[error("the header of the elevations has a fault")]
+    BadDemHeader(HeaderFault),
+    /// Its XDIM or YDIM is not above 0. It comes before the headers of products.
+    #[error("the pixels of the elevations have no size")]
+    BadPixelSize,
+    /// A byte of some pixel of it is missing. It comes where a tile's length does.
+    #[error("the elevations are too short")]
+    DemShort,
     /// Memory was refused.
     #[error("out of memory")]
     OutOfMemory,

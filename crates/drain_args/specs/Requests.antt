@@ -7,7 +7,13 @@ use Rattle.clap.specs.Walk.{Text}
 use Rattle.clap.specs.declared.parser.matches.Found.{Found}
 use Rattle.drain_grid.specs.declared.judged.Judged.{Judged}
 use Rattle.drain_grid.specs.declared.judged.Judged.TheVariants.{Con, ConDir, ConDirAcc, ConDirBas, All, AllWithRanks}
+use Rattle.drain_args.specs.declared.requests.DemArgs.{DemArgs}
+use Rattle.drain_args.specs.declared.requests.DemEnding.{DemEnding}
+use Rattle.drain_args.specs.declared.requests.DemEnding.TheVariants.{Lower, Upper}
+use Rattle.drain_args.specs.declared.requests.Elevations.{Elevations}
+use Rattle.drain_args.specs.declared.requests.Elevations.TheVariants.{Tiles, Dem}
 use Rattle.drain_args.specs.declared.requests.MergeArgs.{MergeArgs}
+use Rattle.drain_args.specs.declared.requests.TileArgs.{TileArgs}
 use Rattle.drain_args.specs.declared.requests.ProductArgs.{ProductArgs}
 use Rattle.drain_args.specs.declared.requests.WindowArgs.{WindowArgs}
 use Rattle.drain_args.specs.declared.requests.Request.{Request}
@@ -27,22 +33,44 @@ IsSideOption f side =
     (one_text f (codes "side") ≡ None → side ≡ DEFAULT_SIDE)
     × ((t : Text) → one_text f (codes "side") ≡ Some t → side ≡ digits_value 10 (without_leading_plus t))
 
--- the tiles are the arguments without an option, the folder of their products is that of this option, and the rest that
--- of the options
-pub record IsProductArgs (option : Text) (f : Found) (args : ProductArgs) : Type 0 where
+-- the tiles are the arguments without an option, with the side of one
+pub record AreTiles (f : Found) (args : TileArgs) : Type 0 where
   pub side : IsSideOption f args.side
+  pub paths : map (λ path. path.now) args.paths.items ≡ unwrap_or (option_map raw_values (matched_of f (codes "tiles"))) []
+
+-- how the path of a raster of elevations ends
+abbrev pub dem_ending : DemEnding → Text
+dem_ending Lower = codes ".bil"
+dem_ending Upper = codes ".BIL"
+
+-- the raster of elevations is the file that an option names, if it does
+abbrev pub IsDemOption : Found → Option DemArgs → Type 0
+IsDemOption f None = first_value f (codes "dem") ≡ None
+IsDemOption f (Some dem) = first_value f (codes "dem") ≡ Some (dem.stem.now ++ dem_ending dem.ending)
+
+-- elevations come from that raster, or else from tiles
+abbrev pub AreElevations : Found → Elevations → Type 0
+AreElevations f (Tiles tiles) = IsDemOption f None × AreTiles f tiles
+AreElevations f (Dem dem) = IsDemOption f (Some dem)
+
+-- the elevations are as given, the folder of the products is that of this option, and the rest that of the options
+pub record IsProductArgs {E : Type 0} (option : Text) (f : Found) (IsGiven : E → Type 0) (args : ProductArgs E) : Type 0 where
+  pub elevations : IsGiven args.elevations
   pub folder : args.folder.now ≡ unwrap_or (first_value f option) []
   pub sinks : option_map (λ path. path.now) args.sinks ≡ first_value f (codes "sinks")
-  pub tiles : map (λ path. path.now) args.tiles.items ≡ unwrap_or (option_map raw_values (matched_of f (codes "tiles"))) []
   pub progress : IsFlag (codes "progress") f args.progress
 
--- the inputs to be checked: the products are there already
-abbrev pub AreInputs : Found → ProductArgs → Type 0
-AreInputs f args = IsProductArgs (codes "products") f args
+-- inputs whose products are there already, of tiles or of one raster
+abbrev pub AreInputs : Found → ProductArgs Elevations → Type 0
+AreInputs f args = IsProductArgs (codes "products") f (AreElevations f) args
+
+-- the same of tiles alone
+abbrev pub AreTileInputs : Found → ProductArgs TileArgs → Type 0
+AreTileInputs f args = IsProductArgs (codes "products") f (AreTiles f) args
 
 -- the window's place is that of the options, and its report goes into the file of another
 pub record IsWindowArgs (f : Found) (args : WindowArgs) : Type 0 where
-  pub inputs : AreInputs f args.inputs
+  pub inputs : AreTileInputs f args.inputs
   pub box : IsBox (unwrap_or (first_value f (codes "box")) []) args.place
   pub inner : IsInner (unwrap_or (first_value f (codes "inner")) []) args.place.inner
   pub report : args.report.now ≡ unwrap_or (first_value f (codes "report")) []
@@ -86,7 +114,7 @@ IsRequestOf name f (Explain args) =
     (name ≡ codes "explain") × (AreInputs f args.inputs × (IsListOption f args.only × (IsMap f args.map × IsFlag (codes "json") f args.json)))
 IsRequestOf name f (Window args) = (name ≡ codes "window") × IsWindowArgs f args
 IsRequestOf name f (Merge args) = (name ≡ codes "merge") × IsMergeArgs f args
-IsRequestOf name f (Make args) = (name ≡ codes "make") × IsProductArgs (codes "out") f args
+IsRequestOf name f (Make args) = (name ≡ codes "make") × IsProductArgs (codes "out") f (AreTiles f) args
 IsRequestOf name f (Derive args) =
     (name ≡ codes "derive") × (AreInputs f args.inputs × (args.out.now ≡ unwrap_or (first_value f (codes "out")) []))
 IsRequestOf name f (Fill side) = (name ≡ codes "fill") × IsSideOption f side

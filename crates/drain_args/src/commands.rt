@@ -3,7 +3,7 @@
 use crate::{explain_texts, help_texts, window_texts};
 use clap::builder::ValueParser;
 use clap::{Arg, ArgAction, Command};
-use drain_version::VERSION;
+use drain_answer::VERSION;
 use std::alloc::{AllocError, Global};
 
 /// A command: its name, its help texts, and its arguments, in the order of its help.
@@ -18,6 +18,7 @@ pub(crate) struct CommandSpec {
 /// An argument of a command: an option, a flag, or paths without a name of their own.
 #[derive(Clone, Copy)]
 enum ArgSpec {
+    Dem,
     Side,
     Products,
     Out,
@@ -45,6 +46,7 @@ pub(crate) const AUDIT: CommandSpec = CommandSpec {
     long_about: help_texts::AUDIT_LONG_ABOUT,
     after: help_texts::AUDIT_AFTER,
     args: &[
+        ArgSpec::Dem,
         ArgSpec::Side,
         ArgSpec::Products,
         ArgSpec::Only,
@@ -54,12 +56,13 @@ pub(crate) const AUDIT: CommandSpec = CommandSpec {
     ],
 };
 
-const CHECK: CommandSpec = CommandSpec {
+pub(crate) const CHECK: CommandSpec = CommandSpec {
     name: "check",
     about: help_texts::CHECK_ABOUT,
     long_about: help_texts::CHECK_LONG_ABOUT,
     after: help_texts::CHECK_AFTER,
     args: &[
+        ArgSpec::Dem,
         ArgSpec::Side,
         ArgSpec::Products,
         ArgSpec::Sinks,
@@ -74,6 +77,7 @@ pub(crate) const EXPLAIN: CommandSpec = CommandSpec {
     long_about: explain_texts::LONG_ABOUT,
     after: explain_texts::AFTER,
     args: &[
+        ArgSpec::Dem,
         ArgSpec::Side,
         ArgSpec::Products,
         ArgSpec::Only,
@@ -124,12 +128,13 @@ const MAKE: CommandSpec = CommandSpec {
     ],
 };
 
-const DERIVE: CommandSpec = CommandSpec {
+pub(crate) const DERIVE: CommandSpec = CommandSpec {
     name: "derive",
     about: help_texts::DERIVE_ABOUT,
     long_about: help_texts::DERIVE_LONG_ABOUT,
     after: help_texts::DERIVE_AFTER,
     args: &[
+        ArgSpec::Dem,
         ArgSpec::Side,
         ArgSpec::Products,
         ArgSpec::Out,
@@ -203,13 +208,14 @@ pub(crate) fn command<'a>(
 fn arguments<'a>(alloc: Global, specs: &[ArgSpec]) -> Result<Vec<Arg<'a>>, AllocError> {
     let mut arguments = Vec::new(alloc);
     for spec in specs {
-        arguments.push(argument(alloc, *spec))?;
+        arguments.push(argument(alloc, *spec)?)?;
     }
     Ok(arguments)
 }
 
-fn argument<'a>(alloc: Global, spec: ArgSpec) -> Arg<'a> {
-    match spec {
+fn argument<'a>(alloc: Global, spec: ArgSpec) -> Result<Arg<'a>, AllocError> {
+    Ok(match spec {
+        ArgSpec::Dem => dem(alloc)?,
         ArgSpec::Side => side(alloc),
         ArgSpec::Products => folder(alloc, "products", help_texts::PRODUCTS_HELP),
         ArgSpec::Out => folder(alloc, "out", help_texts::OUT_HELP),
@@ -224,7 +230,14 @@ fn argument<'a>(alloc: Global, spec: ArgSpec) -> Arg<'a> {
         ArgSpec::Tiles => paths(alloc, "tiles", "TILE", help_texts::TILES_HELP),
         ArgSpec::Reports => paths(alloc, "reports", "REPORT", window_texts::REPORTS_HELP),
         ArgSpec::Header => header(alloc),
-    }
+    })
+}
+
+/// One raster of elevations, which goes with no tile and no side.
+fn dem<'a>(alloc: Global) -> Result<Arg<'a>, AllocError> {
+    file(alloc, "dem", help_texts::DEM_HELP)
+        .conflicts_with("side")?
+        .conflicts_with("tiles")
 }
 
 fn side<'a>(alloc: Global) -> Arg<'a> {

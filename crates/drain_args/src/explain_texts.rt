@@ -25,7 +25,8 @@ pub const AFTER: &str = "Lines and exit statuses:
   3  failed Open PATH, failed ReadFailed, failed WriteFailed, failed OutOfMemory, or standard output
      couldn't be written
 
-Example:
+Examples:
+  drain explain --dem dem.bil --products rasters --map faults.bil
   drain explain --side 1201 --products rasters --map faults.bil N37W105.hgt N37W106.hgt";
 
 pub const MAP_HELP: &str = "Write a map of the faults: a name that ends in .bil";

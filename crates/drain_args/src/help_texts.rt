@@ -3,18 +3,22 @@
 /// What an audit or a check does, over this number of rasters.
 macro_rules! judged_about {
     ($number:literal, $about:literal) => {
-        concat!("Reads elevation tiles (SRTM .hgt files of one side, named like N37W105.hgt) and ",
-            $number, " rasters of their
-mosaic, each a BIL file with a header in the folder DIR: DIR/con.hdr and DIR/con.bil, and so on.
+        concat!("Reads elevation tiles (SRTM .hgt files of one side, named like N37W105.hgt), or with --dem one raster of
+elevations, and ", $number, " rasters of their mosaic, each a BIL file with a header in the folder DIR: DIR/con.hdr
+and DIR/con.bil, and so on.
 
-  con    filled (conditioned) elevation, in metres
+  con    filled (conditioned) elevation, in the unit of the elevations
   dir    flow direction codes: 0 at an outlet, else 1 E, 2 SE, 4 S, 8 SW, 16 W, 32 NW, 64 N, 128 NE
   acc    flow accumulation: the number of cells that drain through the cell, itself included
   bas    basin labels, one for each outlet
 ", $about, "
 
 A listed sink is a data cell where water may end inland, as in a lake without an outlet. Its line in FILE
-is its row and its column, counted from 0 at the north-west corner of the mosaic.")
+is its row and its column, counted from 0 at the north-west corner of the mosaic.
+
+A raster of elevations may have any shape up to 28801 by 28801, pixels of 8, 16 or 32 bits and any unit. A
+cell is void where its pixel is the header's NODATA. The other rasters lie on it: the same rows and columns,
+the corner within a hundredth of a pixel.")
     };
 }
 
@@ -27,10 +31,12 @@ macro_rules! judged_after {
   2  refused BadSide, refused BadName I, refused NoTiles, refused RepeatedTile TILE, refused BoxTooLarge,
      refused BadHeader PRODUCT FAULT (a fault of drain header), refused WrongShape PRODUCT,
      refused Misplaced PRODUCT, refused BadTileLength TILE, refused RasterShort PRODUCT,
-     refused SeamMismatch row=R col=C, refused BadSinkLine LINE, refused SinkNotData LINE
+     refused SeamMismatch row=R col=C, refused BadSinkLine LINE, refused SinkNotData LINE;
+     with --dem refused BadHeader dem FAULT, refused BadPixelSize dem, refused RasterShort dem
   3  failed Open PATH, failed ReadFailed, failed OutOfMemory, or standard output couldn't be written
 
-Example:
+Examples:
+  drain ", $name, " --dem dem.bil --products rasters
   drain ", $name, " --side 1201 --products rasters N37W105.hgt N37W106.hgt")
     };
 }
@@ -49,7 +55,7 @@ Accepts the rasters if and only if they are correct: con is the lowest surface a
 water reaches an edge, a void or a listed sink, no direction climbs, every path of directions ends at an
 outlet, acc is the number of cells upstream, and two cells have the same label exactly if they drain to the
 same outlet. What is rejected is not correct. Ranks, which drain check needs, are not opened. One byte is
-held for each cell, of con alone twelve. All files are opened first. Prints one line.
+held for each cell, of con alone up to twenty. All files are opened first. Prints one line.
 
 With --only LIST it judges the rasters of the list alone, and opens no others. It accepts them if and only
 if they are part of a correct set: if values of the other rasters exist that make it correct. Of con alone an
@@ -112,10 +118,10 @@ pub const DERIVE_ABOUT: &str =
     "Compute accumulation, basin labels and ranks from the directions of any tool";
 
 pub const DERIVE_LONG_ABOUT: &str =
-    "Reads elevation tiles (SRTM .hgt files of one side, named like N37W105.hgt) for their voids, and the
-directions of their mosaic from the files dir.hdr and dir.bil of the folder after --products. Writes what
-follows from these directions into the folder after --out, which must exist: accumulation (acc), basin labels
-(bas) and ranks (rnk), each a BIL file with a header. No other raster is opened.
+    "Reads elevation tiles (SRTM .hgt files of one side, named like N37W105.hgt), or with --dem one raster of
+elevations, for their voids, and directions from the files dir.hdr and dir.bil of the folder after --products.
+Writes what follows from these directions into the folder after --out, which must exist: accumulation (acc),
+basin labels (bas) and ranks (rnk), each a BIL file with a header. No other raster is opened.
 
   acc    the number of cells that drain through the cell, itself included
   bas    the number of the outlet where its path ends, counted from 1 in row order
@@ -128,12 +134,13 @@ except those that are read. Prints one line.";
 pub const DERIVE_AFTER: &str = "Lines and exit statuses:
   0  derived rows=R cols=C
   1  rejected NoEnd row=R col=C              the first cell whose path of directions does not end at a code 0
-  2  refused ..                              as drain audit, of tiles, dir and sinks; nothing was written
+  2  refused ..                              as drain audit, of elevations, dir and sinks; nothing was written
   3  failed Open PATH, failed ReadFailed, failed WriteFailed, failed OutOfMemory; files that were there
      before stay as they were, but for links and failed renames; or standard output couldn't be written,
      and the files may be complete
 
-Example:
+Examples:
+  drain derive --dem dem.bil --products rasters --out rasters
   drain derive --side 1201 --products rasters --out rasters N37W105.hgt N37W106.hgt";
 
 pub const FILL_ABOUT: &str =
@@ -185,6 +192,11 @@ pub const BAD_LIST: &str =
     "the list must be con, or con,dir, or con,dir,acc, or con,dir,bas, or con,dir,acc,bas";
 
 pub const PRODUCTS_HELP: &str = "The folder of the rasters";
+
+pub const DEM_HELP: &str =
+    "One raster of elevations in place of tiles: a name that ends in .bil, its header .hdr beside it";
+
+pub const BAD_DEM: &str = "the name of a raster of elevations must end in .bil";
 
 pub const TILES_HELP: &str = "The tile files, each named after its south-west corner";
 

@@ -2,10 +2,10 @@
 
 ghost use Rattle.std.specs.Prelude.{◌≡◌, ◌++◌, IfOk, IfSome, codes};
 ghost use Rattle.clap.specs.Matches.{found_of};
-ghost use Rattle.drain_args.specs.Requests.{AreInputs, IsListOption, IsMap, IsMergeArgs, IsProductArgs, IsRequestOf, map_ending};
+ghost use Rattle.drain_args.specs.Requests.{AreElevations, AreInputs, AreTileInputs, AreTiles, IsDemOption, IsListOption, IsMap, IsMergeArgs, IsProductArgs, IsRequestOf, map_ending};
 
 use crate::clusters::first_cluster;
-use crate::commands::{AUDIT, CommandSpec, EXPLAIN, WINDOW, command, program};
+use crate::commands::{AUDIT, CHECK, CommandSpec, DERIVE, EXPLAIN, WINDOW, command, program};
 use crate::given::{flag_given, option_given, paths_given, side_given, text_given};
 use crate::place_texts::{inner_sides, window_place};
 use crate::{explain_texts, help_texts, window_texts};
@@ -21,7 +21,7 @@ pub enum Request<'a> {
     /// `drain audit`: check the four products in this folder, or some of them alone, without ranks.
     Audit(AuditArgs<'a>),
     /// `drain check`: check the five products in this folder.
-    Check(ProductArgs<'a>),
+    Check(ProductArgs<'a, Elevations<'a>>),
     /// `drain explain`: report what is wrong with the products in this folder, where, and how much of it.
     Explain(ExplainArgs<'a>),
     /// `drain window`: judge one window of a union, and write its report.
@@ -29,7 +29,7 @@ pub enum Request<'a> {
     /// `drain merge`: put the reports of a union's windows together.
     Merge(MergeArgs<'a>),
     /// `drain make`: make products of tiles, and write them into this folder.
-    Make(ProductArgs<'a>),
+    Make(ProductArgs<'a, TileArgs<'a>>),
     /// `drain derive`: compute accumulation, labels and ranks of the directions in this folder, and write them into
     /// another.
     Derive(DeriveArgs<'a>),
@@ -39,28 +39,57 @@ pub enum Request<'a> {
     Header { path: &'a str },
 }
 
-/// The tiles at these paths, the list of sinks at this path, and the folder of their products: a check reads them there,
+/// Where elevations come from, the list of sinks at this path, and the folder of the products: a check reads them there,
 /// `make` writes them there; and whether progress is reported.
 #[derive(Drop)]
-pub struct ProductArgs<'a> {
-    pub side: u32,
+pub struct ProductArgs<'a, E> {
+    pub elevations: E,
     pub folder: &'a str,
     pub sinks: Option<&'a str>,
-    pub tiles: Vec<&'a str>,
     pub progress: bool,
+}
+
+/// The tiles at these paths, each with this number of samples along an edge.
+#[derive(Drop)]
+pub struct TileArgs<'a> {
+    pub side: u32,
+    pub paths: Vec<&'a str>,
+}
+
+/// One raster of elevations: its path without its ending.
+#[derive(Clone, Copy, PartialEq, Eq, Debug)]
+pub struct DemArgs<'a> {
+    pub stem: &'a str,
+    pub ending: DemEnding,
+}
+
+/// How the path of a raster of elevations ends. That of its header ends alike.
+#[derive(Clone, Copy, PartialEq, Eq, Debug)]
+pub enum DemEnding {
+    /// `.bil`; the header is in `.hdr`.
+    Lower,
+    /// `.BIL`; the header is in `.HDR`.
+    Upper,
+}
+
+/// Where elevations come from: tiles, or one raster.
+#[derive(Drop)]
+pub enum Elevations<'a> {
+    Tiles(TileArgs<'a>),
+    Dem(DemArgs<'a>),
 }
 
 /// The inputs to be audited, and which rasters are judged: all four if no list is given.
 #[derive(Drop)]
 pub struct AuditArgs<'a> {
-    pub inputs: ProductArgs<'a>,
+    pub inputs: ProductArgs<'a, Elevations<'a>>,
     pub judged: Judged,
 }
 
 /// The mosaic and the products in this folder, where the window lies in the mosaic, and the path of its report.
 #[derive(Drop)]
 pub struct WindowArgs<'a> {
-    pub inputs: ProductArgs<'a>,
+    pub inputs: ProductArgs<'a, TileArgs<'a>>,
     pub place: Place,
     pub report: &'a str,
 }
@@ -75,14 +104,14 @@ pub struct MergeArgs<'a> {
 /// What is to be derived from, and the folder for it.
 #[derive(Drop)]
 pub struct DeriveArgs<'a> {
-    pub inputs: ProductArgs<'a>,
+    pub inputs: ProductArgs<'a, Elevations<'a>>,
     pub out: &'a str,
 }
 
 /// What is to be explained, as a text or as JSON; and the path of a map of the faults, without `.bil`.
 #[derive(Drop)]
 pub struct ExplainArgs<'a> {
-    pub inputs: ProductArgs<'a>,
+    pub inputs: ProductArgs<'a, Elevations<'a>>,
     pub only: Option<Judged>,
     pub map: Option<&'a str>,
     pub json: bool,
@@ -120,7 +149,8 @@ fn no_command(alloc: Global) -> Result<Error, AllocError> {
 
 /// The request of the command of this name, with these values of its arguments.
 ///
-/// A map whose name doesn't end in `.bil` is a usage error, and so are another list of rasters, a side that is no number,
+/// A map whose name doesn't end in `.bil` is a usage error, and so are a raster of elevations whose name doesn't end in
+/// `.bil` or `.BIL`, another list of rasters, a side that is no number,
 /// a box that is none, other letters than those of sides, and a name that is no command's.
 pub fn request_of<'a>(
     alloc: Global,
@@ -131,11 +161,11 @@ pub fn request_of<'a>(
 {
     match name {
         "audit" => audit_request(alloc, given),
-        "check" => Ok(Request::Check(inputs_given(alloc, given)?)),
+        "check" => Ok(Request::Check(inputs_given(alloc, &CHECK, given)?)),
         "explain" => explain_request(alloc, given),
         "window" => window_request(alloc, given),
         "merge" => Ok(Request::Merge(merge_args(alloc, given)?)),
-        "make" => Ok(Request::Make(product_args(alloc, given, "out")?)),
+        "make" => Ok(Request::Make(make_args(alloc, given)?)),
         "derive" => derive_request(alloc, given),
         "fill" => Ok(Request::Fill {
             side: side_given(alloc, given)?,
@@ -147,30 +177,100 @@ pub fn request_of<'a>(
     }
 }
 
-/// The tiles, and the folder of their products that this option names.
-fn product_args<'a>(
-    alloc: Global,
-    given: &ArgMatches<'a>,
-    option: &str,
-) -> Result<ProductArgs<'a>, Error>
-    ensures { IfOk result (IsProductArgs option.now (found_of given.now)) }
+/// The inputs with these elevations, and the folder of their products that this option names.
+fn product_args<'a, E>(given: &ArgMatches<'a>, option: &str, elevations: E) -> ProductArgs<'a, E>
+    ensures { IsProductArgs option.now (found_of given.now) (λ e. e ≡ elevations) result }
 {
-    let side = side_given(alloc, given)?;
-    let tiles = paths_given(alloc, given, "tiles")?;
-    Ok(ProductArgs {
-        side,
+    ProductArgs {
+        elevations,
         folder: text_given(given, option),
         sinks: option_given(given, "sinks"),
-        tiles,
         progress: flag_given(given, "progress"),
-    })
+    }
 }
 
-/// The inputs to be checked.
-fn inputs_given<'a>(alloc: Global, given: &ArgMatches<'a>) -> Result<ProductArgs<'a>, Error>
+/// The tiles.
+fn tiles_given<'a>(alloc: Global, given: &ArgMatches<'a>) -> Result<TileArgs<'a>, Error>
+    ensures { IfOk result (AreTiles (found_of given.now)) }
+{
+    let side = side_given(alloc, given)?;
+    let paths = paths_given(alloc, given, "tiles")?;
+    Ok(TileArgs { side, paths })
+}
+
+/// The path of a raster of elevations has another ending.
+#[derive(Clone, Copy)]
+struct OtherRaster;
+
+/// The raster of elevations, if one is named.
+fn dem_given<'a>(given: &ArgMatches<'a>) -> Result<Option<DemArgs<'a>>, OtherRaster>
+    ensures { IfOk result (IsDemOption (found_of given.now)) }
+{
+    let Some(path) = option_given(given, "dem") else {
+        return Ok(None);
+    };
+    if let Some(stem) = path.strip_suffix(".bil") {
+        return Ok(Some(DemArgs {
+            stem,
+            ending: DemEnding::Lower,
+        }));
+    }
+    match path.strip_suffix(".BIL") {
+        Some(stem) => Ok(Some(DemArgs {
+            stem,
+            ending: DemEnding::Upper,
+        })),
+        None => Err(OtherRaster),
+    }
+}
+
+/// The elevations of this command: one raster, or else tiles.
+fn elevations_given<'a>(
+    alloc: Global,
+    spec: &'static CommandSpec,
+    given: &ArgMatches<'a>,
+) -> Result<Elevations<'a>, Error>
+    ensures { IfOk result (AreElevations (found_of given.now)) }
+{
+    match dem_given(given) {
+        Ok(Some(dem)) => Ok(Elevations::Dem(dem)),
+        Ok(None) => Ok(Elevations::Tiles(tiles_given(alloc, given)?)),
+        Err(OtherRaster) => Err(bad_value(alloc, spec, help_texts::BAD_DEM)?),
+    }
+}
+
+/// The inputs of this command whose products are there already.
+fn inputs_given<'a>(
+    alloc: Global,
+    spec: &'static CommandSpec,
+    given: &ArgMatches<'a>,
+) -> Result<ProductArgs<'a, Elevations<'a>>, Error>
     ensures { IfOk result (AreInputs (found_of given.now)) }
 {
-    product_args(alloc, given, "products")
+    let elevations = elevations_given(alloc, spec, given)?;
+    Ok(product_args(given, "products", elevations))
+}
+
+/// The same where elevations come from tiles alone.
+fn tile_inputs<'a>(
+    alloc: Global,
+    given: &ArgMatches<'a>,
+) -> Result<ProductArgs<'a, TileArgs<'a>>, Error>
+    ensures { IfOk result (AreTileInputs (found_of given.now)) }
+{
+    let tiles = tiles_given(alloc, given)?;
+    Ok(product_args(given, "products", tiles))
+}
+
+/// The tiles of which products are to be made.
+fn make_args<'a>(
+    alloc: Global,
+    given: &ArgMatches<'a>,
+) -> Result<ProductArgs<'a, TileArgs<'a>>, Error>
+    ensures { IfOk result (IsProductArgs (codes "out") (found_of given.now) (AreTiles (found_of given.now))) }
+{
+    let tiles = tiles_given(alloc, given)?;
+    Ok(product_args(given, "out", tiles))
 }
 
 /// What is to be audited.
@@ -180,7 +280,7 @@ fn audit_request<'a>(alloc: Global, given: &ArgMatches<'a>) -> Result<Request<'a
     let Ok(list) = list_given(given) else {
         return Err(bad_value(alloc, &AUDIT, help_texts::BAD_LIST)?);
     };
-    let inputs = inputs_given(alloc, given)?;
+    let inputs = inputs_given(alloc, &AUDIT, given)?;
     let judged = match list {
         Some(judged) => judged,
         None => Judged::All,
@@ -230,7 +330,7 @@ fn explain_request<'a>(alloc: Global, given: &ArgMatches<'a>) -> Result<Request<
     let Ok(only) = list_given(given) else {
         return Err(bad_value(alloc, &EXPLAIN, help_texts::BAD_LIST)?);
     };
-    let inputs = inputs_given(alloc, given)?;
+    let inputs = inputs_given(alloc, &EXPLAIN, given)?;
     Ok(Request::Explain(ExplainArgs {
         inputs,
         only,
@@ -273,7 +373,7 @@ fn window_request<'a>(alloc: Global, given: &ArgMatches<'a>) -> Result<Request<'
     let Some(place) = window_place(text_given(given, "box"), inner) else {
         return Err(bad_value(alloc, &WINDOW, window_texts::BAD_BOX)?);
     };
-    let inputs = inputs_given(alloc, given)?;
+    let inputs = tile_inputs(alloc, given)?;
     Ok(Request::Window(WindowArgs {
         inputs,
         place,
@@ -296,7 +396,7 @@ fn merge_args<'a>(alloc: Global, given: &ArgMatches<'a>) -> Result<MergeArgs<'a>
 fn derive_request<'a>(alloc: Global, given: &ArgMatches<'a>) -> Result<Request<'a>, Error>
     ensures { IfOk result (IsRequestOf (codes "derive") (found_of given.now)) }
 {
-    let inputs = inputs_given(alloc, given)?;
+    let inputs = inputs_given(alloc, &DERIVE, given)?;
     Ok(Request::Derive(DeriveArgs {
         inputs,
         out: text_given(given, "out"),

@@ -83,7 +83,11 @@ class Drain:
         ]
         rasters = [ctypes.c_void_p, ctypes.c_size_t] * 3
         self._library.drain_derive.argtypes = [*given[:3], ctypes.POINTER(Pair), *rasters, answer]
-        for name in ("audit", "check", "audit_only", "explain", "derive"):
+        over_dem = [ctypes.POINTER(Pair), *given[3:]]
+        self._library.drain_audit_dem.argtypes = [*over_dem, answer]
+        self._library.drain_check_dem.argtypes = [*over_dem, answer]
+        self._library.drain_audit_only_dem.argtypes = [*over_dem, ctypes.c_uint32, answer]
+        for name in ("audit", "check", "audit_only", "explain", "derive", "audit_dem", "check_dem", "audit_only_dem"):
             getattr(self._library, "drain_" + name).restype = ctypes.c_uint32
         self._library.drain_version.argtypes = [ctypes.c_char_p, ctypes.c_size_t]
         self._library.drain_version.restype = ctypes.c_size_t
@@ -97,12 +101,13 @@ class Drain:
     def audit(self, side: int, tiles: Sequence[tuple[str, bytes]], rasters: Sequence[tuple[bytes, bytes]],
               sinks: bytes = b"") -> Answer:
         """Audits con, dir, acc and bas, each a header and pixels, for tiles, each a name and samples."""
-        return self._call(self._library.drain_audit, len(AUDITED), side, tiles, rasters, sinks)
+        return self._call(self._library.drain_audit, len(AUDITED), ground_of(side, tiles), rasters, sinks)
 
     def audit_only(self, side: int, tiles: Sequence[tuple[str, bytes]], rasters: Mapping[str, tuple[bytes, bytes]],
                    sinks: bytes = b"") -> Answer:
         """Audits some rasters, by name: con, con and dir, these with acc or with bas, or all four."""
-        return self._call(self._library.drain_audit_only, len(AUDITED), side, tiles, *choice_of(rasters, sinks))
+        ground, choice = ground_of(side, tiles), choice_of(rasters, sinks)
+        return self._call(self._library.drain_audit_only, len(AUDITED), ground, *choice)
 
     def explain(self, side: int, tiles: Sequence[tuple[str, bytes]], rasters: Mapping[str, tuple[bytes, bytes]],
                 fault_map, sinks: bytes = b"") -> tuple[Answer, Faults]:
@@ -111,7 +116,8 @@ class Drain:
         place = (ctypes.c_uint8 * cells).from_buffer(fault_map)
         faults = Faults()
         more = (place, cells, ctypes.byref(faults))
-        answer = self._call(self._library.drain_explain, len(AUDITED), side, tiles, *choice_of(rasters, sinks), *more)
+        ground, choice = ground_of(side, tiles), choice_of(rasters, sinks)
+        answer = self._call(self._library.drain_explain, len(AUDITED), ground, *choice, *more)
         return answer, faults
 
     def derive(self, side: int, tiles: Sequence[tuple[str, bytes]], directions: tuple[bytes, bytes],
@@ -128,17 +134,36 @@ class Drain:
     def check(self, side: int, tiles: Sequence[tuple[str, bytes]], rasters: Sequence[tuple[bytes, bytes]],
               sinks: bytes = b"") -> Answer:
         """Checks con, dir, acc, bas and rnk."""
-        return self._call(self._library.drain_check, len(CHECKED), side, tiles, rasters, sinks)
+        return self._call(self._library.drain_check, len(CHECKED), ground_of(side, tiles), rasters, sinks)
+
+    def audit_dem(self, dem: tuple[bytes, bytes], rasters: Sequence[tuple[bytes, bytes]], sinks: bytes = b"") -> Answer:
+        """Audits con, dir, acc and bas for one raster of elevations, each a header and pixels."""
+        return self._call(self._library.drain_audit_dem, len(AUDITED), (Pair(*dem),), rasters, sinks)
+
+    def audit_only_dem(self, dem: tuple[bytes, bytes], rasters: Mapping[str, tuple[bytes, bytes]],
+                       sinks: bytes = b"") -> Answer:
+        """Audits some rasters for one raster of elevations, by name, as audit_only does for tiles."""
+        choice = choice_of(rasters, sinks)
+        return self._call(self._library.drain_audit_only_dem, len(AUDITED), (Pair(*dem),), *choice)
+
+    def check_dem(self, dem: tuple[bytes, bytes], rasters: Sequence[tuple[bytes, bytes]], sinks: bytes = b"") -> Answer:
+        """Checks con, dir, acc, bas and rnk for one raster of elevations."""
+        return self._call(self._library.drain_check_dem, len(CHECKED), (Pair(*dem),), rasters, sinks)
 
     @staticmethod
-    def _call(function, count: int, side: int, tiles: Sequence[tuple[str, bytes]],
-              rasters: Sequence[tuple[bytes, bytes]], sinks: bytes, *more) -> Answer:
+    def _call(function, count: int, ground: tuple, rasters: Sequence[tuple[bytes, bytes]], sinks: bytes,
+              *more) -> Answer:
         if len(rasters) != count:
             raise ValueError(f"{count} rasters are needed")
         products = (Pair * count)(*(Pair(header, pixels) for header, pixels in rasters))
         raw = RawAnswer()
-        function(side, tiles_of(tiles), len(tiles), sinks, len(sinks), products, *more, raw)
+        function(*ground, sinks, len(sinks), products, *more, raw)
         return answer_of(raw)
+
+
+def ground_of(side: int, tiles: Sequence[tuple[str, bytes]]) -> tuple:
+    """The arguments that give the elevations of tiles."""
+    return side, tiles_of(tiles), len(tiles)
 
 
 def tiles_of(tiles: Sequence[tuple[str, bytes]]) -> ctypes.Array:

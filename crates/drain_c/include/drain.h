@@ -1,4 +1,4 @@
-/* libdrain: whether drainage rasters are correct for the elevation tiles that they were made from.
+/* libdrain: whether drainage rasters are correct for the elevations that they were made from: tiles, or one raster.
  *
  * The functions are proved to give the right answer to the bytes that they are passed: the contract of drain_NAME is
  * in crates/drain_c/src/exported_NAME.rt. They read memory only: no file, no output, no state between calls. The last
@@ -47,9 +47,10 @@ typedef struct drain_tile {
     drain_bytes samples;
 } drain_tile;
 
-/* A raster. header: the text of an Esri BIL header (.hdr, docs/FORMATS.md), in degrees. pixels: the bytes that it describes (.bil);
- * 8, 16 or 32 bits each, signed or not. Rows and columns are those of the mosaic: with a tiles from north to south and
- * b from west to east, a * (side - 1) + 1 and b * (side - 1) + 1. */
+/* A raster. header: the text of an Esri BIL header (.hdr, docs/FORMATS.md). pixels: the bytes that it describes (.bil);
+ * 8, 16 or 32 bits each, signed or not. Over tiles the header is in degrees, and rows and columns are those of the
+ * mosaic: with a tiles from north to south and b from west to east, a * (side - 1) + 1 and b * (side - 1) + 1. Over one
+ * raster of elevations the header is in its unit, and has its rows and columns. */
 typedef struct drain_raster {
     drain_bytes header;
     drain_bytes pixels;
@@ -102,6 +103,17 @@ typedef struct drain_answer {
 uint32_t drain_audit(uint32_t side, const drain_tile *tiles, size_t tile_count, const uint8_t *sinks,
                      size_t sinks_length, const drain_audit_rasters *rasters, drain_answer *answer);
 
+/* The same over one raster of elevations.
+ *
+ * dem: its header, in any unit, and its pixels: heights, whole numbers in any unit, con's in the same. A cell is void
+ * where the pixel is the header's NODATA; without NODATA no cell is. XDIM and YDIM are above 0, rows and columns at
+ * most 28,801 each. A raster lies on it within a hundredth of a pixel at the corner, and drifts by no more than another
+ * over all rows and columns. sinks: as for drain_audit, cells of dem. Where dem itself is refused, the answer is
+ * `refused BadHeader dem ..`, `refused BadPixelSize dem` or `refused RasterShort dem`.
+ * Returns answer->status. */
+uint32_t drain_audit_dem(const drain_raster *dem, const uint8_t *sinks, size_t sinks_length,
+                         const drain_audit_rasters *rasters, drain_answer *answer);
+
 /* Which rasters are judged: the sum of theirs. No other sum can be judged alone. */
 enum {
     DRAIN_CON = 1,
@@ -120,10 +132,21 @@ uint32_t drain_audit_only(uint32_t side, const drain_tile *tiles, size_t tile_co
                           size_t sinks_length, const drain_audit_rasters *rasters, uint32_t judged,
                           drain_answer *answer);
 
+/* The same over one raster of elevations: dem is that of drain_audit_dem, the other arguments are those of
+ * drain_audit_only.
+ * Returns answer->status. */
+uint32_t drain_audit_only_dem(const drain_raster *dem, const uint8_t *sinks, size_t sinks_length,
+                              const drain_audit_rasters *rasters, uint32_t judged, drain_answer *answer);
+
 /* Whether ranks show that the rasters are correct for the tiles. The arguments are those of drain_audit.
  * Returns answer->status. */
 uint32_t drain_check(uint32_t side, const drain_tile *tiles, size_t tile_count, const uint8_t *sinks,
                      size_t sinks_length, const drain_check_rasters *rasters, drain_answer *answer);
+
+/* The same over one raster of elevations: dem is that of drain_audit_dem, the other arguments are those of drain_check.
+ * Returns answer->status. */
+uint32_t drain_check_dem(const drain_raster *dem, const uint8_t *sinks, size_t sinks_length,
+                         const drain_check_rasters *rasters, drain_answer *answer);
 
 /* The cells at which a rule fails: how many, and the first in row order. Zeros where there is none. */
 typedef struct drain_fault_cells {
@@ -196,7 +219,8 @@ typedef struct drain_array {
 enum { DRAIN_HEADER_SIZE = 400 };
 
 /* These pixels as a raster. Its header is written into text, which has to last as long. west, north: the least
- * longitude and the greatest latitude of the mosaic, in whole degrees. Tested, not proved; the library reads the text. */
+ * longitude and the greatest latitude of the mosaic, in whole degrees; over one raster of elevations the same three for
+ * each raster, as 2, 0 and 0. Tested, not proved; the library reads the text. */
 static inline drain_raster drain_raster_of(const drain_array *array, uint32_t side, int west, int north,
                                            char text[DRAIN_HEADER_SIZE]) {
     unsigned long long unit = 1000000000000000ull, spacing = unit / (side > 1 ? side - 1 : 1);

@@ -1,51 +1,40 @@
 -- What follows from the directions of sources follows from those of the bytes of a call, and what is shown of it too.
-use Rattle.std.proofs.Common.{◌≡◌, ◌≢◌, ℕ, zero, suc, ◌*◌, ◌/◌, ◌%◌, ◌≤◌, ◌==◌, ◌<◌, ℤ, pos, Bool, true, false, List, [], ◌∷◌, length, map, get_or, Option, Some, None, Result, Ok, Err, IfOk, IfErr, IsTrue, IsFalse, arith, refl, sym, ap, subst, ◌∙◌}
+use Rattle.std.proofs.Common.{◌≡◌, ◌≢◌, ℕ, zero, suc, ◌*◌, ◌/◌, ◌%◌, ◌≤◌, ◌<◌, ℤ, pos, Bool, true, false, List, [], ◌∷◌, length, map, get_or, Result, Ok, Err, IfOk, IfErr, IsTrue, IsFalse, arith, refl, sym, ap, subst, ◌∙◌}
 use Rattle.std.proofs.Math.Nat.{div-lt_iff_lt-mul}
 use Rattle.drain_c.specs.declared.answer.Answer.{Answer}
-use Rattle.drain_c.specs.declared.given.RasterBytes.{RasterBytes}
-use Rattle.drain_c.specs.declared.given.TileBytes.{TileBytes}
 use Rattle.drain_c.specs.Derived.{AreDerivedNumbers, AreNumbersOf, IsDerivation, ReportsDerivation, ShowsDerivation, derived_found, derived_line, have_cells, outcome_for, raster_of, shape_line, told_of_dir}
 use Rattle.drain_c.specs.Found.{outcome_found, status_only}
-use Rattle.drain_c.specs.Given.{OfBytes}
 use Rattle.drain_c.specs.Shown.{Reports, ShowsAnswer, ShowsBadRaster}
-use Rattle.drain_c.specs.Sources.{AreRastersOf, AreTilesOf}
-use Rattle.drain_c.proofs.LongHeaders.{cut, refusal_kept, same_inputs}
-use Rattle.drain_c.proofs.Spelling.{of_bytes}
+use Rattle.drain_c.proofs.CutInputs.{cut_tiles, tile_cut}
+use Rattle.drain_c.proofs.Spelling.{Call}
 use Rattle.drain_c.proofs.Statuses.{from_two}
-use Rattle.drain_grid.specs.declared.set_product.SetProduct.{SetProduct}
 use Rattle.drain_grid.specs.Extent.{IsCellOf, Extent}
 use Rattle.drain_grid.specs.Product.{default_numbers}
 use Rattle.drain_grid.specs.Grid.{Pixels}
-use Rattle.drain_hgt.specs.declared.input.TileInput.{TileInput}
 use Rattle.drain_maker.specs.Derived.{AreDerivedOf, IsDeriveRefusal, AreCounts, AreDerived}
 use Rattle.drain_maker.specs.declared.derivation.DeriveRefusal.{DeriveRefusal}
 use Rattle.drain_maker.specs.declared.derivation.DeriveRefusal.TheVariants.{Refused, NoEnd}
 use Rattle.drain_maker.specs.declared.derivation.Derived.{Derived}
 use Rattle.drain_mosaic.specs.Tiling.{Tiling, extent_of}
-use Rattle.drain_verdict.specs.Headline.{ForCheck}
-use Rattle.drain_verdict.specs.Inputs.{Inputs, Products}
+use Rattle.drain_verdict.specs.Inputs.{Inputs}
 use Rattle.drain_verdict.specs.Meaning.{input_grid, input_products}
 
-derived_kept : (i : Inputs) (d : Derived) → AreDerivedOf (cut i) d → AreDerivedOf i d
-derived_kept i d is = subst (λ j. AreDerivedOf j d) (same_inputs i is.0) is
+derived_kept : (i : Inputs) (d : Derived) → AreDerivedOf (cut_tiles i) d → AreDerivedOf i d
+derived_kept i d is = subst (λ j. AreDerivedOf j d) (tile_cut.same i is.0) is
 
-why_kept : (i : Inputs) (why : DeriveRefusal) → IsDeriveRefusal (cut i) why → IsDeriveRefusal i why
-why_kept i (Refused refusal) is = refusal_kept i refusal is
-why_kept i (NoEnd row col) is = subst (λ j. IsDeriveRefusal j (NoEnd row col)) (same_inputs i is.0) is
+why_kept : (i : Inputs) (why : DeriveRefusal) → IsDeriveRefusal (cut_tiles i) why → IsDeriveRefusal i why
+why_kept i (Refused refusal) is = tile_cut.refusal_kept i refusal is
+why_kept i (NoEnd row col) is = subst (λ j. IsDeriveRefusal j (NoEnd row col)) (tile_cut.same i is.0) is
 
-pub derived_of_bytes : {R : Type 0} (answer : Result (Tiling × Derived) DeriveRefusal) (bytes_left : R → Option (List ℕ)) (side : ℕ) (given : List TileBytes) (sinks : List ℕ)
-    (raster : SetProduct → RasterBytes) (tiles : List (TileInput R)) (ps : Products R) → AreTilesOf bytes_left given tiles → AreRastersOf bytes_left raster ps →
-    IfOk answer (λ made. ForCheck bytes_left side tiles sinks ps (λ i. AreDerivedOf i made.1)) → IfOk answer (λ made. OfBytes side given sinks raster (λ i. AreDerivedOf i made.1))
-derived_of_bytes (Ok made) bytes_left side given sinks raster tiles ps are_tiles are_rasters fact =
-    of_bytes (λ i. AreDerivedOf i made.1) (λ i. derived_kept i made.1) bytes_left side given sinks raster tiles ps are_tiles are_rasters fact
-derived_of_bytes (Err why) bytes_left side given sinks raster tiles ps are_tiles are_rasters fact = tt
+pub derived_of_bytes : (call : Call tile_cut) (answer : Result (Tiling × Derived) DeriveRefusal) →
+    IfOk answer (λ made. call.For (λ i. AreDerivedOf i made.1)) → IfOk answer (λ made. (i : Inputs) → call.Of i → AreDerivedOf i made.1)
+derived_of_bytes call (Ok made) fact = λ i of. derived_kept i made.1 (call.of_sources (λ j. AreDerivedOf j made.1) fact i of)
+derived_of_bytes call (Err why) fact = tt
 
-pub why_of_bytes : {R : Type 0} (answer : Result (Tiling × Derived) DeriveRefusal) (bytes_left : R → Option (List ℕ)) (side : ℕ) (given : List TileBytes) (sinks : List ℕ)
-    (raster : SetProduct → RasterBytes) (tiles : List (TileInput R)) (ps : Products R) → AreTilesOf bytes_left given tiles → AreRastersOf bytes_left raster ps →
-    IfErr answer (λ why. ForCheck bytes_left side tiles sinks ps (λ i. IsDeriveRefusal i why)) → IfErr answer (λ why. OfBytes side given sinks raster (λ i. IsDeriveRefusal i why))
-why_of_bytes (Ok made) bytes_left side given sinks raster tiles ps are_tiles are_rasters fact = tt
-why_of_bytes (Err why) bytes_left side given sinks raster tiles ps are_tiles are_rasters fact =
-    of_bytes (λ i. IsDeriveRefusal i why) (λ i. why_kept i why) bytes_left side given sinks raster tiles ps are_tiles are_rasters fact
+pub why_of_bytes : (call : Call tile_cut) (answer : Result (Tiling × Derived) DeriveRefusal) →
+    IfErr answer (λ why. call.For (λ i. IsDeriveRefusal i why)) → IfErr answer (λ why. (i : Inputs) → call.Of i → IsDeriveRefusal i why)
+why_of_bytes call (Ok made) fact = tt
+why_of_bytes call (Err why) fact = λ i of. why_kept i why (call.of_sources (λ j. IsDeriveRefusal j why) fact i of)
 
 -- the cell in a place of row order
 pub cell_inside : (e : Extent) (cols place : ℕ) → cols ≡ e.cols → place < e.rows * e.cols → IsCellOf e (record { row = place / cols; col = place % cols })

@@ -1,7 +1,6 @@
 -- What is shown of an explanation is what the inputs' rules say. The map that was drawn has a byte for each cell, so it
 -- has the length of its memory exactly where this has.
 use Rattle.std.proofs.Common.{◌≡◌, ℕ, suc, ◌*◌, ◌==◌, ◌<◌, ◌≤◌, Bool, true, false, List, [], ◌∷◌, length, Option, Some, None, Result, Ok, Err, IfOk, IsSome, IsTrue, IsFalse, arith, refl, sym, ap, subst, ◌∙◌}
-use Rattle.std.specs.List.{range_with_len}
 use Rattle.std.proofs.lemmas.List.FromFn.{length-map-range_with_len}
 use Rattle.drain_answer.specs.declared.outcome.Outcome.{Outcome}
 use Rattle.drain_answer.specs.declared.outcome.Outcome.TheVariants.{Accepted, AcceptedSurface, Rejected, NoEnd, NotFilled}
@@ -48,7 +47,7 @@ reports_either : (judged : Judged) (i : Inputs) (outcome : Outcome) (b : Bool) (
 reports_either judged i outcome true shown is fit misfit = record { value = Ok outcome; is = is; shows = fit refl }
 reports_either judged i outcome false shown is fit misfit = record { value = Ok outcome; is = is; shows = misfit refl }
 
-reports_drawn : (judged : Judged) (i : Inputs) (e : Explanation) (memory : List ℕ) (shown : Answer) → IsOutcomeAnswer judged i (Ok e.outcome) → AreFindingsOf judged i e.findings →
+reports_drawn : {F : Type 0} (judged : Judged) (i : Inputs) (e : Explanation F) (memory : List ℕ) (shown : Answer) → IsOutcomeAnswer judged i (Ok e.outcome) → AreFindingsOf judged i e.findings →
     IsSome e.findings.map → (IsTrue (fits e.findings.map memory) → ShowsOutcome (Ok e.outcome) shown) → (IsFalse (fits e.findings.map memory) → ShowsBadMap shown) →
     Reports (IsOutcomeAnswer judged i) (mapped_found (has_map_length i memory)) (mapped_line (has_map_length i memory)) shown
 reports_drawn judged i e memory shown is found some fit misfit =
@@ -56,7 +55,7 @@ reports_drawn judged i e memory shown is found some fit misfit =
     subst (λ b. Reports (IsOutcomeAnswer judged i) (mapped_found b) (mapped_line b) shown) same (reports_either judged i e.outcome (fits e.findings.map memory) shown is fit misfit)
 
 -- the answer
-pub reports : (judged : Judged) (Of : Inputs → Type 0) (explained : Result Explanation Refusal) (memory new : List ℕ) (old_faults faults : Faults) (shown : Answer) →
+pub reports : {F : Type 0} (judged : Judged) (Of : Inputs → Type 0) (explained : Result (Explanation F) Refusal) (memory new : List ℕ) (old_faults faults : Faults) (shown : Answer) →
     ((i : Inputs) → Of i → IsOutcomeAnswer judged i (answer_in explained)) → IfOk explained (λ e. (i : Inputs) → Of i → AreFindingsOf judged i e.findings) → IfOk explained (λ e. IsSome e.findings.map) →
     ShowsExplained explained (memory, old_faults) (new, faults) shown → (i : Inputs) → Of i → Reports (IsOutcomeAnswer judged i) (mapped_found (has_map_length i memory)) (mapped_line (has_map_length i memory)) shown
 reports judged Of (Ok e) memory new old_faults faults shown is found some shows i of =
@@ -69,7 +68,7 @@ map_kept : (judged : Judged) (i : Inputs) (drawn : Option FaultMap) (map : List 
 map_kept judged i None map is are = absurd is
 map_kept judged i (Some drawn) map is are = subst (AreMapPixels (rules_at judged i) (input_grid i) (input_products i) (cells (input_grid i).extent)) (sym is) are
 
-explains_drawn : (judged : Judged) (i : Inputs) (e : Explanation) (map : List ℕ) (faults : Faults) (shown : Answer) → AreFindingsOf judged i e.findings →
+explains_drawn : {F : Type 0} (judged : Judged) (i : Inputs) (e : Explanation F) (map : List ℕ) (faults : Faults) (shown : Answer) → AreFindingsOf judged i e.findings →
     ShowsExplanation e map faults shown → Explains judged i faults map
 explains_drawn judged i e map faults shown found shows = record {
   by_rule = e.findings.by_rule;
@@ -86,13 +85,13 @@ below_two_of (Rejected rule row col) status is = omega arith
 below_two_of (NoEnd row col) status is = omega arith
 below_two_of (NotFilled row col) status is = omega arith
 
-explains_either : (judged : Judged) (i : Inputs) (e : Explanation) (b : Bool) (map : List ℕ) (faults : Faults) (shown : Answer) → AreFindingsOf judged i e.findings →
+explains_either : {F : Type 0} (judged : Judged) (i : Inputs) (e : Explanation F) (b : Bool) (map : List ℕ) (faults : Faults) (shown : Answer) → AreFindingsOf judged i e.findings →
     (IsTrue b → ShowsExplanation e map faults shown) → (IsFalse b → ShowsBadMap shown) → shown.status < 2 → Explains judged i faults map
 explains_either judged i e true map faults shown found fit misfit below = explains_drawn judged i e map faults shown found (fit refl)
 explains_either judged i e false map faults shown found fit misfit below = (let two : shown.status ≡ 2 = (misfit refl).status_is in absurd (omega arith))
 
 -- with a status below 2 what is written explains the inputs
-pub explains : (judged : Judged) (Of : Inputs → Type 0) (explained : Result Explanation Refusal) (memory map : List ℕ) (old_faults faults : Faults) (shown : Answer) →
+pub explains : {F : Type 0} (judged : Judged) (Of : Inputs → Type 0) (explained : Result (Explanation F) Refusal) (memory map : List ℕ) (old_faults faults : Faults) (shown : Answer) →
     IfOk explained (λ e. (i : Inputs) → Of i → AreFindingsOf judged i e.findings) → ShowsExplained explained (memory, old_faults) (map, faults) shown →
     shown.status < 2 → (i : Inputs) → Of i → Explains judged i faults map
 explains judged Of (Ok e) memory map old_faults faults shown found shows below i of =
@@ -101,7 +100,7 @@ explains judged Of (Err refusal) memory map old_faults faults shown found shows 
     let is : shown.status ≡ (refusal_found refusal).status = shows.0.status_is in
     absurd (omega (arith, from_two refusal, is, below))
 
-unwritten_either : (e : Explanation) (b : Bool) (memory map : List ℕ) (old_faults faults : Faults) (shown : Answer) → (IsTrue b → ShowsExplanation e map faults shown) →
+unwritten_either : {F : Type 0} (e : Explanation F) (b : Bool) (memory map : List ℕ) (old_faults faults : Faults) (shown : Answer) → (IsTrue b → ShowsExplanation e map faults shown) →
     (IsFalse b → ShowsBadMap shown × (map ≡ memory) × (faults ≡ old_faults)) → 2 ≤ shown.status → (map ≡ memory) × (faults ≡ old_faults)
 unwritten_either e true memory map old_faults faults shown fit misfit from =
     let below : shown.status < 2 = below_two_of e.outcome shown.status (fit refl).answer_is.status_is in
@@ -109,7 +108,7 @@ unwritten_either e true memory map old_faults faults shown fit misfit from =
 unwritten_either e false memory map old_faults faults shown fit misfit from = ((misfit refl).1, (misfit refl).2)
 
 -- with another nothing is written
-pub unwritten : (explained : Result Explanation Refusal) (memory map : List ℕ) (old_faults faults : Faults) (shown : Answer) →
+pub unwritten : {F : Type 0} (explained : Result (Explanation F) Refusal) (memory map : List ℕ) (old_faults faults : Faults) (shown : Answer) →
     ShowsExplained explained (memory, old_faults) (map, faults) shown → 2 ≤ shown.status → (map ≡ memory) × (faults ≡ old_faults)
 unwritten (Ok e) memory map old_faults faults shown shows from = unwritten_either e (fits e.findings.map memory) memory map old_faults faults shown shows.0 shows.1 from
 unwritten (Err refusal) memory map old_faults faults shown shows from = (shows.1, shows.2)

@@ -2,7 +2,7 @@
 use Rattle.std.proofs.Common.{◌≡◌, ℕ, List, [], ◌∷◌, map, refl, subst, sym}
 use Rattle.std.specs.List.{AllZip}
 use Rattle.std.proofs.lemmas.List.Elements.{All-head, All-tail}
-use Rattle.drain_c.specs.Laws.{BytesAreInputs}
+use Rattle.drain_c.specs.Laws.{BytesAreDemInputs, BytesAreInputs}
 use Rattle.drain_hgt.specs.Corner.{Corner}
 use Rattle.drain_hgt.specs.Name.{IsNameOf}
 use Rattle.drain_hgt.specs.Laws.{NamesGiveCorners}
@@ -37,4 +37,13 @@ bytes_are_inputs corner side tiles sinks raster = (
     headers_are = λ p. refl;
     rasters_are = λ p. refl;
   },
+)
+
+pub bytes_are_dem_inputs : BytesAreDemInputs
+bytes_are_dem_inputs dem sinks raster = (
+  record {
+    dem = record { header = dem.header.bytes.now; body = dem.pixels.bytes.now };
+    texts = record { sinks = sinks; header = λ p. (raster p).header.bytes.now; raster = λ p. (raster p).pixels.bytes.now };
+  },
+  record { dem_header_is = refl; dem_body_is = refl; sinks_are = refl; headers_are = λ p. refl; rasters_are = λ p. refl },
 )

@@ -1,4 +1,5 @@
 pub mod Choices
+pub mod CutInputs
 pub mod Derivations
 pub mod Explained
 pub mod GivenInputs

@@ -4,9 +4,10 @@ use Rattle.std.proofs.lemmas.List.{take_more}
 use Rattle.std.proofs.lemmas.Slice.Zip.{all_zipped_more}
 use Rattle.drain_c.specs.declared.given.TileBytes.{TileBytes}
 use Rattle.drain_c.specs.declared.given.RasterBytes.{RasterBytes}
-use Rattle.drain_c.specs.Given.{AreOfBytes, OfBytes}
-use Rattle.drain_c.specs.Sources.{IsTileOf, AreTilesOf, AreRastersOf}
-use Rattle.drain_c.proofs.LongHeaders.{cut, same_inputs}
+use Rattle.drain_c.specs.Given.{AreOfBytes}
+use Rattle.drain_c.specs.GivenDem.{AreOfDem, DemInputs}
+use Rattle.drain_c.specs.Sources.{IsTileOf, AreTilesOf, AreRastersOf, IsRasterOf}
+use Rattle.drain_c.proofs.CutInputs.{AreAnswers, Cut, answer_kept, cut_dem, cut_tiles, dem_cut, tile_cut}
 use Rattle.drain_grid.specs.declared.set_product.SetProduct.{SetProduct}
 use Rattle.drain_hgt.specs.declared.input.TileInput.{TileInput}
 use Rattle.drain_hgt.specs.Inputs.{names_of, AreBodies}
@@ -14,9 +15,45 @@ use Rattle.drain_grid.specs.declared.verdict.Verdict.{Verdict}
 use Rattle.drain_grid.specs.declared.verdict.Verdict.TheVariants.{Accepted, Rejected}
 use Rattle.drain_rules.specs.Verdicts.{IfAccepted}
 use Rattle.drain_answer.specs.declared.refusal.Refusal.{Refusal}
-use Rattle.drain_verdict.specs.Answers.{AreReadable, IsAnswer}
+use Rattle.drain_verdict.specs.Answers.{IsAnswerIn}
+use Rattle.drain_verdict.specs.DemGround.{DemTexts, EncodesDem}
+use Rattle.drain_verdict.specs.GroundSets.{EncodeTexts, GroundSet}
+use Rattle.drain_verdict.specs.Headline.{ForCheck}
 use Rattle.drain_verdict.specs.Inputs.{Inputs, Encode, Products}
-use Rattle.drain_verdict.specs.Headline.{ForCheck, AcceptedMeans}
+use Rattle.drain_verdict.specs.Texts.{SetTexts}
+use Rattle.drain_verdict.specs.declared.next_rows.RasterInput.{RasterInput}
+
+-- A call over inputs of one kind: which inputs its bytes are, and what a fact of its sources is. Sources have the first bytes
+-- of each header.
+pub record Call {A : Type 0} (c : Cut A) : Type 1 where
+  pub Of : A → Type 0
+  pub For : (A → Type 0) → Type 0
+  pub of_sources : (Fact : A → Type 0) → For Fact → (a : A) → Of a → Fact (c.first_bytes a)
+
+-- the answer to the sources is the answer to the bytes
+pub answer_of_bytes : {A V : Type 0} (c : Cut A) (call : Call c) (Is : GroundSet → Result V Refusal → Type 0) → AreAnswers Is → (answer : Result V Refusal) →
+    call.For (λ a. Is (c.set a) answer) → (a : A) → call.Of a → Is (c.set a) answer
+answer_of_bytes c call Is are answer is a of = answer_kept c Is are answer a (call.of_sources (λ b. Is (c.set b) answer) is a of)
+
+-- if there is a verdict, a fact of the sources is one of the bytes
+verdict_of_bytes : {A V : Type 0} (c : Cut A) (call : Call c) (Is : GroundSet → Result V Refusal → Type 0) → AreAnswers Is → (v : V) (Fact : A → Type 0) →
+    call.For (λ a. Is (c.set a) (Ok v)) → call.For Fact → (a : A) → call.Of a → Fact a
+verdict_of_bytes c call Is are v Fact is fact a of =
+    subst Fact (c.same a (are.readable (c.set (c.first_bytes a)) v (call.of_sources (λ b. Is (c.set b) (Ok v)) is a of))) (call.of_sources Fact fact a of)
+
+pub fact_of_bytes : {A V : Type 0} (c : Cut A) (call : Call c) (Is : GroundSet → Result V Refusal → Type 0) → AreAnswers Is → (Fact : V → A → Type 0) (answer : Result V Refusal) →
+    call.For (λ a. Is (c.set a) answer) → IfOk answer (λ v. call.For (Fact v)) → IfOk answer (λ v. (a : A) → call.Of a → Fact v a)
+fact_of_bytes c call Is are Fact (Ok v) is fact = verdict_of_bytes c call Is are v (Fact v) is fact
+fact_of_bytes c call Is are Fact (Err refusal) is fact = tt
+
+-- if the answer is an acceptance, the same
+pub accepted_of_bytes : {A : Type 0} (c : Cut A) (call : Call c) → AreAnswers IsAnswerIn → (Fact : A → Type 0) (answer : Result Verdict Refusal) →
+    call.For (λ a. IsAnswerIn (c.set a) answer) → IfAccepted answer (call.For Fact) → IfAccepted answer ((a : A) → call.Of a → Fact a)
+accepted_of_bytes c call are Fact (Ok (Accepted counts)) is fact = verdict_of_bytes c call IsAnswerIn are (Accepted counts) Fact is fact
+accepted_of_bytes c call are Fact (Ok (Rejected rule row col)) is fact = tt
+accepted_of_bytes c call are Fact (Err refusal) is fact = tt
+
+-- Tiles.
 
 -- one tile more is taken
 pub one_tile_more : {R : Type 0} (bytes_left : R → Option (List ℕ)) (given : List TileBytes) (tiles : List (TileInput R)) (i : ℕ) (d : TileBytes) (tile : TileInput R) →
@@ -45,7 +82,7 @@ bodies bytes_left (g ∷ given) (tile ∷ tiles) are = (are.0.1, bodies bytes_le
 -- the sources have the bytes of the inputs, and the first bytes of each header
 pub tells : {R : Type 0} (bytes_left : R → Option (List ℕ)) (side : ℕ) (given : List TileBytes) (sinks : List ℕ) (raster : SetProduct → RasterBytes)
     (tiles : List (TileInput R)) (ps : Products R) → AreTilesOf bytes_left given tiles → AreRastersOf bytes_left raster ps →
-    (i : Inputs) → AreOfBytes side given sinks raster i → Encode bytes_left side tiles sinks ps (cut i)
+    (i : Inputs) → AreOfBytes side given sinks raster i → Encode bytes_left side tiles sinks ps (cut_tiles i)
 tells bytes_left side given sinks raster tiles ps are_tiles are_rasters i are = record {
   side_is = are.side_is;
   names_are = are.names_are ∙ same_names bytes_left given tiles are_tiles;
@@ -56,37 +93,30 @@ tells bytes_left side given sinks raster tiles ps are_tiles are_rasters i are = 
   rasters_are = λ p. (are_rasters p).1 ∙ ap Some (sym (are.rasters_are p));
 }
 
--- a fact of the sources that no byte of a long header changes is one of the bytes
-pub of_bytes : {R : Type 0} (Fact : Inputs → Type 0) → ((i : Inputs) → Fact (cut i) → Fact i) → (bytes_left : R → Option (List ℕ)) (side : ℕ) (given : List TileBytes)
-    (sinks : List ℕ) (raster : SetProduct → RasterBytes) (tiles : List (TileInput R)) (ps : Products R) → AreTilesOf bytes_left given tiles →
-    AreRastersOf bytes_left raster ps → ForCheck bytes_left side tiles sinks ps Fact → OfBytes side given sinks raster Fact
-of_bytes Fact kept bytes_left side given sinks raster tiles ps are_tiles are_rasters fact i are =
-    kept i (fact (cut i) (tells bytes_left side given sinks raster tiles ps are_tiles are_rasters i are))
+abbrev pub tile_call : {R : Type 0} (bytes_left : R → Option (List ℕ)) (side : ℕ) (given : List TileBytes) (sinks : List ℕ) (raster : SetProduct → RasterBytes)
+    (tiles : List (TileInput R)) (ps : Products R) → AreTilesOf bytes_left given tiles → AreRastersOf bytes_left raster ps → Call tile_cut
+tile_call bytes_left side given sinks raster tiles ps are_tiles are_rasters = record {
+  Of = AreOfBytes side given sinks raster;
+  For = ForCheck bytes_left side tiles sinks ps;
+  of_sources = λ Fact fact i are. fact (cut_tiles i) (tells bytes_left side given sinks raster tiles ps are_tiles are_rasters i are);
+}
 
--- any fact, if the inputs are readable
-readable_bytes : {R : Type 0} (Fact : Inputs → Type 0) (bytes_left : R → Option (List ℕ)) (side : ℕ) (given : List TileBytes) (sinks : List ℕ)
-    (raster : SetProduct → RasterBytes) (tiles : List (TileInput R)) (ps : Products R) → AreTilesOf bytes_left given tiles → AreRastersOf bytes_left raster ps →
-    ForCheck bytes_left side tiles sinks ps AreReadable → ForCheck bytes_left side tiles sinks ps Fact → OfBytes side given sinks raster Fact
-readable_bytes Fact bytes_left side given sinks raster tiles ps are_tiles are_rasters readable fact i are =
-    let told = tells bytes_left side given sinks raster tiles ps are_tiles are_rasters i are in
-    subst Fact (same_inputs i (readable (cut i) told)) (fact (cut i) told)
+-- One raster of elevations.
 
--- where there is a verdict, the same; such answers are to readable inputs alone
-pub of_bytes_if : {R V : Type 0} (Is : Inputs → Result V Refusal → Type 0) → ((v : V) (i : Inputs) → Is i (Ok v) → AreReadable i) →
-    (Fact : V → Inputs → Type 0) (answer : Result V Refusal) (bytes_left : R → Option (List ℕ)) (side : ℕ)
-    (given : List TileBytes) (sinks : List ℕ) (raster : SetProduct → RasterBytes) (tiles : List (TileInput R)) (ps : Products R) →
-    AreTilesOf bytes_left given tiles → AreRastersOf bytes_left raster ps → ForCheck bytes_left side tiles sinks ps (λ i. Is i answer) →
-    IfOk answer (λ v. ForCheck bytes_left side tiles sinks ps (Fact v)) → IfOk answer (λ v. OfBytes side given sinks raster (Fact v))
-of_bytes_if Is readable Fact (Ok v) bytes_left side given sinks raster tiles ps are_tiles are_rasters is fact =
-    readable_bytes (Fact v) bytes_left side given sinks raster tiles ps are_tiles are_rasters (λ i told. readable v i (is i told)) fact
-of_bytes_if Is readable Fact (Err refusal) bytes_left side given sinks raster tiles ps are_tiles are_rasters is fact = tt
+-- the fact holds of the inputs that the sources have
+abbrev pub ForDemInputs : {R : Type 0} → (R → Option (List ℕ)) → List (RasterInput R) → List ℕ → Products R → (DemInputs → Type 0) → Type 0
+ForDemInputs bytes_left dem sinks ps Fact = (d : DemTexts) (t : SetTexts) → EncodesDem bytes_left dem d → EncodeTexts bytes_left sinks ps t → Fact (record { dem = d; texts = t })
 
--- if the answer is an acceptance, the same
-pub of_bytes_accepted : {R : Type 0} (Fact : Inputs → Type 0) (answer : Result Verdict Refusal) (bytes_left : R → Option (List ℕ)) (side : ℕ) (given : List TileBytes)
-    (sinks : List ℕ) (raster : SetProduct → RasterBytes) (tiles : List (TileInput R)) (ps : Products R) → AreTilesOf bytes_left given tiles →
-    AreRastersOf bytes_left raster ps → ForCheck bytes_left side tiles sinks ps (λ i. IsAnswer i answer) →
-    AcceptedMeans Fact bytes_left side tiles sinks ps answer → IfAccepted answer (OfBytes side given sinks raster Fact)
-of_bytes_accepted Fact (Ok (Accepted counts)) bytes_left side given sinks raster tiles ps are_tiles are_rasters is fact =
-    readable_bytes Fact bytes_left side given sinks raster tiles ps are_tiles are_rasters (λ i told. (is i told).0) fact
-of_bytes_accepted Fact (Ok (Rejected rule row col)) bytes_left side given sinks raster tiles ps are_tiles are_rasters is fact = tt
-of_bytes_accepted Fact (Err refusal) bytes_left side given sinks raster tiles ps are_tiles are_rasters is fact = tt
+abbrev pub dem_call : {R : Type 0} (bytes_left : R → Option (List ℕ)) (given : RasterBytes) (sinks : List ℕ) (raster : SetProduct → RasterBytes)
+    (dem : RasterInput R) (ps : Products R) → IsRasterOf bytes_left given dem → AreRastersOf bytes_left raster ps → Call dem_cut
+dem_call bytes_left given sinks raster dem ps is_dem are_rasters = record {
+  Of = AreOfDem given sinks raster;
+  For = ForDemInputs bytes_left (dem ∷ []) sinks ps;
+  of_sources = λ Fact fact i are. fact (cut_dem i).dem (cut_dem i).texts
+      (ap (take 65537) are.dem_header_is ∙ sym is_dem.0, is_dem.1 ∙ ap Some (sym are.dem_body_is))
+      (record {
+        sinks_are = are.sinks_are;
+        headers_are = λ p. ap (take 65537) (are.headers_are p) ∙ sym (are_rasters p).0;
+        rasters_are = λ p. (are_rasters p).1 ∙ ap Some (sym (are.rasters_are p));
+      });
+}

@@ -1,5 +1,5 @@
 -- What follows from the directions of a call, as C reads it.
-use Rattle.std.specs.Prelude.{◌≡◌, ℕ, ◌++◌, ◌*◌, ◌==◌, ◌&&◌, length, Bool, true, false, if◌then◌else◌, ℤ, pos, List, map, codes, decimal, Result, Ok, Err, IsTrue, IsFalse}
+use Rattle.std.specs.Prelude.{◌≡◌, ℕ, ◌++◌, ◌*◌, ◌==◌, ◌&&◌, length, Bool, if◌then◌else◌, ℤ, pos, List, map, codes, decimal, Result, Ok, Err, IsTrue, IsFalse}
 use Rattle.drain_answer.specs.OutcomeLines.{outcome_report_line}
 use Rattle.drain_answer.specs.declared.outcome.Outcome.{Outcome}
 use Rattle.drain_answer.specs.declared.outcome.Outcome.TheVariants as outcome

@@ -1,5 +1,5 @@
 -- What explains an answer, as C reads it: the cells at which each rule fails, and a map.
-use Rattle.std.specs.Prelude.{◌≡◌, ℕ, ◌*◌, ◌==◌, Bool, true, false, if◌then◌else◌, List, length, codes, Option, Some, None, Result, Ok, Err, IsTrue, IsFalse}
+use Rattle.std.specs.Prelude.{◌≡◌, ℕ, ◌*◌, ◌==◌, Bool, false, if◌then◌else◌, List, length, codes, Option, Some, None, Result, Ok, Err, IsTrue, IsFalse}
 use Rattle.drain_answer.specs.declared.outcome.Outcome.{Outcome}
 use Rattle.drain_answer.specs.declared.refusal.Refusal.{Refusal}
 use Rattle.drain_answer.specs.Lines.{refusal_line}
@@ -54,14 +54,14 @@ IsMap None map = ⊥
 IsMap (Some drawn) map = map ≡ drawn.pixels.items
 
 -- what is written of an outcome with what explains it
-pub record ShowsExplanation (e : Explanation) (map : List ℕ) (faults : Faults) (shown : Answer) : Type 0 where
+pub record ShowsExplanation {F : Type 0} (e : Explanation F) (map : List ℕ) (faults : Faults) (shown : Answer) : Type 0 where
   pub answer_is : ShowsOutcome (Ok e.outcome) shown
   pub faults_are : ShowsFaults e.findings.by_rule faults
   pub map_is : IsMap e.findings.map map
 
 -- what is written of an answer with what explains it: of an outcome whose map hasn't the length of its memory, or of a
 -- refusal, no map and no faults
-abbrev pub ShowsExplained : Result Explanation Refusal → (List ℕ × Faults) → (List ℕ × Faults) → Answer → Type 0
+abbrev pub ShowsExplained : {F : Type 0} → Result (Explanation F) Refusal → (List ℕ × Faults) → (List ℕ × Faults) → Answer → Type 0
 ShowsExplained (Ok e) old new shown =
     (IsTrue (fits e.findings.map old.0) → ShowsExplanation e new.0 new.1 shown) × (IsFalse (fits e.findings.map old.0) → ShowsBadMap shown × (new.0 ≡ old.0) × (new.1 ≡ old.1))
 ShowsExplained (Err refusal) old new shown = ShowsOutcome (Err refusal) shown × (new.0 ≡ old.0) × (new.1 ≡ old.1)

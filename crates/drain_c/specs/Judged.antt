@@ -1,8 +1,10 @@
 -- Which of the four rasters of a call are judged.
 use Rattle.std.specs.Prelude.{ℕ, ◌==◌, if◌then◌else◌, List, Option, Some, None}
 use Rattle.drain_c.specs.declared.given.TileBytes.{TileBytes}
+use Rattle.drain_c.specs.declared.given.RasterBytes.{RasterBytes}
 use Rattle.drain_c.specs.declared.given.AuditBytes.{AuditBytes}
 use Rattle.drain_c.specs.Given.{OfBytes, audit_raster}
+use Rattle.drain_c.specs.GivenDem.{DemInputs, OfDemBytes}
 use Rattle.drain_grid.specs.declared.judged.Judged.{Judged}
 use Rattle.drain_grid.specs.declared.judged.Judged.TheVariants.{Con, ConDir, ConDirAcc, ConDirBas, All}
 use Rattle.drain_grid.specs.Judged.{has_dir, has_acc, has_bas}
@@ -24,3 +26,7 @@ judged_bytes judged ps = record {
 -- the fact holds of the inputs that are these bytes
 abbrev pub OfJudgedBytes : ℕ → List TileBytes → List ℕ → Judged → AuditBytes → (Inputs → Type 0) → Type 0
 OfJudgedBytes side tiles sinks judged ps Fact = OfBytes side tiles sinks (audit_raster (judged_bytes judged ps)) Fact
+
+-- the same over one raster of elevations
+abbrev pub OfJudgedDem : RasterBytes → List ℕ → Judged → AuditBytes → (DemInputs → Type 0) → Type 0
+OfJudgedDem dem sinks judged ps Fact = OfDemBytes dem sinks (audit_raster (judged_bytes judged ps)) Fact

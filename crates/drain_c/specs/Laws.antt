@@ -1,11 +1,16 @@
--- What the clauses of the two functions rest on.
+-- What the clauses about the bytes of a call rest on.
 use Rattle.std.specs.Prelude.{ℕ, List}
 use Rattle.drain_c.specs.declared.given.TileBytes.{TileBytes}
 use Rattle.drain_c.specs.declared.given.RasterBytes.{RasterBytes}
 use Rattle.drain_c.specs.Given.{AreOfBytes}
+use Rattle.drain_c.specs.GivenDem.{AreOfDem, DemInputs}
 use Rattle.drain_grid.specs.declared.set_product.SetProduct.{SetProduct}
 use Rattle.drain_verdict.specs.Inputs.{Inputs}
 
 -- whatever the bytes are, there are inputs that are these bytes
 abbrev pub BytesAreInputs : Type 0
 BytesAreInputs = (side : ℕ) (tiles : List TileBytes) (sinks : List ℕ) (raster : SetProduct → RasterBytes) → (i : Inputs) × AreOfBytes side tiles sinks raster i
+
+-- the same over one raster of elevations
+abbrev pub BytesAreDemInputs : Type 0
+BytesAreDemInputs = (dem : RasterBytes) (sinks : List ℕ) (raster : SetProduct → RasterBytes) → (i : DemInputs) × AreOfDem dem sinks raster i

@@ -1,4 +1,5 @@
 pub mod Given
+pub mod GivenDem
 pub mod Judged
 pub mod Whole
 pub mod Sources

@@ -16,10 +16,23 @@ is_raster_whole raster = raster.header.missing == 0 && raster.pixels.missing == 
 abbrev pub are_tiles_whole : List TileBytes → Bool
 are_tiles_whole tiles = list_all is_tile_whole tiles
 
--- each tile and each raster of an audit is whole
-abbrev pub is_audit_whole : List TileBytes → AuditBytes → Bool
-is_audit_whole tiles ps = are_tiles_whole tiles && is_raster_whole ps.con && is_raster_whole ps.dir && is_raster_whole ps.acc && is_raster_whole ps.bas
+-- each raster of an audit is whole, and of a check
+abbrev pub are_four_whole : AuditBytes → Bool
+are_four_whole ps = is_raster_whole ps.con && is_raster_whole ps.dir && is_raster_whole ps.acc && is_raster_whole ps.bas
 
--- the same of a check
+abbrev pub are_five_whole : CheckBytes → Bool
+are_five_whole ps = is_raster_whole ps.con && is_raster_whole ps.dir && is_raster_whole ps.acc && is_raster_whole ps.bas && is_raster_whole ps.rnk
+
+-- with the tiles
+abbrev pub is_audit_whole : List TileBytes → AuditBytes → Bool
+is_audit_whole tiles ps = are_tiles_whole tiles && are_four_whole ps
+
 abbrev pub is_check_whole : List TileBytes → CheckBytes → Bool
-is_check_whole tiles ps = are_tiles_whole tiles && is_raster_whole ps.con && is_raster_whole ps.dir && is_raster_whole ps.acc && is_raster_whole ps.bas && is_raster_whole ps.rnk
+is_check_whole tiles ps = are_tiles_whole tiles && are_five_whole ps
+
+-- with the raster of elevations
+abbrev pub is_dem_audit_whole : RasterBytes → AuditBytes → Bool
+is_dem_audit_whole dem ps = is_raster_whole dem && are_four_whole ps
+
+abbrev pub is_dem_check_whole : RasterBytes → CheckBytes → Bool
+is_dem_check_whole dem ps = is_raster_whole dem && are_five_whole ps

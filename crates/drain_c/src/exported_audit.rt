@@ -9,12 +9,10 @@ ghost use Rattle.drain_answer.specs.AuditLines.{audit_report_line};
 ghost use Rattle.drain_verdict.specs.Answers.{AreCorrect, IsAuditAnswer};
 ghost use Rattle.drain_verdict.specs.Headline.{TilesAreOne, ElevationIsTheirs};
 
-use crate::answer::{Answer, show, show_missing};
-use crate::found::audit_found;
+use crate::answer::{Answer, show_audit, show_missing};
 use crate::given::{AuditBytes, TileBytes};
 use crate::judge::judge_audit;
 use crate::whole::is_audit_whole;
-use drain_verdict::audit_report;
 use std::alloc::Global;
 
 /// Whether the four rasters are correct for the tiles: 0 where they are, 1 where they aren't, 2 where the bytes have no
@@ -47,6 +45,6 @@ pub extern "C" fn drain_audit<'a>(
         return answer.status;
     }
     let judged = judge_audit(alloc, side, tiles, sinks, rasters);
-    show(answer, audit_found(&judged), audit_report(&judged).as_str());
+    show_audit(&judged, answer);
     answer.status
 }

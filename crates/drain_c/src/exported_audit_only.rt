@@ -10,13 +10,11 @@ ghost use Rattle.drain_c.specs.Whole.{is_audit_whole};
 ghost use Rattle.drain_grid.specs.Judged.{has_rnk};
 ghost use Rattle.drain_verdict.specs.Outcomes.{AreJudgedRight, IsOutcomeAnswer};
 
-use crate::answer::{Answer, show, show_bad_choice, show_missing};
-use crate::found::outcome_found;
+use crate::answer::{Answer, show_bad_choice, show_missing, show_outcome};
 use crate::given::{AuditBytes, TileBytes};
 use crate::judge::judge_some;
 use crate::judged::{judged_bytes, judged_of};
 use crate::whole::is_audit_whole;
-use drain_answer::outcome_report;
 use drain_grid::Judged;
 use std::alloc::Global;
 
@@ -78,10 +76,6 @@ fn audit_judged<'a>(
         return answer.status;
     }
     let outcome = judge_some(alloc, side, tiles, sinks, rasters, judged);
-    show(
-        answer,
-        outcome_found(&outcome),
-        outcome_report(&outcome).as_str(),
-    );
+    show_outcome(&outcome, answer);
     answer.status
 }

@@ -9,12 +9,10 @@ ghost use Rattle.drain_verdict.specs.Answers.{IsAnswer};
 ghost use Rattle.drain_answer.specs.Lines.{report_line};
 ghost use Rattle.drain_verdict.specs.Headline.{IsRight};
 
-use crate::answer::{Answer, show, show_missing};
-use crate::found::check_found;
+use crate::answer::{Answer, show_check, show_missing};
 use crate::given::{CheckBytes, TileBytes};
 use crate::judge::judge_check;
 use crate::whole::is_check_whole;
-use drain_verdict::report;
 use std::alloc::Global;
 
 /// Whether ranks show that the rasters are correct: 0 where they do, 1 where they don't, 2 where the bytes have no
@@ -47,6 +45,6 @@ pub extern "C" fn drain_check<'a>(
         return answer.status;
     }
     let judged = judge_check(alloc, side, tiles, sinks, rasters);
-    show(answer, check_found(&judged), report(&judged).as_str());
+    show_check(&judged, answer);
     answer.status
 }

@@ -16,6 +16,7 @@ use crate::judged::{judged_bytes, judged_of};
 use crate::whole::is_audit_whole;
 use drain_explain::Explanation;
 use drain_grid::Judged;
+use drain_mosaic::Layout;
 use drain_verdict::Refusal;
 use std::alloc::Global;
 
@@ -89,7 +90,7 @@ fn explain_judged<'a>(
 
 /// Writes an answer with what explains it.
 fn show_explained(
-    explained: &Result<Explanation, Refusal>,
+    explained: &Result<Explanation<Layout>, Refusal>,
     map: &mut [u8],
     faults: &mut Faults,
     answer: &mut Answer,
@@ -104,7 +105,7 @@ fn show_explained(
 
 /// Writes an outcome and what explains it, if the map has the length of its memory; else that it has another.
 fn show_explanation(
-    explanation: &Explanation,
+    explanation: &Explanation<Layout>,
     map: &mut [u8],
     faults: &mut Faults,
     answer: &mut Answer,

@@ -2,7 +2,7 @@
 
 ghost use Rattle.std.specs.Prelude.{◌≡◌, ◌-◌, ◌++◌, length, replicate, take};
 
-use drain_version::VERSION;
+use drain_answer::VERSION;
 
 /// Writes the version, as the program `drain` prints it behind its name, as far as there is room, and zeros behind it:
 /// how many bytes it has.

@@ -14,6 +14,7 @@ use crate::given::{AuditBytes, CheckBytes, TileBytes};
 use crate::sources::{audit_inputs, check_inputs, tile_inputs};
 use drain_explain::{Explanation, Mapping, explain_audit};
 use drain_grid::{Judged, Verdict};
+use drain_mosaic::Layout;
 use drain_verdict::{AuditVerdict, Outcome, Refusal, audit, audit_part, check};
 use std::alloc::Global;
 
@@ -67,7 +68,7 @@ pub fn judge_explained<'a>(
     sinks: &[u8],
     products: &AuditBytes<'a>,
     judged: Judged,
-) -> Result<Explanation, Refusal>
+) -> Result<Explanation<Layout>, Refusal>
     ensures answer { OfBytes side tiles.now sinks.now (audit_raster products.now) (λ inputs. IsOutcomeAnswer judged inputs (answer_in result)) }
     ensures explained { IfOk result (λ e. OfBytes side tiles.now sinks.now (audit_raster products.now) (λ inputs. AreFindingsOf judged inputs e.findings)) }
     ensures drawn { IfOk result (λ e. IsSome e.findings.map) }

@@ -1,6 +1,6 @@
-//! What the clauses of the two functions rest on. A law is a function with nothing to do: its contract is the law.
+//! What the clauses about the bytes of a call rest on. A law is a function with nothing to do: its contract is the law.
 
-ghost use Rattle.drain_c.specs.Laws.{BytesAreInputs};
+ghost use Rattle.drain_c.specs.Laws.{BytesAreDemInputs, BytesAreInputs};
 
 use drain_hgt::laws::names_give_corners;
 
@@ -11,3 +11,8 @@ pub fn bytes_are_inputs()
 {
     names_give_corners();
 }
+
+/// The same over one raster of elevations.
+pub fn bytes_are_dem_inputs()
+    ensures { BytesAreDemInputs }
+{}

@@ -45,7 +45,7 @@ fn tile_input<'a>(
 }
 
 /// A raster.
-fn raster_input<'a>(
+pub fn raster_input<'a>(
     alloc: Global,
     given: &RasterBytes<'a>,
 ) -> Result<RasterInput<SliceSource<'a>>, Refusal>

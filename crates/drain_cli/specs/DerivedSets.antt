@@ -4,18 +4,23 @@ use Rattle.drain_answer.specs.AuditLines.{no_end_line}
 use Rattle.drain_answer.specs.Lines.{refusal_line}
 use Rattle.drain_answer.specs.declared.refusal.Refusal.{Refusal}
 use Rattle.drain_answer.specs.declared.refusal.Refusal.TheVariants.{BadHeader, WrongShape, Misplaced}
-use Rattle.drain_maker.specs.Derived.{AreDerivedOf, IsDeriveRefusal, reading_in}
+use Rattle.drain_maker.specs.Derived.{AreDerivedIn, AreDerivedOf, IsDeriveRefusal, IsDeriveRefusalIn, reading_in}
 use Rattle.drain_maker.specs.declared.derivation.Derived.{Derived}
 use Rattle.drain_maker.specs.declared.derivation.DeriveRefusal.{DeriveRefusal}
 use Rattle.drain_maker.specs.declared.derivation.DeriveRefusal.TheVariants.{Refused, NoEnd}
 use Rattle.drain_device.specs.Failing.{Sink, Source}
 use Rattle.drain_grid.specs.declared.product.Product.TheVariants.{Con, Dir}
+use Rattle.drain_grid.specs.Extent.{Extent}
+use Rattle.drain_header.specs.Header.{Fields}
 use Rattle.drain_hgt.specs.Inputs.{names_of}
 use Rattle.drain_hgt.specs.declared.input.TileInput.{TileInput}
 use Rattle.drain_maker.specs.declared.product_files.SetFault.{SetFault}
 use Rattle.drain_verdict.specs.Stages.{IsLayoutOf}
 use Rattle.drain_mosaic.specs.Tiling.{Tiling}
 use Rattle.drain_verdict.specs.Answers.{ForAudit}
+use Rattle.drain_verdict.specs.DemGround.{DemUses, ForDem, IsDemInput, dem_audit_devices}
+use Rattle.drain_verdict.specs.Inputs.{as_five}
+use Rattle.drain_verdict.specs.declared.next_rows.RasterInput.{RasterInput}
 use Rattle.drain_verdict.specs.Uses.{AuditUses}
 use Rattle.drain_verdict.specs.declared.audit_products.AuditProducts.{AuditProducts}
 use Rattle.drain_answer.specs.Printing.{Prints}
@@ -25,7 +30,7 @@ use Rattle.drain_answer.specs.declared.outcome.Status.{Status}
 use Rattle.drain_answer.specs.declared.outcome.Status.TheVariants.{Rejected}
 
 -- the line for the result of writing: derived rows=R cols=C
-abbrev pub derived_line : Tiling → Result (Unit {0}) SetFault → List ℕ
+abbrev pub derived_line : Extent → Result (Unit {0}) SetFault → List ℕ
 derived_line = written_line (codes "derived rows=")
 
 -- a refusal of con's header, which is dir's, is told of dir
@@ -53,7 +58,15 @@ pub record IsDerivation {R : Type 0} (source : Source R) (side : ℕ) (tiles_old
   pub err : IfErr outcome (λ why. ForAudit source.bytes_left side tiles_old sinks products_old (λ i. IsDeriveRefusal i why))
   pub uses : AuditUses source.bytes_left source.counts side (tiles_old, products_old) (tiles_new, products_new) (reading_in outcome)
 
+-- the same of directions on one raster of elevations
+pub record IsDemDerivation {R : Type 0} (source : Source R) (dem_old dem_new : List (RasterInput R)) (sinks : List ℕ)
+    (products_old products_new : AuditProducts R) (outcome : Result (Fields × Derived) DeriveRefusal) : Type 0 where
+  pub header : IfOk outcome (λ set. IsDemInput set.0 dem_old)
+  pub derived : IfOk outcome (λ set. ForDem source.bytes_left dem_old sinks (as_five products_old) (λ s. AreDerivedIn s set.1))
+  pub err : IfErr outcome (λ why. ForDem source.bytes_left dem_old sinks (as_five products_old) (λ s. IsDeriveRefusalIn s why))
+  pub uses : DemUses as_five dem_audit_devices source.bytes_left source.counts (dem_old, products_old) (dem_new, products_new) (reading_in outcome)
+
 -- what was derived is returned, and nothing printed; or the reason is printed, and its status returned
-abbrev pub IsSetHandedOver : {W : Type 0} → Sink W → W → W → Result (Tiling × Derived) DeriveRefusal → Result (Tiling × Derived) ℕ → Type 0
+abbrev pub IsSetHandedOver : {F W : Type 0} → Sink W → W → W → Result (F × Derived) DeriveRefusal → Result (F × Derived) ℕ → Type 0
 IsSetHandedOver sink old new (Ok set) result = (result ≡ Ok set) × (new ≡ old)
 IsSetHandedOver sink old new (Err why) result = (code : ℕ) × (result ≡ Err code) × Prints sink old new (none_line why) (none_status why) code

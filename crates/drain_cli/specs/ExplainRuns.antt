@@ -7,8 +7,11 @@ use Rattle.drain_answer.specs.declared.outcome.Outcome.{Outcome}
 use Rattle.drain_answer.specs.declared.refusal.Refusal.{Refusal}
 use Rattle.drain_answer.specs.OutcomeLines.{outcome_report_line}
 use Rattle.drain_grid.specs.declared.judged.Judged.TheVariants.{AllWithRanks}
+use Rattle.drain_verdict.specs.DemGround.{dem_audit_devices, dem_check_devices}
+use Rattle.drain_verdict.specs.Inputs.{as_five}
 use Rattle.drain_verdict.specs.Uses.{devices_of}
-use Rattle.drain_verdict.specs.Outcomes.{IsOutcomeAnswer}
+use Rattle.drain_verdict.specs.Outcomes.{IsOutcomeAnswer, IsOutcomeIn}
+use Rattle.drain_verdict.specs.declared.next_rows.RasterInput.{RasterInput}
 use Rattle.drain_page.specs.declared.json_page.TheConstants.{OUT_OF_MEMORY_OBJECT}
 use Rattle.drain_args.specs.declared.form.Form.{Form}
 use Rattle.drain_args.specs.declared.form.Form.TheVariants.{Text, Json}
@@ -21,7 +24,9 @@ use Rattle.drain_files.specs.declared.open_judged.JudgedProducts.{JudgedProducts
 use Rattle.drain_files.specs.declared.open_judged.JudgedProducts.TheVariants as products
 use Rattle.drain_answer.specs.declared.outcome.Status.{Status}
 use Rattle.drain_answer.specs.declared.outcome.Status.TheVariants.{Failed}
-use Rattle.drain_cli.specs.JudgedRuns.{IsJudgement, IsPartOutcome, outcome_status}
+use Rattle.drain_files.specs.declared.open_judged.OpenElevations.{OpenElevations}
+use Rattle.drain_files.specs.declared.open_judged.OpenElevations.TheVariants.{Tiles, Dem}
+use Rattle.drain_cli.specs.JudgedRuns.{IsDemJudgement, IsJudgement, IsPartOutcome, outcome_status}
 use Rattle.drain_answer.specs.Outcomes.{failure_text}
 use Rattle.drain_files.specs.Files.{IsOpenFailure}
 use Rattle.drain_page.specs.Texts.{IsAnswerLine, line_feed}
@@ -34,6 +39,22 @@ IsOutcome source side tiles_old tiles_new sinks (products.Five old) (products.Fi
 IsOutcome source side tiles_old tiles_new sinks (products.Four old judged) (products.Four new then) outcome =
     IsPartOutcome source judged side tiles_old tiles_new sinks old new outcome × (then ≡ judged)
 IsOutcome source side tiles_old tiles_new sinks old new other = ⊥
+
+-- the same beside one raster of elevations
+abbrev pub IsDemOutcome : {R : Type 0} → Source R → List (RasterInput R) → List (RasterInput R) → List ℕ → JudgedProducts R → JudgedProducts R → Result Outcome Refusal → Type 0
+IsDemOutcome source dem_old dem_new sinks (products.Five old) (products.Five new) outcome =
+    IsDemJudgement (λ ps. ps) dem_check_devices (IsOutcomeIn AllWithRanks) source dem_old dem_new sinks old new outcome
+IsDemOutcome source dem_old dem_new sinks (products.Four old judged) (products.Four new then) outcome =
+    IsDemJudgement as_five dem_audit_devices (IsOutcomeIn judged) source dem_old dem_new sinks old new outcome × (then ≡ judged)
+IsDemOutcome source dem_old dem_new sinks old new other = ⊥
+
+-- beside the elevations that were opened
+abbrev pub IsOutcomeOn : {R : Type 0} → Source R → OpenElevations R → OpenElevations R → List ℕ → JudgedProducts R → JudgedProducts R → Result Outcome Refusal → Type 0
+IsOutcomeOn source (Tiles old) (Tiles new) sinks products_old products_new outcome =
+    IsOutcome source old.side old.tiles.items new.tiles.items sinks products_old products_new outcome
+IsOutcomeOn source (Dem old) (Dem new) sinks products_old products_new outcome = IsDemOutcome source old new sinks products_old products_new outcome
+IsOutcomeOn source (Tiles old) (Dem new) sinks products_old products_new outcome = ⊥
+IsOutcomeOn source (Dem old) (Tiles new) sinks products_old products_new outcome = ⊥
 
 -- a text begins with the line of its answer; an object is on a line of its own, and its first member is that line
 abbrev pub BeginsWith : Form → List ℕ → List ℕ → Type 0

@@ -18,9 +18,14 @@ use Rattle.drain_files.specs.declared.open_judged.JudgedProducts.{JudgedProducts
 use Rattle.drain_files.specs.declared.open_judged.JudgedProducts.TheVariants.{Five, Four}
 use Rattle.drain_grid.specs.declared.judged.Judged.{Judged}
 use Rattle.drain_grid.specs.declared.judged.Judged.TheVariants.{Con, ConDir, ConDirAcc, ConDirBas, All, AllWithRanks}
-use Rattle.drain_verdict.specs.Outcomes.{IsOutcomeAnswer}
+use Rattle.drain_files.specs.declared.open_judged.OpenElevations.{OpenElevations}
+use Rattle.drain_files.specs.declared.open_judged.OpenElevations.TheVariants.{Tiles, Dem}
+use Rattle.drain_verdict.specs.DemGround.{DemUses, ForDem, dem_audit_devices, dem_check_devices}
+use Rattle.drain_verdict.specs.GroundSets.{GroundSet}
+use Rattle.drain_verdict.specs.declared.next_rows.RasterInput.{RasterInput}
+use Rattle.drain_verdict.specs.Outcomes.{IsOutcomeAnswer, IsOutcomeIn}
 use Rattle.drain_grid.specs.declared.verdict.Verdict.{Verdict}
-use Rattle.drain_verdict.specs.Answers.{IsAnswer, IsAuditAnswer}
+use Rattle.drain_verdict.specs.Answers.{IsAnswer, IsAnswerIn, IsAuditAnswer}
 use Rattle.drain_verdict.specs.Inputs.{audit_devices, as_five, Inputs, Products, Encode}
 use Rattle.drain_verdict.specs.Uses.{devices_of, UsesInputs}
 use Rattle.drain_verdict.specs.declared.audit_products.AuditProducts.{AuditProducts}
@@ -107,3 +112,30 @@ IsJudgedRun source sink side tiles_old tiles_new sinks (Five old) (Five new) out
 IsJudgedRun source sink side tiles_old tiles_new sinks (Four old judged) (Four new then) out_old out_new code =
     IsFourRun source sink judged side tiles_old tiles_new sinks old new out_old out_new code
 IsJudgedRun source sink side tiles_old tiles_new sinks old new out_old out_new code = ⊥
+
+-- Beside one raster of elevations.
+
+-- the answer is that of the bytes that the devices had left, if they are known, and says how the inputs are used; the
+-- products are read as these five, from these devices
+pub record IsDemJudgement {R P V : Type 0} (inputs_of : P → Products R) (devices : List (RasterInput R) → P → List R) (IsAnswerTo : GroundSet → Result V Refusal → Type 0)
+    (source : Source R) (dem_old dem_new : List (RasterInput R)) (sinks : List ℕ) (products_old products_new : P) (outcome : Result V Refusal) : Type 0 where
+  pub answer : ForDem source.bytes_left dem_old sinks (inputs_of products_old) (λ s. IsAnswerTo s outcome)
+  pub uses : DemUses inputs_of devices source.bytes_left source.counts (dem_old, products_old) (dem_new, products_new) outcome
+
+-- a run on the products that were opened: a check of five, or an audit of those of four that are judged
+abbrev pub IsDemRun : {R W : Type 0} → Source R → Sink W → List (RasterInput R) → List (RasterInput R) → List ℕ → JudgedProducts R → JudgedProducts R → W → W → ℕ → Type 0
+IsDemRun source sink dem_old dem_new sinks (Five old) (Five new) out_old out_new code = (verdict : Result Verdict Refusal)
+    × IsDemJudgement (λ ps. ps) dem_check_devices IsAnswerIn source dem_old dem_new sinks old new verdict
+    × Prints sink out_old out_new (answer_line (answer.Check verdict)) (answer_status (answer.Check verdict)) code
+IsDemRun source sink dem_old dem_new sinks (Four old judged) (Four new then) out_old out_new code = (outcome : Result Outcome Refusal)
+    × IsDemJudgement as_five dem_audit_devices (IsOutcomeIn judged) source dem_old dem_new sinks old new outcome
+    × Prints sink out_old out_new (answer_line (answer.Part outcome)) (answer_status (answer.Part outcome)) code
+IsDemRun source sink dem_old dem_new sinks old new out_old out_new code = ⊥
+
+-- a run beside the elevations that were opened
+abbrev pub IsRun : {R W : Type 0} → Source R → Sink W → OpenElevations R → OpenElevations R → List ℕ → JudgedProducts R → JudgedProducts R → W → W → ℕ → Type 0
+IsRun source sink (Tiles old) (Tiles new) sinks products_old products_new out_old out_new code =
+    IsJudgedRun source sink old.side old.tiles.items new.tiles.items sinks products_old products_new out_old out_new code
+IsRun source sink (Dem old) (Dem new) sinks products_old products_new out_old out_new code = IsDemRun source sink old new sinks products_old products_new out_old out_new code
+IsRun source sink (Tiles old) (Dem new) sinks products_old products_new out_old out_new code = ⊥
+IsRun source sink (Dem old) (Tiles new) sinks products_old products_new out_old out_new code = ⊥

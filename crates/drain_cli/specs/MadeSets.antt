@@ -13,6 +13,7 @@ use Rattle.drain_device.specs.Failing.{Source}
 use Rattle.drain_grid.specs.declared.product_set.ProductSet.{ProductSet}
 use Rattle.drain_grid.specs.declared.sink_line.SinkLine.{SinkLine}
 use Rattle.drain_grid.specs.SinkTexts.{IsSinkFault, sinks_of}
+use Rattle.drain_grid.specs.Extent.{Extent}
 use Rattle.drain_grid.specs.Grid.{Heights}
 use Rattle.drain_hgt.specs.declared.input.TileInput.{TileInput}
 use Rattle.drain_hgt.specs.Inputs.{tile_devices}
@@ -20,7 +21,8 @@ use Rattle.drain_answer.specs.declared.refusal.Refusal.TheVariants.{ReadFailed}
 use Rattle.drain_device.specs.FaultLists.{SomeReadFails}
 use Rattle.drain_verdict.specs.Inputs.{Inputs}
 use Rattle.drain_verdict.specs.Refusals.{IsOfBodies}
-use Rattle.drain_maker.specs.Mosaics.{TellTiles, IsMosaicOf, IsMosaicRefusal}
+use Rattle.drain_maker.specs.Mosaics.{IsMosaicOf, IsMosaicRefusal}
+use Rattle.drain_verdict.specs.TileGround.{TellTiles}
 use Rattle.drain_maker.specs.declared.maker.MakeRefusal.{MakeRefusal}
 use Rattle.drain_maker.specs.Made.{AreMade, IsSinkAnswer}
 use Rattle.drain_grid.specs.declared.sink_text.SinkFault.TheVariants as sink
@@ -29,15 +31,15 @@ use Rattle.drain_maker.specs.declared.maker.MakeRefusal.TheVariants as maker
 
 -- How a run of `drain make` ends: with files that were written, or with the reason why there are none.
 
--- the line for the result of writing: these words, R cols=C
-abbrev pub written_line : List ℕ → Tiling → Result (Unit {0}) SetFault → List ℕ
-written_line text t (Ok done) = text ++ decimal (extent_of t).rows ++ codes " cols=" ++ decimal (extent_of t).cols
-written_line text t (Err WriteFailed) = codes "failed WriteFailed"
-written_line text t (Err OutOfMemory) = codes "failed OutOfMemory"
+-- the line for the result of writing rasters of this size: these words, R cols=C
+abbrev pub written_line : List ℕ → Extent → Result (Unit {0}) SetFault → List ℕ
+written_line text e (Ok done) = text ++ decimal e.rows ++ codes " cols=" ++ decimal e.cols
+written_line text e (Err WriteFailed) = codes "failed WriteFailed"
+written_line text e (Err OutOfMemory) = codes "failed OutOfMemory"
 
--- that of products: made rows=R cols=C
+-- that of products of a mosaic: made rows=R cols=C
 abbrev pub made_line : Tiling → Result (Unit {0}) SetFault → List ℕ
-made_line = written_line (codes "made rows=")
+made_line t = written_line (codes "made rows=") (extent_of t)
 
 -- its status
 abbrev pub written_status : Result (Unit {0}) SetFault → Status

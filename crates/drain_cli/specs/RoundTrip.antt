@@ -15,7 +15,7 @@ use Rattle.drain_hgt.specs.declared.input.TileInput.{TileInput}
 use Rattle.drain_mosaic.specs.Tiling.{Tiling}
 use Rattle.drain_grid.specs.declared.verdict.Verdict.{Verdict}
 use Rattle.drain_answer.specs.declared.refusal.Refusal.{Refusal}
-use Rattle.drain_maker.specs.Mosaics.{TellTiles}
+use Rattle.drain_verdict.specs.TileGround.{TellTiles}
 use Rattle.drain_verdict.specs.Answers.{IsAnswer}
 use Rattle.drain_maker.specs.Accepted.{IsMadeAcceptance}
 use Rattle.drain_maker.specs.ProductFiles.{WritesFiles, set_bytes}

@@ -15,7 +15,7 @@ use clap::error::ErrorKind;
 use drain_answer::outcome::Status;
 use drain_answer::print::{print_failure, print_text};
 use drain_args::form::{Form, requested_form};
-use drain_args::requests::{ProductArgs, Request, parse};
+use drain_args::requests::{Elevations, ProductArgs, Request, parse};
 use drain_device::{BodyFault, ByteSink, Reader, Writer};
 use drain_files::open_failure::{Reason, print_open_failure, print_open_fault, print_reason};
 use drain_files::open_files::Opener;
@@ -80,10 +80,10 @@ fn header_of_file(rt: &HostRuntime, path: &str, out: &mut impl ByteSink) -> u8 {
     }
 }
 
-/// Opens the tiles and the products of a folder, judges these rasters, and returns the exit status.
+/// Opens the elevations and the products of a folder, judges these rasters, and returns the exit status.
 fn judge_files(
     rt: &HostRuntime,
-    args: &ProductArgs<'_>,
+    args: &ProductArgs<'_, Elevations<'_>>,
     judged: Judged,
     out: &mut impl ByteSink,
 ) -> u8 {
@@ -91,14 +91,13 @@ fn judge_files(
     match open_judged(&mut Opener::new(rt), args, judged, &progress) {
         Ok(
             OpenFiles {
-                mut tiles,
+                mut elevations,
                 mut products,
                 sinks,
             },
         ) => run_judged(
             rt.alloc(),
-            args.side,
-            tiles.as_mut_slice(),
+            &mut elevations,
             sinks.as_slice(),
             &mut products,
             out,

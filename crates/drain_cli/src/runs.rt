@@ -1,6 +1,7 @@
 //! A run for each command, over any source and any sink.
 
 pub mod derive_set;
+pub mod explain_dem;
 pub mod explain_files;
 pub mod judge;
 pub mod make_set;

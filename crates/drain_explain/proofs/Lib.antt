@@ -1,3 +1,4 @@
+mod Elevations
 mod TriedRules
 mod Noting
 mod UntriedRules

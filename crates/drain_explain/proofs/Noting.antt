@@ -16,10 +16,9 @@ use Rattle.drain_paths.specs.declared.endless_path.EndlessPath.{EndlessPath}
 use Rattle.drain_paths.specs.declared.flow.Flow.{Flow}
 use Rattle.drain_paths.specs.Walks.{AreKnownFlows}
 use Rattle.drain_verdict.specs.Deciding.{AreFlowsFor}
-use Rattle.drain_verdict.specs.Inputs.{Inputs}
-use Rattle.drain_verdict.specs.Meaning.{input_grid, input_products, nodata_numbers}
+use Rattle.drain_grid.specs.Values.{NoDataNumbers}
 use Rattle.drain_verdict.specs.Outcomes.{IsConOutcome, IsOutcome, IsRankOutcome, IsWayOutcome}
-use Rattle.drain_explain.specs.Explanations.{IsEndlessOf, IsNamed, LeadsAt, AreFaultNotes}
+use Rattle.drain_explain.specs.Explanations.{IsEndlessOn, IsNamed, LeadsAt, AreFaultNotes}
 use Rattle.std.proofs.lemmas.Bool.{false≢true}
 use Rattle.drain_grid.specs.declared.patch.Patch.{Patch}
 use Rattle.drain_grid.specs.declared.judged.Rules.{Rules}
@@ -27,6 +26,7 @@ use Rattle.drain_rules.specs.Rows.{AreRowPatches}
 use Rattle.drain_faults.specs.declared.fault_map.FaultMap.{FaultMap}
 use Rattle.drain_faults.specs.FaultMaps.{IsMapOf, OfNextRowDrawn}
 use Rattle.drain_faults.specs.FaultWalks.{IsCountedOf, IsRightTally, OfNextFaultRow, OfNextRowCounted}
+use Rattle.drain_explain.specs.ElevationRanges.{IsElevationAbove, IsRange}
 use Rattle.drain_explain.specs.declared.fault_visitor.FaultVisitor.{FaultVisitor}
 
 -- A list from which some items are dropped: its next item, and what is behind it.
@@ -59,27 +59,27 @@ same_place counter (suc n) reached bound first =
 
 -- Where the path without an end leads that an outcome names.
 
-module _ (i : Inputs) (outcome : Outcome) where
+module _ (g : Grid) (ps : Products) (nodata : NoDataNumbers) (outcome : Outcome) where
   -- where paths decide, the cell that the outcome names has data
-  of_ways : (judged : Judged) (told : Option (Cell × EndlessPath)) → IsWayOutcome judged (input_grid i) (input_products i) (nodata_numbers i) outcome →
-      IfSome told (IsNamed outcome) → IfSome told (LeadsAt (input_grid i) (input_products i)) → IfSome told (IsEndlessOf i outcome)
+  of_ways : (judged : Judged) (told : Option (Cell × EndlessPath)) → IsWayOutcome judged g ps nodata outcome →
+      IfSome told (IsNamed outcome) → IfSome told (LeadsAt g ps) → IfSome told (IsEndlessOn g ps outcome)
   of_ways judged None is named run = tt
   of_ways judged (Some (cell, path)) is named run =
-      (named, run (subst (IsWayOutcome judged (input_grid i) (input_products i) (nodata_numbers i)) named is).here)
+      (named, run (subst (IsWayOutcome judged g ps nodata) named is).here)
 
   -- and elsewhere it names none
   unnamed : (Is : Outcome → Type 0) → ((row col : ℕ) → ¬ Is (NoEnd row col)) → (told : Option (Cell × EndlessPath)) → Is outcome →
-      IfSome told (IsNamed outcome) → IfSome told (IsEndlessOf i outcome)
+      IfSome told (IsNamed outcome) → IfSome told (IsEndlessOn g ps outcome)
   unnamed Is not None is named = tt
   unnamed Is not (Some (cell, path)) is named = absurd (not cell.row cell.col (subst Is named is))
 
   module _ (extent : Extent) (flows : List Flow) (told : Option (Cell × EndlessPath)) (named : IfSome told (IsNamed outcome))
       (run : (g : Grid) (ps : Products) → AreKnownFlows g ps extent flows → IfSome told (LeadsAt g ps)) where
-    pub endless-told : (judged : Judged) → IsOutcome judged (input_grid i) (input_products i) (nodata_numbers i) outcome →
-        AreFlowsFor judged (input_grid i) (input_products i) extent flows → IfSome told (IsEndlessOf i outcome)
-    endless-told Con is left = unnamed (IsConOutcome (input_grid i) (input_products i) (nodata_numbers i)) (λ row col no. no) told is named
-    endless-told AllWithRanks is left = unnamed (IsRankOutcome (input_grid i) (input_products i) (nodata_numbers i)) (λ row col no. no) told is named
-    endless-told judged is left = of_ways judged told is named (run (input_grid i) (input_products i) left.known)
+    pub endless-told : (judged : Judged) → IsOutcome judged g ps nodata outcome →
+        AreFlowsFor judged g ps extent flows → IfSome told (IsEndlessOn g ps outcome)
+    endless-told Con is left = unnamed (IsConOutcome g ps nodata) (λ row col no. no) told is named
+    endless-told AllWithRanks is left = unnamed (IsRankOutcome g ps nodata) (λ row col no. no) told is named
+    endless-told judged is left = of_ways judged told is named (run g ps left.known)
 
 -- there is a map after a row exactly where there was one
 pub still_drawn : (new old : Option FaultMap) → IsSome new ↔ IsSome old → is_some new ≡ is_some old
@@ -92,8 +92,8 @@ still_drawn (Some new) None same = absurd (false≢true (same.0 refl))
 pub notes-more : (rules : Rules) (g : Grid) (ps : Products) (r cols : ℕ) (shown : ℕ → Patch) (old new : FaultVisitor) → AreRowPatches g ps r cols shown → AreFaultNotes rules g ps r old →
     new.walk.rows ≡ old.walk.rows + 1 → OfNextFaultRow rules old.walk cols shown (λ g ps. IsRightTally rules g ps new.walk) →
     OfNextRowCounted old.walk cols shown (λ g ps. IsCountedOf g ps new.walk) →
-    OfNextRowDrawn rules old.walk cols shown (λ g ps. IsMapOf rules g ps new.walk) → new.rules ≡ rules → AreFaultNotes rules g ps (r + 1) new
-notes-more rules g ps r cols shown old new patches are rows found counted map same =
+    OfNextRowDrawn rules old.walk cols shown (λ g ps. IsMapOf rules g ps new.walk) → new.rules ≡ rules → IsRange (IsElevationAbove g (r + 1)) new.elevations → AreFaultNotes rules g ps (r + 1) new
+notes-more rules g ps r cols shown old new patches are rows found counted map same elevations =
     let so_far = are.walk_is in
     let here = subst (λ n. AreRowPatches g ps n cols shown) (sym so_far.rows_are) patches in
     record {
@@ -104,4 +104,5 @@ notes-more rules g ps r cols shown old new patches are rows found counted map sa
         map = map g ps here so_far.found so_far.map;
       };
       rules_are = λ some. same;
+      elevations_are = elevations;
     }

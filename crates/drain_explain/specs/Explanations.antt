@@ -7,6 +7,7 @@ use Rattle.drain_grid.specs.declared.set_product.SetProduct.TheVariants.{Con, Di
 use Rattle.drain_grid.specs.Judged.{has_product}
 use Rattle.drain_grid.specs.PatchRules.{Profile}
 use Rattle.drain_grid.specs.RulesAbout.{tried}
+use Rattle.drain_explain.specs.ElevationRanges.{IsElevationAbove, IsElevationOf, IsRange}
 use Rattle.drain_explain.specs.declared.findings.Findings.{Findings}
 use Rattle.drain_grid.specs.Grid.{Grid, Products, HasData}
 use Rattle.drain_grid.specs.declared.judged.Rules.{Rules}
@@ -25,14 +26,16 @@ use Rattle.drain_faults.specs.Faults.{AreFaultsOf, IsFirstPatch}
 use Rattle.drain_paths.specs.EndlessPaths.{IsEndlessPath}
 use Rattle.drain_paths.specs.declared.endless_path.EndlessPath.{EndlessPath}
 use Rattle.drain_verdict.specs.Answers.{rules_at}
+use Rattle.drain_verdict.specs.GroundSets.{GroundSet, rules_in, set_grid, set_products}
 use Rattle.drain_verdict.specs.Inputs.{Inputs}
 use Rattle.drain_verdict.specs.Meaning.{input_grid, input_products}
 use Rattle.drain_explain.specs.declared.findings.Explanation.{Explanation}
+use Rattle.drain_explain.specs.declared.seen.Seen.{Seen}
 
 -- Which products and rules an explanation is about.
 
 -- the product was looked at: it is judged
-abbrev pub looks_at : Findings → SetProduct → Bool
+abbrev pub looks_at : {F : Type 0} → Findings F → SetProduct → Bool
 looks_at f product = has_product f.rules.judged product
 
 -- the product whose number the rule judges
@@ -54,7 +57,7 @@ judged Label = Some Bas
 judged SharedLabel = Some Bas
 
 -- the rules that were tried
-abbrev pub rules_of : Findings → Profile
+abbrev pub rules_of : {F : Type 0} → Findings F → Profile
 rules_of f = tried f.rules
 
 -- Notes of the faults of a grid's first rows.
@@ -66,25 +69,35 @@ pub record IsWalkNoted (rules : Rules) (g : Grid) (ps : Products) (rows : ℕ) (
   pub counted : IsCountedOf g ps walk
   pub map : IsMapOf rules g ps walk
 
--- and these were the rules
+-- and these were the rules, and the least and the greatest elevation
 pub record AreFaultNotes (rules : Rules) (g : Grid) (ps : Products) (rows : ℕ) (notes : FaultVisitor) : Type 0 where
   pub walk_is : IsWalkNoted rules g ps rows notes.walk
   pub rules_are : 0 < rows → notes.rules ≡ rules
+  pub elevations_are : IsRange (IsElevationAbove g rows) notes.elevations
 
 -- the answer that is explained
-abbrev pub answer_in : Result Explanation Refusal → Result Outcome Refusal
+abbrev pub answer_in : {F : Type 0} → Result (Explanation F) Refusal → Result Outcome Refusal
 answer_in (Ok explanation) = Ok explanation.outcome
 answer_in (Err refusal) = Err refusal
 
--- of the inputs' grid and products, and the rules about judged rasters: these rules; for each rule and each product the
--- number of cells at which it fails, and the first; the first cell at which any rule fails, and its patch; and, where
--- there is a map, the number of each cell
-pub record AreFindingsOf (judged : Judged) (i : Inputs) (f : Findings) : Type 0 where
-  pub rules : f.rules ≡ rules_at judged i
-  pub each_rule : AreFaultsOf (rules_at judged i) (input_grid i) (input_products i) (cells (input_grid i).extent) f.by_rule
-  pub each_product : AreFaultsByProduct (rules_at judged i) (input_grid i) (input_products i) (cells (input_grid i).extent) f.by_product
-  pub first_patch : IsFirstPatch (rules_at judged i) (input_grid i) (input_products i) (cells (input_grid i).extent) f.first
-  pub map : IsMapOfCells (rules_at judged i) (input_grid i) (input_products i) (cells (input_grid i).extent) f.map
+-- of a grid and its products, and rules about judged rasters: these rules; for each rule and each product the
+-- number of cells at which it fails, and the first; the first cell at which any rule fails, and its patch; where
+-- there is a map, the number of each cell; and the least and the greatest elevation
+pub record AreFindingsOn {F : Type 0} (under : Rules) (g : Grid) (ps : Products) (f : Findings F) : Type 0 where
+  pub rules : f.rules ≡ under
+  pub each_rule : AreFaultsOf under g ps (cells g.extent) f.by_rule
+  pub each_product : AreFaultsByProduct under g ps (cells g.extent) f.by_product
+  pub first_patch : IsFirstPatch under g ps (cells g.extent) f.first
+  pub map : IsMapOfCells under g ps (cells g.extent) f.map
+  pub elevations : IsRange (IsElevationOf g) f.elevations
+
+-- so of the set's grid and products, and the rules about judged rasters
+abbrev pub AreFindingsIn : {F : Type 0} → Judged → GroundSet → Findings F → Type 0
+AreFindingsIn judged s f = AreFindingsOn (rules_in judged s) (set_grid s) (set_products s) f
+
+-- so of the inputs
+abbrev pub AreFindingsOf : {F : Type 0} → Judged → Inputs → Findings F → Type 0
+AreFindingsOf judged i f = AreFindingsOn (rules_at judged i) (input_grid i) (input_products i) f
 
 -- the outcome names the cell, as one whose path doesn't end
 abbrev pub IsNamed : Outcome → Cell × EndlessPath → Type 0
@@ -95,5 +108,18 @@ abbrev pub LeadsAt : Grid → Products → Cell × EndlessPath → Type 0
 LeadsAt g ps told = HasData g told.0 → IsEndlessPath g ps told.0 told.1
 
 -- the outcome names the cell, and its path leads there
+abbrev pub IsEndlessOn : Grid → Products → Outcome → Cell × EndlessPath → Type 0
+IsEndlessOn g ps outcome told = (outcome ≡ NoEnd told.0.row told.0.col) × IsEndlessPath g ps told.0 told.1
+
+-- so of the set
+abbrev pub IsEndlessIn : GroundSet → Outcome → Cell × EndlessPath → Type 0
+IsEndlessIn s outcome told = IsEndlessOn (set_grid s) (set_products s) outcome told
+
+-- so of the inputs
 abbrev pub IsEndlessOf : Inputs → Outcome → Cell × EndlessPath → Type 0
-IsEndlessOf i outcome told = (outcome ≡ NoEnd told.0.row told.0.col) × IsEndlessPath (input_grid i) (input_products i) told.0 told.1
+IsEndlessOf i outcome told = IsEndlessOn (input_grid i) (input_products i) outcome told
+
+-- the outcome of what was seen
+abbrev pub outcome_in : Result Seen Refusal → Result Outcome Refusal
+outcome_in (Ok seen) = Ok seen.outcome
+outcome_in (Err refusal) = Err refusal

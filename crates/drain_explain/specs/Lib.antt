@@ -1,2 +1,3 @@
+pub mod ElevationRanges
 pub mod Explanations
 pub mod RefusalDetails

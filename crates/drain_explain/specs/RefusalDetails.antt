@@ -3,7 +3,7 @@ use Rattle.std.specs.Prelude.{◌≡◌, ◌&&◌, ◌-◌, ◌∷◌, ℕ, List
 use Rattle.drain_mosaic.specs.Tiling.{Tiling, extent_of, left_of, top_of, north_edge, spacing_of, west_edge}
 use Rattle.drain_explain.specs.declared.refusal_detail.NotData.TheVariants.{Void, Outside}
 use Rattle.drain_explain.specs.declared.refusal_detail.RefusalDetail.{RefusalDetail}
-use Rattle.drain_explain.specs.declared.refusal_detail.RefusalDetail.TheVariants.{SinkLine, SinkCell, Seam, Side, Name, Shape, Position, TileLength, RasterLength}
+use Rattle.drain_explain.specs.declared.refusal_detail.RefusalDetail.TheVariants.{SinkLine, SinkCell, Seam, Side, Name, Shape, Position, TileLength, RasterLength, PixelSize, DemLength}
 use Rattle.drain_explain.specs.declared.refusal_detail.TheConstants.{SHOWN_BYTES}
 use Rattle.drain_text.specs.Text.{lines_of, words_of, whole_number}
 use Rattle.drain_grid.specs.declared.cell.Cell.{Cell}
@@ -17,7 +17,9 @@ use Rattle.drain_header.specs.Header.{Fields}
 use Rattle.drain_header.specs.declared.header.Place.{Place}
 use Rattle.drain_hgt.specs.Corner.{Corner}
 use Rattle.drain_hgt.specs.Samples.{tile_length}
-use Rattle.drain_raster.specs.Pixels.{needed_len}
+use Rattle.drain_grid.specs.Extent.{Extent}
+use Rattle.drain_raster.specs.Pixels.{header_extent, needed_len}
+use Rattle.drain_verdict.specs.DemGround.{IsDemHeader}
 use Rattle.drain_verdict.specs.Stages.{IsLayoutOf}
 use Rattle.drain_answer.specs.declared.refusal.Refusal.TheVariants as refusal
 use Rattle.drain_grid.specs.declared.product.Product.TheVariants as product
@@ -35,14 +37,14 @@ IsLineDetail list number (SinkLine n start bytes) =
     (n ≡ number) × ((line : List ℕ) × HasLine list number line × (start.items ≡ take SHOWN_BYTES line) × (bytes ≡ length line))
 IsLineDetail list number other = ⊥
 
--- a line whose cell has no data: its number, the row and the column in its first two words, and whether the mosaic has
--- that cell
-abbrev pub IsCellDetail : Tiling → List ℕ → ℕ → RefusalDetail → Type 0
-IsCellDetail t list number (SinkCell n row col why) =
+-- a line whose cell has no data: its number, the row and the column in its first two words, and whether a grid of this
+-- size has that cell
+abbrev pub IsCellDetail : Extent → List ℕ → ℕ → RefusalDetail → Type 0
+IsCellDetail e list number (SinkCell n row col why) =
     (n ≡ number) × ((line : List ℕ) × (first : List ℕ) × (second : List ℕ) × (more : List (List ℕ)) × HasLine list number line
     × (words_of line ≡ first ∷ second ∷ more) × (whole_number first ≡ Some row) × (whole_number second ≡ Some col)
-    × (why ≡ (if nat_lt row (extent_of t).rows && nat_lt col (extent_of t).cols then Void else Outside)))
-IsCellDetail t list number other = ⊥
+    × (why ≡ (if nat_lt row e.rows && nat_lt col e.cols then Void else Outside)))
+IsCellDetail e list number other = ⊥
 
 -- What an explanation reports of a cell where two tiles have different heights.
 
@@ -83,32 +85,35 @@ abbrev pub IsNameDetail : List (List ℕ) → ℕ → RefusalDetail → Type 0
 IsNameDetail names place (Name name) = slice_get names place ≡ Some name.items
 IsNameDetail names place other = ⊥
 
--- the rows and columns of the mosaic, and those of the product's header
-abbrev pub IsShapeDetail : Tiling → Product → List ℕ → RefusalDetail → Type 0
-IsShapeDetail t product text (Shape of expected found) =
-    (of ≡ product) × (expected.rows ≡ (extent_of t).rows) × (expected.cols ≡ (extent_of t).cols)
+-- these rows and columns, and those of the product's header
+abbrev pub IsShapeDetail : Extent → Product → List ℕ → RefusalDetail → Type 0
+IsShapeDetail e product text (Shape of expected found) =
+    (of ≡ product) × (expected.rows ≡ e.rows) × (expected.cols ≡ e.cols)
     × ((h : Fields) × Answers text (Ok h) × (found.rows ≡ h.rows) × (found.cols ≡ h.cols))
-IsShapeDetail t product text other = ⊥
+IsShapeDetail e product text other = ⊥
 
 -- the place that a raster of the mosaic has
 abbrev pub place_for : Tiling → Place
 place_for t = record { ulx = west_edge t; uly = north_edge t; xdim = spacing_of t; ydim = spacing_of t }
 
--- the place of the mosaic, and that of the product's header
-abbrev pub IsPositionDetail : Tiling → Product → List ℕ → RefusalDetail → Type 0
-IsPositionDetail t product text (Position of expected found) =
-    (of ≡ product) × (expected ≡ place_for t) × ((h : Fields) × Answers text (Ok h) × (found ≡ h.place))
-IsPositionDetail t product text other = ⊥
+-- this place, and that of the product's header
+abbrev pub IsPositionDetail : Place → Product → List ℕ → RefusalDetail → Type 0
+IsPositionDetail place product text (Position of expected found) =
+    (of ≡ product) × (expected ≡ place) × ((h : Fields) × Answers text (Ok h) × (found ≡ h.place))
+IsPositionDetail place product text other = ⊥
 
 -- the length of a tile
 abbrev pub IsTileLengthDetail : Tiling → Corner → RefusalDetail → Type 0
 IsTileLengthDetail t tile (TileLength of expected found) = (of ≡ tile) × (expected ≡ tile_length t.side)
 IsTileLengthDetail t tile other = ⊥
 
+-- this many bytes a raster needs by its header
+abbrev pub AreNeededBytes : List ℕ → ℕ → Type 0
+AreNeededBytes text bytes = (h : Fields) × Answers text (Ok h) × (bytes ≡ needed_len h)
+
 -- the length that a raster needs by its header
 abbrev pub IsRasterLengthDetail : Product → List ℕ → RefusalDetail → Type 0
-IsRasterLengthDetail product text (RasterLength of expected found) =
-    (of ≡ product) × ((h : Fields) × Answers text (Ok h) × (expected ≡ needed_len h))
+IsRasterLengthDetail product text (RasterLength of expected found) = (of ≡ product) × AreNeededBytes text expected
 IsRasterLengthDetail product text other = ⊥
 
 -- the header that was handed in of a product, empty for one that no set has
@@ -120,6 +125,15 @@ text_given texts product.Bas = texts held.Bas
 text_given texts product.Rnk = texts held.Rnk
 text_given texts product.Spl = []
 
+-- the details of each refusal of products and of a list of sinks, which lie on a grid of this size and place
+abbrev pub IsSetDetail : Extent → Place → (SetProduct → List ℕ) → List ℕ → Refusal → RefusalDetail → Type 0
+IsSetDetail e place texts list (refusal.WrongShape p) detail = IsShapeDetail e p (text_given texts p) detail
+IsSetDetail e place texts list (refusal.Misplaced p) detail = IsPositionDetail place p (text_given texts p) detail
+IsSetDetail e place texts list (refusal.RasterShort p) detail = IsRasterLengthDetail p (text_given texts p) detail
+IsSetDetail e place texts list (refusal.BadSinkLine number) detail = IsLineDetail list number detail
+IsSetDetail e place texts list (refusal.SinkNotData number) detail = IsCellDetail e list number detail
+IsSetDetail e place texts list other detail = ⊥
+
 -- of the mosaic of tiles with these names
 abbrev pub OfMosaic : ℕ → List (List ℕ) → (Tiling → Type 0) → Type 0
 OfMosaic side names P = (t : Tiling) × IsLayoutOf side names t × P t
@@ -129,11 +143,28 @@ OfMosaic side names P = (t : Tiling) × IsLayoutOf side names t × P t
 abbrev pub IsDetailOf : {L : Type 0} → (L → ℕ → ℕ → ℤ → Type 0) → ℕ → List (List ℕ) → (SetProduct → List ℕ) → List ℕ → Refusal → RefusalDetail → Type 0
 IsDetailOf shows side names texts list refusal.BadSide detail = IsSideDetail side detail
 IsDetailOf shows side names texts list (refusal.BadName place) detail = IsNameDetail names place detail
-IsDetailOf shows side names texts list (refusal.WrongShape p) detail = OfMosaic side names (λ t. IsShapeDetail t p (text_given texts p) detail)
-IsDetailOf shows side names texts list (refusal.Misplaced p) detail = OfMosaic side names (λ t. IsPositionDetail t p (text_given texts p) detail)
 IsDetailOf shows side names texts list (refusal.BadTileLength tile) detail = OfMosaic side names (λ t. IsTileLengthDetail t tile detail)
-IsDetailOf shows side names texts list (refusal.RasterShort p) detail = IsRasterLengthDetail p (text_given texts p) detail
 IsDetailOf shows side names texts list (refusal.SeamMismatch cell) detail = OfMosaic side names (λ t. IsSeamDetail shows t cell detail)
-IsDetailOf shows side names texts list (refusal.BadSinkLine number) detail = IsLineDetail list number detail
-IsDetailOf shows side names texts list (refusal.SinkNotData number) detail = OfMosaic side names (λ t. IsCellDetail t list number detail)
-IsDetailOf shows side names texts list other detail = ⊥
+IsDetailOf shows side names texts list other detail = OfMosaic side names (λ t. IsSetDetail (extent_of t) (place_for t) texts list other detail)
+
+-- What an explanation reports of a refused raster of elevations.
+
+-- the sizes of a pixel by the raster's header
+abbrev pub IsPixelSizeDetail : List ℕ → RefusalDetail → Type 0
+IsPixelSizeDetail text (PixelSize xdim ydim) = (h : Fields) × Answers text (Ok h) × (xdim ≡ h.place.xdim) × (ydim ≡ h.place.ydim)
+IsPixelSizeDetail text other = ⊥
+
+-- the length that the raster needs by its header
+abbrev pub IsDemLengthDetail : List ℕ → RefusalDetail → Type 0
+IsDemLengthDetail text (DemLength expected found) = AreNeededBytes text expected
+IsDemLengthDetail text other = ⊥
+
+-- of the raster with this header
+abbrev pub OfDem : List ℕ → (Fields → Type 0) → Type 0
+OfDem text P = (h : Fields) × IsDemHeader h text × P h
+
+-- the details of each refusal, of the raster's header, the headers of products and a list of sinks
+abbrev pub IsDemDetailOf : List ℕ → (SetProduct → List ℕ) → List ℕ → Refusal → RefusalDetail → Type 0
+IsDemDetailOf text texts list refusal.BadPixelSize detail = IsPixelSizeDetail text detail
+IsDemDetailOf text texts list refusal.DemShort detail = IsDemLengthDetail text detail
+IsDemDetailOf text texts list other detail = OfDem text (λ h. IsSetDetail (header_extent h) h.place texts list other detail)

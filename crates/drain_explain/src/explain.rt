@@ -1,4 +1,4 @@
-//! What is said of judged rasters, with what explains it.
+//! What is said of rasters judged on tiles, with what explains it.
 
 ghost use Rattle.std.specs.Prelude.{◌≡◌, ◌↔◌, IfOk, IfSome, IsSome};
 ghost use Rattle.drain_explain.specs.Explanations.{AreFindingsOf, IsEndlessOf, answer_in};
@@ -11,17 +11,18 @@ ghost use Rattle.drain_verdict.specs.Inputs.{Inputs, Encode};
 ghost use Rattle.drain_verdict.specs.Outcomes.{IsOutcomeAnswer};
 ghost use Rattle.drain_verdict.specs.Stages.{IsLayoutOf};
 
-use crate::fault_visitor::{FaultVisitor, Mapping};
-use crate::findings::{Explanation, endless_of, findings_of};
+use crate::fault_visitor::Mapping;
+use crate::findings::{Explanation, findings_of};
+use crate::seen::see;
 use drain_answer::Refusal;
 use drain_device::ByteSource;
-use drain_grid::{Judged, OutOfMemory};
+use drain_grid::Judged;
 use drain_hgt::TileInput;
 use drain_hgt::laws::one_name;
+use drain_mosaic::Layout;
 use drain_verdict::audit_products::ProductInputs;
-use drain_verdict::outcome::outcome_of;
 use drain_verdict::stages::layout_of;
-use drain_verdict::{AuditProducts, Products, judge};
+use drain_verdict::{AuditProducts, Products};
 use std::alloc::Global;
 
 /// The verdict of `check` with its explanation, or its refusal.
@@ -36,7 +37,7 @@ pub fn explain_check<R: ByteSource>(
     sinks: &[u8],
     products: &mut Products<R>,
     mapping: Mapping,
-) -> Result<Explanation, Refusal>
+) -> Result<Explanation<Layout>, Refusal>
     // The answer is a check's.
     ensures answer { (inputs : Inputs) → Encode R.bytes_left side tiles.old sinks.now products.old inputs → IsOutcomeAnswer AllWithRanks inputs (answer_in result) }
 
@@ -71,7 +72,7 @@ pub fn explain_audit<R: ByteSource>(
     products: &mut AuditProducts<R>,
     judged: Judged,
     mapping: Mapping,
-) -> Result<Explanation, Refusal>
+) -> Result<Explanation<Layout>, Refusal>
     // The answer is an audit's.
     ensures answer { ForAudit R.bytes_left side tiles.old sinks.now products.old (λ inputs. IsOutcomeAnswer judged inputs (answer_in result)) }
 
@@ -96,7 +97,7 @@ fn explain<R: ByteSource, P: ProductInputs<R>>(
     products: &mut P,
     judged: Judged,
     mapping: Mapping,
-) -> Result<Explanation, Refusal>
+) -> Result<Explanation<Layout>, Refusal>
     ensures answer { (inputs : Inputs) → Encode R.bytes_left side tiles.old sinks.now (P.inputs products.old) inputs → IsOutcomeAnswer judged inputs (answer_in result) }
     ensures explained { IfOk result (λ e. (inputs : Inputs) → Encode R.bytes_left side tiles.old sinks.now (P.inputs products.old) inputs → AreFindingsOf judged inputs e.findings) }
     ensures endless { IfOk result (λ e. (inputs : Inputs) → Encode R.bytes_left side tiles.old sinks.now (P.inputs products.old) inputs → IfSome e.findings.endless (IsEndlessOf inputs e.outcome)) }
@@ -107,18 +108,9 @@ fn explain<R: ByteSource, P: ProductInputs<R>>(
     // The law that bytes name one tile.
     one_name();
     let layout = layout_of(alloc, side, tiles)?;
-    let walk = match FaultVisitor::new(alloc, layout.shape(), mapping, judged) {
-        Ok(walk) => walk,
-        Err(OutOfMemory) => return Err(Refusal::OutOfMemory),
-    };
-    let judgement = judge(alloc, &layout, sinks, tiles, products, judged, walk)?;
-    let outcome = outcome_of(judged, &judgement.verdict, judgement.cell);
-    let endless = match endless_of(alloc, &judgement.flows, layout.shape(), &outcome) {
-        Ok(endless) => endless,
-        Err(OutOfMemory) => return Err(Refusal::OutOfMemory),
-    };
+    let seen = see::<R, TileInput<R>, P>(alloc, &layout, sinks, tiles, products, judged, mapping)?;
     Ok(Explanation {
-        outcome,
-        findings: findings_of(layout, judgement.walk, endless),
+        outcome: seen.outcome,
+        findings: findings_of(layout, seen.notes, seen.endless),
     })
 }

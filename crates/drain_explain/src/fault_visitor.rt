@@ -6,6 +6,7 @@ ghost use Rattle.drain_grid.specs.declared.judged.Rules.{Rules};
 ghost use Rattle.drain_explain.specs.Explanations.{AreFaultNotes, IsWalkNoted};
 ghost use Rattle.drain_explain.specs.declared.fault_visitor.Mapping.TheVariants.{Drawn};
 
+use crate::elevation_range::{ElevationRange, joined, range_of};
 use drain_faults::FaultWalk;
 use drain_grid::{Judged, NoData, OutOfMemory, Rules, Shape, Verdict};
 use drain_rows::{RowBuffer, RowVisitor, VerdictVisitor};
@@ -19,11 +20,13 @@ pub enum Mapping {
     Undrawn,
 }
 
-/// The result of the rows so far, with their map if one is required; the rules tried at the last row.
+/// The result of the rows so far, with their map if one is required; the rules tried at the last row; the least and the
+/// greatest elevation of these rows.
 #[derive(Drop)]
 pub struct FaultVisitor {
     pub walk: FaultWalk,
     pub rules: Rules,
+    pub elevations: Option<ElevationRange>,
 }
 
 impl FaultVisitor {
@@ -45,6 +48,7 @@ impl FaultVisitor {
                 nodata: NoData::defaults(),
                 judged,
             },
+            elevations: None,
         })
     }
 }
@@ -75,12 +79,13 @@ impl RowVisitor for FaultVisitor {
 
     fn note(
         &mut self,
-        _row: &RowBuffer,
+        row: &RowBuffer,
         rows: &ThreeRows<'_>,
         rules: &Rules,
     ) -> Result<(), OutOfMemory> {
         self.walk.note_row(rows, rules)?;
         self.rules = *rules;
+        self.elevations = joined(self.elevations, range_of(&row.z));
         Ok(())
     }
 }

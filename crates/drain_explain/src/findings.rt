@@ -1,19 +1,17 @@
-//! What the rules say of every cell of a mosaic, and which rules and products were looked at.
+//! What the rules say of every cell of a grid, and which rules and products were looked at.
 
-ghost use Rattle.std.specs.Prelude.{◌≡◌, IfOk, IfSome, ◌≢◌, IsTrue, ◌↔◌, IsSome};
-ghost use Rattle.drain_explain.specs.Explanations.{IsNamed, LeadsAt, AreFindingsOf, answer_in, judged, looks_at, rules_of, AreFaultNotes};
+ghost use Rattle.std.specs.Prelude.{◌≡◌, ◌<◌, IfOk, IfSome, ◌≢◌, IsTrue, ◌↔◌, IsSome};
+ghost use Rattle.drain_explain.specs.Explanations.{IsNamed, LeadsAt, AreFindingsOn, answer_in, judged, looks_at, rules_of, AreFaultNotes};
 ghost use Rattle.drain_grid.specs.Grid.{Grid, Products};
 ghost use Rattle.drain_paths.specs.Walks.{AreKnownFlows};
 ghost use Rattle.drain_grid.specs.declared.patch.Patch.{Patch};
-ghost use Rattle.drain_grid.specs.declared.judged.Judged.{Judged};
-ghost use Rattle.drain_verdict.specs.Answers.{AreNotesOf};
-ghost use Rattle.drain_verdict.specs.Inputs.{Inputs};
+ghost use Rattle.drain_grid.specs.declared.judged.Rules as declared;
 
+use crate::elevation_range::ElevationRange;
 use crate::fault_visitor::FaultVisitor;
 use drain_answer::{Outcome, Refusal};
 use drain_faults::{FaultMap, FaultyPatch, PerRule, ProductFaults, RuleFaults};
 use drain_grid::{Cell, OutOfMemory, PerProduct, Rule, Rules, SetProduct, Shape};
-use drain_mosaic::Layout;
 use drain_paths::{CellFlows, EndlessPath};
 use std::alloc::Global;
 
@@ -45,11 +43,11 @@ pub(crate) fn endless_of(
     }
 }
 
-/// What every cell of a mosaic showed.
+/// What every cell of a grid showed.
 #[derive(Drop)]
-pub struct Findings {
-    /// The mosaic.
-    pub layout: Layout,
+pub struct Findings<F> {
+    /// Where the grid lies: the layout of its tiles, or the header of the raster of its elevations.
+    pub layout: F,
     /// The rules that were tried: which rasters they are about, and the no-data numbers.
     pub rules: Rules,
     /// For each rule that was tried the number of cells at which it fails, and the first.
@@ -63,9 +61,11 @@ pub struct Findings {
     pub map: Option<FaultMap>,
     /// Without ranks, the first data cell whose path doesn't end, and where its path leads.
     pub endless: Option<(Cell, EndlessPath)>,
+    /// The least and the greatest elevation of data cells, none if there is no data cell.
+    pub elevations: Option<ElevationRange>,
 }
 
-impl Findings {
+impl<F> Findings<F> {
     /// Whether the rules looked at this product.
     pub fn looks_at(&self, product: SetProduct) -> bool
         ensures { result ≡ looks_at self.now product }
@@ -108,17 +108,17 @@ pub fn judged_product(rule: Rule) -> Option<SetProduct>
     }
 }
 
-/// The outcome for judged rasters of a mosaic, and what every cell showed.
+/// The outcome for judged rasters of a grid, and what every cell showed.
 #[derive(Drop)]
-pub struct Explanation {
+pub struct Explanation<F> {
     pub outcome: Outcome,
-    pub findings: Findings,
+    pub findings: Findings<F>,
 }
 
 /// The answer that is explained, and what every cell showed if it is an outcome.
-pub fn answer_and_findings(
-    explained: Result<Explanation, Refusal>,
-) -> (Result<Outcome, Refusal>, Option<Findings>)
+pub fn answer_and_findings<F>(
+    explained: Result<Explanation<F>, Refusal>,
+) -> (Result<Outcome, Refusal>, Option<Findings<F>>)
     ensures { result.0 ≡ answer_in explained }
 {
     match explained {
@@ -128,18 +128,19 @@ pub fn answer_and_findings(
 }
 
 /// What every cell showed, by notes of all rows.
-pub(crate) fn findings_of(
-    layout: Layout,
+pub(crate) fn findings_of<F>(
+    layout: F,
     notes: FaultVisitor,
     endless: Option<(Cell, EndlessPath)>,
-) -> Findings
+) -> Findings<F>
     ensures layout { result.layout ≡ layout }
     ensures endless { result.endless ≡ endless }
     ensures drawn { IsSome result.map ↔ IsSome notes.walk.map }
-    ensures found { (judged : Judged) (inputs : Inputs) → AreNotesOf AreFaultNotes judged inputs notes → AreFindingsOf judged inputs result }
+    ensures found { (rules : declared.Rules) (g : Grid) (ps : Products) → 0 < g.extent.rows → AreFaultNotes rules g ps g.extent.rows notes → AreFindingsOn rules g ps result }
 {
     let first = notes.walk.first_patch();
     let rules = notes.rules;
+    let elevations = notes.elevations;
     let (by_rule, by_product, map) = notes.walk.into_faults();
     Findings {
         layout,
@@ -149,5 +150,6 @@ pub(crate) fn findings_of(
         first,
         map,
         endless,
+        elevations,
     }
 }

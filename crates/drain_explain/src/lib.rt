@@ -5,15 +5,20 @@
 //! (`drain_faults`). If there is a path without an end, it says where that path leads.
 #![tactic(auto)]
 
+pub mod elevation_range;
 pub mod explain;
+pub mod explain_dem;
 pub mod fault_visitor;
 pub mod findings;
 pub mod laws;
 pub mod refusal_detail;
 pub mod refused;
+pub mod seen;
 
+pub use elevation_range::ElevationRange;
 pub use explain::{explain_audit, explain_check};
+pub use explain_dem::{explain_audit_dem, explain_check_dem};
 pub use fault_visitor::{FaultVisitor, Mapping};
 pub use findings::{Explanation, Findings, answer_and_findings, judged_product};
 pub use refusal_detail::{Extent, NotData, RefusalDetail, SHOWN_BYTES, TileValue};
-pub use refused::{FileLookup, detail_of};
+pub use refused::{FileLookup, detail_of, detail_of_dem};

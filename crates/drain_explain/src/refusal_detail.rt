@@ -91,14 +91,14 @@ fn shown_of(line: &[u8]) -> &[u8]
 }
 
 /// The cell that the line lists, and why it has no data.
-pub(crate) fn sink_cell_detail(layout: &Layout, list: &[u8], number: u64) -> Option<RefusalDetail>
-    ensures { IfSome result (IsCellDetail layout.now list.now number) }
+pub(crate) fn sink_cell_detail(shape: Shape, list: &[u8], number: u64) -> Option<RefusalDetail>
+    ensures { IfSome result (IsCellDetail shape list.now number) }
 {
     let (first, after) = first_word(line_of(list, number)?)?;
     let (second, _) = first_word(after)?;
     let row = whole_number(first)?;
     let col = whole_number(second)?;
-    let why = why_no_data(layout.shape(), row, col);
+    let why = why_no_data(shape, row, col);
     Some(RefusalDetail::SinkCell {
         number,
         row: u64::from(row),
@@ -142,14 +142,14 @@ pub enum RefusalDetail {
     Side(u32),
     /// `BadName`: the name as given, in place of one such as N36W085.hgt.
     Name(Vec<u8>),
-    /// `WrongShape`: the rows and columns of the mosaic, and those of the product's header.
+    /// `WrongShape`: the rows and columns of the elevations, and those of the product's header.
     Shape {
         product: Product,
         expected: Extent,
         found: Extent,
     },
-    /// `Misplaced`: the centre of the north-west pixel and the sizes of a pixel, of the mosaic and of the product's
-    /// header, in units of 10^-15 degree.
+    /// `Misplaced`: the centre of the north-west pixel and the sizes of a pixel, of the elevations and of the product's
+    /// header, in units of 10^-15 degree, or of 10^-15 of the unit of a raster of elevations.
     Position {
         product: Product,
         expected: Place,
@@ -186,6 +186,17 @@ pub enum RefusalDetail {
         col: u64,
         why: NotData,
     },
+    /// `BadPixelSize`: the width and the height of a pixel by the header of the raster of elevations, in units of 10^-15
+    /// of its own, where those above 0 are sizes.
+    PixelSize {
+        xdim: i128,
+        ydim: i128,
+    },
+    /// `DemShort`: the bytes that the raster of elevations needs by its header, and those of the file.
+    DemLength {
+        expected: u64,
+        found: u64,
+    },
 }
 
 /// Rows and columns.
@@ -207,6 +218,6 @@ pub struct TileValue {
 pub enum NotData {
     /// It is a void.
     Void,
-    /// It is outside the mosaic.
+    /// It is outside the grid.
     Outside,
 }

@@ -2,7 +2,7 @@
 //! their lengths and the heights at a seam.
 
 ghost use Rattle.std.specs.Prelude.{IfSome, ℕ, ℤ, ◌≡◌};
-ghost use Rattle.drain_explain.specs.RefusalDetails.{IsDetailOf, IsNameDetail, IsPositionDetail, IsRasterLengthDetail, IsShapeDetail, IsTileLengthDetail, place_for, text_given};
+ghost use Rattle.drain_explain.specs.RefusalDetails.{AreNeededBytes, IsDemDetailOf, IsDemLengthDetail, IsDetailOf, IsNameDetail, IsPixelSizeDetail, IsPositionDetail, IsRasterLengthDetail, IsSetDetail, IsShapeDetail, IsTileLengthDetail, place_for, text_given};
 ghost use Rattle.drain_grid.specs.PerProduct.{of_product};
 ghost use Rattle.drain_hgt.specs.Inputs.{names_of};
 ghost use Rattle.drain_verdict.specs.Stages.{IsLayoutOf};
@@ -11,13 +11,14 @@ use crate::refusal_detail::{
     Extent, RefusalDetail, seam_detail, sink_cell_detail, sink_line_detail,
 };
 use drain_answer::Refusal;
-use drain_grid::{PerProduct, Product};
+use drain_grid::{PerProduct, Product, Shape};
 use drain_header::{Place, parse_header};
 use drain_hgt::tile::tile_length;
 use drain_hgt::{TileInput, TileName};
 use drain_mosaic::Layout;
-use drain_raster::needed_len;
+use drain_raster::{needed_len, shape};
 use drain_verdict::stages::layout_of;
+use drain_verdict::{RasterInput, dem_header};
 use std::alloc::Global;
 
 /// A second look at the files of inputs. It gives nothing if a file can't be looked at again.
@@ -27,6 +28,9 @@ pub trait FileLookup {
 
     /// How many bytes the tile in this place of the list has.
     fn tile_length(&mut self, place: usize) -> Option<u64>;
+
+    /// How many bytes the raster of elevations has.
+    fn dem_length(&mut self) -> Option<u64>;
 
     /// How many bytes the product's raster has.
     fn raster_length(&mut self, product: Product) -> Option<u64>;
@@ -52,31 +56,67 @@ pub fn detail_of<R, L: FileLookup>(
     match refusal {
         Refusal::BadSide => Some(RefusalDetail::Side(side)),
         Refusal::BadName(place) => name_detail(alloc, tiles, place),
-        Refusal::RasterShort(product) => {
-            raster_length_detail(product, text_of(headers, product), look)
-        }
-        Refusal::BadSinkLine(number) => sink_line_detail(alloc, sinks, number),
-        Refusal::WrongShape(product) => {
-            shape_detail(
-                &mosaic(alloc, side, tiles)?,
-                product,
-                text_of(headers, product),
-            )
-        }
-        Refusal::Misplaced(product) => {
-            position_detail(
-                &mosaic(alloc, side, tiles)?,
-                product,
-                text_of(headers, product),
-            )
-        }
         Refusal::BadTileLength(tile) => {
             tile_length_detail(&mosaic(alloc, side, tiles)?, tile, look)
         }
         Refusal::SeamMismatch(cell) => seam_detail(&mosaic(alloc, side, tiles)?, cell, look),
-        Refusal::SinkNotData(number) => {
-            sink_cell_detail(&mosaic(alloc, side, tiles)?, sinks, number)
+        _ => {
+            let layout = mosaic(alloc, side, tiles)?;
+            let place = place_for(&layout);
+            set_detail(alloc, refusal, layout.shape(), place, headers, sinks, look)
         }
+    }
+}
+
+/// The same of these inputs with one raster of elevations.
+pub fn detail_of_dem<R, L: FileLookup>(
+    alloc: Global,
+    refusal: Refusal,
+    dem: &RasterInput<R>,
+    headers: &PerProduct<&[u8]>,
+    sinks: &[u8],
+    look: &mut L,
+) -> Option<RefusalDetail>
+    ensures { IfSome result (IsDemDetailOf dem.now.header (λ p. (of_product headers.now p).now) sinks.now refusal) }
+{
+    match refusal {
+        Refusal::BadPixelSize => pixel_size_detail(dem.header.as_slice()),
+        Refusal::DemShort => dem_length_detail(dem.header.as_slice(), look),
+        _ => {
+            let header = dem_header(dem).ok()?;
+            set_detail(
+                alloc,
+                refusal,
+                shape(&header),
+                header.place,
+                headers,
+                sinks,
+                look,
+            )
+        }
+    }
+}
+
+/// The details of a refusal of products or of the list of sinks, which lie on a grid of this shape and place.
+fn set_detail<L: FileLookup>(
+    alloc: Global,
+    refusal: Refusal,
+    shape: Shape,
+    place: Place,
+    headers: &PerProduct<&[u8]>,
+    sinks: &[u8],
+    look: &mut L,
+) -> Option<RefusalDetail>
+    ensures { IfSome result (IsSetDetail shape place (λ p. (of_product headers.now p).now) sinks.now refusal) }
+{
+    match refusal {
+        Refusal::WrongShape(product) => shape_detail(shape, product, text_of(headers, product)),
+        Refusal::Misplaced(product) => position_detail(place, product, text_of(headers, product)),
+        Refusal::RasterShort(product) => {
+            raster_length_detail(product, text_of(headers, product), look)
+        }
+        Refusal::BadSinkLine(number) => sink_line_detail(alloc, sinks, number),
+        Refusal::SinkNotData(number) => sink_cell_detail(shape, sinks, number),
         _ => None,
     }
 }
@@ -111,12 +151,11 @@ fn name_detail<R>(alloc: Global, tiles: &[TileInput<R>], place: usize) -> Option
     Some(RefusalDetail::Name(name))
 }
 
-/// The rows and columns of the mosaic, and those of the product's header.
-fn shape_detail(layout: &Layout, product: Product, text: &[u8]) -> Option<RefusalDetail>
-    ensures { IfSome result (IsShapeDetail layout.now product text.now) }
+/// These rows and columns, and those of the product's header.
+fn shape_detail(shape: Shape, product: Product, text: &[u8]) -> Option<RefusalDetail>
+    ensures { IfSome result (IsShapeDetail shape product text.now) }
 {
     let header = parse_header(text).ok()?;
-    let shape = layout.shape();
     Some(RefusalDetail::Shape {
         product,
         expected: Extent {
@@ -130,14 +169,14 @@ fn shape_detail(layout: &Layout, product: Product, text: &[u8]) -> Option<Refusa
     })
 }
 
-/// The place of the mosaic, and that of the product's header.
-fn position_detail(layout: &Layout, product: Product, text: &[u8]) -> Option<RefusalDetail>
-    ensures { IfSome result (IsPositionDetail layout.now product text.now) }
+/// This place, and that of the product's header.
+fn position_detail(place: Place, product: Product, text: &[u8]) -> Option<RefusalDetail>
+    ensures { IfSome result (IsPositionDetail place product text.now) }
 {
     let header = parse_header(text).ok()?;
     Some(RefusalDetail::Position {
         product,
-        expected: place_for(layout),
+        expected: place,
         found: header.place,
     })
 }
@@ -183,10 +222,38 @@ fn raster_length_detail<L: FileLookup>(
 ) -> Option<RefusalDetail>
     ensures { IfSome result (IsRasterLengthDetail product text.now) }
 {
-    let header = parse_header(text).ok()?;
     Some(RefusalDetail::RasterLength {
         product,
-        expected: needed_len(&header) as u64,
+        expected: bytes_needed(text)?,
         found: look.raster_length(product)?,
     })
+}
+
+/// The sizes of a pixel by the header of the raster of elevations.
+fn pixel_size_detail(text: &[u8]) -> Option<RefusalDetail>
+    ensures { IfSome result (IsPixelSizeDetail text.now) }
+{
+    let header = parse_header(text).ok()?;
+    Some(RefusalDetail::PixelSize {
+        xdim: header.place.xdim,
+        ydim: header.place.ydim,
+    })
+}
+
+/// The bytes that the raster of elevations needs by its header, and those of the file.
+fn dem_length_detail<L: FileLookup>(text: &[u8], look: &mut L) -> Option<RefusalDetail>
+    ensures { IfSome result (IsDemLengthDetail text.now) }
+{
+    Some(RefusalDetail::DemLength {
+        expected: bytes_needed(text)?,
+        found: look.dem_length()?,
+    })
+}
+
+/// The bytes that a raster needs by its header.
+fn bytes_needed(text: &[u8]) -> Option<u64>
+    ensures { IfSome result (AreNeededBytes text.now) }
+{
+    let header = parse_header(text).ok()?;
+    Some(needed_len(&header) as u64)
 }

@@ -1,6 +1,9 @@
 -- The paths of products' files, and the name in a tile's path.
 use Rattle.std.specs.Prelude.{◌≡◌, ◌≢◌, ◌⊎◌, ◌==◌, ℕ, List, [], ◌∷◌, ◌++◌, codes, decimal, if◌then◌else◌}
 use Rattle.std.specs.List.{All, ends_with}
+use Rattle.drain_args.specs.declared.requests.DemArgs.{DemArgs}
+use Rattle.drain_args.specs.declared.requests.DemEnding.{DemEnding}
+use Rattle.drain_args.specs.declared.requests.DemEnding.TheVariants.{Lower, Upper}
 use Rattle.drain_grid.specs.declared.product.Product.{Product}
 use Rattle.drain_grid.specs.declared.product.Product.TheVariants.{Con, Dir, Acc, Bas, Rnk}
 use Rattle.drain_grid.specs.Product.{product_name}
@@ -30,6 +33,16 @@ raster_ending = codes ".bil"
 abbrev pub ending_of : Part → List ℕ
 ending_of Header = header_ending
 ending_of Raster = raster_ending
+
+-- the ending of the file of a raster of elevations, in the case of the raster's
+abbrev pub dem_file_ending : DemEnding → Part → List ℕ
+dem_file_ending Lower part = ending_of part
+dem_file_ending Upper Header = codes ".HDR"
+dem_file_ending Upper Raster = codes ".BIL"
+
+-- its path, the header's next to the raster's
+abbrev pub dem_file : DemArgs → Part → List ℕ
+dem_file dem part = dem.stem.now ++ dem_file_ending dem.ending part
 
 -- the name is the whole path, or follows the path's last slash
 pub record IsLastPart (path name : List ℕ) : Type 0 where

@@ -10,9 +10,16 @@ use Rattle.drain_files.specs.declared.source_or_zeros.SourceOrZeros.{SourceOrZer
 use Rattle.drain_files.specs.declared.source_or_zeros.SourceOrZeros.TheVariants.{Source, Zeros}
 use Rattle.drain_header.specs.declared.header.ByteOrdering.TheVariants.{Least}
 use Rattle.drain_header.specs.Header.{Fields}
-use Rattle.drain_maker.specs.ProductFiles.{mosaic_place}
-use Rattle.drain_mosaic.specs.Tiling.{Tiling, extent_of}
 use Rattle.std.specs.Io.KnownBytes.{Consumes}
+use Rattle.std.specs.List.{AllZip}
+use Rattle.drain_args.specs.declared.requests.Elevations.{Elevations}
+use Rattle.drain_args.specs.declared.requests.Elevations.TheVariants as of
+use Rattle.drain_args.specs.declared.requests.TileArgs.{TileArgs}
+use Rattle.drain_files.specs.FilePaths.{IsLastPart}
+use Rattle.drain_files.specs.declared.open_judged.OpenElevations.{OpenElevations}
+use Rattle.drain_files.specs.declared.open_judged.OpenElevations.TheVariants.{Tiles, Dem}
+use Rattle.drain_files.specs.declared.open_judged.OpenTiles.{OpenTiles}
+use Rattle.drain_hgt.specs.Inputs.{names_of}
 use Rattle.drain_files.specs.declared.open_judged.JudgedProducts.{JudgedProducts}
 use Rattle.drain_files.specs.declared.open_judged.JudgedProducts.TheVariants.{Five, Four}
 use Rattle.drain_grid.specs.declared.judged.Judged.{Judged}
@@ -50,17 +57,18 @@ source_counts counts (Zeros n) = no_faults
 -- The header of a map of faults.
 -- Source: the Esri description of BIL headers; sizes, byte order and the no-data number are this project's own
 
--- a byte without a sign for each pixel, nothing to skip, rows without padding, 255 for no data
-abbrev pub map_header : Tiling → Fields
-map_header t = record {
-  rows = (extent_of t).rows;
-  cols = (extent_of t).cols;
+-- of a map that lies as a raster with this header does: a byte without a sign for each pixel, nothing to skip, rows without
+-- padding, 255 for no data
+abbrev pub map_header : Fields → Fields
+map_header h = record {
+  rows = h.rows;
+  cols = h.cols;
   bits = 8;
   order = Least;
   signed = false;
   skip = 0;
-  row_bytes = (extent_of t).cols;
-  place = mosaic_place t;
+  row_bytes = h.cols;
+  place = h.place;
   nodata = Some (pos 255);
 }
 
@@ -76,3 +84,17 @@ TakesMoreThan most old new = (bytes : List ℕ) × Consumes old new bytes × (mo
 abbrev pub AreOf : {R : Type 0} → Judged → JudgedProducts R → Type 0
 AreOf judged (Five products) = judged ≡ AllWithRanks
 AreOf judged (Four products named) = named ≡ judged
+
+-- Where elevations come from.
+
+-- these tiles, in this order, with this side
+pub record AreTilesOf {R : Type 0} (args : TileArgs) (opened : OpenTiles R) : Type 0 where
+  pub side_is : opened.side ≡ args.side
+  pub named : AllZip (λ path name. IsLastPart path.now name) args.paths.items (names_of opened.tiles.items)
+
+-- tiles where tiles are named, one raster where a raster is
+abbrev pub AreElevationsOf : {R : Type 0} → Elevations → OpenElevations R → Type 0
+AreElevationsOf (of.Tiles args) (Tiles opened) = AreTilesOf args opened
+AreElevationsOf (of.Dem args) (Dem input) = Unit {0}
+AreElevationsOf (of.Tiles args) (Dem input) = ⊥
+AreElevationsOf (of.Dem args) (Tiles opened) = ⊥

@@ -2,9 +2,10 @@
 
 ghost use Rattle.std.specs.Prelude.{◌≡◌, ◌++◌, ◌↔◌, IfOk, IsTrue, string_bytes};
 ghost use Rattle.drain_grid.specs.Product.{product_name};
-ghost use Rattle.drain_files.specs.FilePaths.{product_path, separator, header_ending, raster_ending, ending_of, IsFolderPart, IsLastPart, IsProductName, part_name};
+ghost use Rattle.drain_files.specs.FilePaths.{dem_file, dem_file_ending, product_path, separator, header_ending, raster_ending, ending_of, IsFolderPart, IsLastPart, IsProductName, part_name};
 
 use drain_answer::lines::{push_number, words};
+use drain_args::requests::{DemArgs, DemEnding};
 use drain_grid::Product;
 use drain_maker::product_files::Part;
 use memchr::memrchr;
@@ -47,6 +48,25 @@ fn separator(folder: &str) -> &'static str
         ""
     } else {
         "/"
+    }
+}
+
+/// The path of the header or the raster of elevations: the raster's is as given, the header's next to it.
+pub fn dem_path(alloc: Global, dem: &DemArgs<'_>, part: Part) -> Result<String, AllocError>
+    ensures { IfOk result (λ path. string_bytes path ≡ dem_file dem.now part) }
+{
+    let mut path = String::from_str(alloc, dem.stem)?;
+    path.push_str(dem_file_ending(dem.ending, part))?;
+    Ok(path)
+}
+
+fn dem_file_ending(ending: DemEnding, part: Part) -> &'static str
+    ensures { result.now ≡ dem_file_ending ending part }
+{
+    match (ending, part) {
+        (DemEnding::Lower, part) => ending_of(part),
+        (DemEnding::Upper, Part::Header) => ".HDR",
+        (DemEnding::Upper, Part::Raster) => ".BIL",
     }
 }
 

@@ -12,11 +12,8 @@ use crate::open_files::OpenFault;
 use crate::outputs::{look, target_at};
 use crate::whole_input::write_bytes;
 use drain_device::ByteSink;
-use drain_grid::Product;
-use drain_header::{Header, header_text};
+use drain_header::{ByteOrdering, Header, header_text};
 use drain_maker::product_files::{Part, SetFault};
-use drain_maker::product_header;
-use drain_mosaic::Layout;
 use std::alloc::{AllocError, Global};
 
 /// Why a map must not be written there.
@@ -92,24 +89,35 @@ pub fn is_named_as_product(
     }
 }
 
-/// The header of a map of this mosaic: a byte without a sign for each pixel, 255 for no data, as in directions.
-pub fn map_header(layout: &Layout) -> Header
-    ensures { result ≡ map_header layout.now }
+/// The header of a map that lies as the raster with this header does: a byte without a sign for each pixel, 255 for no
+/// data, as in directions.
+pub fn map_header(raster: &Header) -> Header
+    ensures { result ≡ map_header raster.now }
 {
-    product_header(layout, Product::Dir)
+    Header {
+        rows: raster.rows,
+        cols: raster.cols,
+        bits: 8,
+        order: ByteOrdering::Least,
+        signed: false,
+        skip: 0,
+        row_bytes: raster.cols,
+        place: raster.place,
+        nodata: Some(255),
+    }
 }
 
-/// Writes the header and then the pixels. The first file that can't be written ends it.
+/// Writes the header of a map that lies as this one's raster does, and then the pixels. The first file that can't be written ends it.
 pub fn write_map<F: ByteSink>(
     alloc: Global,
-    layout: &Layout,
+    like: &Header,
     pixels: &[u8],
     header: &mut F,
     raster: &mut F,
 ) -> Result<(), SetFault>
-    ensures { WritesFiles F.ByteSink (header.old ∷ raster.old ∷ []) (header.new ∷ raster.new ∷ []) (text_of (map_header layout.now) ∷ pixels.now ∷ []) result }
+    ensures { WritesFiles F.ByteSink (header.old ∷ raster.old ∷ []) (header.new ∷ raster.new ∷ []) (text_of (map_header like.now) ∷ pixels.now ∷ []) result }
 {
-    let Ok(text) = header_text(alloc, &map_header(layout)) else {
+    let Ok(text) = header_text(alloc, &map_header(like)) else {
         return Err(SetFault::OutOfMemory);
     };
     match write_bytes(header, &text) {

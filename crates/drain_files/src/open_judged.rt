@@ -1,20 +1,18 @@
-//! Opening the files to be checked: the tiles in the order given, then each product's header, which is read whole, and
-//! raster; then the list of sinks, which is read whole.
+//! Opening the files to be checked: the tiles in the order given, or the header and the raster of elevations; then each
+//! product's header, which is read whole, and raster; then the list of sinks, which is read whole.
 
 ghost use Rattle.std.specs.Prelude.{◌≡◌, [], IfOk, None};
-ghost use Rattle.std.specs.List.{AllZip};
-ghost use Rattle.drain_hgt.specs.Inputs.{names_of};
-ghost use Rattle.drain_files.specs.FilePaths.{IsLastPart};
-ghost use Rattle.drain_files.specs.Files.{AreOf};
+ghost use Rattle.drain_files.specs.Files.{AreElevationsOf, AreOf, AreTilesOf};
 
-use crate::file_paths::{header_path, raster_path};
+use crate::file_paths::{dem_path, header_path, raster_path};
 use crate::open_files::{InputFile, OpenFault, Opener, list_at, open_tiles};
 use crate::source_or_zeros::SourceOrZeros;
-use drain_args::requests::ProductArgs;
+use drain_args::requests::{DemArgs, Elevations, ProductArgs, TileArgs};
 use drain_device::{ByteList, read_body};
 use drain_grid::{Judged, PerProduct, Product, SetProduct};
 use drain_header::{MAX_HEADER_BYTES, parse_header};
 use drain_hgt::TileInput;
+use drain_maker::product_files::Part;
 use drain_progress::counted_device::CountedDevice;
 use drain_progress::progress::Progress;
 use drain_progress::rows::checked_rows;
@@ -23,10 +21,24 @@ use std::alloc::Global;
 
 /// Open files, of which only the headers and the list of sinks have been read.
 #[derive(Drop)]
-pub struct OpenFiles<'a, P> {
-    pub tiles: Vec<TileInput<InputFile<'a>>>,
+pub struct OpenFiles<E, P> {
+    pub elevations: E,
     pub products: P,
     pub sinks: Vec<u8>,
+}
+
+/// Open tiles, each with this number of samples along an edge.
+#[derive(Drop)]
+pub struct OpenTiles<R> {
+    pub side: u32,
+    pub tiles: Vec<TileInput<R>>,
+}
+
+/// Where elevations come from: tiles, or one raster.
+#[derive(Drop)]
+pub enum OpenElevations<R> {
+    Tiles(OpenTiles<R>),
+    Dem([RasterInput<R>; 1]),
 }
 
 /// The products that are read: five with ranks, or four of which these are judged: no number of another matters.
@@ -40,56 +52,95 @@ pub enum JudgedProducts<R> {
 /// are counted for progress.
 pub fn open_judged<'a>(
     opener: &mut Opener<'_>,
-    args: &ProductArgs<'_>,
+    args: &ProductArgs<'_, Elevations<'_>>,
     judged: Judged,
     progress: &'a Progress<'a>,
-) -> Result<OpenFiles<'a, JudgedProducts<InputFile<'a>>>, OpenFault>
-    // What is required is what is judged: these rasters, of these tiles, and no sinks if no list is named.
+) -> Result<OpenFiles<OpenElevations<InputFile<'a>>, JudgedProducts<InputFile<'a>>>, OpenFault>
+    // What is required is what is judged: these rasters, on these elevations, and no sinks if no list is named.
     ensures judged { IfOk result (λ files. AreOf judged files.products) }
-    ensures tiles { IfOk result (λ files. AllZip (λ path name. IsLastPart path.now name) args.now.tiles.items (names_of files.tiles.items)) }
+    ensures elevations { IfOk result (λ files. AreElevationsOf args.now.elevations files.elevations) }
     ensures sinks { args.now.sinks ≡ None → IfOk result (λ files. files.sinks.items ≡ []) }
 {
-    let tiles = open_tiles(opener, args.tiles.as_slice())?;
+    let elevations = open_elevations(opener, &args.elevations)?;
     let products = open_products(opener, args.folder, judged, progress)?;
     let sinks = list_at(opener, args.sinks)?;
     Ok(OpenFiles {
-        tiles,
+        elevations,
         products,
         sinks,
     })
+}
+
+/// Opens the tiles, or the one raster of elevations.
+fn open_elevations<'a>(
+    opener: &mut Opener<'_>,
+    elevations: &Elevations<'_>,
+) -> Result<OpenElevations<InputFile<'a>>, OpenFault>
+    ensures { IfOk result (AreElevationsOf elevations.now) }
+{
+    match elevations {
+        Elevations::Tiles(tiles) => Ok(OpenElevations::Tiles(open_mosaic(opener, tiles)?)),
+        Elevations::Dem(dem) => Ok(OpenElevations::Dem([open_dem(opener, dem)?])),
+    }
+}
+
+/// Opens the tiles.
+fn open_mosaic<'a>(
+    opener: &mut Opener<'_>,
+    tiles: &TileArgs<'_>,
+) -> Result<OpenTiles<InputFile<'a>>, OpenFault>
+    ensures { IfOk result (AreTilesOf tiles.now) }
+{
+    let opened = open_tiles(opener, tiles.paths.as_slice())?;
+    Ok(OpenTiles {
+        side: tiles.side,
+        tiles: opened,
+    })
+}
+
+/// Opens the header of a raster of elevations, which is read whole, and the raster.
+fn open_dem<'a>(
+    opener: &mut Opener<'_>,
+    dem: &DemArgs<'_>,
+) -> Result<RasterInput<InputFile<'a>>, OpenFault> {
+    let header = dem_path(opener.alloc(), dem, Part::Header)?;
+    let raster = dem_path(opener.alloc(), dem, Part::Raster)?;
+    open_raster(opener, header.as_str(), raster.as_str())
 }
 
 /// Opens the files of a window of a mosaic: those of an audit.
 pub fn open_audited<'a>(
     opener: &mut Opener<'_>,
-    args: &ProductArgs<'_>,
+    args: &ProductArgs<'_, TileArgs<'_>>,
     progress: &'a Progress<'a>,
-) -> Result<OpenFiles<'a, AuditProducts<InputFile<'a>>>, OpenFault> {
-    let tiles = open_tiles(opener, args.tiles.as_slice())?;
+) -> Result<OpenFiles<OpenTiles<InputFile<'a>>, AuditProducts<InputFile<'a>>>, OpenFault> {
+    let elevations = open_mosaic(opener, &args.elevations)?;
     let mut products = open_four(opener, args.folder, Judged::All)?;
     count_con(&mut products.con, progress);
     let sinks = list_at(opener, args.sinks)?;
     Ok(OpenFiles {
-        tiles,
+        elevations,
         products,
         sinks,
     })
 }
 
-/// Opens the tiles, the directions and the list of sinks. Directions alone are given: their header and zeros take the
+/// Opens the elevations, the directions and the list of sinks. Directions alone are given: their header and zeros take the
 /// place of the other rasters.
 pub fn open_directions<'a>(
     opener: &mut Opener<'_>,
-    args: &ProductArgs<'_>,
-) -> Result<OpenFiles<'a, AuditProducts<InputFile<'a>>>, OpenFault> {
-    let tiles = open_tiles(opener, args.tiles.as_slice())?;
+    args: &ProductArgs<'_, Elevations<'_>>,
+) -> Result<OpenFiles<OpenElevations<InputFile<'a>>, AuditProducts<InputFile<'a>>>, OpenFault>
+    ensures elevations { IfOk result (λ files. AreElevationsOf args.now.elevations files.elevations) }
+{
+    let elevations = open_elevations(opener, &args.elevations)?;
     let dir = open_product(opener, args.folder, Product::Dir)?;
     let con = missing_like(opener.alloc(), &dir)?;
     let acc = missing_like(opener.alloc(), &dir)?;
     let bas = missing_like(opener.alloc(), &dir)?;
     let sinks = list_at(opener, args.sinks)?;
     Ok(OpenFiles {
-        tiles,
+        elevations,
         products: AuditProducts { con, dir, acc, bas },
         sinks,
     })
@@ -184,9 +235,18 @@ fn open_product<'a>(
     product: Product,
 ) -> Result<RasterInput<InputFile<'a>>, OpenFault> {
     let header = header_path(opener.alloc(), folder, product)?;
-    let header = read_header(opener, header.as_str())?;
     let raster = raster_path(opener.alloc(), folder, product)?;
-    let body = CountedDevice::new(SourceOrZeros::Source(opener.open(raster.as_str())?));
+    open_raster(opener, header.as_str(), raster.as_str())
+}
+
+/// Opens a raster, whose header is read whole before.
+fn open_raster<'a>(
+    opener: &mut Opener<'_>,
+    header: &str,
+    raster: &str,
+) -> Result<RasterInput<InputFile<'a>>, OpenFault> {
+    let header = read_header(opener, header)?;
+    let body = CountedDevice::new(SourceOrZeros::Source(opener.open(raster)?));
     Ok(RasterInput { header, body })
 }
 

@@ -49,7 +49,7 @@ fn ground(patch: &Patch) -> i64
     ensures { result ≡ height patch.now }
 {
     match patch.here.z {
-        Some(ground) => i64::from(ground),
+        Some(ground) => ground,
         None => 0,
     }
 }

@@ -63,13 +63,13 @@ pub fn is_above_ground(patch: &Patch) -> bool
     ensures { IsTrue result ↔ BelowGroundHolds patch.now }
 {
     match patch.here.z {
-        Some(ground) => ground as i64 <= patch.here.con,
+        Some(ground) => ground <= patch.here.con,
         None => true,
     }
 }
 
 /// The first of them except NotLeast that fails at a data cell, none if they hold.
-fn level_fault(patch: &Patch, ground: i16) -> Option<Rule>
+fn level_fault(patch: &Patch, ground: i64) -> Option<Rule>
     requires { patch.now.here.z ≡ Some ground }
     ensures least { IsLeastFault IsLevelRule (fill_rules patch.now) result }
 {
@@ -84,16 +84,16 @@ fn level_fault(patch: &Patch, ground: i16) -> Option<Rule>
 }
 
 /// Whether an open cell is neither raised nor has a spill parent.
-fn is_unraised(patch: &Patch, ground: i16) -> bool
+fn is_unraised(patch: &Patch, ground: i64) -> bool
     requires elevation { patch.now.here.z ≡ Some ground }
     requires opened { IsOpen patch.now }
     ensures { IsTrue result ↔ OpenRaisedHolds patch.now }
 {
-    patch.here.con == ground as i64 && patch.here.spl == 0
+    patch.here.con == ground && patch.here.spl == 0
 }
 
 /// The first of the rules on spill parents that fails at a cell that is not open, none if they all hold.
-fn spill_fault(patch: &Patch, ground: i16) -> Option<Rule>
+fn spill_fault(patch: &Patch, ground: i64) -> Option<Rule>
     requires elevation { patch.now.here.z ≡ Some ground }
     requires closed { ¬ IsOpen patch.now }
     ensures least { IsLeastFault IsSpillRule (fill_rules patch.now) result }
@@ -115,11 +115,11 @@ fn spill_fault(patch: &Patch, ground: i16) -> Option<Rule>
 }
 
 /// Whether the cell is raised to its spill parent, and no further.
-fn is_raised_to(patch: &Patch, ground: i16, parent: &CellValues) -> bool
+fn is_raised_to(patch: &Patch, ground: i64, parent: &CellValues) -> bool
     requires { patch.now.here.z ≡ Some ground }
     ensures { IsTrue result ↔ (patch.now.here.con ≡ int_max (height patch.now) parent.now.con) }
 {
-    patch.here.con == (ground as i64).max(parent.con)
+    patch.here.con == ground.max(parent.con)
 }
 
 /// Whether the spill parent has a smaller rank.
@@ -130,9 +130,9 @@ fn is_after(patch: &Patch, parent: &CellValues) -> bool
 }
 
 /// Whether no neighbour shows a lower way out: only a cell above its ground can have one.
-pub fn is_least(patch: &Patch, ground: i16) -> bool
+pub fn is_least(patch: &Patch, ground: i64) -> bool
     requires { patch.now.here.z ≡ Some ground }
     ensures { IsTrue result ↔ NotLeastHolds patch.now }
 {
-    patch.here.con <= ground as i64 || !patch.has_lower()
+    patch.here.con <= ground || !patch.has_lower()
 }

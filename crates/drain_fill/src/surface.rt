@@ -39,9 +39,9 @@ pub fn fault_above_profile2(patch: &Patch) -> Option<Rule>
 }
 
 /// Whether the cell isn't open, or is not raised.
-pub fn is_unraised_where_open(patch: &Patch, ground: i16) -> bool
+pub fn is_unraised_where_open(patch: &Patch, ground: i64) -> bool
     requires { patch.now.here.z ≡ Some ground }
     ensures { IsTrue result ↔ OpenRaisedWithoutSpill patch.now }
 {
-    !patch.is_open() || patch.here.con == i64::from(ground)
+    !patch.is_open() || patch.here.con == ground
 }

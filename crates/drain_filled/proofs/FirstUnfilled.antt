@@ -1,97 +1,147 @@
--- What a comparison with the flood's heights says of each grid with the same cells.
+-- What a comparison with the raised heights says of each grid with the same cells.
 --
--- The heights are the least surface of the elevations' own grid, and so of each grid with these cells. Each other least surface
--- is equal to it at data cells. So the first data cell where the lists differ is the first one where the surface isn't filled.
-use Rattle.std.proofs.Common.{◌≡◌, ◌≢◌, ◌<◌, ◌≤ℤ◌, ◌+◌, ◌∙◌, ℕ, ℤ, pos, List, length, map, get_or, set, get_or-set_other, get_or-set_same, below_more, sym, arith, ◌*◌, Option, Some, None, MatchOption, refl, ap}
-use Rattle.std.proofs.lemmas.Int.{ints, clamps, to_z-of_z}
-use Rattle.std.specs.Int.{w16}
-use mir.Val.{to_z, of_z}
-use Rattle.drain_grid.specs.declared.tile.TheConstants.{GREATEST_SAMPLE, LEAST_SAMPLE}
-use Rattle.std.proofs.lemmas.List.{ext_get_or, get_or-map, length-map}
-use Rattle.drain_grid.specs.Grid.{IsSample, Grid, HasData, Heights}
-use Rattle.drain_filled.specs.ConRows.{narrowed}
+-- The heights are the least surface of the grid. Each other least surface is equal to it at data cells. So the first data cell
+-- where the lists differ is the first one where the surface isn't filled.
+use Rattle.std.proofs.Common.{◌≡◌, ◌≤ℤ◌, ◌*◌, ◌∙◌, ℕ, ℤ, pos, ◌==◌, Bool, inl, inr, List, refl, sym, ap, subst, arith, Option, Some, None, IsSome, IsNone, MatchOption, unwrap_or, if◌then◌else◌}
+use Rattle.std.proofs.lemmas.Bool.{cases_eq, eq-eqb, ne_eqb, false≢true}
+use Rattle.std.proofs.lemmas.Int.{ints}
 use Rattle.drain_grid.specs.declared.cell.Cell.{Cell}
+use Rattle.drain_grid.specs.declared.rule.Rule.TheVariants.{BelowGround}
 use Rattle.drain_grid.specs.declared.sink_line.SinkLine.{SinkLine}
+use Rattle.drain_grid.specs.Extent.{Extent, IsCellOf}
+use Rattle.drain_grid.specs.Grid.{Grid, HasData, IsInside, Products, height_at}
+use Rattle.drain_grid.specs.GridRules.{RulesHold}
 use Rattle.drain_grid.specs.Path.{IsLeastSurface, Surface}
-use Rattle.drain_grid.specs.Extent.{Extent}
-use Rattle.drain_grid.specs.WholeGrid.{grid_of}
-use Rattle.drain_grid.proofs.Runs.{index_of-below}
+use Rattle.drain_grid.specs.PatchRules.{surface_rules}
+use Rattle.drain_grid.specs.Rule.{IsFillRule}
 use Rattle.drain_grid.proofs.Alike.{earlier_index}
-use Rattle.drain_filled.specs.Compared.{listed_at, AreOneBefore, HasHeight, IsFirstOther, HasCellsOf, HasHeights, IsFirstUnfilled}
-use Rattle.drain_filled.proofs.LeastSurfaces.{data_there, one_least_surface, same_cells_same_surface, turned}
+use Rattle.drain_grid.proofs.Lowered.{con_below, levels}
+use Rattle.drain_grid.proofs.Runs.{index_of-below}
+use Rattle.drain_flood.specs.declared.layers.TheConstants.{UNREACHED}
+use Rattle.drain_flood.proofs.Cells.{none_or_some}
+use Rattle.drain_filled.specs.Compared.{listed_at, AreOneBefore, HasMark, IsFirstOther, HasCellsOf, HasHeights, IsFirstUnfilled}
+use Rattle.drain_filled.specs.ConRows.{HasSinks, IsGroundAndCon, mark_of}
+use Rattle.drain_filled.specs.Grounds.{DataCells, HasDataCells, data_mark, listed_grid}
+use Rattle.drain_filled.specs.Sweeps.{IsBetween}
+use Rattle.drain_filled.proofs.LeastSurfaces.{one_least_surface, same_cells_same_surface}
 
--- Numbers in 16 bits, place by place.
+its_own : (g : Grid) → HasCellsOf g g
+its_own g = record { extent = refl; elevation = λ c inside. refl; sink = λ c inside. refl }
 
--- a sample is kept as it is
-pub narrowed-sample : (z : ℤ) → IsSample z → narrowed z ≡ z
-narrowed-sample z is =
-    let low = is.low in
-    let high = is.high in
-    omega (arith, ints, clamps, low, high)
+module _ (g : Grid) (s : Surface) (w : DataCells) (sinks : List SinkLine) (con least : List ℤ) (cells : HasDataCells g w sinks)
+    (filled : IsLeastSurface g (listed_at w.extent least)) (has : HasHeights g s con) where
+  has_mark : (c : Cell) → HasData g c → HasMark w c
+  has_mark c here = record { inside = subst (λ e. IsCellOf e c) cells.extent here.inside; is_data = cells.has_data c here }
 
--- what is kept is a sample
-pub IsSample-narrowed : (z : ℤ) → IsSample (narrowed z)
-IsSample-narrowed z = record { low = omega (arith, ints, clamps); high = omega (arith, ints, clamps) }
-
--- the number of 16 bits is read as it is
-pub narrowed-kept : (n number : ℤ) → n ≡ narrowed number → to_z w16 (of_z w16 n) ≡ narrowed number
-narrowed-kept n number is =
-    let low : LEAST_SAMPLE ≤ℤ n = omega (arith, ints, clamps, is) in
-    let high : n ≤ℤ GREATEST_SAMPLE = omega (arith, ints, clamps, is) in
-    to_z-of_z w16 n (grind (arith, ints, low, high)) ∙ is
-
--- one place more
-pub one_more : (numbers out : List ℤ) (k : ℕ) (n : ℤ) → k < length out → n ≡ narrowed (get_or numbers k (pos 0)) →
-    ((i : ℕ) → i < k → get_or out i (pos 0) ≡ narrowed (get_or numbers i (pos 0))) →
-    (i : ℕ) → i < k + 1 → get_or (set out k n) i (pos 0) ≡ narrowed (get_or numbers i (pos 0))
-one_more numbers out k n inside here so_far =
-    below_more (λ i. get_or (set out k n) i (pos 0) ≡ narrowed (get_or numbers i (pos 0))) k
-    (λ i h. let ne : i ≢ k = omega arith in get_or-set_other out k i n (pos 0) ne ∙ so_far i h)
-    (get_or-set_same out k n (pos 0) inside ∙ here)
-
--- all places
-pub all_narrowed : (numbers out : List ℤ) → length out ≡ length numbers →
-    ((i : ℕ) → i < length numbers → get_or out i (pos 0) ≡ narrowed (get_or numbers i (pos 0))) → out ≡ map narrowed numbers
-all_narrowed numbers out long each =
-    ext_get_or (pos 0) out (map narrowed numbers) (long ∙ sym (length-map numbers narrowed))
-    (λ k less. let within : k < length numbers = omega arith in each k within ∙ sym (get_or-map narrowed numbers k (pos 0) (pos 0) within))
-
-module _ (h : Heights) (sinks : List SinkLine) (con least : List ℤ) (filled : IsLeastSurface (grid_of h sinks) (listed_at h.extent least)) (g : Grid) (s : Surface)
-    (same : HasCellsOf g (grid_of h sinks)) (has : HasHeights g s con) where
-  has_height : (c : Cell) → HasData g c → HasHeight h c
-  has_height c here =
-      let there = data_there g (grid_of h sinks) same c here in
-      record { inside = there.inside; is_data = there.is_data }
+  data_there : (c : Cell) → HasMark w c → HasData g c
+  data_there c mark =
+      let inside : IsInside g c = subst (λ e. IsCellOf e c) (sym cells.extent) mark.inside in
+      elim (none_or_some (g.elevation c)) [
+        | inl void ↦ absurd (cells.void c inside void mark.is_data)
+        | inr some ↦ record { inside = inside; is_data = some }
+      ]
 
   -- the surface at a data cell is its number of the list
-  listed : (c : Cell) → HasData g c → s c ≡ listed_at h.extent con c
-  listed c here = has c here ∙ ap (λ (e : Extent). listed_at e con c) same.extent
+  listed : (c : Cell) → HasData g c → s c ≡ listed_at w.extent con c
+  listed c here = has c here ∙ ap (λ (e : Extent). listed_at e con c) cells.extent
 
-  -- the flood's heights are the least surface here too
-  least_here : IsLeastSurface g (listed_at h.extent least)
-  least_here = same_cells_same_surface g (grid_of h sinks) (listed_at h.extent least) (listed_at h.extent least) same (λ c here. refl) filled
-
-  all_filled : AreOneBefore h con least (h.extent.rows * h.extent.cols) → IsLeastSurface g s
+  all_filled : AreOneBefore w con least (w.extent.rows * w.extent.cols) → IsLeastSurface g s
   all_filled one =
-      same_cells_same_surface g (grid_of h sinks) s (listed_at h.extent least) same
-      (λ c here. (let at = has_height c here in listed c here ∙ one c at (index_of-below h.extent c at.inside))) filled
+      same_cells_same_surface g g s (listed_at w.extent least) (its_own g)
+      (λ c here. (let at = has_mark c here in listed c here ∙ one c at (index_of-below w.extent c at.inside))) filled
 
-  first_unfilled : (c : Cell) → IsFirstOther h con least c → IsFirstUnfilled g s c
+  first_unfilled : (c : Cell) → IsFirstOther w con least c → IsFirstUnfilled g s c
   first_unfilled c first =
-      let here : HasData g c = data_there (grid_of h sinks) g (turned g (grid_of h sinks) same) c
-      (record { inside = first.here.inside; is_data = first.here.is_data }) in
+      let here : HasData g c = data_there c first.here in
       record {
         here = here;
-        filled = (listed_at h.extent least, least_here);
+        filled = (listed_at w.extent least, filled);
         differs = λ t other equal.
-            first.differs (sym (listed c here) ∙ equal ∙ one_least_surface g t (listed_at h.extent least) other least_here c here);
+            first.differs (sym (listed c here) ∙ equal ∙ one_least_surface g t (listed_at w.extent least) other filled c here);
         before = λ t other b at earlier.
-            (let there = has_height b at in
-            listed b at ∙ first.before b there (earlier_index h.extent b c there.inside earlier)
-            ∙ one_least_surface g (listed_at h.extent least) t least_here other b at);
+            (let there = has_mark b at in
+            listed b at ∙ first.before b there (earlier_index w.extent b c there.inside earlier)
+            ∙ one_least_surface g (listed_at w.extent least) t filled other b at);
       }
 
-  pub found_unfilled : (found : Option Cell) → MatchOption found (AreOneBefore h con least (h.extent.rows * h.extent.cols)) (IsFirstOther h con least) →
+  pub found_unfilled : (found : Option Cell) → MatchOption found (AreOneBefore w con least (w.extent.rows * w.extent.cols)) (IsFirstOther w con least) →
       MatchOption found (IsLeastSurface g s) (IsFirstUnfilled g s)
   found_unfilled None one = all_filled one
   found_unfilled (Some c) first = first_unfilled c first
+
+-- A grid with listed elevations has data where the marks say so, and the list is its ground.
+
+some_marked : (mark : ℕ) (x : ℤ) → IsSome (if mark == UNREACHED then Some x else None) → mark ≡ UNREACHED
+some_marked mark x some =
+    elim (cases_eq mark UNREACHED) [
+      | inl same ↦ same
+      | inr differ ↦ absurd (false≢true (subst (λ (b : Bool). IsSome (if b then Some x else None)) (ne_eqb mark UNREACHED differ) some))
+    ]
+
+none_unmarked : (mark : ℕ) (x : ℤ) → mark ≡ UNREACHED → IsNone (if mark == UNREACHED then Some x else None) → ⊥
+none_unmarked mark x same none =
+    false≢true (sym (subst (λ (b : Bool). IsNone (if b then Some x else None)) (eq-eqb mark UNREACHED same) none))
+
+marked_height : (mark : ℕ) (x : ℤ) → mark ≡ UNREACHED → unwrap_or (if mark == UNREACHED then Some x else None) (pos 0) ≡ x
+marked_height mark x same = ap (λ (b : Bool). unwrap_or (if b then Some x else None) (pos 0)) (eq-eqb mark UNREACHED same)
+
+module _ (g : Grid) (w : DataCells) (xs : List ℤ) (sinks : List SinkLine) (same : HasCellsOf g (listed_grid w xs sinks)) where
+  pub cells_of : HasDataCells g w sinks
+  cells_of = record {
+    extent = same.extent;
+    has_data = λ c here. some_marked (data_mark w c) (listed_at w.extent xs c) (subst IsSome (same.elevation c here.inside) here.is_data);
+    void = λ c inside void mark. none_unmarked (data_mark w c) (listed_at w.extent xs c) mark (subst IsNone (same.elevation c inside) void);
+    sink = same.sink;
+  }
+
+  at_ground : (c : Cell) → HasData g c → height_at g c ≡ listed_at w.extent xs c
+  at_ground c here =
+      ap (λ (z : Option ℤ). unwrap_or z (pos 0)) (same.elevation c here.inside)
+      ∙ marked_height (data_mark w c) (listed_at w.extent xs c) (cells_of.has_data c here)
+
+  pub ground_between : IsBetween g (listed_at w.extent xs)
+  ground_between = record {
+    covers = λ c here. (let at = at_ground c here in omega (arith, ints, at));
+    low = λ t covers drains c here. (let at = at_ground c here in let most = covers c here in omega (arith, ints, at, most));
+  }
+
+-- Where rules 4, 5 and 9 hold con lies between the ground and the least surface.
+
+module _ (g : Grid) (ps : Products) (ground : DataCells) (con : List ℤ) (sinks : List SinkLine) (parts : IsGroundAndCon g ps ground con)
+    (listed_sinks : HasSinks g sinks) (rules : RulesHold surface_rules IsFillRule g ps) where
+  some_is_marked : (z : Option ℤ) → IsSome z → mark_of z ≡ UNREACHED
+  some_is_marked None some = absurd (false≢true some)
+  some_is_marked (Some z) some = refl
+
+  none_is_void : (z : Option ℤ) → IsNone z → mark_of z ≡ UNREACHED → ⊥
+  none_is_void None none mark = absurd (omega (arith, mark))
+  none_is_void (Some z) none mark = false≢true (sym none)
+
+  con_cells : HasDataCells g ground sinks
+  con_cells = record {
+    extent = parts.extent;
+    has_data = λ c here. parts.has_data c here.inside ∙ some_is_marked (g.elevation c) here.is_data;
+    void = λ c inside void mark. none_is_void (g.elevation c) void (sym (parts.has_data c inside) ∙ mark);
+    sink = listed_sinks;
+  }
+
+  is_con : (c : Cell) → HasData g c → listed_at ground.extent con c ≡ ps.con c
+  is_con c here = ap (λ (e : Extent). listed_at e con c) (sym parts.extent) ∙ parts.con_is c here.inside
+
+  con_between : IsBetween g (listed_at ground.extent con)
+  con_between = record {
+    covers = λ c here.
+        (let at = is_con c here in
+        let covered : height_at g c ≤ℤ ps.con c = rules c BelowGround here.inside (omega arith, omega arith) here.is_data in
+        omega (arith, ints, at, covered));
+    low = λ t covers drains c here.
+        (let at = is_con c here in
+        let way = drains c here in
+        let most = con_below g ps (levels g ps rules) t covers c way.0 way.1 way.2 in
+        omega (arith, ints, at, most));
+  }
+
+  pub con_compared : (found : Option Cell) →
+      ((s : Surface) → HasDataCells g ground sinks → IsBetween g (listed_at ground.extent con) → HasHeights g s con → MatchOption found (IsLeastSurface g s) (IsFirstUnfilled g s)) →
+      MatchOption found (IsLeastSurface g ps.con) (IsFirstUnfilled g ps.con)
+  con_compared found answer = answer ps.con con_cells con_between (λ c here. sym (parts.con_is c here.inside))

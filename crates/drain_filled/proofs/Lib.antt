@@ -1,3 +1,10 @@
+pub mod Beginning
+pub mod Ending
 pub mod FirstCon
 pub mod FirstUnfilled
 pub mod LeastSurfaces
+pub mod MarkedSurfaces
+pub mod Moving
+pub mod Spreading
+pub mod Sweeping
+pub mod Waits

@@ -1,30 +1,31 @@
 -- Two lists of heights in row order, compared at the data cells of a grid.
-use Rattle.std.specs.Prelude.{◌≡◌, ◌≢◌, ◌<◌, ℕ, ℤ, pos, List, IsSome, slice_index_or}
+use Rattle.std.specs.Prelude.{◌≡◌, ◌≢◌, ◌<◌, ℕ, ℤ, pos, List, slice_index_or}
 use Rattle.drain_grid.specs.declared.cell.Cell.{Cell}
 use Rattle.drain_grid.specs.Extent.{IsCellOf, index_of, IsEarlier, Extent}
-use Rattle.drain_grid.specs.Grid.{Heights, Grid, HasData, IsInside}
-use Rattle.drain_grid.specs.WholeGrid.{elevation_at}
+use Rattle.drain_grid.specs.Grid.{Grid, HasData, IsInside}
 use Rattle.drain_grid.specs.Path.{IsLeastSurface, Surface}
+use Rattle.drain_flood.specs.declared.layers.TheConstants.{UNREACHED}
+use Rattle.drain_filled.specs.Grounds.{DataCells, data_mark}
 
 -- the number at a cell's place in a list in row order
 abbrev pub listed_at : Extent → List ℤ → Cell → ℤ
 listed_at e numbers c = slice_index_or numbers (index_of e c) (pos 0)
 
--- the cell has an elevation
-pub record HasHeight (h : Heights) (c : Cell) : Type 0 where
-  pub inside : IsCellOf h.extent c
-  pub is_data : IsSome (elevation_at h c)
+-- the cell has data
+pub record HasMark (w : DataCells) (c : Cell) : Type 0 where
+  pub inside : IsCellOf w.extent c
+  pub is_data : data_mark w c ≡ UNREACHED
 
 -- the two lists have one number at each data cell before this place
-abbrev pub AreOneBefore : Heights → List ℤ → List ℤ → ℕ → Type 0
-AreOneBefore h con least place =
-    (c : Cell) → HasHeight h c → index_of h.extent c < place → listed_at h.extent con c ≡ listed_at h.extent least c
+abbrev pub AreOneBefore : DataCells → List ℤ → List ℤ → ℕ → Type 0
+AreOneBefore w con least place =
+    (c : Cell) → HasMark w c → index_of w.extent c < place → listed_at w.extent con c ≡ listed_at w.extent least c
 
 -- the first data cell where they have two
-pub record IsFirstOther (h : Heights) (con least : List ℤ) (c : Cell) : Type 0 where
-  pub here : HasHeight h c
-  pub differs : listed_at h.extent con c ≢ listed_at h.extent least c
-  pub before : AreOneBefore h con least (index_of h.extent c)
+pub record IsFirstOther (w : DataCells) (con least : List ℤ) (c : Cell) : Type 0 where
+  pub here : HasMark w c
+  pub differs : listed_at w.extent con c ≢ listed_at w.extent least c
+  pub before : AreOneBefore w con least (index_of w.extent c)
 
 -- Where a surface isn't the filled one.
 

@@ -1,44 +1,41 @@
--- The samples and the conditioned elevations of the rows of a grid, in lists.
-use Rattle.std.specs.Prelude.{◌≡◌, ℕ, ◌*◌, ◌<◌, ◌++◌, ℤ, pos, List, length, map, slice_index_or}
-use Rattle.std.specs.List.{All}
-use Rattle.std.specs.Int.{int_max, int_min}
+-- Which cells of the rows of a grid have data, and their conditioned elevations, in lists.
+use Rattle.std.specs.Prelude.{◌≡◌, ℕ, ◌*◌, ◌<◌, ◌++◌, ℤ, pos, List, Option, Some, None, length, map, slice_index_or}
 use Rattle.drain_grid.specs.declared.cell.Cell.{Cell}
 use Rattle.drain_grid.specs.declared.sink_line.SinkLine.{SinkLine}
-use Rattle.drain_grid.specs.declared.tile.TheConstants.{GREATEST_SAMPLE, LEAST_SAMPLE, VOID}
 use Rattle.drain_grid.specs.Extent.{index_of}
-use Rattle.drain_grid.specs.Grid.{Grid, Products, IsInside, height_at, Heights, IsSample, height_from}
+use Rattle.drain_grid.specs.Grid.{Grid, Products, IsInside}
 use Rattle.drain_grid.specs.SinkTexts.{is_listed}
-use Rattle.drain_grid.specs.WholeGrid.{elevation_at}
+use Rattle.drain_flood.specs.declared.layers.TheConstants.{UNREACHED, VOID}
+use Rattle.drain_filled.specs.Grounds.{DataCells, data_mark}
 
--- the number, or the nearest that 16 bits hold
-abbrev pub narrowed : ℤ → ℤ
-narrowed number = int_max LEAST_SAMPLE (int_min number GREATEST_SAMPLE)
+-- the mark of a cell with this elevation: before a sweep no data cell is reached
+abbrev pub mark_of : Option ℤ → ℕ
+mark_of None = VOID
+mark_of (Some z) = UNREACHED
 
--- a sample and a conditioned elevation for each cell, in row order
+-- a mark and a conditioned elevation for each cell, in row order
 pub record ConLists : Type 0 where
-  pub samples : List ℤ
+  pub marks : List ℕ
   pub con : List ℤ
 
 -- the same with a row more
-abbrev pub with_row : ConLists → List ℤ → List ℤ → ConLists
-with_row lists samples con = record { samples = lists.samples ++ map narrowed samples; con = lists.con ++ map narrowed con }
+abbrev pub with_row : ConLists → List (Option ℤ) → List ℤ → ConLists
+with_row lists z con = record { marks = lists.marks ++ map mark_of z; con = lists.con ++ con }
 
--- the lists are of the first rows of a grid: the samples give its elevations, and con is its own in 16 bits
+-- the lists are of the first rows of a grid: the marks say where it has data, and con is its own
 pub record AreFirstCon (g : Grid) (ps : Products) (rows : ℕ) (lists : ConLists) : Type 0 where
-  pub samples_are : length lists.samples ≡ rows * g.extent.cols
+  pub marks_are : length lists.marks ≡ rows * g.extent.cols
   pub con_are : length lists.con ≡ rows * g.extent.cols
-  pub fits : All IsSample lists.samples
-  pub elevation : (c : Cell) → IsInside g c → c.row < rows →
-      height_from (slice_index_or lists.samples (index_of g.extent c) VOID) ≡ g.elevation c
+  pub has_data : (c : Cell) → IsInside g c → c.row < rows →
+      slice_index_or lists.marks (index_of g.extent c) 0 ≡ mark_of (g.elevation c)
   pub con : (c : Cell) → IsInside g c → c.row < rows →
-      slice_index_or lists.con (index_of g.extent c) (pos 0) ≡ narrowed (ps.con c)
+      slice_index_or lists.con (index_of g.extent c) (pos 0) ≡ ps.con c
 
--- the elevations are those of the grid, all of 16 bits, and the list has the conditioned elevation of each cell in 16 bits
-pub record IsGroundAndCon (g : Grid) (ps : Products) (ground : Heights) (con : List ℤ) : Type 0 where
+-- the cells with data are those of the grid, and the list has the conditioned elevation of each cell
+pub record IsGroundAndCon (g : Grid) (ps : Products) (ground : DataCells) (con : List ℤ) : Type 0 where
   pub extent : g.extent ≡ ground.extent
-  pub elevation : (c : Cell) → IsInside g c → g.elevation c ≡ elevation_at ground c
-  pub fits : (c : Cell) → IsInside g c → IsSample (height_at g c)
-  pub con_is : (c : Cell) → IsInside g c → slice_index_or con (index_of g.extent c) (pos 0) ≡ narrowed (ps.con c)
+  pub has_data : (c : Cell) → IsInside g c → data_mark ground c ≡ mark_of (g.elevation c)
+  pub con_is : (c : Cell) → IsInside g c → slice_index_or con (index_of g.extent c) (pos 0) ≡ ps.con c
 
 -- the sinks of the grid are the listed ones
 abbrev pub HasSinks : Grid → List SinkLine → Type 0

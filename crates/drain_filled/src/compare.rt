@@ -4,43 +4,48 @@ ghost use Rattle.std.specs.Prelude.{◌≡◌, ◌↔◌, ◌*◌, ◌<◌, ℤ,
 ghost use Rattle.drain_grid.specs.declared.cell.Cell.{Cell};
 ghost use Rattle.drain_grid.specs.Grid.{Grid};
 ghost use Rattle.drain_grid.specs.Path.{IsLeastSurface, Surface};
-ghost use Rattle.drain_grid.specs.WholeGrid.{grid_of};
-ghost use Rattle.drain_filled.specs.Compared.{AreOneBefore, IsFirstOther, HasCellsOf, HasHeights, IsFirstUnfilled};
+ghost use Rattle.drain_filled.specs.Compared.{AreOneBefore, IsFirstOther, HasCellsOf, HasHeights, IsFirstUnfilled, listed_at};
+ghost use Rattle.drain_filled.specs.Grounds.{HasDataCells, listed_grid};
+ghost use Rattle.drain_filled.specs.Sweeps.{IsBetween};
 
-use drain_flood::fill;
-use drain_grid::{Cell, Elevation, OutOfMemory, Sinks};
+use crate::ground::Ground;
+use crate::spread::fill;
+use drain_grid::{Cell, OutOfMemory, Sinks};
 use std::alloc::Global;
 
 /// The first data cell where the heights in row order, one for each cell, differ from the least surface that covers
 /// the ground and drains; none if they are that surface.
 ///
-/// Its contract is about every grid that has these cells, wherever it comes from.
+/// Elevations too are in row order, one for each cell, and play no part where the ground has no data. In their place
+/// any surface between them and that least surface may be given: the nearer it is, the less has to be raised. The
+/// contract is about every grid that has these cells, wherever it comes from. `OutOfMemory` if memory was refused.
 pub fn first_unfilled(
     alloc: Global,
-    elevation: &Elevation,
+    ground: &Ground,
+    elevation: &[i64],
     sinks: &Sinks,
-    con: &[i16],
+    con: &[i64],
 ) -> Result<Option<Cell>, OutOfMemory>
-    requires counted { length con.now ≡ elevation.now.extent.rows * elevation.now.extent.cols }
-    ensures first { IfOk result (λ found. (g : Grid) (s : Surface) → HasCellsOf g (grid_of elevation.now sinks.now) → HasHeights g s con.now → MatchOption found (IsLeastSurface g s) (IsFirstUnfilled g s)) }
+    requires elevation_counted { length elevation.now ≡ ground.now.extent.rows * ground.now.extent.cols }
+    requires counted { length con.now ≡ ground.now.extent.rows * ground.now.extent.cols }
+    ensures first { IfOk result (λ found. (g : Grid) (s : Surface) → HasCellsOf g (listed_grid ground.now elevation.now sinks.now) → HasHeights g s con.now → MatchOption found (IsLeastSurface g s) (IsFirstUnfilled g s)) }
+    ensures between { IfOk result (λ found. (g : Grid) (s : Surface) → HasDataCells g ground.now sinks.now → IsBetween g (λ c. listed_at ground.now.extent elevation.now c) → HasHeights g s con.now → MatchOption found (IsLeastSurface g s) (IsFirstUnfilled g s)) }
 {
-    let flood = fill(alloc, elevation, sinks)?;
-    // Only the heights are kept.
-    let least = flood.into_heights();
-    Ok(first_other(elevation, con, &least))
+    let least = fill(alloc, ground, elevation, sinks)?;
+    Ok(first_other(ground, con, &least))
 }
 
 /// The first data cell where two lists of heights in row order differ.
-fn first_other(elevation: &Elevation, con: &[i16], least: &[i16]) -> Option<Cell>
-    requires counted { length con.now ≡ elevation.now.extent.rows * elevation.now.extent.cols }
-    requires least_counted { length least.now ≡ elevation.now.extent.rows * elevation.now.extent.cols }
-    ensures first { MatchOption result (AreOneBefore elevation.now con.now least.now (elevation.now.extent.rows * elevation.now.extent.cols)) (IsFirstOther elevation.now con.now least.now) }
+fn first_other(ground: &Ground, con: &[i64], least: &[i64]) -> Option<Cell>
+    requires counted { length con.now ≡ ground.now.extent.rows * ground.now.extent.cols }
+    requires least_counted { length least.now ≡ ground.now.extent.rows * ground.now.extent.cols }
+    ensures first { MatchOption result (AreOneBefore ground.now con.now least.now (ground.now.extent.rows * ground.now.extent.cols)) (IsFirstOther ground.now con.now least.now) }
 {
-    let shape = elevation.shape();
+    let shape = ground.shape();
     for place in 0..shape.cells() {
         if !is_same_at(con, least, place) {
             let cell = shape.cell(place);
-            if elevation.z(cell).is_some() {
+            if ground.has_data(cell) {
                 return Some(cell);
             }
         }
@@ -49,7 +54,7 @@ fn first_other(elevation: &Elevation, con: &[i16], least: &[i16]) -> Option<Cell
 }
 
 /// Whether two lists have one height at a place.
-fn is_same_at(con: &[i16], least: &[i16], place: usize) -> bool
+fn is_same_at(con: &[i64], least: &[i64], place: usize) -> bool
     requires inside { place < length con.now }
     requires least_inside { place < length least.now }
     ensures { IsTrue result ↔ slice_index_or con.now place (pos 0) ≡ slice_index_or least.now place (pos 0) }
@@ -58,7 +63,7 @@ fn is_same_at(con: &[i16], least: &[i16], place: usize) -> bool
 }
 
 /// Whether two heights are equal.
-fn is_same(height: i16, other: i16) -> bool
+fn is_same(height: i64, other: i64) -> bool
     ensures { IsTrue result ↔ height ≡ other }
 {
     height == other

@@ -1,14 +1,14 @@
-//! The samples and the conditioned elevations of the rows that were taken so far.
+//! Which cells of the rows that were taken so far have data, and their conditioned elevations.
 
 ghost use Rattle.std.specs.Prelude.{◌≡◌, ◌*◌, IfSome, IsSome, OnErr, OnOk, [], vec_len};
 ghost use Rattle.drain_grid.specs.Grid.{Grid, Products};
 ghost use Rattle.drain_filled.specs.ConRows.{AreFirstCon, IsGroundAndCon, with_row};
 
-use crate::narrow_rows::push_row;
+use crate::ground::Ground;
+use crate::kept_rows::{push_marks, push_numbers};
 use crate::surfaces::Surfaces;
-use drain_grid::{Elevation, OutOfMemory, Rules, Shape};
-use drain_pixels::PixelRow;
-use drain_pixels::stored::AnyPixels;
+use drain_grid::{OutOfMemory, Rules, Shape};
+use drain_pixels::{GroundRow, PixelRow};
 use drain_rows::{RowBuffer, RowVisitor};
 use drain_rules::ThreeRows;
 use std::alloc::Global;
@@ -32,15 +32,15 @@ impl RowVisitor for ConRows {
         _rows: &ThreeRows<'_>,
         _rules: &Rules,
     ) -> Result<(), OutOfMemory> {
-        self.push_row(row.z.as_slice(), &row.products.con)
+        self.push_row(&row.z, &row.products.con)
     }
 }
 
-/// The sample and the conditioned elevation of each cell that was taken so far, in row order.
+/// Whether there is data, and the conditioned elevation, of each cell that was taken so far, in row order.
 #[derive(Drop)]
 pub struct ConRows {
-    samples: Vec<i16>,
-    con: Vec<i16>,
+    marks: Vec<u8>,
+    con: Vec<i64>,
 }
 
 impl Model for ConRows {
@@ -48,37 +48,36 @@ impl Model for ConRows {
 
     ghost Value = { ConLists };
 
-    ghost view = { λ rows. record { samples = rows.samples.items; con = rows.con.items } };
+    ghost view = { λ rows. record { marks = rows.marks.items; con = rows.con.items } };
 }
 
 impl ConRows {
     /// No cell. This takes no memory.
     pub fn new(alloc: Global) -> ConRows
-        ensures none { result ≡ record { samples = []; con = [] } }
+        ensures none { result ≡ record { marks = []; con = [] } }
         ensures begun { (g : Grid) (ps : Products) → AreFirstCon g ps 0 result }
     {
         ConRows {
-            samples: Vec::new(alloc),
+            marks: Vec::new(alloc),
             con: Vec::new(alloc),
         }
     }
 
-    /// Takes the next row: each cell's sample (-32768 is a void) and conditioned elevation. A number that 16 bits don't
-    /// hold is taken as the nearest that they hold. Without memory nothing is changed.
-    pub fn push_row(&mut self, samples: &[i64], con: &PixelRow) -> Result<(), OutOfMemory>
-        ensures taken { OnOk result (self.new ≡ with_row self.old samples.now con.now) }
+    /// Takes the next row: each cell's elevation and conditioned elevation. Without memory nothing is changed.
+    pub fn push_row(&mut self, z: &GroundRow, con: &PixelRow) -> Result<(), OutOfMemory>
+        ensures taken { OnOk result (self.new ≡ with_row self.old z.now con.now) }
         ensures kept { OnErr result (self.new ≡ self.old) }
     {
-        let before = self.samples.len();
-        push_row(&mut self.samples, &AnyPixels { numbers: samples })?;
-        if push_row(&mut self.con, con).is_err() {
-            self.samples.truncate(before);
+        let before = self.marks.len();
+        push_marks(&mut self.marks, z)?;
+        if push_numbers(&mut self.con, con).is_err() {
+            self.marks.truncate(before);
             return Err(OutOfMemory);
         }
         Ok(())
     }
 
-    /// The elevations and the conditioned elevations of a grid of this shape, if each of its cells was taken and no
+    /// The cells with data and the conditioned elevations of a grid of this shape, if each of its cells was taken and no
     /// other.
     pub fn into_parts(self, shape: Shape) -> Option<Surfaces>
         ensures all { (g : Grid) (ps : Products) → g.extent ≡ shape → AreFirstCon g ps shape.rows self → IsSome result }
@@ -87,11 +86,11 @@ impl ConRows {
         ensures counted { IfSome result (λ both. vec_len both.con ≡ shape.rows * shape.cols) }
     {
         let cells = shape.cells();
-        if self.samples.len() != cells || self.con.len() != cells {
+        if self.marks.len() != cells || self.con.len() != cells {
             return None;
         }
         Some(Surfaces {
-            ground: Elevation::new(shape, self.samples),
+            ground: Ground::new(shape, self.marks),
             con: self.con,
         })
     }

@@ -1,13 +1,21 @@
-//! Whether a surface is the filled one: a flood fills the elevations, and the two are compared. A surface that comes row
-//! by row is kept in 16 bits a cell until its last row.
+//! Whether a surface is the filled one. A surface that comes row by row is kept until its last row. Then it is raised
+//! until it drains: it was the filled one if nothing had to be raised, and else the first cell that was names the fault.
 #![tactic(auto)]
 
+mod around;
 pub mod compare;
 pub mod con_rows;
+pub mod ground;
+mod height_queue;
+mod kept_rows;
 pub mod laws;
-mod narrow_rows;
+pub mod marked;
+mod spread;
 pub mod surfaces;
+mod sweep;
 
 pub use compare::first_unfilled;
 pub use con_rows::ConRows;
+pub use ground::Ground;
+pub use marked::filled_surface;
 pub use surfaces::Surfaces;

@@ -4,12 +4,10 @@ use Rattle.std.proofs.lemmas.Int.{ints}
 use Rattle.drain_grid.specs.declared.direction.Direction.{Direction}
 use Rattle.drain_grid.specs.declared.direction.Direction.TheVariants.{East}
 use Rattle.drain_grid.specs.Direction.{IsCode, code_of}
-use Rattle.drain_grid.specs.Grid.{height_at}
 use Rattle.drain_flood.specs.declared.layers.TheConstants.{NO_HEIGHT}
 use Rattle.drain_flood.specs.declared.level_queue.TheConstants.{MAX_CELLS}
-use Rattle.drain_flood.specs.Floods.{con_at}
 use Rattle.drain_flood.specs.Flats.{rank_at}
-use Rattle.drain_flood.specs.Laws.{FlatsArePresent}
+use Rattle.drain_flood.specs.Laws.{FlatsArePresent, FloodShowsVoids}
 use Rattle.drain_flood.proofs.FlatRules.{good_code}
 
 -- no code of a direction or an outlet is the no-data number
@@ -27,13 +25,18 @@ no_blank_rank rank cells less few h = absurd (omega (arith, ints))
 covers_above : (con z : ℤ) → z ≤ℤ con → NO_HEIGHT <ℤ z → con ≢ NO_HEIGHT
 covers_above con z covers above h = absurd (omega (arith, ints))
 
+pub flood_shows_voids : FloodShowsVoids
+flood_shows_voids g f flooded = record {
+  voids = flooded.blank;
+  differs = λ c here. covers_above _ _ (flooded.surface.covers c here) (flooded.heights c here);
+}
+
 pub flats_are_present : FlatsArePresent
-flats_are_present g f w ps few flooded are shows c inside = record {
+flats_are_present g f w ps con few voids are shows c inside = record {
   void = λ void.
-      (let blank = flooded.voids c inside void in
-      let way = are.voids c inside void in
-      (shows.con c ∙ blank.con, shows.dir c ∙ ap pos way.way, shows.rnk c ∙ ap pos way.rank));
-  data_con = λ here h. covers_above (con_at g.extent f c) (height_at g c) (flooded.covers c here) (flooded.heights c here) (sym (shows.con c) ∙ h);
+      (let way = are.voids c inside void in
+      (shows.con c ∙ voids.voids c inside void, shows.dir c ∙ ap pos way.way, shows.rnk c ∙ ap pos way.rank));
+  data_con = λ here h. voids.differs c here (sym (shows.con c) ∙ h);
   data_dir = λ here. no_blank_code (ps.dir c) (good_code g f w ps are shows c inside here.is_data);
   data_rnk = λ here h. no_blank_rank (rank_at g.extent w c) (g.extent.rows * g.extent.cols) (are.ranked c here) few (sym (shows.rnk c) ∙ h);
 }

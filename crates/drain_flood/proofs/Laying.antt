@@ -33,14 +33,17 @@ surface_of e con mark = record { extent = e; con = con; mark = mark; ahead = [];
 
 pub still_flooded : (g : Grid) (f : Flooding) → IsFlooded g f → IsFlooded g (surface_of f.extent f.con f.mark)
 still_flooded g f is = record {
-  counted = record { con = is.counted.con; mark = is.counted.mark };
-  voids = λ c inside none. (let blank = is.voids c inside none in record { con = blank.con; mark = blank.mark });
+  surface = record {
+    counted = record { con = is.surface.counted.con; mark = is.surface.counted.mark };
+    voids = is.surface.voids;
+    opened = λ c opens. (let at = is.surface.opened c opens in record { con = at.con; mark = at.mark });
+    closed = is.surface.closed;
+    covers = is.surface.covers;
+    drains = is.surface.drains;
+    least = is.surface.least;
+  };
+  blank = is.blank;
   heights = is.heights;
-  opened = λ c opens. (let at = is.opened c opens in record { con = at.con; mark = at.mark });
-  closed = is.closed;
-  covers = is.covers;
-  drains = is.drains;
-  least = is.least;
 }
 
 -- Rows of lanes as they are laid, and the codes of whole rows.

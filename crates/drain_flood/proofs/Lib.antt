@@ -14,6 +14,7 @@ pub mod Putting
 pub mod Laying
 pub mod GapColumns
 pub mod SteepestWays
+pub mod ExactWays
 pub mod Settling
 pub mod FlatRules
 pub mod Walking

@@ -14,7 +14,7 @@ use Rattle.drain_grid.specs.Grid.{Grid, Products, height_at}
 use Rattle.drain_grid.specs.Path.{IsPath, NeverRises, IsFilled}
 use Rattle.drain_grid.proofs.Lowered.{AreLevels, HasData-path}
 use Rattle.drain_grid.proofs.SpillPaths.{SpillPath, path_here, path_onward, IsFilled-paths}
-use Rattle.drain_flood.specs.Floods.{Flooding, con_at, IsFlooded, mark_at, unreached, IsUnreached, Reaches, IsReachedFrom}
+use Rattle.drain_flood.specs.Floods.{Flooding, con_at, IsSurfaceOf, mark_at, unreached, IsUnreached, Reaches, IsReachedFrom}
 use Rattle.drain_flood.specs.Laws.{FloodIsDone, FloodIsFilled}
 use Rattle.drain_flood.proofs.AllReached.{all_are_reached}
 use Rattle.std.proofs.lemmas.Bool.{cases_order, or_left, or_right}
@@ -70,21 +70,24 @@ pub flood_is_done : FloodIsDone
 flood_is_done g f level flood no_ahead no_waiting =
     let all = all_are_reached g f level flood no_ahead no_waiting in
     record {
-      counted = flood.counted;
-      voids = flood.voids;
+      surface = record {
+        counted = flood.counted;
+        voids = λ c inside none. (flood.voids c inside none).mark;
+        opened = flood.opened;
+        covers = λ c here. flood.covers c (all c here);
+        drains = λ c here. (let way = flood.drains c (all c here) in (way.rest, way.path, way.falls));
+        closed = λ c here shut. flood.closed c (all c here) shut;
+        least = λ c n d here there leads. flood.least c n d (all c here) (all n there) leads;
+      };
+      blank = λ c inside none. (flood.voids c inside none).con;
       heights = flood.heights;
-      opened = flood.opened;
-      covers = λ c here. flood.covers c (all c here);
-      drains = λ c here. (let way = flood.drains c (all c here) in (way.rest, way.path, way.falls));
-      closed = λ c here shut. flood.closed c (all c here) shut;
-      least = λ c n d here there leads. flood.least c n d (all c here) (all n there) leads;
     }
 
 -- the ground below it, the next cell of its path no higher, and no lower way out there: the greater of the two
 both : (con z next : ℤ) → z ≤ℤ con → next ≤ℤ con → con ≤ℤ int_max z next → con ≡ int_max z next
 both con z next over down least = omega (arith, ints, clamps)
 
-module _ (g : Grid) (f : Flooding) (flooded : IsFlooded g f) where
+module _ (g : Grid) (f : Flooding) (flooded : IsSurfaceOf g f) where
   abbrev ps : Products
   ps = record {
     con = con_at g.extent f;

@@ -18,7 +18,7 @@ use Rattle.drain_grid.proofs.PatchDecisions.{open_cell}
 use Rattle.drain_grid.proofs.Runs.{index_of-below}
 use Rattle.drain_grid.proofs.Alike.{same_index}
 use Rattle.drain_flood.specs.declared.layers.TheConstants.{OPEN, REACHED, VOID, NO_RANK}
-use Rattle.drain_flood.specs.Floods.{Flooding, con_at, mark_at, IsFlooded}
+use Rattle.drain_flood.specs.Floods.{Flooding, con_at, mark_at, IsSurfaceOf}
 use Rattle.drain_flood.specs.Flats.{first_rank, AreFirstRanks, Laying, way_at, rank_at, wayless, IsSettled, IsFlat, IsOnFlat, HasWay, IsLookedFor, IsToLook, AreLaid, Settles, IsSettledFrom}
 use Rattle.drain_flood.specs.Walks.{IsLowEdgeThere, with_ahead}
 use Rattle.drain_flood.specs.Ways.{IsWayDown, way_code, AreFirstCodes}
@@ -49,7 +49,7 @@ code_no_void East h = absurd (omega arith)
 code_no_void d h = absurd (omega arith)
 
 -- the first codes and ranks, and an empty trail
-module _ (g : Grid) (f : Flooding) (w : Laying) (flooded : IsFlooded g f) (codes : AreFirstCodes g f w.way)
+module _ (g : Grid) (f : Flooding) (w : Laying) (flooded : IsSurfaceOf g f) (codes : AreFirstCodes g f w.way)
     (rank_long : length w.rnk ≡ g.extent.rows * g.extent.cols) (ranks : AreFirstRanks w.way w.rnk) (no_ahead : w.ahead ≡ []) where
   rank_here : (c : Cell) → IsInside g c → rank_at g.extent w c ≡ first_rank (way_at g.extent w c)
   rank_here c inside = ranks (index_of g.extent c) (subst (λ n. index_of g.extent c < n) (sym codes.counted) (index_of-below g.extent c inside))

@@ -16,7 +16,7 @@ use Rattle.drain_grid.proofs.PatchDecisions.{open_cell}
 use Rattle.drain_grid.proofs.ThreeRows.{row_beside, number_beside, number_in_row, col_beside}
 use Rattle.drain_flood.specs.declared.falls.TheConstants.{GAP}
 use Rattle.drain_flood.specs.declared.layers.TheConstants.{NO_HEIGHT, VOID, OPEN, REACHED}
-use Rattle.drain_flood.specs.Floods.{Flooding, con_at, mark_at, IsFlooded}
+use Rattle.drain_flood.specs.Floods.{Flooding, con_at, mark_at, IsFlooded, IsSurfaceOf}
 use Rattle.drain_flood.specs.Laid.{AreRowLanes, IsLane, fall_at, level_of_lane}
 use Rattle.drain_flood.specs.Ways.{IsCodeAt, IsLowerNeighbor, IsWayDown, key_down}
 use Rattle.drain_flood.proofs.Cells.{none_or_some}
@@ -29,7 +29,7 @@ reached_differs : (code : ℕ) → code ≡ REACHED → code ≡ VOID → ⊥
 reached_differs code reached none = absurd (omega arith)
 
 -- a flooded grid has no void's code at a data cell
-pub data_code : (g : Grid) (f : Flooding) (c : Cell) → IsFlooded g f → HasData g c → mark_at g.extent f c ≢ VOID
+pub data_code : (g : Grid) (f : Flooding) (c : Cell) → IsSurfaceOf g f → HasData g c → mark_at g.extent f c ≢ VOID
 data_code g f c flooded here code =
     elim (cases (open_cell g c)) [
       | inl is_open ↦ outlet_differs (mark_at g.extent f c) (flooded.opened c is_open).mark code
@@ -98,7 +98,7 @@ module _ (g : Grid) (f : Flooding) (flooded : IsFlooded g f) (c : Cell) (inside 
   level = level_in h c.col
 
   data_height : (n : Cell) → HasData g n → NO_HEIGHT <ℤ con_at g.extent f n
-  data_height n here = above_ground _ _ _ (flooded.heights n here) (flooded.covers n here)
+  data_height n here = above_ground _ _ _ (flooded.heights n here) (flooded.surface.covers n here)
 
   lane_there : (d : Direction) (n : Cell) → step g.extent c d ≡ Some n → IsLane (con_at g.extent f n) (L d)
   lane_there d n there =
@@ -120,7 +120,7 @@ module _ (g : Grid) (f : Flooding) (flooded : IsFlooded g f) (c : Cell) (inside 
         | inr (n, there) ↦
             elim (none_or_some (g.elevation n)) [
               | inl void ↦
-                  (let con = (flooded.voids n (step_lies g.extent c n d there).0 void).con in
+                  (let con = flooded.blank n (step_lies g.extent c n d there).0 void in
                   absurd (no_gap (L d) ((lane_there d n there).none con) less))
               | inr some ↦ (n, there, record { inside = (step_lies g.extent c n d there).0; is_data = some })
             ]
@@ -180,10 +180,9 @@ pub code_from_lanes : (g : Grid) (f : Flooding) (c : Cell) (a h b : List ℕ) (c
     put ≡ (if code == 0 then mark else code) → IsCodeAt g f c put
 code_from_lanes g f c a h b code mark put flooded inside rows code_is mark_is put_is = record {
   void = λ void.
-      (let blank = flooded.voids c inside void in
-      let gap = (own g f flooded c inside a h b rows).none blank.con in
+      (let gap = (own g f flooded c inside a h b rows).none (flooded.blank c inside void) in
       elim (fall_at_means a h b c.col) [
-        | inl (none, most) ↦ put_mark (code_is ∙ none) ∙ blank.mark
+        | inl (none, most) ↦ put_mark (code_is ∙ none) ∙ flooded.surface.voids c inside void
         | inr (d, named, first) ↦ absurd (none_below _ _ (level_void _ gap) first.lower)
       ]);
   way = λ here.

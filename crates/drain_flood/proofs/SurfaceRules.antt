@@ -10,10 +10,10 @@ use Rattle.drain_grid.specs.PatchRules.{surface_rules, BelowGroundHolds, OpenRai
 use Rattle.drain_grid.specs.Rule.{IsFillRule}
 use Rattle.drain_grid.specs.Values.{Values}
 use Rattle.drain_grid.proofs.Patches.{IsOpen-patch_at, cell_shown}
-use Rattle.drain_flood.specs.Floods.{Flooding, con_at, IsFlooded}
+use Rattle.drain_flood.specs.Floods.{Flooding, con_at, IsSurfaceOf}
 use Rattle.drain_flood.specs.Laws.{SurfaceKeepsRules}
 
-module _ (g : Grid) (f : Flooding) (ps : Products) (flooded : IsFlooded g f) (con : (c : Cell) → ps.con c ≡ con_at g.extent f c) (c : Cell) (inside : IsInside g c) where
+module _ (g : Grid) (f : Flooding) (ps : Products) (flooded : IsSurfaceOf g f) (con : (c : Cell) → ps.con c ≡ con_at g.extent f c) (c : Cell) (inside : IsInside g c) where
   here : IsSome (g.elevation c) → HasData g c
   here some = record { inside = inside; is_data = some }
 

@@ -130,14 +130,24 @@ pub record IsReachedFrom (g : Grid) (f : Flooding) (level : ℤ) (c : Cell) (d :
   pub con_is : con ≡ int_max (con_at g.extent f n) (con_at g.extent f c)
   pub raises : (con_at g.extent f c ≤ℤ con_at g.extent f n) ⊎ (con_at g.extent f c ≡ level)
 
--- a grid that was flooded: every data cell is reached
-pub record IsFlooded (g : Grid) (f : Flooding) : Type 0 where
+-- a filled surface of a grid with the marks of its cells: the height at a void plays no part
+pub record IsSurfaceOf (g : Grid) (f : Flooding) : Type 0 where
   pub counted : IsCounted g f
-  pub voids : (c : Cell) → IsInside g c → IsNone (g.elevation c) → IsBlankIn g f c
-  pub heights : (c : Cell) → HasData g c → NO_HEIGHT <ℤ height_at g c
+  pub voids : (c : Cell) → IsInside g c → IsNone (g.elevation c) → mark_at g.extent f c ≡ VOID
   pub opened : (c : Cell) → IsOpenCell g c → IsOpenIn g f c
   pub closed : (c : Cell) → HasData g c → ¬ IsOpenCell g c → mark_at g.extent f c ≡ REACHED
   pub covers : CoversGround g (con_at g.extent f)
   pub drains : Drains g (con_at g.extent f)
   pub least : (c n : Cell) (d : Direction) → HasData g c → HasData g n → step g.extent c d ≡ Some n →
       con_at g.extent f c ≤ℤ int_max (height_at g c) (con_at g.extent f n)
+
+-- at a cell the height is this number exactly where there is no data
+pub record ShowsVoids (g : Grid) (f : Flooding) (void : ℤ) : Type 0 where
+  pub voids : (c : Cell) → IsInside g c → IsNone (g.elevation c) → con_at g.extent f c ≡ void
+  pub differs : (c : Cell) → HasData g c → con_at g.extent f c ≢ void
+
+-- a grid that was flooded: every data cell is reached, and voids have the no-data height, which is below all ground
+pub record IsFlooded (g : Grid) (f : Flooding) : Type 0 where
+  pub surface : IsSurfaceOf g f
+  pub blank : (c : Cell) → IsInside g c → IsNone (g.elevation c) → con_at g.extent f c ≡ NO_HEIGHT
+  pub heights : (c : Cell) → HasData g c → NO_HEIGHT <ℤ height_at g c

@@ -6,12 +6,13 @@ use Rattle.drain_grid.specs.Grid.{Grid, Products, HasData, IsInside, patch_at}
 use Rattle.drain_grid.specs.GridRules.{RulesHold}
 use Rattle.drain_grid.specs.PatchRules.{flow_rules, surface_rules, BadCodeWithoutSpill}
 use Rattle.drain_grid.specs.Product.{default_numbers}
+use Rattle.drain_flood.specs.declared.layers.TheConstants.{NO_HEIGHT}
 use Rattle.drain_flood.specs.declared.level_queue.TheConstants.{MAX_CELLS}
 use Rattle.drain_grid.specs.Rule.{IsFillRule, IsWayRule}
 use Rattle.drain_grid.specs.Path.{Drains, IsFilled}
 use Rattle.drain_flood.specs.Turns.{with_lists}
 use Rattle.drain_flood.specs.Flats.{Laying, AreLaid, IsSettledFrom, Settles, AreWaysOnFlats, ShowsWays}
-use Rattle.drain_flood.specs.Floods.{con_at, Flooding, IsFloodOf, IsReachedCell, IsReachedFrom, Reaches, IsFlooded}
+use Rattle.drain_flood.specs.Floods.{con_at, Flooding, IsFloodOf, IsReachedCell, IsReachedFrom, Reaches, IsFlooded, IsSurfaceOf, ShowsVoids}
 
 -- what holds of a flood still holds after one more cell is reached
 abbrev pub KeptByReaching : Type 0
@@ -30,10 +31,10 @@ abbrev pub FloodIsDone : Type 0
 FloodIsDone =
     (g : Grid) (f : Flooding) (level : ℤ) → IsFloodOf g f level [] → f.ahead ≡ [] → f.waiting ≡ [] → IsFlooded g f
 
--- the heights of a flooded grid are the filled surface: the spill level of each data cell, and the least surface that
--- covers the ground and drains
+-- a surface of a grid is the filled one: the spill level of each data cell, and the least surface that covers the ground
+-- and drains
 abbrev pub FloodIsFilled : Type 0
-FloodIsFilled = (g : Grid) (f : Flooding) → IsFlooded g f → IsFilled g (con_at g.extent f)
+FloodIsFilled = (g : Grid) (f : Flooding) → IsSurfaceOf g f → IsFilled g (con_at g.extent f)
 
 -- what holds while flats get their ways still holds after one more cell is settled
 abbrev pub KeptBySettling : Type 0
@@ -56,7 +57,7 @@ FlatsKeepRules =
 -- a filled surface keeps rules 4, 5 and 9 at every cell
 abbrev pub SurfaceKeepsRules : Type 0
 SurfaceKeepsRules =
-    (g : Grid) (f : Flooding) (ps : Products) → IsFlooded g f → ((c : Cell) → ps.con c ≡ con_at g.extent f c) → RulesHold surface_rules IsFillRule g ps
+    (g : Grid) (f : Flooding) (ps : Products) → IsSurfaceOf g f → ((c : Cell) → ps.con c ≡ con_at g.extent f c) → RulesHold surface_rules IsFillRule g ps
 
 -- a batch: one more cell that waits at the flood's level may be taken, whatever else is on the trail
 abbrev pub TakenOfALevel : Type 0
@@ -64,14 +65,19 @@ TakenOfALevel =
     (g : Grid) (f : Flooding) (level : ℤ) (place : ℕ) (rest : List (ℤ × ℕ)) → f.waiting ≡ (level, place) ∷ rest → IsFloodOf g f level [] →
     IsFloodOf g (with_lists f (place ∷ f.ahead) rest) level []
 
--- the height, the code and the rank are the default no-data numbers exactly at voids: their parts of rules 1 and 2
-pub record ArePresent (g : Grid) (ps : Products) (c : Cell) : Type 0 where
-  pub void : IsNone (g.elevation c) → (ps.con c ≡ default_numbers.con) × (ps.dir c ≡ default_numbers.dir) × (ps.rnk c ≡ default_numbers.rnk)
-  pub data_con : HasData g c → ps.con c ≢ default_numbers.con
+-- no ground of a flooded grid is as low as the height of a void, so its height is that of a void exactly at voids
+abbrev pub FloodShowsVoids : Type 0
+FloodShowsVoids = (g : Grid) (f : Flooding) → IsFlooded g f → ShowsVoids g f NO_HEIGHT
+
+-- the height is this number exactly at voids, and the code and the rank are the default no-data numbers exactly there:
+-- their parts of rules 1 and 2
+pub record ArePresent (g : Grid) (ps : Products) (con : ℤ) (c : Cell) : Type 0 where
+  pub void : IsNone (g.elevation c) → (ps.con c ≡ con) × (ps.dir c ≡ default_numbers.dir) × (ps.rnk c ≡ default_numbers.rnk)
+  pub data_con : HasData g c → ps.con c ≢ con
   pub data_dir : HasData g c → ps.dir c ≢ default_numbers.dir
   pub data_rnk : HasData g c → ps.rnk c ≢ default_numbers.rnk
 
 abbrev pub FlatsArePresent : Type 0
 FlatsArePresent =
-    (g : Grid) (f : Flooding) (w : Laying) (ps : Products) → g.extent.rows * g.extent.cols ≤ MAX_CELLS → IsFlooded g f → AreWaysOnFlats g f w → ShowsWays g f w ps →
-    (c : Cell) → IsInside g c → ArePresent g ps c
+    (g : Grid) (f : Flooding) (w : Laying) (ps : Products) (con : ℤ) → g.extent.rows * g.extent.cols ≤ MAX_CELLS → ShowsVoids g f con → AreWaysOnFlats g f w →
+    ShowsWays g f w ps → (c : Cell) → IsInside g c → ArePresent g ps con c

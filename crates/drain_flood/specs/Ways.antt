@@ -1,11 +1,11 @@
 -- The way of each cell of a filled surface that has a lower neighbour: the first steepest one down.
 -- Source: D8 (O'Callaghan and Mark 1984).
-use Rattle.std.specs.Prelude.{◌≡◌, ℕ, ◌*◌, ◌<◌, ℤ, ◌-ℤ◌, ◌≤ℤ◌, ◌<ℤ◌, List, length, slice_index_or, Option, Some, None, IsNone, ◌≢◌, zero, suc, ◌+◌, ◌≤◌, pos, nat_lt, if◌then◌else◌, [], ◌∷◌, ◌++◌, map, get_or, Contains}
+use Rattle.std.specs.Prelude.{◌≡◌, ℕ, ◌*◌, ◌<◌, ℤ, ◌-ℤ◌, ◌≤ℤ◌, ◌<ℤ◌, List, length, slice_index_or, Option, Some, None, IsNone, ◌≢◌, zero, suc, ◌+◌, ◌≤◌, pos, nat_lt, ◌==◌, if◌then◌else◌, [], ◌∷◌, ◌++◌, map, get_or, Contains}
 use Rattle.drain_grid.specs.declared.cell.Cell.{Cell}
 use Rattle.drain_grid.specs.declared.direction.Direction.{Direction}
 use Rattle.drain_grid.specs.Direction.{code_of, is_straight, order_of}
-use Rattle.drain_grid.specs.Extent.{index_of, step}
-use Rattle.drain_grid.specs.Grid.{Grid, HasData, IsInside}
+use Rattle.drain_grid.specs.Extent.{Extent, index_of, step}
+use Rattle.drain_grid.specs.Grid.{Grid, HasData, IsInside, Products, no_sink}
 use Rattle.drain_grid.specs.Slope.{slope_key}
 use Rattle.drain_flood.specs.declared.layers.TheConstants.{VOID}
 use Rattle.drain_flood.specs.Floods.{Flooding, con_at, mark_at}
@@ -54,6 +54,26 @@ pub record AreFirstCodes (g : Grid) (f : Flooding) (dirs : List ℕ) : Type 0 wh
   pub counted : length dirs ≡ g.extent.rows * g.extent.cols
   pub voids : (c : Cell) → IsInside g c → IsNone (g.elevation c) → slice_index_or dirs (index_of g.extent c) 0 ≡ VOID
   pub ways : (c : Cell) → HasData g c → IsWayCode g f c (slice_index_or dirs (index_of g.extent c) 0)
+
+-- The surface alone as a grid with one product: what the rule on slopes looks at.
+
+-- a cell has data unless its mark is that of a void
+abbrev pub marked_grid : Extent → Flooding → Grid
+marked_grid e f = record {
+  extent = e;
+  elevation = λ c. if mark_at e f c == VOID then None else Some (con_at e f c);
+  sink = no_sink;
+}
+
+abbrev pub marked_products : Extent → Flooding → Products
+marked_products e f = record {
+  con = con_at e f;
+  dir = λ c. pos 0;
+  acc = λ c. pos 0;
+  bas = λ c. pos 0;
+  spl = λ c. pos 0;
+  rnk = λ c. pos 0;
+}
 
 -- How linked items encode the queue of each level.
 

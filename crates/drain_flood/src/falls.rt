@@ -61,14 +61,18 @@ fn lay_heights(heights: &[i16], start: usize, lanes: &mut [u16])
 }
 
 /// Lays a row of the grid, between two gaps. Rows are counted from 1; those next to the grid are gaps.
-fn lay_row(surface: &Surface, down: usize, lanes: &mut [u16])
+fn lay_row(surface: &Surface<Vec<i16>>, down: usize, lanes: &mut [u16])
     requires { length lanes.old ≡ surface.now.extent.cols + 2 }
     ensures len { length lanes.new ≡ length lanes.old }
     ensures lanes { AreRowLanes surface.now.extent surface.now down lanes.new }
 {
     let shape = surface.shape();
     if 0 < down && down <= shape.rows() as usize {
-        lay_heights(surface.heights(), shape.row_start((down - 1) as u32), lanes);
+        lay_heights(
+            surface.heights().as_slice(),
+            shape.row_start((down - 1) as u32),
+            lanes,
+        );
     } else {
         lay_gaps(lanes);
     }
@@ -220,7 +224,7 @@ fn put_codes(codes: &[u16], marks: &[u8], start: usize, dirs: &mut [u8])
 
 /// Puts the code of each cell of a row at its place. The other slices are room for lanes and codes.
 pub(crate) fn put_row(
-    surface: &Surface,
+    surface: &Surface<Vec<i16>>,
     row: u32,
     above: &mut [u16],
     here: &mut [u16],

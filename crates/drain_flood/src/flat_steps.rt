@@ -14,6 +14,7 @@ ghost use Rattle.drain_flood.specs.Flats.{Laying, IsSettled, AreLaid};
 ghost use Rattle.drain_flood.specs.Walks.{IsFlatAt, IsFlatPlace, IsWalk, IsWalked, IsPassed, IsLessWalk};
 
 use crate::flats::Flats;
+use crate::heights::HeightList;
 use crate::layers::REACHED;
 use crate::places::{beside, is_inner};
 use crate::surface::Surface;
@@ -22,7 +23,11 @@ use drain_grid::{Cell, Direction, OutOfMemory, Shape};
 
 impl Flats {
     /// Settles the neighbours of a settled cell that have its height and no way yet.
-    pub(crate) fn look_around(&mut self, surface: &Surface, cell: Cell) -> Result<(), OutOfMemory>
+    pub(crate) fn look_around<C: HeightList>(
+        &mut self,
+        surface: &Surface<C>,
+        cell: Cell,
+    ) -> Result<(), OutOfMemory>
         requires same { self.old.extent ≡ surface.now.extent }
         requires inside { IsCellOf self.old.extent cell }
         ensures extent { self.new.extent ≡ self.old.extent }
@@ -40,12 +45,12 @@ impl Flats {
 
     /// Settles the neighbours of a cell that have this level and no way yet: their ranks are this one.
     #[inline(always)]
-    fn walk(
+    fn walk<C: HeightList>(
         &mut self,
-        surface: &Surface,
+        surface: &Surface<C>,
         shape: Shape,
         cell: Cell,
-        level: i16,
+        level: i64,
         rank: u32,
     ) -> Result<(), OutOfMemory>
         requires same { self.old.extent ≡ surface.now.extent }
@@ -64,12 +69,12 @@ impl Flats {
 
     /// The same for a cell that isn't on the edge of the grid.
     #[inline(always)]
-    fn walk_inside(
+    fn walk_inside<C: HeightList>(
         &mut self,
-        surface: &Surface,
+        surface: &Surface<C>,
         shape: Shape,
         cell: Cell,
-        level: i16,
+        level: i64,
         rank: u32,
     ) -> Result<(), OutOfMemory>
         requires same { self.old.extent ≡ surface.now.extent }
@@ -93,13 +98,13 @@ impl Flats {
 
     /// Goes one direction more from such a cell.
     #[inline(always)]
-    fn turn(
+    fn turn<C: HeightList>(
         &mut self,
-        surface: &Surface,
+        surface: &Surface<C>,
         shape: Shape,
         cell: Cell,
         direction: Direction,
-        level: i16,
+        level: i64,
         rank: u32,
     ) -> Result<(), OutOfMemory>
         requires same { self.old.extent ≡ surface.now.extent }
@@ -116,12 +121,12 @@ impl Flats {
 
     /// The same as `walk_inside` for a cell anywhere.
     #[inline(never)]
-    fn walk_at_edge(
+    fn walk_at_edge<C: HeightList>(
         &mut self,
-        surface: &Surface,
+        surface: &Surface<C>,
         shape: Shape,
         cell: Cell,
-        level: i16,
+        level: i64,
         rank: u32,
     ) -> Result<(), OutOfMemory>
         requires same { self.old.extent ≡ surface.now.extent }
@@ -139,14 +144,14 @@ impl Flats {
 
     /// Settles the neighbour in one direction, if it has this level and no way yet.
     #[inline(always)]
-    fn look(
+    fn look<C: HeightList>(
         &mut self,
-        surface: &Surface,
+        surface: &Surface<C>,
         shape: Shape,
         cell: Cell,
         inner: bool,
         direction: Direction,
-        level: i16,
+        level: i64,
         rank: u32,
     ) -> Result<(), OutOfMemory>
         requires same { self.old.extent ≡ surface.now.extent }
@@ -167,14 +172,14 @@ impl Flats {
 
     /// The place of the neighbour in a direction, if it has no way and is at the level.
     #[inline(always)]
-    fn fresh(
+    fn fresh<C: HeightList>(
         &self,
-        surface: &Surface,
+        surface: &Surface<C>,
         shape: Shape,
         cell: Cell,
         inner: bool,
         direction: Direction,
-        level: i16,
+        level: i64,
     ) -> Option<usize>
         requires same { self.now.extent ≡ surface.now.extent }
         requires same_shape { shape ≡ self.now.extent }

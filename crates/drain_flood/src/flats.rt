@@ -11,14 +11,16 @@ ghost use Rattle.drain_grid.specs.declared.cell.Cell.{Cell};
 ghost use Rattle.drain_grid.specs.declared.direction.Direction.{Direction};
 ghost use Rattle.drain_grid.specs.Extent.{IsCellOf, index_of};
 ghost use Rattle.drain_grid.specs.Grid.{Grid};
-ghost use Rattle.drain_flood.specs.Floods.{IsFlooded, con_at};
+ghost use Rattle.drain_flood.specs.Floods.{IsSurfaceOf, con_at};
 ghost use Rattle.drain_flood.specs.Flats.{first_rank, AreFirstRanks, Laying, way_at, rank_at, wayless, IsSettled, AreLaid, Settles, AreWaysOnFlats};
+ghost use Rattle.drain_flood.specs.Ways.{AreFirstCodes};
 ghost use Rattle.drain_flood.specs.Walks.{IsFlatAt, IsFlatPlace, IsLowEdgeAt, IsLowEdgeThere, IsWalk, IsPassed, IsLessWalk, IsNextPlace, IsDonePlaces};
 
+use crate::heights::HeightList;
 use crate::layers::{NO_RANK, REACHED, VOID, no_places, room_for_ranks};
 use crate::places::cell_at;
 use crate::surface::Surface;
-use crate::ways::{code, directions};
+use crate::ways::code;
 use drain_grid::{Cell, Direction, OutOfMemory, Shape};
 use std::alloc::Global;
 use std::marker::Model;
@@ -48,12 +50,17 @@ impl Model for Flats {
     ghost invariant = { λ f. AreLaidOut f.shape f.way.items f.rnk.items f.trail.items f.head };
 }
 
-/// The way and the rank of each cell of a filled surface.
-pub fn ways_on_flats(alloc: Global, surface: &Surface) -> Result<Flats, OutOfMemory>
+/// The way and the rank of each cell of a filled surface, whose codes of ways down and of outlets are given in row order.
+pub fn ways_on_flats<C: HeightList>(
+    alloc: Global,
+    surface: &Surface<C>,
+    codes: Vec<u8>,
+) -> Result<Flats, OutOfMemory>
+    requires counted { length codes.items ≡ surface.now.extent.rows * surface.now.extent.cols }
     ensures extent { IfOk result (λ flats. flats.extent ≡ surface.now.extent) }
-    ensures ways { IfOk result (λ flats. (g : Grid) → g.extent ≡ surface.now.extent → IsFlooded g surface.now → AreWaysOnFlats g surface.now flats) }
+    ensures ways { IfOk result (λ flats. (g : Grid) → g.extent ≡ surface.now.extent → IsSurfaceOf g surface.now → AreFirstCodes g surface.now codes.items → AreWaysOnFlats g surface.now flats) }
 {
-    let mut flats = Flats::start(alloc, surface)?;
+    let mut flats = Flats::start(alloc, surface, codes)?;
     flats.find_low_edges(surface)?;
     flats.spread(surface)?;
     Ok(flats)
@@ -79,12 +86,17 @@ impl Flats {
     }
 
     /// The codes of ways down and of outlets; cells of flats have none yet.
-    fn start(alloc: Global, surface: &Surface) -> Result<Flats, OutOfMemory>
+    fn start<C: HeightList>(
+        alloc: Global,
+        surface: &Surface<C>,
+        way: Vec<u8>,
+    ) -> Result<Flats, OutOfMemory>
+        requires counted { length way.items ≡ surface.now.extent.rows * surface.now.extent.cols }
         ensures extent { IfOk result (λ flats. flats.extent ≡ surface.now.extent) }
-        ensures laid { IfOk result (λ flats. (g : Grid) → g.extent ≡ surface.now.extent → IsFlooded g surface.now → AreLaid g surface.now flats 0 []) }
+        ensures laid { IfOk result (λ flats. (g : Grid) → g.extent ≡ surface.now.extent → IsSurfaceOf g surface.now → AreFirstCodes g surface.now way.items → AreLaid g surface.now flats 0 []) }
     {
         let shape = surface.shape();
-        let way = directions(alloc, surface)?;
+        let _cells = shape.cells();
         let rnk = first_ranks(alloc, way.as_slice())?;
         let trail = no_places(alloc)?;
         Ok(Flats {
@@ -98,7 +110,7 @@ impl Flats {
     }
 
     /// Settles the cells of flats next to low edges: each gets its way.
-    fn find_low_edges(&mut self, surface: &Surface) -> Result<(), OutOfMemory>
+    fn find_low_edges<C: HeightList>(&mut self, surface: &Surface<C>) -> Result<(), OutOfMemory>
         requires same { self.old.extent ≡ surface.now.extent }
         ensures extent { self.new.extent ≡ self.old.extent }
         ensures laid { OnOk result ((g : Grid) → g.extent ≡ self.old.extent → AreLaid g surface.now self.old 0 [] → AreLaid g surface.now self.new (self.old.extent.rows * self.old.extent.cols) []) }
@@ -110,7 +122,11 @@ impl Flats {
     }
 
     /// Settles the cell at a place, if it has no way and is next to a low edge.
-    fn look_for(&mut self, surface: &Surface, place: usize) -> Result<(), OutOfMemory>
+    fn look_for<C: HeightList>(
+        &mut self,
+        surface: &Surface<C>,
+        place: usize,
+    ) -> Result<(), OutOfMemory>
         requires same { self.old.extent ≡ surface.now.extent }
         requires below { place < self.old.extent.rows * self.old.extent.cols }
         ensures extent { self.new.extent ≡ self.old.extent }
@@ -130,10 +146,10 @@ impl Flats {
     }
 
     /// Walks inwards from the cells of the trail.
-    fn spread(&mut self, surface: &Surface) -> Result<(), OutOfMemory>
+    fn spread<C: HeightList>(&mut self, surface: &Surface<C>) -> Result<(), OutOfMemory>
         requires same { self.old.extent ≡ surface.now.extent }
         ensures extent { self.new.extent ≡ self.old.extent }
-        ensures ways { OnOk result ((g : Grid) → g.extent ≡ self.old.extent → IsFlooded g surface.now → AreLaid g surface.now self.old (self.old.extent.rows * self.old.extent.cols) [] → AreWaysOnFlats g surface.now self.new) }
+        ensures ways { OnOk result ((g : Grid) → g.extent ≡ self.old.extent → IsSurfaceOf g surface.now → AreLaid g surface.now self.old (self.old.extent.rows * self.old.extent.cols) [] → AreWaysOnFlats g surface.now self.new) }
     {
         while let Some(cell) = self.next() {
             self.look_around(surface, cell)?;

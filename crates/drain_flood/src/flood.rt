@@ -82,12 +82,12 @@ impl Flood {
 
     /// The surface, without what only the flood needs, which is freed. Its heights are copied into memory of just their
     /// size: where the elevations were, if these are freed before.
-    pub fn into_surface(self, alloc: Global) -> Result<Surface, OutOfMemory>
+    pub fn into_surface(self, alloc: Global) -> Result<Surface<Vec<i16>>, OutOfMemory>
         ensures extent { IfOk result (λ surface. surface.extent ≡ self.extent) }
         ensures flooded { IfOk result (λ surface. (g : Grid) → IsFlooded g self → IsFlooded g surface) }
     {
         let con = copied(alloc, &self.con)?;
-        Ok(Surface::new(self.shape, self.inverse, con, self.mark))
+        Ok(Surface::new(self.shape, con, self.mark))
     }
 
     /// A flood at a level below all ground: the open cells are reached, each at its ground, and are on the trail.

@@ -4,7 +4,7 @@
 
 ghost use Rattle.std.specs.Prelude.{◌≡◌, pos, neg_ℤ};
 ghost use Rattle.drain_flood.specs.declared.level_queue.TheConstants.{MAX_CELLS};
-ghost use Rattle.drain_flood.specs.Laws.{KeptByReaching, AllAreReached, FloodIsDone, FloodIsFilled, KeptBySettling, AllAreSettled, FlatsKeepRules, SurfaceKeepsRules, TakenOfALevel, FlatsArePresent};
+ghost use Rattle.drain_flood.specs.Laws.{KeptByReaching, AllAreReached, FloodIsDone, FloodIsFilled, KeptBySettling, AllAreSettled, FlatsKeepRules, SurfaceKeepsRules, TakenOfALevel, FlatsArePresent, FloodShowsVoids};
 
 use crate::layers::{NO_HEIGHT, NO_RANK, OPEN, REACHED, UNREACHED, VOID};
 
@@ -37,7 +37,7 @@ pub fn flood_is_done()
     ensures { FloodIsDone }
 {}
 
-/// The heights of a flooded grid are the filled surface.
+/// The heights of a surface of a grid are the filled surface.
 pub fn flood_is_filled()
     ensures { FloodIsFilled }
 {}
@@ -67,7 +67,12 @@ pub fn taken_of_a_level()
     ensures { TakenOfALevel }
 {}
 
-/// Heights, codes and ranks are the default no-data numbers exactly at voids.
+/// The height of a flooded grid is that of a void exactly at voids.
+pub fn flood_shows_voids()
+    ensures { FloodShowsVoids }
+{}
+
+/// Codes and ranks are the default no-data numbers exactly at voids, and so is the height its own number of a void.
 pub fn flats_are_present()
     ensures { FlatsArePresent }
 {}

@@ -4,10 +4,12 @@
 #![tactic(auto)]
 
 mod around;
+pub mod exact_ways;
 mod falls;
 mod flat_steps;
 pub mod flats;
 pub mod flood;
+pub mod heights;
 pub mod laws;
 pub mod layers;
 pub mod level_queue;
@@ -20,5 +22,6 @@ pub mod ways;
 
 pub use flats::{CodesAndRanks, Flats, ways_on_flats};
 pub use flood::{Flood, fill};
+pub use heights::{HeightList, WideHeights};
 pub use level_queue::LevelQueue;
 pub use surface::Surface;

@@ -1,13 +1,13 @@
 //! The low edges of flats: outlets, and cells with a lower neighbour. Their rank is 0.
 
-ghost use Rattle.std.specs.Prelude.{◌≡◌, MatchOption, IsTrue};
+ghost use Rattle.std.specs.Prelude.{◌≡◌, ◌↔◌, MatchOption, IsTrue};
 ghost use Rattle.drain_grid.specs.declared.direction.Direction.{Direction};
 ghost use Rattle.drain_grid.specs.Extent.{IsCellOf};
 ghost use Rattle.drain_flood.specs.Looks.{IsInnerPlace};
 ghost use Rattle.drain_flood.specs.Walks.{IsLowEdgeThere};
 
 use crate::flats::Flats;
-use crate::flood::is_same;
+use crate::heights::HeightList;
 use crate::layers::{REACHED, VOID};
 use crate::places::{beside, is_inner};
 use crate::surface::Surface;
@@ -15,7 +15,12 @@ use drain_grid::{Cell, Direction, Shape};
 
 impl Flats {
     /// The first direction in which there is a low edge.
-    pub(crate) fn low_edge(&self, surface: &Surface, cell: Cell, level: i16) -> Option<Direction>
+    pub(crate) fn low_edge<C: HeightList>(
+        &self,
+        surface: &Surface<C>,
+        cell: Cell,
+        level: i64,
+    ) -> Option<Direction>
         requires same { self.now.extent ≡ surface.now.extent }
         requires inside { IsCellOf self.now.extent cell }
         ensures { MatchOption result ((d : Direction) → IsLowEdgeThere self.now.extent surface.now self.now cell level d → ⊥) (IsLowEdgeThere self.now.extent surface.now self.now cell level) }
@@ -30,12 +35,12 @@ impl Flats {
 
     /// The same for a cell that isn't on the edge of the grid, with the eight directions written out.
     #[inline(always)]
-    fn low_edge_inside(
+    fn low_edge_inside<C: HeightList>(
         &self,
-        surface: &Surface,
+        surface: &Surface<C>,
         shape: Shape,
         cell: Cell,
-        level: i16,
+        level: i64,
     ) -> Option<Direction>
         requires same { self.now.extent ≡ surface.now.extent }
         requires same_shape { shape ≡ self.now.extent }
@@ -72,12 +77,12 @@ impl Flats {
 
     /// The same for a cell anywhere, direction by direction.
     #[inline(never)]
-    fn low_edge_at_edge(
+    fn low_edge_at_edge<C: HeightList>(
         &self,
-        surface: &Surface,
+        surface: &Surface<C>,
         shape: Shape,
         cell: Cell,
-        level: i16,
+        level: i64,
     ) -> Option<Direction>
         requires same { self.now.extent ≡ surface.now.extent }
         requires same_shape { shape ≡ self.now.extent }
@@ -94,14 +99,14 @@ impl Flats {
 
     /// Whether there is a low edge in a direction.
     #[inline(always)]
-    fn is_low_edge(
+    fn is_low_edge<C: HeightList>(
         &self,
-        surface: &Surface,
+        surface: &Surface<C>,
         shape: Shape,
         cell: Cell,
         inner: bool,
         direction: Direction,
-        level: i16,
+        level: i64,
     ) -> bool
         requires same { self.now.extent ≡ surface.now.extent }
         requires same_shape { shape ≡ self.now.extent }
@@ -122,9 +127,16 @@ impl Flats {
                 if self.rank_at(next) != 0 {
                     return false;
                 }
-                is_same(surface.level_at(next), level)
+                is_level(surface.level_at(next), level)
             }
             None => false,
         }
     }
+}
+
+/// Whether a height is this level.
+fn is_level(height: i64, level: i64) -> bool
+    ensures { IsTrue result ↔ height ≡ level }
+{
+    height == level
 }

@@ -18,7 +18,7 @@ use std::alloc::Global;
 
 /// The codes in row order: VOID at voids, OPEN at outlets, REACHED at closed cells without a lower neighbour.
 #[inline(never)]
-pub fn directions(alloc: Global, surface: &Surface) -> Result<Vec<u8>, OutOfMemory>
+pub fn directions(alloc: Global, surface: &Surface<Vec<i16>>) -> Result<Vec<u8>, OutOfMemory>
     ensures counted { IfOk result (λ dirs. length dirs.items ≡ surface.now.extent.rows * surface.now.extent.cols) }
     ensures codes { IfOk result (λ dirs. (g : Grid) → g.extent ≡ surface.now.extent → IsFlooded g surface.now → AreFirstCodes g surface.now dirs.items) }
 {
@@ -29,7 +29,7 @@ pub fn directions(alloc: Global, surface: &Surface) -> Result<Vec<u8>, OutOfMemo
 }
 
 /// Puts the code of each cell at its place.
-fn put_all(alloc: Global, surface: &Surface, dirs: &mut [u8]) -> Result<(), OutOfMemory>
+fn put_all(alloc: Global, surface: &Surface<Vec<i16>>, dirs: &mut [u8]) -> Result<(), OutOfMemory>
     requires { length dirs.old ≡ surface.now.extent.rows * surface.now.extent.cols }
     ensures counted { length dirs.new ≡ length dirs.old }
     ensures codes { OnOk result ((g : Grid) → g.extent ≡ surface.now.extent → IsFlooded g surface.now → AreFirstCodes g surface.now dirs.new) }
@@ -52,7 +52,7 @@ fn put_all(alloc: Global, surface: &Surface, dirs: &mut [u8]) -> Result<(), OutO
 
 /// The same, with room for three rows of lanes and for the codes of a row.
 fn put_rows(
-    surface: &Surface,
+    surface: &Surface<Vec<i16>>,
     above: &mut [u16],
     here: &mut [u16],
     below: &mut [u16],

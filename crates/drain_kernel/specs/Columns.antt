@@ -1,5 +1,5 @@
 -- The tests at a column of three rows of lanes.
-use Rattle.std.specs.Prelude.{◌≢◌, pos, IsSome, None, ℕ, ◌-◌, Bool, nat_lt, slice_index, ◌≡◌, ℤ, List, length, ◌≤◌, ◌<◌, ◌+◌, IsTrue}
+use Rattle.std.specs.Prelude.{◌≢◌, pos, IsSome, None, Option, ℕ, ◌-◌, Bool, nat_lt, slice_index, ◌≡◌, ℤ, List, length, ◌≤◌, ◌<◌, ◌+◌, IsTrue}
 use Rattle.drain_grid.specs.declared.patch.Patch.{Patch}
 use Rattle.drain_grid.specs.PatchRules.{Profile}
 use Rattle.drain_grid.specs.Rule.{IsPatchRule, IsLeastFault}
@@ -36,7 +36,7 @@ raised_lanes row from end = count_by (is_raised_at row) (range_with_len from (en
 -- The lanes of a row's numbers.
 
 -- as many lanes as numbers, each with its column's number, at a void only the elevation's; ranks if they were taken
-pub record AreLanesOf (lanes : Lanes) (z : List ℤ) (products : PerProduct (List ℤ)) : Type 0 where
+pub record AreLanesOf (lanes : Lanes) (z : List (Option ℤ)) (products : PerProduct (List ℤ)) : Type 0 where
   pub len : cols lanes ≡ length z
   pub elevations : AreElevationLanes z lanes.z.items (length z)
   pub con : AreHeightLanes lanes.z.items products.con lanes.con.items (length z)

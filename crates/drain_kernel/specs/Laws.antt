@@ -1,18 +1,16 @@
 -- What lanes of a row's numbers show, and what their count of raised columns is.
-use Rattle.std.specs.Prelude.{◌≡◌, ℕ, ◌-◌, ◌<◌, ℤ, pos, Bool, List, length, slice_index_or, IsSome, unwrap_or, int_lt}
+use Rattle.std.specs.Prelude.{◌≡◌, ℕ, ◌-◌, ◌<◌, ℤ, pos, Bool, List, Option, None, length, slice_index_or, IsSome, unwrap_or, int_lt}
 use Rattle.std.specs.List.{count_by, range_with_len}
 use Rattle.drain_grid.specs.declared.per_product.PerProduct.{PerProduct}
-use Rattle.drain_grid.specs.declared.tile.TheConstants.{VOID}
-use Rattle.drain_grid.specs.Grid.{height_from}
 use Rattle.drain_grid.specs.Values.{Values}
 use Rattle.drain_kernel.specs.declared.lanes.Lanes.{Lanes}
 use Rattle.drain_kernel.specs.Columns.{Along, raised_lanes, AreLanesOf}
 use Rattle.drain_kernel.specs.Shown.{Shows}
 
 -- the values of a row's numbers at a column, of a cell that may be a listed sink; of spill parents 0
-abbrev pub values_from : List ℤ → PerProduct (List ℤ) → ℕ → Bool → Values
+abbrev pub values_from : List (Option ℤ) → PerProduct (List ℤ) → ℕ → Bool → Values
 values_from z products k sink = record {
-  z = height_from (slice_index_or z k VOID);
+  z = slice_index_or z k None;
   sink = sink;
   con = slice_index_or products.con k (pos 0);
   dir = slice_index_or products.dir k (pos 0);
@@ -25,7 +23,7 @@ values_from z products k sink = record {
 -- lanes show what the numbers say of which they were made
 abbrev pub LanesShowNumbers : Type 0
 LanesShowNumbers =
-    (lanes : Lanes) (z : List ℤ) (products : PerProduct (List ℤ)) → AreLanesOf lanes z products → (k : ℕ) → k < length z → (sink : Bool) →
+    (lanes : Lanes) (z : List (Option ℤ)) (products : PerProduct (List ℤ)) → AreLanesOf lanes z products → (k : ℕ) → k < length z → (sink : Bool) →
     Shows lanes k (values_from z products k sink)
 
 -- con is above the ground

@@ -6,10 +6,10 @@ ghost use Rattle.drain_kernel.specs.Images.{AreRankLanes, at_most, lower, upper}
 ghost use Rattle.drain_pixels.specs.Lanes.{AreCapped, AreLanes, AreLower, AreUpper};
 
 use drain_grid::{Judged, PerProduct};
-use drain_pixels::PixelRow;
 use drain_pixels::row_lanes::{
     take_capped, take_elevations, take_halves, take_heights, take_numbers, take_short_numbers,
 };
+use drain_pixels::{GroundRow, PixelRow};
 use std::alloc::Global;
 
 /// The numbers of a row, next to each other for each column. z and con are stored with 32768 added, and z is 0 at a
@@ -63,9 +63,9 @@ impl Lanes {
     }
 
     /// Replaces the row by these numbers, with ranks if they are judged, and returns whether it has them now. At each
-    /// column z must fit 16 signed bits, and except at voids con too, dir 16 unsigned bits, and the others 32; memory
-    /// is taken if there is too little room. Else it has no row.
-    pub fn take(&mut self, z: &[i64], products: &PerProduct<&PixelRow>, judged: Judged) -> bool
+    /// column but voids z and con must fit 16 signed bits, z not being -32768, dir 16 unsigned bits, and the others 32;
+    /// memory is taken if there is too little room. Else it has no row.
+    pub fn take(&mut self, z: &GroundRow, products: &PerProduct<&PixelRow>, judged: Judged) -> bool
         requires { (p : SetProduct) → length (of_product products.now p).now ≡ length z.now }
         ensures lanes { IsTrue result → AreLanesOf self.new z.now (per_product (λ p. (of_product products.now p).now)) }
         ensures ranked { IsTrue result → IfJudged (has_rnk judged) (HasRanks self.new) }

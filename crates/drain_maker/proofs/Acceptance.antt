@@ -29,8 +29,10 @@ use Rattle.drain_rules.specs.Laws.{AreEqual, EqualGridsHaveOneVerdict}
 use Rattle.drain_answer.specs.declared.refusal.Refusal.{Refusal}
 use Rattle.drain_answer.specs.declared.refusal.Refusal.TheVariants.{BadSide, BadName, BoxTooLarge, BadHeader, WrongShape, Misplaced, RasterShort, BadSinkLine, SinkNotData, OutOfMemory, ReadFailed}
 use Rattle.drain_verdict.specs.Inputs.{Inputs}
-use Rattle.drain_verdict.specs.Meaning.{tiling_of, input_grid, listed_in, lines_in, fields_of, input_number, input_products, input_nodata, nodata_numbers}
-use Rattle.drain_verdict.specs.Refusals.{HasShape, IsPlaced}
+use Rattle.drain_verdict.specs.Texts.{lines_in}
+use Rattle.drain_verdict.specs.Meaning.{input_grid, listed_in, fields_of, input_number, input_products, input_nodata, nodata_numbers, tiling_of}
+use Rattle.drain_verdict.specs.Refusals.{HasShape}
+use Rattle.drain_verdict.specs.TileGround.{IsPlaced}
 use Rattle.drain_maker.specs.Mosaics.{IsMosaicOf}
 use Rattle.drain_verdict.specs.Answers.{AreReadable, IsAnswer}
 use Rattle.drain_maker.specs.ProductFiles.{made_header}

@@ -4,13 +4,11 @@ use Rattle.drain_grid.specs.declared.cell.Cell.{Cell}
 use Rattle.drain_grid.specs.Grid.{Grid, Products, HasData, Pixels}
 use Rattle.drain_grid.specs.Extent.{Extent}
 use Rattle.drain_paths.specs.Basins.{ends_before, AreBasinLabels}
-use Rattle.drain_maker.specs.Derived.{AreDerived, DerivedByDirections, IsDeriveRefusal, IsFlowsRefusal, IsRefusalFor}
+use Rattle.drain_maker.specs.Derived.{AreDerived, DerivedByDirections, IsDeriveRefusalIn, IsFlowsRefusal, IsRefusalFor, reading_in}
 use Rattle.drain_paths.specs.declared.flow.CertifyRefusal.{CertifyRefusal}
 use Rattle.drain_answer.specs.declared.refusal.Refusal.{Refusal}
 use Rattle.drain_answer.specs.declared.refusal.Refusal.TheVariants.{OutOfMemory, ReadFailed}
-use Rattle.drain_verdict.specs.Answers.{AreReadable, IsRefusal}
-use Rattle.drain_verdict.specs.Inputs.{Inputs}
-use Rattle.drain_verdict.specs.Meaning.{input_grid, input_products}
+use Rattle.drain_verdict.specs.GroundSets.{GroundSet, IsReadable, IsRefusalIn, set_grid, set_products}
 use Rattle.drain_verdict.specs.Refusals.{IsOfBodies}
 use Rattle.drain_maker.specs.declared.derivation.DeriveRefusal.{DeriveRefusal}
 use Rattle.drain_maker.specs.declared.derivation.DeriveRefusal.TheVariants.{Refused, NoEnd}
@@ -104,10 +102,15 @@ pub flows_refusal : (g : Grid) (ps : Products) (refusal : CertifyRefusal) (why :
 flows_refusal g ps (certify.NoEnd c) why is first = subst (IsFlowsRefusal g ps) (sym is) first
 flows_refusal g ps certify.OutOfMemory why is none = subst (IsFlowsRefusal g ps) (sym is) refl
 
--- and as one of the inputs whose flows they are
-pub derive_refusal : (i : Inputs) (why : DeriveRefusal) → AreReadable i → IsFlowsRefusal (input_grid i) (input_products i) why → IsDeriveRefusal i why
-derive_refusal i (Refused refusal) readable is = subst (IsRefusal i) (sym is) tt
-derive_refusal i (NoEnd row col) readable first = (readable, first)
+-- and as one of the set whose flows they are
+pub derive_refusal : (s : GroundSet) (why : DeriveRefusal) → IsReadable s → IsFlowsRefusal (set_grid s) (set_products s) why → IsDeriveRefusalIn s why
+derive_refusal s (Refused refusal) readable is = subst (IsRefusalIn s) (sym is) tt
+derive_refusal s (NoEnd row col) readable first = (readable, first)
+
+-- what it says of the reading, whatever would have been made
+pub same_reading : (A B : Type 0) (why : DeriveRefusal) → reading_in {T = A} (Err why) ≡ reading_in {T = B} (Err why)
+same_reading A B (Refused refusal) = refl
+same_reading A B (NoEnd row col) = refl
 
 -- the raster of a product with these numbers
 abbrev pub counts_raster : Extent → Product → List ℕ → Pixels

@@ -17,18 +17,20 @@ use Rattle.std.specs.Io.KnownBytes.{Appends}
 use Rattle.drain_device.specs.Failing.{Sink, WriteFails, full_patience, GivesUpWriting}
 use Rattle.drain_device.specs.Counts.{HandsOver}
 use Rattle.std.proofs.lemmas.List.{get_or-map}
+use Rattle.drain_grid.specs.declared.product.Product.TheVariants as product
 use Rattle.drain_grid.specs.declared.set_product.SetProduct.{SetProduct}
 use Rattle.drain_header.specs.Header.{Fields}
 use Rattle.drain_header.specs.Text.{text_of, shape_lines, pixel_lines, place_lines, nodata_line, line}
 use Rattle.drain_mosaic.specs.Tiling.{Tiling, extent_of}
 use Rattle.drain_raster.specs.declared.fault.WriteFault.{WriteFault}
+use Rattle.drain_raster.specs.Pixels.{header_extent}
 use Rattle.drain_maker.specs.declared.product_files.SetFault.{SetFault}
 use Rattle.drain_maker.specs.declared.product_files.SetFault.TheVariants.{WriteFailed, OutOfMemory}
 use Rattle.drain_maker.specs.declared.product_files.SetFile.{SetFile}
 use Rattle.drain_maker.specs.declared.product_files.TheConstants.{SET_FILES, DERIVED_COUNT, DERIVED_FILES}
 use Rattle.drain_maker.specs.declared.derivation.Derived.{Derived}
 use Rattle.drain_maker.specs.Derived.{AreCounts}
-use Rattle.drain_maker.specs.ProductFiles.{CanBeDerived, FitHeaders, IsDerived, WritesFile, WritesFiles, derived_bytes, derived_raster, file_bytes, set_bytes}
+use Rattle.drain_maker.specs.ProductFiles.{DerivedFit, FitHeaders, IsDerived, WritesFile, WritesFiles, derived_bytes, derived_raster, file_bytes, made_header, set_bytes}
 use Rattle.drain_maker.proofs.TileLists.{get-seam, set-seam}
 use Rattle.drain_raster.specs.declared.fault.WriteFault.TheVariants as write
 
@@ -214,20 +216,24 @@ one_shape ps Acc = ps.acc_shape
 one_shape ps Bas = ps.bas_shape
 one_shape ps Rnk = ps.rnk_shape
 
-pub FitHeaders-set : (t : Tiling) (ps : ProductSet) → ps.con.extent ≡ extent_of t → CanBeWritten t ps → FitHeaders t (λ p. Unit {0}) (raster_in ps)
-FitHeaders-set t ps shape written p held = record { extent = one_shape ps p ∙ shape; spelled = written p }
+pub FitHeaders-set : (t : Tiling) (ps : ProductSet) → ps.con.extent ≡ extent_of t → CanBeWritten t ps → FitHeaders (made_header t product.Con) (λ p. Unit {0}) (raster_in ps)
+FitHeaders-set t ps shape written Con held = record { extent = shape; spelled = written Con }
+FitHeaders-set t ps shape written Dir held = record { extent = one_shape ps Dir ∙ shape; spelled = written Dir }
+FitHeaders-set t ps shape written Acc held = record { extent = one_shape ps Acc ∙ shape; spelled = written Acc }
+FitHeaders-set t ps shape written Bas held = record { extent = one_shape ps Bas ∙ shape; spelled = written Bas }
+FitHeaders-set t ps shape written Rnk held = record { extent = one_shape ps Rnk ∙ shape; spelled = written Rnk }
 
-pub set_bytes-listed : (t : Tiling) (ps : ProductSet) → set_bytes t ps ≡ map (file_bytes t (raster_in ps)) SET_FILES
+pub set_bytes-listed : (t : Tiling) (ps : ProductSet) → set_bytes t ps ≡ map (file_bytes (made_header t product.Con) (raster_in ps)) SET_FILES
 unfolding set_bytes
 set_bytes-listed t ps = refl
 
 -- the files of derived rasters
-pub FitHeaders-derived : (t : Tiling) (d : Derived) → CanBeDerived t d → FitHeaders t IsDerived (derived_raster d)
-FitHeaders-derived t d written Con held = absurd held
-FitHeaders-derived t d written Dir held = absurd held
-FitHeaders-derived t d written Acc held = written.acc
-FitHeaders-derived t d written Bas held = written.bas
-FitHeaders-derived t d written Rnk held = written.rnk
+pub FitHeaders-derived : (h : Fields) (d : Derived) → DerivedFit h d → FitHeaders h IsDerived (derived_raster d)
+FitHeaders-derived h d written Con held = absurd held
+FitHeaders-derived h d written Dir held = absurd held
+FitHeaders-derived h d written Acc held = written.acc
+FitHeaders-derived h d written Bas held = written.bas
+FitHeaders-derived h d written Rnk held = written.rnk
 
 pub IsDerived-at : (k : ℕ) (d : SetFile) → k < DERIVED_COUNT → IsDerived (slice_index_or DERIVED_FILES k d).product
 IsDerived-at zero d below = tt
@@ -238,13 +244,13 @@ IsDerived-at (suc (suc (suc (suc zero)))) d below = tt
 IsDerived-at (suc (suc (suc (suc (suc zero))))) d below = tt
 IsDerived-at (suc (suc (suc (suc (suc (suc k)))))) d below = absurd (omega arith)
 
-pub derived_bytes-listed : (t : Tiling) (d : Derived) → derived_bytes t d ≡ map (file_bytes t (derived_raster d)) DERIVED_FILES
+pub derived_bytes-listed : (h : Fields) (d : Derived) → derived_bytes h d ≡ map (file_bytes h (derived_raster d)) DERIVED_FILES
 unfolding derived_bytes
-derived_bytes-listed t d = refl
+derived_bytes-listed h d = refl
 
 -- pixels of 32 bits without a sign are those of the three headers
-pub CanBeDerived-counts : (t : Tiling) (d : Derived) → AreCounts (extent_of t) d → CanBeDerived t d
-CanBeDerived-counts t d counts = record {
+pub DerivedFit-counts : (h : Fields) (d : Derived) → AreCounts (header_extent h) d → DerivedFit h d
+DerivedFit-counts h d counts = record {
   acc = record { extent = counts.acc.extent; spelled = counts.acc.spelled };
   bas = record { extent = counts.bas.extent; spelled = counts.bas.spelled };
   rnk = record { extent = counts.rnk.extent; spelled = counts.rnk.spelled };

@@ -1,5 +1,8 @@
 -- The header of a product is within the bounds of a header, and has the mosaic's place.
-use Rattle.std.proofs.Common.{ℕ, ◌+◌, ◌-◌, ◌*◌, ◌/◌, ◌^◌, ◌≤◌, inl, inr, ℤ, pos, negsuc, nat_abs, ◌-ℤ◌, ◌*ℤ◌, refl, arith, rules}
+use Rattle.std.proofs.Common.{ℕ, ◌+◌, ◌-◌, ◌*◌, ◌/◌, ◌^◌, ◌≤◌, inl, inr, ℤ, pos, negsuc, nat_abs, ◌-ℤ◌, ◌*ℤ◌, refl, sym, subst, arith, rules}
+use Rattle.std.specs.Prelude.{Option, Some, None, IfSome, unwrap_or}
+use Rattle.std.proofs.Math.Bridge.{le_prop}
+use Rattle.std.proofs.Math.Logic.{∥∥₁_elim}
 use Rattle.std.proofs.lemmas.Int.{ints}
 use Rattle.std.proofs.Math.Nat.{mul-le-mul_right}
 use Rattle.drain_grid.specs.declared.degree.TheConstants.{UNITS_PER_DEGREE}
@@ -10,7 +13,7 @@ use Rattle.drain_grid.specs.Grid.{IsSide}
 use Rattle.drain_grid.specs.Values.{IsNoData}
 use Rattle.drain_header.specs.Header.{IsPixelSize, IsCoordinate, AreWithinBounds}
 use Rattle.drain_mosaic.specs.Tiling.{Tiling, west_of, north_of, west_edge, north_edge, tiles_down, tiles_across}
-use Rattle.drain_verdict.specs.Refusals.{IsPlaced}
+use Rattle.drain_verdict.specs.TileGround.{IsPlaced}
 use Rattle.drain_maker.specs.ProductFiles.{bits_of, made_header, mosaic_place}
 use Rattle.drain_maker.proofs.Placing.{IsNear, spacing, no_way}
 
@@ -59,6 +62,30 @@ row_fits Acc cols few = omega arith
 row_fits Bas cols few = omega arith
 row_fits Spl cols few = omega arith
 row_fits Rnk cols few = omega arith
+
+-- the same of pixels of any header
+pub packed_holds : (bits cols : ℕ) → ∥ IsPixelSize bits ∥₁ → cols * bits / 8 ≤ cols * (bits / 8)
+packed_holds bits cols size = ∥∥₁_elim size le_prop (λ is. elim is [
+  | inl it ↦ subst (λ b. cols * b / 8 ≤ cols * (b / 8)) (sym it) (omega arith)
+  | inr wider ↦ elim wider [
+    | inl it ↦ subst (λ b. cols * b / 8 ≤ cols * (b / 8)) (sym it) (omega arith)
+    | inr it ↦ subst (λ b. cols * b / 8 ≤ cols * (b / 8)) (sym it) (omega arith)
+  ]
+])
+
+pub packed_fits : (bits cols : ℕ) → ∥ IsPixelSize bits ∥₁ → cols ≤ 28801 → cols * (bits / 8) ≤ 4294967295
+packed_fits bits cols size few = ∥∥₁_elim size le_prop (λ is. elim is [
+  | inl it ↦ subst (λ b. cols * (b / 8) ≤ 4294967295) (sym it) (omega (arith, few))
+  | inr wider ↦ elim wider [
+    | inl it ↦ subst (λ b. cols * (b / 8) ≤ 4294967295) (sym it) (omega (arith, few))
+    | inr it ↦ subst (λ b. cols * (b / 8) ≤ 4294967295) (sym it) (omega (arith, few))
+  ]
+])
+
+-- the number of a header, or one that no pixel spells, can be a header's
+pub con_number : (o : Option ℤ) → ∥ IfSome o IsNoData ∥₁ → ∥ IsNoData (unwrap_or o (pos 4294967296)) ∥₁
+con_number None ok = ∣ record { low = search rules; high = search rules } ∣₁
+con_number (Some z) ok = ok
 
 -- degrees are coordinates, and so is a spacing
 degrees_ok : (z : ℤ) → nat_abs z ≤ 180 → IsCoordinate (z *ℤ pos UNITS_PER_DEGREE)

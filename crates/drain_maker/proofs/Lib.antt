@@ -8,3 +8,4 @@ pub mod RoutedProducts
 pub mod ShownRasters
 pub mod MosaicAnswers
 pub mod TileLists
+pub mod DemLemmas

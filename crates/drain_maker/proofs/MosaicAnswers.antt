@@ -15,8 +15,8 @@ use Rattle.drain_mosaic.specs.Mosaic.{first_value}
 use Rattle.drain_mosaic.specs.Laws.{AgreementGivesElevation}
 use Rattle.drain_answer.specs.declared.refusal.Refusal.{Refusal}
 use Rattle.drain_verdict.specs.Inputs.{Inputs}
-use Rattle.drain_verdict.specs.Meaning.{tiling_of, input_tiles}
-use Rattle.drain_maker.specs.Mosaics.{IsSeamFaultAs, IsSeamRefusal, AreSamplesOf, IsElevationOf, TellTiles, IsOfTiles, StandsOfTiles, IsMosaicOf, IsMosaicRefusal}
+use Rattle.drain_verdict.specs.TileGround.{set_of, TellTiles, place_among}
+use Rattle.drain_maker.specs.Mosaics.{IsSeamFaultAs, IsSeamRefusal, AreSamplesOf, IsElevationOf, IsOfTiles, StandsOfTiles, IsMosaicOf, IsMosaicRefusal}
 use Rattle.std.proofs.lemmas.List.{length-take, take_all}
 use Rattle.drain_device.specs.Reads.{ReadsUpTo}
 use Rattle.std.specs.List.{All}
@@ -25,13 +25,16 @@ use Rattle.drain_hgt.specs.declared.input.TileInput.{TileInput}
 use Rattle.drain_hgt.specs.Laws.{OneName}
 use Rattle.drain_hgt.specs.Inputs.{names_of}
 use Rattle.drain_answer.specs.declared.refusal.Refusal.TheVariants.{BadSide, BadName, NoTiles, RepeatedTile, BoxTooLarge, BadTileLength, SeamMismatch, OutOfMemory, ReadFailed}
-use Rattle.drain_verdict.specs.Refusals.{Stands, NoneStandsBefore, refusal_order, place_among}
+use Rattle.drain_verdict.specs.Ground.{refusal_kind}
+use Rattle.drain_verdict.specs.GroundSets.{place_in}
+use Rattle.drain_verdict.specs.Refusals.{Stands, NoneStandsBefore, refusal_order}
+use Rattle.drain_verdict.specs.Meaning.{input_tiles, tiling_of}
 use Rattle.drain_verdict.specs.Answers.{IsRefusal}
 use Rattle.drain_verdict.specs.Stages.{IsLayoutOf, IsLayoutRefusal, IsTileRefusal}
 use Rattle.drain_verdict.proofs.Order.{at_header, at_tile, at_raster, at_seam, at_bad_line, at_off_data, none_more, first_of}
 use Rattle.drain_verdict.proofs.LayoutAnswers.{layout_is, layout_none, layout_refused}
 use Rattle.drain_verdict.proofs.StartAnswers.{told_of_inputs}
-use Rattle.drain_verdict.proofs.BodyAnswers.{none_of_another_length, first_of_another_length, none_of_two_values, first_of_two_values}
+use Rattle.drain_verdict.proofs.TileBodies.{none_of_another_length, first_of_another_length, none_of_two_values, first_of_two_values}
 use Rattle.drain_mosaic.specs.declared.seams.SeamFault.TheVariants as seam
 use Rattle.drain_mosaic.specs.Mosaic as mosaic
 
@@ -123,25 +126,25 @@ lengths_of i t samples is those = subst (λ (u : Tiling). AreSamplesOf u.side i.
 
 -- no refusal of the tiles of a kind before this one applies
 abbrev pub NoneOfTilesBefore : Inputs → ℕ → Type 0
-NoneOfTilesBefore i kind = (refusal : Refusal) → (refusal_order i refusal).0 < kind → ¬ StandsOfTiles i refusal
+NoneOfTilesBefore i kind = (refusal : Refusal) → refusal_kind refusal < kind → ¬ StandsOfTiles i refusal
 
 -- the kinds of tiles and seams come after those of headers and rasters, which are no tiles'
 past_headers : (i : Inputs) → NoneStandsBefore i 4 → NoneOfTilesBefore i 5
 past_headers i none =
-    none_more i (StandsOfTiles i) 4 (λ b less stands. none b less stands.1)
-    (at_header i (λ b. ¬ StandsOfTiles i b) (λ b no stands. no stands.1) (λ p fault stands. stands.0) (λ p stands. stands.0) (λ p stands. stands.0))
+    none_more (StandsOfTiles i) 4 (λ b less stands. none b less stands.1)
+    (at_header (set_of i) (λ b. ¬ StandsOfTiles i b) (λ b no stands. no stands.1) (λ p fault stands. stands.0) (λ p stands. stands.0) (λ p stands. stands.0))
 
 past_tiles : (i : Inputs) → All (IsTile i.side) i.tiles → NoneOfTilesBefore i 5 → NoneOfTilesBefore i 7
 past_tiles i all none =
-    none_more i (StandsOfTiles i) 6
-    (none_more i (StandsOfTiles i) 5 none (at_tile i (λ b. ¬ StandsOfTiles i b) (λ c stands. none_of_another_length i all c stands.1)))
-    (at_raster i (λ b. ¬ StandsOfTiles i b) (λ b no stands. no stands.1) (λ p stands. stands.0))
+    none_more (StandsOfTiles i) 6
+    (none_more (StandsOfTiles i) 5 none (at_tile (λ b. ¬ StandsOfTiles i b) (λ c stands. none_of_another_length i all c stands.1) (λ stands. stands.1)))
+    (at_raster (set_of i) (λ b. ¬ StandsOfTiles i b) (λ b no stands. no stands.1) (λ p stands. stands.0))
 
 past_seams : (i : Inputs) → mosaic.TilesAgree (tiling_of i) (input_tiles i) → NoneOfTilesBefore i 7 → (refusal : Refusal) → ¬ StandsOfTiles i refusal
 past_seams i agree none =
-    let seams : NoneOfTilesBefore i 8 = none_more i (StandsOfTiles i) 7 none (at_seam i (λ b. ¬ StandsOfTiles i b) (λ c stands. none_of_two_values i agree c stands.1)) in
-    let lines : NoneOfTilesBefore i 9 = none_more i (StandsOfTiles i) 8 seams (at_bad_line i (λ b. ¬ StandsOfTiles i b) (λ n stands. stands.0)) in
-    at_last (none_more i (StandsOfTiles i) 9 lines (at_off_data i (λ b. ¬ StandsOfTiles i b) (λ n stands. stands.0)))
+    let seams : NoneOfTilesBefore i 8 = none_more (StandsOfTiles i) 7 none (at_seam (λ b. ¬ StandsOfTiles i b) (λ c stands. none_of_two_values i agree c stands.1)) in
+    let lines : NoneOfTilesBefore i 9 = none_more (StandsOfTiles i) 8 seams (at_bad_line (λ b. ¬ StandsOfTiles i b) (λ n stands. stands.0)) in
+    at_last (none_more (StandsOfTiles i) 9 lines (at_off_data (λ b. ¬ StandsOfTiles i b) (λ n stands. stands.0)))
   where
     at_last : NoneOfTilesBefore i 10 → (refusal : Refusal) → ¬ StandsOfTiles i refusal
     at_last before OutOfMemory stands = stands.1
@@ -183,8 +186,8 @@ tile_told i t refusal is bad none = here refusal (subst (λ (u : Tiling). IsTile
     here : (refusal : Refusal) → IsTileRefusal (tiling_of i) i.tiles refusal → IsMosaicRefusal i refusal
     here (BadTileLength c) bad =
         let told = first_of_another_length i c bad.0 (λ d repeated. none (RepeatedTile d) (omega arith) (tt, repeated)) bad.1 bad.2 in
-        first_of i (StandsOfTiles i) 5 (place_among i.corners c) (BadTileLength c) refl (tt, told.0) none
-        (at_tile i (λ b. (refusal_order i b).1 < place_among i.corners c → ¬ StandsOfTiles i b) (λ d less stands. told.1 d less stands.1))
+        first_of (set_of i) (StandsOfTiles i) 5 (place_among i.corners c) (BadTileLength c) refl (tt, told.0) none
+        (at_tile (λ b. place_in (set_of i) b < place_among i.corners c → ¬ StandsOfTiles i b) (λ d less stands. told.1 d less stands.1) (λ less stands. stands.1))
     here OutOfMemory bad = tt
     here ReadFailed bad = tt
     here refusal bad = absurd bad
@@ -195,8 +198,8 @@ pub seam_told : (i : Inputs) (t : Tiling) (samples : List (List ℤ)) (refusal :
 seam_told i t samples (SeamMismatch c) is those first none =
     let e = extent_of (tiling_of i) in
     let told = first_of_two_values i c (of_inputs (λ u tiles. mosaic.IsFirstSeam u tiles c) i t samples is those.samples_are first) in
-    first_of i (StandsOfTiles i) 7 (index_of e c) (SeamMismatch c) refl (tt, told.0) (past_tiles i (lengths_of i t samples is those).lengths none)
-    (at_seam i (λ b. (refusal_order i b).1 < index_of e c → ¬ StandsOfTiles i b) (λ b less stands. told.1 b less stands.1))
+    first_of (set_of i) (StandsOfTiles i) 7 (index_of e c) (SeamMismatch c) refl (tt, told.0) (past_tiles i (lengths_of i t samples is those).lengths none)
+    (at_seam (λ b. place_in (set_of i) b < index_of e c → ¬ StandsOfTiles i b) (λ b less stands. told.1 b less stands.1))
 seam_told i t samples OutOfMemory is those bad none = tt
 seam_told i t samples ReadFailed is those bad none = tt
 seam_told i t samples refusal is those bad none = absurd bad

@@ -10,7 +10,7 @@ use Rattle.drain_hgt.specs.Corner.{Corner, IsWithin, IsOnMap}
 use Rattle.drain_hgt.specs.Name.{IsNameOf}
 use Rattle.drain_mosaic.specs.Tiling.{Tiling, least, greatest, west_of, north_of}
 use Rattle.drain_verdict.specs.Inputs.{AreNames}
-use Rattle.drain_verdict.specs.Refusals.{IsBadName}
+use Rattle.drain_verdict.specs.TileGround.{IsBadName}
 
 -- a spacing that is rounded down loses less than the number of steps
 pub spacing : (d n : ℕ) → 1 ≤ n → nat_abs (pos (d / n) *ℤ pos n -ℤ pos d) ≤ n

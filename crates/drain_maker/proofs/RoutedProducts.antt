@@ -15,7 +15,6 @@ use Rattle.drain_grid.specs.Extent.{index_of}
 use Rattle.drain_grid.specs.Grid.{Grid, IsInside, HasData, patch_at}
 use Rattle.drain_grid.specs.GridRules.{HoldsAt, RulesHold}
 use Rattle.drain_grid.specs.PatchRules.{check_rules, flow_rules, VoidCellWithoutSpill, MissingWithoutSpill}
-use Rattle.drain_grid.specs.Product.{default_numbers}
 use Rattle.drain_grid.specs.Rule.{IsAnyRule, IsWayRule}
 use Rattle.drain_grid.specs.Run.{IsFlatCell}
 use Rattle.drain_grid.proofs.Codes.{next-named}
@@ -29,7 +28,7 @@ use Rattle.drain_paths.specs.Flows.{cell_flow, code_flow, AreFlowsOf, byte_flow,
 use Rattle.drain_flood.specs.declared.layers.TheConstants as surface_codes
 use Rattle.drain_flood.specs.declared.level_queue.TheConstants.{MAX_CELLS}
 use Rattle.drain_flood.specs.Flats.{Laying, AreWaysOnFlats, ShowsWays}
-use Rattle.drain_flood.specs.Floods.{Flooding, IsFlooded}
+use Rattle.drain_flood.specs.Floods.{Flooding, IsSurfaceOf, ShowsVoids}
 use Rattle.drain_flood.specs.Laws.{ArePresent}
 use Rattle.drain_flood.proofs.Looking.{flood_is_filled}
 use Rattle.drain_flood.proofs.FlatRules.{flats_keep_rules}
@@ -37,15 +36,15 @@ use Rattle.drain_flood.proofs.FlatsPresent.{flats_are_present}
 use Rattle.drain_paths.specs.declared.flow.TheConstants.{NO_CODE}
 use Rattle.drain_paths.specs.Laws.{AreCompleted, AreRouted}
 use Rattle.drain_paths.proofs.Completing.{correct_by_routing}
-use Rattle.drain_maker.specs.Made.{AreCountsAndLabels, listed, shown, RoutesEnd, RoutesKeepRules}
+use Rattle.drain_maker.specs.Made.{AreCountsAndLabels, listed, made_numbers, shown, RoutesEnd, RoutesKeepRules}
 
 pub pos_at : (xs : List ℕ) (k : ℕ) → get_or (map (λ n. pos n) xs) k (pos 0) ≡ pos (get_or xs k 0)
 pos_at [] k = refl
 pos_at (x ∷ xs) zero = refl
 pos_at (x ∷ xs) (suc k) = pos_at xs k
 
-module _ (g : Grid) (f : Flooding) (w : Laying) (counts labels : List ℕ) (few : g.extent.rows * g.extent.cols ≤ MAX_CELLS) (flooded : IsFlooded g f)
-    (are : AreWaysOnFlats g f w) where
+module _ (g : Grid) (f : Flooding) (w : Laying) (con : ℤ) (counts labels : List ℕ) (few : g.extent.rows * g.extent.cols ≤ MAX_CELLS)
+    (surface : IsSurfaceOf g f) (voids : ShowsVoids g f con) (are : AreWaysOnFlats g f w) where
   shows : ShowsWays g f w (shown g.extent f w counts labels)
   shows = record {
     con = λ c. refl;
@@ -56,8 +55,8 @@ module _ (g : Grid) (f : Flooding) (w : Laying) (counts labels : List ℕ) (few 
   ways : RulesHold flow_rules IsWayRule g (shown g.extent f w counts labels)
   ways = (flats_keep_rules g f w (shown g.extent f w counts labels) are shows).0
 
-  present : (c : Cell) → IsInside g c → ArePresent g (shown g.extent f w counts labels) c
-  present c inside = flats_are_present g f w (shown g.extent f w counts labels) few flooded are shows c inside
+  present : (c : Cell) → IsInside g c → ArePresent g (shown g.extent f w counts labels) con c
+  present c inside = flats_are_present g f w (shown g.extent f w counts labels) con few voids are shows c inside
 
   pub sound : RunsAreSound g (shown g.extent f w counts labels)
   sound = runs_end g (shown g.extent f w counts labels) ways
@@ -98,13 +97,13 @@ module _ (g : Grid) (f : Flooding) (w : Laying) (counts labels : List ℕ) (few 
         | inr flat ↦ absurd (not_flat (here, λ n lower. flat (HasLower-lower_cell g (shown g.extent f w counts labels) c n lower)))
       ]
 
-  routed : AreRouted g (shown g.extent f w counts labels) default_numbers
+  routed : AreRouted g (shown g.extent f w counts labels) (made_numbers con)
   routed = record {
     void_con = λ c inside void. ((present c inside).void void).0;
     void_dir = λ c inside void. ((present c inside).void void).1;
     data_con = λ c here. (present c here.inside).data_con here;
     data_dir = λ c here. (present c here.inside).data_dir here;
-    least = (flood_is_filled g f flooded).least;
+    least = (flood_is_filled g f surface).least;
     never_climbs = λ c here. (sound c here).never_climbs;
     steepest = goes_steepest;
     outlets = λ c here. (sound c here).outlets;
@@ -118,51 +117,51 @@ module _ (g : Grid) (f : Flooding) (w : Laying) (counts labels : List ℕ) (few 
       shown = record { acc = λ c inside. pos_at counts (index_of g.extent c); bas = λ c inside. pos_at labels (index_of g.extent c) };
     }
 
-    pub correct : IsCorrect g (shown g.extent f w counts labels) default_numbers
-    correct = (correct_by_routing g (shown g.extent f w counts labels) default_numbers g.extent counts labels refl refl completed).0 routed
+    pub correct : IsCorrect g (shown g.extent f w counts labels) (made_numbers con)
+    correct = (correct_by_routing g (shown g.extent f w counts labels) (made_numbers con) g.extent counts labels refl refl completed).0 routed
 
     module _ (c : Cell) (inside : IsInside g c) where
       data_here : IsSome (g.elevation c) → HasData g c
       data_here is_data = record { inside = inside; is_data = is_data }
 
-      blank : VoidCellWithoutSpill default_numbers (patch_at g (shown g.extent f w counts labels) c)
+      blank : VoidCellWithoutSpill (made_numbers con) (patch_at g (shown g.extent f w counts labels) c)
       blank void Con = (correct.voids c inside void).con
       blank void Dir = (correct.voids c inside void).dir
       blank void Acc = (correct.voids c inside void).acc
       blank void Bas = (correct.voids c inside void).bas
       blank void Rnk = ((present c inside).void void).2
 
-      complete : MissingWithoutSpill default_numbers (patch_at g (shown g.extent f w counts labels) c)
+      complete : MissingWithoutSpill (made_numbers con) (patch_at g (shown g.extent f w counts labels) c)
       complete is_data Con = (correct.complete c (data_here is_data)).con
       complete is_data Dir = (correct.complete c (data_here is_data)).dir
       complete is_data Acc = (correct.complete c (data_here is_data)).acc
       complete is_data Bas = (correct.complete c (data_here is_data)).bas
       complete is_data Rnk = (present c inside).data_rnk (data_here is_data)
 
-      holds : (r : Rule) → IsAnyRule r → HoldsAt (check_rules default_numbers) g (shown g.extent f w counts labels) c r
+      holds : (r : Rule) → IsAnyRule r → HoldsAt (check_rules (made_numbers con)) g (shown g.extent f w counts labels) c r
       holds VoidCell any = blank
       holds Missing any = complete
-      holds BadCode any = unranked_from_correct g (shown g.extent f w counts labels) default_numbers correct c BadCode inside any
-      holds BelowGround any = unranked_from_correct g (shown g.extent f w counts labels) default_numbers correct c BelowGround inside any
-      holds OpenRaised any = unranked_from_correct g (shown g.extent f w counts labels) default_numbers correct c OpenRaised inside any
+      holds BadCode any = unranked_from_correct g (shown g.extent f w counts labels) (made_numbers con) correct c BadCode inside any
+      holds BelowGround any = unranked_from_correct g (shown g.extent f w counts labels) (made_numbers con) correct c BelowGround inside any
+      holds OpenRaised any = unranked_from_correct g (shown g.extent f w counts labels) (made_numbers con) correct c OpenRaised inside any
       holds NoSpill any = tt
       holds SpillHeight any = tt
       holds SpillRank any = tt
-      holds NotLeast any = unranked_from_correct g (shown g.extent f w counts labels) default_numbers correct c NotLeast inside any
-      holds Slope any = unranked_from_correct g (shown g.extent f w counts labels) default_numbers correct c Slope inside any
-      holds OutletCode any = unranked_from_correct g (shown g.extent f w counts labels) default_numbers correct c OutletCode inside any
+      holds NotLeast any = unranked_from_correct g (shown g.extent f w counts labels) (made_numbers con) correct c NotLeast inside any
+      holds Slope any = unranked_from_correct g (shown g.extent f w counts labels) (made_numbers con) correct c Slope inside any
+      holds OutletCode any = unranked_from_correct g (shown g.extent f w counts labels) (made_numbers con) correct c OutletCode inside any
       holds FlatStep any = ways c FlatStep inside (omega arith, omega arith)
-      holds Accumulation any = unranked_from_correct g (shown g.extent f w counts labels) default_numbers correct c Accumulation inside any
-      holds Label any = unranked_from_correct g (shown g.extent f w counts labels) default_numbers correct c Label inside any
-      holds SharedLabel any = unranked_from_correct g (shown g.extent f w counts labels) default_numbers correct c SharedLabel inside any
+      holds Accumulation any = unranked_from_correct g (shown g.extent f w counts labels) (made_numbers con) correct c Accumulation inside any
+      holds Label any = unranked_from_correct g (shown g.extent f w counts labels) (made_numbers con) correct c Label inside any
+      holds SharedLabel any = unranked_from_correct g (shown g.extent f w counts labels) (made_numbers con) correct c SharedLabel inside any
 
 pub routes_end : RoutesEnd
-routes_end g f w counts labels few flooded are =
-    (flows_are g f w counts labels few flooded are, λ c here. (sound g f w counts labels few flooded are c here).ends)
+routes_end g f w con counts labels few surface voids are =
+    (flows_are g f w con counts labels few surface voids are, λ c here. (sound g f w con counts labels few surface voids are c here).ends)
 
 pub routes_keep_rules : RoutesKeepRules
-routes_keep_rules g f w counts labels few flooded are both = (
-  correct g f w counts labels few flooded are both,
-  sound g f w counts labels few flooded are,
-  λ c r inside any. holds g f w counts labels few flooded are both c inside r any,
-)
+routes_keep_rules g f w con counts labels few surface voids are both = record {
+  correct = correct g f w con counts labels few surface voids are both;
+  runs = sound g f w con counts labels few surface voids are;
+  rules = λ c r inside any. holds g f w con counts labels few surface voids are both c inside r any;
+}

@@ -15,9 +15,9 @@ use Rattle.drain_paths.specs.declared.flow.Flow.{Flow}
 use Rattle.drain_paths.specs.declared.flow.CertifyRefusal.{CertifyRefusal}
 use Rattle.drain_answer.specs.declared.refusal.Refusal.{Refusal}
 use Rattle.drain_answer.specs.declared.refusal.Refusal.TheVariants.{OutOfMemory}
-use Rattle.drain_verdict.specs.Answers.{AreReadable, IsRefusal}
+use Rattle.drain_verdict.specs.GroundSets.{GroundSet, IsReadable, IsRefusalIn, set_grid, set_products}
 use Rattle.drain_verdict.specs.Inputs.{Inputs}
-use Rattle.drain_verdict.specs.Meaning.{input_grid, input_products}
+use Rattle.drain_verdict.specs.TileGround.{set_of}
 use Rattle.drain_maker.specs.declared.derivation.DeriveRefusal.{DeriveRefusal}
 use Rattle.drain_maker.specs.declared.derivation.DeriveRefusal.TheVariants.{Refused, NoEnd}
 use Rattle.drain_grid.specs.Correct.{IsCorrect}
@@ -64,13 +64,17 @@ pub record AreCounts (e : Extent) (d : Derived) : Type 0 where
 
 -- What is answered to tiles and directions that are read row by row.
 
--- the rasters follow from the directions of these inputs, to which no refusal applies
-abbrev pub AreDerivedOf : Inputs → Derived → Type 0
-AreDerivedOf i d = AreReadable i × AreDerived (input_grid i) (input_products i) d.acc d.bas d.rnk
+-- the rasters follow from the directions of this set, to which no refusal applies
+abbrev pub AreDerivedIn : GroundSet → Derived → Type 0
+AreDerivedIn s d = IsReadable s × AreDerived (set_grid s) (set_products s) d.acc d.bas d.rnk
 
--- no refusal applies to these inputs, and these are the flows of their grid
-abbrev pub HasFlows : Inputs → Extent → List Flow → Type 0
-HasFlows i e flows = AreReadable i × AreFlowsOf (input_grid i) (input_products i) e flows
+-- so of these inputs
+abbrev pub AreDerivedOf : Inputs → Derived → Type 0
+AreDerivedOf i d = AreDerivedIn (set_of i) d
+
+-- no refusal applies to this set, and these are the flows of its grid
+abbrev pub HasFlowsIn : GroundSet → Extent → List Flow → Type 0
+HasFlowsIn s e flows = IsReadable s × AreFlowsOf (set_grid s) (set_products s) e flows
 
 -- why nothing follows from flows: the first data cell whose run doesn't end, or no memory
 abbrev pub IsFlowsRefusal : Grid → Products → DeriveRefusal → Type 0
@@ -82,10 +86,14 @@ abbrev pub IsRefusalFor : CertifyRefusal → DeriveRefusal → Type 0
 IsRefusalFor (certify.NoEnd c) why = why ≡ NoEnd c.row c.col
 IsRefusalFor certify.OutOfMemory why = why ≡ Refused OutOfMemory
 
--- why nothing follows from these inputs: the first refusal that applies, else the first data cell whose run doesn't end
+-- why nothing follows from this set: the first refusal that applies, else the first data cell whose run doesn't end
+abbrev pub IsDeriveRefusalIn : GroundSet → DeriveRefusal → Type 0
+IsDeriveRefusalIn s (Refused refusal) = IsRefusalIn s refusal
+IsDeriveRefusalIn s (NoEnd row col) = IsReadable s × IsFirstEndless (set_grid s) (set_products s) (record { row = row; col = col })
+
+-- so of these inputs
 abbrev pub IsDeriveRefusal : Inputs → DeriveRefusal → Type 0
-IsDeriveRefusal i (Refused refusal) = IsRefusal i refusal
-IsDeriveRefusal i (NoEnd row col) = AreReadable i × IsFirstEndless (input_grid i) (input_products i) (record { row = row; col = col })
+IsDeriveRefusal i why = IsDeriveRefusalIn (set_of i) why
 
 -- what the answer says of the reading: a run without an end is found once all was read
 abbrev pub reading_in : {T : Type 0} → Result T DeriveRefusal → Result (Unit {0}) Refusal

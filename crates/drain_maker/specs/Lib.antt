@@ -3,3 +3,4 @@ pub mod Made
 pub mod Accepted
 pub mod Mosaics
 pub mod Derived
+pub mod Dems

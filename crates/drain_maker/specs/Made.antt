@@ -5,7 +5,9 @@ use Rattle.drain_grid.specs.SetProduct.{product_of}
 use Rattle.drain_grid.specs.declared.product_set.ProductSet.{ProductSet}
 use Rattle.drain_grid.specs.declared.sink_line.SinkLine.{SinkLine}
 use Rattle.drain_grid.specs.OffData.{IsFirstOffData, IsOffData}
-use Rattle.drain_grid.specs.Product.{default_numbers}
+use Rattle.drain_grid.specs.declared.product.Product.TheVariants.{Acc, Bas, Dir, Rnk, Spl}
+use Rattle.drain_grid.specs.Product.{default_no_data, default_numbers}
+use Rattle.drain_grid.specs.Values.{NoDataNumbers}
 use Rattle.drain_grid.specs.Grid.{Heights, ArePixels, Grid, Products}
 use Rattle.drain_grid.specs.WholeGrid.{grid_of, products_of, nodata_of, raster_in}
 use Rattle.drain_grid.specs.Rule.{IsAnyRule}
@@ -25,7 +27,7 @@ use Rattle.drain_paths.specs.Flows.{AreFlowsOf, bytes_flows, AllFlowsEnd}
 use Rattle.drain_paths.specs.Inflows.{AreUpstreamCounts}
 use Rattle.drain_flood.specs.declared.level_queue.TheConstants.{MAX_CELLS}
 use Rattle.drain_flood.specs.Flats.{Laying, AreWaysOnFlats}
-use Rattle.drain_flood.specs.Floods.{Flooding, IsFlooded, con_at}
+use Rattle.drain_flood.specs.Floods.{Flooding, IsSurfaceOf, ShowsVoids, con_at}
 
 -- all rules of a check hold at every cell, with the default no-data numbers
 abbrev pub KeepsEveryRule : Heights → List SinkLine → ProductSet → Type 0
@@ -71,11 +73,24 @@ pub record AreMade (t : Tiling) (e : Heights) (sinks : List SinkLine) (ps : Prod
 
 -- Routes of a filled surface, counts and labels, and their products: correct, and right by every rule.
 
--- a flood of the grid left these heights, and these are the codes and ranks of the ways on its surface
-pub record AreRoutes (g : Grid) (con : List ℤ) (rnk dirs : List ℕ) : Type 0 where
+-- the no-data numbers of what is made: the default ones, but for the heights
+abbrev pub made_numbers : ℤ → NoDataNumbers
+made_numbers con = record {
+  con = con;
+  dir = default_no_data Dir;
+  acc = default_no_data Acc;
+  bas = default_no_data Bas;
+  spl = default_no_data Spl;
+  rnk = default_no_data Rnk;
+}
+
+-- these are the heights of a filled surface of the grid, with this number at voids alone, and the codes and ranks of the ways
+-- on it
+pub record AreRoutes (g : Grid) (void : ℤ) (con : List ℤ) (rnk dirs : List ℕ) : Type 0 where
   pub flood : Flooding
   pub laying : Laying
-  pub flooded : IsFlooded g flood
+  pub surface : IsSurfaceOf g flood
+  pub voids : ShowsVoids g flood void
   pub ways : AreWaysOnFlats g flood laying
   pub con_is : con ≡ flood.con
   pub rnk_is : rnk ≡ laying.rnk
@@ -91,10 +106,10 @@ abbrev pub SomeRunsEnd : Extent → List Flow → Type 0
 SomeRunsEnd e flows = (g : Grid) × (ps : Products) × AreFlowsOf g ps e flows × AllFlowsEnd g ps
 
 -- correct products, sound runs, and every rule of a check at every cell
-pub record AreRightProducts (e : Heights) (sinks : List SinkLine) (ps : Products) : Type 0 where
-  pub rules : RulesHold (check_rules default_numbers) IsAnyRule (grid_of e sinks) ps
-  pub correct : IsCorrect (grid_of e sinks) ps default_numbers
-  pub runs : RunsAreSound (grid_of e sinks) ps
+pub record AreRightProducts (g : Grid) (nodata : NoDataNumbers) (ps : Products) : Type 0 where
+  pub rules : RulesHold (check_rules nodata) IsAnyRule g ps
+  pub correct : IsCorrect g ps nodata
+  pub runs : RunsAreSound g ps
 
 -- the number of a cell in a list of whole numbers
 abbrev pub listed : Extent → List ℕ → Cell → ℤ
@@ -114,13 +129,14 @@ shown e f w counts labels = record {
 -- the flows of the ways are those of the grid, and every run ends
 abbrev pub RoutesEnd : Type 0
 RoutesEnd =
-    (g : Grid) (f : Flooding) (w : Laying) (counts labels : List ℕ) → g.extent.rows * g.extent.cols ≤ MAX_CELLS → IsFlooded g f → AreWaysOnFlats g f w →
+    (g : Grid) (f : Flooding) (w : Laying) (void : ℤ) (counts labels : List ℕ) → g.extent.rows * g.extent.cols ≤ MAX_CELLS → IsSurfaceOf g f →
+    ShowsVoids g f void → AreWaysOnFlats g f w →
     AreFlowsOf g (shown g.extent f w counts labels) g.extent (bytes_flows w.way) × AllFlowsEnd g (shown g.extent f w counts labels)
 
 -- with right counts and labels the products are correct, every run is sound, and every rule of a check holds at every cell
 abbrev pub RoutesKeepRules : Type 0
 RoutesKeepRules =
-    (g : Grid) (f : Flooding) (w : Laying) (counts labels : List ℕ) → g.extent.rows * g.extent.cols ≤ MAX_CELLS → IsFlooded g f → AreWaysOnFlats g f w →
+    (g : Grid) (f : Flooding) (w : Laying) (void : ℤ) (counts labels : List ℕ) → g.extent.rows * g.extent.cols ≤ MAX_CELLS → IsSurfaceOf g f →
+    ShowsVoids g f void → AreWaysOnFlats g f w →
     AreCountsAndLabels g (shown g.extent f w counts labels) g.extent counts labels →
-    IsCorrect g (shown g.extent f w counts labels) default_numbers × RunsAreSound g (shown g.extent f w counts labels)
-    × RulesHold (check_rules default_numbers) IsAnyRule g (shown g.extent f w counts labels)
+    AreRightProducts g (made_numbers void) (shown g.extent f w counts labels)

@@ -1,6 +1,6 @@
 -- What reading only tiles returns: their mosaic, or the first refusal of the tiles.
-use Rattle.std.specs.Prelude.{◌≡◌, ℕ, ℤ, List, map, Option, Some}
-use Rattle.std.specs.List.{All, AllZip}
+use Rattle.std.specs.Prelude.{◌≡◌, ℕ, ℤ, List, map}
+use Rattle.std.specs.List.{All}
 use Rattle.drain_grid.specs.Grid.{Heights}
 use Rattle.drain_grid.specs.WholeGrid.{elevation_at}
 use Rattle.drain_hgt.specs.Corner.{Corner}
@@ -12,12 +12,9 @@ use Rattle.drain_answer.specs.declared.refusal.Refusal.TheVariants.{BadTileLengt
 use Rattle.drain_grid.specs.declared.cell.Cell.{Cell}
 use Rattle.drain_grid.specs.Extent.{IsCellOf}
 use Rattle.drain_text.specs.First.{IsFirst}
-use Rattle.drain_hgt.specs.declared.input.TileInput.{TileInput}
-use Rattle.drain_hgt.specs.Name.{IsNameOf}
-use Rattle.drain_hgt.specs.Inputs.{names_of}
 use Rattle.drain_mosaic.specs.Tiling.{Tiling, extent_of}
-use Rattle.drain_verdict.specs.Inputs.{Inputs, AreNames}
-use Rattle.drain_verdict.specs.Meaning.{tiling_of, input_grid}
+use Rattle.drain_verdict.specs.Inputs.{Inputs}
+use Rattle.drain_verdict.specs.Meaning.{input_grid, tiling_of}
 use Rattle.drain_verdict.specs.Refusals.{Stands, refusal_order}
 use Rattle.drain_mosaic.specs.declared.seams.SeamFault.TheVariants as seam
 use Rattle.drain_mosaic.specs.Tiling as tiling
@@ -52,13 +49,6 @@ IsSeamRefusal t samples refusal = ⊥
 abbrev pub IsSeamFaultAs : SeamFault → Refusal → Type 0
 IsSeamFaultAs (seam.SeamMismatch c) refusal = refusal ≡ SeamMismatch c
 IsSeamFaultAs seam.OutOfMemory refusal = refusal ≡ OutOfMemory
-
--- the arguments encode the tiles of these inputs, where the bytes of devices are known
-pub record TellTiles {R : Type 0} (bytes_left : R → Option (List ℕ)) (side : ℕ) (tiles : List (TileInput R)) (i : Inputs) : Type 0 where
-  pub side_is : i.side ≡ side
-  pub names_are : i.names ≡ names_of tiles
-  pub corners_are : AreNames i.names → AllZip IsNameOf i.names i.corners
-  pub tiles_are : AllZip (λ t body. bytes_left t.body ≡ Some body) tiles i.tiles
 
 -- the refusal is about side, names or tiles, and not about a product or a list of sinks
 abbrev pub IsOfTiles : Refusal → Type 0

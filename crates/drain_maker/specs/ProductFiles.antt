@@ -1,6 +1,6 @@
 -- The files of a product set or of derived rasters: their bytes, what has to hold so that they can be written, and the
 -- result of writing them one after the other.
-use Rattle.std.specs.Prelude.{ℕ, ◌*◌, ◌/◌, Bool, true, false, Some, ◌≡◌, ◌⊎◌, List, [], ◌∷◌, Result, Ok, Err, IsErr}
+use Rattle.std.specs.Prelude.{ℕ, ℤ, pos, ◌*◌, ◌/◌, Bool, true, false, Some, unwrap_or, ◌≡◌, ◌⊎◌, List, [], ◌∷◌, Result, Ok, Err, IsErr}
 use Rattle.drain_grid.specs.declared.product.Product.{Product}
 use Rattle.drain_grid.specs.declared.product.Product.TheVariants.{Con, Dir, Acc, Bas, Spl, Rnk}
 use Rattle.drain_grid.specs.Product.{default_no_data}
@@ -18,6 +18,7 @@ use Rattle.drain_grid.specs.WholeGrid.{raster_in}
 use Rattle.drain_grid.specs.SetProduct.{product_of, products}
 use Rattle.drain_header.specs.Text.{text_of}
 use Rattle.drain_raster.specs.Bytes.{CanSpellAll, raster_bytes}
+use Rattle.drain_raster.specs.Pixels.{header_extent}
 use Rattle.drain_maker.specs.declared.derivation.Derived.{Derived}
 use Rattle.drain_maker.specs.declared.product_files.Part.{Part}
 use Rattle.drain_maker.specs.declared.product_files.Part.TheVariants.{Header, Raster}
@@ -66,23 +67,56 @@ made_header t p = record {
   nodata = Some (default_no_data p);
 }
 
+-- the no-data number of con on a raster of elevations: the raster's own, or one that no pixel spells
+abbrev pub con_no_data : Fields → ℤ
+con_no_data h = unwrap_or h.nodata (pos 4294967296)
+
+-- the header of a product that isn't con on a raster of elevations with this header: of its size, at its place
+abbrev pub header_beside : Fields → Product → Fields
+header_beside h p = record {
+  rows = h.rows;
+  cols = h.cols;
+  bits = bits_of p;
+  order = Least;
+  signed = false;
+  skip = 0;
+  row_bytes = h.cols * (bits_of p / 8);
+  place = h.place;
+  nodata = Some (default_no_data p);
+}
+
+-- that of any product: con has the raster's pixels
+abbrev pub header_on : Fields → Product → Fields
+header_on h Con = record {
+  rows = h.rows;
+  cols = h.cols;
+  bits = h.bits;
+  order = Least;
+  signed = h.signed;
+  skip = 0;
+  row_bytes = h.cols * (h.bits / 8);
+  place = h.place;
+  nodata = Some (con_no_data h);
+}
+header_on h p = header_beside h p
+
 -- the bytes of a file: a header's text, or a raster's bytes
 abbrev pub part_bytes : Part → Fields → Pixels → List ℕ
 part_bytes Header h p = text_of h
 part_bytes Raster h p = raster_bytes h p
 
--- the bytes of a product's file, where these are the rasters
-abbrev pub file_bytes : Tiling → (SetProduct → Pixels) → SetFile → List ℕ
-file_bytes t rasters file = part_bytes file.part (made_header t (product_of file.product)) (rasters file.product)
+-- the bytes of a product's file on a raster of elevations with this header, where these are the rasters
+abbrev pub file_bytes : Fields → (SetProduct → Pixels) → SetFile → List ℕ
+file_bytes h rasters file = part_bytes file.part (header_on h (product_of file.product)) (rasters file.product)
 
--- the raster has the mosaic's rows and columns, and the pixels of the product's header can encode each of its numbers
-pub record FitsHeader (t : Tiling) (p : Product) (r : Pixels) : Type 0 where
-  pub extent : r.extent ≡ extent_of t
-  pub spelled : CanSpellAll (made_header t p) r
+-- the raster has the rows and columns of the header, whose pixels can encode each of its numbers
+pub record FitsHeader (h : Fields) (r : Pixels) : Type 0 where
+  pub extent : r.extent ≡ header_extent h
+  pub spelled : CanSpellAll h r
 
--- each raster that a set holds does
-abbrev pub FitHeaders : Tiling → (SetProduct → Type 0) → (SetProduct → Pixels) → Type 0
-FitHeaders t holds rasters = (p : SetProduct) → holds p → FitsHeader t (product_of p) (rasters p)
+-- each raster that a set holds fits its header
+abbrev pub FitHeaders : Fields → (SetProduct → Type 0) → (SetProduct → Pixels) → Type 0
+FitHeaders h holds rasters = (p : SetProduct) → holds p → FitsHeader (header_on h (product_of p)) (rasters p)
 
 -- the bytes of all files: of each product its header, and then its raster
 unfoldable pub set_bytes : Tiling → ProductSet → List (List ℕ)
@@ -101,19 +135,24 @@ WritesFiles sink (old ∷ olds) (new ∷ news) (bytes ∷ more) done =
     ⊎ (IsErr done × (WritesFile sink old new bytes done × (news ≡ olds)))
 WritesFiles sink olds news texts done = ⊥
 
--- the three derived rasters fit their headers
-pub record CanBeDerived (t : Tiling) (d : Derived) : Type 0 where
-  pub acc : FitsHeader t Acc d.acc
-  pub bas : FitsHeader t Bas d.bas
-  pub rnk : FitsHeader t Rnk d.rnk
+-- the three derived rasters fit their headers on a raster of elevations
+pub record DerivedFit (h : Fields) (d : Derived) : Type 0 where
+  pub acc : FitsHeader (header_on h Acc) d.acc
+  pub bas : FitsHeader (header_on h Bas) d.bas
+  pub rnk : FitsHeader (header_on h Rnk) d.rnk
+
+-- and on a mosaic, where con's header stands for that of elevations
+abbrev pub CanBeDerived : Tiling → Derived → Type 0
+CanBeDerived t d = DerivedFit (made_header t Con) d
 
 -- the bytes of a product's two files: the text of its header, and the bytes of its raster
-abbrev pub bytes_of_both : Tiling → Product → Pixels → List (List ℕ) → List (List ℕ)
-bytes_of_both t p r more = text_of (made_header t p) ∷ raster_bytes (made_header t p) r ∷ more
+abbrev pub bytes_of_both : Fields → Pixels → List (List ℕ) → List (List ℕ)
+bytes_of_both h r more = text_of h ∷ raster_bytes h r ∷ more
 
--- the bytes of all files of derived rasters: of acc, bas and rnk each the header, and then the raster
-unfoldable pub derived_bytes : Tiling → Derived → List (List ℕ)
-derived_bytes t d = bytes_of_both t Acc d.acc (bytes_of_both t Bas d.bas (bytes_of_both t Rnk d.rnk []))
+-- the bytes of all files of rasters derived on a raster of elevations: of acc, bas and rnk each the header, and then the
+-- raster
+unfoldable pub derived_bytes : Fields → Derived → List (List ℕ)
+derived_bytes h d = bytes_of_both (header_on h Acc) d.acc (bytes_of_both (header_on h Bas) d.bas (bytes_of_both (header_on h Rnk) d.rnk []))
 
 -- a product that is derived: con and dir are given
 abbrev pub IsDerived : SetProduct → Type 0

@@ -3,25 +3,31 @@
 ghost use Rattle.std.specs.Prelude.{◌≡◌, ◌*◌, length, IfOk, IfErr};
 ghost use Rattle.drain_paths.specs.Ways.{IsRankRefusal};
 ghost use Rattle.drain_paths.specs.Flows.{OfFlows};
-ghost use Rattle.drain_maker.specs.Derived.{AreDerived, AreCounts, AreDerivedOf, HasFlows, IsDeriveRefusal, IsFlowsRefusal, IsRefusalFor, reading_in};
+ghost use Rattle.drain_maker.specs.Derived.{AreDerived, AreDerivedIn, AreCounts, AreDerivedOf, HasFlowsIn, IsDeriveRefusal, IsDeriveRefusalIn, IsFlowsRefusal, IsRefusalFor, reading_in};
 ghost use Rattle.drain_hgt.specs.Inputs.{names_of};
 ghost use Rattle.drain_mosaic.specs.Tiling.{extent_of};
-ghost use Rattle.drain_verdict.specs.Answers.{IsRefusal, ForAudit};
+ghost use Rattle.drain_raster.specs.Pixels.{header_extent};
+ghost use Rattle.drain_verdict.specs.Answers.{ForAudit};
+ghost use Rattle.drain_verdict.specs.DemGround.{DemUses, ForDem, IsDemInput, dem_audit_devices};
 ghost use Rattle.drain_verdict.specs.Stages.{IsLayoutOf};
-ghost use Rattle.drain_verdict.specs.Uses.{AuditUses};
-ghost use Rattle.drain_maker.specs.ProductFiles.{CanBeDerived};
+ghost use Rattle.drain_verdict.specs.GroundSets.{ForSet, IsRefusalIn};
+ghost use Rattle.drain_verdict.specs.Inputs.{as_five};
+ghost use Rattle.drain_verdict.specs.Uses.{AuditUses, UsesSet, set_devices};
+ghost use Rattle.drain_maker.specs.ProductFiles.{CanBeDerived, DerivedFit};
 
 use crate::products::raster_of_counts;
 use drain_answer::Refusal;
 use drain_device::ByteSource;
 use drain_grid::{Judged, OutOfMemory, Product, Raster, Shape};
+use drain_header::Header;
 use drain_hgt::TileInput;
 use drain_hgt::laws::one_name;
 use drain_mosaic::Layout;
 use drain_paths::{CellFlows, CertifyRefusal, Flow, accumulate, count_steps, label_basins};
-use drain_verdict::AuditProducts;
-use drain_verdict::read_inputs::read_inputs;
+use drain_verdict::ground::GroundInput;
+use drain_verdict::read_set::read_set;
 use drain_verdict::stages::layout_of;
+use drain_verdict::{AuditProducts, RasterInput, dem_header};
 use std::alloc::Global;
 use thiserror::Error;
 
@@ -97,30 +103,74 @@ pub fn derive<R: ByteSource>(
 {
     // The law that bytes name one tile.
     one_name();
-    match read_flows(alloc, side, tiles, sinks, products) {
-        Ok(read) => derive_read(alloc, read),
+    let layout = match layout_of(alloc, side, tiles) {
+        Ok(layout) => layout,
+        Err(refusal) => return Err(DeriveRefusal::Refused(refusal)),
+    };
+    match derive_on::<R, TileInput<R>>(alloc, &layout, sinks, tiles, products) {
+        Ok(derived) => Ok((layout, derived)),
+        Err(why) => Err(why),
+    }
+}
+
+/// The same that follow from directions on one raster of elevations, with its header.
+///
+/// `dem`, `sinks` and refusals are those of `audit_dem`; all else is as for tiles.
+pub fn derive_dem<R: ByteSource>(
+    alloc: Global,
+    dem: &mut [RasterInput<R>; 1],
+    sinks: &[u8],
+    products: &mut AuditProducts<R>,
+) -> Result<(Header, Derived), DeriveRefusal>
+    ensures header { IfOk result (λ made. IsDemInput made.0 dem.old) }
+    ensures derived { IfOk result (λ made. ForDem R.bytes_left dem.old sinks.now (as_five products.old) (λ s. AreDerivedIn s made.1)) }
+    ensures counts { IfOk result (λ made. AreCounts (header_extent made.0) made.1) }
+    ensures written { IfOk result (λ made. DerivedFit made.0 made.1) }
+    ensures err { IfErr result (λ why. ForDem R.bytes_left dem.old sinks.now (as_five products.old) (λ s. IsDeriveRefusalIn s why)) }
+
+    // How far it reads, when a read fails, and what is unchanged: as for an audit.
+    ensures uses { DemUses as_five dem_audit_devices R.bytes_left R.counts (dem.old, products.old) (dem.new, products.new) (reading_in result) }
+{
+    let header = match dem_header(&dem[0]) {
+        Ok(header) => header,
+        Err(refusal) => return Err(DeriveRefusal::Refused(refusal)),
+    };
+    match derive_on::<R, RasterInput<R>>(alloc, &header, sinks, dem, products) {
+        Ok(derived) => Ok((header, derived)),
+        Err(why) => Err(why),
+    }
+}
+
+/// What follows from dir on a ground with this frame.
+fn derive_on<R: ByteSource, T: GroundInput<R>>(
+    alloc: Global,
+    frame: &T::Frame,
+    sinks: &[u8],
+    inputs: &mut [T],
+    products: &mut AuditProducts<R>,
+) -> Result<Derived, DeriveRefusal>
+    requires fit { T.fit frame.now inputs.old }
+    ensures derived { IfOk result (λ made. ForSet T.terrain (T.means frame.now inputs.old) R.bytes_left sinks.now (as_five products.old) (λ s. AreDerivedIn s made)) }
+    ensures counts { IfOk result (AreCounts (T.extent frame.now)) }
+    ensures err { IfErr result (λ why. ForSet T.terrain (T.means frame.now inputs.old) R.bytes_left sinks.now (as_five products.old) (λ s. IsDeriveRefusalIn s why)) }
+    ensures uses { UsesSet as_five (λ xs ps. set_devices T.devices xs (as_five ps)) (T.within frame.now) T.kept R.bytes_left R.counts (inputs.old, products.old) (inputs.new, products.new) (reading_in result) }
+{
+    match flows_on::<R, T>(alloc, frame, sinks, inputs, products) {
+        Ok(flows) => derive_flows(alloc, flows.as_slice(), T::shape(frame)),
         Err(refusal) => Err(DeriveRefusal::Refused(refusal)),
     }
 }
 
-/// The layout of a mosaic, and the flow of each of its cells.
-#[derive(Drop)]
-struct MosaicFlows {
-    layout: Layout,
-    flows: CellFlows,
-}
-
-/// What follows from flows that were read.
-fn derive_read(alloc: Global, read: MosaicFlows) -> Result<(Layout, Derived), DeriveRefusal>
-    requires counted { length read.flows ≡ (extent_of read.layout).rows * (extent_of read.layout).cols }
-    ensures layout { IfOk result (λ made. made.0 ≡ read.layout) }
-    ensures derived { IfOk result (λ made. OfFlows (extent_of read.layout) read.flows (λ g ps. AreDerived g ps made.1.acc made.1.bas made.1.rnk)) }
-    ensures counts { IfOk result (λ made. AreCounts (extent_of read.layout) made.1) }
-    ensures err { IfErr result (λ why. OfFlows (extent_of read.layout) read.flows (λ g ps. IsFlowsRefusal g ps why)) }
+/// What follows from flows, or why nothing does.
+fn derive_flows(alloc: Global, flows: &[Flow], shape: Shape) -> Result<Derived, DeriveRefusal>
+    requires counted { length flows.now ≡ shape.rows * shape.cols }
+    ensures derived { IfOk result (λ d. OfFlows shape flows.now (λ g ps. AreDerived g ps d.acc d.bas d.rnk)) }
+    ensures counts { IfOk result (AreCounts shape) }
+    ensures err { IfErr result (λ why. OfFlows shape flows.now (λ g ps. IsFlowsRefusal g ps why)) }
     ensures reading { IfErr (reading_in result) (λ refusal. refusal ≡ Refusal.OutOfMemory) }
 {
-    match derive_from_flows(alloc, read.flows.as_slice(), read.layout.shape()) {
-        Ok(derived) => Ok((read.layout, derived)),
+    match derive_from_flows(alloc, flows, shape) {
+        Ok(derived) => Ok(derived),
         Err(refusal) => Err(refusal_of(refusal)),
     }
 }
@@ -138,47 +188,33 @@ fn refusal_of(refusal: CertifyRefusal) -> DeriveRefusal
     }
 }
 
-/// The layout of the named tiles, and the flows of tiles and dir.
-fn read_flows<R: ByteSource>(
+/// The flows of a ground with this frame and of dir. No rule is tried.
+fn flows_on<R: ByteSource, T: GroundInput<R>>(
     alloc: Global,
-    side: u32,
-    tiles: &mut [TileInput<R>],
+    frame: &T::Frame,
     sinks: &[u8],
-    products: &mut AuditProducts<R>,
-) -> Result<MosaicFlows, Refusal>
-    ensures layout { IfOk result (λ read. IsLayoutOf side (names_of tiles.old) read.layout) }
-    ensures counted { IfOk result (λ read. length read.flows ≡ (extent_of read.layout).rows * (extent_of read.layout).cols) }
-    ensures flows { IfOk result (λ read. ForAudit R.bytes_left side tiles.old sinks.now products.old (λ inputs. HasFlows inputs (extent_of read.layout) read.flows)) }
-    ensures err { IfErr result (λ refusal. ForAudit R.bytes_left side tiles.old sinks.now products.old (λ inputs. IsRefusal inputs refusal)) }
-    ensures uses { AuditUses R.bytes_left R.counts side (tiles.old, products.old) (tiles.new, products.new) result }
-{
-    // The law that bytes name one tile.
-    one_name();
-    let layout = layout_of(alloc, side, tiles)?;
-    let flows = flows_on(alloc, &layout, sinks, tiles, products)?;
-    Ok(MosaicFlows { layout, flows })
-}
-
-/// The flows of tiles and dir of this mosaic. No rule is tried.
-fn flows_on<R: ByteSource>(
-    alloc: Global,
-    layout: &Layout,
-    sinks: &[u8],
-    tiles: &mut [TileInput<R>],
+    inputs: &mut [T],
     products: &mut AuditProducts<R>,
 ) -> Result<CellFlows, Refusal>
-    requires laid { IsLayoutOf layout.now.side (names_of tiles.old) layout.now }
-    ensures counted { IfOk result (λ flows. length flows ≡ (extent_of layout.now).rows * (extent_of layout.now).cols) }
-    ensures flows { IfOk result (λ flows. ForAudit R.bytes_left layout.now.side tiles.old sinks.now products.old (λ inputs. HasFlows inputs (extent_of layout.now) flows)) }
-    ensures err { IfErr result (λ refusal. ForAudit R.bytes_left layout.now.side tiles.old sinks.now products.old (λ inputs. IsRefusal inputs refusal)) }
-    ensures uses { AuditUses R.bytes_left R.counts layout.now.side (tiles.old, products.old) (tiles.new, products.new) result }
+    requires fit { T.fit frame.now inputs.old }
+    ensures counted { IfOk result (λ flows. length flows ≡ (T.extent frame.now).rows * (T.extent frame.now).cols) }
+    ensures flows { IfOk result (λ flows. ForSet T.terrain (T.means frame.now inputs.old) R.bytes_left sinks.now (as_five products.old) (λ s. HasFlowsIn s (T.extent frame.now) flows)) }
+    ensures err { IfErr result (λ refusal. ForSet T.terrain (T.means frame.now inputs.old) R.bytes_left sinks.now (as_five products.old) (λ s. IsRefusalIn s refusal)) }
+    ensures uses { UsesSet as_five (λ xs ps. set_devices T.devices xs (as_five ps)) (T.within frame.now) T.kept R.bytes_left R.counts (inputs.old, products.old) (inputs.new, products.new) result }
 {
-    // The law that bytes name one tile.
-    one_name();
+    // The laws of what the inputs mean.
+    T::meaning_laws();
     let mut flows = CellFlows::new(alloc);
-    let judged = Judged::All;
-    read_inputs(alloc, layout, sinks, tiles, products, judged, &mut flows)?;
-    counted(flows, layout.shape())
+    read_set::<R, T, AuditProducts<R>, CellFlows>(
+        alloc,
+        frame,
+        sinks,
+        inputs,
+        products,
+        Judged::All,
+        &mut flows,
+    )?;
+    counted(flows, T::shape(frame))
 }
 
 /// The flows if there is one for each cell, which there always is if the sources' bytes are known.

@@ -4,6 +4,7 @@
 //! Source: the flood is Priority-Flood (Barnes, Lehman and Mulla 2014); directions are D8 (O'Callaghan and Mark 1984).
 #![tactic(auto)]
 
+pub mod dem;
 pub mod derivation;
 pub mod follow;
 pub mod laws;
@@ -12,7 +13,8 @@ pub mod mosaic;
 pub mod product_files;
 mod products;
 
-pub use derivation::{DeriveRefusal, Derived, derive, derive_from_flows};
+pub use dem::make_dem;
+pub use derivation::{DeriveRefusal, Derived, derive, derive_dem, derive_from_flows};
 pub use drain_flood::LevelQueue;
 pub use drain_verdict::{CertifyRefusal, certify};
 pub use maker::{MakeRefusal, make, make_freeing};

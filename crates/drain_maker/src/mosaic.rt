@@ -11,7 +11,8 @@ ghost use Rattle.drain_mosaic.specs.Mosaic.{AreTiles};
 ghost use Rattle.drain_device.specs.FaultLists.{SomeReadFails};
 ghost use Rattle.drain_verdict.specs.Refusals.{IsOfBodies};
 ghost use Rattle.drain_verdict.specs.Stages.{IsTileRefusal};
-ghost use Rattle.drain_maker.specs.Mosaics.{AreSamplesOf, IsOneTileRefusal, IsElevationOf, IsSeamFaultAs, IsSeamRefusal, TellTiles, IsMosaicOf, IsMosaicRefusal};
+ghost use Rattle.drain_maker.specs.Mosaics.{AreSamplesOf, IsOneTileRefusal, IsElevationOf, IsSeamFaultAs, IsSeamRefusal, IsMosaicOf, IsMosaicRefusal};
+ghost use Rattle.drain_verdict.specs.TileGround.{TellTiles};
 ghost use Rattle.drain_mosaic.specs.Tiling.{extent_of};
 ghost use Rattle.drain_verdict.specs.Inputs.{Inputs};
 

@@ -2,7 +2,7 @@
 
 ghost use Rattle.std.specs.Prelude.{◌≡◌, length, map};
 ghost use Rattle.drain_header.specs.Header.{IsCoordinate};
-ghost use Rattle.drain_maker.specs.ProductFiles.{made_header, mosaic_place, bits_of, is_signed, CanBeDerived, FitHeaders, IsDerived, WritesFile, WritesFiles, derived_bytes, derived_raster, file_bytes, set_bytes};
+ghost use Rattle.drain_maker.specs.ProductFiles.{con_no_data, header_beside, header_on, made_header, mosaic_place, bits_of, is_signed, DerivedFit, FitHeaders, IsDerived, WritesFile, WritesFiles, derived_bytes, derived_raster, file_bytes, set_bytes};
 ghost use Rattle.std.specs.List.{All};
 ghost use Rattle.drain_grid.specs.Grid.{Pixels};
 ghost use Rattle.drain_grid.specs.WholeGrid.{raster_in};
@@ -43,6 +43,69 @@ pub fn product_header(layout: &Layout, product: Product) -> Header
         nodata: Some(product.default_no_data()),
     }
 }
+
+/// The header of a product on a raster of elevations with this header; on a mosaic that of con stands for it.
+///
+/// It has the raster's rows, columns and place. Con has pixels of its size and sign and its no-data number, or 4294967296,
+/// which no pixel is, if it has none. All else is as `product_header` has it.
+pub fn header_on(elevations: &Header, product: Product) -> Header
+    ensures { result ≡ header_on elevations.now product }
+{
+    match product {
+        Product::Con => con_header_on(elevations),
+        Product::Dir | Product::Acc | Product::Bas | Product::Spl | Product::Rnk => {
+            header_beside(elevations, product)
+        }
+    }
+}
+
+/// The header of con there.
+fn con_header_on(elevations: &Header) -> Header
+    ensures { result ≡ header_on elevations.now Product.Con }
+{
+    Header {
+        rows: elevations.rows,
+        cols: elevations.cols,
+        bits: elevations.bits,
+        order: ByteOrdering::Least,
+        signed: elevations.signed,
+        skip: 0,
+        row_bytes: elevations.cols * u32::from(elevations.bits / 8),
+        place: elevations.place,
+        nodata: Some(con_no_data(elevations)),
+    }
+}
+
+/// The header of another product there.
+fn header_beside(elevations: &Header, product: Product) -> Header
+    ensures { result ≡ header_beside elevations.now product }
+{
+    let bits = bits_of(product);
+    Header {
+        rows: elevations.rows,
+        cols: elevations.cols,
+        bits,
+        order: ByteOrdering::Least,
+        signed: false,
+        skip: 0,
+        row_bytes: elevations.cols * u32::from(bits / 8),
+        place: elevations.place,
+        nodata: Some(product.default_no_data()),
+    }
+}
+
+/// The no-data number of con: the elevations' own, or one that no pixel is.
+fn con_no_data(elevations: &Header) -> i64
+    ensures { result ≡ con_no_data elevations.now }
+{
+    match elevations.nodata {
+        Some(number) => number,
+        None => NO_PIXEL,
+    }
+}
+
+/// A number that no pixel is.
+const NO_PIXEL: i64 = 4_294_967_296;
 
 /// How many bits a pixel of the product has.
 fn bits_of(product: Product) -> u8
@@ -177,40 +240,42 @@ pub fn write_files<F: ByteSink>(
     requires written { CanBeWritten layout.now products.now }
     ensures { WritesFiles F.ByteSink files.old files.new (set_bytes layout.now products.now) result }
 {
-    write_listed(alloc, layout, products, &SET_FILES, files)
+    let con = product_header(layout, Product::Con);
+    write_listed(alloc, &con, products, &SET_FILES, files)
 }
 
 /// Writes the files of derived rasters, one after the other. The first that can't be written ends it.
 ///
-/// Headers are those of `product_header`. `derive` returns a layout and rasters that can be written.
+/// Headers are those of `header_on`. `derive_dem` returns a header and rasters that can be written, and so does `derive`
+/// with con's header for its layout.
 pub fn write_derived<F: ByteSink>(
     alloc: Global,
-    layout: &Layout,
+    elevations: &Header,
     derived: &Derived,
     files: &mut [F],
 ) -> Result<(), SetFault>
     requires counted { length files.old ≡ DERIVED_COUNT }
-    requires written { CanBeDerived layout.now derived.now }
-    ensures { WritesFiles F.ByteSink files.old files.new (derived_bytes layout.now derived.now) result }
+    requires written { DerivedFit elevations.now derived.now }
+    ensures { WritesFiles F.ByteSink files.old files.new (derived_bytes elevations.now derived.now) result }
 {
-    write_listed(alloc, layout, derived, &DERIVED_FILES, files)
+    write_listed(alloc, elevations, derived, &DERIVED_FILES, files)
 }
 
 /// Writes the listed files of a set, one after the other. The first that can't be written ends it.
 fn write_listed<S: FileSet, F: ByteSink>(
     alloc: Global,
-    layout: &Layout,
+    elevations: &Header,
     set: &S,
     list: &[SetFile],
     files: &mut [F],
 ) -> Result<(), SetFault>
     requires counted { length files.old ≡ length list.now }
     requires held { All (λ file. S.holds file.product) list.now }
-    requires written { FitHeaders layout.now S.holds (S.rasters set.now) }
-    ensures { WritesFiles F.ByteSink files.old files.new (map (file_bytes layout.now (S.rasters set.now)) list.now) result }
+    requires written { FitHeaders elevations.now S.holds (S.rasters set.now) }
+    ensures { WritesFiles F.ByteSink files.old files.new (map (file_bytes elevations.now (S.rasters set.now)) list.now) result }
 {
     for (k, file) in files.iter_mut().enumerate() {
-        write_file(alloc, layout, set, list[k], file)?;
+        write_file(alloc, elevations, set, list[k], file)?;
     }
     Ok(())
 }
@@ -218,16 +283,16 @@ fn write_listed<S: FileSet, F: ByteSink>(
 /// Writes one file.
 fn write_file<S: FileSet, F: ByteSink>(
     alloc: Global,
-    layout: &Layout,
+    elevations: &Header,
     set: &S,
     file: SetFile,
     to: &mut F,
 ) -> Result<(), SetFault>
     requires held { S.holds file.product }
-    requires written { FitHeaders layout.now S.holds (S.rasters set.now) }
-    ensures { WritesFile F.ByteSink to.old to.new (file_bytes layout.now (S.rasters set.now) file) result }
+    requires written { FitHeaders elevations.now S.holds (S.rasters set.now) }
+    ensures { WritesFile F.ByteSink to.old to.new (file_bytes elevations.now (S.rasters set.now) file) result }
 {
-    let header = product_header(layout, file.product.product());
+    let header = header_on(elevations, file.product.product());
     match file.part {
         Part::Header => write_header(alloc, &header, to),
         Part::Raster => write_numbers(&header, set.raster_of(file.product), to),

@@ -1,11 +1,13 @@
 //! The five rasters of an elevation.
 
-ghost use Rattle.std.specs.Prelude.{◌≡◌, ◌*◌, pos, map, true, false, All, vec_len, IfOk, length, List};
+ghost use Rattle.std.specs.Prelude.{◌≡◌, ◌*◌, ℤ, pos, map, true, false, All, vec_len, IfOk, length, List};
 ghost use Rattle.drain_grid.specs.Product.{default_no_data, default_numbers};
 ghost use Rattle.drain_grid.specs.Grid.{ArePixels, Heights, Grid};
 ghost use Rattle.drain_raster.specs.Bytes.{CanSpellIn, CanSpellAllIn};
 ghost use Rattle.drain_grid.specs.WholeGrid.{grid_of, products_of, nodata_of};
-ghost use Rattle.drain_flood.specs.Floods.{IsFlooded};
+ghost use Rattle.drain_flood.specs.Floods.{IsFlooded, IsSurfaceOf, ShowsVoids};
+ghost use Rattle.drain_flood.specs.Ways.{AreFirstCodes};
+ghost use Rattle.drain_flood.specs.declared.layers.TheConstants.{NO_HEIGHT};
 ghost use Rattle.drain_maker.specs.Made.{AreRoutes, SomeRunsEnd, AreCountsAndLabels, AreRightProducts, AreRasters, AreMadeSpelled};
 ghost use Rattle.drain_paths.specs.Basins.{AreBasinLabels};
 ghost use Rattle.drain_paths.specs.Flows.{bytes_flows, OfFlows};
@@ -15,7 +17,9 @@ ghost use Rattle.drain_grid.specs.declared.sink_line.SinkLine.{SinkLine};
 use crate::follow::{Follow, Part};
 use crate::laws::routes_keep_rules;
 use crate::mosaic::AsElevation;
-use drain_flood::{Flood, fill, ways_on_flats};
+use drain_flood::laws::flood_shows_voids;
+use drain_flood::ways::directions;
+use drain_flood::{Flood, HeightList, Surface, fill, ways_on_flats};
 use drain_grid::{Elevation, OutOfMemory, Product, ProductSet, Raster, Shape, Sinks};
 use drain_paths::{CertifyRefusal, accumulate, flows_of_codes, label_code_basins};
 use std::alloc::Global;
@@ -67,8 +71,8 @@ fn look_at(_height: i16)
 
 /// The conditioned elevation, the rank and the code of each cell, in row order.
 #[derive(Drop)]
-pub(crate) struct Routes {
-    pub con: Vec<i16>,
+pub(crate) struct Routes<C> {
+    pub con: C,
     pub rnk: Vec<u32>,
     pub dir: Vec<u8>,
 }
@@ -88,19 +92,37 @@ pub(crate) fn flooded(
 }
 
 /// Gives each cell of a flooded grid its way. What only the flood needs is freed first.
-pub(crate) fn route(
+fn route_flooded(
     alloc: Global,
     flood: Flood,
     follow: &mut impl Follow,
-) -> Result<Routes, OutOfMemory>
+) -> Result<Routes<Vec<i16>>, OutOfMemory>
     ensures con { IfOk result (λ routes. vec_len routes.con ≡ flood.extent.rows * flood.extent.cols) }
     ensures rnk { IfOk result (λ routes. vec_len routes.rnk ≡ flood.extent.rows * flood.extent.cols) }
     ensures dir { IfOk result (λ routes. vec_len routes.dir ≡ flood.extent.rows * flood.extent.cols) }
-    ensures routes { IfOk result (λ routes. (g : Grid) → g.extent ≡ flood.extent → IsFlooded g flood → AreRoutes g routes.con.items routes.rnk.items routes.dir.items) }
+    ensures routes { IfOk result (λ routes. (g : Grid) → g.extent ≡ flood.extent → IsFlooded g flood → AreRoutes g NO_HEIGHT routes.con.items routes.rnk.items routes.dir.items) }
 {
+    // The law that voids, and they alone, have the no-data height.
+    flood_shows_voids();
     follow.begin(Part::Directions);
     let surface = flood.into_surface(alloc)?;
-    let flats = ways_on_flats(alloc, &surface)?;
+    let codes = directions(alloc, &surface)?;
+    route(alloc, surface, codes)
+}
+
+/// Gives each cell of a filled surface its way, from the codes of ways down and of outlets.
+pub(crate) fn route<C: HeightList + Drop>(
+    alloc: Global,
+    surface: Surface<C>,
+    codes: Vec<u8>,
+) -> Result<Routes<C>, OutOfMemory>
+    requires counted { length codes.items ≡ surface.extent.rows * surface.extent.cols }
+    ensures con { IfOk result (λ routes. length (C.numbers routes.con) ≡ surface.extent.rows * surface.extent.cols) }
+    ensures rnk { IfOk result (λ routes. vec_len routes.rnk ≡ surface.extent.rows * surface.extent.cols) }
+    ensures dir { IfOk result (λ routes. vec_len routes.dir ≡ surface.extent.rows * surface.extent.cols) }
+    ensures routes { IfOk result (λ routes. (g : Grid) (void : ℤ) → g.extent ≡ surface.extent → IsSurfaceOf g surface → ShowsVoids g surface void → AreFirstCodes g surface codes.items → AreRoutes g void (C.numbers routes.con) routes.rnk.items routes.dir.items) }
+{
+    let flats = ways_on_flats(alloc, &surface, codes)?;
     let con = surface.into_heights();
     let ways = flats.into_codes_and_ranks();
     Ok(Routes {
@@ -173,7 +195,7 @@ pub(crate) fn build<E: AsElevation + Drop>(
 ) -> Result<ProductSet, OutOfMemory>
     ensures shape { IfOk result (λ products. products.con.extent ≡ (E.heights elevation).extent) }
     ensures nodata { IfOk result (λ products. nodata_of products ≡ default_numbers) }
-    ensures right { IfOk result (λ products. AreRightProducts (E.heights elevation) sinks.now (products_of products)) }
+    ensures right { IfOk result (λ products. AreRightProducts (grid_of (E.heights elevation) sinks.now) default_numbers (products_of products)) }
     ensures written { IfOk result AreMadeSpelled }
     ensures rasters { IfOk result AreRasters }
 {
@@ -193,7 +215,7 @@ fn build_on(
     requires flooded { (heights : Heights) × (sinks : List SinkLine) × (heights.extent ≡ flood.extent) × IsFlooded (grid_of heights sinks) flood }
     ensures shape { IfOk result (λ products. products.con.extent ≡ flood.extent) }
     ensures nodata { IfOk result (λ products. nodata_of products ≡ default_numbers) }
-    ensures right { IfOk result (λ products. (heights : Heights) (sinks : List SinkLine) → heights.extent ≡ flood.extent → IsFlooded (grid_of heights sinks) flood → AreRightProducts heights sinks (products_of products)) }
+    ensures right { IfOk result (λ products. (heights : Heights) (sinks : List SinkLine) → heights.extent ≡ flood.extent → IsFlooded (grid_of heights sinks) flood → AreRightProducts (grid_of heights sinks) default_numbers (products_of products)) }
     ensures written { IfOk result AreMadeSpelled }
     ensures rasters { IfOk result AreRasters }
 {
@@ -201,7 +223,7 @@ fn build_on(
     routes_keep_rules();
     let shape = flood.shape();
     let _cells = shape.cells();
-    let routes = route(alloc, flood, follow)?;
+    let routes = route_flooded(alloc, flood, follow)?;
     let both = count_and_label(alloc, &routes.dir, shape, follow)?;
     Ok(ProductSet {
         con: raster_of_heights(shape, Product::Con, routes.con),

@@ -1,1 +1,2 @@
+mod Coordinates
 pub mod DegreeSteps

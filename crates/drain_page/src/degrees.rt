@@ -6,8 +6,10 @@
 ghost use Rattle.std.specs.Prelude.{◌≡◌, ◌<◌, ◌≤ℤ◌, ◌+ℤ◌, ◌-ℤ◌, ◌*ℤ◌, neg_ℤ, pos};
 ghost use Rattle.drain_mosaic.specs.Tiling.{north_of, west_of};
 ghost use Rattle.drain_page.specs.Texts.{IsRounded, steps_of};
+ghost use Rattle.drain_page.specs.declared.degrees.TheConstants.{MOST_STEPS};
 
-use crate::names::Shown;
+use crate::names::DECIMAL_LENGTH;
+use arrayvec::ArrayString;
 use drain_mosaic::Layout;
 use std::fmt::Write;
 
@@ -20,24 +22,58 @@ pub const MOST_STEPS: u64 = 140_741_783_322_624;
 /// Whole degrees make no more steps than this.
 const MOST_WHOLE_STEPS: u64 = 140_737_488_355_328;
 
-/// A row's latitude in degrees.
-pub fn latitude(layout: &Layout, row: u32) -> f64 {
-    latitude_in_steps(layout, row) as f64 / f64::from(steps_a_degree(layout))
+/// An angle, by its steps and how many of these make up a degree.
+#[derive(Clone, Copy)]
+pub struct Degrees {
+    count: i64,
+    steps: u32,
+    ghost some: { 0 < steps },
+    ghost low: { neg_ℤ (pos MOST_STEPS) ≤ℤ count },
+    ghost high: { count ≤ℤ pos MOST_STEPS },
 }
 
-/// A column's longitude in degrees.
-pub fn longitude(layout: &Layout, col: u32) -> f64 {
-    longitude_in_steps(layout, col) as f64 / f64::from(steps_a_degree(layout))
+impl Degrees {
+    /// The nearest floating-point number.
+    pub fn value(self) -> f64 {
+        self.count as f64 / f64::from(self.steps)
+    }
+
+    /// With seven places after the point, the nearest, and of two the one further from 0.
+    pub(crate) fn text(self) -> ArrayString<DECIMAL_LENGTH> {
+        let places = in_places(self.count.unsigned_abs(), self.steps);
+        let sign = if self.count < 0 && 0 < places {
+            "-"
+        } else {
+            ""
+        };
+        let whole = places / PLACES;
+        let fraction = places % PLACES;
+        let mut shown = ArrayString::new();
+        let _ = write!(shown, "{sign}{whole}.{fraction:07}");
+        shown
+    }
 }
 
-/// A row's latitude with seven places after the point, the nearest, and of two the one further from 0.
-pub(crate) fn latitude_text(layout: &Layout, row: u32) -> Shown {
-    shown_degrees(latitude_in_steps(layout, row), steps_a_degree(layout))
+/// A row's latitude.
+pub fn latitude(layout: &Layout, row: u32) -> Degrees
+    ensures count { result.count ≡ (north_of layout.now *ℤ pos (steps_of layout.now)) -ℤ pos row }
+    ensures steps { result.steps ≡ steps_of layout.now }
+{
+    Degrees {
+        count: latitude_in_steps(layout, row),
+        steps: steps_a_degree(layout),
+    }
 }
 
-/// A column's longitude likewise.
-pub(crate) fn longitude_text(layout: &Layout, col: u32) -> Shown {
-    shown_degrees(longitude_in_steps(layout, col), steps_a_degree(layout))
+/// A column's longitude.
+pub fn longitude(layout: &Layout, col: u32) -> Degrees
+    ensures count { result.count ≡ (west_of layout.now *ℤ pos (steps_of layout.now)) +ℤ pos col }
+    ensures steps { result.steps ≡ steps_of layout.now }
+{
+    Degrees {
+        count: longitude_in_steps(layout, col),
+        steps: steps_a_degree(layout),
+    }
 }
 
 /// A row's latitude in steps.
@@ -84,17 +120,4 @@ pub fn in_places(count: u64, steps: u32) -> u128
     let steps = u128::from(steps);
     let count = u128::from(count) * PLACES;
     (2 * count + steps) / (2 * steps)
-}
-
-/// This number of steps in degrees, with seven places after the point.
-fn shown_degrees(count: i64, steps: u32) -> Shown
-    requires { 0 < steps }
-{
-    let places = in_places(count.unsigned_abs(), steps);
-    let sign = if count < 0 && 0 < places { "-" } else { "" };
-    let whole = places / PLACES;
-    let fraction = places % PLACES;
-    let mut shown = Shown::new();
-    let _ = write!(shown, "{sign}{whole}.{fraction:07}");
-    shown
 }

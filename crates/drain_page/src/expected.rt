@@ -2,6 +2,7 @@
 
 ghost use Rattle.std.specs.Prelude.{◌≡◌};
 
+use crate::frame::Frame;
 use crate::json_text::{JsonText, JsonValue};
 use crate::names::{shown_code, shown_number, shown_rule};
 use drain_explain::{Findings, judged_product};
@@ -42,10 +43,10 @@ pub struct Expected {
 }
 
 /// What the rule expected at this cell, the first at which any fails.
-pub(crate) fn expected_at(
+pub(crate) fn expected_at<F>(
     alloc: Global,
     first: &FaultyPatch,
-    findings: &Findings,
+    findings: &Findings<F>,
 ) -> Result<Expected, AllocError> {
     let FaultyPatch { rule, patch, .. } = first;
     Ok(Expected {
@@ -61,7 +62,7 @@ pub(crate) fn expected_at(
 /// The number that the product should have.
 fn expected_number(rule: Rule, patch: &Patch) -> Option<i64> {
     match rule {
-        Rule::BelowGround | Rule::OpenRaised => Some(i64::from(patch.here.z.unwrap_or(0))),
+        Rule::BelowGround | Rule::OpenRaised => Some(patch.here.z.unwrap_or(0)),
         Rule::NotLeast => greatest_allowed(patch),
         Rule::OutletCode => Some(0),
         Rule::Accumulation => Some(drain_accum::expected(patch)),
@@ -71,11 +72,11 @@ fn expected_number(rule: Rule, patch: &Patch) -> Option<i64> {
 }
 
 /// The products that have a number at a void, or none at a data cell.
-fn products_at_fault(
+fn products_at_fault<F>(
     alloc: Global,
     rule: Rule,
     here: &CellValues,
-    findings: &Findings,
+    findings: &Findings<F>,
 ) -> Result<Vec<SetProduct>, AllocError> {
     let mut products = Vec::new(alloc);
     for product in SetProduct::ALL {
@@ -86,7 +87,12 @@ fn products_at_fault(
     Ok(products)
 }
 
-fn is_at_fault(rule: Rule, here: &CellValues, findings: &Findings, product: SetProduct) -> bool {
+fn is_at_fault<F>(
+    rule: Rule,
+    here: &CellValues,
+    findings: &Findings<F>,
+    product: SetProduct,
+) -> bool {
     let is_blank = number_at(here, product) == nodata_of(&findings.rules.nodata, product);
     match rule {
         Rule::VoidCell => !is_blank,
@@ -170,14 +176,20 @@ fn opening(rule: Rule, patch: &Patch) -> Option<Opening> {
 }
 
 /// Appends the rule and these lines.
-pub(crate) fn push_expected(
+pub(crate) fn push_expected<F: Frame>(
     text: &mut String,
     first: &FaultyPatch,
-    findings: &Findings,
+    findings: &Findings<F>,
     expected: &Expected,
 ) -> Result<(), AllocError> {
     write!(text, "rule {}\nexpected: ", shown_rule(first.rule))?;
-    push_expectation(text, first.rule, findings.rules.judged, expected)?;
+    push_expectation(
+        text,
+        first.rule,
+        findings.rules.judged,
+        expected,
+        F::words().whole,
+    )?;
     text.push_str("\n")?;
     push_ways(text, &first.patch, &expected.ways)?;
     match expected.product {
@@ -195,8 +207,9 @@ fn push_expectation(
     rule: Rule,
     judged: Judged,
     expected: &Expected,
+    whole: &'static str,
 ) -> Result<(), AllocError> {
-    let open = at_opening(expected.open);
+    let (opened, edge) = at_opening(expected.open, whole);
     match (rule, expected.number) {
         (Rule::VoidCell, _) => push_products(text, "no data at a void, in ", &expected.products),
         (Rule::Missing, _) => {
@@ -204,11 +217,14 @@ fn push_expectation(
         }
         (Rule::BadCode, _) => text.push_str("dir 0, 1, 2, 4, 8, 16, 32, 64 or 128"),
         (Rule::BelowGround, Some(ground)) => write!(text, "con at least the ground, {ground}"),
-        (Rule::OpenRaised, Some(ground)) => write!(text, "con equal to the ground, {ground}{open}"),
+        (Rule::OpenRaised, Some(ground)) => write!(
+            text,
+            "con equal to the ground, {ground}{opened}{edge}"
+        ),
         (Rule::NotLeast, Some(most)) => write!(text, "con at most {most}"),
         (Rule::NotLeast, None) => text.push_str("any con"),
         (Rule::Slope, _) => text.push_str("dir of a steepest descent"),
-        (Rule::OutletCode, _) => write!(text, "dir 0, with no lower neighbour{open}"),
+        (Rule::OutletCode, _) => write!(text, "dir 0, with no lower neighbour{opened}{edge}"),
         (Rule::FlatStep, _) => push_along(text, &expected.codes, judged),
         (Rule::Accumulation, Some(sum)) => write!(text, "acc {sum}"),
         (Rule::Label, Some(label)) => {
@@ -235,13 +251,13 @@ fn push_products(
     Ok(())
 }
 
-/// Why the cell is open.
-fn at_opening(open: Option<Opening>) -> &'static str {
+/// Why the cell is open, and of what it is on the edge.
+fn at_opening(open: Option<Opening>, whole: &'static str) -> (&'static str, &'static str) {
     match open {
-        Some(Opening::Sink) => ", at a listed sink",
-        Some(Opening::Edge) => ", on the edge of the mosaic",
-        Some(Opening::Void) => ", next to a void",
-        None => "",
+        Some(Opening::Sink) => (", at a listed sink", ""),
+        Some(Opening::Edge) => (", on the edge of the ", whole),
+        Some(Opening::Void) => (", next to a void", ""),
+        None => ("", ""),
     }
 }
 
@@ -279,10 +295,10 @@ fn push_ways(text: &mut String, patch: &Patch, ways: &[WayDown]) -> Result<(), A
 }
 
 /// What was expected; null if no rule fails. A member that the rule doesn't use is null or empty.
-pub(crate) fn write_expected(
+pub(crate) fn write_expected<F>(
     alloc: Global,
     json: &mut JsonText,
-    findings: &Findings,
+    findings: &Findings<F>,
 ) -> Result<(), AllocError>
     ensures { json.new ≡ json.old }
 {

@@ -6,19 +6,22 @@ ghost use Rattle.drain_page.specs.Texts.{IsAnswerLine};
 
 use crate::expected::write_expected;
 use crate::facts::Facts;
-use crate::json_text::JsonText;
+use crate::frame::Frame;
+use crate::json_text::{JsonText, JsonValue};
 use crate::patch_json::write_patch;
 use crate::refusal::write_refusal;
 use crate::rules::{write_products, write_rules};
 use crate::run::write_run;
 use drain_answer::outcome_report;
-use drain_explain::{Findings, RefusalDetail};
+use drain_explain::{ElevationRange, Findings, RefusalDetail};
 use drain_grid::OutOfMemory;
+use drain_mosaic::Layout;
 use std::alloc::{AllocError, Global};
 
 /// The page as one JSON object on one line, which ends with a line feed. Its first member is the answer's line. The
-/// other members are always there: null or an empty list if there is nothing to report.
-pub fn page_json(alloc: Global, facts: &Facts) -> Result<String, OutOfMemory>
+/// other members are always there: null or an empty list if there is nothing to report. On a raster of elevations there
+/// is one more, `elevation`.
+pub fn page_json<F: Frame>(alloc: Global, facts: &Facts<F>) -> Result<String, OutOfMemory>
     ensures { IfOk result (λ line. IsAnswerLine (outcome_report_line facts.now.answer) (string_bytes line)) }
 {
     let line = outcome_report(&facts.answer);
@@ -29,18 +32,18 @@ pub fn page_json(alloc: Global, facts: &Facts) -> Result<String, OutOfMemory>
 pub fn failure_json(alloc: Global, answer: &str) -> Result<String, OutOfMemory>
     ensures { IfOk result (λ line. IsAnswerLine answer.now (string_bytes line)) }
 {
-    object(alloc, answer, &None, &None)
+    object::<Layout>(alloc, answer, &None, &None)
 }
 
 /// The object for the failure that there is no memory for an object.
 pub const OUT_OF_MEMORY_OBJECT: &str =
     "{\"answer\":\"failed OutOfMemory\",\"refusal\":null,\"rows\":null,\"cols\":null,\"ranks\":null,\"rules\":[],\"products\":[],\"patch\":null,\"expected\":null,\"run\":null}\n";
 
-fn object(
+fn object<F: Frame>(
     alloc: Global,
     answer: &str,
     refusal: &Option<RefusalDetail>,
-    findings: &Option<Findings>,
+    findings: &Option<Findings<F>>,
 ) -> Result<String, OutOfMemory>
     ensures { IfOk result (λ line. IsAnswerLine answer.now (string_bytes line)) }
 {
@@ -50,27 +53,32 @@ fn object(
 }
 
 /// The other members, and the end of the object.
-fn write_members(
+fn write_members<F: Frame>(
     alloc: Global,
     json: &mut JsonText,
     refusal: &Option<RefusalDetail>,
-    findings: &Option<Findings>,
+    findings: &Option<Findings<F>>,
 ) -> Result<(), AllocError>
     ensures { json.new ≡ json.old }
 {
     write_refusal(alloc, json, refusal)?;
     match findings {
         Some(findings) => write_findings(alloc, json, findings)?,
-        None => write_no_findings(json)?,
+        None => write_no_findings::<F>(json)?,
     }
     json.end_object()
 }
 
-fn write_findings(alloc: Global, json: &mut JsonText, findings: &Findings) -> Result<(), AllocError>
+fn write_findings<F: Frame>(
+    alloc: Global,
+    json: &mut JsonText,
+    findings: &Findings<F>,
+) -> Result<(), AllocError>
     ensures { json.new ≡ json.old }
 {
     json.member("rows", findings.layout.shape().rows())?;
     json.member("cols", findings.layout.shape().cols())?;
+    write_elevations::<F>(json, findings.elevations)?;
     json.member("ranks", findings.rules.judged.has_rnk())?;
     write_rules(json, findings)?;
     write_products(json, findings)?;
@@ -79,12 +87,36 @@ fn write_findings(alloc: Global, json: &mut JsonText, findings: &Findings) -> Re
     write_run(json, findings)
 }
 
+/// The least and the greatest elevation, on a raster of elevations; null if there is none.
+fn write_elevations<F: Frame>(
+    json: &mut JsonText,
+    elevations: Option<ElevationRange>,
+) -> Result<(), AllocError>
+    ensures { json.new ≡ json.old }
+{
+    if F::words().has_elevations {
+        json.member("elevation", elevations)
+    } else {
+        Ok(())
+    }
+}
+
+impl JsonValue for ElevationRange {
+    fn append(self, json: &mut JsonText) -> Result<(), AllocError> {
+        json.begin_object_item()?;
+        json.member("least", self.least)?;
+        json.member("greatest", self.greatest)?;
+        json.end_object()
+    }
+}
+
 /// The same members if there is no verdict.
-fn write_no_findings(json: &mut JsonText) -> Result<(), AllocError>
+fn write_no_findings<F: Frame>(json: &mut JsonText) -> Result<(), AllocError>
     ensures { json.new ≡ json.old }
 {
     json.null("rows")?;
     json.null("cols")?;
+    write_elevations::<F>(json, None)?;
     json.null("ranks")?;
     json.list::<bool>("rules", &[])?;
     json.list::<bool>("products", &[])?;

@@ -6,6 +6,8 @@ ghost use Rattle.json.specs.Print.{IsPrintable};
 ghost use Rattle.json.specs.Reads.{token_of};
 ghost use Rattle.drain_page.specs.Texts.{IsJsonLine, answer_head};
 
+use crate::frame::Coordinate;
+use crate::names::units_text;
 use itoa::Buffer;
 use json::{Token, Writer, is_number};
 use std::alloc::{AllocError, Global};
@@ -191,15 +193,30 @@ impl JsonValue for i64 {
 }
 
 impl JsonValue for u128 {
-    /// The digits of a whole number always are a number.
     fn append(self, json: &mut JsonText) -> Result<(), AllocError> {
         let mut buffer = Buffer::new();
-        let digits = buffer.format(self);
-        if is_number(digits) {
-            json.token(Token::Number(digits))
-        } else {
-            json.token(Token::Null)
+        append_digits(json, buffer.format(self))
+    }
+}
+
+impl JsonValue for Coordinate {
+    /// Degrees as the nearest floating-point number; the header's unit with its fifteen places.
+    fn append(self, json: &mut JsonText) -> Result<(), AllocError> {
+        match self {
+            Coordinate::Degrees(degrees) => degrees.value().append(json),
+            Coordinate::Units(units) => append_digits(json, units_text(units).as_str()),
         }
+    }
+}
+
+/// Appends digits, which always are a number.
+fn append_digits(json: &mut JsonText, digits: &str) -> Result<(), AllocError>
+    ensures { json.new ≡ json.old }
+{
+    if is_number(digits) {
+        json.token(Token::Number(digits))
+    } else {
+        json.token(Token::Null)
     }
 }
 

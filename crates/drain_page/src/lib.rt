@@ -4,6 +4,7 @@
 pub mod degrees;
 mod expected;
 pub mod facts;
+pub mod frame;
 pub mod json_page;
 mod json_text;
 pub mod laws;
@@ -16,5 +17,6 @@ mod run;
 pub mod text_page;
 
 pub use facts::Facts;
+pub use frame::Frame;
 pub use json_page::{OUT_OF_MEMORY_OBJECT, failure_json, page_json};
 pub use text_page::page_text;

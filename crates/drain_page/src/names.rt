@@ -1,4 +1,4 @@
-//! Words for directions, numbers of a raster and rules, for degrees of a header, and for bytes that may be no ASCII.
+//! Words for directions, numbers of a raster and rules, for coordinates of a header, and for bytes that may be no ASCII.
 
 use arrayvec::ArrayString;
 use drain_faults::product_faults::{nodata_of, number_at};
@@ -54,7 +54,7 @@ pub(crate) fn shown_number(values: &CellValues, product: SetProduct, nodata: &No
 pub(crate) fn shown_ground(values: &CellValues) -> Shown {
     let star = if values.sink { "*" } else { "" };
     match values.z {
-        Some(ground) => shown_signed(star, i64::from(ground)),
+        Some(ground) => shown_signed(star, ground),
         None => shown_word(if values.sink { "*void" } else { "void" }),
     }
 }
@@ -90,7 +90,7 @@ fn shown_signed(mark: &str, number: i64) -> Shown {
 /// The longest decimal has fewer bytes.
 pub(crate) const DECIMAL_LENGTH: usize = 64;
 
-/// Degrees of a header, in units of 10^-15 degree, as a decimal with fifteen places after the point.
+/// A coordinate or a size of a header, in units of 10^-15, as a decimal with fifteen places after the point.
 pub(crate) fn units_text(units: i128) -> ArrayString<DECIMAL_LENGTH> {
     let mut shown = ArrayString::new();
     let sign = if units < 0 { "-" } else { "" };

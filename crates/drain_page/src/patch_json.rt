@@ -2,23 +2,27 @@
 
 ghost use Rattle.std.specs.Prelude.{◌≡◌};
 
+use crate::frame::Frame;
 use crate::json_text::{JsonText, JsonValue};
 use crate::patch_text::rows_of;
-use crate::rules::CellOf;
+use crate::rules::placed;
 use drain_explain::Findings;
 use drain_faults::product_faults::{nodata_of, number_at};
 use drain_grid::{CellValues, SetProduct};
 use std::alloc::AllocError;
 
 /// The cell, and three rows of three cells with it in the middle; null if there is none.
-pub(crate) fn write_patch(json: &mut JsonText, findings: &Findings) -> Result<(), AllocError>
+pub(crate) fn write_patch<F: Frame>(
+    json: &mut JsonText,
+    findings: &Findings<F>,
+) -> Result<(), AllocError>
     ensures { json.new ≡ json.old }
 {
     let Some(first) = &findings.first else {
         return json.null("patch");
     };
     json.begin_object("patch")?;
-    json.member("cell", CellOf(&findings.layout, first.cell))?;
+    json.member("cell", placed(&findings.layout, first.cell))?;
     json.begin_list("values")?;
     for row in &rows_of(&first.patch) {
         write_row(json, findings, row)?;
@@ -27,10 +31,10 @@ pub(crate) fn write_patch(json: &mut JsonText, findings: &Findings) -> Result<()
     json.end_object()
 }
 
-/// The values of three cells; null outside the mosaic.
-fn write_row(
+/// The values of three cells; null outside the grid.
+fn write_row<F>(
     json: &mut JsonText,
-    findings: &Findings,
+    findings: &Findings<F>,
     row: &[Option<CellValues>],
 ) -> Result<(), AllocError>
     ensures { json.new ≡ json.old }
@@ -46,10 +50,10 @@ fn write_row(
 }
 
 /// The ground, null at a void, and the products' numbers.
-fn write_values(
+fn write_values<F>(
     json: &mut JsonText,
     values: &CellValues,
-    findings: &Findings,
+    findings: &Findings<F>,
 ) -> Result<(), AllocError>
     ensures { json.new ≡ json.old }
 {
@@ -64,7 +68,11 @@ fn write_values(
 }
 
 /// A product's number; none if it is the no-data number, or the product wasn't looked at.
-fn shown_number(values: &CellValues, findings: &Findings, product: SetProduct) -> Option<i64> {
+fn shown_number<F>(
+    values: &CellValues,
+    findings: &Findings<F>,
+    product: SetProduct,
+) -> Option<i64> {
     let number = number_at(values, product);
     if findings.looks_at(product) && number != nodata_of(&findings.rules.nodata, product) {
         Some(number)

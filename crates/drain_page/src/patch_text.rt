@@ -1,7 +1,7 @@
 //! The first cell at which a rule fails: its place, its values and its neighbours', and what the rule expected.
 
-use crate::degrees::{latitude_text, longitude_text};
 use crate::expected::{expected_at, push_expected};
+use crate::frame::{Frame, Words};
 use crate::names::{Shown, shown_ground, shown_number, shown_word};
 use drain_explain::Findings;
 use drain_faults::FaultyPatch;
@@ -9,18 +9,19 @@ use drain_grid::{Cell, CellValues, Direction, NoData, Patch, SetProduct};
 use std::alloc::{AllocError, Global};
 
 /// Appends all of it: where the cell lies, the values, and what the rule expected.
-pub(crate) fn push_first(
+pub(crate) fn push_first<F: Frame>(
     alloc: Global,
     text: &mut String,
-    findings: &Findings,
+    findings: &Findings<F>,
     first: &FaultyPatch,
 ) -> Result<(), AllocError> {
     let Cell { row, col } = first.cell;
-    let longitude = longitude_text(&findings.layout, col);
-    let latitude = latitude_text(&findings.layout, row);
+    let Words { east, north, .. } = F::words();
+    let eastward = findings.layout.east(col).text();
+    let northward = findings.layout.north(row).text();
     writeln!(
         text,
-        "first fault: row {row}, column {col}, longitude {longitude}, latitude {latitude}"
+        "first fault: row {row}, column {col}, {east} {eastward}, {north} {northward}"
     )?;
     push_patch(text, findings, &first.patch)?;
     let expected = expected_at(alloc, first, findings)?;
@@ -28,10 +29,15 @@ pub(crate) fn push_first(
 }
 
 /// The ground and each product, three numbers by three.
-fn push_patch(text: &mut String, findings: &Findings, patch: &Patch) -> Result<(), AllocError> {
+fn push_patch<F: Frame>(
+    text: &mut String,
+    findings: &Findings<F>,
+    patch: &Patch,
+) -> Result<(), AllocError> {
     let rows = rows_of(patch);
     let nodata = &findings.rules.nodata;
-    text.push_str("- outside the mosaic, * listed as a sink\nground\n")?;
+    let whole = F::words().whole;
+    write!(text, "- outside the {whole}, * listed as a sink\nground\n")?;
     push_layer(text, nodata, &rows, None)?;
     for product in SetProduct::ALL {
         if findings.looks_at(product) {
@@ -45,7 +51,7 @@ fn push_patch(text: &mut String, findings: &Findings, patch: &Patch) -> Result<(
 /// Three rows of three cells, from north to south.
 pub(crate) type Rows = [[Option<CellValues>; 3]; 3];
 
-/// A cell and its neighbours; none outside the mosaic.
+/// A cell and its neighbours; none outside the grid.
 pub(crate) fn rows_of(patch: &Patch) -> Rows {
     [
         [
@@ -88,7 +94,7 @@ fn push_layer(
     Ok(())
 }
 
-/// A product's number there, or the ground; a dash outside the mosaic.
+/// A product's number there, or the ground; a dash outside the grid.
 fn shown_at(nodata: &NoData, cell: &Option<CellValues>, layer: Option<SetProduct>) -> Shown {
     match (cell, layer) {
         (Some(values), Some(product)) => shown_number(values, product, nodata),

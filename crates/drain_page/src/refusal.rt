@@ -14,6 +14,7 @@ pub(crate) fn push_refusal(
     alloc: Global,
     text: &mut String,
     detail: &RefusalDetail,
+    whole: &'static str,
 ) -> Result<(), AllocError> {
     match detail {
         RefusalDetail::Side(side) => writeln!(
@@ -86,12 +87,22 @@ pub(crate) fn push_refusal(
             col,
             why,
         } => {
-            let why = why_no_data(*why);
+            let (why, outside) = why_no_data(*why, whole);
             writeln!(
                 text,
-                "expected: line {number}: a data cell\nfound: row {row}, column {col}, {why}"
+                "expected: line {number}: a data cell\nfound: row {row}, column {col}, {why}{outside}"
             )
         }
+        RefusalDetail::PixelSize { xdim, ydim } => writeln!(
+            text,
+            "expected: XDIM and YDIM above 0\nfound: XDIM {}, YDIM {}",
+            units_text(*xdim),
+            units_text(*ydim)
+        ),
+        RefusalDetail::DemLength { expected, found } => writeln!(
+            text,
+            "expected: dem of {expected} bytes\nfound: dem of {found} bytes"
+        ),
     }
 }
 
@@ -137,11 +148,11 @@ fn push_sink_line(
     }
 }
 
-/// Why a listed cell isn't a data cell.
-fn why_no_data(why: NotData) -> &'static str {
+/// Why a listed cell isn't a data cell, and of what it is outside.
+fn why_no_data(why: NotData, whole: &'static str) -> (&'static str, &'static str) {
     match why {
-        NotData::Void => "a void",
-        NotData::Outside => "outside the mosaic",
+        NotData::Void => ("a void", ""),
+        NotData::Outside => ("outside the ", whole),
     }
 }
 
@@ -173,6 +184,8 @@ fn kind(detail: &RefusalDetail) -> &'static str {
         RefusalDetail::Seam { .. } => "seam",
         RefusalDetail::SinkLine { .. } => "sink_line",
         RefusalDetail::SinkCell { .. } => "sink_cell",
+        RefusalDetail::PixelSize { .. } => "pixel_size",
+        RefusalDetail::DemLength { .. } => "dem_length",
     }
 }
 
@@ -225,6 +238,16 @@ fn write_members(
             col,
             why,
         } => write_sink_cell(json, *number, *row, *col, *why),
+        RefusalDetail::PixelSize { xdim, ydim } => {
+            json.begin_object("found")?;
+            json.member("xdim", units_text(*xdim).as_str())?;
+            json.member("ydim", units_text(*ydim).as_str())?;
+            json.end_object()
+        }
+        RefusalDetail::DemLength { expected, found } => {
+            json.member("expected", *expected)?;
+            json.member("found", *found)
+        }
     }
 }
 
@@ -269,7 +292,7 @@ impl JsonValue for Extent {
 }
 
 impl JsonValue for Place {
-    /// Degrees as decimals with fifteen places: a float would lose the last of them.
+    /// Decimals with fifteen places as strings: a float would lose the last of them.
     fn append(self, json: &mut JsonText) -> Result<(), AllocError> {
         json.begin_object_item()?;
         json.member("ulxmap", units_text(self.ulx).as_str())?;

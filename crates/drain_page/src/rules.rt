@@ -2,20 +2,19 @@
 
 ghost use Rattle.std.specs.Prelude.{◌≡◌};
 
-use crate::degrees::{latitude, latitude_text, longitude, longitude_text};
+use crate::frame::{Coordinate, Frame, Words};
 use crate::json_text::{JsonText, JsonValue};
 use crate::names::{shown_indented, shown_rule};
 use drain_explain::Findings;
 use drain_faults::{ProductFaults, RULES, RuleFaults};
 use drain_grid::{Cell, Rule, SetProduct};
-use drain_mosaic::Layout;
 use std::alloc::AllocError;
 
-/// The line of headings, as wide as the lines below it.
-const HEADINGS: &str = "rule                cells    row column     longitude      latitude\n";
-
 /// Appends the table and the lines.
-pub(crate) fn push_rules(text: &mut String, findings: &Findings) -> Result<(), AllocError> {
+pub(crate) fn push_rules<F: Frame>(
+    text: &mut String,
+    findings: &Findings<F>,
+) -> Result<(), AllocError> {
     push_table(text, findings)?;
     push_names(text, "hold:", findings, Standing::Holds)?;
     push_names(text, "not tried:", findings, Standing::Untried)?;
@@ -34,7 +33,7 @@ enum Standing {
     Untried,
 }
 
-fn standing_of(findings: &Findings, rule: Rule) -> Standing {
+fn standing_of<F>(findings: &Findings<F>, rule: Rule) -> Standing {
     if !findings.tries(rule) {
         Standing::Untried
     } else if findings.by_rule.of(rule).cells != 0 {
@@ -45,8 +44,8 @@ fn standing_of(findings: &Findings, rule: Rule) -> Standing {
 }
 
 /// A line for each rule that fails, below a line of headings; nothing if all rules hold.
-fn push_table(text: &mut String, findings: &Findings) -> Result<(), AllocError> {
-    let mut headings = HEADINGS;
+fn push_table<F: Frame>(text: &mut String, findings: &Findings<F>) -> Result<(), AllocError> {
+    let mut headings = F::words().headings;
     for rule in RULES {
         if standing_of(findings, rule) == Standing::Fails {
             text.push_str(headings)?;
@@ -58,7 +57,11 @@ fn push_table(text: &mut String, findings: &Findings) -> Result<(), AllocError> 
 }
 
 /// The line of a rule, and below those of its products, if it is VoidCell or Missing.
-fn push_failing(text: &mut String, findings: &Findings, rule: Rule) -> Result<(), AllocError> {
+fn push_failing<F: Frame>(
+    text: &mut String,
+    findings: &Findings<F>,
+    rule: Rule,
+) -> Result<(), AllocError> {
     let name = shown_rule(rule);
     let faults = findings.by_rule.of(rule);
     push_faults(text, name.as_str(), &findings.layout, faults)?;
@@ -69,7 +72,11 @@ fn push_failing(text: &mut String, findings: &Findings, rule: Rule) -> Result<()
 }
 
 /// A line for each product that is at fault.
-fn push_products(text: &mut String, findings: &Findings, rule: Rule) -> Result<(), AllocError> {
+fn push_products<F: Frame>(
+    text: &mut String,
+    findings: &Findings<F>,
+    rule: Rule,
+) -> Result<(), AllocError> {
     for product in SetProduct::ALL {
         let faults = findings.by_product.of(product);
         let faults = match rule {
@@ -84,36 +91,39 @@ fn push_products(text: &mut String, findings: &Findings, rule: Rule) -> Result<(
     Ok(())
 }
 
-/// What fails, at how many cells, and the first: its row, column, longitude and latitude.
-fn push_faults(
+/// What fails, at how many cells, and the first: its row and column, and where it lies.
+fn push_faults<F: Frame>(
     text: &mut String,
     name: &str,
-    layout: &Layout,
+    layout: &F,
     faults: &RuleFaults,
 ) -> Result<(), AllocError> {
     let cells = faults.cells;
-    match faults.first {
-        Some(cell) => {
-            let longitude = longitude_text(layout, cell.col);
-            let latitude = latitude_text(layout, cell.row);
-            writeln!(
-                text,
-                "{name:<15}{cells:>10}{:>7}{:>7}{:>14}{:>14}",
-                cell.row,
-                cell.col,
-                longitude.as_str(),
-                latitude.as_str()
-            )
-        }
-        None => writeln!(text, "{name:<15}{cells:>10}"),
+    write!(text, "{name:<15}{cells:>10}")?;
+    if let Some(cell) = faults.first {
+        push_place(text, layout, cell)?;
+    }
+    text.push_str("\n")
+}
+
+/// A cell's row and column, and where it lies, in columns.
+fn push_place<F: Frame>(text: &mut String, layout: &F, cell: Cell) -> Result<(), AllocError> {
+    let Cell { row, col } = cell;
+    let east = layout.east(col).text();
+    let north = layout.north(row).text();
+    let (east, north) = (east.as_str(), north.as_str());
+    if F::words().is_wide {
+        write!(text, "{row:>7}{col:>7}{east:>26}{north:>26}")
+    } else {
+        write!(text, "{row:>7}{col:>7}{east:>14}{north:>14}")
     }
 }
 
 /// A line of the rules of which this is known, behind these words.
-fn push_names(
+fn push_names<F>(
     text: &mut String,
     label: &'static str,
-    findings: &Findings,
+    findings: &Findings<F>,
     known: Standing,
 ) -> Result<(), AllocError> {
     text.push_str(label)?;
@@ -128,7 +138,10 @@ fn push_names(
 }
 
 /// Each rule that was checked.
-pub(crate) fn write_rules(json: &mut JsonText, findings: &Findings) -> Result<(), AllocError>
+pub(crate) fn write_rules<F: Frame>(
+    json: &mut JsonText,
+    findings: &Findings<F>,
+) -> Result<(), AllocError>
     ensures { json.new ≡ json.old }
 {
     json.begin_list("rules")?;
@@ -140,9 +153,9 @@ pub(crate) fn write_rules(json: &mut JsonText, findings: &Findings) -> Result<()
     json.end_list()
 }
 
-fn write_rule(
+fn write_rule<F: Frame>(
     json: &mut JsonText,
-    layout: &Layout,
+    layout: &F,
     rule: Rule,
     faults: &RuleFaults,
 ) -> Result<(), AllocError>
@@ -155,7 +168,10 @@ fn write_rule(
 }
 
 /// Each product that was checked, with its faults by rules VoidCell and Missing.
-pub(crate) fn write_products(json: &mut JsonText, findings: &Findings) -> Result<(), AllocError>
+pub(crate) fn write_products<F: Frame>(
+    json: &mut JsonText,
+    findings: &Findings<F>,
+) -> Result<(), AllocError>
     ensures { json.new ≡ json.old }
 {
     json.begin_list("products")?;
@@ -172,9 +188,9 @@ pub(crate) fn write_products(json: &mut JsonText, findings: &Findings) -> Result
     json.end_list()
 }
 
-fn write_product(
+fn write_product<F: Frame>(
     json: &mut JsonText,
-    layout: &Layout,
+    layout: &F,
     product: SetProduct,
     faults: &ProductFaults,
 ) -> Result<(), AllocError>
@@ -190,16 +206,16 @@ fn write_product(
 }
 
 /// How many cells, and the first, at the end of an object.
-fn end_with_faults(
+fn end_with_faults<F: Frame>(
     json: &mut JsonText,
-    layout: &Layout,
+    layout: &F,
     faults: &RuleFaults,
 ) -> Result<(), AllocError>
     ensures { json.new ≡ json.old }
 {
     json.member("cells", faults.cells)?;
     match faults.first {
-        Some(cell) => json.member("first", CellOf(layout, cell))?,
+        Some(cell) => json.member("first", placed(layout, cell))?,
         None => json.null("first")?,
     }
     json.end_object()
@@ -212,18 +228,32 @@ impl JsonValue for SetProduct {
     }
 }
 
-/// A cell of a mosaic, with its degrees.
+/// A cell, and where it lies.
 #[derive(Clone, Copy)]
-pub(crate) struct CellOf<'a>(pub &'a Layout, pub Cell);
+pub(crate) struct PlacedCell {
+    cell: Cell,
+    east: Coordinate,
+    north: Coordinate,
+    words: Words,
+}
 
-impl<'a> JsonValue for CellOf<'a> {
+/// The cell, with where it lies in this frame.
+pub(crate) fn placed<F: Frame>(layout: &F, cell: Cell) -> PlacedCell {
+    PlacedCell {
+        cell,
+        east: layout.east(cell.col),
+        north: layout.north(cell.row),
+        words: F::words(),
+    }
+}
+
+impl JsonValue for PlacedCell {
     fn append(self, json: &mut JsonText) -> Result<(), AllocError> {
-        let CellOf(layout, cell) = self;
         json.begin_object_item()?;
-        json.member("row", cell.row)?;
-        json.member("col", cell.col)?;
-        json.member("longitude", longitude(layout, cell.col))?;
-        json.member("latitude", latitude(layout, cell.row))?;
+        json.member("row", self.cell.row)?;
+        json.member("col", self.cell.col)?;
+        json.member(self.words.east, self.east)?;
+        json.member(self.words.north, self.north)?;
         json.end_object()
     }
 }

@@ -2,16 +2,21 @@
 
 ghost use Rattle.std.specs.Prelude.{◌≡◌};
 
+use crate::frame::Frame;
 use crate::json_text::{JsonText, JsonValue};
-use crate::rules::CellOf;
+use crate::rules::placed;
 use drain_explain::Findings;
 use drain_grid::Cell;
-use drain_mosaic::Layout;
 use drain_paths::{EndlessPath, LostBy};
 use std::alloc::AllocError;
 
 /// Appends the cell where the path begins, and where it leads.
-pub(crate) fn push_run(text: &mut String, from: Cell, run: &EndlessPath) -> Result<(), AllocError> {
+pub(crate) fn push_run(
+    text: &mut String,
+    from: Cell,
+    run: &EndlessPath,
+    whole: &'static str,
+) -> Result<(), AllocError> {
     write!(
         text,
         "path without an end: from row {}, column {}",
@@ -19,13 +24,14 @@ pub(crate) fn push_run(text: &mut String, from: Cell, run: &EndlessPath) -> Resu
     )?;
     match run {
         EndlessPath::Ring { cells, length } => push_ring(text, cells, *length),
-        EndlessPath::Lost { cell, by } => writeln!(
-            text,
-            "\n  path stops at row {}, column {}: {}",
-            cell.row,
-            cell.col,
-            why_lost(*by)
-        ),
+        EndlessPath::Lost { cell, by } => {
+            let (why, outside) = why_lost(*by, whole);
+            writeln!(
+                text,
+                "\n  path stops at row {}, column {}: {why}{outside}",
+                cell.row, cell.col
+            )
+        }
     }
 }
 
@@ -42,17 +48,20 @@ fn push_ring(text: &mut String, cells: &[Cell], length: usize) -> Result<(), All
     }
 }
 
-/// Why a path stops.
-fn why_lost(by: LostBy) -> &'static str {
+/// Why a path stops, and of what it leads outside.
+fn why_lost(by: LostBy, whole: &'static str) -> (&'static str, &'static str) {
     match by {
-        LostBy::NoCode => "dir is no direction code",
-        LostBy::Outside => "dir points outside the mosaic",
-        LostBy::Void => "dir points to a void",
+        LostBy::NoCode => ("dir is no direction code", ""),
+        LostBy::Outside => ("dir points outside the ", whole),
+        LostBy::Void => ("dir points to a void", ""),
     }
 }
 
 /// Where the path begins, and the ring or the cell to which it leads; null if there is none.
-pub(crate) fn write_run(json: &mut JsonText, findings: &Findings) -> Result<(), AllocError>
+pub(crate) fn write_run<F: Frame>(
+    json: &mut JsonText,
+    findings: &Findings<F>,
+) -> Result<(), AllocError>
     ensures { json.new ≡ json.old }
 {
     let Some((cell, run)) = &findings.endless else {
@@ -60,13 +69,13 @@ pub(crate) fn write_run(json: &mut JsonText, findings: &Findings) -> Result<(), 
     };
     let layout = &findings.layout;
     json.begin_object("run")?;
-    json.member("from", CellOf(layout, *cell))?;
+    json.member("from", placed(layout, *cell))?;
     write_end(json, layout, run)?;
     json.end_object()
 }
 
 /// The ring or the cell to which the path leads; the other is null.
-fn write_end(json: &mut JsonText, layout: &Layout, run: &EndlessPath) -> Result<(), AllocError>
+fn write_end<F: Frame>(json: &mut JsonText, layout: &F, run: &EndlessPath) -> Result<(), AllocError>
     ensures { json.new ≡ json.old }
 {
     match run {
@@ -82,9 +91,9 @@ fn write_end(json: &mut JsonText, layout: &Layout, run: &EndlessPath) -> Result<
 }
 
 /// How many cells a ring has, and its first ones.
-fn write_ring(
+fn write_ring<F: Frame>(
     json: &mut JsonText,
-    layout: &Layout,
+    layout: &F,
     cells: &[Cell],
     length: usize,
 ) -> Result<(), AllocError>
@@ -94,23 +103,23 @@ fn write_ring(
     json.member("length", length as u64)?;
     json.begin_list("cells")?;
     for cell in cells {
-        CellOf(layout, *cell).append(json)?;
+        placed(layout, *cell).append(json)?;
     }
     json.end_list()?;
     json.end_object()
 }
 
 /// The cell where a path stops, and why.
-fn write_lost(
+fn write_lost<F: Frame>(
     json: &mut JsonText,
-    layout: &Layout,
+    layout: &F,
     cell: Cell,
     by: LostBy,
 ) -> Result<(), AllocError>
     ensures { json.new ≡ json.old }
 {
     json.begin_object("lost")?;
-    json.member("cell", CellOf(layout, cell))?;
+    json.member("cell", placed(layout, cell))?;
     json.member(
         "by",
         match by {

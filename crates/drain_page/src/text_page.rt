@@ -4,18 +4,19 @@ ghost use Rattle.std.specs.Prelude.{◌≡◌, ◌++◌, ◌∷◌, ℕ, List, I
 ghost use Rattle.drain_answer.specs.OutcomeLines.{outcome_report_line};
 
 use crate::facts::Facts;
+use crate::frame::Frame;
 use crate::patch_text::push_first;
 use crate::refusal::push_refusal;
 use crate::rules::push_rules;
 use crate::run::push_run;
 use drain_answer::outcome_report;
-use drain_explain::Findings;
+use drain_explain::{ElevationRange, Findings};
 use drain_grid::OutOfMemory;
 use std::alloc::{AllocError, Global};
 
 /// The page: the answer's line, and then its explanation, part after part with an empty line between. Each line ends
 /// with a line feed.
-pub fn page_text(alloc: Global, facts: &Facts) -> Result<Vec<u8>, OutOfMemory>
+pub fn page_text<F: Frame>(alloc: Global, facts: &Facts<F>) -> Result<Vec<u8>, OutOfMemory>
     ensures line_first { IfOk result (λ text. (rest : List ℕ) × (text.items ≡ outcome_report_line facts.now.answer ++ 10 ∷ rest)) }
 {
     let mut text = Vec::new(alloc);
@@ -27,11 +28,11 @@ pub fn page_text(alloc: Global, facts: &Facts) -> Result<Vec<u8>, OutOfMemory>
 }
 
 /// The page below the answer's line.
-fn explanation(alloc: Global, facts: &Facts) -> Result<String, AllocError> {
+fn explanation<F: Frame>(alloc: Global, facts: &Facts<F>) -> Result<String, AllocError> {
     let mut text = String::new(alloc);
     if let Some(detail) = &facts.refusal {
         text.push_str("\n")?;
-        push_refusal(alloc, &mut text, detail)?;
+        push_refusal(alloc, &mut text, detail, F::words().whole)?;
     }
     if let Some(findings) = &facts.findings {
         push_findings(alloc, &mut text, findings)?;
@@ -39,9 +40,17 @@ fn explanation(alloc: Global, facts: &Facts) -> Result<String, AllocError> {
     Ok(text)
 }
 
-/// The rules, the first cell at which one fails, and the first path without an end.
-fn push_findings(alloc: Global, text: &mut String, findings: &Findings) -> Result<(), AllocError> {
+/// The elevations, the rules, the first cell at which one fails, and the first path without an end.
+fn push_findings<F: Frame>(
+    alloc: Global,
+    text: &mut String,
+    findings: &Findings<F>,
+) -> Result<(), AllocError> {
+    let words = F::words();
     text.push_str("\n")?;
+    if words.has_elevations {
+        push_elevations(text, findings.elevations)?;
+    }
     push_rules(text, findings)?;
     if let Some(first) = &findings.first {
         text.push_str("\n")?;
@@ -49,7 +58,18 @@ fn push_findings(alloc: Global, text: &mut String, findings: &Findings) -> Resul
     }
     if let Some((cell, run)) = &findings.endless {
         text.push_str("\n")?;
-        push_run(text, *cell, run)?;
+        push_run(text, *cell, run, words.whole)?;
     }
     Ok(())
+}
+
+/// The least and the greatest elevation; nothing without a data cell.
+fn push_elevations(
+    text: &mut String,
+    elevations: Option<ElevationRange>,
+) -> Result<(), AllocError> {
+    match elevations {
+        Some(range) => writeln!(text, "elevation from {} to {}", range.least, range.greatest),
+        None => Ok(()),
+    }
 }

@@ -1,11 +1,10 @@
 -- Flows taken row by row are those of the grid: for a caller that takes rows, and then finds which runs end.
 use Rattle.std.proofs.Common.{◌≡◌, ◌<◌, ◌+◌, ◌*◌, ℕ, ◌∙◌, inl, inr, ℤ, pos, List, [], ◌++◌, length, get_or, length-append, sym, ap, arith, Option, Some, None, refl, set, get_or-set_other, get_or-set_same}
 use Rattle.std.proofs.lemmas.Bool.{cases_order, cases_eq}
-use Rattle.std.proofs.lemmas.List.{get_or_default, get_or_append_left, get_or-append-add}
+use Rattle.std.proofs.lemmas.List.{get_or_append_left, get_or-append-add}
 use Rattle.drain_grid.specs.declared.cell.Cell.{Cell}
-use Rattle.drain_grid.specs.declared.tile.TheConstants.{VOID}
 use Rattle.drain_grid.specs.Extent.{index_of, Extent, IsCellOf}
-use Rattle.drain_grid.specs.Grid.{Grid, Products, IsInside, height_from, no_sink}
+use Rattle.drain_grid.specs.Grid.{Grid, Products, IsInside, no_sink}
 use Rattle.drain_grid.proofs.Alike.{in_grid, before_row, same_index}
 use Rattle.drain_paths.specs.declared.flow.Flow.{Flow}
 use Rattle.drain_paths.specs.declared.flow.Flow.TheVariants.{Void, Lost, Ends, ToEast, ToSouthEast, ToSouth, ToSouthWest, ToWest, ToNorthWest, ToNorth, ToNorthEast}
@@ -26,7 +25,7 @@ AreFlowsOf-all g ps e flows first = record {
 }
 
 -- one row more
-pub AreFirstFlows-row : (g : Grid) (ps : Products) (e : Extent) (row : ℕ) (flows : List Flow) (zs ns : List ℤ) →
+pub AreFirstFlows-row : (g : Grid) (ps : Products) (e : Extent) (row : ℕ) (flows : List Flow) (zs : List (Option ℤ)) (ns : List ℤ) →
     AreFirstFlows g ps e row flows → AreRowOf g ps row zs ns → AreFirstFlows g ps e (row + 1) (flows ++ flows_of zs ns)
 AreFirstFlows-row g ps e row flows zs ns first are =
     let cols : g.extent.cols ≡ e.cols = ap (λ (x : Extent). x.cols) first.extent in
@@ -56,7 +55,6 @@ AreFirstFlows-row g ps e row flows zs ns first are =
         ap (λ k. get_or (flows ++ flows_of zs ns) k Void) at
         ∙ get_or-append-add flows (flows_of zs ns) c.col Void
         ∙ get_or-flows_of zs ns c.col same within
-        ∙ ap (λ z. cell_flow (height_from z) (get_or ns c.col (pos 0))) (get_or_default zs c.col (pos 0) VOID within)
         ∙ ap (λ z. cell_flow z (get_or ns c.col (pos 0))) (are.elevation c.col inside.col ∙ ap g.elevation is_c)
         ∙ ap (cell_flow (g.elevation c)) (are.code c.col inside.col ∙ ap ps.dir is_c)
 

@@ -1,46 +1,33 @@
 -- The flows of a row, place by place.
-use Rattle.std.proofs.Common.{◌≡◌, ◌≢◌, ◌<◌, ◌+◌, ℕ, zero, suc, ◌∙◌, ℤ, pos, List, [], ◌∷◌, length, get_or, set, get_or-set_other, get_or-set_same, below_more, w64, refl, sym, ap, arith}
-use Rattle.std.specs.List.{All}
-use Rattle.std.proofs.lemmas.Int.{ints, to_z-of_z}
-use Rattle.std.proofs.lemmas.List.{ext_get_or}
-use mir.Val.{to_z, of_z}
-use Rattle.drain_grid.specs.Grid.{IsSample, height_from}
-use Rattle.drain_grid.specs.Values.{IsPixel}
+use Rattle.std.proofs.Common.{◌≡◌, ◌≢◌, ◌<◌, ◌+◌, ℕ, zero, suc, ◌∙◌, ℤ, pos, Option, None, List, [], ◌∷◌, length, get_or, set, get_or-set_other, get_or-set_same, below_more, refl, sym, ap, arith}
+use Rattle.std.proofs.lemmas.List.{ext_get_or, get_or-map}
+use Rattle.drain_pixels.specs.Ground.{elevations, height_with}
 use Rattle.drain_paths.specs.declared.flow.Flow.{Flow}
 use Rattle.drain_paths.specs.declared.flow.Flow.TheVariants.{Void}
 use Rattle.drain_paths.specs.Flows.{cell_flow, flows_of}
 
 -- the flow at a place of a row
-abbrev pub place_flow : List ℤ → List ℤ → ℕ → Flow
-place_flow zs ns k = cell_flow (height_from (get_or zs k (pos 0))) (get_or ns k (pos 0))
+abbrev pub place_flow : List (Option ℤ) → List ℤ → ℕ → Flow
+place_flow zs ns k = cell_flow (get_or zs k None) (get_or ns k (pos 0))
 
-pub length-flows_of : (zs ns : List ℤ) → length zs ≡ length ns → length (flows_of zs ns) ≡ length zs
+pub length-flows_of : (zs : List (Option ℤ)) (ns : List ℤ) → length zs ≡ length ns → length (flows_of zs ns) ≡ length zs
 length-flows_of [] ns same = refl
 length-flows_of (z ∷ zs) [] same = absurd (omega arith)
 length-flows_of (z ∷ zs) (n ∷ ns) same = ap suc (length-flows_of zs ns (omega arith))
 
-pub get_or-flows_of : (zs ns : List ℤ) (k : ℕ) → length zs ≡ length ns → k < length zs →
+pub get_or-flows_of : (zs : List (Option ℤ)) (ns : List ℤ) (k : ℕ) → length zs ≡ length ns → k < length zs →
     get_or (flows_of zs ns) k Void ≡ place_flow zs ns k
 get_or-flows_of [] ns k same less = absurd (omega arith)
 get_or-flows_of (z ∷ zs) [] k same less = absurd (omega arith)
 get_or-flows_of (z ∷ zs) (n ∷ ns) zero same less = refl
 get_or-flows_of (z ∷ zs) (n ∷ ns) (suc k) same less = get_or-flows_of zs ns k (omega arith) (omega arith)
 
--- numbers of these ranges are read as they are
-sample-kept : (z : ℤ) → IsSample z → to_z w64 (of_z w64 z) ≡ z
-sample-kept z h = to_z-of_z w64 z (grind (arith, ints, h.low, h.high))
-
-pixel-kept : (n : ℤ) → IsPixel n → to_z w64 (of_z w64 n) ≡ n
-pixel-kept n h = to_z-of_z w64 n (grind (arith, ints, h.low, h.high))
-
-pub place-kept : (zs ns : List ℤ) (k : ℕ) → length zs ≡ length ns → All IsSample zs → All IsPixel ns → k < length zs →
-    cell_flow (height_from (to_z w64 (of_z w64 (get_or zs k (pos 0))))) (to_z w64 (of_z w64 (get_or ns k (pos 0)))) ≡ place_flow zs ns k
-place-kept zs ns k same samples pixels less =
-    ap (λ z. cell_flow (height_from z) (to_z w64 (of_z w64 (get_or ns k (pos 0))))) (sample-kept (get_or zs k (pos 0)) (samples k (pos 0) less))
-    ∙ ap (cell_flow (height_from (get_or zs k (pos 0)))) (pixel-kept (get_or ns k (pos 0)) (pixels k (pos 0) (omega (arith, same, less))))
+-- an elevation of a row of numbers
+pub height-kept : (void : Option ℤ) (numbers : List ℤ) (k : ℕ) → k < length numbers → height_with void (get_or numbers k (pos 0)) ≡ get_or (elevations void numbers) k None
+height-kept void numbers k less = sym (get_or-map (height_with void) numbers k (pos 0) None less)
 
 -- one place more
-pub flows_more : (zs ns : List ℤ) (out : List Flow) (k : ℕ) (f : Flow) → k < length out → f ≡ place_flow zs ns k →
+pub flows_more : (zs : List (Option ℤ)) (ns : List ℤ) (out : List Flow) (k : ℕ) (f : Flow) → k < length out → f ≡ place_flow zs ns k →
     ((i : ℕ) → i < k → get_or out i Void ≡ place_flow zs ns i) →
     (i : ℕ) → i < k + 1 → get_or (set out k f) i Void ≡ place_flow zs ns i
 flows_more zs ns out k f inside here so_far =
@@ -49,7 +36,7 @@ flows_more zs ns out k f inside here so_far =
     (get_or-set_same out k f Void inside ∙ here)
 
 -- all places
-pub flows_filled : (zs ns : List ℤ) (out : List Flow) → length out ≡ length zs → length zs ≡ length ns →
+pub flows_filled : (zs : List (Option ℤ)) (ns : List ℤ) (out : List Flow) → length out ≡ length zs → length zs ≡ length ns →
     ((i : ℕ) → i < length zs → get_or out i Void ≡ place_flow zs ns i) → out ≡ flows_of zs ns
 flows_filled zs ns out long same each =
     ext_get_or Void out (flows_of zs ns) (long ∙ sym (length-flows_of zs ns same))

@@ -5,10 +5,9 @@ use Rattle.std.specs.Ordering.{int_eq}
 use Rattle.drain_grid.specs.declared.cell.Cell.{Cell}
 use Rattle.drain_grid.specs.declared.direction.Direction.{Direction}
 use Rattle.drain_grid.specs.declared.direction.Direction.TheVariants.{East, SouthEast, South, SouthWest, West, NorthWest, North, NorthEast}
-use Rattle.drain_grid.specs.declared.tile.TheConstants.{VOID}
 use Rattle.drain_grid.specs.Direction.{named_direction}
 use Rattle.drain_grid.specs.Extent.{index_of, Extent}
-use Rattle.drain_grid.specs.Grid.{Grid, Products, IsInside, HasData, height_from}
+use Rattle.drain_grid.specs.Grid.{Grid, Products, IsInside, HasData}
 use Rattle.drain_paths.specs.declared.flow.Flow.{Flow}
 use Rattle.drain_paths.specs.declared.flow.Flow.TheVariants.{Void, Lost, Ends, ToEast, ToSouthEast, ToSouth, ToSouthWest, ToWest, ToNorthWest, ToNorth, ToNorthEast}
 use Rattle.drain_grid.specs.Run.{RunEnds}
@@ -48,11 +47,11 @@ abbrev pub cell_flow : Option ℤ → ℤ → Flow
 cell_flow None number = Void
 cell_flow (Some z) number = code_flow number
 
--- the same for a row of samples and of numbers
-abbrev pub flows_of : List ℤ → List ℤ → List Flow
+-- the same for a row of elevations and of numbers
+abbrev pub flows_of : List (Option ℤ) → List ℤ → List Flow
 flows_of [] numbers = []
 flows_of (z ∷ zs) [] = []
-flows_of (z ∷ zs) (n ∷ ns) = cell_flow (height_from z) n ∷ flows_of zs ns
+flows_of (z ∷ zs) (n ∷ ns) = cell_flow z n ∷ flows_of zs ns
 
 -- the flow of a cell; that of a void past the last
 abbrev pub flow_at : Extent → List Flow → Cell → Flow
@@ -69,12 +68,12 @@ pub record AreFirstFlows (g : Grid) (ps : Products) (e : Extent) (rows : ℕ) (f
   pub counted : length flows ≡ rows * e.cols
   pub each : (c : Cell) → IsInside g c → c.row < rows → flow_at e flows c ≡ cell_flow (g.elevation c) (ps.dir c)
 
--- samples and numbers are those of a row of the grid
-pub record AreRowOf (g : Grid) (ps : Products) (row : ℕ) (samples numbers : List ℤ) : Type 0 where
+-- elevations and numbers are those of a row of the grid
+pub record AreRowOf (g : Grid) (ps : Products) (row : ℕ) (samples : List (Option ℤ)) (numbers : List ℤ) : Type 0 where
   pub samples_are : length samples ≡ g.extent.cols
   pub numbers_are : length numbers ≡ g.extent.cols
   pub elevation : (col : ℕ) → col < g.extent.cols →
-      height_from (slice_index_or samples col VOID) ≡ g.elevation (record { row = row; col = col })
+      slice_index_or samples col None ≡ g.elevation (record { row = row; col = col })
   pub code : (col : ℕ) → col < g.extent.cols → slice_index_or numbers col (pos 0) ≡ ps.dir (record { row = row; col = col })
 
 -- What holds of every grid and products that have these flows.

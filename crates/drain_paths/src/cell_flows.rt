@@ -5,13 +5,14 @@ ghost use Rattle.drain_grid.specs.Extent.{IsCellOf};
 ghost use Rattle.drain_grid.specs.WholeGrid.{elevation_at, number_at};
 ghost use Rattle.drain_paths.specs.Flows.{IsByteTable, AreFlowsOf, cell_flow, flows_of};
 ghost use Rattle.drain_paths.specs.Ways.{ground_of, directions_of};
-ghost use Rattle.drain_grid.specs.Grid.{IsSample};
 ghost use Rattle.drain_grid.specs.Values.{IsPixel};
+ghost use Rattle.drain_pixels.specs.Ground.{elevations};
 
 use crate::flow::{Flow, byte_table, flow_of, flow_of_code};
 use crate::ways::Ways;
 use drain_grid::{Cell, Elevation, OutOfMemory, Raster};
-use drain_pixels::{PixelNumbers, PixelRow, Pixels};
+use drain_pixels::ground_row::height_with;
+use drain_pixels::{GroundRow, PixelNumbers, PixelRow, Pixels};
 use std::alloc::Global;
 use std::marker::Model;
 
@@ -75,25 +76,26 @@ impl CellFlows {
         }
     }
 
-    /// Takes the next row: each cell's sample (-32768 is a void) and direction number. Without memory nothing is
-    /// changed.
-    pub fn push_row(&mut self, samples: &[i64], dir: &PixelRow) -> Result<(), OutOfMemory>
+    /// Takes the next row: each cell's elevation and direction number. Without memory nothing is changed.
+    pub fn push_row(&mut self, samples: &GroundRow, dir: &PixelRow) -> Result<(), OutOfMemory>
         requires cells { length samples.now ≡ length dir.now }
-        requires samples { All IsSample samples.now }
         requires pixels { All IsPixel dir.now }
         ensures ok { OnOk result (self.new ≡ self.old ++ flows_of samples.now dir.now) }
         ensures err { OnErr result (self.new ≡ self.old) }
     {
         let before = self.len();
-        self.flows.resize(before + samples.len(), Flow::Void)?;
+        let Some(end) = before.checked_add(samples.len()) else {
+            return Err(OutOfMemory);
+        };
+        self.flows.resize(end, Flow::Void)?;
         let flows = &mut self.flows[before..];
         match dir.pixels() {
-            Pixels::U8(dir) => fill(flows, samples, &dir),
-            Pixels::I16(dir) => fill(flows, samples, &dir),
-            Pixels::U16(dir) => fill(flows, samples, &dir),
-            Pixels::I32(dir) => fill(flows, samples, &dir),
-            Pixels::U32(dir) => fill(flows, samples, &dir),
-            Pixels::Any(dir) => fill(flows, samples, &dir),
+            Pixels::U8(dir) => fill_by(flows, samples, &dir),
+            Pixels::I16(dir) => fill_by(flows, samples, &dir),
+            Pixels::U16(dir) => fill_by(flows, samples, &dir),
+            Pixels::I32(dir) => fill_by(flows, samples, &dir),
+            Pixels::U32(dir) => fill_by(flows, samples, &dir),
+            Pixels::Any(dir) => fill_by(flows, samples, &dir),
         }
         Ok(())
     }
@@ -139,17 +141,40 @@ impl Ways for CellFlows {
 }
 
 /// The flows of a row, one to each place.
-fn fill<N: PixelNumbers + Copy>(out: &mut [Flow], samples: &[i64], dir: &N)
+fn fill_by<N: PixelNumbers + Copy>(out: &mut [Flow], samples: &GroundRow, dir: &N)
     requires cells { length out.old ≡ length samples.now }
     requires numbers { length samples.now ≡ length (N.numbers dir.now) }
-    requires samples { All IsSample samples.now }
     requires pixels { All IsPixel (N.numbers dir.now) }
     ensures { out.new ≡ flows_of samples.now (N.numbers dir.now) }
 {
+    let (void, z) = samples.parts();
+    match z {
+        Pixels::U8(z) => fill(out, void, &z, dir),
+        Pixels::I16(z) => fill(out, void, &z, dir),
+        Pixels::U16(z) => fill(out, void, &z, dir),
+        Pixels::I32(z) => fill(out, void, &z, dir),
+        Pixels::U32(z) => fill(out, void, &z, dir),
+        Pixels::Any(z) => fill(out, void, &z, dir),
+    }
+}
+
+/// The same, from the numbers of elevations, of which one may mean a void.
+fn fill<Z: PixelNumbers + Copy, N: PixelNumbers + Copy>(
+    out: &mut [Flow],
+    void: Option<i64>,
+    z: &Z,
+    dir: &N,
+)
+    requires cells { length out.old ≡ length (Z.numbers z.now) }
+    requires numbers { length (Z.numbers z.now) ≡ length (N.numbers dir.now) }
+    requires pixels { All IsPixel (N.numbers dir.now) }
+    ensures { out.new ≡ flows_of (elevations void (Z.numbers z.now)) (N.numbers dir.now) }
+{
     let table = byte_table();
-    // A local copy: behind a reference its address would be loaded again at each column.
+    // Local copies: behind references their addresses would be loaded again at each column.
+    let heights = *z;
     let pixels = *dir;
-    for k in 0..samples.len() {
-        out[k] = flow_of(&table, samples[k], pixels.at(k));
+    for k in 0..heights.len() {
+        out[k] = flow_of(&table, height_with(void, heights.at(k)), pixels.at(k));
     }
 }

@@ -1,12 +1,11 @@
 //! Where a cell's direction leads.
 
 ghost use Rattle.std.specs.Prelude.{◌≡◌, ◌<◌, IfOk};
-ghost use Rattle.drain_grid.specs.Grid.{height_from};
 ghost use Rattle.drain_paths.specs.Flows.{IsByteTable, byte_flow, bytes_flows, cell_flow, code_flow, direction_of};
 
 use crate::cell_numbers::room_for;
 use crate::ways::Ways;
-use drain_grid::{Cell, Direction, OutOfMemory, VOID};
+use drain_grid::{Cell, Direction, OutOfMemory};
 use std::alloc::Global;
 use std::mem::size_of;
 use thiserror::Error;
@@ -74,19 +73,18 @@ impl Flow {
 /// One byte: there are up to 829,497,601 of them.
 const _: () = prove!(size_of::<Flow>() == 1);
 
-/// The flow of a cell, from its sample (-32768 is a void) and its direction number, whatever that is. Which way a
-/// cell leads is unpredictable, so the flow is looked up in a table, without a branch.
+/// The flow of a cell, from its elevation, none at a void, and its direction number, whatever that is. Which way a cell
+/// leads is unpredictable, so the flow is looked up in a table, without a branch.
 #[inline(always)]
-pub(crate) fn flow_of(table: &[Flow; 256], sample: i64, number: i64) -> Flow
+pub(crate) fn flow_of(table: &[Flow; 256], z: Option<i64>, number: i64) -> Flow
     requires { IsByteTable table.now }
-    ensures { result ≡ cell_flow (height_from sample) number }
+    ensures { result ≡ cell_flow z number }
 {
     // looked up at a void too, so that the test makes no jump either
     let with_data = flow_of_code(table, number);
-    if sample == i64::from(VOID) {
-        Flow::Void
-    } else {
-        with_data
+    match z {
+        Some(_) => with_data,
+        None => Flow::Void,
     }
 }
 

@@ -1,2 +1,3 @@
 pub mod StoredLemmas
 pub mod PixelBounds
+pub mod GroundLemmas

@@ -1,5 +1,7 @@
 -- Lanes of a row: unsigned numbers of 16 or 32 bits, converted from whole numbers. At a void, where the lane of the elevation is 0, nothing is known of a product.
-use Rattle.std.specs.Prelude.{◌≡◌, ◌≢◌, ℕ, ◌/◌, ◌%◌, ◌<◌, ℤ, pos, negsuc, neg_ℤ, ◌+ℤ◌, Bool, IsTrue, false, ◌&&◌, nat_le, int_le, min, List, slice_index, slice_index_or}
+use Rattle.std.specs.Prelude.{◌≡◌, ◌≢◌, ℕ, ◌/◌, ◌%◌, ◌<◌, ℤ, pos, negsuc, neg_ℤ, ◌+ℤ◌, Bool, IsTrue, true, false, not, ◌&&◌, nat_le, int_le, min, List, Option, Some, None, slice_index, slice_index_or}
+use Rattle.std.specs.Ordering.{int_eq}
+use Rattle.drain_pixels.specs.Ground.{height_with}
 
 -- 32 bits hold the number
 abbrev pub is_lane : ℤ → Bool
@@ -14,6 +16,11 @@ is_short_lane (negsuc n) = false
 -- 16 signed bits hold the number
 abbrev pub is_height : ℤ → Bool
 is_height number = int_le (neg_ℤ (pos 32768)) number && int_le number (pos 32767)
+
+-- a lane of 16 bits holds the elevation: none, or a height of 16 signed bits but the lowest, whose lane would be a void's
+abbrev pub is_elevation : Option ℤ → Bool
+is_elevation None = true
+is_elevation (Some height) = is_height height && not (int_eq height (neg_ℤ (pos 32768)))
 
 -- the first numbers all fit
 abbrev pub AllFit : (ℤ → Bool) → List ℤ → ℕ → Type 0
@@ -56,9 +63,18 @@ AreLanesBy lane z numbers lanes count = (k : ℕ) → k < count → slice_index 
 abbrev pub AreLanes : List ℕ → List ℤ → List ℕ → ℕ → Type 0
 AreLanes z numbers lanes count = AreLanesBy unchanged z numbers lanes count
 
--- the first elevations are these, each with 32768 added
-abbrev pub AreElevationLanes : List ℤ → List ℕ → ℕ → Type 0
-AreElevationLanes numbers lanes count = (k : ℕ) → k < count → pos (slice_index lanes k) ≡ lifted (slice_index_or numbers k (pos 0))
+-- the lane of an elevation: 0 at a void, else the height with 32768 added, which is not 0
+abbrev pub IsElevationLane : Option ℤ → ℕ → Type 0
+IsElevationLane None lane = lane ≡ 0
+IsElevationLane (Some height) lane = (lane ≢ 0) × (pos lane ≡ lifted height)
+
+-- the first lanes are those of these elevations
+abbrev pub AreElevationLanes : List (Option ℤ) → List ℕ → ℕ → Type 0
+AreElevationLanes z lanes count = (k : ℕ) → k < count → IsElevationLane (slice_index_or z k None) (slice_index lanes k)
+
+-- the first lanes are those of the elevations of these numbers, of which one may mean a void
+abbrev pub AreGroundLanes : Option ℤ → List ℤ → List ℕ → ℕ → Type 0
+AreGroundLanes void numbers lanes count = (k : ℕ) → k < count → IsElevationLane (height_with void (slice_index_or numbers k (pos 0))) (slice_index lanes k)
 
 -- the first heights are these, each with 32768 added, except at voids
 abbrev pub AreHeightLanes : List ℕ → List ℤ → List ℕ → ℕ → Type 0

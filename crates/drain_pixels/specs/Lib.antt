@@ -1,2 +1,3 @@
 pub mod Stored
 pub mod Lanes
+pub mod Ground

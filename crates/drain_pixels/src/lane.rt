@@ -1,7 +1,7 @@
 //! Lanes of one number: 16 or 32 bits of the 64.
 
 ghost use Rattle.std.specs.Prelude.{◌≡◌, ◌↔◌, ◌<◌, ◌/◌, ◌%◌, ◌^◌, ◌+ℤ◌, IsTrue, min, pos};
-ghost use Rattle.drain_pixels.specs.Lanes.{is_height, is_lane, is_short_lane, lifted, unchanged};
+ghost use Rattle.drain_pixels.specs.Lanes.{IsElevationLane, is_elevation, is_height, is_lane, is_short_lane, lifted, unchanged};
 
 /// The lower 32 of these bits.
 #[inline(always)]
@@ -90,6 +90,28 @@ pub fn is_height(number: i64) -> bool
     ensures { result ≡ is_height number }
 {
     is_quarter(raised(number))
+}
+
+/// Whether a lane of 16 bits holds the elevation: none, or a height of 16 bits that isn't the lowest.
+#[inline(always)]
+pub fn is_elevation(z: Option<i64>) -> bool
+    ensures { result ≡ is_elevation z }
+{
+    match z {
+        Some(height) => is_height(height) & (height != -32768),
+        None => true,
+    }
+}
+
+/// 0 at a void, else 32768 more than the height, if a lane holds it.
+#[inline(always)]
+pub fn elevation_lane(z: Option<i64>) -> u16
+    ensures { IsTrue (is_elevation z) → IsElevationLane z result }
+{
+    match z {
+        Some(height) => height_lane(height),
+        None => 0,
+    }
 }
 
 /// The number, or 65535 if it is more.

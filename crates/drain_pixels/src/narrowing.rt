@@ -2,9 +2,12 @@
 //! product's number need not fit.
 
 ghost use Rattle.std.specs.Prelude.{◌≡◌, IsTrue, length};
-ghost use Rattle.drain_pixels.specs.Lanes.{AllFit, AllFitAt, AreCapped, AreLower, AreUpper, HoldFitting, is_lane, unchanged};
+ghost use Rattle.drain_pixels.specs.Lanes.{AllFit, AllFitAt, AreCapped, AreGroundLanes, AreLower, AreUpper, HoldFitting, is_lane, unchanged};
 
-use crate::lane::{Fits, Narrow, capped, is_lane, lane, lower_half, upper_half};
+use crate::ground_row::height_with;
+use crate::lane::{
+    Fits, Narrow, capped, elevation_lane, is_elevation, is_lane, lane, lower_half, upper_half,
+};
 use crate::stored::PixelNumbers;
 
 /// Puts the numbers into lanes of 32 bits, and returns whether all fit, at voids too.
@@ -41,6 +44,25 @@ pub fn put_narrow<W: Narrow, N: PixelNumbers + Copy>(numbers: &N, out: &mut [u16
         let number = pixels.at(k);
         all &= W::fits(number);
         out[k] = W::lane(number);
+    }
+    all
+}
+
+/// Puts the elevations of numbers, of which this one, if any, means a void, into lanes of 16 bits, and returns whether
+/// all fit.
+#[inline(never)]
+pub fn put_ground<N: PixelNumbers + Copy>(void: Option<i64>, numbers: &N, out: &mut [u16]) -> bool
+    requires { length out.old ≡ length (N.numbers numbers.now) }
+    ensures len { length out.new ≡ length out.old }
+    ensures lanes { IsTrue result → AreGroundLanes void (N.numbers numbers.now) out.new (length (N.numbers numbers.now)) }
+{
+    // A local copy: behind a reference its address would be loaded again at each column.
+    let pixels = *numbers;
+    let mut all = true;
+    for k in 0..pixels.len() {
+        let z = height_with(void, pixels.at(k));
+        all &= is_elevation(z);
+        out[k] = elevation_lane(z);
     }
     all
 }

@@ -108,7 +108,7 @@ impl PixelRow {
         }
     }
 
-    /// The number at a column, found soonest if the row has this kind, and it is one that `make` writes.
+    /// The number at a column, found soonest if the row has this kind, and it is `Any` or one that `make` writes.
     #[inline(always)]
     pub fn number_soonest(&self, kind: PixelKind, k: usize) -> i64
         requires { k < length self.now }
@@ -118,6 +118,7 @@ impl PixelRow {
             (PixelKind::U8, Pixels::U8(pixels)) => pixels.at(k),
             (PixelKind::I16, Pixels::I16(pixels)) => pixels.at(k),
             (PixelKind::U32, Pixels::U32(pixels)) => pixels.at(k),
+            (PixelKind::Any, Pixels::Any(pixels)) => pixels.at(k),
             _ => self.number(k),
         }
     }
@@ -130,12 +131,17 @@ impl PixelRow {
         self.numbers.clear();
     }
 
+    /// Where its memory is from.
+    pub(crate) fn alloc(&self) -> Global {
+        *self.bytes.allocator()
+    }
+
     /// The memory for bytes, to be filled and put back. Until then there are no numbers.
     pub fn take_bytes(&mut self) -> Vec<u8>
         ensures { self.new ≡ [] }
     {
         self.clear();
-        let alloc = *self.bytes.allocator();
+        let alloc = self.alloc();
         replace(&mut self.bytes, Vec::new(alloc))
     }
 
@@ -155,7 +161,7 @@ impl PixelRow {
         ensures { self.new ≡ [] }
     {
         self.clear();
-        let alloc = *self.numbers.allocator();
+        let alloc = self.alloc();
         replace(&mut self.numbers, Vec::new(alloc))
     }
 

@@ -1,24 +1,34 @@
 //! Vectors of lanes, filled with the numbers of a row.
 
 ghost use Rattle.std.specs.Prelude.{◌≡◌, IsTrue, length, vec_len};
-ghost use Rattle.drain_pixels.specs.Lanes.{AreCapped, AreElevationLanes, AreHeightLanes, AreLanes, AreLanesBy, AreLower, AreUpper};
+ghost use Rattle.drain_pixels.specs.Lanes.{AreCapped, AreElevationLanes, AreGroundLanes, AreHeightLanes, AreLanes, AreLanesBy, AreLower, AreUpper};
 
+use crate::ground_row::GroundRow;
 use crate::lane::{Height, Narrow, Short, Wide};
-use crate::narrowing::{all_fit, put_capped, put_halves, put_narrow, put_wide};
+use crate::narrowing::{all_fit, put_capped, put_ground, put_halves, put_narrow, put_wide};
 use crate::pixel_row::PixelRow;
 use crate::stored::{
     AnyPixels, I16Pixels, I32Pixels, PixelNumbers, Pixels, U8Pixels, U16Pixels, U32Pixels,
 };
 
-/// Replaces the lanes by the elevations of a row, and returns whether all fit and memory sufficed.
-pub fn take_elevations(numbers: &[i64], out: &mut Vec<u16>) -> bool
+/// Replaces the lanes by the elevations of a row, and returns whether all fit and memory sufficed. A height fits if it
+/// has 16 bits and isn't -32768, whose lane would be that of a void.
+pub fn take_elevations(numbers: &GroundRow, out: &mut Vec<u16>) -> bool
     ensures len { IsTrue result → vec_len out.new ≡ length numbers.now }
     ensures lanes { IsTrue result → AreElevationLanes numbers.now out.new.items (length numbers.now) }
 {
     if out.resize(numbers.len(), 0).is_err() {
         return false;
     }
-    put_narrow::<Height, AnyPixels<'_>>(&AnyPixels { numbers }, out)
+    let (void, pixels) = numbers.parts();
+    match pixels {
+        Pixels::U8(pixels) => hold_ground(void, &pixels, out),
+        Pixels::I16(pixels) => hold_ground(void, &pixels, out),
+        Pixels::U16(pixels) => hold_ground(void, &pixels, out),
+        Pixels::I32(pixels) => hold_ground(void, &pixels, out),
+        Pixels::U32(pixels) => hold_ground(void, &pixels, out),
+        Pixels::Any(pixels) => hold_ground(void, &pixels, out),
+    }
 }
 
 /// Replaces the lanes by a product's heights, which need not fit at voids, and returns whether the others fit and
@@ -100,6 +110,19 @@ fn take_narrow<W: Narrow>(z: &[u16], numbers: &PixelRow, out: &mut Vec<u16>) -> 
         Pixels::I32(pixels) => hold_narrow::<W, I32Pixels<'_>>(z, &pixels, out),
         Pixels::U32(pixels) => hold_narrow::<W, U32Pixels<'_>>(z, &pixels, out),
         Pixels::Any(pixels) => hold_narrow::<W, AnyPixels<'_>>(z, &pixels, out),
+    }
+}
+
+/// Puts the elevations of numbers, of which this one, if any, means a void, into lanes, and returns whether all fit.
+fn hold_ground<N: PixelNumbers + Copy>(void: Option<i64>, numbers: &N, out: &mut [u16]) -> bool
+    requires room { length out.old ≡ length (N.numbers numbers.now) }
+    ensures len { length out.new ≡ length out.old }
+    ensures lanes { IsTrue result → AreGroundLanes void (N.numbers numbers.now) out.new (length (N.numbers numbers.now)) }
+{
+    // The lane of -32768 is 0, as that of a void: where it means one, as in a tile, no number is compared with it.
+    match void {
+        Some(-32768) => put_narrow::<Height, N>(numbers, out),
+        _ => put_ground(void, numbers, out),
     }
 }
 

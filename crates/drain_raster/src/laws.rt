@@ -2,6 +2,7 @@
 //!
 //! A law is a function with an empty body: its contract is the law, and code that calls it can use the law.
 
+ghost use Rattle.drain_raster.specs.Elevations.{ElevationRowsArePixels};
 ghost use Rattle.drain_raster.specs.Laws.{BytesReadBack, NumbersArePixels, RasterRowsArePixels, RasterRowsEnd, RasterRowsTakeWhatIsNeeded, RasterRowsTellLengths};
 
 /// If a raster's pixels can encode each number, its bytes are long enough and read back to the same numbers.
@@ -34,3 +35,11 @@ pub fn raster_rows_take_what_is_needed()
 pub fn raster_rows_end()
     ensures { RasterRowsEnd }
 {}
+
+/// The elevations of the rows of a raster that isn't short are those that its bytes mean.
+pub fn elevation_rows_are_pixels()
+    ensures { ElevationRowsArePixels }
+{
+    raster_rows_are_pixels();
+    raster_rows_end();
+}

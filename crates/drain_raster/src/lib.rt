@@ -9,6 +9,7 @@ pub mod laws;
 mod number_rows;
 mod pixel;
 mod pixel_rows;
+mod placing;
 mod range;
 mod raster_rows;
 mod read;
@@ -16,6 +17,7 @@ mod row_memory;
 mod write;
 
 pub use fault::{RasterFault, WriteFault};
+pub use placing::{has_pixel_size, lies_on};
 pub use raster_rows::RasterRows;
-pub use read::{needed_len, nodata, read_raster};
+pub use read::{needed_len, nodata, read_raster, shape};
 pub use write::write_raster;

@@ -41,8 +41,8 @@ pub fn nodata(header: &Header, product: Product) -> i64
     }
 }
 
-/// The rows and columns of the raster.
-fn shape(header: &Header) -> Shape
+/// The rows and columns of a raster with this header.
+pub fn shape(header: &Header) -> Shape
     ensures { result ≡ header_extent header.now }
 {
     Shape::new(header.rows, header.cols).unwrap()

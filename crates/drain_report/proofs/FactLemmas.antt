@@ -5,21 +5,19 @@ use mir.Val.{bool_byte}
 use Rattle.drain_grid.specs.declared.cell.Cell.{Cell}
 use Rattle.drain_grid.specs.declared.rule.Rule.{Rule}
 use Rattle.drain_grid.specs.Extent.{Extent}
-use Rattle.drain_grid.specs.Values.{Values, NoDataNumbers, IsNoData, IsPixel}
+use Rattle.drain_grid.specs.Values.{Values, AreInRange, NoDataNumbers, IsNoData, IsPixel}
 use Rattle.drain_grid.specs.declared.verdict.Counts.{Counts}
 use Rattle.drain_grid.specs.declared.verdict.Verdict.{Verdict}
 use Rattle.drain_grid.specs.declared.verdict.Verdict.TheVariants.{Accepted, Rejected}
 use Rattle.drain_union.specs.declared.place.InnerSides.{InnerSides}
 use Rattle.drain_union.specs.declared.place.Place.{Place}
 use Rattle.drain_report.specs.Lines.{line, IsLong, AreLong}
-use Rattle.drain_report.specs.Facts.{IsNarrow, flag_number, CountsFit, VerdictFits, verdict_line, sink_numbers, IsOutlet, outlet_numbers, IsHeight, IsShown, height_number, shown_numbers, IsPlace, place_numbers, IsAuditNoData, nodata_numbers, count_numbers, fault_numbers}
-use Rattle.std.proofs.Math.Facts.{sfits_widen}
+use Rattle.drain_report.specs.Facts.{IsNarrow, flag_number, CountsFit, VerdictFits, verdict_line, cell_numbers, IsOutlet, outlet_numbers, other_numbers, IsPlace, place_numbers, IsAuditNoData, nodata_numbers, count_numbers, fault_numbers}
 use Rattle.std.specs.Int.{w64}
 use Rattle.std.proofs.lemmas.Int.{fits_signed_from_abs, ints}
 use Rattle.drain_grid.specs.Rule.{rule_number}
 use Rattle.drain_grid.proofs.AllRules.{numbered}
 use Rattle.drain_union.specs.declared.report.Outlet.{Outlet}
-use Rattle.drain_union.specs.declared.report.Shown.{Shown}
 
 -- Facts with the same numbers are the same; a verdict is of one kind.
 
@@ -39,9 +37,12 @@ pub flag_is : (b : Bool) → pos (bool_byte b) ≡ flag_number b
 flag_is true = refl
 flag_is false = refl
 
-pub ten_same : {a b c d e f g h i j k l m n o p q r s t : ℤ} → a ≡ k → b ≡ l → c ≡ m → d ≡ n → e ≡ o → f ≡ p → g ≡ q → h ≡ r → i ≡ s → j ≡ t
-    → a ∷ b ∷ c ∷ d ∷ e ∷ f ∷ g ∷ h ∷ i ∷ j ∷ [] ≡ k ∷ l ∷ m ∷ n ∷ o ∷ p ∷ q ∷ r ∷ s ∷ t ∷ []
-ten_same aa bb cc' dd ee ff gg hh ii jj = rw (aa, bb, cc', dd, ee, ff, gg, hh, ii, jj) refl
+pub two_same : {a b c d : ℤ} → a ≡ c → b ≡ d → a ∷ b ∷ [] ≡ c ∷ d ∷ []
+two_same aa bb = rw (aa, bb) refl
+
+pub seven_same : {a b c d e f g h i j k l m n : ℤ} → a ≡ h → b ≡ i → c ≡ j → d ≡ k → e ≡ l → f ≡ m → g ≡ n
+    → a ∷ b ∷ c ∷ d ∷ e ∷ f ∷ g ∷ [] ≡ h ∷ i ∷ j ∷ k ∷ l ∷ m ∷ n ∷ []
+seven_same aa bb cc' dd ee ff gg = rw (aa, bb, cc', dd, ee, ff, gg) refl
 
 -- a line is of one kind
 pub not_both_kinds : (text x y : List ℕ) (ns ms : List ℤ) → text ≡ line (codes "accepted") ns ++ x → text ≡ line (codes "rejected") ms ++ y → ⊥
@@ -68,10 +69,6 @@ narrow_long n small = fits_signed_from_abs w64 (pos n) (omega arith)
 pub outlet_long : (o : Outlet) → IsOutlet o → AreLong (outlet_numbers o)
 outlet_long o fit = (fit.label, (narrow_long o.cell.row fit.cell.row, (narrow_long o.cell.col fit.cell.col, tt)))
 
-pub height_long : (z : Option ℤ) → IsHeight z → IsLong (height_number z)
-height_long None h = fits_signed_from_abs w64 (height_number None) (omega arith)
-height_long (Some z) h = sfits_widen tt h
-
 pub flag_long : (b : Bool) → IsLong (flag_number b)
 flag_long true = narrow_long 1 (omega arith)
 flag_long false = narrow_long 0 (omega arith)
@@ -79,35 +76,23 @@ flag_long false = narrow_long 0 (omega arith)
 pub pixel_long : (n : ℤ) → IsPixel n → IsLong n
 pixel_long n is = let low = is.low in let high = is.high in fits_signed_from_abs w64 n (omega (arith, ints, low, high))
 
-pub shown_long : (s : Shown) → IsShown s → AreLong (shown_numbers s)
-shown_long s fit =
-    let v = fit.values in (
-      narrow_long s.cell.row fit.cell.row,
-      (
-        narrow_long s.cell.col fit.cell.col,
-        (
-          height_long s.values.z fit.height,
-          (
-            flag_long s.values.sink,
-            (
-              pixel_long s.values.con v.con_ok,
-              (
-                pixel_long s.values.dir v.dir_ok,
-                (
-                  pixel_long s.values.acc v.acc_ok,
-                  (
-                    pixel_long s.values.bas v.bas_ok,
-                    (pixel_long s.values.spl v.spl_ok, (pixel_long s.values.rnk v.rnk_ok, tt)),
-                  ),
-                ),
-              ),
-            ),
-          ),
-        ),
-      ),
-    )
+pub height_long : (z : Option ℤ) → IfSome z IsPixel → IfSome z IsLong
+height_long None ok = tt
+height_long (Some z) ok = pixel_long z ok
 
-pub narrow_cell_long : (c : Cell) → IsNarrow c → AreLong (sink_numbers c)
+pub others_long : (v : Values) → AreInRange v → AreLong (other_numbers v)
+others_long v fit = (
+  flag_long v.sink,
+  (
+    pixel_long v.con fit.con_ok,
+    (
+      pixel_long v.dir fit.dir_ok,
+      (pixel_long v.acc fit.acc_ok, (pixel_long v.bas fit.bas_ok, (pixel_long v.spl fit.spl_ok, (pixel_long v.rnk fit.rnk_ok, tt)))),
+    ),
+  ),
+)
+
+pub narrow_cell_long : (c : Cell) → IsNarrow c → AreLong (cell_numbers c)
 narrow_cell_long c fit = (narrow_long c.row fit.row, (narrow_long c.col fit.col, tt))
 
 -- the first cell of a window, and its size

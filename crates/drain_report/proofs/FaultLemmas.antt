@@ -1,6 +1,6 @@
 -- Line feeds of a text, and where a fault is: each line has one line feed, its last byte.
-use Rattle.std.proofs.Common.{◌≡◌, ℕ, zero, suc, ◌+◌, ◌-◌, ◌^◌, ◌<◌, ◌≤◌, min, inl, inr, Bool, true, false, List, [], ◌∷◌, ◌++◌, ℤ, length, arith, refl, ap, ◌∙◌}
-use Rattle.std.specs.Prelude.{codes}
+use Rattle.std.proofs.Common.{◌≡◌, ℕ, zero, suc, ◌+◌, ◌<◌, ◌≤◌, inl, inr, Bool, true, false, List, [], ◌∷◌, ◌++◌, ℤ, length, arith, refl, ap, ◌∙◌}
+use Rattle.std.specs.Prelude.{Option, IfSome, codes}
 use Rattle.std.proofs.lemmas.Bool.{cases_Bool}
 use Rattle.std.proofs.lemmas.Bool.Decides.{nat_tests}
 use Rattle.memchr.specs.Find.{Passes, Nowhere, is_byte}
@@ -10,13 +10,13 @@ use Rattle.std.specs.Fmt.{signed_decimal}
 use Rattle.drain_report.specs.declared.fault.ReportFault.{ReportFault}
 use Rattle.drain_report.specs.declared.fault.ReportFault.TheVariants.{MissingLine, BadLine, OutOfRange}
 use Rattle.drain_report.specs.declared.head.Head.{Head}
-use Rattle.drain_report.specs.Lines.{AreLong, IsInk, line, spaced}
-use Rattle.drain_report.specs.Facts.{tile_line}
+use Rattle.drain_report.specs.Lines.{AreLong, IsInk, IsLong, line, spaced}
+use Rattle.drain_report.specs.Facts.{height_word, seam_text, tile_line}
 use Rattle.drain_report.specs.Faults.{line_feeds, IsAt, IsPast, IsLineFault, IsListFault, IsEndFault, HasVersion, FaultFits}
 use Rattle.drain_report.specs.Contents.{head_text, version_line, Contents, end_line, report_text}
-use Rattle.drain_report.proofs.NumberLemmas.{signed_ink}
+use Rattle.drain_report.proofs.NumberLemmas.{height_ink, signed_ink}
 use Rattle.drain_report.proofs.TextLemmas.{version_first}
-use Rattle.drain_report.proofs.ListLemmas.{tile_split}
+use Rattle.drain_report.proofs.ListLemmas.{seam_split, tile_split}
 
 pub feeds-append : (xs ys : List ℕ) → line_feeds (xs ++ ys) ≡ line_feeds xs + line_feeds ys
 feeds-append [] ys = omega arith
@@ -61,9 +61,17 @@ tile_feed c rest =
     let first : line_feeds (codes "tile ") ≡ 0 = refl in
     ap line_feeds (tile_split c rest) ∙ omega (arith, none, name, word, last, first)
 
--- the line after one that was read
-pub line_past : (text rest : List ℕ) (feeds n m : ℕ) → line_feeds text ≡ line_feeds rest + 1 → IsAt feeds n text → feeds < 2 ^ 63 → m ≡ min (n + 1) (2 ^ 64 - 1) → IsPast feeds n m rest
-line_past text rest feeds n m one at few is = (omega (arith, one, at, few, is), omega (arith, one, at, few, is))
+-- a seam's line has one
+pub seam_feed : (cell : List ℤ) (z : Option ℤ) (others : List ℤ) (rest : List ℕ) → AreLong cell → IfSome z IsLong → AreLong others → line_feeds (seam_text cell z others ++ rest) ≡ line_feeds rest + 1
+seam_feed cell z others rest cell_long long others_long =
+    let of_cell = feeds-append (spaced cell) (32 ∷ (height_word z ++ (spaced others ++ 10 ∷ rest))) in
+    let of_height = feeds-append (height_word z) (spaced others ++ 10 ∷ rest) in
+    let of_others = feeds-append (spaced others) (10 ∷ rest) in
+    let none = spaced_feeds cell cell_long in
+    let ink = ink_feeds (height_word z) (height_ink z long) in
+    let few = spaced_feeds others others_long in
+    let last : line_feeds (10 ∷ rest) ≡ 1 + line_feeds rest = refl in
+    ap line_feeds (seam_split cell z others rest) ∙ omega (arith, of_cell, of_height, of_others, none, ink, few, last)
 
 -- a text without a line feed, and one with one
 pub no_feed : (text : List ℕ) → Nowhere (Passes (is_byte 10) text) 0 (length text) → line_feeds text ≡ 0

@@ -1,17 +1,17 @@
 -- Facts that are read one after another, a line each, and facts that are appended.
 use Rattle.std.proofs.Common.{◌≡◌, ◌∷◌, ◌++◌, ℕ, Bool, true, false, List, [], length, take, drop, refl, ap, subst, ◌∙◌, append_assoc, ◌<◌, ◌+◌, zero, suc, ℤ, pos, get_or, arith, sym, to_z, of_z, length-append, append-nil}
-use Rattle.std.specs.Prelude.{Result, Ok, Err, codes}
+use Rattle.std.specs.Prelude.{Option, Result, Ok, Err, codes}
 use Rattle.drain_hgt.specs.declared.name.NameFault.{NameFault}
 use Rattle.drain_hgt.specs.Corner.{Corner, IsOnMap}
 use Rattle.drain_hgt.specs.Laws.{NameReadsBack, OneName}
 use Rattle.drain_hgt.specs.Name.{MeansName, name_of, spelled}
-use Rattle.drain_report.specs.Facts.{tile_line, count_line}
+use Rattle.drain_report.specs.Facts.{tile_line, count_line, height_word, seam_text}
 use Rattle.drain_report.proofs.NumberLemmas.{front}
-use Rattle.std.proofs.lemmas.List.{drop_more, drop_all, get_or-drop, take_more}
+use Rattle.std.proofs.lemmas.List.{drop_more, drop_all, take_more}
 use Rattle.drain_report.proofs.ReadLemmas.{long_at}
 use Rattle.std.specs.Int.{w64}
 use Rattle.std.proofs.lemmas.Int.{to_z-of_z}
-use Rattle.drain_report.specs.Lines.{IsLong, AreLong}
+use Rattle.drain_report.specs.Lines.{IsLong, AreLong, spaced}
 use Rattle.drain_report.specs.Contents.{all_text, list_text, AllAre}
 
 -- A tile's name at the front of a text.
@@ -42,6 +42,15 @@ no_fault found c fault p q = cc
 pub one_tile : (found : Result Corner NameFault) (a b : Corner) → found ≡ Ok a → found ≡ Ok b → a ≡ b
 one_tile found a b p q = cc
 
+-- The parts of a seam's line.
+
+pub seam_split : (cell : List ℤ) (z : Option ℤ) (others : List ℤ) (rest : List ℕ) → seam_text cell z others ++ rest ≡ codes "seam" ++ (spaced cell ++ 32 ∷ (height_word z ++ (spaced others ++ 10 ∷ rest)))
+seam_split cell z others rest =
+    append_assoc (codes "seam") (spaced cell ++ 32 ∷ (height_word z ++ (spaced others ++ 10 ∷ []))) rest
+    ∙ ap (λ t. codes "seam" ++ t) (append_assoc (spaced cell) (32 ∷ (height_word z ++ (spaced others ++ 10 ∷ []))) rest
+    ∙ ap (λ t. spaced cell ++ 32 ∷ t) (append_assoc (height_word z) (spaced others ++ 10 ∷ []) rest
+    ∙ ap (λ t. height_word z ++ t) (append_assoc (spaced others) (10 ∷ []) rest)))
+
 -- The numbers of a line, one by one.
 
 -- the numbers from a place on, one by one
@@ -53,19 +62,15 @@ pub exact_from : (i n : ℕ) (ns : List ℤ) → i + n ≡ length ns → drop i 
 exact_from i zero ns e = drop_all i ns (omega arith)
 exact_from i (suc n) ns e = drop_more ns i (pos 0) (omega arith) ∙ ap (λ t. get_or ns i (pos 0) ∷ t) (exact_from (i + 1) n ns (omega arith))
 
-pub eight : (ns : List ℤ) (p q r s t u v w : ℤ) → length ns ≡ 10 → get_or ns 2 (pos 0) ≡ p → get_or ns 3 (pos 0) ≡ q → get_or ns 4 (pos 0) ≡ r → get_or ns 5 (pos 0) ≡ s
-    → get_or ns 6 (pos 0) ≡ t → get_or ns 7 (pos 0) ≡ u → get_or ns 8 (pos 0) ≡ v → get_or ns 9 (pos 0) ≡ w → drop 2 ns ≡ p ∷ q ∷ r ∷ s ∷ t ∷ u ∷ v ∷ w ∷ []
-eight ns p q r s t u v w long a b c d e f g h =
-    let all : drop 2 ns ≡ get_or ns 2 (pos 0) ∷ get_or ns 3 (pos 0) ∷ get_or ns 4 (pos 0) ∷ get_or ns 5 (pos 0) ∷ get_or ns 6 (pos 0) ∷ get_or ns 7 (pos 0) ∷ get_or ns 8 (pos 0) ∷ get_or ns 9 (pos 0) ∷ [] = exact_from 2 8 ns (omega arith) in
-    all ∙ rw (a, b, c, d, e, f, g, h) refl
+pub seven : (ns : List ℤ) (p q r s t u v : ℤ) → length ns ≡ 7 → get_or ns 0 (pos 0) ≡ p → get_or ns 1 (pos 0) ≡ q → get_or ns 2 (pos 0) ≡ r → get_or ns 3 (pos 0) ≡ s
+    → get_or ns 4 (pos 0) ≡ t → get_or ns 5 (pos 0) ≡ u → get_or ns 6 (pos 0) ≡ v → ns ≡ p ∷ q ∷ r ∷ s ∷ t ∷ u ∷ v ∷ []
+seven ns p q r s t u v long a b c d e f g =
+    let all : ns ≡ get_or ns 0 (pos 0) ∷ get_or ns 1 (pos 0) ∷ get_or ns 2 (pos 0) ∷ get_or ns 3 (pos 0) ∷ get_or ns 4 (pos 0) ∷ get_or ns 5 (pos 0) ∷ get_or ns 6 (pos 0) ∷ [] = exact_from 0 7 ns (omega arith) in
+    all ∙ rw (a, b, c, d, e, f, g) refl
 
 -- a number that was read from the slice
 pub held : (ns : List ℤ) (k : ℕ) (r : ℤ) → AreLong ns → k < length ns → r ≡ get_or ns k (pos 0) → get_or ns k (pos 0) ≡ to_z w64 (of_z w64 r)
 held ns k r long less is = sym (rw is (to_z-of_z w64 (get_or ns k (pos 0)) (long_at ns k (pos 0) long less)))
-
--- the numbers after the first ones
-pub after : (ns : List ℤ) (first k : ℕ) (rest : List ℤ) → drop first ns ≡ rest → get_or ns (first + k) (pos 0) ≡ get_or rest k (pos 0)
-after ns first k rest is = sym (get_or-drop first ns k (pos 0)) ∙ ap (λ l. get_or l k (pos 0)) is
 
 -- a number that is kept in 64 bits
 pub kept : (a b : ℤ) → IsLong b → a ≡ b → to_z w64 (of_z w64 a) ≡ b

@@ -1,15 +1,17 @@
 -- A number after a space: where its word ends, and that no other number is written so.
-use Rattle.std.proofs.Common.{◌≡◌, ℕ, zero, suc, ◌<◌, ◌⊎◌, true, false, List, [], ◌∷◌, ◌++◌, ℤ, pos, negsuc, length, take, drop, arith, refl, ap, ◌∙◌, length-append}
-use Rattle.std.specs.Prelude.{slice_index, decimal, not, Result, Ok, Err}
+use Rattle.std.proofs.Common.{◌≡◌, ℕ, zero, suc, ◌<◌, ◌⊎◌, true, false, List, [], ◌∷◌, ◌++◌, ℤ, pos, negsuc, length, take, drop, arith, refl, sym, subst, ap, ◌∙◌, length-append}
+use Rattle.std.specs.Prelude.{slice_index, decimal, not, Option, None, Some, IfSome, Result, Ok, Err, codes}
 use Rattle.std.specs.Str.{bytes_eq}
 use Rattle.std.proofs.lemmas.Slice.Eq.{bytes_eq-Decides}
 use Rattle.std.specs.Fmt.{signed_decimal}
 use Rattle.std.specs.Str.Parse.{AllDigits}
+use Rattle.std.proofs.lemmas.Bool.{false≢true}
 use Rattle.std.proofs.lemmas.Bool.Decides.{nat_tests}
-use Rattle.std.proofs.lemmas.Fmt.{decimal_is_IsNumeral}
+use Rattle.std.proofs.lemmas.Fmt.{decimal_is_IsNumeral, decimal_nonempty}
 use Rattle.std.proofs.lemmas.Str.Parse.{digit_from_value}
 use Rattle.memchr.specs.Find.{Passes, Nowhere, is_byte2}
 use Rattle.drain_report.specs.Lines.{IsLong, IsInk, IsWordThen}
+use Rattle.drain_report.specs.Facts.{height_word}
 
 ink_of_digits : (ds : List ℕ) → AllDigits 10 ds → IsInk ds
 ink_of_digits [] h = tt
@@ -19,6 +21,33 @@ ink_of_digits (c ∷ cs) h = let r = digit_from_value c h.0 in (omega (arith, r)
 pub signed_ink : (n : ℤ) → IsLong n → IsInk (signed_decimal n)
 signed_ink (pos n) fits = ink_of_digits (decimal n) (decimal_is_IsNumeral n (omega (arith, fits.sfits))).0.1
 signed_ink (negsuc n) fits = (omega arith, ink_of_digits (decimal (suc n)) (decimal_is_IsNumeral (suc n) (omega (arith, fits.sfits))).0.1)
+
+-- a minus sign alone is no number
+not_minus : (n : ℤ) → IsLong n → codes "-" ≡ signed_decimal n → ⊥
+not_minus (pos n) long is =
+    let digits = (decimal_is_IsNumeral n (omega (arith, long.sfits))).0.1 in
+    let first = digit_from_value 45 (subst (λ ds. AllDigits 10 ds) (sym is) digits).0 in
+    absurd (omega (arith, first))
+not_minus (negsuc n) long is =
+    let some = decimal_nonempty (suc n) (omega (arith, long.sfits)) in
+    let one : 1 ≡ suc (length (decimal (suc n))) = ap length is in
+    absurd (omega (arith, some, one))
+
+-- An elevation's word: a number, or a minus sign alone.
+
+pub height_ink : (z : Option ℤ) → IfSome z IsLong → IsInk (height_word z)
+height_ink None long = (omega arith, tt)
+height_ink (Some n) long = signed_ink n long
+
+-- a minus sign alone is a void's
+pub is_void : (z : Option ℤ) → IfSome z IsLong → codes "-" ≡ height_word z → None ≡ z
+is_void None long is = refl
+is_void (Some n) long is = absurd (not_minus n long is)
+
+-- another word is a number
+pub by_number : (P : Option ℤ → Type 0) (z : Option ℤ) (word : List ℕ) → IfSome z IsLong → word ≡ height_word z → (word ≡ codes "-" → ⊥) → ((n : ℤ) → IsLong n → word ≡ signed_decimal n → P (Some n)) → P z
+by_number P None word long is other read = absurd (other is)
+by_number P (Some n) word long is other read = read n long is
 
 -- the bytes that end a word
 pub ends_pass : (c : ℕ) → (c ≡ 32) ⊎ (c ≡ 10) → is_byte2 32 10 c ≡ true
@@ -77,3 +106,10 @@ differ xs ys is same =
 
 pub no_difference : (xs ys : List ℕ) → not (bytes_eq xs ys) ≡ false → xs ≡ ys
 no_difference xs ys is = (bytes_eq-Decides xs ys).0 (grind (arith, is))
+
+-- a test for equality
+pub same_bytes : (xs ys : List ℕ) → bytes_eq xs ys ≡ true → xs ≡ ys
+same_bytes xs ys is = (bytes_eq-Decides xs ys).0 is
+
+pub other_bytes : (xs ys : List ℕ) → bytes_eq xs ys ≡ false → xs ≡ ys → ⊥
+other_bytes xs ys is same = false≢true (sym is ∙ (bytes_eq-Decides xs ys).1 same)

@@ -11,7 +11,7 @@ use Rattle.drain_union.specs.declared.report.WindowReport.{WindowReport}
 
 -- the version of the form
 abbrev pub version_line : List ℕ
-version_line = codes "drain-window-report 2\n"
+version_line = codes "drain-window-report 3\n"
 
 abbrev pub head_text : Head → List ℕ
 head_text h = version_line ++ (count_line (codes "side") h.side ++ (place_line h.place ++ (nodata_line h.nodata ++ verdict_line h.verdict)))

@@ -1,9 +1,7 @@
 -- The facts of a report as numbers, each kind on lines of its own. The order of the numbers is this project's own.
 use Rattle.std.specs.Prelude.{◌≡◌, ◌<◌, ◌^◌, ℕ, ℤ, pos, Bool, Option, Some, None, List, [], ◌∷◌, ◌++◌, codes, if◌then◌else◌}
-use Rattle.std.specs.Int.{w16}
-use Rattle.std.specs.Int.RustNames.{FitsSigned}
+use Rattle.std.specs.Fmt.{signed_decimal}
 use Rattle.drain_grid.specs.declared.cell.Cell.{Cell}
-use Rattle.drain_grid.specs.declared.tile.TheConstants.{VOID}
 use Rattle.drain_grid.specs.Values.{Values, AreInRange, NoDataNumbers, IsNoData}
 use Rattle.drain_union.specs.declared.report.Outlet.{Outlet}
 use Rattle.drain_union.specs.declared.report.Shown.{Shown}
@@ -17,7 +15,7 @@ use Rattle.drain_grid.specs.declared.verdict.Verdict.{Verdict}
 use Rattle.drain_grid.specs.declared.verdict.Verdict.TheVariants.{Accepted, Rejected}
 use Rattle.drain_hgt.specs.Corner.{Corner}
 use Rattle.drain_hgt.specs.Name.{name_of}
-use Rattle.drain_report.specs.Lines.{IsLong, line}
+use Rattle.drain_report.specs.Lines.{IsLong, line, spaced}
 
 -- a row and a column of 32 bits
 pub record IsNarrow (c : Cell) : Type 0 where
@@ -31,42 +29,40 @@ outlet_numbers o = o.label ∷ pos o.cell.row ∷ pos o.cell.col ∷ []
 abbrev pub outlet_line : Outlet → List ℕ
 outlet_line o = line (codes "outlet") (outlet_numbers o)
 
--- sink ROW COL
-abbrev pub sink_numbers : Cell → List ℤ
-sink_numbers c = pos c.row ∷ pos c.col ∷ []
+-- ROW COL
+abbrev pub cell_numbers : Cell → List ℤ
+cell_numbers c = pos c.row ∷ pos c.col ∷ []
 
+-- sink ROW COL
 abbrev pub sink_line : Cell → List ℕ
-sink_line c = line (codes "sink") (sink_numbers c)
+sink_line c = line (codes "sink") (cell_numbers c)
 
 pub record IsOutlet (o : Outlet) : Type 0 where
   pub label : IsLong o.label
   pub cell : IsNarrow o.cell
 
--- a void has the number of a void in a tile
-abbrev pub height_number : Option ℤ → ℤ
-height_number None = VOID
-height_number (Some z) = z
-
-abbrev pub IsHeight : Option ℤ → Type 0
-IsHeight None = Unit {0}
-IsHeight (Some z) = FitsSigned w16 z
-
 abbrev pub flag_number : Bool → ℤ
 flag_number b = pos (if b then 1 else 0)
 
+-- an elevation, a minus sign alone at a void
+abbrev pub height_word : Option ℤ → List ℕ
+height_word None = codes "-"
+height_word (Some z) = signed_decimal z
+
+-- a line of a cell's numbers, its elevation, and its other values
+abbrev pub seam_text : List ℤ → Option ℤ → List ℤ → List ℕ
+seam_text cell z others = codes "seam" ++ (spaced cell ++ 32 ∷ (height_word z ++ (spaced others ++ 10 ∷ [])))
+
+-- SINK CON DIR ACC BAS SPL RNK
+abbrev pub other_numbers : Values → List ℤ
+other_numbers v = flag_number v.sink ∷ v.con ∷ v.dir ∷ v.acc ∷ v.bas ∷ v.spl ∷ v.rnk ∷ []
+
 -- seam ROW COL Z SINK CON DIR ACC BAS SPL RNK
-abbrev pub values_numbers : Values → List ℤ
-values_numbers v = height_number v.z ∷ flag_number v.sink ∷ v.con ∷ v.dir ∷ v.acc ∷ v.bas ∷ v.spl ∷ v.rnk ∷ []
-
-abbrev pub shown_numbers : Shown → List ℤ
-shown_numbers s = pos s.cell.row ∷ pos s.cell.col ∷ values_numbers s.values
-
 abbrev pub shown_line : Shown → List ℕ
-shown_line s = line (codes "seam") (shown_numbers s)
+shown_line s = seam_text (cell_numbers s.cell) s.values.z (other_numbers s.values)
 
 pub record IsShown (s : Shown) : Type 0 where
   pub cell : IsNarrow s.cell
-  pub height : IsHeight s.values.z
   pub values : AreInRange s.values
 
 -- a line of one whole number

@@ -39,12 +39,13 @@ pub record IsNumberThen (text : List ℕ) (n : ℤ) (c : ℕ) (rest : List ℕ) 
   pub ends : (c ≡ 32) ⊎ (c ≡ 10)
   pub is : text ≡ 32 ∷ (signed_decimal n ++ c ∷ rest)
 
--- a text begins with these numbers, then the line ends
-pub record AreNumbersThen (text : List ℕ) (ns : List ℤ) (rest : List ℕ) : Type 0 where
+-- the same of numbers
+pub record AreNumbersThen (text : List ℕ) (ns : List ℤ) (c : ℕ) (rest : List ℕ) : Type 0 where
   pub long : AreLong ns
-  pub is : text ≡ spaced ns ++ 10 ∷ rest
+  pub ends : (c ≡ 32) ⊎ (c ≡ 10)
+  pub is : text ≡ spaced ns ++ c ∷ rest
 
--- the same of a whole line
+-- a text begins with this line
 pub record IsLineThen (text word : List ℕ) (ns : List ℤ) (rest : List ℕ) : Type 0 where
   pub long : AreLong ns
   pub is : text ≡ line word ns ++ rest

@@ -74,7 +74,7 @@ pub struct Head {
 }
 
 /// The first line.
-const VERSION: &[u8] = b"drain-window-report 2\n";
+const VERSION: &[u8] = b"drain-window-report 3\n";
 
 /// What follows the first line.
 fn first_lines(text: &[u8]) -> Result<Lines, ReportFault>

@@ -1,6 +1,6 @@
 //! Lines of a report: a word, and numbers with a space before each.
 
-ghost use Rattle.std.specs.Prelude.{◌≡◌, ◌<◌, ◌^◌, ℤ, ℕ, List, ◌∷◌, ◌++◌, IfSome, IfOk, OnOk, MatchOption, MatchResult, length};
+ghost use Rattle.std.specs.Prelude.{◌≡◌, ◌<◌, ◌^◌, ℤ, ℕ, List, ◌∷◌, ◌++◌, ◌+◌, IfSome, IfOk, OnOk, MatchOption, MatchResult, length};
 ghost use Rattle.std.specs.Fmt.{signed_decimal};
 ghost use Rattle.drain_report.specs.Faults.{IsAt, IsPast, IsLineFault, line_feeds};
 ghost use Rattle.drain_report.specs.Lines.{spaced, line, AreLong, AreNumbersThen, IsLineThen};
@@ -18,12 +18,25 @@ pub struct Lines<'a> {
     pub number: u64,
 }
 
+impl<'a> Lines<'a> {
+    /// The text after the first line, and the next line's number.
+    pub fn after_first(&self, rest: &'a [u8]) -> Lines<'a>
+        ensures text { result.rest.now ≡ rest.now }
+        ensures place { (feeds : ℕ) → feeds < 2 ^ 63 → line_feeds self.now.rest.now ≡ line_feeds rest.now + 1 → IsAt feeds self.now.number self.now.rest.now → IsPast feeds self.now.number result.number result.rest.now }
+    {
+        Lines {
+            rest,
+            number: self.number.saturating_add(1),
+        }
+    }
+}
+
 /// Reads as many numbers as the slice holds, a space before each; returns what follows them.
-fn read_numbers<'a>(text: &'a [u8], numbers: &mut [i64]) -> Option<&'a [u8]>
+pub fn read_numbers<'a>(text: &'a [u8], numbers: &mut [i64]) -> Option<&'a [u8]>
     ensures len { length numbers.new ≡ length numbers.old }
     ensures sound { IfSome result (λ rest. text.now ≡ spaced numbers.new ++ rest.now) }
     ensures long { IfSome result (λ _. AreLong numbers.new) }
-    ensures back { (ns : List ℤ) (rest : List ℕ) → length ns ≡ length numbers.old → AreNumbersThen text.now ns rest → MatchOption result ⊥ (λ after. (numbers.new ≡ ns) × (after.now ≡ 10 ∷ rest)) }
+    ensures back { (ns : List ℤ) (c : ℕ) (rest : List ℕ) → length ns ≡ length numbers.old → AreNumbersThen text.now ns c rest → MatchOption result ⊥ (λ after. (numbers.new ≡ ns) × (after.now ≡ c ∷ rest)) }
 {
     let mut rest = text;
     for k in 0..numbers.len() {
@@ -83,10 +96,7 @@ pub fn read_line<'a>(
     ensures place { (feeds : ℕ) → feeds < 2 ^ 63 → line_feeds word.now ≡ 0 → IsAt feeds lines.entry.number lines.entry.rest.now → MatchResult result (λ after. IsPast feeds lines.entry.number after.number after.rest.now) (IsLineFault feeds lines.entry.number) }
 {
     match line_after(lines.rest, word.as_bytes(), numbers) {
-        Some(rest) => Ok(Lines {
-            rest,
-            number: lines.number.saturating_add(1),
-        }),
+        Some(rest) => Ok(lines.after_first(rest)),
         None => Err(unread(lines)),
     }
 }
@@ -102,7 +112,7 @@ pub fn unread(lines: Lines) -> ReportFault
 }
 
 /// Appends a number with a space before it.
-fn push_number(text: &mut Vec<u8>, number: i64) -> Result<(), OutOfMemory>
+pub fn push_number(text: &mut Vec<u8>, number: i64) -> Result<(), OutOfMemory>
     ensures { OnOk result (text.new.items ≡ text.old.items ++ 32 ∷ signed_decimal number) }
 {
     let mut digits = Buffer::new();
@@ -111,7 +121,7 @@ fn push_number(text: &mut Vec<u8>, number: i64) -> Result<(), OutOfMemory>
 }
 
 /// Appends numbers, a space before each.
-fn push_numbers(text: &mut Vec<u8>, numbers: &[i64]) -> Result<(), OutOfMemory>
+pub fn push_numbers(text: &mut Vec<u8>, numbers: &[i64]) -> Result<(), OutOfMemory>
     requires { AreLong numbers.now }
     ensures { OnOk result (text.new.items ≡ text.old.items ++ spaced numbers.now) }
 {

@@ -1,6 +1,6 @@
 //! Lists of a report: how many lines there are, then the lines.
 
-ghost use Rattle.drain_report.specs.Facts.{IsNarrow, sink_line, sink_numbers, IsOutlet, outlet_numbers, outlet_line};
+ghost use Rattle.drain_report.specs.Facts.{IsNarrow, sink_line, cell_numbers, IsOutlet, outlet_numbers, outlet_line};
 ghost use Rattle.std.specs.Prelude.{◌≡◌, ◌<◌, ◌≤◌, ◌^◌, ℕ, List, ◌++◌, IfOk, OnOk, MatchResult, length};
 ghost use Rattle.drain_report.specs.Faults.{IsAt, IsPast, IsListFault, line_feeds};
 ghost use Rattle.drain_report.specs.Contents.{AllAre, IsListOf, all_text, list_text};
@@ -14,7 +14,7 @@ use drain_union::Outlet;
 use std::alloc::Global;
 
 impl Fact for Cell {
-    ghost numbers_of = { sink_numbers };
+    ghost numbers_of = { cell_numbers };
 
     ghost how_many = { 2 };
 

@@ -63,7 +63,7 @@ pub fn number(word: &[u8]) -> Option<i64>
 }
 
 /// The word after a space, up to the next space or the end of the line, and what follows it.
-fn word_after_space(text: &[u8]) -> Option<(&[u8], &[u8])>
+pub fn word_after_space(text: &[u8]) -> Option<(&[u8], &[u8])>
     ensures sound { IfSome result (λ found. text.now ≡ 32 ∷ (found.0.now ++ found.1.now)) }
     ensures back { (word : List ℕ) (c : ℕ) (rest : List ℕ) → IsWordThen text.now word c rest → MatchOption result ⊥ (λ found. (found.0.now ≡ word) × (found.1.now ≡ c ∷ rest)) }
 {

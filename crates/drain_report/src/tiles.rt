@@ -59,11 +59,7 @@ impl ReportLine for TileName {
         let Some(found) = first_tile(lines.rest) else {
             return Err(unread(lines));
         };
-        let next = Lines {
-            rest: found.1,
-            number: lines.number.saturating_add(1),
-        };
-        Ok((found.0, next))
+        Ok((found.0, lines.after_first(found.1)))
     }
 
     fn push_to(&self, text: &mut Vec<u8>) -> Result<(), OutOfMemory> {

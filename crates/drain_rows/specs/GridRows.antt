@@ -4,7 +4,7 @@ use Rattle.drain_grid.specs.declared.cell.Cell.{Cell}
 use Rattle.drain_grid.specs.declared.sink_line.SinkLine.{SinkLine}
 use Rattle.drain_grid.specs.SinkTexts.{is_listed}
 use Rattle.drain_grid.specs.Extent.{Extent}
-use Rattle.drain_grid.specs.Grid.{Grid, Products, IsInside, HasData, height_from}
+use Rattle.drain_grid.specs.Grid.{Grid, Products, IsInside, HasData}
 use Rattle.drain_rules.specs.Rows.{AreNumbersOf, RowNumbers, blank, AreRowPatches}
 use Rattle.drain_rows.specs.declared.row_visitor.WalkStop.{WalkStop}
 use Rattle.drain_rows.specs.declared.row_visitor.WalkStop.TheVariants.{Source, OutOfMemory}
@@ -14,7 +14,6 @@ use Rattle.drain_grid.specs.declared.judged.Rules.{Rules}
 use Rattle.drain_rules.specs.declared.walk.Area.{Area}
 use Rattle.drain_rules.specs.declared.walk.Walk.{Walk}
 use Rattle.drain_rules.specs.Walks.{IsRightOf}
-use Rattle.drain_grid.specs.declared.tile.TheConstants.{VOID}
 use Rattle.drain_grid.specs.CellLists.{is_among}
 
 -- these are all rows, after the last there is none, and the grid's sinks are the listed ones
@@ -68,10 +67,10 @@ pub record IsWalkOf {L : Type 0} (compares : Bool) (judges : L → Area) (are_be
 abbrev pub has_data_but : Extent → List Cell → Cell → Bool
 has_data_but e voids c = nat_lt c.row e.rows && (nat_lt c.col e.cols && not (is_among voids c))
 
--- it is a cell of this row, marked as listed, and its sample is a void's
-abbrev pub is_listed_void : ℕ → List ℤ → List Bool → Cell → Bool
+-- it is a cell of this row, marked as listed, and a void
+abbrev pub is_listed_void : ℕ → List (Option ℤ) → List Bool → Cell → Bool
 is_listed_void row z marks c =
-    (c.row == row) && (nat_lt c.col (length z) && (slice_index_or marks c.col false && is_none (height_from (slice_index_or z c.col VOID))))
+    (c.row == row) && (nat_lt c.col (length z) && (slice_index_or marks c.col false && is_none (slice_index_or z c.col None)))
 
 -- of the rows before this one, these are the listed sinks that are voids
 abbrev pub AreVoidsBefore : Grid → ℕ → List Cell → Type 0

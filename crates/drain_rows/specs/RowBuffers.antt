@@ -10,7 +10,7 @@ use Rattle.drain_rows.specs.declared.row_buffer.RowBuffer.{RowBuffer}
 
 -- its numbers as lists
 abbrev pub buffer_numbers : RowBuffer → RowNumbers
-buffer_numbers row = record { z = row.z.items; products = per_product (λ p. of_product row.products p) }
+buffer_numbers row = record { z = row.z; products = per_product (λ p. of_product row.products p) }
 
 -- the same with its marks
 abbrev pub marked_of : RowBuffer → MarkedRow
@@ -26,4 +26,4 @@ IsEven row = (p : SetProduct) → length (of_product row.products p) ≡ length 
 
 -- if its numbers fit lanes, these are its lanes
 abbrev pub LanesMatch : RowBuffer → Type 0
-LanesMatch row = IsTrue row.fit → AreLanesOf row.lanes row.z.items (buffer_numbers row).products
+LanesMatch row = IsTrue row.fit → AreLanesOf row.lanes row.z (buffer_numbers row).products

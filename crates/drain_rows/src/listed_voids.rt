@@ -7,7 +7,8 @@ ghost use Rattle.drain_grid.specs.CellLists.{is_among};
 ghost use Rattle.drain_rows.specs.GridRows.{is_listed_void};
 ghost use Rattle.drain_grid.specs.Extent.{same_cell};
 
-use drain_grid::{Cell, OutOfMemory, VOID};
+use drain_grid::{Cell, OutOfMemory};
+use drain_pixels::GroundRow;
 use std::alloc::Global;
 use std::collections::BTreeSet;
 use std::marker::Model;
@@ -45,12 +46,12 @@ impl ListedVoids {
     }
 
     /// Notes the cells of a row that are marked as listed and are void.
-    pub fn note_row(&mut self, row: u32, z: &[i64], marks: &[bool]) -> Result<(), OutOfMemory>
+    pub fn note_row(&mut self, row: u32, z: &GroundRow, marks: &[bool]) -> Result<(), OutOfMemory>
         requires narrow { length marks.now ≤ MAX_LENGTH }
         ensures noted { OnOk result ((c : Cell) → is_among self.new c ≡ (is_among self.old c || is_listed_void row z.now marks.now c)) }
     {
         for (col, mark) in marks.iter().enumerate() {
-            if *mark && z.get(col) == Some(&i64::from(VOID)) {
+            if *mark && col < z.len() && z.z(col).is_none() {
                 let col = col as u32;
                 self.note(Cell { row, col })?;
             }

@@ -10,7 +10,7 @@ ghost use Rattle.drain_rows.specs.GridRows.{is_listed_void};
 use crate::listed_voids::ListedVoids;
 use drain_grid::{Judged, OutOfMemory, PerProduct, Sinks};
 use drain_kernel::Lanes;
-use drain_pixels::PixelRow;
+use drain_pixels::{GroundRow, PixelRow};
 use drain_rules::RowView;
 use std::alloc::Global;
 
@@ -21,7 +21,7 @@ use std::alloc::Global;
 /// no sinks. Lanes are useful if the numbers fit them, and must be filled again for each row.
 #[derive(Drop)]
 pub struct RowBuffer {
-    pub z: Vec<i64>,
+    pub z: GroundRow,
     pub products: PerProduct<PixelRow>,
     pub sinks: Vec<bool>,
     lanes: Lanes,
@@ -37,7 +37,7 @@ impl RowBuffer {
         ensures lanes { LanesMatch result }
     {
         RowBuffer {
-            z: Vec::new(alloc),
+            z: GroundRow::new(alloc),
             products: PerProduct {
                 con: PixelRow::new(alloc),
                 dir: PixelRow::new(alloc),
@@ -100,7 +100,7 @@ impl RowBuffer {
             self.sinks.clear();
             return Ok(());
         }
-        voids.note_row(row, self.z.as_slice(), self.sinks.as_slice())
+        voids.note_row(row, &self.z, self.sinks.as_slice())
     }
 
     /// Fills the lanes of the row, for rules about these rasters.
@@ -117,7 +117,7 @@ impl RowBuffer {
             bas: &products.bas,
             rnk: &products.rnk,
         };
-        self.fit = self.lanes.take(self.z.as_slice(), &rows, judged);
+        self.fit = self.lanes.take(&self.z, &rows, judged);
     }
 
     /// The row as it is looked at, with its lanes if they fit.
@@ -128,7 +128,7 @@ impl RowBuffer {
     {
         let lanes = if self.fit { Some(&self.lanes) } else { None };
         RowView::new(
-            self.z.as_slice(),
+            &self.z,
             self.sinks.as_slice(),
             PerProduct {
                 con: &self.products.con,

@@ -34,7 +34,7 @@ impl RowVisitor for CellFlows {
         _rows: &ThreeRows<'_>,
         _rules: &Rules,
     ) -> Result<(), OutOfMemory> {
-        self.push_row(row.z.as_slice(), &row.products.dir)
+        self.push_row(&row.z, &row.products.dir)
     }
 }
 

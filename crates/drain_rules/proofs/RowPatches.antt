@@ -1,9 +1,9 @@
 -- The patch of three rows is that of the grid: a neighbour at a time.
-use Rattle.std.proofs.Common.{◌≡◌, ◌∙◌, ◌+◌, ◌-◌, ◌<◌, ◌≤◌, ℕ, ℤ, pos, List, length, drop, All, slice_index_or, slice_range, get_or-take, get_or-drop, inl, inr, FitsSigned, w16, rules, arith, subst, sym, zero, suc, [], ◌∷◌, Option, Some, None, refl, ap}
+use Rattle.std.proofs.Common.{◌≡◌, ◌∙◌, ◌+◌, ◌-◌, ◌<◌, ◌≤◌, ℕ, ℤ, pos, List, length, drop, slice_index_or, slice_range, get_or-take, get_or-drop, inl, inr, FitsSigned, w16, arith, subst, sym, zero, suc, [], ◌∷◌, Option, Some, None, refl, ap}
 use Rattle.std.proofs.lemmas.Bool.{cases_lt, lt-ltb, le-ltb}
 use Rattle.std.proofs.lemmas.List.{ext_get_or, length-drop, length-take}
-use Rattle.drain_fill.specs.Below.{AreRowHeights, IsBelowAt}
-use Rattle.drain_grid.specs.Grid.{IsSample, Grid, Products, patch_at, values_at}
+use Rattle.drain_fill.specs.Below.{IsBelowAt}
+use Rattle.drain_grid.specs.Grid.{Grid, Products, patch_at, values_at}
 use Rattle.std.specs.Prelude.{◌&&◌, nat_lt, option_map, if◌then◌else◌}
 use Rattle.drain_grid.specs.declared.cell.Cell.{Cell}
 use Rattle.drain_grid.specs.declared.set_product.SetProduct.TheVariants.{Con, Dir, Acc, Bas, Rnk}
@@ -45,16 +45,14 @@ clear_on con ground at end above within before here place less = elim (cases_lt 
       λ below. here k inside (rw (in_part con at end k (omega (arith, inside, within)), in_part ground at end k (omega (arith, inside, within)), there) below))
 ]
 
--- the same where the part of the one was copied
-pub clear_part : (con ground part : List ℤ) (at end above : ℕ) → above ≤ end - at → part ≡ slice_range con at end → ((place : ℕ) → place < at → ¬ IsBelowAt con ground place) →
-    ((place : ℕ) → place < above → ¬ IsBelowAt part (slice_range ground at end) place) →
+-- the same where both parts were copied
+pub clear_part : (con ground part below : List ℤ) (at end above : ℕ) → above ≤ end - at → part ≡ slice_range con at end → below ≡ slice_range ground at end →
+    ((place : ℕ) → place < at → ¬ IsBelowAt con ground place) → ((place : ℕ) → place < above → ¬ IsBelowAt part below place) →
     (place : ℕ) → place < at + above → ¬ IsBelowAt con ground place
-clear_part con ground part at end above within is before here =
-    clear_on con ground at end above within before (subst (λ xs. (place : ℕ) → place < above → ¬ IsBelowAt xs (slice_range ground at end) place) is here)
-
--- samples fit 16 bits
-pub samples_fit : (samples : List ℤ) → All IsSample samples → AreRowHeights samples
-samples_fit samples all place less = let s = all place (pos 0) less in search (rules, s.low, s.high)
+clear_part con ground part below at end above within part_is below_is before here =
+    clear_on con ground at end above within before
+    (subst (λ xs. (place : ℕ) → place < above → ¬ IsBelowAt xs (slice_range ground at end) place) part_is
+    (subst (λ ys. (place : ℕ) → place < above → ¬ IsBelowAt part ys place) below_is here))
 
 -- a cell by the numbers of its row and column, counted from 1; none outside
 abbrev stepped : Extent → ℕ → ℕ → Option Cell

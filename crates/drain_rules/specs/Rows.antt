@@ -1,11 +1,11 @@
 -- Rows of numbers, and the patches that three of them show.
-use Rattle.std.specs.Prelude.{◌≡◌, ℕ, ◌<◌, ◌≤◌, ℤ, pos, List, [], length, slice_index_or, Option, IfSome, ◌-◌, Bool, ◌&&◌, int_lt, is_some, unwrap_or, map, zero, suc, nat_lt, false, Some, None, if◌then◌else◌}
+use Rattle.std.specs.Prelude.{◌≡◌, ℕ, ◌<◌, ◌≤◌, ℤ, pos, neg_ℤ, List, [], length, slice_index_or, Option, IfSome, ◌-◌, Bool, ◌&&◌, int_lt, is_some, unwrap_or, map, zero, suc, nat_lt, false, Some, None, if◌then◌else◌}
 use Rattle.std.specs.List.{count_by, All, range_with_len}
 use Rattle.drain_grid.specs.declared.cell.Cell.{Cell}
 use Rattle.drain_grid.specs.declared.rule.Rule.{Rule}
 use Rattle.drain_grid.specs.Rule.{rule_number}
 use Rattle.drain_grid.specs.Extent.{row_cells}
-use Rattle.drain_grid.specs.Grid.{Grid, Products, patch_at, set_number_in, IsSample, height_from}
+use Rattle.drain_grid.specs.Grid.{Grid, Products, patch_at, set_number_in}
 use Rattle.drain_grid.specs.GridRules.{is_data, is_raised, HoldsAt}
 use Rattle.drain_grid.specs.PatchRules.{Profile}
 use Rattle.drain_rules.specs.declared.walk.Tally.{Tally}
@@ -14,7 +14,6 @@ use Rattle.drain_grid.specs.declared.patch.Patch.{Patch}
 use Rattle.drain_grid.specs.declared.cell.TheConstants.{MAX_LENGTH}
 use Rattle.drain_grid.specs.declared.set_product.SetProduct.{SetProduct}
 use Rattle.drain_grid.specs.declared.per_product.PerProduct.{PerProduct}
-use Rattle.drain_grid.specs.declared.tile.TheConstants.{VOID}
 use Rattle.drain_grid.specs.PerProduct.{of_product, per_product}
 use Rattle.drain_grid.specs.Values.{IsPixel, Values}
 use Rattle.drain_kernel.specs.declared.lanes.Lanes.{Lanes}
@@ -66,27 +65,31 @@ pub record IsAtMost (cells : ℕ) (tally : Tally) : Type 0 where
 
 -- A row of a grid and its products as lists of numbers.
 
--- the elevations, with the number of a void if there is none, and each product's numbers
+-- the elevations, none at a void, and each product's numbers
 pub record RowNumbers : Type 0 where
-  pub z : List ℤ
+  pub z : List (Option ℤ)
   pub products : PerProduct (List ℤ)
 
 -- no row
 abbrev pub blank : RowNumbers
 blank = record { z = []; products = per_product (λ p. []) }
 
--- as many numbers of each, at most 28,801, that samples and pixels encode
+-- as many of each, at most 28,801, and numbers that pixels encode
 pub record AreRowNumbers (row : RowNumbers) : Type 0 where
   pub narrow : length row.z ≤ MAX_LENGTH
   pub long : (p : SetProduct) → length (of_product row.products p) ≡ length row.z
-  pub samples : All IsSample row.z
+  pub samples : All (λ z. IfSome z IsPixel) row.z
   pub pixels : (p : SetProduct) → All IsPixel (of_product row.products p)
+
+-- the elevations as numbers: at a void the least of 16 bits, which no number of 16 bits is below
+abbrev pub grounds : List (Option ℤ) → List ℤ
+grounds z = map (λ (height : Option ℤ). unwrap_or height (neg_ℤ (pos 32768))) z
 
 -- they are the numbers of a grid's row, whose products have no spill parents
 pub record AreNumbersOf (g : Grid) (ps : Products) (row : ℕ) (numbers : RowNumbers) : Type 0 where
   pub inside : row < g.extent.rows
   pub cols_are : length numbers.z ≡ g.extent.cols
-  pub elevation : (col : ℕ) → col < g.extent.cols → height_from (slice_index_or numbers.z col VOID) ≡ g.elevation (place row col)
+  pub elevation : (col : ℕ) → col < g.extent.cols → slice_index_or numbers.z col None ≡ g.elevation (place row col)
   pub products : (p : SetProduct) (col : ℕ) → col < g.extent.cols → slice_index_or (of_product numbers.products p) col (pos 0) ≡ set_number_in ps p (place row col)
   pub no_spill : (col : ℕ) → col < g.extent.cols → ps.spl (place row col) ≡ pos 0
 
@@ -121,7 +124,7 @@ pub record MarkedRow : Type 0 where
 -- the values of the row at a column; of spill parents 0
 abbrev pub values_in : MarkedRow → ℕ → Values
 values_in row col = record {
-  z = height_from (slice_index_or row.numbers.z col VOID);
+  z = slice_index_or row.numbers.z col None;
   sink = slice_index_or row.sinks col false;
   con = slice_index_or row.numbers.products.con col (pos 0);
   dir = slice_index_or row.numbers.products.dir col (pos 0);

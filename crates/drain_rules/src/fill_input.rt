@@ -9,7 +9,7 @@ ghost use Rattle.drain_grid.specs.Grid.{IsSide};
 use crate::part_rules::is_blank;
 use byteorder::{BigEndian, ByteOrder};
 use drain_grid::tile::height_from;
-use drain_grid::{Cell, CellSource, CellValues, Rules, Shape, VOID};
+use drain_grid::{Cell, CellSource, CellValues, Rules, Shape, VOID, widened};
 
 /// Whether the cell is a void, and the judged rasters have their no-data numbers.
 pub fn is_blank_void(here: &CellValues, rules: &Rules) -> bool
@@ -125,7 +125,7 @@ impl<'a> CellSource for FillInput<'a> {
 
     fn values(&self, cell: Cell) -> CellValues {
         CellValues {
-            z: self.ground(cell),
+            z: widened(self.ground(cell)),
             sink: false,
             con: self.conditioned(cell),
             dir: 0,

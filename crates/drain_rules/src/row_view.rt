@@ -1,19 +1,16 @@
 //! A row of a grid and its products, as slices of numbers and of marks.
 
-ghost use Rattle.std.specs.Prelude.{◌≡◌, ◌<◌, ◌≤◌, ℕ, false, slice_index_or, ◌≢◌, ◌↔◌, IsTrue, Some, option_copied, length, pos};
+ghost use Rattle.std.specs.Prelude.{◌≡◌, ◌<◌, ◌≤◌, ℕ, false, slice_index_or, ◌↔◌, IfSome, IsTrue, None, option_copied, length, pos};
 ghost use Rattle.drain_fill.specs.Below.{AreRowHeights, IsBelowAt};
 ghost use Rattle.drain_grid.specs.declared.cell.TheConstants.{MAX_LENGTH};
-ghost use Rattle.drain_grid.specs.declared.tile.TheConstants.{VOID};
 ghost use Rattle.drain_grid.specs.PerProduct.{of_product, per_product};
-ghost use Rattle.drain_grid.specs.Grid.{IsSample, height_from};
 ghost use Rattle.drain_grid.specs.Values.{IsPixel};
-ghost use Rattle.drain_rules.specs.Rows.{values_in, beside, west_neighbor, AreLanesIfAny, AreRowNumbers};
+ghost use Rattle.drain_rules.specs.Rows.{values_in, beside, west_neighbor, AreLanesIfAny, AreRowNumbers, grounds};
 
-use crate::screen::cells_above_ground;
-use drain_grid::tile::height_from;
-use drain_grid::{CellValues, PerProduct, SetProduct, VOID};
+use crate::screen::{Grounds, cells_above_ground};
+use drain_grid::{CellValues, PerProduct, SetProduct};
 use drain_kernel::Lanes;
-use drain_pixels::{PixelKind, PixelRow};
+use drain_pixels::{GroundRow, PixelKind, PixelRow};
 use std::marker::Model;
 
 /// How many cells from a column on are cleared together, and how many of them are raised. More cells might pass.
@@ -59,11 +56,11 @@ pub fn unmarked_until(marks: &[bool], from: usize, end: usize) -> usize
     last
 }
 
-/// One row: elevations, -32768 at a void, and each product's numbers, as many of each; marks, true at a listed sink;
-/// and the lanes of its numbers if they were made. It has no numbers if there is no row; a missing mark means false.
+/// One row: elevations, none at a void, and each product's numbers, as many of each; marks, true at a listed sink; and
+/// the lanes of its numbers if they were made. It has no numbers if there is no row; a missing mark means false.
 #[derive(Drop)]
 pub struct RowView<'a> {
-    z: &'a [i64],
+    z: &'a GroundRow,
     sinks: &'a [bool],
     products: PerProduct<&'a PixelRow>,
     lanes: Option<&'a Lanes>,
@@ -88,7 +85,7 @@ impl<'a> Model for RowView<'a> {
 impl<'a> RowView<'a> {
     /// The row of these numbers and marks, with the lanes of the numbers, or none.
     pub fn new(
-        z: &'a [i64],
+        z: &'a GroundRow,
         sinks: &'a [bool],
         products: PerProduct<&'a PixelRow>,
         lanes: Option<&'a Lanes>,
@@ -114,14 +111,14 @@ impl<'a> RowView<'a> {
         self.z.len() as u32
     }
 
-    /// The first column whose conditioned elevation is below its ground, else the number of columns. If a conditioned
-    /// elevation doesn't fit 16 bits it may be a column before.
+    /// The first column whose conditioned elevation is below its ground, else the number of columns. A void counts as
+    /// -32768; if a conditioned elevation doesn't fit 16 bits it may be a column before.
     pub fn cells_above_ground(&self) -> u32
         ensures within { result ≤ length self.now.numbers.z }
-        ensures above { (col : ℕ) → col < result → ¬ IsBelowAt self.now.numbers.products.con self.now.numbers.z col }
-        ensures first { AreRowHeights self.now.numbers.products.con → result < length self.now.numbers.z → IsBelowAt self.now.numbers.products.con self.now.numbers.z result }
+        ensures above { (col : ℕ) → col < result → ¬ IsBelowAt self.now.numbers.products.con (grounds self.now.numbers.z) col }
+        ensures first { AreRowHeights self.now.numbers.products.con → result < length self.now.numbers.z → IsBelowAt self.now.numbers.products.con (grounds self.now.numbers.z) result }
     {
-        cells_above_ground(self.products.con, self.z) as u32
+        cells_above_ground(self.products.con, &Grounds { row: self.z }) as u32
     }
 
     /// A column up to which no cell is marked from this one on: that of the next mark, if it is among the next 128; of
@@ -165,10 +162,9 @@ impl<'a> RowView<'a> {
     /// Whether the column is a void.
     pub fn is_void(&self, col: usize) -> bool
         requires { col < length self.now.numbers.z }
-        ensures { IsTrue result ↔ (slice_index_or self.now.numbers.z col VOID ≡ VOID) }
+        ensures { IsTrue result ↔ (slice_index_or self.now.numbers.z col None ≡ None) }
     {
-        let samples = self.z;
-        samples[col] == i64::from(VOID)
+        self.height(col).is_none()
     }
 
     /// The same, none past the last column.
@@ -195,13 +191,13 @@ impl<'a> RowView<'a> {
     }
 
     /// The elevation at a column, none at a void.
-    fn height(&self, col: usize) -> Option<i16>
+    #[inline(always)]
+    fn height(&self, col: usize) -> Option<i64>
         requires { col < length self.now.numbers.z }
-        ensures height { result ≡ height_from (slice_index_or self.now.numbers.z col VOID) }
-        ensures no_void { result ≢ Some VOID }
+        ensures height { result ≡ slice_index_or self.now.numbers.z col None }
+        ensures pixel { IfSome result IsPixel }
     {
-        let samples = self.z;
-        height_of(samples[col])
+        self.z.z(col)
     }
 
     /// Whether the column is marked.
@@ -221,15 +217,6 @@ impl<'a> RowView<'a> {
         let numbers = *self.products.of(product);
         numbers.number_soonest(usual_kind(product), col)
     }
-}
-
-/// The elevation of a number, none for that of a void.
-fn height_of(sample: i64) -> Option<i16>
-    requires { IsSample sample }
-    ensures height { result ≡ height_from sample }
-    ensures no_void { result ≢ Some VOID }
-{
-    height_from(sample as i16)
 }
 
 /// The kind of pixels that `make` writes for a product. No number depends on it.

@@ -160,7 +160,7 @@ impl Tally {
     {
         if let Some(ground) = here.z {
             self.data_cells += 1;
-            if i64::from(ground) < here.con {
+            if ground < here.con {
                 self.raised += 1;
             }
         }

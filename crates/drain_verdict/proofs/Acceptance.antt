@@ -12,9 +12,11 @@ use Rattle.drain_grid.specs.declared.verdict.Verdict.TheVariants.{Accepted, Reje
 use Rattle.drain_rules.specs.Verdicts.{IfAccepted}
 use Rattle.drain_answer.specs.declared.refusal.Refusal.{Refusal}
 use Rattle.drain_answer.specs.declared.refusal.Refusal.TheVariants.{SeamMismatch}
-use Rattle.drain_verdict.specs.Headline.{IsRight}
+use Rattle.drain_verdict.specs.GroundSets.{GroundSet, set_grid, set_numbers, set_products}
+use Rattle.drain_verdict.specs.Headline.{IsRight, ProductsAreRight}
 use Rattle.drain_verdict.specs.Inputs.{Inputs}
-use Rattle.drain_verdict.specs.Meaning.{tiling_of, input_tiles, input_grid, input_products, nodata_numbers}
+use Rattle.drain_verdict.specs.Meaning.{input_grid, input_products, nodata_numbers, input_tiles, tiling_of}
+use Rattle.drain_verdict.specs.TileGround.{set_of}
 use Rattle.drain_verdict.specs.Answers.{AreReadable, IsAnswer}
 
 same_value : (v w : ℤ) → ¬ (¬ (v ≡ w)) → v ≡ w
@@ -25,11 +27,9 @@ pub tiles_agree : (i : Inputs) → AreReadable i → TilesAgree (tiling_of i) (i
 tiles_agree i readable c v w inside is_v is_w =
     same_value v w (λ differ. readable (SeamMismatch c) (inside, record { one = v; other = w; is_one = is_v; is_other = is_w; differ = differ }))
 
--- correct products with sound runs, of tiles that agree, are right
-pub right_of : AgreementGivesElevation → (i : Inputs) → TilesAgree (tiling_of i) (input_tiles i) → IsCorrect (input_grid i) (input_products i) (nodata_numbers i) → RunsAreSound (input_grid i) (input_products i) → IsRight i
-right_of law i agree correct sound = record {
-  tiles_agree = agree;
-  elevation = law (tiling_of i) (input_tiles i) agree;
+-- correct products with sound runs are right
+pub products_right : (s : GroundSet) → IsCorrect (set_grid s) (set_products s) (set_numbers s) → RunsAreSound (set_grid s) (set_products s) → ProductsAreRight s
+products_right s correct sound = record {
   least_surface = correct.least;
   never_climbs = correct.never_climbs;
   steepest = correct.steepest;
@@ -41,6 +41,14 @@ right_of law i agree correct sound = record {
   labels = correct.labels;
   voids = correct.voids;
   complete = correct.complete;
+}
+
+-- and of tiles that agree, the inputs are
+pub right_of : AgreementGivesElevation → (i : Inputs) → TilesAgree (tiling_of i) (input_tiles i) → IsCorrect (input_grid i) (input_products i) (nodata_numbers i) → RunsAreSound (input_grid i) (input_products i) → IsRight i
+right_of law i agree correct sound = record {
+  tiles_agree = agree;
+  elevation = law (tiling_of i) (input_tiles i) agree;
+  products = products_right (set_of i) correct sound;
 }
 
 -- if the answer is an acceptance, the inputs are right

@@ -8,7 +8,8 @@ use Rattle.drain_grid.specs.PerProduct.{of_product}
 use Rattle.drain_grid.proofs.ByProduct.{by_set_product}
 use Rattle.drain_raster.specs.declared.raster_rows.RasterRows.{RasterRows}
 use Rattle.drain_verdict.specs.Inputs.{as_five, readers_as_five, Inputs}
-use Rattle.drain_verdict.specs.InputReads.{RasterHasRead, RastersHaveRead, gave_up, told_by}
+use Rattle.drain_verdict.specs.InputReads.{RasterHasRead, RastersHaveRead}
+use Rattle.drain_verdict.specs.Reading.{gave_up, told_by}
 use Rattle.drain_verdict.specs.declared.audit_products.AuditProducts.{AuditProducts}
 use Rattle.drain_answer.specs.declared.refusal.Refusal.TheVariants.{OutOfMemory}
 use Rattle.drain_verdict.proofs.InputLemmas.{Answer, Stay, failed_at, some_failed}

@@ -1,12 +1,12 @@
 -- The devices of an audit: con's, which is read for the ranks too, counts once.
-use Rattle.drain_verdict.specs.Inputs.{Products, audit_devices, as_five}
+use Rattle.drain_verdict.specs.Inputs.{Products, audit_devices, as_five, four_devices}
 use Rattle.std.proofs.Common.{◌↔◌, ◌⊎◌, ℕ, List, [], ◌∷◌, ◌++◌, map, Option, ◌≡◌, inl, inr, length, Ok, Err, IsErrOf, refl, ap, sym, subst, arith}
 use Rattle.std.proofs.lemmas.List.{map-append, length-map}
 use Rattle.drain_device.specs.declared.counts.FaultCounts.{FaultCounts}
 use Rattle.drain_hgt.specs.declared.input.TileInput.{TileInput}
 use Rattle.drain_hgt.specs.Inputs.{tile_devices, TilesTakeAtMost, names_of}
 use Rattle.drain_device.specs.FaultLists.{SomeReadFails, AnsweredEach, Faults}
-use Rattle.drain_verdict.specs.Uses.{product_devices, devices_of}
+use Rattle.drain_verdict.specs.Uses.{product_devices, devices_of, set_devices}
 use Rattle.drain_device.proofs.FaultLists.{SomeReadFails-then, SomeReadFails-none, takes-none, any-cases, any-either, any-first, any-later, any-left, any-none, any-right, gave_up}
 use Rattle.std.specs.List.{Any}
 use Rattle.std.proofs.lemmas.Bool.{cases_order}
@@ -23,22 +23,22 @@ pub tiles_take_none : {R : Type 0} (bytes_left : R → Option (List ℕ)) (side 
 tiles_take_none bytes_left side [] = tt
 tiles_take_none bytes_left side (t ∷ tiles) = (takes-none _ (bytes_left t.body), tiles_take_none bytes_left side tiles)
 
--- the faults of the tiles' devices, and then of the products'
-pub devices_then : {R : Type 0} (counts : R → FaultCounts) (old_tiles new_tiles : List (TileInput R)) (old_products new_products : Products R) {F G H : Type 0} →
-    (F ⊎ G) ↔ H → SomeReadFails (map counts (tile_devices old_tiles)) (map counts (tile_devices new_tiles)) F →
+-- the faults of the ground's devices, and then of the products'
+pub devices_then : {X R : Type 0} (counts : R → FaultCounts) (devices : List X → List R) (old new : List X) (old_products new_products : Products R) {F G H : Type 0} →
+    (F ⊎ G) ↔ H → SomeReadFails (map counts (devices old)) (map counts (devices new)) F →
     SomeReadFails (map counts (product_devices old_products)) (map counts (product_devices new_products)) G →
-    SomeReadFails (map counts (devices_of old_tiles old_products)) (map counts (devices_of new_tiles new_products)) H
-devices_then counts old_tiles new_tiles old_products new_products {F} {G} {H} either tiles products =
-    let both : SomeReadFails (map counts (tile_devices old_tiles) ++ map counts (product_devices old_products)) (map counts (tile_devices new_tiles) ++ map counts (product_devices new_products)) H
-    = SomeReadFails-then either tiles products in
-    let old = map-append counts (tile_devices old_tiles) (product_devices old_products) in
-    let new = map-append counts (tile_devices new_tiles) (product_devices new_products) in
-    rw (old, new) both
+    SomeReadFails (map counts (set_devices devices old old_products)) (map counts (set_devices devices new new_products)) H
+devices_then counts devices old new old_products new_products {F} {G} {H} either inputs products =
+    let both : SomeReadFails (map counts (devices old) ++ map counts (product_devices old_products)) (map counts (devices new) ++ map counts (product_devices new_products)) H
+    = SomeReadFails-then either inputs products in
+    let was = map-append counts (devices old) (product_devices old_products) in
+    let is = map-append counts (devices new) (product_devices new_products) in
+    rw (was, is) both
 
 -- no device was called
-pub devices_none : {R : Type 0} (counts : R → FaultCounts) (tiles : List (TileInput R)) (products : Products R) {F : Type 0} → ¬ F →
-    SomeReadFails (map counts (devices_of tiles products)) (map counts (devices_of tiles products)) F
-devices_none counts tiles products not = SomeReadFails-none (map counts (devices_of tiles products)) not
+pub devices_none : {X R : Type 0} (counts : R → FaultCounts) (devices : List X → List R) (inputs : List X) (products : Products R) {F : Type 0} → ¬ F →
+    SomeReadFails (map counts (set_devices devices inputs products)) (map counts (set_devices devices inputs products)) F
+devices_none counts devices inputs products not = SomeReadFails-none (map counts (set_devices devices inputs products)) not
 
 gave_up_or_not : (f : Faults) → gave_up f ⊎ ¬ gave_up f
 gave_up_or_not f = elim (cases_order 0 f.failures) [
@@ -141,35 +141,39 @@ failed_alike refusal = (λ is. (let same : refusal ≡ ReadFailed = cc in ap Err
 pub none_alike : {A B : Type 0} (a : A) (b : B) → IsErrOf (Ok a) ReadFailed ↔ IsErrOf (Ok b) ReadFailed
 none_alike a b = (λ is. absurd (let no = is in cc), λ is. absurd (let no = is in cc))
 
-module _ {R : Type 0} (counts : R → FaultCounts) where
-  pub devices_of_four : (tiles tiles_then : List (TileInput R)) (ps ps_then : AuditProducts R) {F : Type 0} → names_of tiles_then ≡ names_of tiles →
-      SomeReadFails (map counts (devices_of tiles (as_five ps))) (map counts (devices_of tiles_then (as_five ps_then))) F →
-      SomeReadFails (map counts (audit_devices tiles ps)) (map counts (audit_devices tiles_then ps_then)) F
-  devices_of_four tiles tiles_then ps ps_then {F} names fails =
-      let xs = map counts (tile_devices tiles) in
-      let us = map counts (tile_devices tiles_then) in
-      let as_many : length xs ≡ length us = lengths tiles tiles_then names in
-      let four = fails_of_four (counts ps.con.body) (counts ps.dir.body) (counts ps.acc.body) (counts ps.bas.body)
-      (counts ps_then.con.body) (counts ps_then.dir.body) (counts ps_then.acc.body) (counts ps_then.bas.body) xs us as_many
-      (rw (
-        sym (map-append counts (tile_devices tiles) (ps.con.body ∷ ps.dir.body ∷ ps.acc.body ∷ ps.bas.body ∷ ps.con.body ∷ [])),
-        sym (map-append counts (tile_devices tiles_then) (ps_then.con.body ∷ ps_then.dir.body ∷ ps_then.acc.body ∷ ps_then.bas.body ∷ ps_then.con.body ∷ [])),
-      ) fails) in
-      rw (
-        map-append counts (tile_devices tiles) (ps.con.body ∷ ps.dir.body ∷ ps.acc.body ∷ ps.bas.body ∷ []),
-        map-append counts (tile_devices tiles_then) (ps_then.con.body ∷ ps_then.dir.body ∷ ps_then.acc.body ∷ ps_then.bas.body ∷ []),
-      ) four
-    where
-      lengths : (tiles tiles_then : List (TileInput R)) → names_of tiles_then ≡ names_of tiles → length (map counts (tile_devices tiles)) ≡ length (map counts (tile_devices tiles_then))
-      lengths tiles tiles_then names =
-          let many = ap length names in
-          omega (
-            arith,
-            many,
-            length-map (tile_devices tiles) counts,
-            length-map (tile_devices tiles_then) counts,
-            length-map tiles (λ t. t.body),
-            length-map tiles_then (λ t. t.body),
-            length-map tiles (λ t. t.name),
-            length-map tiles_then (λ t. t.name),
-          )
+-- five products of which one is read twice, beside these devices of a ground
+pub set_devices_of_four : {X R : Type 0} (counts : R → FaultCounts) (devices : List X → List R) (xs xs_then : List X) (ps ps_then : AuditProducts R) {F : Type 0} →
+    length (map counts (devices xs)) ≡ length (map counts (devices xs_then)) →
+    SomeReadFails (map counts (set_devices devices xs (as_five ps))) (map counts (set_devices devices xs_then (as_five ps_then))) F →
+    SomeReadFails (map counts (devices xs ++ four_devices ps)) (map counts (devices xs_then ++ four_devices ps_then)) F
+set_devices_of_four counts devices xs xs_then ps ps_then {F} as_many fails =
+    let four = fails_of_four (counts ps.con.body) (counts ps.dir.body) (counts ps.acc.body) (counts ps.bas.body)
+    (counts ps_then.con.body) (counts ps_then.dir.body) (counts ps_then.acc.body) (counts ps_then.bas.body) (map counts (devices xs)) (map counts (devices xs_then)) as_many
+    (rw (
+      sym (map-append counts (devices xs) (ps.con.body ∷ ps.dir.body ∷ ps.acc.body ∷ ps.bas.body ∷ ps.con.body ∷ [])),
+      sym (map-append counts (devices xs_then) (ps_then.con.body ∷ ps_then.dir.body ∷ ps_then.acc.body ∷ ps_then.bas.body ∷ ps_then.con.body ∷ [])),
+    ) fails) in
+    rw (
+      map-append counts (devices xs) (four_devices ps),
+      map-append counts (devices xs_then) (four_devices ps_then),
+    ) four
+
+-- the same beside tiles
+pub devices_of_four : {R : Type 0} (counts : R → FaultCounts) (tiles tiles_then : List (TileInput R)) (ps ps_then : AuditProducts R) {F : Type 0} → names_of tiles_then ≡ names_of tiles →
+    SomeReadFails (map counts (devices_of tiles (as_five ps))) (map counts (devices_of tiles_then (as_five ps_then))) F →
+    SomeReadFails (map counts (audit_devices tiles ps)) (map counts (audit_devices tiles_then ps_then)) F
+devices_of_four {R} counts tiles tiles_then ps ps_then names fails = set_devices_of_four counts tile_devices tiles tiles_then ps ps_then as_many fails
+  where
+    as_many : length (map counts (tile_devices tiles)) ≡ length (map counts (tile_devices tiles_then))
+    as_many =
+        let many = ap length names in
+        omega (
+          arith,
+          many,
+          length-map (tile_devices tiles) counts,
+          length-map (tile_devices tiles_then) counts,
+          length-map tiles (λ (t : TileInput R). t.body),
+          length-map tiles_then (λ (t : TileInput R). t.body),
+          length-map tiles (λ (t : TileInput R). t.name),
+          length-map tiles_then (λ (t : TileInput R). t.name),
+        )

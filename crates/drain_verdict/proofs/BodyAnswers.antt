@@ -1,88 +1,55 @@
--- What tiles, rasters and seams say of the inputs: no refusal of their kinds applies, or theirs is the first.
-use Rattle.std.proofs.Common.{◌≡◌, ℕ, ◌<◌, List, slice_get, Some, arith, refl, subst}
-use Rattle.std.specs.List.{All}
-use Rattle.std.proofs.lemmas.Option.{get_or_from_slice_get, slice_get_within}
-use Rattle.drain_grid.specs.declared.cell.Cell.{Cell}
+-- What a ground and its rasters say of a set: no refusal of their kinds applies, or theirs is the first.
+use Rattle.std.proofs.Common.{◌≡◌, ℕ, ◌+◌, ◌<◌, Some, None, refl, subst}
+use Rattle.drain_answer.specs.declared.refusal.Refusal.{Refusal}
+use Rattle.drain_answer.specs.declared.refusal.Refusal.TheVariants.{RasterShort}
 use Rattle.drain_grid.specs.declared.set_product.SetProduct.{SetProduct}
-use Rattle.drain_grid.specs.Extent.{index_of}
 use Rattle.drain_grid.specs.SetProduct.{product_of, rank_of}
 use Rattle.drain_grid.proofs.ByProduct.{of_held}
-use Rattle.drain_hgt.specs.Corner.{Corner}
-use Rattle.drain_hgt.specs.Samples.{IsTile}
-use Rattle.drain_hgt.specs.Inputs.{IsFirstBadLength}
 use Rattle.drain_raster.specs.Pixels.{IsShort}
-use Rattle.drain_mosaic.specs.Tiling as tiling
-use Rattle.drain_mosaic.specs.GivenTiles.{IsFirstRepeated}
-use Rattle.drain_mosaic.specs.Mosaic.{TilesAgree, IsFirstSeam}
-use Rattle.drain_answer.specs.declared.refusal.Refusal.{Refusal}
-use Rattle.drain_answer.specs.declared.refusal.Refusal.TheVariants.{RepeatedTile, BadTileLength, RasterShort, SeamMismatch, OutOfMemory, ReadFailed}
-use Rattle.drain_verdict.specs.Inputs.{Inputs}
-use Rattle.drain_verdict.specs.Meaning.{tiling_of, input_tiles, fields_of}
-use Rattle.drain_verdict.specs.Refusals.{HasBadLength, IsSeamFault, Stands, NoneStandsBefore, refusal_order, place_among}
-use Rattle.drain_verdict.specs.Answers.{IsRefusal}
-use Rattle.drain_verdict.specs.Stages.{IsTileRefusal}
-use Rattle.drain_verdict.proofs.Order.{at_tile, at_raster, at_seam, none_more, first_of}
-use Rattle.drain_verdict.proofs.LayoutAnswers.{place_of_tile, earlier_by_index}
+use Rattle.drain_verdict.specs.Ground.{IsFirstOwn, IsToldOf, NoneRefusesBefore, refusal_kind}
+use Rattle.drain_verdict.specs.GroundSets.{GroundSet, IsRefusalIn, NoneStandsIn, StandsIn, place_in}
+use Rattle.drain_verdict.specs.Texts.{set_fields}
+use Rattle.drain_verdict.proofs.Order.{IsOwn, at_raster, first_is, first_of, none_more, own_early, own_length, own_values}
 
--- a body in its place has the length that all have
-length_at : (side : ℕ) (bodies : List (List ℕ)) (k : ℕ) (body : List ℕ) → All (IsTile side) bodies → slice_get bodies k ≡ Some body → IsTile side body
-length_at side bodies k body all at = subst (IsTile side) (get_or_from_slice_get bodies k body body at) (all k body (slice_get_within bodies k body at))
+-- where a ground alone isn't refused, no refusal of a kind before headers applies
+pub early_none : (s : GroundSet) → NoneRefusesBefore s.terrain 4 → NoneStandsIn s 4
+early_none s none b less stands = none b less ((own_early s b less).stands stands)
 
--- where all have the length of tiles, none has another
-pub none_of_another_length : (i : Inputs) → All (IsTile i.side) i.tiles → (c : Corner) → ¬ HasBadLength i c
-none_of_another_length i all c bad = bad.length_is_not (length_at i.side i.tiles bad.place bad.body all bad.body_is)
+module _ (s : GroundSet) (kind : ℕ) (own : (b : Refusal) → refusal_kind b ≡ kind → IsOwn s b) where
+  -- no refusal of its own of this kind
+  own_none : IsToldOf s.terrain kind None → NoneStandsIn s kind → NoneStandsIn s (kind + 1)
+  own_none told none = none_more (StandsIn s) kind none (λ b is stands. told b is ((own b is).stands stands))
 
-pub tiles_none : (i : Inputs) → All (IsTile i.side) i.tiles → NoneStandsBefore i 5 → NoneStandsBefore i 6
-tiles_none i all none = none_more i (Stands i) 5 none (at_tile i (λ b. ¬ Stands i b) (none_of_another_length i all))
+  -- or this one is the first
+  own_refused : (refusal : Refusal) → IsFirstOwn s.terrain kind refusal → NoneStandsIn s kind → IsRefusalIn s refusal
+  own_refused refusal told none =
+      let here = own refusal told.kind_is in
+      let place = here.place_is in
+      let kind_is = told.kind_is in
+      let at : (refusal_kind refusal, place_in s refusal) ≡ (kind, s.terrain.among refusal) = (λ k. (kind_is k, place k)) in
+      first_is s refusal (first_of s (StandsIn s) kind (s.terrain.among refusal) refusal at (here.refuses told.refuses) none
+      (λ b is less stands. told.first b is (subst (λ n. n < s.terrain.among refusal) (own b is).place_is less) ((own b is).stands stands)))
 
--- the first body of another length is that of the first such tile
-pub first_of_another_length : (i : Inputs) (c : Corner) (place : ℕ) → ((d : Corner) → ¬ IsFirstRepeated i.corners d) → slice_get i.corners place ≡ Some c →
-    IsFirstBadLength i.side i.tiles place → HasBadLength i c × ((d : Corner) → place_among i.corners d < place_among i.corners c → ¬ HasBadLength i d)
-first_of_another_length i c place distinct at first =
-    let here : place_among i.corners c ≡ place = place_of_tile i.corners distinct c place at in (
-      record { place = place; body = first.body; corner_is = at; body_is = first.body_is; length_is_not = first.length_is_not },
-      λ d less bad. bad.length_is_not (first.before bad.place bad.body (omega (arith, less, here, place_of_tile i.corners distinct d bad.place bad.corner_is)) bad.body_is),
-    )
+pub length_none : (s : GroundSet) → IsToldOf s.terrain 5 None → NoneStandsIn s 5 → NoneStandsIn s 6
+length_none s told none = own_none s 5 (own_length s) told none
 
--- the refusal of a tile is the first
-pub tile_refused : (i : Inputs) (refusal : Refusal) → IsTileRefusal (tiling_of i) i.tiles refusal → NoneStandsBefore i 5 → IsRefusal i refusal
-tile_refused i (BadTileLength c) bad none =
-    let told = first_of_another_length i c bad.0 (λ d. none (RepeatedTile d) (omega arith)) bad.1 bad.2 in
-    first_of i (Stands i) 5 (place_among i.corners c) (BadTileLength c) refl told.0 none (at_tile i (λ b. (refusal_order i b).1 < place_among i.corners c → ¬ Stands i b) told.1)
-tile_refused i OutOfMemory bad none = tt
-tile_refused i ReadFailed bad none = tt
-tile_refused i refusal bad none = absurd bad
+pub length_refused : (s : GroundSet) (refusal : Refusal) → IsToldOf s.terrain 5 (Some refusal) → NoneStandsIn s 5 → IsRefusalIn s refusal
+length_refused s refusal told none = own_refused s 5 (own_length s) refusal told none
 
-pub rasters_none : (i : Inputs) → ((p : SetProduct) → ¬ IsShort (fields_of i p) (i.raster p)) → NoneStandsBefore i 6 → NoneStandsBefore i 7
-rasters_none i long none =
-    none_more i (Stands i) 6 none (at_raster i (λ b. ¬ Stands i b) (λ b no. no) (λ p stands. long p ((of_held (λ h. IsShort (fields_of i h) (i.raster h)) p).0 stands)))
+pub values_none : (s : GroundSet) → IsToldOf s.terrain 7 None → NoneStandsIn s 7 → NoneStandsIn s 8
+values_none s told none = own_none s 7 (own_values s) told none
+
+pub values_refused : (s : GroundSet) (refusal : Refusal) → IsToldOf s.terrain 7 (Some refusal) → NoneStandsIn s 7 → IsRefusalIn s refusal
+values_refused s refusal told none = own_refused s 7 (own_values s) refusal told none
+
+pub rasters_none : (s : GroundSet) → ((p : SetProduct) → ¬ IsShort (set_fields s.texts p) (s.texts.raster p)) → NoneStandsIn s 6 → NoneStandsIn s 7
+rasters_none s long none =
+    none_more (StandsIn s) 6 none (at_raster s (λ b. ¬ StandsIn s b) (λ b no. no) (λ p stands. long p ((of_held (λ h. IsShort (set_fields s.texts h) (s.texts.raster h)) p).0 stands)))
 
 -- the refusal of a raster is the first
-pub raster_refused : (i : Inputs) (p : SetProduct) → IsShort (fields_of i p) (i.raster p) → ((q : SetProduct) → rank_of q < rank_of p → ¬ IsShort (fields_of i q) (i.raster q)) →
-    NoneStandsBefore i 6 → IsRefusal i (RasterShort (product_of p))
-raster_refused i p short before none =
-    let is_short = of_held (λ h. IsShort (fields_of i h) (i.raster h)) in
-    first_of i (Stands i) 6 (rank_of p) (RasterShort (product_of p)) refl ((is_short p).1 short) none
-    (at_raster i (λ b. (refusal_order i b).1 < rank_of p → ¬ Stands i b) (λ b no less. no) (λ q less stands. before q less ((is_short q).0 stands)))
-
--- where tiles agree, no cell has two values
-pub none_of_two_values : (i : Inputs) → TilesAgree (tiling_of i) (input_tiles i) → (c : Cell) → ¬ IsSeamFault i c
-none_of_two_values i agree c fault = fault.1.differ (agree c fault.1.one fault.1.other fault.0 fault.1.is_one fault.1.is_other)
-
-pub seams_none : (i : Inputs) → TilesAgree (tiling_of i) (input_tiles i) → NoneStandsBefore i 7 → NoneStandsBefore i 8
-seams_none i agree none = none_more i (Stands i) 7 none (at_seam i (λ b. ¬ Stands i b) (none_of_two_values i agree))
-
--- the first cell where tiles differ has two values, and none before it
-pub first_of_two_values : (i : Inputs) (c : Cell) → IsFirstSeam (tiling_of i) (input_tiles i) c →
-    IsSeamFault i c × ((b : Cell) → index_of (tiling.extent_of (tiling_of i)) b < index_of (tiling.extent_of (tiling_of i)) c → ¬ IsSeamFault i b)
-first_of_two_values i c first = (
-  (first.inside, first.differ),
-  λ b less fault. first.first b fault.0 (earlier_by_index (tiling.extent_of (tiling_of i)) b c fault.0 first.inside less) fault.1,
-)
-
--- the refusal of a seam is the first
-pub seam_refused : (i : Inputs) (c : Cell) → IsFirstSeam (tiling_of i) (input_tiles i) c → NoneStandsBefore i 7 → IsRefusal i (SeamMismatch c)
-seam_refused i c first none =
-    let e = tiling.extent_of (tiling_of i) in
-    let told = first_of_two_values i c first in
-    first_of i (Stands i) 7 (index_of e c) (SeamMismatch c) refl told.0 none (at_seam i (λ b. (refusal_order i b).1 < index_of e c → ¬ Stands i b) told.1)
+pub raster_refused : (s : GroundSet) (p : SetProduct) → IsShort (set_fields s.texts p) (s.texts.raster p) → ((q : SetProduct) → rank_of q < rank_of p → ¬ IsShort (set_fields s.texts q) (s.texts.raster q)) →
+    NoneStandsIn s 6 → IsRefusalIn s (RasterShort (product_of p))
+raster_refused s p short before none =
+    let is_short = of_held (λ h. IsShort (set_fields s.texts h) (s.texts.raster h)) in
+    first_of s (StandsIn s) 6 (rank_of p) (RasterShort (product_of p)) refl ((is_short p).1 short) none
+    (at_raster s (λ b. place_in s b < rank_of p → ¬ StandsIn s b) (λ b no less. no) (λ q less stands. before q less ((is_short q).0 stands)))

@@ -6,7 +6,7 @@ use Rattle.drain_hgt.specs.declared.input.TileInput.{TileInput}
 use Rattle.drain_hgt.specs.Inputs.{TilesTakeAtMost, names_of}
 use Rattle.drain_grid.specs.PerProduct.{of_product}
 use Rattle.drain_verdict.specs.Inputs.{as_five, Products, AreNames}
-use Rattle.drain_verdict.specs.Uses.{devices_of, AuditUses, UsesInputs}
+use Rattle.drain_verdict.specs.Uses.{devices_of, AreNamesKept, AuditUses, UsesInputs, UsesSet}
 use Rattle.drain_verdict.specs.Refusals.{IsOfBodies}
 use Rattle.drain_verdict.specs.declared.audit_products.AuditProducts.{AuditProducts}
 use Rattle.drain_answer.specs.declared.refusal.Refusal.{Refusal}
@@ -24,7 +24,8 @@ use Rattle.drain_grid.specs.declared.set_product.SetProduct.{SetProduct}
 use Rattle.drain_grid.proofs.ByProduct.{by_set_product}
 use Rattle.drain_grid.specs.declared.set_product.SetProduct.TheVariants.{Con, Dir, Acc, Bas, Rnk}
 use Rattle.drain_raster.specs.declared.raster_rows.RasterRows.{RasterRows}
-use Rattle.drain_verdict.specs.InputReads.{RasterHasRead, RastersHaveRead, gave_up, told_by}
+use Rattle.drain_verdict.specs.InputReads.{RasterHasRead, RastersHaveRead}
+use Rattle.drain_verdict.specs.Reading.{gave_up, told_by}
 
 -- How an answer uses its inputs: where none was called, and of four products of which one is read twice.
 
@@ -38,40 +39,55 @@ same_in Same (Ok x) same = tt
 same_in Same (Err refusal) same = λ not. same
 
 -- if no device was called, all is as it was
-pub uses_none : {R P T : Type 0} (inputs_of : P → Products R) (devices : List (TileInput R) → P → List R) (bytes_left : R → Option (List ℕ)) (counts : R → FaultCounts) (side : ℕ)
-    (tiles : List (TileInput R)) (ps : P) (answer : Result T Refusal) → ¬ IsErrOf answer ReadFailed → UsesInputs inputs_of devices bytes_left counts side (tiles, ps) (tiles, ps) answer
-uses_none inputs_of devices bytes_left counts side tiles ps answer not = record {
-  tiles_within = tiles_take_none bytes_left side tiles;
+pub set_uses_none : {X R P T : Type 0} (inputs_of : P → Products R) (devices : List X → P → List R) (IsWithin IsKept : List X → List X → Type 0) (bytes_left : R → Option (List ℕ)) (counts : R → FaultCounts)
+    (inputs : List X) (ps : P) (answer : Result T Refusal) → IsWithin inputs inputs → IsKept inputs inputs → ¬ IsErrOf answer ReadFailed →
+    UsesSet inputs_of devices IsWithin IsKept bytes_left counts (inputs, ps) (inputs, ps) answer
+set_uses_none inputs_of devices IsWithin IsKept bytes_left counts inputs ps answer within kept not = record {
+  inputs_within = within;
   rasters_within = λ p. takes-none _ (bytes_left (of_product (inputs_of ps) p).body);
-  faults = SomeReadFails-none (map counts (devices tiles ps)) not;
-  names = refl;
+  faults = SomeReadFails-none (map counts (devices inputs ps)) not;
+  kept = kept;
   headers = λ p. refl;
   untouched = same_in _ answer (refl, refl);
 }
 
--- an answer of another type that says the same of reads and refusals uses them alike, and so with an equal side
+pub uses_none : {R P T : Type 0} (inputs_of : P → Products R) (devices : List (TileInput R) → P → List R) (bytes_left : R → Option (List ℕ)) (counts : R → FaultCounts) (side : ℕ)
+    (tiles : List (TileInput R)) (ps : P) (answer : Result T Refusal) → ¬ IsErrOf answer ReadFailed → UsesInputs inputs_of devices bytes_left counts side (tiles, ps) (tiles, ps) answer
+uses_none inputs_of devices bytes_left counts side tiles ps answer not =
+    set_uses_none inputs_of devices (TilesTakeAtMost bytes_left side) AreNamesKept bytes_left counts tiles ps answer (tiles_take_none bytes_left side tiles) refl not
+
+-- an answer of another type that says the same of reads and refusals uses them alike
+pub set_uses_alike : {X R P A B : Type 0} (inputs_of : P → Products R) (devices : List X → P → List R) (IsWithin IsKept : List X → List X → Type 0) (bytes_left : R → Option (List ℕ)) (counts : R → FaultCounts)
+    (old new : List X × P) (answer : Result A Refusal) (other : Result B Refusal) →
+    IsErrOf answer ReadFailed ↔ IsErrOf other ReadFailed → IfErr other (λ refusal. ¬ IsOfBodies refusal → (new.0 ≡ old.0) × (new.1 ≡ old.1)) →
+    UsesSet inputs_of devices IsWithin IsKept bytes_left counts old new answer → UsesSet inputs_of devices IsWithin IsKept bytes_left counts old new other
+set_uses_alike inputs_of devices IsWithin IsKept bytes_left counts old new answer other alike untouched uses = record {
+  inputs_within = uses.inputs_within;
+  rasters_within = uses.rasters_within;
+  faults = SomeReadFails-iff alike uses.faults;
+  kept = uses.kept;
+  headers = uses.headers;
+  untouched = untouched;
+}
+
+-- and so of tiles with an equal side
 pub uses_alike : {R P A B : Type 0} (inputs_of : P → Products R) (devices : List (TileInput R) → P → List R) (bytes_left : R → Option (List ℕ)) (counts : R → FaultCounts) (side other_side : ℕ)
     (old new : List (TileInput R) × P) (answer : Result A Refusal) (other : Result B Refusal) →
     side ≡ other_side → IsErrOf answer ReadFailed ↔ IsErrOf other ReadFailed → IfErr other (λ refusal. ¬ IsOfBodies refusal → (new.0 ≡ old.0) × (new.1 ≡ old.1)) →
     UsesInputs inputs_of devices bytes_left counts side old new answer → UsesInputs inputs_of devices bytes_left counts other_side old new other
-uses_alike inputs_of devices bytes_left counts side other_side old new answer other same alike untouched uses = record {
-  tiles_within = subst (λ s. TilesTakeAtMost bytes_left s old.0 new.0) same uses.tiles_within;
-  rasters_within = uses.rasters_within;
-  faults = SomeReadFails-iff alike uses.faults;
-  names = uses.names;
-  headers = uses.headers;
-  untouched = untouched;
-}
+uses_alike inputs_of devices bytes_left counts side other_side old new answer other same alike untouched uses =
+    subst (λ (s : ℕ). UsesInputs inputs_of devices bytes_left counts s old new other) same
+    (set_uses_alike inputs_of devices (TilesTakeAtMost bytes_left side) AreNamesKept bytes_left counts old new answer other alike untouched uses)
 
 -- four products of which one is read twice: that one counts once
 pub four_used : {R A B : Type 0} (bytes_left : R → Option (List ℕ)) (counts : R → FaultCounts) (side : ℕ) (old new : List (TileInput R) × AuditProducts R) (answer : Result A Refusal) (audit : Result B Refusal) →
     IsErrOf answer ReadFailed ↔ IsErrOf audit ReadFailed → IfErr audit (λ refusal. ¬ IsOfBodies refusal → (new.0 ≡ old.0) × (new.1 ≡ old.1)) →
     UsesInputs as_five (λ ts ps. devices_of ts (as_five ps)) bytes_left counts side old new answer → AuditUses bytes_left counts side old new audit
 four_used bytes_left counts side old new answer audit alike untouched uses = record {
-  tiles_within = uses.tiles_within;
+  inputs_within = uses.inputs_within;
   rasters_within = uses.rasters_within;
-  faults = SomeReadFails-iff alike (devices_of_four counts old.0 new.0 old.1 new.1 uses.names uses.faults);
-  names = uses.names;
+  faults = SomeReadFails-iff alike (devices_of_four counts old.0 new.0 old.1 new.1 uses.kept uses.faults);
+  kept = uses.kept;
   headers = uses.headers;
   untouched = untouched;
 }

@@ -11,7 +11,11 @@ use Rattle.drain_hgt.specs.declared.name.NameFault.TheVariants.{BadForm, BadRang
 use Rattle.drain_hgt.specs.Corner.{Corner}
 use Rattle.drain_hgt.specs.Name.{IsNameOf, MeansName}
 use Rattle.drain_hgt.specs.Inputs.{names_of}
-use Rattle.drain_verdict.specs.Refusals.{IsBadName, place_among, Stands, NoneStandsBefore, refusal_order}
+use Rattle.drain_verdict.specs.Refusals.{Stands, NoneStandsBefore}
+use Rattle.drain_verdict.specs.GroundSets.{place_in}
+use Rattle.drain_verdict.specs.Ground.{refusal_kind}
+use Rattle.drain_verdict.specs.TileGround.{IsBadName, place_among, set_of}
+use Rattle.drain_verdict.specs.Meaning.{tiling_of}
 use Rattle.drain_verdict.specs.Stages.{IsFirstBadName, IsLayoutOf, IsLayoutRefusal, IsLayoutFault}
 use Rattle.std.proofs.Math.Decide.{dec_lt}
 use Rattle.std.proofs.Math.Nat.{mul-le-mul_right}
@@ -27,7 +31,6 @@ use Rattle.drain_mosaic.specs.Tiling.{Tiling}
 use Rattle.drain_answer.specs.declared.refusal.Refusal.{Refusal}
 use Rattle.drain_answer.specs.declared.refusal.Refusal.TheVariants.{BadSide, BadName, NoTiles, RepeatedTile, BoxTooLarge, OutOfMemory, ReadFailed}
 use Rattle.drain_verdict.specs.Inputs.{Inputs, AreNames}
-use Rattle.drain_verdict.specs.Meaning.{tiling_of}
 use Rattle.drain_verdict.specs.Answers.{IsRefusal}
 use Rattle.drain_verdict.proofs.Order.{at_side, at_name, at_layout, none_first, none_more, first_of}
 use Rattle.drain_mosaic.specs.declared.layout.LayoutFault.TheVariants as layout
@@ -192,8 +195,8 @@ same_corners one i told corners named = one_list one i.names corners i.corners n
 -- if the side is a tile's and the names are those of tiles, no refusal of the first two kinds applies
 named_none : (i : Inputs) (corners : List Corner) → IsSide i.side → AllZip IsNameOf i.names corners → NoneStandsBefore i 3
 named_none i corners in_range named =
-    none_more i (Stands i) 2 (none_more i (Stands i) 1 (none_first i) (at_side i (λ b. ¬ Stands i b) (λ stands. stands in_range)))
-    (at_name i (λ b. ¬ Stands i b) (λ k. none_bad_in i.names corners named k))
+    none_more (Stands i) 2 (none_more (Stands i) 1 (none_first (set_of i)) (at_side (λ b. ¬ Stands i b) (λ stands. stands in_range) (λ fault no. no)))
+    (at_name (λ b. ¬ Stands i b) (λ k. none_bad_in i.names corners named k) (λ no. no))
 
 pub layout_is : OneName → (i : Inputs) → (AreNames i.names → AllZip IsNameOf i.names i.corners) → (t : Tiling) → IsLayoutOf i.side i.names t → t ≡ tiling_of i
 layout_is one i told t is =
@@ -204,8 +207,8 @@ layout_is one i told t is =
 pub layout_none : OneName → (i : Inputs) → (AreNames i.names → AllZip IsNameOf i.names i.corners) → (t : Tiling) → IsLayoutOf i.side i.names t → NoneStandsBefore i 4
 layout_none one i told t is =
     let sound : (fault : LayoutFault) → ¬ HasLayoutFault (tiling_of i) fault = subst (λ t. (fault : LayoutFault) → ¬ HasLayoutFault t fault) (layout_is one i told t is) is.sound in
-    none_more i (Stands i) 3 (named_none i t.corners is.in_range is.named)
-    (at_layout i (λ b. ¬ Stands i b) (sound layout.NoTiles) (λ c. sound (layout.RepeatedTile c)) (sound layout.BoxTooLarge))
+    none_more (Stands i) 3 (named_none i t.corners is.in_range is.named)
+    (at_layout (λ b. ¬ Stands i b) (sound layout.NoTiles) (λ c. sound (layout.RepeatedTile c)) (sound layout.BoxTooLarge))
 
 -- the fault of the list of tiles is that of the inputs
 first_fault : OneName → (i : Inputs) → (AreNames i.names → AllZip IsNameOf i.names i.corners) → (fault : LayoutFault) → IsLayoutFault i.side i.names fault →
@@ -215,27 +218,27 @@ first_fault one i told fault is =
 
 -- the refusal of a side or of names is the first
 pub layout_refused : OneName → (i : Inputs) → (AreNames i.names → AllZip IsNameOf i.names i.corners) → (refusal : Refusal) → IsLayoutRefusal i.side i.names refusal → IsRefusal i refusal
-layout_refused one i told BadSide bad = first_of i (Stands i) 1 0 BadSide refl bad (none_first i) (λ b at less. absurd (no_less b at less))
+layout_refused one i told BadSide bad = first_of (set_of i) (Stands i) 1 0 BadSide refl bad (none_first (set_of i)) (λ b at less. absurd (no_less b at less))
   where
-    no_less : (b : Refusal) → (refusal_order i b).0 ≡ 1 → (refusal_order i b).1 < 0 → ⊥
+    no_less : (b : Refusal) → refusal_kind b ≡ 1 → place_in (set_of i) b < 0 → ⊥
     no_less b at less = omega arith
 layout_refused one i told (BadName k) bad =
-    first_of i (Stands i) 2 k (BadName k) refl bad.1.bad (none_more i (Stands i) 1 (none_first i) (at_side i (λ b. ¬ Stands i b) (λ stands. stands bad.0)))
-    (at_name i (λ b. (refusal_order i b).1 < k → ¬ Stands i b) (λ j less. bad.1.first j less))
+    first_of (set_of i) (Stands i) 2 k (BadName k) refl bad.1.bad (none_more (Stands i) 1 (none_first (set_of i)) (at_side (λ b. ¬ Stands i b) (λ stands. stands bad.0) (λ fault no. no)))
+    (at_name (λ b. place_in (set_of i) b < k → ¬ Stands i b) (λ j less. bad.1.first j less) (λ less no. no))
 layout_refused one i told NoTiles bad =
     let first = first_fault one i told layout.NoTiles bad.1 in
-    first_of i (Stands i) 3 0 NoTiles refl first.holds (named_none i bad.1.corners bad.0 bad.1.named) (λ b at less. absurd (no_less b at less))
+    first_of (set_of i) (Stands i) 3 0 NoTiles refl first.holds (named_none i bad.1.corners bad.0 bad.1.named) (λ b at less. absurd (no_less b at less))
   where
-    no_less : (b : Refusal) → (refusal_order i b).0 ≡ 3 → (refusal_order i b).1 < 0 → ⊥
+    no_less : (b : Refusal) → refusal_kind b ≡ 3 → place_in (set_of i) b < 0 → ⊥
     no_less b at less = omega arith
 layout_refused one i told (RepeatedTile c) bad =
     let first = first_fault one i told (layout.RepeatedTile c) bad.1 in
-    first_of i (Stands i) 3 1 (RepeatedTile c) refl first.holds (named_none i bad.1.corners bad.0 bad.1.named)
-    (at_layout i (λ b. (refusal_order i b).1 < 1 → ¬ Stands i b) (λ less. first.first layout.NoTiles (inl (omega arith))) (λ d less. absurd (omega arith)) (λ less. absurd (omega arith)))
+    first_of (set_of i) (Stands i) 3 1 (RepeatedTile c) refl first.holds (named_none i bad.1.corners bad.0 bad.1.named)
+    (at_layout (λ b. place_in (set_of i) b < 1 → ¬ Stands i b) (λ less. first.first layout.NoTiles (inl (omega arith))) (λ d less. absurd (omega arith)) (λ less. absurd (omega arith)))
 layout_refused one i told BoxTooLarge bad =
     let first = first_fault one i told layout.BoxTooLarge bad.1 in
-    first_of i (Stands i) 3 2 BoxTooLarge refl first.holds (named_none i bad.1.corners bad.0 bad.1.named)
-    (at_layout i (λ b. (refusal_order i b).1 < 2 → ¬ Stands i b) (λ less. first.first layout.NoTiles (inl (omega arith))) (λ d less. first.first (layout.RepeatedTile d) (inl (omega arith))) (λ less. absurd (omega arith)))
+    first_of (set_of i) (Stands i) 3 2 BoxTooLarge refl first.holds (named_none i bad.1.corners bad.0 bad.1.named)
+    (at_layout (λ b. place_in (set_of i) b < 2 → ¬ Stands i b) (λ less. first.first layout.NoTiles (inl (omega arith))) (λ d less. first.first (layout.RepeatedTile d) (inl (omega arith))) (λ less. absurd (omega arith)))
 layout_refused one i told OutOfMemory bad = tt
 layout_refused one i told ReadFailed bad = tt
 layout_refused one i told refusal bad = absurd bad

@@ -16,3 +16,7 @@ pub mod RowGiven
 pub mod RowReads
 pub mod SinkAnswers
 pub mod StartAnswers
+pub mod TileBodies
+mod TileSteps
+pub mod DemSteps
+pub mod DemAnswers

@@ -2,7 +2,7 @@
 use Rattle.std.proofs.Common.{◌≡◌, ◌↔◌, ◌⊎◌, inl, inr, ℕ, false, IsTrue, List, Option, Some, None, Result, Ok, Err, IfOk, IsErrOf, arith, refl, sym, subst, ap}
 use Rattle.std.proofs.lemmas.Bool.{false≢true}
 use Rattle.drain_answer.specs.declared.refusal.Refusal.{Refusal}
-use Rattle.drain_answer.specs.declared.refusal.Refusal.TheVariants.{BadSinkLine, OutOfMemory, ReadFailed}
+use Rattle.drain_answer.specs.declared.refusal.Refusal.TheVariants.{OutOfMemory, ReadFailed}
 use Rattle.drain_grid.specs.declared.cell.Cell.{Cell}
 use Rattle.drain_grid.specs.declared.rule.Rule.TheVariants.{VoidCell, Missing, BadCode, BelowGround, OpenRaised, NoSpill, SpillHeight, SpillRank, NotLeast, SharedLabel}
 use Rattle.drain_grid.specs.declared.sink_line.SinkLine.{SinkLine}
@@ -11,7 +11,6 @@ use Rattle.drain_grid.specs.GridRules.{RulesHold}
 use Rattle.drain_grid.specs.Path.{IsLeastSurface}
 use Rattle.drain_grid.specs.PatchRules.{surface_rules}
 use Rattle.drain_grid.specs.Rule.{IsFillRule}
-use Rattle.drain_grid.specs.SinkTexts.{sinks_of}
 use Rattle.drain_grid.specs.Values.{NoDataNumbers}
 use Rattle.drain_grid.specs.declared.judged.Judged.{Judged}
 use Rattle.drain_grid.specs.declared.judged.Judged.TheVariants.{Con, ConDir, ConDirAcc, ConDirBas, All, AllWithRanks}
@@ -23,9 +22,7 @@ use Rattle.drain_rows.specs.GridRows.{AllRunsEnd}
 use Rattle.drain_grid.specs.declared.verdict.Counts.{Counts}
 use Rattle.drain_grid.specs.declared.verdict.Verdict.{Verdict}
 use Rattle.drain_grid.specs.declared.verdict.Verdict.TheVariants as checked
-use Rattle.drain_verdict.specs.Answers.{AreReadable}
 use Rattle.drain_verdict.specs.Inputs.{Inputs}
-use Rattle.drain_verdict.specs.Meaning.{lines_in, listed_in}
 use Rattle.drain_verdict.specs.Outcomes.{IsOfSurface, IsOfWays, IsOutcomeOf, IsConOutcome, IsOutcome, IsOutcomeAnswer, IsRankOutcome, IsWayOutcome, rules_of}
 use Rattle.drain_laws.proofs.SurfacePart.{at_ground, not_raised}
 use Rattle.drain_verdict.specs.Deciding.{AreFlowsFor, AreFlowsLeft, IsDecided, IsEndlessCell}
@@ -96,14 +93,6 @@ flows_left judged g ps extent flows (inr (inr (inr is))) left = subst (λ (j : J
 -- a list is of one list of sinks
 pub same_listed : (lines : Result (List SinkLine) ℕ) (a b : List SinkLine) → lines ≡ Ok a → lines ≡ Ok b → a ≡ b
 same_listed lines a b is_a is_b = cc
-
--- a list that isn't refused is one of sinks
-pub listed_ok : (i : Inputs) → AreReadable i → sinks_of i.sinks ≡ Ok (listed_in i)
-listed_ok i readable = by_lines (sinks_of i.sinks) (λ n is. readable (BadSinkLine n) is)
-  where
-    by_lines : (lines : Result (List SinkLine) ℕ) → ((n : ℕ) → lines ≡ Err n → ⊥) → lines ≡ Ok (lines_in lines)
-    by_lines (Ok sinks) good = refl
-    by_lines (Err n) good = absurd (good n refl)
 
 -- neither says that a read failed
 pub memory_alike : {A B : Type 0} (a : A) → IsErrOf (Ok a) ReadFailed ↔ IsErrOf {T = B} (Err OutOfMemory) ReadFailed

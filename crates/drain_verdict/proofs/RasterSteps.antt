@@ -1,6 +1,6 @@
 -- One more call of a raster's rows, after a given number.
-use Rattle.std.proofs.Common.{◌≡◌, ◌↔◌, ℕ, zero, suc, ◌+◌, ℤ, List, [], Option, Some, None, Ok, Err, refl, sym, ap, subst, ◌∙◌, arith}
-use Rattle.drain_device.specs.RowSteps.{Coming, after_rows, nth_row, Gives, IsEmptyUnlessRow, Steps, coming_at, progress_after}
+use Rattle.std.proofs.Common.{◌≡◌, ◌↔◌, ◌≤◌, ℕ, zero, suc, ◌+◌, ℤ, List, [], length, Option, Some, None, Ok, Err, refl, sym, ap, subst, ◌∙◌, arith}
+use Rattle.drain_device.specs.RowSteps.{Coming, after_rows, nth_row, Gives, IsEmptyUnlessRow, IsLong, Steps, coming_at, progress_after}
 use Rattle.drain_device.specs.RowSteps.Coming.{Next, End, Wrong}
 use Rattle.drain_device.specs.declared.row_source.RowStep.{RowStep}
 use Rattle.drain_device.specs.declared.row_source.RowStep.TheVariants.{Row, Ended}
@@ -112,3 +112,8 @@ was_short old new (Some bytes) known_then out start n stopped progress same empt
       after = subst (λ k. IsAfterTold new k start (n + 1)) (sym same) told;
       out_is = empty ∙ taken.out_is;
     }
+
+-- a row isn't longer than this
+pub narrow : (step : RowStep) (cols most : ℕ) (out : List ℤ) → cols ≤ most → IsLong cols (Ok step) out → IsEmptyUnlessRow (Ok step) out → length out ≤ most
+narrow Row cols most out fits long empty = omega (arith, fits, long)
+narrow Ended cols most out fits long empty = let none : length out ≡ 0 = ap length empty in omega (arith, none)

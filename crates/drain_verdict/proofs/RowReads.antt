@@ -1,16 +1,13 @@
 -- One more row of all inputs: what was read of each device.
-use Rattle.std.proofs.Common.{◌≡◌, ◌↔◌, ◌⊎◌, ℕ, false, inl, inr, IsTrue, List, [], length, Option, Some, None, refl, ap, subst, sym, ◌∙◌, arith, length-append, ◌++◌}
+use Rattle.std.proofs.Common.{◌≡◌, ◌↔◌, ◌⊎◌, ℕ, Bool, true, false, inl, inr, IsTrue, List, [], Option, Some, None, refl, ap, subst, sym, ◌∙◌, arith, length-append, ◌++◌}
 use Rattle.std.proofs.KnownBytes.{Consumes-nil, Consumes-trans}
 use Rattle.drain_device.specs.declared.counts.FaultCounts.{FaultCounts}
 use Rattle.drain_device.proofs.FaultLists.{PartFails-none, PartFails-then}
 use Rattle.drain_grid.specs.declared.per_product.PerProduct.{PerProduct}
 use Rattle.drain_grid.specs.PerProduct.{of_product}
-use Rattle.drain_hgt.specs.declared.input.TileInput.{TileInput}
-use Rattle.drain_mosaic.specs.PlacedRows.{HaveRead}
-use Rattle.drain_mosaic.proofs.TileReads.{reads-then}
 use Rattle.drain_raster.specs.declared.raster_rows.RasterRows.{RasterRows}
-use Rattle.drain_verdict.specs.InputReads.{InputsHaveRead, IsOfReading, RasterHasRead, RastersHaveRead, Reading, gave_up, product_body, readers, tiles_lent}
-use Rattle.drain_hgt.specs.Inputs.{names_of}
+use Rattle.drain_verdict.specs.InputReads.{InputsHaveRead, RasterHasRead, RastersHaveRead, Reading, elevations_at, product_body, readers}
+use Rattle.drain_verdict.specs.Reading.{IsOfReading, gave_up}
 use Rattle.drain_verdict.specs.Inputs.{Products}
 use Rattle.drain_verdict.specs.declared.input_rows.InputRows.{InputRows}
 use Rattle.drain_answer.specs.declared.refusal.Refusal.{Refusal}
@@ -25,7 +22,7 @@ raster_none known counts raster Fails never = record {
 }
 
 -- calls that didn't fail, and then more
-raster_then : (a b c : Option (List ℕ)) (counts between after : FaultCounts) (r s t : RasterRows) (F G : Type 0) → (F → ⊥) →
+pub raster_then : (a b c : Option (List ℕ)) (counts between after : FaultCounts) (r s t : RasterRows) (F G : Type 0) → (F → ⊥) →
     RasterHasRead a b counts between r s F → RasterHasRead b c between after s t G → RasterHasRead a c counts after r t G
 raster_then a b c counts between after r s t F G never one other = record {
   within = (
@@ -46,6 +43,11 @@ none_failed exactly = (
   λ b. let wrong = exactly.1 (inr b) in cc,
 )
 
+-- what is not so is false
+is_false : (b : Bool) → (IsTrue b → ⊥) → b ≡ false
+is_false true never = absurd (never refl)
+is_false false never = refl
+
 -- no product was called
 pub rasters_none : {R : Type 0} (bl : R → Option (List ℕ)) (ct : R → FaultCounts) (rasters : PerProduct RasterRows) (ps : Products R) → RastersHaveRead bl ct rasters rasters ps ps None
 rasters_none bl ct rasters ps = record {
@@ -55,56 +57,54 @@ rasters_none bl ct rasters ps = record {
   headers = λ p. refl;
 }
 
--- calls that didn't fail, and then more
-pub reads_then : {R : Type 0} (bl : R → Option (List ℕ)) (ct : R → FaultCounts) (start between after : Reading R) (told : Option Refusal) →
-    InputsHaveRead bl ct start between None → InputsHaveRead bl ct between after told → InputsHaveRead bl ct start after told
-reads_then {R} bl ct start between after told one other =
-    let well = none_failed one.exactly in
-    record {
-      tile_failed = other.tile_failed;
-      product_failed = other.product_failed;
-      exactly = other.exactly;
-      of_reading = other.of_reading;
-      counted = other.counted ∙ one.counted;
-      as_many = other.as_many ∙ one.as_many;
-      tiles = reads-then R bl ct (readers start).mosaic.tiles.items (readers between).mosaic.tiles.items (readers after).mosaic.tiles.items (tiles_lent start) (tiles_lent between) (tiles_lent after)
-          (IsTrue one.tile_failed) (IsTrue other.tile_failed) well.0 one.counted one.tiles other.tiles;
-      products = λ p. raster_then (bl (product_body start p)) (bl (product_body between p)) (bl (product_body after p)) (ct (product_body start p)) (ct (product_body between p)) (ct (product_body after p))
-          (of_product (readers start).rasters p) (of_product (readers between).rasters p) (of_product (readers after).rasters p)
-          (IsTrue (one.product_failed p)) (IsTrue (other.product_failed p)) (λ f. well.1 (p, f)) (one.products p) (other.products p);
-      names = other.names ∙ one.names;
-      headers = λ p. other.headers p ∙ one.headers p;
-    }
+module _ {M X R : Type 0} (has_read : M × List X → M × List X → Bool → Type 0) (bl : R → Option (List ℕ)) (ct : R → FaultCounts) where
+  -- readings of the ground one after the other are one
+  abbrev pub Joined : Type 0
+  Joined = (a b c : M × List X) (failed : Bool) → has_read a b false → has_read b c failed → has_read a c failed
 
--- one call of the mosaic, and one of the products
-pub one_read : {R : Type 0} (bl : R → Option (List ℕ)) (ct : R → FaultCounts) (old new : InputRows) (from now : List (TileInput R)) (ps ps_then : Products R) (by_mosaic by_rasters told : Option Refusal) →
-    (told ≡ Some ReadFailed) ↔ (IsTrue (gave_up None by_mosaic) ⊎ (by_rasters ≡ Some ReadFailed)) → IsOfReading told →
-    length new.mosaic.tiles.items ≡ length old.mosaic.tiles.items → length now ≡ length from → names_of now ≡ names_of from →
-    HaveRead bl ct old.mosaic.tiles.items new.mosaic.tiles.items from now (IsTrue (gave_up None by_mosaic)) →
-    RastersHaveRead bl ct old.rasters new.rasters ps ps_then by_rasters → InputsHaveRead bl ct (old, from, ps) (new, now, ps_then) told
-one_read bl ct old new from now ps ps_then by_mosaic by_rasters told exactly of_reading counted as_many names tiles rasters = record {
-  tile_failed = gave_up None by_mosaic;
-  product_failed = rasters.failed;
-  exactly = (
-    λ is. elim (exactly.0 is) [ inl tile ↦ inl tile | inr raster ↦ inr (rasters.exactly.0 raster) ],
-    λ some. elim some [ inl tile ↦ exactly.1 (inl tile) | inr raster ↦ exactly.1 (inr (rasters.exactly.1 raster)) ],
-  );
-  of_reading = of_reading;
-  counted = counted;
-  as_many = as_many;
-  tiles = tiles;
-  products = rasters.each;
-  names = names;
-  headers = rasters.headers;
-}
+  -- calls that didn't fail, and then more
+  pub reads_then : Joined → (start between after : Reading M X R) (told : Option Refusal) →
+      InputsHaveRead has_read bl ct start between None → InputsHaveRead has_read bl ct between after told → InputsHaveRead has_read bl ct start after told
+  reads_then joined start between after told one other =
+      let well = none_failed one.exactly in
+      record {
+        elevations_failed = other.elevations_failed;
+        product_failed = other.product_failed;
+        exactly = other.exactly;
+        of_reading = other.of_reading;
+        elevations = joined (elevations_at start) (elevations_at between) (elevations_at after) other.elevations_failed
+            (subst (has_read (elevations_at start) (elevations_at between)) (is_false one.elevations_failed well.0) one.elevations) other.elevations;
+        products = λ p. raster_then (bl (product_body start p)) (bl (product_body between p)) (bl (product_body after p)) (ct (product_body start p)) (ct (product_body between p)) (ct (product_body after p))
+            (of_product (readers start).rasters p) (of_product (readers between).rasters p) (of_product (readers after).rasters p)
+            (IsTrue (one.product_failed p)) (IsTrue (other.product_failed p)) (λ f. well.1 (p, f)) (one.products p) (other.products p);
+        headers = λ p. other.headers p ∙ one.headers p;
+      }
 
--- the mosaic's refusal is the whole one's
-pub by_mosaic : (refusal : Refusal) → (Some refusal ≡ Some ReadFailed) ↔ (IsTrue (gave_up None (Some refusal)) ⊎ (nothing ≡ Some ReadFailed))
-by_mosaic refusal = (
+  -- one call of the ground, and one of the products
+  pub one_read : (old new : InputRows R M) (from now : List X) (ps ps_then : Products R) (by_ground by_rasters told : Option Refusal) →
+      (told ≡ Some ReadFailed) ↔ (IsTrue (gave_up None by_ground) ⊎ (by_rasters ≡ Some ReadFailed)) → IsOfReading told →
+      has_read (old.elevations, from) (new.elevations, now) (gave_up None by_ground) →
+      RastersHaveRead bl ct old.rasters new.rasters ps ps_then by_rasters → InputsHaveRead has_read bl ct (old, from, ps) (new, now, ps_then) told
+  one_read old new from now ps ps_then by_ground by_rasters told exactly of_reading elevations rasters = record {
+    elevations_failed = gave_up None by_ground;
+    product_failed = rasters.failed;
+    exactly = (
+      λ is. elim (exactly.0 is) [ inl elevation ↦ inl elevation | inr raster ↦ inr (rasters.exactly.0 raster) ],
+      λ some. elim some [ inl elevation ↦ exactly.1 (inl elevation) | inr raster ↦ exactly.1 (inr (rasters.exactly.1 raster)) ],
+    );
+    of_reading = of_reading;
+    elevations = elevations;
+    products = rasters.each;
+    headers = rasters.headers;
+  }
+
+-- the ground's refusal is the whole one's
+pub by_ground : (refusal : Refusal) → (Some refusal ≡ Some ReadFailed) ↔ (IsTrue (gave_up None (Some refusal)) ⊎ (nothing ≡ Some ReadFailed))
+by_ground refusal = (
   λ is. let same : refusal ≡ ReadFailed = cc in inl (subst (λ r. IsTrue (gave_up None (Some r))) (sym same) refl),
   λ either. elim either [ inl up ↦ ap Some (only_failed refusal up) | inr given_up ↦ absurd (let wrong = given_up in cc) ],
 )
 
--- and so is the products', where the mosaic gave its row
+-- and so is the products', where the ground gave its row
 pub by_rasters : (told : Option Refusal) → (told ≡ Some ReadFailed) ↔ (IsTrue (gave_up None None) ⊎ (told ≡ Some ReadFailed))
 by_rasters told = (λ is. inr is, λ either. elim either [ inl up ↦ absurd (let wrong = up in cc) | inr is ↦ is ])

@@ -1,4 +1,4 @@
--- What a list of sinks says of the inputs of a check: no refusal of its kinds applies, or its refusal is the first.
+-- What a list of sinks says of a set: no refusal of its kinds applies, or its refusal is the first.
 use Rattle.std.proofs.Common.{◌≡◌, ℕ, ◌<◌, is_none, is_some, not, true, false, ℤ, List, length, slice_get, Option, Some, None, Result, Ok, Err, inl, inr, arith, refl, sym, ap, subst, ◌∙◌}
 use Rattle.std.proofs.lemmas.Bool.{cases_lt, lt-ltb, le-ltb}
 use Rattle.std.proofs.lemmas.Bool.Decides.{nat_tests}
@@ -10,11 +10,9 @@ use Rattle.drain_grid.specs.Extent.{IsCellOf, same_cell, Extent}
 use Rattle.drain_grid.specs.Grid.{HasData}
 use Rattle.drain_grid.specs.OffData.{FoundOffDataIsRight, IsFirstOffData, IsLeastLine, IsLeastOff, IsOffAnswer}
 use Rattle.drain_grid.specs.SinkTexts.{is_listed, sinks_of}
-use Rattle.drain_verdict.specs.Answers.{AreReadable, IsRefusal}
-use Rattle.drain_verdict.specs.Inputs.{Inputs}
+use Rattle.drain_verdict.specs.GroundSets.{GroundSet, IsReadable, IsRefusalIn, NoneStandsIn, StandsIn, place_in, set_grid}
+use Rattle.drain_verdict.specs.Texts.{lines_in, set_listed}
 use Rattle.drain_rows.specs.GridRows.{AreListedVoids, has_data_but}
-use Rattle.drain_verdict.specs.Meaning.{input_grid, listed_in}
-use Rattle.drain_verdict.specs.Refusals.{NoneStandsBefore, Stands, refusal_order}
 use Rattle.drain_verdict.specs.Stages.{IsBadLine, IsToldOfSinks}
 use Rattle.drain_verdict.specs.declared.stages.SinkListing.{SinkListing}
 use Rattle.drain_answer.specs.declared.refusal.Refusal.{Refusal}
@@ -39,62 +37,70 @@ one_bad lines n m a b = let same : Err n ≡ Err m = sym a ∙ b in cc
 no_bad : (lines : Result (List SinkLine) ℕ) (n : ℕ) → IsBadLine lines None → lines ≡ Err n → ⊥
 no_bad lines n fine bad = let no : Ok fine.0 ≡ Err n = sym fine.1 ∙ bad in cc
 
-module _ (i : Inputs) (listing : SinkListing) (e : Extent) (voids : List Cell) (sinks_are : listing.sinks ≡ listed_in i) (bad_is : IsBadLine (sinks_of i.sinks) listing.bad)
-    (extent_is : e ≡ (input_grid i).extent) (voids_are : AreListedVoids (input_grid i) voids) where
+module _ (set : GroundSet) (listing : SinkListing) (e : Extent) (voids : List Cell) (sinks_are : listing.sinks ≡ set_listed set.texts) (bad_is : IsBadLine (sinks_of set.texts.sinks) listing.bad)
+    (extent_is : e ≡ (set_grid set).extent) (voids_are : AreListedVoids (set_grid set) voids) where
   -- the first bad line is reported first
-  bad_refused : (n : ℕ) → listing.bad ≡ Some n → NoneStandsBefore i 8 → IsRefusal i (BadSinkLine n)
+  bad_refused : (n : ℕ) → listing.bad ≡ Some n → NoneStandsIn set 8 → IsRefusalIn set (BadSinkLine n)
   bad_refused n is none =
-      let bad = subst (IsBadLine (sinks_of i.sinks)) is bad_is in
-      first_of i (Stands i) 8 n (BadSinkLine n) refl bad none
-      (at_bad_line i (λ b. (refusal_order i b).1 < n → ¬ Stands i b) (λ m less stands. let same = one_bad (sinks_of i.sinks) n m bad stands in omega (arith, less, same)))
+      let bad = subst (IsBadLine (sinks_of set.texts.sinks)) is bad_is in
+      first_of set (StandsIn set) 8 n (BadSinkLine n) refl bad none
+      (at_bad_line (λ b. place_in set b < n → ¬ StandsIn set b) (λ m less stands. let same = one_bad (sinks_of set.texts.sinks) n m bad stands in omega (arith, less, same)))
 
-  lines_none : listing.bad ≡ None → NoneStandsBefore i 8 → NoneStandsBefore i 9
+  lines_none : listing.bad ≡ None → NoneStandsIn set 8 → NoneStandsIn set 9
   lines_none is none =
-      none_more i (Stands i) 8 none
-      (at_bad_line i (λ b. ¬ Stands i b) (λ n stands. no_bad (sinks_of i.sinks) n (subst (IsBadLine (sinks_of i.sinks)) is bad_is) stands))
+      none_more (StandsIn set) 8 none
+      (at_bad_line (λ b. ¬ StandsIn set b) (λ n stands. no_bad (sinks_of set.texts.sinks) n (subst (IsBadLine (sinks_of set.texts.sinks)) is bad_is) stands))
 
   -- a listed cell has data exactly where it is said so
   told_there : (k : ℕ) (s : SinkLine) → slice_get listing.sinks k ≡ Some s →
-      (has_data_but e voids s.cell ≡ true → HasData (input_grid i) s.cell) × (has_data_but e voids s.cell ≡ false → ¬ HasData (input_grid i) s.cell)
+      (has_data_but e voids s.cell ≡ true → HasData (set_grid set) s.cell) × (has_data_but e voids s.cell ≡ false → ¬ HasData (set_grid set) s.cell)
   told_there k s at = elim (cases_lt s.cell.row e.rows) [
-    | inr past ↦ (let none = λ (has : HasData (input_grid i) s.cell). (let rows = ap (λ (x : Extent). x.rows) extent_is in let row = has.inside.row in absurd (omega (arith, past, rows, row))) in
+    | inr past ↦ (let none = λ (has : HasData (set_grid set) s.cell). (let rows = ap (λ (x : Extent). x.rows) extent_is in let row = has.inside.row in absurd (omega (arith, past, rows, row))) in
         (λ told. absurd (let no : false ≡ true = sym (rw (le-ltb s.cell.row e.rows past) refl) ∙ told in cc), λ told. none))
     | inl row ↦ elim (cases_lt s.cell.col e.cols) [
-      | inr past ↦ (let none = λ (has : HasData (input_grid i) s.cell). (let cols = ap (λ (x : Extent). x.cols) extent_is in let col = has.inside.col in absurd (omega (arith, past, cols, col))) in
+      | inr past ↦ (let none = λ (has : HasData (set_grid set) s.cell). (let cols = ap (λ (x : Extent). x.cols) extent_is in let col = has.inside.col in absurd (omega (arith, past, cols, col))) in
           (λ told. absurd (let no : false ≡ true = sym (rw (lt-ltb s.cell.row e.rows row, le-ltb s.cell.col e.cols past) refl) ∙ told in cc), λ told. none))
       | inl col ↦ (let rows = ap (λ (x : Extent). x.rows) extent_is in
           let cols = ap (λ (x : Extent). x.cols) extent_is in
-          let inside : IsCellOf (input_grid i).extent s.cell = record { row = omega (arith, row, rows); col = omega (arith, col, cols) } in
-          let listed : (input_grid i).sink s.cell ≡ true = ap (λ (lines : List SinkLine). is_listed lines s.cell) (sym sinks_are) ∙ listed_there listing.sinks k s at in
-          let said : has_data_but e voids s.cell ≡ is_some ((input_grid i).elevation s.cell) =
-          rw (lt-ltb s.cell.row e.rows row, lt-ltb s.cell.col e.cols col) (ap not (voids_are s.cell inside ∙ rw listed refl) ∙ twice ((input_grid i).elevation s.cell)) in
+          let inside : IsCellOf (set_grid set).extent s.cell = record { row = omega (arith, row, rows); col = omega (arith, col, cols) } in
+          let listed : (set_grid set).sink s.cell ≡ true = ap (λ (lines : List SinkLine). is_listed lines s.cell) (sym sinks_are) ∙ listed_there listing.sinks k s at in
+          let said : has_data_but e voids s.cell ≡ is_some ((set_grid set).elevation s.cell) =
+          rw (lt-ltb s.cell.row e.rows row, lt-ltb s.cell.col e.cols col) (ap not (voids_are s.cell inside ∙ rw listed refl) ∙ twice ((set_grid set).elevation s.cell)) in
           (λ told. record { inside = inside; is_data = sym said ∙ told }, λ told has. (let no : true ≡ false = sym has.is_data ∙ sym said ∙ told in cc)))
     ]
   ]
 
-  told_of_grid : (k : ℕ) (s : SinkLine) → slice_get (listed_in i) k ≡ Some s →
-      (has_data_but e voids s.cell ≡ true → HasData (input_grid i) s.cell) × (has_data_but e voids s.cell ≡ false → ¬ HasData (input_grid i) s.cell)
+  told_of_grid : (k : ℕ) (s : SinkLine) → slice_get (set_listed set.texts) k ≡ Some s →
+      (has_data_but e voids s.cell ≡ true → HasData (set_grid set) s.cell) × (has_data_but e voids s.cell ≡ false → ¬ HasData (set_grid set) s.cell)
   told_of_grid k s at = told_there k s (subst (λ (sinks : List SinkLine). slice_get sinks k ≡ Some s) (sym sinks_are) at)
 
-  off_is : FoundOffDataIsRight → (found : Option ℕ) → IsLeastOff (has_data_but e voids) listing.sinks (length listing.sinks) found → IsOffAnswer (input_grid i) (listed_in i) found
+  off_is : FoundOffDataIsRight → (found : Option ℕ) → IsLeastOff (has_data_but e voids) listing.sinks (length listing.sinks) found → IsOffAnswer (set_grid set) (set_listed set.texts) found
   off_is law found least =
-      law (input_grid i) (listed_in i) (has_data_but e voids) found told_of_grid
+      law (set_grid set) (set_listed set.texts) (has_data_but e voids) found told_of_grid
       (subst (λ (sinks : List SinkLine). IsLeastOff (has_data_but e voids) sinks (length sinks) found) sinks_are least)
 
-  off_refused : FoundOffDataIsRight → (n : ℕ) → IsLeastLine (has_data_but e voids) listing.sinks (length listing.sinks) n → NoneStandsBefore i 9 → IsRefusal i (SinkNotData n)
+  off_refused : FoundOffDataIsRight → (n : ℕ) → IsLeastLine (has_data_but e voids) listing.sinks (length listing.sinks) n → NoneStandsIn set 9 → IsRefusalIn set (SinkNotData n)
   off_refused law n least none =
-      let first : IsFirstOffData (input_grid i) (listed_in i) n = off_is law (Some n) least in
-      first_of i (Stands i) 9 n (SinkNotData n) refl first.off none
-      (at_off_data i (λ b. (refusal_order i b).1 < n → ¬ Stands i b) (λ m less stands. first.first m less stands))
+      let first : IsFirstOffData (set_grid set) (set_listed set.texts) n = off_is law (Some n) least in
+      first_of set (StandsIn set) 9 n (SinkNotData n) refl first.off none
+      (at_off_data (λ b. place_in set b < n → ¬ StandsIn set b) (λ m less stands. first.first m less stands))
 
   -- the reported refusal is the first that applies
-  pub sinks_refused : FoundOffDataIsRight → (refusal : Refusal) → IsToldOfSinks listing e voids (Some refusal) → NoneStandsBefore i 8 → IsRefusal i refusal
+  pub sinks_refused : FoundOffDataIsRight → (refusal : Refusal) → IsToldOfSinks listing e voids (Some refusal) → NoneStandsIn set 8 → IsRefusalIn set refusal
   sinks_refused law (BadSinkLine n) told none = bad_refused n told none
   sinks_refused law (SinkNotData n) told none = off_refused law n told.1 (lines_none told.0 none)
   sinks_refused law refusal told none = absurd told
 
   -- if none is reported, none applies
-  pub sinks_none : FoundOffDataIsRight → IsToldOfSinks listing e voids None → NoneStandsBefore i 8 → AreReadable i
+  pub sinks_none : FoundOffDataIsRight → IsToldOfSinks listing e voids None → NoneStandsIn set 8 → IsReadable set
   sinks_none law told none =
-      let never : IsOffAnswer (input_grid i) (listed_in i) None = off_is law None told.1 in
-      readable i (none_more i (Stands i) 9 (lines_none told.0 none) (at_off_data i (λ b. ¬ Stands i b) (λ n stands. never n stands)))
+      let never : IsOffAnswer (set_grid set) (set_listed set.texts) None = off_is law None told.1 in
+      readable set (none_more (StandsIn set) 9 (lines_none told.0 none) (at_off_data (λ b. ¬ StandsIn set b) (λ n stands. never n stands)))
+
+-- a list that isn't refused is one of sinks
+pub listed_ok : (set : GroundSet) → IsReadable set → sinks_of set.texts.sinks ≡ Ok (set_listed set.texts)
+listed_ok set readable = by_lines (sinks_of set.texts.sinks) (λ n is. readable (BadSinkLine n) is)
+  where
+    by_lines : (lines : Result (List SinkLine) ℕ) → ((n : ℕ) → lines ≡ Err n → ⊥) → lines ≡ Ok (lines_in lines)
+    by_lines (Ok sinks) good = refl
+    by_lines (Err n) good = absurd (good n refl)

@@ -14,18 +14,22 @@ use Rattle.drain_hgt.specs.Corner.{Corner}
 use Rattle.drain_hgt.specs.Name.{IsNameOf}
 use Rattle.drain_hgt.specs.Laws.{OneName}
 use Rattle.drain_hgt.specs.Inputs.{names_of}
+use Rattle.drain_header.specs.declared.header.Place.{Place}
 use Rattle.drain_header.specs.Header.{Fields}
 use Rattle.drain_mosaic.specs.Tiling.{Tiling, extent_of}
 use Rattle.drain_answer.specs.declared.refusal.Refusal.{Refusal}
 use Rattle.drain_answer.specs.declared.refusal.Refusal.TheVariants.{ReadFailed}
+use Rattle.drain_verdict.specs.Ground.{IsLaidOn, NoneRefusesBefore}
+use Rattle.drain_verdict.specs.GroundSets.{AreTextsIn, EncodeTexts, ForSet, GroundSet, IsRefusalIn, NoneStandsIn}
 use Rattle.drain_verdict.specs.Inputs.{Inputs, Encode, Products}
-use Rattle.drain_verdict.specs.Meaning.{fields_of, input_grid, tiling_of}
-use Rattle.drain_verdict.specs.Refusals.{NoneStandsBefore}
+use Rattle.drain_verdict.specs.Meaning.{input_grid, texts_of, tiling_of}
+use Rattle.drain_verdict.specs.TileGround.{set_of, TellTiles, tile_ground}
 use Rattle.drain_verdict.specs.Answers.{IsAnswer}
 use Rattle.drain_verdict.specs.Uses.{RasterTakesAtMost, BodyTakesAtMost}
-use Rattle.drain_verdict.specs.Stages.{IsLayoutOf, IsLayoutRefusal, IsHeaderRefusal, IsFirstHeaderRefusal, AreHeadersFor}
-use Rattle.drain_verdict.proofs.LayoutAnswers.{layout_is, layout_none, layout_refused}
-use Rattle.drain_verdict.proofs.HeaderAnswers.{headers_none, headers_are, header_refused}
+use Rattle.drain_verdict.specs.Stages.{AreHeadersFor, IsFirstRefusalOf, IsHeaderRefusal, IsLayoutOf, IsLayoutRefusal}
+use Rattle.drain_verdict.proofs.BodyAnswers.{early_none}
+use Rattle.drain_verdict.proofs.HeaderAnswers.{header_refused, headers_are, headers_none, headers_of_same, told_of_same}
+use Rattle.drain_verdict.proofs.LayoutAnswers.{layout_is, layout_refused}
 
 -- a layout has a name for each tile
 pub named_each : {R : Type 0} (tiles : List (TileInput R)) (corners : List Corner) → AllZip IsNameOf (names_of tiles) corners → length tiles ≡ length corners
@@ -71,30 +75,41 @@ layout_reads_none side names refusal bad is =
     let same : refusal ≡ ReadFailed = cc in
     subst (IsLayoutRefusal side names) same bad
 
--- the refusal of a header is the answer
-pub header_answer : OneName → {R : Type 0} (bytes_left : R → Option (List ℕ)) (side : ℕ) (tiles : List (TileInput R)) (sinks : List ℕ) (ps : Products R) (i : Inputs) (t : Tiling) (refusal : Refusal) →
-    Encode bytes_left side tiles sinks ps i → IsLayoutOf side (names_of tiles) t → IsFirstHeaderRefusal t ps refusal → IsAnswer i (Err refusal)
-header_answer one bytes_left side tiles sinks ps i t refusal tell is bad =
-    let there = layout_told bytes_left side tiles sinks ps i t tell is in
-    header_refused i ps refusal tell.headers_are (subst (λ (u : Tiling). IsFirstHeaderRefusal u ps refusal) (layout_is one i tell.corners_are t there) bad)
-    (layout_none one i tell.corners_are t there)
+-- what is encoded of the tiles
+pub encode_tiles : {R : Type 0} (bytes_left : R → Option (List ℕ)) (side : ℕ) (tiles : List (TileInput R)) (sinks : List ℕ) (ps : Products R) (i : Inputs) → Encode bytes_left side tiles sinks ps i → TellTiles bytes_left side tiles i
+encode_tiles bytes_left side tiles sinks ps i tell = record { side_is = tell.side_is; names_are = tell.names_are; corners_are = tell.corners_are; tiles_are = tell.tiles_are }
 
-pub header_reads_none : {R T : Type 0} (t : Tiling) (ps : Products R) (refusal : Refusal) → IsFirstHeaderRefusal t ps refusal → ¬ IsErrOf {T = T} (Err refusal) ReadFailed
-header_reads_none t ps refusal bad is =
+-- and of the texts
+pub encode_texts : {R : Type 0} (bytes_left : R → Option (List ℕ)) (side : ℕ) (tiles : List (TileInput R)) (sinks : List ℕ) (ps : Products R) (i : Inputs) → Encode bytes_left side tiles sinks ps i → EncodeTexts bytes_left sinks ps (texts_of i)
+encode_texts bytes_left side tiles sinks ps i tell = record { sinks_are = tell.sinks_are; headers_are = tell.headers_are; rasters_are = tell.rasters_are }
+
+-- what holds of the set of the call holds of the inputs that it encodes
+pub of_tiles : {R : Type 0} (bytes_left : R → Option (List ℕ)) (side : ℕ) (tiles : List (TileInput R)) (sinks : List ℕ) (ps : Products R) (Fact : GroundSet → Type 0) →
+    ForSet tile_ground (λ i. TellTiles bytes_left side tiles i) bytes_left sinks ps Fact → (i : Inputs) → Encode bytes_left side tiles sinks ps i → Fact (set_of i)
+of_tiles bytes_left side tiles sinks ps Fact holds i tell = holds i (texts_of i) (encode_tiles bytes_left side tiles sinks ps i tell) (encode_texts bytes_left side tiles sinks ps i tell)
+
+-- Headers of a set.
+
+-- no read failed where a header was refused
+pub header_reads_none : {T : Type 0} (e : Extent) (Holds : Place → Type 0) (text : SetProduct → List ℕ) (refusal : Refusal) → IsFirstRefusalOf e Holds text refusal → ¬ IsErrOf {T = T} (Err refusal) ReadFailed
+header_reads_none e Holds text refusal bad is =
     let same : refusal ≡ ReadFailed = cc in
-    subst (IsHeaderRefusal t (product_of bad.product) (of_product ps bad.product).header) same bad.refused
-
--- the layout is that of the inputs, the headers are theirs, and no refusal before the tiles applies
-pub started : OneName → {R : Type 0} (bytes_left : R → Option (List ℕ)) (side : ℕ) (tiles : List (TileInput R)) (sinks : List ℕ) (ps : Products R) (i : Inputs) (t : Tiling) (hs : PerProduct Fields) →
-    Encode bytes_left side tiles sinks ps i → IsLayoutOf side (names_of tiles) t → AreHeadersFor t ps hs →
-    (t ≡ tiling_of i) × ((p : SetProduct) → of_product hs p ≡ fields_of i p) × NoneStandsBefore i 5
-started one bytes_left side tiles sinks ps i t hs tell is headers =
-    let there = layout_told bytes_left side tiles sinks ps i t tell is in
-    let same = layout_is one i tell.corners_are t there in
-    let right : AreHeadersFor (tiling_of i) ps hs = subst (λ (u : Tiling). AreHeadersFor u ps hs) same headers in
-    (same, headers_are i ps hs tell.headers_are right, headers_none i ps hs tell.headers_are right (layout_none one i tell.corners_are t there))
+    subst (IsHeaderRefusal e Holds (product_of bad.product) (text bad.product)) same bad.refused
 
 -- what a header needs is what its text says
-pub takes_as_told : {R : Type 0} (bytes_left : R → Option (List ℕ)) (t : Tiling) (old new : Products R) (hs : PerProduct Fields) → AreHeadersFor t old hs → (p : SetProduct) →
+pub takes_as_told : {R : Type 0} (bytes_left : R → Option (List ℕ)) (e : Extent) (Holds : Place → Type 0) (old new : Products R) (hs : PerProduct Fields) → AreHeadersFor e Holds old hs → (p : SetProduct) →
     BodyTakesAtMost bytes_left (of_product hs p) old new p → RasterTakesAtMost bytes_left old new p
-takes_as_told bytes_left t old new hs headers p taken = subst (λ (h : Fields). BodyTakesAtMost bytes_left h old new p) (headers p).described.fields taken
+takes_as_told bytes_left e Holds old new hs headers p taken = subst (λ (h : Fields). BodyTakesAtMost bytes_left h old new p) (headers p).described.fields taken
+
+module _ {R : Type 0} (bytes_left : R → Option (List ℕ)) (s : GroundSet) (sinks : List ℕ) (ps : Products R) (tell : EncodeTexts bytes_left sinks ps s.texts)
+    (e : Extent) (Holds : Place → Type 0) (laid : IsLaidOn e Holds s.terrain) (early : NoneRefusesBefore s.terrain 4) where
+  -- the refusal of a header is the answer
+  pub header_answer : (refusal : Refusal) → IsFirstRefusalOf e Holds (λ p. (of_product ps p).header) refusal → IsRefusalIn s refusal
+  header_answer refusal bad =
+      header_refused s e Holds laid refusal (told_of_same e Holds (λ p. (of_product ps p).header) s.texts.header refusal bad (λ p. sym (tell.headers_are p))) (early_none s early)
+
+  -- or the headers are theirs, and no refusal before the lengths applies
+  pub started : (hs : PerProduct Fields) → AreHeadersFor e Holds ps hs → AreTextsIn bytes_left hs ps s.texts × NoneStandsIn s 5
+  started hs are =
+      let right = headers_of_same e Holds (λ p. (of_product ps p).header) s.texts.header hs are (λ p. sym (tell.headers_are p)) in
+      (record { fields = headers_are s e Holds laid hs right; rasters = tell.rasters_are }, headers_none s e Holds laid hs right (early_none s early))

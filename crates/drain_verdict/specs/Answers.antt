@@ -1,17 +1,16 @@
 -- The answer to the bytes: the first refusal that applies, else the verdict; and what an acceptance means.
 use Rattle.std.specs.Prelude.{ℕ, Result, Ok, Err, ◌≡◌, ℤ, pos, is_some, List, Option, Some, None, if◌then◌else◌}
 use Rattle.drain_grid.specs.Grid.{Grid, Products}
-use Rattle.drain_text.specs.First.{IsFirst}
 use Rattle.drain_grid.specs.declared.verdict.Verdict.{Verdict}
 use Rattle.drain_grid.specs.PatchRules.{check_rules}
 use Rattle.drain_rules.specs.Verdicts.{IsVerdictOf, IsVerdict}
 use Rattle.drain_grid.specs.declared.judged.Judged.{Judged}
 use Rattle.drain_grid.specs.declared.judged.Rules.{Rules}
 use Rattle.drain_answer.specs.declared.refusal.Refusal.{Refusal}
-use Rattle.drain_answer.specs.declared.refusal.Refusal.TheVariants.{OutOfMemory, ReadFailed}
 use Rattle.drain_verdict.specs.Inputs.{Inputs, as_five, Encode}
+use Rattle.drain_verdict.specs.GroundSets.{AreNotesIn, GroundSet, IsReadable, IsReadIn, IsRefusalIn, rules_in, set_grid, set_numbers, set_products}
 use Rattle.drain_verdict.specs.Meaning.{input_grid, input_products, nodata_numbers}
-use Rattle.drain_verdict.specs.Refusals.{Stands, refusal_order}
+use Rattle.drain_verdict.specs.TileGround.{set_of}
 use Rattle.drain_grid.specs.declared.cell.Cell.{Cell}
 use Rattle.drain_grid.specs.Unranked.{run_steps, with_ranks, with_rank_nodata, IsFirstEndless, unranked}
 use Rattle.drain_grid.specs.Correct.{IsCorrect}
@@ -27,31 +26,31 @@ use Rattle.drain_grid.specs.declared.verdict.Verdict.TheVariants as checked
 
 -- no refusal applies
 abbrev pub AreReadable : Inputs → Type 0
-AreReadable i = (refusal : Refusal) → ¬ Stands i refusal
+AreReadable i = IsReadable (set_of i)
 
 -- the refusal is the first that applies; out of memory and a failed read say nothing of the bytes
 abbrev pub IsRefusal : Inputs → Refusal → Type 0
-IsRefusal i OutOfMemory = Unit {0}
-IsRefusal i ReadFailed = Unit {0}
-IsRefusal i refusal = IsFirst (refusal_order i) (Stands i) refusal
+IsRefusal i refusal = IsRefusalIn (set_of i) refusal
 
 -- the inputs are read to the end: no refusal applies, or this is the first
 abbrev pub IsReadAnswer : Inputs → Result (Unit {0}) Refusal → Type 0
-IsReadAnswer i (Ok done) = AreReadable i
-IsReadAnswer i (Err refusal) = IsRefusal i refusal
+IsReadAnswer i answer = IsReadIn (set_of i) answer
 
 -- the answer of a check: the first refusal that applies, else the verdict
+abbrev pub IsAnswerIn : GroundSet → Result Verdict Refusal → Type 0
+IsAnswerIn s (Ok verdict) = IsReadable s × IsVerdictOf (check_rules (set_numbers s)) (set_grid s) (set_products s) verdict
+IsAnswerIn s (Err refusal) = IsRefusalIn s refusal
+
 abbrev pub IsAnswer : Inputs → Result Verdict Refusal → Type 0
-IsAnswer i (Ok verdict) = AreReadable i × IsVerdictOf (check_rules (nodata_numbers i)) (input_grid i) (input_products i) verdict
-IsAnswer i (Err refusal) = IsRefusal i refusal
+IsAnswer i answer = IsAnswerIn (set_of i) answer
 
 -- the rules about judged rasters of the inputs
 abbrev pub rules_at : Judged → Inputs → Rules
-rules_at judged i = record { nodata = nodata_numbers i; judged = judged }
+rules_at judged i = rules_in judged (set_of i)
 
 -- notes of a grid's rows that are of all rows of the inputs' grid, under these rules
 abbrev pub AreNotesOf : {K : Type 0} → (Rules → Grid → Products → ℕ → K → Type 0) → Judged → Inputs → K → Type 0
-AreNotesOf are_of judged i notes = are_of (rules_at judged i) (input_grid i) (input_products i) (input_grid i).extent.rows notes
+AreNotesOf are_of judged i notes = AreNotesIn are_of judged (set_of i) notes
 
 -- What an audit answers: whether four products are correct, with ranks of its own in place of a certificate.
 -- Source: correct products are in the words of the literature; that paths without an end come first is our own.
@@ -73,10 +72,14 @@ IsAuditVerdict g ps nodata (NoEnd row col) = IsFirstEndless g ps (record { row =
 IsAuditVerdict g ps nodata (Accepted counts) = AllRunsEnd g ps × IsVerdict g (certified g ps) (certified_nodata nodata) (checked.Accepted counts)
 IsAuditVerdict g ps nodata (Rejected rule row col) = AllRunsEnd g ps × IsVerdict g (certified g ps) (certified_nodata nodata) (checked.Rejected rule row col)
 
--- the answer to the inputs: the first refusal that applies, else the verdict
+-- the answer to a set: the first refusal that applies, else the verdict
+abbrev pub IsAuditIn : GroundSet → Result AuditVerdict Refusal → Type 0
+IsAuditIn s (Ok verdict) = IsReadable s × IsAuditVerdict (set_grid s) (set_products s) (set_numbers s) verdict
+IsAuditIn s (Err refusal) = IsRefusalIn s refusal
+
+-- the answer to the inputs
 abbrev pub IsAuditAnswer : Inputs → Result AuditVerdict Refusal → Type 0
-IsAuditAnswer i (Ok verdict) = AreReadable i × IsAuditVerdict (input_grid i) (input_products i) (nodata_numbers i) verdict
-IsAuditAnswer i (Err refusal) = IsRefusal i refusal
+IsAuditAnswer i answer = IsAuditIn (set_of i) answer
 
 -- the same without ranks: the first path without an end; else the verdict of the rules that ignore them
 abbrev pub IsPlainVerdict : Grid → Products → NoDataNumbers → AuditVerdict → Type 0
@@ -84,9 +87,12 @@ IsPlainVerdict g ps nodata (NoEnd row col) = IsFirstEndless g ps (record { row =
 IsPlainVerdict g ps nodata (Accepted counts) = AllRunsEnd g ps × IsVerdictOf (unranked nodata) g ps (checked.Accepted counts)
 IsPlainVerdict g ps nodata (Rejected rule row col) = AllRunsEnd g ps × IsVerdictOf (unranked nodata) g ps (checked.Rejected rule row col)
 
+abbrev pub IsPlainIn : GroundSet → Result AuditVerdict Refusal → Type 0
+IsPlainIn s (Ok verdict) = IsReadable s × IsExtent (set_grid s).extent × IsPlainVerdict (set_grid s) (set_products s) (set_numbers s) verdict
+IsPlainIn s (Err refusal) = IsRefusalIn s refusal
+
 abbrev pub IsAnswerWithoutRanks : Inputs → Result AuditVerdict Refusal → Type 0
-IsAnswerWithoutRanks i (Ok verdict) = AreReadable i × IsExtent (input_grid i).extent × IsPlainVerdict (input_grid i) (input_products i) (nodata_numbers i) verdict
-IsAnswerWithoutRanks i (Err refusal) = IsRefusal i refusal
+IsAnswerWithoutRanks i answer = IsPlainIn (set_of i) answer
 
 -- the verdict of the rules, and the first path without an end, if there is one, make this one
 abbrev pub IsOfBoth : Verdict → Option Cell → AuditVerdict → Type 0
@@ -114,6 +120,10 @@ IfAccepts (Err refusal) P = Unit {0}
 -- where the answer is an acceptance, the fact holds of the inputs of the call
 abbrev pub AuditMeans : {R : Type 0} → (Inputs → Type 0) → (R → Option (List ℕ)) → ℕ → List (TileInput R) → List ℕ → AuditProducts R → Result AuditVerdict Refusal → Type 0
 AuditMeans Fact bytes_left side tiles sinks ps answer = IfAccepts answer (ForAudit bytes_left side tiles sinks ps Fact)
+
+-- the products of the set are correct
+abbrev pub AreCorrectIn : GroundSet → Type 0
+AreCorrectIn s = IsCorrect (set_grid s) (set_products s) (set_numbers s)
 
 -- the products of the inputs are correct
 abbrev pub AreCorrect : Inputs → Type 0

@@ -11,7 +11,9 @@ use Rattle.drain_grid.specs.declared.verdict.Verdict.{Verdict}
 use Rattle.drain_rules.specs.Verdicts.{IfAccepted}
 use Rattle.drain_answer.specs.declared.refusal.Refusal.{Refusal}
 use Rattle.drain_verdict.specs.Inputs.{Inputs, Encode, Products}
-use Rattle.drain_verdict.specs.Meaning.{tiling_of, input_tiles, input_grid, input_products, nodata_numbers}
+use Rattle.drain_verdict.specs.GroundSets.{GroundSet, set_grid, set_numbers, set_products}
+use Rattle.drain_verdict.specs.Meaning.{input_grid, input_tiles, tiling_of}
+use Rattle.drain_verdict.specs.TileGround.{set_of}
 
 -- the fact holds of the inputs of the call
 abbrev pub ForCheck : {R : Type 0} → (R → Option (List ℕ)) → ℕ → List (TileInput R) → List ℕ → Products R → (Inputs → Type 0) → Type 0
@@ -29,30 +31,35 @@ TilesAreOne i = TilesAgree (tiling_of i) (input_tiles i)
 abbrev pub ElevationIsTheirs : Inputs → Type 0
 ElevationIsTheirs i = IsElevation (tiling_of i) (input_tiles i) (input_grid i).elevation
 
--- what an acceptance means, a sentence a field
+-- what an acceptance means of the products of a set, a sentence a field
+pub record ProductsAreRight (s : GroundSet) : Type 0 where
+  -- con is the least surface above the elevation from which every cell reaches an edge, void or listed sink without climbing
+  pub least_surface : IsLeastSurface (set_grid s) (set_products s).con
+  -- no direction climbs
+  pub never_climbs : (c : Cell) → HasData (set_grid s) c → NeverClimbs (set_grid s) (set_products s) c
+  -- off flats the direction is the steepest descent
+  pub steepest : (c : Cell) → HasData (set_grid s) c → ¬ IsFlatCell (set_grid s) (set_products s) c → GoesSteepest (set_grid s) (set_products s) c
+  -- the code is 0 exactly at the outlets
+  pub outlets : (c : Cell) → HasData (set_grid s) c → ((set_products s).dir c ≡ pos 0) ↔ IsOutlet (set_grid s) (set_products s) c
+  -- every path ends
+  pub runs_end : (c : Cell) → HasData (set_grid s) c → RunEnds (set_grid s) (set_products s) c
+  -- its last cell is an outlet
+  pub runs_end_at_outlets : (c : Cell) → HasData (set_grid s) c → IsOutlet (set_grid s) (set_products s) (run_end (set_grid s) (set_products s) c)
+  -- no path visits a cell twice
+  pub runs_visit_once : (c : Cell) → HasData (set_grid s) c → VisitsOnce (run (set_grid s) (set_products s) c)
+  -- acc counts exactly the cells that drain through each cell
+  pub accumulation : (c : Cell) → HasData (set_grid s) c → (set_products s).acc c ≡ pos (upstream_count (set_grid s) (set_products s) c)
+  -- two cells share a label exactly where they share an outlet
+  pub labels : (a b : Cell) → HasData (set_grid s) a → HasData (set_grid s) b → ((set_products s).bas a ≡ (set_products s).bas b) ↔ ShareBasin (set_grid s) (set_products s) a b
+  -- every void has the no-data numbers
+  pub voids : (c : Cell) → IsInside (set_grid s) c → IsNone ((set_grid s).elevation c) → IsBlankAt (set_products s) (set_numbers s) c
+  -- no data cell has one
+  pub complete : (c : Cell) → HasData (set_grid s) c → IsCompleteAt (set_products s) (set_numbers s) c
+
+-- what an acceptance means of the inputs
 pub record IsRight (i : Inputs) : Type 0 where
   -- the tiles agree on one elevation raster
   pub tiles_agree : TilesAreOne i
   pub elevation : ElevationIsTheirs i
-  -- con is the least surface above the elevation from which every cell reaches an edge, void or listed sink without climbing
-  pub least_surface : IsLeastSurface (input_grid i) (input_products i).con
-  -- no direction climbs
-  pub never_climbs : (c : Cell) → HasData (input_grid i) c → NeverClimbs (input_grid i) (input_products i) c
-  -- off flats the direction is the steepest descent
-  pub steepest : (c : Cell) → HasData (input_grid i) c → ¬ IsFlatCell (input_grid i) (input_products i) c → GoesSteepest (input_grid i) (input_products i) c
-  -- the code is 0 exactly at the outlets
-  pub outlets : (c : Cell) → HasData (input_grid i) c → ((input_products i).dir c ≡ pos 0) ↔ IsOutlet (input_grid i) (input_products i) c
-  -- every path ends
-  pub runs_end : (c : Cell) → HasData (input_grid i) c → RunEnds (input_grid i) (input_products i) c
-  -- its last cell is an outlet
-  pub runs_end_at_outlets : (c : Cell) → HasData (input_grid i) c → IsOutlet (input_grid i) (input_products i) (run_end (input_grid i) (input_products i) c)
-  -- no path visits a cell twice
-  pub runs_visit_once : (c : Cell) → HasData (input_grid i) c → VisitsOnce (run (input_grid i) (input_products i) c)
-  -- acc counts exactly the cells that drain through each cell
-  pub accumulation : (c : Cell) → HasData (input_grid i) c → (input_products i).acc c ≡ pos (upstream_count (input_grid i) (input_products i) c)
-  -- two cells share a label exactly where they share an outlet
-  pub labels : (a b : Cell) → HasData (input_grid i) a → HasData (input_grid i) b → ((input_products i).bas a ≡ (input_products i).bas b) ↔ ShareBasin (input_grid i) (input_products i) a b
-  -- every void has the no-data numbers
-  pub voids : (c : Cell) → IsInside (input_grid i) c → IsNone ((input_grid i).elevation c) → IsBlankAt (input_products i) (nodata_numbers i) c
-  -- no data cell has one
-  pub complete : (c : Cell) → HasData (input_grid i) c → IsCompleteAt (input_products i) (nodata_numbers i) c
+  -- the products are right on it: a field for each sentence
+  pub products : ProductsAreRight (set_of i)

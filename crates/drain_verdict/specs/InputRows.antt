@@ -1,19 +1,18 @@
--- Readers of a check's rows at their start, and what they report once all rows are read.
-use Rattle.std.specs.Prelude.{◌≡◌, ℕ, ◌<◌, length, slice_get, Option, Some, None, MatchOption}
+-- Readers of a set's rows at their start, and what they report once all rows are read.
+use Rattle.std.specs.Prelude.{◌≡◌, ◌<◌, ◌⊎◌, Option, Some, None, MatchOption}
 use Rattle.drain_device.specs.Failing.{full_patience}
 use Rattle.drain_device.specs.declared.row_source.Progress.TheVariants.{Going, Stopped}
-use Rattle.drain_grid.specs.declared.cell.Cell.{Cell}
 use Rattle.drain_grid.specs.declared.per_product.PerProduct.{PerProduct}
 use Rattle.drain_grid.specs.declared.set_product.SetProduct.{SetProduct}
 use Rattle.drain_grid.specs.PerProduct.{of_product}
 use Rattle.drain_grid.specs.SetProduct.{OfSetProduct, rank_of}
 use Rattle.drain_header.specs.Header.{AreWithinBounds, Fields}
-use Rattle.drain_mosaic.specs.GivenTiles.{IsBegun}
-use Rattle.drain_mosaic.specs.Tiling.{Tiling}
 use Rattle.drain_raster.specs.declared.raster_rows.RasterRows.{RasterRows}
+use Rattle.drain_verdict.specs.Ground.{Ground, IsToldOf}
+use Rattle.drain_verdict.specs.Inputs.{Products}
 use Rattle.drain_verdict.specs.declared.input_rows.InputRows.{InputRows}
 use Rattle.drain_answer.specs.declared.refusal.Refusal.{Refusal}
-use Rattle.drain_answer.specs.declared.refusal.Refusal.TheVariants.{BadTileLength, RasterShort, SeamMismatch}
+use Rattle.drain_answer.specs.declared.refusal.Refusal.TheVariants.{RasterShort}
 
 -- the first row of a raster with this header is to come
 pub record IsRasterBegun (h : Fields) (raster : RasterRows) : Type 0 where
@@ -23,15 +22,18 @@ pub record IsRasterBegun (h : Fields) (raster : RasterRows) : Type 0 where
   pub going : raster.progress ≡ Going
   pub patience_is : raster.patience ≡ full_patience
 
--- the first row of each is to come
-pub record AreBegun (t : Tiling) (hs : PerProduct Fields) (rows : InputRows) : Type 0 where
-  pub mosaic : IsBegun t rows.mosaic
-  pub counted : length rows.mosaic.tiles.items ≡ length t.corners
+-- the first row of each is to come; of a ground's reader `Begun` tells it
+pub record AreBegun {R M : Type 0} (Begun : M → Type 0) (hs : PerProduct Fields) (rows : InputRows R M) : Type 0 where
+  pub elevations : Begun rows.elevations
   pub bounds : (p : SetProduct) → AreWithinBounds (of_product hs p)
   pub raster : (p : SetProduct) → IsRasterBegun (of_product hs p) (of_product rows.rasters p)
 
+-- headers of products with one text are one
+abbrev pub AreAlike : {R : Type 0} → Products R → PerProduct Fields → Type 0
+AreAlike ps hs = (p q : SetProduct) → (of_product ps p).header ≡ (of_product ps q).header → of_product hs p ≡ of_product hs q
+
 -- the rows of the product have stopped
-abbrev pub HasStopped : InputRows → SetProduct → Type 0
+abbrev pub HasStopped : {R M : Type 0} → InputRows R M → SetProduct → Type 0
 HasStopped rows p = (of_product rows.rasters p).progress ≡ Stopped
 
 -- it holds of this product and of none before it
@@ -43,10 +45,13 @@ pub record IsFirstOf (Holds : SetProduct → Type 0) (p : SetProduct) : Type 0 w
 abbrev pub IsFirstProduct : (SetProduct → Type 0) → Option SetProduct → Type 0
 IsFirstProduct Holds found = MatchOption found ((p : SetProduct) → ¬ Holds p) (IsFirstOf Holds)
 
--- the refusal for a tile of wrong length, else the first short product, else a seam; none if there is none of them
-abbrev pub IsToldRefusal : Tiling → Option ℕ → (SetProduct → Type 0) → Option Cell → Option Refusal → Type 0
-IsToldRefusal t wrong Short seam None = (wrong ≡ None) × ((p : SetProduct) → ¬ Short p) × (seam ≡ None)
-IsToldRefusal t wrong Short seam (Some (BadTileLength c)) = (k : ℕ) × (wrong ≡ Some k) × (slice_get t.corners k ≡ Some c)
-IsToldRefusal t wrong Short seam (Some (RasterShort p)) = (wrong ≡ None) × OfSetProduct (IsFirstOf Short) p
-IsToldRefusal t wrong Short seam (Some (SeamMismatch c)) = (wrong ≡ None) × ((p : SetProduct) → ¬ Short p) × (seam ≡ Some c)
-IsToldRefusal t wrong Short seam (Some refusal) = ⊥
+-- the refusal for the first short product
+abbrev pub IsShortRefusal : (SetProduct → Type 0) → Refusal → Type 0
+IsShortRefusal Short (RasterShort p) = OfSetProduct (IsFirstOf Short) p
+IsShortRefusal Short refusal = ⊥
+
+-- the refusal of the ground's lengths, else for the first short product, else of its values; none if there is none of them
+abbrev pub IsToldRefusal : Ground → (SetProduct → Type 0) → Option Refusal → Type 0
+IsToldRefusal g Short None = IsToldOf g 5 None × ((p : SetProduct) → ¬ Short p) × IsToldOf g 7 None
+IsToldRefusal g Short (Some refusal) =
+    IsToldOf g 5 (Some refusal) ⊎ ((IsToldOf g 5 None × IsShortRefusal Short refusal) ⊎ (IsToldOf g 5 None × ((p : SetProduct) → ¬ Short p) × IsToldOf g 7 (Some refusal)))

@@ -46,9 +46,13 @@ pub record Encode {R : Type 0} (bytes_left : R → Option (List ℕ)) (side : �
 abbrev pub as_five : {R : Type 0} → AuditProducts R → Products R
 as_five ps = record { con = ps.con; dir = ps.dir; acc = ps.acc; bas = ps.bas; rnk = ps.con }
 
+-- the devices of the products of an audit
+abbrev pub four_devices : {R : Type 0} → AuditProducts R → List R
+four_devices ps = ps.con.body ∷ ps.dir.body ∷ ps.acc.body ∷ ps.bas.body ∷ []
+
 -- the devices of an audit
 abbrev pub audit_devices : {R : Type 0} → List (TileInput R) → AuditProducts R → List R
-audit_devices tiles ps = tile_devices tiles ++ (ps.con.body ∷ ps.dir.body ∷ ps.acc.body ∷ ps.bas.body ∷ [])
+audit_devices tiles ps = tile_devices tiles ++ four_devices ps
 
 -- the readers of the four, and con's once more
 abbrev pub readers_as_five : PerProduct RasterRows → PerProduct RasterRows

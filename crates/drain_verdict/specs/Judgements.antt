@@ -1,23 +1,27 @@
--- What is said of the judged rasters of inputs.
+-- What is said of the judged rasters of a set.
 use Rattle.std.specs.Prelude.{Result, Ok, Err}
 use Rattle.drain_answer.specs.declared.refusal.Refusal.{Refusal}
 use Rattle.drain_grid.specs.declared.judged.Judged.{Judged}
 use Rattle.drain_grid.specs.Extent.{IsExtent}
 use Rattle.drain_rules.specs.Verdicts.{IsVerdictBy}
-use Rattle.drain_verdict.specs.Answers.{AreReadable, IsRefusal, rules_at}
 use Rattle.drain_verdict.specs.Deciding.{IsDecided}
 use Rattle.drain_verdict.specs.Inputs.{Inputs}
-use Rattle.drain_verdict.specs.Meaning.{input_grid, input_products}
+use Rattle.drain_verdict.specs.GroundSets.{GroundSet, IsReadable, IsRefusalIn, rules_in, set_grid, set_products}
+use Rattle.drain_verdict.specs.TileGround.{set_of}
 use Rattle.drain_verdict.specs.declared.judgement.Judgement.{Judgement}
 
 -- no refusal applies, the grid has a size, the verdict is that of the rules about the judged rasters, and the cell decides besides
-pub record IsJudgementOf {W : Type 0} (judged : Judged) (i : Inputs) (j : Judgement W) : Type 0 where
-  pub readable : AreReadable i
-  pub extent : IsExtent (input_grid i).extent
-  pub verdict : IsVerdictBy (rules_at judged i) (input_grid i) (input_products i) j.verdict
-  pub decided : IsDecided judged (input_grid i) (input_products i) j.verdict j.cell
+pub record IsJudgementOf {W : Type 0} (judged : Judged) (s : GroundSet) (j : Judgement W) : Type 0 where
+  pub readable : IsReadable s
+  pub extent : IsExtent (set_grid s).extent
+  pub verdict : IsVerdictBy (rules_in judged s) (set_grid s) (set_products s) j.verdict
+  pub decided : IsDecided judged (set_grid s) (set_products s) j.verdict j.cell
 
 -- the first refusal that applies, else that
+abbrev pub IsJudgementIn : {W : Type 0} → Judged → GroundSet → Result (Judgement W) Refusal → Type 0
+IsJudgementIn judged s (Ok j) = IsJudgementOf judged s j
+IsJudgementIn judged s (Err refusal) = IsRefusalIn s refusal
+
+-- so of the inputs
 abbrev pub IsJudgement : {W : Type 0} → Judged → Inputs → Result (Judgement W) Refusal → Type 0
-IsJudgement judged i (Ok j) = IsJudgementOf judged i j
-IsJudgement judged i (Err refusal) = IsRefusal i refusal
+IsJudgement judged i answer = IsJudgementIn judged (set_of i) answer

@@ -5,7 +5,6 @@ use Rattle.drain_grid.specs.declared.set_product.SetProduct.{SetProduct}
 use Rattle.drain_hgt.specs.declared.input.TileInput.{TileInput}
 use Rattle.drain_grid.specs.PerProduct.{of_product}
 use Rattle.drain_verdict.specs.Inputs.{Inputs, Encode, Products}
-use Rattle.drain_mosaic.specs.Laws.{RowsAreFirstValues, RowsAreWhole, RowsEnd, RowsTellLengths, RowsTellSeams, WholeTilesGiveTheirSamples}
 use Rattle.drain_raster.specs.Laws.{RasterRowsArePixels, RasterRowsEnd}
 
 -- if the bytes of each source are known, the arguments encode some inputs
@@ -15,15 +14,9 @@ InputsAreTold {R} bytes_left =
     All (λ tile. IsSome (bytes_left tile.body)) tiles → ((p : SetProduct) → IsSome (bytes_left (of_product ps p).body)) →
     (i : Inputs) × Encode bytes_left side tiles sinks ps i
 
--- What the laws of tiles and rasters say of rows.
+-- What the laws of rasters say of rows.
 
--- which rows the bytes of tiles and rasters give, and what these rows say of the bytes
-pub record RowLaws : Type 0 where
-  pub rows_end : RowsEnd
-  pub rows_whole : RowsAreWhole
-  pub first_values : RowsAreFirstValues
-  pub seams : RowsTellSeams
-  pub lengths : RowsTellLengths
-  pub samples : WholeTilesGiveTheirSamples
+-- which rows the bytes of rasters give, and what these rows say of the bytes
+pub record RasterLaws : Type 0 where
   pub raster_end : RasterRowsEnd
   pub raster_pixels : RasterRowsArePixels

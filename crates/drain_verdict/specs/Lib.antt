@@ -1,6 +1,8 @@
 pub mod Answers
 pub mod Inputs
 pub mod Deciding
+pub mod Ground
+pub mod GroundSets
 pub mod Uses
 pub mod Headline
 pub mod InputReads
@@ -9,6 +11,11 @@ pub mod Judgements
 pub mod Laws
 pub mod Meaning
 pub mod Outcomes
+pub mod Reading
 pub mod Refusals
 pub mod Stages
+pub mod Texts
+pub mod TileGround
+pub mod TileRows
 pub mod ToGive
+pub mod DemGround

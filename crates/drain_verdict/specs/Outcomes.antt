@@ -17,9 +17,9 @@ use Rattle.drain_laws.specs.PartOf.{AreRight}
 use Rattle.drain_rows.specs.GridRows.{AllRunsEnd}
 use Rattle.drain_rules.specs.Fill.{fill_counts}
 use Rattle.drain_rules.specs.Verdicts.{IsVerdictBy}
-use Rattle.drain_verdict.specs.Answers.{AreReadable, IsRefusal}
+use Rattle.drain_verdict.specs.GroundSets.{GroundSet, IsReadable, IsRefusalIn, set_grid, set_numbers, set_products}
 use Rattle.drain_verdict.specs.Inputs.{Inputs}
-use Rattle.drain_verdict.specs.Meaning.{input_grid, input_products, nodata_numbers}
+use Rattle.drain_verdict.specs.TileGround.{set_of}
 use Rattle.drain_grid.specs.declared.cell.Cell.{Cell}
 use Rattle.drain_grid.specs.declared.fill_verdict.FillCounts.{FillCounts}
 use Rattle.drain_grid.specs.declared.verdict.Counts.{Counts}
@@ -64,14 +64,22 @@ IsOutcome ConDirBas = IsWayOutcome ConDirBas
 IsOutcome All = IsWayOutcome All
 IsOutcome AllWithRanks = IsRankOutcome
 
--- the answer to the inputs: the first refusal that applies, else the outcome
+-- the answer to a set: the first refusal that applies, else the outcome
+abbrev pub IsOutcomeIn : Judged → GroundSet → Result Outcome Refusal → Type 0
+IsOutcomeIn judged s (Ok outcome) = IsReadable s × IsOutcome judged (set_grid s) (set_products s) (set_numbers s) outcome
+IsOutcomeIn judged s (Err refusal) = IsRefusalIn s refusal
+
+-- the answer to the inputs
 abbrev pub IsOutcomeAnswer : Judged → Inputs → Result Outcome Refusal → Type 0
-IsOutcomeAnswer judged i (Ok outcome) = AreReadable i × IsOutcome judged (input_grid i) (input_products i) (nodata_numbers i) outcome
-IsOutcomeAnswer judged i (Err refusal) = IsRefusal i refusal
+IsOutcomeAnswer judged i answer = IsOutcomeIn judged (set_of i) answer
+
+-- the judged rasters of the set are right
+abbrev pub AreRightIn : Judged → GroundSet → Type 0
+AreRightIn judged s = AreRight judged (set_grid s) (set_products s) (set_numbers s)
 
 -- the judged rasters of the inputs are right
 abbrev pub AreJudgedRight : Judged → Inputs → Type 0
-AreJudgedRight judged i = AreRight judged (input_grid i) (input_products i) (nodata_numbers i)
+AreJudgedRight judged i = AreRightIn judged (set_of i)
 
 -- How the outcome follows from what the rules, and the paths or the filled surface, say.
 

@@ -1,35 +1,29 @@
--- What the tiles and products of a check are to give, row by row, and what is to be reported of them at the end.
-use Rattle.std.specs.Prelude.{◌≡◌, ℕ, ◌+◌, ℤ, List, Option, None, MatchOption, ◌↔◌}
+-- What a ground and its products are to give, row by row.
+use Rattle.std.specs.Prelude.{◌≡◌, ℕ, ◌+◌, ℤ, List, Option, None, MatchOption, ◌↔◌, Bool}
 use Rattle.drain_device.specs.RowSteps.{Coming, after_rows, nth_row}
-use Rattle.drain_device.specs.RowSteps.Coming.{End, Wrong}
+use Rattle.drain_device.specs.RowSteps.Coming.{Wrong}
 use Rattle.drain_device.specs.declared.counts.FaultCounts.{FaultCounts}
 use Rattle.drain_device.specs.declared.row_source.Progress.TheVariants.{Stopped}
-use Rattle.drain_grid.specs.declared.cell.Cell.{Cell}
 use Rattle.drain_grid.specs.declared.set_product.SetProduct.{SetProduct}
 use Rattle.drain_grid.specs.PerProduct.{of_product, per_product}
-use Rattle.drain_hgt.specs.declared.input.TileInput.{TileInput}
 use Rattle.drain_raster.specs.declared.raster_rows.RasterRows.{RasterRows}
 use Rattle.drain_raster.specs.RasterRows.{raster_coming}
-use Rattle.drain_mosaic.specs.PlacedRows.{AreTold}
-use Rattle.drain_mosaic.specs.GivenTiles.{IsToldAtEnd, coming_of, seam_to_tell, wrong_to_tell}
-use Rattle.drain_mosaic.specs.declared.mosaic_rows.MosaicRows.{MosaicRows}
 use Rattle.drain_rules.specs.Rows.{RowNumbers, blank}
-use Rattle.drain_verdict.specs.InputReads.{InputsHaveRead, Reading, products_lent, readers, tiles_lent}
 use Rattle.drain_rows.specs.RowBuffers.{IsEven}
+use Rattle.drain_answer.specs.declared.refusal.Refusal.{Refusal}
+use Rattle.drain_verdict.specs.Ground.{GroundToGive, ground_row}
+use Rattle.drain_verdict.specs.InputReads.{InputsHaveRead, Reading, inputs_lent, products_lent, readers}
 use Rattle.drain_verdict.specs.Inputs.{Products}
 use Rattle.drain_verdict.specs.declared.input_rows.InputRows.{InputRows}
-use Rattle.drain_answer.specs.declared.refusal.Refusal.{Refusal}
 
--- the rows of the mosaic, its first seam and its first tile of wrong length, and the rows of each product
+-- what the ground is to give, and the rows of each product
 pub record ToGive : Type 0 where
-  pub mosaic : Coming
-  pub seam : Option Cell
-  pub wrong : Option ℕ
+  pub elevations : GroundToGive
   pub product : SetProduct → Coming
 
 -- the rows of this number
 abbrev pub given : ToGive → ℕ → RowNumbers
-given t n = record { z = nth_row n t.mosaic; products = per_product (λ p. nth_row n (t.product p)) }
+given t n = record { z = ground_row t.elevations n; products = per_product (λ p. nth_row n (t.product p)) }
 
 -- that row; and no row if some product has not as many numbers as there are elevations
 pub record IsRowGiven (t : ToGive) (n : ℕ) (row : RowNumbers) : Type 0 where
@@ -50,32 +44,20 @@ pub record IsNextRow (raster : RasterRows) (known : Option (List ℕ)) (start : 
   pub after : IsAfterTold raster known start (n + 1)
   pub out_is : out ≡ nth_row n start
 
--- this number of rows of the mosaic was requested
-pub record IsMosaicAfter {R : Type 0} (bytes_left : R → Option (List ℕ)) (mosaic : MosaicRows) (tiles : List (TileInput R)) (t : ToGive) (n : ℕ) : Type 0 where
-  pub told : AreTold bytes_left tiles
-  pub coming_is : coming_of bytes_left mosaic tiles ≡ after_rows n t.mosaic
-  pub seam_is : seam_to_tell bytes_left mosaic tiles ≡ t.seam
-  pub wrong_is : wrong_to_tell bytes_left mosaic tiles ≡ t.wrong
-  pub at_end : (m : ℕ) → n ≡ m + 1 → after_rows m t.mosaic ≡ End → IsToldAtEnd bytes_left mosaic tiles
-
--- one row more was requested, and this came
-pub record IsMosaicOneMore {R : Type 0} (bytes_left : R → Option (List ℕ)) (mosaic : MosaicRows) (tiles : List (TileInput R)) (t : ToGive) (n : ℕ) (out : List ℤ) : Type 0 where
-  pub after : IsMosaicAfter bytes_left mosaic tiles t (n + 1)
-  pub out_is : out ≡ nth_row n t.mosaic
-
--- this number of rows of all was requested
-pub record IsAfter {R : Type 0} (bytes_left : R → Option (List ℕ)) (rows : InputRows) (tiles : List (TileInput R)) (ps : Products R) (t : ToGive) (n : ℕ) : Type 0 where
-  pub mosaic : IsMosaicAfter bytes_left rows.mosaic tiles t n
+-- this number of rows of all was requested; of a ground's reader `after` tells it
+pub record IsAfter {M X R : Type 0} (after : M → List X → GroundToGive → ℕ → Type 0) (bytes_left : R → Option (List ℕ)) (rows : InputRows R M) (inputs : List X) (ps : Products R) (t : ToGive) (n : ℕ) : Type 0 where
+  pub elevations : after rows.elevations inputs t.elevations n
   pub product : (p : SetProduct) → IsAfterTold (of_product rows.rasters p) (bytes_left (of_product ps p).body) (t.product p) n
 
 -- these are the rows to give, from this one on
-pub record AreGiven {R : Type 0} (bytes_left : R → Option (List ℕ)) (s : Reading R) (rows : ℕ → RowNumbers) (n : ℕ) : Type 0 where
+pub record AreGiven {M X R : Type 0} (after : M → List X → GroundToGive → ℕ → Type 0) (bytes_left : R → Option (List ℕ)) (s : Reading M X R) (rows : ℕ → RowNumbers) (n : ℕ) : Type 0 where
   pub to_give : ToGive
-  pub after : IsAfter bytes_left (readers s) (tiles_lent s) (products_lent s) to_give n
+  pub are_after : IsAfter after bytes_left (readers s) (inputs_lent s) (products_lent s) to_give n
   pub rows_are : (k : ℕ) → IsRowGiven to_give k (rows k)
 
 -- n calls for all of them, from one state to the other: what they read, and that n rows more were requested
-pub record HaveCome {R : Type 0} (bytes_left : R → Option (List ℕ)) (counts : R → FaultCounts) (start now : Reading R) (calls : ℕ) (told : Option Refusal) : Type 0 where
-  pub reads : InputsHaveRead bytes_left counts start now told
-  pub after : told ≡ None → (t : ToGive) (n : ℕ) → IsAfter bytes_left (readers start) (tiles_lent start) (products_lent start) t n →
-      IsAfter bytes_left (readers now) (tiles_lent now) (products_lent now) t (n + calls)
+pub record HaveCome {M X R : Type 0} (after : M → List X → GroundToGive → ℕ → Type 0) (has_read : M × List X → M × List X → Bool → Type 0)
+    (bytes_left : R → Option (List ℕ)) (counts : R → FaultCounts) (start now : Reading M X R) (calls : ℕ) (told : Option Refusal) : Type 0 where
+  pub reads : InputsHaveRead has_read bytes_left counts start now told
+  pub came : told ≡ None → (t : ToGive) (n : ℕ) → IsAfter after bytes_left (readers start) (inputs_lent start) (products_lent start) t n →
+      IsAfter after bytes_left (readers now) (inputs_lent now) (products_lent now) t (n + calls)

@@ -35,19 +35,33 @@ BodyTakesAtMost bytes_left h old new p = TakesAtMost (needed_len h) (bytes_left 
 abbrev pub RasterTakesAtMost : {R : Type 0} → (R → Option (List ℕ)) → Products R → Products R → SetProduct → Type 0
 RasterTakesAtMost bytes_left old new p = BodyTakesAtMost bytes_left (header_of (lines_of (of_product old p).header)) old new p
 
--- from the tiles and products before to those after. The products are read as these five, from these devices
-pub record UsesInputs {R P T : Type 0} (inputs_of : P → Products R) (devices : List (TileInput R) → P → List R) (bytes_left : R → Option (List ℕ)) (counts : R → FaultCounts) (side : ℕ)
-    (old new : List (TileInput R) × P) (answer : Result T Refusal) : Type 0 where
-  -- of a tile at most one byte past its end is read, of a raster nothing past its last needed byte
-  pub tiles_within : TilesTakeAtMost bytes_left side old.0 new.0
+-- the devices of a set: those of its ground, and those of its products
+abbrev pub set_devices : {X R : Type 0} → (List X → List R) → List X → Products R → List R
+set_devices devices inputs ps = devices inputs ++ product_devices ps
+
+-- from the inputs of a ground and the products before to those after. The products are read as these five, from these
+-- devices; of the ground's inputs the reading is within this, and this is kept
+pub record UsesSet {X R P T : Type 0} (inputs_of : P → Products R) (devices : List X → P → List R) (IsWithin IsKept : List X → List X → Type 0) (bytes_left : R → Option (List ℕ)) (counts : R → FaultCounts)
+    (old new : List X × P) (answer : Result T Refusal) : Type 0 where
+  -- of the ground's inputs no more is read than this, of a raster nothing past its last needed byte
+  pub inputs_within : IsWithin old.0 new.0
   pub rasters_within : (p : SetProduct) → RasterTakesAtMost bytes_left (inputs_of old.1) (inputs_of new.1) p
   -- the answer is that a read failed exactly where a device failed or was interrupted for the 1,000th time
   pub faults : SomeReadFails (map counts (devices old.0 old.1)) (map counts (devices new.0 new.1)) (IsErrOf answer ReadFailed)
-  -- names and headers are unchanged
-  pub names : names_of new.0 ≡ names_of old.0
+  -- what is kept of the ground's inputs, as names, and headers are unchanged
+  pub kept : IsKept old.0 new.0
   pub headers : (p : SetProduct) → (of_product (inputs_of new.1) p).header ≡ (of_product (inputs_of old.1) p).header
-  -- a refusal of side, names, layout or headers leaves every device and every value as it was
+  -- a refusal that comes before any body is read leaves every device and every value as it was
   pub untouched : IfErr answer (λ refusal. ¬ IsOfBodies refusal → (new.0 ≡ old.0) × (new.1 ≡ old.1))
+
+-- the names are those of before
+abbrev pub AreNamesKept : {R : Type 0} → List (TileInput R) → List (TileInput R) → Type 0
+AreNamesKept old new = names_of new ≡ names_of old
+
+-- the same of tiles of this side: of a tile at most one byte past its end is read
+abbrev pub UsesInputs : {R P T : Type 0} → (P → Products R) → (List (TileInput R) → P → List R) → (R → Option (List ℕ)) → (R → FaultCounts) → ℕ → List (TileInput R) × P → List (TileInput R) × P → Result T Refusal → Type 0
+UsesInputs inputs_of devices bytes_left counts side old new answer =
+    UsesSet inputs_of devices (TilesTakeAtMost bytes_left side) AreNamesKept bytes_left counts old new answer
 
 -- of the five products of a check
 abbrev pub CheckUses : {R T : Type 0} → (R → Option (List ℕ)) → (R → FaultCounts) → ℕ → List (TileInput R) × Products R → List (TileInput R) × Products R → Result T Refusal → Type 0

@@ -1,6 +1,6 @@
 //! The four products of an audit. Its rules ignore ranks, so con's rows take their place.
 
-ghost use Rattle.std.specs.Prelude.{◌≡◌, ℕ, List, OnOk, IfOk, IfErr, Err, IsTrue};
+ghost use Rattle.std.specs.Prelude.{◌≡◌, ℕ, OnOk, IfErr, Err};
 ghost use Rattle.std.specs.List.{All};
 ghost use Rattle.drain_device.specs.RowSteps.{Coming};
 ghost use Rattle.drain_device.specs.declared.row_source.Progress.{Progress};
@@ -8,21 +8,18 @@ ghost use Rattle.drain_grid.specs.declared.set_product.SetProduct.{SetProduct};
 ghost use Rattle.drain_grid.specs.declared.per_product.PerProduct.{PerProduct};
 ghost use Rattle.drain_grid.specs.PerProduct.{of_product};
 ghost use Rattle.drain_grid.specs.Values.{IsPixel};
-ghost use Rattle.drain_header.specs.Header.{Fields};
 ghost use Rattle.drain_raster.specs.declared.raster_rows.RasterRows.{RasterRows};
-ghost use Rattle.drain_verdict.specs.InputReads.{IsOfReading, RastersHaveRead, told_by};
-ghost use Rattle.drain_verdict.specs.InputRows.{IsFirstProduct, IsRasterBegun};
+ghost use Rattle.drain_verdict.specs.InputReads.{RastersHaveRead};
+ghost use Rattle.drain_verdict.specs.InputRows.{AreAlike, IsFirstProduct, IsRasterBegun};
 ghost use Rattle.drain_verdict.specs.Inputs.{Products, readers_as_five};
-ghost use Rattle.drain_verdict.specs.Stages.{AreHeadersFor, IsFirstHeaderRefusal};
+ghost use Rattle.drain_verdict.specs.Reading.{IsOfReading, told_by};
 ghost use Rattle.drain_verdict.specs.ToGive.{IsAfterTold, IsNextRow};
 
 use crate::next_rows::{RasterInput, read_raster};
-use crate::stages::read_headers;
 use drain_answer::Refusal;
 use drain_device::ByteSource;
 use drain_grid::{OutOfMemory, PerProduct, SetProduct};
 use drain_header::Header;
-use drain_mosaic::Layout;
 use drain_pixels::PixelRow;
 use drain_raster::RasterRows;
 
@@ -35,18 +32,13 @@ pub trait ProductInputs<R: ByteSource> {
     /// The readers of the five, each or its substitute.
     ghost readers: { PerProduct RasterRows → PerProduct RasterRows };
 
-    /// A product has the header of its substitute.
-    ghost are_alike: { PerProduct Fields → Type 0 };
-
-    /// The header of each product, or the first that is refused.
-    fn read_headers(&self, layout: &Layout) -> Result<PerProduct<Header>, Refusal>
-        ensures headers { IfOk result (AreHeadersFor layout.now (inputs self.now)) }
-        ensures alike { IfOk result (λ headers. are_alike headers) }
-        ensures refusal { IfErr result (IsFirstHeaderRefusal layout.now (inputs self.now)) };
+    /// The header of each product, as a text.
+    fn texts(&self) -> PerProduct<&[u8]>
+        ensures { (p : SetProduct) → (of_product result p).now ≡ (of_product (inputs self.now) p).header };
 
     /// Readers of rasters with these headers, each from its first byte on.
     fn begin(&self, headers: PerProduct<Header>) -> PerProduct<RasterRows>
-        requires alike { are_alike headers }
+        requires alike { AreAlike (inputs self.now) headers }
         ensures begun { (p : SetProduct) → IsRasterBegun (of_product headers p) (of_product (readers result) p) };
 
     /// Reads the next row of each product. The first refusal ends it.
@@ -75,24 +67,20 @@ pub struct AuditProducts<R> {
 }
 
 impl<R: ByteSource> ProductInputs<R> for AuditProducts<R> {
-    ghost use Rattle.std.specs.Prelude.{◌≡◌};
     ghost use Rattle.drain_verdict.specs.Inputs.{as_five, readers_as_five};
 
     ghost inputs = { as_five };
 
     ghost readers = { readers_as_five };
 
-    ghost are_alike = { λ headers. headers.rnk ≡ headers.con };
-
-    fn read_headers(&self, layout: &Layout) -> Result<PerProduct<Header>, Refusal> {
-        let texts = PerProduct {
+    fn texts(&self) -> PerProduct<&[u8]> {
+        PerProduct {
             con: self.con.header.as_slice(),
             dir: self.dir.header.as_slice(),
             acc: self.acc.header.as_slice(),
             bas: self.bas.header.as_slice(),
             rnk: self.con.header.as_slice(),
-        };
-        read_headers(layout, &texts)
+        }
     }
 
     fn begin(&self, headers: PerProduct<Header>) -> PerProduct<RasterRows> {

@@ -1,19 +1,16 @@
 //! The five products of a check, each with a reader of its own.
 
-ghost use Rattle.std.specs.Prelude.{◌≡◌, IfOk, IfErr};
+ghost use Rattle.std.specs.Prelude.{◌≡◌};
 ghost use Rattle.drain_device.specs.declared.row_source.Progress.{Progress};
 ghost use Rattle.drain_grid.specs.PerProduct.{of_product};
 ghost use Rattle.drain_verdict.specs.InputRows.{IsFirstProduct};
-ghost use Rattle.drain_verdict.specs.Stages.{AreHeadersFor, IsFirstHeaderRefusal};
 
 use crate::audit_products::ProductInputs;
 use crate::next_rows::{Products, RasterInput, read_rasters};
-use crate::stages::read_headers;
 use drain_answer::Refusal;
 use drain_device::ByteSource;
 use drain_grid::{PerProduct, SetProduct};
 use drain_header::Header;
-use drain_mosaic::Layout;
 use drain_pixels::PixelRow;
 use drain_raster::RasterRows;
 
@@ -22,17 +19,14 @@ impl<R: ByteSource> ProductInputs<R> for PerProduct<RasterInput<R>> {
 
     ghost readers = { λ readers. readers };
 
-    ghost are_alike = { λ headers. Unit {0} };
-
-    fn read_headers(&self, layout: &Layout) -> Result<PerProduct<Header>, Refusal> {
-        let texts = PerProduct {
+    fn texts(&self) -> PerProduct<&[u8]> {
+        PerProduct {
             con: self.con.header.as_slice(),
             dir: self.dir.header.as_slice(),
             acc: self.acc.header.as_slice(),
             bas: self.bas.header.as_slice(),
             rnk: self.rnk.header.as_slice(),
-        };
-        read_headers(layout, &texts)
+        }
     }
 
     fn begin(&self, headers: PerProduct<Header>) -> PerProduct<RasterRows> {

@@ -8,15 +8,17 @@ ghost use Rattle.drain_hgt.specs.Inputs.{names_of};
 ghost use Rattle.drain_mosaic.specs.Tiling.{extent_of};
 ghost use Rattle.drain_verdict.specs.Answers.{AreNotesOf};
 ghost use Rattle.drain_verdict.specs.Deciding.{AreFlowsFor};
-ghost use Rattle.drain_verdict.specs.Uses.{devices_of, UsesInputs};
+ghost use Rattle.drain_verdict.specs.GroundSets.{AreNotesIn, ForSet, set_grid, set_products};
+ghost use Rattle.drain_verdict.specs.Uses.{devices_of, set_devices, UsesInputs, UsesSet};
 ghost use Rattle.drain_verdict.specs.Inputs.{Inputs, Encode};
-ghost use Rattle.drain_verdict.specs.Judgements.{IsJudgement};
+ghost use Rattle.drain_verdict.specs.Judgements.{IsJudgement, IsJudgementIn};
 ghost use Rattle.drain_verdict.specs.Meaning.{input_grid, input_products};
 ghost use Rattle.drain_verdict.specs.Stages.{IsLayoutOf};
 
 use crate::audit_products::ProductInputs;
 use crate::decider::{Decider, RanksDecide};
-use crate::read_inputs::read_inputs;
+use crate::ground::GroundInput;
+use crate::read_set::read_set;
 use crate::stages::layout_of;
 use drain_answer::Refusal;
 use drain_basin::OutletLabels;
@@ -83,47 +85,84 @@ pub fn judge<R: ByteSource, P: ProductInputs<R>, W: VerdictVisitor + Drop>(
     ensures flows { IfOk result (λ judgement. (inputs : Inputs) → Encode R.bytes_left layout.now.side tiles.old sinks.now (P.inputs products.old) inputs → AreFlowsFor judged (input_grid inputs) (input_products inputs) (extent_of layout.now) judgement.flows) }
     ensures uses { UsesInputs P.inputs (λ ts ps. devices_of ts (P.inputs ps)) R.bytes_left R.counts layout.now.side (tiles.old, products.old) (tiles.new, products.new) result }
 {
+    judge_set::<R, TileInput<R>, P, W>(alloc, layout, sinks, tiles, products, judged, walk)
+}
+
+/// Judges a ground with this frame from these inputs, or returns the first refusal: the headers of its products, the bytes
+/// of the inputs and of rasters, and a list of sinks. The walk sees each row of the grid, and gives the verdict of the
+/// rules.
+///
+/// Of con alone the filled surface decides besides, of rasters with directions the paths, and with ranks nothing. See
+/// `check` for the order of refusals, and for how far it reads.
+pub fn judge_set<R: ByteSource, T: GroundInput<R>, P: ProductInputs<R>, W: VerdictVisitor + Drop>(
+    alloc: Global,
+    frame: &T::Frame,
+    sinks: &[u8],
+    inputs: &mut [T],
+    products: &mut P,
+    judged: Judged,
+    walk: W,
+) -> Result<Judgement<W>, Refusal>
+    requires fit { T.fit frame.now inputs.old }
+    requires uncounted { W.counts 0 walk }
+    requires unnoted { (rules : declared.Rules) (g : Grid) (ps : grid.Products) → W.are_of rules g ps 0 walk }
+    ensures answer { ForSet T.terrain (T.means frame.now inputs.old) R.bytes_left sinks.now (P.inputs products.old) (λ s. IsJudgementIn judged s result) }
+    ensures lasting { IfOk result (λ judgement. W.lasting judgement.walk ≡ W.lasting walk) }
+    ensures noted { IfOk result (λ judgement. ForSet T.terrain (T.means frame.now inputs.old) R.bytes_left sinks.now (P.inputs products.old) (λ s. AreNotesIn W.are_of judged s judgement.walk)) }
+    ensures flows { IfOk result (λ judgement. ForSet T.terrain (T.means frame.now inputs.old) R.bytes_left sinks.now (P.inputs products.old)
+        (λ s. AreFlowsFor judged (set_grid s) (set_products s) (T.extent frame.now) judgement.flows)) }
+    ensures uses { UsesSet P.inputs (λ xs ps. set_devices T.devices xs (P.inputs ps)) (T.within frame.now) T.kept R.bytes_left R.counts (inputs.old, products.old) (inputs.new, products.new) result }
+{
     match judged {
         Judged::Con => {
-            judge_by::<R, P, ConRows, W>(alloc, layout, sinks, tiles, products, judged, walk)
+            judge_by::<R, T, P, ConRows, W>(alloc, frame, sinks, inputs, products, judged, walk)
         }
         Judged::ConDir | Judged::ConDirAcc | Judged::ConDirBas | Judged::All => {
-            judge_by::<R, P, CellFlows, W>(alloc, layout, sinks, tiles, products, judged, walk)
+            judge_by::<R, T, P, CellFlows, W>(alloc, frame, sinks, inputs, products, judged, walk)
         }
         Judged::AllWithRanks => {
-            judge_by::<R, P, RanksDecide, W>(alloc, layout, sinks, tiles, products, judged, walk)
+            judge_by::<R, T, P, RanksDecide, W>(alloc, frame, sinks, inputs, products, judged, walk)
         }
     }
 }
 
 /// Judges by this decider.
-fn judge_by<R: ByteSource, P: ProductInputs<R>, D: Decider + Drop, W: VerdictVisitor + Drop>(
+fn judge_by<
+    R: ByteSource,
+    T: GroundInput<R>,
+    P: ProductInputs<R>,
+    D: Decider + Drop,
+    W: VerdictVisitor + Drop,
+>(
     alloc: Global,
-    layout: &Layout,
+    frame: &T::Frame,
     sinks: &[u8],
-    tiles: &mut [TileInput<R>],
+    inputs: &mut [T],
     products: &mut P,
     judged: Judged,
     walk: W,
 ) -> Result<Judgement<W>, Refusal>
     requires decides { D.decides judged }
-    requires laid { IsLayoutOf layout.now.side (names_of tiles.old) layout.now }
+    requires fit { T.fit frame.now inputs.old }
     requires uncounted { W.counts 0 walk }
     requires unnoted { (rules : declared.Rules) (g : Grid) (ps : grid.Products) → W.are_of rules g ps 0 walk }
-    ensures answer { (inputs : Inputs) → Encode R.bytes_left layout.now.side tiles.old sinks.now (P.inputs products.old) inputs → IsJudgement judged inputs result }
+    ensures answer { ForSet T.terrain (T.means frame.now inputs.old) R.bytes_left sinks.now (P.inputs products.old) (λ s. IsJudgementIn judged s result) }
     ensures lasting { IfOk result (λ judgement. W.lasting judgement.walk ≡ W.lasting walk) }
-    ensures noted { IfOk result (λ judgement. (inputs : Inputs) → Encode R.bytes_left layout.now.side tiles.old sinks.now (P.inputs products.old) inputs → AreNotesOf W.are_of judged inputs judgement.walk) }
-    ensures flows { IfOk result (λ judgement. (inputs : Inputs) → Encode R.bytes_left layout.now.side tiles.old sinks.now (P.inputs products.old) inputs → D.leave (input_grid inputs) (input_products inputs) (extent_of layout.now) judgement.flows) }
-    ensures uses { UsesInputs P.inputs (λ ts ps. devices_of ts (P.inputs ps)) R.bytes_left R.counts layout.now.side (tiles.old, products.old) (tiles.new, products.new) result }
+    ensures noted { IfOk result (λ judgement. ForSet T.terrain (T.means frame.now inputs.old) R.bytes_left sinks.now (P.inputs products.old) (λ s. AreNotesIn W.are_of judged s judgement.walk)) }
+    ensures flows { IfOk result (λ judgement. ForSet T.terrain (T.means frame.now inputs.old) R.bytes_left sinks.now (P.inputs products.old)
+        (λ s. D.leave (set_grid s) (set_products s) (T.extent frame.now) judgement.flows)) }
+    ensures uses { UsesSet P.inputs (λ xs ps. set_devices T.devices xs (P.inputs ps)) (T.within frame.now) T.kept R.bytes_left R.counts (inputs.old, products.old) (inputs.new, products.new) result }
 {
-    // The law that bytes name one tile.
-    one_name();
+    // The laws of what the inputs mean.
+    T::meaning_laws();
     let mut both = BothVisitors {
         first: D::begin(alloc),
         second: walk,
     };
-    read_inputs(alloc, layout, sinks, tiles, products, judged, &mut both)?;
-    let shape = layout.shape();
+    read_set::<R, T, P, BothVisitors<D, W>>(
+        alloc, frame, sinks, inputs, products, judged, &mut both,
+    )?;
+    let shape = T::shape(frame);
     let verdict = both.second.verdict(shape);
     let BothVisitors {
         first: decider,

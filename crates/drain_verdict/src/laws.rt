@@ -2,7 +2,8 @@
 //!
 //! A law is a function with an empty body: its contract is the law, and a caller gets the law by calling it.
 
-ghost use Rattle.drain_verdict.specs.Laws.{RowLaws, InputsAreTold};
+ghost use Rattle.drain_verdict.specs.Laws.{RasterLaws, InputsAreTold};
+ghost use Rattle.drain_verdict.specs.TileRows.{TileRowLaws};
 
 use drain_device::ByteSource;
 use drain_hgt::laws::names_give_corners;
@@ -12,9 +13,9 @@ use drain_mosaic::laws::{
 };
 use drain_raster::laws::{raster_rows_are_pixels, raster_rows_end};
 
-/// Which rows the bytes of tiles and rasters give, and what these rows say of the bytes.
-pub(crate) fn row_laws()
-    ensures { RowLaws }
+/// Which rows the bytes of tiles give, and what these rows say of the bytes.
+pub(crate) fn tile_row_laws()
+    ensures { TileRowLaws }
 {
     rows_end();
     rows_are_whole();
@@ -22,6 +23,12 @@ pub(crate) fn row_laws()
     rows_tell_seams();
     rows_tell_lengths();
     whole_tiles_give_their_samples();
+}
+
+/// Which rows the bytes of rasters give, and what these rows say of the bytes.
+pub(crate) fn raster_laws()
+    ensures { RasterLaws }
+{
     raster_rows_end();
     raster_rows_are_pixels();
 }

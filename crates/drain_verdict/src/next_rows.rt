@@ -1,24 +1,18 @@
-//! Reads the next row of the mosaic and of each product. After the last row there are no numbers; a reader keeps its
-//! fault.
+//! Reads the next row of each product. After the last row there are no numbers; a reader keeps its fault.
 
-ghost use Rattle.std.specs.Prelude.{◌≡◌, ◌≤◌, ℕ, None, Err, length, IfErr, IsTrue, OnOk};
+ghost use Rattle.std.specs.Prelude.{◌≡◌, ◌≤◌, ℕ, Err, IfErr, IsTrue, OnOk, length};
 ghost use Rattle.std.specs.List.{All};
 ghost use Rattle.drain_device.specs.RowSteps.{Coming};
-ghost use Rattle.drain_grid.specs.declared.cell.TheConstants.{MAX_LENGTH};
 ghost use Rattle.drain_grid.specs.declared.set_product.SetProduct.{SetProduct};
 ghost use Rattle.drain_grid.specs.PerProduct.{of_product};
-ghost use Rattle.drain_grid.specs.Grid.{IsSample};
 ghost use Rattle.drain_grid.specs.Values.{IsPixel};
-ghost use Rattle.drain_mosaic.specs.PlacedRows.{HaveRead};
-ghost use Rattle.drain_hgt.specs.Inputs.{names_of};
-ghost use Rattle.drain_verdict.specs.InputReads.{IsOfReading, RasterHasRead, RastersHaveRead, gave_up, told_by};
-ghost use Rattle.drain_verdict.specs.ToGive.{IsAfterTold, IsMosaicAfter, IsMosaicOneMore, IsNextRow, ToGive};
+ghost use Rattle.drain_verdict.specs.InputReads.{RasterHasRead, RastersHaveRead};
+ghost use Rattle.drain_verdict.specs.Reading.{IsOfReading, gave_up, told_by};
+ghost use Rattle.drain_verdict.specs.ToGive.{IsAfterTold, IsNextRow};
 
 use drain_answer::Refusal;
 use drain_device::{ByteList, ByteSource, ReadFault, RowSource};
 use drain_grid::PerProduct;
-use drain_hgt::TileInput;
-use drain_mosaic::MosaicRows;
 use drain_pixels::PixelRow;
 use drain_raster::RasterRows;
 
@@ -29,32 +23,8 @@ pub struct RasterInput<R> {
     pub body: R,
 }
 
-/// The products of one mosaic.
+/// The products of one ground.
 pub type Products<R> = PerProduct<RasterInput<R>>;
-
-/// Reads the next row of the mosaic: none after the last.
-pub fn read_mosaic<R: ByteSource>(
-    mosaic: &mut MosaicRows,
-    tiles: &mut [TileInput<R>],
-    out: &mut Vec<i64>,
-) -> Result<(), Refusal>
-    requires counted { length tiles.old ≡ length mosaic.old.tiles.items }
-    requires narrow { mosaic.old.shape.cols ≤ MAX_LENGTH }
-    ensures rows { OnOk result ((t : ToGive) (n : ℕ) → IsMosaicAfter R.bytes_left mosaic.old tiles.old t n → IsMosaicOneMore R.bytes_left mosaic.new tiles.new t n out.new.items) }
-    ensures narrow { OnOk result (length out.new.items ≤ MAX_LENGTH) }
-    ensures samples { OnOk result (All IsSample out.new.items) }
-    ensures read { HaveRead R.bytes_left R.counts mosaic.old.tiles.items mosaic.new.tiles.items tiles.old tiles.new (IsTrue (gave_up None (told_by result))) }
-    ensures of_reading { IsOfReading (told_by result) }
-    ensures names { names_of tiles.new ≡ names_of tiles.old }
-    ensures counted { length mosaic.new.tiles.items ≡ length mosaic.old.tiles.items }
-    ensures keeps_shape { mosaic.new.shape ≡ mosaic.old.shape }
-{
-    match mosaic.next_row(tiles, out) {
-        Ok(_) => Ok(()),
-        Err(ReadFault::ReadFailed) => Err(Refusal::ReadFailed),
-        Err(_) => Err(Refusal::OutOfMemory),
-    }
-}
 
 /// Reads the next row of each product. The first refusal ends it.
 pub fn read_rasters<R: ByteSource>(
@@ -89,6 +59,8 @@ pub fn read_raster<R: ByteSource>(
     ensures rows { OnOk result ((start : Coming) (n : ℕ) → IsAfterTold raster.old (R.bytes_left body.old) start n → IsNextRow raster.new (R.bytes_left body.new) start n out.new) }
     ensures pixels { OnOk result (All IsPixel out.new) }
     ensures read { RasterHasRead (R.bytes_left body.old) (R.bytes_left body.new) (R.counts body.old) (R.counts body.new) raster.old raster.new (IsTrue (gave_up (told_by told) (told_by result))) }
+    ensures narrow { OnOk result (length out.new ≤ raster.old.header.cols) }
+    ensures keeps_len { raster.new.header.cols ≡ raster.old.header.cols }
     ensures stays { IfErr told (λ refusal. result ≡ Err refusal) }
     ensures of_reading { OnOk told (IsOfReading (told_by result)) }
 {

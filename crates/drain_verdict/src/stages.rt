@@ -1,23 +1,24 @@
 //! What is read before the rows: the list of sinks, the headers, the tiles' places and the layout; each with its refusals.
 
-ghost use Rattle.std.specs.Prelude.{◌≡◌, IfOk, ◌≢◌, Some, IfSome, ◌↔◌, IsTrue, IfErr, ◌-◌, ◌*◌, ◌^◌, ◌≤◌, ◌*ℤ◌, pos, nat_abs};
+ghost use Rattle.std.specs.Prelude.{◌≡◌, IfOk, ◌≢◌, Some, IfSome, ◌↔◌, IsTrue, IfErr};
 ghost use Rattle.drain_grid.specs.SinkTexts.{sinks_of};
-ghost use Rattle.drain_verdict.specs.Meaning.{lines_in, nodata_in};
+ghost use Rattle.drain_verdict.specs.Texts.{lines_in, nodata_in};
 ghost use Rattle.drain_verdict.specs.Stages.{IsBadLine, IsToldOfSinks, IsHeaderFor, IsHeaderRefusal, AreHeadersOf, IsFirstRefusalOf, IsLayoutOf, IsLayoutRefusal, IsNameRefusal, IsLayoutFaultAs};
-ghost use Rattle.drain_verdict.specs.Refusals.{IsOfBodies, AreWithin, IsPlaced};
+ghost use Rattle.drain_verdict.specs.Refusals.{IsOfBodies};
 ghost use Rattle.drain_raster.specs.Pixels.{header_extent};
-ghost use Rattle.drain_mosaic.specs.Tiling as tiling;
 ghost use Rattle.drain_grid.specs.SetProduct.{product_of};
 ghost use Rattle.drain_grid.specs.PerProduct.{of_product};
 ghost use Rattle.std.specs.List.{AllZip};
 ghost use Rattle.drain_hgt.specs.Name.{IsNameOf};
 ghost use Rattle.drain_hgt.specs.Inputs.{names_of};
 
+use crate::ground::GroundInput;
 use drain_answer::Refusal;
+use drain_device::ByteSource;
 use drain_grid::tile::is_side;
 use drain_grid::{
     Cell, NoData, OutOfMemory, PerProduct, Product, SetProduct, Shape, SinkData, SinkFault, Sinks,
-    UNITS_PER_DEGREE, first_off_data, parse_sinks,
+    first_off_data, parse_sinks,
 };
 use drain_header::{Header, parse_header};
 use drain_hgt::{TileInput, TileName};
@@ -80,27 +81,31 @@ impl<'a> SinkData for VoidedGrid<'a> {
     }
 }
 
-/// Whether the header gives the rows and columns of the mosaic.
-fn has_shape(layout: &Layout, header: &Header) -> bool
-    ensures { IsTrue result ↔ (header_extent header.now ≡ tiling.extent_of layout.now) }
+/// Whether the header gives the rows and columns of the ground.
+fn has_shape<R: ByteSource, T: GroundInput<R>>(frame: &T::Frame, header: &Header) -> bool
+    ensures { IsTrue result ↔ (header_extent header.now ≡ T.extent frame.now) }
 {
-    let shape = layout.shape();
+    let shape = T::shape(frame);
     header.rows == shape.rows() && header.cols == shape.cols()
 }
 
 /// The header of one product, or why it is refused: its own fault, then its shape, then its place.
-fn read_header(layout: &Layout, product: Product, text: &[u8]) -> Result<Header, Refusal>
-    ensures header { IfOk result (IsHeaderFor layout.now text.now) }
-    ensures refusal { IfErr result (IsHeaderRefusal layout.now product text.now) }
+fn read_header<R: ByteSource, T: GroundInput<R>>(
+    frame: &T::Frame,
+    product: Product,
+    text: &[u8],
+) -> Result<Header, Refusal>
+    ensures header { IfOk result (IsHeaderFor (T.extent frame.now) (T.holds frame.now) text.now) }
+    ensures refusal { IfErr result (IsHeaderRefusal (T.extent frame.now) (T.holds frame.now) product text.now) }
 {
     let header = match parse_header(text) {
         Ok(header) => header,
         Err(fault) => return Err(Refusal::BadHeader(product, fault)),
     };
-    if !has_shape(layout, &header) {
+    if !has_shape::<R, T>(frame, &header) {
         return Err(Refusal::WrongShape(product));
     }
-    if !is_placed(layout, &header) {
+    if !T::is_placed(frame, &header) {
         return Err(Refusal::Misplaced(product));
     }
     Ok(header)
@@ -109,20 +114,20 @@ fn read_header(layout: &Layout, product: Product, text: &[u8]) -> Result<Header,
 /// The header of each product, or the first refusal: all refusals of one product's header come before those
 /// of the next product.
 ///
-/// A header is refused for its own first fault (`BadHeader`), then if its rows or columns aren't those of the mosaic
-/// (`WrongShape`), then if its corner lies more than 10^-6 degree from the mosaic's or its pixels differ from samples
-/// by more than 10^-9 degree (`Misplaced`).
-pub fn read_headers(
-    layout: &Layout,
+/// A header is refused for its own first fault (`BadHeader`), then if its rows or columns aren't those of the ground
+/// (`WrongShape`), then if its raster doesn't lie on the ground (`Misplaced`): on tiles, if its corner lies more than
+/// 10^-6 degree from the mosaic's or its pixels differ from samples by more than 10^-9 degree.
+pub fn read_headers<R: ByteSource, T: GroundInput<R>>(
+    frame: &T::Frame,
     texts: &PerProduct<&[u8]>,
 ) -> Result<PerProduct<Header>, Refusal>
-    ensures headers { IfOk result (AreHeadersOf layout.now (λ p. (of_product texts.now p).now)) }
-    ensures refusal { IfErr result (IsFirstRefusalOf layout.now (λ p. (of_product texts.now p).now)) }
+    ensures headers { IfOk result (AreHeadersOf (T.extent frame.now) (T.holds frame.now) (λ p. (of_product texts.now p).now)) }
+    ensures refusal { IfErr result (IsFirstRefusalOf (T.extent frame.now) (T.holds frame.now) (λ p. (of_product texts.now p).now)) }
 {
     let read = |product: SetProduct| -> Result<Header, Refusal>
-        ensures header { IfOk result (IsHeaderFor layout.entry.now (of_product texts.entry.now product).now) }
-        ensures refusal { IfErr result (IsHeaderRefusal layout.entry.now (product_of product) (of_product texts.entry.now product).now) }
-    { read_header(layout, product.product(), texts.of(product)) };
+        ensures header { IfOk result (IsHeaderFor (T.extent frame.entry.now) (T.holds frame.entry.now) (of_product texts.entry.now product).now) }
+        ensures refusal { IfErr result (IsHeaderRefusal (T.extent frame.entry.now) (T.holds frame.entry.now) (product_of product) (of_product texts.entry.now product).now) }
+    { read_header::<R, T>(frame, product.product(), texts.of(product)) };
     PerProduct::from_each(&read)
 }
 
@@ -138,72 +143,6 @@ pub fn nodata_of(headers: &PerProduct<Header>) -> NoData
         spl: Product::Spl.default_no_data(),
         rnk: nodata(&headers.rnk, Product::Rnk),
     }
-}
-
-/// How far a raster's corner may lie from the mosaic's: 10^-6 degree, in units of 10^-15 degree.
-const CORNER_TOLERANCE: u128 = 1_000_000_000;
-
-/// How much a pixel's size may differ from a sample's: 10^-9 degree, in units of 10^-15 degree.
-const SIZE_TOLERANCE: u128 = 1_000_000;
-
-/// No distance that is compared is between numbers further from 0 than this.
-const FARTHEST: u128 = 100_000_000_000_000_000_000_000_000_000;
-
-/// Whether two distances are within the given number of units of one another.
-fn are_within(units: u128, a: i128, b: i128) -> bool
-    requires a { nat_abs a ≤ FARTHEST }
-    requires b { nat_abs b ≤ FARTHEST }
-    ensures { IsTrue result ↔ AreWithin units a b }
-{
-    (a - b).unsigned_abs() <= units
-}
-
-/// Whether the raster's west edge is the mosaic's.
-fn is_at_west(layout: &Layout, header: &Header) -> bool
-    ensures { IsTrue result ↔ AreWithin (10 ^ 9) header.now.place.ulx (tiling.west_edge layout.now) }
-{
-    are_within(CORNER_TOLERANCE, header.place.ulx, layout.west_edge())
-}
-
-/// Whether the raster's north edge is the mosaic's.
-fn is_at_north(layout: &Layout, header: &Header) -> bool
-    ensures { IsTrue result ↔ AreWithin (10 ^ 9) header.now.place.uly (tiling.north_edge layout.now) }
-{
-    are_within(CORNER_TOLERANCE, header.place.uly, layout.north_edge())
-}
-
-/// Whether pixels are as wide as samples: those from one edge of a tile to the other make up one degree.
-fn is_as_wide(layout: &Layout, header: &Header) -> bool
-    ensures { IsTrue result ↔ AreWithin (10 ^ 6 * (layout.now.side - 1)) (header.now.place.xdim *ℤ pos (layout.now.side - 1)) (pos UNITS_PER_DEGREE) }
-{
-    let steps = layout.side() - 1;
-    are_within(
-        SIZE_TOLERANCE * u128::from(steps),
-        header.place.xdim * i128::from(steps),
-        UNITS_PER_DEGREE as i128,
-    )
-}
-
-/// Whether pixels are as high as samples.
-fn is_as_high(layout: &Layout, header: &Header) -> bool
-    ensures { IsTrue result ↔ AreWithin (10 ^ 6 * (layout.now.side - 1)) (header.now.place.ydim *ℤ pos (layout.now.side - 1)) (pos UNITS_PER_DEGREE) }
-{
-    let steps = layout.side() - 1;
-    are_within(
-        SIZE_TOLERANCE * u128::from(steps),
-        header.place.ydim * i128::from(steps),
-        UNITS_PER_DEGREE as i128,
-    )
-}
-
-/// Whether the header's raster has the mosaic's place.
-pub fn is_placed(layout: &Layout, header: &Header) -> bool
-    ensures { IsTrue result ↔ IsPlaced layout.now header.now.place }
-{
-    is_at_west(layout, header)
-        && is_at_north(layout, header)
-        && is_as_wide(layout, header)
-        && is_as_high(layout, header)
 }
 
 /// The layout of the named tiles, or why there is none: `BadSide`, `BadName` with the first bad name, then the first

@@ -53,10 +53,10 @@ module _ {R : Type 0} (bytes_left : R → Option (List ℕ)) (counts : R → Fau
   pub used_again : {A B : Type 0} (a : Result A Refusal) (b : Result B Refusal) → IsErrOf a ReadFailed ↔ IsErrOf b ReadFailed →
       IfErr b (λ refusal. ¬ IsOfBodies refusal → (new.0 ≡ old.0) × (new.1 ≡ old.1)) → AuditUses bytes_left counts side old new a → AuditUses bytes_left counts side old new b
   used_again a b alike untouched uses = record {
-    tiles_within = uses.tiles_within;
+    inputs_within = uses.inputs_within;
     rasters_within = uses.rasters_within;
     faults = SomeReadFails-iff alike uses.faults;
-    names = uses.names;
+    kept = uses.kept;
     headers = uses.headers;
     untouched = untouched;
   }

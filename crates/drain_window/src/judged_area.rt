@@ -5,7 +5,7 @@ ghost use Rattle.drain_window.specs.JudgedAreas.{judged_area, AreLinesInside, un
 ghost use Rattle.drain_window.specs.SeamRows.{EndsInRange, IsOrigin};
 ghost use Rattle.drain_grid.specs.Grid.{Grid, Products};
 ghost use Rattle.drain_grid.specs.SinkTexts.{is_listed, sinks_of};
-ghost use Rattle.drain_verdict.specs.Meaning.{lines_in};
+ghost use Rattle.drain_verdict.specs.Texts.{lines_in};
 ghost use Rattle.drain_union.specs.Windows.{window_at, IsJudgedAt};
 ghost use Rattle.drain_union.specs.Reports.{ListsSinks};
 

@@ -2,6 +2,7 @@
 
 use crate::worked::{Form, Numbers, cell, one_fault, page_has, rejected, values, void};
 use drain_grid::{CellValues, Judged, Patch, Rule};
+use drain_mosaic::Layout;
 use drain_page::Facts;
 use std::alloc::Global;
 use std::test::Fail;
@@ -187,7 +188,7 @@ fn patch(row: &Row) -> Result<Patch, &'static str> {
     })
 }
 
-fn facts(alloc: Global, row: &Row) -> Result<Facts, Fail> {
+fn facts(alloc: Global, row: &Row) -> Result<Facts<Layout>, Fail> {
     let findings = one_fault(alloc, row.rule, row.judged, patch(row)?)?;
     Ok(rejected(row.rule, 1, 2, findings))
 }
@@ -211,7 +212,7 @@ fn each_rule_as_json(rt: HostRuntime) -> Result<(), Fail> {
 }
 
 /// A raised open cell with this in the north.
-fn open_beside(alloc: Global, north: Option<CellValues>) -> Result<Facts, Fail> {
+fn open_beside(alloc: Global, north: Option<CellValues>) -> Result<Facts<Layout>, Fail> {
     let mut around = [Some(cell(9, false, (9, 0, 1, 7, 9))?); 8];
     around[6] = north;
     let here = cell(5, false, (6, 0, 1, 7, 9))?;
@@ -245,7 +246,7 @@ fn why_cells_are_open(rt: HostRuntime) -> Result<(), Fail> {
 }
 
 /// A void with numbers of its own.
-fn numbered_void(alloc: Global, judged: Judged) -> Result<Facts, Fail> {
+fn numbered_void(alloc: Global, judged: Judged) -> Result<Facts<Layout>, Fail> {
     let patch = Patch {
         here: values(None, false, (4, 255, 0, 0, 3), 255)?,
         around: [None; 8],

@@ -4,6 +4,10 @@
 #[cfg(test)]
 mod agree;
 #[cfg(test)]
+mod dem;
+#[cfg(test)]
+mod dem_pages;
+#[cfg(test)]
 mod expected;
 #[cfg(test)]
 mod refusals;

@@ -6,12 +6,13 @@ use drain_explain::{Extent, NotData, RefusalDetail, TileValue};
 use drain_grid::{Cell, Product};
 use drain_header::Place;
 use drain_hgt::TileName;
+use drain_mosaic::Layout;
 use drain_page::Facts;
 use std::alloc::Global;
 use std::test::Fail;
 
 /// The facts of a refusal.
-fn refused(refusal: Refusal, note: RefusalDetail) -> Facts {
+pub fn refused<F>(refusal: Refusal, note: RefusalDetail) -> Facts<F> {
     Facts {
         answer: Err(refusal),
         refusal: Some(note),
@@ -34,7 +35,7 @@ fn place(west: i32) -> Place {
 }
 
 /// Facts of this number of kinds, by number.
-fn facts(alloc: Global, kind: usize) -> Result<Facts, Fail> {
+fn facts(alloc: Global, kind: usize) -> Result<Facts<Layout>, Fail> {
     let tile = TileName::parse(b"N36W085.hgt")?;
     Ok(match kind {
         0 => refused(Refusal::BadSide, RefusalDetail::Side(7000)),

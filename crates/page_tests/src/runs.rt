@@ -3,13 +3,14 @@
 use crate::worked::{Form, no_fault, page_has};
 use drain_answer::Outcome;
 use drain_grid::{Cell, Judged};
+use drain_mosaic::Layout;
 use drain_page::Facts;
 use drain_paths::{EndlessPath, LostBy};
 use std::alloc::Global;
 use std::test::Fail;
 
 /// The facts of an audit in which the path of row 0, column 3 doesn't end.
-fn no_end(alloc: Global, run: EndlessPath) -> Result<Facts, Fail> {
+fn no_end(alloc: Global, run: EndlessPath) -> Result<Facts<Layout>, Fail> {
     let mut findings = no_fault(alloc, Judged::All)?;
     findings.endless = Some((Cell { row: 0, col: 3 }, run));
     Ok(Facts {
@@ -20,7 +21,7 @@ fn no_end(alloc: Global, run: EndlessPath) -> Result<Facts, Fail> {
 }
 
 /// A ring of this number of cells, of which two are printed.
-fn ring(alloc: Global, length: usize) -> Result<Facts, Fail> {
+fn ring(alloc: Global, length: usize) -> Result<Facts<Layout>, Fail> {
     let told = [Cell { row: 1, col: 1 }, Cell { row: 1, col: 2 }];
     let cells = told.to_vec(alloc)?;
     no_end(alloc, EndlessPath::Ring { cells, length })
@@ -77,7 +78,7 @@ static LOST: [(LostBy, &str, &str); 3] = [
 static LOST_AS_JSON: &str =
     r#""ring":null,"lost":{"cell":{"row":3,"col":0,"longitude":-105.0,"latitude":37.0},"by":""#;
 
-fn lost(alloc: Global, by: LostBy) -> Result<Facts, Fail> {
+fn lost(alloc: Global, by: LostBy) -> Result<Facts<Layout>, Fail> {
     let cell = Cell { row: 3, col: 0 };
     no_end(alloc, EndlessPath::Lost { cell, by })
 }

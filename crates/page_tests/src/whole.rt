@@ -9,6 +9,7 @@ use drain_answer::{Outcome, Refusal};
 use drain_explain::Findings;
 use drain_faults::FaultyPatch;
 use drain_grid::{Cell, Counts, Judged, Patch, Rule};
+use drain_mosaic::Layout;
 use drain_page::{Facts, OUT_OF_MEMORY_OBJECT, failure_json};
 use std::alloc::Global;
 use std::test::Fail;
@@ -32,7 +33,7 @@ fn edge() -> Result<Patch, &'static str> {
     Ok(Patch { here, around })
 }
 
-fn two_rules(alloc: Global) -> Result<Findings, Fail> {
+fn two_rules(alloc: Global) -> Result<Findings<Layout>, Fail> {
     let mut findings = no_fault(alloc, Judged::AllWithRanks)?;
     findings.by_rule.missing = cells(2, 0, 1);
     findings.by_rule.slope = cells(1, 2, 0);
@@ -63,7 +64,7 @@ fn a_whole_json(rt: HostRuntime) -> Result<(), Fail> {
 }
 
 /// The facts of an acceptance.
-fn accepted(alloc: Global) -> Result<Facts, Fail> {
+fn accepted(alloc: Global) -> Result<Facts<Layout>, Fail> {
     let counts = Counts {
         rows: 4,
         cols: 4,
@@ -95,7 +96,7 @@ fn an_acceptance(rt: HostRuntime) -> Result<(), Fail> {
 }
 
 /// The facts of a refusal without details.
-fn no_tiles() -> Facts {
+fn no_tiles() -> Facts<Layout> {
     Facts {
         answer: Err(Refusal::NoTiles),
         refusal: None,

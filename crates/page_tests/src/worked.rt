@@ -8,7 +8,7 @@ use drain_faults::{FaultyPatch, PerRule, ProductFaults, RuleFaults};
 use drain_grid::{Cell, CellValues, Judged, NoData, Patch, PerProduct, Rule, Rules};
 use drain_hgt::TileName;
 use drain_mosaic::Layout;
-use drain_page::{Facts, page_json, page_text};
+use drain_page::{Facts, Frame, page_json, page_text};
 use std::alloc::Global;
 use std::process::Abort;
 use std::test::Fail;
@@ -68,9 +68,14 @@ pub fn product(at_voids: RuleFaults, at_data: RuleFaults) -> ProductFaults {
 }
 
 /// Findings with no fault.
-pub fn no_fault(alloc: Global, judged: Judged) -> Result<Findings, Fail> {
-    Ok(Findings {
-        layout: layout(alloc)?,
+pub fn no_fault(alloc: Global, judged: Judged) -> Result<Findings<Layout>, Fail> {
+    Ok(no_fault_on(layout(alloc)?, judged))
+}
+
+/// Findings with no fault, on a grid that lies there.
+pub fn no_fault_on<F>(layout: F, judged: Judged) -> Findings<F> {
+    Findings {
+        layout,
         rules: Rules {
             nodata: NoData::defaults(),
             judged,
@@ -86,7 +91,8 @@ pub fn no_fault(alloc: Global, judged: Judged) -> Result<Findings, Fail> {
         first: None,
         map: None,
         endless: None,
-    })
+        elevations: None,
+    }
 }
 
 /// Findings with one fault of this rule, at this patch.
@@ -95,7 +101,7 @@ pub fn one_fault(
     rule: Rule,
     judged: Judged,
     patch: Patch,
-) -> Result<Findings, Fail> {
+) -> Result<Findings<Layout>, Fail> {
     let mut findings = no_fault(alloc, judged)?;
     set(&mut findings.by_rule, rule, cells(1, 1, 2));
     findings.first = Some(FaultyPatch {
@@ -127,7 +133,7 @@ fn set(by_rule: &mut PerRule<RuleFaults>, rule: Rule, faults: RuleFaults) {
 }
 
 /// The facts of a rejection.
-pub fn rejected(rule: Rule, row: u32, col: u32, findings: Findings) -> Facts {
+pub fn rejected<F>(rule: Rule, row: u32, col: u32, findings: Findings<F>) -> Facts<F> {
     Facts {
         answer: Ok(Outcome::Rejected { rule, row, col }),
         refusal: None,
@@ -143,7 +149,7 @@ pub enum Form {
 }
 
 /// The page in this form.
-pub fn page_of(alloc: Global, form: Form, facts: &Facts) -> Result<String, Fail> {
+pub fn page_of<F: Frame>(alloc: Global, form: Form, facts: &Facts<F>) -> Result<String, Fail> {
     match form {
         Form::Text => Ok(String::from_utf8(page_text(alloc, facts)?)?),
         Form::Json => Ok(page_json(alloc, facts)?),
@@ -151,12 +157,12 @@ pub fn page_of(alloc: Global, form: Form, facts: &Facts) -> Result<String, Fail>
 }
 
 /// Fails the test if the page in this form doesn't contain this, and names the case.
-pub fn page_has(
+pub fn page_has<F: Frame + Drop>(
     rt: &impl Abort,
     alloc: Global,
     form: Form,
     case: &str,
-    facts: Facts,
+    facts: Facts<F>,
     part: &str,
 ) -> Result<(), Fail> {
     has(rt, case, &page_of(alloc, form, &facts)?, part);

@@ -6,6 +6,8 @@ mod every_fault;
 #[cfg(test)]
 mod examples;
 #[cfg(test)]
+mod filled_surfaces;
+#[cfg(test)]
 mod judged_faults;
 #[cfg(test)]
 mod kept_runs;
@@ -31,3 +33,5 @@ mod screened_rows;
 mod spill_levels;
 #[cfg(test)]
 mod unasked_ranks;
+#[cfg(test)]
+mod wide_rows;

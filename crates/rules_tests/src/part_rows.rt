@@ -1,26 +1,29 @@
-//! A row of the six parts of an example, whose products are kept as numbers or as the bytes of their pixels.
+//! A row of the six parts of an example, whose elevations and products are kept as numbers or as the bytes of their
+//! pixels.
 
-ghost use Rattle.std.specs.Prelude.{◌≡◌, ◌≤◌, ◌↔◌, IfOk, IsTrue, length};
+ghost use Rattle.std.proofs.Props.{props};
+ghost use Rattle.std.specs.Prelude.{◌≡◌, ◌≤◌, IfOk, IfSome, length};
 ghost use Rattle.std.specs.List.{All};
 ghost use Rattle.drain_grid.specs.PerProduct.{of_product, per_product};
-ghost use Rattle.drain_grid.specs.Grid.{IsSample};
 ghost use Rattle.drain_grid.specs.Values.{IsPixel};
 ghost use Rattle.drain_rules.specs.Rows.{AreRowNumbers};
 
 use crate::examples::{Part, is_pixel, numbers_at};
 use drain_grid::{Judged, PerProduct};
 use drain_kernel::Lanes;
-use drain_pixels::{PixelKind, PixelRow};
+use drain_pixels::{GroundRow, PixelKind, PixelRow};
 use drain_rules::RowView;
 use std::alloc::Global;
 use std::test::Fail;
 
-/// The rows of six parts, one part's after the other's, and the columns of each.
+/// The rows of six parts, one part's after the other's, and the columns of each. What is kept of the pixels of
+/// elevations, and which number means a void.
 #[derive(Clone, Copy)]
 pub struct PartRows<'a> {
     pub numbers: &'a [i64],
     pub rows: u8,
     pub cols: u16,
+    pub ground: Ground,
 }
 
 impl<'a> PartRows<'a> {
@@ -50,6 +53,12 @@ impl<'a> PartRows<'a> {
         }
     }
 }
+
+/// What is kept of the pixels of elevations, and the number that means a void, if any does.
+pub type Ground = (PixelKind, Option<i64>);
+
+/// The elevations of tiles.
+pub const OF_TILES: Ground = (PixelKind::Any, Some(-32768));
 
 /// What is kept of the pixels of con, dir, acc, bas and rnk.
 pub type Kinds = [PixelKind; 5];
@@ -92,34 +101,37 @@ fn pixel_row(alloc: Global, kind: PixelKind, numbers: &[i64]) -> Result<PixelRow
     Ok(row)
 }
 
-/// Whether each number is a sample.
-fn are_samples(numbers: &[i64]) -> bool
-    ensures { IsTrue result ↔ All IsSample numbers.now }
+/// The row of the elevations of these numbers.
+fn ground_row(alloc: Global, ground: Ground, numbers: &[i64]) -> Result<GroundRow, Fail>
+    ensures { IfOk result (λ row. All (λ z. IfSome z IsPixel) row) }
 {
-    numbers
-        .iter()
-        .all(|number| (-32768..=32767).contains(number))
+    let (kind, void) = ground;
+    let pixels = pixel_row(alloc, kind, numbers)?;
+    let mut row = GroundRow::new(alloc);
+    row.put_pixels(void, pixels);
+    Ok(row)
 }
 
 /// A row of the six parts, or none.
 #[derive(Drop)]
-pub struct PartRow<'a> {
-    z: &'a [i64],
+pub struct PartRow {
+    z: GroundRow,
     products: PerProduct<PixelRow>,
-    ghost whole: { AreRowNumbers (record { z = z.now; products = per_product (λ p. of_product products p) }) },
+    ghost whole: { AreRowNumbers (record { z = z; products = per_product (λ p. of_product products p) }) } by { Prim.hlevel props },
 }
 
-impl<'a> PartRow<'a> {
+impl PartRow {
     /// A row, its products kept as these kinds.
     pub fn new(
         alloc: Global,
-        parts: PartRows<'a>,
+        parts: PartRows<'_>,
         row: Option<u8>,
         kinds: Kinds,
-    ) -> Result<PartRow<'a>, Fail> {
-        let z = parts.row_of(Part::Elevations, row).unwrap_or(&[]);
-        if z.len() > 28801 || !are_samples(z) {
-            return Err("samples".into());
+    ) -> Result<PartRow, Fail> {
+        let numbers = parts.row_of(Part::Elevations, row).unwrap_or(&[]);
+        let z = ground_row(alloc, parts.ground, numbers)?;
+        if z.len() > 28801 {
+            return Err("a row".into());
         }
         let count = z.len();
         let [con, dir, acc, bas, rnk] = kinds;
@@ -132,13 +144,13 @@ impl<'a> PartRow<'a> {
     }
 
     /// The row with these marks, and with the lanes of its numbers if they are to be taken and fit.
-    pub fn view(
+    pub fn view<'a>(
         &'a self,
         marks: &'a [bool],
         judged: Judged,
         lanes: Option<&'a mut Lanes>,
     ) -> RowView<'a> {
-        let z = self.z;
+        let z = &self.z;
         let products = PerProduct {
             con: &self.products.con,
             dir: &self.products.dir,
@@ -154,21 +166,21 @@ impl<'a> PartRow<'a> {
 }
 
 /// The row of these elevations and products.
-fn part_row<'a>(
-    z: &'a [i64],
+fn part_row(
+    z: GroundRow,
     con: PixelRow,
     dir: PixelRow,
     acc: PixelRow,
     bas: PixelRow,
     rnk: PixelRow,
-) -> PartRow<'a>
-    requires narrow { length z.now ≤ 28801 }
-    requires samples { All IsSample z.now }
-    requires con { (length con ≡ length z.now) × All IsPixel con }
-    requires dir { (length dir ≡ length z.now) × All IsPixel dir }
-    requires acc { (length acc ≡ length z.now) × All IsPixel acc }
-    requires bas { (length bas ≡ length z.now) × All IsPixel bas }
-    requires rnk { (length rnk ≡ length z.now) × All IsPixel rnk }
+) -> PartRow
+    requires narrow { length z ≤ 28801 }
+    requires samples { All (λ h. IfSome h IsPixel) z }
+    requires con { (length con ≡ length z) × All IsPixel con }
+    requires dir { (length dir ≡ length z) × All IsPixel dir }
+    requires acc { (length acc ≡ length z) × All IsPixel acc }
+    requires bas { (length bas ≡ length z) × All IsPixel bas }
+    requires rnk { (length rnk ≡ length z) × All IsPixel rnk }
 {
     let products = PerProduct {
         con,
@@ -182,7 +194,7 @@ fn part_row<'a>(
 
 /// The row of these numbers and marks, with the lanes of its numbers where they fit.
 fn laned_view<'a>(
-    z: &'a [i64],
+    z: &'a GroundRow,
     marks: &'a [bool],
     products: PerProduct<&'a PixelRow>,
     judged: Judged,

@@ -2,7 +2,7 @@
 
 ghost use Rattle.std.specs.Prelude.{◌≡◌, ◌<◌, ◌+◌, OnOk};
 
-use crate::part_rows::{AS_NUMBERS, Kinds, PartRow, PartRows};
+use crate::part_rows::{AS_NUMBERS, Ground, Kinds, OF_TILES, PartRow, PartRows};
 use drain_basin::OutletLabels;
 use drain_faults::FaultWalk;
 use drain_grid::{Judged, NoData, Rules, Shape, Sinks, Verdict, parse_sinks};
@@ -45,6 +45,7 @@ struct Given<'a> {
     alloc: Global,
     numbers: &'a [i64],
     marks: &'a Marks,
+    ground: Ground,
     kinds: Kinds,
     judged: Judged,
     is_laned: bool,
@@ -52,11 +53,12 @@ struct Given<'a> {
 
 impl<'a> Given<'a> {
     /// The numbers of a row, none of no row.
-    fn row(&self, row: Option<u8>) -> Result<PartRow<'a>, Fail> {
+    fn row(&self, row: Option<u8>) -> Result<PartRow, Fail> {
         let parts = PartRows {
             numbers: self.numbers,
             rows: 3,
             cols: COLS,
+            ground: self.ground,
         };
         PartRow::new(self.alloc, parts, row, self.kinds)
     }
@@ -73,10 +75,10 @@ impl<'a> Given<'a> {
 
 /// A row with those above and below it.
 #[derive(Drop)]
-struct Numbers<'a> {
-    above: PartRow<'a>,
-    here: PartRow<'a>,
-    below: PartRow<'a>,
+struct Numbers {
+    above: PartRow,
+    here: PartRow,
+    below: PartRow,
 }
 
 /// The rows above a row and below it, if there are any.
@@ -88,7 +90,7 @@ fn beside(row: u8) -> (Option<u8>, Option<u8>) {
 }
 
 /// The numbers of a row with those above and below it.
-fn numbers_round<'a>(given: Given<'a>, row: u8) -> Result<Numbers<'a>, Fail> {
+fn numbers_round(given: Given<'_>, row: u8) -> Result<Numbers, Fail> {
     let (above, below) = beside(row);
     Ok(Numbers {
         above: given.row(above)?,
@@ -119,7 +121,7 @@ impl Room {
 /// A row with its marks, and with its lanes if they are taken; no row has none.
 fn row_view<'a>(
     given: Given<'a>,
-    numbers: &'a PartRow<'a>,
+    numbers: &'a PartRow,
     row: Option<u8>,
     lanes: &'a mut Lanes,
 ) -> RowView<'a> {
@@ -134,7 +136,7 @@ fn row_view<'a>(
 /// A row with those above and below it.
 fn three_rows<'a>(
     given: Given<'a>,
-    numbers: &'a Numbers<'a>,
+    numbers: &'a Numbers,
     row: u8,
     room: &'a mut Room,
 ) -> ThreeRows<'a> {
@@ -211,6 +213,7 @@ pub fn faults_by_rows(alloc: Global, numbers: &[i64], is_laned: bool) -> Result<
         alloc,
         numbers,
         marks: &marks,
+        ground: OF_TILES,
         kinds: AS_NUMBERS,
         judged: Judged::AllWithRanks,
         is_laned,
@@ -244,6 +247,7 @@ pub fn kept_of_kinds(
         alloc,
         numbers,
         marks: &marks,
+        ground: OF_TILES,
         kinds,
         judged: Judged::AllWithRanks,
         is_laned: true,
@@ -275,6 +279,7 @@ pub fn is_outlet_by_lanes(
         alloc,
         numbers,
         marks: &marks,
+        ground: OF_TILES,
         kinds: AS_NUMBERS,
         judged: Judged::AllWithRanks,
         is_laned: true,
@@ -306,14 +311,39 @@ pub fn verdict_of_kinds(
 ) -> Result<Verdict, Fail> {
     let sinks = parse_sinks(alloc, text)?;
     let marks = marks_of(&sinks);
-    let laned = Given {
+    verdict_either_way(
         alloc,
-        numbers,
-        marks: &marks,
-        kinds,
-        judged,
-        is_laned: true,
-    };
+        Given {
+            alloc,
+            numbers,
+            marks: &marks,
+            ground: OF_TILES,
+            kinds,
+            judged,
+            is_laned: true,
+        },
+    )
+}
+
+/// The same with ranks where the elevations are kept as these pixels.
+pub fn verdict_on_ground(alloc: Global, numbers: &[i64], ground: Ground) -> Result<Verdict, Fail> {
+    let marks = marks_of(&Sinks::none(alloc));
+    verdict_either_way(
+        alloc,
+        Given {
+            alloc,
+            numbers,
+            marks: &marks,
+            ground,
+            kinds: AS_NUMBERS,
+            judged: Judged::AllWithRanks,
+            is_laned: true,
+        },
+    )
+}
+
+/// The verdict with lanes. It fails if that without lanes is another.
+fn verdict_either_way(alloc: Global, laned: Given<'_>) -> Result<Verdict, Fail> {
     let plain = Given {
         is_laned: false,
         ..laned

@@ -13,7 +13,12 @@ fn tells_the_first_place_below_the_ground(rt: HostRuntime) -> Result<(), Fail> {
             let mut con = [-7; 600];
             con[place] = -8;
             con[second] = -8;
-            let found = cells_above_ground(&AnyPixels { numbers: &con }, &[-7; 600]);
+            let found = cells_above_ground(
+                &AnyPixels { numbers: &con },
+                &AnyPixels {
+                    numbers: &[-7; 600],
+                },
+            );
             equal(&rt, second, found, place);
         }
     }
@@ -24,20 +29,27 @@ fn tells_the_first_place_below_the_ground(rt: HostRuntime) -> Result<(), Fail> {
 #[test]
 fn takes_in_rows_that_are_nowhere_below(rt: HostRuntime) -> Result<(), Fail> {
     let found = [
-        cells_above_ground(&AnyPixels { numbers: &[7; 600] }, &[7; 600]),
+        cells_above_ground(
+            &AnyPixels { numbers: &[7; 600] },
+            &AnyPixels { numbers: &[7; 600] },
+        ),
         cells_above_ground(
             &AnyPixels {
                 numbers: &[-32768; 600],
             },
-            &[-32768; 600],
+            &AnyPixels {
+                numbers: &[-32768; 600],
+            },
         ),
         cells_above_ground(
             &AnyPixels {
                 numbers: &[32767; 600],
             },
-            &[-32768; 600],
+            &AnyPixels {
+                numbers: &[-32768; 600],
+            },
         ),
-        cells_above_ground(&AnyPixels { numbers: &[] }, &[]),
+        cells_above_ground(&AnyPixels { numbers: &[] }, &AnyPixels { numbers: &[] }),
     ];
     equal(&rt, "nowhere", found, [600, 600, 600, 0]);
     Ok(())

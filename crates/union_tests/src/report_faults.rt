@@ -11,10 +11,10 @@ fn fault(alloc: Global, text: &[u8]) -> Option<ReportFault> {
 }
 
 /// What is replaced in the lines, and the fault.
-static FAULTS: [(usize, &str, ReportFault); 33] = [
-    (1, "drain-window-report 1", ReportFault::WrongVersion),
-    (1, "drain-window-report 3", ReportFault::WrongVersion),
-    (1, "drain-window-report 2 ", ReportFault::WrongVersion),
+static FAULTS: [(usize, &str, ReportFault); 37] = [
+    (1, "drain-window-report 2", ReportFault::WrongVersion),
+    (1, "drain-window-report 4", ReportFault::WrongVersion),
+    (1, "drain-window-report 3 ", ReportFault::WrongVersion),
     (2, "side", ReportFault::BadLine(2)),
     (2, "side 01201", ReportFault::BadLine(2)),
     (2, "side +1201", ReportFault::BadLine(2)),
@@ -58,8 +58,24 @@ static FAULTS: [(usize, &str, ReportFault); 33] = [
     ),
     (13, "outlet 7 62400 4294967296", ReportFault::OutOfRange(13)),
     (
+        15,
+        "seam 62401 90001 void 0 -2147483648 255 0 0 0 0",
+        ReportFault::BadLine(15),
+    ),
+    (
+        15,
+        "seam 62401 90001 - - -2147483648 255 0 0 0 0",
+        ReportFault::BadLine(15),
+    ),
+    (15, "seam 62401 90001 -", ReportFault::BadLine(15)),
+    (
         16,
-        "seam 62401 90002 40000 1 -5 0 8 7 0 -5",
+        "seam 62401 90002 4294967296 1 -5 0 8 7 0 -5",
+        ReportFault::OutOfRange(16),
+    ),
+    (
+        16,
+        "seam 62401 90002 -2147483649 1 -5 0 8 7 0 -5",
         ReportFault::OutOfRange(16),
     ),
     (

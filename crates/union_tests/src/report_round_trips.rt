@@ -23,13 +23,14 @@ fn an_accepted_window_is_read_and_written_again(rt: HostRuntime) -> Result<(), F
     assert_eq!(rt; window.report.seams[0].values.z, None);
     assert_eq!(rt; window.report.seams[1].values.z, Some(-5));
     assert_eq!(rt; window.report.seams[1].values.sink, true);
+    assert_eq!(rt; window.report.seams[2].values.z, Some(-32768));
     let again = write_report(rt.alloc(), &window)?;
     assert_eq!(rt; again.as_slice(), bytes.as_slice());
     Ok(())
 }
 
 /// A rejected window: its lists are empty, as it is read to its first fault alone.
-const REJECTED: &[u8] = b"drain-window-report 2
+const REJECTED: &[u8] = b"drain-window-report 3
 side 3601
 window 0 0 1 28801 0 0 0 0
 nodata -32768 255 10000000000 -10000000000

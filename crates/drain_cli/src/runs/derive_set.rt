@@ -1,10 +1,11 @@
 //! What `derive` derives, and its files.
 
 ghost use Rattle.std.specs.Prelude.{◌≡◌, IfOk, length, Result};
-ghost use Rattle.drain_maker.specs.ProductFiles.{CanBeDerived};
+ghost use Rattle.drain_header.specs.Header.{Fields};
+ghost use Rattle.drain_maker.specs.ProductFiles.{CanBeDerived, DerivedFit};
 ghost use Rattle.drain_maker.specs.declared.product_files.TheConstants.{DERIVED_COUNT};
 ghost use Rattle.drain_answer.specs.AuditLines.{no_end_line};
-ghost use Rattle.drain_cli.specs.DerivedSets.{IsDerivation, IsSetHandedOver, none_line, none_status, told_of_dir};
+ghost use Rattle.drain_cli.specs.DerivedSets.{IsDemDerivation, IsDerivation, IsSetHandedOver, none_line, none_status, told_of_dir};
 ghost use Rattle.drain_maker.specs.declared.derivation.Derived.{Derived};
 ghost use Rattle.drain_maker.specs.declared.derivation.DeriveRefusal.{DeriveRefusal};
 ghost use Rattle.drain_mosaic.specs.Tiling.{Tiling};
@@ -14,20 +15,21 @@ use drain_answer::audit_report;
 use drain_answer::lines::{Line, refusal_line};
 use drain_answer::outcome::Status;
 use drain_answer::print::print_line;
-use drain_args::requests::{DeriveArgs, ProductArgs};
+use drain_args::requests::{DeriveArgs, Elevations, ProductArgs};
 use drain_device::{ByteSink, ByteSource};
 use drain_files::file_id::FileId;
 use drain_files::open_failure::print_open_fault;
 use drain_files::open_files::Opener;
-use drain_files::open_judged::{OpenFiles, open_directions};
+use drain_files::open_judged::{OpenElevations, OpenFiles, OpenTiles, open_directions};
 use drain_files::output_paths::{inputs_or_print, output_paths};
 use drain_files::outputs::{Failure, Outputs};
 use drain_grid::Product;
+use drain_header::Header;
 use drain_hgt::TileInput;
 use drain_maker::product_files::DERIVED_FILES;
-use drain_maker::{DeriveRefusal, Derived, derive};
+use drain_maker::{DeriveRefusal, Derived, derive, derive_dem, product_header};
 use drain_mosaic::Layout;
-use drain_verdict::{AuditProducts, AuditVerdict, Refusal};
+use drain_verdict::{AuditProducts, AuditVerdict, RasterInput, Refusal};
 use std::alloc::Global;
 
 /// Derives rasters of the directions in a folder, writes them into another, and returns the exit status. The files are
@@ -41,37 +43,58 @@ pub fn derive_files(rt: &HostRuntime, args: &DeriveArgs<'_>, out: &mut impl Byte
     };
     let mut opener = Opener::new(rt);
     match derived_of_files(&mut opener, &args.inputs, paths.as_slice(), out) {
-        Ok((layout, derived)) => {
-            write_at(rt, paths.as_slice(), opener.ids(), &layout, &derived, out)
+        Ok((header, derived)) => {
+            write_at(rt, paths.as_slice(), opener.ids(), &header, &derived, out)
         }
         Err(status) => status,
     }
 }
 
-/// What follows from the directions of these files, which are closed again; or it prints why nothing does, and returns
-/// the exit status. Files at the paths of outputs that are inputs are a usage error.
+/// What follows from the directions of these files, which are closed again, with the header of their elevations; or it
+/// prints why nothing does, and returns the exit status. Files at the paths of outputs that are inputs are a usage error.
 fn derived_of_files(
     opener: &mut Opener<'_>,
-    args: &ProductArgs<'_>,
+    args: &ProductArgs<'_, Elevations<'_>>,
     outputs: &[String],
     out: &mut impl ByteSink,
-) -> Result<(Layout, Derived), u8>
-    ensures written { IfOk result (λ set. CanBeDerived set.0 set.1) }
+) -> Result<(Header, Derived), u8>
+    ensures written { IfOk result (λ set. DerivedFit set.0 set.1) }
 {
     let opened = open_directions(opener, args);
     let OpenFiles {
-        mut tiles,
+        mut elevations,
         mut products,
         sinks,
     } = inputs_or_print(opener, opened, "the products", outputs, out)?;
-    derive_set(
+    derive_opened(
         opener.alloc(),
-        args.side,
-        tiles.as_mut_slice(),
+        &mut elevations,
         sinks.as_slice(),
         &mut products,
         out,
     )
+}
+
+/// What follows from directions on these elevations, with their header: con's on a mosaic.
+fn derive_opened<R: ByteSource, W: ByteSink>(
+    alloc: Global,
+    elevations: &mut OpenElevations<R>,
+    sinks: &[u8],
+    products: &mut AuditProducts<R>,
+    out: &mut W,
+) -> Result<(Header, Derived), u8>
+    ensures written { IfOk result (λ set. DerivedFit set.0 set.1) }
+{
+    match elevations {
+        OpenElevations::Tiles(OpenTiles { side, tiles }) => {
+            let tiles = tiles.as_mut_slice();
+            match derive_set(alloc, *side, tiles, sinks, products, out) {
+                Ok((layout, derived)) => Ok((product_header(&layout, Product::Con), derived)),
+                Err(status) => Err(status),
+            }
+        }
+        OpenElevations::Dem(dem) => derive_dem_set(alloc, dem, sinks, products, out),
+    }
 }
 
 /// Creates the files at these paths and writes them, and returns the exit status.
@@ -79,19 +102,19 @@ fn write_at(
     rt: &HostRuntime,
     paths: &[String],
     inputs: &[FileId],
-    layout: &Layout,
+    elevations: &Header,
     derived: &Derived,
     out: &mut impl ByteSink,
 ) -> u8
     requires paths { length paths.now ≡ DERIVED_COUNT }
-    requires written { CanBeDerived layout.now derived.now }
+    requires written { DerivedFit elevations.now derived.now }
 {
     let failure = Failure::none();
     let mut outputs = Outputs::new(rt, &failure);
     let status = match outputs.begin(paths, inputs) {
         Ok(mut files) => write_derived_and_place(
             rt.alloc(),
-            layout,
+            elevations,
             derived,
             files.as_mut_slice(),
             &mut outputs,
@@ -121,8 +144,36 @@ pub fn derive_set<R: ByteSource, W: ByteSink>(
         × IsSetHandedOver W.ByteSink out.old out.new outcome result }
     ensures written { IfOk result (λ set. CanBeDerived set.0 set.1) }
 {
-    match derive(alloc, side, tiles, sinks, products) {
-        Ok((layout, derived)) => Ok((layout, derived)),
+    let derivation = derive(alloc, side, tiles, sinks, products);
+    or_print(derivation, out)
+}
+
+/// The same of directions on one raster of elevations, with its header.
+pub fn derive_dem_set<R: ByteSource, W: ByteSink>(
+    alloc: Global,
+    dem: &mut [RasterInput<R>; 1],
+    sinks: &[u8],
+    products: &mut AuditProducts<R>,
+    out: &mut W,
+) -> Result<(Header, Derived), u8>
+    ensures run { (outcome : Result (Fields × Derived) DeriveRefusal)
+        × IsDemDerivation R.ByteSource dem.old dem.new sinks.now products.old products.new outcome
+        × IsSetHandedOver W.ByteSink out.old out.new outcome result }
+    ensures written { IfOk result (λ set. DerivedFit set.0 set.1) }
+{
+    let derivation = derive_dem(alloc, dem, sinks, products);
+    or_print(derivation, out)
+}
+
+/// What was derived; or it prints why nothing was, and returns the exit status.
+fn or_print<F, W: ByteSink>(
+    derivation: Result<(F, Derived), DeriveRefusal>,
+    out: &mut W,
+) -> Result<(F, Derived), u8>
+    ensures { IsSetHandedOver W.ByteSink out.old out.new derivation result }
+{
+    match derivation {
+        Ok(set) => Ok(set),
         Err(why) => Err(print_line(out, &line_of(&why), status_of(&why))),
     }
 }

@@ -3,11 +3,12 @@
 ghost use Rattle.std.specs.Prelude.{◌≡◌, length, IfOk, Some};
 ghost use Rattle.drain_grid.specs.declared.judged.Judged as grid;
 
+use crate::runs::explain_dem::run_explain_on;
 use crate::runs::run_explain;
-use crate::runs::run_explain::{ExplainOutput, MapFault, print_page_failure, run_explain};
+use crate::runs::run_explain::{ExplainOutput, MapFault, print_page_failure};
 use drain_answer::outcome::Status;
 use drain_args::form::Form;
-use drain_args::requests::ExplainArgs;
+use drain_args::requests::{Elevations, ExplainArgs};
 use drain_device::{ByteSink, write_nothing};
 use drain_explain::{FileLookup, Mapping};
 use drain_files::file_id::FileId;
@@ -18,8 +19,8 @@ use drain_files::open_files::{OpenFault, Opener};
 use drain_files::open_judged::{OpenFiles, open_judged};
 use drain_files::outputs::{Failure, Outputs, look};
 use drain_grid::{Judged, Product};
+use drain_header::Header;
 use drain_maker::product_files::SetFault;
-use drain_mosaic::Layout;
 use drain_progress::progress::Progress;
 use std::alloc::Global;
 
@@ -69,7 +70,7 @@ fn explain_opened(
     match open_judged(&mut opener, &args.inputs, judged, &progress) {
         Ok(
             OpenFiles {
-                mut tiles,
+                mut elevations,
                 mut products,
                 sinks,
             },
@@ -77,10 +78,9 @@ fn explain_opened(
             if let Some(status) = refused_map(rt, args, opener.ids(), out) {
                 return status;
             }
-            run_explain(
+            run_explain_on(
                 rt.alloc(),
-                args.inputs.side,
-                tiles.as_mut_slice(),
+                &mut elevations,
                 sinks.as_slice(),
                 &mut products,
                 mapping(args),
@@ -163,15 +163,29 @@ impl<'r, 'a, 'e> FileLookup for OnDisk<'r, 'a, 'e> {
     ghost shows = { λ look place start metres. Unit {0} };
 
     fn tile_length(&mut self, place: usize) -> Option<u64> {
-        run_explain::tile_length(self.rt, &self.args.inputs, place)
+        match &self.args.inputs.elevations {
+            Elevations::Tiles(tiles) => run_explain::tile_length(self.rt, tiles, place),
+            Elevations::Dem(_) => None,
+        }
+    }
+
+    fn dem_length(&mut self) -> Option<u64> {
+        match &self.args.inputs.elevations {
+            Elevations::Tiles(_) => None,
+            Elevations::Dem(dem) => run_explain::dem_length(self.rt, dem),
+        }
     }
 
     fn raster_length(&mut self, product: Product) -> Option<u64> {
-        run_explain::raster_length(self.rt, &self.args.inputs, product)
+        let args = self.args;
+        run_explain::raster_length(self.rt, args.inputs.folder, product)
     }
 
     fn sample(&mut self, place: usize, start: u64) -> Option<i16> {
-        run_explain::sample(self.rt, &self.args.inputs, place, start)
+        match &self.args.inputs.elevations {
+            Elevations::Tiles(tiles) => run_explain::sample(self.rt, tiles, place, start),
+            Elevations::Dem(_) => None,
+        }
     }
 }
 
@@ -179,9 +193,9 @@ impl<'r, 'a, 'e> ExplainOutput for OnDisk<'r, 'a, 'e> {
     // No clause says what a file takes.
     ghost has_saved = { λ old new result. Unit {0} };
 
-    fn save_map(&mut self, layout: &Layout, pixels: &[u8]) -> Result<(), MapFault> {
+    fn save_map(&mut self, like: &Header, pixels: &[u8]) -> Result<(), MapFault> {
         match self.args.map {
-            Some(stem) => save(self.rt, stem, self.inputs.as_slice(), layout, pixels),
+            Some(stem) => save(self.rt, stem, self.inputs.as_slice(), like, pixels),
             None => Ok(()),
         }
     }
@@ -192,7 +206,7 @@ fn save(
     rt: &HostRuntime,
     stem: &str,
     inputs: &[FileId],
-    layout: &Layout,
+    like: &Header,
     pixels: &[u8],
 ) -> Result<(), MapFault> {
     let Ok(paths) = map_paths(rt.alloc(), stem) else {
@@ -201,13 +215,7 @@ fn save(
     let failure = Failure::none();
     let mut outputs = Outputs::new(rt, &failure);
     let saved = match outputs.begin(paths.as_slice(), inputs) {
-        Ok(mut files) => write_begun(
-            rt.alloc(),
-            layout,
-            pixels,
-            files.as_mut_slice(),
-            &mut outputs,
-        ),
+        Ok(mut files) => write_begun(rt.alloc(), like, pixels, files.as_mut_slice(), &mut outputs),
         Err(OpenFault::Open(path, reason)) => {
             print_reason(rt, path.as_str(), reason);
             Err(MapFault::Open(path))
@@ -221,7 +229,7 @@ fn save(
 /// Writes the header and the raster of a map, which then get their names.
 fn write_begun<F: ByteSink, P: Placing>(
     alloc: Global,
-    layout: &Layout,
+    like: &Header,
     pixels: &[u8],
     files: &mut [F],
     places: &mut P,
@@ -229,7 +237,7 @@ fn write_begun<F: ByteSink, P: Placing>(
     requires { length files.old ≡ 2 }
 {
     let (headers, rasters) = files.split_at_mut(1);
-    let written = write_map(alloc, layout, pixels, &mut headers[0], &mut rasters[0]);
+    let written = write_map(alloc, like, pixels, &mut headers[0], &mut rasters[0]);
     match place_written(written, places) {
         Ok(()) => Ok(()),
         Err(SetFault::WriteFailed) => Err(MapFault::WriteFailed),

@@ -1,12 +1,12 @@
-//! Runs of `drain check` and `drain audit`: rasters are judged against the tiles that they were made from, and the
-//! answer is printed.
+//! Runs of `drain check` and `drain audit`: rasters are judged against the tiles that they were made from, or against one
+//! raster of elevations, and the answer is printed.
 
 ghost use Rattle.std.specs.Prelude.{◌≡◌, false, Result};
 ghost use Rattle.drain_answer.specs.AuditLines.{audit_report_line};
 ghost use Rattle.drain_answer.specs.Lines.{report_line};
 ghost use Rattle.drain_answer.specs.declared.outcome.AuditVerdict.{AuditVerdict};
 ghost use Rattle.drain_answer.specs.declared.refusal.Refusal.{Refusal};
-ghost use Rattle.drain_cli.specs.JudgedRuns.{answer_status, IsAuditOutcome, IsCheckOutcome, IsJudgedRun, IsPartOutcome};
+ghost use Rattle.drain_cli.specs.JudgedRuns.{answer_status, IsAuditOutcome, IsCheckOutcome, IsDemRun, IsJudgedRun, IsPartOutcome, IsRun};
 ghost use Rattle.drain_answer.specs.OutcomeLines.{outcome_report_line};
 ghost use Rattle.drain_answer.specs.declared.outcome.Outcome.{Outcome};
 ghost use Rattle.drain_cli.specs.declared.answer.Answer.TheVariants.{Audit, Check, Part};
@@ -19,10 +19,12 @@ ghost use Rattle.drain_verdict.specs.Headline.{ForCheck, IsRight};
 
 use crate::answer::{Answer, print_answer};
 use drain_device::{ByteSink, ByteSource};
-use drain_files::open_judged::JudgedProducts;
+use drain_files::open_judged::{JudgedProducts, OpenElevations, OpenTiles};
 use drain_grid::Judged;
 use drain_hgt::TileInput;
-use drain_verdict::{AuditProducts, Products, audit, audit_part, check};
+use drain_verdict::{
+    AuditProducts, Products, RasterInput, audit, audit_part, audit_part_dem, check, check_dem,
+};
 use std::alloc::Global;
 
 /// Checks products against their tiles, prints the line of the answer and returns the exit status.
@@ -97,9 +99,28 @@ pub fn run_part_audit<R: ByteSource, W: ByteSink>(
     print_answer(out, &Answer::Part(answer))
 }
 
-/// Judges the products that were opened: checks five, audits four or some of these. Prints the line of the answer and
-/// returns the exit status.
+/// Judges the products that were opened beside their elevations, prints the line of the answer and returns the exit
+/// status.
 pub fn run_judged<R: ByteSource, W: ByteSink>(
+    alloc: Global,
+    elevations: &mut OpenElevations<R>,
+    sinks: &[u8],
+    products: &mut JudgedProducts<R>,
+    out: &mut W,
+) -> u8
+    // What is judged are the rasters of the products, on these elevations with these sinks.
+    ensures run { IsRun R.ByteSource W.ByteSink elevations.old elevations.new sinks.now products.old products.new out.old out.new result }
+{
+    match elevations {
+        OpenElevations::Tiles(OpenTiles { side, tiles }) => {
+            run_on_tiles(alloc, *side, tiles.as_mut_slice(), sinks, products, out)
+        }
+        OpenElevations::Dem(dem) => run_on_dem(alloc, dem, sinks, products, out),
+    }
+}
+
+/// On tiles: checks five products, audits four or some of these.
+fn run_on_tiles<R: ByteSource, W: ByteSink>(
     alloc: Global,
     side: u32,
     tiles: &mut [TileInput<R>],
@@ -107,7 +128,6 @@ pub fn run_judged<R: ByteSource, W: ByteSink>(
     products: &mut JudgedProducts<R>,
     out: &mut W,
 ) -> u8
-    // What is judged are the rasters of the products, on these tiles with these sinks.
     ensures run { IsJudgedRun R.ByteSource W.ByteSink side tiles.old tiles.new sinks.now products.old products.new out.old out.new result }
 {
     match products {
@@ -122,5 +142,27 @@ pub fn run_judged<R: ByteSource, W: ByteSink>(
                 run_part_audit(alloc, side, tiles, sinks, four, *judged, out)
             }
         },
+    }
+}
+
+/// On one raster of elevations: checks five products, audits those of four that are judged.
+fn run_on_dem<R: ByteSource, W: ByteSink>(
+    alloc: Global,
+    dem: &mut [RasterInput<R>; 1],
+    sinks: &[u8],
+    products: &mut JudgedProducts<R>,
+    out: &mut W,
+) -> u8
+    ensures run { IsDemRun R.ByteSource W.ByteSink dem.old dem.new sinks.now products.old products.new out.old out.new result }
+{
+    match products {
+        JudgedProducts::Five(five) => {
+            let answer = check_dem(alloc, dem, sinks, five);
+            print_answer(out, &Answer::Check(answer))
+        }
+        JudgedProducts::Four(four, judged) => {
+            let answer = audit_part_dem(alloc, dem, sinks, four, *judged);
+            print_answer(out, &Answer::Part(answer))
+        }
     }
 }

@@ -14,7 +14,7 @@ use crate::runs::write_set::write_and_place;
 use drain_answer::lines::{Line, refusal_line, words};
 use drain_answer::outcome::Status;
 use drain_answer::print::print_line;
-use drain_args::requests::ProductArgs;
+use drain_args::requests::{ProductArgs, TileArgs};
 use drain_device::{ByteSink, ByteSource};
 use drain_files::file_id::FileId;
 use drain_files::open_failure::print_open_fault;
@@ -36,7 +36,11 @@ use std::alloc::Global;
 /// nothing is left to refuse.
 // Not inlined, so that the buffer in which a raster is written lies on no other command's stack.
 #[inline(never)]
-pub fn make_from_files(rt: &HostRuntime, args: &ProductArgs<'_>, out: &mut impl ByteSink) -> u8 {
+pub fn make_from_files(
+    rt: &HostRuntime,
+    args: &ProductArgs<'_, TileArgs<'_>>,
+    out: &mut impl ByteSink,
+) -> u8 {
     let progress = Progress::new(rt, args.progress);
     let paths = match output_paths(rt.alloc(), args.folder, &SET_FILES, out) {
         Ok(paths) => paths,
@@ -62,7 +66,7 @@ pub fn make_from_files(rt: &HostRuntime, args: &ProductArgs<'_>, out: &mut impl 
 fn made_of_files<'a>(
     opener: &mut Opener<'_>,
     progress: &'a Progress<'a>,
-    args: &ProductArgs<'_>,
+    args: &ProductArgs<'_, TileArgs<'_>>,
     outputs: &[String],
     out: &mut impl ByteSink,
 ) -> Result<(Layout, ProductSet), u8>
@@ -73,7 +77,7 @@ fn made_of_files<'a>(
     let (mut tiles, sinks) = inputs_or_print(opener, opened, "the products", outputs, out)?;
     make_set(
         opener.alloc(),
-        args.side,
+        args.elevations.side,
         tiles.as_mut_slice(),
         sinks.as_slice(),
         &mut MakeProgress(progress),
@@ -85,10 +89,10 @@ fn made_of_files<'a>(
 fn open_inputs<'a>(
     opener: &mut Opener<'_>,
     progress: &'a Progress<'a>,
-    args: &ProductArgs<'_>,
+    args: &ProductArgs<'_, TileArgs<'_>>,
 ) -> Result<(Vec<TileInput<InputFile<'a>>>, Vec<u8>), OpenFault> {
-    let mut tiles = open_tiles(opener, args.tiles.as_slice())?;
-    count_tiles(tiles.as_mut_slice(), args.side, progress);
+    let mut tiles = open_tiles(opener, args.elevations.paths.as_slice())?;
+    count_tiles(tiles.as_mut_slice(), args.elevations.side, progress);
     let sinks = list_at(opener, args.sinks)?;
     Ok((tiles, sinks))
 }

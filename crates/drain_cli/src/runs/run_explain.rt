@@ -1,4 +1,4 @@
-//! A run of `explain`: the answer, its page and its map.
+//! A run of `explain` on tiles: the answer, its page and its map.
 
 ghost use Rattle.std.specs.Prelude.{◌≡◌, ◌++◌, ℕ, List, IfOk, codes, string_bytes, IfErr, Result};
 ghost use Rattle.drain_cli.specs.ExplainRuns.{IsNoPage, IsNoPageLine, IsFailureObject, no_page_answer, no_page_of, Explains, FailsToSave, IsOutcome};
@@ -11,20 +11,23 @@ use crate::answer::outcome_status;
 use drain_answer::outcome::Status;
 use drain_answer::print::{print_failure, print_text};
 use drain_args::form::Form;
-use drain_args::requests::ProductArgs;
+use drain_args::requests::{DemArgs, TileArgs};
 use drain_device::{BodyFault, ByteSink, ByteSource, Patience, Reader, read_full};
 use drain_explain::{
     FileLookup, Findings, Mapping, RefusalDetail, answer_and_findings, detail_of, explain_audit,
     explain_check,
 };
-use drain_files::file_paths::raster_path;
+use drain_files::file_paths::{dem_path, raster_path};
 use drain_files::open_failure::print_open_failure;
 use drain_files::open_files::OpenFault;
 use drain_files::open_judged::JudgedProducts;
 use drain_grid::{PerProduct, Product};
+use drain_header::Header;
 use drain_hgt::TileInput;
+use drain_maker::product_files::Part;
+use drain_maker::product_header;
 use drain_mosaic::Layout;
-use drain_page::{Facts, OUT_OF_MEMORY_OBJECT, failure_json, page_json, page_text};
+use drain_page::{Facts, Frame, OUT_OF_MEMORY_OBJECT, failure_json, page_json, page_text};
 use drain_verdict::{Outcome, Refusal};
 use std::alloc::{AllocError, Global};
 use std::fs;
@@ -32,19 +35,25 @@ use std::fs::File;
 use std::io::{Seek, SeekFrom};
 
 /// How many bytes the tile in this place of the arguments has.
-pub fn tile_length(rt: &HostRuntime, args: &ProductArgs<'_>, place: usize) -> Option<u64> {
-    length_of(rt, args.tiles.as_slice().get(place)?)
+pub fn tile_length(rt: &HostRuntime, args: &TileArgs<'_>, place: usize) -> Option<u64> {
+    length_of(rt, args.paths.as_slice().get(place)?)
+}
+
+/// How many bytes the raster of elevations has.
+pub fn dem_length(rt: &HostRuntime, args: &DemArgs<'_>) -> Option<u64> {
+    let path = dem_path(rt.alloc(), args, Part::Raster).ok()?;
+    length_of(rt, path.as_str())
 }
 
 /// How many bytes the product's raster has.
-pub fn raster_length(rt: &HostRuntime, args: &ProductArgs<'_>, product: Product) -> Option<u64> {
-    let path = raster_path(rt.alloc(), args.folder, product).ok()?;
+pub fn raster_length(rt: &HostRuntime, folder: &str, product: Product) -> Option<u64> {
+    let path = raster_path(rt.alloc(), folder, product).ok()?;
     length_of(rt, path.as_str())
 }
 
 /// The sample that begins at this byte of the tile in this place of the arguments.
-pub fn sample(rt: &HostRuntime, args: &ProductArgs<'_>, place: usize, start: u64) -> Option<i16> {
-    let path = args.tiles.as_slice().get(place)?;
+pub fn sample(rt: &HostRuntime, args: &TileArgs<'_>, place: usize, start: u64) -> Option<i16> {
+    let path = args.paths.as_slice().get(place)?;
     // a pipe isn't opened again: it may never yield anything
     length_of(rt, path)?;
     let mut file = File::open(rt, path).ok()?;
@@ -191,13 +200,31 @@ pub enum MapFault {
     OutOfMemory,
 }
 
+/// Where a grid lies, for its page and its map.
+pub trait MapFrame: Frame {
+    /// The header of a raster that lies there.
+    fn raster_header(&self) -> Header;
+}
+
+impl MapFrame for Layout {
+    fn raster_header(&self) -> Header {
+        product_header(self, Product::Dir)
+    }
+}
+
+impl MapFrame for Header {
+    fn raster_header(&self) -> Header {
+        *self
+    }
+}
+
 /// The place of a map.
 pub trait ExplainOutput {
     /// A call led from the one state to the other, with this result.
     ghost has_saved: { Self → Self → Result (Unit {0}) MapFault → Type 0 };
 
-    /// Saves the map of the faults.
-    fn save_map(&mut self, layout: &Layout, pixels: &[u8]) -> Result<(), MapFault>
+    /// Saves the map of the faults, which lies as the raster with this header does.
+    fn save_map(&mut self, like: &Header, pixels: &[u8]) -> Result<(), MapFault>
         ensures { has_saved self.old self.new result };
 }
 
@@ -206,9 +233,9 @@ pub trait ExplainOutput {
 ///
 /// If the map can't be saved it prints why in place of the page, and if memory is refused for the page it prints that:
 /// in the form of the page.
-pub fn explain<B: ExplainOutput, W: ByteSink>(
+pub fn explain<F: MapFrame, B: ExplainOutput, W: ByteSink>(
     alloc: Global,
-    facts: &Facts,
+    facts: &Facts<F>,
     form: Form,
     beside: &mut B,
     out: &mut W,
@@ -222,7 +249,7 @@ pub fn explain<B: ExplainOutput, W: ByteSink>(
 }
 
 /// Saves the map, if there is one.
-fn save<B: ExplainOutput>(facts: &Facts, beside: &mut B) -> Result<(), MapFault>
+fn save<F: MapFrame, B: ExplainOutput>(facts: &Facts<F>, beside: &mut B) -> Result<(), MapFault>
     ensures { IfErr result (FailsToSave B.has_saved) }
 {
     match &facts.findings {
@@ -232,13 +259,13 @@ fn save<B: ExplainOutput>(facts: &Facts, beside: &mut B) -> Result<(), MapFault>
                 map: Some(map),
                 ..
             },
-        ) => beside.save_map(layout, &map.pixels),
+        ) => beside.save_map(&layout.raster_header(), &map.pixels),
         _ => Ok(()),
     }
 }
 
 /// Prints the page, or that there is no memory for it.
-fn print_page<W: ByteSink>(alloc: Global, facts: &Facts, form: Form, out: &mut W) -> u8
+fn print_page<F: Frame, W: ByteSink>(alloc: Global, facts: &Facts<F>, form: Form, out: &mut W) -> u8
     ensures { Explains W.ByteSink out.old out.new (λ fault. ⊥) form facts.now.answer result }
 {
     let status = outcome_status(&facts.answer);
@@ -297,7 +324,7 @@ fn explain_products<R: ByteSource>(
     sinks: &[u8],
     products: &mut JudgedProducts<R>,
     mapping: Mapping,
-) -> (Result<Outcome, Refusal>, Option<Findings>)
+) -> (Result<Outcome, Refusal>, Option<Findings<Layout>>)
     ensures { IsOutcome R.ByteSource side tiles.old tiles.new sinks.now products.old products.new result.0 }
 {
     match products {
@@ -311,7 +338,7 @@ fn explain_products<R: ByteSource>(
 }
 
 /// Why there is no outcome.
-fn refusal_of(answer: &Result<Outcome, Refusal>) -> Option<Refusal> {
+pub(crate) fn refusal_of(answer: &Result<Outcome, Refusal>) -> Option<Refusal> {
     match answer {
         Err(refusal) => Some(*refusal),
         Ok(_) => None,
@@ -319,7 +346,7 @@ fn refusal_of(answer: &Result<Outcome, Refusal>) -> Option<Refusal> {
 }
 
 /// The headers of the products, empty for ranks that weren't opened.
-fn headers_of<R>(products: &JudgedProducts<R>) -> PerProduct<&[u8]> {
+pub(crate) fn headers_of<R>(products: &JudgedProducts<R>) -> PerProduct<&[u8]> {
     match products {
         JudgedProducts::Five(five) => PerProduct {
             con: five.con.header.as_slice(),

@@ -65,7 +65,7 @@ fn judged_files<'a>(
 ) -> Result<WindowReport, u8> {
     let opened = open_audited(opener, &args.inputs, progress);
     let OpenFiles {
-        mut tiles,
+        mut elevations,
         mut products,
         sinks,
     } = inputs_or_print(opener, opened, "the report", report, out)?;
@@ -74,8 +74,8 @@ fn judged_files<'a>(
     }
     judge_or_print(
         opener.alloc(),
-        args.inputs.side,
-        tiles.as_mut_slice(),
+        elevations.side,
+        elevations.tiles.as_mut_slice(),
         sinks.as_slice(),
         &mut products,
         &args.place,

@@ -6,10 +6,11 @@ ghost use Rattle.drain_cli.specs.DerivedSets.{derived_line};
 ghost use Rattle.drain_cli.specs.MadeSets.{made_line, written_line, written_status};
 ghost use Rattle.drain_files.specs.Files.{IsNamed};
 ghost use Rattle.drain_maker.specs.Made.{CanBeWritten};
-ghost use Rattle.drain_maker.specs.ProductFiles.{CanBeDerived, WritesFiles, derived_bytes, set_bytes};
+ghost use Rattle.drain_maker.specs.ProductFiles.{DerivedFit, WritesFiles, derived_bytes, set_bytes};
 ghost use Rattle.drain_maker.specs.declared.product_files.SetFault.{SetFault};
 ghost use Rattle.drain_maker.specs.declared.product_files.TheConstants.{DERIVED_COUNT, FILE_COUNT};
-ghost use Rattle.drain_mosaic.specs.Tiling.{Tiling, extent_of};
+ghost use Rattle.drain_mosaic.specs.Tiling.{extent_of};
+ghost use Rattle.drain_raster.specs.Pixels.{header_extent};
 ghost use Rattle.drain_answer.specs.Printing.{Prints};
 
 use drain_answer::lines::{Line, push_number, words};
@@ -18,9 +19,11 @@ use drain_answer::print::print_line;
 use drain_device::ByteSink;
 use drain_files::open_failure::{Placing, place_written};
 use drain_grid::{ProductSet, Shape};
+use drain_header::Header;
 use drain_maker::Derived;
 use drain_maker::product_files::{SetFault, write_derived, write_files};
 use drain_mosaic::Layout;
+use drain_raster::shape;
 use std::alloc::Global;
 
 /// Writes header and raster of each product, in the order of `SET_FILES`, gives the files their names, prints
@@ -47,7 +50,7 @@ pub fn write_and_place<F: ByteSink, P: Placing, W: ByteSink>(
         × Prints W.ByteSink out.old out.new (made_line layout.now told) (written_status told) result }
 {
     let written = write_files(alloc, layout, products, files);
-    place_and_print("made rows=", layout, written, places, out)
+    place_and_print("made rows=", layout.shape(), written, places, out)
 }
 
 /// Writes header and raster of accumulation, labels and ranks, in the order of `DERIVED_FILES`, gives the files their
@@ -56,45 +59,45 @@ pub fn write_and_place<F: ByteSink, P: Placing, W: ByteSink>(
 /// Faults, lines and statuses are those of `write_and_place`. No name is given before every file has all its bytes.
 pub fn write_derived_and_place<F: ByteSink, P: Placing, W: ByteSink>(
     alloc: Global,
-    layout: &Layout,
+    elevations: &Header,
     derived: &Derived,
     files: &mut [F],
     places: &mut P,
     out: &mut W,
 ) -> u8
     requires counted { length files.old ≡ DERIVED_COUNT }
-    requires written { CanBeDerived layout.now derived.now }
+    requires written { DerivedFit elevations.now derived.now }
     ensures run { (done told : Result (Unit {0}) SetFault)
-        × WritesFiles F.ByteSink files.old files.new (derived_bytes layout.now derived.now) done
+        × WritesFiles F.ByteSink files.old files.new (derived_bytes elevations.now derived.now) done
         × IsNamed P.has_placed places.old places.new done told
-        × Prints W.ByteSink out.old out.new (derived_line layout.now told) (written_status told) result }
+        × Prints W.ByteSink out.old out.new (derived_line (header_extent elevations.now) told) (written_status told) result }
 {
-    let written = write_derived(alloc, layout, derived, files);
-    place_and_print("derived rows=", layout, written, places, out)
+    let written = write_derived(alloc, elevations, derived, files);
+    place_and_print("derived rows=", shape(elevations), written, places, out)
 }
 
 /// Gives the files their names if all were written, prints the line of the result, which begins with this text, and
 /// returns the exit status.
 fn place_and_print<P: Placing, W: ByteSink>(
     text: &'static str,
-    layout: &Layout,
+    shape: Shape,
     written: Result<(), SetFault>,
     places: &mut P,
     out: &mut W,
 ) -> u8
     requires { length text.now ≤ 40 }
     ensures { (told : Result (Unit {0}) SetFault) × IsNamed P.has_placed places.old places.new written told
-        × Prints W.ByteSink out.old out.new (written_line text.now layout.now told) (written_status told) result }
+        × Prints W.ByteSink out.old out.new (written_line text.now shape told) (written_status told) result }
 {
     let told = place_written(written, places);
-    print_line(out, &line_of(text, layout.shape(), &told), status_of(&told))
+    print_line(out, &line_of(text, shape, &told), status_of(&told))
 }
 
 /// The line for the result of writing rasters of this shape: these words and the numbers of rows and columns, if all
 /// were written.
 fn line_of(text: &'static str, shape: Shape, done: &Result<(), SetFault>) -> Line
     requires { length text.now ≤ 40 }
-    ensures { (t : Tiling) → shape ≡ extent_of t → result.bytes ≡ written_line text.now t done.now }
+    ensures { result.bytes ≡ written_line text.now shape done.now }
 {
     match done {
         Ok(()) => shape_line(text, shape),

@@ -3,17 +3,20 @@ use Rattle.drain_device.specs.contracts.slice_source.SliceSourceByteSource.TheIm
 use Rattle.drain_c.specs.Given.{audit_raster}
 use Rattle.drain_c.specs.Sources.{AreTilesOf}
 use Rattle.drain_c.proofs.Derivations.{derived_of_bytes, why_of_bytes}
+use Rattle.drain_c.proofs.Spelling.{tile_call}
 use Rattle.drain_verdict.specs.Inputs.{as_five}
 use Rattle.drain_c.proofs.derived.derive_rasters.Goals as goal
 
 pub returns-clause-derived : goal.returns-clause-derived
 returns-clause-derived c =
     let tiles = subst (AreTilesOf bytes_left-value.it c.args.tiles.now) (sym c.as_mut_slice.ensures.value) c.in-Ok.ensures.same in
-    derived_of_bytes c.derive.result bytes_left-value.it c.args.side c.args.tiles.now [] (audit_raster c.args.products.now)
-    c.as_mut_slice.result.now (as_five c.in-Ok-audit_inputs.products) tiles c.in-Ok-audit_inputs.ensures.same c.derive.ensures.derived
+    let call = tile_call bytes_left-value.it c.args.side c.args.tiles.now [] (audit_raster c.args.products.now) c.as_mut_slice.result.now
+    (as_five c.in-Ok-audit_inputs.products) tiles c.in-Ok-audit_inputs.ensures.same in
+    derived_of_bytes call c.derive.result c.derive.ensures.derived
 
 pub returns-clause-err : goal.returns-clause-err
 returns-clause-err c =
     let tiles = subst (AreTilesOf bytes_left-value.it c.args.tiles.now) (sym c.as_mut_slice.ensures.value) c.in-Ok.ensures.same in
-    why_of_bytes c.derive.result bytes_left-value.it c.args.side c.args.tiles.now [] (audit_raster c.args.products.now)
-    c.as_mut_slice.result.now (as_five c.in-Ok-audit_inputs.products) tiles c.in-Ok-audit_inputs.ensures.same c.derive.ensures.err
+    let call = tile_call bytes_left-value.it c.args.side c.args.tiles.now [] (audit_raster c.args.products.now) c.as_mut_slice.result.now
+    (as_five c.in-Ok-audit_inputs.products) tiles c.in-Ok-audit_inputs.ensures.same in
+    why_of_bytes call c.derive.result c.derive.ensures.err

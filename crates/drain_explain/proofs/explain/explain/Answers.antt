@@ -1,18 +1,17 @@
-use Rattle.std.proofs.Common.{Option, Ok, Err, sym, subst}
+use Rattle.std.proofs.Common.{◌<◌, Option, Ok, Err, sym, subst}
 use Rattle.std.specs.Prelude.{IfSome}
 use Rattle.std.proofs.lemmas.Result.{err_from_is_err_and}
 use Rattle.drain_grid.specs.declared.cell.Cell.{Cell}
-use Rattle.drain_grid.specs.Extent.{Extent}
 use Rattle.drain_paths.specs.declared.endless_path.EndlessPath.{EndlessPath}
-use Rattle.drain_verdict.specs.Deciding.{AreFlowsFor}
+use Rattle.drain_verdict.specs.Answers.{rules_at}
+use Rattle.drain_verdict.specs.GroundSets.{AreNotesIn, set_grid, set_products}
+use Rattle.drain_verdict.specs.Meaning.{input_grid, input_products}
+use Rattle.drain_verdict.specs.Outcomes.{IsOutcomeIn}
 use Rattle.drain_verdict.specs.Uses.{devices_of}
-use Rattle.drain_verdict.specs.Meaning.{input_grid, input_products, nodata_numbers}
-use Rattle.drain_explain.specs.Explanations.{IsEndlessOf}
+use Rattle.drain_explain.specs.Explanations.{AreFaultNotes, IsEndlessOf, IsEndlessOn, outcome_in}
 use Rattle.drain_verdict.proofs.AuditDevices.{failed_alike, none_alike}
-use Rattle.drain_verdict.proofs.OutcomeLemmas.{outcome_is}
-use Rattle.drain_verdict.proofs.StartAnswers.{at_side, laid, layout_answer, layout_reads_none}
+use Rattle.drain_verdict.proofs.StartAnswers.{at_side, laid, layout_answer, layout_reads_none, of_tiles}
 use Rattle.drain_verdict.proofs.InputLemmas.{uses_alike, uses_none}
-use Rattle.drain_explain.proofs.Noting.{endless-told}
 use Rattle.drain_explain.proofs.explain.explain.Goals as goal
 
 pub returns-in_err-layout-clause-answer : goal.returns-in_err-layout-clause-answer
@@ -27,52 +26,51 @@ returns-in_err-layout-clause-uses g c =
     rw (told.1, told.2) (uses_none inputs (λ ts ps. devices_of ts (inputs ps)) g.R.ByteSource.bytes_left g.R.ByteSource.counts c.args.side c.args.tiles.now c.args.products.now (Err c.in_err-layout.field-0.0)
     (layout_reads_none _ _ _ c.in_err-layout.ensures.refusal))
 
-pub returns-in-Err-clause-uses : goal.returns-in-Err-clause-uses
-returns-in-Err-clause-uses g c =
+pub see-requires : goal.see-requires
+see-requires g c = record { fit = laid c.args.side _ c.in_ok-layout.layout c.in_ok-layout.ensures.layout }
+
+pub returns-in_err-seen-clause-answer : goal.returns-in_err-seen-clause-answer
+returns-in_err-seen-clause-answer g c = λ inputs tell.
+    let told = err_from_is_err_and c.from_residual-in_err-seen.result c.from_residual-in_err-seen.ensures.1 in
+    let t = c.in_ok-layout.layout in
+    rw (told.1, told.2) (of_tiles g.R.ByteSource.bytes_left t.side c.args.tiles.now c.args.sinks.now (g.P.ProductInputs.inputs c.args.products.now) (λ s. IsOutcomeIn c.args.judged s (Err c.in_err-seen.field-0.0))
+    c.in_err-seen.ensures.answer inputs
+    (at_side g.R.ByteSource.bytes_left c.args.side c.args.tiles.now c.args.sinks.now (g.P.ProductInputs.inputs c.args.products.now) inputs t c.in_ok-layout.ensures.layout tell))
+
+pub returns-in_err-seen-clause-uses : goal.returns-in_err-seen-clause-uses
+returns-in_err-seen-clause-uses g c =
+    let told = err_from_is_err_and c.from_residual-in_err-seen.result c.from_residual-in_err-seen.ensures.1 in
+    let uses = c.in_err-seen.ensures.uses in
     let inputs = g.P.ProductInputs.inputs in
-    uses_none inputs (λ ts ps. devices_of ts (inputs ps)) g.R.ByteSource.bytes_left g.R.ByteSource.counts c.args.side c.args.tiles.now c.args.products.now _ (λ is. cc)
-
-pub judge-requires-clause-laid : goal.judge-requires-clause-laid
-judge-requires-clause-laid g c = laid c.args.side _ c.in_ok-layout.layout c.in_ok-layout.ensures.layout
-
-pub returns-in_err-judgement-clause-answer : goal.returns-in_err-judgement-clause-answer
-returns-in_err-judgement-clause-answer g c = λ inputs tell.
-    let told = err_from_is_err_and c.from_residual-in_err-judgement.result c.from_residual-in_err-judgement.ensures.1 in
-    rw (told.1, told.2) (c.in_err-judgement.ensures.answer inputs
-    (at_side g.R.ByteSource.bytes_left c.args.side c.args.tiles.now c.args.sinks.now (g.P.ProductInputs.inputs c.args.products.now) inputs c.in_ok-layout.layout c.in_ok-layout.ensures.layout tell))
-
-pub returns-in_err-judgement-clause-uses : goal.returns-in_err-judgement-clause-uses
-returns-in_err-judgement-clause-uses g c =
-    let told = err_from_is_err_and c.from_residual-in_err-judgement.result c.from_residual-in_err-judgement.ensures.1 in
-    let uses = c.in_err-judgement.ensures.uses in
-    let inputs = g.P.ProductInputs.inputs in
-    rw (told.1, told.2) (uses_alike inputs (λ ts ps. devices_of ts (inputs ps)) g.R.ByteSource.bytes_left g.R.ByteSource.counts c.in_ok-layout.layout.side c.args.side (c.args.tiles.now, c.args.products.now) (c.judge.new.tiles, c.judge.new.products)
-    (Err c.in_err-judgement.field-0.0) (Err c.in_err-judgement.field-0.0) c.in_ok-layout.ensures.layout.side_is (failed_alike c.in_err-judgement.field-0.0) uses.untouched uses)
+    rw (told.1, told.2) (uses_alike inputs (λ ts ps. devices_of ts (inputs ps)) g.R.ByteSource.bytes_left g.R.ByteSource.counts c.in_ok-layout.layout.side c.args.side (c.args.tiles.now, c.args.products.now) (c.see.new.inputs, c.see.new.products)
+    (Err c.in_err-seen.field-0.0) (Err c.in_err-seen.field-0.0) c.in_ok-layout.ensures.layout.side_is (failed_alike c.in_err-seen.field-0.0) uses.untouched uses)
 
 pub returns-clause-uses : goal.returns-clause-uses
 returns-clause-uses g c =
     let inputs = g.P.ProductInputs.inputs in
-    uses_alike inputs (λ ts ps. devices_of ts (inputs ps)) g.R.ByteSource.bytes_left g.R.ByteSource.counts c.in_ok-layout.layout.side c.args.side (c.args.tiles.now, c.args.products.now) (c.judge.new.tiles, c.judge.new.products)
-    (Ok c.in_ok-judgement.judgement) (Ok (record { outcome = c.outcome_of-outcome.result; findings = c.findings_of.result })) c.in_ok-layout.ensures.layout.side_is (none_alike c.in_ok-judgement.judgement _) tt c.in_ok-judgement.ensures.uses
+    uses_alike inputs (λ ts ps. devices_of ts (inputs ps)) g.R.ByteSource.bytes_left g.R.ByteSource.counts c.in_ok-layout.layout.side c.args.side (c.args.tiles.now, c.args.products.now) (c.see.new.inputs, c.see.new.products)
+    (Ok c.in_ok-seen.seen) (Ok _) c.in_ok-layout.ensures.layout.side_is (none_alike c.in_ok-seen.seen _) tt c.in_ok-seen.ensures.uses
 
 pub returns-clause-answer : goal.returns-clause-answer
 returns-clause-answer g c = λ inputs tell.
-    let here = at_side g.R.ByteSource.bytes_left c.args.side c.args.tiles.now c.args.sinks.now (g.P.ProductInputs.inputs c.args.products.now) inputs c.in_ok-layout.layout c.in_ok-layout.ensures.layout tell in
-    let told = c.in_ok-judgement.ensures.answer inputs here in (
-      told.readable,
-      outcome_is c.args.judged (input_grid inputs) (input_products inputs) (nodata_numbers inputs) c.in_ok-judgement.judgement.verdict c.in_ok-judgement.judgement.cell
-          c.outcome_of-outcome.result c.outcome_of-outcome.ensures told.verdict told.decided,
-    )
+    let t = c.in_ok-layout.layout in
+    of_tiles g.R.ByteSource.bytes_left t.side c.args.tiles.now c.args.sinks.now (g.P.ProductInputs.inputs c.args.products.now) (λ s. IsOutcomeIn c.args.judged s (outcome_in (Ok c.in_ok-seen.seen)))
+    c.in_ok-seen.ensures.answer inputs
+    (at_side g.R.ByteSource.bytes_left c.args.side c.args.tiles.now c.args.sinks.now (g.P.ProductInputs.inputs c.args.products.now) inputs t c.in_ok-layout.ensures.layout tell)
 
 pub returns-clause-explained : goal.returns-clause-explained
 returns-clause-explained g c = λ inputs tell.
-    c.findings_of.ensures.found c.args.judged inputs (c.in_ok-judgement.ensures.noted inputs
-    (at_side g.R.ByteSource.bytes_left c.args.side c.args.tiles.now c.args.sinks.now (g.P.ProductInputs.inputs c.args.products.now) inputs c.in_ok-layout.layout c.in_ok-layout.ensures.layout tell))
+    let t = c.in_ok-layout.layout in
+    let noted = of_tiles g.R.ByteSource.bytes_left t.side c.args.tiles.now c.args.sinks.now (g.P.ProductInputs.inputs c.args.products.now)
+    (λ s. (0 < (set_grid s).extent.rows) × AreNotesIn AreFaultNotes c.args.judged s c.in_ok-seen.seen.notes)
+    c.in_ok-seen.ensures.noted inputs
+    (at_side g.R.ByteSource.bytes_left c.args.side c.args.tiles.now c.args.sinks.now (g.P.ProductInputs.inputs c.args.products.now) inputs t c.in_ok-layout.ensures.layout tell) in
+    c.findings_of.ensures.found (rules_at c.args.judged inputs) (input_grid inputs) (input_products inputs) noted.0 noted.1
 
 pub returns-clause-endless : goal.returns-clause-endless
 returns-clause-endless g c = λ inputs tell.
-    let here = at_side g.R.ByteSource.bytes_left c.args.side c.args.tiles.now c.args.sinks.now (g.P.ProductInputs.inputs c.args.products.now) inputs c.in_ok-layout.layout c.in_ok-layout.ensures.layout tell in
-    let left = subst (λ (e : Extent). AreFlowsFor c.args.judged (input_grid inputs) (input_products inputs) e c.in_ok-judgement.judgement.flows) (sym c.shape-2.ensures) (c.in_ok-judgement.ensures.flows inputs here) in
-    let told = endless-told inputs c.outcome_of-outcome.result _ c.in_ok-judgement.judgement.flows c.in-Ok-endless_of.endless c.in-Ok-endless_of.ensures.named c.in-Ok-endless_of.ensures.run
-    c.args.judged (returns-clause-answer g c inputs tell).1 left in
-    subst (λ (o : Option (Cell × EndlessPath)). IfSome o (IsEndlessOf inputs c.outcome_of-outcome.result)) (sym c.findings_of.ensures.endless) told
+    let t = c.in_ok-layout.layout in
+    let told = of_tiles g.R.ByteSource.bytes_left t.side c.args.tiles.now c.args.sinks.now (g.P.ProductInputs.inputs c.args.products.now) (λ s. IfSome c.in_ok-seen.seen.endless (IsEndlessOn (set_grid s) (set_products s) c.in_ok-seen.seen.outcome))
+    c.in_ok-seen.ensures.endless inputs
+    (at_side g.R.ByteSource.bytes_left c.args.side c.args.tiles.now c.args.sinks.now (g.P.ProductInputs.inputs c.args.products.now) inputs t c.in_ok-layout.ensures.layout tell) in
+    subst (λ (o : Option (Cell × EndlessPath)). IfSome o (IsEndlessOf inputs c.in_ok-seen.seen.outcome)) (sym c.findings_of.ensures.endless) told

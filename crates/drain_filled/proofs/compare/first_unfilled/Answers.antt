@@ -1,16 +1,21 @@
-use Rattle.std.proofs.Common.{◌∙◌, ℤ, List, sym, subst}
+use Rattle.std.proofs.Common.{ℤ, List, sym, subst}
 use Rattle.drain_grid.specs.Path.{IsLeastSurface}
-use Rattle.drain_grid.specs.WholeGrid.{grid_of}
 use Rattle.drain_filled.specs.Compared.{listed_at}
-use Rattle.drain_filled.proofs.FirstUnfilled.{found_unfilled}
+use Rattle.drain_filled.proofs.FirstUnfilled.{cells_of, found_unfilled, ground_between}
 use Rattle.drain_filled.proofs.compare.first_unfilled.Goals as goal
 
-pub returns : goal.returns
-returns c = record {
-  first = λ g s same has.
-      (let h = c.args.elevation.now in
-      let heights = c.deref.ensures.value ∙ c.into_heights-least.ensures.heights in
-      let filled = subst (λ (least : List ℤ). IsLeastSurface (grid_of h c.args.sinks.now) (listed_at h.extent least)) (sym heights)
-      c.in_ok-flood.ensures.filled.least in
-      found_unfilled h c.args.sinks.now c.args.con.now c.deref.result.now filled g s same has c.first_other.result c.first_other.ensures.first);
-}
+pub returns-clause-first : goal.returns-clause-first
+returns-clause-first c = λ g s same has.
+    (let w = c.args.ground.now in
+    let xs = c.args.elevation.now in
+    let cells = cells_of g w xs c.args.sinks.now same in
+    let least = c.in_ok-least.ensures.least g cells (ground_between g w xs c.args.sinks.now same) in
+    let filled = subst (λ (ys : List ℤ). IsLeastSurface g (listed_at w.extent ys)) (sym c.deref.ensures.value) least in
+    found_unfilled g s w c.args.sinks.now c.args.con.now c.deref.result.now cells filled has c.first_other.result c.first_other.ensures.first)
+
+pub returns-clause-between : goal.returns-clause-between
+returns-clause-between c = λ g s cells between has.
+    (let w = c.args.ground.now in
+    let least = c.in_ok-least.ensures.least g cells between in
+    let filled = subst (λ (ys : List ℤ). IsLeastSurface g (listed_at w.extent ys)) (sym c.deref.ensures.value) least in
+    found_unfilled g s w c.args.sinks.now c.args.con.now c.deref.result.now cells filled has c.first_other.result c.first_other.ensures.first)

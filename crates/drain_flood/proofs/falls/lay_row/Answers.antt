@@ -10,5 +10,5 @@ returns-then-down-rows-clause-lanes c =
     laid_row f.extent f c.args.down c.row_start.result _ c.lay_heights.new.lanes c.if-down-gt0.true
     (subst (λ e. c.args.down ≤ e.rows) shape (omega arith)) (c.row_start.ensures.place ∙ ap (λ e. (c.args.down - 1) * e.cols) shape) c.requires
     c.lay_heights.ensures.first c.lay_heights.ensures.last
-    (λ k less. subst (λ xs. IsLane (slice_index_or xs (c.row_start.result + k) (pos 0)) (slice_index c.lay_heights.new.lanes (k + 1))) c.heights.ensures.heights
+    (λ k less. subst (λ xs. IsLane (slice_index_or xs (c.row_start.result + k) (pos 0)) (slice_index c.lay_heights.new.lanes (k + 1))) (c.as_slice.ensures.value ∙ c.heights.ensures.heights)
     (c.lay_heights.ensures.lanes k less))

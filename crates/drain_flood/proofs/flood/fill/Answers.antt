@@ -9,4 +9,4 @@ returns-clause-flooded c =
 pub returns-clause-filled : goal.returns-clause-filled
 returns-clause-filled c =
     c.flood_is_filled.ensures (grid_of c.args.elevation.now c.args.sinks.now) c.spread.new.flood
-    (c.in_ok-spread.ensures.flooded (grid_of c.args.elevation.now c.args.sinks.now) (sym c.in_ok-flood.ensures.extent) c.in_ok-flood.ensures.laid)
+    (c.in_ok-spread.ensures.flooded (grid_of c.args.elevation.now c.args.sinks.now) (sym c.in_ok-flood.ensures.extent) c.in_ok-flood.ensures.laid).surface

@@ -1,35 +1,47 @@
-use Rattle.std.proofs.Common.{Ok, refl, sym, subst}
-use Rattle.std.proofs.lemmas.Result.{IfErr-weaker, IfOk-weaker}
+use Rattle.std.proofs.Common.{Ok, Err, subst}
 use Rattle.drain_mosaic.specs.Tiling.{Tiling}
 use Rattle.drain_verdict.specs.Inputs.{audit_devices, as_five}
-use Rattle.drain_verdict.specs.Meaning.{input_grid, input_products}
-use Rattle.drain_verdict.proofs.InputLemmas.{uses_alike}
-use Rattle.drain_maker.specs.ProductFiles.{CanBeDerived}
-use Rattle.drain_maker.specs.Derived.{reading_in}
-use Rattle.drain_maker.proofs.FileLemmas.{CanBeDerived-counts}
-use Rattle.drain_maker.proofs.DerivedRasters.{counted_alike, counted_untouched, derive_refusal, if_ok_both}
+use Rattle.drain_verdict.specs.Uses.{AuditUses}
+use Rattle.drain_verdict.proofs.StartAnswers.{at_side, laid, layout_answer, layout_reads_none, of_tiles}
+use Rattle.drain_verdict.proofs.InputLemmas.{four_used, uses_none}
+use Rattle.drain_maker.specs.declared.derivation.Derived.{Derived}
+use Rattle.drain_maker.specs.Derived.{AreDerivedIn, IsDeriveRefusalIn, reading_in}
+use Rattle.drain_maker.proofs.DerivedRasters.{same_reading}
 use Rattle.drain_maker.proofs.derivation.derive.Goals as goal
 
-pub returns-in-Ok-clause-derived : goal.returns-in-Ok-clause-derived
-returns-in-Ok-clause-derived g c =
-    IfOk-weaker c.derive_read.result _ _ (λ made derived inputs tell.
-    (let flows = c.in-Ok.ensures.flows inputs tell in
-    (flows.0, derived (input_grid inputs) (input_products inputs) flows.1))) c.derive_read.ensures.derived
+pub returns-in-Err-clause-err : goal.returns-in-Err-clause-err
+returns-in-Err-clause-err g c = λ inputs tell.
+    layout_answer c.one_name.ensures g.R.ByteSource.bytes_left c.args.side c.args.tiles.now c.args.sinks.now (as_five c.args.products.now) inputs c.in-Err.refusal tell c.in-Err.ensures.refusal
 
-pub returns-in-Ok-clause-written : goal.returns-in-Ok-clause-written
-returns-in-Ok-clause-written g c =
-    if_ok_both c.derive_read.result _ _ _ c.derive_read.ensures.layout c.derive_read.ensures.counts (λ made same counts.
-    subst (λ (t : Tiling). CanBeDerived t made.1) (sym same) (CanBeDerived-counts c.in-Ok.read.layout made.1 counts))
+pub returns-in-Err-clause-uses : goal.returns-in-Err-clause-uses
+returns-in-Err-clause-uses g c =
+    uses_none as_five audit_devices g.R.ByteSource.bytes_left g.R.ByteSource.counts c.args.side c.args.tiles.now c.args.products.now (Err c.in-Err.refusal) (layout_reads_none _ _ _ c.in-Err.ensures.refusal)
 
-pub returns-in-Ok-clause-err : goal.returns-in-Ok-clause-err
-returns-in-Ok-clause-err g c =
-    IfErr-weaker c.derive_read.result _ _ (λ why told inputs tell.
-    (let flows = c.in-Ok.ensures.flows inputs tell in
-    derive_refusal inputs why flows.0 (told (input_grid inputs) (input_products inputs) flows.1))) c.derive_read.ensures.err
+pub returns-in-Ok-derive_on-clause-derived : goal.returns-in-Ok-derive_on-clause-derived
+returns-in-Ok-derive_on-clause-derived g c = λ inputs tell.
+    let t = c.in-Ok.layout in
+    of_tiles g.R.ByteSource.bytes_left t.side c.args.tiles.now c.args.sinks.now (as_five c.args.products.now) (λ s. AreDerivedIn s c.in-Ok-derive_on.derived) c.in-Ok-derive_on.ensures.derived inputs
+    (at_side g.R.ByteSource.bytes_left c.args.side c.args.tiles.now c.args.sinks.now (as_five c.args.products.now) inputs t c.in-Ok.ensures.layout tell)
 
-pub returns-in-Ok-clause-uses : goal.returns-in-Ok-clause-uses
-returns-in-Ok-clause-uses g c =
-    let answer = reading_in c.derive_read.result in
-    uses_alike as_five audit_devices g.R.ByteSource.bytes_left g.R.ByteSource.counts c.args.side c.args.side (c.args.tiles.now, c.args.products.now)
-    (c.read_flows.new.tiles, c.read_flows.new.products) (Ok c.in-Ok.read) answer refl (counted_alike c.in-Ok.read answer c.derive_read.ensures.reading)
-    (counted_untouched _ answer c.derive_read.ensures.reading) c.in-Ok.ensures.uses
+pub returns-in-Ok-derive_on-clause-uses : goal.returns-in-Ok-derive_on-clause-uses
+returns-in-Ok-derive_on-clause-uses g c =
+    let t = c.in-Ok.layout in
+    let uses = c.in-Ok-derive_on.ensures.uses in
+    subst (λ side. AuditUses g.R.ByteSource.bytes_left g.R.ByteSource.counts side (c.args.tiles.now, c.args.products.now) (c.derive_on.new.inputs, c.derive_on.new.products) (Ok tt)) c.in-Ok.ensures.layout.side_is
+    (four_used g.R.ByteSource.bytes_left g.R.ByteSource.counts t.side (c.args.tiles.now, c.args.products.now) (c.derive_on.new.inputs, c.derive_on.new.products) (Ok tt) (Ok tt) (λ h. h, λ h. h) tt uses)
+
+pub returns-in-Err-derive_on-clause-err : goal.returns-in-Err-derive_on-clause-err
+returns-in-Err-derive_on-clause-err g c = λ inputs tell.
+    let t = c.in-Ok.layout in
+    of_tiles g.R.ByteSource.bytes_left t.side c.args.tiles.now c.args.sinks.now (as_five c.args.products.now) (λ s. IsDeriveRefusalIn s c.in-Err-derive_on.why) c.in-Err-derive_on.ensures.err inputs
+    (at_side g.R.ByteSource.bytes_left c.args.side c.args.tiles.now c.args.sinks.now (as_five c.args.products.now) inputs t c.in-Ok.ensures.layout tell)
+
+pub returns-in-Err-derive_on-clause-uses : goal.returns-in-Err-derive_on-clause-uses
+returns-in-Err-derive_on-clause-uses g c =
+    let t = c.in-Ok.layout in
+    let uses = c.in-Err-derive_on.ensures.uses in
+    let why = c.in-Err-derive_on.why in
+    subst (AuditUses g.R.ByteSource.bytes_left g.R.ByteSource.counts c.args.side (c.args.tiles.now, c.args.products.now) (c.derive_on.new.inputs, c.derive_on.new.products)) (same_reading Derived (Tiling × Derived) why)
+    (subst (λ side. AuditUses g.R.ByteSource.bytes_left g.R.ByteSource.counts side (c.args.tiles.now, c.args.products.now) (c.derive_on.new.inputs, c.derive_on.new.products) (reading_in {T = Derived} (Err why))) c.in-Ok.ensures.layout.side_is
+    (four_used g.R.ByteSource.bytes_left g.R.ByteSource.counts t.side (c.args.tiles.now, c.args.products.now) (c.derive_on.new.inputs, c.derive_on.new.products) (reading_in {T = Derived} (Err why)) (reading_in {T = Derived} (Err why)) (λ h. h, λ h. h)
+    uses.untouched uses))

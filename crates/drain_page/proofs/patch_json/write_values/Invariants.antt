@@ -3,4 +3,4 @@ use Rattle.drain_page.proofs.patch_json.write_values.Given as goal
 
 -- the head stays
 abbrev pub invariant-loop-product : goal.invariant-loop-product
-invariant-loop-product l = l.json ≡ l.fn.json
+invariant-loop-product g l = l.json ≡ l.fn.json

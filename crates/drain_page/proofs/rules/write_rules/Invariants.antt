@@ -3,4 +3,4 @@ use Rattle.drain_page.proofs.rules.write_rules.Given as goal
 
 -- the head stays
 abbrev pub invariant-loop-rule : goal.invariant-loop-rule
-invariant-loop-rule l = l.json ≡ l.fn.json
+invariant-loop-rule g l = l.json ≡ l.fn.json

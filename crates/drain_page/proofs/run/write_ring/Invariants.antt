@@ -3,4 +3,4 @@ use Rattle.drain_page.proofs.run.write_ring.Given as goal
 
 -- the head stays
 abbrev pub invariant-loop-cell : goal.invariant-loop-cell
-invariant-loop-cell l = l.json ≡ l.fn.json
+invariant-loop-cell g l = l.json ≡ l.fn.json

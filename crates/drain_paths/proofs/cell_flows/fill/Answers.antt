@@ -1,16 +1,26 @@
-use Rattle.std.proofs.Common.{◌<◌, ◌∙◌, ap, get_or, length, of_z, pos, rules, to_z, w64}
-use Rattle.drain_grid.specs.Grid.{height_from}
+use Rattle.std.proofs.Common.{◌<◌, ◌∙◌, None, ap, get_or, length, of_z, rules, to_z, w64}
+use Rattle.std.proofs.lemmas.Int.{to_z-of_z}
+use Rattle.std.proofs.lemmas.List.{length-map}
+use Rattle.drain_pixels.specs.Ground.{elevations, height_with}
 use Rattle.drain_paths.specs.Flows.{cell_flow}
-use Rattle.drain_paths.proofs.RowFlows.{flows_more, flows_filled, place-kept}
+use Rattle.drain_paths.proofs.RowFlows.{flows_more, flows_filled, height-kept}
 use Rattle.drain_paths.proofs.cell_flows.fill.Goals as goal
 
 pub loop-k-preserved : goal.loop-k-preserved
 loop-k-preserved g c =
-    let less : c.loop-k.k < length c.args.samples.now = search rules in
-    flows_more c.args.samples.now (g.N.PixelNumbers.numbers c.args.dir.now) c.loop-k.out c.loop-k.k c.flow_of.result (search rules)
-    (c.flow_of.ensures ∙ ap (λ n. cell_flow (height_from (to_z w64 (of_z w64 (get_or c.args.samples.now c.loop-k.k (pos 0))))) (to_z w64 (of_z w64 n))) c.at.ensures
-    ∙ place-kept c.args.samples.now (g.N.PixelNumbers.numbers c.args.dir.now) c.loop-k.k c.requires.numbers c.requires.samples c.requires.pixels less)
+    let zs = g.Z.PixelNumbers.numbers c.args.z.now in
+    let ns = g.N.PixelNumbers.numbers c.args.dir.now in
+    let void = c.args.void in
+    let less : c.loop-k.k < length zs = search rules in
+    flows_more (elevations void zs) ns c.loop-k.out c.loop-k.k c.flow_of.result (search rules)
+    (c.flow_of.ensures
+    ∙ ap (λ z. cell_flow z (to_z w64 (of_z w64 c.at-in-loop-k.result))) (c.height_with.ensures
+    ∙ ap (height_with void) (to_z-of_z w64 c.at.result (search rules) ∙ c.at.ensures) ∙ height-kept void zs c.loop-k.k less)
+    ∙ ap (cell_flow (get_or (elevations void zs) c.loop-k.k None)) (to_z-of_z w64 c.at-in-loop-k.result (search rules) ∙ c.at-in-loop-k.ensures))
     c.loop-k.invariant
 
 pub returns : goal.returns
-returns g c = flows_filled c.args.samples.now (g.N.PixelNumbers.numbers c.args.dir.now) c.loop-k.out (search rules) c.requires.numbers (λ i less. c.loop-k.invariant i (search rules))
+returns g c =
+    let zs = g.Z.PixelNumbers.numbers c.args.z.now in
+    let long = length-map zs (height_with c.args.void) in
+    flows_filled (elevations c.args.void zs) (g.N.PixelNumbers.numbers c.args.dir.now) c.loop-k.out (search rules) (long ∙ c.requires.numbers) (λ i less. c.loop-k.invariant i (search rules))

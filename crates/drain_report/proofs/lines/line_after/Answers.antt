@@ -1,4 +1,4 @@
-use Rattle.std.proofs.Common.{◌∷◌, ◌++◌, ◌∙◌}
+use Rattle.std.proofs.Common.{◌∷◌, ◌++◌, ◌∙◌, rules}
 use Rattle.drain_report.specs.Lines.{spaced}
 use Rattle.drain_report.proofs.ReadLemmas.{line_split}
 use Rattle.drain_report.proofs.lines.line_after.Goals as goal
@@ -9,4 +9,4 @@ returns-in_default-clause-back c = λ ns rest long h. c.in_default.ensures.back 
 pub returns-in_default-read_numbers-clause-back : goal.returns-in_default-read_numbers-clause-back
 returns-in_default-read_numbers-clause-back c = λ ns rest long h.
     let after = c.in-Some.ensures.back (spaced ns ++ 10 ∷ rest) (h.is ∙ line_split c.args.word.now ns rest) in
-    c.in_default-read_numbers.ensures.back ns rest long (record { long = h.long; is = after })
+    c.in_default-read_numbers.ensures.back ns 10 rest long (record { long = h.long; ends = search rules; is = after })

@@ -1,4 +1,4 @@
-use Rattle.std.proofs.Common.{arith, ap, ◌∙◌}
+use Rattle.std.proofs.Common.{ap, ◌∙◌}
 use Rattle.drain_report.specs.Faults.{line_feeds}
 use Rattle.drain_report.proofs.FaultLemmas.{line_feed}
 use Rattle.drain_report.proofs.lines.read_line.Goals as goal
@@ -6,7 +6,7 @@ use Rattle.drain_report.proofs.lines.read_line.Goals as goal
 pub returns-in-Some-clause-place : goal.returns-in-Some-clause-place
 returns-in-Some-clause-place c = λ feeds few none at.
     let one = ap line_feeds c.in-Some.ensures.sound ∙ line_feed c.as_bytes.result.now c.line_after.new.numbers c.in-Some.rest.now (ap line_feeds c.as_bytes.ensures.value ∙ none) c.in-Some.ensures.long in
-    (omega (arith, at, one), omega (arith, at, one))
+    c.after_first.ensures.place feeds few one at
 
 pub returns-in-None-clause-place : goal.returns-in-None-clause-place
 returns-in-None-clause-place c = λ feeds few none at. c.unread.ensures feeds at

@@ -7,9 +7,9 @@ use Rattle.drain_report.proofs.ReadLemmas.{next, none_left, read_more, sound_mor
 use Rattle.drain_report.proofs.lines.read_numbers.Goals as goal
 
 pub returns-in_default-clause-back : goal.returns-in_default-clause-back
-returns-in_default-clause-back c = λ ns rest long h.
+returns-in_default-clause-back c = λ ns e rest long h.
     let done = take c.loop-k.k c.loop-k.numbers in
-    let step = next ns done c.loop-k.rest.now rest (c.loop-k.invariant.back ns rest long h) (omega (arith, length-take c.loop-k.k c.loop-k.numbers)) in
+    let step = next ns done c.loop-k.rest.now e rest (c.loop-k.invariant.back ns e rest long h) (omega (arith, length-take c.loop-k.k c.loop-k.numbers)) in
     c.in_default.ensures.back step.n step.c step.then step.number
 
 pub loop-k-preserved : goal.loop-k-preserved
@@ -23,18 +23,18 @@ loop-k-preserved c =
       len = search rules;
       sound = sound_more c.args.text.now c.loop-k.rest.now c.in-Some.after.now done _ c.in-Some.number c.loop-k.invariant.sound c.in-Some.ensures.sound more;
       long = rw more (long-append done (c.in-Some.number ∷ []) c.loop-k.invariant.long (search rules, tt));
-      back = λ ns rest long h.
-          let step = next ns done c.loop-k.rest.now rest (c.loop-k.invariant.back ns rest long h) (omega (arith, length-take k numbers)) in
+      back = λ ns e rest long h.
+          let step = next ns done c.loop-k.rest.now e rest (c.loop-k.invariant.back ns e rest long h) (omega (arith, length-take k numbers)) in
           let found = c.in-Some.ensures.back step.n step.c step.then step.number in
-          read_more ns done _ c.in-Some.after.now rest c.in-Some.number step found.0 found.1 more;
+          read_more ns done _ c.in-Some.after.now e rest c.in-Some.number step found.0 found.1 more;
     }
 
 pub returns-clause-back : goal.returns-clause-back
-returns-clause-back c = λ ns rest long h.
+returns-clause-back c = λ ns e rest long h.
     let numbers = c.loop-k.numbers in
     let done = take c.loop-k.k numbers in
     let all : done ≡ numbers = take_all c.loop-k.k numbers (omega arith) in
-    let parts = none_left ns done c.loop-k.rest.now rest (c.loop-k.invariant.back ns rest long h) (omega (arith, length-take c.loop-k.k numbers)) in
+    let parts = none_left ns done c.loop-k.rest.now e rest (c.loop-k.invariant.back ns e rest long h) (omega (arith, length-take c.loop-k.k numbers)) in
     (sym all ∙ parts.0, parts.1)
 
 pub returns-clause-long : goal.returns-clause-long

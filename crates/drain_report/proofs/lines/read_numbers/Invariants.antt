@@ -8,5 +8,5 @@ invariant-loop-k l = record {
   len : length l.numbers ≡ length l.initial.numbers;
   sound : l.text ≡ spaced (take l.k l.numbers) ++ l.rest;
   long : AreLong (take l.k l.numbers);
-  back : (ns : List ℤ) (rest : List ℕ) → length ns ≡ length l.initial.numbers → AreNumbersThen l.text ns rest → IsLeft ns (take l.k l.numbers) l.rest rest;
+  back : (ns : List ℤ) (e : ℕ) (rest : List ℕ) → length ns ≡ length l.initial.numbers → AreNumbersThen l.text ns e rest → IsLeft ns (take l.k l.numbers) l.rest e rest;
 }

@@ -1,6 +1,6 @@
-use Rattle.std.proofs.Common.{◌≡◌, ap, rules}
+use Rattle.std.proofs.Common.{◌≡◌, ap, arith, length, rules}
 use Rattle.drain_device.specs.declared.row_source.Progress.TheVariants.{Stopped}
-use Rattle.drain_verdict.proofs.RasterSteps.{took, found_short, was_short}
+use Rattle.drain_verdict.proofs.RasterSteps.{took, found_short, narrow, was_short}
 use Rattle.drain_verdict.proofs.next_rows.read_raster.Goals as goal
 
 pub returns-in-Ok-clause-rows : goal.returns-in-Ok-clause-rows
@@ -17,3 +17,12 @@ returns-in-Err-AlreadyFailed-clause-rows g c = λ start n before.
     let now = c.in-Err-AlreadyFailed.ensures in
     let stopped : c.args.raster.now.progress ≡ Stopped = search rules in
     was_short c.args.raster.now c.next_pixels.new.self _ _ _ start n stopped now.after (ap g.R.ByteSource.bytes_left (now.reads_nothing (λ going. cc))) now.empty before
+
+pub returns-in-Ok-clause-narrow : goal.returns-in-Ok-clause-narrow
+returns-in-Ok-clause-narrow g c = narrow _ c.args.raster.now.header.cols _ _ (omega arith) c.in-Ok.ensures.long c.in-Ok.ensures.empty
+
+pub returns-in-Err-WrongLength-clause-narrow : goal.returns-in-Err-WrongLength-clause-narrow
+returns-in-Err-WrongLength-clause-narrow g c = let none = ap length c.in-Err-WrongLength.ensures.empty in omega (arith, none)
+
+pub returns-in-Err-AlreadyFailed-clause-narrow : goal.returns-in-Err-AlreadyFailed-clause-narrow
+returns-in-Err-AlreadyFailed-clause-narrow g c = let none = ap length c.in-Err-AlreadyFailed.ensures.empty in omega (arith, none)

@@ -2,10 +2,10 @@ use Rattle.drain_verdict.proofs.InputLemmas.{over_err, over_ok}
 use Rattle.drain_verdict.proofs.stages.read_headers.Goals as goal
 
 pub returns-clause-headers : goal.returns-clause-headers
-returns-clause-headers c = over_ok c.from_each.result _ _ (λ headers each p. (each p).1.0) c.from_each.ensures.each
+returns-clause-headers g c = over_ok c.from_each.result _ _ (λ headers each p. (each p).1.0) c.from_each.ensures.each
 
 pub returns-clause-refusal : goal.returns-clause-refusal
-returns-clause-refusal c =
+returns-clause-refusal g c =
     over_err c.from_each.result _ _
     (λ e found. record {
       product = found.0;

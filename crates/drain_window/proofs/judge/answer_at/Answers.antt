@@ -6,7 +6,8 @@ use Rattle.drain_grid.specs.SinkTexts.{is_listed, sinks_of}
 use Rattle.drain_verdict.proofs.OutcomeLemmas.{memory_alike}
 use Rattle.drain_mosaic.specs.Tiling.{extent_of}
 use Rattle.drain_verdict.specs.Inputs.{as_five}
-use Rattle.drain_verdict.specs.Meaning.{input_grid, input_products, lines_in, nodata_numbers}
+use Rattle.drain_verdict.specs.Texts.{lines_in}
+use Rattle.drain_verdict.specs.Meaning.{input_grid, input_products, nodata_numbers}
 use Rattle.drain_answer.specs.declared.refusal.Refusal.TheVariants.{OutOfMemory}
 use Rattle.drain_verdict.proofs.AuditDevices.{failed_alike, none_alike}
 use Rattle.drain_verdict.proofs.StartAnswers.{layout_of_inputs}

@@ -2,7 +2,7 @@ use Rattle.std.proofs.Common.{◌≡◌, length, ap, ◌∙◌}
 use Rattle.std.proofs.lemmas.Result.{IfOk-weaker}
 use Rattle.drain_grid.specs.Grid.{Grid, Products}
 use Rattle.drain_grid.specs.SinkTexts.{is_listed, sinks_of}
-use Rattle.drain_verdict.specs.Meaning.{lines_in}
+use Rattle.drain_verdict.specs.Texts.{lines_in}
 use Rattle.drain_union.specs.Windows.{window_at}
 use Rattle.drain_union.specs.Reports.{ListsSinks}
 use Rattle.drain_window.specs.JudgedAreas.{AreLinesInside}

@@ -7,7 +7,7 @@ use Rattle.drain_explain.proofs.UntriedRules.{untried_rule}
 use Rattle.drain_explain.proofs.findings.Findings.tries.Goals as goal
 
 pub returns-in-VoidCell-clause-tried : goal.returns-in-VoidCell-clause-tried
-returns-in-VoidCell-clause-tried c = λ true other.
+returns-in-VoidCell-clause-tried g c = λ true other.
     let rules = c.args.self.now.rules in
     elim c.in-VoidCell.is [
       | inl is ↦ subst (IsBroken rules) (sym is) (void_cell rules)
@@ -15,13 +15,13 @@ returns-in-VoidCell-clause-tried c = λ true other.
     ]
 
 pub returns-in-Some-clause-tried : goal.returns-in-Some-clause-tried
-returns-in-Some-clause-tried c = λ looks other.
+returns-in-Some-clause-tried g c = λ looks other.
     let rules = c.args.self.now.rules in
     let is : judged c.args.rule ≡ Some c.in-Some.product = sym c.judged_product.ensures ∙ c.in-Some.is in
     tried_rule rules c.args.rule (subst (IsLookedAt rules.judged) (sym is) (sym c.looks_at.ensures ∙ looks)) other
 
 pub returns-in-Some-clause-untried : goal.returns-in-Some-clause-untried
-returns-in-Some-clause-untried c = λ not p.
+returns-in-Some-clause-untried g c = λ not p.
     let rules = c.args.self.now.rules in
     untried_rule rules c.args.rule c.in_default.not-VoidCell c.in_default.not-Missing
     (λ product is.
@@ -30,6 +30,6 @@ returns-in-Some-clause-untried c = λ not p.
     p
 
 pub returns-in-None-clause-untried : goal.returns-in-None-clause-untried
-returns-in-None-clause-untried c = λ not p.
+returns-in-None-clause-untried g c = λ not p.
     untried_rule c.args.self.now.rules c.args.rule c.in_default.not-VoidCell c.in_default.not-Missing
     (λ product is. absurd (none_some _ (sym c.in-None.is ∙ (c.judged_product.ensures ∙ is)))) p

@@ -1,5 +1,5 @@
 use Rattle.std.proofs.Common.{◌∙◌, inl, inr, get_or, sym, subst, arith}
-use mir.Syntax.{w16}
+use mir.Syntax.{w64}
 use mir.Val.{to_z, of_z}
 use Rattle.std.proofs.lemmas.Bool.{cases_order, false≢true}
 use Rattle.std.proofs.lemmas.Int.{to_z-of_z}
@@ -10,9 +10,9 @@ use Rattle.drain_flood.specs.Walks.{IsLowEdgeThere}
 use Rattle.drain_flood.proofs.flats.Flats.low_edge_at_edge.Goals as goal
 
 pub loop-direction-preserved : goal.loop-direction-preserved
-loop-direction-preserved c = λ i less there.
+loop-direction-preserved t c = λ i less there.
     (let s = c.args.self.now in
-    let level = to_z w16 (of_z w16 c.args.level) in
+    let level = to_z w64 (of_z w64 c.args.level) in
     elim (cases_order i c.loop-direction.direction-index) [
       | inl here ↦ false≢true (sym c.if-is_low_edge.false ∙ c.is_low_edge.ensures.no
           (subst (λ j. IsLowEdgeThere s.extent c.args.surface.now s c.args.cell level (get_or directions j East)) here there))
@@ -21,8 +21,8 @@ loop-direction-preserved c = λ i less there.
     ])
 
 pub returns : goal.returns
-returns c = λ d there.
+returns t c = λ d there.
     (let s = c.args.self.now in
-    let level = to_z w16 (of_z w16 c.args.level) in
+    let level = to_z w64 (of_z w64 c.args.level) in
     of_each (λ x. ¬ IsLowEdgeThere s.extent c.args.surface.now s c.args.cell level x) c.loop-direction.direction-index (omega arith) c.loop-direction.invariant d
-    (subst (λ z. IsLowEdgeThere s.extent c.args.surface.now s c.args.cell z d) (sym (to_z-of_z w16 c.args.level c.ranges.level)) there))
+    (subst (λ z. IsLowEdgeThere s.extent c.args.surface.now s c.args.cell z d) (sym (to_z-of_z w64 c.args.level c.ranges.level)) there))

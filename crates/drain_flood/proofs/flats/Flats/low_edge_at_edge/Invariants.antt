@@ -6,4 +6,4 @@ use Rattle.drain_flood.specs.Walks.{IsLowEdgeThere}
 use Rattle.drain_flood.proofs.flats.Flats.low_edge_at_edge.Given as goal
 
 abbrev pub invariant-loop-direction : goal.invariant-loop-direction
-invariant-loop-direction l = (i : ℕ) → i < l.direction-index → IsLowEdgeThere l.self.extent l.surface l.self l.cell l.level (get_or directions i East) → ⊥
+invariant-loop-direction t l = (i : ℕ) → i < l.direction-index → IsLowEdgeThere l.self.extent l.surface l.self l.cell l.level (get_or directions i East) → ⊥

@@ -1,5 +1,5 @@
 use Rattle.std.proofs.Common.{◌∙◌, sym, subst}
-use mir.Syntax.{w16}
+use mir.Syntax.{w64}
 use mir.Val.{to_z, of_z}
 use Rattle.std.proofs.lemmas.Bool.{false≢true}
 use Rattle.std.proofs.lemmas.Int.{to_z-of_z}
@@ -9,10 +9,10 @@ use Rattle.drain_flood.proofs.Looking.{last_direction}
 use Rattle.drain_flood.proofs.flats.Flats.low_edge_inside.Goals as goal
 
 pub returns : goal.returns
-returns c = λ d there.
+returns t c = λ d there.
     (let s = c.args.self.now in
-    let P : Direction → Type 0 = IsLowEdgeThere s.extent c.args.surface.now s c.args.cell (to_z w16 (of_z w16 c.args.level)) in
-    let held : P d = subst (λ z. IsLowEdgeThere s.extent c.args.surface.now s c.args.cell z d) (sym (to_z-of_z w16 c.args.level c.ranges.level)) there in
+    let P : Direction → Type 0 = IsLowEdgeThere s.extent c.args.surface.now s c.args.cell (to_z w64 (of_z w64 c.args.level)) in
+    let held : P d = subst (λ z. IsLowEdgeThere s.extent c.args.surface.now s c.args.cell z d) (sym (to_z-of_z w64 c.args.level c.ranges.level)) there in
     false≢true (sym c.if-is_low_edge-8.false ∙ c.is_low_edge-8.ensures.no
     (last_direction P
     (λ h. false≢true (sym c.if-is_low_edge.false ∙ c.is_low_edge.ensures.no h))

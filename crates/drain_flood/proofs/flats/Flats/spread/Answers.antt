@@ -6,7 +6,7 @@ use Rattle.drain_flood.proofs.Walking.{turn}
 use Rattle.drain_flood.proofs.flats.Flats.spread.Goals as goal
 
 pub loop-cell-preserved : goal.loop-cell-preserved
-loop-cell-preserved c = record {
+loop-cell-preserved t c = record {
   extent = c.look_around.ensures.extent ∙ c.next.ensures.extent ∙ c.loop-cell.invariant.extent;
   laid = λ g same laid.
       (let e0 : g.extent ≡ c.loop-cell.self.extent = same ∙ sym c.loop-cell.invariant.extent in
@@ -18,7 +18,7 @@ same_most : (a b : ℕ) → a ≡ b → a ≤ b
 same_most a b same = omega arith
 
 pub returns-clause-ways : goal.returns-clause-ways
-returns-clause-ways c = λ g same flooded laid.
+returns-clause-ways t c = λ g same flooded laid.
     (let done = c.in_default.ensures.next in
     subst (AreWaysOnFlats g c.args.surface.now) (sym done.same)
     (all_are_settled g c.args.surface.now c.loop-cell.self (c.args.self.now.extent.rows * c.args.self.now.extent.cols) flooded.drains

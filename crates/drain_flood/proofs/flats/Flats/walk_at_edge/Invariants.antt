@@ -6,7 +6,7 @@ use Rattle.drain_flood.specs.Walks.{IsWalked, IsLessWalk}
 use Rattle.drain_flood.proofs.flats.Flats.walk_at_edge.Given as goal
 
 abbrev pub invariant-loop-direction : goal.invariant-loop-direction
-invariant-loop-direction l = record {
+invariant-loop-direction t l = record {
   extent : l.self.extent ≡ l.fn.self.extent;
   work : IsLessWalk l.fn.self l.self;
   around : (g : Grid) (k : ℕ) (busy : List ℕ) → g.extent ≡ l.fn.self.extent → l.level ≡ con_at g.extent l.surface l.cell →

@@ -1,12 +1,12 @@
 use Rattle.std.proofs.Common.{◌≡◌, ◌∙◌, refl, sym, arith}
-use mir.Syntax.{w16}
+use mir.Syntax.{w64}
 use Rattle.std.proofs.lemmas.Int.{to_z-of_z}
 use Rattle.drain_flood.proofs.Walking.{walk_all}
 use Rattle.drain_flood.proofs.flats.Flats.walk_inside.Goals as goal
 
 -- the eight directions one after the other
 pub returns-clause-around : goal.returns-clause-around
-returns-clause-around c = λ g k busy same level_is before.
+returns-clause-around t c = λ g k busy same level_is before.
     (let e1 : g.extent ≡ c.turn.new.self.extent = same ∙ sym c.turn.ensures.extent in
     let e2 : g.extent ≡ c.turn-2.new.self.extent = e1 ∙ sym c.turn-2.ensures.extent in
     let e3 : g.extent ≡ c.turn-3.new.self.extent = e2 ∙ sym c.turn-3.ensures.extent in
@@ -14,7 +14,7 @@ returns-clause-around c = λ g k busy same level_is before.
     let e5 : g.extent ≡ c.turn-5.new.self.extent = e4 ∙ sym c.turn-5.ensures.extent in
     let e6 : g.extent ≡ c.turn-6.new.self.extent = e5 ∙ sym c.turn-6.ensures.extent in
     let e7 : g.extent ≡ c.turn-7.new.self.extent = e6 ∙ sym c.turn-7.ensures.extent in
-    let at = to_z-of_z w16 c.args.level c.ranges.level ∙ level_is in
+    let at = to_z-of_z w64 c.args.level c.ranges.level ∙ level_is in
     let a1 = c.in_ok-turn.ensures.around g k busy 0 same at refl before in
     let a2 = c.in_ok-turn-2.ensures.around g k busy 1 e1 at refl a1 in
     let a3 = c.in_ok-turn-3.ensures.around g k busy 2 e2 at refl a2 in
@@ -26,5 +26,5 @@ returns-clause-around c = λ g k busy same level_is before.
     walk_all g c.args.surface.now c.turn-8.new.self k busy c.args.cell c.args.rank 8 refl a8)
 
 pub returns-clause-work : goal.returns-clause-work
-returns-clause-work c =
+returns-clause-work t c =
     c.in_ok-turn-8.ensures.work c.args.self.now (c.in_ok-turn-7.ensures.work c.args.self.now (c.in_ok-turn-6.ensures.work c.args.self.now (c.in_ok-turn-5.ensures.work c.args.self.now (c.in_ok-turn-4.ensures.work c.args.self.now (c.in_ok-turn-3.ensures.work c.args.self.now (c.in_ok-turn-2.ensures.work c.args.self.now (c.in_ok-turn.ensures.work c.args.self.now record { fewer = omega arith; same = refl })))))))

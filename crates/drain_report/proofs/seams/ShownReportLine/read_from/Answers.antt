@@ -1,9 +1,36 @@
-use Rattle.std.proofs.Common.{refl}
-use Rattle.drain_report.proofs.FactLemmas.{shown_long}
+use Rattle.std.proofs.Common.{◌++◌, ◌∙◌, ap, arith, refl, sym}
+use Rattle.drain_grid.proofs.Tallies.{none_some, same_some}
+use Rattle.drain_report.specs.Facts.{shown_line}
+use Rattle.drain_report.specs.Faults.{line_feeds}
+use Rattle.drain_report.proofs.FaultLemmas.{seam_feed}
 use Rattle.drain_report.proofs.seams.ShownReportLine.read_from.Goals as goal
 
+pub returns-in_default-clause-back : goal.returns-in_default-clause-back
+returns-in_default-clause-back c = λ s rest fit is. c.in_default.ensures.back s rest fit refl refl is
+
+pub returns-in_default-clause-place : goal.returns-in_default-clause-place
+returns-in_default-clause-place c = λ feeds few at. c.unread.ensures feeds at
+
+pub returns-in_default-shown-clause-back : goal.returns-in_default-shown-clause-back
+returns-in_default-shown-clause-back c = λ s rest fit is.
+    let read = c.in-Some.ensures.back s rest fit refl refl is in
+    none_some s (c.in_default-shown.ensures.back s fit read.0 read.1.0 read.1.1.0)
+
+pub returns-in_default-shown-clause-place : goal.returns-in_default-shown-clause-place
+returns-in_default-shown-clause-place c = λ feeds few at.
+    let one = ap line_feeds c.in-Some.ensures.sound ∙ seam_feed _ _ _ _ c.in-Some.ensures.cell_long c.in-Some.ensures.height_long c.in-Some.ensures.others_long in
+    (omega arith, omega (arith, at, one))
+
+pub returns-clause-sound : goal.returns-clause-sound
+returns-clause-sound c =
+    c.in-Some.ensures.sound ∙ ap (λ t. t ++ c.in-Some.rest.now) c.in-Some-shown.ensures.sound ∙ ap (λ r. shown_line c.in-Some-shown.shown ++ r) (sym c.after_first.ensures.text)
+
 pub returns-clause-back : goal.returns-clause-back
-returns-clause-back c = λ x rest fit is. c.read_fact.ensures.back x rest fit refl (record { long = shown_long x fit; is = is })
+returns-clause-back c = λ s rest fit is.
+    let read = c.in-Some.ensures.back s rest fit refl refl is in
+    (same_some c.in-Some-shown.shown s (c.in-Some-shown.ensures.back s fit read.0 read.1.0 read.1.1.0), c.after_first.ensures.text ∙ read.1.1.1)
 
 pub returns-clause-place : goal.returns-clause-place
-returns-clause-place c = λ feeds few at. c.read_fact.ensures.place feeds few refl at
+returns-clause-place c = λ feeds few at.
+    c.after_first.ensures.place feeds few
+    (ap line_feeds c.in-Some.ensures.sound ∙ seam_feed _ _ _ _ c.in-Some.ensures.cell_long c.in-Some.ensures.height_long c.in-Some.ensures.others_long) at

@@ -1,12 +1,12 @@
-use Rattle.std.proofs.Common.{◌≡◌, ◌+◌, ◌++◌, ◌∙◌, ℤ, List, length, sym, ap, subst}
+use Rattle.std.proofs.Common.{◌+◌, ◌∙◌, sym, subst}
 use Rattle.drain_grid.specs.declared.set_product.SetProduct.TheVariants.{Dir}
-use Rattle.drain_paths.specs.Flows.{AreFirstFlows, flows_of}
+use Rattle.drain_paths.specs.Flows.{AreFirstFlows}
 use Rattle.drain_paths.proofs.GridFlows.{AreFirstFlows-row}
 use Rattle.drain_rows.proofs.WindowLemmas.{on-ok}
 use Rattle.drain_rows.proofs.row_flows.CellFlowsRowVisitor.note.Goals as goal
 
 pub push_row-requires-clause-cells : goal.push_row-requires-clause-cells
-push_row-requires-clause-cells c = ap length c.as_slice.ensures.value ∙ sym (c.requires.whole.long Dir)
+push_row-requires-clause-cells c = sym (c.requires.whole.long Dir)
 
 pub push_row-requires-clause-pixels : goal.push_row-requires-clause-pixels
 push_row-requires-clause-pixels c = c.requires.whole.pixels Dir
@@ -16,8 +16,7 @@ returns-clause-noted c =
     let row = c.args.row.now in
     on-ok c.push_row.result
     (λ is grid ps r numbers shown first.
-    let flows : c.push_row.new.self ≡ c.args.self.now ++ flows_of row.z.items row.products.dir = is ∙ ap (λ (zs : List ℤ). c.args.self.now ++ flows_of zs row.products.dir) c.as_slice.ensures.value in
-    subst (AreFirstFlows grid ps grid.extent (r + 1)) (sym flows) (AreFirstFlows-row grid ps grid.extent r c.args.self.now row.z.items row.products.dir first (record {
+    subst (AreFirstFlows grid ps grid.extent (r + 1)) (sym is) (AreFirstFlows-row grid ps grid.extent r c.args.self.now row.z row.products.dir first (record {
       samples_are = numbers.cols_are;
       numbers_are = c.requires.whole.long Dir ∙ numbers.cols_are;
       elevation = numbers.elevation;

@@ -1,12 +1,12 @@
-use Rattle.std.proofs.Common.{◌≡◌, ◌<◌, length, ap, subst, arith}
+use Rattle.std.proofs.Common.{◌≡◌, ◌<◌, ◌∙◌, length, ap, subst, sym, arith}
+use Rattle.std.proofs.lemmas.List.{length-map}
 use Rattle.drain_fill.specs.Below.{AreRowHeights, IsBelowAt}
 use Rattle.drain_grid.specs.declared.set_product.SetProduct.TheVariants.{Con}
-use Rattle.drain_rules.specs.Rows.{MarkedRow}
-use Rattle.drain_rules.proofs.RowPatches.{samples_fit}
+use Rattle.drain_rules.specs.Rows.{MarkedRow, grounds}
 use Rattle.drain_rules.proofs.row_view.RowView.cells_above_ground.Goals as goal
 
 pub cells_above_ground-requires : goal.cells_above_ground-requires
-cells_above_ground-requires c = c.self.invariant.numbers.long Con
+cells_above_ground-requires c = c.self.invariant.numbers.long Con ∙ sym (length-map c.self.inside.z.now _)
 
 pub overflow_cast-result : goal.overflow_cast-result
 overflow_cast-result c = omega (arith, c.cells_above_ground.ensures.within, c.self.invariant.numbers.long Con, c.self.invariant.numbers.narrow)
@@ -18,6 +18,6 @@ returns-clause-within c =
 
 pub returns-clause-first : goal.returns-clause-first
 returns-clause-first c =
-    subst (λ (row : MarkedRow). AreRowHeights row.numbers.products.con → c.cells_above_ground.result < length row.numbers.z → IsBelowAt row.numbers.products.con row.numbers.z c.cells_above_ground.result)
+    subst (λ (row : MarkedRow). AreRowHeights row.numbers.products.con → c.cells_above_ground.result < length row.numbers.z → IsBelowAt row.numbers.products.con (grounds row.numbers.z) c.cells_above_ground.result)
     c.self.view_is
-    (λ fit less. c.cells_above_ground.ensures.first fit (samples_fit c.self.inside.z.now c.self.invariant.numbers.samples) (omega (arith, less, c.self.invariant.numbers.long Con)))
+    (λ fit less. c.cells_above_ground.ensures.first fit (omega (arith, less, c.self.invariant.numbers.long Con)))

@@ -3,7 +3,6 @@ use Rattle.std.specs.Prelude.{MatchOption}
 use Rattle.drain_filled.specs.Compared.{IsFirstUnfilled}
 use Rattle.drain_grid.specs.declared.judged.Judged.{Judged}
 use Rattle.drain_grid.specs.declared.judged.Judged.TheVariants.{Con}
-use Rattle.drain_grid.specs.declared.verdict.Verdict.{Verdict}
 use Rattle.drain_grid.specs.Path.{IsLeastSurface}
 use Rattle.drain_grid.specs.RulesAbout.{IsPartRule, IsTried, part_rules, rules_about}
 use Rattle.drain_rules.specs.Verdicts.{IsVerdictAmong}

@@ -1,0 +1,143 @@
+-- Inputs of a call with the first bytes of each header: of tiles, and of one raster of elevations, whose own header may be
+-- too long as well. The answer to them is the answer to the inputs.
+use Rattle.std.proofs.Common.{◌≡◌, ℕ, ◌↔◌, List, take, arith, inl, inr, refl, ap, subst, ◌∙◌}
+use Rattle.std.specs.Prelude.{slice_get, Some, Result, Ok, Err}
+use Rattle.drain_answer.specs.declared.refusal.Refusal.{Refusal}
+use Rattle.drain_answer.specs.declared.refusal.Refusal.TheVariants.{BadSide, BadTileLength, BadDemHeader, OutOfMemory, ReadFailed}
+use Rattle.drain_c.specs.GivenDem.{DemInputs, dem_set}
+use Rattle.drain_c.proofs.LongHeaders.{IsLong, SameRefusals, cut_texts, own, refusal_kept, same_fault, same_texts, set_on, short_or_long, too_long}
+use Rattle.drain_grid.specs.declared.judged.Judged.{Judged}
+use Rattle.drain_header.specs.declared.fault.HeaderFault.TheVariants.{TooLong}
+use Rattle.drain_hgt.specs.Corner.{Corner}
+use Rattle.drain_hgt.specs.Samples.{IsTile}
+use Rattle.drain_text.specs.First.{IsFirst}
+use Rattle.drain_verdict.specs.Answers.{IsAnswerIn, IsAuditIn}
+use Rattle.drain_verdict.specs.DemGround.{DemTexts, dem_ground}
+use Rattle.drain_verdict.specs.GroundSets.{GroundSet, IsReadable, IsRefusalIn, StandsIn, order_in}
+use Rattle.drain_verdict.specs.Inputs.{Inputs}
+use Rattle.drain_verdict.specs.Meaning.{texts_of}
+use Rattle.drain_verdict.specs.Outcomes.{IsOutcomeIn}
+use Rattle.drain_verdict.specs.TileGround.{HasBadLength, TilesRefuse, set_of, tile_ground, tile_place}
+use Rattle.drain_verdict.proofs.DemAnswers.{header_answer}
+
+-- inputs of one kind, which are sets; and what is known of those with the first bytes of each header
+pub record Cut (A : Type 0) : Type 1 where
+  pub set : A → GroundSet
+  pub first_bytes : A → A
+  pub refusal_kept : (a : A) (refusal : Refusal) → IsRefusalIn (set (first_bytes a)) refusal → IsRefusalIn (set a) refusal
+  pub same : (a : A) → IsReadable (set (first_bytes a)) → first_bytes a ≡ a
+
+-- answers to sets: a verdict on readable ones alone, else the first refusal that applies
+pub record AreAnswers {V : Type 0} (Is : GroundSet → Result V Refusal → Type 0) : Type 1 where
+  pub readable : (s : GroundSet) (v : V) → Is s (Ok v) → IsReadable s
+  pub refused : (s : GroundSet) (refusal : Refusal) → Is s (Err refusal) → IsRefusalIn s refusal
+  pub refuses : (s : GroundSet) (refusal : Refusal) → IsRefusalIn s refusal → Is s (Err refusal)
+
+-- so are those of an audit, of a check, and of an audit of some rasters
+pub audits : AreAnswers IsAuditIn
+audits = record { readable = λ s v is. is.0; refused = λ s refusal is. is; refuses = λ s refusal is. is }
+
+pub checks : AreAnswers IsAnswerIn
+checks = record { readable = λ s v is. is.0; refused = λ s refusal is. is; refuses = λ s refusal is. is }
+
+pub outcomes : (judged : Judged) → AreAnswers (IsOutcomeIn judged)
+outcomes judged = record { readable = λ s v is. is.0; refused = λ s refusal is. is; refuses = λ s refusal is. is }
+
+-- the answer to the first bytes is the answer to the inputs
+pub answer_kept : {A V : Type 0} (c : Cut A) (Is : GroundSet → Result V Refusal → Type 0) → AreAnswers Is → (answer : Result V Refusal) (a : A) →
+    Is (c.set (c.first_bytes a)) answer → Is (c.set a) answer
+answer_kept c Is are (Ok v) a is = subst (λ b. Is (c.set b) (Ok v)) (c.same a (are.readable (c.set (c.first_bytes a)) v is)) is
+answer_kept c Is are (Err refusal) a is = are.refuses (c.set a) refusal (c.refusal_kept a refusal (are.refused (c.set (c.first_bytes a)) refusal is))
+
+-- Tiles.
+
+abbrev pub cut_tiles : Inputs → Inputs
+cut_tiles i = record {
+  side = i.side;
+  names = i.names;
+  corners = i.corners;
+  tiles = i.tiles;
+  sinks = i.sinks;
+  header = λ p. take 65537 (i.header p);
+  raster = i.raster;
+}
+
+-- a tile's length is no header's
+same_length : (i j : Inputs) (c : Corner) → i.side ≡ j.side → i.corners ≡ j.corners → i.tiles ≡ j.tiles → HasBadLength i c → HasBadLength j c
+same_length i j c side corners tiles bad = record {
+  place = bad.place;
+  body = bad.body;
+  corner_is = subst (λ cs. slice_get cs bad.place ≡ Some c) corners bad.corner_is;
+  body_is = subst (λ ts. slice_get ts bad.place ≡ Some bad.body) tiles bad.body_is;
+  length_is_not = subst (λ s. ¬ IsTile s bad.body) side bad.length_is_not;
+}
+
+-- nor is any refusal of tiles
+pub applies : (i : Inputs) (refusal : Refusal) → TilesRefuse (cut_tiles i) refusal ↔ TilesRefuse i refusal
+applies i (BadTileLength c) = (same_length (cut_tiles i) i c refl refl refl, same_length i (cut_tiles i) c refl refl refl)
+applies i refusal = ((λ is. is), (λ is. is))
+
+pub places : (i : Inputs) (refusal : Refusal) → tile_place (cut_tiles i) refusal ≡ tile_place i refusal
+places i BadSide = refl
+places i refusal = refl
+
+abbrev pub tile_refusals : (i : Inputs) → SameRefusals (tile_ground i)
+tile_refusals i = record { Refuses = TilesRefuse (cut_tiles i); among = tile_place (cut_tiles i); applies = applies i; places = places i }
+
+pub same_tiles : (i : Inputs) → IsReadable (set_of (cut_tiles i)) → cut_tiles i ≡ i
+same_tiles i readable =
+    ap (λ t. record { side = i.side; names = i.names; corners = i.corners; tiles = i.tiles; sinks = t.sinks; header = t.header; raster = t.raster })
+    (same_texts (tile_ground i) (tile_refusals i) (texts_of i) readable)
+
+abbrev pub tile_cut : Cut Inputs
+tile_cut = record {
+  set = set_of;
+  first_bytes = cut_tiles;
+  refusal_kept = λ i refusal is. refusal_kept (tile_ground i) (tile_refusals i) (texts_of i) refusal is;
+  same = same_tiles;
+}
+
+-- One raster of elevations.
+
+-- with this text for its header
+abbrev with_header : DemInputs → List ℕ → DemTexts
+with_header i header = record { header = header; body = i.dem.body }
+
+abbrev pub cut_dem : DemInputs → DemInputs
+cut_dem i = record { dem = with_header i (take 65537 i.dem.header); texts = cut_texts i.texts }
+
+-- a header that is too long is the first refusal, and the only one
+long_refused : (i : DemInputs) → IsLong i.dem.header → StandsIn (dem_set (cut_dem i)) (BadDemHeader TooLong)
+long_refused i long = too_long (take 65537 i.dem.header) long.first_bytes
+
+of_long : (i : DemInputs) → IsLong i.dem.header → (refusal : Refusal) → IsFirst (order_in (dem_set (cut_dem i))) (StandsIn (dem_set (cut_dem i))) refusal →
+    IsRefusalIn (dem_set i) refusal
+of_long i long (BadDemHeader fault) is = header_answer i.dem i.texts (BadDemHeader fault) (same_fault i.dem.header fault is.holds)
+of_long i long BadSide is = absurd is.holds
+of_long i long refusal is = absurd (is.first (BadDemHeader TooLong) (inl (omega arith)) (long_refused i long))
+
+-- as it is said of the ground
+refused_long : (i : DemInputs) → IsLong i.dem.header → (refusal : Refusal) → IsRefusalIn (dem_set (cut_dem i)) refusal → IsRefusalIn (dem_set i) refusal
+refused_long i long OutOfMemory is = tt
+refused_long i long ReadFailed is = tt
+refused_long i long refusal is = of_long i long refusal is
+
+pub dem_refusal_kept : (i : DemInputs) (refusal : Refusal) → IsRefusalIn (dem_set (cut_dem i)) refusal → IsRefusalIn (dem_set i) refusal
+dem_refusal_kept i refusal is = elim (short_or_long i.dem.header) [
+  | inl kept ↦ refusal_kept (dem_ground i.dem) (own (dem_ground i.dem)) i.texts refusal
+      (subst (λ header. IsRefusalIn (set_on (dem_ground (with_header i header)) (cut_texts i.texts)) refusal) kept is)
+  | inr long ↦ refused_long i long refusal is
+]
+
+pub same_dem : (i : DemInputs) → IsReadable (dem_set (cut_dem i)) → cut_dem i ≡ i
+same_dem i readable = elim (short_or_long i.dem.header) [
+  | inl kept ↦ (
+      let short : IsReadable (set_on (dem_ground i.dem) (cut_texts i.texts)) =
+      subst (λ header. IsReadable (set_on (dem_ground (with_header i header)) (cut_texts i.texts))) kept readable in
+      ap (λ header. record { dem = with_header i header; texts = cut_texts i.texts }) kept
+      ∙ ap (λ texts. record { dem = i.dem; texts = texts }) (same_texts (dem_ground i.dem) (own (dem_ground i.dem)) i.texts short))
+  | inr long ↦ absurd (readable (BadDemHeader TooLong) (long_refused i long))
+]
+
+abbrev pub dem_cut : Cut DemInputs
+dem_cut = record { set = dem_set; first_bytes = cut_dem; refusal_kept = dem_refusal_kept; same = same_dem }

@@ -1,0 +1,85 @@
+//! The audit of some rasters over one raster of elevations that C calls. `include/drain.h` declares it.
+
+ghost use Rattle.std.specs.Prelude.{◌≡◌, ◌<◌, ◌↔◌, false, IfSome, IsFalse, IsNone, IsTrue};
+ghost use Rattle.drain_answer.specs.OutcomeLines.{outcome_report_line};
+ghost use Rattle.drain_c.specs.Found.{outcome_found};
+ghost use Rattle.drain_c.specs.Given.{audit_raster};
+ghost use Rattle.drain_c.specs.GivenDem.{OfDemBytes, dem_set};
+ghost use Rattle.drain_c.specs.Judged.{OfJudgedDem, judged_bytes, judged_of};
+ghost use Rattle.drain_c.specs.Shown.{Reports, ShowsBadChoice, ShowsMissing};
+ghost use Rattle.drain_c.specs.Whole.{is_dem_audit_whole};
+ghost use Rattle.drain_grid.specs.Judged.{has_rnk};
+ghost use Rattle.drain_verdict.specs.DemGround.{ElevationIsItsPixels};
+ghost use Rattle.drain_verdict.specs.Outcomes.{AreRightIn, IsOutcomeIn};
+
+use crate::answer::{Answer, show_bad_choice, show_missing, show_outcome};
+use crate::given::{AuditBytes, RasterBytes};
+use crate::judge_dem::judge_dem_some;
+use crate::judged::{judged_bytes, judged_of};
+use crate::whole::is_dem_audit_whole;
+use drain_grid::Judged;
+use std::alloc::Global;
+
+/// Whether the judged rasters are right for the raster of elevations, part of a correct set: 0 where they are, 1 where they
+/// aren't, 2 where the bytes have no verdict or the number names no rasters that can be judged, 3 as `drain_audit`. No byte
+/// of another raster is read.
+#[unsafe(no_mangle)]
+pub extern "C" fn drain_audit_only_dem<'a>(
+    alloc: Global,
+    dem: &RasterBytes<'a>,
+    sinks: &[u8],
+    rasters: &AuditBytes<'a>,
+    judged: u32,
+    answer: &mut Answer,
+) -> u32
+    // Where the number names no rasters that can be judged, it says so.
+    ensures unknown { IsNone (judged_of judged) → ShowsBadChoice answer.new }
+
+    // Where it gives a verdict, it is 0 exactly where the judged rasters are right.
+    ensures exactly { IfSome (judged_of judged) (λ some. result < 2 → OfJudgedDem dem.now sinks.now some rasters.now (λ inputs. (result ≡ 0) ↔ AreRightIn some (dem_set inputs))) }
+
+    // And then each cell's elevation is the pixel that the bytes mean.
+    ensures elevation { IfSome (judged_of judged) (λ some. result < 2 → OfJudgedDem dem.now sinks.now some rasters.now (λ inputs. ElevationIsItsPixels inputs.dem)) }
+
+    // Where bytes of a judged raster or of the elevations are missing, for which C had NULL, it says so.
+    ensures missing { IfSome (judged_of judged) (λ some. IsFalse (is_dem_audit_whole dem.now (judged_bytes some rasters.now)) → ShowsMissing answer.new) }
+
+    // Else what it writes is the answer of an audit of these rasters: the numbers, and the line that the program prints.
+    ensures answer { IfSome (judged_of judged) (λ some. IsTrue (is_dem_audit_whole dem.now (judged_bytes some rasters.now)) → OfJudgedDem dem.now sinks.now some rasters.now (λ inputs. Reports (IsOutcomeIn some (dem_set inputs)) outcome_found outcome_report_line answer.new)) }
+    ensures status { answer.new.status ≡ result }
+{
+    match judged_of(judged) {
+        Some(judged) => {
+            let rasters = judged_bytes(judged, rasters);
+            audit_judged_dem(alloc, dem, sinks, &rasters, judged, answer)
+        }
+        None => {
+            show_bad_choice(answer);
+            answer.status
+        }
+    }
+}
+
+/// The same of these rasters.
+fn audit_judged_dem<'a>(
+    alloc: Global,
+    dem: &RasterBytes<'a>,
+    sinks: &[u8],
+    rasters: &AuditBytes<'a>,
+    judged: Judged,
+    answer: &mut Answer,
+) -> u32
+    ensures exactly { has_rnk judged ≡ false → result < 2 → OfDemBytes dem.now sinks.now (audit_raster rasters.now) (λ inputs. (result ≡ 0) ↔ AreRightIn judged (dem_set inputs)) }
+    ensures elevation { result < 2 → OfDemBytes dem.now sinks.now (audit_raster rasters.now) (λ inputs. ElevationIsItsPixels inputs.dem) }
+    ensures missing { IsFalse (is_dem_audit_whole dem.now rasters.now) → ShowsMissing answer.new }
+    ensures answer { IsTrue (is_dem_audit_whole dem.now rasters.now) → OfDemBytes dem.now sinks.now (audit_raster rasters.now) (λ inputs. Reports (IsOutcomeIn judged (dem_set inputs)) outcome_found outcome_report_line answer.new) }
+    ensures status { answer.new.status ≡ result }
+{
+    if !is_dem_audit_whole(dem, rasters) {
+        show_missing(answer);
+        return answer.status;
+    }
+    let outcome = judge_dem_some(alloc, dem, sinks, rasters, judged);
+    show_outcome(&outcome, answer);
+    answer.status
+}

@@ -1,0 +1,103 @@
+//! A run of `explain` on one raster of elevations; and on whichever elevations were opened.
+
+ghost use Rattle.std.specs.Prelude.{◌≡◌, Result};
+ghost use Rattle.drain_cli.specs.ExplainRuns.{Explains, FailsToSave, IsDemOutcome, IsOutcomeOn};
+ghost use Rattle.drain_answer.specs.declared.outcome.Outcome as declared;
+ghost use Rattle.drain_answer.specs.declared.refusal.Refusal as declared_refusal;
+
+use crate::runs::run_explain::{ExplainOutput, explain, headers_of, refusal_of, run_explain};
+use drain_args::form::Form;
+use drain_device::{ByteSink, ByteSource};
+use drain_explain::{
+    FileLookup, Findings, Mapping, answer_and_findings, detail_of_dem, explain_audit_dem,
+    explain_check_dem,
+};
+use drain_files::open_judged::{JudgedProducts, OpenElevations, OpenTiles};
+use drain_header::Header;
+use drain_page::Facts;
+use drain_verdict::{Outcome, RasterInput, Refusal};
+use std::alloc::Global;
+
+/// Explains the answer to the products that were opened beside their elevations, and returns the exit status.
+pub fn run_explain_on<R: ByteSource, B: ExplainOutput + FileLookup, W: ByteSink>(
+    alloc: Global,
+    elevations: &mut OpenElevations<R>,
+    sinks: &[u8],
+    products: &mut JudgedProducts<R>,
+    mapping: Mapping,
+    form: Form,
+    beside: &mut B,
+    out: &mut W,
+) -> u8
+    ensures run { (answer : Result declared.Outcome declared_refusal.Refusal)
+        × IsOutcomeOn R.ByteSource elevations.old elevations.new sinks.now products.old products.new answer
+        × Explains W.ByteSink out.old out.new (FailsToSave B.ExplainOutput.has_saved) form answer result }
+{
+    match elevations {
+        OpenElevations::Tiles(OpenTiles { side, tiles }) => run_explain(
+            alloc,
+            *side,
+            tiles.as_mut_slice(),
+            sinks,
+            products,
+            mapping,
+            form,
+            beside,
+            out,
+        ),
+        OpenElevations::Dem(dem) => {
+            run_explain_dem(alloc, dem, sinks, products, mapping, form, beside, out)
+        }
+    }
+}
+
+/// Explains the answer of a check or of an audit on one raster of elevations, as `run_explain` does on tiles.
+pub fn run_explain_dem<R: ByteSource, B: ExplainOutput + FileLookup, W: ByteSink>(
+    alloc: Global,
+    dem: &mut [RasterInput<R>; 1],
+    sinks: &[u8],
+    products: &mut JudgedProducts<R>,
+    mapping: Mapping,
+    form: Form,
+    beside: &mut B,
+    out: &mut W,
+) -> u8
+    ensures run { (answer : Result declared.Outcome declared_refusal.Refusal)
+        × IsDemOutcome R.ByteSource dem.old dem.new sinks.now products.old products.new answer
+        × Explains W.ByteSink out.old out.new (FailsToSave B.ExplainOutput.has_saved) form answer result }
+{
+    let (answer, findings) = explain_products(alloc, dem, sinks, products, mapping);
+    let refusal = match refusal_of(&answer) {
+        Some(refusal) => {
+            let headers = headers_of(products);
+            detail_of_dem(alloc, refusal, &dem[0], &headers, sinks, beside)
+        }
+        None => None,
+    };
+    let facts = Facts {
+        answer,
+        refusal,
+        findings,
+    };
+    explain(alloc, &facts, form, beside, out)
+}
+
+/// The answer to the products, and what is wrong with them.
+fn explain_products<R: ByteSource>(
+    alloc: Global,
+    dem: &mut [RasterInput<R>; 1],
+    sinks: &[u8],
+    products: &mut JudgedProducts<R>,
+    mapping: Mapping,
+) -> (Result<Outcome, Refusal>, Option<Findings<Header>>)
+    ensures { IsDemOutcome R.ByteSource dem.old dem.new sinks.now products.old products.new result.0 }
+{
+    match products {
+        JudgedProducts::Five(five) => {
+            answer_and_findings(explain_check_dem(alloc, dem, sinks, five, mapping))
+        }
+        JudgedProducts::Four(four, judged) => answer_and_findings(explain_audit_dem(
+            alloc, dem, sinks, four, *judged, mapping,
+        )),
+    }
+}

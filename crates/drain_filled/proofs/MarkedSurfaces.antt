@@ -1,0 +1,82 @@
+-- A least surface with the marks of its cells is a surface from which ways are found; between pixels it has pixels' numbers.
+use Rattle.std.proofs.Common.{◌≡◌, ◌≢◌, ◌∙◌, ◌*◌, ◌<◌, ◌≤ℤ◌, ℕ, ℤ, pos, List, [], ◌∷◌, IsSome, IsNone, inl, inr, length, get_or, refl, sym, ap, subst, arith}
+use Rattle.std.specs.List.{All}
+use Rattle.std.proofs.lemmas.Int.{ints}
+use Rattle.std.proofs.lemmas.List.Elements.{All-from_get_or}
+use Rattle.drain_grid.specs.declared.cell.Cell.{Cell}
+use Rattle.drain_grid.specs.declared.values.TheConstants.{LEAST_PIXEL, GREATEST_PIXEL}
+use Rattle.drain_grid.specs.Extent.{Extent, IsCellOf, index_of}
+use Rattle.drain_grid.specs.Grid.{Grid, HasData, IsInside, IsOpenCell, height_at}
+use Rattle.drain_grid.specs.Path.{CoversGround, Drains, IsLeastSurface, IsPath, NeverRises, Surface}
+use Rattle.drain_grid.specs.Values.{IsPixel}
+use Rattle.drain_grid.proofs.Lowered.{least_at_open, least_beside}
+use Rattle.drain_grid.proofs.Neighbors.{AreNeighbors-lies, step_lies}
+use Rattle.drain_grid.proofs.Runs.{index_of-below}
+use Rattle.drain_flood.specs.declared.layers.TheConstants.{UNREACHED}
+use Rattle.drain_flood.specs.Floods.{Flooding, IsSurfaceOf, con_at, mark_at}
+use Rattle.drain_filled.specs.Compared.{AreOneSurface, HasCellsOf, HasHeights}
+use Rattle.drain_filled.specs.Grounds.{ArePixelHeights, DataCells, HasDataCells, IsMarkAt, IsVoided, data_mark}
+use Rattle.drain_filled.specs.Sweeps.{IsBetween}
+use Rattle.drain_filled.proofs.LeastSurfaces.{same_cells_same_surface}
+
+-- a surface of one height never rises
+flat_falls : (g : Grid) (z : ℤ) (c : Cell) (rest : List Cell) → NeverRises (λ x. z) c rest
+flat_falls g z c [] = tt
+flat_falls g z c (n ∷ rest) = (omega (arith, ints), flat_falls g z n rest)
+
+-- a least surface over pixels has pixels' numbers
+pub least_is_pixel : (g : Grid) (s : Surface) → IsLeastSurface g s → ArePixelHeights g → (c : Cell) → HasData g c → IsPixel (s c)
+least_is_pixel g s least ground c here = record {
+  low = over LEAST_PIXEL (height_at g c) (s c) (ground c here).low (least.covers c here);
+  high = least.least (λ x. GREATEST_PIXEL) (λ x at. (ground x at).high) (λ x at. (let way = least.drains x at in (way.0, way.1, flat_falls g GREATEST_PIXEL x way.0))) c here;
+}
+  where
+    over : (a b z : ℤ) → a ≤ℤ b → b ≤ℤ z → a ≤ℤ z
+    over a b z low high = omega (arith, ints, low, high)
+
+-- the elevations themselves are between the ground and the least surface
+pub ground_between : (g : Grid) (e : Extent) (xs : List ℤ) → g.extent ≡ e → HasHeights g (height_at g) xs → IsBetween g (λ c. get_or xs (index_of e c) (pos 0))
+ground_between g e xs extent heights = record {
+  covers = λ c here. same_at_most (height_at g c) _ (at c here);
+  low = λ t covers drains c here. subst (λ z. z ≤ℤ t c) (at c here) (covers c here);
+}
+  where
+    at : (c : Cell) → HasData g c → height_at g c ≡ get_or xs (index_of e c) (pos 0)
+    at c here = heights c here ∙ ap (λ (x : Extent). get_or xs (index_of x c) (pos 0)) extent
+
+    same_at_most : (a b : ℤ) → a ≡ b → a ≤ℤ b
+    same_at_most a b same = omega (arith, ints, same)
+
+-- a least surface and its marks
+pub surface_of_least : (g : Grid) (f : Flooding) → length f.con ≡ g.extent.rows * g.extent.cols → length f.mark ≡ g.extent.rows * g.extent.cols →
+    IsLeastSurface g (con_at g.extent f) → ((c : Cell) → IsInside g c → IsMarkAt g c (mark_at g.extent f c)) → IsSurfaceOf g f
+surface_of_least g f con mark least marks = record {
+  counted = record { con = con; mark = mark };
+  voids = λ c inside void. (marks c inside).void void;
+  opened = λ c is_open. record {
+    con = least_at_open g (con_at g.extent f) least c (record { inside = is_open.0; is_data = is_open.1.0 }) is_open;
+    mark = (marks c is_open.0).opened is_open;
+  };
+  closed = λ c here shut. (marks c here.inside).closed here shut;
+  covers = least.covers;
+  drains = least.drains;
+  least = λ c n d here there leads. least_beside g (con_at g.extent f) least c n here there (AreNeighbors-lies c n d (step_lies g.extent c n d leads).1);
+}
+
+-- voids get their number, and the heights of data cells stay
+module _ (g : Grid) (w : DataCells) (old new : List ℤ) (void : ℤ) (extent : g.extent ≡ w.extent) (long : length old ≡ w.extent.rows * w.extent.cols)
+    (each : (k : ℕ) → k < length old → IsVoided void (get_or w.marks k 0) (get_or old k (pos 0)) (get_or new k (pos 0))) where
+  at_cell : (c : Cell) → IsInside g c → IsVoided void (data_mark w c) (get_or old (index_of g.extent c) (pos 0)) (get_or new (index_of g.extent c) (pos 0))
+  at_cell c inside =
+      subst (λ (e : Extent). IsVoided void (get_or w.marks (index_of e c) 0) (get_or old (index_of g.extent c) (pos 0)) (get_or new (index_of g.extent c) (pos 0))) extent
+      (each (index_of g.extent c) (subst (λ n. index_of g.extent c < n) (ap (λ (e : Extent). e.rows * e.cols) extent ∙ sym long) (index_of-below g.extent c inside)))
+
+  pub void_there : (c : Cell) → IsInside g c → (data_mark w c ≢ UNREACHED) → get_or new (index_of g.extent c) (pos 0) ≡ void
+  void_there c inside other = (at_cell c inside).at_void other
+
+  pub least_still : ((c : Cell) → HasData g c → data_mark w c ≡ UNREACHED) → IsLeastSurface g (λ c. get_or old (index_of g.extent c) (pos 0)) → ArePixelHeights g →
+      IsLeastSurface g (λ c. get_or new (index_of g.extent c) (pos 0))
+  least_still marked least ground =
+      same_cells_same_surface g g (λ c. get_or new (index_of g.extent c) (pos 0)) (λ c. get_or old (index_of g.extent c) (pos 0))
+      (record { extent = refl; elevation = λ c inside. refl; sink = λ c inside. refl })
+      (λ c here. (at_cell c here.inside).same (marked c here) (least_is_pixel g _ least ground c here)) least

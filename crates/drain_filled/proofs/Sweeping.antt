@@ -1,0 +1,209 @@
+-- One more cell is reached: what holds of a surface under way still holds.
+--
+-- The heart of it is that a cell may be raised. Let no reached cell with an unreached neighbour be below a level. Take a surface
+-- that covers the ground and drains, and from an unreached cell a path along which it never rises. The path ends at an open cell,
+-- which is reached. Where it first comes to a reached cell, the surface is at least the level, so it is at the unreached cell.
+use Rattle.std.proofs.Common.{◌≡◌, ◌≢◌, ℕ, ◌∙◌, ◌⊎◌, inl, inr, ℤ, ◌≤ℤ◌, List, [], ◌∷◌, Some, Contains, refl, sym, ap, subst, arith}
+use Rattle.std.specs.List.{All, AllByRecursion}
+use Rattle.std.specs.Int.{int_max}
+use Rattle.std.proofs.lemmas.Bool.{cases_eq}
+use Rattle.std.proofs.lemmas.Int.{ints, clamps}
+use Rattle.std.proofs.lemmas.List.Elements.{All-weaker, All-push, Contains-append_left, Contains-push}
+use Rattle.drain_grid.specs.declared.cell.Cell.{Cell}
+use Rattle.drain_grid.specs.declared.direction.Direction.{Direction}
+use Rattle.drain_grid.specs.Direction.{opposite}
+use Rattle.drain_grid.specs.Extent.{index_of, step}
+use Rattle.drain_grid.specs.Grid.{Grid, IsOpenCell, height_at}
+use Rattle.drain_grid.specs.Path.{CoversGround, Drains, IsPath, NeverRises, Surface}
+use Rattle.drain_grid.proofs.Inflows.{step_back}
+use Rattle.drain_grid.proofs.Lowered.{HasData-path, same_or_not}
+use Rattle.drain_grid.proofs.Neighbors.{AreNeighbors-lies, direction_between, step_gives, step_lies}
+use Rattle.drain_flood.specs.declared.layers.TheConstants.{UNREACHED}
+use Rattle.drain_flood.specs.Floods.{Flooding, con_at, mark_at, HasDescent, IsReachedCell, IsUnreached, Reaches}
+use Rattle.drain_flood.proofs.Reaching.{outlet_reached}
+use Rattle.drain_filled.specs.Sweeps.{HasFloor, IsBetween, IsHeld, IsReachedPair, IsReachedPlace, IsSweepOf}
+
+-- what a surface that covers the ground and drains is at unreached cells
+module _ (g : Grid) (f : Flooding) (level : ℤ) (opened : (c : Cell) → IsOpenCell g c → mark_at g.extent f c ≢ UNREACHED)
+    (between : IsBetween g (con_at g.extent f)) (floor : HasFloor g f level) (t : Surface) (covers : CoversGround g t) (drains : Drains g t) where
+  over_path : (n : Cell) (rest : List Cell) → IsUnreached g f n → IsPath g n rest → NeverRises t n rest → level ≤ℤ t n
+  over_path n [] fresh path never = absurd (opened n path fresh.code)
+  over_path n (m ∷ rest) fresh path never =
+      let at_m = HasData-path g m rest path.2 in
+      let down : t m ≤ℤ t n = never.0 in
+      elim (cases_eq (mark_at g.extent f m) UNREACHED) [
+        | inl code ↦ (let on = over_path m rest (record { here = at_m; code = code }) path.2 never.1 in omega (arith, ints, on, down))
+        | inr code ↦
+            (let way = direction_between n m path.1 in
+            let leads = step_back g n m way.0 fresh.here.inside (step_gives g.extent n m way.0 at_m.inside way.1) in
+            let base = floor m n (opposite way.0) (record { here = at_m; code = code }) fresh leads in
+            let low = between.low t covers drains m at_m in
+            omega (arith, ints, base, low, down))
+      ]
+
+  pub over_level : (n : Cell) → IsUnreached g f n → level ≤ℤ t n
+  over_level n fresh = let way = drains n fresh.here in over_path n way.0 fresh way.1 way.2
+
+not_above : (con own level other : ℤ) → con ≡ int_max own level → own ≤ℤ other → level ≤ℤ other → con ≤ℤ other
+not_above con own level other is low base = omega (arith, ints, clamps)
+
+as_it_was : (con own level other : ℤ) → con ≡ int_max own level → level ≤ℤ own → own ≤ℤ other → con ≤ℤ other
+as_it_was con own level other is most low = omega (arith, ints, clamps)
+
+over_own : (con own level ground : ℤ) → con ≡ int_max own level → ground ≤ℤ own → ground ≤ℤ con
+over_own con own level ground is most = omega (arith, ints, clamps)
+
+over_from : (con own level : ℤ) → con ≡ int_max own level → level ≤ℤ con
+over_from con own level is = omega (arith, ints, clamps)
+
+module _ (g : Grid) (old new : Flooding) (busy : List ℕ) (c n : Cell) (d : Direction) (con : ℤ) (sweep : IsSweepOf g old busy)
+    (from : IsReachedCell g old c) (there : step g.extent c d ≡ Some n) (new_code : mark_at g.extent old n ≡ UNREACHED)
+    (con_is : con ≡ int_max (con_at g.extent old n) (con_at g.extent old c))
+    (may : (con_at g.extent old c ≤ℤ con_at g.extent old n) ⊎ HasFloor g old (con_at g.extent old c))
+    (reaches : Reaches g.extent old new n con) where
+  fresh : IsUnreached g old n
+  fresh = record { here = record { inside = reaches.inside; is_data = sweep.has_data n reaches.inside new_code }; code = new_code }
+
+  -- a cell that was reached isn't the new one
+  other : (b : Cell) → IsReachedCell g old b → b ≢ n
+  other b reached same = reached.code (ap (mark_at g.extent old) same ∙ new_code)
+
+  -- it has what it had
+  con_kept : (b : Cell) → IsReachedCell g old b → con_at g.extent new b ≡ con_at g.extent old b
+  con_kept b reached = reaches.con_same b reached.here.inside (other b reached)
+
+  still_reached : (b : Cell) → IsReachedCell g old b → IsReachedCell g new b
+  still_reached b reached = record {
+    here = reached.here;
+    code = λ h. reached.code (sym (reaches.mark_same b reached.here.inside (other b reached)) ∙ h);
+  }
+
+  -- one that is reached was reached, or is the new one
+  was_reached : (b : Cell) → IsReachedCell g new b → b ≢ n → IsReachedCell g old b
+  was_reached b reached differ = record {
+    here = reached.here;
+    code = λ h. reached.code (reaches.mark_same b reached.here.inside differ ∙ h);
+  }
+
+  -- one that isn't reached wasn't
+  not_new : (b : Cell) → mark_at g.extent new b ≡ UNREACHED → b ≢ n
+  not_new b code same = outlet_reached (mark_at g.extent new n) reaches.mark_there (ap (mark_at g.extent new) (sym same) ∙ code)
+
+  pub was_fresh : (b : Cell) → IsUnreached g new b → IsUnreached g old b
+  was_fresh b left = record { here = left.here; code = sym (reaches.mark_same b left.here.inside (not_new b left.code)) ∙ left.code }
+
+  n_reached : IsReachedCell g new n
+  n_reached = record { here = fresh.here; code = outlet_reached (mark_at g.extent new n) reaches.mark_there }
+
+  new_between : IsBetween g (con_at g.extent new)
+  new_between = record {
+    covers = λ b here. elim (same_or_not b n) [
+      | inl same ↦ subst (λ x. height_at g x ≤ℤ con_at g.extent new x) (sym same)
+          (subst (λ z. height_at g n ≤ℤ z) (sym reaches.con_there)
+          (over_own con (con_at g.extent old n) (con_at g.extent old c) (height_at g n) con_is (sweep.between.covers n fresh.here)))
+      | inr differ ↦ subst (λ z. height_at g b ≤ℤ z) (sym (reaches.con_same b here.inside differ)) (sweep.between.covers b here)
+    ];
+    low = λ t covers drains b here. elim (same_or_not b n) [
+      | inl same ↦ subst (λ x. con_at g.extent new x ≤ℤ t x) (sym same)
+          (subst (λ z. z ≤ℤ t n) (sym reaches.con_there)
+          (let own = sweep.between.low t covers drains n fresh.here in
+          elim may [
+            | inl down ↦ as_it_was con (con_at g.extent old n) (con_at g.extent old c) (t n) con_is down own
+            | inr floor ↦ not_above con (con_at g.extent old n) (con_at g.extent old c) (t n) con_is own
+                (over_level g old (con_at g.extent old c) sweep.opened sweep.between floor t covers drains n fresh)
+          ]))
+      | inr differ ↦ subst (λ z. z ≤ℤ t b) (sym (reaches.con_same b here.inside differ)) (sweep.between.low t covers drains b here)
+    ];
+  }
+
+  -- along a path of reached cells nothing changed
+  still_falls : (b : Cell) (rest : List Cell) → IsReachedCell g old b → IsPath g b rest → AllByRecursion (λ x. mark_at g.extent old x ≢ UNREACHED) rest →
+      NeverRises (con_at g.extent old) b rest →
+      NeverRises (con_at g.extent new) b rest × AllByRecursion (λ x. mark_at g.extent new x ≢ UNREACHED) rest
+  still_falls b [] at path reached falls = (tt, tt)
+  still_falls b (m ∷ rest) at path reached falls =
+      let at_m : IsReachedCell g old m = record { here = HasData-path g m rest path.2; code = reached.0 } in
+      let onward = still_falls m rest at_m path.2 reached.1 falls.1 in (
+        (
+          subst (λ z. con_at g.extent new m ≤ℤ z) (sym (con_kept b at)) (subst (λ z. z ≤ℤ con_at g.extent old b) (sym (con_kept m at_m)) falls.0),
+          onward.0,
+        ),
+        ((still_reached m at_m).code, onward.1),
+      )
+
+  kept_descent : (b : Cell) → IsReachedCell g old b → HasDescent g old b → HasDescent g new b
+  kept_descent b at way =
+      let still = still_falls b way.rest at way.path way.reached way.falls in
+      record { rest = way.rest; path = way.path; falls = still.0; reached = still.1 }
+
+  -- the new cell's path goes on from the cell from which it was reached
+  descent_of_n : HasDescent g new n
+  descent_of_n =
+      let way = kept_descent c from (sweep.drains c from) in
+      let lies = step_lies g.extent n c (opposite d) (step_back g c n d from.here.inside there) in
+      let down : con_at g.extent new c ≤ℤ con_at g.extent new n =
+      subst (λ z. z ≤ℤ con_at g.extent new n) (sym (con_kept c from))
+      (subst (λ z. con_at g.extent old c ≤ℤ z) (sym reaches.con_there) (over_from con (con_at g.extent old n) (con_at g.extent old c) con_is)) in
+      record {
+        rest = c ∷ way.rest;
+        path = (fresh.here, AreNeighbors-lies n c (opposite d) lies.1, way.path);
+        falls = (down, way.falls);
+        reached = ((still_reached c from).code, way.reached);
+      }
+
+  -- the new cell is on the trail, and each that was held still is
+  still_held : (b : Cell) → IsReachedCell g old b → IsHeld g.extent old busy b → IsHeld g.extent new busy b
+  still_held b at (inl is_busy) = inl is_busy
+  still_held b at (inr (inl on)) =
+      inr (inl (subst (λ xs. Contains xs (index_of g.extent b)) (sym reaches.ahead) (Contains-append_left old.ahead (index_of g.extent n ∷ []) (index_of g.extent b) on)))
+  still_held b at (inr (inr waits)) =
+      inr (inr (subst (λ xs. Contains xs (con_at g.extent new b, index_of g.extent b)) (sym reaches.waiting)
+      (subst (λ z. Contains old.waiting (z, index_of g.extent b)) (sym (con_kept b at)) waits)))
+
+  still_place : (place : ℕ) → IsReachedPlace g old place → IsReachedPlace g new place
+  still_place place is = record { cell = is.cell; reached = still_reached is.cell is.reached; place_is = is.place_is }
+
+  still_pair : (pair : ℤ × ℕ) → IsReachedPair g old pair → IsReachedPair g new pair
+  still_pair pair is = record {
+    cell = is.cell;
+    reached = still_reached is.cell is.reached;
+    place_is = is.place_is;
+    height = con_kept is.cell is.reached ∙ is.height;
+  }
+
+  pub kept_by_reaching : IsSweepOf g new busy
+  kept_by_reaching = record {
+    has_data = λ b inside code. sweep.has_data b inside (sym (reaches.mark_same b inside (not_new b code)) ∙ code);
+    opened = λ b is_open code. sweep.opened b is_open (sym (reaches.mark_same b is_open.0 (not_new b code)) ∙ code);
+    between = new_between;
+    drains = λ b reached. elim (same_or_not b n) [
+      | inl same ↦ subst (HasDescent g new) (sym same) descent_of_n
+      | inr differ ↦ (let was = was_reached b reached differ in kept_descent b was (sweep.drains b was))
+    ];
+    held = λ a b way at_a at_b leads. elim (same_or_not a n) [
+      | inl same ↦ inr (inl (subst (λ x. Contains new.ahead (index_of g.extent x)) (sym same)
+          (subst (λ xs. Contains xs (index_of g.extent n)) (sym reaches.ahead) (Contains-push old.ahead (index_of g.extent n)))))
+      | inr differ ↦ (let was = was_reached a at_a differ in still_held a was (sweep.held a b way was (was_fresh b at_b) leads))
+    ];
+    busy_places = All-weaker (IsReachedPlace g old) (IsReachedPlace g new) still_place busy sweep.busy_places;
+    ahead = subst (All (IsReachedPlace g new)) (sym reaches.ahead)
+        (All-push (IsReachedPlace g new) old.ahead (index_of g.extent n)
+        (All-weaker (IsReachedPlace g old) (IsReachedPlace g new) still_place old.ahead sweep.ahead)
+        (record { cell = n; reached = n_reached; place_is = refl }));
+    waiting = subst (All (IsReachedPair g new)) (sym reaches.waiting)
+        (All-weaker (IsReachedPair g old) (IsReachedPair g new) still_pair old.waiting sweep.waiting);
+  }
+
+  -- a floor stays one
+  pub floor_kept : (level : ℤ) → level ≡ con_at g.extent old c → HasFloor g old level → HasFloor g new level
+  floor_kept level is floor a b way at_a at_b leads = elim (same_or_not a n) [
+    | inl same ↦ subst (λ x. level ≤ℤ con_at g.extent new x) (sym same)
+        (subst (λ z. level ≤ℤ z) (sym reaches.con_there)
+        (subst (λ z. z ≤ℤ con) (sym is) (over_from con (con_at g.extent old n) (con_at g.extent old c) con_is)))
+    | inr differ ↦ (let was = was_reached a at_a differ in
+        subst (λ z. level ≤ℤ z) (sym (con_kept a was)) (floor a b way was (was_fresh b at_b) leads))
+  ]
+
+  -- the cell from which it was reached still is, and has its height
+  pub from_kept : IsReachedCell g new c × (con_at g.extent new c ≡ con_at g.extent old c)
+  from_kept = (still_reached c from, con_kept c from)

@@ -1,0 +1,13 @@
+-- The cells so far are reached if they are open.
+use Rattle.std.proofs.Common.{◌≡◌, pos, slice_index_or}
+use Rattle.drain_grid.specs.Extent.{index_of}
+use Rattle.drain_grid.specs.Grid.{Grid}
+use Rattle.drain_filled.specs.Grounds.{HasDataCells}
+use Rattle.drain_filled.specs.Sweeps.{IsBegun, IsBetween}
+use Rattle.drain_filled.proofs.sweep.Sweep.start.Given as goal
+
+abbrev pub invariant-loop-place : goal.invariant-loop-place
+invariant-loop-place l = record {
+  extent : l.sweep.extent ≡ l.ground.extent;
+  begun : (g : Grid) → HasDataCells g l.ground l.sinks → IsBetween g (λ c. slice_index_or l.heights (index_of l.ground.extent c) (pos 0)) → IsBegun g l.sweep l.place;
+}

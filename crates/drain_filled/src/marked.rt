@@ -1,0 +1,96 @@
+//! The filled surface of a ground with the marks of its cells, from which ways are found.
+
+ghost use Rattle.std.specs.Prelude.{◌≡◌, ◌*◌, ◌<◌, ℕ, IfOk, IsNone, length, pos, slice_index_or};
+ghost use Rattle.drain_grid.specs.declared.cell.Cell.{Cell};
+ghost use Rattle.drain_grid.specs.Extent.{IsCellOf, index_of};
+ghost use Rattle.drain_grid.specs.Grid.{Grid, IsInside, height_at};
+ghost use Rattle.drain_grid.specs.Values.{IsPixel};
+ghost use Rattle.drain_flood.specs.Floods.{IsSurfaceOf, con_at};
+ghost use Rattle.drain_filled.specs.Compared.{HasHeights};
+ghost use Rattle.drain_filled.specs.Grounds.{ArePixelHeights, HasDataCells, IsMarkAt, IsVoided};
+
+use crate::ground::Ground;
+use crate::spread::fill;
+use drain_flood::layers::{OPEN, REACHED, UNREACHED, VOID};
+use drain_flood::{Surface, WideHeights};
+use drain_grid::values::{GREATEST_PIXEL, LEAST_PIXEL};
+use drain_grid::{Cell, OutOfMemory, Sinks};
+use std::alloc::Global;
+
+/// The filled surface of a ground, with this number at each void.
+///
+/// Elevations are in row order, one for each cell, and play no part where the ground has no data. `OutOfMemory` if memory
+/// was refused.
+pub fn filled_surface(
+    alloc: Global,
+    ground: &Ground,
+    elevation: &[i64],
+    sinks: &Sinks,
+    void: i64,
+) -> Result<Surface<WideHeights>, OutOfMemory>
+    requires elevation_counted { length elevation.now ≡ ground.now.extent.rows * ground.now.extent.cols }
+    requires void { IsPixel void }
+    ensures extent { IfOk result (λ surface. surface.extent ≡ ground.now.extent) }
+    ensures surface { IfOk result (λ surface. (g : Grid) → HasDataCells g ground.now sinks.now → HasHeights g (height_at g) elevation.now → ArePixelHeights g → IsSurfaceOf g surface) }
+    ensures voids { IfOk result (λ surface. (g : Grid) → HasDataCells g ground.now sinks.now → (c : Cell) → IsInside g c → IsNone (g.elevation c) → con_at g.extent surface c ≡ void) }
+{
+    let shape = ground.shape();
+    let _cells = shape.cells();
+    let marks = marks_of(alloc, ground, sinks)?;
+    let mut con = fill(alloc, ground, elevation, sinks)?;
+    put_voids(ground, void, &mut con);
+    Ok(Surface::new(shape, WideHeights::new(con), marks))
+}
+
+/// The mark of each cell, in row order: of an open cell, of a closed one, or of a void.
+fn marks_of(alloc: Global, ground: &Ground, sinks: &Sinks) -> Result<Vec<u8>, OutOfMemory>
+    ensures counted { IfOk result (λ marks. length marks.items ≡ ground.now.extent.rows * ground.now.extent.cols) }
+    ensures marks { IfOk result (λ marks. (g : Grid) → HasDataCells g ground.now sinks.now → (c : Cell) → IsInside g c → IsMarkAt g c (slice_index_or marks.items (index_of g.extent c) 0)) }
+{
+    let shape = ground.shape();
+    let mut marks = Vec::with_capacity(alloc, shape.cells())?;
+    for place in 0..shape.cells() {
+        marks.push(mark_of(ground, sinks, shape.cell(place)))?;
+    }
+    Ok(marks)
+}
+
+/// The mark of a cell.
+fn mark_of(ground: &Ground, sinks: &Sinks, cell: Cell) -> u8
+    requires inside { IsCellOf ground.now.extent cell }
+    ensures mark { (g : Grid) → HasDataCells g ground.now sinks.now → IsMarkAt g cell result }
+{
+    if !ground.has_data(cell) {
+        return VOID;
+    }
+    if ground.is_open(sinks, cell) {
+        OPEN
+    } else {
+        REACHED
+    }
+}
+
+/// Puts this number at each cell without data. Heights that are pixels stay.
+fn put_voids(ground: &Ground, void: i64, con: &mut Vec<i64>)
+    requires counted { length con.old.items ≡ ground.now.extent.rows * ground.now.extent.cols }
+    requires void { IsPixel void }
+    ensures len { length con.new.items ≡ length con.old.items }
+    ensures each { (k : ℕ) → k < length con.old.items → IsVoided void (slice_index_or ground.now.marks k 0) (slice_index_or con.old.items k (pos 0)) (slice_index_or con.new.items k (pos 0)) }
+{
+    let marks = ground.marks();
+    for place in 0..con.len() {
+        con[place] = voided(void, marks[place], con[place]);
+    }
+}
+
+/// The height where there is data, else this number.
+fn voided(void: i64, mark: u8, height: i64) -> i64
+    requires { IsPixel void }
+    ensures { IsVoided void mark height result }
+{
+    if mark == UNREACHED {
+        height.clamp(LEAST_PIXEL, GREATEST_PIXEL)
+    } else {
+        void
+    }
+}

@@ -1,0 +1,34 @@
+use Rattle.std.proofs.Common.{Ok, Err, refl, subst}
+use Rattle.drain_header.specs.Header.{Fields}
+use Rattle.drain_verdict.specs.DemGround.{AreHeadersKept, DemTakesAtMost, DemUses, dem_audit_devices}
+use Rattle.drain_verdict.specs.Inputs.{as_five}
+use Rattle.drain_verdict.proofs.DemAnswers.{dem_four_used, header_answer, header_reads_none, refused_text}
+use Rattle.drain_verdict.proofs.DemSteps.{dem_takes_none}
+use Rattle.drain_verdict.proofs.InputLemmas.{set_uses_none}
+use Rattle.drain_maker.specs.declared.derivation.Derived.{Derived}
+use Rattle.drain_maker.specs.Derived.{reading_in}
+use Rattle.drain_maker.proofs.DerivedRasters.{same_reading}
+use Rattle.drain_maker.proofs.derivation.derive_dem.Goals as goal
+
+pub returns-in-Err-clause-err : goal.returns-in-Err-clause-err
+returns-in-Err-clause-err g c = λ d t tell told. header_answer d t c.in-Err.refusal (refused_text g.R.ByteSource.bytes_left c.args.dem.now _ d c.in-Err.refusal tell c.in-Err.ensures.refusal)
+
+pub returns-in-Err-clause-uses : goal.returns-in-Err-clause-uses
+returns-in-Err-clause-uses g c =
+    let bl = g.R.ByteSource.bytes_left in
+    let ct = g.R.ByteSource.counts in
+    set_uses_none as_five dem_audit_devices (DemTakesAtMost bl) AreHeadersKept bl ct c.args.dem.now c.args.products.now (Err c.in-Err.refusal) (dem_takes_none bl ct c.args.dem.now) refl
+    (header_reads_none _ _ c.in-Err.ensures.refusal)
+
+pub returns-in-Ok-derive_on-clause-uses : goal.returns-in-Ok-derive_on-clause-uses
+returns-in-Ok-derive_on-clause-uses g c =
+    let uses = c.in-Ok-derive_on.ensures.uses in
+    dem_four_used g.R.ByteSource.bytes_left g.R.ByteSource.counts (c.args.dem.now, c.args.products.now) (c.derive_on.new.inputs, c.derive_on.new.products) (Ok tt) (Ok tt) (λ h. h, λ h. h) tt uses
+
+pub returns-in-Err-derive_on-clause-uses : goal.returns-in-Err-derive_on-clause-uses
+returns-in-Err-derive_on-clause-uses g c =
+    let uses = c.in-Err-derive_on.ensures.uses in
+    let why = c.in-Err-derive_on.why in
+    subst (DemUses as_five dem_audit_devices g.R.ByteSource.bytes_left g.R.ByteSource.counts (c.args.dem.now, c.args.products.now) (c.derive_on.new.inputs, c.derive_on.new.products)) (same_reading Derived (Fields × Derived) why)
+    (dem_four_used g.R.ByteSource.bytes_left g.R.ByteSource.counts (c.args.dem.now, c.args.products.now) (c.derive_on.new.inputs, c.derive_on.new.products) (reading_in {T = Derived} (Err why)) (reading_in {T = Derived} (Err why)) (λ h. h, λ h. h)
+    uses.untouched uses)

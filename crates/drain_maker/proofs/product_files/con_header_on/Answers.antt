@@ -1,0 +1,29 @@
+use Rattle.std.proofs.Common.{rules, ◌*◌, ◌/◌, ◌≤◌, arith, sym, ap, subst, ◌∙◌, w64}
+use Rattle.std.proofs.lemmas.Int.{to_z-of_z}
+use Rattle.drain_grid.specs.Values.{IsNoData}
+use Rattle.drain_maker.specs.ProductFiles.{con_no_data}
+use Rattle.drain_maker.proofs.HeaderBounds.{con_number, packed_fits, packed_holds}
+use Rattle.drain_maker.proofs.product_files.con_header_on.Goals as goal
+
+pub invariant_of-result : goal.invariant_of-result
+invariant_of-result c =
+    let h = c.elevations.inside in
+    let within = c.elevations.invariant in
+    let bytes = c.from.ensures in
+    record {
+      some_row = within.some_row;
+      rows_fit = within.rows_fit;
+      some_col = within.some_col;
+      cols_fit = within.cols_fit;
+      bits_ok = within.bits_ok;
+      skip_fits = omega arith;
+      row_bytes_fit = subst (λ n. h.cols * n ≤ 4294967295) (sym bytes) (packed_fits h.bits h.cols within.bits_ok within.cols_fit);
+      row_holds = subst (λ n. h.cols * h.bits / 8 ≤ h.cols * n) (sym bytes) (packed_holds h.bits h.cols within.bits_ok);
+      ulx_ok = within.ulx_ok;
+      uly_ok = within.uly_ok;
+      xdim_ok = within.xdim_ok;
+      ydim_ok = within.ydim_ok;
+      nodata_ok =
+          subst (λ z. ∥ IsNoData z ∥₁) (sym (to_z-of_z w64 c.con_no_data.result (search rules) ∙ c.con_no_data.ensures ∙ ap con_no_data (sym c.elevations.view_is)))
+          (con_number h.nodata within.nodata_ok);
+    }

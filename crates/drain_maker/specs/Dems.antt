@@ -1,0 +1,64 @@
+-- A raster of elevations in memory: the grid that it means, and what is said of listed sinks.
+use Rattle.std.specs.Prelude.{◌≡◌, ℕ, ℤ, ◌&&◌, nat_lt, is_some, Bool, List, Option, Some, IsSome, Result, Ok, Err}
+use Rattle.drain_grid.specs.declared.cell.Cell.{Cell}
+use Rattle.drain_grid.specs.declared.product_set.ProductSet.{ProductSet}
+use Rattle.drain_grid.specs.declared.sink_line.SinkLine.{SinkLine}
+use Rattle.drain_grid.specs.Extent.{IsCellOf}
+use Rattle.drain_grid.specs.Grid.{Grid, HasData, Pixels, height_at}
+use Rattle.drain_grid.specs.OffData.{IsFirstOffData, IsOffData}
+use Rattle.drain_grid.specs.SinkTexts.{is_listed}
+use Rattle.drain_grid.specs.Values.{IsPixel}
+use Rattle.drain_grid.specs.WholeGrid.{number_at}
+use Rattle.drain_flood.specs.declared.layers.TheConstants.{UNREACHED}
+use Rattle.drain_filled.specs.Grounds.{DataCells, data_mark}
+use Rattle.drain_pixels.specs.Ground.{height_with}
+use Rattle.drain_maker.specs.declared.maker.MakeRefusal.{MakeRefusal}
+use Rattle.drain_maker.specs.declared.maker.MakeRefusal.TheVariants.{MakerFault, OutOfMemory, SinkNotData}
+
+-- the elevation of a cell: its number, none where that is the raster's no-data number
+abbrev pub dem_elevation : Pixels → Cell → Option ℤ
+dem_elevation p c = height_with (Some p.nodata) (number_at p c)
+
+-- the grid of these elevations, whose sinks the lines list
+abbrev pub dem_grid : Pixels → List SinkLine → Grid
+dem_grid p sinks = record { extent = p.extent; elevation = dem_elevation p; sink = is_listed sinks }
+
+-- the cell lies in the raster, and has an elevation
+abbrev pub has_elevation : Pixels → Cell → Bool
+has_elevation p c = nat_lt c.row p.extent.rows && (nat_lt c.col p.extent.cols && is_some (dem_elevation p c))
+
+-- each listed cell has data
+abbrev pub AreOnDemData : Pixels → List SinkLine → Type 0
+AreOnDemData p sinks = (line : ℕ) → ¬ IsOffData (dem_grid p sinks) sinks line
+
+-- products come only if each listed cell has data, else the first line whose cell has none is reported; a fault of the
+-- maker never comes
+abbrev pub IsDemSinkAnswer : Pixels → List SinkLine → Result ProductSet MakeRefusal → Type 0
+IsDemSinkAnswer p sinks (Ok ps) = AreOnDemData p sinks
+IsDemSinkAnswer p sinks (Err MakerFault) = ⊥
+IsDemSinkAnswer p sinks (Err OutOfMemory) = Unit {0}
+IsDemSinkAnswer p sinks (Err (SinkNotData line)) = IsFirstOffData (dem_grid p sinks) sinks line
+
+-- where each listed cell has data, there are products, unless memory runs out
+abbrev pub DemSucceeds : Pixels → List SinkLine → Result ProductSet MakeRefusal → Type 0
+DemSucceeds p sinks (Ok ps) = Unit {0}
+DemSucceeds p sinks (Err refusal) = AreOnDemData p sinks → refusal ≡ OutOfMemory
+
+-- the mark of a cell tells whether it has an elevation
+pub record IsMarkedBy (p : Pixels) (c : Cell) (mark : ℕ) : Type 0 where
+  pub some : (IsSome (dem_elevation p c)) → mark ≡ UNREACHED
+  pub none : mark ≡ UNREACHED → IsSome (dem_elevation p c)
+
+-- the number of a cell, which some pixel encodes
+pub record IsHeightAt (p : Pixels) (c : Cell) (height : ℤ) : Type 0 where
+  pub is : height ≡ number_at p c
+  pub pixel : IsPixel height
+
+-- a mark for each cell of a raster
+pub record MarksDem (p : Pixels) (w : DataCells) : Type 0 where
+  pub extent : w.extent ≡ p.extent
+  pub marks : (c : Cell) → IsCellOf p.extent c → IsMarkedBy p c (data_mark w c)
+
+-- each conditioned elevation is the elevation of some cell
+abbrev pub AreOfGround : Grid → (Cell → ℤ) → Type 0
+AreOfGround g con = (c : Cell) → HasData g c → (n : Cell) × HasData g n × (con c ≡ height_at g n)

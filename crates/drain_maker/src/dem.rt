@@ -1,0 +1,216 @@
+//! Making products of one raster of elevations of any shape: correct by proof.
+
+ghost use Rattle.std.specs.Prelude.{◌≡◌, ◌*◌, IfOk, length, pos, slice_index_or};
+ghost use Rattle.drain_grid.specs.Correct.{IsCorrect, RunsAreSound};
+ghost use Rattle.drain_grid.specs.declared.cell.Cell.{Cell};
+ghost use Rattle.drain_grid.specs.Extent.{IsCellOf, index_of};
+ghost use Rattle.drain_grid.specs.GridRules.{RulesHold};
+ghost use Rattle.drain_grid.specs.PatchRules.{check_rules};
+ghost use Rattle.drain_grid.specs.Rule.{IsAnyRule};
+ghost use Rattle.drain_grid.specs.Values.{IsNoData, IsPixel};
+ghost use Rattle.drain_grid.specs.Grid.{ArePixels};
+ghost use Rattle.drain_grid.specs.WholeGrid.{nodata_of, number_at, products_of};
+ghost use Rattle.drain_flood.specs.Floods.{IsSurfaceOf, ShowsVoids};
+ghost use Rattle.drain_maker.specs.Dems.{AreOfGround, DemSucceeds, IsDemSinkAnswer, IsHeightAt, IsMarkedBy, MarksDem, dem_elevation, dem_grid};
+ghost use Rattle.drain_maker.specs.Made.{AreRasters, AreRightProducts, made_numbers};
+
+use crate::follow::{Follow, Part};
+use crate::maker::MakeRefusal;
+use crate::products::{count_and_label, raster_of_codes, raster_of_counts, route};
+use drain_filled::{Ground, filled_surface};
+use drain_flood::exact_ways::exact_directions;
+use drain_flood::layers::{UNREACHED, VOID};
+use drain_flood::{Surface, WideHeights};
+use drain_grid::laws::found_off_data_is_right;
+use drain_grid::values::{GREATEST_PIXEL, LEAST_PIXEL};
+use drain_grid::{
+    Cell, OutOfMemory, Product, ProductSet, Raster, Shape, SinkData, Sinks, first_off_data,
+};
+use std::alloc::Global;
+
+/// A raster of elevations as what says whether a listed sink has data.
+#[derive(Drop)]
+struct DemCells<'a> {
+    dem: &'a Raster,
+}
+
+impl<'a> SinkData for DemCells<'a> {
+    ghost use Rattle.drain_maker.specs.Dems.{has_elevation};
+
+    ghost has = { λ cells. has_elevation cells.dem.now };
+
+    fn has_data(&self, cell: Cell) -> bool {
+        let shape = self.dem.shape();
+        cell.row < shape.rows() && cell.col < shape.cols() && elevation(self.dem, cell).is_some()
+    }
+}
+
+/// The elevation of a cell, none where its number is the raster's no-data number.
+fn elevation(dem: &Raster, cell: Cell) -> Option<i64>
+    requires { IsCellOf dem.now.extent cell }
+    ensures { result ≡ dem_elevation dem.now cell }
+{
+    let number = dem.value(cell);
+    if number == dem.nodata() {
+        None
+    } else {
+        Some(number)
+    }
+}
+
+/// The products of a raster of elevations with these sinks. Their no-data numbers are the default ones, but that of con,
+/// which is the raster's.
+///
+/// A cell's elevation is its number, a whole number in any unit; it is void where that is the raster's no-data number. So
+/// where no cell is to be void, that number is one that no pixel encodes. `SinkNotData` has the least line that lists a
+/// cell without data, and comes before all else. `OutOfMemory` comes if memory was refused. There is no other refusal.
+pub fn make_dem(
+    alloc: Global,
+    dem: &Raster,
+    sinks: &Sinks,
+    follow: &mut impl Follow,
+) -> Result<ProductSet, MakeRefusal>
+    ensures shape { IfOk result (λ products. products.con.extent ≡ dem.now.extent) }
+    ensures nodata { IfOk result (λ products. nodata_of products ≡ made_numbers dem.now.nodata) }
+    ensures rules { IfOk result (λ products. RulesHold (check_rules (made_numbers dem.now.nodata)) IsAnyRule (dem_grid dem.now sinks.now) (products_of products)) }
+    ensures rasters { IfOk result AreRasters }
+
+    // Each conditioned elevation is the elevation of some cell: so con's no-data number is at voids alone, and whatever
+    // encodes the elevations encodes con.
+    ensures ground { IfOk result (λ products. AreOfGround (dem_grid dem.now sinks.now) (number_at products.con)) }
+
+    // Every listed cell has data, or the first line whose cell has none is reported.
+    ensures sinks { IsDemSinkAnswer dem.now sinks.now result }
+
+    // Where every listed cell has data, there are products, unless memory runs out.
+    ensures succeeds { DemSucceeds dem.now sinks.now result }
+
+    // What every rule at every cell means: the products are correct, and every run is sound.
+    ensures correct { IfOk result (λ products. IsCorrect (dem_grid dem.now sinks.now) (products_of products) (made_numbers dem.now.nodata)) }
+    ensures runs { IfOk result (λ products. RunsAreSound (dem_grid dem.now sinks.now) (products_of products)) }
+{
+    // The law that the first listed cell without data is the grid's.
+    found_off_data_is_right();
+    if let Some(line) = first_off_data(sinks, &DemCells { dem }) {
+        return Err(MakeRefusal::SinkNotData(line));
+    }
+    match build_dem(alloc, dem, sinks, follow) {
+        Ok(products) => Ok(products),
+        Err(OutOfMemory) => Err(MakeRefusal::OutOfMemory),
+    }
+}
+
+/// The products.
+fn build_dem(
+    alloc: Global,
+    dem: &Raster,
+    sinks: &Sinks,
+    follow: &mut impl Follow,
+) -> Result<ProductSet, OutOfMemory>
+    ensures shape { IfOk result (λ products. products.con.extent ≡ dem.now.extent) }
+    ensures nodata { IfOk result (λ products. nodata_of products ≡ made_numbers dem.now.nodata) }
+    ensures right { IfOk result (λ products. AreRightProducts (dem_grid dem.now sinks.now) (made_numbers dem.now.nodata) (products_of products)) }
+    ensures rasters { IfOk result AreRasters }
+    ensures ground { IfOk result (λ products. AreOfGround (dem_grid dem.now sinks.now) (number_at products.con)) }
+{
+    follow.begin(Part::Surface);
+    let shape = dem.shape();
+    let nodata = dem.nodata();
+    let _cells = shape.cells();
+    let surface = surface_of(alloc, dem, sinks)?;
+    follow.begin(Part::Directions);
+    let codes = exact_directions(alloc, &surface)?;
+    let routes = route(alloc, surface, codes)?;
+    let both = count_and_label(alloc, &routes.dir, shape, follow)?;
+    Ok(ProductSet {
+        con: raster_of_numbers(shape, nodata, routes.con),
+        dir: raster_of_codes(shape, Product::Dir, routes.dir),
+        acc: raster_of_counts(shape, Product::Acc, both.counts),
+        bas: raster_of_counts(shape, Product::Bas, both.labels),
+        rnk: raster_of_counts(shape, Product::Rnk, routes.rnk),
+    })
+}
+
+/// The raster of conditioned elevations.
+fn raster_of_numbers(shape: Shape, nodata: i64, numbers: WideHeights) -> Raster
+    requires counted { length numbers ≡ shape.rows * shape.cols }
+    requires nodata { IsNoData nodata }
+    ensures is { result ≡ record { extent = shape; nodata = nodata; numbers = numbers } }
+    ensures pixels { ArePixels result }
+{
+    Raster::new(shape, nodata, numbers.into_numbers())
+}
+
+/// The filled surface of a raster of elevations, with its no-data number at voids.
+fn surface_of(
+    alloc: Global,
+    dem: &Raster,
+    sinks: &Sinks,
+) -> Result<Surface<WideHeights>, OutOfMemory>
+    ensures extent { IfOk result (λ surface. surface.extent ≡ dem.now.extent) }
+    ensures surface { IfOk result (IsSurfaceOf (dem_grid dem.now sinks.now)) }
+    ensures voids { IfOk result (λ surface. ShowsVoids (dem_grid dem.now sinks.now) surface dem.now.nodata) }
+{
+    let ground = ground_of(alloc, dem)?;
+    let heights = heights_of(alloc, dem)?;
+    filled_surface(
+        alloc,
+        &ground,
+        heights.as_slice(),
+        sinks,
+        void_number(dem.nodata()),
+    )
+}
+
+/// Which cells of a raster of elevations have data.
+fn ground_of(alloc: Global, dem: &Raster) -> Result<Ground, OutOfMemory>
+    ensures { IfOk result (MarksDem dem.now) }
+{
+    let shape = dem.shape();
+    let mut marks = Vec::with_capacity(alloc, shape.cells())?;
+    for place in 0..shape.cells() {
+        marks.push(mark_of(dem, shape.cell(place)))?;
+    }
+    Ok(Ground::new(shape, marks))
+}
+
+/// The mark of a cell.
+fn mark_of(dem: &Raster, cell: Cell) -> u8
+    requires { IsCellOf dem.now.extent cell }
+    ensures { IsMarkedBy dem.now cell result }
+{
+    if elevation(dem, cell).is_some() {
+        UNREACHED
+    } else {
+        VOID
+    }
+}
+
+/// The numbers of all cells, in row order.
+fn heights_of(alloc: Global, dem: &Raster) -> Result<Vec<i64>, OutOfMemory>
+    ensures counted { IfOk result (λ heights. length heights.items ≡ dem.now.extent.rows * dem.now.extent.cols) }
+    ensures heights { IfOk result (λ heights. (c : Cell) → IsCellOf dem.now.extent c → IsHeightAt dem.now c (slice_index_or heights.items (index_of dem.now.extent c) (pos 0))) }
+{
+    let shape = dem.shape();
+    let mut heights = Vec::with_capacity(alloc, shape.cells())?;
+    for place in 0..shape.cells() {
+        heights.push(height_at(dem, shape.cell(place)))?;
+    }
+    Ok(heights)
+}
+
+/// The number of a cell.
+fn height_at(dem: &Raster, cell: Cell) -> i64
+    requires { IsCellOf dem.now.extent cell }
+    ensures { IsHeightAt dem.now cell result }
+{
+    dem.value(cell)
+}
+
+/// A no-data number that some pixel encodes; any other becomes some pixel's number.
+fn void_number(nodata: i64) -> i64
+    ensures pixel { IsPixel result }
+    ensures same { IsPixel nodata → result ≡ nodata }
+{
+    nodata.clamp(LEAST_PIXEL, GREATEST_PIXEL)
+}

@@ -1,0 +1,115 @@
+//! A row of elevations, in memory that is used again for the next row.
+
+ghost use Rattle.std.specs.Prelude.{◌≡◌, ◌<◌, All, IfSome, None, [], length, slice_index_or};
+ghost use Rattle.drain_grid.specs.Values.{IsPixel};
+ghost use Rattle.drain_pixels.specs.Ground.{elevations, height_with};
+ghost use Rattle.drain_pixels.specs.Stored.{numbers_in};
+
+use crate::pixel_row::{PixelKind, PixelRow};
+use crate::stored::Pixels;
+use std::alloc::Global;
+use std::marker::Model;
+use std::mem::replace;
+
+/// A row of elevations: numbers, one of which may mean a void. Its model is the list of elevations, none at a void.
+#[derive(Drop)]
+pub struct GroundRow {
+    numbers: PixelRow,
+    void: Option<i64>,
+}
+
+impl Model for GroundRow {
+    ghost use Rattle.std.specs.Prelude.{ℤ, List, Option};
+    ghost use Rattle.drain_pixels.specs.Ground.{elevations};
+
+    ghost Value = { List (Option ℤ) };
+
+    ghost view = { λ row. elevations row.void row.numbers };
+}
+
+impl GroundRow {
+    /// No elevations. It takes no memory.
+    pub fn new(alloc: Global) -> GroundRow
+        ensures { result ≡ [] }
+    {
+        GroundRow {
+            numbers: PixelRow::new(alloc),
+            void: None,
+        }
+    }
+
+    /// How many elevations there are.
+    pub fn len(&self) -> usize
+        ensures { result ≡ length self.now }
+    {
+        self.numbers.len()
+    }
+
+    /// The elevation at a column, none at a void.
+    #[inline(always)]
+    pub fn z(&self, k: usize) -> Option<i64>
+        requires { k < length self.now }
+        ensures { result ≡ slice_index_or self.now k None }
+    {
+        height_with(self.void, self.numbers.number_soonest(PixelKind::Any, k))
+    }
+
+    /// The number that means a void, if any does, and the numbers, for a loop over all of them.
+    #[inline(always)]
+    pub fn parts(&self) -> (Option<i64>, Pixels<'_>)
+        ensures { elevations result.0 (numbers_in result.1) ≡ self.now }
+    {
+        (self.void, self.numbers.pixels())
+    }
+
+    /// Forgets the elevations, and keeps the memory.
+    pub fn clear(&mut self)
+        ensures { self.new ≡ [] }
+    {
+        self.numbers.clear();
+    }
+
+    /// The memory for numbers, to be filled and put back. Until then there are no elevations.
+    pub fn take_numbers(&mut self) -> Vec<i64>
+        ensures { self.new ≡ [] }
+    {
+        self.numbers.take_numbers()
+    }
+
+    /// Replaces the elevations by those of these numbers, of which this one, if any, means a void.
+    pub fn put_numbers(&mut self, void: Option<i64>, numbers: Vec<i64>)
+        ensures elevations { self.new ≡ elevations void numbers.items }
+        ensures pixels { All IsPixel numbers.items → All (λ z. IfSome z IsPixel) self.new }
+    {
+        self.void = void;
+        self.numbers.put_numbers(numbers);
+    }
+
+    /// The memory for pixels, to be filled and put back. Until then there are no elevations.
+    pub fn take_pixels(&mut self) -> PixelRow
+        ensures { self.new ≡ [] }
+    {
+        let alloc = self.numbers.alloc();
+        replace(&mut self.numbers, PixelRow::new(alloc))
+    }
+
+    /// Replaces the elevations by those of these pixels, of which this number, if any, means a void.
+    pub fn put_pixels(&mut self, void: Option<i64>, pixels: PixelRow)
+        ensures elevations { self.new ≡ elevations void pixels }
+        ensures pixels { All IsPixel pixels → All (λ z. IfSome z IsPixel) self.new }
+    {
+        self.void = void;
+        self.numbers = pixels;
+    }
+}
+
+/// The elevation of a number, none for that of a void.
+#[inline(always)]
+pub fn height_with(void: Option<i64>, number: i64) -> Option<i64>
+    ensures { result ≡ height_with void number }
+{
+    match void {
+        Some(void) if number == void => None,
+        _ => Some(number),
+    }
+}

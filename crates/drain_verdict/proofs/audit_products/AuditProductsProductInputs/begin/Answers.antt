@@ -1,0 +1,25 @@
+use Rattle.std.proofs.Common.{◌≡◌, refl, subst}
+use Rattle.drain_device.specs.Failing.{full_patience}
+use Rattle.drain_device.specs.declared.row_source.Progress.TheVariants.{Going}
+use Rattle.drain_grid.specs.declared.set_product.SetProduct.TheVariants.{Con, Rnk}
+use Rattle.drain_grid.proofs.ByProduct.{by_set_product}
+use Rattle.drain_header.specs.Header.{Fields}
+use Rattle.drain_raster.specs.declared.raster_rows.RasterRows.{RasterRows}
+use Rattle.drain_verdict.specs.InputRows.{IsRasterBegun}
+use Rattle.drain_verdict.proofs.audit_products.AuditProductsProductInputs.begin.Goals as goal
+
+-- a new reader is one of its header
+begun : (h : Fields) (raster : RasterRows) → raster.header ≡ h → raster.left ≡ h.rows → raster.gap ≡ h.skip → raster.progress ≡ Going → raster.patience ≡ full_patience → IsRasterBegun h raster
+begun h raster header left gap going patience = record { header_is = header; left_is = left; gap_is = gap; going = going; patience_is = patience }
+
+pub returns : goal.returns
+returns g c =
+    let hs = c.args.headers in
+    let con = begun hs.con c.new.result c.new.ensures.header c.new.ensures.left c.new.ensures.gap c.new.ensures.going c.new.ensures.patience in
+    record {
+      begun = by_set_product _ con
+          (begun hs.dir c.new-2.result c.new-2.ensures.header c.new-2.ensures.left c.new-2.ensures.gap c.new-2.ensures.going c.new-2.ensures.patience)
+          (begun hs.acc c.new-3.result c.new-3.ensures.header c.new-3.ensures.left c.new-3.ensures.gap c.new-3.ensures.going c.new-3.ensures.patience)
+          (begun hs.bas c.new-4.result c.new-4.ensures.header c.new-4.ensures.left c.new-4.ensures.gap c.new-4.ensures.going c.new-4.ensures.patience)
+          (subst (λ (h : Fields). IsRasterBegun h c.new.result) (c.requires.alike Con Rnk refl) con);
+    }

@@ -1,0 +1,10 @@
+use Rattle.std.proofs.Common.{ap, arith, length}
+use Rattle.std.proofs.lemmas.List.{length-map}
+use Rattle.drain_pixels.specs.Ground.{height_with}
+use Rattle.drain_verdict.proofs.dem_ground.read_elevations.Goals as goal
+
+pub returns-clause-narrow : goal.returns-clause-narrow
+returns-clause-narrow g c =
+    let is = ap length c.put_pixels.ensures.elevations in
+    let same = length-map c.read_raster.new.out (height_with c.args.void) in
+    omega (arith, is, same, c.in_ok-read_raster.ensures.narrow)

@@ -1,0 +1,80 @@
+use Rattle.std.proofs.Common.{◌≡◌, ℕ, List, ap, subst, sym, ◌∙◌}
+use Rattle.std.proofs.lemmas.Result.{err_from_is_err_and}
+use Rattle.drain_grid.specs.SinkTexts.{sinks_of}
+use Rattle.drain_answer.specs.declared.refusal.Refusal.TheVariants.{ReadFailed}
+use Rattle.drain_rows.proofs.WindowLemmas.{on-ok}
+use Rattle.drain_verdict.specs.Texts.{lines_in}
+use Rattle.drain_verdict.specs.InputReads.{as_read}
+use Rattle.drain_verdict.specs.Stages.{IsBadLine}
+use Rattle.drain_verdict.proofs.AuditDevices.{devices_none}
+use Rattle.drain_verdict.proofs.RowDevices.{bodies_taken, devices_fail}
+use Rattle.drain_verdict.proofs.read_set.read_bodies.Goals as goal
+
+pub returns-in_err-rows-clause-inputs_within : goal.returns-in_err-rows-clause-inputs_within
+returns-in_err-rows-clause-inputs_within g c = c.reading_laws.ensures.none_within c.args.frame.now c.args.inputs.now
+
+pub returns-in_err-rows-clause-kept : goal.returns-in_err-rows-clause-kept
+returns-in_err-rows-clause-kept g c = c.reading_laws.ensures.none_kept c.args.inputs.now
+
+pub returns-in_err-rows-clause-faults : goal.returns-in_err-rows-clause-faults
+returns-in_err-rows-clause-faults g c =
+    let told = err_from_is_err_and c.from_residual.result c.from_residual.ensures.1 in
+    rw (told.1, told.2) (devices_none g.R.ByteSource.counts g.T.GroundInput.devices c.args.inputs.now (g.P.ProductInputs.inputs c.args.products.now)
+    (λ is. let wants = c.in_err-rows.ensures.no_memory in let other : c.in_err-rows.field-0.0 ≡ ReadFailed = cc in cc))
+
+pub returns-in-Err-clause-inputs_within : goal.returns-in-Err-clause-inputs_within
+returns-in-Err-clause-inputs_within g c = c.reading_laws.ensures.none_within c.args.frame.now c.args.inputs.now
+
+pub returns-in-Err-clause-kept : goal.returns-in-Err-clause-kept
+returns-in-Err-clause-kept g c = c.reading_laws.ensures.none_kept c.args.inputs.now
+
+pub returns-in-Err-clause-faults : goal.returns-in-Err-clause-faults
+returns-in-Err-clause-faults g c = devices_none g.R.ByteSource.counts g.T.GroundInput.devices c.args.inputs.now (g.P.ProductInputs.inputs c.args.products.now) (λ is. cc)
+
+pub read_rows-requires-clause-sized : goal.read_rows-requires-clause-sized
+read_rows-requires-clause-sized g c = c.reading_laws.ensures.sized c.args.frame.now c.args.inputs.now c.requires.fit
+
+pub read_rows-requires-clause-counted : goal.read_rows-requires-clause-counted
+read_rows-requires-clause-counted g c = c.reading_laws.ensures.counted c.args.frame.now c.in_ok-rows.rows.elevations c.in_ok-rows.ensures.begun.elevations
+
+pub returns-clause-answer : goal.returns-clause-answer
+returns-clause-answer g c = λ x t means texts sinks none.
+    let sinks_are = c.in-Ok.ensures.sinks ∙ ap (λ (text : List ℕ). lines_in (sinks_of text)) (sym sinks) in
+    let bad_is = subst (λ (text : List ℕ). IsBadLine (sinks_of text) c.in-Ok.listing.bad) (sym sinks) c.in-Ok.ensures.bad in
+    c.read_rows.ensures.answer c.args.headers c.in_ok-rows.ensures.begun c.nodata_of-nodata.ensures c.requires.shapes x t means texts (sinks_are, bad_is) none
+
+pub returns-clause-noted : goal.returns-clause-noted
+returns-clause-noted g c =
+    on-ok c.read_rows.result
+    (λ noted x t means texts sinks none.
+    let sinks_are = c.in-Ok.ensures.sinks ∙ ap (λ (text : List ℕ). lines_in (sinks_of text)) (sym sinks) in
+    let bad_is = subst (λ (text : List ℕ). IsBadLine (sinks_of text) c.in-Ok.listing.bad) (sym sinks) c.in-Ok.ensures.bad in
+    noted c.args.headers c.in_ok-rows.ensures.begun c.nodata_of-nodata.ensures c.requires.shapes x t means texts (sinks_are, bad_is) none)
+    c.read_rows.ensures.noted
+
+pub returns-clause-inputs_within : goal.returns-clause-inputs_within
+returns-clause-inputs_within g c =
+    let read = c.read_rows.ensures.reads in
+    c.reading_laws.ensures.within c.args.frame.now (c.in_ok-rows.rows.elevations, c.args.inputs.now) (c.read_rows.new.rows.elevations, c.read_rows.new.inputs) read.reads.elevations_failed
+    c.in_ok-rows.ensures.begun.elevations c.requires.fit read.reads.elevations
+
+pub returns-clause-kept : goal.returns-clause-kept
+returns-clause-kept g c =
+    let read = c.read_rows.ensures.reads in
+    c.reading_laws.ensures.kept (c.in_ok-rows.rows.elevations, c.args.inputs.now) (c.read_rows.new.rows.elevations, c.read_rows.new.inputs) read.reads.elevations_failed read.reads.elevations
+
+pub returns-clause-rasters_within : goal.returns-clause-rasters_within
+returns-clause-rasters_within g c =
+    let read = c.read_rows.ensures.reads in
+    let view = as_read g.P.ProductInputs.readers g.P.ProductInputs.inputs in
+    bodies_taken g.T.GroundInput.has_read g.R.ByteSource.bytes_left g.R.ByteSource.counts (g.T.GroundInput.begun c.args.frame.now) c.args.headers (view (c.in_ok-rows.rows, c.args.inputs.now, c.args.products.now))
+    (view (c.read_rows.new.rows, c.read_rows.new.inputs, c.read_rows.new.products)) read.told c.in_ok-rows.ensures.begun read.reads c.raster_rows_take_what_is_needed.ensures
+
+pub returns-clause-faults : goal.returns-clause-faults
+returns-clause-faults g c =
+    let read = c.read_rows.ensures.reads in
+    let view = as_read g.P.ProductInputs.readers g.P.ProductInputs.inputs in
+    devices_fail g.T.GroundInput.has_read g.R.ByteSource.bytes_left g.R.ByteSource.counts (g.T.GroundInput.begun c.args.frame.now) c.args.headers (view (c.in_ok-rows.rows, c.args.inputs.now, c.args.products.now))
+    (view (c.read_rows.new.rows, c.read_rows.new.inputs, c.read_rows.new.products)) read.told c.in_ok-rows.ensures.begun read.reads g.T.GroundInput.devices
+    (c.reading_laws.ensures.faults c.args.frame.now (c.in_ok-rows.rows.elevations, c.args.inputs.now) (c.read_rows.new.rows.elevations, c.read_rows.new.inputs) read.reads.elevations_failed
+    c.in_ok-rows.ensures.begun.elevations c.requires.fit read.reads.elevations) read.exactly

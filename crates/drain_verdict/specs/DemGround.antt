@@ -1,0 +1,152 @@
+-- The ground of one raster of elevations: what its header and its body mean, and what a reader of its rows is to give.
+-- Which refusals there are, and their order, is this project's own.
+use Rattle.std.specs.Prelude.{◌≡◌, ℕ, ℤ, List, [], ◌∷◌, ◌++◌, length, map, Option, Some, None, Bool, IsTrue, Result, Err}
+use Rattle.drain_answer.specs.declared.refusal.Refusal.{Refusal}
+use Rattle.drain_answer.specs.declared.refusal.Refusal.TheVariants.{BadDemHeader, BadPixelSize, DemShort}
+use Rattle.drain_device.specs.Reads.{TakesAtMost}
+use Rattle.drain_device.specs.declared.counts.FaultCounts.{FaultCounts}
+use Rattle.drain_grid.specs.declared.cell.Cell.{Cell}
+use Rattle.drain_grid.specs.Extent.{IsCellOf}
+use Rattle.drain_header.specs.Faults.{Answers, Describes}
+use Rattle.drain_header.specs.Header.{AreWithinBounds, Fields, header_of}
+use Rattle.drain_raster.specs.declared.raster_rows.RasterRows.{RasterRows}
+use Rattle.drain_raster.specs.Elevations.{elevation_in}
+use Rattle.drain_raster.specs.Pixels.{IsShort, header_extent, needed_len}
+use Rattle.drain_raster.specs.Placing.{HasPixelSize, LiesOn}
+use Rattle.drain_raster.specs.RasterRows.{raster_rows}
+use Rattle.drain_text.specs.Text.{lines_of}
+use Rattle.drain_verdict.specs.declared.next_rows.RasterInput.{RasterInput}
+use Rattle.drain_verdict.specs.Ground.{Ground, GroundToGive}
+use Rattle.drain_verdict.specs.GroundSets.{EncodeTexts, ForSet, GroundSet}
+use Rattle.drain_verdict.specs.Texts.{SetTexts}
+use Rattle.drain_verdict.specs.InputReads.{RasterHasRead}
+use Rattle.drain_verdict.specs.InputRows.{IsRasterBegun}
+use Rattle.drain_verdict.specs.Inputs.{Products, four_devices}
+use Rattle.drain_verdict.specs.Uses.{UsesSet, set_devices}
+use Rattle.drain_verdict.specs.declared.audit_products.AuditProducts.{AuditProducts}
+use Rattle.drain_verdict.specs.ToGive.{IsAfterTold}
+
+-- the header and the body of a raster of elevations
+pub record DemTexts : Type 0 where
+  pub header : List ℕ
+  pub body : List ℕ
+
+-- what the header says
+abbrev pub dem_fields : DemTexts → Fields
+dem_fields d = header_of (lines_of d.header)
+
+-- what each of its refusals says; of no other does any apply
+abbrev pub DemRefuses : DemTexts → Refusal → Type 0
+DemRefuses d (BadDemHeader fault) = Answers d.header (Err fault)
+DemRefuses d BadPixelSize = ¬ HasPixelSize (dem_fields d).place
+DemRefuses d DemShort = IsShort (dem_fields d) d.body
+DemRefuses d refusal = ⊥
+
+-- a cell has the elevation of its pixel, none where that is the header's no-data number; no two of its refusals are of
+-- one kind
+abbrev pub dem_ground : DemTexts → Ground
+dem_ground d = record {
+  extent = header_extent (dem_fields d);
+  elevation = elevation_in (dem_fields d) d.body;
+  Holds = LiesOn (dem_fields d);
+  Refuses = DemRefuses d;
+  among = λ refusal. 0;
+}
+
+-- the rows of its body
+abbrev pub dem_rows_of : DemTexts → GroundToGive
+dem_rows_of d = record {
+  void = (dem_fields d).nodata;
+  rows = raster_rows (dem_fields d) (dem_fields d).rows (dem_fields d).skip d.body;
+  wrong = None;
+  conflict = None;
+}
+
+-- the text describes this header, whose pixels have a size
+pub record IsDemHeader (h : Fields) (text : List ℕ) : Type 0 where
+  pub bounds : AreWithinBounds h
+  pub described : Describes text h
+  pub sized : HasPixelSize h.place
+
+-- why the header is refused
+abbrev pub IsDemHeaderRefusal : List ℕ → Refusal → Type 0
+IsDemHeaderRefusal text (BadDemHeader fault) = Answers text (Err fault)
+IsDemHeaderRefusal text BadPixelSize = (h : Fields) × Describes text h × ¬ HasPixelSize h.place
+IsDemHeaderRefusal text refusal = ⊥
+
+-- the inputs are one raster with this header
+abbrev pub IsDemInput : {R : Type 0} → Fields → List (RasterInput R) → Type 0
+IsDemInput h [] = ⊥
+IsDemInput h (input ∷ []) = IsDemHeader h input.header
+IsDemInput h (input ∷ other ∷ more) = ⊥
+
+-- the header of the one raster is right
+abbrev pub HasDemHeader : {R : Type 0} → List (RasterInput R) → Type 0
+HasDemHeader inputs = (h : Fields) × IsDemInput h inputs
+
+-- the inputs are one raster of this header and this body, where the bytes of devices are known
+abbrev pub EncodesDem : {R : Type 0} → (R → Option (List ℕ)) → List (RasterInput R) → DemTexts → Type 0
+EncodesDem bytes_left [] d = ⊥
+EncodesDem bytes_left (input ∷ []) d = (d.header ≡ input.header) × (bytes_left input.body ≡ Some d.body)
+EncodesDem bytes_left (input ∷ other ∷ more) d = ⊥
+
+-- the fact holds of the set of the call: of the raster and the texts that the arguments encode
+abbrev pub ForDem : {R : Type 0} → (R → Option (List ℕ)) → List (RasterInput R) → List ℕ → Products R → (GroundSet → Type 0) → Type 0
+ForDem bytes_left dem sinks ps Fact = ForSet dem_ground (EncodesDem bytes_left dem) bytes_left sinks ps Fact
+
+-- the fact holds of the raster of the call
+abbrev pub ForDemTexts : {R : Type 0} → (R → Option (List ℕ)) → List (RasterInput R) → List ℕ → Products R → (DemTexts → Type 0) → Type 0
+ForDemTexts bytes_left dem sinks ps Fact = (d : DemTexts) (t : SetTexts) → EncodesDem bytes_left dem d → EncodeTexts bytes_left sinks ps t → Fact d
+
+-- the header is what its text says, and the elevation of each cell is the pixel that the bytes mean, none where that is the
+-- header's no-data number
+pub record ElevationIsItsPixels (d : DemTexts) : Type 0 where
+  pub described : Describes d.header (dem_fields d)
+  pub sized : HasPixelSize (dem_fields d).place
+  pub whole : ¬ IsShort (dem_fields d) d.body
+  pub pixels : (c : Cell) → IsCellOf (dem_ground d).extent c → (dem_ground d).elevation c ≡ elevation_in (dem_fields d) d.body c
+
+-- Reading.
+
+-- the first row of the raster is to come, and this number means a void in it
+pub record IsDemBegun (h : Fields) (raster : RasterRows) (void : Option ℤ) : Type 0 where
+  pub begun : IsRasterBegun h raster
+  pub void_is : void ≡ h.nodata
+
+-- this number of rows of the raster was requested, in which this number means a void
+abbrev pub IsDemAfter : {R : Type 0} → (R → Option (List ℕ)) → RasterRows → Option ℤ → List (RasterInput R) → GroundToGive → ℕ → Type 0
+IsDemAfter bytes_left raster void [] t n = ⊥
+IsDemAfter bytes_left raster void (input ∷ []) t n = (t.void ≡ void) × IsAfterTold raster (bytes_left input.body) t.rows n
+IsDemAfter bytes_left raster void (input ∷ other ∷ more) t n = ⊥
+
+-- the headers are those of before
+abbrev pub AreHeadersKept : {R : Type 0} → List (RasterInput R) → List (RasterInput R) → Type 0
+AreHeadersKept old new = map (λ input. input.header) new ≡ map (λ input. input.header) old
+
+-- the sources of the inputs
+abbrev pub dem_devices : {R : Type 0} → List (RasterInput R) → List R
+dem_devices inputs = map (λ input. input.body) inputs
+
+-- what was read of one raster from one state to the other; its device failed for good exactly if this is so
+pub record DemHasRead {R : Type 0} (bytes_left : R → Option (List ℕ)) (counts : R → FaultCounts) (start now : RasterRows × List (RasterInput R)) (failed : Bool) : Type 0 where
+  pub as_many : length now.1 ≡ length start.1
+  pub headers : AreHeadersKept start.1 now.1
+  pub raster : (old new : RasterInput R) → start.1 ≡ old ∷ [] → now.1 ≡ new ∷ [] →
+      RasterHasRead (bytes_left old.body) (bytes_left new.body) (counts old.body) (counts new.body) start.0 now.0 (IsTrue failed)
+
+-- of one raster nothing past the last byte that its header needs was read
+abbrev pub DemTakesAtMost : {R : Type 0} → (R → Option (List ℕ)) → List (RasterInput R) → List (RasterInput R) → Type 0
+DemTakesAtMost {R} bytes_left olds news =
+    (old new : RasterInput R) → olds ≡ old ∷ [] → news ≡ new ∷ [] → TakesAtMost (needed_len (header_of (lines_of old.header))) (bytes_left old.body) (bytes_left new.body)
+
+-- The devices of a check: the raster's, and those of the products.
+abbrev pub dem_check_devices : {R : Type 0} → List (RasterInput R) → Products R → List R
+dem_check_devices dem ps = set_devices dem_devices dem ps
+
+-- those of an audit
+abbrev pub dem_audit_devices : {R : Type 0} → List (RasterInput R) → AuditProducts R → List R
+dem_audit_devices dem ps = dem_devices dem ++ four_devices ps
+
+-- how an answer uses one raster and its products, which are read as these five, from these devices
+abbrev pub DemUses : {R P T : Type 0} → (P → Products R) → (List (RasterInput R) → P → List R) → (R → Option (List ℕ)) → (R → FaultCounts) → List (RasterInput R) × P → List (RasterInput R) × P → Result T Refusal → Type 0
+DemUses inputs_of devices bytes_left counts old new answer = UsesSet inputs_of devices (DemTakesAtMost bytes_left) AreHeadersKept bytes_left counts old new answer

@@ -1,0 +1,122 @@
+-- A ground with a list of sinks and its products: what their bytes mean, and why they are refused.
+use Rattle.std.specs.Prelude.{◌≡◌, ℕ, ◌+◌, ◌*◌, ◌<◌, List, Option, Some, Result, Ok, Err}
+use Rattle.drain_answer.specs.declared.refusal.Refusal.{Refusal}
+use Rattle.drain_answer.specs.declared.refusal.Refusal.TheVariants.{BadHeader, WrongShape, Misplaced, RasterShort, BadSinkLine, SinkNotData, OutOfMemory, ReadFailed}
+use Rattle.drain_grid.specs.declared.judged.Judged.{Judged}
+use Rattle.drain_grid.specs.declared.judged.Rules.{Rules}
+use Rattle.drain_grid.specs.declared.per_product.PerProduct.{PerProduct}
+use Rattle.drain_grid.specs.declared.set_product.SetProduct.{SetProduct}
+use Rattle.drain_grid.specs.Grid as grid
+use Rattle.drain_grid.specs.OffData.{IsOffData}
+use Rattle.drain_grid.specs.PerProduct.{of_product}
+use Rattle.drain_grid.specs.SetProduct.{OfSetProduct, place_of}
+use Rattle.drain_grid.specs.SinkTexts.{sinks_of}
+use Rattle.drain_grid.specs.Values.{NoDataNumbers}
+use Rattle.drain_header.specs.Faults.{Answers}
+use Rattle.drain_header.specs.Header.{Fields}
+use Rattle.drain_raster.specs.Pixels.{header_extent, IsShort}
+use Rattle.drain_text.specs.First.{IsFirst}
+use Rattle.drain_verdict.specs.Ground.{Ground, refusal_kind}
+use Rattle.drain_verdict.specs.Inputs.{Products}
+use Rattle.drain_verdict.specs.Texts.{SetTexts, grid_on, set_fields, set_listed, text_numbers, text_products}
+
+-- a ground, and what is said to lie on it
+pub record GroundSet : Type 1 where
+  pub terrain : Ground
+  pub texts : SetTexts
+
+-- the arguments encode these texts, where the bytes of devices are known
+pub record EncodeTexts {R : Type 0} (bytes_left : R → Option (List ℕ)) (sinks : List ℕ) (ps : Products R) (t : SetTexts) : Type 0 where
+  pub sinks_are : t.sinks ≡ sinks
+  pub headers_are : (p : SetProduct) → t.header p ≡ (of_product ps p).header
+  pub rasters_are : (p : SetProduct) → bytes_left (of_product ps p).body ≡ Some (t.raster p)
+
+-- the fact holds of the set of the call: of a ground that its inputs mean, and of the texts that its arguments encode
+abbrev pub ForSet : {X R : Type 0} → (X → Ground) → (X → Type 0) → (R → Option (List ℕ)) → List ℕ → Products R → (GroundSet → Type 0) → Type 0
+ForSet {X} terrain Means bytes_left sinks ps Fact =
+    (x : X) (t : SetTexts) → Means x → EncodeTexts bytes_left sinks ps t → Fact (record { terrain = terrain x; texts = t })
+
+-- What the bytes mean.
+
+-- the grid of the elevations and the listed sinks
+abbrev pub set_grid : GroundSet → grid.Grid
+set_grid s = grid_on s.terrain.extent s.terrain.elevation s.texts
+
+abbrev pub set_products : GroundSet → grid.Products
+set_products s = text_products s.texts
+
+-- the no-data numbers of the products
+abbrev pub set_numbers : GroundSet → NoDataNumbers
+set_numbers s = text_numbers s.texts
+
+-- the rules about judged rasters of the set
+abbrev pub rules_in : Judged → GroundSet → Rules
+rules_in judged s = record { nodata = set_numbers s; judged = judged }
+
+-- Why they are refused: what each refusal says, and the order in which they are reported. Both are this project's own.
+
+-- the product's header gives the rows and columns of the ground
+abbrev pub HasShapeIn : GroundSet → SetProduct → Type 0
+HasShapeIn s p = header_extent (set_fields s.texts p) ≡ s.terrain.extent
+
+-- of a product only if it is read; out of memory and a failed read aren't about bytes; the others are the ground's own
+abbrev pub StandsIn : GroundSet → Refusal → Type 0
+StandsIn s (BadHeader p fault) = OfSetProduct (λ h. Answers (s.texts.header h) (Err fault)) p
+StandsIn s (WrongShape p) = OfSetProduct (λ h. ¬ HasShapeIn s h) p
+StandsIn s (Misplaced p) = OfSetProduct (λ h. ¬ s.terrain.Holds (set_fields s.texts h).place) p
+StandsIn s (RasterShort p) = OfSetProduct (λ h. IsShort (set_fields s.texts h) (s.texts.raster h)) p
+StandsIn s (BadSinkLine n) = sinks_of s.texts.sinks ≡ Err n
+StandsIn s (SinkNotData n) = IsOffData (set_grid s) (set_listed s.texts) n
+StandsIn s OutOfMemory = ⊥
+StandsIn s ReadFailed = ⊥
+StandsIn s refusal = s.terrain.Refuses refusal
+
+-- the place of a refusal among those of its kind; those of one product's header come before those of the next product
+abbrev pub place_in : GroundSet → Refusal → ℕ
+place_in s (BadHeader p fault) = 3 * place_of p
+place_in s (WrongShape p) = 3 * place_of p + 1
+place_in s (Misplaced p) = 3 * place_of p + 2
+place_in s (RasterShort p) = place_of p
+place_in s (BadSinkLine n) = n
+place_in s (SinkNotData n) = n
+place_in s OutOfMemory = 0
+place_in s ReadFailed = 0
+place_in s refusal = s.terrain.among refusal
+
+-- the order of the refusals
+abbrev pub order_in : GroundSet → Refusal → ℕ × ℕ
+order_in s refusal = (refusal_kind refusal, place_in s refusal)
+
+-- no refusal of a kind before this one applies
+abbrev pub NoneStandsIn : GroundSet → ℕ → Type 0
+NoneStandsIn s kind = (refusal : Refusal) → refusal_kind refusal < kind → ¬ StandsIn s refusal
+
+-- no refusal applies
+abbrev pub IsReadable : GroundSet → Type 0
+IsReadable s = (refusal : Refusal) → ¬ StandsIn s refusal
+
+-- the refusal is the first that applies; out of memory and a failed read say nothing of the bytes
+abbrev pub IsRefusalIn : GroundSet → Refusal → Type 0
+IsRefusalIn s OutOfMemory = Unit {0}
+IsRefusalIn s ReadFailed = Unit {0}
+IsRefusalIn s refusal = IsFirst (order_in s) (StandsIn s) refusal
+
+-- the set is read to the end: no refusal applies, or this is the first
+abbrev pub IsReadIn : GroundSet → Result (Unit {0}) Refusal → Type 0
+IsReadIn s (Ok done) = IsReadable s
+IsReadIn s (Err refusal) = IsRefusalIn s refusal
+
+-- notes of a grid's rows that are of all rows of the set's grid, under these rules
+abbrev pub AreNotesIn : {K : Type 0} → (Rules → grid.Grid → grid.Products → ℕ → K → Type 0) → Judged → GroundSet → K → Type 0
+AreNotesIn are_of judged s notes = are_of (rules_in judged s) (set_grid s) (set_products s) (set_grid s).extent.rows notes
+
+-- these are the headers that the texts describe, and the products have these bodies
+pub record AreTextsIn {R : Type 0} (bytes_left : R → Option (List ℕ)) (hs : PerProduct Fields) (ps : Products R) (t : SetTexts) : Type 0 where
+  pub fields : (p : SetProduct) → of_product hs p ≡ set_fields t p
+  pub rasters : (p : SetProduct) → bytes_left (of_product ps p).body ≡ Some (t.raster p)
+
+-- the fact holds of each set with a ground of these texts, and with such headers, rasters and lists of sinks, of which no
+-- refusal of the ground alone or of a header applies
+abbrev pub ForRead : {X R : Type 0} → (X → Ground) → (X → Type 0) → (R → Option (List ℕ)) → PerProduct Fields → Products R → (SetTexts → Type 0) → (GroundSet → Type 0) → Type 0
+ForRead {X} terrain Means bytes_left hs ps Lists Fact =
+    (x : X) (t : SetTexts) → Means x → AreTextsIn bytes_left hs ps t → Lists t → NoneStandsIn (record { terrain = terrain x; texts = t }) 5 → Fact (record { terrain = terrain x; texts = t })

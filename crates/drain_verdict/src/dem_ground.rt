@@ -1,0 +1,155 @@
+//! The ground of one raster of elevations: its frame is its header, and its rows are its pixels.
+
+ghost use Rattle.std.specs.Prelude.{◌≡◌, ◌+◌, ◌≤◌, ℕ, length, IfErr, IfOk, IfSome, IsTrue, None, OnOk};
+ghost use Rattle.std.specs.List.{All};
+ghost use Rattle.drain_device.specs.RowSteps.{Coming, nth_row};
+ghost use Rattle.drain_grid.specs.declared.cell.TheConstants.{MAX_LENGTH};
+ghost use Rattle.drain_grid.specs.Values.{IsPixel};
+ghost use Rattle.drain_pixels.specs.Ground.{elevations};
+ghost use Rattle.drain_verdict.specs.DemGround.{IsDemHeader, IsDemHeaderRefusal};
+ghost use Rattle.drain_verdict.specs.InputReads.{RasterHasRead};
+ghost use Rattle.drain_verdict.specs.Reading.{IsOfReading, gave_up, told_by};
+ghost use Rattle.drain_verdict.specs.ToGive.{IsAfterTold};
+
+use crate::ground::GroundInput;
+use crate::next_rows::{RasterInput, read_raster};
+use drain_answer::Refusal;
+use drain_device::ByteSource;
+use drain_grid::{OutOfMemory, Shape};
+use drain_header::{Header, parse_header};
+use drain_pixels::GroundRow;
+use drain_raster::laws::{
+    elevation_rows_are_pixels, raster_rows_end, raster_rows_take_what_is_needed,
+};
+use drain_raster::{RasterRows, has_pixel_size, lies_on, shape};
+use std::alloc::Global;
+
+/// A reader of the raster's rows, which are no longer than those of a grid, and the number that means a void in them.
+#[derive(Drop)]
+pub struct DemRows {
+    raster: RasterRows,
+    void: Option<i64>,
+    ghost narrow: { raster.header.cols ≤ MAX_LENGTH },
+}
+
+impl<R: ByteSource> GroundInput<R> for RasterInput<R> {
+    ghost use Rattle.drain_raster.specs.Pixels.{header_extent};
+    ghost use Rattle.drain_raster.specs.Placing.{LiesOn};
+    ghost use Rattle.drain_verdict.specs.DemGround.{AreHeadersKept, DemHasRead, DemTakesAtMost, DemTexts, EncodesDem, IsDemAfter, IsDemBegun, IsDemHeader, IsDemInput, dem_devices, dem_ground, dem_rows_of};
+
+    type Frame = Header;
+
+    type Rows = DemRows;
+
+    ghost Texts = { DemTexts };
+
+    ghost terrain = { dem_ground };
+
+    ghost rows_of = { dem_rows_of };
+
+    ghost framed = { λ header texts. IsDemHeader header texts.header };
+
+    ghost extent = { λ header. header_extent header };
+
+    ghost holds = { λ header place. LiesOn header place };
+
+    ghost size = { λ header. 1 };
+
+    ghost fit = { λ header inputs. IsDemInput header inputs };
+
+    ghost means = { λ header inputs texts. EncodesDem R.bytes_left inputs texts };
+
+    ghost begun = { λ header rows. IsDemBegun header rows.raster rows.void };
+
+    ghost count = { λ rows. 1 };
+
+    ghost after = { λ rows inputs t n. IsDemAfter R.bytes_left rows.raster rows.void inputs t n };
+
+    ghost has_read = { λ start now failed. DemHasRead R.bytes_left R.counts (start.0.raster, start.1) (now.0.raster, now.1) failed };
+
+    ghost within = { λ header old new. DemTakesAtMost R.bytes_left old new };
+
+    ghost kept = { AreHeadersKept };
+
+    ghost devices = { dem_devices };
+
+    fn shape(header: &Header) -> Shape {
+        shape(header)
+    }
+
+    fn is_placed(header: &Header, other: &Header) -> bool {
+        lies_on(header, other)
+    }
+
+    fn begin(_alloc: Global, header: &Header) -> Result<DemRows, OutOfMemory> {
+        let void = header.nodata;
+        let raster = RasterRows::new(*header);
+        Ok(DemRows { raster, void })
+    }
+
+    fn read_row(
+        rows: &mut DemRows,
+        inputs: &mut [RasterInput<R>],
+        out: &mut GroundRow,
+    ) -> Result<(), Refusal> {
+        read_elevations(&mut rows.raster, rows.void, &mut inputs[0].body, out)
+    }
+
+    fn refusal_of_length(_header: &Header, rows: &DemRows) -> Option<Refusal> {
+        // The law that all rows of a raster come, or that it is found to be short.
+        raster_rows_end();
+        if rows.raster.is_stopped() {
+            Some(Refusal::DemShort)
+        } else {
+            None
+        }
+    }
+
+    fn refusal_of_values(_header: &Header, _rows: &DemRows) -> Option<Refusal> {
+        None
+    }
+
+    fn meaning_laws() {
+        raster_rows_end();
+        elevation_rows_are_pixels();
+    }
+
+    fn reading_laws() {
+        raster_rows_take_what_is_needed();
+    }
+}
+
+/// Reads the next row of a raster as elevations: none after the last, and none where it is short.
+fn read_elevations<R: ByteSource>(
+    raster: &mut RasterRows,
+    void: Option<i64>,
+    body: &mut R,
+    out: &mut GroundRow,
+) -> Result<(), Refusal>
+    ensures rows { OnOk result ((start : Coming) (n : ℕ) → IsAfterTold raster.old (R.bytes_left body.old) start n → IsAfterTold raster.new (R.bytes_left body.new) start (n + 1) × (out.new ≡ elevations void (nth_row n start))) }
+    ensures narrow { OnOk result (length out.new ≤ raster.old.header.cols) }
+    ensures pixels { OnOk result (All (λ z. IfSome z IsPixel) out.new) }
+    ensures read { RasterHasRead (R.bytes_left body.old) (R.bytes_left body.new) (R.counts body.old) (R.counts body.new) raster.old raster.new (IsTrue (gave_up None (told_by result))) }
+    ensures of_reading { IsOfReading (told_by result) }
+    ensures keeps_len { raster.new.header.cols ≡ raster.old.header.cols }
+{
+    let mut pixels = out.take_pixels();
+    read_raster(Ok(()), raster, body, &mut pixels)?;
+    out.put_pixels(void, pixels);
+    Ok(())
+}
+
+/// The header of a raster of elevations, or why it is refused: for its own first fault, else since its pixels have no size.
+pub fn dem_header<R>(input: &RasterInput<R>) -> Result<Header, Refusal>
+    ensures header { IfOk result (λ header. IsDemHeader header input.now.header) }
+    ensures refusal { IfErr result (IsDemHeaderRefusal input.now.header) }
+{
+    let header = match parse_header(input.header.as_slice()) {
+        Ok(header) => header,
+        Err(fault) => return Err(Refusal::BadDemHeader(fault)),
+    };
+    if !has_pixel_size(&header) {
+        return Err(Refusal::BadPixelSize);
+    }
+    Ok(header)
+}

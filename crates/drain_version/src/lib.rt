@@ -1,7 +1,0 @@
-//! The version of the program `drain` and of the library for C.
-#![tactic(auto)]
-
-/// The version, and in a second line the logic of the toolchain that the sources are written for, as `rt version` names
-/// it.
-pub const VERSION: &str = "0.1.0
-logic dac8208d650f15bf";

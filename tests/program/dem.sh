@@ -1,0 +1,123 @@
+# Runs over the bundled raster of elevations: its files made anew, and each set's line as its README has it, by the
+# program and by audit.py. Read by run.sh after audit.sh.
+
+valley=samples/valley
+valley_words=(--dem "$valley/dem.bil" --sinks "$valley/sinks.txt" --products)
+
+mkdir "$scratch/valley"
+"$valley/make_valley.py" "$scratch/valley" >"$scratch/out" 2>"$scratch/err"
+: >"$scratch/want"
+judge 'the valley is made anew' 0 "$scratch/want" $?
+(cd "$scratch/valley" && find . -type f | LC_ALL=C sort) >"$scratch/want"
+(cd "$valley" && find . -type f ! -name README.md ! -name make_valley.py | LC_ALL=C sort) >"$scratch/out"
+judge 'the files of the valley' 0 "$scratch/want" 0
+while read -r file; do
+    cp "$scratch/valley/$file" "$scratch/out"
+    judge "the bundled $file of the valley" 0 "$valley/$file" 0
+done < <(cd "$scratch/valley" && find . -type f)
+for file in "$valley"/*.hdr "$valley"/*/*.hdr; do
+    "$drain" header "$file" </dev/null >"$scratch/out" 2>"$scratch/err"
+    judge "the header $file" 0 "$file" $?
+done
+
+told=$(sed -nE 's/^\| `([a-z-]+)` \| `(accepted|rejected) ([^`]*)` \|.*/\1 \2 \3/p' "$valley/README.md")
+while read -r name line; do
+    case $line in accepted*) status=0 ;; *) status=1 ;; esac
+    judge_audit "the valley, $name" "$status" "$line" "${valley_words[@]}" "$valley/$name"
+    for list in con con,dir con,dir,acc con,dir,bas con,dir,acc,bas; do
+        of_list=$line
+        [ "$status $list" != '0 con' ] || of_list=${line% outlets=*}
+        judge_audit "the valley, $name, $list" "$status" "$of_list" "${valley_words[@]}" "$valley/$name" --only "$list"
+        "$auditor" "${valley_words[@]}" "$valley/$name" --only "$list" >"$scratch/out" 2>"$scratch/err"
+        judge "the valley, $name, $list, by the other program" "$status" "$scratch/want" $?
+    done
+done <<<"$told"
+judge_words 'the valley, right, by ranks' 0 "$(sed -n 's/^right //p' <<<"$told")" check "${valley_words[@]}" "$valley/right"
+judge_audit 'the valley without its sink' 1 'rejected rule=12 FlatStep row=30 col=13' --dem "$valley/dem.bil" --products "$valley/right"
+printf '%s\n' "$valley"/*/ | sed 's,/$,,; s,.*/,,' | LC_ALL=C sort >"$scratch/out"
+sed 's/ .*//' <<<"$told" | LC_ALL=C sort >"$scratch/want"
+: >"$scratch/err"
+judge 'the sets of the valley that its README tells of' 0 "$scratch/want" 0
+
+# Progress reports its rows; a pipe stands for the raster; and standard output that can't be written ends with status 3.
+words=("${valley_words[@]}" "$valley/right")
+for command in audit check; do
+    want "$(sed -n 's/^right //p' <<<"$told")"
+    "$drain" "$command" --progress "${words[@]}" </dev/null >"$scratch/out" 2>"$scratch/progress"
+    came=$?
+    : >"$scratch/err"
+    judge "the valley with progress, $command" 0 "$scratch/want" "$came"
+    cp "$scratch/progress" "$scratch/out"
+    want 'drain: row 40 of 40'
+    judge "what is told of the valley, $command" 0 "$scratch/want" 0
+    mkfifo "$scratch/valley/$command.bil"
+    cp "$valley/dem.hdr" "$scratch/valley/$command.hdr"
+    cat "$valley/dem.bil" >"$scratch/valley/$command.bil" &
+    judge_words "the valley from a pipe, $command" 0 "$(sed -n 's/^right //p' <<<"$told")" \
+        "$command" --dem "$scratch/valley/$command.bil" "${words[@]:2}"
+    wait $!
+    : >"$scratch/want"
+    : >"$scratch/out"
+    "$drain" "$command" "${words[@]}" >/dev/full 2>"$scratch/err"
+    judge "a full standard output: $command of the valley" 3 "$scratch/want" $?
+    "$drain" "$command" "${words[@]}" >&- 2>"$scratch/err"
+    judge "a closed standard output: $command of the valley" 3 "$scratch/want" $?
+done
+mkdir "$scratch/valley/folder.bil"
+cp "$valley/dem.hdr" "$scratch/valley/folder.hdr"
+judge_audit 'a folder as the raster of elevations' 3 'failed ReadFailed' --dem "$scratch/valley/folder.bil" "${words[@]:2}"
+
+# A tile as one raster, its bytes as they are: the sets of other tools and real terrain have the lines that they have with the tile.
+# Usage: put_tile SIDE TILE    writes $scratch/valley/tile.bil and its header, in the place of N36W085
+put_tile() {
+    local step
+    step=$(python3 -c "print(f'{10**15 // ($1 - 1) / 10**15:.15f}')")
+    printf '%s\n' "NROWS $1" "NCOLS $1" 'NBITS 16' 'BYTEORDER M' 'NODATA -32768' 'ULXMAP -85' 'ULYMAP 37' "XDIM $step" "YDIM $step" \
+        >"$scratch/valley/tile.hdr"
+    cp "$2" "$scratch/valley/tile.bil"
+}
+put_tile 51 samples/other-tools/N36W085.hgt
+while read -r name line; do
+    case $line in accepted*) status=0 ;; *) status=1 ;; esac
+    judge_audit "other tools on one raster, $name" "$status" "$line" --dem "$scratch/valley/tile.bil" --products "samples/other-tools/$name"
+done < <(sed -nE 's/^\| `([a-z-]+)` \| `(accepted|rejected) ([^`]*)` \|.*/\1 \2 \3/p' samples/other-tools/README.md)
+put_tile 121 samples/jacksboro/N36W085.hgt
+for command in audit check; do
+    judge_words "real terrain as one raster, $command" 0 'accepted rows=121 cols=121 data=14641 raised=690 outlets=32' \
+        "$command" --dem "$scratch/valley/tile.bil" --products samples/jacksboro
+done
+put_tile 344 samples/N36W085.hgt
+judge_words 'all of the terrain as one raster' 0 'accepted rows=344 cols=344 data=118336 raised=5200 outlets=115' \
+    check --dem "$scratch/valley/tile.bil" --products "$scratch/wide"
+
+# What is derived over the tile as one raster is what is derived over the tile.
+put_tile 121 samples/jacksboro/N36W085.hgt
+mkdir "$scratch/valley/of-tile" "$scratch/valley/of-raster"
+judge_words 'derived over a tile' 0 'derived rows=121 cols=121' \
+    derive --side 121 --products samples/jacksboro --out "$scratch/valley/of-tile" samples/jacksboro/N36W085.hgt
+judge_words 'derived over the tile as one raster' 0 'derived rows=121 cols=121' \
+    derive --dem "$scratch/valley/tile.bil" --products samples/jacksboro --out "$scratch/valley/of-raster"
+for file in "$scratch/valley/of-tile"/*; do
+    cp "$file" "$scratch/want"
+    cp "$scratch/valley/of-raster/${file##*/}" "$scratch/out"
+    : >"$scratch/err"
+    judge "derived over the tile as one raster: ${file##*/}" 0 "$scratch/want" 0
+done
+
+# Nothing is written over the raster of elevations: a usage error, and it stays.
+mkdir "$scratch/valley/over"
+over=$scratch/valley/over
+: >"$scratch/want"
+for name in con acc; do
+    cp "$valley/dem.bil" "$over/$name.bil"
+    cp "$valley/dem.hdr" "$over/$name.hdr"
+done
+# Usage: judge_over NAME WORDS..    runs the program, whose output would be the raster NAME.bil
+judge_over() {
+    "$drain" "${@:2}" </dev/null >"$scratch/out" 2>"$scratch/err"
+    judge "over $1.bil, the raster of elevations: $2" 2 "$scratch/want" $? words
+    cmp "$over/$1.bil" "$valley/dem.bil" >"$scratch/out" 2>"$scratch/err"
+    judge "$1.bil stays: $2" 0 "$scratch/want" $?
+}
+judge_over acc derive --dem "$over/acc.bil" --products "$valley/right" --out "$over"
+judge_over con explain --dem "$over/con.bil" --products "$valley/right" --map "$over/con.bil"

@@ -1,0 +1,155 @@
+#!/usr/bin/env python3
+"""Audits small random sets of one raster of elevations, right ones and ones with one number changed, whole and by each list of
+rasters, checks them by ranks, and derives rasters of their directions; compares with audit.py, derive.py, the rules and the
+meaning of correct products (random_sets.py).
+
+random_dems.py [DRAIN]     without the program only the others are compared
+
+Prints how many sets passed.
+"""
+
+import struct
+import sys
+
+sys.dont_write_bytecode = True
+from audit import NO_DATA, STATUSES, DemFile
+from dem_sets import KINDS, UNSPELLED, ends_of
+from make_products import fixed, verdict
+from plain_faults import ALL_NO_DATA, CheckRules
+from random_sets import judge_random
+
+# Widths and heights of pixels, in units of 10^-15.
+PIXEL_SIZES = [30 * 10**15, 10**15 // 1200, 1, 25_500_000_000_000_000, 10**24]
+# What a header without the line has.
+DEFAULT_LINES = {
+    "B": ["NBITS 8", "PIXELTYPE UNSIGNEDINT"],
+    "h": ["PIXELTYPE SIGNEDINT"],
+    "I": ["PIXELTYPE UNSIGNEDINT"],
+}
+
+
+def spells(kind, numbers):
+    """Whether pixels of this kind can have these numbers."""
+    least, most = ends_of(kind)
+    return all(least <= number <= most for number in numbers)
+
+
+class RandomDem:
+    """One raster of elevations."""
+
+    lowest = -(2**31)
+
+    def __init__(self, dice):
+        self.dice = dice
+        self.rows, self.cols = dice.randint(1, 7), dice.randint(1, 9)
+        if dice.random() < 0.1:
+            # The program tries many cells of a wide row at a time.
+            self.cols = dice.randint(30, 70)
+        self.kind = dice.choice(list(KINDS))
+        numbers = self.random_numbers()
+        self.nodata = self.random_no_data(numbers)
+        share = dice.choice([0, 0.1, 0.3]) if self.nodata is not None and spells(self.kind, [self.nodata]) else 0
+        self.numbers = [self.nodata if dice.random() < share else number for number in numbers]
+        self.z = [None if number == self.nodata else number for number in self.numbers]
+        self.place = [dice.randint(-(10**21), 10**21), dice.randint(-(10**21), 10**21), *(dice.choice(PIXEL_SIZES) for _ in range(2))]
+        self.header_ending, self.ending = dice.choice([(".hdr", ".bil"), (".hdr", ".bil"), (".HDR", ".BIL")])
+
+    def random_numbers(self):
+        """Numbers behind one or two others, which are often the least or nearly the greatest of a pixel, or near -32768."""
+        least, most = ends_of(self.kind)
+        spread = min(self.dice.choice([1, 3, 3, 9, 9, 70_000, most - least]), most - least)
+        last = most - spread
+        starts = [least, last, self.dice.randint(least, last), *(it for it in (-32770, -32768, -2, 0) if least <= it <= last)]
+        chosen = [self.dice.choice(starts) for _ in range(self.dice.choice([1, 1, 2]))]
+        return [self.dice.choice(chosen) + self.dice.randint(0, spread) for _ in range(self.rows * self.cols)]
+
+    def random_no_data(self, numbers):
+        """No number, one that no pixel spells, one of these, an end of a pixel's, or a usual one."""
+        least, most = ends_of(self.kind)
+        unspelled = self.dice.choice([least - 1, most + 1, UNSPELLED, -(2**31) - 1])
+        return self.dice.choice([None, None, unspelled, self.dice.choice(numbers), least, most, -9999, -32768, 0])
+
+    def can_spell(self, numbers):
+        return any(spells(kind, numbers) for kind in KINDS)
+
+    def no_data_of(self, products):
+        """A no-data number for each product that none of its cells has and, if there are voids, pixels can have beside them."""
+        chosen = {}
+        for name, default in NO_DATA.items():
+            numbers = [number for number in products[name] if number is not None]
+            others = [default, default, 7, 99, -1, UNSPELLED, *([] if self.nodata is None else [self.nodata])]
+            has_voids = None in self.z
+            fitting = [it for it in others if it not in numbers and (not has_voids or self.can_spell([*numbers, it]))]
+            chosen[name] = self.dice.choice(fitting)
+        return chosen
+
+    def near_place(self):
+        """A place that a product may have: as far away as allowed, less, or not."""
+        _, _, xdim, ydim = self.place
+        most = [xdim // 100, ydim // 100, xdim // (100 * self.cols), ydim // (100 * self.rows)]
+        return [it + self.dice.choice([0, far, -far, self.dice.randint(-far, far)]) for it, far in zip(self.place, most)]
+
+    def spelled(self, kind, place, nodata, numbers):
+        """A header and the bytes of a raster, with bytes that don't matter before, between and behind the pixels."""
+        order, size = self.dice.choice("IM"), struct.calcsize(kind)
+        skip, more = self.dice.choice([0, 0, 1, 5]), self.dice.choice([0, 0, 2, 3])
+        stride = self.dice.choice(["TOTALROWBYTES", "BANDROWBYTES"])
+        lines = [f"NROWS {self.rows}", f"NCOLS {self.cols}", *KINDS[kind].splitlines(), f"BYTEORDER {order}"]
+        lines += [f"SKIPBYTES {skip}", f"{stride} {self.cols * size + more}"]
+        lines += [f"{key} {fixed(units)}" for key, units in zip(("ULXMAP", "ULYMAP", "XDIM", "YDIM"), place)]
+        lines += [] if nodata is None else [f"NODATA {nodata}"]
+        needless = ["BYTEORDER I", "SKIPBYTES 0", *DEFAULT_LINES.get(kind, [])]
+        lines = [line for line in lines if line not in needless or self.dice.random() < 0.5]
+        self.dice.shuffle(lines)
+        body = self.dice.randbytes(skip)
+        for row in range(self.rows):
+            pixels = numbers[row * self.cols : (row + 1) * self.cols]
+            body += struct.pack(f"{'<' if order == 'I' else '>'}{self.cols}{kind}", *pixels) + self.dice.randbytes(more)
+        return "".join(f"{line}\n" for line in lines), self.dice.choice([body, body[: len(body) - more], body + b"\x01\x00"])
+
+    def raster(self, name, nodata, numbers):
+        """The header and the bytes of a product. A default no-data number may be left out."""
+        kind = self.dice.choice([kind for kind in KINDS if spells(kind, numbers)])
+        is_told = nodata != ALL_NO_DATA[name] or self.dice.random() < 0.5
+        return self.spelled(kind, self.near_place(), nodata if is_told else None, numbers)
+
+    def path(self, folder):
+        return folder / f"dem{self.ending}"
+
+    def write(self, folder):
+        header, body = self.spelled(self.kind, self.place, self.nodata, self.numbers)
+        (folder / f"dem{self.header_ending}").write_text(header)
+        self.path(folder).write_bytes(body)
+
+    def files(self, folder):
+        return DemFile(self.path(folder))
+
+    def words(self, folder):
+        return ["--dem", self.path(folder)]
+
+
+def rename_blank(case):
+    """Gives a product another no-data number, without a change of a pixel: the default, one that it has, or another."""
+    name = case.dice.choice(list(NO_DATA))
+    case.nodata[name] = case.dice.choice([NO_DATA[name], case.dice.choice(case.products[name]), UNSPELLED, 5])
+
+
+def wrong_check(case, drain):
+    """What is wrong with the line of a check by the right ranks or by ones of which one is changed, None where nothing is."""
+    if not drain:
+        return None
+    blank = ALL_NO_DATA["rnk"]
+    ranks = [blank if rank is None else rank for rank in case.products["rnk"]]
+    if case.dice.random() < 0.3:
+        ranks[case.dice.randrange(len(ranks))] = case.dice.choice([0, 1, 7, blank])
+    line = verdict(CheckRules(case.terrain, {**case.products, "rnk": ranks}, {**case.nodata, "rnk": blank}))
+    header, body = case.ground.raster("rnk", blank, ranks)
+    (case.folder / "rnk.hdr").write_text(header)
+    (case.folder / "rnk.bil").write_bytes(body)
+    answer = case.answer(drain, "check")
+    is_same = answer == (STATUSES.index(line.split(" ")[0]), line + "\n")
+    return None if is_same else f"by ranks: {answer}, not {line!r}"
+
+
+if __name__ == "__main__":
+    sys.exit(judge_random("elevations", RandomDem, [rename_blank], [wrong_check]))
