@@ -20,3 +20,5 @@ pub mod TileBodies
 mod TileSteps
 pub mod DemSteps
 pub mod DemAnswers
+pub mod SameGrids
+pub mod SameAnswers

@@ -3,10 +3,12 @@
 //! A law is a function with an empty body: its contract is the law, and a caller gets the law by calling it.
 
 ghost use Rattle.drain_verdict.specs.Laws.{RasterLaws, InputsAreTold};
+ghost use Rattle.drain_verdict.specs.SameGround.{OneElevationOneAnswer};
 ghost use Rattle.drain_verdict.specs.TileRows.{TileRowLaws};
 
 use drain_device::ByteSource;
 use drain_hgt::laws::names_give_corners;
+use drain_laws::{padding_keeps_first_endless, padding_keeps_runs};
 use drain_mosaic::laws::{
     rows_are_first_values, rows_are_whole, rows_end, rows_tell_lengths, rows_tell_seams,
     whole_tiles_give_their_samples,
@@ -39,4 +41,16 @@ pub fn inputs_are_told<R: ByteSource>()
     ensures { InputsAreTold R.bytes_left }
 {
     names_give_corners();
+}
+
+/// The same elevations get the same answer, of an audit, of a check and on judged rasters, whatever says them: tiles, or
+/// a raster.
+///
+/// Over the same product bytes every answer about the one ground is an answer about the other, if neither ground is
+/// refused itself and each product lies on both or on neither.
+pub fn one_elevation_one_answer()
+    ensures { OneElevationOneAnswer }
+{
+    padding_keeps_runs();
+    padding_keeps_first_endless();
 }

@@ -1,0 +1,93 @@
+-- Two grounds that say the same, as a tile and a raster with its samples: both get one answer.
+use Rattle.std.specs.Prelude.{◌≡◌, ◌↔◌, ℕ, ◌*◌, ◌<◌, Bool, true, List, [], ◌∷◌, Option, Some, Result}
+use Rattle.drain_answer.specs.declared.outcome.AuditVerdict.{AuditVerdict}
+use Rattle.drain_answer.specs.declared.outcome.Outcome.{Outcome}
+use Rattle.drain_answer.specs.declared.refusal.Refusal.{Refusal}
+use Rattle.drain_grid.specs.declared.cell.Cell.{Cell}
+use Rattle.drain_grid.specs.declared.judged.Judged.{Judged}
+use Rattle.drain_grid.specs.declared.set_product.SetProduct.{SetProduct}
+use Rattle.drain_grid.specs.declared.tile.TheConstants.{VOID}
+use Rattle.drain_grid.specs.declared.verdict.Verdict.{Verdict}
+use Rattle.drain_grid.specs.Extent.{IsCellOf}
+use Rattle.drain_grid.specs.Grid.{IsSide}
+use Rattle.drain_header.specs.declared.header.ByteOrdering.TheVariants.{Most}
+use Rattle.drain_header.specs.Header.{Fields}
+use Rattle.drain_hgt.specs.Corner.{Corner}
+use Rattle.drain_hgt.specs.Samples.{IsTile, samples_of, tile_sample_at}
+use Rattle.drain_raster.specs.Pixels.{pixel_at}
+use Rattle.drain_rules.specs.Rows.{place}
+use Rattle.drain_verdict.specs.Answers.{IsAnswerIn, IsAuditIn}
+use Rattle.drain_verdict.specs.DemGround.{DemTexts, dem_fields, dem_ground}
+use Rattle.drain_verdict.specs.Ground.{Ground}
+use Rattle.drain_verdict.specs.GroundSets.{GroundSet}
+use Rattle.drain_verdict.specs.Inputs.{Inputs}
+use Rattle.drain_verdict.specs.Outcomes.{IsOutcomeIn}
+use Rattle.drain_verdict.specs.Texts.{SetTexts, set_fields}
+use Rattle.drain_verdict.specs.TileGround.{tile_ground}
+
+-- what a ground is read from: tiles, or a raster of elevations
+pub data Terrain : Type 0 where
+  tiles : Inputs → Terrain
+  raster : DemTexts → Terrain
+
+abbrev pub ground_of : Terrain → Ground
+ground_of (tiles i) = tile_ground i
+ground_of (raster d) = dem_ground d
+
+-- the same with texts on it
+abbrev pub set_on : Terrain → SetTexts → GroundSet
+set_on x t = record { terrain = ground_of x; texts = t }
+
+-- as many rows and columns, and the same elevation at each cell
+pub record HaveOneElevation (a b : Ground) : Type 0 where
+  pub extent : b.extent ≡ a.extent
+  pub elevation : (c : Cell) → IsCellOf a.extent c → b.elevation c ≡ a.elevation c
+
+-- no refusal of its own applies
+abbrev pub IsSound : Ground → Type 0
+IsSound g = (refusal : Refusal) → ¬ g.Refuses refusal
+
+-- they have the same elevations, neither is refused, and each product of these texts lies on both or on neither
+pub record AreOneGround (a b : Ground) (t : SetTexts) : Type 0 where
+  pub cells : HaveOneElevation a b
+  pub one_sound : IsSound a
+  pub other_sound : IsSound b
+  pub lies : (p : SetProduct) → b.Holds (set_fields t p).place ↔ a.Holds (set_fields t p).place
+
+-- every answer about the one is an answer about the other: of an audit, of a check, and on judged rasters
+pub record HaveOneAnswer (a b : GroundSet) : Type 0 where
+  pub audit : (answer : Result AuditVerdict Refusal) → IsAuditIn a answer ↔ IsAuditIn b answer
+  pub check : (answer : Result Verdict Refusal) → IsAnswerIn a answer ↔ IsAnswerIn b answer
+  pub judged : (judged : Judged) (answer : Result Outcome Refusal) → IsOutcomeIn judged a answer ↔ IsOutcomeIn judged b answer
+
+-- the same elevations get the same answer, whatever says them
+abbrev pub OneElevationOneAnswer : Type 0
+OneElevationOneAnswer = (a b : Terrain) (t : SetTexts) → AreOneGround (ground_of a) (ground_of b) t → HaveOneAnswer (set_on a t) (set_on b t)
+
+-- the raster's pixels are the tile's samples: a square of them, where the sample of a void is the no-data number
+pub record HasSamplesOf (side : ℕ) (tile : List ℕ) (d : DemTexts) : Type 0 where
+  pub rows : (dem_fields d).rows ≡ side
+  pub cols : (dem_fields d).cols ≡ side
+  pub nodata : (dem_fields d).nodata ≡ Some VOID
+  pub pixels : (row col : ℕ) → row < side → col < side → pixel_at (dem_fields d) d.body (place row col) ≡ tile_sample_at side (samples_of tile) row col
+
+-- then it has the elevations of the one tile
+abbrev pub SamplesAreElevations : Type 0
+SamplesAreElevations =
+    (i : Inputs) (corner : Corner) (tile : List ℕ) (d : DemTexts) → IsSide i.side → i.corners ≡ corner ∷ [] → i.tiles ≡ tile ∷ [] →
+    HasSamplesOf i.side tile d → HaveOneElevation (tile_ground i) (dem_ground d)
+
+-- the header of a tile's own bytes: pixels of 16 bits, signed, the most significant byte first, with no byte between rows
+pub record IsTileHeader (side : ℕ) (h : Fields) : Type 0 where
+  pub rows : h.rows ≡ side
+  pub cols : h.cols ≡ side
+  pub bits : h.bits ≡ 16
+  pub signed : h.signed ≡ true
+  pub order : h.order ≡ Most
+  pub skip : h.skip ≡ 0
+  pub row_bytes : h.row_bytes ≡ 2 * side
+  pub nodata : h.nodata ≡ Some VOID
+
+-- a tile with such a header is a raster of its samples
+abbrev pub TilesAreRasters : Type 0
+TilesAreRasters = (side : ℕ) (d : DemTexts) → IsTile side d.body → IsTileHeader side (dem_fields d) → HasSamplesOf side d.body d
