@@ -22,3 +22,4 @@ pub mod DemSteps
 pub mod DemAnswers
 pub mod SameGrids
 pub mod SameAnswers
+pub mod TilePixels

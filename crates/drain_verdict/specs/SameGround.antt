@@ -1,8 +1,9 @@
 -- Two grounds that say the same, as a tile and a raster with its samples: both get one answer.
-use Rattle.std.specs.Prelude.{◌≡◌, ◌↔◌, ℕ, ◌*◌, ◌<◌, Bool, true, List, [], ◌∷◌, Option, Some, Result}
+use Rattle.std.specs.Prelude.{◌≡◌, ◌↔◌, ℕ, ◌*◌, ◌<◌, Bool, true, List, [], ◌∷◌, Option, Some, Result, Ok, Err}
 use Rattle.drain_answer.specs.declared.outcome.AuditVerdict.{AuditVerdict}
 use Rattle.drain_answer.specs.declared.outcome.Outcome.{Outcome}
 use Rattle.drain_answer.specs.declared.refusal.Refusal.{Refusal}
+use Rattle.drain_answer.specs.declared.refusal.Refusal.TheVariants.{OutOfMemory, ReadFailed}
 use Rattle.drain_grid.specs.declared.cell.Cell.{Cell}
 use Rattle.drain_grid.specs.declared.judged.Judged.{Judged}
 use Rattle.drain_grid.specs.declared.set_product.SetProduct.{SetProduct}
@@ -63,6 +64,27 @@ pub record HaveOneAnswer (a b : GroundSet) : Type 0 where
 -- the same elevations get the same answer, whatever says them
 abbrev pub OneElevationOneAnswer : Type 0
 OneElevationOneAnswer = (a b : Terrain) (t : SetTexts) → AreOneGround (ground_of a) (ground_of b) t → HaveOneAnswer (set_on a t) (set_on b t)
+
+-- it is about bytes: memory didn't run out, and no read failed
+abbrev pub IsOfBytes : {A : Type 0} → Result A Refusal → Type 0
+IsOfBytes (Ok verdict) = Unit {0}
+IsOfBytes (Err OutOfMemory) = ⊥
+IsOfBytes (Err ReadFailed) = ⊥
+IsOfBytes (Err refusal) = Unit {0}
+
+-- an answer about the one is the answer about the other, if both are about bytes
+abbrev pub IsOne : {A : Type 0} → (Result A Refusal → Type 0) → (Result A Refusal → Type 0) → Type 0
+IsOne {A} IsHere IsThere = (here there : Result A Refusal) → IsOfBytes here → IsOfBytes there → IsHere here → IsThere there → here ≡ there
+
+-- so of an audit, of a check, and on judged rasters
+pub record HaveOneLine (a b : GroundSet) : Type 0 where
+  pub audit : IsOne (IsAuditIn a) (IsAuditIn b)
+  pub check : IsOne (IsAnswerIn a) (IsAnswerIn b)
+  pub judged : (judged : Judged) → IsOne (IsOutcomeIn judged a) (IsOutcomeIn judged b)
+
+-- so the same line is printed
+abbrev pub OneElevationOneLine : Type 0
+OneElevationOneLine = (a b : Terrain) (t : SetTexts) → AreOneGround (ground_of a) (ground_of b) t → HaveOneLine (set_on a t) (set_on b t)
 
 -- the raster's pixels are the tile's samples: a square of them, where the sample of a void is the no-data number
 pub record HasSamplesOf (side : ℕ) (tile : List ℕ) (d : DemTexts) : Type 0 where

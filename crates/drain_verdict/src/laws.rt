@@ -3,7 +3,7 @@
 //! A law is a function with an empty body: its contract is the law, and a caller gets the law by calling it.
 
 ghost use Rattle.drain_verdict.specs.Laws.{RasterLaws, InputsAreTold};
-ghost use Rattle.drain_verdict.specs.SameGround.{OneElevationOneAnswer};
+ghost use Rattle.drain_verdict.specs.SameGround.{OneElevationOneAnswer, SamplesAreElevations, TilesAreRasters};
 ghost use Rattle.drain_verdict.specs.TileRows.{TileRowLaws};
 
 use drain_device::ByteSource;
@@ -54,3 +54,14 @@ pub fn one_elevation_one_answer()
     padding_keeps_runs();
     padding_keeps_first_endless();
 }
+
+/// A raster whose pixels are the samples of a tile, a square of them with -32768 for a void, has the elevations of that one
+/// tile.
+pub fn samples_are_elevations()
+    ensures { SamplesAreElevations }
+{}
+
+/// A whole tile, with a header of 16 bits that says so, is a raster of its samples.
+pub fn tiles_are_rasters()
+    ensures { TilesAreRasters }
+{}
