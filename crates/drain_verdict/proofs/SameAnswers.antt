@@ -28,12 +28,13 @@ use Rattle.drain_paths.specs.declared.walk.TheConstants.{UNKNOWN}
 use Rattle.drain_rows.specs.GridRows.{AllRunsEnd}
 use Rattle.drain_rules.specs.Verdicts.{IsVerdict, IsVerdictBy}
 use Rattle.drain_text.specs.First.{IsBefore, IsFirst}
+use Rattle.drain_verdict.proofs.OneAnswer.{audit_is_one, check_is_one, outcome_is_one}
 use Rattle.drain_verdict.proofs.SameGrids as grids
 use Rattle.drain_verdict.specs.Answers.{IsAnswerIn, IsAuditIn, IsAuditVerdict, certified, certified_nodata, certified_ranks}
 use Rattle.drain_verdict.specs.Ground.{Ground}
 use Rattle.drain_verdict.specs.GroundSets.{GroundSet, IsReadable, IsRefusalIn, StandsIn, order_in, set_grid, set_numbers, set_products}
 use Rattle.drain_verdict.specs.Outcomes.{IsConOutcome, IsOutcome, IsOutcomeIn, IsRankOutcome, IsWayOutcome, rules_of, without_outlets}
-use Rattle.drain_verdict.specs.SameGround.{AreOneGround, HaveOneAnswer, IsSound}
+use Rattle.drain_verdict.specs.SameGround.{AreOneGround, HaveOneAnswer, HaveOneLine, IsOne, IsSound}
 use Rattle.drain_verdict.specs.Texts.{SetTexts, set_fields, set_listed}
 
 -- what follows of each product follows of the one that is named
@@ -250,3 +251,18 @@ one_answer runs_kept endless_kept a b t one =
         outcome_over runs_kept endless_kept e t b a one.cells.elevation one.other_sound one.one_sound lies judged answer,
       );
     })
+
+-- so two answers about bytes, of which one is about the one and the other about the other, are one
+over : {A : Type 0} (Here There : Result A Refusal → Type 0) → ((answer : Result A Refusal) → Here answer ↔ There answer) → IsOne There There → IsOne Here There
+over Here There both one here there told told_too is is_there = one here there told told_too ((both here).0 is) is_there
+
+pub one_line : PaddingKeepsRuns → PaddingKeepsFirstEndless → (a b : Ground) (t : SetTexts) → AreOneGround a b t →
+    HaveOneLine (record { terrain = a; texts = t }) (record { terrain = b; texts = t })
+one_line runs_kept endless_kept a b t one =
+    let both = one_answer runs_kept endless_kept a b t one in
+    let there : GroundSet = record { terrain = b; texts = t } in
+    record {
+      audit = over _ _ both.audit (audit_is_one there one.other_sound);
+      check = over _ _ both.check (check_is_one there one.other_sound);
+      judged = λ judged. over _ _ (both.judged judged) (outcome_is_one there one.other_sound judged);
+    }

@@ -3,7 +3,7 @@
 //! A law is a function with an empty body: its contract is the law, and a caller gets the law by calling it.
 
 ghost use Rattle.drain_verdict.specs.Laws.{RasterLaws, InputsAreTold};
-ghost use Rattle.drain_verdict.specs.SameGround.{OneElevationOneAnswer, SamplesAreElevations, TilesAreRasters};
+ghost use Rattle.drain_verdict.specs.SameGround.{OneElevationOneAnswer, OneElevationOneLine, SamplesAreElevations, TilesAreRasters};
 ghost use Rattle.drain_verdict.specs.TileRows.{TileRowLaws};
 
 use drain_device::ByteSource;
@@ -50,6 +50,14 @@ pub fn inputs_are_told<R: ByteSource>()
 /// refused itself and each product lies on both or on neither.
 pub fn one_elevation_one_answer()
     ensures { OneElevationOneAnswer }
+{
+    padding_keeps_runs();
+    padding_keeps_first_endless();
+}
+
+/// So the two lines are the same, if memory doesn't run out and no read fails.
+pub fn one_elevation_one_line()
+    ensures { OneElevationOneLine }
 {
     padding_keeps_runs();
     padding_keeps_first_endless();
