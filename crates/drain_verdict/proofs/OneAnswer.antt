@@ -41,7 +41,7 @@ use Rattle.drain_verdict.specs.Answers.{IsAnswerIn, IsAuditIn, IsAuditVerdict, c
 use Rattle.drain_verdict.specs.Ground.{refusal_kind}
 use Rattle.drain_verdict.specs.GroundSets.{GroundSet, IsReadable, IsRefusalIn, StandsIn, order_in, place_in, set_grid, set_numbers, set_products}
 use Rattle.drain_verdict.specs.Outcomes.{IsConOutcome, IsOutcome, IsOutcomeIn, IsRankOutcome, IsWayOutcome, rules_of}
-use Rattle.drain_verdict.specs.SameGround.{IsOfBytes, IsOne, IsSound}
+use Rattle.drain_verdict.specs.SameGround.{IsOfBytes, IsSound}
 
 -- The verdict.
 
@@ -62,7 +62,7 @@ first_fault_once profile IsOwn g ps c d r q one other =
       | inr (inr later) ↦ absurd (other.fails (one.first d q other.inside other.is_own (inl later)))
     ]
 
-verdict_once : (profile : Profile) (IsOwn : Rule → Type 0) (g : Grid) (ps : Products) (one other : Verdict) →
+pub verdict_once : (profile : Profile) (IsOwn : Rule → Type 0) (g : Grid) (ps : Products) (one other : Verdict) →
     IsVerdictAmong profile IsOwn g ps one → IsVerdictAmong profile IsOwn g ps other → one ≡ other
 verdict_once profile IsOwn g ps (checked.Accepted k) (checked.Accepted m) one other = ap (λ n. checked.Accepted n) (one.1 ∙ sym other.1)
 verdict_once profile IsOwn g ps (checked.Accepted k) (checked.Rejected r row col) one other = absurd (other.fails (one.0 _ r other.inside other.is_own))
@@ -104,7 +104,7 @@ tried_once : (judged : Judged) (g : Grid) (ps : Products) (nodata : NoDataNumber
     IsVerdictBy (rules_of judged nodata) g ps other → as_outcome one ≡ as_outcome other
 tried_once judged g ps nodata one other is too = ap as_outcome (verdict_once (tried (rules_of judged nodata)) (IsTried judged) g ps one other is too)
 
-audit_once : (g : Grid) (ps : Products) (nodata : NoDataNumbers) (one other : AuditVerdict) → IsAuditVerdict g ps nodata one →
+pub audit_once : (g : Grid) (ps : Products) (nodata : NoDataNumbers) (one other : AuditVerdict) → IsAuditVerdict g ps nodata one →
     IsAuditVerdict g ps nodata other → one ≡ other
 audit_once g ps nodata (audited.NoEnd row col) (audited.NoEnd down right) one other =
     ap (λ (c : Cell). audited.NoEnd c.row c.col) (endless_once g ps (record { row = row; col = col }) (record { row = down; col = right }) one other)
@@ -163,7 +163,7 @@ con_once g ps nodata (judged_as.NoEnd row col) outcome one other = absurd one
 con_once g ps nodata outcome (judged_as.Accepted k) one other = absurd other
 con_once g ps nodata outcome (judged_as.NoEnd row col) one other = absurd other
 
-outcome_once : (judged : Judged) (g : Grid) (ps : Products) (nodata : NoDataNumbers) (one other : Outcome) → IsOutcome judged g ps nodata one →
+pub outcome_once : (judged : Judged) (g : Grid) (ps : Products) (nodata : NoDataNumbers) (one other : Outcome) → IsOutcome judged g ps nodata one →
     IsOutcome judged g ps nodata other → one ≡ other
 outcome_once Con g ps nodata one other is too = con_once g ps nodata one other is too
 outcome_once AllWithRanks g ps nodata one other is too = rank_once g ps nodata one other is too
@@ -249,7 +249,8 @@ module _ (s : GroundSet) (sound : IsSound s.terrain) where
   -- an answer that is readable with such a verdict, or a refusal
   once : (A : Type 0) (IsRight : A → Type 0) (Is : Result A Refusal → Type 0) →
       ((verdict : A) → Is (Ok verdict) → IsReadable s × IsRight verdict) → ((refusal : Refusal) → Is (Err refusal) → IsRefusalIn s refusal) →
-      ((one other : A) → IsRight one → IsRight other → one ≡ other) → IsOne Is Is
+      ((one other : A) → IsRight one → IsRight other → one ≡ other) →
+      (one other : Result A Refusal) → IsOfBytes one → IsOfBytes other → Is one → Is other → one ≡ other
   once A IsRight Is ok err same (Ok one) (Ok other) told told_too is too = ap (λ v. Ok v) (same one other (ok one is).1 (ok other too).1)
   once A IsRight Is ok err same (Ok one) (Err refusal) told told_too is too =
       absurd ((ok one is).0 refusal (first_of A refusal told_too (err refusal too)).holds)
@@ -258,17 +259,18 @@ module _ (s : GroundSet) (sound : IsSound s.terrain) where
   once A IsRight Is ok err same (Err one) (Err other) told told_too is too =
       ap (λ r. Err r) (refusal_once one other (first_of A one told (err one is)) (first_of A other told_too (err other too)))
 
-  pub audit_is_one : IsOne (IsAuditIn s) (IsAuditIn s)
+  pub audit_is_one : (one other : Result AuditVerdict Refusal) → IsOfBytes one → IsOfBytes other → IsAuditIn s one → IsAuditIn s other → one ≡ other
   audit_is_one =
       once AuditVerdict (IsAuditVerdict (set_grid s) (set_products s) (set_numbers s)) (IsAuditIn s) (λ verdict is. is) (λ refusal is. is)
       (audit_once (set_grid s) (set_products s) (set_numbers s))
 
-  pub check_is_one : IsOne (IsAnswerIn s) (IsAnswerIn s)
+  pub check_is_one : (one other : Result Verdict Refusal) → IsOfBytes one → IsOfBytes other → IsAnswerIn s one → IsAnswerIn s other → one ≡ other
   check_is_one =
       once Verdict (IsVerdict (set_grid s) (set_products s) (set_numbers s)) (IsAnswerIn s) (λ verdict is. is) (λ refusal is. is)
       (verdict_once (check_rules (set_numbers s)) IsAnyRule (set_grid s) (set_products s))
 
-  pub outcome_is_one : (judged : Judged) → IsOne (IsOutcomeIn judged s) (IsOutcomeIn judged s)
+  pub outcome_is_one : (judged : Judged) (one other : Result Outcome Refusal) → IsOfBytes one → IsOfBytes other → IsOutcomeIn judged s one → IsOutcomeIn judged s other →
+      one ≡ other
   outcome_is_one judged =
       once Outcome (IsOutcome judged (set_grid s) (set_products s) (set_numbers s)) (IsOutcomeIn judged s) (λ verdict is. is) (λ refusal is. is)
       (outcome_once judged (set_grid s) (set_products s) (set_numbers s))

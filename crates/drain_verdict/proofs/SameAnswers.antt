@@ -28,13 +28,13 @@ use Rattle.drain_paths.specs.declared.walk.TheConstants.{UNKNOWN}
 use Rattle.drain_rows.specs.GridRows.{AllRunsEnd}
 use Rattle.drain_rules.specs.Verdicts.{IsVerdict, IsVerdictBy}
 use Rattle.drain_text.specs.First.{IsBefore, IsFirst}
-use Rattle.drain_verdict.proofs.OneAnswer.{audit_is_one, check_is_one, outcome_is_one}
+use Rattle.drain_verdict.proofs.OneAnswer.{audit_is_one, audit_once, check_is_one, outcome_is_one, outcome_once, verdict_once}
 use Rattle.drain_verdict.proofs.SameGrids as grids
 use Rattle.drain_verdict.specs.Answers.{IsAnswerIn, IsAuditIn, IsAuditVerdict, certified, certified_nodata, certified_ranks}
 use Rattle.drain_verdict.specs.Ground.{Ground}
 use Rattle.drain_verdict.specs.GroundSets.{GroundSet, IsReadable, IsRefusalIn, StandsIn, order_in, set_grid, set_numbers, set_products}
 use Rattle.drain_verdict.specs.Outcomes.{IsConOutcome, IsOutcome, IsOutcomeIn, IsRankOutcome, IsWayOutcome, rules_of, without_outlets}
-use Rattle.drain_verdict.specs.SameGround.{AreOneGround, HaveOneAnswer, HaveOneLine, IsOne, IsSound}
+use Rattle.drain_verdict.specs.SameGround.{AreOne, AreOneGround, HaveOneAnswer, HaveOneElevation, HaveOneVerdict, IsOfBytes, IsSound}
 use Rattle.drain_verdict.specs.Texts.{SetTexts, set_fields, set_listed}
 
 -- what follows of each product follows of the one that is named
@@ -230,39 +230,52 @@ module _ (runs_kept : PaddingKeepsRuns) (endless_kept : PaddingKeepsFirstEndless
 turned : {A B : Type 0} → A ↔ B → B ↔ A
 turned is = (is.1, is.0)
 
+-- what holds both ways of each answer, and once of the other's, is one
+are_one : {A : Type 0} (Here There : Result A Refusal → Type 0) → ((answer : Result A Refusal) → Here answer → There answer) →
+    ((answer : Result A Refusal) → There answer → Here answer) →
+    ((one other : Result A Refusal) → IsOfBytes one → IsOfBytes other → There one → There other → one ≡ other) → AreOne Here There
+are_one Here There over back once = record {
+  same = λ answer. (over answer, back answer);
+  one = λ here there told told_too is is_there. once here there told told_too (over here is) is_there;
+}
+
 pub one_answer : PaddingKeepsRuns → PaddingKeepsFirstEndless → (a b : Ground) (t : SetTexts) → AreOneGround a b t →
     HaveOneAnswer (record { terrain = a; texts = t }) (record { terrain = b; texts = t })
 one_answer runs_kept endless_kept a b t one =
     let e = a.extent in
-    let there : (c : Cell) → IsCellOf e c → a.elevation c ≡ b.elevation c = λ c inside. sym (one.cells.elevation c inside) in
+    let same : (c : Cell) → IsCellOf e c → a.elevation c ≡ b.elevation c = λ c inside. sym (one.cells.elevation c inside) in
     let lies : (p : SetProduct) → a.Holds (set_fields t p).place ↔ b.Holds (set_fields t p).place = λ p. turned (one.lies p) in
     subst (λ (x : Extent). HaveOneAnswer (record { terrain = a; texts = t }) (set_at x b t)) (sym one.cells.extent)
     (record {
-      audit = λ answer. (
-        audit_over runs_kept endless_kept e t a b there one.one_sound one.other_sound one.lies answer,
-        audit_over runs_kept endless_kept e t b a one.cells.elevation one.other_sound one.one_sound lies answer,
-      );
-      check = λ answer. (
-        check_over runs_kept endless_kept e t a b there one.one_sound one.other_sound one.lies answer,
-        check_over runs_kept endless_kept e t b a one.cells.elevation one.other_sound one.one_sound lies answer,
-      );
-      judged = λ judged answer. (
-        outcome_over runs_kept endless_kept e t a b there one.one_sound one.other_sound one.lies judged answer,
-        outcome_over runs_kept endless_kept e t b a one.cells.elevation one.other_sound one.one_sound lies judged answer,
-      );
+      audit =
+          are_one _ _ (audit_over runs_kept endless_kept e t a b same one.one_sound one.other_sound one.lies)
+          (audit_over runs_kept endless_kept e t b a one.cells.elevation one.other_sound one.one_sound lies)
+          (audit_is_one (set_at e b t) one.other_sound);
+      check =
+          are_one _ _ (check_over runs_kept endless_kept e t a b same one.one_sound one.other_sound one.lies)
+          (check_over runs_kept endless_kept e t b a one.cells.elevation one.other_sound one.one_sound lies)
+          (check_is_one (set_at e b t) one.other_sound);
+      judged = λ judged.
+          are_one _ _ (outcome_over runs_kept endless_kept e t a b same one.one_sound one.other_sound one.lies judged)
+          (outcome_over runs_kept endless_kept e t b a one.cells.elevation one.other_sound one.one_sound lies judged)
+          (outcome_is_one (set_at e b t) one.other_sound judged);
     })
 
--- so two answers about bytes, of which one is about the one and the other about the other, are one
-over : {A : Type 0} (Here There : Result A Refusal → Type 0) → ((answer : Result A Refusal) → Here answer ↔ There answer) → IsOne There There → IsOne Here There
-over Here There both one here there told told_too is is_there = one here there told told_too ((both here).0 is) is_there
-
-pub one_line : PaddingKeepsRuns → PaddingKeepsFirstEndless → (a b : Ground) (t : SetTexts) → AreOneGround a b t →
-    HaveOneLine (record { terrain = a; texts = t }) (record { terrain = b; texts = t })
-one_line runs_kept endless_kept a b t one =
-    let both = one_answer runs_kept endless_kept a b t one in
-    let there : GroundSet = record { terrain = b; texts = t } in
-    record {
-      audit = over _ _ both.audit (audit_is_one there one.other_sound);
-      check = over _ _ both.check (check_is_one there one.other_sound);
-      judged = λ judged. over _ _ (both.judged judged) (outcome_is_one there one.other_sound judged);
-    }
+-- of the same elevations two verdicts are one, whatever else the grounds are
+pub one_verdict : PaddingKeepsRuns → PaddingKeepsFirstEndless → (a b : Ground) (t : SetTexts) → HaveOneElevation a b →
+    HaveOneVerdict (record { terrain = a; texts = t }) (record { terrain = b; texts = t })
+one_verdict runs_kept endless_kept a b t cells =
+    let e = a.extent in
+    let same : (c : Cell) → IsCellOf e c → a.elevation c ≡ b.elevation c = λ c inside. sym (cells.elevation c inside) in
+    let s : GroundSet = set_at e b t in
+    subst (λ (x : Extent). HaveOneVerdict (record { terrain = a; texts = t }) (set_at x b t)) (sym cells.extent)
+    (record {
+      audit = λ here there is is_there.
+          audit_once (set_grid s) (set_products s) (set_numbers s) here there (audit_there runs_kept endless_kept e t a b same here is.1) is_there.1;
+      check = λ here there is is_there.
+          verdict_once (check_rules (set_numbers s)) IsAnyRule (set_grid s) (set_products s) here there
+          (tried_there runs_kept endless_kept e t a b same AllWithRanks here is.1) is_there.1;
+      judged = λ judged here there is is_there.
+          outcome_once judged (set_grid s) (set_products s) (set_numbers s) here there
+          (outcome_there runs_kept endless_kept e t a b same judged here is.1) is_there.1;
+    })

@@ -55,16 +55,6 @@ pub record AreOneGround (a b : Ground) (t : SetTexts) : Type 0 where
   pub other_sound : IsSound b
   pub lies : (p : SetProduct) → b.Holds (set_fields t p).place ↔ a.Holds (set_fields t p).place
 
--- every answer about the one is an answer about the other: of an audit, of a check, and on judged rasters
-pub record HaveOneAnswer (a b : GroundSet) : Type 0 where
-  pub audit : (answer : Result AuditVerdict Refusal) → IsAuditIn a answer ↔ IsAuditIn b answer
-  pub check : (answer : Result Verdict Refusal) → IsAnswerIn a answer ↔ IsAnswerIn b answer
-  pub judged : (judged : Judged) (answer : Result Outcome Refusal) → IsOutcomeIn judged a answer ↔ IsOutcomeIn judged b answer
-
--- the same elevations get the same answer, whatever says them
-abbrev pub OneElevationOneAnswer : Type 0
-OneElevationOneAnswer = (a b : Terrain) (t : SetTexts) → AreOneGround (ground_of a) (ground_of b) t → HaveOneAnswer (set_on a t) (set_on b t)
-
 -- it is about bytes: memory didn't run out, and no read failed
 abbrev pub IsOfBytes : {A : Type 0} → Result A Refusal → Type 0
 IsOfBytes (Ok verdict) = Unit {0}
@@ -72,19 +62,30 @@ IsOfBytes (Err OutOfMemory) = ⊥
 IsOfBytes (Err ReadFailed) = ⊥
 IsOfBytes (Err refusal) = Unit {0}
 
--- an answer about the one is the answer about the other, if both are about bytes
-abbrev pub IsOne : {A : Type 0} → (Result A Refusal → Type 0) → (Result A Refusal → Type 0) → Type 0
-IsOne {A} IsHere IsThere = (here there : Result A Refusal) → IsOfBytes here → IsOfBytes there → IsHere here → IsThere there → here ≡ there
+-- each answer about the one is an answer about the other, and there is only one that is about bytes
+pub record AreOne {A : Type 0} (IsHere IsThere : Result A Refusal → Type 0) : Type 0 where
+  pub same : (answer : Result A Refusal) → IsHere answer ↔ IsThere answer
+  pub one : (here there : Result A Refusal) → IsOfBytes here → IsOfBytes there → IsHere here → IsThere there → here ≡ there
 
 -- so of an audit, of a check, and on judged rasters
-pub record HaveOneLine (a b : GroundSet) : Type 0 where
-  pub audit : IsOne (IsAuditIn a) (IsAuditIn b)
-  pub check : IsOne (IsAnswerIn a) (IsAnswerIn b)
-  pub judged : (judged : Judged) → IsOne (IsOutcomeIn judged a) (IsOutcomeIn judged b)
+pub record HaveOneAnswer (a b : GroundSet) : Type 0 where
+  pub audit : AreOne (IsAuditIn a) (IsAuditIn b)
+  pub check : AreOne (IsAnswerIn a) (IsAnswerIn b)
+  pub judged : (judged : Judged) → AreOne (IsOutcomeIn judged a) (IsOutcomeIn judged b)
 
--- so the same line is printed
-abbrev pub OneElevationOneLine : Type 0
-OneElevationOneLine = (a b : Terrain) (t : SetTexts) → AreOneGround (ground_of a) (ground_of b) t → HaveOneLine (set_on a t) (set_on b t)
+-- the same elevations get the same answer, refusals of products too, whatever says them
+abbrev pub SameElevationsSameAnswer : Type 0
+SameElevationsSameAnswer = (a b : Terrain) (t : SetTexts) → AreOneGround (ground_of a) (ground_of b) t → HaveOneAnswer (set_on a t) (set_on b t)
+
+-- where both get a verdict, it is one: of an audit, of a check, and on judged rasters
+pub record HaveOneVerdict (a b : GroundSet) : Type 0 where
+  pub audit : (here there : AuditVerdict) → IsAuditIn a (Ok here) → IsAuditIn b (Ok there) → here ≡ there
+  pub check : (here there : Verdict) → IsAnswerIn a (Ok here) → IsAnswerIn b (Ok there) → here ≡ there
+  pub judged : (judged : Judged) (here there : Outcome) → IsOutcomeIn judged a (Ok here) → IsOutcomeIn judged b (Ok there) → here ≡ there
+
+-- the same elevations get the same verdict
+abbrev pub SameElevationsSameVerdict : Type 0
+SameElevationsSameVerdict = (a b : Terrain) (t : SetTexts) → HaveOneElevation (ground_of a) (ground_of b) → HaveOneVerdict (set_on a t) (set_on b t)
 
 -- the raster's pixels are the tile's samples: a square of them, where the sample of a void is the no-data number
 pub record HasSamplesOf (side : ℕ) (tile : List ℕ) (d : DemTexts) : Type 0 where

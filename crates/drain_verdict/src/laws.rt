@@ -3,7 +3,7 @@
 //! A law is a function with an empty body: its contract is the law, and a caller gets the law by calling it.
 
 ghost use Rattle.drain_verdict.specs.Laws.{RasterLaws, InputsAreTold};
-ghost use Rattle.drain_verdict.specs.SameGround.{OneElevationOneAnswer, OneElevationOneLine, SamplesAreElevations, TilesAreRasters};
+ghost use Rattle.drain_verdict.specs.SameGround.{SameElevationsSameAnswer, SameElevationsSameVerdict, SamplesAreElevations, TilesAreRasters};
 ghost use Rattle.drain_verdict.specs.TileRows.{TileRowLaws};
 
 use drain_device::ByteSource;
@@ -43,21 +43,21 @@ pub fn inputs_are_told<R: ByteSource>()
     names_give_corners();
 }
 
-/// The same elevations get the same answer, of an audit, of a check and on judged rasters, whatever says them: tiles, or
-/// a raster.
-///
-/// Over the same product bytes every answer about the one ground is an answer about the other, if neither ground is
-/// refused itself and each product lies on both or on neither.
-pub fn one_elevation_one_answer()
-    ensures { OneElevationOneAnswer }
+/// The same elevations get the same verdict, of an audit, of a check and on judged rasters, whatever says them: tiles, or a
+/// raster.
+pub fn same_elevations_same_verdict()
+    ensures { SameElevationsSameVerdict }
 {
     padding_keeps_runs();
     padding_keeps_first_endless();
 }
 
-/// So the two lines are the same, if memory doesn't run out and no read fails.
-pub fn one_elevation_one_line()
-    ensures { OneElevationOneLine }
+/// And the same answer, refusals of products too, if neither ground is refused itself and each product lies on both or on
+/// neither.
+///
+/// Each answer about the one is an answer about the other. Unless memory runs out or a read fails, there is only one.
+pub fn same_elevations_same_answer()
+    ensures { SameElevationsSameAnswer }
 {
     padding_keeps_runs();
     padding_keeps_first_endless();
