@@ -67,42 +67,48 @@ mkdir "$scratch/valley/folder.bil"
 cp "$valley/dem.hdr" "$scratch/valley/folder.hdr"
 judge_audit 'a folder as the raster of elevations' 3 'failed ReadFailed' --dem "$scratch/valley/folder.bil" "${words[@]:2}"
 
-# A tile as one raster, its bytes as they are: the sets of other tools and real terrain have the lines that they have with the tile.
-# Usage: put_tile SIDE TILE    writes $scratch/valley/tile.bil and its header, in the place of N36W085
+# A tile as one raster, its bytes as they are: each bundled tile with each of its sets has the line that it has as a tile.
+# Usage: put_tile SIDE TILE WEST NORTH    writes $scratch/valley/tile.bil and its header, with this corner
 put_tile() {
     local step
     step=$(python3 -c "print(f'{10**15 // ($1 - 1) / 10**15:.15f}')")
-    printf '%s\n' "NROWS $1" "NCOLS $1" 'NBITS 16' 'BYTEORDER M' 'NODATA -32768' 'ULXMAP -85' 'ULYMAP 37' "XDIM $step" "YDIM $step" \
+    printf '%s\n' "NROWS $1" "NCOLS $1" 'NBITS 16' 'BYTEORDER M' 'NODATA -32768' "ULXMAP $3" "ULYMAP $4" "XDIM $step" "YDIM $step" \
         >"$scratch/valley/tile.hdr"
     cp "$2" "$scratch/valley/tile.bil"
 }
-put_tile 51 samples/other-tools/N36W085.hgt
+put_tile 51 samples/other-tools/N36W085.hgt -85 37
 while read -r name line; do
     case $line in accepted*) status=0 ;; *) status=1 ;; esac
     judge_audit "other tools on one raster, $name" "$status" "$line" --dem "$scratch/valley/tile.bil" --products "samples/other-tools/$name"
 done < <(sed -nE 's/^\| `([a-z-]+)` \| `(accepted|rejected) ([^`]*)` \|.*/\1 \2 \3/p' samples/other-tools/README.md)
-put_tile 121 samples/jacksboro/N36W085.hgt
-for command in audit check; do
-    judge_words "real terrain as one raster, $command" 0 'accepted rows=121 cols=121 data=14641 raised=690 outlets=32' \
-        "$command" --dem "$scratch/valley/tile.bil" --products samples/jacksboro
-done
-put_tile 344 samples/N36W085.hgt
-judge_words 'all of the terrain as one raster' 0 'accepted rows=344 cols=344 data=118336 raised=5200 outlets=115' \
-    check --dem "$scratch/valley/tile.bil" --products "$scratch/wide"
 
-# What is derived over the tile as one raster is what is derived over the tile.
-put_tile 121 samples/jacksboro/N36W085.hgt
-mkdir "$scratch/valley/of-tile" "$scratch/valley/of-raster"
-judge_words 'derived over a tile' 0 'derived rows=121 cols=121' \
-    derive --side 121 --products samples/jacksboro --out "$scratch/valley/of-tile" samples/jacksboro/N36W085.hgt
-judge_words 'derived over the tile as one raster' 0 'derived rows=121 cols=121' \
-    derive --dem "$scratch/valley/tile.bil" --products samples/jacksboro --out "$scratch/valley/of-raster"
-for file in "$scratch/valley/of-tile"/*; do
-    cp "$file" "$scratch/want"
-    cp "$scratch/valley/of-raster/${file##*/}" "$scratch/out"
-    : >"$scratch/err"
-    judge "derived over the tile as one raster: ${file##*/}" 0 "$scratch/want" 0
-done
+# Usage: judge_derived SIDE TILE PRODUCTS    what is derived over the tile as one raster is what is derived over the tile
+judge_derived() {
+    local of_tile=$scratch/valley/of-tile-$1 of_raster=$scratch/valley/of-raster-$1 file
+    mkdir "$of_tile" "$of_raster"
+    judge_words "derived over $2, side $1" 0 "derived rows=$1 cols=$1" derive --side "$1" --products "$3" --out "$of_tile" "$2"
+    judge_words "derived over $2, side $1, as one raster" 0 "derived rows=$1 cols=$1" \
+        derive --dem "$scratch/valley/tile.bil" --products "$3" --out "$of_raster"
+    for file in "$of_tile"/*; do
+        cp "$file" "$scratch/want"
+        cp "$of_raster/${file##*/}" "$scratch/out"
+        : >"$scratch/err"
+        judge "derived over $2, side $1, as one raster: ${file##*/}" 0 "$scratch/want" 0
+    done
+}
+while read -r side tile products west north counts; do
+    put_tile "$side" "$tile" "$west" "$north"
+    for command in audit check; do
+        line="accepted rows=$side cols=$side $counts"
+        judge_words "$tile, side $side, $command" 0 "$line" "$command" --side "$side" --products "$products" "$tile"
+        judge_words "$tile, side $side, as one raster, $command" 0 "$line" "$command" --dem "$scratch/valley/tile.bil" --products "$products"
+    done
+    judge_derived "$side" "$tile" "$products"
+done <<EOF
+3 samples/pit-3/N00E000.hgt samples/pit-3 0 1 data=9 raised=1 outlets=8
+121 samples/jacksboro/N36W085.hgt samples/jacksboro -85 37 data=14641 raised=690 outlets=32
+344 samples/N36W085.hgt $scratch/wide -85 37 data=118336 raised=5200 outlets=115
+EOF
 
 # Nothing is written over the raster of elevations: a usage error, and it stays.
 mkdir "$scratch/valley/over"

@@ -20,3 +20,7 @@ pub mod TileBodies
 mod TileSteps
 pub mod DemSteps
 pub mod DemAnswers
+pub mod OneAnswer
+pub mod SameGrids
+pub mod SameAnswers
+pub mod TilePixels

@@ -19,3 +19,4 @@ pub mod TileGround
 pub mod TileRows
 pub mod ToGive
 pub mod DemGround
+pub mod SameGround

@@ -3,10 +3,12 @@
 //! A law is a function with an empty body: its contract is the law, and a caller gets the law by calling it.
 
 ghost use Rattle.drain_verdict.specs.Laws.{RasterLaws, InputsAreTold};
+ghost use Rattle.drain_verdict.specs.SameGround.{SameElevationsSameAnswer, SameElevationsSameVerdict, SamplesAreElevations, TilesAreRasters};
 ghost use Rattle.drain_verdict.specs.TileRows.{TileRowLaws};
 
 use drain_device::ByteSource;
 use drain_hgt::laws::names_give_corners;
+use drain_laws::{padding_keeps_first_endless, padding_keeps_runs};
 use drain_mosaic::laws::{
     rows_are_first_values, rows_are_whole, rows_end, rows_tell_lengths, rows_tell_seams,
     whole_tiles_give_their_samples,
@@ -40,3 +42,34 @@ pub fn inputs_are_told<R: ByteSource>()
 {
     names_give_corners();
 }
+
+/// The same elevations get the same verdict, of an audit, of a check and on judged rasters, whatever says them: tiles, or a
+/// raster.
+pub fn same_elevations_same_verdict()
+    ensures { SameElevationsSameVerdict }
+{
+    padding_keeps_runs();
+    padding_keeps_first_endless();
+}
+
+/// And the same answer, refusals of products too, if neither ground is refused itself and each product lies on both or on
+/// neither.
+///
+/// Each answer about the one is an answer about the other. Unless memory runs out or a read fails, there is only one.
+pub fn same_elevations_same_answer()
+    ensures { SameElevationsSameAnswer }
+{
+    padding_keeps_runs();
+    padding_keeps_first_endless();
+}
+
+/// A raster whose pixels are the samples of a tile, a square of them with -32768 for a void, has the elevations of that one
+/// tile.
+pub fn samples_are_elevations()
+    ensures { SamplesAreElevations }
+{}
+
+/// A whole tile, with a header of 16 bits that says so, is a raster of its samples.
+pub fn tiles_are_rasters()
+    ensures { TilesAreRasters }
+{}
