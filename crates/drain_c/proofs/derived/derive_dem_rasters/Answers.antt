@@ -1,4 +1,5 @@
 use Rattle.std.proofs.Common.{[], ◌∷◌}
+use Rattle.std.proofs.lemmas.Result.{err_from_is_err_and}
 use Rattle.drain_device.specs.contracts.slice_source.SliceSourceByteSource.TheImpl.{bytes_left-value}
 use Rattle.drain_c.specs.Given.{audit_raster}
 use Rattle.drain_c.proofs.CutInputs.{dem_cut}
@@ -26,4 +27,5 @@ pub returns-in_err-header-clause-err : goal.returns-in_err-header-clause-err
 returns-in_err-header-clause-err c =
     let call = dem_call bytes_left-value.it c.args.dem.now [] (audit_raster c.args.products.now) c.in-Ok.dem (as_five c.in-Ok-audit_inputs.products)
     c.in-Ok.ensures.same c.in-Ok-audit_inputs.ensures.same in
-    why_of_bytes dem_cut call c.in_err-header.field-0.0 c.in_err-header.ensures.err
+    let told = err_from_is_err_and c.from_residual.result c.from_residual.ensures.1 in
+    rw (told.1, told.2) (why_of_bytes dem_cut call _ c.in_err-header.ensures.err)
