@@ -57,11 +57,8 @@ class Library:
     def derive(self, one: Set, codes: Array) -> tuple[str, int, Array, Array]:
         """The answer, and acc and bas along these codes."""
         acc, bas, rnk = (np.zeros(one.shape, "<u4") for _ in range(3))
-        dem, dir, answer = (
-            Rasters(one, ["dem"], one.arrays),
-            Rasters(one, ["dir"], {"dir": codes}),
-            np.zeros((), ANSWER),
-        )
+        answer = np.zeros((), ANSWER)
+        dem, dir = Rasters(one, ["dem"], one.arrays), Rasters(one, ["dir"], {"dir": codes})
         places = [number for made in (acc, bas, rnk) for number in (made.ctypes.data, made.size)]
         status = self.calls.drain_derive_dem(dem.at, dir.at, *places, answer.ctypes.data)
         return answer["line"].item().decode(), status, acc, bas
