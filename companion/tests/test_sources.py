@@ -74,6 +74,14 @@ def test_faults_of_a_data_array_are_one(tmp_path: Path, world: worlds.World) -> 
     assert np.array_equal(faults.x, dem.x) and np.array_equal(faults.y, dem.y)
 
 
+def test_rows_of_a_data_array_that_are_turned_over_are_seen(tmp_path: Path, world: worlds.World) -> None:
+    """rioxarray keeps the place that the file had: coordinates count."""
+    dem = rioxarray.open_rasterio(worlds.write_set(tmp_path, world)["dem"])
+    assert layer_of("dem", dem[:, 3:, ::2]).transform == worlds.UTM * worlds.Affine(2, 0, -0.5, 0, 1, 3)
+    with pytest.raises(drain_gis.CannotJudge, match="first row is the southernmost"):
+        drain_gis.audit(dem[:, ::-1], con=world.masked("con"))
+
+
 def part(folder: Path, name: str, a: np.ndarray, row: int, col: int, **more: Any) -> str:
     """A tile whose first cell lies there."""
     place = worlds.UTM * worlds.Affine.translation(col, row)
