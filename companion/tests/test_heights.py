@@ -119,7 +119,7 @@ def test_ranges() -> None:
             dem = a.astype(kind)
             assert drain_gis.audit(dem, con=dem, dir=np.array([[0, 1, 0]]), codes="esri").line.endswith("outlets=2")
             assert drain_gis.audit(dem, con=dem, dir=np.array([[0, 0, 0]]), codes="esri").rule == 10
-    with pytest.raises(drain_gis.CannotJudge, match=f"{2**32 - 1:,} whole numbers"):
+    with pytest.raises(drain_gis.CannotJudge, match=f"are {2**32 - 1:,} whole numbers, which 32 bits don't hold$"):
         unit_of(np.array([[0, 2**32 - 1]], np.int64))
 
 
@@ -228,6 +228,10 @@ def test_slopes_on_flats_are_taken_off_and_reported() -> None:
     con = world.masked("con") + np.where(raised, np.random.default_rng(1).random(raised.shape) * 0.4 + 0.1, 0)
     verdict = drain_gis.audit(**{**world.given("dir"), "con": con}, flatten=True, codes="esri")
     assert verdict and any(f"{int(raised.sum())} cells rounded down" in note for note in verdict.notes)
+    dem, filled = ((a / 100 + 400).astype(np.float32) for a in (world.masked("dem"), world.masked("con")))
+    verdict = drain_gis.audit(dem, con=(filled + raised * 0.004).astype(np.float32), flatten=True)
+    assert verdict and any(f"{int(raised.sum())} cells rounded down to hundredths" in note for note in verdict.notes)
+    assert not drain_gis.audit(dem, con=(filled + raised * 0.03).astype(np.float32), flatten=True)
     for tenths in (9, 18, 19):  # the number below 0.9 times 10 is 9 in double precision
         below = np.array([[np.nextafter(tenths / 10, 0)]])
         assert heights.Unit(tens=1).whole(below, below != below, down=True)[0, 0] == tenths - 1
