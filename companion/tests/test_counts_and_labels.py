@@ -135,11 +135,8 @@ def test_sums_in_single_precision_are_taken_within_their_rounding() -> None:
     assert verdict.accepted and any("single precision" in note or "millionth" in note for note in verdict.notes)
     off[0, 5000:] += 1
     assert not drain_gis.audit(z, con=z, dir=codes, acc=off, codes="esri")
-    assert refused(
-        "acc",
-        "25468.98828125 at row 0, column 0 is no count. It may be a rounded sum",
-        acc=np.where(ACC == 3, 25468.988, ACC).astype("f4"),
-    )
+    near = np.where(ACC == 3, 25468.988, ACC).astype("f4")
+    assert refused("acc", "25468.98828125 at row 0, column 0 is no count. It may be a rounded sum", acc=near)
     large = ACC.astype(np.float32)
     large[0, 0] = 2.0**25
     verdict = audit(acc=large)

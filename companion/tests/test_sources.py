@@ -32,11 +32,9 @@ def as_source(kind: str, name: str, a: np.ndarray, void: np.ndarray, folder: Pat
     if kind == "data array":
         return xarray.DataArray(numbers, dims=("y", "x"), attrs={"_FillValue": NODATA}), None
     if kind == "tiles" and min(a.shape) > 1:
-        names = ("north", "south")
-        parts = [np.s_[:1], np.s_[1:]]
-        places = [worlds.UTM, worlds.UTM * worlds.Affine.translation(0, 1)]
-        made = zip(names, parts, places)
-        return [worlds.write_tif(folder / f"{name}-{n}.tif", numbers[p], NODATA, place) for n, p, place in made], None
+        made = ((0, np.s_[:1]), (1, np.s_[1:]))
+        places = [worlds.UTM * worlds.Affine.translation(0, row) for row, _ in made]
+        return [worlds.write_tif(folder / f"{name}-{n}.tif", numbers[p], NODATA, places[n]) for n, p in made], None
     path = worlds.write_tif(folder / f"{name}.tif", numbers, NODATA)
     if kind == "dataset":
         return rasterio.open(path), None
