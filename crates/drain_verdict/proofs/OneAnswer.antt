@@ -51,13 +51,13 @@ first_fault_once : (profile : Profile) (IsOwn : Rule → Type 0) (g : Grid) (ps 
 first_fault_once profile IsOwn g ps c d r q one other =
     elim (cases_earlier c d) [
       | inl same ↦ (
-          same,
-          elim (cases_order (rule_number r) (rule_number q)) [
-            | inl number ↦ same_rule r q number
-            | inr (inl less) ↦ absurd (one.fails (other.first c r one.inside one.is_own (inr (same, less))))
-            | inr (inr more) ↦ absurd (other.fails (one.first d q other.inside other.is_own (inr (sym same, more))))
-          ],
-        )
+        same,
+        elim (cases_order (rule_number r) (rule_number q)) [
+          | inl number ↦ same_rule r q number
+          | inr (inl less) ↦ absurd (one.fails (other.first c r one.inside one.is_own (inr (same, less))))
+          | inr (inr more) ↦ absurd (other.fails (one.first d q other.inside other.is_own (inr (sym same, more))))
+        ],
+      )
       | inr (inl earlier) ↦ absurd (one.fails (other.first c r one.inside one.is_own (inl earlier)))
       | inr (inr later) ↦ absurd (other.fails (one.first d q other.inside other.is_own (inl later)))
     ]
@@ -216,9 +216,9 @@ module _ (s : GroundSet) (sound : IsSound s.terrain) where
   same_refusal (BadHeader p fault) b is kind =
       at_header s (IsThis (BadHeader p fault)) (unless _)
       (λ q other place stands.
-          (let one : product_of q ≡ p = same_product (product_of q) p (omega (arith, place)) in
-          let same : other ≡ fault = same_fault s.texts.header p other fault (subst (OfSetProduct (λ h. Answers (s.texts.header h) (Err other))) one stands) is in
-          λ i. BadHeader (one i) (same i)))
+      (let one : product_of q ≡ p = same_product (product_of q) p (omega (arith, place)) in
+      let same : other ≡ fault = same_fault s.texts.header p other fault (subst (OfSetProduct (λ h. Answers (s.texts.header h) (Err other))) one stands) is in
+      λ i. BadHeader (one i) (same i)))
       (λ q place stands. absurd (omega (arith, place))) (λ q place stands. absurd (omega (arith, place))) b kind
   same_refusal (WrongShape p) b is kind =
       at_header s (IsThis (WrongShape p)) (unless _) (λ q other place stands. absurd (omega (arith, place)))
