@@ -164,8 +164,9 @@ uint32_t audit_only(uint32_t judged, const drain_audit_rasters *given, drain_ans
 }
 
 /* The calls that are tried with memory refused and in threads. */
-enum { AUDIT, CHECK, AUDIT_CON, AUDIT_WAYS, AUDIT_DEM, CHECK_DEM, EXPLAIN, DERIVE, CALLS };
-static const char *const call_names[CALLS] = {"audit", "check", "audit of con", "audit of con and dir", "audit of one raster", "check of one raster", "explanation", "derivation"};
+enum { AUDIT, CHECK, AUDIT_CON, AUDIT_WAYS, EXPLAIN, DERIVE, OVER_DEM, CALLS = OVER_DEM + 4 };
+static const char *const call_names[CALLS] = {"audit", "check", "audit of con", "audit of con and dir", "explanation", "derivation", "audit of one raster", "check of one raster", "explanation over one raster", "derivation over one raster"};
+static uint32_t (*const over_dem[])(drain_answer *) = {audit_samples, check_samples, explain_samples, derive_samples};
 
 /* One of them, of the files. The check takes con for ranks, so its answer is that of a poor certificate. */
 static uint32_t call(int which, drain_answer *answer) {
@@ -174,6 +175,8 @@ static uint32_t call(int which, drain_answer *answer) {
     uint8_t map[MAP_LENGTH];
     uint32_t acc[MAP_LENGTH], bas[MAP_LENGTH], rnk[MAP_LENGTH];
     *answer = unwritten();
+    if (which >= OVER_DEM)
+        return over_dem[which - OVER_DEM](answer);
     switch (which) {
     case DERIVE:
         return drain_derive(side, &tile, 1, &rasters.dir, acc, MAP_LENGTH, bas, MAP_LENGTH, rnk, MAP_LENGTH, answer);
@@ -181,10 +184,6 @@ static uint32_t call(int which, drain_answer *answer) {
         return drain_explain(side, &tile, 1, no_sinks, 0, &rasters, DRAIN_ALL, map, sizeof map, &faults, answer);
     case CHECK:
         return drain_check(side, &tile, 1, no_sinks, 0, &checked, answer);
-    case AUDIT_DEM:
-        return audit_samples(answer);
-    case CHECK_DEM:
-        return check_samples(answer);
     case AUDIT_CON:
         return audit_only(DRAIN_CON, &rasters, answer);
     case AUDIT_WAYS:

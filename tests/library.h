@@ -24,6 +24,8 @@ drain_audit_rasters with_wrong_count(void);
 drain_raster dem_of_samples(char text[DRAIN_HEADER_SIZE]);
 uint32_t audit_samples(drain_answer *answer);
 uint32_t check_samples(drain_answer *answer);
+uint32_t explain_samples(drain_answer *answer);
+uint32_t derive_samples(drain_answer *answer);
 
 void test_choices(const char *line);
 void test_explanation(const char *line);

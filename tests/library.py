@@ -110,17 +110,26 @@ def are_arrays_right(drain: judge.Drain) -> bool:
 
 
 def is_dem_right(drain: judge.Drain) -> bool:
-    """The tile's samples as one raster have the answers of the tile, with labels and ranks of the directions too."""
+    """The tile's samples as one raster have the answers of the tile, with what follows from the directions, and a map."""
     con, dir_, acc, bas = read_rasters()
     samples = memoryview((ctypes.c_int16.__ctype_be__ * SIDE * SIDE).from_buffer_copy(TILE[1]))
     dem = judge.raster_of(samples, -32768, SIDE, [TILE[0]])
     header = acc[0][:acc[0].index(b"NODATA")]
     derived = [bytearray(4 * SIDE * SIDE) for _ in range(3)]
-    drain.derive(SIDE, [TILE], dir_, *derived)
+    of_tile = [bytearray(4 * SIDE * SIDE) for _ in range(3)]
+    drain.derive(SIDE, [TILE], dir_, *of_tile)
+    drawn = bytearray(b"x" * (SIDE * SIDE))
+    line = drain.derive_dem(dem, dir_, *derived).line
+    explained, faults = drain.explain_dem(dem, dict(zip(judge.AUDITED, (con, dir_, acc, bas))), drawn)
     ranked = [con, dir_, *((header, bytes(numbers)) for numbers in derived)]
     accepted = "accepted rows=51 cols=51 data=2601 raised=59 outlets=10"
     return (
-        drain.audit_dem(dem, [con, dir_, acc, bas]).line == accepted
+        line == "derived rows=51 cols=51"
+        and derived == of_tile
+        and explained.line == accepted
+        and not any(drawn)
+        and not any(bytes(faults))
+        and drain.audit_dem(dem, [con, dir_, acc, bas]).line == accepted
         and drain.check_dem(dem, ranked).line == accepted
         and drain.audit_only_dem(dem, {"con": con}).line == "accepted rows=51 cols=51 data=2601 raised=59"
         and drain.audit_dem(dem, [con, dir_, acc, bas], b"51 0").line == "refused SinkNotData 1"

@@ -1,7 +1,7 @@
 """A conversion while it runs: the options, the set, and what is needed to talk of it in the user's terms."""
 
 from collections import Counter
-from collections.abc import Callable, Iterator
+from collections.abc import Callable, Iterable, Iterator
 from dataclasses import dataclass, field
 from pathlib import Path
 
@@ -17,6 +17,7 @@ from .sets import Set
 from .tools import TOOLS
 
 MOST_LOOKED_AT = 1 << 16  # numbers in voids of each window that may name the one for no data
+MOST_HELD = 1 << 23  # cells of a set in memory, which take fifty bytes each
 Progress = Callable[[str, int, int], None]
 CHOICES = {"ends": ("zero", "keep"), "acc_counts": ("auto", "cells", "above", "area")}
 
@@ -55,6 +56,11 @@ class Job:
     folder: Path | None = None  # where the set is written, if not in `work`
     sources: dict[str, str] = field(default_factory=dict)  # raster to where it is from, in words
     progress: Progress = no_progress
+
+    def holds(self, layers: Iterable[Layer]) -> bool:
+        """Whether these layers are judged in memory: arrays, that aren't too large, where there is a library."""
+        are_small = all(layer.path is None and layer.rows * layer.cols <= MOST_HELD for layer in layers)
+        return are_small and self.folder is None and self.program.library is not None
 
 
 @dataclass

@@ -3,8 +3,6 @@
 Of given elevations one con is right, and what `drain make` writes is it.
 """
 
-import tempfile
-from pathlib import Path
 
 import numpy as np
 
@@ -48,8 +46,7 @@ class Surface:
     def own_ground_text(self) -> str:
         """Whether con drains at all: judged as its own ground, which a breached or sloped surface passes."""
         made, sizes = self.made, Sizes()
-        ground = Set(Path(tempfile.mkdtemp(dir=made.job.work)), made.set.shape, made.set.place)
-        ground.take_heights(made.set.kinds["con"])
+        ground = made.set.another(made.job.work, made.set.kinds["con"])
         ground.sinks = [cell for cell in made.set.sinks if self.con[cell] != self.blank]
         np.copyto(ground.add("dem"), self.con, where=made.data)
         own = Surface(made, ground)

@@ -75,9 +75,7 @@ def least(job: Job, one: Set) -> Array:
 
     Filling commutes with each map of heights that keeps their order, so each slice is right between its ends.
     """
-    levels, filled = levels_of(one), Set(Path(tempfile.mkdtemp(dir=job.work)), one.shape, one.place)
-    filled.take_heights(one.kinds["dem"])
-    con = filled.add("con")
+    levels, con = levels_of(one), one.another(job.work, one.kinds["dem"]).add("con")
     for low in range(0, levels.size, STEPS):
         with tempfile.TemporaryDirectory(dir=job.work) as place:
             ranks = lambda part: np.asarray(np.clip(np.searchsorted(levels, part) - low, 0, STEPS))

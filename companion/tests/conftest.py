@@ -14,6 +14,7 @@ from typing import NamedTuple
 import pytest
 import worlds
 from drain_gis import cli
+from drain_gis.drain import Program
 from hypothesis import HealthCheck, settings
 
 COMPANION = Path(__file__).resolve().parents[1]
@@ -76,6 +77,14 @@ def world() -> worlds.World:
 def files(tmp_path: Path, world: worlds.World) -> dict[str, str]:
     """A right set in Esri's codes, as files."""
     return worlds.write_set(tmp_path, world)
+
+
+@pytest.fixture(scope="session")
+def alone(tmp_path_factory: pytest.TempPathFactory) -> str:
+    """The program in a folder without the library."""
+    path = tmp_path_factory.mktemp("alone") / "drain"
+    path.symlink_to(os.path.realpath(Program().path))
+    return str(path)
 
 
 @pytest.fixture

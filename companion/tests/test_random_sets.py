@@ -14,6 +14,7 @@ import numpy as np
 import pytest
 import worlds
 from drain_gis import layers, tiles
+from drain_gis.drain import Program
 from drain_gis.rules import NOT_FILLED
 from drain_gis.tools import TOOLS
 from hypothesis import given, settings
@@ -145,6 +146,22 @@ def test_a_verdict_is_that_of_libraries(case: Case, window: int, by_files: bool)
         assert not case.void[verdict.row, verdict.col] or case.change == "filled void"
         assert verdict.map[verdict.row, verdict.col] not in (0, 255) or verdict.name == "NoEnd"
         assert np.array_equal(verdict.map == 255, case.void & (verdict.map != 1))
+
+
+@settings(max_examples=100)
+@given(cases(), st.booleans(), st.booleans())
+def test_library_and_program_give_the_same(alone: str, case: Case, without_heights: bool, parts: bool) -> None:
+    """Of arrays in memory, judged by the library, and by a program that has none beside it: the whole verdict, and the map."""
+    if Program().library is None:
+        pytest.skip("no libdrain.so of this version beside the program")
+    sources = {name: a for name, a in case.given.items() if not (without_heights and name in ("dem", "con"))}
+    options = {**case.options, "nodata": dict.fromkeys(sources, NODATA), "parts": parts}
+    if options["acc_counts"] == "area":
+        options["cell_area"] = AREA
+    one, other = (drain_gis.audit(**sources, **options, program=program) for program in (None, alone))
+    assert one.made.set.is_held and not other.made.set.is_held
+    assert (str(one), one.notes, one.rules, one.sizes) == (str(other), other.notes, other.rules, other.sizes)
+    assert (one.map is None) == (other.map is None) and np.array_equal(one.shown, other.shown)
 
 
 @settings(max_examples=100)

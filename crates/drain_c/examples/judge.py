@@ -78,17 +78,19 @@ class Drain:
         self._library.drain_audit.argtypes = [*given, answer]
         self._library.drain_check.argtypes = [*given, answer]
         self._library.drain_audit_only.argtypes = [*given, ctypes.c_uint32, answer]
-        self._library.drain_explain.argtypes = [
-            *given, ctypes.c_uint32, ctypes.c_void_p, ctypes.c_size_t, ctypes.POINTER(Faults), answer,
-        ]
+        explained = [ctypes.c_uint32, ctypes.c_void_p, ctypes.c_size_t, ctypes.POINTER(Faults), answer]
+        self._library.drain_explain.argtypes = [*given, *explained]
         rasters = [ctypes.c_void_p, ctypes.c_size_t] * 3
         self._library.drain_derive.argtypes = [*given[:3], ctypes.POINTER(Pair), *rasters, answer]
         over_dem = [ctypes.POINTER(Pair), *given[3:]]
         self._library.drain_audit_dem.argtypes = [*over_dem, answer]
         self._library.drain_check_dem.argtypes = [*over_dem, answer]
         self._library.drain_audit_only_dem.argtypes = [*over_dem, ctypes.c_uint32, answer]
-        for name in ("audit", "check", "audit_only", "explain", "derive", "audit_dem", "check_dem", "audit_only_dem"):
-            getattr(self._library, "drain_" + name).restype = ctypes.c_uint32
+        self._library.drain_explain_dem.argtypes = [*over_dem, *explained]
+        self._library.drain_derive_dem.argtypes = [ctypes.POINTER(Pair), ctypes.POINTER(Pair), *rasters, answer]
+        for name in ("audit", "check", "audit_only", "explain", "derive"):
+            for end in ("", "_dem"):
+                getattr(self._library, f"drain_{name}{end}").restype = ctypes.c_uint32
         self._library.drain_version.argtypes = [ctypes.c_char_p, ctypes.c_size_t]
         self._library.drain_version.restype = ctypes.c_size_t
 
@@ -112,24 +114,12 @@ class Drain:
     def explain(self, side: int, tiles: Sequence[tuple[str, bytes]], rasters: Mapping[str, tuple[bytes, bytes]],
                 fault_map, sinks: bytes = b"") -> tuple[Answer, Faults]:
         """The same with what explains it. fault_map: a bytearray or an array of a byte for each cell, to be written."""
-        cells = memoryview(fault_map).nbytes
-        place = (ctypes.c_uint8 * cells).from_buffer(fault_map)
-        faults = Faults()
-        more = (place, cells, ctypes.byref(faults))
-        ground, choice = ground_of(side, tiles), choice_of(rasters, sinks)
-        answer = self._call(self._library.drain_explain, len(AUDITED), ground, *choice, *more)
-        return answer, faults
+        return self._explain(self._library.drain_explain, ground_of(side, tiles), choice_of(rasters, sinks), fault_map)
 
     def derive(self, side: int, tiles: Sequence[tuple[str, bytes]], directions: tuple[bytes, bytes],
                *rasters) -> Answer:
         """Writes acc, bas and rnk of directions into three arrays of an unsigned number of 32 bits for each cell."""
-        places = []
-        for numbers in rasters:
-            count = memoryview(numbers).nbytes // 4
-            places += [(ctypes.c_uint32 * count).from_buffer(numbers), count]
-        raw = RawAnswer()
-        self._library.drain_derive(side, tiles_of(tiles), len(tiles), Pair(*directions), *places, raw)
-        return answer_of(raw)
+        return self._derive(self._library.drain_derive, ground_of(side, tiles), directions, rasters)
 
     def check(self, side: int, tiles: Sequence[tuple[str, bytes]], rasters: Sequence[tuple[bytes, bytes]],
               sinks: bytes = b"") -> Answer:
@@ -146,9 +136,35 @@ class Drain:
         choice = choice_of(rasters, sinks)
         return self._call(self._library.drain_audit_only_dem, len(AUDITED), (Pair(*dem),), *choice)
 
+    def explain_dem(self, dem: tuple[bytes, bytes], rasters: Mapping[str, tuple[bytes, bytes]], fault_map,
+                    sinks: bytes = b"") -> tuple[Answer, Faults]:
+        """The same with what explains it, as explain does for tiles."""
+        return self._explain(self._library.drain_explain_dem, (Pair(*dem),), choice_of(rasters, sinks), fault_map)
+
+    def derive_dem(self, dem: tuple[bytes, bytes], directions: tuple[bytes, bytes], *rasters) -> Answer:
+        """Writes acc, bas and rnk of directions on one raster of elevations, as derive does for tiles."""
+        return self._derive(self._library.drain_derive_dem, (Pair(*dem),), directions, rasters)
+
     def check_dem(self, dem: tuple[bytes, bytes], rasters: Sequence[tuple[bytes, bytes]], sinks: bytes = b"") -> Answer:
         """Checks con, dir, acc, bas and rnk for one raster of elevations."""
         return self._call(self._library.drain_check_dem, len(CHECKED), (Pair(*dem),), rasters, sinks)
+
+    def _explain(self, function, ground: tuple, choice: tuple, fault_map) -> tuple[Answer, Faults]:
+        cells = memoryview(fault_map).nbytes
+        place = (ctypes.c_uint8 * cells).from_buffer(fault_map)
+        faults = Faults()
+        answer = self._call(function, len(AUDITED), ground, *choice, place, cells, ctypes.byref(faults))
+        return answer, faults
+
+    @staticmethod
+    def _derive(function, ground: tuple, directions: tuple[bytes, bytes], rasters: Sequence) -> Answer:
+        places = []
+        for numbers in rasters:
+            count = memoryview(numbers).nbytes // 4
+            places += [(ctypes.c_uint32 * count).from_buffer(numbers), count]
+        raw = RawAnswer()
+        function(*ground, Pair(*directions), *places, raw)
+        return answer_of(raw)
 
     @staticmethod
     def _call(function, count: int, ground: tuple, rasters: Sequence[tuple[bytes, bytes]], sinks: bytes,

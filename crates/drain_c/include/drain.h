@@ -170,6 +170,13 @@ uint32_t drain_explain(uint32_t side, const drain_tile *tiles, size_t tile_count
                        size_t sinks_length, const drain_audit_rasters *rasters, uint32_t judged, uint8_t *map,
                        size_t map_length, drain_faults *faults, drain_answer *answer);
 
+/* The same over one raster of elevations: dem is that of drain_audit_dem, map has a byte for each of its cells, and the
+ * other arguments are those of drain_explain.
+ * Returns answer->status. */
+uint32_t drain_explain_dem(const drain_raster *dem, const uint8_t *sinks, size_t sinks_length,
+                           const drain_audit_rasters *rasters, uint32_t judged, uint8_t *map, size_t map_length,
+                           drain_faults *faults, drain_answer *answer);
+
 /* Accumulation, basin labels and ranks that follow from directions: what `drain derive` writes. dir: the raster of
  * directions. acc, bas, rnk: memory for rows * cols numbers each, row by row from the north; ..count of them, and no
  * address is NULL. A void has 0 in acc and bas, and 4294967295 in rnk. With another count, where the inputs aren't
@@ -180,6 +187,12 @@ uint32_t drain_explain(uint32_t side, const drain_tile *tiles, size_t tile_count
 uint32_t drain_derive(uint32_t side, const drain_tile *tiles, size_t tile_count, const drain_raster *dir,
                       uint32_t *acc, size_t acc_count, uint32_t *bas, size_t bas_count, uint32_t *rnk,
                       size_t rnk_count, drain_answer *answer);
+
+/* The same over one raster of elevations: dem is that of drain_audit_dem, acc, bas and rnk have a number for each of its
+ * cells, and the other arguments are those of drain_derive.
+ * Returns answer->status. */
+uint32_t drain_derive_dem(const drain_raster *dem, const drain_raster *dir, uint32_t *acc, size_t acc_count,
+                          uint32_t *bas, size_t bas_count, uint32_t *rnk, size_t rnk_count, drain_answer *answer);
 
 /* Writes the version of the library, as `drain --version` prints it after the name: two lines, the version and the
  * logic of the toolchain, without a last line end. text is never NULL; as many bytes are written as there is room for,

@@ -6,6 +6,7 @@ use Rattle.drain_answer.specs.declared.refusal.Refusal.{Refusal}
 use Rattle.drain_answer.specs.declared.refusal.Refusal.TheVariants.{BadSide, BadTileLength, BadDemHeader, OutOfMemory, ReadFailed}
 use Rattle.drain_c.specs.GivenDem.{DemInputs, dem_set}
 use Rattle.drain_c.proofs.LongHeaders.{IsLong, SameRefusals, cut_texts, own, refusal_kept, same_fault, same_texts, set_on, short_or_long, too_long}
+use Rattle.drain_explain.specs.Explanations.{answer_in}
 use Rattle.drain_grid.specs.declared.judged.Judged.{Judged}
 use Rattle.drain_header.specs.declared.fault.HeaderFault.TheVariants.{TooLong}
 use Rattle.drain_hgt.specs.Corner.{Corner}
@@ -42,6 +43,10 @@ checks = record { readable = λ s v is. is.0; refused = λ s refusal is. is; ref
 
 pub outcomes : (judged : Judged) → AreAnswers (IsOutcomeIn judged)
 outcomes judged = record { readable = λ s v is. is.0; refused = λ s refusal is. is; refuses = λ s refusal is. is }
+
+-- and of one with what explains it
+pub explanations : {F : Type 0} (judged : Judged) → AreAnswers (λ s answer. IsOutcomeIn judged s (answer_in {F = F} answer))
+explanations judged = record { readable = λ s v is. is.0; refused = λ s refusal is. is; refuses = λ s refusal is. is }
 
 -- the answer to the first bytes is the answer to the inputs
 pub answer_kept : {A V : Type 0} (c : Cut A) (Is : GroundSet → Result V Refusal → Type 0) → AreAnswers Is → (answer : Result V Refusal) (a : A) →

@@ -5,36 +5,34 @@ use Rattle.drain_c.specs.declared.answer.Answer.{Answer}
 use Rattle.drain_c.specs.Derived.{AreDerivedNumbers, AreNumbersOf, IsDerivation, ReportsDerivation, ShowsDerivation, derived_found, derived_line, have_cells, outcome_for, raster_of, shape_line, told_of_dir}
 use Rattle.drain_c.specs.Found.{outcome_found, status_only}
 use Rattle.drain_c.specs.Shown.{Reports, ShowsAnswer, ShowsBadRaster}
-use Rattle.drain_c.proofs.CutInputs.{cut_tiles, tile_cut}
+use Rattle.drain_c.proofs.CutInputs.{Cut}
 use Rattle.drain_c.proofs.Spelling.{Call}
 use Rattle.drain_c.proofs.Statuses.{from_two}
 use Rattle.drain_grid.specs.Extent.{IsCellOf, Extent}
 use Rattle.drain_grid.specs.Product.{default_numbers}
 use Rattle.drain_grid.specs.Grid.{Pixels}
-use Rattle.drain_maker.specs.Derived.{AreDerivedOf, IsDeriveRefusal, AreCounts, AreDerived}
+use Rattle.drain_maker.specs.Derived.{AreDerivedIn, IsDeriveRefusalIn, AreCounts, AreDerived}
 use Rattle.drain_maker.specs.declared.derivation.DeriveRefusal.{DeriveRefusal}
 use Rattle.drain_maker.specs.declared.derivation.DeriveRefusal.TheVariants.{Refused, NoEnd}
 use Rattle.drain_maker.specs.declared.derivation.Derived.{Derived}
-use Rattle.drain_mosaic.specs.Tiling.{Tiling, extent_of}
-use Rattle.drain_verdict.specs.Inputs.{Inputs}
-use Rattle.drain_verdict.specs.Meaning.{input_grid, input_products}
+use Rattle.drain_verdict.specs.GroundSets.{GroundSet, set_grid, set_products}
 
-derived_kept : (i : Inputs) (d : Derived) → AreDerivedOf (cut_tiles i) d → AreDerivedOf i d
-derived_kept i d is = subst (λ j. AreDerivedOf j d) (tile_cut.same i is.0) is
+pub derived_of_bytes : {A : Type 0} (c : Cut A) (call : Call c) (d : Derived) → call.For (λ a. AreDerivedIn (c.set a) d) → (a : A) → call.Of a → AreDerivedIn (c.set a) d
+derived_of_bytes c call d fact a of =
+    let is : AreDerivedIn (c.set (c.first_bytes a)) d = call.of_sources (λ b. AreDerivedIn (c.set b) d) fact a of in
+    subst (λ b. AreDerivedIn (c.set b) d) (c.same a is.0) is
 
-why_kept : (i : Inputs) (why : DeriveRefusal) → IsDeriveRefusal (cut_tiles i) why → IsDeriveRefusal i why
-why_kept i (Refused refusal) is = tile_cut.refusal_kept i refusal is
-why_kept i (NoEnd row col) is = subst (λ j. IsDeriveRefusal j (NoEnd row col)) (tile_cut.same i is.0) is
+-- what is known of sources from which something follows is known of the bytes
+pub fact_of_derived : {A : Type 0} (c : Cut A) (call : Call c) (d : Derived) (Fact : A → Type 0) → call.For (λ a. AreDerivedIn (c.set a) d) → call.For Fact → (a : A) → call.Of a → Fact a
+fact_of_derived c call d Fact derived fact a of =
+    subst Fact (c.same a (call.of_sources (λ b. AreDerivedIn (c.set b) d) derived a of).0) (call.of_sources Fact fact a of)
 
-pub derived_of_bytes : (call : Call tile_cut) (answer : Result (Tiling × Derived) DeriveRefusal) →
-    IfOk answer (λ made. call.For (λ i. AreDerivedOf i made.1)) → IfOk answer (λ made. (i : Inputs) → call.Of i → AreDerivedOf i made.1)
-derived_of_bytes call (Ok made) fact = λ i of. derived_kept i made.1 (call.of_sources (λ j. AreDerivedOf j made.1) fact i of)
-derived_of_bytes call (Err why) fact = tt
+why_kept : {A : Type 0} (c : Cut A) (a : A) (why : DeriveRefusal) → IsDeriveRefusalIn (c.set (c.first_bytes a)) why → IsDeriveRefusalIn (c.set a) why
+why_kept c a (Refused refusal) is = c.refusal_kept a refusal is
+why_kept c a (NoEnd row col) is = subst (λ b. IsDeriveRefusalIn (c.set b) (NoEnd row col)) (c.same a is.0) is
 
-pub why_of_bytes : (call : Call tile_cut) (answer : Result (Tiling × Derived) DeriveRefusal) →
-    IfErr answer (λ why. call.For (λ i. IsDeriveRefusal i why)) → IfErr answer (λ why. (i : Inputs) → call.Of i → IsDeriveRefusal i why)
-why_of_bytes call (Ok made) fact = tt
-why_of_bytes call (Err why) fact = λ i of. why_kept i why (call.of_sources (λ j. IsDeriveRefusal j why) fact i of)
+pub why_of_bytes : {A : Type 0} (c : Cut A) (call : Call c) (why : DeriveRefusal) → call.For (λ a. IsDeriveRefusalIn (c.set a) why) → (a : A) → call.Of a → IsDeriveRefusalIn (c.set a) why
+why_of_bytes c call why fact a of = why_kept c a why (call.of_sources (λ b. IsDeriveRefusalIn (c.set b) why) fact a of)
 
 -- the cell in a place of row order
 pub cell_inside : (e : Extent) (cols place : ℕ) → cols ≡ e.cols → place < e.rows * e.cols → IsCellOf e (record { row = place / cols; col = place % cols })
@@ -54,60 +52,65 @@ same_numbers (n ∷ numbers) (z ∷ zs) long same =
     let rest : map (λ m. pos m) numbers ≡ zs = same_numbers numbers zs (omega arith) (λ k less. same (suc k) (omega arith)) in
     cc
 
-same_raster : (i : Inputs) (d : Pixels) (nodata : ℤ) (numbers : List ℕ) → d.extent ≡ (input_grid i).extent → d.nodata ≡ nodata → map (λ n. pos n) numbers ≡ d.numbers → d ≡ raster_of i nodata numbers
-same_raster i d nodata numbers extent nodata_is numbers_are =
+same_raster : (s : GroundSet) (d : Pixels) (nodata : ℤ) (numbers : List ℕ) → d.extent ≡ (set_grid s).extent → d.nodata ≡ nodata → map (λ n. pos n) numbers ≡ d.numbers → d ≡ raster_of s nodata numbers
+same_raster s d nodata numbers extent nodata_is numbers_are =
     let at_extent : Extent → Pixels = λ e. record { extent = e; nodata = d.nodata; numbers = d.numbers } in
-    let at_nodata : ℤ → Pixels = λ n. record { extent = (input_grid i).extent; nodata = n; numbers = d.numbers } in
-    let at_numbers : List ℤ → Pixels = λ ns. record { extent = (input_grid i).extent; nodata = nodata; numbers = ns } in
+    let at_nodata : ℤ → Pixels = λ n. record { extent = (set_grid s).extent; nodata = n; numbers = d.numbers } in
+    let at_numbers : List ℤ → Pixels = λ ns. record { extent = (set_grid s).extent; nodata = nodata; numbers = ns } in
     ap at_extent extent ∙ (ap at_nodata nodata_is ∙ ap at_numbers (sym numbers_are))
 
 -- the numbers that were written follow from the inputs
-pub derived_numbers : (i : Inputs) (d : Derived) (acc bas rnk : List ℕ) → AreDerivedOf i d → AreNumbersOf d acc bas rnk → AreDerivedNumbers i acc bas rnk
-derived_numbers i d acc bas rnk is numbers =
-    let fact : AreDerived (input_grid i) (input_products i) d.acc d.bas d.rnk = is.1 in
-    subst (λ r. AreDerived (input_grid i) (input_products i) (raster_of i default_numbers.acc acc) (raster_of i default_numbers.bas bas) r)
-    (same_raster i d.rnk default_numbers.rnk rnk fact.rnk_extent fact.rnk_nodata numbers.rnk)
-    (subst (λ r. AreDerived (input_grid i) (input_products i) (raster_of i default_numbers.acc acc) r d.rnk)
-    (same_raster i d.bas default_numbers.bas bas fact.bas_extent fact.bas_nodata numbers.bas)
-    (subst (λ r. AreDerived (input_grid i) (input_products i) r d.bas d.rnk) (same_raster i d.acc default_numbers.acc acc fact.acc_extent fact.acc_nodata numbers.acc) fact))
+pub derived_numbers : (s : GroundSet) (d : Derived) (acc bas rnk : List ℕ) → AreDerivedIn s d → AreNumbersOf d acc bas rnk → AreDerivedNumbers s acc bas rnk
+derived_numbers s d acc bas rnk is numbers =
+    let fact : AreDerived (set_grid s) (set_products s) d.acc d.bas d.rnk = is.1 in
+    subst (λ r. AreDerived (set_grid s) (set_products s) (raster_of s default_numbers.acc acc) (raster_of s default_numbers.bas bas) r)
+    (same_raster s d.rnk default_numbers.rnk rnk fact.rnk_extent fact.rnk_nodata numbers.rnk)
+    (subst (λ r. AreDerived (set_grid s) (set_products s) (raster_of s default_numbers.acc acc) r d.rnk)
+    (same_raster s d.bas default_numbers.bas bas fact.bas_extent fact.bas_nodata numbers.bas)
+    (subst (λ r. AreDerived (set_grid s) (set_products s) r d.bas d.rnk) (same_raster s d.acc default_numbers.acc acc fact.acc_extent fact.acc_nodata numbers.acc) fact))
 
-reports_either : (i : Inputs) (e : Extent) (b : Bool) (shown : Answer) → IsDerivation i (Ok tt) → (IsTrue b → ShowsAnswer (status_only 0) (shape_line e) shown) → (IsFalse b → ShowsBadRaster shown) →
-    Reports (IsDerivation i) (derived_found b) (derived_line e b) shown
-reports_either i e true shown is fit misfit = record { value = Ok tt; is = is; shows = fit refl }
-reports_either i e false shown is fit misfit = record { value = Ok tt; is = is; shows = misfit refl }
+reports_either : (s : GroundSet) (e : Extent) (b : Bool) (shown : Answer) → IsDerivation s (Ok tt) → (IsTrue b → ShowsAnswer (status_only 0) (shape_line e) shown) → (IsFalse b → ShowsBadRaster shown) →
+    Reports (IsDerivation s) (derived_found b) (derived_line e b) shown
+reports_either s e true shown is fit misfit = record { value = Ok tt; is = is; shows = fit refl }
+reports_either s e false shown is fit misfit = record { value = Ok tt; is = is; shows = misfit refl }
 
-reports_derived : (i : Inputs) (e : Extent) (d : Derived) (acc bas rnk : List ℕ) (shown : Answer) → e ≡ d.acc.extent → AreDerivedOf i d →
-    (IsTrue (have_cells e acc bas rnk) → ShowsAnswer (status_only 0) (shape_line e) shown) → (IsFalse (have_cells e acc bas rnk) → ShowsBadRaster shown) → ReportsDerivation i acc bas rnk shown
-reports_derived i e d acc bas rnk shown extent is fit misfit =
-    let same : e ≡ (input_grid i).extent = extent ∙ is.1.acc_extent in
-    subst (λ x. Reports (IsDerivation i) (derived_found (have_cells x acc bas rnk)) (derived_line x (have_cells x acc bas rnk)) shown) same
-    (reports_either i e (have_cells e acc bas rnk) shown (is.0, is.1.ends) fit misfit)
+reports_derived : (s : GroundSet) (e : Extent) (d : Derived) (acc bas rnk : List ℕ) (shown : Answer) → e ≡ d.acc.extent → AreDerivedIn s d →
+    (IsTrue (have_cells e acc bas rnk) → ShowsAnswer (status_only 0) (shape_line e) shown) → (IsFalse (have_cells e acc bas rnk) → ShowsBadRaster shown) → ReportsDerivation s acc bas rnk shown
+reports_derived s e d acc bas rnk shown extent is fit misfit =
+    let same : e ≡ (set_grid s).extent = extent ∙ is.1.acc_extent in
+    subst (λ x. Reports (IsDerivation s) (derived_found (have_cells x acc bas rnk)) (derived_line x (have_cells x acc bas rnk)) shown) same
+    (reports_either s e (have_cells e acc bas rnk) shown (is.0, is.1.ends) fit misfit)
 
--- the answer
-pub reports : (Of : Inputs → Type 0) (answer : Result (Tiling × Derived) DeriveRefusal) (old new : List ℕ × List ℕ × List ℕ) (shown : Answer) → IfOk answer (λ made. AreCounts (extent_of made.0) made.1) →
-    IfOk answer (λ made. (i : Inputs) → Of i → AreDerivedOf i made.1) → IfErr answer (λ why. (i : Inputs) → Of i → IsDeriveRefusal i why) → ShowsDerivation answer old new shown →
-    (i : Inputs) → Of i → ReportsDerivation i old.0 old.1 old.2 shown
-reports Of (Ok made) old new shown counts derived err shows i of =
-    reports_derived i (extent_of made.0) made.1 old.0 old.1 old.2 shown (sym counts.acc.extent) (derived i of) (λ fit. (shows.0 fit).0) (λ misfit. (shows.1 misfit).0)
-reports Of (Err why) old new shown counts derived err shows i of = record { value = Err why; is = err i of; shows = shows.0 }
+-- the answer to inputs, which are sets
+pub reports : {A : Type 0} (set : A → GroundSet) (Of : A → Type 0) (answer : Result (Extent × Derived) DeriveRefusal) (old new : List ℕ × List ℕ × List ℕ) (shown : Answer) → IfOk answer (λ made. AreCounts made.0 made.1) →
+    IfOk answer (λ made. (a : A) → Of a → AreDerivedIn (set a) made.1) → IfErr answer (λ why. (a : A) → Of a → IsDeriveRefusalIn (set a) why) → ShowsDerivation answer old new shown →
+    (a : A) → Of a → ReportsDerivation (set a) old.0 old.1 old.2 shown
+reports set Of (Ok made) old new shown counts derived err shows a of =
+    reports_derived (set a) made.0 made.1 old.0 old.1 old.2 shown (sym counts.acc.extent) (derived a of) (λ fit. (shows.0 fit).0) (λ misfit. (shows.1 misfit).0)
+reports set Of (Err why) old new shown counts derived err shows a of = record { value = Err why; is = err a of; shows = shows.0 }
 
-numbers_either : (i : Inputs) (made : Tiling × Derived) (b : Bool) (new : List ℕ × List ℕ × List ℕ) (shown : Answer) → AreDerivedOf i made.1 →
-    (IsTrue b → AreNumbersOf made.1 new.0 new.1 new.2) → (IsFalse b → ShowsBadRaster shown) → shown.status ≡ 0 → AreDerivedNumbers i new.0 new.1 new.2
-numbers_either i made true new shown is fit misfit none = derived_numbers i made.1 new.0 new.1 new.2 is (fit refl)
-numbers_either i made false new shown is fit misfit none = (let two : shown.status ≡ 2 = (misfit refl).status_is in absurd (omega arith))
+numbers_either : (s : GroundSet) (made : Extent × Derived) (b : Bool) (new : List ℕ × List ℕ × List ℕ) (shown : Answer) → AreDerivedIn s made.1 →
+    (IsTrue b → AreNumbersOf made.1 new.0 new.1 new.2) → (IsFalse b → ShowsBadRaster shown) → shown.status ≡ 0 → AreDerivedNumbers s new.0 new.1 new.2
+numbers_either s made true new shown is fit misfit none = derived_numbers s made.1 new.0 new.1 new.2 is (fit refl)
+numbers_either s made false new shown is fit misfit none = (let two : shown.status ≡ 2 = (misfit refl).status_is in absurd (omega arith))
 
 none_status : (why : DeriveRefusal) → 1 ≤ (outcome_found (outcome_for why)).status
 none_status (Refused refusal) = (let from = from_two (told_of_dir refusal) in omega arith)
 none_status (NoEnd row col) = omega arith
 
--- with status 0 what is written follows from the inputs
-pub numbers : (Of : Inputs → Type 0) (answer : Result (Tiling × Derived) DeriveRefusal) (old new : List ℕ × List ℕ × List ℕ) (shown : Answer) →
-    IfOk answer (λ made. (i : Inputs) → Of i → AreDerivedOf i made.1) → ShowsDerivation answer old new shown → shown.status ≡ 0 → (i : Inputs) → Of i → AreDerivedNumbers i new.0 new.1 new.2
-numbers Of (Ok made) old new shown derived shows none i of =
-    numbers_either i made (have_cells (extent_of made.0) old.0 old.1 old.2) new shown (derived i of) (λ fit. (shows.0 fit).1) (λ misfit. (shows.1 misfit).0) none
-numbers Of (Err why) old new shown derived shows none i of =
+-- status 0 is that of something that follows
+pub at_zero : {P : Type 0} (answer : Result (Extent × Derived) DeriveRefusal) (old new : List ℕ × List ℕ × List ℕ) (shown : Answer) → ShowsDerivation answer old new shown → shown.status ≡ 0 → IfOk answer (λ made. P) → P
+at_zero (Ok made) old new shown shows none fact = fact
+at_zero (Err why) old new shown shows none fact =
     let is : shown.status ≡ (outcome_found (outcome_for why)).status = shows.0.status_is in
     absurd (omega (arith, none_status why, is, none))
+
+-- and what is written then follows from the inputs
+pub numbers : {A : Type 0} (set : A → GroundSet) (Of : A → Type 0) (answer : Result (Extent × Derived) DeriveRefusal) (old new : List ℕ × List ℕ × List ℕ) (shown : Answer) →
+    IfOk answer (λ made. (a : A) → Of a → AreDerivedIn (set a) made.1) → ShowsDerivation answer old new shown → shown.status ≡ 0 → (a : A) → Of a → AreDerivedNumbers (set a) new.0 new.1 new.2
+numbers set Of (Ok made) old new shown derived shows none a of =
+    numbers_either (set a) made (have_cells made.0 old.0 old.1 old.2) new shown (derived a of) (λ fit. (shows.0 fit).1) (λ misfit. (shows.1 misfit).0) none
+numbers set Of (Err why) old new shown derived shows none a of = absurd (at_zero {P = ⊥} (Err why) old new shown shows none tt)
 
 unwritten_either : (e : Extent) (b : Bool) (old new : List ℕ × List ℕ × List ℕ) (shown : Answer) → (IsTrue b → ShowsAnswer (status_only 0) (shape_line e) shown) →
     (IsFalse b → (new.0 ≡ old.0) × (new.1 ≡ old.1) × (new.2 ≡ old.2)) → shown.status ≢ 0 → (new.0 ≡ old.0) × (new.1 ≡ old.1) × (new.2 ≡ old.2)
@@ -115,8 +118,8 @@ unwritten_either e true old new shown fit misfit other = absurd (other (fit refl
 unwritten_either e false old new shown fit misfit other = misfit refl
 
 -- with another nothing is written
-pub unwritten : (answer : Result (Tiling × Derived) DeriveRefusal) (old new : List ℕ × List ℕ × List ℕ) (shown : Answer) → ShowsDerivation answer old new shown → shown.status ≢ 0 →
+pub unwritten : (answer : Result (Extent × Derived) DeriveRefusal) (old new : List ℕ × List ℕ × List ℕ) (shown : Answer) → ShowsDerivation answer old new shown → shown.status ≢ 0 →
     (new.0 ≡ old.0) × (new.1 ≡ old.1) × (new.2 ≡ old.2)
 unwritten (Ok made) old new shown shows other =
-    unwritten_either (extent_of made.0) (have_cells (extent_of made.0) old.0 old.1 old.2) old new shown (λ fit. (shows.0 fit).0) (λ misfit. ((shows.1 misfit).1, (shows.1 misfit).2, (shows.1 misfit).3)) other
+    unwritten_either made.0 (have_cells made.0 old.0 old.1 old.2) old new shown (λ fit. (shows.0 fit).0) (λ misfit. ((shows.1 misfit).1, (shows.1 misfit).2, (shows.1 misfit).3)) other
 unwritten (Err why) old new shown shows other = (shows.1, shows.2, shows.3)

@@ -1,4 +1,4 @@
--- What is shown of an explanation is what the inputs' rules say. The map that was drawn has a byte for each cell, so it
+-- What is shown of an explanation is what the rules of its set say. The map that was drawn has a byte for each cell, so it
 -- has the length of its memory exactly where this has.
 use Rattle.std.proofs.Common.{◌≡◌, ℕ, suc, ◌*◌, ◌==◌, ◌<◌, ◌≤◌, Bool, true, false, List, [], ◌∷◌, length, Option, Some, None, Result, Ok, Err, IfOk, IsSome, IsTrue, IsFalse, arith, refl, sym, ap, subst, ◌∙◌}
 use Rattle.std.proofs.lemmas.List.FromFn.{length-map-range_with_len}
@@ -7,12 +7,12 @@ use Rattle.drain_answer.specs.declared.outcome.Outcome.TheVariants.{Accepted, Ac
 use Rattle.drain_answer.specs.declared.refusal.Refusal.{Refusal}
 use Rattle.drain_c.specs.declared.answer.Answer.{Answer}
 use Rattle.drain_c.specs.declared.faults.Faults.{Faults}
-use Rattle.drain_c.specs.Explained.{Explains, IsMap, ShowsExplained, ShowsExplanation, fits, has_map_length, mapped_found, mapped_line}
+use Rattle.drain_c.specs.Explained.{Explains, IsMap, ReportsMapped, ShowsExplained, ShowsExplanation, fits, has_map_length, mapped_found, mapped_line}
 use Rattle.drain_c.specs.Found.{outcome_found, refusal_found}
 use Rattle.drain_c.specs.Shown.{Reports, ShowsBadMap, ShowsOutcome}
 use Rattle.drain_c.proofs.Statuses.{from_two}
 use Rattle.drain_explain.specs.declared.findings.Explanation.{Explanation}
-use Rattle.drain_explain.specs.Explanations.{AreFindingsOf, answer_in}
+use Rattle.drain_explain.specs.Explanations.{AreFindingsIn, answer_in}
 use Rattle.drain_faults.specs.declared.fault_map.FaultMap.{FaultMap}
 use Rattle.drain_faults.specs.FaultMaps.{AreMapPixels, IsMapOfCells}
 use Rattle.drain_grid.specs.declared.cell.Cell.{Cell}
@@ -21,10 +21,8 @@ use Rattle.drain_grid.specs.declared.judged.Rules.{Rules}
 use Rattle.drain_grid.specs.Extent.{cells, row_cells, Extent}
 use Rattle.drain_grid.specs.Grid.{Grid, Products}
 use Rattle.drain_raster.proofs.LengthLemmas.{length-lists}
-use Rattle.drain_verdict.specs.Answers.{rules_at}
-use Rattle.drain_verdict.specs.Inputs.{Inputs}
-use Rattle.drain_verdict.specs.Meaning.{input_grid, input_products}
-use Rattle.drain_verdict.specs.Outcomes.{IsOutcomeAnswer}
+use Rattle.drain_verdict.specs.GroundSets.{GroundSet, rules_in, set_grid, set_products}
+use Rattle.drain_verdict.specs.Outcomes.{IsOutcomeIn}
 
 -- as many numbers as cells
 map_length : (rules : Rules) (g : Grid) (ps : Products) (cs : List Cell) (ns : List ℕ) → AreMapPixels rules g ps cs ns → length ns ≡ length cs
@@ -36,45 +34,45 @@ map_length rules g ps (c ∷ cs) (n ∷ ns) are = ap suc (map_length rules g ps 
 cells_length : (e : Extent) → length (cells e) ≡ e.rows * e.cols
 cells_length e = length-lists (row_cells e.cols) 0 e.rows e.cols (λ r. length-map-range_with_len (λ k. record { row = r; col = k }) 0 e.cols)
 
-same_fit : (judged : Judged) (i : Inputs) (drawn : Option FaultMap) (memory : List ℕ) → IsSome drawn →
-    IsMapOfCells (rules_at judged i) (input_grid i) (input_products i) (cells (input_grid i).extent) drawn → fits drawn memory ≡ has_map_length i memory
-same_fit judged i None memory some are = cc
-same_fit judged i (Some drawn) memory some are =
-    ap (λ n. length memory == n) (map_length (rules_at judged i) (input_grid i) (input_products i) (cells (input_grid i).extent) drawn.pixels.items are ∙ cells_length (input_grid i).extent)
+same_fit : (judged : Judged) (s : GroundSet) (drawn : Option FaultMap) (memory : List ℕ) → IsSome drawn →
+    IsMapOfCells (rules_in judged s) (set_grid s) (set_products s) (cells (set_grid s).extent) drawn → fits drawn memory ≡ has_map_length s memory
+same_fit judged s None memory some are = cc
+same_fit judged s (Some drawn) memory some are =
+    ap (λ n. length memory == n) (map_length (rules_in judged s) (set_grid s) (set_products s) (cells (set_grid s).extent) drawn.pixels.items are ∙ cells_length (set_grid s).extent)
 
-reports_either : (judged : Judged) (i : Inputs) (outcome : Outcome) (b : Bool) (shown : Answer) → IsOutcomeAnswer judged i (Ok outcome) →
-    (IsTrue b → ShowsOutcome (Ok outcome) shown) → (IsFalse b → ShowsBadMap shown) → Reports (IsOutcomeAnswer judged i) (mapped_found b) (mapped_line b) shown
-reports_either judged i outcome true shown is fit misfit = record { value = Ok outcome; is = is; shows = fit refl }
-reports_either judged i outcome false shown is fit misfit = record { value = Ok outcome; is = is; shows = misfit refl }
+reports_either : (judged : Judged) (s : GroundSet) (outcome : Outcome) (b : Bool) (shown : Answer) → IsOutcomeIn judged s (Ok outcome) →
+    (IsTrue b → ShowsOutcome (Ok outcome) shown) → (IsFalse b → ShowsBadMap shown) → Reports (IsOutcomeIn judged s) (mapped_found b) (mapped_line b) shown
+reports_either judged s outcome true shown is fit misfit = record { value = Ok outcome; is = is; shows = fit refl }
+reports_either judged s outcome false shown is fit misfit = record { value = Ok outcome; is = is; shows = misfit refl }
 
-reports_drawn : {F : Type 0} (judged : Judged) (i : Inputs) (e : Explanation F) (memory : List ℕ) (shown : Answer) → IsOutcomeAnswer judged i (Ok e.outcome) → AreFindingsOf judged i e.findings →
+reports_drawn : {F : Type 0} (judged : Judged) (s : GroundSet) (e : Explanation F) (memory : List ℕ) (shown : Answer) → IsOutcomeIn judged s (Ok e.outcome) → AreFindingsIn judged s e.findings →
     IsSome e.findings.map → (IsTrue (fits e.findings.map memory) → ShowsOutcome (Ok e.outcome) shown) → (IsFalse (fits e.findings.map memory) → ShowsBadMap shown) →
-    Reports (IsOutcomeAnswer judged i) (mapped_found (has_map_length i memory)) (mapped_line (has_map_length i memory)) shown
-reports_drawn judged i e memory shown is found some fit misfit =
-    let same : fits e.findings.map memory ≡ has_map_length i memory = same_fit judged i e.findings.map memory some found.map in
-    subst (λ b. Reports (IsOutcomeAnswer judged i) (mapped_found b) (mapped_line b) shown) same (reports_either judged i e.outcome (fits e.findings.map memory) shown is fit misfit)
+    ReportsMapped judged s memory shown
+reports_drawn judged s e memory shown is found some fit misfit =
+    let same : fits e.findings.map memory ≡ has_map_length s memory = same_fit judged s e.findings.map memory some found.map in
+    subst (λ b. Reports (IsOutcomeIn judged s) (mapped_found b) (mapped_line b) shown) same (reports_either judged s e.outcome (fits e.findings.map memory) shown is fit misfit)
 
--- the answer
-pub reports : {F : Type 0} (judged : Judged) (Of : Inputs → Type 0) (explained : Result (Explanation F) Refusal) (memory new : List ℕ) (old_faults faults : Faults) (shown : Answer) →
-    ((i : Inputs) → Of i → IsOutcomeAnswer judged i (answer_in explained)) → IfOk explained (λ e. (i : Inputs) → Of i → AreFindingsOf judged i e.findings) → IfOk explained (λ e. IsSome e.findings.map) →
-    ShowsExplained explained (memory, old_faults) (new, faults) shown → (i : Inputs) → Of i → Reports (IsOutcomeAnswer judged i) (mapped_found (has_map_length i memory)) (mapped_line (has_map_length i memory)) shown
-reports judged Of (Ok e) memory new old_faults faults shown is found some shows i of =
-    reports_drawn judged i e memory shown (is i of) (found i of) some (λ fit. (shows.0 fit).answer_is) (λ misfit. (shows.1 misfit).0)
-reports judged Of (Err refusal) memory new old_faults faults shown is found some shows i of = record { value = Err refusal; is = is i of; shows = shows.0 }
+-- the answer to inputs, which are sets
+pub reports : {F A : Type 0} (judged : Judged) (set : A → GroundSet) (Of : A → Type 0) (explained : Result (Explanation F) Refusal) (memory new : List ℕ) (old_faults faults : Faults) (shown : Answer) →
+    ((a : A) → Of a → IsOutcomeIn judged (set a) (answer_in explained)) → IfOk explained (λ e. (a : A) → Of a → AreFindingsIn judged (set a) e.findings) → IfOk explained (λ e. IsSome e.findings.map) →
+    ShowsExplained explained (memory, old_faults) (new, faults) shown → (a : A) → Of a → ReportsMapped judged (set a) memory shown
+reports judged set Of (Ok e) memory new old_faults faults shown is found some shows a of =
+    reports_drawn judged (set a) e memory shown (is a of) (found a of) some (λ fit. (shows.0 fit).answer_is) (λ misfit. (shows.1 misfit).0)
+reports judged set Of (Err refusal) memory new old_faults faults shown is found some shows a of = record { value = Err refusal; is = is a of; shows = shows.0 }
 
-map_kept : (judged : Judged) (i : Inputs) (drawn : Option FaultMap) (map : List ℕ) → IsMap drawn map →
-    IsMapOfCells (rules_at judged i) (input_grid i) (input_products i) (cells (input_grid i).extent) drawn →
-    AreMapPixels (rules_at judged i) (input_grid i) (input_products i) (cells (input_grid i).extent) map
-map_kept judged i None map is are = absurd is
-map_kept judged i (Some drawn) map is are = subst (AreMapPixels (rules_at judged i) (input_grid i) (input_products i) (cells (input_grid i).extent)) (sym is) are
+map_kept : (judged : Judged) (s : GroundSet) (drawn : Option FaultMap) (map : List ℕ) → IsMap drawn map →
+    IsMapOfCells (rules_in judged s) (set_grid s) (set_products s) (cells (set_grid s).extent) drawn →
+    AreMapPixels (rules_in judged s) (set_grid s) (set_products s) (cells (set_grid s).extent) map
+map_kept judged s None map is are = absurd is
+map_kept judged s (Some drawn) map is are = subst (AreMapPixels (rules_in judged s) (set_grid s) (set_products s) (cells (set_grid s).extent)) (sym is) are
 
-explains_drawn : {F : Type 0} (judged : Judged) (i : Inputs) (e : Explanation F) (map : List ℕ) (faults : Faults) (shown : Answer) → AreFindingsOf judged i e.findings →
-    ShowsExplanation e map faults shown → Explains judged i faults map
-explains_drawn judged i e map faults shown found shows = record {
+explains_drawn : {F : Type 0} (judged : Judged) (s : GroundSet) (e : Explanation F) (map : List ℕ) (faults : Faults) (shown : Answer) → AreFindingsIn judged s e.findings →
+    ShowsExplanation e map faults shown → Explains judged s faults map
+explains_drawn judged s e map faults shown found shows = record {
   by_rule = e.findings.by_rule;
   each_rule = found.each_rule;
   shown = shows.faults_are;
-  map_is = map_kept judged i e.findings.map map shows.map_is found.map;
+  map_is = map_kept judged s e.findings.map map shows.map_is found.map;
 }
 
 -- the status of an outcome is below 2
@@ -85,20 +83,30 @@ below_two_of (Rejected rule row col) status is = omega arith
 below_two_of (NoEnd row col) status is = omega arith
 below_two_of (NotFilled row col) status is = omega arith
 
-explains_either : {F : Type 0} (judged : Judged) (i : Inputs) (e : Explanation F) (b : Bool) (map : List ℕ) (faults : Faults) (shown : Answer) → AreFindingsOf judged i e.findings →
-    (IsTrue b → ShowsExplanation e map faults shown) → (IsFalse b → ShowsBadMap shown) → shown.status < 2 → Explains judged i faults map
-explains_either judged i e true map faults shown found fit misfit below = explains_drawn judged i e map faults shown found (fit refl)
-explains_either judged i e false map faults shown found fit misfit below = (let two : shown.status ≡ 2 = (misfit refl).status_is in absurd (omega arith))
+explains_either : {F : Type 0} (judged : Judged) (s : GroundSet) (e : Explanation F) (b : Bool) (map : List ℕ) (faults : Faults) (shown : Answer) → AreFindingsIn judged s e.findings →
+    (IsTrue b → ShowsExplanation e map faults shown) → (IsFalse b → ShowsBadMap shown) → shown.status < 2 → Explains judged s faults map
+explains_either judged s e true map faults shown found fit misfit below = explains_drawn judged s e map faults shown found (fit refl)
+explains_either judged s e false map faults shown found fit misfit below = (let two : shown.status ≡ 2 = (misfit refl).status_is in absurd (omega arith))
 
--- with a status below 2 what is written explains the inputs
-pub explains : {F : Type 0} (judged : Judged) (Of : Inputs → Type 0) (explained : Result (Explanation F) Refusal) (memory map : List ℕ) (old_faults faults : Faults) (shown : Answer) →
-    IfOk explained (λ e. (i : Inputs) → Of i → AreFindingsOf judged i e.findings) → ShowsExplained explained (memory, old_faults) (map, faults) shown →
-    shown.status < 2 → (i : Inputs) → Of i → Explains judged i faults map
-explains judged Of (Ok e) memory map old_faults faults shown found shows below i of =
-    explains_either judged i e (fits e.findings.map memory) map faults shown (found i of) shows.0 (λ misfit. (shows.1 misfit).0) below
-explains judged Of (Err refusal) memory map old_faults faults shown found shows below i of =
-    let is : shown.status ≡ (refusal_found refusal).status = shows.0.status_is in
-    absurd (omega (arith, from_two refusal, is, below))
+-- a status below 2 is that of no refusal
+not_refused : (refusal : Refusal) (shown : Answer) → ShowsOutcome (Err refusal) shown → shown.status < 2 → ⊥
+not_refused refusal shown shows below =
+    let is : shown.status ≡ (refusal_found refusal).status = shows.status_is in
+    omega (arith, from_two refusal, is, below)
+
+-- with such a status what is written explains the inputs
+pub explains : {F A : Type 0} (judged : Judged) (set : A → GroundSet) (Of : A → Type 0) (explained : Result (Explanation F) Refusal) (memory map : List ℕ) (old_faults faults : Faults) (shown : Answer) →
+    IfOk explained (λ e. (a : A) → Of a → AreFindingsIn judged (set a) e.findings) → ShowsExplained explained (memory, old_faults) (map, faults) shown →
+    shown.status < 2 → (a : A) → Of a → Explains judged (set a) faults map
+explains judged set Of (Ok e) memory map old_faults faults shown found shows below a of =
+    explains_either judged (set a) e (fits e.findings.map memory) map faults shown (found a of) shows.0 (λ misfit. (shows.1 misfit).0) below
+explains judged set Of (Err refusal) memory map old_faults faults shown found shows below a of = absurd (not_refused refusal shown shows.0 below)
+
+-- and what holds with an outcome holds
+pub below_two : {F P : Type 0} (explained : Result (Explanation F) Refusal) (memory map : List ℕ) (old_faults faults : Faults) (shown : Answer) →
+    ShowsExplained explained (memory, old_faults) (map, faults) shown → shown.status < 2 → IfOk explained (λ e. P) → P
+below_two (Ok e) memory map old_faults faults shown shows below fact = fact
+below_two (Err refusal) memory map old_faults faults shown shows below fact = absurd (not_refused refusal shown shows.0 below)
 
 unwritten_either : {F : Type 0} (e : Explanation F) (b : Bool) (memory map : List ℕ) (old_faults faults : Faults) (shown : Answer) → (IsTrue b → ShowsExplanation e map faults shown) →
     (IsFalse b → ShowsBadMap shown × (map ≡ memory) × (faults ≡ old_faults)) → 2 ≤ shown.status → (map ≡ memory) × (faults ≡ old_faults)

@@ -15,27 +15,24 @@ use Rattle.drain_grid.specs.declared.product.Product.TheVariants.{Con, Dir}
 use Rattle.drain_grid.specs.Product.{default_numbers}
 use Rattle.drain_grid.specs.Grid.{Pixels}
 use Rattle.drain_grid.specs.Extent.{Extent}
-use Rattle.drain_maker.specs.Derived.{IsDeriveRefusal, AreDerived}
+use Rattle.drain_maker.specs.Derived.{IsDeriveRefusalIn, AreDerived}
 use Rattle.drain_maker.specs.declared.derivation.Derived.{Derived}
 use Rattle.drain_maker.specs.declared.derivation.DeriveRefusal.{DeriveRefusal}
 use Rattle.drain_maker.specs.declared.derivation.DeriveRefusal.TheVariants.{Refused, NoEnd}
-use Rattle.drain_mosaic.specs.Tiling.{Tiling, extent_of}
 use Rattle.drain_paths.specs.Flows.{AllFlowsEnd}
-use Rattle.drain_verdict.specs.Answers.{AreReadable}
-use Rattle.drain_verdict.specs.Inputs.{Inputs}
-use Rattle.drain_verdict.specs.Meaning.{input_grid, input_products}
+use Rattle.drain_verdict.specs.GroundSets.{GroundSet, IsReadable, set_grid, set_products}
 
 -- the directions, also in the place of the other rasters
 abbrev pub directions_alone : RasterBytes → AuditBytes
 directions_alone dir = record { con = dir; dir = dir; acc = dir; bas = dir }
 
--- these numbers in row order, as a raster of the inputs' grid
-abbrev pub raster_of : Inputs → ℤ → List ℕ → Pixels
-raster_of i nodata numbers = record { extent = (input_grid i).extent; nodata = nodata; numbers = map (λ n. pos n) numbers }
+-- these numbers in row order, as a raster of the set's grid
+abbrev pub raster_of : GroundSet → ℤ → List ℕ → Pixels
+raster_of s nodata numbers = record { extent = (set_grid s).extent; nodata = nodata; numbers = map (λ n. pos n) numbers }
 
 -- the numbers follow from the directions, with the default no-data numbers at voids
-abbrev pub AreDerivedNumbers : Inputs → List ℕ → List ℕ → List ℕ → Type 0
-AreDerivedNumbers i acc bas rnk = AreDerived (input_grid i) (input_products i) (raster_of i default_numbers.acc acc) (raster_of i default_numbers.bas bas) (raster_of i default_numbers.rnk rnk)
+abbrev pub AreDerivedNumbers : GroundSet → List ℕ → List ℕ → List ℕ → Type 0
+AreDerivedNumbers s acc bas rnk = AreDerived (set_grid s) (set_products s) (raster_of s default_numbers.acc acc) (raster_of s default_numbers.bas bas) (raster_of s default_numbers.rnk rnk)
 
 -- the memory for each raster has a number for each cell
 abbrev pub have_cells : Extent → List ℕ → List ℕ → List ℕ → Bool
@@ -48,9 +45,9 @@ pub record AreNumbersOf (d : Derived) (counts labels steps : List ℕ) : Type 0 
   pub rnk : map (λ n. pos n) steps ≡ d.rnk.numbers
 
 -- something follows: no refusal applies and every path ends; else the first reason why nothing does
-abbrev pub IsDerivation : Inputs → Result (Unit {0}) DeriveRefusal → Type 0
-IsDerivation i (Ok done) = AreReadable i × AllFlowsEnd (input_grid i) (input_products i)
-IsDerivation i (Err why) = IsDeriveRefusal i why
+abbrev pub IsDerivation : GroundSet → Result (Unit {0}) DeriveRefusal → Type 0
+IsDerivation s (Ok done) = IsReadable s × AllFlowsEnd (set_grid s) (set_products s)
+IsDerivation s (Err why) = IsDeriveRefusalIn s why
 
 -- a refusal of con's raster, which is dir's, is told of dir
 abbrev pub told_of_dir : Refusal → Refusal
@@ -78,14 +75,14 @@ abbrev pub derived_line : Extent → Bool → Result (Unit {0}) DeriveRefusal �
 derived_line e fits (Ok done) = if fits then shape_line e else codes "refused BadRasterLength"
 derived_line e fits (Err why) = outcome_report_line (outcome_for why)
 
--- what is shown is what the inputs give
-abbrev pub ReportsDerivation : Inputs → List ℕ → List ℕ → List ℕ → Answer → Type 0
-ReportsDerivation i acc bas rnk shown =
-    Reports (IsDerivation i) (derived_found (have_cells (input_grid i).extent acc bas rnk)) (derived_line (input_grid i).extent (have_cells (input_grid i).extent acc bas rnk)) shown
+-- what is shown is what the set gives
+abbrev pub ReportsDerivation : GroundSet → List ℕ → List ℕ → List ℕ → Answer → Type 0
+ReportsDerivation s acc bas rnk shown =
+    Reports (IsDerivation s) (derived_found (have_cells (set_grid s).extent acc bas rnk)) (derived_line (set_grid s).extent (have_cells (set_grid s).extent acc bas rnk)) shown
 
 -- what is written: rasters, if the memory for each has its length; else that it hasn't, or why nothing follows, and no raster
-abbrev pub ShowsDerivation : Result (Tiling × Derived) DeriveRefusal → (List ℕ × List ℕ × List ℕ) → (List ℕ × List ℕ × List ℕ) → Answer → Type 0
+abbrev pub ShowsDerivation : Result (Extent × Derived) DeriveRefusal → (List ℕ × List ℕ × List ℕ) → (List ℕ × List ℕ × List ℕ) → Answer → Type 0
 ShowsDerivation (Ok made) old new shown =
-    (IsTrue (have_cells (extent_of made.0) old.0 old.1 old.2) → ShowsAnswer (status_only 0) (shape_line (extent_of made.0)) shown × AreNumbersOf made.1 new.0 new.1 new.2)
-    × (IsFalse (have_cells (extent_of made.0) old.0 old.1 old.2) → ShowsBadRaster shown × (new.0 ≡ old.0) × (new.1 ≡ old.1) × (new.2 ≡ old.2))
+    (IsTrue (have_cells made.0 old.0 old.1 old.2) → ShowsAnswer (status_only 0) (shape_line made.0) shown × AreNumbersOf made.1 new.0 new.1 new.2)
+    × (IsFalse (have_cells made.0 old.0 old.1 old.2) → ShowsBadRaster shown × (new.0 ≡ old.0) × (new.1 ≡ old.1) × (new.2 ≡ old.2))
 ShowsDerivation (Err why) old new shown = ShowsOutcome (outcome_for why) shown × (new.0 ≡ old.0) × (new.1 ≡ old.1) × (new.2 ≡ old.2)

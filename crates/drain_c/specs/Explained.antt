@@ -9,7 +9,7 @@ use Rattle.drain_c.specs.declared.faults.Faults.{Faults}
 use Rattle.drain_c.specs.declared.found.Found.{Found}
 use Rattle.drain_c.specs.Faults.{ShowsFaults}
 use Rattle.drain_c.specs.Found.{outcome_found, refusal_found, status_only}
-use Rattle.drain_c.specs.Shown.{ShowsBadMap, ShowsOutcome}
+use Rattle.drain_c.specs.Shown.{Reports, ShowsBadMap, ShowsOutcome}
 use Rattle.drain_explain.specs.declared.findings.Explanation.{Explanation}
 use Rattle.drain_faults.specs.declared.per_rule.PerRule.{PerRule}
 use Rattle.drain_faults.specs.declared.patch_faults.RuleFaults.{RuleFaults}
@@ -18,21 +18,20 @@ use Rattle.drain_faults.specs.FaultMaps.{AreMapPixels}
 use Rattle.drain_faults.specs.Faults.{AreFaultsOf}
 use Rattle.drain_grid.specs.declared.judged.Judged.{Judged}
 use Rattle.drain_grid.specs.Extent.{cells}
-use Rattle.drain_verdict.specs.Answers.{rules_at}
-use Rattle.drain_verdict.specs.Inputs.{Inputs}
-use Rattle.drain_verdict.specs.Meaning.{input_grid, input_products}
+use Rattle.drain_verdict.specs.GroundSets.{GroundSet, rules_in, set_grid, set_products}
+use Rattle.drain_verdict.specs.Outcomes.{IsOutcomeIn}
 
--- of the rules about judged rasters: the cells at which each fails, and for each cell of the grid the number of the least
--- that fails there
-pub record Explains (judged : Judged) (i : Inputs) (faults : Faults) (map : List ℕ) : Type 0 where
+-- of the rules about judged rasters of the set: the cells at which each fails, and for each cell of the grid the number of
+-- the least that fails there
+pub record Explains (judged : Judged) (s : GroundSet) (faults : Faults) (map : List ℕ) : Type 0 where
   pub by_rule : PerRule RuleFaults
-  pub each_rule : AreFaultsOf (rules_at judged i) (input_grid i) (input_products i) (cells (input_grid i).extent) by_rule
+  pub each_rule : AreFaultsOf (rules_in judged s) (set_grid s) (set_products s) (cells (set_grid s).extent) by_rule
   pub shown : ShowsFaults by_rule faults
-  pub map_is : AreMapPixels (rules_at judged i) (input_grid i) (input_products i) (cells (input_grid i).extent) map
+  pub map_is : AreMapPixels (rules_in judged s) (set_grid s) (set_products s) (cells (set_grid s).extent) map
 
 -- the memory for a map has a byte for each cell
-abbrev pub has_map_length : Inputs → List ℕ → Bool
-has_map_length i map = length map == (input_grid i).extent.rows * (input_grid i).extent.cols
+abbrev pub has_map_length : GroundSet → List ℕ → Bool
+has_map_length s map = length map == (set_grid s).extent.rows * (set_grid s).extent.cols
 
 -- the numbers and the line of an answer; of an outcome for which the map has no room these of a refusal
 abbrev pub mapped_found : Bool → Result Outcome Refusal → Found
@@ -42,6 +41,10 @@ mapped_found fits (Err refusal) = refusal_found refusal
 abbrev pub mapped_line : Bool → Result Outcome Refusal → List ℕ
 mapped_line fits (Ok outcome) = if fits then outcome_line outcome else codes "refused BadMapLength"
 mapped_line fits (Err refusal) = refusal_line refusal
+
+-- what is shown is the answer to the set, or that the memory for a map has another length
+abbrev pub ReportsMapped : Judged → GroundSet → List ℕ → Answer → Type 0
+ReportsMapped judged s memory shown = Reports (IsOutcomeIn judged s) (mapped_found (has_map_length s memory)) (mapped_line (has_map_length s memory)) shown
 
 -- a map was drawn, and has the length of this memory
 abbrev pub fits : Option FaultMap → List ℕ → Bool

@@ -3,15 +3,16 @@
 ghost use Rattle.std.specs.Prelude.{◌≡◌, ◌*◌, ◌<◌, [], false, length, map, pos, slice_index_or, IfErr, IfOk};
 ghost use Rattle.drain_c.specs.Derived.{directions_alone};
 ghost use Rattle.drain_c.specs.Given.{OfBytes, audit_raster};
-ghost use Rattle.drain_maker.specs.Derived.{AreDerivedOf, IsDeriveRefusal, AreCounts, IsCounts};
-ghost use Rattle.drain_mosaic.specs.Tiling.{extent_of};
+ghost use Rattle.drain_c.specs.GivenDem.{OfDemBytes, dem_set};
+ghost use Rattle.drain_maker.specs.Derived.{AreDerivedIn, AreDerivedOf, IsDeriveRefusal, IsDeriveRefusalIn, AreCounts, IsCounts};
 ghost use Rattle.drain_raster.specs.Bytes.{CanSpellIn};
+ghost use Rattle.drain_verdict.specs.DemGround.{ElevationIsItsPixels};
 
 use crate::given::{AuditBytes, RasterBytes, TileBytes};
-use crate::sources::{audit_inputs, tile_inputs};
-use drain_grid::{Cell, Raster};
-use drain_maker::{DeriveRefusal, Derived, derive};
-use drain_mosaic::Layout;
+use crate::sources::{audit_inputs, raster_input, tile_inputs};
+use drain_grid::{Cell, Raster, Shape};
+use drain_maker::{DeriveRefusal, Derived, derive, derive_dem};
+use drain_raster::shape;
 use std::alloc::Global;
 
 /// The directions, also in the place of the other rasters, of which no number matters.
@@ -26,15 +27,15 @@ pub fn directions_alone<'a>(dir: &RasterBytes<'a>) -> AuditBytes<'a>
     }
 }
 
-/// What follows from the directions.
+/// What follows from the directions on tiles.
 pub fn derive_rasters<'a>(
     alloc: Global,
     side: u32,
     tiles: &[TileBytes<'a>],
     products: &AuditBytes<'a>,
-) -> Result<(Layout, Derived), DeriveRefusal>
+) -> Result<(Shape, Derived), DeriveRefusal>
     ensures derived { IfOk result (λ made. OfBytes side tiles.now [] (audit_raster products.now) (λ inputs. AreDerivedOf inputs made.1)) }
-    ensures counts { IfOk result (λ made. AreCounts (extent_of made.0) made.1) }
+    ensures counts { IfOk result (λ made. AreCounts made.0 made.1) }
     ensures err { IfErr result (λ why. OfBytes side tiles.now [] (audit_raster products.now) (λ inputs. IsDeriveRefusal inputs why)) }
 {
     let mut tiles = match tile_inputs(alloc, tiles) {
@@ -45,7 +46,31 @@ pub fn derive_rasters<'a>(
         Ok(products) => products,
         Err(refusal) => return Err(DeriveRefusal::Refused(refusal)),
     };
-    derive(alloc, side, tiles.as_mut_slice(), &[], &mut products)
+    let (layout, derived) = derive(alloc, side, tiles.as_mut_slice(), &[], &mut products)?;
+    Ok((layout.shape(), derived))
+}
+
+/// What follows from the directions on one raster of elevations.
+pub fn derive_dem_rasters<'a>(
+    alloc: Global,
+    dem: &RasterBytes<'a>,
+    products: &AuditBytes<'a>,
+) -> Result<(Shape, Derived), DeriveRefusal>
+    ensures derived { IfOk result (λ made. OfDemBytes dem.now [] (audit_raster products.now) (λ inputs. AreDerivedIn (dem_set inputs) made.1)) }
+    ensures elevation { IfOk result (λ made. OfDemBytes dem.now [] (audit_raster products.now) (λ inputs. ElevationIsItsPixels inputs.dem)) }
+    ensures counts { IfOk result (λ made. AreCounts made.0 made.1) }
+    ensures err { IfErr result (λ why. OfDemBytes dem.now [] (audit_raster products.now) (λ inputs. IsDeriveRefusalIn (dem_set inputs) why)) }
+{
+    let mut dem = match raster_input(alloc, dem) {
+        Ok(dem) => [dem],
+        Err(refusal) => return Err(DeriveRefusal::Refused(refusal)),
+    };
+    let mut products = match audit_inputs(alloc, products) {
+        Ok(products) => products,
+        Err(refusal) => return Err(DeriveRefusal::Refused(refusal)),
+    };
+    let (header, derived) = derive_dem(alloc, &mut dem, &[], &mut products)?;
+    Ok((shape(&header), derived))
 }
 
 /// Writes the numbers of a raster, in row order.

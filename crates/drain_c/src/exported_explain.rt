@@ -1,23 +1,21 @@
 //! The explanation of an audit that C calls. `include/drain.h` declares it.
 
 ghost use Rattle.std.specs.Prelude.{◌≡◌, ◌<◌, ◌≤◌, IfSome, IsFalse, IsNone, IsTrue};
-ghost use Rattle.drain_c.specs.Explained.{Explains, ShowsExplained, ShowsExplanation, fits, has_map_length, mapped_found, mapped_line};
+ghost use Rattle.drain_c.specs.Explained.{Explains, ReportsMapped};
 ghost use Rattle.drain_c.specs.Given.{OfBytes, audit_raster};
 ghost use Rattle.drain_c.specs.Judged.{OfJudgedBytes, judged_bytes, judged_of};
-ghost use Rattle.drain_c.specs.Shown.{Reports, ShowsBadChoice, ShowsBadMap, ShowsMissing};
+ghost use Rattle.drain_c.specs.Shown.{ShowsBadChoice, ShowsMissing};
 ghost use Rattle.drain_c.specs.Whole.{is_audit_whole};
-ghost use Rattle.drain_verdict.specs.Outcomes.{IsOutcomeAnswer};
+ghost use Rattle.drain_verdict.specs.TileGround.{set_of};
 
-use crate::answer::{Answer, show_bad_choice, show_bad_map, show_missing, show_outcome};
-use crate::faults::{Faults, faults_of};
+use crate::answer::{Answer, show_bad_choice, show_missing};
+use crate::faults::Faults;
 use crate::given::{AuditBytes, TileBytes};
 use crate::judge::judge_explained;
 use crate::judged::{judged_bytes, judged_of};
+use crate::show_explained::show_explained;
 use crate::whole::is_audit_whole;
-use drain_explain::Explanation;
 use drain_grid::Judged;
-use drain_mosaic::Layout;
-use drain_verdict::Refusal;
 use std::alloc::Global;
 
 /// The answer of `drain_audit_only` with what explains it: the cells at which each rule about the judged rasters fails,
@@ -40,11 +38,11 @@ pub extern "C" fn drain_explain<'a>(
 
     // Else what it writes is the answer of an audit of these rasters; or, if this is no refusal and the map's memory has
     // another length, that refusal.
-    ensures answer { IfSome (judged_of judged) (λ some. IsTrue (is_audit_whole tiles.now (judged_bytes some rasters.now)) → OfJudgedBytes side tiles.now sinks.now some rasters.now (λ inputs. Reports (IsOutcomeAnswer some inputs) (mapped_found (has_map_length inputs map.old)) (mapped_line (has_map_length inputs map.old)) answer.new)) }
+    ensures answer { IfSome (judged_of judged) (λ some. IsTrue (is_audit_whole tiles.now (judged_bytes some rasters.now)) → OfJudgedBytes side tiles.now sinks.now some rasters.now (λ inputs. ReportsMapped some (set_of inputs) map.old answer.new)) }
     ensures status { answer.new.status ≡ result }
 
     // With a verdict what explains it is written, else nothing.
-    ensures explained { IfSome (judged_of judged) (λ some. result < 2 → OfJudgedBytes side tiles.now sinks.now some rasters.now (λ inputs. Explains some inputs faults.new map.new)) }
+    ensures explained { IfSome (judged_of judged) (λ some. result < 2 → OfJudgedBytes side tiles.now sinks.now some rasters.now (λ inputs. Explains some (set_of inputs) faults.new map.new)) }
     ensures unwritten { 2 ≤ result → (map.new ≡ map.old) × (faults.new ≡ faults.old) }
 {
     match judged_of(judged) {
@@ -74,9 +72,9 @@ fn explain_judged<'a>(
     answer: &mut Answer,
 ) -> u32
     ensures missing { IsFalse (is_audit_whole tiles.now rasters.now) → ShowsMissing answer.new }
-    ensures answer { IsTrue (is_audit_whole tiles.now rasters.now) → OfBytes side tiles.now sinks.now (audit_raster rasters.now) (λ inputs. Reports (IsOutcomeAnswer judged inputs) (mapped_found (has_map_length inputs map.old)) (mapped_line (has_map_length inputs map.old)) answer.new) }
+    ensures answer { IsTrue (is_audit_whole tiles.now rasters.now) → OfBytes side tiles.now sinks.now (audit_raster rasters.now) (λ inputs. ReportsMapped judged (set_of inputs) map.old answer.new) }
     ensures status { answer.new.status ≡ result }
-    ensures explained { result < 2 → OfBytes side tiles.now sinks.now (audit_raster rasters.now) (λ inputs. Explains judged inputs faults.new map.new) }
+    ensures explained { result < 2 → OfBytes side tiles.now sinks.now (audit_raster rasters.now) (λ inputs. Explains judged (set_of inputs) faults.new map.new) }
     ensures unwritten { 2 ≤ result → (map.new ≡ map.old) × (faults.new ≡ faults.old) }
 {
     if !is_audit_whole(tiles, rasters) {
@@ -86,43 +84,4 @@ fn explain_judged<'a>(
     let explained = judge_explained(alloc, side, tiles, sinks, rasters, judged);
     show_explained(&explained, map, faults, answer);
     answer.status
-}
-
-/// Writes an answer with what explains it.
-fn show_explained(
-    explained: &Result<Explanation<Layout>, Refusal>,
-    map: &mut [u8],
-    faults: &mut Faults,
-    answer: &mut Answer,
-)
-    ensures { ShowsExplained explained.now (map.old, faults.old) (map.new, faults.new) answer.new }
-{
-    match explained {
-        Ok(explanation) => show_explanation(explanation, map, faults, answer),
-        Err(refusal) => show_outcome(&Err(*refusal), answer),
-    }
-}
-
-/// Writes an outcome and what explains it, if the map has the length of its memory; else that it has another.
-fn show_explanation(
-    explanation: &Explanation<Layout>,
-    map: &mut [u8],
-    faults: &mut Faults,
-    answer: &mut Answer,
-)
-    ensures fits { IsTrue (fits explanation.now.findings.map map.old) → ShowsExplanation explanation.now map.new faults.new answer.new }
-    ensures misfits { IsFalse (fits explanation.now.findings.map map.old) → ShowsBadMap answer.new × (map.new ≡ map.old) × (faults.new ≡ faults.old) }
-{
-    match &explanation.findings.map {
-        Some(drawn) => {
-            if map.len() != drawn.pixels.len() {
-                show_bad_map(answer);
-                return;
-            }
-            map.copy_from_slice(&drawn.pixels);
-            *faults = faults_of(&explanation.findings.by_rule);
-            show_outcome(&Ok(explanation.outcome), answer);
-        }
-        None => show_bad_map(answer),
-    }
 }

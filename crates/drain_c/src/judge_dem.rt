@@ -1,9 +1,10 @@
 //! The answers of audits and of a check to the bytes of a call over one raster of elevations.
 
-ghost use Rattle.std.specs.Prelude.{◌≡◌, ◌↔◌, IfOk, false};
+ghost use Rattle.std.specs.Prelude.{◌≡◌, ◌↔◌, IfOk, IsSome, false};
 ghost use Rattle.drain_answer.specs.Outcomes.{IsAcceptedOutcome};
 ghost use Rattle.drain_c.specs.Given.{audit_raster, check_raster};
 ghost use Rattle.drain_c.specs.GivenDem.{OfDemBytes, dem_set};
+ghost use Rattle.drain_explain.specs.Explanations.{AreFindingsIn, answer_in};
 ghost use Rattle.drain_grid.specs.Judged.{has_rnk};
 ghost use Rattle.drain_rules.specs.Verdicts.{IfAccepted};
 ghost use Rattle.drain_verdict.specs.Answers.{AreCorrectIn, IsAcceptance, IsAnswerIn, IsAuditIn};
@@ -13,7 +14,9 @@ ghost use Rattle.drain_verdict.specs.Outcomes.{AreRightIn, IsOutcomeIn};
 
 use crate::given::{AuditBytes, CheckBytes, RasterBytes};
 use crate::sources::{audit_inputs, check_inputs, raster_input};
+use drain_explain::{Explanation, Mapping, explain_audit_dem};
 use drain_grid::{Judged, Verdict};
+use drain_header::Header;
 use drain_verdict::{AuditVerdict, Outcome, Refusal, audit_dem, audit_part_dem, check_dem};
 use std::alloc::Global;
 
@@ -48,6 +51,25 @@ pub fn judge_dem_some<'a>(
     let mut dem = [raster_input(alloc, dem)?];
     let mut products = audit_inputs(alloc, products)?;
     audit_part_dem(alloc, &mut dem, sinks, &mut products, judged)
+}
+
+/// The answer of an audit of some rasters with what explains it, and a map.
+pub fn judge_dem_explained<'a>(
+    alloc: Global,
+    dem: &RasterBytes<'a>,
+    sinks: &[u8],
+    products: &AuditBytes<'a>,
+    judged: Judged,
+) -> Result<Explanation<Header>, Refusal>
+    ensures answer { OfDemBytes dem.now sinks.now (audit_raster products.now) (λ inputs. IsOutcomeIn judged (dem_set inputs) (answer_in result)) }
+    ensures explained { IfOk result (λ e. OfDemBytes dem.now sinks.now (audit_raster products.now) (λ inputs. AreFindingsIn judged (dem_set inputs) e.findings)) }
+    ensures drawn { IfOk result (λ e. IsSome e.findings.map) }
+    ensures elevation { IfOk result (λ e. OfDemBytes dem.now sinks.now (audit_raster products.now) (λ inputs. ElevationIsItsPixels inputs.dem)) }
+{
+    let mut dem = [raster_input(alloc, dem)?];
+    let mut products = audit_inputs(alloc, products)?;
+    let mapping = Mapping::Drawn;
+    explain_audit_dem(alloc, &mut dem, sinks, &mut products, judged, mapping)
 }
 
 /// The answer of a check.

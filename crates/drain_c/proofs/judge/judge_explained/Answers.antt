@@ -2,18 +2,13 @@ use Rattle.std.proofs.Common.{sym, subst}
 use Rattle.drain_device.specs.contracts.slice_source.SliceSourceByteSource.TheImpl.{bytes_left-value}
 use Rattle.drain_c.specs.Given.{audit_raster}
 use Rattle.drain_c.specs.Sources.{AreTilesOf}
-use Rattle.drain_c.proofs.CutInputs.{AreAnswers, outcomes, tile_cut}
+use Rattle.drain_c.proofs.CutInputs.{explanations, outcomes, tile_cut}
 use Rattle.drain_c.proofs.Spelling.{answer_of_bytes, fact_of_bytes, tile_call}
 use Rattle.drain_explain.specs.Explanations.{AreFindingsOf, answer_in}
-use Rattle.drain_grid.specs.declared.judged.Judged.{Judged}
 use Rattle.drain_mosaic.specs.Tiling.{Tiling}
 use Rattle.drain_verdict.specs.Inputs.{as_five}
 use Rattle.drain_verdict.specs.Outcomes.{IsOutcomeIn}
 use Rattle.drain_c.proofs.judge.judge_explained.Goals as goal
-
--- so are answers with explanations
-explanations : (judged : Judged) → AreAnswers (λ s answer. IsOutcomeIn judged s (answer_in {F = Tiling} answer))
-explanations judged = record { readable = λ s v is. is.0; refused = λ s refusal is. is; refuses = λ s refusal is. is }
 
 pub returns-clause-answer : goal.returns-clause-answer
 returns-clause-answer c =
@@ -27,5 +22,5 @@ returns-clause-explained c =
     let tiles = subst (AreTilesOf bytes_left-value.it c.args.tiles.now) (sym c.as_mut_slice-tiles.ensures.value) c.in_ok-tiles.ensures.same in
     let call = tile_call bytes_left-value.it c.args.side c.args.tiles.now c.args.sinks.now (audit_raster c.args.products.now) c.as_mut_slice-tiles.result.now
     (as_five c.in_ok-products.products) tiles c.in_ok-products.ensures.same in
-    fact_of_bytes tile_cut call (λ s answer. IsOutcomeIn c.args.judged s (answer_in {F = Tiling} answer)) (explanations c.args.judged) (λ e inputs. AreFindingsOf c.args.judged inputs e.findings)
+    fact_of_bytes tile_cut call (λ s answer. IsOutcomeIn c.args.judged s (answer_in {F = Tiling} answer)) (explanations {F = Tiling} c.args.judged) (λ e inputs. AreFindingsOf c.args.judged inputs e.findings)
     c.explain_audit.result c.explain_audit.ensures.answer c.explain_audit.ensures.explained
