@@ -35,7 +35,7 @@ def put_counts(made: Converted) -> None:
         bad = ~none & (bad | (whole >= MOST_COUNT - made.plus) | ((values < 0) & (not signed)))
         near += int((~none & rounded).sum())
         unsure += int((bad | (np.abs(values) >= SINGLE)).sum()) if is_single else 0
-        refusal = refusal or no_count(rows.start, bad, numbers)
+        refusal = refusal or no_count(rows.start, bad, numbers, made.per)
         counts[rows] = np.where(none | bad, 0, whole + np.uint64(made.plus)).astype(np.uint32)
     if refusal and not is_single:
         raise refusal
@@ -48,17 +48,22 @@ def put_counts(made: Converted) -> None:
         made.note(f"acc: {near:,} numbers are whole but for a millionth of themselves, and are rounded")
 
 
-def no_count(top: int, bad: Array, numbers: Array) -> OddRaster | None:
+SEVERAL = (
+    "Directions into several cells (D-infinity, MFD), weights and unequal areas can't be judged: have the tool count cells "
+    "along one direction (SAGA -METHOD 0, r.watershed -s, Whitebox --out_type=cells)"
+)
+ROUNDED = "It may be a rounded sum in single precision, of an unsure count: drain-gis derive counts along dir"
+
+
+def no_count(top: int, bad: Array, numbers: Array, per: float) -> OddRaster | None:
     """The refusal of the first bad number of some rows, if there is one."""
     if not bad.any():
         return None
     row, col = np.argwhere(bad)[0]
-    return OddRaster(
-        "acc",
-        f"{numbers[row, col]} at row {top + row}, column {col} is no count. Directions into several cells (D-infinity, "
-        "MFD), weights and unequal areas can't be judged: have the tool count cells along one direction (SAGA -METHOD 0, "
-        "r.watershed -s, Whitebox --out_type=cells)",
-    )
+    value = abs(float(numbers[row, col])) / per
+    is_near = numbers.dtype == np.float32 and 0 < abs(value - round(value)) <= SLACK_OF_SINGLE * value
+    why = ROUNDED if is_near else SEVERAL
+    return OddRaster("acc", f"{numbers[row, col]} at row {top + row}, column {col} is no count. {why}")
 
 
 def magnitude(numbers: Array) -> Array:
@@ -102,7 +107,7 @@ def take_sums(made: Converted) -> None:
         fits = (np.abs(total - values) <= SUM_SLACK * values)[inner]
         sizes, none = values[inner], none[inner]
         bad = cells_of(sizes.astype(np.float32), made.per)[1] & ~none
-        if refusal := no_count(band.start, bad & ~fits, numbers[inner]):
+        if refusal := no_count(band.start, bad & ~fits, numbers[inner], made.per):
             raise refusal
         sums = (bad | (sizes >= SINGLE)) & ~none
         lost += int((sums & ~fits).sum())
@@ -110,9 +115,7 @@ def take_sums(made: Converted) -> None:
         taken += int((sums & fits).sum())
     made.completed["acc"] = taken
     if taken:
-        made.note(
-            f"acc: {cells(taken)} with a sum in single precision that is right but for rounding: counted along dir"
-        )
+        made.note(f"acc: {cells(taken)} with a sum in single precision, right but for rounding: counted along dir")
     if lost:
         made.note(f"acc: {lost:,} numbers of {SINGLE:,} or more in single precision: the tool may have rounded them")
 
@@ -158,9 +161,8 @@ def guess_counting(made: Converted, found: dict[float, int], named: bool) -> Non
         made.note(f"acc: {text}: the cell itself {way}")
         return
     if not named and share < SURE:
-        text = "directions into several cells are the likely cause (SAGA's default; -METHOD 0 is one direction): cells that "
-        text += f"get no water have {len(found):,} different numbers, most often {number:.9g}, so these are no counts"
-        raise OddRaster("acc", text)
+        text = f"cells that get no water have {len(found):,} different numbers, most often {number:.9g}: these are no counts"
+        raise OddRaster("acc", f"{text}. {SEVERAL}")
     if known is not None and not is_area(number, known):
         raise OddRaster("acc", f"{text}, not the {known:.9g} that --cell-area names")
     if known is None and not is_area(number, area):

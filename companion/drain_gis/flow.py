@@ -11,7 +11,7 @@ from .around import CODES, NO_CODE, NO_DIRECTION, OUTLET, STEPS, Array, bands, l
 from .drain import Answer, Finding, accepted, rejected
 from .errors import DrainFailed
 from .job import Converted
-from .rules import NO_END, SOUND, Cell, Counted, cells
+from .rules import NO_END, SOUND, Cell, Counted, cells, tally
 from .sets import Rows
 
 STOPS = {NO_CODE: "its number is no code", NO_DIRECTION: "it has no direction"}
@@ -149,11 +149,8 @@ class Flow:
         """Accepted exactly if every path ends, and acc and bas are those of dir at each cell with data and no other."""
         shown, found = np.zeros(self.data.shape, np.uint8), dict[int, tuple[int, Cell]]()
         for band, number, where in self.faults():
-            if where.any():
-                row, col = np.argwhere(where)[0]
-                many, first = found.get(number, (0, (band.start + int(row), int(col))))
-                found[number] = many + int(where.sum()), first
-                shown[band][where & ((shown[band] == SOUND) | (shown[band] > number))] = number
+            tally(found, number, where, band.start)
+            shown[band][where & ((shown[band] == SOUND) | (shown[band] > number))] = number
         if self.endless:
             return Finding(self.endless, shown, found)
         if not found:
@@ -178,10 +175,8 @@ class Flow:
             if "bas" in has:
                 yield band, 14, self.wrong_labels(band, around, inner)
             for number, listed in ((15, shared), (NO_END, self.ring)):
-                here = np.zeros(data.shape, bool)
-                here.flat[
-                    listed[(listed >= band.start * cols) & (listed < band.stop * cols)] - band.start * cols
-                ] = True
+                here, at = np.zeros(data.shape, bool), listed - band.start * cols
+                here.flat[at[(at >= 0) & (at < here.size)]] = True
                 yield band, number, here
 
 

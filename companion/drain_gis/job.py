@@ -127,13 +127,19 @@ class Converted:
 def note_misplaced(made: Converted, name: str) -> None:
     """Notes no-data numbers in cells with an elevation, and numbers in voids: both stay, and are rejected."""
     product, (_, blank), missing, over = made.set[name], made.set.kinds[name], 0, 0
+    ground, bare, lowest = made.set["dem"], set[int](), list[int]()
     for band, _, _ in bands(*made.data.shape):
         none, data = product[band] == blank, made.data[band]
         missing, over = missing + int((none & data).sum()), over + int((~none & ~data).sum())
+        bare.update(np.unique(ground[band][none & data][:MOST_LOOKED_AT]).tolist())
+        lowest += [int(ground[band][data].min())] if data.any() else []
     if missing:
         rim = name == "dir" and TOOLS[made.job.tool].blank_rim and not made.job.options.complete_rim
         hint = "; this tool leaves the rim without directions: --complete-rim gives it some" if rim else ""
         hint = hint if missing < made.many else ": it has no number at all. Is its no-data number right?"
+        if made.unit and made.dem.nodata is None and bare == {min(lowest)}:
+            number = f"{made.unit.heights(np.array(min(lowest))):.9g}"
+            hint += f"; there dem has {number}, its lowest height. If that means no data: --nodata dem={number}"
         made.note(f"{name}: no data at {cells(missing)} with an elevation (rule Missing){hint}")
     if over:
         found, used = Counter[float](), set[float]()

@@ -110,6 +110,7 @@ def make_whole(source: str, out: Path, per: int, nodata: int | float | None, dri
     layer, most = open_file("dem", source, nodata, drivers), [0.0]
     if layer.scaling != (1.0, 0.0):
         raise CannotJudge(f"{source} has the scale and offset {layer.scaling}: write its heights plainly")
+    check_apart([out], layer.files())
     if out.exists():
         raise CannotJudge(f"{out} is there already")
 
@@ -146,5 +147,7 @@ def check_apart(outs: Iterable[str | Path], sources: Iterable[str | Path]) -> No
     if len({Path(out).resolve() for out in outs}) < len(outs):
         raise CannotJudge(f"{', '.join(map(str, outs))}: each output needs a name of its own")
     for out in outs:
+        if not Path(out).absolute().parent.is_dir():
+            raise CannotJudge(f"{out}: there is no such folder: make it first")
         if Path(out).exists() and any(Path(out).samefile(source) for source in sources):
             raise CannotJudge(f"{out} is read, and would be replaced: name another")

@@ -11,6 +11,7 @@ import numpy as np
 from .around import Array
 from .heights import Unit
 from .job import Converted
+from .rules import tally
 from .sets import PRODUCTS
 from .tools import TOOLS
 
@@ -18,18 +19,16 @@ from .tools import TOOLS
 def differences(made: Converted) -> Iterator[str]:
     """A text for each raster that doesn't say what its source says, at other cells than were reported."""
     for name in (n for n in ("dem", *PRODUCTS) if n in made.layers):
-        many, first, labels = 0, "", dict[Any, int]()
+        found, labels = dict[int, Any](), dict[Any, int]()
         for rows, numbers, none in made.windows(name):
             have, blank = made.set[name][rows], made.set.kinds[name][1]
             numbers = np.where(none, numbers.dtype.type(0), numbers)
             right = are_labels(have, numbers, none, labels) if name == "bas" else are(made, name, have, numbers)
-            bad = np.where(none, have != blank, ~right)
-            if not first and bad.any():
-                row, col = np.argwhere(bad)[0]
-                first = f", first at row {rows.start + row}, column {col}"
-            many += int(bad.sum())
+            tally(found, 0, np.where(none, have != blank, ~right), rows.start)
+        many, first = found.get(0, (0, "none"))
         if many != made.completed.get(name, 0):
-            yield f"{name}: {many:,} cells differ from the source, {made.completed.get(name, 0):,} were reported{first}"
+            text = f"{many:,} cells differ from the source, the first at {first}"
+            yield f"{name}: {text}; {made.completed.get(name, 0):,} were reported"
         listed = sorted(labels.items())
         plain = bool(listed) and 1 <= listed[0][0] and listed[-1][0] < 1 << 32
         if any(label != (number if plain else n) for n, (number, label) in enumerate(listed, 1)):

@@ -47,11 +47,9 @@ def note_shares(made: Converted) -> None:
         return
     ways = ["unit", *([] if is_square(dem) else ["cells"]), *(["ground"] if in_degrees(dem) else [])]
     found = shares(made, [(name, way) for way in ways])
-    listed = ", ".join(f"{DISTANCES[way]} {share:.1%}" for way, share in zip(ways, found))
+    listed = ", ".join(f"{share:.1%} by {DISTANCES[way]}" for way, share in zip(ways, found))
     own = TOOLS[name].spacing[int(in_degrees(dem))]
-    text = (
-        f"dir: of the cells with a lower neighbour go down a steepest way, by {listed}; {name} takes {DISTANCES[own]}"
-    )
+    text = f"dir: steepest ways, of all cells with a lower neighbour: {listed}; {name} takes {DISTANCES[own]}"
     text += "" if own == "unit" else f", `drain` {DISTANCES['unit']}"
     if max(found) > found[0] + BETTER:
         text += ", so expect Slope. acc and bas along dir can be judged (leave out --dem and --con)"

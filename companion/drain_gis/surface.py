@@ -9,7 +9,7 @@ import numpy as np
 from .around import Array
 from .drain import Finding
 from .job import Converted
-from .rules import NOT_FILLED, SOUND, cells
+from .rules import NOT_FILLED, SOUND, Cell, cells, tally
 from .sets import Set
 from .tiles import least
 
@@ -29,19 +29,18 @@ class Surface:
 
     def text(self) -> tuple[bool, str]:
         """Whether con is the least surface; in words, with how far it is off."""
-        sizes, missing, first = Sizes(), 0, ""
+        sizes, missing, found = Sizes(), 0, dict[int, tuple[int, Cell]]()
         for top, rows in self.made.dem.windows():
             off = self.off(slice(top, top + rows))
             none = self.made.data[top : top + rows] & np.isnan(off)
             missing += int(none.sum())
             sizes.add(off)
-            if not first and (bad := none | (off > 0) | (off < 0)).any():
-                row, col = np.argwhere(bad)[0]
-                first = f"first at row {top + row}, column {col}"
-        if not first:
+            tally(found, 0, none | (off > 0) | (off < 0), top)
+        if not found:
             return True, "the least surface"
         texts = [*sizes.texts(), *([f"{cells(missing)} without a height"] if missing else [])]
-        return False, f"not the least surface: {'; '.join(texts)}; {first}"
+        row, col = found[0][1]
+        return False, f"not the least surface: {'; '.join(texts)}; first at row {row}, column {col}"
 
     def own_ground_text(self) -> str:
         """Whether con drains at all: judged as its own ground, which a breached or sloped surface passes."""
@@ -59,16 +58,10 @@ class Surface:
 
     def add_low_cells(self, finding: Finding) -> None:
         """Puts the cells of con alone that are lower than the least surface on the map, and counts them."""
-        many, first = 0, None
         for top, rows in self.made.dem.windows():
             low, shown = self.off(slice(top, top + rows)) < 0, finding.map[top : top + rows]
-            if first is None and low.any():
-                row, col = np.argwhere(low)[0]
-                first = top + int(row), int(col)
-            many += int(low.sum())
+            tally(finding.rules, NOT_FILLED, low, top)
             shown[low & (shown == SOUND)] = NOT_FILLED
-        if first is not None:
-            finding.rules[NOT_FILLED] = many, first
 
 
 class Sizes:

@@ -15,7 +15,7 @@ import pytest
 import worlds
 from conftest import COMPANION, left
 from drain_gis.maps import write_map
-from drain_gis.picture import Map, legend_of, write_picture
+from drain_gis.picture import Map, draw, legend_of, write_picture
 from drain_gis.report import write_report
 from drain_gis.rules import RULES
 from matplotlib.colors import to_rgb
@@ -136,7 +136,7 @@ def drawn(folder: Path, shape: tuple[int, int], cells: dict[int, Any], path: str
     """The picture of a surface, with faults of these rules put on its map."""
     z = np.add.outer(np.arange(shape[0]) // 9, np.arange(shape[1]) // 7).astype(np.int16)
     verdict = drain_gis.audit(z, con=z + np.eye(*shape, dtype=np.int16))
-    verdict.map, verdict.rules, verdict.made.dem.path = np.zeros(shape, np.uint8), {}, path
+    verdict.map, verdict.rules, verdict.made.dem.paths = np.zeros(shape, np.uint8), {}, [path] if path else []
     for n, where in cells.items():
         verdict.map[where] = n
         verdict.rules[n] = (int((verdict.map == n).sum()), (0, 0))
@@ -159,12 +159,18 @@ def test_the_legend_has_each_rule_that_fails_and_no_other(tmp_path: Path, failin
 def test_the_legend_says_why_fewer_cells_are_drawn_and_that_no_rule_fails(rejected: drain_gis.Verdict) -> None:
     rejected.rules = {**rejected.rules, 15: (9, (0, 0))}
     labels = [str(line.get_label()) for line in legend_of(rejected, Map(rejected))]
-    assert (
-        "15 SharedLabel: another outlet's, 9 cells (0 drawn; the others fail a rule with a smaller number too)"
-        in labels
-    )
+    rest = "(0 drawn; the others fail a rule with a smaller number too)"
+    assert f"15 SharedLabel: another outlet's, 9 cells {rest}" in labels
     right = drain_gis.audit(**worlds.random_world(seed=4).given("con"))
     assert [line.get_label() for line in legend_of(right, Map(right))] == ["no rule fails at any cell", "void"]
+
+
+def test_no_text_of_a_picture_is_cut_off(rejected: drain_gis.Verdict) -> None:
+    rejected.rules, rejected.made.dem.paths = {**rejected.rules, 14: (10**9, (0, 0))}, ["an elevation model.tif" * 9]
+    figure = draw(rejected)
+    texts = [*figure.texts, *figure.legends[0].get_texts()]
+    ends = {one.get_text(): one.get_window_extent(figure.canvas.get_renderer()).x1 for one in texts}
+    assert len(ends) > 4 and {text: end for text, end in ends.items() if end > figure.bbox.x1} == {}
 
 
 @pytest.mark.parametrize("shape", [(1, 1), (1, 500), (3000, 3), (2, 9000), (37, 41)])

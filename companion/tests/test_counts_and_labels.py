@@ -135,6 +135,8 @@ def test_sums_in_single_precision_are_taken_within_their_rounding() -> None:
     assert verdict.accepted and any("single precision" in note or "millionth" in note for note in verdict.notes)
     off[0, 5000:] += 1
     assert not drain_gis.audit(z, con=z, dir=codes, acc=off, codes="esri")
+    near = np.where(ACC == 3, 25468.988, ACC).astype("f4")
+    assert refused("acc", "25468.98828125 at row 0, column 0 is no count. It may be a rounded sum", acc=near)
     large = ACC.astype(np.float32)
     large[0, 0] = 2.0**25
     verdict = audit(acc=large)
@@ -183,3 +185,6 @@ def test_a_no_data_number_that_is_not_named_is_suggested(world: worlds.World) ->
     verdict = drain_gis.audit(**given, codes="esri")
     assert not verdict and any("--nodata bas=1000000" in note for note in verdict.notes)
     assert drain_gis.audit(**given, codes="esri", nodata={"bas": 10**6})
+    given = {"dem": np.where(world.void, -9999, world.dem), "con": world.masked("con")}
+    assert any(note.endswith("--nodata dem=-9999") for note in drain_gis.audit(**given).notes)
+    assert drain_gis.audit(**given, nodata={"dem": -9999})

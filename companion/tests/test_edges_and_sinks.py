@@ -37,7 +37,7 @@ def test_a_rim_without_directions_is_completed_only_on_request() -> None:
     rasters = {**world.given("con"), "dir": np.ma.array(world.dir, mask=world.void | rim)}
     assert not drain_gis.audit(**rasters, codes="esri")
     verdict = drain_gis.audit(**rasters, complete_rim=True, codes="esri")
-    assert verdict and any(f"{rim.sum()} cells at the edge" in note for note in verdict.notes)
+    assert verdict and any(f"{rim.sum()} cells at the rim" in note for note in verdict.notes)
 
 
 def test_sinks() -> None:
@@ -112,6 +112,7 @@ def test_codes_along_the_edge_of_every_shape(shape: tuple[int, int]) -> None:
         ({"dem": BOWL, "con": BOWL, "nodata": {"conn": 1}}, "conn: expected names of dem, con"),
         ({"dem": BOWL, "con": BOWL, "acc_counts": "pixels"}, "acc_counts"), ({"con": BOWL, "ends": "no"}, "ends"),
         ({"con": BOWL.astype("i2"), "nodata": {"con": 70000}}, "can't hold it"),
+        *(({"con": BOWL, "sinks": [cell]}, "sinks: expected whole numbers") for cell in ((1,), (1.5, 2), 7, "ab")),
     ],
 )  # fmt: skip
 def test_what_cannot_be_judged_is_refused(given: dict[str, Any], text: str) -> None:

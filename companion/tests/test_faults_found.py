@@ -75,6 +75,16 @@ def test_where_con_is_too_low_nobody_says_that_it_is_too_high() -> None:
     assert "a neighbour's too low" in drain_gis.rules.RULES[9].label
 
 
+def test_sizes_of_fewer_cells_than_fail_say_so() -> None:
+    world = worlds.random_world(seed=9)
+    rasters, inside = world.given(), np.where(world.void | (world.dir == 0), 0, world.acc)
+    for name in ("acc", "bas"):
+        rasters[name][np.unravel_index(inside.argmax(), inside.shape)] += 10**6
+    verdict = drain_gis.audit(**rasters, **PLAIN, parts=True)
+    text = f"(of {verdict.rules[14][0] - 1} that fail no rule with a smaller number)"
+    assert text in verdict.sizes[14] and "smaller" not in verdict.sizes[13], verdict.sizes
+
+
 def test_a_surface_that_drains_as_its_own_ground_is_told() -> None:
     """As of a tool that breaches or carves: it isn't the least surface, and has no depressions."""
     world = worlds.random_world(seed=9)

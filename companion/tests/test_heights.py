@@ -104,14 +104,8 @@ def test_heights_without_data_do_not_count() -> None:
 
 def test_ranges() -> None:
     """All whole numbers of 32 bits but one, with a sign or without; heights are judged at both ends."""
-    for low, high in (
-        (400.0, 900.01),
-        (-600.5, 40.25),
-        (300.0, 955.34),
-        (0, 2**32 - 2),
-        (1, 2**32 - 1),
-        (-(2**31) + 1, 2**31 - 1),
-    ):
+    floats, least = [(400.0, 900.01), (-600.5, 40.25), (300.0, 955.34)], -(2**31) + 1
+    for low, high in (*floats, (0, 2**32 - 2), (1, 2**32 - 1), (least, 2**31 - 1)):
         a = np.array([[low, high, low]])
         first, last, _ = unit_of(a).whole(a, a != a)[0].tolist()
         assert last - first == round((high - low) * unit_of(a).per)
@@ -119,7 +113,7 @@ def test_ranges() -> None:
             dem = a.astype(kind)
             assert drain_gis.audit(dem, con=dem, dir=np.array([[0, 1, 0]]), codes="esri").line.endswith("outlets=2")
             assert drain_gis.audit(dem, con=dem, dir=np.array([[0, 0, 0]]), codes="esri").rule == 10
-    with pytest.raises(drain_gis.CannotJudge, match=f"{2**32 - 1:,} whole numbers"):
+    with pytest.raises(drain_gis.CannotJudge, match=f"are {2**32 - 1:,} whole numbers, which 32 bits don't hold$"):
         unit_of(np.array([[0, 2**32 - 1]], np.int64))
 
 
@@ -163,20 +157,12 @@ def test_elevations_of_32_bits_are_judged_whole(
     world = worlds.world_of(steps, np.zeros(z.shape, bool))
     heights_of = dict(zip(steps.ravel().tolist(), z.ravel().tolist()))
     con = np.vectorize(heights_of.get, otypes=[z.dtype])(world.con)
-    arrays = {
-        "dem": z,
-        "con": con,
-        "dir": world.dir.astype("u1"),
-        "acc": world.acc.astype("i4"),
-        "bas": world.bas.astype("i4"),
-    }
+    arrays = {"dem": z, "con": con, **{name: getattr(world, name).astype("i4") for name in ("dir", "acc", "bas")}}
     paths = {name: worlds.write_tif(tmp_path / f"{name}.tif", a, None, place, epsg) for name, a in arrays.items()}
     done = command("judge", *worlds.words(paths))
     assert (done.status, f"accepted rows=17 cols=40 data={z.size} " in done.out) == (0, True), done
-    assert (
-        "judged: con, dir, acc, bas over dem, 17 rows by 40 columns" in done.out
-        and unit in done.out.split("heights: ")[1]
-    )
+    assert "judged: con, dir, acc, bas over dem, 17 rows by 40 columns" in done.out
+    assert unit in done.out.split("heights: ")[1]
     keys = libraries.slopes(world.con, world.void)
     best, codes = np.max(list(keys.values()), axis=0), world.dir.copy()
     row, col = np.argwhere(sum((0 < key) & (key < best) for key in keys.values()) > 0)[-1]
@@ -228,6 +214,10 @@ def test_slopes_on_flats_are_taken_off_and_reported() -> None:
     con = world.masked("con") + np.where(raised, np.random.default_rng(1).random(raised.shape) * 0.4 + 0.1, 0)
     verdict = drain_gis.audit(**{**world.given("dir"), "con": con}, flatten=True, codes="esri")
     assert verdict and any(f"{int(raised.sum())} cells rounded down" in note for note in verdict.notes)
+    dem, filled = ((a / 100 + 400).astype(np.float32) for a in (world.masked("dem"), world.masked("con")))
+    verdict = drain_gis.audit(dem, con=(filled + raised * 0.004).astype(np.float32), flatten=True)
+    assert verdict and any(f"{int(raised.sum())} cells rounded down to hundredths" in note for note in verdict.notes)
+    assert not drain_gis.audit(dem, con=(filled + raised * 0.03).astype(np.float32), flatten=True)
     for tenths in (9, 18, 19):  # the number below 0.9 times 10 is 9 in double precision
         below = np.array([[np.nextafter(tenths / 10, 0)]])
         assert heights.Unit(tens=1).whole(below, below != below, down=True)[0, 0] == tenths - 1

@@ -89,8 +89,10 @@ def test_another_grid_is_not_judged(tmp_path: Path, world: worlds.World, place: 
 @pytest.mark.parametrize("shape", [(3, 3), (31, 23), (24, 31)])
 def test_another_size_is_not_judged(tmp_path: Path, world: worlds.World, shape: tuple[int, int]) -> None:
     other = worlds.write_tif(tmp_path / "o.tif", np.zeros(shape, np.int16))
-    done = command("judge", *worlds.words({**worlds.write_set(tmp_path, world), "bas": other}))
-    assert done.status == 2 and f"bas: {shape[0]} rows and {shape[1]} columns, dem has 23 and 31" in done.out, done
+    for name, text in (("bas", "judged: con, dir, acc over dem"), ("con", "con: can't be judged, so drain's own")):
+        done = command("judge", *worlds.words({**worlds.write_set(tmp_path, world), name: other}))
+        assert done.status == 2 and text in done.out, done
+        assert f"{name}: {shape[0]} rows and {shape[1]} columns, dem has 23 and 31" in done.out, done
 
 
 def test_longitudes_modulo_360(tmp_path: Path, world: worlds.World) -> None:

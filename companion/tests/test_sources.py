@@ -32,11 +32,9 @@ def as_source(kind: str, name: str, a: np.ndarray, void: np.ndarray, folder: Pat
     if kind == "data array":
         return xarray.DataArray(numbers, dims=("y", "x"), attrs={"_FillValue": NODATA}), None
     if kind == "tiles" and min(a.shape) > 1:
-        names = ("north", "south")
-        parts = [np.s_[:1], np.s_[1:]]
-        places = [worlds.UTM, worlds.UTM * worlds.Affine.translation(0, 1)]
-        made = zip(names, parts, places)
-        return [worlds.write_tif(folder / f"{name}-{n}.tif", numbers[p], NODATA, place) for n, p, place in made], None
+        made = ((0, np.s_[:1]), (1, np.s_[1:]))
+        places = [worlds.UTM * worlds.Affine.translation(0, row) for row, _ in made]
+        return [worlds.write_tif(folder / f"{name}-{n}.tif", numbers[p], NODATA, places[n]) for n, p in made], None
     path = worlds.write_tif(folder / f"{name}.tif", numbers, NODATA)
     if kind == "dataset":
         return rasterio.open(path), None
@@ -72,6 +70,14 @@ def test_faults_of_a_data_array_are_one(tmp_path: Path, world: worlds.World) -> 
     faults = drain_gis.audit(dem, con=world.masked("dem")).faults
     assert isinstance(faults, xarray.DataArray) and faults.rio.crs.to_epsg() == 32616
     assert np.array_equal(faults.x, dem.x) and np.array_equal(faults.y, dem.y)
+
+
+def test_rows_of_a_data_array_that_are_turned_over_are_seen(tmp_path: Path, world: worlds.World) -> None:
+    """rioxarray keeps the place that the file had: coordinates count."""
+    dem = rioxarray.open_rasterio(worlds.write_set(tmp_path, world)["dem"])
+    assert layer_of("dem", dem[:, 3:, ::2]).transform == worlds.UTM * worlds.Affine(2, 0, -0.5, 0, 1, 3)
+    with pytest.raises(drain_gis.CannotJudge, match="first row is the southernmost"):
+        drain_gis.audit(dem[:, ::-1], con=world.masked("con"))
 
 
 def part(folder: Path, name: str, a: np.ndarray, row: int, col: int, **more: Any) -> str:

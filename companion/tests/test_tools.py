@@ -73,10 +73,9 @@ def test_the_list_says_what_was_run() -> None:
 @pytest.mark.parametrize("codes", [None, "arc", ""])
 def test_directions_need_codes(codes: str | None) -> None:
     world = worlds.random_world()
-    with pytest.raises(drain_gis.CannotJudge, match="codes=TOOL.*taudem"):
-        drain_gis.audit(**world.given("con", "dir"), codes=codes)
-    with pytest.raises(drain_gis.CannotJudge, match="codes=TOOL.*taudem"):
-        drain_gis.audit(dir=world.masked("dir"), codes=codes)
+    for given in (world.given("con", "dir"), {"dir": world.masked("dir")}):
+        with pytest.raises(drain_gis.CannotJudge, match=f"codes=TOOL.*{'not .arc.*' if codes else ''}taudem"):
+            drain_gis.audit(**given, codes=codes)
 
 
 @pytest.mark.parametrize(("fixture", "tool", "given", "line", "rules"), LINES)
