@@ -86,7 +86,7 @@ class Copies(unittest.TestCase):
         """Runs a command in the copy; programs of its folder bin come first."""
         env = {**os.environ, "LOG": str(self.log), "FAILS": fails, "PATH": f"{self.bin}:{os.environ['PATH']}"}
         env["GIT_CEILING_DIRECTORIES"] = str(self.top.parent)
-        return subprocess.run(words, cwd=self.top, env=env, capture_output=True, text=True, timeout=60, check=False)
+        return subprocess.run(words, cwd=self.top, env=env, capture_output=True, text=True, timeout=600, check=False)
 
     def last_line(self, ended: subprocess.CompletedProcess[str]) -> str:
         return (ended.stdout.splitlines() or [""])[-1]
