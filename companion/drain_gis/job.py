@@ -59,7 +59,7 @@ class Job:
 
     def holds(self, layers: Iterable[Layer]) -> bool:
         """Whether these layers are judged in memory: arrays, that aren't too large, where there is a library."""
-        are_small = all(layer.path is None and layer.rows * layer.cols <= MOST_HELD for layer in layers)
+        are_small = all(not layer.paths and layer.rows * layer.cols <= MOST_HELD for layer in layers)
         return are_small and self.folder is None and self.program.library is not None
 
 
