@@ -92,8 +92,9 @@ class Page(HTMLParser):
 
 
 def test_a_report_says_what_there_is_to_say_and_loads_nothing(tmp_path: Path, rejected: drain_gis.Verdict) -> None:
-    (tmp_path / "p.png").write_bytes(b"\x89PNG any bytes")
-    page = Page(tmp_path, rejected, tmp_path / "p.png")
+    picture = tmp_path / "p.png"
+    write_picture(picture, rejected)
+    page = Page(tmp_path, rejected, picture)
     texts = [
         rejected.line,
         rejected.where,
@@ -105,7 +106,7 @@ def test_a_report_says_what_there_is_to_say_and_loads_nothing(tmp_path: Path, re
         texts += [RULES[n].name, f"{cells:,}", f"row {row}, column {col}"]
     texts += ["30 rows by 40 columns", "esri", "Tested, not proved", rejected.program.version.split("\n")[0]]
     assert [text for text in texts if " ".join(text.split()) not in page.text] == []
-    assert page.addresses == ["data:image/png;base64," + base64.b64encode(b"\x89PNG any bytes").decode()]
+    assert page.addresses == ["data:image/png;base64," + base64.b64encode(picture.read_bytes()).decode()]
     assert not {"script", "link", "a", "iframe"} & set(page.seen) and "http" not in page.html.replace("http-equiv", "")
     assert "default-src 'none'" in page.html
 
