@@ -8,7 +8,7 @@ use drain_maker::follow::Part;
 use drain_progress::counted_device::CountedDevice;
 use drain_progress::progress::Progress;
 use drain_progress::progress_lines::{Phase, part_line, row_line};
-use drain_progress::rows::{RowEnds, checked_rows, raster_row_ends};
+use drain_progress::rows::{RowEnds, raster_row_ends, read_rows};
 use drain_progress::throttle::Throttle;
 use std::alloc::Global;
 use std::process::Abort;
@@ -99,7 +99,7 @@ fn an_uncounted_device_passes_on_its_bytes(rt: HostRuntime) -> Result<(), Fail> 
     };
     let progress = Progress::new(&rt, false);
     let mut source = CountedDevice::new(SliceSource::new(b"drainage"));
-    source.count_by(progress.counter(checked_rows(&header)));
+    source.count_by(progress.counter(read_rows(Phase::Checking, &header)));
     let mut out = [0; 5];
     let read = source.read_some(&mut out);
     holds(&rt, "no progress is reported", !progress.is_on());

@@ -114,7 +114,7 @@ IsRequestOf name f (Explain args) =
     (name ≡ codes "explain") × (AreInputs f args.inputs × (IsListOption f args.only × (IsMap f args.map × IsFlag (codes "json") f args.json)))
 IsRequestOf name f (Window args) = (name ≡ codes "window") × IsWindowArgs f args
 IsRequestOf name f (Merge args) = (name ≡ codes "merge") × IsMergeArgs f args
-IsRequestOf name f (Make args) = (name ≡ codes "make") × IsProductArgs (codes "out") f (AreTiles f) args
+IsRequestOf name f (Make args) = (name ≡ codes "make") × IsProductArgs (codes "out") f (AreElevations f) args
 IsRequestOf name f (Derive args) =
     (name ≡ codes "derive") × (AreInputs f args.inputs × (args.out.now ≡ unwrap_or (first_value f (codes "out")) []))
 IsRequestOf name f (Fill side) = (name ≡ codes "fill") × IsSideOption f side

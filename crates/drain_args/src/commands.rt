@@ -114,12 +114,13 @@ const MERGE: CommandSpec = CommandSpec {
     args: &[ArgSpec::Sinks, ArgSpec::Reports],
 };
 
-const MAKE: CommandSpec = CommandSpec {
+pub(crate) const MAKE: CommandSpec = CommandSpec {
     name: "make",
     about: help_texts::MAKE_ABOUT,
     long_about: help_texts::MAKE_LONG_ABOUT,
     after: help_texts::MAKE_AFTER,
     args: &[
+        ArgSpec::Dem,
         ArgSpec::Side,
         ArgSpec::Out,
         ArgSpec::Sinks,

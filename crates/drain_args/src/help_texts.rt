@@ -88,12 +88,13 @@ pub const CHECK_AFTER: &str = judged_after!(
     "check"
 );
 
-pub const MAKE_ABOUT: &str = "Make the four rasters of a mosaic, and ranks, from its tiles";
+pub const MAKE_ABOUT: &str = "Make the four rasters of elevations, and ranks";
 
 pub const MAKE_LONG_ABOUT: &str =
-    "Reads elevation tiles (SRTM .hgt files of one side, named like N37W105.hgt) and writes five rasters of
-their mosaic into the folder DIR, which must exist: DIR/con.hdr and DIR/con.bil, and the same for dir, acc,
-bas and rnk. drain check --help says what each raster is.
+    "Reads elevation tiles (SRTM .hgt files of one side, named like N37W105.hgt), or with --dem one raster of
+elevations, and writes five rasters of their mosaic into the folder DIR, which must exist: DIR/con.hdr and
+DIR/con.bil, and the same for dir, acc, bas and rnk. drain check --help says what each raster is. On a raster
+of elevations they lie as it does, and con has its pixels and its NODATA, or 4294967296 if it has none.
 
 Depressions are filled by a flood inwards from edges, voids and listed sinks (Priority-Flood). Off flats the
 direction is the first of the steepest descents in the order E, SE, S, SW, W, NW, N, NE; on flats it is the
@@ -106,12 +107,14 @@ pub const MAKE_AFTER: &str = "Lines and exit statuses:
   0  made rows=R cols=C
   2  refused BadSide, refused BadName I, refused NoTiles, refused RepeatedTile TILE, refused BoxTooLarge,
      refused BadTileLength TILE, refused SeamMismatch row=R col=C, refused BadSinkLine LINE,
-     refused SinkNotData LINE; nothing was written
+     refused SinkNotData LINE; with --dem refused BadHeader dem FAULT, refused BadPixelSize dem,
+     refused RasterShort dem; nothing was written
   3  failed Open PATH, failed ReadFailed, failed WriteFailed, failed OutOfMemory; files that were there
      before stay as they were, but for links and failed renames; or standard output couldn't be written,
      and the files may be complete
 
-Example:
+Examples:
+  drain make --dem dem.bil --out rasters
   drain make --side 1201 --out rasters N37W105.hgt N37W106.hgt";
 
 pub const DERIVE_ABOUT: &str =

@@ -5,7 +5,7 @@ ghost use Rattle.clap.specs.Matches.{found_of};
 ghost use Rattle.drain_args.specs.Requests.{AreElevations, AreInputs, AreTileInputs, AreTiles, IsDemOption, IsListOption, IsMap, IsMergeArgs, IsProductArgs, IsRequestOf, map_ending};
 
 use crate::clusters::first_cluster;
-use crate::commands::{AUDIT, CHECK, CommandSpec, DERIVE, EXPLAIN, WINDOW, command, program};
+use crate::commands::{AUDIT, CHECK, CommandSpec, DERIVE, EXPLAIN, MAKE, WINDOW, command, program};
 use crate::given::{flag_given, option_given, paths_given, side_given, text_given};
 use crate::place_texts::{inner_sides, window_place};
 use crate::{explain_texts, help_texts, window_texts};
@@ -28,8 +28,8 @@ pub enum Request<'a> {
     Window(WindowArgs<'a>),
     /// `drain merge`: put the reports of a union's windows together.
     Merge(MergeArgs<'a>),
-    /// `drain make`: make products of tiles, and write them into this folder.
-    Make(ProductArgs<'a, TileArgs<'a>>),
+    /// `drain make`: make products of elevations, and write them into this folder.
+    Make(ProductArgs<'a, Elevations<'a>>),
     /// `drain derive`: compute accumulation, labels and ranks of the directions in this folder, and write them into
     /// another.
     Derive(DeriveArgs<'a>),
@@ -165,7 +165,7 @@ pub fn request_of<'a>(
         "explain" => explain_request(alloc, given),
         "window" => window_request(alloc, given),
         "merge" => Ok(Request::Merge(merge_args(alloc, given)?)),
-        "make" => Ok(Request::Make(make_args(alloc, given)?)),
+        "make" => make_request(alloc, given),
         "derive" => derive_request(alloc, given),
         "fill" => Ok(Request::Fill {
             side: side_given(alloc, given)?,
@@ -262,15 +262,12 @@ fn tile_inputs<'a>(
     Ok(product_args(given, "products", tiles))
 }
 
-/// The tiles of which products are to be made.
-fn make_args<'a>(
-    alloc: Global,
-    given: &ArgMatches<'a>,
-) -> Result<ProductArgs<'a, TileArgs<'a>>, Error>
-    ensures { IfOk result (IsProductArgs (codes "out") (found_of given.now) (AreTiles (found_of given.now))) }
+/// The elevations of which products are to be made.
+fn make_request<'a>(alloc: Global, given: &ArgMatches<'a>) -> Result<Request<'a>, Error>
+    ensures { IfOk result (IsRequestOf (codes "make") (found_of given.now)) }
 {
-    let tiles = tiles_given(alloc, given)?;
-    Ok(product_args(given, "out", tiles))
+    let elevations = elevations_given(alloc, &MAKE, given)?;
+    Ok(Request::Make(product_args(given, "out", elevations)))
 }
 
 /// What is to be audited.

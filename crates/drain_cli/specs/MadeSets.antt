@@ -1,6 +1,8 @@
--- The products made of tiles, and why there are none.
+-- The products made of elevations, and why there are none.
 use Rattle.std.specs.Prelude.{ℕ, ◌++◌, List, Result, Ok, Err, codes, decimal, ◌≡◌, map, Option}
 use Rattle.drain_mosaic.specs.Tiling.{Tiling, extent_of}
+use Rattle.drain_verdict.specs.DemGround.{DemTexts, EncodesDem, dem_devices, dem_ground}
+use Rattle.drain_verdict.specs.declared.next_rows.RasterInput.{RasterInput}
 use Rattle.drain_answer.specs.Lines.{refusal_line}
 use Rattle.drain_answer.specs.Statuses.{refusal_status}
 use Rattle.drain_answer.specs.declared.outcome.Status.{Status}
@@ -8,13 +10,14 @@ use Rattle.drain_answer.specs.declared.outcome.Status.TheVariants.{Done, Refused
 use Rattle.drain_maker.specs.declared.product_files.SetFault.{SetFault}
 use Rattle.drain_maker.specs.declared.product_files.SetFault.TheVariants.{WriteFailed, OutOfMemory}
 use Rattle.drain_cli.specs.declared.runs.make_set.NoSet.{NoSet}
-use Rattle.drain_cli.specs.declared.runs.make_set.NoSet.TheVariants.{Tiles, Sinks, Maker}
+use Rattle.drain_cli.specs.declared.runs.make_set.NoSet.TheVariants.{Ground, Sinks, Maker}
 use Rattle.drain_device.specs.Failing.{Source}
 use Rattle.drain_grid.specs.declared.product_set.ProductSet.{ProductSet}
 use Rattle.drain_grid.specs.declared.sink_line.SinkLine.{SinkLine}
 use Rattle.drain_grid.specs.SinkTexts.{IsSinkFault, sinks_of}
 use Rattle.drain_grid.specs.Extent.{Extent}
-use Rattle.drain_grid.specs.Grid.{Heights}
+use Rattle.drain_grid.specs.Grid.{Heights, Pixels}
+use Rattle.drain_header.specs.Header.{Fields}
 use Rattle.drain_hgt.specs.declared.input.TileInput.{TileInput}
 use Rattle.drain_hgt.specs.Inputs.{tile_devices}
 use Rattle.drain_answer.specs.declared.refusal.Refusal.TheVariants.{ReadFailed}
@@ -24,6 +27,7 @@ use Rattle.drain_verdict.specs.Refusals.{IsOfBodies}
 use Rattle.drain_maker.specs.Mosaics.{IsMosaicOf, IsMosaicRefusal}
 use Rattle.drain_verdict.specs.TileGround.{TellTiles}
 use Rattle.drain_maker.specs.declared.maker.MakeRefusal.{MakeRefusal}
+use Rattle.drain_maker.specs.Dems.{AreMadeOn, IsDemOf, IsDemSinkAnswer, IsGroundRefusal}
 use Rattle.drain_maker.specs.Made.{AreMade, IsSinkAnswer}
 use Rattle.drain_grid.specs.declared.sink_text.SinkFault.TheVariants as sink
 use Rattle.drain_answer.specs.declared.refusal.Refusal.TheVariants as refusal
@@ -37,9 +41,9 @@ written_line text e (Ok done) = text ++ decimal e.rows ++ codes " cols=" ++ deci
 written_line text e (Err WriteFailed) = codes "failed WriteFailed"
 written_line text e (Err OutOfMemory) = codes "failed OutOfMemory"
 
--- that of products of a mosaic: made rows=R cols=C
-abbrev pub made_line : Tiling → Result (Unit {0}) SetFault → List ℕ
-made_line t = written_line (codes "made rows=") (extent_of t)
+-- that of products: made rows=R cols=C
+abbrev pub made_line : Extent → Result (Unit {0}) SetFault → List ℕ
+made_line = written_line (codes "made rows=")
 
 -- its status
 abbrev pub written_status : Result (Unit {0}) SetFault → Status
@@ -48,7 +52,7 @@ written_status (Err fault) = Failed
 
 -- the line that says why there is no product set
 abbrev pub no_set_line : NoSet → List ℕ
-no_set_line (Tiles refusal) = refusal_line refusal
+no_set_line (Ground refusal) = refusal_line refusal
 no_set_line (Sinks (sink.BadSinkLine n)) = refusal_line (refusal.BadSinkLine n)
 no_set_line (Sinks sink.OutOfMemory) = codes "failed OutOfMemory"
 no_set_line (Maker (maker.SinkNotData n)) = refusal_line (refusal.SinkNotData n)
@@ -57,7 +61,7 @@ no_set_line (Maker maker.OutOfMemory) = codes "failed OutOfMemory"
 
 -- its status: failed if memory ran out or a device failed, else refused
 abbrev pub no_set_status : NoSet → Status
-no_set_status (Tiles refusal) = refusal_status refusal
+no_set_status (Ground refusal) = refusal_status refusal
 no_set_status (Sinks sink.OutOfMemory) = Failed
 no_set_status (Sinks (sink.BadSinkLine n)) = Refused
 no_set_status (Maker maker.OutOfMemory) = Failed
@@ -89,9 +93,42 @@ NoTileFails source old new = SomeReadFails (map source.counts (tile_devices old)
 -- the first refusal of the tiles, with a failed read reported exactly if one failed, and every device unchanged if it
 -- is of side, names or layout; or else the fault of the list of sinks; or else the maker's refusal
 abbrev pub IsNoSet : {R : Type 0} → Source R → ℕ → List (TileInput R) → List (TileInput R) → List ℕ → NoSet → Type 0
-IsNoSet source side old new sinks (Tiles refusal) =
+IsNoSet source side old new sinks (Ground refusal) =
     ((i : Inputs) → TellTiles source.bytes_left side old i → IsMosaicRefusal i refusal)
     × SomeReadFails (map source.counts (tile_devices old)) (map source.counts (tile_devices new)) (refusal ≡ ReadFailed)
     × (¬ IsOfBodies refusal → new ≡ old)
 IsNoSet source side old new sinks (Sinks fault) = IsSinkFault sinks fault × NoTileFails source old new
 IsNoSet source side old new sinks (Maker refusal) = IsRefusalOf source.bytes_left side old sinks refusal × NoTileFails source old new
+
+-- The same on one raster of elevations.
+
+-- products that were made for the elevations in the device's bytes, and for the sinks that the text lists
+pub record IsDemSetOf {R : Type 0} (bytes_left : R → Option (List ℕ)) (dem : List (RasterInput R)) (sinks : List ℕ) (h : Fields) (ps : ProductSet) : Type 0 where
+  pub elevation : Pixels
+  pub dem_is : (d : DemTexts) → EncodesDem bytes_left dem d → IsDemOf d h elevation
+  pub listed : List SinkLine
+  pub listed_are : sinks_of sinks ≡ Ok listed
+  pub made : AreMadeOn h elevation listed ps
+
+-- the maker made none for those elevations and those sinks: a sink without data is reported exactly if there is one
+pub record IsDemRefusalOf {R : Type 0} (bytes_left : R → Option (List ℕ)) (dem : List (RasterInput R)) (sinks : List ℕ) (refusal : MakeRefusal) : Type 0 where
+  pub elevation : Pixels
+  pub header : Fields
+  pub dem_is : (d : DemTexts) → EncodesDem bytes_left dem d → IsDemOf d header elevation
+  pub listed : List SinkLine
+  pub listed_are : sinks_of sinks ≡ Ok listed
+  pub refused : IsDemSinkAnswer elevation listed (Err refusal)
+
+-- no read of the raster failed
+abbrev pub NoDemFails : {R : Type 0} → Source R → List (RasterInput R) → List (RasterInput R) → Type 0
+NoDemFails source old new = SomeReadFails (map source.counts (dem_devices old)) (map source.counts (dem_devices new)) ⊥
+
+-- the first refusal of the raster, with a failed read reported exactly if one failed, and the device unchanged if it is of
+-- the header; or else the fault of the list of sinks; or else the maker's refusal
+abbrev pub IsNoDemSet : {R : Type 0} → Source R → List (RasterInput R) → List (RasterInput R) → List ℕ → NoSet → Type 0
+IsNoDemSet source old new sinks (Ground refusal) =
+    ((d : DemTexts) → EncodesDem source.bytes_left old d → IsGroundRefusal (dem_ground d) refusal)
+    × SomeReadFails (map source.counts (dem_devices old)) (map source.counts (dem_devices new)) (refusal ≡ ReadFailed)
+    × (¬ IsOfBodies refusal → new ≡ old)
+IsNoDemSet source old new sinks (Sinks fault) = IsSinkFault sinks fault × NoDemFails source old new
+IsNoDemSet source old new sinks (Maker refusal) = IsDemRefusalOf source.bytes_left old sinks refusal × NoDemFails source old new

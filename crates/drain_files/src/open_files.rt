@@ -13,9 +13,9 @@ use crate::outputs::{OutputSink, Outputs};
 use crate::source_or_zeros::SourceOrZeros;
 use crate::whole_input::read_text;
 use drain_device::{BodyFault, ByteList, Reader, Writer};
+use drain_header::Header;
 use drain_hgt::TileInput;
 use drain_maker::product_files::{Part, SET_FILES, SetFile};
-use drain_mosaic::Layout;
 use drain_progress::counted_device::CountedDevice;
 use drain_progress::progress::Progress;
 use drain_progress::rows::written_rows;
@@ -164,13 +164,13 @@ pub fn text_at(opener: &mut Opener<'_>, path: &str) -> Result<Vec<u8>, OpenFault
     }
 }
 
-/// Creates the files of a product set at these paths, in the order of `SET_FILES`, and has the rows of rasters counted.
-/// The first fault ends it.
+/// Creates the files of a product set on elevations with this header at these paths, in the order of `SET_FILES`, and
+/// has the rows of rasters counted. The first fault ends it.
 pub fn create_files<'g, 'a>(
     outputs: &mut Outputs<'a>,
     paths: &'a [String],
     inputs: &[FileId],
-    layout: &Layout,
+    elevations: &Header,
     progress: &'g Progress<'g>,
 ) -> Result<Vec<OutputFile<'g, 'a>>, OpenFault>
     requires { length paths.now ≡ FILE_COUNT }
@@ -180,7 +180,7 @@ pub fn create_files<'g, 'a>(
     let mut files = Vec::new(outputs.alloc());
     for file in begun {
         let place = SET_FILES[files.len()];
-        if files.push(counted(file, place, layout, progress)).is_err() {
+        if files.push(counted(file, place, elevations, progress)).is_err() {
             return Err(OpenFault::no_memory());
         }
     }
@@ -191,12 +191,12 @@ pub fn create_files<'g, 'a>(
 fn counted<'g, 'a>(
     begun: Writer<OutputSink<'a>>,
     file: SetFile,
-    layout: &Layout,
+    elevations: &Header,
     progress: &'g Progress<'g>,
 ) -> OutputFile<'g, 'a> {
     let mut created = CountedDevice::new(begun);
     if let Part::Raster = file.part {
-        created.count_by(progress.counter(written_rows(layout, file.product)));
+        created.count_by(progress.counter(written_rows(elevations, file.product)));
     }
     created
 }

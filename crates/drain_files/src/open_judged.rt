@@ -15,7 +15,8 @@ use drain_hgt::TileInput;
 use drain_maker::product_files::Part;
 use drain_progress::counted_device::CountedDevice;
 use drain_progress::progress::Progress;
-use drain_progress::rows::checked_rows;
+use drain_progress::progress_lines::Phase;
+use drain_progress::rows::read_rows;
 use drain_verdict::{AuditProducts, Products, RasterInput};
 use std::alloc::Global;
 
@@ -72,7 +73,7 @@ pub fn open_judged<'a>(
 }
 
 /// Opens the tiles, or the one raster of elevations.
-fn open_elevations<'a>(
+pub fn open_elevations<'a>(
     opener: &mut Opener<'_>,
     elevations: &Elevations<'_>,
 ) -> Result<OpenElevations<InputFile<'a>>, OpenFault>
@@ -202,13 +203,24 @@ fn missing_like<'a>(
     Ok(RasterInput { header, body })
 }
 
-/// Has the rows of con counted, if progress is reported and the header says where they end.
+/// Has the rows of con counted.
 fn count_con<'a>(con: &mut RasterInput<InputFile<'a>>, progress: &'a Progress<'a>) {
+    count_rows(con, Phase::Checking, progress);
+}
+
+/// Has the rows of a raster counted, if progress is reported and the header says where they end.
+pub fn count_rows<'a>(
+    raster: &mut RasterInput<InputFile<'a>>,
+    phase: Phase,
+    progress: &'a Progress<'a>,
+) {
     if !progress.is_on() {
         return;
     }
-    if let Ok(header) = parse_header(con.header.as_slice()) {
-        con.body.count_by(progress.counter(checked_rows(&header)));
+    if let Ok(header) = parse_header(raster.header.as_slice()) {
+        raster
+            .body
+            .count_by(progress.counter(read_rows(phase, &header)));
     }
 }
 

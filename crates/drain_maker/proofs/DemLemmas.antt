@@ -18,6 +18,8 @@ use Rattle.drain_grid.proofs.Alike.{same_index}
 use Rattle.drain_grid.proofs.Lowered.{HasData-path}
 use Rattle.drain_grid.proofs.Neighbors.{direction_between, step_gives}
 use Rattle.drain_grid.proofs.Tallies.{void_data}
+use Rattle.drain_flood.proofs.Cells.{none_or_some}
+use Rattle.drain_raster.specs.Bytes.{CanSpellAllIn, CanSpellIn}
 use Rattle.drain_flood.specs.declared.layers.TheConstants.{UNREACHED}
 use Rattle.drain_flood.specs.Floods.{Flooding, IsSurfaceOf, ShowsVoids, con_at}
 use Rattle.drain_filled.specs.Compared.{HasHeights}
@@ -129,6 +131,18 @@ shows_voids p sinks f void surface voids same = record {
       (let up = of_ground (dem_grid p sinks) f surface c here in
       data_differs p sinks up.0 up.1 (sym (height_is p sinks up.0 up.1) ∙ sym up.2 ∙ is));
 }
+
+-- whatever encodes the numbers of the raster encodes con's: each is one of them
+pub con_spelled : (p : Pixels) (sinks : List SinkLine) (con : Pixels) (signed : Bool) (bits : ℕ) → con.extent ≡ p.extent → AreOfGround (dem_grid p sinks) (number_at con) →
+    ((c : Cell) → IsCellOf p.extent c → IsNone (dem_elevation p c) → number_at con c ≡ p.nodata) → CanSpellAllIn signed bits p → CanSpellAllIn signed bits con
+con_spelled p sinks con signed bits shape ground voids spelled c inside =
+    let there : IsCellOf p.extent c = subst (λ e. IsCellOf e c) shape inside in
+    elim (none_or_some (dem_elevation p c)) [
+      | inl none ↦ subst (CanSpellIn signed bits) (void_is p sinks c none ∙ sym (voids c there none)) (spelled c there)
+      | inr some ↦
+          (let up = ground c (record { inside = there; is_data = some }) in
+          subst (CanSpellIn signed bits) (sym (up.2 ∙ height_is p sinks up.0 up.1)) (spelled up.0 up.1.inside))
+    ]
 
 -- one more number, as `with_next` of drain_flood
 pub with_height : (p : Pixels) (xs : List ℤ) (x : ℤ) (place : ℕ) (n : Cell) → IsCellOf p.extent n → index_of p.extent n ≡ place → length xs ≡ place →

@@ -30,7 +30,7 @@ use Rattle.drain_maker.specs.declared.product_files.SetFile.{SetFile}
 use Rattle.drain_maker.specs.declared.product_files.TheConstants.{SET_FILES, DERIVED_COUNT, DERIVED_FILES}
 use Rattle.drain_maker.specs.declared.derivation.Derived.{Derived}
 use Rattle.drain_maker.specs.Derived.{AreCounts}
-use Rattle.drain_maker.specs.ProductFiles.{DerivedFit, FitHeaders, IsDerived, WritesFile, WritesFiles, derived_bytes, derived_raster, file_bytes, made_header, set_bytes}
+use Rattle.drain_maker.specs.ProductFiles.{DerivedFit, FitHeaders, IsDerived, SetFits, WritesFile, WritesFiles, derived_bytes, derived_raster, file_bytes, made_header, set_bytes}
 use Rattle.drain_maker.proofs.TileLists.{get-seam, set-seam}
 use Rattle.drain_raster.specs.declared.fault.WriteFault.TheVariants as write
 
@@ -216,16 +216,25 @@ one_shape ps Acc = ps.acc_shape
 one_shape ps Bas = ps.bas_shape
 one_shape ps Rnk = ps.rnk_shape
 
-pub FitHeaders-set : (t : Tiling) (ps : ProductSet) → ps.con.extent ≡ extent_of t → CanBeWritten t ps → FitHeaders (made_header t product.Con) (λ p. Unit {0}) (raster_in ps)
+pub FitHeaders-set : (t : Tiling) (ps : ProductSet) → ps.con.extent ≡ extent_of t → CanBeWritten t ps → SetFits (made_header t product.Con) ps
 FitHeaders-set t ps shape written Con held = record { extent = shape; spelled = written Con }
 FitHeaders-set t ps shape written Dir held = record { extent = one_shape ps Dir ∙ shape; spelled = written Dir }
 FitHeaders-set t ps shape written Acc held = record { extent = one_shape ps Acc ∙ shape; spelled = written Acc }
 FitHeaders-set t ps shape written Bas held = record { extent = one_shape ps Bas ∙ shape; spelled = written Bas }
 FitHeaders-set t ps shape written Rnk held = record { extent = one_shape ps Rnk ∙ shape; spelled = written Rnk }
 
-pub set_bytes-listed : (t : Tiling) (ps : ProductSet) → set_bytes t ps ≡ map (file_bytes (made_header t product.Con) (raster_in ps)) SET_FILES
+-- the same on a raster of elevations, whose pixels con has
+pub SetFits-dem : (h : Fields) (ps : ProductSet) → ps.con.extent ≡ header_extent h → CanSpellAllIn h.signed h.bits ps.con → CanSpellAllIn false 8 ps.dir →
+    CanSpellAllIn false 32 ps.acc → CanSpellAllIn false 32 ps.bas → CanSpellAllIn false 32 ps.rnk → SetFits h ps
+SetFits-dem h ps shape con dir acc bas rnk Con held = record { extent = shape; spelled = con }
+SetFits-dem h ps shape con dir acc bas rnk Dir held = record { extent = one_shape ps Dir ∙ shape; spelled = dir }
+SetFits-dem h ps shape con dir acc bas rnk Acc held = record { extent = one_shape ps Acc ∙ shape; spelled = acc }
+SetFits-dem h ps shape con dir acc bas rnk Bas held = record { extent = one_shape ps Bas ∙ shape; spelled = bas }
+SetFits-dem h ps shape con dir acc bas rnk Rnk held = record { extent = one_shape ps Rnk ∙ shape; spelled = rnk }
+
+pub set_bytes-listed : (h : Fields) (ps : ProductSet) → set_bytes h ps ≡ map (file_bytes h (raster_in ps)) SET_FILES
 unfolding set_bytes
-set_bytes-listed t ps = refl
+set_bytes-listed h ps = refl
 
 -- the files of derived rasters
 pub FitHeaders-derived : (h : Fields) (d : Derived) → DerivedFit h d → FitHeaders h IsDerived (derived_raster d)

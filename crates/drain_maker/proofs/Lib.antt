@@ -9,3 +9,4 @@ pub mod ShownRasters
 pub mod MosaicAnswers
 pub mod TileLists
 pub mod DemLemmas
+pub mod DemReading

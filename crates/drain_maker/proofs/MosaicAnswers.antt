@@ -95,7 +95,7 @@ elevation_is_first_value t tiles e law agree is c inside =
 -- The meaning of a tile's bytes, if they were read up to one byte more than a tile has.
 
 -- what came is the front of the bytes that were left
-reads-front : (limit : ℕ) (old new : Option (List ℕ)) (body : List ℕ) → ReadsUpTo limit old new body → (bytes : List ℕ) → old ≡ Some bytes → body ≡ take limit bytes
+pub reads-front : (limit : ℕ) (old new : Option (List ℕ)) (body : List ℕ) → ReadsUpTo limit old new body → (bytes : List ℕ) → old ≡ Some bytes → body ≡ take limit bytes
 reads-front limit None new body reads bytes is = cc
 reads-front limit (Some xs) None body reads bytes is = absurd reads
 reads-front limit (Some xs) (Some ys) body reads bytes is = let same : xs ≡ bytes = cc in reads.0 ∙ ap (take limit) same

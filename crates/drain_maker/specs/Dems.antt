@@ -1,5 +1,7 @@
--- A raster of elevations in memory: the grid that it means, and what is said of listed sinks.
+-- A raster of elevations in memory: the grid that it means, and what is said of listed sinks; and how it is read.
 use Rattle.std.specs.Prelude.{◌≡◌, ℕ, ℤ, ◌&&◌, nat_lt, is_some, Bool, List, Option, Some, IsSome, Result, Ok, Err}
+use Rattle.drain_answer.specs.declared.refusal.Refusal.{Refusal}
+use Rattle.drain_answer.specs.declared.refusal.Refusal.TheVariants as refused
 use Rattle.drain_grid.specs.declared.cell.Cell.{Cell}
 use Rattle.drain_grid.specs.declared.product_set.ProductSet.{ProductSet}
 use Rattle.drain_grid.specs.declared.sink_line.SinkLine.{SinkLine}
@@ -8,10 +10,20 @@ use Rattle.drain_grid.specs.Grid.{Grid, HasData, Pixels, height_at}
 use Rattle.drain_grid.specs.OffData.{IsFirstOffData, IsOffData}
 use Rattle.drain_grid.specs.SinkTexts.{is_listed}
 use Rattle.drain_grid.specs.Values.{IsPixel}
-use Rattle.drain_grid.specs.WholeGrid.{number_at}
+use Rattle.drain_grid.specs.GridRules.{RulesHold}
+use Rattle.drain_grid.specs.PatchRules.{check_rules}
+use Rattle.drain_grid.specs.Rule.{IsAnyRule}
+use Rattle.drain_grid.specs.WholeGrid.{nodata_of, number_at, products_of}
 use Rattle.drain_flood.specs.declared.layers.TheConstants.{UNREACHED}
 use Rattle.drain_filled.specs.Grounds.{DataCells, data_mark}
+use Rattle.drain_header.specs.Header.{Fields}
 use Rattle.drain_pixels.specs.Ground.{height_with}
+use Rattle.drain_raster.specs.Pixels.{IsShort, header_extent, pixel_at}
+use Rattle.drain_text.specs.First.{IsFirst}
+use Rattle.drain_verdict.specs.DemGround.{DemTexts, dem_fields, dem_ground}
+use Rattle.drain_verdict.specs.Ground.{Ground, refusal_kind}
+use Rattle.drain_maker.specs.Made.{AreRasters, made_numbers}
+use Rattle.drain_maker.specs.ProductFiles.{SetFits}
 use Rattle.drain_maker.specs.declared.maker.MakeRefusal.{MakeRefusal}
 use Rattle.drain_maker.specs.declared.maker.MakeRefusal.TheVariants.{MakerFault, OutOfMemory, SinkNotData}
 
@@ -62,3 +74,40 @@ pub record MarksDem (p : Pixels) (w : DataCells) : Type 0 where
 -- each conditioned elevation is the elevation of some cell
 abbrev pub AreOfGround : Grid → (Cell → ℤ) → Type 0
 AreOfGround g con = (c : Cell) → HasData g c → (n : Cell) × HasData g n × (con c ≡ height_at g n)
+
+-- products that were made for these elevations with this header, and these sinks
+pub record AreMadeOn (h : Fields) (p : Pixels) (sinks : List SinkLine) (ps : ProductSet) : Type 0 where
+  pub shape : ps.con.extent ≡ p.extent
+  pub nodata : nodata_of ps ≡ made_numbers p.nodata
+  pub rules : RulesHold (check_rules (made_numbers p.nodata)) IsAnyRule (dem_grid p sinks) (products_of ps)
+  pub written : SetFits h ps
+  pub rasters : AreRasters ps
+  pub on_data : AreOnDemData p sinks
+
+-- Reading it.
+
+-- the bytes are long enough, and the raster's number at each cell is the pixel
+pub record IsRasterOf (h : Fields) (body : List ℕ) (p : Pixels) : Type 0 where
+  pub whole : ¬ IsShort h body
+  pub extent : p.extent ≡ header_extent h
+  pub pixels : (c : Cell) → IsCellOf (header_extent h) c → number_at p c ≡ pixel_at h body c
+
+-- why the body of a raster is refused
+abbrev pub IsBodyRefusal : Fields → List ℕ → Refusal → Type 0
+IsBodyRefusal h body refused.DemShort = IsShort h body
+IsBodyRefusal h body refused.OutOfMemory = Unit {0}
+IsBodyRefusal h body refused.ReadFailed = Unit {0}
+IsBodyRefusal h body refusal = ⊥
+
+-- no refusal of the raster applies, and in memory it has the header and the elevations that its bytes mean
+pub record IsDemOf (d : DemTexts) (h : Fields) (p : Pixels) : Type 0 where
+  pub readable : (refusal : Refusal) → ¬ (dem_ground d).Refuses refusal
+  pub header_is : h ≡ dem_fields d
+  pub extent_is : p.extent ≡ (dem_ground d).extent
+  pub elevation_is : (c : Cell) → IsCellOf p.extent c → dem_elevation p c ≡ (dem_ground d).elevation c
+
+-- the refusal is the first of a ground that applies; out of memory and a failed read say nothing of the bytes
+abbrev pub IsGroundRefusal : Ground → Refusal → Type 0
+IsGroundRefusal g refused.OutOfMemory = Unit {0}
+IsGroundRefusal g refused.ReadFailed = Unit {0}
+IsGroundRefusal g refusal = IsFirst (λ r. (refusal_kind r, g.among r)) g.Refuses refusal

@@ -71,6 +71,20 @@ made_header t p = record {
 abbrev pub con_no_data : Fields → ℤ
 con_no_data h = unwrap_or h.nodata (pos 4294967296)
 
+-- the raster's header with that number
+abbrev pub marked_header : Fields → Fields
+marked_header h = record {
+  rows = h.rows;
+  cols = h.cols;
+  bits = h.bits;
+  order = h.order;
+  signed = h.signed;
+  skip = h.skip;
+  row_bytes = h.row_bytes;
+  place = h.place;
+  nodata = Some (con_no_data h);
+}
+
 -- the header of a product that isn't con on a raster of elevations with this header: of its size, at its place
 abbrev pub header_beside : Fields → Product → Fields
 header_beside h p = record {
@@ -118,9 +132,13 @@ pub record FitsHeader (h : Fields) (r : Pixels) : Type 0 where
 abbrev pub FitHeaders : Fields → (SetProduct → Type 0) → (SetProduct → Pixels) → Type 0
 FitHeaders h holds rasters = (p : SetProduct) → holds p → FitsHeader (header_on h (product_of p)) (rasters p)
 
--- the bytes of all files: of each product its header, and then its raster
-unfoldable pub set_bytes : Tiling → ProductSet → List (List ℕ)
-set_bytes t ps = flat_map (λ p. text_of (made_header t (product_of p)) ∷ raster_bytes (made_header t (product_of p)) (raster_in ps p) ∷ []) products
+-- each of the five rasters fits its header on a raster of elevations
+abbrev pub SetFits : Fields → ProductSet → Type 0
+SetFits h ps = FitHeaders h (λ p. Unit {0}) (raster_in ps)
+
+-- the bytes of all files on a raster of elevations: of each product its header, and then its raster
+unfoldable pub set_bytes : Fields → ProductSet → List (List ℕ)
+set_bytes h ps = flat_map (λ p. text_of (header_on h (product_of p)) ∷ raster_bytes (header_on h (product_of p)) (raster_in ps p) ∷ []) products
 
 -- the file took its bytes, or a proper first part of them; the write failed exactly if the file failed for good
 pub record WritesFile {F : Type 0} (sink : Sink F) (old new : F) (bytes : List ℕ) (done : Result (Unit {0}) SetFault) : Type 0 where

@@ -11,8 +11,10 @@ ghost use Rattle.drain_grid.specs.Values.{IsNoData, IsPixel};
 ghost use Rattle.drain_grid.specs.Grid.{ArePixels};
 ghost use Rattle.drain_grid.specs.WholeGrid.{nodata_of, number_at, products_of};
 ghost use Rattle.drain_flood.specs.Floods.{IsSurfaceOf, ShowsVoids};
+ghost use Rattle.drain_header.specs.Header.{Fields};
 ghost use Rattle.drain_maker.specs.Dems.{AreOfGround, DemSucceeds, IsDemSinkAnswer, IsHeightAt, IsMarkedBy, MarksDem, dem_elevation, dem_grid};
 ghost use Rattle.drain_maker.specs.Made.{AreRasters, AreRightProducts, made_numbers};
+ghost use Rattle.drain_maker.specs.ProductFiles.{FitsHeader, SetFits};
 
 use crate::follow::{Follow, Part};
 use crate::maker::MakeRefusal;
@@ -78,6 +80,7 @@ pub fn make_dem(
     // Each conditioned elevation is the elevation of some cell: so con's no-data number is at voids alone, and whatever
     // encodes the elevations encodes con.
     ensures ground { IfOk result (λ products. AreOfGround (dem_grid dem.now sinks.now) (number_at products.con)) }
+    ensures written { IfOk result (λ products. (h : Fields) → FitsHeader h dem.now → SetFits h products) }
 
     // Every listed cell has data, or the first line whose cell has none is reported.
     ensures sinks { IsDemSinkAnswer dem.now sinks.now result }
@@ -112,6 +115,7 @@ fn build_dem(
     ensures right { IfOk result (λ products. AreRightProducts (dem_grid dem.now sinks.now) (made_numbers dem.now.nodata) (products_of products)) }
     ensures rasters { IfOk result AreRasters }
     ensures ground { IfOk result (λ products. AreOfGround (dem_grid dem.now sinks.now) (number_at products.con)) }
+    ensures written { IfOk result (λ products. (h : Fields) → FitsHeader h dem.now → SetFits h products) }
 {
     follow.begin(Part::Surface);
     let shape = dem.shape();

@@ -2,16 +2,14 @@
 
 ghost use Rattle.std.specs.Prelude.{◌≡◌, length, map};
 ghost use Rattle.drain_header.specs.Header.{IsCoordinate};
-ghost use Rattle.drain_maker.specs.ProductFiles.{con_no_data, header_beside, header_on, made_header, mosaic_place, bits_of, is_signed, DerivedFit, FitHeaders, IsDerived, WritesFile, WritesFiles, derived_bytes, derived_raster, file_bytes, set_bytes};
+ghost use Rattle.drain_maker.specs.ProductFiles.{con_no_data, header_beside, header_on, made_header, mosaic_place, bits_of, is_signed, DerivedFit, FitHeaders, IsDerived, SetFits, WritesFile, WritesFiles, derived_bytes, derived_raster, file_bytes, set_bytes};
 ghost use Rattle.std.specs.List.{All};
 ghost use Rattle.drain_grid.specs.Grid.{Pixels};
 ghost use Rattle.drain_grid.specs.WholeGrid.{raster_in};
 ghost use Rattle.drain_grid.specs.declared.set_product.SetProduct.{SetProduct};
 ghost use Rattle.drain_header.specs.Text.{text_of};
-ghost use Rattle.drain_mosaic.specs.Tiling.{extent_of};
 ghost use Rattle.drain_raster.specs.Pixels as pixels;
 ghost use Rattle.drain_raster.specs.Bytes.{CanSpellAll, raster_bytes};
-ghost use Rattle.drain_maker.specs.Made.{CanBeWritten};
 
 use crate::derivation::Derived;
 use drain_device::{ByteSink, GaveUp, Patience, write_all};
@@ -95,7 +93,7 @@ fn header_beside(elevations: &Header, product: Product) -> Header
 }
 
 /// The no-data number of con: the elevations' own, or one that no pixel is.
-fn con_no_data(elevations: &Header) -> i64
+pub(crate) fn con_no_data(elevations: &Header) -> i64
     ensures { result ≡ con_no_data elevations.now }
 {
     match elevations.nodata {
@@ -229,19 +227,19 @@ impl FileSet for Derived {
 }
 
 /// Writes the files of a product set, one after the other. The first that can't be written ends it.
+///
+/// Headers are those of `header_on`: con's is its own on a mosaic.
 pub fn write_files<F: ByteSink>(
     alloc: Global,
-    layout: &Layout,
+    elevations: &Header,
     products: &ProductSet,
     files: &mut [F],
 ) -> Result<(), SetFault>
     requires counted { length files.old ≡ FILE_COUNT }
-    requires same_shape { products.now.con.extent ≡ extent_of layout.now }
-    requires written { CanBeWritten layout.now products.now }
-    ensures { WritesFiles F.ByteSink files.old files.new (set_bytes layout.now products.now) result }
+    requires written { SetFits elevations.now products.now }
+    ensures { WritesFiles F.ByteSink files.old files.new (set_bytes elevations.now products.now) result }
 {
-    let con = product_header(layout, Product::Con);
-    write_listed(alloc, &con, products, &SET_FILES, files)
+    write_listed(alloc, elevations, products, &SET_FILES, files)
 }
 
 /// Writes the files of derived rasters, one after the other. The first that can't be written ends it.

@@ -1,5 +1,5 @@
-//! Which rows of a file are counted, those of con in a check, those of tiles and of written rasters in `make`; and where
-//! rows end among the bytes of a file.
+//! Which rows of a file are counted, those of con in a check, those of elevations and of written rasters in `make`; and
+//! where rows end among the bytes of a file.
 
 ghost use Rattle.std.specs.Prelude.{◌≡◌, ◌+◌};
 ghost use Rattle.drain_raster.specs.RasterRows.{packed_len};
@@ -11,8 +11,7 @@ use crate::progress_lines::Phase;
 use drain_grid::SetProduct;
 use drain_header::Header;
 use drain_hgt::TileInput;
-use drain_maker::product_header;
-use drain_mosaic::Layout;
+use drain_maker::product_files::header_on;
 
 /// Which rows of a device are counted, where they end, how many rows there are before them, and how many in all.
 #[derive(Clone, Copy)]
@@ -57,19 +56,19 @@ pub fn raster_row_ends(header: &Header) -> RowEnds
     }
 }
 
-/// The rows of a raster to be checked, by its header.
-pub fn checked_rows(header: &Header) -> Rows {
+/// The rows of a raster that is read in this phase, by its header.
+pub fn read_rows(phase: Phase, header: &Header) -> Rows {
     Rows {
-        phase: Phase::Checking,
+        phase,
         ends: raster_row_ends(header),
         before: 0,
         all: header.rows,
     }
 }
 
-/// The rows of a product's raster to be written, after those of the products before it.
-pub fn written_rows(layout: &Layout, product: SetProduct) -> Rows {
-    let header = product_header(layout, product.product());
+/// The rows of a product's raster to be written on elevations with this header, after those of the products before it.
+pub fn written_rows(elevations: &Header, product: SetProduct) -> Rows {
+    let header = header_on(elevations, product.product());
     let place: u32 = match product {
         SetProduct::Con => 0,
         SetProduct::Dir => 1,

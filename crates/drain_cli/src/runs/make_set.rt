@@ -1,44 +1,49 @@
 //! What `make` makes, and its files.
 
 ghost use Rattle.std.specs.Prelude.{◌≡◌, IfOk, length, map, IfErr, OnOk};
-ghost use Rattle.drain_maker.specs.Made.{CanBeWritten};
+ghost use Rattle.drain_maker.specs.ProductFiles.{SetFits, made_header};
 ghost use Rattle.drain_maker.specs.declared.product_files.TheConstants.{FILE_COUNT};
-ghost use Rattle.drain_mosaic.specs.Tiling.{extent_of};
 ghost use Rattle.drain_device.specs.FaultLists.{SomeReadFails};
 ghost use Rattle.drain_hgt.specs.Inputs.{names_of, tile_devices, TilesTakeAtMost};
 ghost use Rattle.drain_cli.specs.declared.runs.make_set.NoSet.{NoSet};
-ghost use Rattle.drain_cli.specs.MadeSets.{IsSetOf, IsNoSet, no_set_line, no_set_status};
+ghost use Rattle.drain_cli.specs.MadeSets.{IsDemSetOf, IsNoDemSet, IsNoSet, IsSetOf, no_set_line, no_set_status};
 ghost use Rattle.drain_answer.specs.Printing.{Prints};
+ghost use Rattle.drain_verdict.specs.DemGround.{AreHeadersKept, DemTakesAtMost, dem_devices};
 
 use crate::runs::write_set::write_and_place;
 use drain_answer::lines::{Line, refusal_line, words};
 use drain_answer::outcome::Status;
 use drain_answer::print::print_line;
-use drain_args::requests::{ProductArgs, TileArgs};
+use drain_args::requests::{Elevations, ProductArgs};
 use drain_device::{ByteSink, ByteSource};
 use drain_files::file_id::FileId;
 use drain_files::open_failure::print_open_fault;
-use drain_files::open_files::{InputFile, OpenFault, Opener, create_files, list_at, open_tiles};
+use drain_files::open_files::{InputFile, OpenFault, Opener, create_files, list_at};
+use drain_files::open_judged::{OpenElevations, OpenTiles, count_rows, open_elevations};
 use drain_files::output_paths::{inputs_or_print, output_paths};
 use drain_files::outputs::{Failure, Outputs};
-use drain_grid::{ProductSet, SinkFault, parse_sinks};
+use drain_grid::{Product, ProductSet, SinkFault, parse_sinks};
+use drain_header::Header;
 use drain_hgt::TileInput;
 use drain_maker::follow::Follow;
 use drain_maker::product_files::SET_FILES;
-use drain_maker::{MakeRefusal, Mosaic, make_freeing, read_mosaic};
+use drain_maker::{
+    Dem, MakeRefusal, Mosaic, make_dem, make_freeing, product_header, read_dem, read_mosaic,
+};
 use drain_mosaic::Layout;
 use drain_progress::progress::{MakeProgress, Progress};
+use drain_progress::progress_lines::Phase;
 use drain_progress::rows::count_tiles;
-use drain_verdict::Refusal;
+use drain_verdict::{RasterInput, Refusal};
 use std::alloc::Global;
 
-/// Makes products of tiles and writes them into a folder, and returns the exit status. The files are created once
+/// Makes products of elevations and writes them into a folder, and returns the exit status. The files are created once
 /// nothing is left to refuse.
 // Not inlined, so that the buffer in which a raster is written lies on no other command's stack.
 #[inline(never)]
 pub fn make_from_files(
     rt: &HostRuntime,
-    args: &ProductArgs<'_, TileArgs<'_>>,
+    args: &ProductArgs<'_, Elevations<'_>>,
     out: &mut impl ByteSink,
 ) -> u8 {
     let progress = Progress::new(rt, args.progress);
@@ -48,12 +53,12 @@ pub fn make_from_files(
     };
     let mut opener = Opener::new(rt);
     match made_of_files(&mut opener, &progress, args, paths.as_slice(), out) {
-        Ok((layout, products)) => write_at(
+        Ok((header, products)) => write_at(
             rt,
             &progress,
             paths.as_slice(),
             opener.ids(),
-            &layout,
+            &header,
             &products,
             out,
         ),
@@ -61,40 +66,72 @@ pub fn make_from_files(
     }
 }
 
-/// The products of the tiles at these paths, which are closed again; or it prints why there are none, and returns the
-/// exit status. Files at the paths of outputs that are inputs are a usage error.
+/// The products of the elevations at these paths, whose files are closed again, with the elevations' header; or it prints
+/// why there are none, and returns the exit status. Files at the paths of outputs that are inputs are a usage error.
 fn made_of_files<'a>(
     opener: &mut Opener<'_>,
     progress: &'a Progress<'a>,
-    args: &ProductArgs<'_, TileArgs<'_>>,
+    args: &ProductArgs<'_, Elevations<'_>>,
     outputs: &[String],
     out: &mut impl ByteSink,
-) -> Result<(Layout, ProductSet), u8>
-    ensures same_shape { IfOk result (λ set. set.1.con.extent ≡ extent_of set.0) }
-    ensures written { IfOk result (λ set. CanBeWritten set.0 set.1) }
+) -> Result<(Header, ProductSet), u8>
+    ensures written { IfOk result (λ set. SetFits set.0 set.1) }
 {
     let opened = open_inputs(opener, progress, args);
-    let (mut tiles, sinks) = inputs_or_print(opener, opened, "the products", outputs, out)?;
-    make_set(
+    let (mut elevations, sinks) = inputs_or_print(opener, opened, "the products", outputs, out)?;
+    make_opened(
         opener.alloc(),
-        args.elevations.side,
-        tiles.as_mut_slice(),
+        &mut elevations,
         sinks.as_slice(),
         &mut MakeProgress(progress),
         out,
     )
 }
 
-/// Opens the tiles, whose rows are counted, and reads the list of sinks. The first fault ends it.
+/// Opens the elevations, whose rows are counted, and reads the list of sinks. The first fault ends it.
 fn open_inputs<'a>(
     opener: &mut Opener<'_>,
     progress: &'a Progress<'a>,
-    args: &ProductArgs<'_, TileArgs<'_>>,
-) -> Result<(Vec<TileInput<InputFile<'a>>>, Vec<u8>), OpenFault> {
-    let mut tiles = open_tiles(opener, args.elevations.paths.as_slice())?;
-    count_tiles(tiles.as_mut_slice(), args.elevations.side, progress);
+    args: &ProductArgs<'_, Elevations<'_>>,
+) -> Result<(OpenElevations<InputFile<'a>>, Vec<u8>), OpenFault> {
+    let mut elevations = open_elevations(opener, &args.elevations)?;
+    count_elevations(&mut elevations, progress);
     let sinks = list_at(opener, args.sinks)?;
-    Ok((tiles, sinks))
+    Ok((elevations, sinks))
+}
+
+/// Has the rows of elevations counted.
+fn count_elevations<'a>(
+    elevations: &mut OpenElevations<InputFile<'a>>,
+    progress: &'a Progress<'a>,
+) {
+    match elevations {
+        OpenElevations::Tiles(OpenTiles { side, tiles }) => {
+            count_tiles(tiles.as_mut_slice(), *side, progress);
+        }
+        OpenElevations::Dem(dem) => count_rows(&mut dem[0], Phase::Reading, progress),
+    }
+}
+
+/// The products of these elevations, with the elevations' header: con's on a mosaic.
+fn make_opened<R: ByteSource, W: ByteSink>(
+    alloc: Global,
+    elevations: &mut OpenElevations<R>,
+    sinks: &[u8],
+    follow: &mut impl Follow,
+    out: &mut W,
+) -> Result<(Header, ProductSet), u8>
+    ensures written { IfOk result (λ set. SetFits set.0 set.1) }
+{
+    match elevations {
+        OpenElevations::Tiles(OpenTiles { side, tiles }) => {
+            match make_set(alloc, *side, tiles.as_mut_slice(), sinks, follow, out) {
+                Ok((layout, products)) => Ok((product_header(&layout, Product::Con), products)),
+                Err(status) => Err(status),
+            }
+        }
+        OpenElevations::Dem(dem) => make_dem_set(alloc, dem, sinks, follow, out),
+    }
 }
 
 /// Creates the files of the products at these paths and writes them, and returns the exit status.
@@ -103,20 +140,19 @@ fn write_at<'g>(
     progress: &'g Progress<'g>,
     paths: &[String],
     inputs: &[FileId],
-    layout: &Layout,
+    elevations: &Header,
     products: &ProductSet,
     out: &mut impl ByteSink,
 ) -> u8
     requires paths { length paths.now ≡ FILE_COUNT }
-    requires same_shape { products.now.con.extent ≡ extent_of layout.now }
-    requires written { CanBeWritten layout.now products.now }
+    requires written { SetFits elevations.now products.now }
 {
     let failure = Failure::none();
     let mut outputs = Outputs::new(rt, &failure);
-    let status = match create_files(&mut outputs, paths, inputs, layout, progress) {
+    let status = match create_files(&mut outputs, paths, inputs, elevations, progress) {
         Ok(mut files) => write_and_place(
             rt.alloc(),
-            layout,
+            elevations,
             products,
             files.as_mut_slice(),
             &mut outputs,
@@ -131,8 +167,8 @@ fn write_at<'g>(
 /// Why there is no product set.
 #[derive(Clone, Copy)]
 pub enum NoSet {
-    /// Of the tiles.
-    Tiles(Refusal),
+    /// Of the tiles, or of the raster of elevations.
+    Ground(Refusal),
     /// Of the list of sinks.
     Sinks(SinkFault),
     /// The maker returned none.
@@ -155,6 +191,7 @@ pub fn make_set<R: ByteSource, W: ByteSink>(
     out: &mut W,
 ) -> Result<(Layout, ProductSet), u8>
     ensures made { IfOk result (λ set. IsSetOf R.bytes_left side tiles.old sinks.now set.0 set.1) }
+    ensures written { IfOk result (λ set. SetFits (made_header set.0 Product.Con) set.1) }
     ensures no_read_failed { OnOk result (SomeReadFails (map R.counts (tile_devices tiles.old)) (map R.counts (tile_devices tiles.new)) ⊥) }
     ensures quiet { OnOk result (out.new ≡ out.old) }
     ensures refused { IfErr result (λ code. (why : NoSet) × IsNoSet R.ByteSource side tiles.old tiles.new sinks.now why
@@ -179,6 +216,7 @@ fn read_and_make<R: ByteSource>(
     follow: &mut impl Follow,
 ) -> Result<(Layout, ProductSet), NoSet>
     ensures made { IfOk result (λ set. IsSetOf R.bytes_left side tiles.old sinks.now set.0 set.1) }
+    ensures written { IfOk result (λ set. SetFits (made_header set.0 Product.Con) set.1) }
     ensures no_read_failed { OnOk result (SomeReadFails (map R.counts (tile_devices tiles.old)) (map R.counts (tile_devices tiles.new)) ⊥) }
     ensures refused { IfErr result (IsNoSet R.ByteSource side tiles.old tiles.new sinks.now) }
     ensures within { TilesTakeAtMost R.bytes_left side tiles.old tiles.new }
@@ -186,7 +224,7 @@ fn read_and_make<R: ByteSource>(
 {
     let mosaic = match read_mosaic(alloc, side, tiles) {
         Ok(mosaic) => mosaic,
-        Err(refusal) => return Err(NoSet::Tiles(refusal)),
+        Err(refusal) => return Err(NoSet::Ground(refusal)),
     };
     let listed = match parse_sinks(alloc, sinks) {
         Ok(listed) => listed,
@@ -199,12 +237,67 @@ fn read_and_make<R: ByteSource>(
     }
 }
 
+/// Reads one raster of elevations and makes the products on it. If there are none, it prints why and returns the exit
+/// status, as `make_set` does: the refusals of elevations are `BadHeader dem`, `BadPixelSize dem` and `RasterShort dem`.
+pub fn make_dem_set<R: ByteSource, W: ByteSink>(
+    alloc: Global,
+    dem: &mut [RasterInput<R>; 1],
+    sinks: &[u8],
+    follow: &mut impl Follow,
+    out: &mut W,
+) -> Result<(Header, ProductSet), u8>
+    ensures made { IfOk result (λ set. IsDemSetOf R.bytes_left dem.old sinks.now set.0 set.1) }
+    ensures written { IfOk result (λ set. SetFits set.0 set.1) }
+    ensures no_read_failed { OnOk result (SomeReadFails (map R.counts (dem_devices dem.old)) (map R.counts (dem_devices dem.new)) ⊥) }
+    ensures quiet { OnOk result (out.new ≡ out.old) }
+    ensures refused { IfErr result (λ code. (why : NoSet) × IsNoDemSet R.ByteSource dem.old dem.new sinks.now why
+        × Prints W.ByteSink out.old out.new (no_set_line why) (no_set_status why) code) }
+
+    // How far it reads, and that the header's text is unchanged.
+    ensures within { DemTakesAtMost R.bytes_left dem.old dem.new }
+    ensures headers { AreHeadersKept dem.old dem.new }
+{
+    match read_and_make_dem(alloc, dem, sinks, follow) {
+        Ok(set) => Ok(set),
+        Err(why) => Err(print_line(out, &line_of(&why), status_of(&why))),
+    }
+}
+
+/// The products of one raster of elevations, or why there are none.
+fn read_and_make_dem<R: ByteSource>(
+    alloc: Global,
+    dem: &mut [RasterInput<R>; 1],
+    sinks: &[u8],
+    follow: &mut impl Follow,
+) -> Result<(Header, ProductSet), NoSet>
+    ensures made { IfOk result (λ set. IsDemSetOf R.bytes_left dem.old sinks.now set.0 set.1) }
+    ensures written { IfOk result (λ set. SetFits set.0 set.1) }
+    ensures no_read_failed { OnOk result (SomeReadFails (map R.counts (dem_devices dem.old)) (map R.counts (dem_devices dem.new)) ⊥) }
+    ensures refused { IfErr result (IsNoDemSet R.ByteSource dem.old dem.new sinks.now) }
+    ensures within { DemTakesAtMost R.bytes_left dem.old dem.new }
+    ensures headers { AreHeadersKept dem.old dem.new }
+{
+    let read = match read_dem(alloc, dem) {
+        Ok(read) => read,
+        Err(refusal) => return Err(NoSet::Ground(refusal)),
+    };
+    let listed = match parse_sinks(alloc, sinks) {
+        Ok(listed) => listed,
+        Err(fault) => return Err(NoSet::Sinks(fault)),
+    };
+    let Dem { header, raster } = read;
+    match make_dem(alloc, &raster, &listed, follow) {
+        Ok(products) => Ok((header, products)),
+        Err(refusal) => Err(NoSet::Maker(refusal)),
+    }
+}
+
 /// The line that says why there are no products.
 fn line_of(why: &NoSet) -> Line
     ensures { result.bytes ≡ no_set_line why.now }
 {
     match why {
-        NoSet::Tiles(refusal) => refusal_line(*refusal),
+        NoSet::Ground(refusal) => refusal_line(*refusal),
         NoSet::Sinks(SinkFault::BadSinkLine(line)) => refusal_line(Refusal::BadSinkLine(*line)),
         NoSet::Sinks(SinkFault::OutOfMemory) => words("failed OutOfMemory"),
         NoSet::Maker(MakeRefusal::SinkNotData(line)) => refusal_line(Refusal::SinkNotData(*line)),
@@ -218,7 +311,7 @@ fn status_of(why: &NoSet) -> Status
     ensures { result ≡ no_set_status why.now }
 {
     match why {
-        NoSet::Tiles(refusal) => Status::of_refusal(*refusal),
+        NoSet::Ground(refusal) => Status::of_refusal(*refusal),
         NoSet::Sinks(SinkFault::OutOfMemory) => Status::Failed,
         NoSet::Sinks(SinkFault::BadSinkLine(_)) => Status::Refused,
         NoSet::Maker(MakeRefusal::OutOfMemory) => Status::Failed,

@@ -5,11 +5,9 @@ ghost use Rattle.std.specs.Prelude.{◌≡◌, ◌++◌, ◌≤◌, length, Resu
 ghost use Rattle.drain_cli.specs.DerivedSets.{derived_line};
 ghost use Rattle.drain_cli.specs.MadeSets.{made_line, written_line, written_status};
 ghost use Rattle.drain_files.specs.Files.{IsNamed};
-ghost use Rattle.drain_maker.specs.Made.{CanBeWritten};
-ghost use Rattle.drain_maker.specs.ProductFiles.{DerivedFit, WritesFiles, derived_bytes, set_bytes};
+ghost use Rattle.drain_maker.specs.ProductFiles.{DerivedFit, SetFits, WritesFiles, derived_bytes, set_bytes};
 ghost use Rattle.drain_maker.specs.declared.product_files.SetFault.{SetFault};
 ghost use Rattle.drain_maker.specs.declared.product_files.TheConstants.{DERIVED_COUNT, FILE_COUNT};
-ghost use Rattle.drain_mosaic.specs.Tiling.{extent_of};
 ghost use Rattle.drain_raster.specs.Pixels.{header_extent};
 ghost use Rattle.drain_answer.specs.Printing.{Prints};
 
@@ -22,7 +20,6 @@ use drain_grid::{ProductSet, Shape};
 use drain_header::Header;
 use drain_maker::Derived;
 use drain_maker::product_files::{SetFault, write_derived, write_files};
-use drain_mosaic::Layout;
 use drain_raster::shape;
 use std::alloc::Global;
 
@@ -35,22 +32,21 @@ use std::alloc::Global;
 /// the line is `failed WriteFailed` and the status 3. The status is also 3 if the line can't be written.
 pub fn write_and_place<F: ByteSink, P: Placing, W: ByteSink>(
     alloc: Global,
-    layout: &Layout,
+    elevations: &Header,
     products: &ProductSet,
     files: &mut [F],
     places: &mut P,
     out: &mut W,
 ) -> u8
     requires counted { length files.old ≡ FILE_COUNT }
-    requires same_shape { products.now.con.extent ≡ extent_of layout.now }
-    requires written { CanBeWritten layout.now products.now }
+    requires written { SetFits elevations.now products.now }
     ensures run { (done told : Result (Unit {0}) SetFault)
-        × WritesFiles F.ByteSink files.old files.new (set_bytes layout.now products.now) done
+        × WritesFiles F.ByteSink files.old files.new (set_bytes elevations.now products.now) done
         × IsNamed P.has_placed places.old places.new done told
-        × Prints W.ByteSink out.old out.new (made_line layout.now told) (written_status told) result }
+        × Prints W.ByteSink out.old out.new (made_line (header_extent elevations.now) told) (written_status told) result }
 {
-    let written = write_files(alloc, layout, products, files);
-    place_and_print("made rows=", layout.shape(), written, places, out)
+    let written = write_files(alloc, elevations, products, files);
+    place_and_print("made rows=", shape(elevations), written, places, out)
 }
 
 /// Writes header and raster of accumulation, labels and ranks, in the order of `DERIVED_FILES`, gives the files their

@@ -1,0 +1,249 @@
+-- A raster of elevations read into memory: its pixels and their range, the elevations that they mean, and its first
+-- refusal.
+use Rattle.std.proofs.Common.{◌≡◌, ◌≢◌, ◌∙◌, ℕ, ◌+◌, ◌-◌, ◌*◌, ◌/◌, ◌^◌, ◌<◌, ◌≤◌, ℤ, pos, Bool, true, false, List, [], ◌∷◌, Option, Some, None, Err, inl, inr, length, map, slice_index_or, slice_set, take, drop, get_or, unwrap_or, refl, sym, ap, subst, arith}
+use Rattle.std.specs.Prelude.{slice_index}
+use Rattle.std.specs.Ordering.{int_eq}
+use Rattle.std.proofs.Props.{props}
+use Rattle.std.proofs.Math.Logic.{∥∥₁_elim}
+use Rattle.std.proofs.Math.Nat.{mul-le-mul_right}
+use Rattle.std.proofs.lemmas.Bool.{cases_lt, le-ltb, lt-ltb}
+use Rattle.std.proofs.lemmas.Bool.Decides.{Decides-int_eq}
+use Rattle.std.proofs.lemmas.Int.{ints}
+use Rattle.std.proofs.lemmas.List.{drop-take, get_or-drop, length-take}
+use Rattle.byteorder.specs.Endian.{twos_complement}
+use Rattle.byteorder.specs.Numbers.{big_from-lt, little_from-lt}
+use Rattle.drain_answer.specs.declared.refusal.Refusal.{Refusal}
+use Rattle.drain_answer.specs.declared.refusal.Refusal.TheVariants.{BadDemHeader, BadPixelSize, DemShort, OutOfMemory, ReadFailed}
+use Rattle.drain_device.specs.Failing.{ReadFails}
+use Rattle.drain_device.specs.FaultLists.{SomeReadFails}
+use Rattle.drain_device.specs.Reads.{ReadsUpTo, TakesAtMost}
+use Rattle.drain_device.specs.declared.counts.FaultCounts.{FaultCounts}
+use Rattle.drain_device.proofs.FaultLists.{SomeReadFails-one}
+use Rattle.drain_grid.specs.declared.cell.Cell.{Cell}
+use Rattle.drain_grid.specs.Extent.{IsCellOf}
+use Rattle.drain_grid.specs.Grid.{Pixels}
+use Rattle.drain_grid.specs.WholeGrid.{number_at}
+use Rattle.drain_header.specs.declared.header.ByteOrdering.{ByteOrdering}
+use Rattle.drain_header.specs.declared.header.ByteOrdering.TheVariants.{Least, Most}
+use Rattle.drain_header.specs.declared.fault.HeaderFault.{HeaderFault}
+use Rattle.drain_header.specs.Faults.{Answers}
+use Rattle.drain_header.specs.Header.{Fields, IsPixelSize, header_of}
+use Rattle.drain_pixels.specs.Ground.{height_with}
+use Rattle.drain_raster.specs.Bytes.{CanSpell, CanSpellIn}
+use Rattle.drain_raster.specs.Elevations.{elevation_in}
+use Rattle.drain_raster.specs.Laws.{NumbersArePixels}
+use Rattle.drain_raster.specs.Pixels.{IsShort, header_extent, needed_len, number_in, pixel_at, pixel_len, pixel_of, pixel_place, raster_of, spelled_by}
+use Rattle.drain_raster.specs.Placing.{HasPixelSize}
+use Rattle.drain_raster.proofs.PixelLemmas.{spelled_by-take}
+use Rattle.drain_text.specs.First.{IsBefore}
+use Rattle.drain_text.specs.Text.{lines_of}
+use Rattle.drain_verdict.specs.DemGround.{AreHeadersKept, DemRefuses, DemTakesAtMost, DemTexts, EncodesDem, IsDemHeader, IsDemHeaderRefusal, dem_devices, dem_fields, dem_ground}
+use Rattle.drain_verdict.specs.Ground.{refusal_kind}
+use Rattle.drain_verdict.specs.declared.next_rows.RasterInput.{RasterInput}
+use Rattle.drain_maker.specs.Dems.{IsBodyRefusal, IsDemOf, IsGroundRefusal, IsRasterOf, dem_elevation}
+use Rattle.drain_maker.specs.ProductFiles.{FitsHeader, con_no_data}
+use Rattle.drain_maker.proofs.MosaicAnswers.{reads-front}
+
+-- The range of a pixel.
+
+signed-8 : (n : ℕ) → n < 256 ^ 1 → CanSpellIn true 8 (twos_complement 1 n)
+signed-8 n fits = elim (cases_lt n 128) [
+  | inl low ↦ rw (lt-ltb n 128 low) (record { low = omega (arith, ints); high = omega (arith, ints, low) })
+  | inr high ↦ rw (le-ltb n 128 high) (record { low = omega (arith, ints, high); high = omega (arith, ints, fits) })
+]
+
+signed-16 : (n : ℕ) → n < 256 ^ 2 → CanSpellIn true 16 (twos_complement 2 n)
+signed-16 n fits = elim (cases_lt n 32768) [
+  | inl low ↦ rw (lt-ltb n 32768 low) (record { low = omega (arith, ints); high = omega (arith, ints, low) })
+  | inr high ↦ rw (le-ltb n 32768 high) (record { low = omega (arith, ints, high); high = omega (arith, ints, fits) })
+]
+
+signed-32 : (n : ℕ) → n < 256 ^ 4 → CanSpellIn true 32 (twos_complement 4 n)
+signed-32 n fits = elim (cases_lt n 2147483648) [
+  | inl low ↦ rw (lt-ltb n 2147483648 low) (record { low = omega (arith, ints); high = omega (arith, ints, low) })
+  | inr high ↦ rw (le-ltb n 2147483648 high) (record { low = omega (arith, ints, high); high = omega (arith, ints, fits) })
+]
+
+-- a list of bytes
+abbrev AreBytes : List ℕ → Type 0
+AreBytes bytes = (k : ℕ) → slice_index bytes k < 256
+
+number_fits : (order : ByteOrdering) (n : ℕ) (bytes : List ℕ) → AreBytes bytes → number_in order n bytes < 256 ^ n
+number_fits Least n bytes low = little_from-lt 0 n bytes low
+number_fits Most n bytes low = big_from-lt 0 n bytes low
+
+spelled_in : (signed : Bool) (order : ByteOrdering) (bits : ℕ) (bytes : List ℕ) → IsPixelSize bits → AreBytes bytes → CanSpellIn signed bits (spelled_by signed order (bits / 8) bytes)
+spelled_in true order bits bytes (inl is) low = rw is (signed-8 (number_in order 1 bytes) (number_fits order 1 bytes low))
+spelled_in true order bits bytes (inr (inl is)) low = rw is (signed-16 (number_in order 2 bytes) (number_fits order 2 bytes low))
+spelled_in true order bits bytes (inr (inr is)) low = rw is (signed-32 (number_in order 4 bytes) (number_fits order 4 bytes low))
+spelled_in false order bits bytes (inl is) low = rw is (let fits = number_fits order 1 bytes low in record { low = omega (arith, ints); high = omega (arith, ints, fits) })
+spelled_in false order bits bytes (inr (inl is)) low = rw is (let fits = number_fits order 2 bytes low in record { low = omega (arith, ints); high = omega (arith, ints, fits) })
+spelled_in false order bits bytes (inr (inr is)) low = rw is (let fits = number_fits order 4 bytes low in record { low = omega (arith, ints); high = omega (arith, ints, fits) })
+
+-- a header's pixels can encode the number of a pixel
+pixel_spelled : (h : Fields) (bytes : List ℕ) → ∥ IsPixelSize h.bits ∥₁ → AreBytes bytes → CanSpell h (pixel_of h bytes)
+pixel_spelled h bytes size low = ∥∥₁_elim size (hlevel props) (λ is. spelled_in h.signed h.order h.bits bytes is low)
+
+-- which is no number of 33 bits
+beyond : (signed : Bool) (bits : ℕ) → IsPixelSize bits → ¬ CanSpellIn signed bits (pos 4294967296)
+beyond true bits (inl is) ok = let most = rw is at ok.high in omega (arith, ints, most)
+beyond true bits (inr (inl is)) ok = let most = rw is at ok.high in omega (arith, ints, most)
+beyond true bits (inr (inr is)) ok = let most = rw is at ok.high in omega (arith, ints, most)
+beyond false bits (inl is) ok = let most = rw is at ok.high in omega (arith, ints, most)
+beyond false bits (inr (inl is)) ok = let most = rw is at ok.high in omega (arith, ints, most)
+beyond false bits (inr (inr is)) ok = let most = rw is at ok.high in omega (arith, ints, most)
+
+not_beyond : (h : Fields) (z : ℤ) → ∥ IsPixelSize h.bits ∥₁ → CanSpell h z → z ≢ pos 4294967296
+not_beyond h z size ok same = ∥∥₁_elim size (hlevel props) (λ is. beyond h.signed h.bits is (subst (CanSpell h) same ok))
+
+-- The pixels of a body that was read up to the last needed byte.
+
+-- a pixel ends before the last needed byte
+pixel_within : (h : Fields) (c : Cell) → IsCellOf (header_extent h) c → pixel_place h c.row c.col + pixel_len h ≤ needed_len h
+pixel_within h c inside =
+    let row_in = inside.row in
+    let col_in = inside.col in
+    let rows : c.row * h.row_bytes ≤ (h.rows - 1) * h.row_bytes = mul-le-mul_right h.row_bytes (omega (arith, row_in)) in
+    let cols : (c.col + 1) * pixel_len h ≤ h.cols * pixel_len h = mul-le-mul_right (pixel_len h) (omega (arith, col_in)) in
+    omega (arith, rows, cols)
+
+-- so what is read has it
+front_pixel : (h : Fields) (bytes : List ℕ) (c : Cell) → IsCellOf (header_extent h) c → pixel_at h (take (needed_len h) bytes) c ≡ pixel_at h bytes c
+front_pixel h bytes c inside =
+    let place = pixel_place h c.row c.col in
+    let rest = needed_len h - place in
+    let within = pixel_within h c inside in
+    let split : needed_len h ≡ place + rest = omega (arith, within) in
+    ap (λ n. pixel_of h (drop place (take n bytes))) split ∙ ap (pixel_of h) (drop-take place rest bytes)
+    ∙ spelled_by-take h.signed h.order (pixel_len h) rest (drop place bytes) (omega (arith, within))
+
+-- the bytes of a part are bytes
+bytes_behind : (n : ℕ) (bytes : List ℕ) → AreBytes bytes → AreBytes (drop n bytes)
+bytes_behind n bytes low k = subst (λ b. b < 256) (sym (get_or-drop n bytes k 0)) (low (n + k))
+
+-- a raster of these bytes has pixels that its header can encode
+pub fits_header : NumbersArePixels → (h : Fields) (default : ℤ) (bytes : List ℕ) (p : Pixels) → ∥ IsPixelSize h.bits ∥₁ → ((k : ℕ) → slice_index bytes k < 256) →
+    p ≡ raster_of h default bytes → FitsHeader h p
+fits_header numbers h default bytes p size low is = record {
+  extent = ap (λ (r : Pixels). r.extent) is;
+  spelled = λ c inside.
+      let there : IsCellOf (header_extent h) c = subst (λ (r : Pixels). IsCellOf r.extent c) is inside in
+      subst (CanSpell h) (sym (ap (λ (r : Pixels). number_at r c) is ∙ numbers h default bytes c there))
+      (pixel_spelled h (drop (pixel_place h c.row c.col) bytes) size (bytes_behind (pixel_place h c.row c.col) bytes low));
+}
+
+-- it is the raster of all bytes
+pub raster_whole : NumbersArePixels → (h : Fields) (default : ℤ) (old new : Option (List ℕ)) (came : List ℕ) (p : Pixels) → ReadsUpTo (needed_len h) old new came →
+    ¬ IsShort h came → p ≡ raster_of h default came → (bytes : List ℕ) → old ≡ Some bytes → IsRasterOf h bytes p
+raster_whole numbers h default old new came p reads whole is bytes known =
+    let front = reads-front (needed_len h) old new came reads bytes known in
+    record {
+      whole = λ short. whole (let n = ap length front in omega (arith, short, n, length-take (needed_len h) bytes));
+      extent = ap (λ (r : Pixels). r.extent) is;
+      pixels = λ c inside. ap (λ (r : Pixels). number_at r c) is ∙ (numbers h default came c inside ∙ (ap (λ b. pixel_at h b c) front ∙ front_pixel h bytes c inside));
+    }
+
+-- and what was read is short only if all is
+pub raster_short : (h : Fields) (old new : Option (List ℕ)) (came : List ℕ) → ReadsUpTo (needed_len h) old new came → IsShort h came →
+    (bytes : List ℕ) → old ≡ Some bytes → IsShort h bytes
+raster_short h old new came reads short bytes known =
+    let n = ap length (reads-front (needed_len h) old new came reads bytes known) in
+    omega (arith, short, n, length-take (needed_len h) bytes)
+
+-- Its elevations.
+
+is_false : (b : Bool) → (b ≡ true → ⊥) → b ≡ false
+is_false true no = absurd (no refl)
+is_false false no = refl
+
+-- where no number means a void, none is the number that stands for it
+height_marked : (void : Option ℤ) (n : ℤ) → n ≢ pos 4294967296 → height_with (Some (unwrap_or void (pos 4294967296))) n ≡ height_with void n
+height_marked (Some v) n other = refl
+height_marked None n other = rw (is_false (int_eq n (pos 4294967296)) (λ same. other ((Decides-int_eq n (pos 4294967296)).0 same))) refl
+
+pub dem_read : (d : DemTexts) (h : Fields) (p : Pixels) → IsDemHeader h d.header → FitsHeader h p → p.nodata ≡ con_no_data h → IsRasterOf h d.body p → IsDemOf d h p
+dem_read d h p header fits nodata raster =
+    let same : h ≡ dem_fields d = header.described.fields in
+    record {
+      readable = refuses;
+      header_is = same;
+      extent_is = raster.extent ∙ ap header_extent same;
+      elevation_is = λ c inside.
+          (let there : IsCellOf (header_extent h) c = subst (λ e. IsCellOf e c) raster.extent inside in
+          ap (λ void. height_with (Some void) (number_at p c)) nodata
+          ∙ (height_marked h.nodata (number_at p c) (not_beyond h (number_at p c) header.bounds.bits_ok (fits.spelled c inside))
+          ∙ (ap (height_with h.nodata) (raster.pixels c there) ∙ ap (λ (k : Fields). elevation_in k d.body c) same)));
+    }
+  where
+    refuses : (refusal : Refusal) → ¬ DemRefuses d refusal
+    refuses (BadDemHeader fault) stands = header.described.sound fault stands.holds
+    refuses BadPixelSize stands = stands (subst (λ (k : Fields). HasPixelSize k.place) header.described.fields header.sized)
+    refuses DemShort stands = raster.whole (subst (λ (k : Fields). IsShort k d.body) (sym header.described.fields) stands)
+    refuses refusal stands = stands
+
+-- Why it is refused.
+
+-- no refusal of an earlier kind applies, where none of the header does
+none_before : (d : DemTexts) (n : ℕ) → n ≤ 5 → ((fault : HeaderFault) → 1 < n → ¬ Answers d.header (Err fault)) → (2 < n → HasPixelSize (dem_fields d).place) →
+    (b : Refusal) → IsBefore (refusal_kind b, 0) (n, 0) → ¬ DemRefuses d b
+none_before d n most sound sized b (inr (same, less)) = absurd (omega (arith, less))
+none_before d n most sound sized (BadDemHeader fault) (inl less) = sound fault less
+none_before d n most sound sized BadPixelSize (inl less) = λ stands. stands (sized less)
+none_before d n most sound sized DemShort (inl less) = absurd (omega (arith, most, less))
+none_before d n most sound sized b (inl less) = λ stands. stands
+
+-- a refusal of its header is the first
+pub header_refused : (d : DemTexts) (refusal : Refusal) → IsDemHeaderRefusal d.header refusal → IsGroundRefusal (dem_ground d) refusal
+header_refused d (BadDemHeader fault) bad = record {
+  holds = bad;
+  first = none_before d 1 (omega arith) (λ f less. absurd (omega (arith, less))) (λ less. absurd (omega (arith, less)));
+}
+header_refused d BadPixelSize (h, described, none) = record {
+  holds = λ has. none (subst (λ (k : Fields). HasPixelSize k.place) (sym described.fields) has);
+  first = none_before d 2 (omega arith) (λ fault less answers. described.sound fault answers.holds) (λ less. absurd (omega (arith, less)));
+}
+header_refused d refusal bad = absurd bad
+
+-- and so is one of its body
+pub body_refused : (d : DemTexts) (h : Fields) (refusal : Refusal) → IsDemHeader h d.header → IsBodyRefusal h d.body refusal → IsGroundRefusal (dem_ground d) refusal
+body_refused d h DemShort header short = record {
+  holds = subst (λ (k : Fields). IsShort k d.body) header.described.fields short;
+  first = none_before d 5 (omega arith) (λ fault less answers. header.described.sound fault answers.holds)
+      (λ less. subst (λ (k : Fields). HasPixelSize k.place) header.described.fields header.sized);
+}
+body_refused d h OutOfMemory header short = tt
+body_refused d h ReadFailed header short = tt
+body_refused d h refusal header short = absurd short
+
+-- The one raster of a call.
+
+module _ {R : Type 0} (bl : R → Option (List ℕ)) (ct : R → FaultCounts) where
+  -- its header and its body are those of the texts
+  pub told_one : (xs : List (RasterInput R)) (x : RasterInput R) (d : DemTexts) → EncodesDem bl xs d → (d.header ≡ (slice_index_or xs 0 x).header) × (bl (slice_index_or xs 0 x).body ≡ Some d.body)
+  told_one [] x d tell = absurd tell
+  told_one (input ∷ []) x d tell = tell
+  told_one (input ∷ other ∷ more) x d tell = absurd tell
+
+  -- with its body read, this far and with these faults, all else is as it was
+  pub one_within : (h : Fields) (xs : List (RasterInput R)) (x : RasterInput R) (body : R) → length xs ≡ 1 → IsDemHeader h (slice_index_or xs 0 x).header →
+      TakesAtMost (needed_len h) (bl (slice_index_or xs 0 x).body) (bl body) →
+      DemTakesAtMost bl xs (slice_set xs 0 (record { header = (slice_index_or xs 0 x).header; body = body }))
+  one_within h [] x body one is taken = absurd (omega (arith, one))
+  one_within h (input ∷ []) x body one is taken old new old_is new_is =
+      let first : input ≡ old = cc in
+      let last : record { header = input.header; body = body } ≡ new = cc in
+      subst (λ (y : RasterInput R). TakesAtMost (needed_len (header_of (lines_of old.header))) (bl old.body) (bl y.body)) last
+      (subst (λ (y : RasterInput R). TakesAtMost (needed_len (header_of (lines_of y.header))) (bl y.body) (bl body)) first
+      (subst (λ (k : Fields). TakesAtMost (needed_len k) (bl input.body) (bl body)) is.described.fields taken))
+  one_within h (input ∷ other ∷ more) x body one is taken = absurd (omega (arith, one))
+
+  pub one_fails : {Fails : Type 0} (xs : List (RasterInput R)) (x : RasterInput R) (body : R) → length xs ≡ 1 → ReadFails (ct (slice_index_or xs 0 x).body) (ct body) Fails →
+      SomeReadFails (map ct (dem_devices xs)) (map ct (dem_devices (slice_set xs 0 (record { header = (slice_index_or xs 0 x).header; body = body })))) Fails
+  one_fails [] x body one fails = absurd (omega (arith, one))
+  one_fails (input ∷ []) x body one fails = SomeReadFails-one fails
+  one_fails (input ∷ other ∷ more) x body one fails = absurd (omega (arith, one))
+
+  pub one_kept : (xs : List (RasterInput R)) (x : RasterInput R) (body : R) → length xs ≡ 1 → AreHeadersKept xs (slice_set xs 0 (record { header = (slice_index_or xs 0 x).header; body = body }))
+  one_kept [] x body one = absurd (omega (arith, one))
+  one_kept (input ∷ []) x body one = refl
+  one_kept (input ∷ other ∷ more) x body one = absurd (omega (arith, one))
