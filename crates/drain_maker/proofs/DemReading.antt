@@ -152,9 +152,9 @@ raster_short h old new came reads short bytes known =
 
 -- Its elevations.
 
-is_false : (b : Bool) → (b ≡ true → ⊥) → b ≡ false
-is_false true no = absurd (no refl)
-is_false false no = refl
+is_false : (b : Bool) → ¬ (b ≡ true) → b ≡ false
+is_false true never = absurd (never refl)
+is_false false never = refl
 
 -- where no number means a void, none is the number that stands for it
 height_marked : (void : Option ℤ) (n : ℤ) → n ≢ pos 4294967296 → height_with (Some (unwrap_or void (pos 4294967296))) n ≡ height_with void n
@@ -224,12 +224,15 @@ module _ {R : Type 0} (bl : R → Option (List ℕ)) (ct : R → FaultCounts) wh
   told_one (input ∷ []) x d tell = tell
   told_one (input ∷ other ∷ more) x d tell = absurd tell
 
+  pub told_header : (h : Fields) (xs : List (RasterInput R)) (x : RasterInput R) (d : DemTexts) → EncodesDem bl xs d → IsDemHeader h (slice_index_or xs 0 x).header → IsDemHeader h d.header
+  told_header h xs x d tell is = subst (IsDemHeader h) (sym (told_one xs x d tell).0) is
+
   -- with its body read, this far and with these faults, all else is as it was
   pub one_within : (h : Fields) (xs : List (RasterInput R)) (x : RasterInput R) (body : R) → length xs ≡ 1 → IsDemHeader h (slice_index_or xs 0 x).header →
       TakesAtMost (needed_len h) (bl (slice_index_or xs 0 x).body) (bl body) →
       DemTakesAtMost bl xs (slice_set xs 0 (record { header = (slice_index_or xs 0 x).header; body = body }))
   one_within h [] x body one is taken = absurd (omega (arith, one))
-  one_within h (input ∷ []) x body one is taken old new old_is new_is =
+  one_within h (input ∷ []) x body one is taken = λ old new old_is new_is.
       let first : input ≡ old = cc in
       let last : record { header = input.header; body = body } ≡ new = cc in
       subst (λ (y : RasterInput R). TakesAtMost (needed_len (header_of (lines_of old.header))) (bl old.body) (bl y.body)) last

@@ -223,15 +223,6 @@ FitHeaders-set t ps shape written Acc held = record { extent = one_shape ps Acc 
 FitHeaders-set t ps shape written Bas held = record { extent = one_shape ps Bas ∙ shape; spelled = written Bas }
 FitHeaders-set t ps shape written Rnk held = record { extent = one_shape ps Rnk ∙ shape; spelled = written Rnk }
 
--- the same on a raster of elevations, whose pixels con has
-pub SetFits-dem : (h : Fields) (ps : ProductSet) → ps.con.extent ≡ header_extent h → CanSpellAllIn h.signed h.bits ps.con → CanSpellAllIn false 8 ps.dir →
-    CanSpellAllIn false 32 ps.acc → CanSpellAllIn false 32 ps.bas → CanSpellAllIn false 32 ps.rnk → SetFits h ps
-SetFits-dem h ps shape con dir acc bas rnk Con held = record { extent = shape; spelled = con }
-SetFits-dem h ps shape con dir acc bas rnk Dir held = record { extent = one_shape ps Dir ∙ shape; spelled = dir }
-SetFits-dem h ps shape con dir acc bas rnk Acc held = record { extent = one_shape ps Acc ∙ shape; spelled = acc }
-SetFits-dem h ps shape con dir acc bas rnk Bas held = record { extent = one_shape ps Bas ∙ shape; spelled = bas }
-SetFits-dem h ps shape con dir acc bas rnk Rnk held = record { extent = one_shape ps Rnk ∙ shape; spelled = rnk }
-
 pub set_bytes-listed : (h : Fields) (ps : ProductSet) → set_bytes h ps ≡ map (file_bytes h (raster_in ps)) SET_FILES
 unfolding set_bytes
 set_bytes-listed h ps = refl

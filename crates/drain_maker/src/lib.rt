@@ -12,7 +12,7 @@ mod maker;
 pub mod mosaic;
 pub mod product_files;
 mod products;
-pub mod read_dem;
+pub mod whole_dem;
 
 pub use dem::make_dem;
 pub use derivation::{DeriveRefusal, Derived, derive, derive_dem, derive_from_flows};
@@ -21,4 +21,4 @@ pub use drain_verdict::{CertifyRefusal, certify};
 pub use maker::{MakeRefusal, make, make_freeing};
 pub use mosaic::{AsElevation, Mosaic, read_mosaic};
 pub use product_files::product_header;
-pub use read_dem::{Dem, read_dem};
+pub use whole_dem::{Dem, read_dem};

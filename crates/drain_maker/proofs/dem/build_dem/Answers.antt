@@ -8,9 +8,9 @@ use Rattle.drain_grid.specs.Grid.{Pixels}
 use Rattle.drain_grid.specs.WholeGrid.{number_at}
 use Rattle.drain_flood.specs.declared.level_queue.TheConstants.{MAX_CELLS}
 use Rattle.drain_paths.specs.Flows.{bytes_flows}
+use Rattle.drain_raster.specs.Pixels.{header_extent}
 use Rattle.drain_maker.specs.Dems.{dem_grid}
 use Rattle.drain_maker.proofs.DemLemmas.{con_spelled, of_ground}
-use Rattle.drain_maker.proofs.FileLemmas.{SetFits-dem}
 use Rattle.drain_maker.proofs.ShownRasters.{ended, heights, right}
 use Rattle.drain_maker.proofs.dem.build_dem.Goals as goal
 
@@ -58,6 +58,7 @@ returns-clause-ground g c = λ x here.
           ∙ (ap (λ xs. get_or xs (index_of p.extent x) (pos 0)) routes.con_is ∙ up.2)),
     ))
 
+-- con has numbers of the raster alone, and the others those of their kind
 pub returns-clause-written : goal.returns-clause-written
 returns-clause-written g c = λ h fits.
     (let p = c.args.dem.now in
@@ -65,16 +66,23 @@ returns-clause-written g c = λ h fits.
     let same = sym c.in_ok-surface.ensures.extent in
     let routes = c.in_ok-routes.ensures.routes gg p.nodata same c.in_ok-surface.ensures.surface c.in_ok-surface.ensures.voids
     (c.in_ok-codes.ensures.codes gg same c.in_ok-surface.ensures.surface) in
-    let con = c.raster_of_numbers.result in
-    let shape : con.extent ≡ p.extent = ap (λ (r : Pixels). r.extent) c.raster_of_numbers.ensures.is ∙ c.shape-shape.ensures in
-    SetFits-dem h _ (shape ∙ fits.extent)
-    (con_spelled p c.args.sinks.now con h.signed h.bits shape (returns-clause-ground g c)
-    (λ x inside none.
-    ap (λ (r : Pixels). number_at r x) c.raster_of_numbers.ensures.is
-    ∙ (ap (λ (e : Extent). get_or c.in_ok-routes.routes.con (index_of e x) (pos 0)) c.shape-shape.ensures
-    ∙ (ap (λ xs. get_or xs (index_of p.extent x) (pos 0)) routes.con_is ∙ routes.voids.voids x inside none)))
-    fits.spelled)
-    c.raster_of_codes.ensures.spelled c.raster_of_counts.ensures.spelled c.raster_of_counts-2.ensures.spelled c.raster_of_counts-3.ensures.spelled)
+    let shape : c.shape-shape.result ≡ header_extent h = c.shape-shape.ensures ∙ fits.extent in
+    let con_is = c.raster_of_numbers.ensures.is in
+    elim [
+      | Con ↦ λ held. record {
+        extent = ap (λ (r : Pixels). r.extent) con_is ∙ shape;
+        spelled = con_spelled p c.args.sinks.now c.raster_of_numbers.result h.signed h.bits (ap (λ (r : Pixels). r.extent) con_is ∙ c.shape-shape.ensures) (returns-clause-ground g c)
+            (λ x inside none.
+            ap (λ (r : Pixels). number_at r x) con_is
+            ∙ (ap (λ (e : Extent). get_or c.in_ok-routes.routes.con (index_of e x) (pos 0)) c.shape-shape.ensures
+            ∙ (ap (λ xs. get_or xs (index_of p.extent x) (pos 0)) routes.con_is ∙ routes.voids.voids x inside none)))
+            fits.spelled;
+      }
+      | Dir ↦ λ held. record { extent = ap (λ (r : Pixels). r.extent) c.raster_of_codes.ensures.is ∙ shape; spelled = c.raster_of_codes.ensures.spelled }
+      | Acc ↦ λ held. record { extent = ap (λ (r : Pixels). r.extent) c.raster_of_counts.ensures.is ∙ shape; spelled = c.raster_of_counts.ensures.spelled }
+      | Bas ↦ λ held. record { extent = ap (λ (r : Pixels). r.extent) c.raster_of_counts-2.ensures.is ∙ shape; spelled = c.raster_of_counts-2.ensures.spelled }
+      | Rnk ↦ λ held. record { extent = ap (λ (r : Pixels). r.extent) c.raster_of_counts-3.ensures.is ∙ shape; spelled = c.raster_of_counts-3.ensures.spelled }
+    ])
 
 pub returns-clause-rasters : goal.returns-clause-rasters
 returns-clause-rasters g c = elim [

@@ -90,6 +90,8 @@ fn raster_of(alloc: Global, header: &Header, bytes: &[u8]) -> Result<Raster, Ras
 {
     // The law that the numbers of a body's raster are its pixels.
     numbers_are_pixels();
+    // The proof knows the header's invariant once a field of it was read.
+    let _bits = header.bits;
     let marked = marked_header(header);
     read_raster(alloc, Product::Con, &marked, bytes)
 }
