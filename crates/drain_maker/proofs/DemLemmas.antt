@@ -1,15 +1,15 @@
 -- A raster of elevations in memory: its grid, its cells with data, and what its filled surface shows.
-use Rattle.std.proofs.Common.{◌≡◌, ◌≢◌, ◌∙◌, ◌+◌, ◌*◌, ◌<◌, ◌≤◌, ◌≤ℤ◌, ◌<ℤ◌, ◌++◌, ◌&&◌, ℕ, ℤ, pos, nat_lt, is_some, Bool, true, false, List, [], ◌∷◌, Option, Some, None, IsSome, IsNone, Result, Ok, Err, IfOk, unwrap_or, inl, inr, length, get_or, if◌then◌else◌, refl, sym, ap, subst, arith, le-ltb, lt-ltb}
+use Rattle.std.proofs.Common.{◌≡◌, ◌≢◌, ◌∙◌, ◌+◌, ◌<◌, ◌≤◌, ◌≤ℤ◌, ◌<ℤ◌, ◌++◌, ℕ, ℤ, pos, is_some, Bool, true, false, List, [], ◌∷◌, Option, Some, None, IsSome, IsNone, Result, Ok, Err, IfOk, unwrap_or, inl, inr, length, get_or, if◌then◌else◌, refl, sym, subst, arith, le-ltb, lt-ltb}
 use Rattle.std.specs.Int.{int_max}
 use Rattle.std.specs.Ordering.{int_eq}
 use Rattle.std.proofs.lemmas.Bool.{cases_lt, false≢true}
 use Rattle.std.proofs.lemmas.Bool.Decides.{Decides-int_eq}
 use Rattle.std.proofs.lemmas.Int.{ints, clamps, by_lt_z}
-use Rattle.std.proofs.lemmas.List.{get_or_append_left, get_or_push, length-append}
+use Rattle.std.proofs.lemmas.List.{get_or_append_left, get_or_push}
 use Rattle.drain_grid.specs.declared.cell.Cell.{Cell}
 use Rattle.drain_grid.specs.declared.sink_line.SinkLine.{SinkLine}
 use Rattle.drain_grid.specs.Extent.{IsCellOf, index_of}
-use Rattle.drain_grid.specs.Grid.{Grid, HasData, IsInside, IsOpenCell, Pixels, height_at}
+use Rattle.drain_grid.specs.Grid.{Grid, HasData, IsInside, Pixels, height_at}
 use Rattle.drain_grid.specs.OffData.{FoundOffDataIsRight, IsLeastOff, IsOffAnswer}
 use Rattle.drain_grid.specs.Path.{IsPath, NeverRises}
 use Rattle.drain_grid.specs.Values.{IsPixel}
@@ -20,12 +20,10 @@ use Rattle.drain_grid.proofs.Neighbors.{direction_between, step_gives}
 use Rattle.drain_grid.proofs.Tallies.{void_data}
 use Rattle.drain_flood.proofs.Cells.{none_or_some}
 use Rattle.drain_raster.specs.Bytes.{CanSpellAllIn, CanSpellIn}
-use Rattle.drain_flood.specs.declared.layers.TheConstants.{UNREACHED}
 use Rattle.drain_flood.specs.Floods.{Flooding, IsSurfaceOf, ShowsVoids, con_at}
 use Rattle.drain_filled.specs.Compared.{HasHeights}
 use Rattle.drain_filled.specs.Grounds.{ArePixelHeights, DataCells, HasDataCells}
-use Rattle.drain_pixels.specs.Ground.{height_with}
-use Rattle.drain_maker.specs.Dems.{AreOfGround, IsHeightAt, IsMarkedBy, MarksDem, dem_elevation, dem_grid, has_elevation}
+use Rattle.drain_maker.specs.Dems.{AreOfGround, IsHeightAt, MarksDem, dem_elevation, dem_grid, has_elevation}
 
 -- the test of a listed cell is whether it has data
 told : (p : Pixels) (sinks : List SinkLine) (c : Cell) →

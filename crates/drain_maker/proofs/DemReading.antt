@@ -1,6 +1,6 @@
 -- A raster of elevations read into memory: its pixels and their range, the elevations that they mean, and its first
 -- refusal.
-use Rattle.std.proofs.Common.{◌≡◌, ◌≢◌, ◌∙◌, ℕ, ◌+◌, ◌-◌, ◌*◌, ◌/◌, ◌^◌, ◌<◌, ◌≤◌, ℤ, pos, Bool, true, false, List, [], ◌∷◌, Option, Some, None, Err, inl, inr, length, map, slice_index_or, slice_set, take, drop, get_or, unwrap_or, refl, sym, ap, subst, arith}
+use Rattle.std.proofs.Common.{◌≡◌, ◌≢◌, ◌∙◌, ℕ, ◌+◌, ◌-◌, ◌*◌, ◌/◌, ◌^◌, ◌<◌, ◌≤◌, ℤ, pos, Bool, true, false, List, [], ◌∷◌, Option, Some, None, Err, inl, inr, length, map, slice_index_or, slice_set, take, drop, unwrap_or, refl, sym, ap, subst, arith}
 use Rattle.std.specs.Prelude.{slice_index}
 use Rattle.std.specs.Ordering.{int_eq}
 use Rattle.std.proofs.Props.{props}
@@ -16,7 +16,7 @@ use Rattle.drain_answer.specs.declared.refusal.Refusal.{Refusal}
 use Rattle.drain_answer.specs.declared.refusal.Refusal.TheVariants.{BadDemHeader, BadPixelSize, DemShort, OutOfMemory, ReadFailed}
 use Rattle.drain_device.specs.Failing.{ReadFails}
 use Rattle.drain_device.specs.FaultLists.{SomeReadFails}
-use Rattle.drain_device.specs.Reads.{ReadsUpTo, TakesAtMost}
+use Rattle.drain_device.specs.Reads.{ReadsUpTo}
 use Rattle.drain_device.specs.declared.counts.FaultCounts.{FaultCounts}
 use Rattle.drain_device.proofs.FaultLists.{SomeReadFails-one}
 use Rattle.drain_grid.specs.declared.cell.Cell.{Cell}
@@ -27,7 +27,7 @@ use Rattle.drain_header.specs.declared.header.ByteOrdering.{ByteOrdering}
 use Rattle.drain_header.specs.declared.header.ByteOrdering.TheVariants.{Least, Most}
 use Rattle.drain_header.specs.declared.fault.HeaderFault.{HeaderFault}
 use Rattle.drain_header.specs.Faults.{Answers}
-use Rattle.drain_header.specs.Header.{Fields, IsPixelSize, header_of}
+use Rattle.drain_header.specs.Header.{Fields, IsPixelSize}
 use Rattle.drain_pixels.specs.Ground.{height_with}
 use Rattle.drain_raster.specs.Bytes.{CanSpell, CanSpellIn}
 use Rattle.drain_raster.specs.Elevations.{elevation_in}
@@ -36,11 +36,10 @@ use Rattle.drain_raster.specs.Pixels.{IsShort, header_extent, needed_len, number
 use Rattle.drain_raster.specs.Placing.{HasPixelSize}
 use Rattle.drain_raster.proofs.PixelLemmas.{spelled_by-take}
 use Rattle.drain_text.specs.First.{IsBefore}
-use Rattle.drain_text.specs.Text.{lines_of}
-use Rattle.drain_verdict.specs.DemGround.{AreHeadersKept, DemRefuses, DemTakesAtMost, DemTexts, EncodesDem, IsDemHeader, IsDemHeaderRefusal, dem_devices, dem_fields, dem_ground}
+use Rattle.drain_verdict.specs.DemGround.{DemRefuses, DemTexts, EncodesDem, IsDemHeader, IsDemHeaderRefusal, dem_devices, dem_fields, dem_ground}
 use Rattle.drain_verdict.specs.Ground.{refusal_kind}
 use Rattle.drain_verdict.specs.declared.next_rows.RasterInput.{RasterInput}
-use Rattle.drain_maker.specs.Dems.{IsBodyRefusal, IsDemOf, IsGroundRefusal, IsRasterOf, dem_elevation}
+use Rattle.drain_maker.specs.Dems.{IsBodyRefusal, IsDemOf, IsGroundRefusal, IsRasterOf}
 use Rattle.drain_maker.specs.ProductFiles.{FitsHeader, con_no_data}
 use Rattle.drain_maker.proofs.MosaicAnswers.{reads-front}
 
@@ -227,26 +226,9 @@ module _ {R : Type 0} (bl : R → Option (List ℕ)) (ct : R → FaultCounts) wh
   pub told_header : (h : Fields) (xs : List (RasterInput R)) (x : RasterInput R) (d : DemTexts) → EncodesDem bl xs d → IsDemHeader h (slice_index_or xs 0 x).header → IsDemHeader h d.header
   told_header h xs x d tell is = subst (IsDemHeader h) (sym (told_one xs x d tell).0) is
 
-  -- with its body read, this far and with these faults, all else is as it was
-  pub one_within : (h : Fields) (xs : List (RasterInput R)) (x : RasterInput R) (body : R) → length xs ≡ 1 → IsDemHeader h (slice_index_or xs 0 x).header →
-      TakesAtMost (needed_len h) (bl (slice_index_or xs 0 x).body) (bl body) →
-      DemTakesAtMost bl xs (slice_set xs 0 (record { header = (slice_index_or xs 0 x).header; body = body }))
-  one_within h [] x body one is taken = absurd (omega (arith, one))
-  one_within h (input ∷ []) x body one is taken = λ old new old_is new_is.
-      let first : input ≡ old = cc in
-      let last : record { header = input.header; body = body } ≡ new = cc in
-      subst (λ (y : RasterInput R). TakesAtMost (needed_len (header_of (lines_of old.header))) (bl old.body) (bl y.body)) last
-      (subst (λ (y : RasterInput R). TakesAtMost (needed_len (header_of (lines_of y.header))) (bl y.body) (bl body)) first
-      (subst (λ (k : Fields). TakesAtMost (needed_len k) (bl input.body) (bl body)) is.described.fields taken))
-  one_within h (input ∷ other ∷ more) x body one is taken = absurd (omega (arith, one))
-
+  -- with its body read, with these faults, all else is as it was
   pub one_fails : {Fails : Type 0} (xs : List (RasterInput R)) (x : RasterInput R) (body : R) → length xs ≡ 1 → ReadFails (ct (slice_index_or xs 0 x).body) (ct body) Fails →
       SomeReadFails (map ct (dem_devices xs)) (map ct (dem_devices (slice_set xs 0 (record { header = (slice_index_or xs 0 x).header; body = body })))) Fails
   one_fails [] x body one fails = absurd (omega (arith, one))
   one_fails (input ∷ []) x body one fails = SomeReadFails-one fails
   one_fails (input ∷ other ∷ more) x body one fails = absurd (omega (arith, one))
-
-  pub one_kept : (xs : List (RasterInput R)) (x : RasterInput R) (body : R) → length xs ≡ 1 → AreHeadersKept xs (slice_set xs 0 (record { header = (slice_index_or xs 0 x).header; body = body }))
-  one_kept [] x body one = absurd (omega (arith, one))
-  one_kept (input ∷ []) x body one = refl
-  one_kept (input ∷ other ∷ more) x body one = absurd (omega (arith, one))

@@ -33,10 +33,7 @@ pub struct Dem {
 /// `DemShort`. `OutOfMemory` and `ReadFailed` come as with `check_dem`. Nothing past the last needed byte is read.
 ///
 /// The contract is about the bytes that the source had left, for sources whose bytes are known.
-pub fn read_dem<R: ByteSource>(
-    alloc: Global,
-    dem: &mut [RasterInput<R>; 1],
-) -> Result<Dem, Refusal>
+pub fn read_dem<R: ByteSource>(alloc: Global, dem: &mut [RasterInput<R>; 1]) -> Result<Dem, Refusal>
     ensures dem { IfOk result (λ read. (d : DemTexts) → EncodesDem R.bytes_left dem.old d → IsDemOf d read.header read.raster) }
     ensures refusal { IfErr result (λ refusal. (d : DemTexts) → EncodesDem R.bytes_left dem.old d → IsGroundRefusal (dem_ground d) refusal) }
 

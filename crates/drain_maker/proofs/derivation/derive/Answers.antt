@@ -2,7 +2,7 @@ use Rattle.std.proofs.Common.{Ok, Err, subst}
 use Rattle.drain_mosaic.specs.Tiling.{Tiling}
 use Rattle.drain_verdict.specs.Inputs.{audit_devices, as_five}
 use Rattle.drain_verdict.specs.Uses.{AuditUses}
-use Rattle.drain_verdict.proofs.StartAnswers.{at_side, laid, layout_answer, layout_reads_none, of_tiles}
+use Rattle.drain_verdict.proofs.StartAnswers.{at_side, layout_answer, layout_reads_none, of_tiles}
 use Rattle.drain_verdict.proofs.InputLemmas.{four_used, uses_none}
 use Rattle.drain_maker.specs.declared.derivation.Derived.{Derived}
 use Rattle.drain_maker.specs.Derived.{AreDerivedIn, IsDeriveRefusalIn, reading_in}

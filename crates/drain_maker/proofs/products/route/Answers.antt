@@ -1,4 +1,3 @@
-use Rattle.std.proofs.Common.{◌∙◌, sym}
 use Rattle.drain_maker.proofs.products.route.Goals as goal
 
 pub returns-clause-routes : goal.returns-clause-routes
