@@ -23,12 +23,14 @@ use Rattle.drain_grid.specs.WholeGrid.{raster_in}
 use Rattle.drain_header.specs.Text.{text_of}
 use Rattle.drain_mosaic.specs.Tiling.{Tiling}
 use Rattle.drain_raster.specs.Bytes.{raster_bytes}
-use Rattle.drain_verdict.specs.Inputs.{Inputs}
+use Rattle.drain_verdict.specs.Meaning.{texts_of}
+use Rattle.drain_verdict.specs.Texts.{SetTexts}
 use Rattle.drain_maker.specs.Mosaics.{IsMosaicOf}
-use Rattle.drain_maker.specs.ProductFiles.{made_header, WritesFiles, set_bytes}
+use Rattle.drain_maker.specs.ProductFiles.{WritesFiles, header_on, made_header, set_bytes}
 use Rattle.drain_maker.specs.Made.{AreMade}
-use Rattle.drain_maker.specs.Accepted.{MadeIsAccepted}
-use Rattle.drain_cli.specs.RoundTrip.{WhatIsWrittenIsAccepted, files_given}
+use Rattle.drain_grid.specs.declared.product.Product.TheVariants as product
+use Rattle.drain_maker.specs.Accepted.{AreFilesOf, MadeIsAccepted, MadeOnDemIsAccepted}
+use Rattle.drain_cli.specs.RoundTrip.{AreWrittenAndGiven, WhatIsWrittenIsAccepted, WhatIsWrittenOnDemIsAccepted, files_given}
 
 -- The first 65,537 bytes of a text have its answer, and what is left after reading them.
 
@@ -135,31 +137,37 @@ texts-same (x ∷ xs) (y ∷ ys) same =
     rw (one, texts-same xs ys rest) refl
 
 -- file by file
-headers-same : (t : Tiling) (ps : ProductSet) (i : Inputs) → set_bytes t ps ≡ files_given i → (p : SetProduct) → i.header p ≡ text_of (made_header t (product_of p))
+headers-same : (h : Fields) (ps : ProductSet) (t : SetTexts) → set_bytes h ps ≡ files_given t → (p : SetProduct) → t.header p ≡ text_of (header_on h (product_of p))
 unfolding set_bytes files_given
-headers-same t ps i same Con = sym (ap (λ l. slice_index_or l 0 []) same)
-headers-same t ps i same Dir = sym (ap (λ l. slice_index_or l 2 []) same)
-headers-same t ps i same Acc = sym (ap (λ l. slice_index_or l 4 []) same)
-headers-same t ps i same Bas = sym (ap (λ l. slice_index_or l 6 []) same)
-headers-same t ps i same Rnk = sym (ap (λ l. slice_index_or l 8 []) same)
+headers-same h ps t same Con = sym (ap (λ l. slice_index_or l 0 []) same)
+headers-same h ps t same Dir = sym (ap (λ l. slice_index_or l 2 []) same)
+headers-same h ps t same Acc = sym (ap (λ l. slice_index_or l 4 []) same)
+headers-same h ps t same Bas = sym (ap (λ l. slice_index_or l 6 []) same)
+headers-same h ps t same Rnk = sym (ap (λ l. slice_index_or l 8 []) same)
 
-rasters-same : (t : Tiling) (ps : ProductSet) (i : Inputs) → set_bytes t ps ≡ files_given i → (p : SetProduct) → i.raster p ≡ raster_bytes (made_header t (product_of p)) (raster_in ps p)
+rasters-same : (h : Fields) (ps : ProductSet) (t : SetTexts) → set_bytes h ps ≡ files_given t → (p : SetProduct) → t.raster p ≡ raster_bytes (header_on h (product_of p)) (raster_in ps p)
 unfolding set_bytes files_given
-rasters-same t ps i same Con = sym (ap (λ l. slice_index_or l 1 []) same)
-rasters-same t ps i same Dir = sym (ap (λ l. slice_index_or l 3 []) same)
-rasters-same t ps i same Acc = sym (ap (λ l. slice_index_or l 5 []) same)
-rasters-same t ps i same Bas = sym (ap (λ l. slice_index_or l 7 []) same)
-rasters-same t ps i same Rnk = sym (ap (λ l. slice_index_or l 9 []) same)
+rasters-same h ps t same Con = sym (ap (λ l. slice_index_or l 1 []) same)
+rasters-same h ps t same Dir = sym (ap (λ l. slice_index_or l 3 []) same)
+rasters-same h ps t same Acc = sym (ap (λ l. slice_index_or l 5 []) same)
+rasters-same h ps t same Bas = sym (ap (λ l. slice_index_or l 7 []) same)
+rasters-same h ps t same Rnk = sym (ap (λ l. slice_index_or l 9 []) same)
+
+files-same : {F : Type 0} (sink : Sink F) (h : Fields) (ps : ProductSet) (empty written : List F) (t : SetTexts) → AreWrittenAndGiven sink h ps empty written t → AreFilesOf h t ps
+files-same sink h ps empty written t all =
+    let same = texts-same (set_bytes h ps) (files_given t) (sym (holds-what-was-written sink empty written (set_bytes h ps) all.empty_are all.written_are) ∙ all.given_are) in
+    record { headers_are = headers-same h ps t same; rasters_are = rasters-same h ps t same }
 
 pub accepted : {R F : Type 0} (bytes_left : R → Option (List ℕ)) (sink : Sink F) →
     MadeIsAccepted → WhatIsWrittenIsAccepted bytes_left sink
-accepted bytes_left sink law side tiles sinks t ps empty written i made tell sinks_are none wrote given answer is =
+accepted bytes_left sink law side tiles sinks t ps empty written i made tell sinks_are all answer is =
     let mosaic = made.mosaic i tell in
-    let same = texts-same (set_bytes t ps) (files_given i) (sym (holds-what-was-written sink empty written (set_bytes t ps) none wrote) ∙ given) in
     let tiling = mosaic.tiling_is in
     law i made.elevation made.listed ps tell.corners_are (subst (λ u. IsMosaicOf i u made.elevation) tiling mosaic) (ap sinks_of sinks_are ∙ made.listed_are)
     (subst (λ u. AreMade u made.elevation made.listed ps) tiling made.made)
-    (record {
-      headers_are = λ p. subst (λ u. i.header p ≡ text_of (made_header u (product_of p))) tiling (headers-same t ps i same p);
-      rasters_are = λ p. subst (λ u. i.raster p ≡ raster_bytes (made_header u (product_of p)) (raster_in ps p)) tiling (rasters-same t ps i same p);
-    }) answer is
+    (subst (λ (u : Tiling). AreFilesOf (made_header u product.Con) (texts_of i) ps) tiling (files-same sink (made_header t product.Con) ps empty written (texts_of i) all)) answer is
+
+pub accepted_on_dem : {R F : Type 0} (bytes_left : R → Option (List ℕ)) (sink : Sink F) →
+    MadeOnDemIsAccepted → WhatIsWrittenOnDemIsAccepted bytes_left sink
+accepted_on_dem bytes_left sink law dem sinks h ps empty written d t made tell sinks_are all answer is =
+    law d t h made.elevation made.listed ps (made.dem_is d tell) (ap sinks_of sinks_are ∙ made.listed_are) made.made (files-same sink h ps empty written t all) answer is

@@ -1,4 +1,4 @@
--- From tiles to products, to files, and to the check of these files: what was made and written is accepted.
+-- From elevations to products, to files, and to the check of these files: what was made and written is accepted.
 use Rattle.std.specs.Prelude.{◌≡◌, Ok, ℕ, List, [], ◌∷◌, map, Option, Some, Result}
 use Rattle.drain_merge.specs.UnionVerdicts.{IsJudgedFrom}
 use Rattle.drain_report.specs.Contents.{contents_of}
@@ -16,10 +16,17 @@ use Rattle.drain_mosaic.specs.Tiling.{Tiling}
 use Rattle.drain_grid.specs.declared.verdict.Verdict.{Verdict}
 use Rattle.drain_answer.specs.declared.refusal.Refusal.{Refusal}
 use Rattle.drain_verdict.specs.TileGround.{TellTiles}
-use Rattle.drain_verdict.specs.Answers.{IsAnswer}
+use Rattle.drain_verdict.specs.Answers.{IsAnswer, IsAnswerIn}
+use Rattle.drain_verdict.specs.DemGround.{DemTexts, EncodesDem, dem_ground}
+use Rattle.drain_verdict.specs.Meaning.{texts_of}
+use Rattle.drain_verdict.specs.Texts.{SetTexts}
+use Rattle.drain_verdict.specs.declared.next_rows.RasterInput.{RasterInput}
+use Rattle.drain_grid.specs.declared.product.Product.TheVariants.{Con}
+use Rattle.drain_header.specs.Header.{Fields}
+use Rattle.drain_maker.specs.Dems.{dem_grid}
 use Rattle.drain_maker.specs.Accepted.{IsMadeAcceptance}
-use Rattle.drain_maker.specs.ProductFiles.{WritesFiles, set_bytes}
-use Rattle.drain_cli.specs.MadeSets.{IsSetOf}
+use Rattle.drain_maker.specs.ProductFiles.{WritesFiles, made_header, set_bytes}
+use Rattle.drain_cli.specs.MadeSets.{IsDemSetOf, IsSetOf}
 
 -- How a run of `drain window` and a run of `drain merge` go together. The law is this project's own.
 
@@ -30,8 +37,14 @@ ReadIsJudged =
     IsJudgedFrom (window_of p i) read
 
 -- the bytes that a check is given of the products: of each its header, and then its raster
-unfoldable pub files_given : Inputs → List (List ℕ)
-files_given i = flat_map (λ p. i.header p ∷ i.raster p ∷ []) products
+unfoldable pub files_given : SetTexts → List (List ℕ)
+files_given t = flat_map (λ p. t.header p ∷ t.raster p ∷ []) products
+
+-- files that were empty hold what was written on elevations with this header, and a check is given that
+pub record AreWrittenAndGiven {F : Type 0} (sink : Sink F) (h : Fields) (ps : ProductSet) (empty written : List F) (t : SetTexts) : Type 0 where
+  pub empty_are : All (λ file. sink.bytes_taken file ≡ Some []) empty
+  pub written_are : WritesFiles sink empty written (set_bytes h ps) (Ok tt)
+  pub given_are : map sink.bytes_taken written ≡ map Some (files_given t)
 
 -- products that were made of tiles and a list of sinks and written into empty files are accepted when checked with the
 -- same, unless memory runs out or a read fails
@@ -39,6 +52,13 @@ abbrev pub WhatIsWrittenIsAccepted : {R F : Type 0} → (R → Option (List ℕ)
 WhatIsWrittenIsAccepted {R} {F} bytes_left sink =
     (side : ℕ) (tiles : List (TileInput R)) (sinks : List ℕ) (t : Tiling) (ps : ProductSet) (empty written : List F) (i : Inputs) →
     (made : IsSetOf bytes_left side tiles sinks t ps) → TellTiles bytes_left side tiles i → i.sinks ≡ sinks →
-    All (λ file. sink.bytes_taken file ≡ Some []) empty → WritesFiles sink empty written (set_bytes t ps) (Ok tt) →
-    map sink.bytes_taken written ≡ map Some (files_given i) →
+    AreWrittenAndGiven sink (made_header t Con) ps empty written (texts_of i) →
     (answer : Result Verdict Refusal) → IsAnswer i answer → IsMadeAcceptance (grid_of made.elevation made.listed) (products_of ps) answer
+
+-- and those that were made of one raster of elevations are accepted with that raster
+abbrev pub WhatIsWrittenOnDemIsAccepted : {R F : Type 0} → (R → Option (List ℕ)) → Sink F → Type 0
+WhatIsWrittenOnDemIsAccepted {R} {F} bytes_left sink =
+    (dem : List (RasterInput R)) (sinks : List ℕ) (h : Fields) (ps : ProductSet) (empty written : List F) (d : DemTexts) (t : SetTexts) →
+    (made : IsDemSetOf bytes_left dem sinks h ps) → EncodesDem bytes_left dem d → t.sinks ≡ sinks →
+    AreWrittenAndGiven sink h ps empty written t →
+    (answer : Result Verdict Refusal) → IsAnswerIn (record { terrain = dem_ground d; texts = t }) answer → IsMadeAcceptance (dem_grid made.elevation made.listed) (products_of ps) answer

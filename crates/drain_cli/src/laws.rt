@@ -2,10 +2,10 @@
 //!
 //! A law is a function with an empty body: its contract is the law, and a caller gets the law by calling it.
 
-ghost use Rattle.drain_cli.specs.RoundTrip.{WhatIsWrittenIsAccepted, ReadIsJudged};
+ghost use Rattle.drain_cli.specs.RoundTrip.{ReadIsJudged, WhatIsWrittenIsAccepted, WhatIsWrittenOnDemIsAccepted};
 
 use drain_device::{ByteSink, ByteSource};
-use drain_maker::laws::made_is_accepted;
+use drain_maker::laws::{made_is_accepted, made_on_dem_is_accepted};
 use drain_union::laws::four_numbers;
 
 /// What `make_set` made and `write_and_place` wrote into empty files is accepted by `check` with the same tiles and sinks,
@@ -15,6 +15,13 @@ pub fn what_is_written_is_accepted<R: ByteSource, F: ByteSink>()
     ensures { WhatIsWrittenIsAccepted R.bytes_left F.ByteSink }
 {
     made_is_accepted();
+}
+
+/// And what `make_dem_set` made is accepted with the same raster of elevations and sinks.
+pub fn what_is_written_on_dem_is_accepted<R: ByteSource, F: ByteSink>()
+    ensures { WhatIsWrittenOnDemIsAccepted R.bytes_left F.ByteSink }
+{
+    made_on_dem_is_accepted();
 }
 
 /// What `drain merge` reads of what `drain window` wrote is the report on the window that was judged. So what

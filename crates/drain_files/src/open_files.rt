@@ -180,7 +180,10 @@ pub fn create_files<'g, 'a>(
     let mut files = Vec::new(outputs.alloc());
     for file in begun {
         let place = SET_FILES[files.len()];
-        if files.push(counted(file, place, elevations, progress)).is_err() {
+        if files
+            .push(counted(file, place, elevations, progress))
+            .is_err()
+        {
             return Err(OpenFault::no_memory());
         }
     }

@@ -1,4 +1,5 @@
-use Rattle.std.proofs.Common.{rules}
+use Rattle.std.proofs.Common.{◌∙◌, rules}
+use Rattle.drain_maker.proofs.FileLemmas.{FitHeaders-set}
 use Rattle.drain_cli.proofs.runs.make_set.read_and_make.Goals as goal
 
 pub returns-clause-refused : goal.returns-clause-refused
