@@ -165,7 +165,7 @@ dem_read d h p header fits nodata raster =
     let same : h ≡ dem_fields d = header.described.fields in
     record {
       readable = refuses;
-      header_is = same;
+      header = header;
       extent_is = raster.extent ∙ ap header_extent same;
       elevation_is = λ c inside.
           (let there : IsCellOf (header_extent h) c = subst (λ e. IsCellOf e c) raster.extent inside in

@@ -11,10 +11,10 @@ use Rattle.drain_grid.specs.declared.product.Product.TheVariants.{Con, Dir, Acc,
 use Rattle.drain_grid.specs.Product.{default_no_data}
 use Rattle.drain_grid.specs.Grid.{IsSide}
 use Rattle.drain_grid.specs.Values.{IsNoData}
-use Rattle.drain_header.specs.Header.{IsPixelSize, IsCoordinate, AreWithinBounds}
+use Rattle.drain_header.specs.Header.{Fields, IsPixelSize, IsCoordinate, AreWithinBounds}
 use Rattle.drain_mosaic.specs.Tiling.{Tiling, west_of, north_of, west_edge, north_edge, tiles_down, tiles_across}
 use Rattle.drain_verdict.specs.TileGround.{IsPlaced}
-use Rattle.drain_maker.specs.ProductFiles.{bits_of, made_header, mosaic_place}
+use Rattle.drain_maker.specs.ProductFiles.{bits_of, header_beside, header_on, made_header, mosaic_place}
 use Rattle.drain_maker.proofs.Placing.{IsNear, spacing, no_way}
 
 -- a tiling of at most 8 by 8 tiles of a lawful side, whose edges are degrees
@@ -114,6 +114,46 @@ within_bounds t p small =
       ydim_ok = spacing_ok (t.side - 1) (omega (arith, side.least));
       nodata_ok = ∣ nodata_ok p ∣₁;
     }
+
+-- the header of a product on elevations within the bounds of a header is within them too
+beside_bounds : (h : Fields) (p : Product) → AreWithinBounds h → AreWithinBounds (header_beside h p)
+beside_bounds h p ok = record {
+  some_row = ok.some_row;
+  rows_fit = ok.rows_fit;
+  some_col = ok.some_col;
+  cols_fit = ok.cols_fit;
+  bits_ok = ∣ size_ok p ∣₁;
+  skip_fits = omega arith;
+  row_bytes_fit = row_fits p h.cols ok.cols_fit;
+  row_holds = row_holds p h.cols;
+  ulx_ok = ok.ulx_ok;
+  uly_ok = ok.uly_ok;
+  xdim_ok = ok.xdim_ok;
+  ydim_ok = ok.ydim_ok;
+  nodata_ok = ∣ nodata_ok p ∣₁;
+}
+
+pub bounds_on : (h : Fields) (p : Product) → AreWithinBounds h → AreWithinBounds (header_on h p)
+bounds_on h Con ok = record {
+  some_row = ok.some_row;
+  rows_fit = ok.rows_fit;
+  some_col = ok.some_col;
+  cols_fit = ok.cols_fit;
+  bits_ok = ok.bits_ok;
+  skip_fits = omega arith;
+  row_bytes_fit = packed_fits h.bits h.cols ok.bits_ok ok.cols_fit;
+  row_holds = packed_holds h.bits h.cols ok.bits_ok;
+  ulx_ok = ok.ulx_ok;
+  uly_ok = ok.uly_ok;
+  xdim_ok = ok.xdim_ok;
+  ydim_ok = ok.ydim_ok;
+  nodata_ok = con_number h.nodata ok.nodata_ok;
+}
+bounds_on h Dir ok = beside_bounds h Dir ok
+bounds_on h Acc ok = beside_bounds h Acc ok
+bounds_on h Bas ok = beside_bounds h Bas ok
+bounds_on h Spl ok = beside_bounds h Spl ok
+bounds_on h Rnk ok = beside_bounds h Rnk ok
 
 -- the spacing is within a billionth of a degree of that of the samples
 spaced : (n : ℕ) → 1 ≤ n → nat_abs (pos (UNITS_PER_DEGREE / n) *ℤ pos n -ℤ pos UNITS_PER_DEGREE) ≤ 10 ^ 6 * n

@@ -1,14 +1,16 @@
--- Products made for a mosaic are accepted: what the files are, and the answer to them.
+-- Products that were made and written are accepted: what the files are, and the answer to them.
 use Rattle.std.specs.Prelude.{◌≡◌, List, Result, Ok, Err}
 use Rattle.std.specs.List.{AllZip}
+use Rattle.drain_grid.specs.declared.product.Product.TheVariants.{Con}
 use Rattle.drain_grid.specs.declared.set_product.SetProduct.{SetProduct}
 use Rattle.drain_grid.specs.SetProduct.{product_of}
 use Rattle.drain_grid.specs.declared.product_set.ProductSet.{ProductSet}
 use Rattle.drain_grid.specs.declared.sink_line.SinkLine.{SinkLine}
 use Rattle.drain_grid.specs.SinkTexts.{sinks_of}
-use Rattle.drain_grid.specs.Grid.{Grid, Products, Heights}
+use Rattle.drain_grid.specs.Grid.{Grid, Pixels, Products, Heights}
 use Rattle.drain_grid.specs.WholeGrid.{grid_of, products_of, raster_in}
 use Rattle.drain_hgt.specs.Name.{IsNameOf}
+use Rattle.drain_header.specs.Header.{Fields}
 use Rattle.drain_header.specs.Text.{text_of}
 use Rattle.drain_raster.specs.Bytes.{raster_bytes}
 use Rattle.drain_grid.specs.declared.verdict.Verdict.{Verdict}
@@ -16,21 +18,25 @@ use Rattle.drain_grid.specs.declared.verdict.Verdict.TheVariants.{Accepted, Reje
 use Rattle.drain_rules.specs.Verdicts.{counts_of}
 use Rattle.drain_answer.specs.declared.refusal.Refusal.{Refusal}
 use Rattle.drain_answer.specs.declared.refusal.Refusal.TheVariants.{OutOfMemory, ReadFailed}
+use Rattle.drain_verdict.specs.DemGround.{DemTexts, dem_ground}
 use Rattle.drain_verdict.specs.Inputs.{Inputs, AreNames}
-use Rattle.drain_verdict.specs.Meaning.{tiling_of}
+use Rattle.drain_verdict.specs.Meaning.{texts_of, tiling_of}
+use Rattle.drain_verdict.specs.Texts.{SetTexts}
+use Rattle.drain_maker.specs.Dems.{AreMadeOn, IsDemOf, dem_grid}
 use Rattle.drain_maker.specs.Mosaics.{IsMosaicOf}
-use Rattle.drain_verdict.specs.Answers.{IsAnswer}
-use Rattle.drain_maker.specs.ProductFiles.{made_header}
+use Rattle.drain_verdict.specs.Answers.{IsAnswer, IsAnswerIn}
+use Rattle.drain_maker.specs.ProductFiles.{header_on, made_header}
 use Rattle.drain_maker.specs.Made.{AreMade}
 
 -- if each name names a tile, the corners are those of the named tiles
 abbrev pub AreNamed : Inputs → Type 0
 AreNamed i = AreNames i.names → AllZip IsNameOf i.names i.corners
 
--- the products of these inputs are the files of these rasters: the text of each product's header, and the bytes of its raster
-pub record AreFilesOf (i : Inputs) (ps : ProductSet) : Type 0 where
-  pub headers_are : (p : SetProduct) → i.header p ≡ text_of (made_header (tiling_of i) (product_of p))
-  pub rasters_are : (p : SetProduct) → i.raster p ≡ raster_bytes (made_header (tiling_of i) (product_of p)) (raster_in ps p)
+-- the texts are the files of these rasters on elevations with this header: the text of each product's header, and the bytes
+-- of its raster
+pub record AreFilesOf (h : Fields) (t : SetTexts) (ps : ProductSet) : Type 0 where
+  pub headers_are : (p : SetProduct) → t.header p ≡ text_of (header_on h (product_of p))
+  pub rasters_are : (p : SetProduct) → t.raster p ≡ raster_bytes (header_on h (product_of p)) (raster_in ps p)
 
 -- accepted with the counts of these products, unless memory runs out or a read fails
 abbrev pub IsMadeAcceptance : Grid → Products → Result Verdict Refusal → Type 0
@@ -44,5 +50,12 @@ IsMadeAcceptance g ps (Err refusal) = ⊥
 abbrev pub MadeIsAccepted : Type 0
 MadeIsAccepted =
     (i : Inputs) (e : Heights) (sinks : List SinkLine) (ps : ProductSet) → AreNamed i → IsMosaicOf i (tiling_of i) e → sinks_of i.sinks ≡ Ok sinks →
-    AreMade (tiling_of i) e sinks ps → AreFilesOf i ps →
+    AreMade (tiling_of i) e sinks ps → AreFilesOf (made_header (tiling_of i) Con) (texts_of i) ps →
     (answer : Result Verdict Refusal) → IsAnswer i answer → IsMadeAcceptance (grid_of e sinks) (products_of ps) answer
+
+-- and those made for one raster of elevations with that raster
+abbrev pub MadeOnDemIsAccepted : Type 0
+MadeOnDemIsAccepted =
+    (d : DemTexts) (t : SetTexts) (h : Fields) (p : Pixels) (sinks : List SinkLine) (ps : ProductSet) → IsDemOf d h p → sinks_of t.sinks ≡ Ok sinks →
+    AreMadeOn h p sinks ps → AreFilesOf h t ps →
+    (answer : Result Verdict Refusal) → IsAnswerIn (record { terrain = dem_ground d; texts = t }) answer → IsMadeAcceptance (dem_grid p sinks) (products_of ps) answer

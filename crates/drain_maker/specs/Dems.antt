@@ -20,10 +20,10 @@ use Rattle.drain_header.specs.Header.{Fields}
 use Rattle.drain_pixels.specs.Ground.{height_with}
 use Rattle.drain_raster.specs.Pixels.{IsShort, header_extent, pixel_at}
 use Rattle.drain_text.specs.First.{IsFirst}
-use Rattle.drain_verdict.specs.DemGround.{DemTexts, dem_fields, dem_ground}
+use Rattle.drain_verdict.specs.DemGround.{DemTexts, IsDemHeader, dem_ground}
 use Rattle.drain_verdict.specs.Ground.{Ground, refusal_kind}
 use Rattle.drain_maker.specs.Made.{AreRasters, made_numbers}
-use Rattle.drain_maker.specs.ProductFiles.{SetFits}
+use Rattle.drain_maker.specs.ProductFiles.{SetFits, con_no_data}
 use Rattle.drain_maker.specs.declared.maker.MakeRefusal.{MakeRefusal}
 use Rattle.drain_maker.specs.declared.maker.MakeRefusal.TheVariants.{MakerFault, OutOfMemory, SinkNotData}
 
@@ -78,8 +78,8 @@ AreOfGround g con = (c : Cell) → HasData g c → (n : Cell) × HasData g n × 
 -- products that were made for these elevations with this header, and these sinks
 pub record AreMadeOn (h : Fields) (p : Pixels) (sinks : List SinkLine) (ps : ProductSet) : Type 0 where
   pub shape : ps.con.extent ≡ p.extent
-  pub nodata : nodata_of ps ≡ made_numbers p.nodata
-  pub rules : RulesHold (check_rules (made_numbers p.nodata)) IsAnyRule (dem_grid p sinks) (products_of ps)
+  pub nodata : nodata_of ps ≡ made_numbers (con_no_data h)
+  pub rules : RulesHold (check_rules (made_numbers (con_no_data h))) IsAnyRule (dem_grid p sinks) (products_of ps)
   pub written : SetFits h ps
   pub rasters : AreRasters ps
   pub on_data : AreOnDemData p sinks
@@ -102,7 +102,7 @@ IsBodyRefusal h body refusal = ⊥
 -- no refusal of the raster applies, and in memory it has the header and the elevations that its bytes mean
 pub record IsDemOf (d : DemTexts) (h : Fields) (p : Pixels) : Type 0 where
   pub readable : (refusal : Refusal) → ¬ (dem_ground d).Refuses refusal
-  pub header_is : h ≡ dem_fields d
+  pub header : IsDemHeader h d.header
   pub extent_is : p.extent ≡ (dem_ground d).extent
   pub elevation_is : (c : Cell) → IsCellOf p.extent c → dem_elevation p c ≡ (dem_ground d).elevation c
 

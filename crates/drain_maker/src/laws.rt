@@ -3,7 +3,7 @@
 //! A law is a function whose body only calls other laws: its contract is the law, and a caller gets the law by calling
 //! it.
 
-ghost use Rattle.drain_maker.specs.Accepted.{MadeIsAccepted};
+ghost use Rattle.drain_maker.specs.Accepted.{MadeIsAccepted, MadeOnDemIsAccepted};
 ghost use Rattle.drain_maker.specs.Derived.{DerivedByDirections, DerivedCompletes};
 ghost use Rattle.drain_maker.specs.Made.{RoutesEnd, RoutesKeepRules};
 
@@ -14,6 +14,16 @@ use drain_rules::laws::equal_grids_have_one_verdict;
 /// Products that were made for a mosaic's elevations, written to files and checked with the same tiles, are accepted.
 pub fn made_is_accepted()
     ensures { MadeIsAccepted }
+{
+    text_reads_back();
+    bytes_read_back();
+    numbers_are_pixels();
+    equal_grids_have_one_verdict();
+}
+
+/// And those made for one raster of elevations, checked with the same raster, are accepted.
+pub fn made_on_dem_is_accepted()
+    ensures { MadeOnDemIsAccepted }
 {
     text_reads_back();
     bytes_read_back();
