@@ -96,6 +96,19 @@ judge_derived() {
         judge "derived over $2, side $1, as one raster: ${file##*/}" 0 "$scratch/want" 0
     done
 }
+
+# Usage: judge_made SIDE TILE    what is made of the tile as one raster is what is made of the tile, byte for byte
+judge_made() {
+    local of_tile=$scratch/valley/made-of-tile-$1 of_raster=$scratch/valley/made-of-raster-$1 file
+    mkdir "$of_tile" "$of_raster"
+    judge_words "made of $2, side $1" 0 "made rows=$1 cols=$1" make --side "$1" --out "$of_tile" "$2"
+    judge_words "made of $2, side $1, as one raster" 0 "made rows=$1 cols=$1" make --dem "$scratch/valley/tile.bil" --out "$of_raster"
+    for file in "$of_tile"/*; do
+        judge_file "made of $2, side $1, as one raster" "$of_raster/${file##*/}" <"$file"
+    done
+    made="$of_raster" judge_names "made of $2, side $1, as one raster" $files
+}
+
 while read -r side tile products west north counts; do
     put_tile "$side" "$tile" "$west" "$north"
     for command in audit check; do
@@ -104,17 +117,102 @@ while read -r side tile products west north counts; do
         judge_words "$tile, side $side, as one raster, $command" 0 "$line" "$command" --dem "$scratch/valley/tile.bil" --products "$products"
     done
     judge_derived "$side" "$tile" "$products"
+    judge_made "$side" "$tile"
 done <<EOF
 3 samples/pit-3/N00E000.hgt samples/pit-3 0 1 data=9 raised=1 outlets=8
 121 samples/jacksboro/N36W085.hgt samples/jacksboro -85 37 data=14641 raised=690 outlets=32
 344 samples/N36W085.hgt $scratch/wide -85 37 data=118336 raised=5200 outlets=115
 EOF
 
+# Products of the valley: made anew or over others, of a pipe, with progress; each program accepts them. Con is the bundled
+# one, whose pixels and no-data number are those of the elevations.
+lake=(--dem "$valley/dem.bil" --sinks "$valley/sinks.txt")
+made_line='made rows=40 cols=56'
+accepted_line=$(sed -n 's/^right //p' <<<"$told")
+whole=$scratch/valley/whole
+mkdir "$whole" "$whole/there"
+judge_words 'products of the valley' 0 "$made_line" make "${lake[@]}" --out "$whole"
+rmdir "$whole/there"
+for part in hdr bil; do
+    judge_file 'products of the valley' "$whole/con.$part" <"$valley/right/con.$part"
+done
+for command in audit check; do
+    judge_words "products of the valley, $command" 0 "$accepted_line" "$command" "${lake[@]}" --products "$whole"
+done
+want "$accepted_line"
+"$auditor" "${lake[@]}" --products "$whole" >"$scratch/out" 2>"$scratch/err"
+judge 'products of the valley, by the other program' 0 "$scratch/want" $?
+
+# Usage: judge_valley NAME FOLDER    the products in the folder are those of the valley
+judge_valley() {
+    local name
+    for name in $files; do
+        judge_file "$1" "$2/$name" <"$whole/$name"
+    done
+    made="$2" judge_names "$1" $files
+}
+again=$scratch/valley/again
+mkdir "$again"
+for name in $files; do echo 'of before' >"$again/$name"; done
+judge_words 'products of the valley over others' 0 "$made_line" make "${lake[@]}" --out "$again"
+judge_valley 'products of the valley over others' "$again"
+"$drain" make --progress "${lake[@]}" --out "$again" </dev/null >"$scratch/out" 2>"$scratch/progress"
+came=$?
+: >"$scratch/err"
+want "$made_line"
+judge 'products of the valley with progress' 0 "$scratch/want" "$came"
+cp "$scratch/progress" "$scratch/out"
+want 'drain: making'
+judge 'what is told while products of the valley are made' 0 "$scratch/want" 0
+judge_valley 'products of the valley with progress' "$again"
+# A pipe is read to the last byte that is needed, and no further.
+mkfifo "$scratch/valley/made.bil"
+cp "$valley/dem.hdr" "$scratch/valley/made.hdr"
+exec 3<>"$scratch/valley/made.bil"
+cat "$valley/dem.bil" >&3
+judge_words 'products of the valley from a pipe' 0 "$made_line" make --dem "$scratch/valley/made.bil" "${lake[@]:2}" --out "$again"
+exec 3<&-
+judge_valley 'products of the valley from a pipe' "$again"
+mkfifo "$again/pipe"
+rm "$again/acc.bil" && mv "$again/pipe" "$again/acc.bil"
+timeout 20 cat "$again/acc.bil" >"$scratch/valley/acc.bil" &
+judge_words 'a product of the valley into a pipe' 0 "$made_line" make "${lake[@]}" --out "$again"
+wait $!
+judge_file 'a product of the valley into a pipe' "$scratch/valley/acc.bil" <"$whole/acc.bil"
+
+# Usage: judge_empty NAME FOLDER    there is no file in the folder
+judge_empty() {
+    want -
+    ls -A "$2" >"$scratch/out" 2>"$scratch/err"
+    judge "$1: what is in the folder" 0 "$scratch/want" $?
+}
+
+# What can't be made, opened or written: nothing changes.
+rm "$again"/*
+judge_words 'products of a folder as the raster' 3 'failed ReadFailed' make --dem "$scratch/valley/folder.bil" --out "$again"
+judge_words 'products in a folder that is not there' 3 "failed Open $again/none/con.hdr" make "${lake[@]}" --out "$again/none"
+printf '0 0\n99 0\n' >"$scratch/valley/far.txt"
+judge_words 'products with a sink outside' 2 'refused SinkNotData 2' make "${lake[@]:0:2}" --sinks "$scratch/valley/far.txt" --out "$again"
+judge_empty 'nothing is made of the valley' "$again"
+want 'failed OutOfMemory'
+sed -e 's/^NROWS .*/NROWS 28801/' -e 's/^NCOLS .*/NCOLS 28801/' -e '/ROWBYTES/d' "$valley/dem.hdr" >"$scratch/valley/large.hdr"
+cp "$valley/dem.bil" "$scratch/valley/large.bil"
+(ulimit -v 200000 && exec "$drain" make --dem "$scratch/valley/large.bil" --out "$again") >"$scratch/out" 2>"$scratch/err"
+judge 'no memory for a raster to make products of' 3 "$scratch/want" $?
+: >"$scratch/want"
+: >"$scratch/out"
+"$drain" make "${lake[@]}" --out "$again" >/dev/full 2>"$scratch/err"
+judge 'a full standard output: make of the valley' 3 "$scratch/want" $?
+rm "$again"/*
+"$drain" make "${lake[@]}" --out "$again" >&- 2>"$scratch/err"
+judge 'a closed standard output: make of the valley' 3 "$scratch/want" $?
+judge_empty 'a closed standard output: make of the valley' "$again"
+
 # Nothing is written over the raster of elevations: a usage error, and it stays.
 mkdir "$scratch/valley/over"
 over=$scratch/valley/over
 : >"$scratch/want"
-for name in con acc; do
+for name in con acc rnk; do
     cp "$valley/dem.bil" "$over/$name.bil"
     cp "$valley/dem.hdr" "$over/$name.hdr"
 done
@@ -127,3 +225,18 @@ judge_over() {
 }
 judge_over acc derive --dem "$over/acc.bil" --products "$valley/right" --out "$over"
 judge_over con explain --dem "$over/con.bil" --products "$valley/right" --map "$over/con.bil"
+judge_over con make --dem "$over/con.bil" --out "$over"
+judge_over rnk make --dem "$over/rnk.bil" --sinks "$valley/sinks.txt" --out "$over"
+# Its header, or a link or a second name of either.
+cp "$valley"/dem.{bil,hdr} "$over"
+for how in 'ln -s' 'ln'; do
+    for part in hdr bil; do
+        rm -f "$over"/{con,acc,rnk,bas}.*
+        $how "$over/dem.$part" "$over/bas.$part"
+        want -
+        "$drain" make --dem "$over/dem.bil" --out "$over" </dev/null >"$scratch/out" 2>"$scratch/err"
+        judge "$how: made over dem.$part" 2 "$scratch/want" $? words
+        judge_file "$how: dem.$part stays" "$over/dem.$part" <"$valley/dem.$part"
+        made="$over" judge_names "$how: made over dem.$part" dem.hdr dem.bil "bas.$part"
+    done
+done

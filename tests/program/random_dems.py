@@ -1,7 +1,7 @@
 #!/usr/bin/env python3
 """Audits small random sets of one raster of elevations, right ones and ones with one number changed, whole and by each list of
-rasters, checks them by ranks, and derives rasters of their directions; compares with audit.py, derive.py, the rules and the
-meaning of correct products (random_sets.py).
+rasters, checks them by ranks, derives rasters of their directions, and makes products of the elevations; compares with audit.py,
+derive.py, the rules and the meaning of correct products (random_sets.py).
 
 random_dems.py [DRAIN]     without the program only the others are compared
 
@@ -9,14 +9,15 @@ Prints how many sets passed.
 """
 
 import struct
+import subprocess
 import sys
 
 sys.dont_write_bytecode = True
-from audit import NO_DATA, STATUSES, DemFile
+from audit import NO_DATA, STATUSES, DemFile, audit
 from dem_sets import KINDS, UNSPELLED, ends_of
-from make_products import fixed, verdict
+from make_products import PRODUCTS, fixed, header_at, verdict
 from plain_faults import ALL_NO_DATA, CheckRules
-from random_sets import judge_random
+from random_sets import Meaning, judge_random
 
 # Widths and heights of pixels, in units of 10^-15.
 PIXEL_SIZES = [30 * 10**15, 10**15 // 1200, 1, 25_500_000_000_000_000, 10**24]
@@ -151,5 +152,48 @@ def wrong_check(case, drain):
     return None if is_same else f"by ranks: {answer}, not {line!r}"
 
 
+def made_products(ground, out):
+    """The products in a folder and their no-data numbers, and what is wrong with the files: con has the pixels and the
+    no-data number of the elevations, and every header their place."""
+    con_blank = UNSPELLED if ground.nodata is None else ground.nodata
+    kinds = {name: (form, nodata) for name, _, _, form, nodata in PRODUCTS} | {"con": (ground.kind, con_blank)}
+    products, wrong = {}, sorted(path.name for path in out.iterdir()) != sorted(f"{name}.{end}" for name in kinds for end in ("hdr", "bil"))
+    for name, (form, nodata) in kinds.items():
+        size = struct.calcsize(form)
+        header = header_at(ground.rows, ground.cols, ground.place, 8 * size, form.islower(), nodata)
+        body = (out / f"{name}.bil").read_bytes()
+        if wrong or (out / f"{name}.hdr").read_text() != header or len(body) != size * len(ground.z):
+            return None, None, f"other files of {name}"
+        products[name] = list(struct.unpack(f"<{len(ground.z)}{form}", body))
+    return products, {name: nodata for name, (_, nodata) in kinds.items()}, None
+
+
+def wrong_make(case, drain):
+    """What is wrong with the products that the program makes of the elevations, None where nothing is."""
+    if not drain:
+        return None
+    ground, out, sinks = case.ground, case.folder / "made", case.folder / "sinks.txt"
+    out.mkdir()
+    command = [drain, "make", "--out", out, "--sinks", sinks, *ground.words(case.folder)]
+    ended = subprocess.run(command, capture_output=True, timeout=120, check=False)
+    line = f"made rows={ground.rows} cols={ground.cols}\n"
+    if (ended.returncode, ended.stdout.decode(), ended.stderr) != (0, line, b""):
+        return f"make: {ended}"
+    products, nodata, wrong = made_products(ground, out)
+    if wrong:
+        return f"make: {wrong}"
+    if not Meaning(case.terrain, products).is_correct():
+        return "make: the products are not correct"
+    labels = [products["bas"][cell] for cell in case.terrain.data_cells() if products["dir"][cell] == 0]
+    if labels != list(range(1, len(labels) + 1)):
+        return f"make: labels {labels}"
+    line = verdict(CheckRules(case.terrain, products, nodata))
+    lines = [line, audit(ground.files(case.folder), out, sinks, list(NO_DATA))]
+    judged = ["--products", out, "--sinks", sinks, *ground.words(case.folder)]
+    answers = (subprocess.run([drain, it, *judged], capture_output=True, timeout=120, check=False) for it in ("audit", "check"))
+    lines += [answer.stdout.decode().rstrip("\n") for answer in answers]
+    return None if line.startswith("accepted") and lines == [line] * 4 else f"make: {lines}"
+
+
 if __name__ == "__main__":
-    sys.exit(judge_random("elevations", RandomDem, [rename_blank], [wrong_check]))
+    sys.exit(judge_random("elevations", RandomDem, [rename_blank], [wrong_check, wrong_make]))

@@ -107,6 +107,7 @@ is_static || {
 
 add_runs "$here/worked_lines.py" "$drain"
 add_runs "$here/worked_dems.py" "$drain"
+add_runs "$here/made_dems.py" "$drain"
 add_runs "$here/cut_inputs.py" "$drain"
 add_runs "$here/random_audits.py" "$drain"
 add_runs "$here/random_dems.py" "$drain"

@@ -19,7 +19,7 @@ PIXELS: Pixels = {
 }
 VOID, NO_RANK = -32768, 4294967295
 TILE = "N00E000.hgt"
-STATUSES = {"accepted": 0, "rejected": 1, "refused": 2, "failed": 3}
+STATUSES = {"accepted": 0, "made": 0, "rejected": 1, "refused": 2, "failed": 3}
 
 
 def grid(rows: int, cols: int, ulx: object = 0, uly: object = 1, xdim: object = 0.5, ydim: object = None) -> str:

@@ -4,6 +4,8 @@
 #[cfg(test)]
 mod check_runs;
 #[cfg(test)]
+mod dem_runs;
+#[cfg(test)]
 mod explain_runs;
 #[cfg(test)]
 mod file_paths;

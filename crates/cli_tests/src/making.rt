@@ -1,15 +1,17 @@
-//! Makes products of tiles, and writes them as files in memory.
+//! Makes products of tiles or of one raster, and writes them as files in memory.
 
 ghost use Rattle.std.specs.Prelude.{◌≡◌, Ok, length};
 
-use crate::inputs::{Tile, at_zero, inputs};
+use crate::inputs::{Parts, Tile, at_zero, inputs, product};
 use crate::printed::{Printed, room};
-use drain_cli::runs::make_set::make_set;
+use drain_cli::runs::make_set::{make_dem_set, make_set};
 use drain_cli::runs::write_set::write_and_place;
 use drain_device::{ByteSink, VecSink};
 use drain_files::open_failure::Placing;
+use drain_grid::Product;
 use drain_maker::follow::Unfollowed;
 use drain_maker::product_files::{FILE_COUNT, SetFault};
+use drain_maker::product_header;
 use std::alloc::{AllocError, Global};
 use std::test::Fail;
 
@@ -56,7 +58,31 @@ fn set_status<F: ByteSink>(
     ) {
         Ok((layout, products)) => Ok(write_and_place(
             alloc,
-            &layout,
+            &product_header(&layout, Product::Con),
+            &products,
+            files,
+            &mut InPlace,
+            out,
+        )),
+        Err(status) => Ok(status),
+    }
+}
+
+/// The same of one raster of elevations.
+fn dem_status<F: ByteSink>(
+    alloc: Global,
+    dem: Parts<'_>,
+    sinks: &[u8],
+    files: &mut [F],
+    out: &mut VecSink,
+) -> Result<u8, AllocError>
+    requires { length files.old ≡ FILE_COUNT }
+{
+    let mut dem = [product(alloc, dem)?];
+    match make_dem_set(alloc, &mut dem, sinks, &mut Unfollowed, out) {
+        Ok((header, products)) => Ok(write_and_place(
+            alloc,
+            &header,
             &products,
             files,
             &mut InPlace,
@@ -78,5 +104,19 @@ pub fn make<F: ByteSink>(
 {
     let mut out = VecSink::new(room(alloc)?);
     let status = set_status(alloc, side, tiles, sinks, files, &mut out)?;
+    Ok(Printed::new(out.as_slice(), status)?)
+}
+
+/// The output of a run that makes products of one raster of elevations with this list of sinks.
+pub fn make_on<F: ByteSink>(
+    alloc: Global,
+    dem: Parts<'_>,
+    sinks: &[u8],
+    files: &mut [F],
+) -> Result<Printed, Fail>
+    requires { length files.old ≡ FILE_COUNT }
+{
+    let mut out = VecSink::new(room(alloc)?);
+    let status = dem_status(alloc, dem, sinks, files, &mut out)?;
     Ok(Printed::new(out.as_slice(), status)?)
 }

@@ -4,6 +4,8 @@
 #[cfg(test)]
 mod agree;
 #[cfg(test)]
+mod dem_bytes;
+#[cfg(test)]
 mod derived;
 #[cfg(test)]
 mod derived_bytes;

@@ -106,8 +106,9 @@ fn count_elevations<'a>(
     progress: &'a Progress<'a>,
 ) {
     match elevations {
-        OpenElevations::Tiles(OpenTiles { side, tiles }) => {
-            count_tiles(tiles.as_mut_slice(), *side, progress);
+        OpenElevations::Tiles(open) => {
+            let side = open.side;
+            count_tiles(open.tiles.as_mut_slice(), side, progress);
         }
         OpenElevations::Dem(dem) => count_rows(&mut dem[0], Phase::Reading, progress),
     }
@@ -258,7 +259,7 @@ pub fn make_dem_set<R: ByteSource, W: ByteSink>(
     ensures headers { AreHeadersKept dem.old dem.new }
 {
     match read_and_make_dem(alloc, dem, sinks, follow) {
-        Ok(set) => Ok(set),
+        Ok(made) => Ok(made),
         Err(why) => Err(print_line(out, &line_of(&why), status_of(&why))),
     }
 }
@@ -279,7 +280,7 @@ fn read_and_make_dem<R: ByteSource>(
 {
     let read = match read_dem(alloc, dem) {
         Ok(read) => read,
-        Err(refusal) => return Err(NoSet::Ground(refusal)),
+        Err(why) => return Err(NoSet::Ground(why)),
     };
     let listed = match parse_sinks(alloc, sinks) {
         Ok(listed) => listed,
