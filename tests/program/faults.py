@@ -125,7 +125,7 @@ class Faults:
         self.dems = [Run(drain, [run.words[0], *given], run.line) for run in (self.check, self.audit)]
         self.dems.append(Run(drain, [*self.dems[1].words, "--only", "con"], parts["con"]))
         self.derive, self.derive_over = (Run(drain, ["derive", "--out", str(self.made), *self.check.words[1:]], "derived rows=3 cols=3\n") for _ in range(2))
-        self.make = Run(drain, ["make", "--side", "3", "--out", str(self.made), str(self.tile)], "made rows=3 cols=3\n")
+        self.make, self.make_dem = (Run(drain, ["make", "--out", str(self.made), *words], "made rows=3 cols=3\n") for words in (["--side", "3", str(self.tile)], given[:2]))
         self.list = scratch / "sinks.txt"
         self.list.write_text("0 0\n\n1 1\n")
         self.listing = ["--sinks", str(self.list)]
@@ -308,7 +308,7 @@ class Faults:
 
     def killed(self):
         """A run that writes files is killed in place of each call that creates, writes or renames one."""
-        for run in (self.make, self.make_over, self.derive, self.derive_over, self.window, self.window_over, self.explain_over):
+        for run in (self.make, self.make_over, self.make_dem, self.derive, self.derive_over, self.window, self.window_over, self.explain_over):
             for call in ("open", "write", "rename"):
                 for name, ended in self.each_call(run, call, "killed"):
                     self.judge(name, ended == (-9, "", ""), ended)
@@ -317,10 +317,10 @@ class Faults:
     def changed(self):
         """A tile, a raster or a report is cut or written over between two reads of a check, an audit, a window, a derivation or
         a merge: it answers some line of its own."""
-        begins = ("accepted ", "derived ", "rejected ", "refused RasterShort ", "refused BadTileLength ", "refused BadReport ", "failed ReadFailed")
+        begins = ("accepted ", "made ", "derived ", "rejected ", "refused RasterShort ", "refused BadTileLength ", "refused BadReport ", "failed ReadFailed")
         rasters = [self.products / f"{product}.bil" for product in PRODUCTS]
         parts = [(self.parts[0], [self.tile, *rasters[:1]]), (self.parts[1], [self.tile, *rasters[:2]]), (self.derive, [self.tile, rasters[1]])]
-        parts += [(run, [self.dem, rasters[0]]) for run in self.dems]
+        parts += [(self.make_dem, [self.dem]), *((run, [self.dem, rasters[0]]) for run in self.dems)]
         four = [self.tile, *rasters[:-1]]
         for run, files in ((self.check, [self.tile, *rasters]), (self.audit, four), (self.window, four), (self.merge, self.reports), *parts):
             for file in files:
@@ -354,7 +354,7 @@ class Faults:
         self.right[run] = contents(self.made)
 
     def all(self):
-        makers = [self.make, self.make_listed, self.make_over, self.derive, self.derive_over, self.window, self.window_over]
+        makers = [self.make, self.make_listed, self.make_over, self.make_dem, self.derive, self.derive_over, self.window, self.window_over]
         explained = [self.explain, self.explain_object, self.explain_over]
         judged = [self.check, self.audit, *self.parts, *self.dems, self.check_listed, self.audit_listed, self.con_listed, self.merge, self.merge_listed]
         runs = [*judged, *explained, *makers, self.fill, self.header]
@@ -365,7 +365,7 @@ class Faults:
         self.calls["rename"] = [*explained, *makers]
         self.over, self.right = {}, {}
         self.report()
-        for run in (self.make, self.make_listed, self.derive, self.window, self.explain, self.explain_object):
+        for run in (self.make, self.make_listed, self.make_dem, self.derive, self.window, self.explain, self.explain_object):
             self.learn(run)
         self.over[self.make_over] = self.right[self.make_listed]
         self.over[self.derive_over] = {file: b"of before" for file in self.right[self.derive]}
