@@ -11,7 +11,7 @@ use Rattle.drain_rules.specs.declared.walk.Tally.{Tally}
 use Rattle.drain_grid.specs.declared.verdict.Counts.{Counts}
 use Rattle.drain_rules.specs.Verdicts.{has_outlet_code}
 use Rattle.drain_union.specs.declared.place.Place.{Place}
-use Rattle.drain_union.specs.Windows.{window_at, in_union, IsFirstInside, IsPlaceIn}
+use Rattle.drain_union.specs.Windows.{window_at, in_union, IsFirstInside, IsOrigin, IsPlaceIn}
 use Rattle.drain_union.specs.JudgedCounts.{AreCountsInside, judged_cells, ring}
 use Rattle.drain_union.proofs.JudgedCounts.{by_rows, sum_by_map, sum_by_flat_map}
 use Rattle.drain_rules.specs.Areas.{CountsAmong}
@@ -33,7 +33,6 @@ use Rattle.drain_union.specs.declared.union_grid.UnionGrid.{UnionGrid}
 use Rattle.drain_union.specs.Reports.{Report, Agree}
 use Rattle.drain_window.specs.WindowLines.{map_origin}
 use Rattle.drain_window.specs.WindowAnswers.{IfRejected, IsAnswerOn, IsDemWindow, IsJudgedVerdict, IsWindowAnswer, IsWindowIn, IsWithTiles, window_in, window_of}
-use Rattle.drain_window.specs.SeamRows.{IsOrigin}
 use Rattle.drain_window.specs.declared.answered.WindowRefusal.{WindowRefusal}
 use Rattle.drain_window.specs.declared.answered.WindowRefusal.TheVariants.{Inputs as OfInputs, OutsideMosaic}
 

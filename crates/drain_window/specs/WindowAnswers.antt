@@ -23,10 +23,9 @@ use Rattle.drain_union.specs.declared.place.TheConstants.{SEAM_DEPTH}
 use Rattle.drain_union.specs.declared.union_grid.DemPart.{DemPart}
 use Rattle.drain_union.specs.declared.union_grid.UnionGrid.TheVariants.{Tiles, Dem}
 use Rattle.drain_union.specs.UnionGrids.{value_of}
-use Rattle.drain_union.specs.Windows.{window_at, Window, IsFirstInside, IsPlaceIn, RulesHoldInside}
+use Rattle.drain_union.specs.Windows.{window_at, Window, IsFirstInside, IsOrigin, IsPlaceIn, RulesHoldInside}
 use Rattle.drain_union.specs.JudgedCounts.{AreCountsInside}
 use Rattle.drain_union.specs.Reports.{audited, Report, IsReportOf}
-use Rattle.drain_window.specs.SeamRows.{IsOrigin}
 use Rattle.drain_window.specs.WindowLines.{map_origin}
 use Rattle.drain_window.specs.declared.answered.WindowRefusal.{WindowRefusal}
 use Rattle.drain_window.specs.declared.answered.WindowRefusal.TheVariants.{Inputs as OfInputs, OutsideMosaic}

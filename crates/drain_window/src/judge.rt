@@ -4,14 +4,13 @@ ghost use Rattle.std.specs.Prelude.{◌≡◌, IfOk, ◌≤◌, ◌*◌, ◌-◌
 ghost use Rattle.drain_grid.specs.Grid.{IsSide};
 ghost use Rattle.drain_hgt.specs.declared.name.TheConstants.{HALF_TURN};
 ghost use Rattle.drain_window.specs.WindowLines.{map_origin};
-ghost use Rattle.drain_window.specs.SeamRows.{IsOrigin};
 ghost use Rattle.drain_hgt.specs.Inputs.{names_of};
 ghost use Rattle.drain_verdict.specs.Answers.{ForAudit};
 ghost use Rattle.drain_verdict.specs.Meaning.{nodata_numbers};
 ghost use Rattle.drain_verdict.specs.Stages.{IsLayoutOf};
 ghost use Rattle.drain_union.specs.declared.place.TheConstants.{SEAM_DEPTH};
 ghost use Rattle.drain_union.specs.Reports.{audited, IsReportOf, Agree};
-ghost use Rattle.drain_union.specs.Windows.{IsFirstInside};
+ghost use Rattle.drain_union.specs.Windows.{IsFirstInside, IsOrigin};
 ghost use Rattle.drain_verdict.specs.Uses.{AuditUses};
 ghost use Rattle.drain_window.specs.WindowAnswers.{as_refused, IfRejected, IsWindowAnswer, IsWithTiles, window_of};
 

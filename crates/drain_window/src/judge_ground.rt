@@ -1,12 +1,11 @@
 //! One window of a union, from the bytes of a ground, wherever its elevations come from, and of its products.
 
-ghost use Rattle.std.specs.Prelude.{◌≡◌, IfOk, IsTrue, ◌↔◌};
+ghost use Rattle.std.specs.Prelude.{◌≡◌, IfOk};
 ghost use Rattle.drain_verdict.specs.GroundSets.{ForSet};
 ghost use Rattle.drain_verdict.specs.Inputs.{as_five};
 ghost use Rattle.drain_verdict.specs.Uses.{UsesSet, set_devices};
 ghost use Rattle.drain_union.specs.Reports.{Agree};
-ghost use Rattle.drain_union.specs.Windows.{IsPlaceIn};
-ghost use Rattle.drain_window.specs.SeamRows.{IsOrigin};
+ghost use Rattle.drain_union.specs.Windows.{IsOrigin, IsPlaceIn};
 ghost use Rattle.drain_window.specs.WindowAnswers.{as_refused, IsPlacedAnswer, IsWindowIn};
 
 use crate::answered::{WindowRefusal, answered};
@@ -15,22 +14,15 @@ use crate::listed_outlets::ListedOutlets;
 use crate::seam_walk::SeamWalk;
 use drain_answer::Refusal;
 use drain_device::ByteSource;
-use drain_grid::cell::MAX_LENGTH;
 use drain_grid::{Cell, Judged, Verdict};
 use drain_rows::BothVisitors;
 use drain_rules::Walk;
+use drain_union::place::is_origin;
 use drain_union::{Place, Report};
 use drain_verdict::AuditProducts;
 use drain_verdict::ground::GroundInput;
 use drain_verdict::read_set::read_set;
 use std::alloc::Global;
-
-/// Whether each cell of a grid that begins at this cell has a row and a column of 32 bits.
-fn is_origin(origin: Cell) -> bool
-    ensures { IsTrue result ↔ IsOrigin origin }
-{
-    origin.row < u32::MAX - MAX_LENGTH + 1 && origin.col < u32::MAX - MAX_LENGTH + 1
-}
 
 /// The verdict and the report on the window at this place of a ground, which begins at this cell of the union.
 pub(crate) fn judge_ground<R: ByteSource, T: GroundInput<R>>(
