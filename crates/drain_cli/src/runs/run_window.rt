@@ -161,10 +161,8 @@ pub fn judge_or_print<R: ByteSource, W: ByteSink>(
         × IsWindowOutcome R.ByteSource place.now side tiles.old tiles.new sinks.now products.old products.new outcome
         × IsWindowHandedOver W.ByteSink out.old out.new outcome result }
 {
-    match judge_window(alloc, side, tiles, sinks, products, place) {
-        Ok(window) => Ok(window),
-        Err(refusal) => Err(print_line(out, &refusal_line(&refusal), status_of(&refusal))),
-    }
+    let outcome = judge_window(alloc, side, tiles, sinks, products, place);
+    hand_over(outcome, out)
 }
 
 /// Judges the window that lies at this place of a part of a raster of elevations, which begins at this cell of the whole,
@@ -184,7 +182,18 @@ pub fn judge_dem_or_print<R: ByteSource, W: ByteSink>(
         × IsDemWindowOutcome R.ByteSource place.now at dem.old dem.new sinks.now products.old products.new outcome
         × IsWindowHandedOver W.ByteSink out.old out.new outcome result }
 {
-    match judge_window_dem(alloc, dem, sinks, products, place, at) {
+    let outcome = judge_window_dem(alloc, dem, sinks, products, place, at);
+    hand_over(outcome, out)
+}
+
+/// Returns what is to be reported of a window, or prints why there is nothing, and returns the exit status.
+fn hand_over<W: ByteSink>(
+    outcome: Result<WindowReport, WindowRefusal>,
+    out: &mut W,
+) -> Result<WindowReport, u8>
+    ensures { IsWindowHandedOver W.ByteSink out.old out.new outcome result }
+{
+    match outcome {
         Ok(window) => Ok(window),
         Err(refusal) => Err(print_line(out, &refusal_line(&refusal), status_of(&refusal))),
     }
