@@ -1,5 +1,6 @@
 # Runs of `drain window` and `drain merge` on the pit of check.sh and a list of sinks: a report over an input, by any way to
-# it, and inputs that stay. Read by run.sh after explain.sh; it calls the functions of those before.
+# it, and inputs that stay; and on the bundled raster of elevations. Read by run.sh after explain.sh; it calls the functions of
+# those before.
 
 window=(window --side 3 --box 0,0,3,3 --products "$check/out" --sinks "$check/sinks.txt")
 inputs="N00E000.hgt $(echo out/{con,dir,acc,bas}.{hdr,bil}) sinks.txt"
@@ -48,3 +49,48 @@ judge_words 'a merge with a list for a report' 2 'refused BadReport 0 WrongVersi
 judge_inputs 'after merges'
 judge_file 'after merges' "$check/report.txt" <"$scratch/report-first"
 judge_folder 'names after merges' "$check" N00E000.hgt out sinks.txt report.txt
+
+# The valley as a part of a larger raster, in two windows.
+valley=samples/valley
+of_valley() {
+    local name=$1 line=$2 box=$3 inner=$4 at=${5-7,100000}
+    judge_words "the $name of the valley, $at" 0 "$line" window --dem "$valley/dem.bil" --at "$at" --products "$valley/right" \
+        --sinks "$valley/sinks.txt" --box "$box" --inner "$inner" --report "$scratch/$name.txt"
+}
+of_west() { of_valley west 'accepted rows=40 cols=20 data=760 raised=11 outlets=2' 0,0,40,20 e "$@"; }
+of_east() { of_valley east 'accepted rows=40 cols=38 data=1429 raised=59 outlets=1' 0,18,40,38 w "$@"; }
+merged=("$scratch/west.txt" "$scratch/east.txt")
+of_west
+head -n 3 "$scratch/west.txt" >"$scratch/out"
+want 'drain-window-report 3
+dem 7 100000 431012 500000000000000 5271987 500000000000000 25 0 25 0
+window 7 100000 40 20 0 0 0 1'
+judge 'the head of a report on the valley' 0 "$scratch/want" 0
+of_east
+judge_words 'the valley by windows' 0 'accepted rows=40 cols=56 data=2189 raised=70 outlets=3' merge --sinks "$valley/sinks.txt" "${merged[@]}"
+echo '37 13' >"$scratch/sinks.txt"
+judge_words 'the valley by windows, a list in other rows' 2 'refused SinkLeftOut 1' merge --sinks "$scratch/sinks.txt" "${merged[@]}"
+
+# Places that don't fit the header: a column and a row beside, and row and column exchanged; and tiles beside the raster.
+for at in 7,100001 6,100000 100000,7; do
+    of_east "$at"
+    judge_words "the valley by windows, the east at $at" 2 'refused OtherGrid 1' merge "${merged[@]}"
+done
+judge_words 'the valley and a tile' 2 'refused OtherGrid 1' merge "$scratch/west.txt" "$check/report.txt"
+judge_words 'a tile and the valley' 2 'refused OtherSide 1' merge "$check/report.txt" "$scratch/west.txt"
+
+# A report isn't written over the raster or its header, by any way to it.
+for input in dem.bil dem.hdr; do
+    for how in 'ln -s' ln path; do
+        rm -rf "$scratch/part" "$scratch/over"
+        mkdir "$scratch/part"
+        cp "$valley"/dem.{bil,hdr} "$scratch/part"
+        report=$scratch/over
+        case $how in path) report=$scratch/part/../part/$input ;; *) $how "$scratch/part/$input" "$report" ;; esac
+        want -
+        timeout 20 "$drain" window --dem "$scratch/part/dem.bil" --at 0,0 --products "$valley/right" --box 0,0,40,56 \
+            --report "$report" </dev/null >"$scratch/out" 2>"$scratch/err"
+        judge "$how: a report over $input" 2 "$scratch/want" $? words
+        judge_file "$how: a report over $input" "$scratch/part/$input" <"$valley/$input"
+    done
+done

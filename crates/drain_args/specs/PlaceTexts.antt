@@ -1,7 +1,8 @@
--- Where a window lies, as it is written behind --box and --inner. Source: this project's own, as the help of drain window
+-- Where a window lies, as it is written behind --box, --inner and --at. Source: this project's own, as the help of drain window
 -- says it.
 use Rattle.std.specs.Prelude.{◌≡◌, ℕ, Bool, true, ◌==◌, ◌||◌, List, [], ◌∷◌, map, Option, Some}
 use Rattle.std.specs.List.{list_all, list_any, slice_split}
+use Rattle.drain_grid.specs.declared.cell.Cell.{Cell}
 use Rattle.drain_text.specs.Text.{whole_number}
 use Rattle.drain_union.specs.declared.place.InnerSides.{InnerSides}
 use Rattle.drain_union.specs.declared.place.Place.{Place}
@@ -17,6 +18,10 @@ numbers_of text = map whole_number (slice_split is_comma text)
 -- the text is four numbers with commas between: the row and column of the first cell, and the size
 abbrev pub IsBox : List ℕ → Place → Type 0
 IsBox text p = numbers_of text ≡ Some p.top ∷ Some p.left ∷ Some p.extent.rows ∷ Some p.extent.cols ∷ []
+
+-- the text is two numbers with a comma between: a row and a column
+abbrev pub IsCellText : List ℕ → Cell → Type 0
+IsCellText text c = numbers_of text ≡ Some c.row ∷ Some c.col ∷ []
 
 -- the letter n
 abbrev pub north_letter : ℕ

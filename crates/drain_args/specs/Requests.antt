@@ -19,7 +19,9 @@ use Rattle.drain_args.specs.declared.requests.WindowArgs.{WindowArgs}
 use Rattle.drain_args.specs.declared.requests.Request.{Request}
 use Rattle.drain_args.specs.declared.requests.Request.TheVariants.{Audit, Check, Derive, Explain, Window, Merge, Make, Fill, Header}
 use Rattle.drain_args.specs.declared.commands.TheConstants.{DEFAULT_SIDE}
-use Rattle.drain_args.specs.PlaceTexts.{IsBox, IsInner}
+use Rattle.drain_args.specs.PlaceTexts.{IsBox, IsCellText, IsInner}
+use Rattle.drain_grid.specs.declared.cell.Cell.{Cell}
+use Rattle.drain_union.specs.Windows.{IsOrigin}
 
 -- a flag is set exactly if it is there: its value is then true
 abbrev pub IsFlag : Text → Found → Bool → Type 0
@@ -64,13 +66,15 @@ pub record IsProductArgs {E : Type 0} (option : Text) (f : Found) (IsGiven : E �
 abbrev pub AreInputs : Found → ProductArgs Elevations → Type 0
 AreInputs f args = IsProductArgs (codes "products") f (AreElevations f) args
 
--- the same of tiles alone
-abbrev pub AreTileInputs : Found → ProductArgs TileArgs → Type 0
-AreTileInputs f args = IsProductArgs (codes "products") f (AreTiles f) args
+-- a raster of elevations begins at the cell of the whole that an option names; none is named for tiles
+abbrev pub IsStart : Found → Elevations → Cell → Type 0
+IsStart f (Tiles tiles) at = (first_value f (codes "at") ≡ None) × (at ≡ record { row = 0; col = 0 })
+IsStart f (Dem dem) at = (text : Text) × (first_value f (codes "at") ≡ Some text) × IsCellText text at × IsOrigin at
 
 -- the window's place is that of the options, and its report goes into the file of another
 pub record IsWindowArgs (f : Found) (args : WindowArgs) : Type 0 where
-  pub inputs : AreTileInputs f args.inputs
+  pub inputs : AreInputs f args.inputs
+  pub start : IsStart f args.inputs.elevations args.at
   pub box : IsBox (unwrap_or (first_value f (codes "box")) []) args.place
   pub inner : IsInner (unwrap_or (first_value f (codes "inner")) []) args.place.inner
   pub report : args.report.now ≡ unwrap_or (first_value f (codes "report")) []

@@ -27,6 +27,7 @@ enum ArgSpec {
     Progress,
     Map,
     Json,
+    At,
     WindowBox,
     Inner,
     Report,
@@ -95,6 +96,8 @@ pub(crate) const WINDOW: CommandSpec = CommandSpec {
     long_about: window_texts::WINDOW_LONG_ABOUT,
     after: window_texts::WINDOW_AFTER,
     args: &[
+        ArgSpec::Dem,
+        ArgSpec::At,
         ArgSpec::Side,
         ArgSpec::Products,
         ArgSpec::WindowBox,
@@ -225,6 +228,7 @@ fn argument<'a>(alloc: Global, spec: ArgSpec) -> Result<Arg<'a>, AllocError> {
         ArgSpec::Progress => flag(alloc, "progress", help_texts::PROGRESS_HELP),
         ArgSpec::Map => file(alloc, "map", explain_texts::MAP_HELP),
         ArgSpec::Json => flag(alloc, "json", explain_texts::JSON_HELP),
+        ArgSpec::At => at(alloc),
         ArgSpec::WindowBox => window_box(alloc),
         ArgSpec::Inner => inner(alloc),
         ArgSpec::Report => file(alloc, "report", window_texts::REPORT_HELP).required(true),
@@ -269,6 +273,10 @@ fn flag<'a>(alloc: Global, name: &'static str, help: &'static str) -> Arg<'a> {
 
 fn only<'a>(alloc: Global) -> Arg<'a> {
     path(alloc, "only", "LIST", help_texts::ONLY_HELP).long("only")
+}
+
+fn at<'a>(alloc: Global) -> Arg<'a> {
+    path(alloc, "at", "ROW,COL", window_texts::AT_HELP).long("at")
 }
 
 fn window_box<'a>(alloc: Global) -> Arg<'a> {

@@ -1,13 +1,16 @@
-//! Where a window lies, from the texts of `--box` and `--inner`.
+//! Where a window lies, from the texts of `--box`, `--inner` and `--at`.
 
 ghost use Rattle.std.specs.Prelude.{◌≡◌, ◌≢◌, ◌∷◌, [], ℕ, MatchOption, Option, Some, List, false};
 ghost use Rattle.std.specs.List.{list_all};
 ghost use Rattle.drain_grid.specs.Extent.{IsExtent};
+ghost use Rattle.drain_grid.specs.declared.cell.Cell.{Cell as CellOf};
+ghost use Rattle.drain_union.specs.Windows.{IsOrigin};
 ghost use Rattle.drain_union.specs.declared.place.Place.{Place};
-ghost use Rattle.drain_args.specs.PlaceTexts.{IsBox, IsInner, has, is_side_letter, numbers_of};
+ghost use Rattle.drain_args.specs.PlaceTexts.{IsBox, IsCellText, IsInner, has, is_side_letter, numbers_of};
 
-use drain_grid::Shape;
+use drain_grid::{Cell, Shape};
 use drain_text::numbers::whole_number;
+use drain_union::place::is_origin;
 use drain_union::{InnerSides, Place};
 
 /// The place of the box that the text names, with these inner sides.
@@ -29,6 +32,19 @@ pub fn window_place(text: &str, inner: InnerSides) -> Option<Place>
         extent,
         inner,
     })
+}
+
+/// The cell that the text names.
+///
+/// The text is two whole numbers with a comma between, the row and the column, counted from 0. None for any other text, and
+/// if rows or columns of a raster that begins there might not be numbers of 32 bits.
+pub fn first_cell(text: &str) -> Option<Cell>
+    ensures { MatchOption result ((c : CellOf) → IsOrigin c → IsCellText text.now c → ⊥) (λ c. IsCellText text.now c × IsOrigin c) }
+{
+    let (row, rest) = first_number(text)?;
+    let col = last_number(rest)?;
+    let cell = Cell { row, col };
+    if is_origin(cell) { Some(cell) } else { None }
 }
 
 /// The number before the first comma and the text behind it, none if there is no comma or no number before it.

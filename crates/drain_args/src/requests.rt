@@ -2,16 +2,16 @@
 
 ghost use Rattle.std.specs.Prelude.{◌≡◌, ◌++◌, IfOk, IfSome, codes};
 ghost use Rattle.clap.specs.Matches.{found_of};
-ghost use Rattle.drain_args.specs.Requests.{AreElevations, AreInputs, AreTileInputs, AreTiles, IsDemOption, IsListOption, IsMap, IsMergeArgs, IsProductArgs, IsRequestOf, map_ending};
+ghost use Rattle.drain_args.specs.Requests.{AreElevations, AreInputs, AreTiles, IsDemOption, IsListOption, IsMap, IsMergeArgs, IsProductArgs, IsRequestOf, IsStart, map_ending};
 
 use crate::clusters::first_cluster;
 use crate::commands::{AUDIT, CHECK, CommandSpec, DERIVE, EXPLAIN, MAKE, WINDOW, command, program};
 use crate::given::{flag_given, option_given, paths_given, side_given, text_given};
-use crate::place_texts::{inner_sides, window_place};
+use crate::place_texts::{first_cell, inner_sides, window_place};
 use crate::{explain_texts, help_texts, window_texts};
 use clap::error::ErrorKind;
 use clap::{ArgMatches, Error};
-use drain_grid::Judged;
+use drain_grid::{Cell, Judged};
 use drain_union::Place;
 use std::alloc::{AllocError, Global};
 
@@ -86,10 +86,12 @@ pub struct AuditArgs<'a> {
     pub judged: Judged,
 }
 
-/// The mosaic and the products in this folder, where the window lies in the mosaic, and the path of its report.
+/// The elevations and the products in this folder, the cell of the whole at which a raster of elevations begins, where the
+/// window lies in the mosaic or the raster, and the path of its report.
 #[derive(Drop)]
 pub struct WindowArgs<'a> {
-    pub inputs: ProductArgs<'a, TileArgs<'a>>,
+    pub inputs: ProductArgs<'a, Elevations<'a>>,
+    pub at: Cell,
     pub place: Place,
     pub report: &'a str,
 }
@@ -151,7 +153,8 @@ fn no_command(alloc: Global) -> Result<Error, AllocError> {
 ///
 /// A map whose name doesn't end in `.bil` is a usage error, and so are a raster of elevations whose name doesn't end in
 /// `.bil` or `.BIL`, another list of rasters, a side that is no number,
-/// a box that is none, other letters than those of sides, and a name that is no command's.
+/// a box that is none, other letters than those of sides, a raster of elevations of a window without the cell at which it
+/// begins, tiles with one, and a name that is no command's.
 pub fn request_of<'a>(
     alloc: Global,
     name: &str,
@@ -249,17 +252,6 @@ fn inputs_given<'a>(
 {
     let elevations = elevations_given(alloc, spec, given)?;
     Ok(product_args(given, "products", elevations))
-}
-
-/// The same where elevations come from tiles alone.
-fn tile_inputs<'a>(
-    alloc: Global,
-    given: &ArgMatches<'a>,
-) -> Result<ProductArgs<'a, TileArgs<'a>>, Error>
-    ensures { IfOk result (AreTileInputs (found_of given.now)) }
-{
-    let tiles = tiles_given(alloc, given)?;
-    Ok(product_args(given, "products", tiles))
 }
 
 /// The elevations of which products are to be made.
@@ -360,6 +352,18 @@ pub fn map_stem(path: &str) -> Option<&str>
     path.strip_suffix(".bil")
 }
 
+/// The cell of the whole at which a raster of elevations begins: that of an option, which has to be there. For tiles it
+/// must not, and the cell is the first. None if it isn't so, or the option names no cell.
+fn start_given(given: &ArgMatches<'_>, elevations: &Elevations<'_>) -> Option<Cell>
+    ensures { IfSome result (IsStart (found_of given.now) elevations.now) }
+{
+    match (elevations, option_given(given, "at")) {
+        (Elevations::Tiles(_), None) => Some(Cell { row: 0, col: 0 }),
+        (Elevations::Dem(_), Some(text)) => first_cell(text),
+        _ => None,
+    }
+}
+
 /// The window to be judged.
 fn window_request<'a>(alloc: Global, given: &ArgMatches<'a>) -> Result<Request<'a>, Error>
     ensures { IfOk result (IsRequestOf (codes "window") (found_of given.now)) }
@@ -370,9 +374,13 @@ fn window_request<'a>(alloc: Global, given: &ArgMatches<'a>) -> Result<Request<'
     let Some(place) = window_place(text_given(given, "box"), inner) else {
         return Err(bad_value(alloc, &WINDOW, window_texts::BAD_BOX)?);
     };
-    let inputs = tile_inputs(alloc, given)?;
+    let inputs = inputs_given(alloc, &WINDOW, given)?;
+    let Some(at) = start_given(given, &inputs.elevations) else {
+        return Err(bad_value(alloc, &WINDOW, window_texts::BAD_AT)?);
+    };
     Ok(Request::Window(WindowArgs {
         inputs,
+        at,
         place,
         report: text_given(given, "report"),
     }))

@@ -10,7 +10,9 @@ mosaic can't be audited in parts: it is judged window by window, and drain merge
 
 Reads what drain audit reads: elevation tiles (SRTM .hgt files of one side, named like N37W105.hgt) and the
 rasters con, dir, acc and bas of their mosaic in the folder DIR, each of the size of the mosaic. drain audit
---help says what each raster is.
+--help says what each raster is. With --dem a part of one large raster of elevations, the union, takes the
+place of the mosaic: it begins in row ROW and column COL of the union, counted from 0, and the rasters in DIR
+lie on the part.
 
 The window is a box of the mosaic: TOP and LEFT are the row and the column of its first cell in the mosaic,
 counted from 0, ROWS and COLS its size. SIDES are its inner sides, those on which the union goes on, as
@@ -21,13 +23,13 @@ overlap by exactly two rows or columns: then each cell is judged once, and count
 The rasters are judged as by drain audit, except for labels that outlets share (rule SharedLabel), which
 drain merge finds, and paths without an end, which need no test of their own.
 
-The report has the window's place on the map, its tiles, the verdict and the counts, the outlets, the listed
+The report has the window's place on the map or in the union, its tiles or the place of its part, the verdict and the counts, the outlets, the listed
 sinks, and all numbers in the outermost two rows and columns of inner sides. It is also written if the window
 is rejected, but not if it is refused. An existing file is replaced, unless it is one that is read. Prints one
 line.
 
 A listed sink is a data cell where water may end inland, as in a lake without an outlet. Its line in the list
-is its row and its column, counted from 0 at the north-west corner of the mosaic.";
+is its row and its column, counted from 0 at the north-west corner of the mosaic or of the part.";
 
 pub const WINDOW_AFTER: &str = "Lines and exit statuses:
   0  accepted rows=R cols=C data=D raised=U outlets=O
@@ -46,7 +48,15 @@ Example, a union of four tiles in a row, judged by two windows:
       N37W106.hgt N37W105.hgt N37W104.hgt
   drain window --side 1201 --products east --box 0,1,1201,2400 --inner w --report east.txt \\
       N37W104.hgt N37W103.hgt
-  drain merge west.txt east.txt";
+  drain merge west.txt east.txt
+
+Example, the east half of a raster of 40,000 columns, cut out from column 20,000 on:
+  drain window --dem east.bil --at 0,20000 --products east --box 0,0,15000,20000 --inner w --report east.txt";
+
+pub const AT_HELP: &str = "Where the raster of --dem begins in the union: its row and column there";
+
+pub const BAD_AT: &str =
+    "--at goes with --dem alone and must be ROW,COL: two whole numbers, of at most 4294938494";
 
 pub const BOX_HELP: &str = "The window: row and column of its first cell, and its size";
 
@@ -87,7 +97,9 @@ pub const MERGE_AFTER: &str = "Lines and exit statuses:
   2  refused NoReports                       no report was given
      refused BadReport I FAULT               report I, counted from 0, is no report: WrongVersion,
                                              MissingLine LINE, BadLine LINE, OutOfRange LINE, AfterEnd
-     refused OtherSide I                     report I is of tiles of another side than the first report
+     refused OtherSide I                     report I isn't of tiles of the side that the first report has
+     refused OtherGrid I                     report I isn't of the raster of which the first report is: of tiles,
+                                             or by its header and --at of other pixels or another place
      refused OtherNoData I                   report I has other no-data numbers than the first report
      refused OutsideUnion I                  a side of window I isn't inner, and is no edge of the union
      refused JudgesNothing I                 all rows, or all columns, of window I are rings

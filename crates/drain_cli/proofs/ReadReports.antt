@@ -12,7 +12,7 @@ use Rattle.drain_report.specs.Contents.{ContentsFit, contents_of, report_text, C
 use Rattle.drain_union.specs.declared.report.WindowReport.{WindowReport}
 use Rattle.drain_union.specs.Reports.{Agree, audited, Report, IsReportOf}
 use Rattle.drain_cli.specs.WindowRuns.{IsReadable, text_of}
-use Rattle.drain_merge.specs.UnionVerdicts.{IsVerdictInside}
+use Rattle.drain_merge.specs.UnionVerdicts.{IsJudgedFrom, IsVerdictInside}
 use Rattle.drain_grid.specs.declared.verdict.Verdict.{Verdict}
 use Rattle.drain_grid.specs.declared.verdict.Verdict.TheVariants.{Accepted, Rejected}
 use Rattle.drain_grid.specs.declared.cell.Cell.{Cell}
@@ -20,12 +20,14 @@ use Rattle.drain_grid.specs.Grid.{Grid, Products}
 use Rattle.drain_grid.specs.Values.{NoDataNumbers}
 use Rattle.drain_verdict.specs.Meaning.{input_grid, input_products, nodata_numbers, tiling_of}
 use Rattle.drain_window.specs.WindowLines.{map_origin}
-use Rattle.drain_window.specs.WindowAnswers.{IsJudgedVerdict, window_of}
+use Rattle.drain_window.specs.WindowAnswers.{IsAnswerOn, IsJudgedVerdict}
+use Rattle.drain_verdict.specs.DemGround.{dem_ground}
+use Rattle.drain_verdict.specs.GroundSets.{GroundSet, set_grid, set_numbers, set_products}
 use Rattle.drain_union.specs.Windows.{window_at}
 use Rattle.drain_union.specs.Laws.{FourNumbers}
 use Rattle.drain_union.specs.declared.place.Place.{Place}
 use Rattle.drain_union.specs.declared.place.TheConstants.{SEAM_DEPTH}
-use Rattle.drain_cli.specs.RoundTrip.{ReadIsJudged}
+use Rattle.drain_cli.specs.RoundTrip.{ReadDemIsJudged, ReadIsJudged}
 
 -- The text of a report.
 
@@ -62,17 +64,26 @@ inside : FourNumbers → (n : NoDataNumbers) (origin : Cell) (p : Place) (g : Gr
 inside four n origin p g ps (Accepted counts) is = ((four n (window_at origin p g ps)).0.0 is.0, is.1)
 inside four n origin p g ps (Rejected rule row col) is = (four n (window_at origin p g ps)).1 (record { row = row; col = col }) rule is
 
-pub read_is_judged : FourNumbers → ReadIsJudged
-read_is_judged four p i written read answer same =
-    let is = answer.3 in
+judged_again : FourNumbers → (n : NoDataNumbers) (origin : Cell) (p : Place) (g : Grid) (ps : Products) (written read : WindowReport) →
+    IsAnswerOn n origin p g ps written.verdict written.report → contents_of read ≡ contents_of written → IsJudgedFrom (window_at origin p g ps) read
+judged_again four n origin p g ps written read is same =
+    let w = window_at origin p g ps in
     let report : read.report ≡ written.report = ap (λ (w : Contents). w.report) same in
     let verdict : read.verdict ≡ written.verdict = ap (λ (w : Contents). w.verdict) same in
-    let of_written : IsVerdictInside written.report.nodata (window_of p i) written.verdict =
-    subst (λ (n : NoDataNumbers). IsVerdictInside n (window_of p i) written.verdict) (sym is.nodata_is)
-    (inside four (nodata_numbers i) (map_origin (tiling_of i)) p (input_grid i) (input_products i) written.verdict is.verdict) in
+    let of_written : IsVerdictInside written.report.nodata w written.verdict =
+    subst (λ (m : NoDataNumbers). IsVerdictInside m w written.verdict) (sym is.nodata_is) (inside four n origin p g ps written.verdict is.verdict) in
     record {
-      report = subst (λ (r : Report). IsReportOf SEAM_DEPTH (window_of p i) r) (sym report) is.report;
+      report = subst (λ (r : Report). IsReportOf SEAM_DEPTH w r) (sym report) is.report;
       verdict =
-          subst (λ (r : Report). IsVerdictInside r.nodata (window_of p i) read.verdict) (sym report)
-          (subst (λ (v : Verdict). IsVerdictInside written.report.nodata (window_of p i) v) (sym verdict) of_written);
+          subst (λ (r : Report). IsVerdictInside r.nodata w read.verdict) (sym report)
+          (subst (λ (v : Verdict). IsVerdictInside written.report.nodata w v) (sym verdict) of_written);
     }
+
+pub read_is_judged : FourNumbers → ReadIsJudged
+read_is_judged four p i written read answer same =
+    judged_again four (nodata_numbers i) (map_origin (tiling_of i)) p (input_grid i) (input_products i) written read answer.3 same
+
+pub read_dem_is_judged : FourNumbers → ReadDemIsJudged
+read_dem_is_judged four at p d t written read answer same =
+    let s : GroundSet = record { terrain = dem_ground d; texts = t } in
+    judged_again four (set_numbers s) at p (set_grid s) (set_products s) written read answer.1.1 same

@@ -3,7 +3,9 @@ use Rattle.std.specs.Prelude.{◌≡◌, Ok, ℕ, List, [], ◌∷◌, map, Opti
 use Rattle.drain_merge.specs.UnionVerdicts.{IsJudgedFrom}
 use Rattle.drain_report.specs.Contents.{contents_of}
 use Rattle.drain_verdict.specs.Inputs.{Inputs}
-use Rattle.drain_window.specs.WindowAnswers.{IsWindowAnswer, window_of}
+use Rattle.drain_verdict.specs.Texts.{SetTexts}
+use Rattle.drain_window.specs.WindowAnswers.{IsDemWindow, IsWindowAnswer, window_in, window_of}
+use Rattle.drain_grid.specs.declared.cell.Cell.{Cell}
 use Rattle.drain_union.specs.declared.place.Place.{Place}
 use Rattle.drain_union.specs.declared.report.WindowReport.{WindowReport}
 use Rattle.std.specs.List.{All, flat_map}
@@ -19,7 +21,6 @@ use Rattle.drain_verdict.specs.TileGround.{TellTiles}
 use Rattle.drain_verdict.specs.Answers.{IsAnswer, IsAnswerIn}
 use Rattle.drain_verdict.specs.DemGround.{DemTexts, EncodesDem, dem_ground}
 use Rattle.drain_verdict.specs.Meaning.{texts_of}
-use Rattle.drain_verdict.specs.Texts.{SetTexts}
 use Rattle.drain_verdict.specs.declared.next_rows.RasterInput.{RasterInput}
 use Rattle.drain_grid.specs.declared.product.Product.TheVariants.{Con}
 use Rattle.drain_header.specs.Header.{Fields}
@@ -35,6 +36,12 @@ abbrev pub ReadIsJudged : Type 0
 ReadIsJudged =
     (p : Place) (i : Inputs) (written read : WindowReport) → IsWindowAnswer p i (Ok written) → contents_of read ≡ contents_of written →
     IsJudgedFrom (window_of p i) read
+
+-- the same of a window of a part of a raster of elevations
+abbrev pub ReadDemIsJudged : Type 0
+ReadDemIsJudged =
+    (at : Cell) (p : Place) (d : DemTexts) (t : SetTexts) (written read : WindowReport) → IsDemWindow at p (record { terrain = dem_ground d; texts = t }) (Ok written) →
+    contents_of read ≡ contents_of written → IsJudgedFrom (window_in at p (record { terrain = dem_ground d; texts = t })) read
 
 -- the bytes that a check is given of the products: of each its header, and then its raster
 unfoldable pub files_given : SetTexts → List (List ℕ)

@@ -1,5 +1,5 @@
 -- How the first part of a run of `drain window` ends: with what is to be reported, or with the reason why there is none.
-use Rattle.std.specs.Prelude.{ℕ, List, Result, Ok, Err, codes, ◌≡◌}
+use Rattle.std.specs.Prelude.{ℕ, List, Result, Ok, Err, IfOk, codes, ◌≡◌}
 use Rattle.drain_answer.specs.Lines.{verdict_line}
 use Rattle.drain_maker.specs.declared.product_files.SetFault.{SetFault}
 use Rattle.drain_maker.specs.declared.product_files.SetFault.TheVariants.{WriteFailed, OutOfMemory}
@@ -10,13 +10,17 @@ use Rattle.drain_grid.specs.declared.verdict.Verdict.{Verdict}
 use Rattle.drain_union.specs.Reports.{Agree}
 use Rattle.drain_union.specs.declared.report.WindowReport.{WindowReport}
 use Rattle.drain_device.specs.Failing.{Sink, Source}
+use Rattle.drain_grid.specs.declared.cell.Cell.{Cell}
 use Rattle.drain_hgt.specs.declared.input.TileInput.{TileInput}
 use Rattle.drain_answer.specs.Printing.{Prints}
 use Rattle.drain_answer.specs.Statuses.{refusal_status}
 use Rattle.drain_verdict.specs.Answers.{ForAudit}
+use Rattle.drain_verdict.specs.DemGround.{DemUses, ForDem, dem_audit_devices}
+use Rattle.drain_verdict.specs.Inputs.{as_five}
 use Rattle.drain_verdict.specs.Uses.{AuditUses}
 use Rattle.drain_verdict.specs.declared.audit_products.AuditProducts.{AuditProducts}
-use Rattle.drain_window.specs.WindowAnswers.{as_refused, IsWindowAnswer}
+use Rattle.drain_verdict.specs.declared.next_rows.RasterInput.{RasterInput}
+use Rattle.drain_window.specs.WindowAnswers.{as_refused, IsDemWindow, IsOfDem, IsWindowAnswer}
 use Rattle.drain_window.specs.WindowLines.{refusal_line}
 use Rattle.drain_window.specs.declared.answered.WindowRefusal.{WindowRefusal}
 use Rattle.drain_window.specs.declared.answered.WindowRefusal.TheVariants.{Inputs, OutsideMosaic}
@@ -55,6 +59,13 @@ pub record IsWindowOutcome {R : Type 0} (source : Source R) (p : Place) (side : 
     (products_old products_new : AuditProducts R) (outcome : Result WindowReport WindowRefusal) : Type 0 where
   pub answer : ForAudit source.bytes_left side tiles_old sinks products_old (λ i. IsWindowAnswer p i outcome)
   pub uses : AuditUses source.bytes_left source.counts side (tiles_old, products_old) (tiles_new, products_new) (as_refused outcome)
+
+-- the same of a part of a raster of elevations, which begins at this cell of the whole
+pub record IsDemWindowOutcome {R : Type 0} (source : Source R) (p : Place) (at : Cell) (dem_old dem_new : List (RasterInput R)) (sinks : List ℕ)
+    (products_old products_new : AuditProducts R) (outcome : Result WindowReport WindowRefusal) : Type 0 where
+  pub answer : ForDem source.bytes_left dem_old sinks (as_five products_old) (λ s. IsDemWindow at p s outcome)
+  pub part : IfOk outcome (IsOfDem at dem_old)
+  pub uses : DemUses as_five dem_audit_devices source.bytes_left source.counts (dem_old, products_old) (dem_new, products_new) (as_refused outcome)
 
 -- the status of a refusal
 abbrev pub refusal_code : WindowRefusal → Status

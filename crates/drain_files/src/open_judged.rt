@@ -109,13 +109,15 @@ fn open_dem<'a>(
     open_raster(opener, header.as_str(), raster.as_str())
 }
 
-/// Opens the files of a window of a mosaic: those of an audit.
+/// Opens the files of a window: those of an audit.
 pub fn open_audited<'a>(
     opener: &mut Opener<'_>,
-    args: &ProductArgs<'_, TileArgs<'_>>,
+    args: &ProductArgs<'_, Elevations<'_>>,
     progress: &'a Progress<'a>,
-) -> Result<OpenFiles<OpenTiles<InputFile<'a>>, AuditProducts<InputFile<'a>>>, OpenFault> {
-    let elevations = open_mosaic(opener, &args.elevations)?;
+) -> Result<OpenFiles<OpenElevations<InputFile<'a>>, AuditProducts<InputFile<'a>>>, OpenFault>
+    ensures elevations { IfOk result (λ files. AreElevationsOf args.now.elevations files.elevations) }
+{
+    let elevations = open_elevations(opener, &args.elevations)?;
     let mut products = open_four(opener, args.folder, Judged::All)?;
     count_con(&mut products.con, progress);
     let sinks = list_at(opener, args.sinks)?;

@@ -5,7 +5,7 @@ use Rattle.drain_merge.specs.declared.map_merge.UnionBox.{UnionBox}
 use Rattle.drain_merge.specs.declared.merge_verdict.MergeRefusal.{MergeRefusal}
 use Rattle.drain_merge.specs.declared.merge_verdict.MergeRefusal.TheVariants.{OutOfMemory}
 use Rattle.drain_merge.specs.declared.totals.UnionSinks.{UnionSinks}
-use Rattle.drain_merge.specs.MapBoxes.{box_of, boxed, HaveOneSide, IsBoxRefusal, IsMapRefusal, top_of, left_of, JudgedFromMap, BoxBegins}
+use Rattle.drain_merge.specs.MapBoxes.{box_of, boxed, HaveOneGrid, IsBoxRefusal, IsMapRefusal, top_of, left_of, JudgedFromMap, BoxBegins}
 use Rattle.drain_merge.specs.Places.{judged_from, cell_from, place_from, outlet_from, shown_from, window_from}
 use Rattle.std.specs.List.{Contains}
 use Rattle.std.proofs.lemmas.List.{get_or-map, length-map}
@@ -26,11 +26,11 @@ use Rattle.drain_merge.specs.UnionVerdicts.{IsVerdictInside}
 
 -- A refusal of the windows that are counted from their box is one of the windows on the map.
 
-of_box : (sinks : UnionSinks) (ws : List WindowReport) (r : MergeRefusal) → HaveOneSide ws → IsBoxRefusal (box_of ws).size sinks (boxed ws) r → IsMapRefusal sinks ws r
+of_box : (sinks : UnionSinks) (ws : List WindowReport) (r : MergeRefusal) → HaveOneGrid ws → IsBoxRefusal (box_of ws).size sinks (boxed ws) r → IsMapRefusal sinks ws r
 of_box sinks ws OutOfMemory one is = tt
 of_box sinks ws r one is = inr (one, is)
 
-pub map_refusal : (sinks : UnionSinks) (ws moved : List WindowReport) (b : UnionBox) (r : MergeRefusal) → HaveOneSide ws → b ≡ box_of ws →
+pub map_refusal : (sinks : UnionSinks) (ws moved : List WindowReport) (b : UnionBox) (r : MergeRefusal) → HaveOneGrid ws → b ≡ box_of ws →
     moved ≡ map (judged_from b.origin) ws → IsBoxRefusal b.size sinks moved r → IsMapRefusal sinks ws r
 map_refusal sinks ws moved b r one bounds is refused =
     let all : moved ≡ boxed ws = is ∙ ap (λ (x : UnionBox). map (judged_from x.origin) ws) bounds in

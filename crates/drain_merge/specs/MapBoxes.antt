@@ -6,10 +6,14 @@ use Rattle.drain_grid.specs.Extent.{Extent}
 use Rattle.drain_union.specs.Reports.{Report}
 use Rattle.drain_union.specs.Windows.{Window, AreWindowsOf}
 use Rattle.drain_union.specs.declared.report.WindowReport.{WindowReport}
+use Rattle.drain_union.specs.declared.union_grid.DemPart.{DemPart}
+use Rattle.drain_union.specs.declared.union_grid.UnionGrid.{UnionGrid}
+use Rattle.drain_union.specs.declared.union_grid.UnionGrid.TheVariants.{Tiles, Dem}
+use Rattle.drain_union.specs.UnionGrids.{CountsOn}
 use Rattle.drain_merge.specs.declared.map_merge.MapVerdict.{MapVerdict}
 use Rattle.drain_merge.specs.declared.map_merge.UnionBox.{UnionBox}
 use Rattle.drain_merge.specs.declared.merge_verdict.MergeRefusal.{MergeRefusal}
-use Rattle.drain_merge.specs.declared.merge_verdict.MergeRefusal.TheVariants.{OtherSide, OutOfMemory}
+use Rattle.drain_merge.specs.declared.merge_verdict.MergeRefusal.TheVariants.{OtherSide, OtherGrid, OutOfMemory}
 use Rattle.drain_merge.specs.declared.merge_verdict.MergeVerdict.{MergeVerdict}
 use Rattle.drain_merge.specs.declared.totals.UnionSinks.{UnionSinks}
 use Rattle.drain_merge.specs.Merges.{IsMergeRefusal}
@@ -52,22 +56,27 @@ box_of windows = record {
 abbrev pub boxed : List WindowReport → List WindowReport
 boxed windows = map (judged_from (box_of windows).origin) windows
 
--- the tiles of all windows have one side
-abbrev pub HaveSide : ℕ → List WindowReport → Type 0
-HaveSide side windows = All (λ w. w.side ≡ side) windows
+-- rows and columns of all windows count on one grid
+abbrev pub HaveGrid : UnionGrid → List WindowReport → Type 0
+HaveGrid grid windows = All (λ w. CountsOn grid w.grid) windows
 
-abbrev pub HaveOneSide : List WindowReport → Type 0
-HaveOneSide windows = (side : ℕ) × HaveSide side windows
+abbrev pub HaveOneGrid : List WindowReport → Type 0
+HaveOneGrid windows = (grid : UnionGrid) × HaveGrid grid windows
 
--- why windows are refused for the sides of their tiles: this is the first window that has another side than the first
-abbrev pub IsSideRefusal : List WindowReport → MergeRefusal → Type 0
-IsSideRefusal windows (OtherSide k) =
-    (side : ℕ) × ((d : WindowReport) → (slice_index_or windows 0 d).side ≡ side) × IsFirstFailing (λ w. w.side ≡ side) windows (Some k)
-IsSideRefusal windows other = ⊥
+-- the first window has this grid, and this is the first whose rows and columns count on another
+abbrev pub IsFirstOther : List WindowReport → UnionGrid → ℕ → Type 0
+IsFirstOther windows grid k =
+    ((d : WindowReport) → (slice_index_or windows 0 d).grid ≡ grid) × IsFirstFailing (λ w. CountsOn grid w.grid) windows (Some k)
 
--- the verdict is that on the box, and the windows lie on one map
+-- why windows are refused for their grids: the first is of tiles, or of a raster
+abbrev pub IsGridRefusal : List WindowReport → MergeRefusal → Type 0
+IsGridRefusal windows (OtherSide k) = (side : ℕ) × IsFirstOther windows (Tiles side) k
+IsGridRefusal windows (OtherGrid k) = (part : DemPart) × IsFirstOther windows (Dem part) k
+IsGridRefusal windows other = ⊥
+
+-- the verdict is that on the box, and the windows lie on one grid
 pub record IsMapVerdict (windows : List WindowReport) (m : MapVerdict) : Type 0 where
-  pub one_side : HaveOneSide windows
+  pub one_grid : HaveOneGrid windows
   pub bounds : m.bounds ≡ box_of windows
   pub verdict : IsUnionVerdict (box_of windows).size (boxed windows) m.verdict
 
@@ -89,11 +98,11 @@ IsBoxRefusal e sinks windows refusal =
     IsMergeRefusal e windows refusal
     ⊎ (((v : MergeVerdict) × IsUnionVerdict e windows v) × (¬ SomeIsRejected windows) × IsSinkRefusal sinks windows refusal)
 
--- a refusal of windows on a map is one for their sides, or one on the box, unless memory runs out
+-- a refusal of windows on a map is one for their grids, or one on the box, unless memory runs out
 abbrev pub IsMapRefusal : UnionSinks → List WindowReport → MergeRefusal → Type 0
 IsMapRefusal sinks windows OutOfMemory = Unit {0}
 IsMapRefusal sinks windows refusal =
-    IsSideRefusal windows refusal ⊎ (HaveOneSide windows × IsBoxRefusal (box_of windows).size sinks (boxed windows) refusal)
+    IsGridRefusal windows refusal ⊎ (HaveOneGrid windows × IsBoxRefusal (box_of windows).size sinks (boxed windows) refusal)
 
 -- What the box on a map has to do with the windows there. The laws are this project's own.
 

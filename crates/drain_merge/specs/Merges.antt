@@ -9,7 +9,7 @@ use Rattle.drain_union.specs.declared.place.Place.{Place}
 use Rattle.drain_union.specs.Windows.{BothJudgeOne, JudgesSome, IsPlaceIn, IsJudgedAtSome}
 use Rattle.drain_union.specs.declared.report.WindowReport.{WindowReport}
 use Rattle.drain_merge.specs.declared.merge_verdict.MergeRefusal.{MergeRefusal}
-use Rattle.drain_merge.specs.declared.merge_verdict.MergeRefusal.TheVariants.{NoReports, OtherSide, OtherNoData, OutsideUnion, JudgesNothing, Overlap, LeftOut, SeamsDiffer, SinkLeftOut, SinkNotListed, OutOfMemory}
+use Rattle.drain_merge.specs.declared.merge_verdict.MergeRefusal.TheVariants.{NoReports, OtherSide, OtherGrid, OtherNoData, OutsideUnion, JudgesNothing, Overlap, LeftOut, SeamsDiffer, SinkLeftOut, SinkNotListed, OutOfMemory}
 use Rattle.drain_merge.specs.declared.merge_verdict.MergeVerdict.{MergeVerdict}
 use Rattle.drain_merge.specs.declared.merge_verdict.MergeVerdict.TheVariants.{Accepted, Rejected}
 use Rattle.drain_merge.specs.Seams.{IsFirstUnjudged, IsFirstOfFaults, IsFirstDifference, IsFirstSharing}
@@ -59,6 +59,7 @@ IsMergeRefusal e windows (SeamsDiffer c) =
 IsMergeRefusal e windows OutOfMemory = HaveOneNoData windows
 IsMergeRefusal e windows NoReports = IsNoDataRefusal windows NoReports
 IsMergeRefusal e windows (OtherSide k) = ⊥
+IsMergeRefusal e windows (OtherGrid k) = ⊥
 IsMergeRefusal e windows (SinkLeftOut n) = ⊥
 IsMergeRefusal e windows (SinkNotListed c) = ⊥
 IsMergeRefusal e windows (OtherNoData k) = IsNoDataRefusal windows (OtherNoData k)

@@ -82,7 +82,7 @@ report_from origin r = record {
 }
 
 abbrev pub judged_from : Cell → WindowReport → WindowReport
-judged_from origin j = record { side = j.side; tiles = j.tiles; verdict = j.verdict; report = report_from origin j.report }
+judged_from origin j = record { grid = j.grid; tiles = j.tiles; verdict = j.verdict; report = report_from origin j.report }
 
 -- the window, as one of a union that begins at this cell
 abbrev pub window_from : Cell → Window → Window

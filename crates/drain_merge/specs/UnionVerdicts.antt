@@ -4,7 +4,7 @@ use Rattle.drain_grid.specs.declared.cell.Cell.{Cell}
 use Rattle.drain_answer.specs.Lines.{counted_line, rejected_line}
 use Rattle.drain_merge.specs.declared.map_merge.MapVerdict.{MapVerdict}
 use Rattle.drain_merge.specs.declared.merge_verdict.MergeRefusal.{MergeRefusal}
-use Rattle.drain_merge.specs.declared.merge_verdict.MergeRefusal.TheVariants.{NoReports, OtherSide, OtherNoData, OutsideUnion, JudgesNothing, Overlap, LeftOut, SeamsDiffer, SinkLeftOut, SinkNotListed, OutOfMemory}
+use Rattle.drain_merge.specs.declared.merge_verdict.MergeRefusal.TheVariants.{NoReports, OtherSide, OtherGrid, OtherNoData, OutsideUnion, JudgesNothing, Overlap, LeftOut, SeamsDiffer, SinkLeftOut, SinkNotListed, OutOfMemory}
 use Rattle.drain_merge.specs.declared.merge_verdict.MergeVerdict.{MergeVerdict}
 use Rattle.drain_merge.specs.declared.merge_verdict.MergeVerdict.TheVariants.{Accepted, Rejected}
 use Rattle.drain_merge.specs.declared.places.Clash.{Clash}
@@ -53,6 +53,7 @@ overlap_line clash = codes "refused Overlap " ++ decimal clash.earlier ++ codes 
 abbrev pub refusal_line : MergeRefusal → List ℕ
 refusal_line NoReports = codes "refused NoReports"
 refusal_line (OtherSide k) = codes "refused OtherSide " ++ decimal k
+refusal_line (OtherGrid k) = codes "refused OtherGrid " ++ decimal k
 refusal_line (OtherNoData k) = codes "refused OtherNoData " ++ decimal k
 refusal_line (OutsideUnion k) = codes "refused OutsideUnion " ++ decimal k
 refusal_line (JudgesNothing k) = codes "refused JudgesNothing " ++ decimal k

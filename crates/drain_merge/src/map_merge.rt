@@ -8,7 +8,7 @@ ghost use Rattle.drain_merge.specs.UnionVerdicts.{IsUnionVerdict};
 use crate::merge_verdict::{MergeRefusal, MergeVerdict};
 use crate::merger::merge;
 use crate::places::{UnionSize, moved_window};
-use crate::shared::check_sides;
+use crate::shared::check_grids;
 use crate::totals::{UnionSinks, check_sinks, some_is_rejected};
 use drain_grid::{Cell, OutOfMemory};
 use drain_union::place::end_of;
@@ -46,7 +46,7 @@ pub fn merge_on_map(
     // Each refusal comes where it is the first that applies, unless memory runs out.
     ensures refusal { IfErr result (IsMapRefusal sinks.now windows.items) }
 {
-    check_sides(&windows)?;
+    check_grids(&windows)?;
     let bounds = union_box(&windows);
     let moved = moved_windows(alloc, bounds.origin, windows)?;
     let verdict = verdict_on(alloc, bounds.size, &moved, sinks)?;

@@ -171,6 +171,7 @@ fn refusal_line(refusal: MergeRefusal) -> Line
     match refusal {
         MergeRefusal::NoReports => words("refused NoReports"),
         MergeRefusal::OtherSide(place) => of_number("refused OtherSide ", place as u64),
+        MergeRefusal::OtherGrid(place) => of_number("refused OtherGrid ", place as u64),
         MergeRefusal::OtherNoData(place) => of_number("refused OtherNoData ", place as u64),
         MergeRefusal::OutsideUnion(place) => of_number("refused OutsideUnion ", place as u64),
         MergeRefusal::JudgesNothing(place) => of_number("refused JudgesNothing ", place as u64),
@@ -233,10 +234,14 @@ pub enum MergeRefusal {
     /// The list is empty.
     #[error("there is no report")]
     NoReports,
-    /// The first window whose tiles have another side than those of the first one of the list. `merge_on_map` alone
-    /// compares sides.
-    #[error("the tiles of a window have another side")]
+    /// The first one of the list is of tiles, and this is the first window that isn't of tiles of its side. `merge_on_map`
+    /// alone compares grids.
+    #[error("a window isn't of tiles of this side")]
     OtherSide(usize),
+    /// The first one of the list is of a raster of elevations, and this is the first window that isn't of this raster: by
+    /// their headers the whole raster begins elsewhere or has other pixels (`UnionGrid::has`).
+    #[error("a window isn't of this raster")]
+    OtherGrid(usize),
     /// The first window that has other no-data numbers than the first one of the list.
     #[error("a window has other no-data numbers")]
     OtherNoData(usize),
@@ -264,7 +269,7 @@ pub enum MergeRefusal {
     /// sink and the list doesn't have.
     #[error("a window took a sink that isn't listed")]
     SinkNotListed(Cell),
-    /// Out of memory. This may come at any step after `OtherSide`.
+    /// Out of memory. This may come at any step after `OtherSide` and `OtherGrid`.
     #[error("out of memory")]
     OutOfMemory,
 }

@@ -14,13 +14,13 @@ pub(crate) fn moved_window(origin: Cell, window: WindowReport) -> WindowReport
     ensures { result ≡ judged_from origin window }
 {
     let WindowReport {
-        side,
+        grid,
         tiles,
         verdict,
         report,
     } = window;
     WindowReport {
-        side,
+        grid,
         tiles,
         verdict,
         report: moved_report(origin, report),

@@ -1,47 +1,51 @@
-//! Labels that two outlets share.
+//! What windows have in common: one grid, one set of no-data numbers, and labels that two outlets share.
 
 ghost use Rattle.std.specs.Prelude.{◌≡◌, ◌↔◌, IfErr, IsTrue, OnOk, ◌<◌, length};
-ghost use Rattle.drain_merge.specs.MapBoxes.{HaveOneSide, IsSideRefusal};
+ghost use Rattle.drain_merge.specs.MapBoxes.{HaveOneGrid, IsGridRefusal};
 ghost use Rattle.drain_merge.specs.Places.{IsFirstFailing};
 ghost use Rattle.std.specs.List.Sorted.{IsPermutation};
 ghost use Rattle.drain_union.specs.Reports.{SharesAt};
+ghost use Rattle.drain_union.specs.UnionGrids.{CountsOn};
 ghost use Rattle.drain_merge.specs.Seams.{AreInOrder, IsFirstSharing, IsLeastSharing, IsEarlierOf};
 
 use crate::merge_verdict::{MergeRefusal, is_earlier};
 use drain_grid::Cell;
-use drain_union::{AuditNoData, Outlet, WindowReport};
+use drain_union::{AuditNoData, Outlet, UnionGrid, WindowReport};
 
-/// Refuses windows whose tiles have several sides: their rows and columns count on several maps.
-pub(crate) fn check_sides(windows: &[WindowReport]) -> Result<(), MergeRefusal>
-    ensures one { OnOk result (HaveOneSide windows.now) }
-    ensures refusal { IfErr result (IsSideRefusal windows.now) }
+/// Refuses windows whose rows and columns count on several grids.
+pub(crate) fn check_grids(windows: &[WindowReport]) -> Result<(), MergeRefusal>
+    ensures one { OnOk result (HaveOneGrid windows.now) }
+    ensures refusal { IfErr result (IsGridRefusal windows.now) }
 {
     let Some(first) = windows.first() else {
         return Ok(());
     };
-    match first_other_side(windows, first.side) {
-        Some(place) => Err(MergeRefusal::OtherSide(place)),
-        None => Ok(()),
+    let Some(place) = first_on_other(windows, &first.grid) else {
+        return Ok(());
+    };
+    match first.grid {
+        UnionGrid::Tiles(_) => Err(MergeRefusal::OtherSide(place)),
+        UnionGrid::Dem(_) => Err(MergeRefusal::OtherGrid(place)),
     }
 }
 
-/// The first window whose tiles have another side than this.
-fn first_other_side(windows: &[WindowReport], side: u32) -> Option<usize>
-    ensures { IsFirstFailing (λ w. w.side ≡ side) windows.now result }
+/// The first window whose rows and columns count on another grid than this.
+fn first_on_other(windows: &[WindowReport], grid: &UnionGrid) -> Option<usize>
+    ensures { IsFirstFailing (λ w. CountsOn grid.now w.grid) windows.now result }
 {
     for i in 0..windows.len() {
-        if !has_side(&windows[i], side) {
+        if !counts_on(grid, &windows[i]) {
             return Some(i);
         }
     }
     None
 }
 
-/// Whether the tiles of the window have this side.
-fn has_side(window: &WindowReport, side: u32) -> bool
-    ensures { IsTrue result ↔ (window.now.side ≡ side) }
+/// Whether rows and columns of the window count on this grid.
+fn counts_on(grid: &UnionGrid, window: &WindowReport) -> bool
+    ensures { IsTrue result ↔ CountsOn grid.now window.now.grid }
 {
-    window.side == side
+    grid.has(&window.grid)
 }
 
 /// The first window with other no-data numbers than these.

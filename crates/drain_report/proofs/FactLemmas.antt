@@ -11,8 +11,11 @@ use Rattle.drain_grid.specs.declared.verdict.Verdict.{Verdict}
 use Rattle.drain_grid.specs.declared.verdict.Verdict.TheVariants.{Accepted, Rejected}
 use Rattle.drain_union.specs.declared.place.InnerSides.{InnerSides}
 use Rattle.drain_union.specs.declared.place.Place.{Place}
+use Rattle.drain_union.specs.declared.union_grid.DemPart.{DemPart}
+use Rattle.drain_union.specs.declared.union_grid.UnionGrid.{UnionGrid}
+use Rattle.drain_union.specs.declared.union_grid.UnionGrid.TheVariants.{Tiles, Dem}
 use Rattle.drain_report.specs.Lines.{line, IsLong, AreLong}
-use Rattle.drain_report.specs.Facts.{IsNarrow, flag_number, CountsFit, VerdictFits, verdict_line, cell_numbers, IsOutlet, outlet_numbers, other_numbers, IsPlace, place_numbers, IsAuditNoData, nodata_numbers, count_numbers, fault_numbers}
+use Rattle.drain_report.specs.Facts.{IsNarrow, flag_number, CountsFit, VerdictFits, verdict_line, cell_numbers, IsOutlet, outlet_numbers, other_numbers, IsPlace, place_numbers, IsAuditNoData, nodata_numbers, count_numbers, fault_numbers, GridFits, grid_line, IsPart, part_line, part_numbers}
 use Rattle.std.specs.Int.{w64}
 use Rattle.std.proofs.lemmas.Int.{fits_signed_from_abs, ints}
 use Rattle.drain_grid.specs.Rule.{rule_number}
@@ -144,3 +147,27 @@ pub fault_long : (r : Rule) (c : Cell) → IsNarrow c → AreLong (fault_numbers
 fault_long r c fit =
     let few = (numbered r).1 in
     (narrow_long (rule_number r) (omega (arith, few)), (narrow_long c.row fit.row, (narrow_long c.col fit.col, tt)))
+
+-- the line of a grid is of one kind
+
+pub part_long : (d : DemPart) → IsPart d → AreLong (part_numbers d)
+part_long d fit = (
+  narrow_long d.at.row fit.at.row,
+  (
+    narrow_long d.at.col fit.at.col,
+    (
+      fit.ulx.units,
+      (fit.ulx.parts, (fit.uly.units, (fit.uly.parts, (fit.xdim.units, (fit.xdim.parts, (fit.ydim.units, (fit.ydim.parts, tt))))))),
+    ),
+  ),
+)
+
+pub not_both_grids : (text x y : List ℕ) (ns ms : List ℤ) → text ≡ line (codes "side") ns ++ x → text ≡ line (codes "dem") ms ++ y → ⊥
+not_both_grids text x y ns ms p q = let e : 115 ≡ 100 = ap (λ l. slice_index_or l 0 0) (sym p ∙ q) in absurd (omega (arith, e))
+
+-- what holds of both kinds holds of a grid
+pub by_grid : (Q : UnionGrid → Type 0) (text rest : List ℕ) → ((n : ℕ) → n < 2 ^ 32 → text ≡ grid_line (Tiles n) ++ rest → Q (Tiles n))
+    → ((d : DemPart) → IsPart d → text ≡ part_line d ++ rest → Q (Dem d))
+    → (g : UnionGrid) → GridFits g → text ≡ grid_line g ++ rest → Q g
+by_grid Q text rest tiles dem (Tiles n) fit is = tiles n fit is
+by_grid Q text rest tiles dem (Dem d) fit is = dem d fit is

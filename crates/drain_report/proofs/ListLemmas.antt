@@ -93,6 +93,12 @@ four ns a b c d long p q r s =
     let all : ns ≡ get_or ns 0 (pos 0) ∷ get_or ns 1 (pos 0) ∷ get_or ns 2 (pos 0) ∷ get_or ns 3 (pos 0) ∷ [] = exact_from 0 4 ns (omega arith) in
     all ∙ rw (p, q, r, s) refl
 
+pub ten : (ns : List ℤ) (a b c d e f g h i j : ℤ) → length ns ≡ 10 → get_or ns 0 (pos 0) ≡ a → get_or ns 1 (pos 0) ≡ b → get_or ns 2 (pos 0) ≡ c → get_or ns 3 (pos 0) ≡ d → get_or ns 4 (pos 0) ≡ e → get_or ns 5 (pos 0) ≡ f → get_or ns 6 (pos 0) ≡ g → get_or ns 7 (pos 0) ≡ h → get_or ns 8 (pos 0) ≡ i → get_or ns 9 (pos 0) ≡ j
+    → ns ≡ a ∷ b ∷ c ∷ d ∷ e ∷ f ∷ g ∷ h ∷ i ∷ j ∷ []
+ten ns a b c d e f g h i j long p0 p1 p2 p3 p4 p5 p6 p7 p8 p9 =
+    let all : ns ≡ get_or ns 0 (pos 0) ∷ get_or ns 1 (pos 0) ∷ get_or ns 2 (pos 0) ∷ get_or ns 3 (pos 0) ∷ get_or ns 4 (pos 0) ∷ get_or ns 5 (pos 0) ∷ get_or ns 6 (pos 0) ∷ get_or ns 7 (pos 0) ∷ get_or ns 8 (pos 0) ∷ get_or ns 9 (pos 0) ∷ [] = exact_from 0 10 ns (omega arith) in
+    all ∙ rw (p0, p1, p2, p3, p4, p5, p6, p7, p8, p9) refl
+
 module _ {X : Type 0} (f : X → List ℕ) where
   pub all-append : (xs ys : List X) → all_text f (xs ++ ys) ≡ all_text f xs ++ all_text f ys
   all-append [] ys = refl

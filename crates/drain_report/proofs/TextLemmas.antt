@@ -9,8 +9,9 @@ use Rattle.drain_union.specs.Reports.{Report, is_accepted}
 use Rattle.drain_union.specs.declared.report.Outlet.{Outlet}
 use Rattle.drain_union.specs.declared.place.Place.{Place}
 use Rattle.drain_union.specs.declared.report.Shown.{Shown}
+use Rattle.drain_union.specs.declared.union_grid.UnionGrid.{UnionGrid}
 use Rattle.drain_report.specs.declared.head.Head.{Head}
-use Rattle.drain_report.specs.Facts.{count_line, nodata_line, outlet_line, place_line, shown_line, sink_line, tile_line, verdict_line}
+use Rattle.drain_report.specs.Facts.{grid_line, nodata_line, outlet_line, place_line, shown_line, sink_line, tile_line, verdict_line}
 use Rattle.drain_report.specs.Faults.{HasVersion}
 use Rattle.drain_report.specs.Contents.{head_text, version_line, list_text, Contents, end_line, head_of}
 
@@ -39,7 +40,7 @@ five_split a b c d e rest = simp append_assoc
 -- the version comes first
 pub version_first : (text rest : List ℕ) (h : Head) → text ≡ head_text h ++ rest → HasVersion text
 version_first text rest h is =
-    let parts = count_line (codes "side") h.side ++ (place_line h.place ++ (nodata_line h.nodata ++ verdict_line h.verdict)) in
+    let parts = grid_line h.grid ++ (place_line h.place ++ (nodata_line h.nodata ++ verdict_line h.verdict)) in
     (parts ++ rest, is ∙ append_assoc version_line parts rest)
 
 -- two facts of one answer
@@ -55,18 +56,18 @@ pub on_ok : {X E P Q : Type 0} (r : Result X E) → (P → Q) → OnOk r P → O
 on_ok (Ok x) f p = f p
 on_ok (Err e) f p = tt
 
-pub same_head : (h : Head) (side : ℕ) (place : Place) (nodata : NoDataNumbers) (verdict : Verdict) → side ≡ h.side → place ≡ h.place → nodata ≡ h.nodata → verdict ≡ h.verdict
-    → record { side = side; place = place; nodata = nodata; verdict = verdict } ≡ h
-same_head h side place nodata verdict a b c d = rw (a, b, c, d) refl
+pub same_head : (h : Head) (grid : UnionGrid) (place : Place) (nodata : NoDataNumbers) (verdict : Verdict) → grid ≡ h.grid → place ≡ h.place → nodata ≡ h.nodata → verdict ≡ h.verdict
+    → record { grid = grid; place = place; nodata = nodata; verdict = verdict } ≡ h
+same_head h grid place nodata verdict a b c d = rw (a, b, c, d) refl
 
--- the first lines of a report with this side and this verdict
-abbrev pub head_with : ℕ → Verdict → Report → Head
-head_with side verdict r = record { side = side; place = r.place; nodata = r.nodata; verdict = verdict }
+-- the first lines of a report with this grid and this verdict
+abbrev pub head_with : UnionGrid → Verdict → Report → Head
+head_with grid verdict r = record { grid = grid; place = r.place; nodata = r.nodata; verdict = verdict }
 
 -- what these parts say
 abbrev pub contents_with : Head → List Corner → List Cell → List Outlet → List Shown → Contents
 contents_with h tiles sinks outlets seams = record {
-  side = h.side;
+  grid = h.grid;
   tiles = tiles;
   verdict = h.verdict;
   report = record { place = h.place; nodata = h.nodata; holds = is_accepted h.verdict; outlets = outlets; seams = seams; sinks = sinks };
@@ -88,7 +89,7 @@ after_head w = list_text (codes "tiles") tile_line w.tiles ++ after_tiles w
 pub same_contents : (w : Contents) (head : Head) (holds : Bool) (tiles : List Corner) (sinks : List Cell) (outlets : List Outlet) (seams : List Shown)
     → head ≡ head_of w → holds ≡ w.report.holds → tiles ≡ w.tiles → sinks ≡ w.report.sinks → outlets ≡ w.report.outlets → seams ≡ w.report.seams
     → record {
-      side = head.side;
+      grid = head.grid;
       tiles = tiles;
       verdict = head.verdict;
       report = record { place = head.place; nodata = head.nodata; holds = holds; outlets = outlets; seams = seams; sinks = sinks };

@@ -1,11 +1,12 @@
 -- The text of a whole report. The order of its lines is this project's own.
 use Rattle.std.specs.Prelude.{◌<◌, ◌^◌, ℕ, List, ◌++◌, codes, [], ◌∷◌, length}
 use Rattle.drain_report.specs.declared.head.Head.{Head}
-use Rattle.drain_report.specs.Facts.{count_line, IsPlace, place_line, IsAuditNoData, nodata_line, VerdictFits, verdict_line, IsNarrow, sink_line, IsOutlet, outlet_line, IsShown, shown_line, tile_line}
+use Rattle.drain_report.specs.Facts.{count_line, GridFits, grid_line, IsPlace, place_line, IsAuditNoData, nodata_line, VerdictFits, verdict_line, IsNarrow, sink_line, IsOutlet, outlet_line, IsShown, shown_line, tile_line}
 use Rattle.drain_grid.specs.declared.verdict.Verdict.{Verdict}
 use Rattle.drain_hgt.specs.Corner.{Corner, IsOnMap}
 use Rattle.drain_union.specs.Reports.{Report, Agree}
 use Rattle.drain_union.specs.declared.report.WindowReport.{WindowReport}
+use Rattle.drain_union.specs.declared.union_grid.UnionGrid.{UnionGrid}
 
 -- The first lines of a report.
 
@@ -14,11 +15,11 @@ abbrev pub version_line : List ℕ
 version_line = codes "drain-window-report 3\n"
 
 abbrev pub head_text : Head → List ℕ
-head_text h = version_line ++ (count_line (codes "side") h.side ++ (place_line h.place ++ (nodata_line h.nodata ++ verdict_line h.verdict)))
+head_text h = version_line ++ (grid_line h.grid ++ (place_line h.place ++ (nodata_line h.nodata ++ verdict_line h.verdict)))
 
 -- each number is in its range
 pub record HeadFits (h : Head) : Type 0 where
-  pub side : h.side < 2 ^ 32
+  pub grid : GridFits h.grid
   pub place : IsPlace h.place
   pub nodata : IsAuditNoData h.nodata
   pub verdict : VerdictFits h.verdict
@@ -44,16 +45,16 @@ list_text word f xs = count_line word (length xs) ++ all_text f xs
 
 -- what the text of a report says
 pub record Contents : Type 0 where
-  pub side : ℕ
+  pub grid : UnionGrid
   pub tiles : List Corner
   pub verdict : Verdict
   pub report : Report
 
 abbrev pub contents_of : WindowReport → Contents
-contents_of w = record { side = w.side; tiles = w.tiles.items; verdict = w.verdict; report = w.report }
+contents_of w = record { grid = w.grid; tiles = w.tiles.items; verdict = w.verdict; report = w.report }
 
 abbrev pub head_of : Contents → Head
-head_of w = record { side = w.side; place = w.report.place; nodata = w.report.nodata; verdict = w.verdict }
+head_of w = record { grid = w.grid; place = w.report.place; nodata = w.report.nodata; verdict = w.verdict }
 
 -- the last line
 abbrev pub end_line : List ℕ

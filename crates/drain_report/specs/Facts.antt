@@ -7,6 +7,10 @@ use Rattle.drain_union.specs.declared.report.Outlet.{Outlet}
 use Rattle.drain_union.specs.declared.report.Shown.{Shown}
 use Rattle.drain_union.specs.declared.place.Place.{Place}
 use Rattle.drain_union.specs.declared.place.InnerSides.{InnerSides}
+use Rattle.drain_union.specs.declared.union_grid.Decimal.{Decimal}
+use Rattle.drain_union.specs.declared.union_grid.DemPart.{DemPart}
+use Rattle.drain_union.specs.declared.union_grid.UnionGrid.{UnionGrid}
+use Rattle.drain_union.specs.declared.union_grid.UnionGrid.TheVariants.{Tiles, Dem}
 use Rattle.drain_grid.specs.Extent.{IsExtent}
 use Rattle.drain_grid.specs.Rule.{rule_number}
 use Rattle.drain_grid.specs.declared.rule.Rule.{Rule}
@@ -68,6 +72,35 @@ pub record IsShown (s : Shown) : Type 0 where
 -- a line of one whole number
 abbrev pub count_line : List ℕ → ℕ → List ℕ
 count_line word n = line word (pos n ∷ [])
+
+-- dem ROW COL, and the header's ULXMAP, ULYMAP, XDIM and YDIM, each as whole units and what is beyond them
+abbrev pub part_numbers : DemPart → List ℤ
+part_numbers d =
+    pos d.at.row ∷ pos d.at.col ∷ d.ulx.units ∷ d.ulx.parts ∷ d.uly.units ∷ d.uly.parts ∷ d.xdim.units ∷ d.xdim.parts ∷ d.ydim.units ∷ d.ydim.parts ∷ []
+
+abbrev pub part_line : DemPart → List ℕ
+part_line d = line (codes "dem") (part_numbers d)
+
+-- whole units, and what is beyond them, are signed numbers of 64 bits
+pub record IsDecimal (d : Decimal) : Type 0 where
+  pub units : IsLong d.units
+  pub parts : IsLong d.parts
+
+pub record IsPart (d : DemPart) : Type 0 where
+  pub at : IsNarrow d.at
+  pub ulx : IsDecimal d.ulx
+  pub uly : IsDecimal d.uly
+  pub xdim : IsDecimal d.xdim
+  pub ydim : IsDecimal d.ydim
+
+-- side N, or the line of a part of a raster
+abbrev pub grid_line : UnionGrid → List ℕ
+grid_line (Tiles side) = count_line (codes "side") side
+grid_line (Dem part) = part_line part
+
+abbrev pub GridFits : UnionGrid → Type 0
+GridFits (Tiles side) = side < 2 ^ 32
+GridFits (Dem part) = IsPart part
 
 -- inner NORTH SOUTH WEST EAST, then window TOP LEFT ROWS COLS before them
 abbrev pub side_numbers : InnerSides → List ℤ

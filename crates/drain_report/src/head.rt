@@ -10,11 +10,11 @@ ghost use Rattle.drain_report.specs.Contents.{HeadFits, head_text, version_line}
 
 use crate::facts::{Fact, ReportLine, at, read_fact};
 use crate::fault::ReportFault;
+use crate::grid::{push_grid, read_grid};
 use crate::lines::{Lines, after_word, push, push_line};
-use crate::numbers::{push_count, read_count};
 use drain_grid::nodata::{GREATEST_NODATA, LEAST_NODATA};
 use drain_grid::{OutOfMemory, Verdict};
-use drain_union::{AuditNoData, Place};
+use drain_union::{AuditNoData, Place, UnionGrid};
 
 /// The no-data number at a place, if it is in range.
 fn nodata_at(numbers: &[i64], place: usize) -> Option<i64>
@@ -67,7 +67,7 @@ impl ReportLine for AuditNoData {
 /// What the first lines of a report say.
 #[derive(Clone, Copy)]
 pub struct Head {
-    pub side: u32,
+    pub grid: UnionGrid,
     pub place: Place,
     pub nodata: AuditNoData,
     pub verdict: Verdict,
@@ -98,7 +98,7 @@ pub fn read_head(text: &[u8]) -> Result<(Head, Lines), ReportFault>
         Ok(read) => read,
         Err(fault) => return Err(fault),
     };
-    let (side, lines) = match read_count(first, "side") {
+    let (grid, lines) = match read_grid(first) {
         Ok(read) => read,
         Err(fault) => return Err(fault),
     };
@@ -116,7 +116,7 @@ pub fn read_head(text: &[u8]) -> Result<(Head, Lines), ReportFault>
     };
     Ok((
         Head {
-            side,
+            grid,
             place,
             nodata,
             verdict,
@@ -131,7 +131,7 @@ pub fn push_head(text: &mut Vec<u8>, head: &Head) -> Result<(), OutOfMemory>
     ensures in_range { OnOk result (HeadFits head.now) }
 {
     push(text, VERSION)?;
-    push_count(text, "side", head.side)?;
+    push_grid(text, &head.grid)?;
     head.place.push_to(text)?;
     head.nodata.push_to(text)?;
     head.verdict.push_to(text)

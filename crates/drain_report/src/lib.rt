@@ -3,6 +3,7 @@
 
 mod facts;
 mod fault;
+mod grid;
 mod head;
 mod lines;
 mod lists;

@@ -51,7 +51,7 @@ pub fn read_report(alloc: Global, text: &[u8]) -> Result<WindowReport, ReportFau
         return Err(fault);
     }
     Ok(WindowReport {
-        side: head.side,
+        grid: head.grid,
         tiles,
         verdict: head.verdict,
         report: Report {

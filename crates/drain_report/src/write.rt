@@ -23,7 +23,7 @@ pub fn write_report(alloc: Global, window: &WindowReport) -> Result<Vec<u8>, Out
     let mut text = Vec::new(alloc);
     let report = &window.report;
     let head = Head {
-        side: window.side,
+        grid: window.grid,
         place: report.place,
         nodata: report.nodata,
         verdict: window.verdict,

@@ -2,9 +2,10 @@
 -- outermost row or column of a window is its ring: it is looked at, and not judged.
 -- Source: tiles of a raster that is too large for memory, with a ring of cells from their neighbors (Barnes 2016);
 -- which cells are judged is this project's own.
-use Rattle.std.specs.Prelude.{◌≡◌, ℕ, pos, ◌+◌, ◌-◌, ◌<◌, ◌≤◌, ◌⊎◌, IsTrue, List, if◌then◌else◌, Bool}
+use Rattle.std.specs.Prelude.{◌≡◌, ℕ, pos, ◌+◌, ◌-◌, ◌<◌, ◌≤◌, ◌^◌, ◌⊎◌, IsTrue, List, if◌then◌else◌, Bool}
 use Rattle.std.specs.List.{Contains}
 use Rattle.drain_grid.specs.declared.cell.Cell.{Cell}
+use Rattle.drain_grid.specs.declared.cell.TheConstants.{MAX_LENGTH}
 use Rattle.drain_grid.specs.declared.rule.Rule.{Rule}
 use Rattle.drain_grid.specs.Extent.{Extent, IsCellOf}
 use Rattle.drain_grid.specs.Values.{NoDataNumbers}
@@ -21,6 +22,11 @@ in_union p c = record { row = p.top + c.row; col = p.left + c.col }
 -- the same place, where the grid begins at this cell of a larger one
 abbrev pub moved : Cell → Place → Place
 moved by p = record { top = by.row + p.top; left = by.col + p.left; extent = p.extent; inner = p.inner }
+
+-- each cell of a grid that begins at this cell of the union has a row and a column of 32 bits there
+pub record IsOrigin (origin : Cell) : Type 0 where
+  pub rows : origin.row + MAX_LENGTH < 2 ^ 32
+  pub cols : origin.col + MAX_LENGTH < 2 ^ 32
 
 -- the place lies in a union of this size, and each side that isn't inner is the union's edge
 pub record IsPlaceIn (e : Extent) (p : Place) : Type 0 where

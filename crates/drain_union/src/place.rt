@@ -1,8 +1,9 @@
 //! Where a window lies.
 
 ghost use Rattle.std.specs.Prelude.{◌≡◌, ◌↔◌, ◌+◌, ◌^◌, ◌<◌, IsTrue};
-ghost use Rattle.drain_union.specs.Windows.{IsJudgedAlong};
+ghost use Rattle.drain_union.specs.Windows.{IsJudgedAlong, IsOrigin};
 
+use drain_grid::cell::MAX_LENGTH;
 use drain_grid::{Cell, Shape};
 
 /// How many rows or columns two windows share where they meet: the ring of each, and the first judged row of each.
@@ -119,4 +120,11 @@ pub fn end_of(first: u32, count: u32) -> u64
     ensures { result ≡ first + count }
 {
     u64::from(first) + u64::from(count)
+}
+
+/// Whether each cell of a grid that begins at this cell of a union has a row and a column of 32 bits there.
+pub fn is_origin(origin: Cell) -> bool
+    ensures { IsTrue result ↔ IsOrigin origin }
+{
+    origin.row < u32::MAX - MAX_LENGTH + 1 && origin.col < u32::MAX - MAX_LENGTH + 1
 }

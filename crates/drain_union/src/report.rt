@@ -5,6 +5,7 @@ ghost use Rattle.drain_union.specs.Reports.{IsFirstShared, IsSortedByLabel, audi
 ghost use Rattle.std.specs.Prelude.{◌≡◌};
 
 use crate::place::Place;
+use crate::union_grid::UnionGrid;
 use drain_grid::{Cell, CellValues, NoData, Verdict};
 use drain_hgt::TileName;
 use std::marker::Model;
@@ -106,12 +107,12 @@ impl Model for Report {
     ghost view = { λ r. record { place = r.place; nodata = r.nodata; holds = r.holds; outlets = r.outlets.items; seams = r.seams.items; sinks = r.sinks.items } };
 }
 
-/// The report on a window with what a user and a merge need beside it: the side of the tiles, their names, and the
-/// verdict on the judged cells, with the size of the window and its counts, or with the first fault in the window's rows
-/// and columns.
+/// The report on a window with what a user and a merge need beside it: the grid whose rows and columns it counts, the names
+/// of the tiles, and the verdict on the judged cells, with the size of the window and its counts, or with the first fault
+/// in the window's rows and columns.
 #[derive(Drop)]
 pub struct WindowReport {
-    pub side: u32,
+    pub grid: UnionGrid,
     pub tiles: Vec<TileName>,
     pub verdict: Verdict,
     pub report: Report,

@@ -1,7 +1,7 @@
 -- From the notes of all rows to the report on a window, and the verdict.
 use Rattle.std.proofs.Common.{◌≡◌, ◌↔◌, ℕ, Option, List, Result, Ok, Err, IfErr, IsErrOf, sym, subst, ◌+◌, ◌-◌, ◌<◌, ◌≤◌, true, false, refl, ap, arith}
 use Rattle.drain_answer.specs.declared.refusal.Refusal.{Refusal}
-use Rattle.drain_answer.specs.declared.refusal.Refusal.TheVariants.{OutOfMemory, ReadFailed}
+use Rattle.drain_answer.specs.declared.refusal.Refusal.TheVariants.{BoxTooLarge, OutOfMemory, ReadFailed}
 use Rattle.drain_device.specs.declared.counts.FaultCounts.{FaultCounts}
 use Rattle.drain_device.proofs.FaultLists.{SomeReadFails-iff}
 use Rattle.drain_hgt.specs.declared.input.TileInput.{TileInput}
@@ -9,13 +9,19 @@ use Rattle.drain_mosaic.specs.Tiling.{Tiling}
 use Rattle.drain_grid.specs.declared.verdict.Verdict.{Verdict}
 use Rattle.drain_verdict.proofs.OutcomeLemmas.{memory_alike}
 use Rattle.drain_verdict.specs.Refusals.{IsOfBodies}
-use Rattle.drain_verdict.specs.Uses.{AuditUses}
+use Rattle.drain_verdict.specs.DemGround.{DemUses, dem_audit_devices, dem_check_devices}
+use Rattle.drain_verdict.specs.Inputs.{as_five}
+use Rattle.drain_verdict.specs.Uses.{AuditUses, UsesInputs, devices_of}
+use Rattle.drain_verdict.specs.declared.next_rows.RasterInput.{RasterInput}
+use Rattle.drain_verdict.proofs.DemAnswers.{dem_four_failed}
+use Rattle.drain_verdict.proofs.InputLemmas.{four_failed}
 use Rattle.drain_verdict.specs.declared.audit_products.AuditProducts.{AuditProducts}
 use Rattle.drain_verdict.proofs.AuditDevices.{none_alike}
 use Rattle.drain_union.specs.Reports.{Report, audited, IsSortedByLabel, ListsOutlets, IsReportOf, ListsSeams, ListsSinks}
 use Rattle.drain_union.specs.declared.report.WindowReport.{WindowReport}
 use Rattle.drain_window.specs.WindowAnswers.{as_refused, IsWithTiles}
 use Rattle.drain_window.specs.declared.answered.WindowRefusal.{WindowRefusal}
+use Rattle.drain_window.specs.declared.answered.WindowRefusal.TheVariants.{Inputs as OfInputs, OutsideMosaic}
 use Rattle.std.specs.List.Sorted.{IsPermutation}
 use Rattle.std.proofs.lemmas.List.Sorted.{Contains-permutation, IsPermutation-sym}
 use Rattle.drain_grid.specs.declared.cell.Cell.{Cell}
@@ -65,8 +71,22 @@ module _ {R : Type 0} (bytes_left : R → Option (List ℕ)) (counts : R → Fau
       AuditUses {T = Verdict × Report} bytes_left counts side old new (Ok (v, r)) → AuditUses bytes_left counts side old new (as_refused result)
   with_tiles_uses t v r (Ok a) is uses = used_again {A = Verdict × Report} (Ok (v, r)) (Ok a) (none_alike {A = Verdict × Report} (v, r) a) tt uses
   with_tiles_uses t v r (Err refusal) same uses =
-      subst (λ (x : WindowRefusal). AuditUses bytes_left counts side old new (as_refused (Err x))) (sym same)
+      subst (λ (x : WindowRefusal). AuditUses bytes_left counts side old new (as_refused {A = WindowReport} (Err x))) (sym same)
       (used_again {A = Verdict × Report} (Ok (v, r)) (Err OutOfMemory) (memory_alike {A = Verdict × Report} (v, r)) (λ not. absurd (not tt)) uses)
+
+-- a refusal is that of the ground
+
+pub refused : {R : Type 0} (bl : R → Option (List ℕ)) (ct : R → FaultCounts) (side : ℕ) (old new : List (TileInput R) × AuditProducts R) (refusal : WindowRefusal) →
+    UsesInputs as_five (λ ts ps. devices_of ts (as_five ps)) bl ct side old new (as_refused {A = Verdict × Report} (Err refusal)) →
+    AuditUses bl ct side old new (as_refused {A = WindowReport} (Err refusal))
+refused bl ct side old new (OfInputs refusal) uses = four_failed {A = Verdict × Report} bl ct side old new refusal uses
+refused bl ct side old new OutsideMosaic uses = four_failed {A = Verdict × Report} bl ct side old new BoxTooLarge uses
+
+pub dem_refused : {R : Type 0} (bl : R → Option (List ℕ)) (ct : R → FaultCounts) (old new : List (RasterInput R) × AuditProducts R) (refusal : WindowRefusal) →
+    DemUses as_five (λ xs ps. dem_check_devices xs (as_five ps)) bl ct old new (as_refused {A = Verdict × Report} (Err refusal)) →
+    DemUses as_five dem_audit_devices bl ct old new (as_refused {A = WindowReport} (Err refusal))
+dem_refused bl ct old new (OfInputs refusal) uses = dem_four_failed {A = Verdict × Report} bl ct old new refusal uses
+dem_refused bl ct old new OutsideMosaic uses = dem_four_failed {A = Verdict × Report} bl ct old new BoxTooLarge uses
 
 -- a sorted list of the same outlets is that of the window
 listed : (nodata : NoDataNumbers) (origin : Cell) (p : Place) (g : Grid) (ps : Products) (outlets sorted : List Outlet) → IsSortedByLabel sorted → IsPermutation outlets sorted →

@@ -1,5 +1,5 @@
 -- What follows from the answer to the inputs.
-use Rattle.std.proofs.Common.{◌≡◌, ℕ, zero, suc, ◌+◌, ◌-◌, cond, refl, sym, ap, ◌∙◌, arith, Result, Ok, Err, IfOk, IsErrOf, subst}
+use Rattle.std.proofs.Common.{◌≡◌, ℕ, zero, suc, ◌+◌, ◌-◌, cond, refl, sym, ap, ◌∙◌, arith, Result, Ok, Err, IfOk, IsErrOf, subst, List, Option}
 use Rattle.std.specs.List.{sum_by, range_with_len}
 use Rattle.std.proofs.lemmas.List.Sums.{sum_by-cons}
 use Rattle.drain_grid.specs.declared.cell.Cell.{Cell}
@@ -11,7 +11,7 @@ use Rattle.drain_rules.specs.declared.walk.Tally.{Tally}
 use Rattle.drain_grid.specs.declared.verdict.Counts.{Counts}
 use Rattle.drain_rules.specs.Verdicts.{has_outlet_code}
 use Rattle.drain_union.specs.declared.place.Place.{Place}
-use Rattle.drain_union.specs.Windows.{window_at, in_union, IsFirstInside, IsPlaceIn}
+use Rattle.drain_union.specs.Windows.{window_at, in_union, IsFirstInside, IsOrigin, IsPlaceIn}
 use Rattle.drain_union.specs.JudgedCounts.{AreCountsInside, judged_cells, ring}
 use Rattle.drain_union.proofs.JudgedCounts.{by_rows, sum_by_map, sum_by_flat_map}
 use Rattle.drain_rules.specs.Areas.{CountsAmong}
@@ -22,13 +22,19 @@ use Rattle.drain_grid.specs.declared.verdict.Verdict.{Verdict}
 use Rattle.drain_grid.specs.declared.verdict.Verdict.TheVariants.{Accepted, Rejected}
 use Rattle.drain_mosaic.specs.Tiling.{Tiling}
 use Rattle.drain_verdict.specs.Answers.{AreReadable}
-use Rattle.drain_verdict.specs.Inputs.{Inputs}
+use Rattle.drain_verdict.specs.DemGround.{ForDem}
+use Rattle.drain_verdict.specs.GroundSets.{GroundSet, set_grid, set_numbers, set_products}
+use Rattle.drain_verdict.specs.Inputs.{Inputs, Products as AllProducts}
+use Rattle.drain_verdict.specs.TileGround.{set_of}
+use Rattle.drain_verdict.specs.declared.next_rows.RasterInput.{RasterInput}
 use Rattle.drain_verdict.specs.Meaning.{input_grid, input_products, nodata_numbers, tiling_of}
 use Rattle.drain_union.specs.declared.report.WindowReport.{WindowReport}
+use Rattle.drain_union.specs.declared.union_grid.UnionGrid.{UnionGrid}
 use Rattle.drain_union.specs.Reports.{Report, Agree}
 use Rattle.drain_window.specs.WindowLines.{map_origin}
-use Rattle.drain_window.specs.WindowAnswers.{IfRejected, IsAnswerOn, IsJudgedVerdict, IsWindowAnswer, IsWithTiles, window_of}
+use Rattle.drain_window.specs.WindowAnswers.{IfRejected, IsAnswerOn, IsDemWindow, IsJudgedVerdict, IsWindowAnswer, IsWindowIn, IsWithTiles, window_in, window_of}
 use Rattle.drain_window.specs.declared.answered.WindowRefusal.{WindowRefusal}
+use Rattle.drain_window.specs.declared.answered.WindowRefusal.TheVariants.{Inputs as OfInputs, OutsideMosaic}
 
 -- The cells of a judged area are those that its place judges, each one row and column further than the place begins. So
 -- sums over both are the same.
@@ -91,13 +97,38 @@ pub first_of : (Told : Inputs → Type 0) (p : Place) (result : Result WindowRep
 first_of Told p (Ok a) answer = first_in Told p a.verdict (λ i told. (answer i told).3.verdict)
 first_of Told p (Err refusal) answer = tt
 
+-- the same of a raster of elevations
+
+pub dem_answered : {R : Type 0} (bl : R → Option (List ℕ)) (dem : List (RasterInput R)) (sinks : List ℕ) (ps : AllProducts R) (at : Cell) (p : Place) (Fact : WindowReport → GroundSet → Type 0) →
+    ((a : WindowReport) (s : GroundSet) → IsDemWindow at p s (Ok a) → Fact a s) →
+    (result : Result WindowReport WindowRefusal) → ForDem bl dem sinks ps (λ s. IsDemWindow at p s result) → IfOk result (λ a. ForDem bl dem sinks ps (λ s. Fact a s))
+dem_answered bl dem sinks ps at p Fact follow (Ok a) answer = λ d t tell told. follow a _ (answer d t tell told)
+dem_answered bl dem sinks ps at p Fact follow (Err refusal) answer = tt
+
+dem_first_in : {R : Type 0} (bl : R → Option (List ℕ)) (dem : List (RasterInput R)) (sinks : List ℕ) (ps : AllProducts R) (at : Cell) (p : Place) (verdict : Verdict) →
+    ForDem bl dem sinks ps (λ s. IsJudgedVerdict (set_numbers s) at p (set_grid s) (set_products s) verdict) →
+    IfRejected verdict (λ (cell : Cell) (rule : Rule). ForDem bl dem sinks ps (λ s. IsFirstInside (set_numbers s) (window_in at p s) cell rule))
+dem_first_in bl dem sinks ps at p (Accepted counts) is = tt
+dem_first_in bl dem sinks ps at p (Rejected rule row col) is = is
+
+pub dem_first : {R : Type 0} (bl : R → Option (List ℕ)) (dem : List (RasterInput R)) (sinks : List ℕ) (ps : AllProducts R) (at : Cell) (p : Place) (result : Result WindowReport WindowRefusal) →
+    ForDem bl dem sinks ps (λ s. IsDemWindow at p s result) →
+    IfOk result (λ a. IfRejected a.verdict (λ (cell : Cell) (rule : Rule). ForDem bl dem sinks ps (λ s. IsFirstInside (set_numbers s) (window_in at p s) cell rule)))
+dem_first bl dem sinks ps at p (Ok a) answer = dem_first_in bl dem sinks ps at p a.verdict (λ d t tell told. (answer d t tell told).1.1.verdict)
+dem_first bl dem sinks ps at p (Err refusal) answer = tt
+
+-- a refusal of the ground is the answer to its tiles
+pub refused_answer : (origin : Cell) (p : Place) (i : Inputs) (refusal : WindowRefusal) → IsOrigin origin → IsWindowIn origin p (set_of i) (Err refusal) → IsWindowAnswer p i (Err refusal)
+refused_answer origin p i (OfInputs refusal) begins is = is
+refused_answer origin p i OutsideMosaic begins outside = λ placed. outside (record { begins = begins; placed = placed })
+
 -- the answer on a place, with the side and the tiles of the mosaic
 pub with_tiles_answer : (t : Tiling) (v : Verdict) (r : Report) (result : Result WindowReport WindowRefusal) → IsWithTiles t v r result → (p : Place) (i : Inputs) → t ≡ tiling_of i →
     AreReadable i → IsPlaceIn (input_grid i).extent p → IsAnswerOn (nodata_numbers i) (map_origin (tiling_of i)) p (input_grid i) (input_products i) v r → IsWindowAnswer p i result
-with_tiles_answer t v r (Ok a) (side, tiles, verdict, report) p i is readable placed answer = (
+with_tiles_answer t v r (Ok a) (grid, tiles, verdict, report) p i is readable placed answer = (
   readable,
   placed,
-  record { side = side ∙ ap (λ (x : Tiling). x.side) is; tiles = tiles ∙ ap (λ (x : Tiling). x.corners) is },
+  record { grid = grid ∙ ap (λ (x : Tiling). UnionGrid.Tiles x.side) is; tiles = tiles ∙ ap (λ (x : Tiling). x.corners) is },
   subst (λ (q : Report). IsAnswerOn (nodata_numbers i) (map_origin (tiling_of i)) p (input_grid i) (input_products i) a.verdict q) (sym report)
       (subst (λ (w : Verdict). IsAnswerOn (nodata_numbers i) (map_origin (tiling_of i)) p (input_grid i) (input_products i) w r) (sym verdict) answer),
 )
@@ -106,7 +137,7 @@ with_tiles_answer t v r (Err refusal) same p i is readable placed answer = subst
 -- and it agrees with the report
 pub with_tiles_agree : (t : Tiling) (v : Verdict) (r : Report) (result : Result WindowReport WindowRefusal) → IsWithTiles t v r result → Agree v r →
     IfOk result (λ a. Agree a.verdict a.report)
-with_tiles_agree t v r (Ok a) (side, tiles, verdict, report) agree =
+with_tiles_agree t v r (Ok a) (grid, tiles, verdict, report) agree =
     subst (λ (q : Report). Agree a.verdict q) (sym report) (subst (λ (w : Verdict). Agree w r) (sym verdict) agree)
 with_tiles_agree t v r (Err refusal) same agree = tt
 

@@ -1,5 +1,5 @@
 -- What a window shows along its seams, as rows of the grid come.
-use Rattle.std.specs.Prelude.{◌≡◌, ℕ, ◌+◌, ◌<◌, ◌≤◌, ◌^◌, ◌↔◌, ◌⊎◌, List}
+use Rattle.std.specs.Prelude.{◌≡◌, ℕ, ◌+◌, ◌<◌, ◌≤◌, ◌↔◌, ◌⊎◌, List}
 use Rattle.std.specs.List.{Contains}
 use Rattle.drain_grid.specs.declared.cell.Cell.{Cell}
 use Rattle.drain_grid.specs.declared.cell.TheConstants.{MAX_LENGTH}
@@ -16,11 +16,6 @@ use Rattle.drain_union.specs.Windows.{in_union, moved}
 pub record EndsInRange (p : Place) : Type 0 where
   pub rows : p.top + p.extent.rows ≤ MAX_LENGTH
   pub cols : p.left + p.extent.cols ≤ MAX_LENGTH
-
--- each cell of a grid that begins at this cell of the union has a row and a column of 32 bits there
-pub record IsOrigin (origin : Cell) : Type 0 where
-  pub rows : origin.row + MAX_LENGTH < 2 ^ 32
-  pub cols : origin.col + MAX_LENGTH < 2 ^ 32
 
 -- what the grid shows at a cell of the box, with its cell of the union
 pub record IsShownAt (origin : Cell) (p : Place) (g : Grid) (ps : Products) (c : Cell) (x : Shown) : Type 0 where

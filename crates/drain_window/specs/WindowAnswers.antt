@@ -1,5 +1,5 @@
 -- What a run on one window answers. Source: this project's own.
-use Rattle.std.specs.Prelude.{◌≡◌, Result, Ok, Err}
+use Rattle.std.specs.Prelude.{◌≡◌, List, [], Result, Ok, Err}
 use Rattle.drain_answer.specs.declared.refusal.Refusal.{Refusal}
 use Rattle.drain_answer.specs.declared.refusal.Refusal.TheVariants.{BoxTooLarge, OutOfMemory}
 use Rattle.drain_grid.specs.declared.cell.Cell.{Cell}
@@ -10,12 +10,20 @@ use Rattle.drain_mosaic.specs.Tiling.{Tiling}
 use Rattle.drain_grid.specs.declared.verdict.Verdict.{Verdict}
 use Rattle.drain_grid.specs.declared.verdict.Verdict.TheVariants.{Accepted, Rejected}
 use Rattle.drain_verdict.specs.Answers.{AreReadable, IsRefusal}
+use Rattle.drain_header.specs.Header.{Fields}
+use Rattle.drain_header.specs.declared.header.Place.{Place as HeaderPlace}
+use Rattle.drain_verdict.specs.DemGround.{IsDemInput}
+use Rattle.drain_verdict.specs.GroundSets.{GroundSet, IsReadable, IsRefusalIn, set_grid, set_numbers, set_products}
 use Rattle.drain_verdict.specs.Inputs.{Inputs}
+use Rattle.drain_verdict.specs.declared.next_rows.RasterInput.{RasterInput}
 use Rattle.drain_verdict.specs.Meaning.{input_grid, input_products, nodata_numbers, tiling_of}
 use Rattle.drain_union.specs.declared.place.Place.{Place}
 use Rattle.drain_union.specs.declared.report.WindowReport.{WindowReport}
 use Rattle.drain_union.specs.declared.place.TheConstants.{SEAM_DEPTH}
-use Rattle.drain_union.specs.Windows.{window_at, Window, IsFirstInside, IsPlaceIn, RulesHoldInside}
+use Rattle.drain_union.specs.declared.union_grid.DemPart.{DemPart}
+use Rattle.drain_union.specs.declared.union_grid.UnionGrid.TheVariants.{Tiles, Dem}
+use Rattle.drain_union.specs.UnionGrids.{value_of}
+use Rattle.drain_union.specs.Windows.{window_at, Window, IsFirstInside, IsOrigin, IsPlaceIn, RulesHoldInside}
 use Rattle.drain_union.specs.JudgedCounts.{AreCountsInside}
 use Rattle.drain_union.specs.Reports.{audited, Report, IsReportOf}
 use Rattle.drain_window.specs.WindowLines.{map_origin}
@@ -39,12 +47,12 @@ pub record IsAnswerOn (nodata : NoDataNumbers) (origin : Cell) (p : Place) (g : 
 
 -- what is handed over names the tiles of the inputs
 pub record IsOfTiles (i : Inputs) (a : WindowReport) : Type 0 where
-  pub side : a.side ≡ i.side
+  pub grid : a.grid ≡ Tiles i.side
   pub tiles : a.tiles.items ≡ i.corners
 
 -- the verdict and the report are handed over with the side and the tiles of this mosaic, unless memory runs out
 abbrev pub IsWithTiles : Tiling → Verdict → Report → Result WindowReport WindowRefusal → Type 0
-IsWithTiles t v r (Ok a) = (a.side ≡ t.side) × (a.tiles.items ≡ t.corners) × (a.verdict ≡ v) × (a.report ≡ r)
+IsWithTiles t v r (Ok a) = (a.grid ≡ Tiles t.side) × (a.tiles.items ≡ t.corners) × (a.verdict ≡ v) × (a.report ≡ r)
 IsWithTiles t v r (Err refusal) = refusal ≡ OfInputs OutOfMemory
 
 -- the answer to the inputs: no refusal applies, and the window is reported; else the place lies outside the mosaic, or
@@ -57,16 +65,52 @@ IsWindowAnswer p i (Err (OfInputs refusal)) = IsRefusal i refusal
 IsWindowAnswer p i (Err OutsideMosaic) = ¬ IsPlaceIn (input_grid i).extent p
 
 -- the answer, with a place outside the mosaic as a refusal for which no header is looked at
-abbrev pub as_refused : Result WindowReport WindowRefusal → Result WindowReport Refusal
+abbrev pub as_refused : {A : Type 0} → Result A WindowRefusal → Result A Refusal
 as_refused (Ok a) = Ok a
 as_refused (Err (OfInputs refusal)) = Err refusal
 as_refused (Err OutsideMosaic) = Err BoxTooLarge
 
--- the same of an answer once the place is known to lie in the mosaic
-abbrev pub IsPlacedAnswer : Place → Inputs → Result (Verdict × Report) Refusal → Type 0
-IsPlacedAnswer p i (Ok a) =
-    AreReadable i × IsAnswerOn (nodata_numbers i) (map_origin (tiling_of i)) p (input_grid i) (input_products i) a.0 a.1
-IsPlacedAnswer p i (Err refusal) = IsRefusal i refusal
+-- The same of a ground with its products, whatever its elevations come from, which begins at this cell of the union.
+
+-- the window that lies at this place of it
+abbrev pub window_in : Cell → Place → GroundSet → Window
+window_in origin p s = window_at origin p (set_grid s) (set_products s)
+
+-- the answer once the place is known to lie in it
+abbrev pub IsPlacedAnswer : Cell → Place → GroundSet → Result (Verdict × Report) Refusal → Type 0
+IsPlacedAnswer origin p s (Ok a) = IsReadable s × IsAnswerOn (set_numbers s) origin p (set_grid s) (set_products s) a.0 a.1
+IsPlacedAnswer origin p s (Err refusal) = IsRefusalIn s refusal
+
+-- the place lies in it, and its rows and columns are numbers of 32 bits in the union
+pub record IsWithin (origin : Cell) (p : Place) (s : GroundSet) : Type 0 where
+  pub begins : IsOrigin origin
+  pub placed : IsPlaceIn (set_grid s).extent p
+
+-- no refusal applies, and the window is reported; else the place lies outside, or the refusal is the first that applies
+abbrev pub IsWindowIn : Cell → Place → GroundSet → Result (Verdict × Report) WindowRefusal → Type 0
+IsWindowIn origin p s (Ok a) = IsWithin origin p s × IsPlacedAnswer origin p s (Ok a)
+IsWindowIn origin p s (Err (OfInputs refusal)) = IsRefusalIn s refusal
+IsWindowIn origin p s (Err OutsideMosaic) = ¬ IsWithin origin p s
+
+-- the same of what is handed over
+abbrev pub verdict_and_report : Result WindowReport WindowRefusal → Result (Verdict × Report) WindowRefusal
+verdict_and_report (Ok a) = Ok (a.verdict, a.report)
+verdict_and_report (Err refusal) = Err refusal
+
+abbrev pub IsDemWindow : Cell → Place → GroundSet → Result WindowReport WindowRefusal → Type 0
+IsDemWindow at p s answer = IsWindowIn at p s (verdict_and_report answer)
+
+-- a part of a raster that begins at this cell of the whole, and whose header has this place
+pub record IsPartOf (at : Cell) (place : HeaderPlace) (d : DemPart) : Type 0 where
+  pub at_is : d.at ≡ at
+  pub ulx : value_of d.ulx ≡ place.ulx
+  pub uly : value_of d.uly ≡ place.uly
+  pub xdim : value_of d.xdim ≡ place.xdim
+  pub ydim : value_of d.ydim ≡ place.ydim
+
+-- what is handed over names the part that is the input, and no tiles
+abbrev pub IsOfDem : {R : Type 0} → Cell → List (RasterInput R) → WindowReport → Type 0
+IsOfDem at dem a = (h : Fields) × IsDemInput h dem × ((d : DemPart) × IsPartOf at h.place d × (a.grid ≡ Dem d)) × (a.tiles.items ≡ [])
 
 -- this holds of the first fault, where the verdict is a rejection
 abbrev pub IfRejected : Verdict → (Cell → Rule → Type 0) → Type 0

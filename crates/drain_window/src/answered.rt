@@ -8,9 +8,9 @@ ghost use Rattle.drain_grid.specs.Values.{NoDataNumbers};
 ghost use Rattle.drain_grid.specs.declared.judged.Judged.TheVariants.{All};
 ghost use Rattle.drain_window.specs.WindowAnswers.{IsAnswerOn};
 ghost use Rattle.drain_window.specs.WindowNotes.{AreOfWindow};
-ghost use Rattle.drain_window.specs.SeamRows.{EndsInRange, IsOrigin};
+ghost use Rattle.drain_window.specs.SeamRows.{EndsInRange};
 ghost use Rattle.drain_window.specs.WindowWalks.{IsSeamWalkOf, IsWindowWalkOf};
-ghost use Rattle.drain_union.specs.Windows.{window_at, IsPlaceIn};
+ghost use Rattle.drain_union.specs.Windows.{window_at, IsOrigin, IsPlaceIn};
 ghost use Rattle.drain_union.specs.Reports.{IsSortedByLabel, ListsSinks, Agree};
 
 use crate::judged_area::judged_area;

@@ -4,34 +4,27 @@ ghost use Rattle.std.specs.Prelude.{◌≡◌, IfOk, ◌≤◌, ◌*◌, ◌-◌
 ghost use Rattle.drain_grid.specs.Grid.{IsSide};
 ghost use Rattle.drain_hgt.specs.declared.name.TheConstants.{HALF_TURN};
 ghost use Rattle.drain_window.specs.WindowLines.{map_origin};
-ghost use Rattle.drain_window.specs.SeamRows.{IsOrigin};
 ghost use Rattle.drain_hgt.specs.Inputs.{names_of};
-ghost use Rattle.drain_mosaic.specs.Tiling.{extent_of};
 ghost use Rattle.drain_verdict.specs.Answers.{ForAudit};
 ghost use Rattle.drain_verdict.specs.Meaning.{nodata_numbers};
 ghost use Rattle.drain_verdict.specs.Stages.{IsLayoutOf};
 ghost use Rattle.drain_union.specs.declared.place.TheConstants.{SEAM_DEPTH};
 ghost use Rattle.drain_union.specs.Reports.{audited, IsReportOf, Agree};
-ghost use Rattle.drain_union.specs.Windows.{IsFirstInside, IsPlaceIn};
+ghost use Rattle.drain_union.specs.Windows.{IsFirstInside, IsOrigin};
 ghost use Rattle.drain_verdict.specs.Uses.{AuditUses};
-ghost use Rattle.drain_window.specs.WindowAnswers.{as_refused, IfRejected, IsPlacedAnswer, IsWindowAnswer, IsWithTiles, window_of};
+ghost use Rattle.drain_window.specs.WindowAnswers.{as_refused, IfRejected, IsWindowAnswer, IsWithTiles, window_of};
 
-use crate::answered::{WindowRefusal, answered};
-use crate::judged_area::{judged_area, judged_sinks};
-use crate::listed_outlets::ListedOutlets;
-use crate::seam_walk::SeamWalk;
+use crate::answered::WindowRefusal;
+use crate::judge_ground::judge_ground;
 use drain_answer::Refusal;
 use drain_device::ByteSource;
-use drain_grid::{Cell, Judged, OutOfMemory, Verdict};
+use drain_grid::{Cell, OutOfMemory, Verdict};
 use drain_hgt::laws::one_name;
 use drain_hgt::name::{HALF_TURN, POLE};
 use drain_hgt::{TileInput, TileName};
 use drain_mosaic::Layout;
-use drain_rows::BothVisitors;
-use drain_rules::Walk;
-use drain_union::{Place, Report, WindowReport};
+use drain_union::{Place, Report, UnionGrid, WindowReport};
 use drain_verdict::AuditProducts;
-use drain_verdict::read_inputs::read_inputs;
 use drain_verdict::stages::layout_of;
 use std::alloc::Global;
 
@@ -140,58 +133,10 @@ fn answer_in<R: ByteSource>(
 {
     // The law that bytes name one tile.
     one_name();
-    if !place.lies_in(layout.shape()) {
-        return Err(WindowRefusal::OutsideMosaic);
-    }
-    match answer_at(alloc, layout, sinks, tiles, products, place) {
-        Ok((verdict, report)) => with_tiles(alloc, layout, verdict, report),
-        Err(refusal) => Err(WindowRefusal::Inputs(refusal)),
-    }
-}
-
-/// The answer to the bytes of inputs of this mosaic, for a place that lies in it.
-fn answer_at<R: ByteSource>(
-    alloc: Global,
-    layout: &Layout,
-    sinks: &[u8],
-    tiles: &mut [TileInput<R>],
-    products: &mut AuditProducts<R>,
-    place: &Place,
-) -> Result<(Verdict, Report), Refusal>
-    requires laid { IsLayoutOf layout.now.side (names_of tiles.old) layout.now }
-    requires placed { IsPlaceIn (extent_of layout.now) place.now }
-    ensures answer { ForAudit R.bytes_left layout.now.side tiles.old sinks.now products.old (λ inputs. IsPlacedAnswer place.now inputs result) }
-    ensures uses { AuditUses R.bytes_left R.counts layout.now.side (tiles.old, products.old) (tiles.new, products.new) result }
-    ensures agree { IfOk result (λ a. Agree a.0 a.1) }
-{
-    // The law that bytes name one tile.
-    one_name();
-    let shape = layout.shape();
     let origin = map_origin(layout);
-    let mut notes = BothVisitors {
-        first: SeamWalk::new(alloc, *place, origin),
-        second: Walk::begin(ListedOutlets::new(alloc, judged_area(place), origin)),
-    };
-    read_inputs(
-        alloc,
-        layout,
-        sinks,
-        tiles,
-        products,
-        Judged::All,
-        &mut notes,
-    )?;
-    let _rows = shape.rows();
-    let BothVisitors {
-        first: seams,
-        second: walk,
-    } = notes;
-    let Ok(sinks) = judged_sinks(alloc, sinks, place, origin) else {
-        return Err(Refusal::OutOfMemory);
-    };
-    match answered(alloc, place, origin, walk, seams, sinks) {
-        Some(answer) => Ok(answer),
-        None => Err(Refusal::OutOfMemory),
+    match judge_ground::<R, TileInput<R>>(alloc, layout, origin, sinks, tiles, products, place) {
+        Ok((verdict, report)) => with_tiles(alloc, layout, verdict, report),
+        Err(refusal) => Err(refusal),
     }
 }
 
@@ -206,7 +151,7 @@ fn with_tiles(
 {
     match tile_names(alloc, layout) {
         Ok(tiles) => Ok(WindowReport {
-            side: layout.side(),
+            grid: UnionGrid::Tiles(layout.side()),
             tiles,
             verdict,
             report,

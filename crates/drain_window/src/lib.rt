@@ -7,6 +7,8 @@
 
 pub mod answered;
 pub mod judge;
+pub mod judge_dem;
+mod judge_ground;
 mod judged_area;
 pub mod laws;
 pub mod listed_outlets;
@@ -14,3 +16,4 @@ pub mod seam_walk;
 
 pub use answered::{WindowRefusal, window_line};
 pub use judge::judge_window;
+pub use judge_dem::judge_window_dem;

@@ -2,7 +2,8 @@
 
 ghost use Rattle.std.specs.Prelude.{◌≡◌, ◌<◌, ◌≤◌, ◌+◌, [], OnOk};
 ghost use Rattle.drain_grid.specs.declared.cell.TheConstants.{MAX_LENGTH};
-ghost use Rattle.drain_window.specs.SeamRows.{AddsSeams, EndsInRange, IsOrigin, ListsSeamsAbove, OfSeamRow};
+ghost use Rattle.drain_window.specs.SeamRows.{AddsSeams, EndsInRange, ListsSeamsAbove, OfSeamRow};
+ghost use Rattle.drain_union.specs.Windows.{IsOrigin};
 ghost use Rattle.drain_grid.specs.Grid.{Grid, Products};
 ghost use Rattle.drain_rules.specs.Rows.{AreRowPatches};
 
@@ -31,7 +32,8 @@ impl SeamWalk {
     ghost use Rattle.drain_grid.specs.declared.judged.Rules.{Rules};
     ghost use Rattle.drain_grid.specs.Grid.{Grid, Products};
     ghost use Rattle.drain_rules.specs.Rows.{AreRowPatches};
-    ghost use Rattle.drain_window.specs.SeamRows.{EndsInRange, IsOrigin};
+    ghost use Rattle.drain_window.specs.SeamRows.{EndsInRange};
+    ghost use Rattle.drain_union.specs.Windows.{IsOrigin};
     ghost use Rattle.drain_window.specs.WindowWalks.{IsSeamWalkOf};
 
     /// No row was passed. This takes no memory.

@@ -6,6 +6,8 @@ mod agree;
 #[cfg(test)]
 mod merge_answers;
 #[cfg(test)]
+mod merge_dems;
+#[cfg(test)]
 mod merge_lines;
 #[cfg(test)]
 mod merge_maps;
@@ -21,6 +23,8 @@ mod report_round_trips;
 mod report_texts;
 #[cfg(test)]
 mod window_cuts;
+#[cfg(test)]
+mod window_dems;
 #[cfg(test)]
 mod window_inputs;
 #[cfg(test)]

@@ -5,6 +5,7 @@ use crate::merge_answers::{FIRST, listed, merged_on_map};
 use crate::merged_windows::{NE, NW, SE, SW, WHOLE, Window};
 use drain_grid::Cell;
 use drain_merge::UnionSinks;
+use drain_union::UnionGrid;
 use std::test::Fail;
 
 /// The windows, and the line.
@@ -29,8 +30,14 @@ static TAKEN: [(&str, &[Window], &str); 5] = [
         "two other sides",
         &[
             NW,
-            Window { side: 3601, ..NE },
-            Window { side: 2, ..SW },
+            Window {
+                grid: UnionGrid::Tiles(3601),
+                ..NE
+            },
+            Window {
+                grid: UnionGrid::Tiles(2),
+                ..SW
+            },
             SE,
         ],
         "refused OtherSide 1",
@@ -44,7 +51,10 @@ static TAKEN: [(&str, &[Window], &str); 5] = [
                 ..NE
             },
             SW,
-            Window { side: 2, ..SE },
+            Window {
+                grid: UnionGrid::Tiles(2),
+                ..SE
+            },
         ],
         "refused OtherSide 3",
     ),

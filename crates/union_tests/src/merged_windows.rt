@@ -3,7 +3,7 @@
 use drain_grid::{Cell, CellValues, Counts, NoData, Rule, Shape, Verdict};
 use drain_merge::UnionSize;
 use drain_union::{
-    AuditNoData, InnerSides, Outlet, Place, Report, SEAM_DEPTH, Shown, WindowReport,
+    AuditNoData, InnerSides, Outlet, Place, Report, SEAM_DEPTH, Shown, UnionGrid, WindowReport,
 };
 use std::alloc::{AllocError, Global};
 use std::test::Fail;
@@ -17,8 +17,8 @@ pub const WHOLE: &str = "accepted rows=4 cols=4 data=16 raised=4 outlets=4";
 /// What a window hands over, in rows and columns of the union.
 #[derive(Clone, Copy)]
 pub struct Window {
-    /// The side of its tiles.
-    pub side: u32,
+    /// The grid whose rows and columns count.
+    pub grid: UnionGrid,
     /// The no-data numbers of its conditioned elevations, and of ranks.
     pub nodata: (i16, i16),
     /// Its first row and its first column.
@@ -42,7 +42,7 @@ pub struct Window {
 
 /// The window in the north-west of the union.
 pub const NW: Window = Window {
-    side: 3,
+    grid: UnionGrid::Tiles(3),
     nodata: (-32768, 0),
     first: (0, 0),
     size: (3, 3),
@@ -135,7 +135,7 @@ impl Window {
             Some(_) => self.rejected(alloc, place),
         };
         Ok(WindowReport {
-            side: self.side,
+            grid: self.grid,
             tiles: Vec::new(alloc),
             verdict: self.verdict(),
             report,

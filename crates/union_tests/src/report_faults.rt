@@ -11,7 +11,7 @@ fn fault(alloc: Global, text: &[u8]) -> Option<ReportFault> {
 }
 
 /// What is replaced in the lines, and the fault.
-static FAULTS: [(usize, &str, ReportFault); 37] = [
+static FAULTS: [(usize, &str, ReportFault); 41] = [
     (1, "drain-window-report 2", ReportFault::WrongVersion),
     (1, "drain-window-report 4", ReportFault::WrongVersion),
     (1, "drain-window-report 3 ", ReportFault::WrongVersion),
@@ -19,6 +19,18 @@ static FAULTS: [(usize, &str, ReportFault); 37] = [
     (2, "side 01201", ReportFault::BadLine(2)),
     (2, "side +1201", ReportFault::BadLine(2)),
     (2, "side -1", ReportFault::OutOfRange(2)),
+    (2, "dem 0 0 1 2 3 4 5 6 7", ReportFault::BadLine(2)),
+    (2, "dem 0 0 1 2 3 4 5 6 7 8 9", ReportFault::BadLine(2)),
+    (
+        2,
+        "dem 0 0 1 2 3 4 5 6 7 9223372036854775808",
+        ReportFault::BadLine(2),
+    ),
+    (
+        2,
+        "dem 0 4294967296 1 2 3 4 5 6 7 8",
+        ReportFault::OutOfRange(2),
+    ),
     (3, "window 62400 90001 3 4 0 1 0", ReportFault::BadLine(3)),
     (
         3,

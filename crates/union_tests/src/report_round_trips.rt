@@ -3,13 +3,14 @@
 use crate::report_texts::text;
 use drain_grid::{Cell, Rule, Verdict};
 use drain_report::{read_report, write_report};
+use drain_union::{Decimal, DemPart, UnionGrid};
 use std::test::Fail;
 
 #[test]
 fn an_accepted_window_is_read_and_written_again(rt: HostRuntime) -> Result<(), Fail> {
     let bytes = text(rt.alloc())?;
     let window = read_report(rt.alloc(), &bytes)?;
-    assert_eq!(rt; window.side, 1201);
+    assert_eq!(rt; window.grid, UnionGrid::Tiles(1201));
     assert_eq!(rt; window.tiles.len(), 2);
     assert_eq!(rt; window.report.holds, true);
     assert_eq!(rt; window.report.sinks.len(), 2);
@@ -55,5 +56,49 @@ fn a_rejected_window_is_read_and_written_again(rt: HostRuntime) -> Result<(), Fa
     assert_eq!(rt; window.report.sinks.len(), 0);
     let again = write_report(rt.alloc(), &window)?;
     assert_eq!(rt; again.as_slice(), REJECTED);
+    Ok(())
+}
+
+/// The same of a part of a raster of elevations, with the least and the greatest numbers.
+const OF_DEM: &[u8] = b"drain-window-report 3
+dem 4294967295 0 -9223372036854775808 9223372036854775807 500015 0 0 277777777777778 0 -1
+window 0 0 1 28801 0 0 0 0
+nodata -32768 255 10000000000 -10000000000
+rejected 15 0 28800
+tiles 0
+sinks 0
+outlets 0
+seams 0
+end
+";
+
+#[test]
+fn a_part_of_a_raster_is_read_and_written_again(rt: HostRuntime) -> Result<(), Fail> {
+    let window = read_report(rt.alloc(), OF_DEM)?;
+    let expected = UnionGrid::Dem(DemPart {
+        at: Cell {
+            row: 4294967295,
+            col: 0,
+        },
+        ulx: Decimal {
+            units: -9223372036854775808,
+            parts: 9223372036854775807,
+        },
+        uly: Decimal {
+            units: 500015,
+            parts: 0,
+        },
+        xdim: Decimal {
+            units: 0,
+            parts: 277777777777778,
+        },
+        ydim: Decimal {
+            units: 0,
+            parts: -1,
+        },
+    });
+    assert_eq!(rt; window.grid, expected);
+    let again = write_report(rt.alloc(), &window)?;
+    assert_eq!(rt; again.as_slice(), OF_DEM);
     Ok(())
 }

@@ -33,6 +33,15 @@ impl<'a> Inputs<'a> {
         Ok(tiles)
     }
 
+    /// The samples as those of a raster with this header.
+    pub fn dem(
+        &self,
+        alloc: Global,
+        header: &str,
+    ) -> Result<[RasterInput<SliceSource<'a>>; 1], AllocError> {
+        Ok([raster(alloc, header, self.samples)?])
+    }
+
     /// The products as they are read.
     pub fn products(&self, alloc: Global) -> Result<AuditProducts<SliceSource<'a>>, AllocError> {
         let (of_heights, of_numbers) = self.headers;
@@ -93,6 +102,16 @@ const SLOPE_HEADERS: (&str, &str) = (
     "NROWS 4\nNCOLS 4\nULXMAP 0\nULYMAP 1\nXDIM 0.333333333333333\nYDIM 0.333333333333333\nBYTEORDER I\nNBITS 8\n",
 );
 
+/// The header of a raster of elevations with the samples of the tile, most significant bytes first.
+pub const SLOPE_DEM: &str =
+    "NROWS 4\nNCOLS 4\nULXMAP -0.5\nULYMAP 1.000000000000001\nXDIM 0.333333333333333\nYDIM 30\nBYTEORDER M\nNBITS 16\nPIXELTYPE SIGNEDINT\n";
+
+/// The headers of the products that lie on it.
+pub const ON_SLOPE_DEM: (&str, &str) = (
+    "NROWS 4\nNCOLS 4\nULXMAP -0.5\nULYMAP 1\nXDIM 0.333333333333333\nYDIM 30\nBYTEORDER I\nNBITS 16\nPIXELTYPE SIGNEDINT\n",
+    "NROWS 4\nNCOLS 4\nULXMAP -0.5\nULYMAP 1\nXDIM 0.333333333333333\nYDIM 30\nBYTEORDER I\nNBITS 8\n",
+);
+
 /// The first of them with the line of the default no-data number.
 pub const WITH_NODATA: &str =
     "NROWS 4\nNCOLS 4\nULXMAP 0\nULYMAP 1\nXDIM 0.333333333333333\nYDIM 0.333333333333333\nBYTEORDER I\nNBITS 16\nPIXELTYPE SIGNEDINT\nNODATA -32768\n";
@@ -101,6 +120,14 @@ impl Slope {
     /// The inputs, with this list of sinks.
     pub fn listing<'a>(&'a self, sinks: &'a str) -> Inputs<'a> {
         self.headed(SLOPE_HEADERS.0, sinks)
+    }
+
+    /// The inputs with headers of rasters that lie on the raster of elevations, and with this list of sinks.
+    pub fn on_dem<'a>(&'a self, sinks: &'a str) -> Inputs<'a> {
+        Inputs {
+            headers: ON_SLOPE_DEM,
+            ..self.listing(sinks)
+        }
     }
 
     /// The inputs, with this header of con and this list of sinks.

@@ -4,7 +4,7 @@ use crate::agree::same;
 use crate::window_inputs::{Inputs, LEVEL_TILES, WITH_NODATA, right_slope};
 use crate::window_places::{Window, answer, place};
 use drain_grid::Cell;
-use drain_union::{AuditNoData, Outlet, WindowReport};
+use drain_union::{AuditNoData, Outlet, UnionGrid, WindowReport};
 use std::process::Abort;
 use std::test::Fail;
 
@@ -60,7 +60,7 @@ fn same_place(
 
 /// Fails the test if the report isn't on tiles of this side and with these names.
 fn same_tiles(rt: &impl Abort, given: &WindowReport, side: u32, names: &[&str]) {
-    same(rt, "side", given.side, side);
+    same(rt, "grid", given.grid, UnionGrid::Tiles(side));
     same(rt, "tiles", given.tiles.len(), names.len());
     for (tile, name) in given.tiles.iter().zip(names) {
         same(rt, "tile", tile.text().as_str(), *name);

@@ -2,7 +2,7 @@
 
 ghost use Rattle.std.specs.Prelude.{◌≡◌, ◌++◌, ◌⊎◌, IfOk, IfSome, length, vec_len, Result};
 ghost use Rattle.drain_files.specs.FilePaths.{header_ending, raster_ending};
-ghost use Rattle.drain_cli.specs.WindowRuns.{IsWindowHandedOver, IsWindowOutcome, refusal_code};
+ghost use Rattle.drain_cli.specs.WindowRuns.{IsDemWindowOutcome, IsWindowHandedOver, IsWindowOutcome, refusal_code};
 ghost use Rattle.drain_window.specs.declared.answered.WindowRefusal.{WindowRefusal};
 ghost use Rattle.drain_union.specs.declared.report.WindowReport.{WindowReport};
 
@@ -15,18 +15,19 @@ use drain_files::file_id::FileId;
 use drain_files::map_file::is_named_as_product;
 use drain_files::open_failure::print_open_fault;
 use drain_files::open_files::Opener;
-use drain_files::open_judged::{OpenFiles, open_audited};
+use drain_files::open_judged::{OpenElevations, OpenFiles, open_audited};
 use drain_files::output_paths::inputs_or_print;
 use drain_files::outputs::{Failure, Outputs};
+use drain_grid::Cell;
 use drain_hgt::TileInput;
 use drain_progress::progress::Progress;
 use drain_union::{Place, WindowReport};
-use drain_verdict::AuditProducts;
+use drain_verdict::{AuditProducts, RasterInput};
 use drain_window::answered::refusal_line;
-use drain_window::{WindowRefusal, judge_window};
+use drain_window::{WindowRefusal, judge_window, judge_window_dem};
 use std::alloc::{AllocError, Global};
 
-/// Judges a window of the mosaic of these tiles, writes its report, prints the line and returns the exit status. The
+/// Judges a window of the mosaic of these tiles, or of this part of a raster of elevations, writes its report, prints the line and returns the exit status. The
 /// report's file is created once nothing is left to refuse.
 pub fn window_files(rt: &HostRuntime, args: &WindowArgs<'_>, out: &mut impl ByteSink) -> u8 {
     // If standard output is closed no file may be opened, as the first would take its place.
@@ -72,15 +73,26 @@ fn judged_files<'a>(
     if let Some(status) = refused_name(opener.rt(), args, out) {
         return Err(status);
     }
-    judge_or_print(
-        opener.alloc(),
-        elevations.side,
-        elevations.tiles.as_mut_slice(),
-        sinks.as_slice(),
-        &mut products,
-        &args.place,
-        out,
-    )
+    match &mut elevations {
+        OpenElevations::Tiles(tiles) => judge_or_print(
+            opener.alloc(),
+            tiles.side,
+            tiles.tiles.as_mut_slice(),
+            sinks.as_slice(),
+            &mut products,
+            &args.place,
+            out,
+        ),
+        OpenElevations::Dem(dem) => judge_dem_or_print(
+            opener.alloc(),
+            dem,
+            sinks.as_slice(),
+            &mut products,
+            &args.place,
+            args.at,
+            out,
+        ),
+    }
 }
 
 /// If the report has the name of a product's file in the folder of the products, prints the usage error, and returns the
@@ -149,7 +161,39 @@ pub fn judge_or_print<R: ByteSource, W: ByteSink>(
         × IsWindowOutcome R.ByteSource place.now side tiles.old tiles.new sinks.now products.old products.new outcome
         × IsWindowHandedOver W.ByteSink out.old out.new outcome result }
 {
-    match judge_window(alloc, side, tiles, sinks, products, place) {
+    let outcome = judge_window(alloc, side, tiles, sinks, products, place);
+    hand_over(outcome, out)
+}
+
+/// Judges the window that lies at this place of a part of a raster of elevations, which begins at this cell of the whole,
+/// and returns what is to be reported, or prints why there is nothing, as for tiles.
+///
+/// `dem`, `sinks` and `products` are those of an audit of the part, and are read as by an audit.
+pub fn judge_dem_or_print<R: ByteSource, W: ByteSink>(
+    alloc: Global,
+    dem: &mut [RasterInput<R>; 1],
+    sinks: &[u8],
+    products: &mut AuditProducts<R>,
+    place: &Place,
+    at: Cell,
+    out: &mut W,
+) -> Result<WindowReport, u8>
+    ensures run { (outcome : Result WindowReport WindowRefusal)
+        × IsDemWindowOutcome R.ByteSource place.now at dem.old dem.new sinks.now products.old products.new outcome
+        × IsWindowHandedOver W.ByteSink out.old out.new outcome result }
+{
+    let outcome = judge_window_dem(alloc, dem, sinks, products, place, at);
+    hand_over(outcome, out)
+}
+
+/// Returns what is to be reported of a window, or prints why there is nothing, and returns the exit status.
+fn hand_over<W: ByteSink>(
+    outcome: Result<WindowReport, WindowRefusal>,
+    out: &mut W,
+) -> Result<WindowReport, u8>
+    ensures { IsWindowHandedOver W.ByteSink out.old out.new outcome result }
+{
+    match outcome {
         Ok(window) => Ok(window),
         Err(refusal) => Err(print_line(out, &refusal_line(&refusal), status_of(&refusal))),
     }

@@ -1,7 +1,7 @@
 use Rattle.std.proofs.Common.{List, ap, subst, ◌∙◌}
 use Rattle.std.proofs.lemmas.Result.{err_from_is_err_and}
 use Rattle.drain_union.specs.declared.report.WindowReport.{WindowReport}
-use Rattle.drain_merge.specs.MapBoxes.{box_of, HaveOneSide}
+use Rattle.drain_merge.specs.MapBoxes.{box_of, HaveOneGrid}
 use Rattle.drain_merge.proofs.MovedWindows.{map_refusal}
 use Rattle.drain_merge.proofs.TakenSinks.{map_sinks}
 use Rattle.drain_merge.proofs.map_merge.merge_on_map.Goals as goal
@@ -9,7 +9,7 @@ use Rattle.drain_merge.proofs.map_merge.merge_on_map.Goals as goal
 pub returns-in_err-verdict-clause-refusal : goal.returns-in_err-verdict-clause-refusal
 returns-in_err-verdict-clause-refusal c =
     let told = err_from_is_err_and c.from_residual-in_err-verdict.result c.from_residual-in_err-verdict.ensures.1 in
-    let one = subst (λ (ws : List WindowReport). HaveOneSide ws) c.deref.ensures.value c.in_ok-check_sides.ensures.one in
+    let one = subst (λ (ws : List WindowReport). HaveOneGrid ws) c.deref.ensures.value c.in_ok-check_grids.ensures.one in
     rw (told.1, told.2) (map_refusal c.args.sinks.now c.args.windows.items c.deref-3.result.now c.union_box-bounds.result c.in_err-verdict.field-0.0 one
     (c.union_box-bounds.ensures ∙ ap box_of c.deref-2.ensures.value) (c.deref-3.ensures.value ∙ c.in_ok-moved.ensures) c.in_err-verdict.ensures.refusal)
 

@@ -19,7 +19,7 @@ returns-clause-written c =
     (head_text (head_of (contents_of w))) (list_text (codes "tiles") tile_line w.tiles.items) (list_text (codes "sinks") sink_line w.report.sinks)
     (list_text (codes "outlets") outlet_line w.report.outlets) (list_text (codes "seams") shown_line w.report.seams) end_line
     c.new-text.ensures.items
-    (c.in_ok-push_head.ensures.written ∙ ap (λ r. t0 ++ head_text (head_with w.side w.verdict r)) view)
+    (c.in_ok-push_head.ensures.written ∙ ap (λ r. t0 ++ head_text (head_with w.grid w.verdict r)) view)
     (c.in_ok-push_list.ensures.written ∙ ap (λ xs. t1 ++ list_text (codes "tiles") tile_line xs) c.deref.ensures.value)
     (c.in_ok-push_list-2.ensures.written ∙ ap (λ xs. t2 ++ list_text (codes "sinks") sink_line xs) (c.deref-2.ensures.value ∙ ap (λ r. r.sinks) view))
     (c.in_ok-push_list-3.ensures.written ∙ ap (λ xs. t3 ++ list_text (codes "outlets") outlet_line xs) (c.deref-3.ensures.value ∙ ap (λ r. r.outlets) view))
@@ -31,7 +31,7 @@ returns-clause-in_range c = λ holds.
     let w = c.args.window.now in
     let view = c.report.view_is in
     record {
-      head = subst (λ r. HeadFits (head_with w.side w.verdict r)) view c.in_ok-push_head.ensures.in_range;
+      head = subst (λ r. HeadFits (head_with w.grid w.verdict r)) view c.in_ok-push_head.ensures.in_range;
       holds = holds;
       tiles = subst (λ xs. IsListOf IsOnMap xs) c.deref.ensures.value c.in_ok-push_list.ensures.in_range;
       sinks = subst (λ xs. IsListOf IsNarrow xs) (c.deref-2.ensures.value ∙ ap (λ r. r.sinks) view) c.in_ok-push_list-2.ensures.in_range;

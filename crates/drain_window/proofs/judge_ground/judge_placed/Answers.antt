@@ -1,0 +1,66 @@
+use Rattle.std.proofs.Common.{◌≡◌, ℕ, ◌<◌, ◌∙◌, List, Ok, Err, sym, ap, subst, arith, rules}
+use Rattle.std.proofs.lemmas.Result.{err_from_is_err_and}
+use Rattle.drain_grid.specs.Extent.{Extent, IsExtent}
+use Rattle.drain_grid.specs.SinkTexts.{is_listed, sinks_of}
+use Rattle.drain_verdict.proofs.AuditDevices.{failed_alike, none_alike}
+use Rattle.drain_verdict.proofs.InputLemmas.{set_uses_alike}
+use Rattle.drain_verdict.proofs.OutcomeLemmas.{memory_alike}
+use Rattle.drain_verdict.specs.GroundSets.{GroundSet, set_grid, set_numbers, set_products}
+use Rattle.drain_verdict.specs.Inputs.{as_five}
+use Rattle.drain_verdict.specs.Texts.{lines_in}
+use Rattle.drain_verdict.specs.Uses.{set_devices}
+use Rattle.drain_answer.specs.declared.refusal.Refusal.TheVariants.{OutOfMemory}
+use Rattle.drain_union.specs.Windows.{IsPlaceIn}
+use Rattle.drain_window.proofs.judge_ground.judge_placed.Goals as goal
+
+pub read_set-requires-clause-unnoted : goal.read_set-requires-clause-unnoted
+read_set-requires-clause-unnoted g c = λ rules grid ps. (
+  c.new.ensures.right rules grid ps,
+  record { rows_are = c.begin.ensures.rows; right = c.begin.ensures.outcome rules grid ps },
+)
+
+pub returns-in_err-read_set-clause-answer : goal.returns-in_err-read_set-clause-answer
+returns-in_err-read_set-clause-answer g c =
+    let told = err_from_is_err_and c.from_residual.result c.from_residual.ensures.1 in
+    rw (told.1, told.2) (λ x t means tell. c.in_err-read_set.ensures.answer x t means tell)
+
+pub returns-in_err-read_set-clause-uses : goal.returns-in_err-read_set-clause-uses
+returns-in_err-read_set-clause-uses g c =
+    let told = err_from_is_err_and c.from_residual.result c.from_residual.ensures.1 in
+    let uses = c.in_err-read_set.ensures.uses in
+    rw (told.1, told.2) (set_uses_alike as_five (λ xs ps. set_devices g.T.GroundInput.devices xs (as_five ps)) (g.T.GroundInput.within c.args.frame.now) g.T.GroundInput.kept g.R.ByteSource.bytes_left g.R.ByteSource.counts
+    (c.args.inputs.now, c.args.products.now) (c.read_set.new.inputs, c.read_set.new.products)
+    (Err c.in_err-read_set.field-0.0) (Err c.in_err-read_set.field-0.0) (failed_alike c.in_err-read_set.field-0.0) uses.untouched uses)
+
+pub returns-in-Some-clause-answer : goal.returns-in-Some-clause-answer
+returns-in-Some-clause-answer g c = λ x t means tell.
+    let s : GroundSet = record { terrain = g.T.GroundInput.terrain x; texts = t } in
+    let framed = c.meaning_laws.ensures.framed c.args.frame.now c.args.inputs.now x c.requires.fit means in
+    let laid = c.meaning_laws.ensures.laid c.args.frame.now x framed in
+    let extent : c.shape-shape.result ≡ (set_grid s).extent = c.shape-shape.ensures ∙ sym laid.extent_is in
+    let fits : IsExtent (set_grid s).extent = subst IsExtent extent (search rules) in
+    let some : 0 < (set_grid s).extent.rows = omega (arith, fits.some_row) in
+    let placed = subst (λ (e : Extent). IsPlaceIn e c.args.place.now) (sym laid.extent_is) c.requires.placed in
+    let noted = c.in_ok-read_set.ensures.noted x t means tell in
+    let listed = c.in-Ok.ensures (set_grid s) (set_products s) (ap (λ (text : List ℕ). is_listed (lines_in (sinks_of text))) tell.sinks_are) in (
+      c.in_ok-read_set.ensures.answer x t means tell,
+      c.in-Some.ensures.answer (set_numbers s) (set_grid s) (set_products s) placed some (record { rows_are = noted.1.rows_are; right = noted.1.right }) noted.0 listed,
+    )
+
+pub returns-in-Some-clause-uses : goal.returns-in-Some-clause-uses
+returns-in-Some-clause-uses g c =
+    set_uses_alike as_five (λ xs ps. set_devices g.T.GroundInput.devices xs (as_five ps)) (g.T.GroundInput.within c.args.frame.now) g.T.GroundInput.kept g.R.ByteSource.bytes_left g.R.ByteSource.counts
+    (c.args.inputs.now, c.args.products.now) (c.read_set.new.inputs, c.read_set.new.products)
+    (Ok c.in_ok-read_set.field-0) (Ok _) (none_alike c.in_ok-read_set.field-0 _) tt c.in_ok-read_set.ensures.uses
+
+pub returns-in-None-clause-uses : goal.returns-in-None-clause-uses
+returns-in-None-clause-uses g c =
+    set_uses_alike as_five (λ xs ps. set_devices g.T.GroundInput.devices xs (as_five ps)) (g.T.GroundInput.within c.args.frame.now) g.T.GroundInput.kept g.R.ByteSource.bytes_left g.R.ByteSource.counts
+    (c.args.inputs.now, c.args.products.now) (c.read_set.new.inputs, c.read_set.new.products)
+    (Ok c.in_ok-read_set.field-0) (Err OutOfMemory) (memory_alike c.in_ok-read_set.field-0) (λ not. absurd (not tt)) c.in_ok-read_set.ensures.uses
+
+pub returns-in_default-clause-uses : goal.returns-in_default-clause-uses
+returns-in_default-clause-uses g c =
+    set_uses_alike as_five (λ xs ps. set_devices g.T.GroundInput.devices xs (as_five ps)) (g.T.GroundInput.within c.args.frame.now) g.T.GroundInput.kept g.R.ByteSource.bytes_left g.R.ByteSource.counts
+    (c.args.inputs.now, c.args.products.now) (c.read_set.new.inputs, c.read_set.new.products)
+    (Ok c.in_ok-read_set.field-0) (Err OutOfMemory) (memory_alike c.in_ok-read_set.field-0) (λ not. absurd (not tt)) c.in_ok-read_set.ensures.uses

@@ -1,0 +1,174 @@
+#!/usr/bin/env python3
+"""Cuts small random sets on a raster of elevations, right ones and ones with one number changed, into windows as a user does:
+each lies in a part of the raster with a header of its own. Judges the windows by the program, merges their reports, and compares
+the line with the rules on the whole (audit.py). Reports of a part at another place, or with other pixels, must be refused.
+
+random_dem_windows.py DRAIN
+
+Prints how many sets passed.
+"""
+
+import copy
+import random
+import subprocess
+import sys
+import tempfile
+from pathlib import Path
+
+sys.dont_write_bytecode = True
+from audit import NO_DATA, AuditRules
+from make_products import RULES, verdict
+from random_dems import RandomDem, rename_blank
+from random_sets import Case, kind_of
+
+CASES = 400
+SHARED_LABEL = 15
+# The greatest coordinate of a header.
+GREATEST = 10**25
+
+
+def expected(case):
+    """The line of a merge: the first fault of the rules but the last at any cell, then that of the last."""
+    rules = AuditRules(case.terrain, case.products, case.nodata)
+    line = verdict(rules, [rule for rule in RULES if rule[0] != SHARED_LABEL])
+    return line if line.startswith("rejected") else verdict(rules)
+
+
+def cuts(dice, length):
+    """Where judged rows begin and end, of one to three windows."""
+    inner = dice.sample(range(1, length), min(length - 1, dice.choice([0, 1, 1, 2])))
+    return [0, *sorted(inner), length]
+
+
+def spans(dice, length):
+    """Of each window along one way: what its part has, what it has itself, and whether it goes on before and behind."""
+    ends = cuts(dice, length)
+    for first, end in zip(ends, ends[1:]):
+        window = max(first - 1, 0), min(end + 1, length)
+        part = max(window[0] - dice.choice([0, 0, 1, 3]), 0), min(window[1] + dice.choice([0, 0, 2]), length)
+        # A side that isn't inner has to be an edge of the part, and the union's edge is.
+        yield part, window, (first > 0, end < length)
+
+
+class Part:
+    """A part of a case's raster, with its products, its list of sinks, and a window in it."""
+
+    def __init__(self, case, folder, rows, cols):
+        self.case, self.folder = case, folder
+        (self.rows, self.window_rows, (north, south)), (self.cols, self.window_cols, (west, east)) = rows, cols
+        self.inner = "".join(letter for letter, is_inner in zip("nesw", (north, east, south, west)) if is_inner)
+        whole = case.ground
+        self.ground = copy.copy(whole)
+        self.ground.rows, self.ground.cols = self.rows[1] - self.rows[0], self.cols[1] - self.cols[0]
+        self.ground.numbers, self.ground.z = self.cut(whole.numbers), self.cut(whole.z)
+        ulx, uly, xdim, ydim = whole.place
+        # Each part may be a two hundredth of a pixel off, so that two differ by a hundredth.
+        shift = [case.dice.choice([0, size // 200, -(size // 200)]) for size in (xdim, ydim)]
+        self.ground.place = [ulx + self.cols[0] * xdim + shift[0], uly - self.rows[0] * ydim + shift[1], xdim, ydim]
+        self.at = [self.rows[0], self.cols[0]]
+        self.report = folder / "report.txt"
+
+    def cut(self, numbers):
+        cols = self.case.ground.cols
+        return [numbers[row * cols + col] for row in range(*self.rows) for col in range(*self.cols)]
+
+    def write(self):
+        self.folder.mkdir(exist_ok=True)
+        self.ground.write(self.folder)
+        for name in NO_DATA:
+            header, body = self.ground.raster(name, self.case.nodata[name], self.cut(self.case.products[name]))
+            (self.folder / f"{name}.hdr").write_text(header)
+            (self.folder / f"{name}.bil").write_bytes(body)
+        inside = [(row, col) for row, col in self.case.sinks if row in range(*self.rows) and col in range(*self.cols)]
+        (self.folder / "sinks.txt").write_text("".join(f"{row - self.rows[0]} {col - self.cols[0]}\n" for row, col in inside))
+
+    def judge(self, drain):
+        """What the program ends with and prints."""
+        (top, bottom), (left, right) = self.window_rows, self.window_cols
+        box = [top - self.rows[0], left - self.cols[0], bottom - top, right - left]
+        words = ["window", *self.ground.words(self.folder), "--at", ",".join(map(str, self.at)), "--box", ",".join(map(str, box))]
+        words += ["--inner", self.inner] if self.inner else []
+        return run(drain, *words, "--products", self.folder, "--sinks", self.folder / "sinks.txt", "--report", self.report)
+
+
+def run(drain, *words):
+    ended = subprocess.run([drain, *words], stdout=subprocess.PIPE, stderr=subprocess.PIPE, timeout=120, check=False)
+    return ended.returncode, ended.stdout.decode()
+
+
+def merge(drain, case, parts):
+    return run(drain, "merge", "--sinks", case.folder / "sinks.txt", *(part.report for part in parts))
+
+
+def wrong_verdict(drain, case, parts):
+    """What is wrong with the merge, None where nothing is; and the kind of its line."""
+    for part in parts:
+        part.write()
+        status, line = part.judge(drain)
+        if status not in (0, 1):
+            return f"window {part.at}: {line!r}", None
+    line = expected(case)
+    answer = merge(drain, case, parts)
+    return None if answer == (int(line.startswith("rejected")), line + "\n") else f"{answer}, not {line!r}", kind_of(line)
+
+
+def wrong_refusal(drain, case, parts):
+    """What is wrong with the refusal of a part that says another place or other pixels, None where nothing is."""
+    other = case.dice.randrange(len(parts))
+    part = parts[other]
+    # A width that isn't the others', by which the part lies elsewhere too if it doesn't begin in column 0.
+    change = case.dice.choice(["at", "place", "size"])
+    if change == "at":
+        part.at[case.dice.randrange(2)] += 1
+    elif change == "place":
+        part.ground.place[case.dice.randrange(2)] += case.dice.choice([1, -1]) * (max(part.ground.place[2:]) // 50 + 2)
+    else:
+        part.ground.place[2 + case.dice.randrange(2)] *= 2
+    part.write()
+    status, line = part.judge(drain)
+    if status not in (0, 1):
+        return f"window {part.at}: {line!r}"
+    answer = merge(drain, case, parts)
+    refused = f"refused OtherGrid {max(other, 1)}\n"
+    return None if answer == (2, refused) else f"{change} of report {other}: {answer}, not {refused!r}"
+
+
+def judge(number, folder, drain):
+    """What is wrong with the answers to a case, None where nothing is, and the kind of the line."""
+    dice = random.Random(number)
+    ground = RandomDem(dice)
+    if any(place + size * 80 > GREATEST for place, size in zip(map(abs, ground.place), ground.place[2:])):
+        ground.place[2:] = [10**15, 10**15 // 1200]
+    case = Case(dice, folder, ground)
+    [lambda _: None, Case.change, Case.change, Case.turn, Case.lower, rename_blank][number % 6](case)
+    case.write()
+    places = [(rows, cols) for rows in spans(dice, ground.rows) for cols in spans(dice, ground.cols)]
+    parts = [Part(case, folder / str(place), rows, cols) for place, (rows, cols) in enumerate(places)]
+    wrong, kind = wrong_verdict(drain, case, parts)
+    if not wrong and len(parts) > 1:
+        wrong = wrong_refusal(drain, case, parts)
+    return wrong, kind
+
+
+def main():
+    drain = Path(sys.argv[1]).resolve()
+    failed, kinds = 0, set()
+    with tempfile.TemporaryDirectory() as scratch:
+        for number in range(CASES):
+            folder = Path(scratch) / str(number)
+            folder.mkdir()
+            wrong, kind = judge(number, folder, drain)
+            kinds.add(kind)
+            if wrong:
+                failed += 1
+                print(f"FAILED windows of random set {number}: {wrong}")
+    for kind in ("accepted", *(f"rejected rule={rule}" for rule in (1, 2, 4, 5, 9, 10, 11, 12, 13, 14, 15))):
+        if kind not in kinds:
+            failed += 1
+            print(f"FAILED windows of random sets: none is {kind}")
+    print(f"windows of random elevations: {CASES - failed} passed, {failed} failed")
+    return 1 if failed else 0
+
+
+if __name__ == "__main__":
+    sys.exit(main())
