@@ -3,13 +3,12 @@ use Rattle.std.proofs.Common.{◌≡◌, ℕ, ◌≤◌, ◌<◌, true, ◌&&◌
 use Rattle.std.proofs.lemmas.Bool.{and_parts, leb-true, or_cases, or_left, or_right, cases_lt}
 use Rattle.std.proofs.lemmas.Bool.Decides.{Decides-ltb, Decides-eqb}
 use Rattle.drain_kernel.specs.Images.{EachHasImage, at_most, lower, upper}
-use Rattle.drain_kernel.specs.Around.{is_direction_code, least_across_in, least_straight_in, named_in, around_in}
+use Rattle.drain_kernel.specs.Around.{is_direction_code, least_across_in, least_straight_in, named_in}
 use Rattle.drain_kernel.specs.Tests.{falls_steepest, is_ranked, keeps_direction, steps_along, is_ranked_by_halves, adds_up, passed_on}
-use Rattle.drain_kernel.proofs.VouchedNumbers.{named_image, around_images}
+use Rattle.drain_kernel.proofs.VouchedNumbers.{named_image}
 use Rattle.std.specs.Cmp.Derive.{both_true}
 use Rattle.std.proofs.Math.Bool.{or_assoc}
 use Rattle.drain_kernel.proofs.Keys.{same_tests}
-use Rattle.drain_pixels.specs.Lanes.{AreCapped}
 
 -- Ranks that are compared by their capped numbers.
 
@@ -40,7 +39,7 @@ pub falls_or_ranked : (con code rank least next : ℕ) (cons ranks : List ℕ) �
     IsTrue (is_ranked con code cons rank ranks)
 unfolding is_ranked keeps_direction
 falls_or_ranked con code rank least next cons ranks least_is next_is h keeps =
-    let goes = (and_parts (is_direction_code code && nat_le con 65535) (falls_steepest con code cons || steps_along con code cons) keeps).1 in
+    let goes = (and_parts (is_direction_code code) (falls_steepest con code cons || steps_along con code cons) keeps).1 in
     elim (or_cases (falls_steepest con code cons) (steps_along con code cons) goes) [
       | inl falls ↦ or_left (nat_lt (named_in code cons) con) (nat_lt (named_in code ranks) rank) (next_falls con code cons falls)
       | inr along ↦ (elim (or_cases (nat_lt least con) (nat_lt next rank) h) [
@@ -133,7 +132,7 @@ total cap acc own a b c d e f g h a2 b2 c2 d2 e2 f2 g2 h2 own_is most sum is_a i
     omega (arith, own_is, sum, a_is, b_is, c_is, d_is, e_is, f_is, g_is, h_is)
 
 -- so do they by the test
-capped_sum_gives : (acc own : ℕ) (codes numbers capped : List ℕ) → own ≡ min acc 65535 → EachHasImage at_most numbers capped → own < 65535 →
+pub capped_sum_gives : (acc own : ℕ) (codes numbers capped : List ℕ) → own ≡ min acc 65535 → EachHasImage at_most numbers capped → own < 65535 →
     IsTrue (adds_up own codes capped) → IsTrue (adds_up acc codes numbers)
 unfolding adds_up
 capped_sum_gives acc own codes numbers capped is each less h =
@@ -160,11 +159,3 @@ unfolding adds_up
 middle_sum_gives acc a b c d e f g h codes numbers is_a is_b is_c is_d is_e is_f is_g is_h most sum =
     (Decides-eqb _ _).1 (total 268435455 acc acc _ _ _ _ _ _ _ _ a b c d e f g h refl most sum (uncapped _ _ is_a) (uncapped _ _ is_b) (uncapped _ _ is_c)
     (uncapped _ _ is_d) (uncapped _ _ is_e) (uncapped _ _ is_f) (uncapped _ _ is_g) (uncapped _ _ is_h))
-
--- so at a column of three rows
-pub capped_sum_at : (above here below above2 here2 below2 codes : List ℕ) (a h b k : ℕ) → AreCapped above above2 a → AreCapped here here2 h →
-    AreCapped below below2 b → k + 1 < a → k + 1 < h → k + 1 < b → slice_index here2 k < 65535 →
-    IsTrue (adds_up (slice_index here2 k) codes (around_in above2 here2 below2 k)) → IsTrue (adds_up (slice_index here k) codes (around_in above here below k))
-capped_sum_at above here below above2 here2 below2 codes a h b k above_is here_is below_is in_above in_here in_below =
-    capped_sum_gives (slice_index here k) (slice_index here2 k) codes (around_in above here below k) (around_in above2 here2 below2 k)
-    (here_is k (omega (arith, in_here))) (around_images at_most above here below above2 here2 below2 a h b k above_is here_is below_is in_above in_here in_below)

@@ -9,14 +9,14 @@ use Rattle.drain_grid.specs.Values.{Values}
 use Rattle.drain_grid.specs.Patch.{HasLower}
 use Rattle.drain_grid.specs.PatchRules.{LabelHolds}
 use Rattle.drain_grid.specs.Slope.{IsSteepest}
-use Rattle.drain_kernel.specs.declared.lane_rows.LaneRows.{LaneRows}
+use Rattle.drain_kernel.specs.LaneNumbers.{HaveOneBias, ThreeLanes}
 use Rattle.drain_grid.specs.declared.judged.Rules.{Rules}
 use Rattle.drain_grid.specs.Judged.{IfJudged, has_acc, has_rnk}
-use Rattle.drain_kernel.specs.Falls.{FallsAt, keeps_fall}
+use Rattle.drain_kernel.specs.Falls.{FallsAt, highest, keeps_fall}
 use Rattle.drain_kernel.specs.Columns.{IsKept, HaveRanks, IsShownRoundIn}
 use Rattle.drain_grid.specs.RulesAbout.{tried}
 use Rattle.drain_kernel.proofs.ClearedRules.{cleared}
-use Rattle.drain_kernel.proofs.Inland.{le_from, no_void, some_height}
+use Rattle.drain_kernel.proofs.Inland.{bias_beside, le_from, no_void, some_height}
 use Rattle.drain_kernel.proofs.Meaning.{are_complete, no_outlet, not_zero}
 use Rattle.drain_kernel.proofs.NamedNumbers.{named_is, names_some}
 use Rattle.drain_kernel.proofs.Numbers.{Numbers, numbers_in, patch_of, values_are}
@@ -32,8 +32,8 @@ record OfFall (here : Numbers) (around : List (Option Values)) : Type 0 where
   way : (d : Direction) × Names (pos here.dir) d × IsSteepest (patch_of here around) d
   label : LabelHolds (patch_of here around)
 
-of_fall : (here : Numbers) (n : Direction → Numbers) (around : List (Option Values)) → AreSeen here n around →
-    keeps_fall here.z here.con here.dir (map (λ d. (n d).con) directions) here.bas (map (λ d. (n d).bas) directions) ≡ true → OfFall here around
+of_fall : (here : Numbers) (n : Direction → Numbers) (around : List (Option Values)) → AreSeen (highest here.bias) here n around →
+    keeps_fall here.bias here.z here.con here.dir (map (λ d. (n d).con) directions) here.bas (map (λ d. (n d).bas) directions) ≡ true → OfFall here around
 unfolding keeps_fall
 of_fall here n around seen h =
     let labelled = and_parts _ _ h in
@@ -45,22 +45,23 @@ of_fall here n around seen h =
     record {
       has_data = no_void here.z level.0;
       level = (Decides-eqb _ _).0 level.1;
-      way = (code.0, code.1, steepest_from here n around seen code.0 code.1 (le_from _ _ fits.1) falls.1);
+      way = (code.0, code.1, steepest_from (highest here.bias) here n around seen code.0 code.1 (le_from _ _ fits.1) falls.1);
       label = λ _ e m names_e beside.
           let same : pos here.bas ≡ pos (n e).bas = ap pos (sym ((Decides-eqb _ _).0 labelled.1) ∙ named_is (λ d. (n d).bas) here.dir e names_e) in
           same ∙ ap (λ (v : Values). v.bas) (seen.data_is e m beside);
     }
 
 -- so at a column where the tests pass
-pub is_kept_there : (rules : Rules) (rows : LaneRows) (k : ℕ) (p : Patch) → IsShownRoundIn rows k p →
+pub is_kept_there : (bias : ℕ) (rules : Rules) (rows : ThreeLanes) (k : ℕ) (p : Patch) → HaveOneBias bias rows → IsShownRoundIn rows k p →
     IfJudged (has_rnk rules.judged) (HaveRanks rows) → FallsAt rules rows k → IsKept (tried rules) p
-is_kept_there rules rows k p shown have passes =
-    let above = rows.above.now in
-    let here = rows.here.now in
-    let below = rows.below.now in
+is_kept_there bias rules rows k p one shown have passes =
+    let same = bias_beside bias rows one in
+    let above = rows.above in
+    let here = rows.here in
+    let below = rows.below in
     let at = numbers_in here k p.here in
-    let fall = of_fall at (numbers_seen above here below k p shown) p.around (are_seen above here below k p shown) passes.fall in
-    let here_is = some_height at.z fall.has_data in
+    let fall = of_fall at (numbers_seen above here below k p shown) p.around (are_seen above here below k p shown same) passes.fall in
+    let here_is = some_height at.bias at.z fall.has_data in
     let lower : HasLower (patch_of at p.around) = (ap is_some here_is, (fall.way.0, (fall.way.2.0, fall.way.2.1.lower))) in
     let sound : IsSound rules.nodata at p.around = record {
       here_is = here_is;
@@ -72,10 +73,10 @@ is_kept_there rules rows k p shown have passes =
       label = fall.label;
       complete = are_complete rules.nodata here k passes.has_way passes.has_counts;
     } in
-    let sum = if_tested (has_acc rules.judged) _ _ (sum_from above here below k p shown) passes.sum in
+    let sum = if_tested (has_acc rules.judged) _ _ (sum_from above here below k p shown same) passes.sum in
     let rank = rank_from (has_rnk rules.judged) rules.nodata rows k p.here shown.cell fall.has_data have passes.rank in
-    let same : p ≡ patch_of at p.around = λ i. record { here = values_are here k p.here shown.cell fall.has_data i; around = p.around } in
-    subst (IsKept (tried rules)) (sym same) (record {
+    let made : p ≡ patch_of at p.around = λ i. record { here = values_are here k p.here shown.cell fall.has_data i; around = p.around } in
+    subst (IsKept (tried rules)) (sym made) (record {
       holds = cleared rules.judged rules.nodata (patch_of at p.around)
           (λ r own. keeps_rules rules.nodata at p.around sound (has_rnk rules.judged) (has_acc rules.judged) sum rank r);
       has_data = ap is_some here_is;

@@ -12,7 +12,8 @@ use Rattle.drain_grid.specs.Open.{IsGap}
 use Rattle.drain_grid.specs.Patch.{neighbor, height, IsDataNeighbor, IsOpen}
 use Rattle.drain_grid.specs.PatchRules.{BelowGroundHolds, NotLeastHolds}
 use Rattle.drain_grid.proofs.Tallies.{same_some}
-use Rattle.drain_kernel.specs.Shown.{lowered, height_of}
+use Rattle.drain_kernel.specs.LaneNumbers.{HaveOneBias, ThreeLanes}
+use Rattle.drain_kernel.specs.Shown.{lowered, height_of, row_beside}
 use Rattle.drain_kernel.specs.Tests.{keeps_surface}
 use Rattle.drain_kernel.proofs.Numbers.{Numbers, values_of, patch_of}
 use Rattle.drain_kernel.proofs.NamedNumbers.{least_bound}
@@ -23,9 +24,10 @@ le_from a b h = elim (leb_tells a b) [ inl told ↦ told.1 | inr told ↦ absurd
 -- the neighbours are these, they and the cell have data, and the cell isn't listed
 pub record IsInland (here : Numbers) (n : Direction → Numbers) (around : List (Option Values)) : Type 0 where
   pub neighbor_is : (d : Direction) → neighbor (patch_of here around) d ≡ Some (values_of (n d))
+  pub bias_is : (d : Direction) → (n d).bias ≡ here.bias
   pub not_listed : here.sink ≡ false
-  pub here_is : height_of here.z ≡ Some (lowered here.z)
-  pub beside_is : (d : Direction) → height_of (n d).z ≡ Some (lowered (n d).z)
+  pub here_is : height_of here.bias here.z ≡ Some (lowered here.bias here.z)
+  pub beside_is : (d : Direction) → height_of (n d).bias (n d).z ≡ Some (lowered (n d).bias (n d).z)
 
 pub of_each : (P : Direction → Type 0) → P East → P SouthEast → P South → P SouthWest → P West → P NorthWest → P North → P NorthEast → (d : Direction) → P d
 of_each P e se s sw w nw nth ne East = e
@@ -44,22 +46,34 @@ no_void z h void = by_test (z == 0) h ((Decides-eqb z 0).1 void)
     by_test true e same = false≢true e
     by_test false e same = false≢true same
 
-pub some_height : (z : ℕ) → z ≢ 0 → height_of z ≡ Some (lowered z)
-some_height z there = by_test (z == 0) (Decides-eqb z 0).0
+pub some_height : (bias z : ℕ) → z ≢ 0 → height_of bias z ≡ Some (lowered bias z)
+some_height bias z there = by_test (z == 0) (Decides-eqb z 0).0
   where
-    by_test : (b : Bool) → (b ≡ true → z ≡ 0) → (if b then None else Some (lowered z)) ≡ Some (lowered z)
+    by_test : (b : Bool) → (b ≡ true → z ≡ 0) → (if b then None else Some (lowered bias z)) ≡ Some (lowered bias z)
     by_test true is = absurd (there (is refl))
     by_test false is = refl
 
 pub inland_from : (here : Numbers) (n : Direction → Numbers) (around : List (Option Values)) →
-    ((d : Direction) → neighbor (patch_of here around) d ≡ Some (values_of (n d))) → here.sink ≡ false → here.z ≢ 0 →
+    ((d : Direction) → neighbor (patch_of here around) d ≡ Some (values_of (n d))) → ((d : Direction) → (n d).bias ≡ here.bias) → here.sink ≡ false → here.z ≢ 0 →
     ((d : Direction) → (n d).z ≢ 0) → IsInland here n around
-inland_from here n around neighbors not_listed here_has beside_has = record {
+inland_from here n around neighbors biases not_listed here_has beside_has = record {
   neighbor_is = neighbors;
+  bias_is = biases;
   not_listed = not_listed;
-  here_is = some_height here.z here_has;
-  beside_is = λ d. some_height (n d).z (beside_has d);
+  here_is = some_height here.bias here.z here_has;
+  beside_is = λ d. some_height (n d).bias (n d).z (beside_has d);
 }
+
+-- rows with one bias
+pub bias_beside : (bias : ℕ) (rows : ThreeLanes) → HaveOneBias bias rows → (d : Direction) →
+    (row_beside rows.above rows.here rows.below d).bias ≡ rows.here.bias
+bias_beside bias rows one = of_each (λ d. (row_beside rows.above rows.here rows.below d).bias ≡ rows.here.bias) refl under under under refl over over over
+  where
+    under : rows.below.bias ≡ rows.here.bias
+    under = one.below_is ∙ sym one.here_is
+
+    over : rows.above.bias ≡ rows.here.bias
+    over = one.above_is ∙ sym one.here_is
 
 -- each neighbour is a data neighbour
 pub is_beside : (here : Numbers) (n : Direction → Numbers) (around : List (Option Values)) → IsInland here n around → (d : Direction) →
@@ -81,14 +95,14 @@ not_open here n around known opened = elim opened.1 [
 ]
 
 height_is : (here : Numbers) (n : Direction → Numbers) (around : List (Option Values)) → IsInland here n around →
-    height (patch_of here around) ≡ lowered here.z
+    height (patch_of here around) ≡ lowered here.bias here.z
 height_is here n around known = ap (λ o. unwrap_or o (pos 0)) known.here_is
 
-le_lowered : (a b : ℕ) → a ≤ b → lowered a ≤ℤ lowered b
-le_lowered a b h = omega (arith, ints)
+le_lowered : (bias a b : ℕ) → a ≤ b → lowered bias a ≤ℤ lowered bias b
+le_lowered bias a b h = omega (arith, ints)
 
-at_most_max : (con z l x : ℕ) → con ≤ max z l → l ≤ x → lowered con ≤ℤ int_max (lowered z) (lowered x)
-at_most_max con z l x h k = omega (arith, ints, clamps)
+at_most_max : (bias other con z l x : ℕ) → other ≡ bias → con ≤ max z l → l ≤ x → lowered bias con ≤ℤ int_max (lowered bias z) (lowered other x)
+at_most_max bias other con z l x same h k = omega (arith, ints, clamps)
 
 -- what the test of the surface gives
 pub record OfSurface (here : Numbers) (around : List (Option Values)) : Type 0 where
@@ -101,12 +115,12 @@ unfolding keeps_surface
 of_surface here n around known h =
     let p = patch_of here around in
     let parts = and_parts _ _ h in
-    let ground_is : height p ≡ lowered here.z = height_is here n around known in
+    let ground_is : height p ≡ lowered here.bias here.z = height_is here n around known in
     record {
-      below_ground = λ _. subst (λ x. x ≤ℤ lowered here.con) (sym ground_is) (le_lowered here.z here.con (le_from here.z here.con parts.0));
+      below_ground = λ _. subst (λ x. x ≤ℤ lowered here.bias here.con) (sym ground_is) (le_lowered here.bias here.z here.con (le_from here.z here.con parts.0));
       not_least = λ _ d m beside.
           let most = le_from _ _ parts.1 in
-          of_beside here n around known d m (λ v. lowered here.con ≤ℤ int_max (height p) v.con)
-          (subst (λ x. lowered here.con ≤ℤ int_max x (lowered (n d).con)) (sym ground_is)
-          (at_most_max here.con here.z _ (n d).con most (least_bound (λ d. (n d).con) d))) beside;
+          of_beside here n around known d m (λ v. lowered here.bias here.con ≤ℤ int_max (height p) v.con)
+          (subst (λ x. lowered here.bias here.con ≤ℤ int_max x (lowered (n d).bias (n d).con)) (sym ground_is)
+          (at_most_max here.bias (n d).bias here.con here.z _ (n d).con (known.bias_is d) most (least_bound (λ d. (n d).con) d))) beside;
     }

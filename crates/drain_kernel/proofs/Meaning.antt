@@ -14,8 +14,7 @@ use Rattle.drain_grid.specs.SetProduct.{product_of}
 use Rattle.drain_grid.specs.Values.{Values, NoDataNumbers, value_of, number_for}
 use Rattle.drain_grid.specs.PatchRules.{AccumulationHolds, LabelHolds, inflow, check_rules}
 use Rattle.drain_grid.specs.Unranked.{unranked}
-use Rattle.drain_kernel.specs.declared.lane_rows.LaneRows.{LaneRows}
-use Rattle.drain_kernel.specs.declared.lanes.Lanes.{Lanes}
+use Rattle.drain_kernel.specs.LaneNumbers.{HaveOneBias, LaneNumbers, ThreeLanes}
 use Rattle.drain_grid.specs.declared.judged.Rules.{Rules}
 use Rattle.drain_grid.specs.Judged.{IfJudged, has_acc, has_rnk}
 use Rattle.drain_kernel.specs.Columns.{HasCountsAt, HasWayAt, IsInlandAt, PassesAt, RanksPassAt, IsKept, HaveRanks, IsShownIn}
@@ -24,20 +23,20 @@ use Rattle.drain_kernel.proofs.ClearedRules.{cleared}
 use Rattle.drain_kernel.specs.Rules.{rules_with, tested, without_sums}
 use Rattle.drain_kernel.specs.Shown.{lowered, height_of, HasDataAt, HasRanks, row_beside, col_beside}
 use Rattle.drain_kernel.specs.Tests.{adds_up}
-use Rattle.drain_kernel.proofs.Inland.{IsInland, inland_from, of_each, not_open, OfSurface, of_surface}
+use Rattle.drain_kernel.proofs.Inland.{bias_beside, IsInland, inland_from, of_each, not_open, OfSurface, of_surface}
 use Rattle.drain_kernel.proofs.Numbers.{Numbers, HaveDataAt, values_of, patch_of, numbers_in, numbers_beside, patch_is, neighbor_is}
 use Rattle.drain_kernel.proofs.Counting.{inflow_passed, total_is, if_tested, summed}
 use Rattle.drain_kernel.proofs.Ways.{OfDirection, of_direction, of_label, IsRanked, ranked_from, flat_step_from}
 
 -- the four numbers aren't their products' no-data numbers
-pub record AreComplete (nodata : NoDataNumbers) (con dir acc bas : ℕ) : Type 0 where
-  pub con_differs : lowered con ≢ nodata.con
+pub record AreComplete (nodata : NoDataNumbers) (bias con dir acc bas : ℕ) : Type 0 where
+  pub con_differs : lowered bias con ≢ nodata.con
   pub dir_differs : pos dir ≢ nodata.dir
   pub acc_differs : pos acc ≢ nodata.acc
   pub bas_differs : pos bas ≢ nodata.bas
 
-pub are_complete : (nodata : NoDataNumbers) (h : Lanes) (k : ℕ) → HasWayAt nodata h k → HasCountsAt nodata h k →
-    AreComplete nodata (slice_index h.con.items k) (slice_index h.dir.items k) (slice_index h.acc.items k) (slice_index h.bas.items k)
+pub are_complete : (nodata : NoDataNumbers) (h : LaneNumbers) (k : ℕ) → HasWayAt nodata h k → HasCountsAt nodata h k →
+    AreComplete nodata h.bias (slice_index h.con k) (slice_index h.dir k) (slice_index h.acc k) (slice_index h.bas k)
 are_complete nodata h k way counts =
     record { con_differs = way.con_differs; dir_differs = way.dir_differs; acc_differs = counts.acc_differs; bas_differs = counts.bas_differs }
 
@@ -47,7 +46,7 @@ of_sum : (here : Numbers) (n : Direction → Numbers) (around : List (Option Val
 unfolding adds_up
 of_sum here n around known h =
     let from = λ (d : Direction). ap (λ o. inflow o d) (known.neighbor_is d) ∙
-    inflow_passed (is_some (height_of (n d).z)) ((n d).dir == code_of (opposite d)) (n d).acc (ap is_some (known.beside_is d)) in
+    inflow_passed (is_some (height_of (n d).bias (n d).z)) ((n d).dir == code_of (opposite d)) (n d).acc (ap is_some (known.beside_is d)) in
     λ _. total_is here.acc _ _ _ _ _ _ _ _ _ _ _ _ _ _ _ _ (from East) (from SouthEast) (from South) (from SouthWest) (from West) (from NorthWest)
     (from North) (from NorthEast) ((Decides-eqb _ _).0 h)
 
@@ -57,7 +56,7 @@ record Passed (nodata : NoDataNumbers) (here : Numbers) (n : Direction → Numbe
   surface : OfSurface here around
   direction : OfDirection here around
   label : LabelHolds (patch_of here around)
-  complete : AreComplete nodata here.con here.dir here.acc here.bas
+  complete : AreComplete nodata here.bias here.con here.dir here.acc here.bas
 
 -- no rule without ranks but Accumulation fails
 of_unranked : (nodata : NoDataNumbers) (here : Numbers) (n : Direction → Numbers) (around : List (Option Values)) → Passed nodata here n around →
@@ -88,7 +87,7 @@ record Ranked (nodata : NoDataNumbers) (here : Numbers) (n : Direction → Numbe
   leads : IsRanked here n
   differs : here.rnk ≢ nodata.rnk
 
-pub is_complete : (nodata : NoDataNumbers) (here : Numbers) → AreComplete nodata here.con here.dir here.acc here.bas → here.rnk ≢ nodata.rnk →
+pub is_complete : (nodata : NoDataNumbers) (here : Numbers) → AreComplete nodata here.bias here.con here.dir here.acc here.bas → here.rnk ≢ nodata.rnk →
     (p : SetProduct) → value_of (values_of here) (product_of p) ≢ number_for nodata (product_of p)
 is_complete nodata here complete differs Con = complete.con_differs
 is_complete nodata here complete differs Dir = complete.dir_differs
@@ -128,10 +127,10 @@ pub no_outlet : (d : Direction) → code_of d ≢ 0
 no_outlet = of_each (λ d. code_of d ≢ 0) (λ e. cc) (λ e. cc) (λ e. cc) (λ e. cc) (λ e. cc) (λ e. cc) (λ e. cc) (λ e. cc)
 
 -- the test of voids, of the nine columns
-have_data_from : (rows : LaneRows) (k : ℕ) → IsInlandAt rows k → HaveDataAt rows.above.now rows.here.now rows.below.now k
+have_data_from : (rows : ThreeLanes) (k : ℕ) → IsInlandAt rows k → HaveDataAt rows.above rows.here rows.below k
 have_data_from rows k known = record {
   here_has = known.here_is.middle;
-  beside_has = of_each (λ d. HasDataAt (row_beside rows.above.now rows.here.now rows.below.now d) (col_beside k d)) known.here_is.right known.below_is.right known.below_is.middle
+  beside_has = of_each (λ d. HasDataAt (row_beside rows.above rows.here rows.below d) (col_beside k d)) known.here_is.right known.below_is.right known.below_is.middle
       known.below_is.left known.here_is.left known.above_is.left known.above_is.middle known.above_is.right;
 }
 
@@ -142,35 +141,35 @@ not_zero code d is differs h = differs (same_natural d 0 (sym is ∙ h))
     same_natural a b e = cc
 
 -- where ranks are checked, they were taken, and their tests give what is required of the numbers
-ranks_from : (ranks : Bool) (nodata : NoDataNumbers) (rows : LaneRows) (k : ℕ) (p : Patch) (shown : IsShownIn rows k p) →
-    HaveDataAt rows.above.now rows.here.now rows.below.now k → IfJudged ranks (HaveRanks rows) → IfJudged ranks (RanksPassAt nodata rows k) →
-    IfJudged ranks (Ranked nodata (numbers_in rows.here.now k p.here) (numbers_beside rows.above.now rows.here.now rows.below.now k p shown))
+ranks_from : (ranks : Bool) (nodata : NoDataNumbers) (rows : ThreeLanes) (k : ℕ) (p : Patch) (shown : IsShownIn rows k p) →
+    HaveDataAt rows.above rows.here rows.below k → IfJudged ranks (HaveRanks rows) → IfJudged ranks (RanksPassAt nodata rows k) →
+    IfJudged ranks (Ranked nodata (numbers_in rows.here k p.here) (numbers_beside rows.above rows.here rows.below k p shown))
 ranks_from false nodata rows k p shown known have passes = tt
 ranks_from true nodata rows k p shown known have passes =
-    let above = rows.above.now in
-    let here = rows.here.now in
-    let below = rows.below.now in
+    let above = rows.above in
+    let here = rows.here in
+    let below = rows.below in
     let own = shown.cell.rnk_is have.here_has known.here_has in
     let has : (d : Direction) → HasRanks (row_beside above here below d) = of_each (λ d. HasRanks (row_beside above here below d))
     have.here_has have.below_has have.below_has have.below_has have.here_has have.above_has have.above_has have.above_has in
     record {
-      leads = ranked_from (numbers_in here k p.here) (numbers_beside above here below k p shown) (slice_index here.rnk.items k)
-          (λ d. slice_index (row_beside above here below d).rnk.items (col_beside k d)) own
+      leads = ranked_from (numbers_in here k p.here) (numbers_beside above here below k p shown) (slice_index here.rnk k)
+          (λ d. slice_index (row_beside above here below d).rnk (col_beside k d)) own
           (λ d. (shown.around_is d).1.shown.rnk_is (has d) (known.beside_has d)) passes.ranked;
       differs = subst (λ r. r ≢ nodata.rnk) (sym own) passes.has_rank;
     }
 
 -- so at a column of three rows where all tests pass
-pub is_kept : (rules : Rules) (rows : LaneRows) (k : ℕ) (p : Patch) → IsShownIn rows k p →
+pub is_kept : (bias : ℕ) (rules : Rules) (rows : ThreeLanes) (k : ℕ) (p : Patch) → HaveOneBias bias rows → IsShownIn rows k p →
     IfJudged (has_rnk rules.judged) (HaveRanks rows) → PassesAt rules rows k → IsKept (tried rules) p
-is_kept rules rows k p shown have passes =
-    let above = rows.above.now in
-    let here = rows.here.now in
-    let below = rows.below.now in
+is_kept bias rules rows k p one shown have passes =
+    let above = rows.above in
+    let here = rows.here in
+    let below = rows.below in
     let at = numbers_in here k p.here in
     let n = numbers_beside above here below k p shown in
     let nine = have_data_from rows k passes.inland in
-    let known = inland_from at n p.around (λ d. neighbor_is above here below k p shown d (nine.beside_has d)) shown.not_listed
+    let known = inland_from at n p.around (λ d. neighbor_is above here below k p shown d (nine.beside_has d)) (bias_beside bias rows one) shown.not_listed
     nine.here_has nine.beside_has in
     let direction = of_direction at n p.around known passes.direction in
     let passed : Passed rules.nodata at n p.around = record {

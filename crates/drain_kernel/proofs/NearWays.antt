@@ -1,11 +1,11 @@
 -- What the test of surface and direction in 16 bits gives: of minima that are at most con, and squares of near drops.
-use Rattle.std.proofs.Common.{◌≡◌, ℕ, ◌+◌, ◌-◌, ◌*◌, ◌/◌, ◌%◌, ◌^◌, ◌≤◌, ◌<◌, Bool, true, not, ◌&&◌, ◌||◌, ◌==◌, nat_le, min, max, List, slice_index, inl, inr, refl, sym, ◌∙◌, ap, subst, arith}
+use Rattle.std.proofs.Common.{◌≡◌, ℕ, ◌+◌, ◌-◌, ◌*◌, ◌%◌, ◌^◌, ◌≤◌, ◌<◌, Bool, true, not, ◌&&◌, ◌||◌, ◌==◌, nat_le, min, max, List, slice_index, inl, inr, refl, sym, ◌∙◌, ap, subst, arith}
 use Rattle.std.specs.Cmp.Derive.{both_true}
 use Rattle.std.proofs.lemmas.Bool.{and_parts, cases_lt, le-leb, leb-true, or_cases, or_left, or_right}
 use Rattle.std.proofs.lemmas.Bool.Decides.{Decides-eqb, Decides-ltb}
 use Rattle.std.proofs.lemmas.Nat.{mul-le}
 use Rattle.drain_kernel.specs.Around.{LeadsAcross, LeadsStraight, least_across_in, least_straight_in, named_in}
-use Rattle.drain_kernel.specs.Tests.{falls_steepest, keeps_direction, keeps_surface, square_of_drop, steps_along}
+use Rattle.drain_kernel.specs.Tests.{falls_steepest, keeps_direction, keeps_surface, steps_along}
 
 -- the square of a near drop fits 16 bits
 pub near_square : (drop : ℕ) → drop ≤ 255 → (drop * drop) % 2 ^ 16 ≡ drop * drop
@@ -58,9 +58,9 @@ lies height con cons is = both_true (le-leb height con (not_below height con _ i
     no_higher height con s a is = omega (arith, is)
 
 -- a minimum at most con, and the square of the drop to it
-square_is : (con low : ℕ) → con ≤ 65535 → square_of_drop con low ≡ (con - min low con) * (con - min low con)
-square_is con low fits =
-    let is : min (con - low) 65535 ≡ con - min low con = omega (arith, fits) in
+square_is : (con low : ℕ) → (con - low) * (con - low) ≡ (con - min low con) * (con - min low con)
+square_is con low =
+    let is : con - low ≡ con - min low con = omega arith in
     ap (λ d. d * d) is
 
 no_drop : (d : ℕ) → d * d ≤ 0 → d ≡ 0
@@ -91,22 +91,22 @@ flat con code s a cons s_is a_is level low_s low_a =
     at_most_both con s a h k = omega (arith, h, k)
 
 -- the way along a row or a column is the steepest, or leads along a flat
-pub straight_way : (con code : ℕ) (cons : List ℕ) → con ≤ 65535 → LeadsStraight code cons (min (least_straight_in cons) con) →
+pub straight_way : (con code : ℕ) (cons : List ℕ) → LeadsStraight code cons (min (least_straight_in cons) con) →
     (con - min (least_across_in cons) con) * (con - min (least_across_in cons) con) ≤
     (con - min (least_straight_in cons) con) * (con - min (least_straight_in cons) con) +
     (con - min (least_straight_in cons) con) * (con - min (least_straight_in cons) con) →
     keeps_direction con code cons ≡ true
 unfolding keeps_direction falls_steepest
-straight_way con code cons fits leads least =
+straight_way con code cons leads least =
     let s = least_straight_in cons in
     let a = least_across_in cons in
-    let along = square_is con s fits in
-    let aslant = square_is con a fits in
-    both_true (both_true (or_left _ _ leads.straight) (le-leb con 65535 fits)) (elim (cases_lt s con) [
+    let along = square_is con s in
+    let aslant = square_is con a in
+    both_true (or_left _ _ leads.straight) (elim (cases_lt s con) [
       | inl falls ↦ (
           let next : named_in code cons ≡ s = leads.named ∙ low_is s con falls in
           or_left _ _ (both_true ((Decides-ltb _ _).1 (subst (λ x. x < con) (sym next) falls))
-          (or_left _ _ (both_true (both_true leads.straight ((Decides-eqb _ _).1 next)) (le-leb _ _ (halved _ _ _ _ along aslant least))))))
+          (or_left _ _ (both_true (both_true leads.straight ((Decides-eqb _ _).1 next)) (le-leb _ _ (at_most _ _ _ _ along aslant least))))))
       | inr level ↦ (
           let none = no_fall con s level in
           let zero = no_drop (con - min a con) (omega (arith, least, no_more (con - min s con) none)) in
@@ -119,26 +119,26 @@ straight_way con code cons fits leads least =
     high_is : (s con : ℕ) → con ≤ s → min s con ≡ con
     high_is s con h = omega (arith, h)
 
-    halved : (x y p q : ℕ) → x ≡ p → y ≡ q → q ≤ p + p → y / 2 + y % 2 ≤ x
-    halved x y p q is_x is_y h = omega (arith, is_x, is_y, h)
+    at_most : (x y p q : ℕ) → x ≡ p → y ≡ q → q ≤ p + p → y ≤ 2 * x
+    at_most x y p q is_x is_y h = omega (arith, is_x, is_y, h)
 
 -- so is the way across a corner
-pub across_way : (con code : ℕ) (cons : List ℕ) → con ≤ 65535 → LeadsAcross code cons (min (least_across_in cons) con) →
+pub across_way : (con code : ℕ) (cons : List ℕ) → LeadsAcross code cons (min (least_across_in cons) con) →
     (con - min (least_straight_in cons) con) * (con - min (least_straight_in cons) con) +
     (con - min (least_straight_in cons) con) * (con - min (least_straight_in cons) con) ≤
     (con - min (least_across_in cons) con) * (con - min (least_across_in cons) con) →
     keeps_direction con code cons ≡ true
 unfolding keeps_direction falls_steepest
-across_way con code cons fits leads least =
+across_way con code cons leads least =
     let s = least_straight_in cons in
     let a = least_across_in cons in
-    let along = square_is con s fits in
-    let aslant = square_is con a fits in
-    both_true (both_true leads.direction (le-leb con 65535 fits)) (elim (cases_lt a con) [
+    let along = square_is con s in
+    let aslant = square_is con a in
+    both_true leads.direction (elim (cases_lt a con) [
       | inl falls ↦ (
           let next : named_in code cons ≡ a = leads.named ∙ low_is a con falls in
           or_left _ _ (both_true ((Decides-ltb _ _).1 (subst (λ x. x < con) (sym next) falls))
-          (or_right _ _ (both_true (both_true (ap not leads.not_straight) ((Decides-eqb _ _).1 next)) (le-leb _ _ (halved _ _ _ _ along aslant least))))))
+          (or_right _ _ (both_true (both_true (ap not leads.not_straight) ((Decides-eqb _ _).1 next)) (le-leb _ _ (at_most _ _ _ _ along aslant least))))))
       | inr level ↦ (
           let none = no_fall con a level in
           let zero = no_drop (con - min s con) (omega (arith, least, no_more (con - min a con) none)) in
@@ -151,8 +151,8 @@ across_way con code cons fits leads least =
     high_is : (s con : ℕ) → con ≤ s → min s con ≡ con
     high_is s con h = omega (arith, h)
 
-    halved : (x y p q : ℕ) → x ≡ p → y ≡ q → p + p ≤ q → x ≤ y / 2
-    halved x y p q is_x is_y h = omega (arith, is_x, is_y, h)
+    at_most : (x y p q : ℕ) → x ≡ p → y ≡ q → p + p ≤ q → 2 * x ≤ y
+    at_most x y p q is_x is_y h = omega (arith, is_x, is_y, h)
 
 -- the same of numbers that are these
 pub lies_with : (height con straight s across a low top : ℕ) (cons : List ℕ) → straight ≡ least_straight_in cons → s ≡ min straight con →
@@ -160,13 +160,13 @@ pub lies_with : (height con straight s across a low top : ℕ) (cons : List ℕ)
 lies_with height con straight s across a low top cons straight_is s_is across_is a_is low_is top_is h =
     lies height con cons (cc)
 
-pub way_with : (con code straight s across a p q twice most : ℕ) (cons : List ℕ) (goes_straight goes_across : Bool) → con ≤ 65535 →
+pub way_with : (con code straight s across a p q twice most : ℕ) (cons : List ℕ) (goes_straight goes_across : Bool) →
     straight ≡ least_straight_in cons → s ≡ min straight con → across ≡ least_across_in cons → a ≡ min across con →
     (con - s ≤ 255 → p ≡ (con - s) * (con - s)) → (con - a ≤ 255 → q ≡ (con - a) * (con - a)) → twice ≡ min (p + p) 65535 →
     most ≡ max (con - s) (con - a) → most ≤ 255 → (goes_straight ≡ true → LeadsStraight code cons s) →
     (goes_across ≡ true → LeadsAcross code cons a) → ((goes_straight && nat_le q twice) || (goes_across && nat_le twice q)) ≡ true →
     keeps_direction con code cons ≡ true
-way_with con code straight s across a p q twice most cons goes_straight goes_across fits straight_is s_is across_is a_is p_is q_is twice_is most_is near leads_s leads_a h =
+way_with con code straight s across a p q twice most cons goes_straight goes_across straight_is s_is across_is a_is p_is q_is twice_is most_is near leads_s leads_a h =
     let s_least : s ≡ min (least_straight_in cons) con = s_is ∙ ap (λ x. min x con) straight_is in
     let a_least : a ≡ min (least_across_in cons) con = a_is ∙ ap (λ x. min x con) across_is in
     let near_s : con - s ≤ 255 = omega (arith, most_is, near) in
@@ -177,11 +177,11 @@ way_with con code straight s across a p q twice most cons goes_straight goes_acr
     elim (or_cases _ _ h) [
       | inl straight_goes ↦ (
           let parts = and_parts _ _ straight_goes in
-          straight_way con code cons fits (subst (LeadsStraight code cons) s_least (leads_s parts.0))
+          straight_way con code cons (subst (LeadsStraight code cons) s_least (leads_s parts.0))
           (at_most_twice p q twice _ _ p_square q_square twice_is (leb-true q twice parts.1)))
       | inr across_goes ↦ (
           let parts = and_parts _ _ across_goes in
-          across_way con code cons fits (subst (LeadsAcross code cons) a_least (leads_a parts.0))
+          across_way con code cons (subst (LeadsAcross code cons) a_least (leads_a parts.0))
           (twice_at_most p q twice _ _ _ p_square q_square (q_is near_a) q_most twice_is (leb-true twice q parts.1)))
     ]
   where

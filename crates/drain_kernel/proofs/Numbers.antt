@@ -4,11 +4,12 @@ use Rattle.drain_grid.specs.declared.direction.Direction.{Direction}
 use Rattle.drain_grid.specs.declared.patch.Patch.{Patch}
 use Rattle.drain_grid.specs.Patch.{neighbor}
 use Rattle.drain_grid.specs.Values.{Values}
-use Rattle.drain_kernel.specs.declared.lanes.Lanes.{Lanes}
+use Rattle.drain_kernel.specs.LaneNumbers.{LaneNumbers}
 use Rattle.drain_kernel.specs.Shown.{lowered, height_of, HasDataAt, Shows, IsShown, row_beside, col_beside}
 
 -- what lanes say of a cell, and what they needn't say
 pub record Numbers : Type 0 where
+  pub bias : ℕ
   pub z : ℕ
   pub con : ℕ
   pub dir : ℕ
@@ -19,25 +20,26 @@ pub record Numbers : Type 0 where
   pub rnk : ℤ
 
 abbrev pub values_of : Numbers → Values
-values_of n = record { z = height_of n.z; sink = n.sink; con = lowered n.con; dir = pos n.dir; acc = pos n.acc; bas = pos n.bas; spl = n.spl; rnk = n.rnk }
+values_of n = record { z = height_of n.bias n.z; sink = n.sink; con = lowered n.bias n.con; dir = pos n.dir; acc = pos n.acc; bas = pos n.bas; spl = n.spl; rnk = n.rnk }
 
 abbrev pub patch_of : Numbers → List (Option Values) → Patch
 patch_of here around = record { here = values_of here; around = around }
 
 -- the numbers of a cell whose values a row shows
-abbrev pub numbers_in : Lanes → ℕ → Values → Numbers
+abbrev pub numbers_in : LaneNumbers → ℕ → Values → Numbers
 numbers_in row k v = record {
-  z = slice_index row.z.items k;
-  con = slice_index row.con.items k;
-  dir = slice_index row.dir.items k;
-  acc = slice_index row.acc.items k;
-  bas = slice_index row.bas.items k;
+  bias = row.bias;
+  z = slice_index row.z k;
+  con = slice_index row.con k;
+  dir = slice_index row.dir k;
+  acc = slice_index row.acc k;
+  bas = slice_index row.bas k;
   sink = v.sink;
   spl = v.spl;
   rnk = v.rnk;
 }
 
-pub values_are : (row : Lanes) (k : ℕ) (v : Values) → Shows row k v → HasDataAt row k → v ≡ values_of (numbers_in row k v)
+pub values_are : (row : LaneNumbers) (k : ℕ) (v : Values) → Shows row k v → HasDataAt row k → v ≡ values_of (numbers_in row k v)
 values_are row k v s there = λ i. record {
   z = s.z_is i;
   sink = v.sink;
@@ -50,21 +52,21 @@ values_are row k v s there = λ i. record {
 }
 
 -- and those of its neighbours
-abbrev pub numbers_beside : (above here below : Lanes) (k : ℕ) (p : Patch) → IsShown above here below k p → Direction → Numbers
+abbrev pub numbers_beside : (above here below : LaneNumbers) (k : ℕ) (p : Patch) → IsShown above here below k p → Direction → Numbers
 numbers_beside above here below k p shown d =
     numbers_in (row_beside above here below d) (col_beside k d) (shown.around_is d).0
 
 -- none of the nine columns is a void
-pub record HaveDataAt (above here below : Lanes) (k : ℕ) : Type 0 where
+pub record HaveDataAt (above here below : LaneNumbers) (k : ℕ) : Type 0 where
   pub here_has : HasDataAt here k
   pub beside_has : (d : Direction) → HasDataAt (row_beside above here below d) (col_beside k d)
 
 -- so the patch is made of their numbers
-pub patch_is : (above here below : Lanes) (k : ℕ) (p : Patch) → IsShown above here below k p → HasDataAt here k →
+pub patch_is : (above here below : LaneNumbers) (k : ℕ) (p : Patch) → IsShown above here below k p → HasDataAt here k →
     p ≡ patch_of (numbers_in here k p.here) p.around
 patch_is above here below k p shown there = λ i. record { here = values_are here k p.here shown.cell there i; around = p.around }
 
-pub neighbor_is : (above here below : Lanes) (k : ℕ) (p : Patch) (shown : IsShown above here below k p) (d : Direction) →
+pub neighbor_is : (above here below : LaneNumbers) (k : ℕ) (p : Patch) (shown : IsShown above here below k p) (d : Direction) →
     HasDataAt (row_beside above here below d) (col_beside k d) → neighbor p d ≡ Some (values_of (numbers_beside above here below k p shown d))
 neighbor_is above here below k p shown d there =
     let v = (shown.around_is d).0 in

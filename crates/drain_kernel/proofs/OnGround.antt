@@ -11,7 +11,7 @@ use Rattle.drain_grid.specs.Values.{Values, NoDataNumbers}
 use Rattle.drain_grid.specs.Patch.{height, HasLower, IsClosed}
 use Rattle.drain_grid.specs.PatchRules.{AccumulationHolds, LabelHolds, OutletCodeHolds, SlopeHolds, check_rules}
 use Rattle.drain_grid.specs.Unranked.{unranked}
-use Rattle.drain_kernel.specs.declared.lane_rows.LaneRows.{LaneRows}
+use Rattle.drain_kernel.specs.LaneNumbers.{ThreeLanes}
 use Rattle.drain_grid.specs.Judged.{IfJudged}
 use Rattle.drain_kernel.specs.Columns.{HasRankAt, HaveRanks}
 use Rattle.drain_kernel.specs.Rules.{rules_with, tested, without_sums}
@@ -22,21 +22,21 @@ use Rattle.drain_kernel.proofs.Counting.{summed}
 
 -- a data cell that is not raised, whose code and label are right, and whose numbers are there
 pub record IsSound (nodata : NoDataNumbers) (here : Numbers) (around : List (Option Values)) : Type 0 where
-  pub here_is : height_of here.z ≡ Some (lowered here.z)
+  pub here_is : height_of here.bias here.z ≡ Some (lowered here.bias here.z)
   pub level : here.con ≡ here.z
   pub code : IsCode (pos here.dir)
   pub slope : SlopeHolds (patch_of here around)
   pub outlet : OutletCodeHolds (patch_of here around)
   pub not_flat : IsClosed (patch_of here around) → ¬ (¬ HasLower (patch_of here around))
   pub label : LabelHolds (patch_of here around)
-  pub complete : AreComplete nodata here.con here.dir here.acc here.bas
+  pub complete : AreComplete nodata here.bias here.con here.dir here.acc here.bas
 
 module _ (nodata : NoDataNumbers) (here : Numbers) (around : List (Option Values)) (sound : IsSound nodata here around) where
   abbrev it : Patch
   it = patch_of here around
 
-  con_is : here.con ≡ here.z → lowered here.con ≡ height it
-  con_is level = ap lowered level ∙ sym (ap (λ o. unwrap_or o (pos 0)) sound.here_is)
+  con_is : here.con ≡ here.z → lowered here.bias here.con ≡ height it
+  con_is level = ap (lowered here.bias) level ∙ sym (ap (λ o. unwrap_or o (pos 0)) sound.here_is)
 
   at_most : (a b c : ℤ) → a ≡ b → a ≤ℤ int_max b c
   at_most a b c is = omega (arith, ints, clamps)
@@ -54,12 +54,12 @@ module _ (nodata : NoDataNumbers) (here : Numbers) (around : List (Option Values
     bas_differs = sound.complete.bas_differs;
   }
   keeps_unranked BadCode = λ _. sound.code
-  keeps_unranked BelowGround = λ _. at_least (lowered here.con) (height it) (con_is sound.level)
+  keeps_unranked BelowGround = λ _. at_least (lowered here.bias here.con) (height it) (con_is sound.level)
   keeps_unranked OpenRaised = λ _. con_is sound.level
   keeps_unranked NoSpill = tt
   keeps_unranked SpillHeight = tt
   keeps_unranked SpillRank = tt
-  keeps_unranked NotLeast = λ _ d m there. at_most (lowered here.con) (height it) m.con (con_is sound.level)
+  keeps_unranked NotLeast = λ _ d m there. at_most (lowered here.bias here.con) (height it) m.con (con_is sound.level)
   keeps_unranked Slope = sound.slope
   keeps_unranked OutletCode = sound.outlet
   keeps_unranked FlatStep = λ closed none. absurd (sound.not_flat closed none)
@@ -91,7 +91,7 @@ module _ (nodata : NoDataNumbers) (here : Numbers) (around : List (Option Values
   keeps_rules false sums sum rank = summed sums (unranked nodata) it sum keeps_unranked
 
 -- the rank of the cell
-pub rank_from : (ranks : Bool) (nodata : NoDataNumbers) (rows : LaneRows) (k : ℕ) (v : Values) → Shows rows.here.now k v → HasDataAt rows.here.now k →
-    IfJudged ranks (HaveRanks rows) → IfJudged ranks (HasRankAt nodata rows.here.now k) → IfJudged ranks (v.rnk ≢ nodata.rnk)
+pub rank_from : (ranks : Bool) (nodata : NoDataNumbers) (rows : ThreeLanes) (k : ℕ) (v : Values) → Shows rows.here k v → HasDataAt rows.here k →
+    IfJudged ranks (HaveRanks rows) → IfJudged ranks (HasRankAt nodata rows.here k) → IfJudged ranks (v.rnk ≢ nodata.rnk)
 rank_from false nodata rows k v s there have differs = tt
 rank_from true nodata rows k v s there have differs = subst (λ r. r ≢ nodata.rnk) (sym (s.rnk_is have.here_has there)) differs

@@ -1,7 +1,6 @@
 -- An outlet beside a void keeps every rule of its patch.
 use Rattle.std.proofs.Common.{◌≡◌, ℕ, ◌+◌, ◌-◌, ◌≤◌, ◌<◌, Bool, true, false, ◌==◌, IsTrue, slice_index, sym, ◌∙◌, arith, if◌then◌else◌, ◌≢◌, ◌⊎◌, min, Option, option_map, pos, map, List, Some, None, IsSome, inl, inr, refl, ap, subst}
 use Rattle.std.proofs.lemmas.Bool.Decides.{Decides-eqb, leb_tells}
-use Rattle.drain_kernel.specs.declared.lane_rows.LaneRows.{LaneRows}
 use Rattle.drain_kernel.specs.Columns.{Along, HaveLabelAt, keeps_label_at, HaveRanks, IsShownRoundIn}
 use Rattle.std.proofs.lemmas.Bool.{and_parts}
 use Rattle.drain_grid.specs.declared.direction.Direction.{Direction}
@@ -10,20 +9,21 @@ use Rattle.drain_grid.specs.declared.patch.Patch.{Patch}
 use Rattle.drain_grid.specs.Direction.{directions, code_of}
 use Rattle.drain_grid.specs.Values.{Values}
 use Rattle.drain_grid.specs.Patch.{HasLower, IsOpen}
-use Rattle.drain_kernel.specs.declared.lanes.Lanes.{Lanes}
+use Rattle.drain_kernel.specs.LaneNumbers.{HaveOneBias, LaneNumbers, ThreeLanes}
 use Rattle.drain_grid.specs.declared.judged.Rules.{Rules}
 use Rattle.drain_grid.specs.Judged.{IfJudged, has_acc, has_rnk}
 use Rattle.drain_grid.specs.RulesAbout.{tried}
 use Rattle.drain_kernel.specs.Rules.{rules_with}
 use Rattle.drain_kernel.proofs.ClearedRules.{cleared, tested_too}
 use Rattle.drain_kernel.specs.Shown.{height_of, IsShownRound, row_beside, col_beside}
-use Rattle.drain_kernel.proofs.Inland.{le_from, no_void, some_height}
+use Rattle.drain_kernel.proofs.Inland.{bias_beside, le_from, no_void, some_height}
 use Rattle.drain_kernel.proofs.Meaning.{are_complete, no_outlet, not_zero}
 use Rattle.drain_kernel.proofs.Numbers.{Numbers, numbers_in, patch_of, values_are}
 use Rattle.drain_kernel.proofs.Ways.{AreSeen, number_of_lower}
 use Rattle.drain_grid.specs.Rule.{IsLeastFault, IsPatchRule}
 use Rattle.drain_grid.specs.Open.{IsGap}
 use Rattle.drain_kernel.specs.Around.{least_straight_in, least_across_in}
+use Rattle.drain_kernel.specs.Falls.{highest}
 use Rattle.drain_kernel.specs.Outlets.{OutletAt, keeps_outlet}
 use Rattle.drain_kernel.proofs.NamedNumbers.{least_bound}
 use Rattle.drain_kernel.proofs.OnGround.{IsSound, keeps_rules, rank_from}
@@ -35,9 +35,9 @@ either : (b : Bool) (x y label : ℕ) → x ≡ label → y ≡ label → (if b 
 either true x y label one two = one
 either false x y label one two = two
 
-pub one_label : (rows : LaneRows) (label from end : ℕ) → 1 ≤ from → Along (from - 1) (end + 1) (HaveLabelAt rows label) → Along from end (λ k. IsTrue (keeps_label_at rows k))
+pub one_label : (rows : ThreeLanes) (label from end : ℕ) → 1 ≤ from → Along (from - 1) (end + 1) (HaveLabelAt rows label) → Along from end (λ k. IsTrue (keeps_label_at rows k))
 one_label rows label from end inner all k low high =
-    let code = slice_index rows.here.now.dir.items k in
+    let code = slice_index rows.here.dir k in
     let left : from - 1 ≤ k - 1 = omega (arith, low) in
     let at : from - 1 ≤ k = omega (arith, low) in
     let right : from - 1 ≤ k + 1 = omega (arith, low) in
@@ -77,7 +77,7 @@ record OfOutlet (here : Numbers) (heights : Direction → ℕ) (around : List (O
   void : (d : Direction) × (heights d ≡ 0)
   none_lower : ¬ HasLower (patch_of here around)
 
-of_outlet : (here : Numbers) (n : Direction → Numbers) (around : List (Option Values)) → AreSeen here n around →
+of_outlet : (here : Numbers) (n : Direction → Numbers) (around : List (Option Values)) → AreSeen (highest here.bias) here n around →
     keeps_outlet here.z here.con here.dir (map (λ d. (n d).z) directions) (map (λ d. (n d).con) directions) ≡ true → OfOutlet here (λ d. (n d).z) around
 unfolding keeps_outlet
 of_outlet here n around seen h =
@@ -92,31 +92,32 @@ of_outlet here n around seen h =
       void = zero_among (λ d. (n d).z) ((Decides-eqb _ _).0 void.1);
       none_lower = λ lower.
           let d = lower.1.0 in
-          let below = number_of_lower here n around seen d lower.1.1.0 lower.1.1.1 in
+          let below = number_of_lower (highest here.bias) here n around seen d lower.1.1.0 lower.1.1.1 in
           let most = le_from _ _ least.1 in
           let bound = least_bound (λ d. (n d).con) d in
           absurd (omega arith);
     }
 
 -- beside a void a data cell is open
-open_beside : (above here below : Lanes) (k : ℕ) (p : Patch) → IsShownRound above here below k p → IsSome p.here.z → (d : Direction) →
-    slice_index (row_beside above here below d).z.items (col_beside k d) ≡ 0 → IsOpen p
+open_beside : (above here below : LaneNumbers) (k : ℕ) (p : Patch) → IsShownRound above here below k p → IsSome p.here.z → (d : Direction) →
+    slice_index (row_beside above here below d).z (col_beside k d) ≡ 0 → IsOpen p
 open_beside above here below k p shown some d void =
     let v = (shown.around_is d).0 in
     let at = (shown.around_is d).1 in
-    let none : v.z ≡ None = at.shown.z_is ∙ ap height_of void in
+    let none : v.z ≡ None = at.shown.z_is ∙ ap (height_of _) void in
     (some, inr (d, subst (λ o. IsGap (option_map (λ (v : Values). v.z) o)) (sym at.is) (subst (λ o. IsGap (Some o)) (sym none) tt)))
 
 -- so at a column where the tests pass
-pub is_right_outlet : (rules : Rules) (rows : LaneRows) (k : ℕ) (p : Patch) → IsShownRoundIn rows k p →
+pub is_right_outlet : (bias : ℕ) (rules : Rules) (rows : ThreeLanes) (k : ℕ) (p : Patch) → HaveOneBias bias rows → IsShownRoundIn rows k p →
     IfJudged (has_rnk rules.judged) (HaveRanks rows) → OutletAt rules rows k → IsLeastFault IsPatchRule (tried rules p) None
-is_right_outlet rules rows k p shown have passes =
-    let above = rows.above.now in
-    let here = rows.here.now in
-    let below = rows.below.now in
+is_right_outlet bias rules rows k p one shown have passes =
+    let one_bias = bias_beside bias rows one in
+    let above = rows.above in
+    let here = rows.here in
+    let below = rows.below in
     let at = numbers_in here k p.here in
-    let outlet = of_outlet at (numbers_seen above here below k p shown) p.around (are_seen above here below k p shown) passes.outlet in
-    let here_is = some_height at.z outlet.has_data in
+    let outlet = of_outlet at (numbers_seen above here below k p shown) p.around (are_seen above here below k p shown one_bias) passes.outlet in
+    let here_is = some_height at.bias at.z outlet.has_data in
     let same : p ≡ patch_of at p.around = λ i. record { here = values_are here k p.here shown.cell outlet.has_data i; around = p.around } in
     let opened = subst IsOpen same
     (open_beside above here below k p shown (subst IsSome (sym (shown.cell.z_is ∙ here_is)) refl) outlet.void.0 outlet.void.1) in
@@ -130,7 +131,7 @@ is_right_outlet rules rows k p shown have passes =
       label = λ _ d m named beside. absurd (not_zero at.dir (code_of d) named (no_outlet d) (ap pos outlet.code));
       complete = are_complete rules.nodata here k passes.has_way passes.has_counts;
     } in
-    let sum = sum_from above here below k p shown passes.sum in
+    let sum = sum_from above here below k p shown one_bias passes.sum in
     let rank = rank_from (has_rnk rules.judged) rules.nodata rows k p.here shown.cell outlet.has_data have passes.rank in
     subst (λ q. IsLeastFault IsPatchRule (tried rules q) None) (sym same) (cleared rules.judged rules.nodata (patch_of at p.around)
     (λ r own. tested_too (has_acc rules.judged) (rules_with (has_rnk rules.judged) rules.nodata) (patch_of at p.around) r

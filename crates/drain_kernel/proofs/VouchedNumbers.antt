@@ -1,7 +1,7 @@
 -- Numbers of a cell that keeps the rules, and no-data numbers that they can't be.
 use Rattle.std.proofs.Common.{ℕ, ◌+◌, ◌-◌, ◌≤◌, Bool, ◌&&◌, IsTrue, below_more, inl, inr, arith, ◌≢◌, pos, List, ◌≡◌, ◌<◌, true, false, ◌==◌, slice_index, if◌then◌else◌}
 use Rattle.std.proofs.lemmas.Bool.{and_parts, cases_lt}
-use Rattle.drain_kernel.specs.declared.lane_rows.LaneRows.{LaneRows}
+use Rattle.drain_kernel.specs.LaneNumbers.{ThreeLanes}
 use Rattle.drain_kernel.specs.Columns.{Along, AreDataAt, IsInlandAt, HasWayAt, KeepsWayAt}
 use Rattle.std.proofs.lemmas.Bool.Decides.{Decides-eqb}
 use Rattle.drain_grid.specs.Values.{NoDataNumbers}
@@ -25,7 +25,7 @@ along_both P from mid end first second k low high =
     elim (cases_lt k mid) [ inl before ↦ first k low before | inr after ↦ second k after high ]
 
 -- where there are no voids, nor in the columns beside, cells are inland
-pub inland : (rows : LaneRows) (from end : ℕ) → 1 ≤ from → Along (from - 1) (end + 1) (AreDataAt rows) → Along from end (IsInlandAt rows)
+pub inland : (rows : ThreeLanes) (from end : ℕ) → 1 ≤ from → Along (from - 1) (end + 1) (AreDataAt rows) → Along from end (IsInlandAt rows)
 inland rows from end inner all k low high =
     let left = all (k - 1) (omega (arith, low)) (omega (arith, high)) in
     let middle = all k (omega (arith, low)) (omega (arith, high)) in
@@ -44,12 +44,12 @@ some_sum acc codes accs h =
     omega (arith, sum)
 
 -- a cell with data that keeps the rules on con and dir
-pub has_way : (nodata : NoDataNumbers) (rows : LaneRows) (k : ℕ) → ((con : ℕ) → 1 ≤ con → lowered con ≢ nodata.con) →
-    ((code : ℕ) → IsTrue (is_direction_code code) → pos code ≢ nodata.dir) → IsInlandAt rows k → KeepsWayAt rows k → HasWayAt nodata rows.here.now k
+pub has_way : (nodata : NoDataNumbers) (rows : ThreeLanes) (k : ℕ) → ((con : ℕ) → 1 ≤ con → lowered rows.here.bias con ≢ nodata.con) →
+    ((code : ℕ) → IsTrue (is_direction_code code) → pos code ≢ nodata.dir) → IsInlandAt rows k → KeepsWayAt rows k → HasWayAt nodata rows.here k
 unfolding keeps_direction keeps_surface
 has_way nodata rows k no_con no_dir inland ways = record {
   con_differs = no_con _ (some_con _ _ inland.here_is.middle (le_from _ _ (and_parts _ _ ways.surface).0));
-  dir_differs = no_dir _ (and_parts _ _ (and_parts _ _ ways.direction).0).0;
+  dir_differs = no_dir _ (and_parts _ _ ways.direction).0;
 }
   where
     some_con : (z con : ℕ) → z ≢ 0 → z ≤ con → 1 ≤ con

@@ -19,50 +19,56 @@ use Rattle.drain_kernel.proofs.Keys.{weight, key_is, straight_is_greatest, acros
 use Rattle.drain_kernel.proofs.NamedNumbers.{named_is, names_some, straight_is, least_straight_bound, least_across_bound, least_bound}
 use Rattle.drain_kernel.proofs.Numbers.{Numbers, values_of, patch_of}
 
-lt_lowered : (a b : ℕ) → a < b → lowered a <ℤ lowered b
-lt_lowered a b h = omega (arith, ints)
+lt_lowered : (bias other a b : ℕ) → other ≡ bias → a < b → lowered other a <ℤ lowered bias b
+lt_lowered bias other a b same h = omega (arith, ints)
 
-lt_from_lowered : (a b : ℕ) → lowered a <ℤ lowered b → a < b
-lt_from_lowered a b h = omega (arith, ints)
+lt_from_lowered : (bias other a b : ℕ) → other ≡ bias → lowered other a <ℤ lowered bias b → a < b
+lt_from_lowered bias other a b same h = omega (arith, ints)
 
--- data neighbours have these numbers, and each neighbour has data whose con is below the greatest height
-pub record AreSeen (here : Numbers) (n : Direction → Numbers) (around : List (Option Values)) : Type 0 where
+-- data neighbours have these numbers, and each neighbour has data whose con is below this number
+pub record AreSeen (highest : ℕ) (here : Numbers) (n : Direction → Numbers) (around : List (Option Values)) : Type 0 where
+  pub bias_is : (d : Direction) → (n d).bias ≡ here.bias
   pub data_is : (d : Direction) (m : Values) → IsDataNeighbor (patch_of here around) d m → values_of (n d) ≡ m
-  pub has_data : (d : Direction) → (n d).con < 65535 → IsDataNeighbor (patch_of here around) d (values_of (n d))
+  pub has_data : (d : Direction) → (n d).con < highest → IsDataNeighbor (patch_of here around) d (values_of (n d))
 
-seen_inland : (here : Numbers) (n : Direction → Numbers) (around : List (Option Values)) → IsInland here n around → AreSeen here n around
-seen_inland here n around known = record {
+seen_inland : (highest : ℕ) (here : Numbers) (n : Direction → Numbers) (around : List (Option Values)) → IsInland here n around → AreSeen highest here n around
+seen_inland highest here n around known = record {
+  bias_is = known.bias_is;
   data_is = λ d m beside. same_some (values_of (n d)) m (sym (known.neighbor_is d) ∙ beside.is);
   has_data = λ d low. is_beside here n around known d;
 }
 
 -- a neighbour with a smaller number is lower
-lower_beside : (here : Numbers) (n : Direction → Numbers) (around : List (Option Values)) → AreSeen here n around → here.con ≤ 65535 → (d : Direction) →
-    (n d).con < here.con → IsLower (patch_of here around) d (values_of (n d))
-lower_beside here n around seen fits d less = record { beside = seen.has_data d (omega (arith, less, fits)); below = lt_lowered (n d).con here.con less }
+lower_beside : (highest : ℕ) (here : Numbers) (n : Direction → Numbers) (around : List (Option Values)) → AreSeen highest here n around → here.con ≤ highest →
+    (d : Direction) → (n d).con < here.con → IsLower (patch_of here around) d (values_of (n d))
+lower_beside highest here n around seen fits d less = record {
+  beside = seen.has_data d (omega (arith, less, fits));
+  below = lt_lowered here.bias (n d).bias (n d).con here.con (seen.bias_is d) less;
+}
 
 -- and a lower one has a smaller number
-pub number_of_lower : (here : Numbers) (n : Direction → Numbers) (around : List (Option Values)) → AreSeen here n around → (d : Direction) (m : Values) →
+pub number_of_lower : (highest : ℕ) (here : Numbers) (n : Direction → Numbers) (around : List (Option Values)) → AreSeen highest here n around → (d : Direction) (m : Values) →
     IsLower (patch_of here around) d m → (n d).con < here.con
-number_of_lower here n around seen d m lower =
-    lt_from_lowered (n d).con here.con (subst (λ (v : Values). v.con <ℤ lowered here.con) (sym (seen.data_is d m lower.beside)) lower.below)
+number_of_lower highest here n around seen d m lower =
+    lt_from_lowered here.bias (n d).bias (n d).con here.con (seen.bias_is d) (subst (λ (v : Values). v.con <ℤ lowered here.bias here.con) (sym (seen.data_is d m lower.beside)) lower.below)
 
 -- the keys of lower neighbours, and that of a steepest
-is_steepest : (here : Numbers) (n : Direction → Numbers) (around : List (Option Values)) → AreSeen here n around → here.con ≤ 65535 → (d : Direction) →
+is_steepest : (highest : ℕ) (here : Numbers) (n : Direction → Numbers) (around : List (Option Values)) → AreSeen highest here n around → here.con ≤ highest → (d : Direction) →
     (n d).con < here.con →
     ((e : Direction) → weight (is_straight e) ((here.con - (n e).con) * (here.con - (n e).con)) ≤
     weight (is_straight d) ((here.con - (n d).con) * (here.con - (n d).con))) → IsSteepest (patch_of here around) d
-is_steepest here n around seen fits d less most = (
+is_steepest highest here n around seen fits d less most = (
   values_of (n d),
   record {
-    lower = lower_beside here n around seen fits d less;
+    lower = lower_beside highest here n around seen fits d less;
     greatest = λ e m lower.
-        let below = number_of_lower here n around seen e m lower in
+        let below = number_of_lower highest here n around seen e m lower in
         let there : (n e).con ≤ here.con = omega arith in
         let own : (n d).con ≤ here.con = omega arith in
-        subst (λ (v : Values). slope_key (is_straight e) (lowered here.con -ℤ v.con) ≤ℤ slope_key (is_straight d) (lowered here.con -ℤ lowered (n d).con))
+        subst (λ (v : Values). slope_key (is_straight e) (lowered here.bias here.con -ℤ v.con) ≤ℤ slope_key (is_straight d) (lowered here.bias here.con -ℤ lowered (n d).bias (n d).con))
         (seen.data_is e m lower.beside)
-        (le_of_keys _ _ _ _ (key_is (is_straight e) here.con (n e).con there) (key_is (is_straight d) here.con (n d).con own) (most e));
+        (le_of_keys _ _ _ _ (key_is (is_straight e) here.bias (n e).bias here.con (n e).con (seen.bias_is e) there)
+        (key_is (is_straight d) here.bias (n d).bias here.con (n d).con (seen.bias_is d) own) (most e));
   },
 )
   where
@@ -70,31 +76,31 @@ is_steepest here n around seen fits d less most = (
     le_of_keys a b x y is_x is_y h = omega (arith, ints)
 
 -- the code leads down the steepest way
-pub steepest_from : (here : Numbers) (n : Direction → Numbers) (around : List (Option Values)) → AreSeen here n around → (d : Direction) →
-    Names (pos here.dir) d → here.con ≤ 65535 → falls_steepest here.con here.dir (map (λ d. (n d).con) directions) ≡ true →
+pub steepest_from : (highest : ℕ) (here : Numbers) (n : Direction → Numbers) (around : List (Option Values)) → AreSeen highest here n around → (d : Direction) →
+    Names (pos here.dir) d → here.con ≤ highest → falls_steepest here.con here.dir (map (λ d. (n d).con) directions) ≡ true →
     IsSteepest (patch_of here around) d
 unfolding falls_steepest
-steepest_from here n around seen d named fits h =
+steepest_from highest here n around seen d named fits h =
     let cons = λ (e : Direction). (n e).con in
     let parts = and_parts _ _ h in
     let next = named_is cons here.dir d named in
     let less : (n d).con < here.con = subst (λ x. x < here.con) next ((Decides-ltb _ _).0 parts.0) in
     let way = straight_is here.dir d named in
-    is_steepest here n around seen fits d less (λ e. elim (or_cases _ _ parts.1) [
+    is_steepest highest here n around seen fits d less (λ e. elim (or_cases _ _ parts.1) [
       | inl straight ↦ (
           let bound = and_parts _ _ straight in
           let goes = and_parts _ _ bound.0 in
           let at : (n d).con ≡ least_straight_in (map cons directions) = sym next ∙ (Decides-eqb _ _).0 goes.1 in
           subst (λ s. weight (is_straight e) ((here.con - (n e).con) * (here.con - (n e).con)) ≤ weight s ((here.con - (n d).con) * (here.con - (n d).con))) (sym (sym way ∙ goes.0))
           (subst (λ x. weight (is_straight e) ((here.con - (n e).con) * (here.con - (n e).con)) ≤ weight true ((here.con - x) * (here.con - x))) (sym at)
-          (straight_is_greatest here.con _ _ (n e).con (is_straight e) fits (least_straight_bound cons e) (least_across_bound cons e) (le_from _ _ bound.1))))
+          (straight_is_greatest here.con _ _ (n e).con (is_straight e) (least_straight_bound cons e) (least_across_bound cons e) (le_from _ _ bound.1))))
       | inr across ↦ (
           let bound = and_parts _ _ across in
           let goes = and_parts _ _ bound.0 in
           let at : (n d).con ≡ least_across_in (map cons directions) = sym next ∙ (Decides-eqb _ _).0 goes.1 in
           subst (λ s. weight (is_straight e) ((here.con - (n e).con) * (here.con - (n e).con)) ≤ weight s ((here.con - (n d).con) * (here.con - (n d).con))) (sym (sym way ∙ false_from _ goes.0))
           (subst (λ x. weight (is_straight e) ((here.con - (n e).con) * (here.con - (n e).con)) ≤ weight false ((here.con - x) * (here.con - x))) (sym at)
-          (across_is_greatest here.con _ _ (n e).con (is_straight e) fits (least_straight_bound cons e) (least_across_bound cons e) (le_from _ _ bound.1))))
+          (across_is_greatest here.con _ _ (n e).con (is_straight e) (least_straight_bound cons e) (least_across_bound cons e) (le_from _ _ bound.1))))
     ])
   where
     false_from : (b : Bool) → not b ≡ true → b ≡ false
@@ -110,15 +116,18 @@ step_from here n around known d named h =
     let level = and_parts _ _ h in
     let least = le_from _ _ level.1 in (
       (λ lower. let e = lower.1.0 in
-          let below = number_of_lower here n around (seen_inland here n around known) e lower.1.1.0 lower.1.1.1 in
+          let below = number_of_lower here.con here n around (seen_inland here.con here n around known) e lower.1.1.0 lower.1.1.1 in
           let bound = least_bound (λ d. (n d).con) e in
           absurd (omega arith)),
       record {
         named = named;
         beside = is_beside here n around known d;
-        level = ap lowered (sym (named_is (λ d. (n d).con) here.dir d named) ∙ (Decides-eqb _ _).0 level.0);
+        level = level_is _ _ _ _ (known.bias_is d) (sym (named_is (λ d. (n d).con) here.dir d named) ∙ (Decides-eqb _ _).0 level.0);
       },
     )
+  where
+    level_is : (bias other a b : ℕ) → other ≡ bias → a ≡ b → lowered other a ≡ lowered bias b
+    level_is bias other a b same is = λ i. lowered (same i) (is i)
 
 -- what the test of the direction gives
 pub record OfDirection (here : Numbers) (around : List (Option Values)) : Type 0 where
@@ -131,13 +140,11 @@ pub of_direction : (here : Numbers) (n : Direction → Numbers) (around : List (
 unfolding keeps_direction
 of_direction here n around known h =
     let goes = and_parts _ _ h in
-    let fits = and_parts _ _ goes.0 in
-    let code = names_some here.dir fits.0 in
+    let code = names_some here.dir goes.0 in
     let d = code.0 in
-    let most = le_from _ _ fits.1 in
     elim (or_cases _ _ goes.1) [
       | inl falls ↦ (
-          let steepest = steepest_from here n around (seen_inland here n around known) d code.1 most falls in
+          let steepest = steepest_from here.con here n around (seen_inland here.con here n around known) d code.1 (omega arith) falls in
           record {
             named = code;
             slope = λ _. (d, code.1, steepest);
@@ -184,13 +191,13 @@ flat_step_from here n around known holds ranked = λ closed none.
     let d = found.0 in
     let v = found.1 in
     let step = found.2 in
-    let nearer : v.con ≡ lowered here.con → v.rnk <ℤ here.rnk =
-    of_beside here n around known d v (λ m. m.con ≡ lowered here.con → m.rnk <ℤ here.rnk)
+    let nearer : v.con ≡ lowered here.bias here.con → v.rnk <ℤ here.rnk =
+    of_beside here n around known d v (λ m. m.con ≡ lowered here.bias here.con → m.rnk <ℤ here.rnk)
     (λ level. elim (ranked d step.named) [
-      | inl less ↦ absurd (not_less (n d).con here.con level less)
+      | inl less ↦ absurd (not_less here.bias (n d).bias (n d).con here.con (known.bias_is d) level less)
       | inr less ↦ less
     ]) step.beside in
     (d, v, record { named = step.named; beside = step.beside; level = step.level; nearer = nearer step.level })
   where
-    not_less : (a b : ℕ) → lowered a ≡ lowered b → a < b → ⊥
-    not_less a b same h = omega (arith, ints)
+    not_less : (bias other a b : ℕ) → other ≡ bias → lowered other a ≡ lowered bias b → a < b → ⊥
+    not_less bias other a b one same h = omega (arith, ints)

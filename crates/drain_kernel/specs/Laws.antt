@@ -3,7 +3,7 @@ use Rattle.std.specs.Prelude.{◌≡◌, ℕ, ◌-◌, ◌<◌, ℤ, pos, Bool, 
 use Rattle.std.specs.List.{count_by, range_with_len}
 use Rattle.drain_grid.specs.declared.per_product.PerProduct.{PerProduct}
 use Rattle.drain_grid.specs.Values.{Values}
-use Rattle.drain_kernel.specs.declared.lanes.Lanes.{Lanes}
+use Rattle.drain_kernel.specs.LaneNumbers.{LaneNumbers}
 use Rattle.drain_kernel.specs.Columns.{Along, raised_lanes, AreLanesOf}
 use Rattle.drain_kernel.specs.Shown.{Shows}
 
@@ -23,7 +23,7 @@ values_from z products k sink = record {
 -- lanes show what the numbers say of which they were made
 abbrev pub LanesShowNumbers : Type 0
 LanesShowNumbers =
-    (lanes : Lanes) (z : List (Option ℤ)) (products : PerProduct (List ℤ)) → AreLanesOf lanes z products → (k : ℕ) → k < length z → (sink : Bool) →
+    (lanes : LaneNumbers) (z : List (Option ℤ)) (products : PerProduct (List ℤ)) → AreLanesOf lanes z products → (k : ℕ) → k < length z → (sink : Bool) →
     Shows lanes k (values_from z products k sink)
 
 -- con is above the ground
@@ -33,5 +33,5 @@ is_above_ground v = int_lt (unwrap_or v.z (pos 0)) v.con
 -- where lanes show data along some columns, those are counted that have con above the ground
 abbrev pub RaisedAreCounted : Type 0
 RaisedAreCounted =
-    (lanes : Lanes) (from end : ℕ) (shown : ℕ → Values) → Along from end (λ k. Shows lanes k (shown k)) → Along from end (λ k. IsSome (shown k).z) →
+    (lanes : LaneNumbers) (from end : ℕ) (shown : ℕ → Values) → Along from end (λ k. Shows lanes k (shown k)) → Along from end (λ k. IsSome (shown k).z) →
     raised_lanes lanes from end ≡ count_by (λ k. is_above_ground (shown k)) (range_with_len from (end - from))

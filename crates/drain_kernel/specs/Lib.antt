@@ -1,3 +1,6 @@
+pub mod LaneNumbers
+pub mod Eights
+pub mod LanesOf
 pub mod Columns
 pub mod Rules
 pub mod Shown

@@ -1,44 +1,44 @@
 -- What lanes show at a column, and the patch that three rows of lanes show round it.
-use Rattle.std.specs.Prelude.{◌≡◌, ◌≢◌, ℕ, ◌≤◌, ◌<◌, ◌+◌, ◌-◌, ℤ, pos, ◌-ℤ◌, ◌==◌, false, Option, Some, None, slice_index, vec_len, if◌then◌else◌}
+use Rattle.std.specs.Prelude.{◌≡◌, ◌≢◌, ℕ, ◌≤◌, ◌<◌, ◌+◌, ◌-◌, ℤ, pos, ◌-ℤ◌, ◌==◌, false, Option, Some, None, slice_index, length, if◌then◌else◌}
 use Rattle.drain_grid.specs.declared.direction.Direction.{Direction}
 use Rattle.drain_grid.specs.declared.direction.Direction.TheVariants.{East, SouthEast, South, SouthWest, West, NorthWest, North, NorthEast}
 use Rattle.drain_grid.specs.declared.patch.Patch.{Patch}
 use Rattle.drain_grid.specs.Patch.{neighbor}
 use Rattle.drain_grid.specs.Values.{Values}
-use Rattle.drain_kernel.specs.declared.lanes.Lanes.{Lanes}
+use Rattle.drain_kernel.specs.LaneNumbers.{LaneNumbers}
 
--- the height that a lane holds: 32768 less than the lane
-abbrev pub lowered : ℕ → ℤ
-lowered n = pos n -ℤ pos 32768
+-- the height that a lane holds: less than the lane by the bias
+abbrev pub lowered : ℕ → ℕ → ℤ
+lowered bias n = pos n -ℤ pos bias
 
 -- the elevation that a lane holds: none where the lane is 0
-abbrev pub height_of : ℕ → Option ℤ
-height_of n = if n == 0 then None else Some (lowered n)
+abbrev pub height_of : ℕ → ℕ → Option ℤ
+height_of bias n = if n == 0 then None else Some (lowered bias n)
 
 -- how many columns the row has
-abbrev pub cols : Lanes → ℕ
-cols row = vec_len row.z
+abbrev pub cols : LaneNumbers → ℕ
+cols row = length row.z
 
 -- ranks were taken
-abbrev pub HasRanks : Lanes → Type 0
-HasRanks row = vec_len row.rnk ≡ cols row
+abbrev pub HasRanks : LaneNumbers → Type 0
+HasRanks row = length row.rnk ≡ cols row
 
 -- the column is no void
-abbrev pub HasDataAt : Lanes → ℕ → Type 0
-HasDataAt row k = slice_index row.z.items k ≢ 0
+abbrev pub HasDataAt : LaneNumbers → ℕ → Type 0
+HasDataAt row k = slice_index row.z k ≢ 0
 
 -- the row has these values at a column: of products only if it is no void, of the rank only if it has ranks; of spill
 -- parents and lists of sinks it says nothing
-pub record Shows (row : Lanes) (k : ℕ) (v : Values) : Type 0 where
-  pub z_is : v.z ≡ height_of (slice_index row.z.items k)
-  pub con_is : HasDataAt row k → v.con ≡ lowered (slice_index row.con.items k)
-  pub dir_is : HasDataAt row k → v.dir ≡ pos (slice_index row.dir.items k)
-  pub acc_is : HasDataAt row k → v.acc ≡ pos (slice_index row.acc.items k)
-  pub bas_is : HasDataAt row k → v.bas ≡ pos (slice_index row.bas.items k)
-  pub rnk_is : HasRanks row → HasDataAt row k → v.rnk ≡ pos (slice_index row.rnk.items k)
+pub record Shows (row : LaneNumbers) (k : ℕ) (v : Values) : Type 0 where
+  pub z_is : v.z ≡ height_of row.bias (slice_index row.z k)
+  pub con_is : HasDataAt row k → v.con ≡ lowered row.bias (slice_index row.con k)
+  pub dir_is : HasDataAt row k → v.dir ≡ pos (slice_index row.dir k)
+  pub acc_is : HasDataAt row k → v.acc ≡ pos (slice_index row.acc k)
+  pub bas_is : HasDataAt row k → v.bas ≡ pos (slice_index row.bas k)
+  pub rnk_is : HasRanks row → HasDataAt row k → v.rnk ≡ pos (slice_index row.rnk k)
 
 -- the row where the neighbour in a direction lies
-abbrev pub row_beside : Lanes → Lanes → Lanes → Direction → Lanes
+abbrev pub row_beside : LaneNumbers → LaneNumbers → LaneNumbers → Direction → LaneNumbers
 row_beside above here below East = here
 row_beside above here below SouthEast = below
 row_beside above here below South = below
@@ -60,24 +60,24 @@ col_beside k North = k
 col_beside k NorthEast = k + 1
 
 -- the column is not the first, nor the last of any of the three rows
-pub record IsInner (above here below : Lanes) (k : ℕ) : Type 0 where
+pub record IsInner (above here below : LaneNumbers) (k : ℕ) : Type 0 where
   pub left : 1 ≤ k
   pub above_right : k + 1 < cols above
   pub here_right : k + 1 < cols here
   pub below_right : k + 1 < cols below
 
 -- the values in a direction, of a neighbour that is there
-pub record IsShownAt (above here below : Lanes) (k : ℕ) (p : Patch) (d : Direction) (v : Values) : Type 0 where
+pub record IsShownAt (above here below : LaneNumbers) (k : ℕ) (p : Patch) (d : Direction) (v : Values) : Type 0 where
   pub is : neighbor p d ≡ Some v
   pub shown : Shows (row_beside above here below d) (col_beside k d) v
 
 -- the patch round a column with eight neighbours
-pub record IsShownRound (above here below : Lanes) (k : ℕ) (p : Patch) : Type 0 where
+pub record IsShownRound (above here below : LaneNumbers) (k : ℕ) (p : Patch) : Type 0 where
   pub cell : Shows here k p.here
   pub around_is : (d : Direction) → (v : Values) × IsShownAt above here below k p d v
 
 -- the patch round a column with eight neighbours, of a cell that is not listed as a sink
-pub record IsShown (above here below : Lanes) (k : ℕ) (p : Patch) : Type 0 where
+pub record IsShown (above here below : LaneNumbers) (k : ℕ) (p : Patch) : Type 0 where
   pub cell : Shows here k p.here
   pub not_listed : p.here.sink ≡ false
   pub around_is : (d : Direction) → (v : Values) × IsShownAt above here below k p d v

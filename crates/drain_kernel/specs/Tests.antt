@@ -1,14 +1,18 @@
 -- The tests at one cell, on numbers.
-use Rattle.std.specs.Prelude.{ℕ, ◌+◌, ◌-◌, ◌*◌, ◌/◌, ◌%◌, Bool, not, ◌||◌, ◌&&◌, ◌==◌, nat_lt, nat_le, min, max, List, slice_index, if◌then◌else◌}
+use Rattle.std.specs.Prelude.{ℕ, ◌+◌, ◌-◌, ◌*◌, Bool, not, ◌||◌, ◌&&◌, ◌==◌, nat_lt, nat_le, min, max, List, slice_index, if◌then◌else◌}
 use Rattle.drain_kernel.specs.Around.{named_in, is_straight_code, is_direction_code, least_straight_in, least_across_in}
 
 -- the conditioned elevation is not below the ground, and no neighbour shows a lower way out
 unfoldable pub keeps_surface : ℕ → ℕ → List ℕ → Bool
 keeps_surface height con cons = nat_le height con && nat_le con (max height (min (least_straight_in cons) (least_across_in cons)))
 
--- the square of the drop, capped so that it fits 32 bits
-abbrev pub square_of_drop : ℕ → ℕ → ℕ
-square_of_drop con low = min (con - low) 65535 * min (con - low) 65535
+-- this drop along a row or a column is at least as steep as that one across a corner
+abbrev pub is_as_steep : ℕ → ℕ → Bool
+is_as_steep along aslant = nat_le (aslant * aslant) (2 * (along * along))
+
+-- and this one across a corner at least as steep as that one along a row or a column
+abbrev pub is_as_steep_across : ℕ → ℕ → Bool
+is_as_steep_across aslant along = nat_le (2 * (along * along)) (aslant * aslant)
 
 -- the code leads down the steepest way
 unfoldable pub falls_steepest : ℕ → ℕ → List ℕ → Bool
@@ -16,11 +20,9 @@ falls_steepest con code cons =
     let next = named_in code cons in
     let straight = least_straight_in cons in
     let across = least_across_in cons in
-    let along = square_of_drop con straight in
-    let aslant = square_of_drop con across in
     nat_lt next con &&
-    (((is_straight_code code && next == straight) && nat_le (aslant / 2 + aslant % 2) along) ||
-    ((not (is_straight_code code) && next == across) && nat_le along (aslant / 2)))
+    (((is_straight_code code && next == straight) && is_as_steep (con - straight) (con - across)) ||
+    ((not (is_straight_code code) && next == across) && is_as_steep_across (con - across) (con - straight)))
 
 -- no neighbour is lower, and the code leads along the flat
 unfoldable pub steps_along : ℕ → ℕ → List ℕ → Bool
@@ -28,7 +30,7 @@ steps_along con code cons = named_in code cons == con && nat_le con (min (least_
 
 -- the rules of the direction, without ranks
 unfoldable pub keeps_direction : ℕ → ℕ → List ℕ → Bool
-keeps_direction con code cons = (is_direction_code code && nat_le con 65535) && (falls_steepest con code cons || steps_along con code cons)
+keeps_direction con code cons = is_direction_code code && (falls_steepest con code cons || steps_along con code cons)
 
 -- the rule of the label
 abbrev pub keeps_label : ℕ → ℕ → List ℕ → Bool

@@ -1,25 +1,26 @@
 //! The tests at a column of three rows. Each comment says what holds where the column passes.
 
-ghost use Rattle.std.specs.Prelude.{◌≡◌, ◌<◌, ◌+◌, IsTrue, false, slice_index, vec_len};
+ghost use Rattle.std.specs.Prelude.{◌≡◌, ◌<◌, ◌+◌, IsTrue, false, slice_index};
 ghost use Rattle.drain_kernel.specs.Columns.{adds_up_at, AreDataAt, HasCountsAt, HaveLabelAt, HasWayAt, KeepsWayAt, keeps_direction_at, keeps_label_at, keeps_surface_at, IsInnerColumn, IsInRows};
 ghost use Rattle.drain_kernel.specs.Shown.{cols};
 
-use crate::around::around;
 use crate::cells::{
-    acc_differs, bas_differs, con_differs, dir_differs, keeps_direction, keeps_label, keeps_surface,
+    acc_differs, bas_differs, dir_differs, keeps_direction, keeps_label, keeps_surface,
 };
 use crate::column_test::ColumnTest;
+use crate::lane_height::LaneHeight;
+use crate::lane_row::LaneRow;
 use crate::lane_rows::LaneRows;
-use crate::lanes::Lanes;
-use crate::near::keeps_near;
+use crate::near::FirstTest;
 use crate::sums::{adds_up, adds_up_by_capped, adds_up_by_middle};
 use drain_grid::NoData;
+use drain_pixels::row_lanes::HeightLane;
 
 /// The column is no void in any of the rows.
 #[derive(Drop)]
-pub struct DataTest<'a>(pub &'a LaneRows<'a>);
+pub struct DataTest<'a, H: HeightLane>(pub &'a LaneRows<'a, H>);
 
-impl ColumnTest for DataTest<'_> {
+impl<H: LaneHeight> ColumnTest for DataTest<'_, H> {
     ghost CanTest = { λ test. IsInRows test.0.now };
 
     ghost Passed = { λ test. AreDataAt test.0.now };
@@ -27,18 +28,18 @@ impl ColumnTest for DataTest<'_> {
     #[inline(always)]
     fn passes(&self, k: usize) -> bool {
         let rows = self.0;
-        (rows.above.z[k] != 0) & (rows.here.z[k] != 0) & (rows.below.z[k] != 0)
+        rows.above.has_data(k) & rows.here.has_data(k) & rows.below.has_data(k)
     }
 }
 
 /// The column has this label in all rows.
 #[derive(Drop)]
-pub struct OneLabelTest<'a> {
-    pub rows: &'a LaneRows<'a>,
+pub struct OneLabelTest<'a, H: HeightLane> {
+    pub rows: &'a LaneRows<'a, H>,
     pub label: u32,
 }
 
-impl ColumnTest for OneLabelTest<'_> {
+impl<H: LaneHeight> ColumnTest for OneLabelTest<'_, H> {
     ghost CanTest = { λ test. IsInRows test.rows.now };
 
     ghost Passed = { λ test. HaveLabelAt test.rows.now test.label };
@@ -47,15 +48,17 @@ impl ColumnTest for OneLabelTest<'_> {
     fn passes(&self, k: usize) -> bool {
         let rows = self.rows;
         let label = self.label;
-        (rows.above.bas[k] == label) & (rows.here.bas[k] == label) & (rows.below.bas[k] == label)
+        (rows.above.label(k) == label)
+            & (rows.here.label(k) == label)
+            & (rows.below.label(k) == label)
     }
 }
 
 /// The rules of the conditioned elevation hold.
 #[derive(Drop)]
-pub struct SurfaceTest<'a>(pub &'a LaneRows<'a>);
+pub struct SurfaceTest<'a, H: HeightLane>(pub &'a LaneRows<'a, H>);
 
-impl ColumnTest for SurfaceTest<'_> {
+impl<H: LaneHeight> ColumnTest for SurfaceTest<'_, H> {
     ghost CanTest = { λ test. IsInnerColumn test.0.now };
 
     ghost Passed = { λ test k. IsTrue (keeps_surface_at test.0.now k) };
@@ -64,32 +67,38 @@ impl ColumnTest for SurfaceTest<'_> {
 
     #[inline(always)]
     fn passes(&self, k: usize) -> bool {
-        let here = self.0.here;
-        keeps_surface(here.z[k], here.con[k], self.0.cons_round(k))
+        let rows = self.0;
+        keeps_surface(rows.here.height(k), rows.here.con(k), rows.cons_round(k))
     }
 }
 
-/// The rules of the conditioned elevation and of the direction hold, without ranks, and all drops are near.
+/// The rules of the conditioned elevation and of the direction hold, without ranks, by the test that is tried first.
 #[derive(Drop)]
-pub struct NearTest<'a>(pub &'a LaneRows<'a>);
+pub struct WaysTest<'a, H: HeightLane>(pub &'a LaneRows<'a, H>);
 
-impl ColumnTest for NearTest<'_> {
+impl<H: FirstTest> ColumnTest for WaysTest<'_, H> {
     ghost CanTest = { λ test. IsInnerColumn test.0.now };
 
     ghost Passed = { λ test. KeepsWayAt test.0.now };
 
     #[inline(always)]
     fn passes(&self, k: usize) -> bool {
-        let here = self.0.here;
-        keeps_near(here.z[k], here.con[k], here.dir[k], self.0.cons_round(k))
+        let rows = self.0;
+        let here = &rows.here;
+        H::keeps_way(
+            here.height(k),
+            here.con(k),
+            here.code(k),
+            rows.cons_round(k),
+        )
     }
 }
 
 /// The rules of the direction hold, without ranks, however great the drops are.
 #[derive(Drop)]
-pub struct DirectionTest<'a>(pub &'a LaneRows<'a>);
+pub struct DirectionTest<'a, H: HeightLane>(pub &'a LaneRows<'a, H>);
 
-impl ColumnTest for DirectionTest<'_> {
+impl<H: LaneHeight> ColumnTest for DirectionTest<'_, H> {
     ghost CanTest = { λ test. IsInnerColumn test.0.now };
 
     ghost Passed = { λ test k. IsTrue (keeps_direction_at test.0.now k) };
@@ -98,16 +107,16 @@ impl ColumnTest for DirectionTest<'_> {
 
     #[inline(always)]
     fn passes(&self, k: usize) -> bool {
-        let here = self.0.here;
-        keeps_direction(here.con[k], here.dir[k], self.0.cons_round(k))
+        let rows = self.0;
+        keeps_direction(rows.here.con(k), rows.here.code(k), rows.cons_round(k))
     }
 }
 
 /// The rule of the label holds.
 #[derive(Drop)]
-pub struct LabelTest<'a>(pub &'a LaneRows<'a>);
+pub struct LabelTest<'a, H: HeightLane>(pub &'a LaneRows<'a, H>);
 
-impl ColumnTest for LabelTest<'_> {
+impl<H: LaneHeight> ColumnTest for LabelTest<'_, H> {
     ghost CanTest = { λ test. IsInnerColumn test.0.now };
 
     ghost Passed = { λ test k. IsTrue (keeps_label_at test.0.now k) };
@@ -116,39 +125,37 @@ impl ColumnTest for LabelTest<'_> {
 
     #[inline(always)]
     fn passes(&self, k: usize) -> bool {
-        let here = self.0.here;
-        keeps_label(here.dir[k], here.bas[k], self.0.labels_round(k))
+        let rows = self.0;
+        keeps_label(rows.here.code(k), rows.here.label(k), rows.labels_round(k))
     }
 }
 
 /// The rule of the accumulation holds, by capped numbers.
 #[derive(Drop)]
-pub struct CappedSumTest<'a>(pub &'a LaneRows<'a>);
+pub struct CappedSumTest<'a, H: HeightLane>(pub &'a LaneRows<'a, H>);
 
-impl ColumnTest for CappedSumTest<'_> {
+impl<H: LaneHeight> ColumnTest for CappedSumTest<'_, H> {
     ghost CanTest = { λ test. IsInnerColumn test.0.now };
 
     ghost Passed = { λ test k. IsTrue (adds_up_at test.0.now k) };
 
     #[inline(always)]
-    #[tactic(auto, using(crate::proofs::CappedSums::capped_sum_at))]
+    #[tactic(auto, using(crate::proofs::CappedSums::capped_sum_gives))]
     fn passes(&self, k: usize) -> bool {
         let rows = self.0;
-        let capped_accs = around(
-            &rows.above.capped_acc,
-            &rows.here.capped_acc,
-            &rows.below.capped_acc,
-            k,
-        );
-        adds_up_by_capped(rows.here.capped_acc[k], rows.codes_round(k), capped_accs)
+        adds_up_by_capped(
+            rows.here.capped_acc(k),
+            rows.codes_round(k),
+            rows.capped_accs_round(k),
+        )
     }
 }
 
 /// The rule of the accumulation holds, by sums of 32 bits.
 #[derive(Drop)]
-pub struct MiddleSumTest<'a>(pub &'a LaneRows<'a>);
+pub struct MiddleSumTest<'a, H: HeightLane>(pub &'a LaneRows<'a, H>);
 
-impl ColumnTest for MiddleSumTest<'_> {
+impl<H: LaneHeight> ColumnTest for MiddleSumTest<'_, H> {
     ghost CanTest = { λ test. IsInnerColumn test.0.now };
 
     ghost Passed = { λ test k. IsTrue (adds_up_at test.0.now k) };
@@ -156,15 +163,15 @@ impl ColumnTest for MiddleSumTest<'_> {
     #[inline(always)]
     fn passes(&self, k: usize) -> bool {
         let rows = self.0;
-        adds_up_by_middle(rows.here.acc[k], rows.codes_round(k), rows.accs_round(k))
+        adds_up_by_middle(rows.here.acc(k), rows.codes_round(k), rows.accs_round(k))
     }
 }
 
 /// The rule of the accumulation holds, however large the numbers are.
 #[derive(Drop)]
-pub struct SumTest<'a>(pub &'a LaneRows<'a>);
+pub struct SumTest<'a, H: HeightLane>(pub &'a LaneRows<'a, H>);
 
-impl ColumnTest for SumTest<'_> {
+impl<H: LaneHeight> ColumnTest for SumTest<'_, H> {
     ghost CanTest = { λ test. IsInnerColumn test.0.now };
 
     ghost Passed = { λ test k. IsTrue (adds_up_at test.0.now k) };
@@ -174,42 +181,42 @@ impl ColumnTest for SumTest<'_> {
     #[inline(always)]
     fn passes(&self, k: usize) -> bool {
         let rows = self.0;
-        adds_up(rows.here.acc[k], rows.codes_round(k), rows.accs_round(k))
+        adds_up(rows.here.acc(k), rows.codes_round(k), rows.accs_round(k))
     }
 }
 
 /// The conditioned elevation and the direction aren't their no-data numbers.
 #[derive(Drop)]
-pub struct WayTest<'a> {
-    pub row: &'a Lanes,
+pub struct WayTest<'a, H: HeightLane> {
+    pub row: &'a LaneRow<'a, H>,
     pub nodata: &'a NoData,
 }
 
-impl ColumnTest for WayTest<'_> {
+impl<H: LaneHeight> ColumnTest for WayTest<'_, H> {
     ghost CanTest = { λ test k. k < cols test.row.now };
 
     ghost Passed = { λ test. HasWayAt test.nodata.now test.row.now };
 
     #[inline(always)]
     fn passes(&self, k: usize) -> bool {
-        con_differs(self.row.con[k], self.nodata) & dir_differs(self.row.dir[k], self.nodata)
+        self.row.con_differs(k, self.nodata) & dir_differs(self.row.code(k), self.nodata)
     }
 }
 
 /// The accumulation and the label aren't their no-data numbers.
 #[derive(Drop)]
-pub struct CountsTest<'a> {
-    pub row: &'a Lanes,
+pub struct CountsTest<'a, H: HeightLane> {
+    pub row: &'a LaneRow<'a, H>,
     pub nodata: &'a NoData,
 }
 
-impl ColumnTest for CountsTest<'_> {
+impl<H: LaneHeight> ColumnTest for CountsTest<'_, H> {
     ghost CanTest = { λ test k. k < cols test.row.now };
 
     ghost Passed = { λ test. HasCountsAt test.nodata.now test.row.now };
 
     #[inline(always)]
     fn passes(&self, k: usize) -> bool {
-        acc_differs(self.row.acc[k], self.nodata) & bas_differs(self.row.bas[k], self.nodata)
+        acc_differs(self.row.acc(k), self.nodata) & bas_differs(self.row.label(k), self.nodata)
     }
 }

@@ -7,8 +7,10 @@ ghost use Rattle.drain_kernel.specs.Columns.{Along, PassesAt, IsKept, HaveRanks,
 ghost use Rattle.drain_grid.specs.RulesAbout.{tried};
 ghost use Rattle.drain_kernel.specs.Shown.{cols, IsInner, IsShown};
 
-use crate::lane_rows::LaneRows;
+use crate::lane_height::LaneHeight;
+use crate::lane_rows::{LaneRows, narrow_rows, wide_rows};
 use crate::lanes::Lanes;
+use crate::near::FirstTest;
 use crate::stretches::is_inland;
 use crate::strides::passed_strides;
 use drain_grid::Rules;
@@ -21,7 +23,7 @@ const BLOCK: usize = 64;
 const GROUP: usize = 8;
 
 /// The first column from this one on whose cell or a neighbour has no data, if one is before `end`, else `end`.
-fn inland_until(rows: &LaneRows, from: usize, end: usize) -> usize
+fn inland_until<H: LaneHeight>(rows: &LaneRows<H>, from: usize, end: usize) -> usize
     requires { IsStretch rows.now from end }
     ensures forward { from ≤ result }
     ensures within { result ≤ end }
@@ -35,7 +37,7 @@ fn inland_until(rows: &LaneRows, from: usize, end: usize) -> usize
 
 /// The first column that isn't cleared from one on, at most another, before the last. It goes in strides of 64; where
 /// one fails, up to the next void or cell beside one: all of that, then 8 columns at a time, then column by column.
-fn passed_until(rows: &LaneRows, rules: &Rules, from: usize, end: usize) -> usize
+fn passed_until<H: FirstTest>(rows: &LaneRows<H>, rules: &Rules, from: usize, end: usize) -> usize
     requires stretch { IsStretch rows.now from end }
     requires ranks { IfJudged (has_rnk rules.now.judged) (HaveRanks rows.now) }
     ensures forward { from ≤ result }
@@ -51,9 +53,14 @@ fn passed_until(rows: &LaneRows, rules: &Rules, from: usize, end: usize) -> usiz
 }
 
 /// A column from this one on, at most `until`, before which each cell keeps the rules that are tried.
-fn cleared_until(rows: &LaneRows, rules: &Rules, from: usize, until: usize) -> usize
+fn cleared_until<H: FirstTest>(
+    rows: &LaneRows<H>,
+    rules: &Rules,
+    from: usize,
+    until: usize,
+) -> usize
     requires ordered { from ≤ until }
-    requires inside { until ≤ cols rows.now.here.now }
+    requires inside { until ≤ cols rows.now.here }
     ensures forward { from ≤ result }
     ensures within { result ≤ until }
     ensures inner { Along from result (IsInnerColumn rows.now) }
@@ -76,8 +83,8 @@ fn cleared_until(rows: &LaneRows, rules: &Rules, from: usize, until: usize) -> u
 
 /// A column to which cells can be cleared from this one on, at most `until`. At each column before it the patch of the
 /// three rows, for a cell that isn't a listed sink, keeps every rule that is tried, SharedLabel left out. It may be any such column,
-/// even `from`, so it shows no fault. It is `from` at the first and the last column, if the rows have different
-/// lengths, and if ranks are judged and one row has none.
+/// even `from`, so it shows no fault. It is `from` at the first and the last column, if the rows have different lengths
+/// or heights of different widths, and if ranks are judged and one row has none.
 pub fn kept_until(
     above: &Lanes,
     here: &Lanes,
@@ -93,6 +100,11 @@ pub fn kept_until(
     ensures inner { Along from result (IsInner above.now here.now below.now) }
     ensures kept { Along from result (λ k. (p : Patch) → IsShown above.now here.now below.now k p → IsKept (tried rules.now) p) }
 {
-    let rows = LaneRows { above, here, below };
-    cleared_until(&rows, rules, from, until)
+    if let Some(rows) = narrow_rows(above, here, below) {
+        return cleared_until(&rows, rules, from, until);
+    }
+    if let Some(rows) = wide_rows(above, here, below) {
+        return cleared_until(&rows, rules, from, until);
+    }
+    from
 }

@@ -1,23 +1,55 @@
-//! A row of lanes with the rows above and below it, and the numbers round a column.
+//! A row of lanes with the rows above and below it, all of one width, and the numbers round a column.
 
-use crate::around::around;
+ghost use Rattle.std.specs.Prelude.{◌≡◌, IfSome};
+
+use crate::around::{Eight, around, heights_around};
+use crate::lane_height::LaneHeight;
+use crate::lane_row::LaneRow;
 use crate::lanes::Lanes;
 use drain_grid::Judged;
+use drain_pixels::row_lanes::HeightLane;
+use std::marker::Model;
 
 /// A row of lanes, and those above and below it.
-#[derive(Clone, Copy)]
-pub(crate) struct LaneRows<'a> {
-    pub(crate) above: &'a Lanes,
-    pub(crate) here: &'a Lanes,
-    pub(crate) below: &'a Lanes,
+#[derive(Drop)]
+pub(crate) struct LaneRows<'a, H: HeightLane> {
+    pub(crate) above: LaneRow<'a, H>,
+    pub(crate) here: LaneRow<'a, H>,
+    pub(crate) below: LaneRow<'a, H>,
 }
 
-impl LaneRows<'_> {
-    ghost use Rattle.std.specs.Prelude.{◌≡◌, IsTrue};
+impl<'a, H: HeightLane> Model for LaneRows<'a, H> {
+    ghost use Rattle.drain_kernel.specs.LaneNumbers.{ThreeLanes};
+
+    ghost Value = { ThreeLanes };
+
+    ghost view = { λ rows. record { above = rows.above; here = rows.here; below = rows.below } };
+}
+
+impl<'a, H: LaneHeight> LaneRows<'a, H> {
+    ghost use Rattle.std.specs.Prelude.{◌≡◌, IfSome, IsTrue, Some};
     ghost use Rattle.drain_grid.specs.Judged.{IfJudged, has_rnk};
     ghost use Rattle.drain_kernel.specs.Columns.{accs_round, codes_round, cons_round, heights_round, labels_round, ranks_round};
+    ghost use Rattle.drain_kernel.specs.Eights.{eight};
     ghost use Rattle.drain_kernel.specs.Images.{EachHasImage, at_most, lower, upper};
     ghost use Rattle.drain_kernel.specs.Columns.{AreAsLong, HaveRanks, IsInnerColumn};
+    ghost use Rattle.drain_kernel.specs.LaneNumbers.{HaveOneBias};
+
+    /// Three rows, if there are three.
+    pub(crate) fn of(
+        above: Option<LaneRow<'a, H>>,
+        here: Option<LaneRow<'a, H>>,
+        below: Option<LaneRow<'a, H>>,
+    ) -> Option<LaneRows<'a, H>>
+        ensures above { IfSome result (λ rows. above.entry ≡ Some rows.above) }
+        ensures here { IfSome result (λ rows. here.entry ≡ Some rows.here) }
+        ensures below { IfSome result (λ rows. below.entry ≡ Some rows.below) }
+    {
+        let (Some(above), Some(here), Some(below)) = (above, here, below) else {
+            return None;
+        };
+        Some(LaneRows { above, here, below })
+    }
 
     /// Whether all three rows have ranks, if ranks are judged.
     fn have_ranks(&self, judged: Judged) -> bool
@@ -34,27 +66,36 @@ impl LaneRows<'_> {
     pub(crate) fn are_alike(&self, judged: Judged) -> bool
         ensures lengths { IsTrue result → AreAsLong self.now }
         ensures ranks { IsTrue result → IfJudged (has_rnk judged) (HaveRanks self.now) }
+        ensures bias { IsTrue result → HaveOneBias H.bias self.now }
     {
+        self.above.tell_bias();
+        self.here.tell_bias();
+        self.below.tell_bias();
         let cols = self.here.cols();
         self.above.cols() == cols && self.below.cols() == cols && self.have_ranks(judged)
     }
 
-    /// The stored elevations of the eight neighbours of a column: 32768 added, 0 at a void.
+    /// The stored elevations of the eight neighbours of a column: with the bias added, 0 at a void.
     #[inline(always)]
-    pub(crate) fn heights_round(&self, k: usize) -> [u16; 8]
+    pub(crate) fn heights_round(&self, k: usize) -> Eight<H>
         requires { IsInnerColumn self.now k }
-        ensures { result ≡ heights_round self.now k }
+        ensures { eight H.number result ≡ heights_round self.now k }
     {
-        around(&self.above.z, &self.here.z, &self.below.z, k)
+        heights_around(
+            self.above.heights(),
+            self.here.heights(),
+            self.below.heights(),
+            k,
+        )
     }
 
     /// The stored conditioned elevations of the eight neighbours of a column.
     #[inline(always)]
-    pub(crate) fn cons_round(&self, k: usize) -> [u16; 8]
+    pub(crate) fn cons_round(&self, k: usize) -> Eight<H>
         requires { IsInnerColumn self.now k }
-        ensures { result ≡ cons_round self.now k }
+        ensures { eight H.number result ≡ cons_round self.now k }
     {
-        around(&self.above.con, &self.here.con, &self.below.con, k)
+        heights_around(self.above.cons(), self.here.cons(), self.below.cons(), k)
     }
 
     /// The codes of the eight neighbours of a column.
@@ -63,7 +104,7 @@ impl LaneRows<'_> {
         requires { IsInnerColumn self.now k }
         ensures { result ≡ codes_round self.now k }
     {
-        around(&self.above.dir, &self.here.dir, &self.below.dir, k)
+        around(self.above.codes(), self.here.codes(), self.below.codes(), k)
     }
 
     /// The accumulations of the eight neighbours of a column.
@@ -72,7 +113,22 @@ impl LaneRows<'_> {
         requires { IsInnerColumn self.now k }
         ensures { result ≡ accs_round self.now k }
     {
-        around(&self.above.acc, &self.here.acc, &self.below.acc, k)
+        around(self.above.accs(), self.here.accs(), self.below.accs(), k)
+    }
+
+    /// The same, capped.
+    #[inline(always)]
+    #[tactic(auto, using(crate::proofs::VouchedNumbers::around_images))]
+    pub(crate) fn capped_accs_round(&self, k: usize) -> [u16; 8]
+        requires { IsInnerColumn self.now k }
+        ensures { EachHasImage at_most (accs_round self.now k) result }
+    {
+        around(
+            self.above.capped_accs(),
+            self.here.capped_accs(),
+            self.below.capped_accs(),
+            k,
+        )
     }
 
     /// The labels of the eight neighbours of a column.
@@ -81,7 +137,12 @@ impl LaneRows<'_> {
         requires { IsInnerColumn self.now k }
         ensures { result ≡ labels_round self.now k }
     {
-        around(&self.above.bas, &self.here.bas, &self.below.bas, k)
+        around(
+            self.above.labels(),
+            self.here.labels(),
+            self.below.labels(),
+            k,
+        )
     }
 
     /// The ranks of the eight neighbours of a column, capped.
@@ -131,4 +192,26 @@ impl LaneRows<'_> {
             k,
         )
     }
+}
+
+/// The rows, if the heights of all are in 16 bits.
+pub(crate) fn narrow_rows<'a>(
+    above: &'a Lanes,
+    here: &'a Lanes,
+    below: &'a Lanes,
+) -> Option<LaneRows<'a, u16>>
+    ensures { IfSome result (λ rows. rows ≡ record { above = above.entry.now; here = here.entry.now; below = below.entry.now }) }
+{
+    LaneRows::of(above.narrow(), here.narrow(), below.narrow())
+}
+
+/// The rows, if the heights of all are in 32 bits.
+pub(crate) fn wide_rows<'a>(
+    above: &'a Lanes,
+    here: &'a Lanes,
+    below: &'a Lanes,
+) -> Option<LaneRows<'a, u32>>
+    ensures { IfSome result (λ rows. rows ≡ record { above = above.entry.now; here = here.entry.now; below = below.entry.now }) }
+{
+    LaneRows::of(above.wide(), here.wide(), below.wide())
 }

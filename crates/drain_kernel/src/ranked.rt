@@ -1,51 +1,57 @@
 //! The tests of ranks at a column.
 
-ghost use Rattle.std.specs.Prelude.{◌≡◌, ◌≢◌, ◌<◌, IsTrue, false, pos, vec_len};
+ghost use Rattle.std.specs.Prelude.{◌≡◌, ◌≢◌, ◌<◌, IsTrue, false, length, pos};
 ghost use Rattle.drain_kernel.specs.Columns.{HasRankAt, KeepsRankedWayAt, is_ranked_at, keeps_direction_at, HaveRanks, IsInnerColumn};
+ghost use Rattle.drain_kernel.specs.Eights.{eight};
 ghost use Rattle.drain_kernel.specs.Tests.{is_ranked, is_ranked_by_halves, keeps_direction};
 
-use crate::around::{least_across, least_straight, named};
+use crate::around::{Eight, least_across, least_straight, named, named_height};
 use crate::cells::differs;
 use crate::column_test::ColumnTest;
-use crate::columns::NearTest;
+use crate::columns::WaysTest;
+use crate::lane_height::LaneHeight;
+use crate::lane_row::LaneRow;
 use crate::lane_rows::LaneRows;
-use crate::lanes::Lanes;
+use crate::near::FirstTest;
 use drain_grid::NoData;
+use drain_pixels::row_lanes::HeightLane;
 
 /// Whether a neighbour is lower, or the code leads to a smaller capped rank. A code that keeps the rules of the direction
 /// leads to a lower neighbour if there is one.
 #[inline(always)]
-fn falls_or_is_ranked(
-    con: u16,
+fn falls_or_is_ranked<H: LaneHeight>(
+    con: H,
     code: u16,
-    cons: [u16; 8],
+    cons: Eight<H>,
     capped_rank: u16,
     capped_ranks: [u16; 8],
 ) -> bool
-    ensures { IsTrue result → IsTrue (keeps_direction con code cons) → IsTrue (is_ranked con code cons capped_rank capped_ranks) }
+    ensures { IsTrue result → IsTrue (keeps_direction (H.number con) code (eight H.number cons)) → IsTrue (is_ranked (H.number con) code (eight H.number cons) capped_rank capped_ranks) }
 {
-    let least = least_straight(cons).min(least_across(cons));
-    (least < con) | (named(code, capped_ranks) < capped_rank)
+    let least = least_straight(cons).lesser(least_across(cons));
+    least.is_below(con) | (named(code, capped_ranks) < capped_rank)
 }
 
 /// Whether the code leads to a smaller conditioned elevation, or to a smaller rank, by halves of ranks: so a loop takes
 /// as many of them at a time as of the other numbers.
 #[inline(always)]
 #[tactic(auto, unfolding(crate::specs::Tests::is_ranked_by_halves))]
-fn is_ranked_by_halves(
-    con: u16,
+fn is_ranked_by_halves<H: LaneHeight>(
+    con: H,
     code: u16,
-    cons: [u16; 8],
+    cons: Eight<H>,
     low: u16,
     lows: [u16; 8],
     high: u16,
     highs: [u16; 8],
 ) -> bool
-    ensures { result ≡ is_ranked_by_halves con code cons low lows high highs }
+    ensures { result ≡ is_ranked_by_halves (H.number con) code (eight H.number cons) low lows high highs }
 {
     let next_high = named(code, highs);
     let same_high = next_high == high;
-    (named(code, cons) < con) | (next_high < high) | (same_high & (named(code, lows) < low))
+    named_height(code, cons).is_below(con)
+        | (next_high < high)
+        | (same_high & (named(code, lows) < low))
 }
 
 /// Whether a rank isn't the no-data number.
@@ -59,9 +65,9 @@ fn rnk_differs(rnk: u32, nodata: &NoData) -> bool
 /// If the rules of the direction hold, the code leads to a smaller conditioned elevation, or to a smaller rank, by capped
 /// ranks.
 #[derive(Drop)]
-pub struct CappedRanksTest<'a>(pub &'a LaneRows<'a>);
+pub struct CappedRanksTest<'a, H: HeightLane>(pub &'a LaneRows<'a, H>);
 
-impl ColumnTest for CappedRanksTest<'_> {
+impl<H: LaneHeight> ColumnTest for CappedRanksTest<'_, H> {
     ghost CanTest = { λ test k. IsInnerColumn test.0.now k × HaveRanks test.0.now };
 
     ghost Passed = { λ test k. IsTrue (keeps_direction_at test.0.now k) → IsTrue (is_ranked_at test.0.now k) };
@@ -69,9 +75,9 @@ impl ColumnTest for CappedRanksTest<'_> {
     #[inline(always)]
     fn passes(&self, k: usize) -> bool {
         let rows = self.0;
-        let here = rows.here;
+        let here = &rows.here;
         falls_or_is_ranked(
-            here.stored_con(k),
+            here.con(k),
             here.code(k),
             rows.cons_round(k),
             here.capped_rank(k),
@@ -80,12 +86,12 @@ impl ColumnTest for CappedRanksTest<'_> {
     }
 }
 
-/// The rules of the conditioned elevation and of the direction hold, all drops are near, and the code leads to a smaller
-/// conditioned elevation or to a smaller rank, by capped ranks.
+/// The rules of the conditioned elevation and of the direction hold, by the test that is tried first, and the code leads
+/// to a smaller conditioned elevation or to a smaller rank, by capped ranks.
 #[derive(Drop)]
-pub struct NearRanksTest<'a>(pub &'a LaneRows<'a>);
+pub struct RankedWaysTest<'a, H: HeightLane>(pub &'a LaneRows<'a, H>);
 
-impl ColumnTest for NearRanksTest<'_> {
+impl<H: FirstTest> ColumnTest for RankedWaysTest<'_, H> {
     ghost CanTest = { λ test k. IsInnerColumn test.0.now k × HaveRanks test.0.now };
 
     ghost Passed = { λ test. KeepsRankedWayAt test.0.now };
@@ -93,15 +99,15 @@ impl ColumnTest for NearRanksTest<'_> {
     #[inline(always)]
     fn passes(&self, k: usize) -> bool {
         let rows = self.0;
-        NearTest(&*rows).passes(k) & CappedRanksTest(&*rows).passes(k)
+        WaysTest(&*rows).passes(k) & CappedRanksTest(&*rows).passes(k)
     }
 }
 
 /// The code leads to a smaller conditioned elevation, or to a smaller rank, however large the ranks are.
 #[derive(Drop)]
-pub struct RanksTest<'a>(pub &'a LaneRows<'a>);
+pub struct RanksTest<'a, H: HeightLane>(pub &'a LaneRows<'a, H>);
 
-impl ColumnTest for RanksTest<'_> {
+impl<H: LaneHeight> ColumnTest for RanksTest<'_, H> {
     ghost CanTest = { λ test k. IsInnerColumn test.0.now k × HaveRanks test.0.now };
 
     ghost Passed = { λ test k. IsTrue (is_ranked_at test.0.now k) };
@@ -112,10 +118,10 @@ impl ColumnTest for RanksTest<'_> {
     #[tactic(auto, using(crate::proofs::CappedSums::by_halves))]
     fn passes(&self, k: usize) -> bool {
         let rows = self.0;
-        let here = rows.here;
+        let here = &rows.here;
         is_ranked_by_halves(
-            here.con[k],
-            here.dir[k],
+            here.con(k),
+            here.code(k),
             rows.cons_round(k),
             here.low_rank(k),
             rows.low_ranks_round(k),
@@ -127,18 +133,18 @@ impl ColumnTest for RanksTest<'_> {
 
 /// The rank isn't its no-data number.
 #[derive(Drop)]
-pub struct HasRankTest<'a> {
-    pub row: &'a Lanes,
+pub struct HasRankTest<'a, H: HeightLane> {
+    pub row: &'a LaneRow<'a, H>,
     pub nodata: &'a NoData,
 }
 
-impl ColumnTest for HasRankTest<'_> {
-    ghost CanTest = { λ test k. k < vec_len test.row.now.rnk };
+impl<H: LaneHeight> ColumnTest for HasRankTest<'_, H> {
+    ghost CanTest = { λ test k. k < length test.row.now.rnk };
 
     ghost Passed = { λ test. HasRankAt test.nodata.now test.row.now };
 
     #[inline(always)]
     fn passes(&self, k: usize) -> bool {
-        rnk_differs(self.row.rnk[k], self.nodata)
+        rnk_differs(self.row.rank(k), self.nodata)
     }
 }

@@ -6,17 +6,18 @@ ghost use Rattle.drain_kernel.specs.Columns.{adds_up_at, Along, HasWayAt, IsInla
 
 use crate::column_test::passes_along;
 use crate::columns::{
-    CappedSumTest, CountsTest, DirectionTest, LabelTest, MiddleSumTest, NearTest, SumTest,
-    SurfaceTest, WayTest,
+    CappedSumTest, CountsTest, DirectionTest, LabelTest, MiddleSumTest, SumTest, SurfaceTest,
+    WayTest, WaysTest,
 };
 use crate::lane_rows::LaneRows;
-use crate::ranked::{HasRankTest, NearRanksTest, RanksTest};
+use crate::near::FirstTest;
+use crate::ranked::{HasRankTest, RankedWaysTest, RanksTest};
 use crate::stretches::{all_inland, have_one_label};
 use crate::vouched::{are_no_counts, are_no_ways};
 use drain_grid::{Judged, NoData, Rules};
 
 /// Whether the rule of the accumulation holds, if it is judged: by sums of 16 bits, else of 32, else of 64.
-fn sums_pass(rows: &LaneRows, judged: Judged, from: usize, end: usize) -> bool
+fn sums_pass<H: FirstTest>(rows: &LaneRows<H>, judged: Judged, from: usize, end: usize) -> bool
     requires { IsStretch rows.now from end }
     ensures { IsTrue result → Along from end (λ k. IfJudged (has_acc judged) (IsTrue (adds_up_at rows.now k))) }
 {
@@ -29,39 +30,39 @@ fn sums_pass(rows: &LaneRows, judged: Judged, from: usize, end: usize) -> bool
     }
 }
 
-/// Whether the rules of the conditioned elevation and of the direction, without ranks, hold, by squares of 32 bits.
-fn keep_ways(rows: &LaneRows, from: usize, end: usize) -> bool
+/// Whether the rules of the conditioned elevation and of the direction, without ranks, hold, by squares that hold any drop's.
+fn keep_ways<H: FirstTest>(rows: &LaneRows<H>, from: usize, end: usize) -> bool
     requires { IsStretch rows.now from end }
     ensures { IsTrue result → Along from end (KeepsWayAt rows.now) }
 {
     passes_along(&SurfaceTest(&*rows), from, end) && passes_along(&DirectionTest(&*rows), from, end)
 }
 
-/// Whether the rules of the conditioned elevation and of the direction, without ranks, hold: by squares of 16 bits, else
-/// by squares of 32.
-fn ways_pass(rows: &LaneRows, from: usize, end: usize) -> bool
+/// Whether the rules of the conditioned elevation and of the direction, without ranks, hold: by the test that is tried
+/// first, of heights of 16 bits by squares of 16 bits; else by squares that hold any drop's.
+fn ways_pass<H: FirstTest>(rows: &LaneRows<H>, from: usize, end: usize) -> bool
     requires { IsStretch rows.now from end }
     ensures { IsTrue result → Along from end (KeepsWayAt rows.now) }
 {
-    passes_along(&NearTest(&*rows), from, end) || keep_ways(rows, from, end)
+    passes_along(&WaysTest(&*rows), from, end) || keep_ways(rows, from, end)
 }
 
 /// Whether these rules hold, and each code leads to a smaller conditioned elevation or to a smaller rank: by numbers of
 /// 16 bits in one loop, else in a loop each, by halves of ranks. Where the first rank is at the cap, others likely are too, so
 /// capped ranks aren't compared.
-fn ranked_ways_pass(rows: &LaneRows, from: usize, end: usize) -> bool
+fn ranked_ways_pass<H: FirstTest>(rows: &LaneRows<H>, from: usize, end: usize) -> bool
     requires stretch { IsStretch rows.now from end }
     requires ranks { HaveRanks rows.now }
     ensures { IsTrue result → Along from end (KeepsRankedWayAt rows.now) }
 {
-    if rows.here.capped_rank(from) < 65535 && passes_along(&NearRanksTest(&*rows), from, end) {
+    if rows.here.capped_rank(from) < 65535 && passes_along(&RankedWaysTest(&*rows), from, end) {
         return true;
     }
     ways_pass(rows, from, end) && passes_along(&RanksTest(&*rows), from, end)
 }
 
 /// Whether the rules of the conditioned elevation and of the direction hold, and if ranks are judged those on ranks.
-fn courses_pass(rows: &LaneRows, rules: &Rules, from: usize, end: usize) -> bool
+fn courses_pass<H: FirstTest>(rows: &LaneRows<H>, rules: &Rules, from: usize, end: usize) -> bool
     requires stretch { IsStretch rows.now from end }
     requires ranks { IfJudged (has_rnk rules.now.judged) (HaveRanks rows.now) }
     ensures ways { IsTrue result → Along from end (KeepsWayAt rows.now) }
@@ -69,7 +70,7 @@ fn courses_pass(rows: &LaneRows, rules: &Rules, from: usize, end: usize) -> bool
 {
     if rules.judged.has_rnk() {
         let has_rank = HasRankTest {
-            row: rows.here,
+            row: &rows.here,
             nodata: &rules.nodata,
         };
         ranked_ways_pass(rows, from, end) && passes_along(&has_rank, from, end)
@@ -79,25 +80,31 @@ fn courses_pass(rows: &LaneRows, rules: &Rules, from: usize, end: usize) -> bool
 }
 
 /// Whether con and dir differ from their no-data numbers, where the cells have data and keep the rules on these.
-fn ways_are_there(rows: &LaneRows, nodata: &NoData, from: usize, end: usize) -> bool
+fn ways_are_there<H: FirstTest>(
+    rows: &LaneRows<H>,
+    nodata: &NoData,
+    from: usize,
+    end: usize,
+) -> bool
     requires { IsStretch rows.now from end }
-    ensures { IsTrue result → Along from end (λ k. IsInlandAt rows.now k → KeepsWayAt rows.now k → HasWayAt nodata.now rows.now.here.now k) }
+    ensures { IsTrue result → Along from end (λ k. IsInlandAt rows.now k → KeepsWayAt rows.now k → HasWayAt nodata.now rows.now.here k) }
 {
-    let row = rows.here;
-    are_no_ways(nodata) || passes_along(&WayTest { row, nodata }, from, end)
+    let row = &rows.here;
+    row.tell_bias();
+    are_no_ways::<H>(nodata) || passes_along(&WayTest { row, nodata }, from, end)
 }
 
 /// Whether the rules of the accumulation and of the label hold, the first if it is judged, and acc and bas differ from
 /// their no-data numbers. Where there is one label only, labels are compared with nothing else, and no number with its
 /// no-data number if none can be it.
-fn counts_pass(rows: &LaneRows, rules: &Rules, from: usize, end: usize) -> bool
+fn counts_pass<H: FirstTest>(rows: &LaneRows<H>, rules: &Rules, from: usize, end: usize) -> bool
     requires { IsStretch rows.now from end }
     ensures { IsTrue result → Along from end (KeepsCountsAt rules.now rows.now) }
 {
     if !sums_pass(rows, rules.judged, from, end) {
         return false;
     }
-    let row = rows.here;
+    let row = &rows.here;
     let nodata = &rules.nodata;
     if have_one_label(rows, from, end) {
         return are_no_counts(row.label(from), rules)
@@ -108,7 +115,7 @@ fn counts_pass(rows: &LaneRows, rules: &Rules, from: usize, end: usize) -> bool
 }
 
 /// Whether all tests pass. The test of voids comes first: at right products little else fails, and it is the cheapest.
-fn all_pass(rows: &LaneRows, rules: &Rules, from: usize, end: usize) -> bool
+fn all_pass<H: FirstTest>(rows: &LaneRows<H>, rules: &Rules, from: usize, end: usize) -> bool
     requires stretch { IsStretch rows.now from end }
     requires ranks { IfJudged (has_rnk rules.now.judged) (HaveRanks rows.now) }
     ensures { IsTrue result → Along from end (PassesAt rules.now rows.now) }
@@ -127,8 +134,8 @@ fn all_pass(rows: &LaneRows, rules: &Rules, from: usize, end: usize) -> bool
 
 /// Tries `stride` columns at a time from `from` on, the last time maybe fewer. Returns the start of the first stride
 /// where a test fails, or `end`.
-pub fn passed_strides(
-    rows: &LaneRows,
+pub fn passed_strides<H: FirstTest>(
+    rows: &LaneRows<H>,
     rules: &Rules,
     from: usize,
     end: usize,

@@ -6,14 +6,15 @@ ghost use Rattle.drain_grid.specs.Judged.{has_acc};
 ghost use Rattle.drain_kernel.specs.Shown.{lowered};
 
 use crate::cells::bas_differs;
+use crate::lane_height::LaneHeight;
 use drain_grid::{NoData, Rules};
 
 /// Whether con's no-data number is below all that lie on data, and that of dir is no code of a direction.
-pub fn are_no_ways(nodata: &NoData) -> bool
-    ensures con { IsTrue result → (con : ℕ) → 1 ≤ con → lowered con ≢ nodata.now.con }
+pub fn are_no_ways<H: LaneHeight>(nodata: &NoData) -> bool
+    ensures con { IsTrue result → (con : ℕ) → 1 ≤ con → lowered H.bias con ≢ nodata.now.con }
     ensures dir { IsTrue result → (code : ℕ) → IsTrue (is_direction_code code) → pos code ≢ nodata.now.dir }
 {
-    nodata.con <= -32768 && (nodata.dir <= 0 || nodata.dir > 128)
+    nodata.con <= H::lowest() && (nodata.dir <= 0 || nodata.dir > 128)
 }
 
 /// Whether the number is none from 1 on.

@@ -1,5 +1,5 @@
 -- Lanes of a row: unsigned numbers of 16 or 32 bits, converted from whole numbers. At a void, where the lane of the elevation is 0, nothing is known of a product.
-use Rattle.std.specs.Prelude.{◌≡◌, ◌≢◌, ℕ, ◌/◌, ◌%◌, ◌<◌, ℤ, pos, negsuc, neg_ℤ, ◌+ℤ◌, Bool, IsTrue, true, false, not, ◌&&◌, nat_le, int_le, min, List, Option, Some, None, slice_index, slice_index_or}
+use Rattle.std.specs.Prelude.{◌≡◌, ◌≢◌, ℕ, ◌/◌, ◌%◌, ◌<◌, ℤ, pos, negsuc, neg_ℤ, ◌+ℤ◌, Bool, IsTrue, true, false, not, ◌&&◌, nat_le, int_le, int_lt, min, List, Option, Some, None, slice_index, slice_index_or}
 use Rattle.std.specs.Ordering.{int_eq}
 use Rattle.drain_pixels.specs.Ground.{height_with}
 
@@ -13,14 +13,16 @@ abbrev pub is_short_lane : ℤ → Bool
 is_short_lane (pos n) = nat_le n 65535
 is_short_lane (negsuc n) = false
 
--- 16 signed bits hold the number
-abbrev pub is_height : ℤ → Bool
-is_height number = int_le (neg_ℤ (pos 32768)) number && int_le number (pos 32767)
+-- A height's lane holds it with this added: 32768 in 16 bits, 2147483648 in 32.
 
--- a lane of 16 bits holds the elevation: none, or a height of 16 signed bits but the lowest, whose lane would be a void's
-abbrev pub is_elevation : Option ℤ → Bool
-is_elevation None = true
-is_elevation (Some height) = is_height height && not (int_eq height (neg_ℤ (pos 32768)))
+-- signed bits hold the number: as many numbers lie below 0 as from 0 up
+abbrev pub is_height : ℕ → ℤ → Bool
+is_height bias number = int_le (neg_ℤ (pos bias)) number && int_lt number (pos bias)
+
+-- a lane holds the elevation: none, or a height of its bits but the lowest, whose lane would be a void's
+abbrev pub is_elevation : ℕ → Option ℤ → Bool
+is_elevation bias None = true
+is_elevation bias (Some height) = is_height bias height && not (int_eq height (neg_ℤ (pos bias)))
 
 -- the first numbers all fit
 abbrev pub AllFit : (ℤ → Bool) → List ℤ → ℕ → Type 0
@@ -39,9 +41,9 @@ HoldFitting fits lane numbers lanes count =
 abbrev pub unchanged : ℤ → ℤ
 unchanged number = number
 
--- 32768 more than the number
-abbrev pub lifted : ℤ → ℤ
-lifted number = number +ℤ pos 32768
+-- the number with this added
+abbrev pub lifted : ℕ → ℤ → ℤ
+lifted bias number = number +ℤ pos bias
 
 -- the first numbers are these, or 65535 where they are more
 abbrev pub AreCapped : List ℕ → List ℕ → ℕ → Type 0
@@ -63,19 +65,20 @@ AreLanesBy lane z numbers lanes count = (k : ℕ) → k < count → slice_index 
 abbrev pub AreLanes : List ℕ → List ℤ → List ℕ → ℕ → Type 0
 AreLanes z numbers lanes count = AreLanesBy unchanged z numbers lanes count
 
--- the lane of an elevation: 0 at a void, else the height with 32768 added, which is not 0
-abbrev pub IsElevationLane : Option ℤ → ℕ → Type 0
-IsElevationLane None lane = lane ≡ 0
-IsElevationLane (Some height) lane = (lane ≢ 0) × (pos lane ≡ lifted height)
+-- the lane of an elevation: 0 at a void, else the height with the bias added, which is not 0
+abbrev pub IsElevationLane : ℕ → Option ℤ → ℕ → Type 0
+IsElevationLane bias None lane = lane ≡ 0
+IsElevationLane bias (Some height) lane = (lane ≢ 0) × (pos lane ≡ lifted bias height)
 
 -- the first lanes are those of these elevations
-abbrev pub AreElevationLanes : List (Option ℤ) → List ℕ → ℕ → Type 0
-AreElevationLanes z lanes count = (k : ℕ) → k < count → IsElevationLane (slice_index_or z k None) (slice_index lanes k)
+abbrev pub AreElevationLanes : ℕ → List (Option ℤ) → List ℕ → ℕ → Type 0
+AreElevationLanes bias z lanes count = (k : ℕ) → k < count → IsElevationLane bias (slice_index_or z k None) (slice_index lanes k)
 
 -- the first lanes are those of the elevations of these numbers, of which one may mean a void
-abbrev pub AreGroundLanes : Option ℤ → List ℤ → List ℕ → ℕ → Type 0
-AreGroundLanes void numbers lanes count = (k : ℕ) → k < count → IsElevationLane (height_with void (slice_index_or numbers k (pos 0))) (slice_index lanes k)
+abbrev pub AreGroundLanes : ℕ → Option ℤ → List ℤ → List ℕ → ℕ → Type 0
+AreGroundLanes bias void numbers lanes count =
+    (k : ℕ) → k < count → IsElevationLane bias (height_with void (slice_index_or numbers k (pos 0))) (slice_index lanes k)
 
--- the first heights are these, each with 32768 added, except at voids
-abbrev pub AreHeightLanes : List ℕ → List ℤ → List ℕ → ℕ → Type 0
-AreHeightLanes z numbers lanes count = AreLanesBy lifted z numbers lanes count
+-- the first heights are these, each with the bias added, except at voids
+abbrev pub AreHeightLanes : ℕ → List ℕ → List ℤ → List ℕ → ℕ → Type 0
+AreHeightLanes bias z numbers lanes count = AreLanesBy (lifted bias) z numbers lanes count

@@ -70,8 +70,8 @@ pub fn is_short_lane(number: i64) -> bool
 /// 32768 more than the number, in 64 bits.
 #[inline(always)]
 fn raised(number: i64) -> u64
-    ensures fits { IsTrue (is_height number) ↔ (result < 2 ^ 16) }
-    ensures raised { IsTrue (is_height number) → pos result ≡ number +ℤ pos 32768 }
+    ensures fits { IsTrue (is_height 32768 number) ↔ (result < 2 ^ 16) }
+    ensures raised { IsTrue (is_height 32768 number) → pos result ≡ number +ℤ pos 32768 }
 {
     number.cast_unsigned().wrapping_add(32768)
 }
@@ -79,7 +79,7 @@ fn raised(number: i64) -> u64
 /// 32768 more than a height, if it has 16 bits.
 #[inline(always)]
 pub fn height_lane(number: i64) -> u16
-    ensures { IsTrue (is_height number) → pos result ≡ number +ℤ pos 32768 }
+    ensures { IsTrue (is_height 32768 number) → pos result ≡ number +ℤ pos 32768 }
 {
     low_quarter(raised(number))
 }
@@ -87,7 +87,7 @@ pub fn height_lane(number: i64) -> u16
 /// Whether 16 signed bits hold the number.
 #[inline(always)]
 pub fn is_height(number: i64) -> bool
-    ensures { result ≡ is_height number }
+    ensures { result ≡ is_height 32768 number }
 {
     is_quarter(raised(number))
 }
@@ -95,7 +95,7 @@ pub fn is_height(number: i64) -> bool
 /// Whether a lane of 16 bits holds the elevation: none, or a height of 16 bits that isn't the lowest.
 #[inline(always)]
 pub fn is_elevation(z: Option<i64>) -> bool
-    ensures { result ≡ is_elevation z }
+    ensures { result ≡ is_elevation 32768 z }
 {
     match z {
         Some(height) => is_height(height) & (height != -32768),
@@ -106,10 +106,57 @@ pub fn is_elevation(z: Option<i64>) -> bool
 /// 0 at a void, else 32768 more than the height, if a lane holds it.
 #[inline(always)]
 pub fn elevation_lane(z: Option<i64>) -> u16
-    ensures { IsTrue (is_elevation z) → IsElevationLane z result }
+    ensures { IsTrue (is_elevation 32768 z) → IsElevationLane 32768 z result }
 {
     match z {
         Some(height) => height_lane(height),
+        None => 0,
+    }
+}
+
+/// 2^31 more than the number, in 64 bits.
+#[inline(always)]
+fn wide_raised(number: i64) -> u64
+    ensures fits { IsTrue (is_height 2147483648 number) ↔ (result < 2 ^ 32) }
+    ensures raised { IsTrue (is_height 2147483648 number) → pos result ≡ number +ℤ pos 2147483648 }
+{
+    number.cast_unsigned().wrapping_add(2147483648)
+}
+
+/// 2^31 more than a height, if it has 32 bits.
+#[inline(always)]
+pub fn wide_height_lane(number: i64) -> u32
+    ensures { IsTrue (is_height 2147483648 number) → pos result ≡ number +ℤ pos 2147483648 }
+{
+    low_half(wide_raised(number))
+}
+
+/// Whether 32 signed bits hold the number.
+#[inline(always)]
+pub fn is_wide_height(number: i64) -> bool
+    ensures { result ≡ is_height 2147483648 number }
+{
+    high_half(wide_raised(number)) == 0
+}
+
+/// Whether a lane of 32 bits holds the elevation: none, or a height of 32 bits that isn't the lowest.
+#[inline(always)]
+pub fn is_wide_elevation(z: Option<i64>) -> bool
+    ensures { result ≡ is_elevation 2147483648 z }
+{
+    match z {
+        Some(height) => is_wide_height(height) & (height != -2147483648),
+        None => true,
+    }
+}
+
+/// 0 at a void, else 2^31 more than the height, if a lane of 32 bits holds it.
+#[inline(always)]
+pub fn wide_elevation_lane(z: Option<i64>) -> u32
+    ensures { IsTrue (is_elevation 2147483648 z) → IsElevationLane 2147483648 z result }
+{
+    match z {
+        Some(height) => wide_height_lane(height),
         None => 0,
     }
 }
@@ -162,15 +209,36 @@ pub trait Narrow: Fits {
         ensures { IsTrue (Self.fits number) → pos result ≡ lane number };
 }
 
-/// Numbers from 0 up, of 32 bits.
-pub struct Wide;
+/// Numbers that are converted to lanes of 32 bits.
+pub trait Wide: Fits {
+    ghost use Rattle.std.specs.Prelude.{ℤ};
 
-impl Fits for Wide {
+    /// What the lane of a number holds.
+    ghost lane: { ℤ → ℤ };
+
+    /// The lane of a number, if it fits; else any lane.
+    fn lane(number: i64) -> u32
+        ensures { IsTrue (Self.fits number) → pos result ≡ lane number };
+}
+
+/// Numbers from 0 up, of 32 bits.
+pub struct Long;
+
+impl Fits for Long {
     ghost fits = { is_lane };
 
     #[inline(always)]
     fn fits(number: i64) -> bool {
         is_lane(number)
+    }
+}
+
+impl Wide for Long {
+    ghost lane = { unchanged };
+
+    #[inline(always)]
+    fn lane(number: i64) -> u32 {
+        lane(number)
     }
 }
 
@@ -199,7 +267,7 @@ impl Narrow for Short {
 pub struct Height;
 
 impl Fits for Height {
-    ghost fits = { is_height };
+    ghost fits = { is_height 32768 };
 
     #[inline(always)]
     fn fits(number: i64) -> bool {
@@ -208,10 +276,69 @@ impl Fits for Height {
 }
 
 impl Narrow for Height {
-    ghost lane = { lifted };
+    ghost lane = { lifted 32768 };
 
     #[inline(always)]
     fn lane(number: i64) -> u16 {
         height_lane(number)
+    }
+}
+
+/// Heights of 32 bits with a sign. The lane holds the height plus 2^31.
+pub struct WideHeight;
+
+impl Fits for WideHeight {
+    ghost fits = { is_height 2147483648 };
+
+    #[inline(always)]
+    fn fits(number: i64) -> bool {
+        is_wide_height(number)
+    }
+}
+
+impl Wide for WideHeight {
+    ghost lane = { lifted 2147483648 };
+
+    #[inline(always)]
+    fn lane(number: i64) -> u32 {
+        wide_height_lane(number)
+    }
+}
+
+/// A lane of an elevation: the height with a bias added, which is half of the numbers that the lane can hold; 0 at a
+/// void.
+pub trait ElevationLane: Copy {
+    ghost use Rattle.std.specs.Prelude.{ℕ, ◌≡◌, ◌==◌};
+
+    /// Its number.
+    ghost number: { Self → ℕ };
+
+    /// What is added to a height.
+    ghost bias: { ℕ };
+
+    /// Whether it is that of a void.
+    fn is_void(self) -> bool
+        ensures { result ≡ (number self == 0) };
+}
+
+impl ElevationLane for u16 {
+    ghost number = { λ lane. lane };
+
+    ghost bias = { 32768 };
+
+    #[inline(always)]
+    fn is_void(self) -> bool {
+        self == 0
+    }
+}
+
+impl ElevationLane for u32 {
+    ghost number = { λ lane. lane };
+
+    ghost bias = { 2147483648 };
+
+    #[inline(always)]
+    fn is_void(self) -> bool {
+        self == 0
     }
 }

@@ -1,30 +1,31 @@
 //! The numbers of a row, converted to lanes in loops without a branch. At a void, where the elevation's lane is 0, a
 //! product's number need not fit.
 
-ghost use Rattle.std.specs.Prelude.{◌≡◌, IsTrue, length};
-ghost use Rattle.drain_pixels.specs.Lanes.{AllFit, AllFitAt, AreCapped, AreGroundLanes, AreLower, AreUpper, HoldFitting, is_lane, unchanged};
+ghost use Rattle.std.specs.Prelude.{◌≡◌, IsTrue, length, map};
+ghost use Rattle.drain_pixels.specs.Lanes.{AllFit, AllFitAt, AreCapped, AreGroundLanes, AreLower, AreUpper, HoldFitting};
 
 use crate::ground_row::height_with;
 use crate::lane::{
-    Fits, Narrow, capped, elevation_lane, is_elevation, is_lane, lane, lower_half, upper_half,
+    ElevationLane, Fits, Narrow, Wide, capped, elevation_lane, is_elevation, is_wide_elevation,
+    lower_half, upper_half, wide_elevation_lane,
 };
 use crate::stored::PixelNumbers;
 
 /// Puts the numbers into lanes of 32 bits, and returns whether all fit, at voids too.
 #[inline(never)]
-pub fn put_wide<N: PixelNumbers + Copy>(numbers: &N, out: &mut [u32]) -> bool
+pub fn put_wide<W: Wide, N: PixelNumbers + Copy>(numbers: &N, out: &mut [u32]) -> bool
     requires { length out.old ≡ length (N.numbers numbers.now) }
     ensures len { length out.new ≡ length out.old }
-    ensures lanes { HoldFitting is_lane unchanged (N.numbers numbers.now) out.new (length (N.numbers numbers.now)) }
-    ensures fit { IsTrue result → AllFit is_lane (N.numbers numbers.now) (length (N.numbers numbers.now)) }
+    ensures lanes { HoldFitting W.fits W.lane (N.numbers numbers.now) out.new (length (N.numbers numbers.now)) }
+    ensures fit { IsTrue result → AllFit W.fits (N.numbers numbers.now) (length (N.numbers numbers.now)) }
 {
     // A local copy: behind a reference its address would be loaded again at each column.
     let pixels = *numbers;
     let mut all = true;
     for k in 0..pixels.len() {
         let number = pixels.at(k);
-        all &= is_lane(number);
-        out[k] = lane(number);
+        all &= W::fits(number);
+        out[k] = W::lane(number);
     }
     all
 }
@@ -54,7 +55,7 @@ pub fn put_narrow<W: Narrow, N: PixelNumbers + Copy>(numbers: &N, out: &mut [u16
 pub fn put_ground<N: PixelNumbers + Copy>(void: Option<i64>, numbers: &N, out: &mut [u16]) -> bool
     requires { length out.old ≡ length (N.numbers numbers.now) }
     ensures len { length out.new ≡ length out.old }
-    ensures lanes { IsTrue result → AreGroundLanes void (N.numbers numbers.now) out.new (length (N.numbers numbers.now)) }
+    ensures lanes { IsTrue result → AreGroundLanes 32768 void (N.numbers numbers.now) out.new (length (N.numbers numbers.now)) }
 {
     // A local copy: behind a reference its address would be loaded again at each column.
     let pixels = *numbers;
@@ -67,15 +68,37 @@ pub fn put_ground<N: PixelNumbers + Copy>(void: Option<i64>, numbers: &N, out: &
     all
 }
 
+/// The same in lanes of 32 bits.
+#[inline(never)]
+pub fn put_wide_ground<N: PixelNumbers + Copy>(
+    void: Option<i64>,
+    numbers: &N,
+    out: &mut [u32],
+) -> bool
+    requires { length out.old ≡ length (N.numbers numbers.now) }
+    ensures len { length out.new ≡ length out.old }
+    ensures lanes { IsTrue result → AreGroundLanes 2147483648 void (N.numbers numbers.now) out.new (length (N.numbers numbers.now)) }
+{
+    // A local copy: behind a reference its address would be loaded again at each column.
+    let pixels = *numbers;
+    let mut all = true;
+    for k in 0..pixels.len() {
+        let z = height_with(void, pixels.at(k));
+        all &= is_wide_elevation(z);
+        out[k] = wide_elevation_lane(z);
+    }
+    all
+}
+
 /// Whether all numbers fit that aren't at a void.
 #[inline(never)]
-pub fn all_fit<W: Fits, N: PixelNumbers>(z: &[u16], numbers: &N) -> bool
+pub fn all_fit<W: Fits, N: PixelNumbers, Z: ElevationLane>(z: &[Z], numbers: &N) -> bool
     requires { length z.now ≡ length (N.numbers numbers.now) }
-    ensures { IsTrue result → AllFitAt W.fits z.now (N.numbers numbers.now) (length (N.numbers numbers.now)) }
+    ensures { IsTrue result → AllFitAt W.fits (map Z.number z.now) (N.numbers numbers.now) (length (N.numbers numbers.now)) }
 {
     let mut all = true;
     for k in 0..numbers.len() {
-        all &= W::fits(numbers.at(k)) | (z[k] == 0);
+        all &= W::fits(numbers.at(k)) | z[k].is_void();
     }
     all
 }

@@ -1,71 +1,94 @@
 //! Vectors of lanes, filled with the numbers of a row.
 
-ghost use Rattle.std.specs.Prelude.{◌≡◌, IsTrue, length, vec_len};
-ghost use Rattle.drain_pixels.specs.Lanes.{AreCapped, AreElevationLanes, AreGroundLanes, AreHeightLanes, AreLanes, AreLanesBy, AreLower, AreUpper};
+ghost use Rattle.std.specs.Prelude.{◌≡◌, IsTrue, length, map, vec_len};
+ghost use Rattle.drain_pixels.specs.Lanes.{AreCapped, AreGroundLanes, AreLanes, AreLanesBy, AreLower, AreUpper};
 
 use crate::ground_row::GroundRow;
-use crate::lane::{Height, Narrow, Short, Wide};
-use crate::narrowing::{all_fit, put_capped, put_ground, put_halves, put_narrow, put_wide};
+use crate::lane::{ElevationLane, Height, Long, Narrow, Short, Wide, WideHeight};
+use crate::narrowing::{
+    all_fit, put_capped, put_ground, put_halves, put_narrow, put_wide, put_wide_ground,
+};
 use crate::pixel_row::PixelRow;
 use crate::stored::{
     AnyPixels, I16Pixels, I32Pixels, PixelNumbers, Pixels, U8Pixels, U16Pixels, U32Pixels,
 };
 
-/// Replaces the lanes by the elevations of a row, and returns whether all fit and memory sufficed. A height fits if it
-/// has 16 bits and isn't -32768, whose lane would be that of a void.
-pub fn take_elevations(numbers: &GroundRow, out: &mut Vec<u16>) -> bool
-    ensures len { IsTrue result → vec_len out.new ≡ length numbers.now }
-    ensures lanes { IsTrue result → AreElevationLanes numbers.now out.new.items (length numbers.now) }
-{
-    if out.resize(numbers.len(), 0).is_err() {
-        return false;
+/// Lanes of elevations, and of con's heights, that are taken of a row.
+pub trait HeightLane: ElevationLane {
+    ghost use Rattle.std.specs.Prelude.{◌≡◌, IsTrue, length, map, vec_len};
+    ghost use Rattle.drain_pixels.specs.Lanes.{AreElevationLanes, AreHeightLanes};
+
+    /// Replaces the lanes by the elevations of a row, and returns whether all fit and memory sufficed. A height fits if
+    /// it has the bits of a lane and isn't the lowest of these, whose lane would be that of a void.
+    fn take_elevations(numbers: &GroundRow, out: &mut Vec<Self>) -> bool
+        ensures len { IsTrue result → vec_len out.new ≡ length numbers.now }
+        ensures lanes { IsTrue result → AreElevationLanes Self.bias numbers.now (map Self.number out.new.items) (length numbers.now) };
+
+    /// Replaces the lanes by a product's heights, which need not fit at voids, and returns whether the others fit and
+    /// memory sufficed. It takes none if there are not as many elevation lanes.
+    fn take_heights(z: &[Self], numbers: &PixelRow, out: &mut Vec<Self>) -> bool
+        ensures len { IsTrue result → vec_len out.new ≡ length numbers.now }
+        ensures lanes { IsTrue result → AreHeightLanes Self.bias (map Self.number z.now) numbers.now (map Self.number out.new.items) (length numbers.now) };
+}
+
+impl HeightLane for u16 {
+    fn take_elevations(numbers: &GroundRow, out: &mut Vec<u16>) -> bool {
+        if out.resize(numbers.len(), 0).is_err() {
+            return false;
+        }
+        let (void, pixels) = numbers.parts();
+        match pixels {
+            Pixels::U8(pixels) => hold_ground(void, &pixels, out),
+            Pixels::I16(pixels) => hold_ground(void, &pixels, out),
+            Pixels::U16(pixels) => hold_ground(void, &pixels, out),
+            Pixels::I32(pixels) => hold_ground(void, &pixels, out),
+            Pixels::U32(pixels) => hold_ground(void, &pixels, out),
+            Pixels::Any(pixels) => hold_ground(void, &pixels, out),
+        }
     }
-    let (void, pixels) = numbers.parts();
-    match pixels {
-        Pixels::U8(pixels) => hold_ground(void, &pixels, out),
-        Pixels::I16(pixels) => hold_ground(void, &pixels, out),
-        Pixels::U16(pixels) => hold_ground(void, &pixels, out),
-        Pixels::I32(pixels) => hold_ground(void, &pixels, out),
-        Pixels::U32(pixels) => hold_ground(void, &pixels, out),
-        Pixels::Any(pixels) => hold_ground(void, &pixels, out),
+
+    fn take_heights(z: &[u16], numbers: &PixelRow, out: &mut Vec<u16>) -> bool {
+        take_narrow::<Height, u16>(z, numbers, out)
     }
 }
 
-/// Replaces the lanes by a product's heights, which need not fit at voids, and returns whether the others fit and
-/// memory sufficed. It takes none if there are not as many elevation lanes.
-pub fn take_heights(z: &[u16], numbers: &PixelRow, out: &mut Vec<u16>) -> bool
-    ensures len { IsTrue result → vec_len out.new ≡ length numbers.now }
-    ensures lanes { IsTrue result → AreHeightLanes z.now numbers.now out.new.items (length numbers.now) }
-{
-    take_narrow::<Height>(z, numbers, out)
+impl HeightLane for u32 {
+    fn take_elevations(numbers: &GroundRow, out: &mut Vec<u32>) -> bool {
+        if out.resize(numbers.len(), 0).is_err() {
+            return false;
+        }
+        let (void, pixels) = numbers.parts();
+        match pixels {
+            Pixels::U8(pixels) => put_wide_ground(void, &pixels, out),
+            Pixels::I16(pixels) => put_wide_ground(void, &pixels, out),
+            Pixels::U16(pixels) => put_wide_ground(void, &pixels, out),
+            Pixels::I32(pixels) => put_wide_ground(void, &pixels, out),
+            Pixels::U32(pixels) => put_wide_ground(void, &pixels, out),
+            Pixels::Any(pixels) => put_wide_ground(void, &pixels, out),
+        }
+    }
+
+    fn take_heights(z: &[u32], numbers: &PixelRow, out: &mut Vec<u32>) -> bool {
+        take_wide::<WideHeight, u32>(z, numbers, out)
+    }
 }
 
 /// Replaces the lanes by a product's numbers in 16 bits, which need not fit at voids, and returns whether the others
 /// fit and memory sufficed. It takes none if there are not as many elevation lanes.
-pub fn take_short_numbers(z: &[u16], numbers: &PixelRow, out: &mut Vec<u16>) -> bool
+pub fn take_short_numbers<Z: ElevationLane>(z: &[Z], numbers: &PixelRow, out: &mut Vec<u16>) -> bool
     ensures len { IsTrue result → vec_len out.new ≡ length numbers.now }
-    ensures lanes { IsTrue result → AreLanes z.now numbers.now out.new.items (length numbers.now) }
+    ensures lanes { IsTrue result → AreLanes (map Z.number z.now) numbers.now out.new.items (length numbers.now) }
 {
-    take_narrow::<Short>(z, numbers, out)
+    take_narrow::<Short, Z>(z, numbers, out)
 }
 
 /// Replaces the lanes by a product's numbers in 32 bits, which need not fit at voids, and returns whether the others
 /// fit and memory sufficed. It takes none if there are not as many elevation lanes.
-pub fn take_numbers(z: &[u16], numbers: &PixelRow, out: &mut Vec<u32>) -> bool
+pub fn take_numbers<Z: ElevationLane>(z: &[Z], numbers: &PixelRow, out: &mut Vec<u32>) -> bool
     ensures len { IsTrue result → vec_len out.new ≡ length numbers.now }
-    ensures lanes { IsTrue result → AreLanes z.now numbers.now out.new.items (length numbers.now) }
+    ensures lanes { IsTrue result → AreLanes (map Z.number z.now) numbers.now out.new.items (length numbers.now) }
 {
-    if z.len() != numbers.len() || out.resize(numbers.len(), 0).is_err() {
-        return false;
-    }
-    match numbers.pixels() {
-        Pixels::U8(pixels) => hold_wide(z, &pixels, out),
-        Pixels::I16(pixels) => hold_wide(z, &pixels, out),
-        Pixels::U16(pixels) => hold_wide(z, &pixels, out),
-        Pixels::I32(pixels) => hold_wide(z, &pixels, out),
-        Pixels::U32(pixels) => hold_wide(z, &pixels, out),
-        Pixels::Any(pixels) => hold_wide(z, &pixels, out),
-    }
+    take_wide::<Long, Z>(z, numbers, out)
 }
 
 /// Replaces the lanes by numbers in 16 bits each, 65535 where they are more, and returns whether memory sufficed.
@@ -96,28 +119,47 @@ pub fn take_halves(numbers: &[u32], low: &mut Vec<u16>, high: &mut Vec<u16>) -> 
 
 /// Replaces the lanes of 16 bits by a product's numbers, and returns whether all fit that aren't at a void, and memory
 /// sufficed.
-fn take_narrow<W: Narrow>(z: &[u16], numbers: &PixelRow, out: &mut Vec<u16>) -> bool
+fn take_narrow<W: Narrow, Z: ElevationLane>(z: &[Z], numbers: &PixelRow, out: &mut Vec<u16>) -> bool
     ensures len { IsTrue result → vec_len out.new ≡ length numbers.now }
-    ensures lanes { IsTrue result → AreLanesBy W.lane z.now numbers.now out.new.items (length numbers.now) }
+    ensures lanes { IsTrue result → AreLanesBy W.lane (map Z.number z.now) numbers.now out.new.items (length numbers.now) }
 {
     if z.len() != numbers.len() || out.resize(numbers.len(), 0).is_err() {
         return false;
     }
     match numbers.pixels() {
-        Pixels::U8(pixels) => hold_narrow::<W, U8Pixels<'_>>(z, &pixels, out),
-        Pixels::I16(pixels) => hold_narrow::<W, I16Pixels<'_>>(z, &pixels, out),
-        Pixels::U16(pixels) => hold_narrow::<W, U16Pixels<'_>>(z, &pixels, out),
-        Pixels::I32(pixels) => hold_narrow::<W, I32Pixels<'_>>(z, &pixels, out),
-        Pixels::U32(pixels) => hold_narrow::<W, U32Pixels<'_>>(z, &pixels, out),
-        Pixels::Any(pixels) => hold_narrow::<W, AnyPixels<'_>>(z, &pixels, out),
+        Pixels::U8(pixels) => hold_narrow::<W, U8Pixels<'_>, Z>(z, &pixels, out),
+        Pixels::I16(pixels) => hold_narrow::<W, I16Pixels<'_>, Z>(z, &pixels, out),
+        Pixels::U16(pixels) => hold_narrow::<W, U16Pixels<'_>, Z>(z, &pixels, out),
+        Pixels::I32(pixels) => hold_narrow::<W, I32Pixels<'_>, Z>(z, &pixels, out),
+        Pixels::U32(pixels) => hold_narrow::<W, U32Pixels<'_>, Z>(z, &pixels, out),
+        Pixels::Any(pixels) => hold_narrow::<W, AnyPixels<'_>, Z>(z, &pixels, out),
     }
 }
 
-/// Puts the elevations of numbers, of which this one, if any, means a void, into lanes, and returns whether all fit.
+/// The same with lanes of 32 bits.
+fn take_wide<W: Wide, Z: ElevationLane>(z: &[Z], numbers: &PixelRow, out: &mut Vec<u32>) -> bool
+    ensures len { IsTrue result → vec_len out.new ≡ length numbers.now }
+    ensures lanes { IsTrue result → AreLanesBy W.lane (map Z.number z.now) numbers.now out.new.items (length numbers.now) }
+{
+    if z.len() != numbers.len() || out.resize(numbers.len(), 0).is_err() {
+        return false;
+    }
+    match numbers.pixels() {
+        Pixels::U8(pixels) => hold_wide::<W, U8Pixels<'_>, Z>(z, &pixels, out),
+        Pixels::I16(pixels) => hold_wide::<W, I16Pixels<'_>, Z>(z, &pixels, out),
+        Pixels::U16(pixels) => hold_wide::<W, U16Pixels<'_>, Z>(z, &pixels, out),
+        Pixels::I32(pixels) => hold_wide::<W, I32Pixels<'_>, Z>(z, &pixels, out),
+        Pixels::U32(pixels) => hold_wide::<W, U32Pixels<'_>, Z>(z, &pixels, out),
+        Pixels::Any(pixels) => hold_wide::<W, AnyPixels<'_>, Z>(z, &pixels, out),
+    }
+}
+
+/// Puts the elevations of numbers, of which this one, if any, means a void, into lanes of 16 bits, and returns whether
+/// all fit.
 fn hold_ground<N: PixelNumbers + Copy>(void: Option<i64>, numbers: &N, out: &mut [u16]) -> bool
     requires room { length out.old ≡ length (N.numbers numbers.now) }
     ensures len { length out.new ≡ length out.old }
-    ensures lanes { IsTrue result → AreGroundLanes void (N.numbers numbers.now) out.new (length (N.numbers numbers.now)) }
+    ensures lanes { IsTrue result → AreGroundLanes 32768 void (N.numbers numbers.now) out.new (length (N.numbers numbers.now)) }
 {
     // The lane of -32768 is 0, as that of a void: where it means one, as in a tile, no number is compared with it.
     match void {
@@ -127,21 +169,29 @@ fn hold_ground<N: PixelNumbers + Copy>(void: Option<i64>, numbers: &N, out: &mut
 }
 
 /// Puts the numbers into lanes of 32 bits, and returns whether all fit that aren't at a void.
-fn hold_wide<N: PixelNumbers + Copy>(z: &[u16], numbers: &N, out: &mut [u32]) -> bool
+fn hold_wide<W: Wide, N: PixelNumbers + Copy, Z: ElevationLane>(
+    z: &[Z],
+    numbers: &N,
+    out: &mut [u32],
+) -> bool
     requires elevations { length z.now ≡ length (N.numbers numbers.now) }
     requires room { length out.old ≡ length (N.numbers numbers.now) }
     ensures len { length out.new ≡ length out.old }
-    ensures lanes { IsTrue result → AreLanes z.now (N.numbers numbers.now) out.new (length (N.numbers numbers.now)) }
+    ensures lanes { IsTrue result → AreLanesBy W.lane (map Z.number z.now) (N.numbers numbers.now) out.new (length (N.numbers numbers.now)) }
 {
-    put_wide(numbers, out) || all_fit::<Wide, N>(z, numbers)
+    put_wide::<W, N>(numbers, out) || all_fit::<W, N, Z>(z, numbers)
 }
 
 /// Puts the numbers into lanes of 16 bits, and returns whether all fit that aren't at a void.
-fn hold_narrow<W: Narrow, N: PixelNumbers + Copy>(z: &[u16], numbers: &N, out: &mut [u16]) -> bool
+fn hold_narrow<W: Narrow, N: PixelNumbers + Copy, Z: ElevationLane>(
+    z: &[Z],
+    numbers: &N,
+    out: &mut [u16],
+) -> bool
     requires elevations { length z.now ≡ length (N.numbers numbers.now) }
     requires room { length out.old ≡ length (N.numbers numbers.now) }
     ensures len { length out.new ≡ length out.old }
-    ensures lanes { IsTrue result → AreLanesBy W.lane z.now (N.numbers numbers.now) out.new (length (N.numbers numbers.now)) }
+    ensures lanes { IsTrue result → AreLanesBy W.lane (map Z.number z.now) (N.numbers numbers.now) out.new (length (N.numbers numbers.now)) }
 {
-    put_narrow::<W, N>(numbers, out) || all_fit::<W, N>(z, numbers)
+    put_narrow::<W, N>(numbers, out) || all_fit::<W, N, Z>(z, numbers)
 }

@@ -96,11 +96,14 @@ fn note_rows<T, P, S: GridRows<T, P>, K: RowVisitor>(
         0,
         sinks,
         rules.judged,
+        false,
         &mut window.below,
         voids,
     )?;
     for row in 0..shape.rows() {
         window.turn();
+        // Below a row with lanes of 32 bits they are taken too: the lanes of three rows are compared.
+        let wide = window.here.is_wide();
         read_marked(
             source,
             tiles,
@@ -108,6 +111,7 @@ fn note_rows<T, P, S: GridRows<T, P>, K: RowVisitor>(
             row + 1,
             sinks,
             rules.judged,
+            wide,
             &mut window.below,
             voids,
         )?;

@@ -103,8 +103,14 @@ impl RowBuffer {
         voids.note_row(row, &self.z, self.sinks.as_slice())
     }
 
-    /// Fills the lanes of the row, for rules about these rasters.
-    pub fn take_lanes(&mut self, judged: Judged)
+    /// Whether its heights are in lanes of 32 bits.
+    pub fn is_wide(&self) -> bool {
+        self.lanes.is_wide()
+    }
+
+    /// Fills the lanes of the row, for rules about these rasters: heights in 16 bits if these hold them and `wide` is
+    /// false, else in 32.
+    pub fn take_lanes(&mut self, judged: Judged, wide: bool)
         requires whole { AreRowNumbers (buffer_numbers self.old) }
         ensures marked { marked_of self.new ≡ marked_of self.old }
         ensures lanes { LanesMatch self.new }
@@ -117,7 +123,7 @@ impl RowBuffer {
             bas: &products.bas,
             rnk: &products.rnk,
         };
-        self.fit = self.lanes.take(&self.z, &rows, judged);
+        self.fit = self.lanes.take(&self.z, &rows, judged, wide);
     }
 
     /// The row as it is looked at, with its lanes if they fit.

@@ -17,7 +17,7 @@ use std::alloc::Global;
 use std::mem::swap;
 
 /// Reads the next row, with this number, marks its listed sinks, notes those that are voids, and fills its lanes
-/// for rules about these rasters. It stops if the source does, or, where there are sinks, if memory runs out.
+/// for rules about these rasters, of 32 bits if `wide` says so. It stops if the source does, or, where there are sinks, if memory runs out.
 pub fn read_marked<T, P, S: GridRows<T, P>>(
     source: &mut S,
     tiles: &mut [T],
@@ -25,6 +25,7 @@ pub fn read_marked<T, P, S: GridRows<T, P>>(
     row: u32,
     sinks: &Sinks,
     judged: Judged,
+    wide: bool,
     held: &mut RowBuffer,
     voids: &mut ListedVoids,
 ) -> Result<(), WalkStop<S::Stop>>
@@ -45,7 +46,7 @@ pub fn read_marked<T, P, S: GridRows<T, P>>(
     }
     match held.mark(row, sinks, voids) {
         Ok(()) => {
-            held.take_lanes(judged);
+            held.take_lanes(judged, wide);
             Ok(())
         }
         Err(OutOfMemory) => Err(WalkStop::OutOfMemory),

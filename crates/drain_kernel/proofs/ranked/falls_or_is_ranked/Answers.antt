@@ -1,8 +1,10 @@
-use Rattle.std.proofs.Common.{min, ◌∙◌}
+use Rattle.std.proofs.Common.{◌≡◌, ◌||◌, nat_lt, min, true, ◌∙◌, subst}
+use Rattle.drain_kernel.specs.Eights.{eight}
 use Rattle.drain_kernel.proofs.CappedSums.{falls_or_ranked}
 use Rattle.drain_kernel.proofs.ranked.falls_or_is_ranked.Goals as goal
 
 pub returns : goal.returns
-returns c = λ h keeps.
-    falls_or_ranked c.args.con c.args.code c.args.capped_rank _ _ c.args.cons c.args.capped_ranks
-    (c.min-least.ensures ∙ (λ i. min (c.least_straight.ensures i) (c.least_across.ensures i))) (c.named.ensures 0) h keeps
+returns g c = λ h keeps.
+    falls_or_ranked (g.H.ElevationLane.number c.args.con) c.args.code c.args.capped_rank _ c.named.result (eight g.H.ElevationLane.number c.args.cons) c.args.capped_ranks
+    (c.lesser-least.ensures ∙ (λ i. min (c.least_straight.ensures i) (c.least_across.ensures i))) (c.named.ensures 0)
+    (subst (λ b. (b || nat_lt c.named.result c.args.capped_rank) ≡ true) c.is_below.ensures h) keeps

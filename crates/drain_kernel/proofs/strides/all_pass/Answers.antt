@@ -1,7 +1,7 @@
 use Rattle.drain_kernel.proofs.strides.all_pass.Goals as goal
 
 pub returns : goal.returns
-returns c = λ counted k low high.
+returns g c = λ counted k low high.
     let inland = c.all_inland.ensures c.if-not-all_inland.false k low high in
     let ways = c.courses_pass.ensures.ways c.if-not-courses_pass.false k low high in
     let counts = c.counts_pass.ensures counted k low high in

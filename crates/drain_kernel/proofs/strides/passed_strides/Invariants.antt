@@ -4,11 +4,11 @@ use Rattle.drain_kernel.proofs.strides.passed_strides.Given as goal
 
 -- the columns that were passed pass all tests
 abbrev pub invariant-loop-k : goal.invariant-loop-k
-invariant-loop-k l = record {
+invariant-loop-k g l = record {
   forward : l.from ≤ l.k;
   within : l.k ≤ l.end;
   passed : Along l.from l.k (PassesAt l.rules l.rows);
 }
 
 abbrev pub decreases-loop-k : goal.decreases-loop-k
-decreases-loop-k l = l.end - l.k
+decreases-loop-k g l = l.end - l.k

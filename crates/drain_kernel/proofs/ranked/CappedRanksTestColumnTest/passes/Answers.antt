@@ -1,7 +1,12 @@
+use Rattle.std.proofs.Common.{slice_index, ◌∙◌, ap}
+use Rattle.drain_kernel.specs.Images.{at_most}
+use Rattle.drain_kernel.specs.LaneNumbers.{ThreeLanes}
 use Rattle.drain_kernel.proofs.CappedSums.{ranked_by_capped}
 use Rattle.drain_kernel.proofs.ranked.CappedRanksTestColumnTest.passes.Goals as goal
 
 pub returns-clause-passed : goal.returns-clause-passed
-returns-clause-passed c = λ h.
-    ranked_by_capped _ _ _ _ _ _ _ _ _ _ c.stored_con.ensures c.code.ensures c.cons_round.ensures c.capped_rank.ensures c.capped_ranks_round.ensures
+returns-clause-passed g c = λ h.
+    ranked_by_capped _ _ _ _ _ _ _ _ _ _ (c.con.ensures ∙ ap (λ (r : ThreeLanes). slice_index r.here.con c.args.k) c.rows.view_is)
+    (c.code.ensures ∙ ap (λ (r : ThreeLanes). slice_index r.here.dir c.args.k) c.rows.view_is) c.cons_round.ensures
+    (c.capped_rank.ensures ∙ ap (λ (r : ThreeLanes). at_most (slice_index r.here.rnk c.args.k)) c.rows.view_is) c.capped_ranks_round.ensures
     (c.falls_or_is_ranked.ensures h)

@@ -1,10 +1,10 @@
 use Rattle.std.proofs.Common.{◌≡◌, ◌≤◌, ◌-◌}
 use Rattle.drain_kernel.specs.Columns.{raised_lanes}
-use Rattle.drain_kernel.proofs.lanes.Lanes.raised_between.Given as goal
+use Rattle.drain_kernel.proofs.lane_row.LaneRow.raised_between.Given as goal
 
 -- the columns that were passed are counted
 abbrev pub invariant-loop-k : goal.invariant-loop-k
-invariant-loop-k l = record {
+invariant-loop-k g l = record {
   forward : l.from ≤ l.k;
   counted : l.count ≡ raised_lanes l.self l.from l.k;
   small : l.count ≤ l.k - l.from;
