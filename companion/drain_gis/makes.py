@@ -9,7 +9,7 @@ from typing import Any
 import numpy as np
 
 from .around import NO_DIRECTION, OUTLET, Array
-from .convert import convert, put_heights
+from .convert import convert, put_ground
 from .drain import Program
 from .errors import CannotJudge
 from .flow import Flow
@@ -19,7 +19,6 @@ from .job import Converted, Job
 from .layers import DRIVERS, Layer, Level, drivers_of, layer_of, open_file
 from .maps import write_raster, written_whole
 from .sets import PLAIN, PRODUCTS, Rows, Set
-from .tiles import BITS, FIRST, levels_of, run_make
 from .tools import TOOLS
 
 NO_CODE, NO_HEIGHT = -32768, -9999  # what a made dir, and made heights, have where there is no data
@@ -37,15 +36,14 @@ def make(
     layer = layer_of("dem", dem, nodata, drivers_of(allow_drivers))
     check_outs(outs, PRODUCTS, [layer], codes)
     check_grid(layer, layer)
-    unit, kind = find_unit(layer, bits=BITS)
+    unit, kind = find_unit(layer)
     with tempfile.TemporaryDirectory(prefix="drain-gis-") as work:
         job, one = Job(Program(program), Path(work), codes), Set(Path(work), (layer.rows, layer.cols), PLAIN)
         one.take_heights(kind)
-        one.sinks = [(int(row), int(col)) for row, col in sinks or []]
+        job.sinks = list(sinks or [])
         made = Converted(job, one, {"dem": layer}, (), {}, False, unit, unit)
-        put_heights(made)
-        low = int(levels_of(one)[0])
-        products = run_make(job, one, lambda steps: steps.astype(np.int64) - low, Path(work))
+        put_ground(made)
+        products = job.program.make(one, job.work)
         for name, path in outs.items():
             with written_whole(path) as new:
                 done = heights(made, products["con"]) if name == "con" else numbers(made, name, products[name])
@@ -56,7 +54,6 @@ def heights(made: Converted, con: Rows) -> Written:
     """con in the numbers of dem: each height of the filled surface is one of the elevations."""
     levels = np.unique(np.concatenate([np.unique(found[~void]) for _, found, void in made.windows("dem")]))
     steps, nodata = made.scale.whole(levels, np.zeros(levels.shape, bool)), made.dem.nodata
-    plus = FIRST - steps[0]
     if nodata is None or not made.dem.holds(nodata) or (levels == nodata).any():
         nodata = NO_HEIGHT if made.dem.dtype.kind == "f" else int(np.iinfo(made.dem.dtype).min)
     if (levels == nodata).any():
@@ -64,8 +61,9 @@ def heights(made: Converted, con: Rows) -> Written:
 
     def parts() -> Iterator[tuple[int, Array]]:
         for rows, found, void in made.windows("dem"):
-            raised = levels[np.minimum(np.searchsorted(steps + plus, con[rows]), levels.size - 1)]
-            filled = np.where(con[rows] == made.scale.whole(found, void) + plus, found, raised)
+            filled = con[rows]
+            raised = levels[np.minimum(np.searchsorted(steps, filled), levels.size - 1)]
+            filled = np.where(filled == made.scale.whole(found, void), found, raised)
             yield rows.start, np.where(void, found.dtype.type(nodata), filled)
 
     return str(made.dem.dtype), nodata, parts()

@@ -7,9 +7,10 @@ import drain_gis
 import libraries
 import numpy as np
 import pytest
+import rasterio
 import worlds
 from conftest import drain_gis as command
-from drain_gis import heights, sets, tiles
+from drain_gis import heights, sets
 from drain_gis.layers import Layer, layer_of
 from drain_gis.rules import NOT_FILLED
 
@@ -141,6 +142,7 @@ DEGREES = worlds.Affine(1 / 3600, 0, 11.5, 0, -1 / 3600, 47.25)
     [
         pytest.param((GROUND + 900).astype("f4"), 2**16, worlds.UTM, 32616, "steps of 2^-", id="float32 in UTM"),
         pytest.param((GROUND + 900).astype("f4"), 2**16, DEGREES, 4326, "steps of 2^-", id="float32 in degrees"),
+        pytest.param((GROUND + 900).round(3).astype("f4"), 2**16, worlds.UTM, 32616, "steps of 2^-", id="millimetres"),
         pytest.param((GROUND + 2500).round(2), 100, worlds.UTM, 32616, "hundredths", id="hundredths"),
         pytest.param((GROUND + 2500).round(4), 10_000, DEGREES, 4326, "10^-4", id="10^-4 in degrees"),
         pytest.param((GROUND * 1e6).astype("i4"), 1, worlds.UTM, 32616, "whole numbers", id="signed"),
@@ -150,7 +152,10 @@ DEGREES = worlds.Affine(1 / 3600, 0, 11.5, 0, -1 / 3600, 47.25)
 def test_elevations_of_32_bits_are_judged_whole(
     tmp_path: Path, z: Any, per: int, place: Any, epsg: Any, unit: str
 ) -> None:
-    """A rectangle with faults of steepness and without: each raster is judged, and a way that is less steep is found."""
+    """A rectangle with faults of steepness and without: each raster is judged, and a way that is less steep is found.
+
+    What drain-gis make writes of it is accepted, and has the surface of libraries.
+    """
     steps = np.rint(z.astype(np.float64) * per).astype(np.int64)
     steps -= steps.min()
     assert np.ptp(steps) > (20_000 if per == 100 else 65_535)
@@ -163,6 +168,12 @@ def test_elevations_of_32_bits_are_judged_whole(
     assert (done.status, f"accepted rows=17 cols=40 data={z.size} " in done.out) == (0, True), done
     assert "judged: con, dir, acc, bas over dem, 17 rows by 40 columns" in done.out
     assert unit in done.out.split("heights: ")[1]
+    made = {name: str(tmp_path / f"made-{name}.tif") for name in worlds.PRODUCTS}
+    assert command("make", "--to", "saga", paths["dem"], *made.values()).status == 0
+    done = command("judge", *worlds.words({"dem": paths["dem"], **made}, "saga"))
+    assert (done.status, "accepted rows=17 cols=40" in done.out) == (0, True), done
+    with rasterio.open(made["con"]) as file, rasterio.open(paths["dem"]) as dem:
+        assert np.array_equal(file.read(1), con) and file.profile == {**dem.profile, **COMPRESSED, "nodata": file.nodata}
     keys = libraries.slopes(world.con, world.void)
     best, codes = np.max(list(keys.values()), axis=0), world.dir.copy()
     row, col = np.argwhere(sum((0 < key) & (key < best) for key in keys.values()) > 0)[-1]
@@ -173,8 +184,8 @@ def test_elevations_of_32_bits_are_judged_whole(
         assert done.status == 1 and f"rule 10 Slope: 1 cell, first at row {row}, column {col}" in done.out, done
 
 
-def test_made_rasters_of_heights_that_tiles_hold(tmp_path: Path) -> None:
-    """Whole numbers and floats of any offset; one step more is refused."""
+def test_made_rasters_of_any_offset(tmp_path: Path) -> None:
+    """Whole numbers and floats; one step more than 32 bits hold is refused."""
     outs = {name: tmp_path / f"{name}.tif" for name in worlds.PRODUCTS}
     for factor, plus, kind in ((1, 9_000_000, "i4"), (0.1, 385, "f4"), (0.01, -400, "f8"), (2**-9, 3, "f4")):
         world = worlds.random_world(seed=8)
@@ -182,11 +193,11 @@ def test_made_rasters_of_heights_that_tiles_hold(tmp_path: Path) -> None:
         drain_gis.make(dem, outs, "esri")
         assert drain_gis.audit(dem, **outs, codes="esri", acc_counts="cells")
         assert np.array_equal(layer_of("con", outs["con"]).window(0, len(con))[0][~world.void], con.compressed())
-    drain_gis.make(np.array([[7, tiles.STEPS + 7]]), outs)
-    with pytest.raises(drain_gis.CannotJudge, match="65,535 whole numbers.*16 bits"):
-        drain_gis.make(np.array([[7, tiles.STEPS + 8]]), outs)
+    drain_gis.make(np.array([[1, 2**32 - 1]]), outs)
+    with pytest.raises(drain_gis.CannotJudge, match=f"{2**32 - 1:,} whole numbers, which 32 bits"):
+        drain_gis.make(np.array([[0, 2**32 - 1]]), outs)
     with pytest.raises(drain_gis.CannotJudge, match="whole --unit 1 rounds"):
-        drain_gis.make(np.array([[0.1, 9000.2]], np.float32), outs)
+        drain_gis.make(np.array([[0.1, 4e9]]), outs)
 
 
 @pytest.mark.parametrize("height", [2.0**53, 2.0**60, 1e300])

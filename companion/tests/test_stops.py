@@ -56,7 +56,7 @@ def test_whole_heights_on_a_full_disk_leave_nothing(tmp_path: Path) -> None:
 
 
 STEPS = [
-    ("import", "convert", "put_heights"), ("import", "convert", "put_labels"), ("import", "folder", "record_of"),
+    ("import", "convert", "put_ground"), ("import", "convert", "put_labels"), ("import", "folder", "record_of"),
     ("judge", "convert", "put_counts"), ("judge", "picture", "write_picture"), ("judge", "maps", "write_map"),
     ("judge", "report", "write_report"),
 ]  # fmt: skip
