@@ -142,7 +142,9 @@ DEGREES = worlds.Affine(1 / 3600, 0, 11.5, 0, -1 / 3600, 47.25)
     [
         pytest.param((GROUND + 900).astype("f4"), 2**16, worlds.UTM, 32616, "steps of 2^-", id="float32 in UTM"),
         pytest.param((GROUND + 900).astype("f4"), 2**16, DEGREES, 4326, "steps of 2^-", id="float32 in degrees"),
-        pytest.param((GROUND + 900).round(3).astype("f4"), 2**16, worlds.UTM, 32616, "steps of 2^-", id="millimetres"),
+        pytest.param(
+            (GROUND + 900).round(3).astype("f4"), 2**16, worlds.UTM, 32616, "steps of 2^-", id="millimetres"
+        ),
         pytest.param((GROUND + 2500).round(2), 100, worlds.UTM, 32616, "hundredths", id="hundredths"),
         pytest.param((GROUND + 2500).round(4), 10_000, DEGREES, 4326, "10^-4", id="10^-4 in degrees"),
         pytest.param((GROUND * 1e6).astype("i4"), 1, worlds.UTM, 32616, "whole numbers", id="signed"),
@@ -173,7 +175,8 @@ def test_elevations_of_32_bits_are_judged_whole(
     done = command("judge", *worlds.words({"dem": paths["dem"], **made}, "saga"))
     assert (done.status, "accepted rows=17 cols=40" in done.out) == (0, True), done
     with rasterio.open(made["con"]) as file, rasterio.open(paths["dem"]) as dem:
-        assert np.array_equal(file.read(1), con) and file.profile == {**dem.profile, **COMPRESSED, "nodata": file.nodata}
+        assert np.array_equal(file.read(1), con)
+        assert (file.crs, file.transform, file.shape, file.dtypes) == (dem.crs, dem.transform, dem.shape, dem.dtypes)
     keys = libraries.slopes(world.con, world.void)
     best, codes = np.max(list(keys.values()), axis=0), world.dir.copy()
     row, col = np.argwhere(sum((0 < key) & (key < best) for key in keys.values()) > 0)[-1]
