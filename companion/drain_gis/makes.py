@@ -18,7 +18,7 @@ from .heights import find_unit
 from .job import Converted, Job
 from .layers import DRIVERS, Layer, Level, drivers_of, layer_of, open_file
 from .maps import write_raster, written_whole
-from .sets import PLAIN, PRODUCTS, Rows, Set
+from .sets import PLAIN, PRODUCTS, Set
 from .tools import TOOLS
 
 NO_CODE, NO_HEIGHT = -32768, -9999  # what a made dir, and made heights, have where there is no data
@@ -50,7 +50,7 @@ def make(
                 write_raster(new, layer, *done)
 
 
-def heights(made: Converted, con: Rows) -> Written:
+def heights(made: Converted, con: Array) -> Written:
     """con in the numbers of dem: each height of the filled surface is one of the elevations."""
     levels = np.unique(np.concatenate([np.unique(found[~void]) for _, found, void in made.windows("dem")]))
     steps, nodata = made.scale.whole(levels, np.zeros(levels.shape, bool)), made.dem.nodata
@@ -69,7 +69,7 @@ def heights(made: Converted, con: Rows) -> Written:
     return str(made.dem.dtype), nodata, parts()
 
 
-def numbers(made: Converted, name: str, product: Rows) -> Written:
+def numbers(made: Converted, name: str, product: Array) -> Written:
     """dir in the codes of a tool; acc and bas as they are, 0 for no data."""
     tool, table = TOOLS[made.job.tool], np.full(256, NO_CODE, np.int16)
     for number, code in tool.codes.items():
