@@ -12,6 +12,7 @@ from .drain import Answer, Finding, accepted, rejected
 from .errors import DrainFailed
 from .job import Converted
 from .rules import NO_END, SOUND, Cell, Counted, cells, tally
+from .sets import release
 
 STOPS = {NO_CODE: "its number is no code", NO_DIRECTION: "it has no direction"}
 
@@ -132,6 +133,7 @@ class Flow:
                 through_text = f"{through:,} {'cell drains' if through == 1 else 'cells drain'} through it"
                 first = f"first at row {band.start + row}, column {col}: {counts[band][row, col]:,}, and {through_text}"
             many, lost, over = many + int((less != 0).sum()), max(lost, int(less.max())), max(over, -int(less.min()))
+        release([counts, self.acc, self.bas])
         sizes = [f"at most {cells(n)} {word}" for n, word in ((lost, "lost"), (over, "too many")) if n > 0]
         return [f"acc differs at {cells(many)}, {', '.join(sizes)}; {first}"] if many else []
 

@@ -45,7 +45,7 @@ class Surface:
     def own_ground_text(self) -> str:
         """Whether con drains at all: judged as its own ground, which a breached or sloped surface passes."""
         made, sizes = self.made, Sizes()
-        ground = made.set.another(made.job.work, np.where(made.data, self.con, self.blank))
+        ground = made.set.another(made.job.work, self.con, made.data)
         ground.sinks = [cell for cell in made.set.sinks if self.con[cell] != self.blank]
         own = Surface(made, ground)
         for top, rows in made.dem.windows():

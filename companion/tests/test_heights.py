@@ -203,6 +203,14 @@ def test_made_rasters_of_any_offset(tmp_path: Path) -> None:
         drain_gis.make(np.array([[0.1, 4e9]]), outs)
 
 
+def test_a_surface_in_another_unit_is_named() -> None:
+    """As of a tool that ran on centimetres: the answer asks for the unit."""
+    world = worlds.random_world(seed=3)
+    for dem, con, plus, text in ((1, 100, 0, "100 times"), (10, 1, 0, "0.1 times"), (1, 3.25, 0, "3.25 times"), (1, 1, 1, "")):
+        verdict = drain_gis.audit(world.masked("dem") * dem + 0.0, con=world.masked("con") * con + plus)
+        assert not verdict and (f"WARNING: con is mostly {text} dem" in str(verdict)) == bool(text), str(verdict)
+
+
 @pytest.mark.parametrize("height", [2.0**53, 2.0**60, 1e300])
 def test_heights_too_large_to_be_told_apart(height: float) -> None:
     a = np.full((1, 5), height)
