@@ -13,13 +13,7 @@ from conftest import drain_gis as command
 from drain_gis import heights, sets
 from drain_gis.layers import Layer, layer_of
 from drain_gis.rules import NOT_FILLED
-
-BIG = 2**53
-"""From here on double precision no longer holds all whole numbers."""
-
-# A ridge between two slopes.
-DEM = np.array([[1, 2, 3, 2, 1]], np.int32)
-CODES = np.array([[0, 16, 16, 1, 0]], np.uint8)
+from worlds import BIG, CODES, DEM
 
 
 def unit_of(a: Any) -> heights.Unit:
@@ -37,14 +31,23 @@ def test_all_numbers_stay_apart_and_exact_in_each_unit(kind: str, per: int) -> N
 
 
 @pytest.mark.parametrize(
-    ("factor", "plus"), [(0.1, 0), (0.01, 5.0), (0.001, -3.0), (1, 40000), (0.5, 0), (2**-7, 90), (1e-4, 9000)]
-)
-def test_a_whole_set_in_each_unit(factor: float, plus: float) -> None:
+    ("factor", "plus", "kind"),
+    [
+        (0.1, 0, "f8"), (0.01, 5.0, "f8"), (0.001, -3.0, "f8"), (1, 40000, "f8"), (0.5, 0, "f8"), (2**-7, 90, "f8"), (1e-4, 9000, "f8"),
+        (1, 9_000_000, "i4"), (0.1, 385, "f4"), (0.01, -400, "f8"), (2**-9, 3, "f4"),
+    ],
+)  # fmt: skip
+def test_a_whole_set_in_each_unit(tmp_path: Path, factor: float, plus: float, kind: str) -> None:
+    """It is judged, and made anew."""
     world = worlds.random_world(seed=12)
-    dem, con = (np.ma.array((a * factor + plus).round(7), mask=world.void) for a in (world.dem, world.con))
+    dem, con = (np.ma.array((a * factor + plus).round(7).astype(kind), mask=world.void) for a in (world.dem, world.con))
     rest = {name: world.masked(name) for name in ("dir", "acc", "bas")}
     assert drain_gis.audit(dem, con=con, **rest, codes="esri")
-    con[world.cells()[40]] += factor
+    outs = {name: tmp_path / f"{name}.tif" for name in worlds.PRODUCTS}
+    drain_gis.make(dem, outs, "esri")
+    assert drain_gis.audit(dem, **outs, codes="esri", acc_counts="cells")
+    assert np.array_equal(layer_of("con", outs["con"]).window(0, len(con))[0][~world.void], con.compressed())
+    con[world.cells()[40]] += np.array(factor, kind)
     assert not drain_gis.audit(dem, con=con, **rest, codes="esri")
 
 
@@ -187,15 +190,9 @@ def test_elevations_of_32_bits_are_judged_whole(
         assert done.status == 1 and f"rule 10 Slope: 1 cell, first at row {row}, column {col}" in done.out, done
 
 
-def test_made_rasters_of_any_offset(tmp_path: Path) -> None:
-    """Whole numbers and floats; one step more than 32 bits hold is refused."""
-    outs = {name: tmp_path / f"{name}.tif" for name in worlds.PRODUCTS}
-    for factor, plus, kind in ((1, 9_000_000, "i4"), (0.1, 385, "f4"), (0.01, -400, "f8"), (2**-9, 3, "f4")):
-        world = worlds.random_world(seed=8)
-        dem, con = (np.ma.array((a * factor + plus).astype(kind), mask=world.void) for a in (world.dem, world.con))
-        drain_gis.make(dem, outs, "esri")
-        assert drain_gis.audit(dem, **outs, codes="esri", acc_counts="cells")
-        assert np.array_equal(layer_of("con", outs["con"]).window(0, len(con))[0][~world.void], con.compressed())
+def test_heights_that_32_bits_do_not_hold_are_not_made(tmp_path: Path) -> None:
+    """All but one of the numbers of 32 bits are; one step more is refused."""
+    outs = {"con": tmp_path / "con.tif"}
     drain_gis.make(np.array([[1, 2**32 - 1]]), outs)
     with pytest.raises(drain_gis.CannotJudge, match=f"{2**32 - 1:,} whole numbers, which 32 bits"):
         drain_gis.make(np.array([[0, 2**32 - 1]]), outs)
@@ -206,7 +203,12 @@ def test_made_rasters_of_any_offset(tmp_path: Path) -> None:
 def test_a_surface_in_another_unit_is_named() -> None:
     """As of a tool that ran on centimetres: the answer asks for the unit."""
     world = worlds.random_world(seed=3)
-    for dem, con, plus, text in ((1, 100, 0, "100 times"), (10, 1, 0, "0.1 times"), (1, 3.25, 0, "3.25 times"), (1, 1, 1, "")):
+    for dem, con, plus, text in (
+        (1, 100, 0, "100 times"),
+        (10, 1, 0, "0.1 times"),
+        (1, 3.25, 0, "3.25 times"),
+        (1, 1, 1, ""),
+    ):
         verdict = drain_gis.audit(world.masked("dem") * dem + 0.0, con=world.masked("con") * con + plus)
         assert not verdict and (f"WARNING: con is mostly {text} dem" in str(verdict)) == bool(text), str(verdict)
 
