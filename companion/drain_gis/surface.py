@@ -24,8 +24,8 @@ class Surface:
     def off(self, rows: slice) -> Array:
         """How much con is above the least surface, in heights; NaN where one of them has none."""
         con, there = self.con[rows], self.made.data[rows] & (self.con[rows] != self.blank)
-        here, low = (self.made.scale.heights(np.where(there, steps, 0)) for steps in (con, self.least[rows]))
-        return np.where(there, here - low, np.nan)
+        above = self.made.scale.above(np.where(there, con, 0), np.where(there, self.least[rows], 0))
+        return np.where(there, above, np.nan)
 
     def text(self) -> tuple[bool, str]:
         """Whether con is the least surface; in words, with how far it is off."""

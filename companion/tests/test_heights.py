@@ -27,7 +27,7 @@ def test_all_numbers_stay_apart_and_exact_in_each_unit(kind: str, per: int) -> N
     a = (np.arange(-(1 << 15) + 1, 1 << 15) / per).astype(kind).reshape(5, -1)
     unit = unit_of(a)
     whole = unit.whole(a, a != a).ravel()
-    assert (np.diff(whole) > 0).all() and np.array_equal(unit.heights(whole).astype(kind), a.ravel())
+    assert (np.diff(whole) > 0).all() and np.array_equal((whole / unit.per).astype(kind), a.ravel())
 
 
 @pytest.mark.parametrize(
@@ -130,7 +130,8 @@ def test_whole_heights_of_64_bits_stay_apart(kind: str, plus: int) -> None:
     for cell, by in (((0, 1), 1), ((0, 2), -1)):
         con = dem.copy()
         con[cell] += np.array(by).astype(kind)
-        assert not drain_gis.audit(dem, con=con).accepted
+        verdict, text = drain_gis.audit(dem, con=con, parts=True), f"1 cell too {'high' if by > 0 else 'low'}, by at most 1 "
+        assert not verdict.accepted and text in verdict.parts["con"]
     spread = np.where(DEM == 3, np.array(2**62, kind), dem)
     assert drain_gis.audit(spread, con=spread)
     assert not drain_gis.audit(spread, con=np.where(DEM == 3, spread + np.array(1, kind), spread)).accepted
