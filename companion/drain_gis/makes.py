@@ -16,13 +16,13 @@ from .flow import Flow
 from .grids import check_grid
 from .heights import find_unit
 from .job import Converted, Job
-from .layers import DRIVERS, Layer, Level, drivers_of, layer_of, open_file
+from .layers import DRIVERS, Layer, Level, drivers_of, holds, layer_of, open_file
 from .maps import write_raster, written_whole
-from .sets import PLAIN, PRODUCTS, Set
+from .sets import PLAIN, PRODUCTS, Set, bounds
 from .tools import TOOLS
 
 NO_CODE, NO_HEIGHT = -32768, -9999  # what a made dir, and made heights, have where there is no data
-Written = tuple[str, float, Iterator[tuple[int, Array]]]  # type, no-data number, rows
+Written = tuple[str, float | None, Iterator[tuple[int, Array]]]  # type, no-data number, rows
 
 
 def make(
@@ -31,7 +31,7 @@ def make(
 ) -> None:  # fmt: skip
     """Writes the right con, dir, acc and bas of elevations: `outs` has a path for each that is wanted.
 
-    con has the type and the unit of dem, dir the codes of a tool. Raises CannotJudge, or DrainFailed.
+    con has the unit of dem, and its type or one of 32 bits; dir has the codes of a tool. Raises CannotJudge, or DrainFailed.
     """
     layer = layer_of("dem", dem, nodata, drivers_of(allow_drivers))
     check_outs(outs, PRODUCTS, [layer], codes)
@@ -53,20 +53,28 @@ def make(
 def heights(made: Converted, con: Array) -> Written:
     """con in the numbers of dem: each height of the filled surface is one of the elevations."""
     levels = np.unique(np.concatenate([np.unique(found[~void]) for _, found, void in made.windows("dem")]))
-    steps, nodata = made.scale.whole(levels, np.zeros(levels.shape, bool)), made.dem.nodata
-    if nodata is None or not made.dem.holds(nodata) or (levels == nodata).any():
-        nodata = NO_HEIGHT if made.dem.dtype.kind == "f" else int(np.iinfo(made.dem.dtype).min)
-    if (levels == nodata).any():
-        raise CannotJudge(f"dem has no number left for no data: {nodata} is a height")
+    steps, kind, own = made.scale.whole(levels, np.zeros(levels.shape, bool)), made.dem.dtype, made.dem.nodata
+    if kind.kind == "f":
+        kind = np.promote_types(kind, np.float32)
+        free: list[Any] = [own, NO_HEIGHT, float(np.finfo(kind).min)]
+    else:
+        if kind.itemsize == 8 and not made.data.all():  # rasterio writes no no-data number of 64 bits
+            kind = np.dtype(made.set.kinds["con"][0])
+        free = [own, *bounds(kind)]
+    free = [n for n in free if n is not None and holds(kind, n) and not (levels == n).any()]
+    if not free and not made.data.all():
+        raise CannotJudge(f"dem has no number left for no data: the least and the greatest of {kind} are heights")
+    nodata = free[0] if free else None
 
     def parts() -> Iterator[tuple[int, Array]]:
         for rows, found, void in made.windows("dem"):
             filled = con[rows]
             raised = levels[np.minimum(np.searchsorted(steps, filled), levels.size - 1)]
-            filled = np.where(filled == made.scale.whole(found, void), found, raised)
-            yield rows.start, np.where(void, found.dtype.type(nodata), filled)
+            filled = np.where(filled == made.scale.whole(found, void), found, raised).astype(kind)
+            filled[void] = nodata or 0
+            yield rows.start, filled
 
-    return str(made.dem.dtype), nodata, parts()
+    return str(kind), nodata, parts()
 
 
 def numbers(made: Converted, name: str, product: Array) -> Written:

@@ -130,7 +130,10 @@ def test_whole_heights_of_64_bits_stay_apart(kind: str, plus: int) -> None:
     for cell, by in (((0, 1), 1), ((0, 2), -1)):
         con = dem.copy()
         con[cell] += np.array(by).astype(kind)
-        verdict, text = drain_gis.audit(dem, con=con, parts=True), f"1 cell too {'high' if by > 0 else 'low'}, by at most 1 "
+        verdict, text = (
+            drain_gis.audit(dem, con=con, parts=True),
+            f"1 cell too {'high' if by > 0 else 'low'}, by at most 1 ",
+        )
         assert not verdict.accepted and text in verdict.parts["con"]
     spread = np.where(DEM == 3, np.array(2**62, kind), dem)
     assert drain_gis.audit(spread, con=spread)
@@ -189,6 +192,24 @@ def test_elevations_of_32_bits_are_judged_whole(
     for names in (("dem", "con", "dir"), ("dem", "dir")):
         done = command("judge", "--no-parts", *worlds.words({name: paths[name] for name in names}))
         assert done.status == 1 and f"rule 10 Slope: 1 cell, first at row {row}, column {col}" in done.out, done
+
+
+@pytest.mark.parametrize("kind", "? i1 u1 i2 u2 i4 u4 i8 u8 f2 f4 f8".split())
+def test_rasters_of_each_kind_of_numbers_are_made(tmp_path: Path, kind: str) -> None:
+    outs, world = {name: tmp_path / f"{name}.tif" for name in worlds.PRODUCTS}, worlds.random_world(seed=8)
+    dem = np.ma.array(world.dem.astype(kind), mask=world.void)
+    drain_gis.make(dem, outs)
+    assert drain_gis.audit(dem, **outs, codes="drain", acc_counts="cells")
+
+
+def test_a_no_data_number_is_none_of_the_heights(tmp_path: Path) -> None:
+    outs = {"con": tmp_path / "con.tif"}
+    for row, void in (([0, 255, 9], False), ([0, 9, 9], True), ([255, 9, 9], True)):
+        dem = np.ma.array([row], np.uint8, mask=[[False, False, void]])
+        drain_gis.make(dem, outs)
+        assert np.array_equal(layer_of("con", outs["con"]).window(0, 1)[1], dem.mask)
+    with pytest.raises(drain_gis.CannotJudge, match="no number left for no data"):
+        drain_gis.make(np.ma.array([[0, 255, 9]], np.uint8, mask=[[False, False, True]]), outs)
 
 
 def test_heights_that_32_bits_do_not_hold_are_not_made(tmp_path: Path) -> None:
