@@ -14,7 +14,7 @@ from .drain import Program
 from .errors import CannotJudge
 from .flow import Flow
 from .grids import check_grid
-from .heights import find_unit
+from .heights import Unit, find_unit
 from .job import Converted, Job
 from .layers import DRIVERS, Layer, Level, drivers_of, holds, layer_of, open_file
 from .maps import write_raster, written_whole
@@ -46,31 +46,36 @@ def make(
         products = job.program.make(one, job.work)
         for name, path in outs.items():
             with written_whole(path) as new:
-                done = heights(made, products["con"]) if name == "con" else numbers(made, name, products[name])
+                done = heights(made, unit, products["con"]) if name == "con" else numbers(made, name, products[name])
                 write_raster(new, layer, *done)
 
 
-def heights(made: Converted, con: Array) -> Written:
+def heights(made: Converted, unit: Unit, con: Array) -> Written:
     """con in the numbers of dem: each height of the filled surface is one of the elevations."""
-    levels = np.unique(np.concatenate([np.unique(found[~void]) for _, found, void in made.windows("dem")]))
-    steps, kind, own = made.scale.whole(levels, np.zeros(levels.shape, bool)), made.dem.dtype, made.dem.nodata
+    kind, is_single, free = made.dem.dtype, True, list[Any]([made.dem.nodata])
     if kind.kind == "f":
         kind = np.promote_types(kind, np.float32)
-        free: list[Any] = [own, NO_HEIGHT, float(np.finfo(kind).min)]
+        free += [NO_HEIGHT, float(np.finfo(kind).min)]
     else:
         if kind.itemsize == 8 and not made.data.all():  # rasterio writes no no-data number of 64 bits
             kind = np.dtype(made.set.kinds["con"][0])
-        free = [own, *bounds(kind)]
-    free = [n for n in free if n is not None and holds(kind, n) and not (levels == n).any()]
+        free += bounds(kind)
+    free = [number for number in free if number is not None and holds(kind, number)]
+    for _, found, void in made.windows("dem"):
+        there = found[~void]
+        with np.errstate(over="ignore"):
+            is_single = is_single and bool((there.astype(np.float32) == there).all())
+        free = [number for number in free if not (there == number).any()]
     if not free and not made.data.all():
         raise CannotJudge(f"dem has no number left for no data: the least and the greatest of {kind} are heights")
     nodata = free[0] if free else None
 
     def parts() -> Iterator[tuple[int, Array]]:
         for rows, found, void in made.windows("dem"):
-            filled = con[rows]
-            raised = levels[np.minimum(np.searchsorted(steps, filled), levels.size - 1)]
-            filled = np.where(filled == made.scale.whole(found, void), found, raised).astype(kind)
+            filled = raised = con[rows]
+            if kind.kind == "f":
+                raised = (filled / unit.per).astype(np.float32 if is_single else np.float64)
+            filled = np.where(filled == unit.whole(found, void), found, raised).astype(kind)
             filled[void] = nodata or 0
             yield rows.start, filled
 
