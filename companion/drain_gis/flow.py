@@ -97,13 +97,9 @@ class Flow:
 
     def shared_labels(self) -> Array:
         """The outlets whose label an earlier one has."""
-        labels, found = self.made.set["bas"], []
-        for band, _, _ in bands(*self.codes.shape):
-            rows, cols = np.nonzero((self.codes[band] == OUTLET) & self.drains(band))
-            found.append(((rows + band.start) * self.codes.shape[1] + cols, labels[band][rows, cols]))
-        end, label = (np.concatenate(one) for one in zip(*found))
-        end, label = end[kept := ~np.isin(end, self.lost)], label[kept]
-        later = np.ones(end.size, bool)
+        end = np.flatnonzero((self.codes == OUTLET) & self.data)
+        end = end[~np.isin(end, self.lost) & ~np.isin(self.bas.flat[end], self.cut)]
+        label, later = self.made.set["bas"].flat[end], np.ones(end.size, bool)
         later[np.unique(label, return_index=True)[1]] = False
         return np.asarray(end[later & (label != 0)])
 
