@@ -228,11 +228,7 @@ def test_what_is_made_is_right_by_libraries(terrain: Any, twos: int, kind: str, 
 
 
 @settings(max_examples=35)
-@given(
-    terrains(),
-    st.sampled_from(["f4", "f8"]),
-    st.sampled_from(["none", "higher", "lower"]),
-)
+@given(terrains(), st.sampled_from(["f4", "f8"]), st.sampled_from(["none", "higher", "lower"]))
 def test_surfaces_of_any_heights_are_that_of_libraries(terrain: Any, kind: str, changed: str) -> None:
     """Heights without a unit are judged by their ranks."""
     _, void, rng = terrain
