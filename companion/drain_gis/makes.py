@@ -47,7 +47,7 @@ def make(
         for name, path in outs.items():
             with written_whole(path) as new:
                 done = heights(made, unit, products["con"]) if name == "con" else numbers(made, name, products[name])
-                write_raster(new, layer, *done)
+                write_raster(new, layer, *done, is_scaled=name == "con")
 
 
 def heights(made: Converted, unit: Unit, con: Array) -> Written:
