@@ -12,7 +12,7 @@ from .drain import Answer, Finding, accepted, rejected
 from .errors import DrainFailed
 from .job import Converted
 from .rules import NO_END, SOUND, Cell, Counted, cells, tally
-from .sets import Rows
+from .sets import release
 
 STOPS = {NO_CODE: "its number is no code", NO_DIRECTION: "it has no direction"}
 
@@ -43,26 +43,17 @@ class Flow:
         self.acc, self.bas = found
         self.lost = np.unique(np.concatenate([self.stops, self.ring]))  # cells that end a path, and aren't outlets
         # The labels of the cells that don't drain.
-        self.cut = np.unique(self.values(self.bas, np.concatenate([self.ring, self.strange])))
+        self.cut = np.unique(self.bas.flat[np.concatenate([self.ring, self.strange])])
 
-    def derive(self) -> Answer | tuple[Rows, Rows]:
+    def derive(self) -> Answer | tuple[Array, Array]:
         """Has `drain` derive acc and bas; or the answer where a path doesn't end."""
         return self.made.job.program.derive(self.made.set, self.codes, self.made.job.work)
-
-    def values(self, product: Rows, at: Array) -> Array:
-        """The numbers of a product at some cells, in row order."""
-        rows, cols = np.divmod(np.sort(at), self.codes.shape[1])
-        found = [np.zeros(0, product.dtype)]
-        for band, _, _ in bands(*self.codes.shape) if len(at) else ():
-            first, last = np.searchsorted(rows, (band.start, band.stop))
-            found.append(product[band][rows[first:last] - band.start, cols[first:last]])
-        return np.concatenate(found)
 
     def lost_text(self) -> str:
         """How many cells don't drain, and why; "" where each does."""
         if not len(self.lost):
             return ""
-        many, stops = int(self.values(self.acc, self.lost).sum(dtype=np.int64)), len(self.stops)
+        many, stops = int(self.acc.flat[self.lost].sum(dtype=np.int64)), len(self.stops)
         text = f"{cells(many)} of {self.made.many:,} don't drain: {cells(len(self.ring))} in rings, {stops:,} at which a path stops"
         row, col = divmod(int(self.lost[0]), self.codes.shape[1])
         return f"{text}, first at row {row}, column {col}"
@@ -106,13 +97,9 @@ class Flow:
 
     def shared_labels(self) -> Array:
         """The outlets whose label an earlier one has."""
-        labels, found = self.made.set["bas"], []
-        for band, _, _ in bands(*self.codes.shape):
-            rows, cols = np.nonzero((self.codes[band] == OUTLET) & self.drains(band))
-            found.append(((rows + band.start) * self.codes.shape[1] + cols, labels[band][rows, cols]))
-        end, label = (np.concatenate(one) for one in zip(*found))
-        end, label = end[kept := ~np.isin(end, self.lost)], label[kept]
-        later = np.ones(end.size, bool)
+        end = np.flatnonzero((self.codes == OUTLET) & self.data)
+        end = end[~np.isin(end, self.lost) & ~np.isin(self.bas.flat[end], self.cut)]
+        label, later = self.made.set["bas"].flat[end], np.ones(end.size, bool)
         later[np.unique(label, return_index=True)[1]] = False
         return np.asarray(end[later & (label != 0)])
 
@@ -142,6 +129,7 @@ class Flow:
                 through_text = f"{through:,} {'cell drains' if through == 1 else 'cells drain'} through it"
                 first = f"first at row {band.start + row}, column {col}: {counts[band][row, col]:,}, and {through_text}"
             many, lost, over = many + int((less != 0).sum()), max(lost, int(less.max())), max(over, -int(less.min()))
+        release([counts, self.acc, self.bas])
         sizes = [f"at most {cells(n)} {word}" for n, word in ((lost, "lost"), (over, "too many")) if n > 0]
         return [f"acc differs at {cells(many)}, {', '.join(sizes)}; {first}"] if many else []
 

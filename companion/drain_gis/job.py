@@ -138,7 +138,7 @@ def note_misplaced(made: Converted, name: str) -> None:
         hint = "; this tool leaves the rim without directions: --complete-rim gives it some" if rim else ""
         hint = hint if missing < made.many else ": it has no number at all. Is its no-data number right?"
         if made.unit and made.dem.nodata is None and bare == {min(lowest)}:
-            number = f"{made.unit.heights(np.array(min(lowest))):.9g}"
+            number = f"{min(lowest) / made.unit.per:.9g}"
             hint += f"; there dem has {number}, its lowest height. If that means no data: --nodata dem={number}"
         made.note(f"{name}: no data at {cells(missing)} with an elevation (rule Missing){hint}")
     if over:

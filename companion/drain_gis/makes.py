@@ -9,21 +9,20 @@ from typing import Any
 import numpy as np
 
 from .around import NO_DIRECTION, OUTLET, Array
-from .convert import convert, put_heights
+from .convert import convert, put_ground
 from .drain import Program
 from .errors import CannotJudge
 from .flow import Flow
 from .grids import check_grid
-from .heights import find_unit
+from .heights import Unit, find_unit
 from .job import Converted, Job
-from .layers import DRIVERS, Layer, Level, drivers_of, layer_of, open_file
+from .layers import DRIVERS, Layer, Level, drivers_of, holds, layer_of, open_file
 from .maps import write_raster, written_whole
-from .sets import PLAIN, PRODUCTS, Rows, Set
-from .tiles import BITS, FIRST, levels_of, run_make
+from .sets import PLAIN, PRODUCTS, Set, bounds
 from .tools import TOOLS
 
 NO_CODE, NO_HEIGHT = -32768, -9999  # what a made dir, and made heights, have where there is no data
-Written = tuple[str, float, Iterator[tuple[int, Array]]]  # type, no-data number, rows
+Written = tuple[str, float | None, Iterator[tuple[int, Array]]]  # type, no-data number, rows
 
 
 def make(
@@ -32,46 +31,58 @@ def make(
 ) -> None:  # fmt: skip
     """Writes the right con, dir, acc and bas of elevations: `outs` has a path for each that is wanted.
 
-    con has the type and the unit of dem, dir the codes of a tool. Raises CannotJudge, or DrainFailed.
+    con has the unit of dem, and its type or one of 32 bits; dir has the codes of a tool. Raises CannotJudge, or DrainFailed.
     """
     layer = layer_of("dem", dem, nodata, drivers_of(allow_drivers))
     check_outs(outs, PRODUCTS, [layer], codes)
     check_grid(layer, layer)
-    unit, kind = find_unit(layer, bits=BITS)
+    unit, kind = find_unit(layer)
     with tempfile.TemporaryDirectory(prefix="drain-gis-") as work:
         job, one = Job(Program(program), Path(work), codes), Set(Path(work), (layer.rows, layer.cols), PLAIN)
         one.take_heights(kind)
-        one.sinks = [(int(row), int(col)) for row, col in sinks or []]
+        job.sinks = list(sinks or [])
         made = Converted(job, one, {"dem": layer}, (), {}, False, unit, unit)
-        put_heights(made)
-        low = int(levels_of(one)[0])
-        products = run_make(job, one, lambda steps: steps.astype(np.int64) - low, Path(work))
+        put_ground(made)
+        products = job.program.make(one, job.work)
         for name, path in outs.items():
             with written_whole(path) as new:
-                done = heights(made, products["con"]) if name == "con" else numbers(made, name, products[name])
-                write_raster(new, layer, *done)
+                done = heights(made, unit, products["con"]) if name == "con" else numbers(made, name, products[name])
+                write_raster(new, layer, *done, is_scaled=name == "con")
 
 
-def heights(made: Converted, con: Rows) -> Written:
+def heights(made: Converted, unit: Unit, con: Array) -> Written:
     """con in the numbers of dem: each height of the filled surface is one of the elevations."""
-    levels = np.unique(np.concatenate([np.unique(found[~void]) for _, found, void in made.windows("dem")]))
-    steps, nodata = made.scale.whole(levels, np.zeros(levels.shape, bool)), made.dem.nodata
-    plus = FIRST - steps[0]
-    if nodata is None or not made.dem.holds(nodata) or (levels == nodata).any():
-        nodata = NO_HEIGHT if made.dem.dtype.kind == "f" else int(np.iinfo(made.dem.dtype).min)
-    if (levels == nodata).any():
-        raise CannotJudge(f"dem has no number left for no data: {nodata} is a height")
+    kind, is_single, free = made.dem.dtype, True, list[Any]([made.dem.nodata])
+    if kind.kind == "f":
+        kind = np.promote_types(kind, np.float32)
+        free += [NO_HEIGHT, float(np.finfo(kind).min)]
+    else:
+        if kind.itemsize == 8 and not made.data.all():  # rasterio writes no no-data number of 64 bits
+            kind = np.dtype(made.set.kinds["con"][0])
+        free += bounds(kind)
+    free = [number for number in free if number is not None and holds(kind, number)]
+    for _, found, void in made.windows("dem"):
+        there = found[~void]
+        with np.errstate(over="ignore"):
+            is_single = is_single and bool((there.astype(np.float32) == there).all())
+        free = [number for number in free if not (there == number).any()]
+    if not free and not made.data.all():
+        raise CannotJudge(f"dem has no number left for no data: the least and the greatest of {kind} are heights")
+    nodata = free[0] if free else None
 
     def parts() -> Iterator[tuple[int, Array]]:
         for rows, found, void in made.windows("dem"):
-            raised = levels[np.minimum(np.searchsorted(steps + plus, con[rows]), levels.size - 1)]
-            filled = np.where(con[rows] == made.scale.whole(found, void) + plus, found, raised)
-            yield rows.start, np.where(void, found.dtype.type(nodata), filled)
+            filled = raised = con[rows]
+            if kind.kind == "f":
+                raised = (filled / unit.per).astype(np.float32 if is_single else np.float64)
+            filled = np.where(filled == unit.whole(found, void), found, raised).astype(kind)
+            filled[void] = nodata or 0
+            yield rows.start, filled
 
-    return str(made.dem.dtype), nodata, parts()
+    return str(kind), nodata, parts()
 
 
-def numbers(made: Converted, name: str, product: Rows) -> Written:
+def numbers(made: Converted, name: str, product: Array) -> Written:
     """dir in the codes of a tool; acc and bas as they are, 0 for no data."""
     tool, table = TOOLS[made.job.tool], np.full(256, NO_CODE, np.int16)
     for number, code in tool.codes.items():

@@ -1,4 +1,4 @@
-"""How many cells go down a steepest way, by the codes of each tool and by each distance: of a sample of rows.
+"""How many cells go down a steepest way, by the codes of each tool and by each distance; and the unit of con: of a sample of rows.
 
 It explains an answer, and decides nothing.
 """
@@ -54,6 +54,17 @@ def note_shares(made: Converted) -> None:
     if max(found) > found[0] + BETTER:
         text += ", so expect Slope. acc and bas along dir can be judged (leave out --dem and --con)"
     made.note(text)
+
+
+def other_unit(made: Converted) -> str:
+    """Whether con is in another unit than dem: asked after a rejection."""
+    if "con" not in made.judged or made.own_ground or made.unit is None:
+        return ""
+    some = slice(None, None, -(-made.data.size // SAMPLE))
+    dem, con = made.set["dem"][some], made.set["con"][some]
+    there = made.data[some] & (con != made.set.kinds["con"][1]) & (dem != 0)
+    ratio = float(np.median(con[there] / dem[there])) if there.any() else 1.0
+    return "" if 0.9 < ratio < 1.1 else f"WARNING: con is mostly {ratio:.4g} times dem: are both in one unit?"
 
 
 def better_codes(made: Converted) -> str:

@@ -11,21 +11,21 @@ from .drain import Finding
 from .job import Converted
 from .rules import NOT_FILLED, SOUND, Cell, cells, tally
 from .sets import Set
-from .tiles import least
 
 
 class Surface:
     """con and the least surface of a set, and what is known of their difference."""
 
     def __init__(self, made: Converted, ground: Set) -> None:
-        self.made, self.con, self.least = made, made.set["con"], least(made.job, ground)
+        self.made, self.con = made, made.set["con"]
+        self.least = made.job.program.make(ground, made.job.work)["con"]
         self.blank = made.set.kinds["con"][1]
 
     def off(self, rows: slice) -> Array:
         """How much con is above the least surface, in heights; NaN where one of them has none."""
         con, there = self.con[rows], self.made.data[rows] & (self.con[rows] != self.blank)
-        here, low = (self.made.scale.heights(np.where(there, steps, 0)) for steps in (con, self.least[rows]))
-        return np.where(there, here - low, np.nan)
+        above = self.made.scale.above(np.where(there, con, 0), np.where(there, self.least[rows], 0))
+        return np.where(there, above, np.nan)
 
     def text(self) -> tuple[bool, str]:
         """Whether con is the least surface; in words, with how far it is off."""
@@ -45,9 +45,8 @@ class Surface:
     def own_ground_text(self) -> str:
         """Whether con drains at all: judged as its own ground, which a breached or sloped surface passes."""
         made, sizes = self.made, Sizes()
-        ground = made.set.another(made.job.work, made.set.kinds["con"])
+        ground = made.set.another(made.job.work, self.con, made.data)
         ground.sinks = [cell for cell in made.set.sinks if self.con[cell] != self.blank]
-        np.copyto(ground.add("dem"), self.con, where=made.data)
         own = Surface(made, ground)
         for top, rows in made.dem.windows():
             sizes.add(own.off(slice(top, top + rows)))

@@ -18,6 +18,7 @@ from drain_gis.maps import write_map
 from drain_gis.picture import Map, draw, legend_of, write_picture
 from drain_gis.report import write_report
 from drain_gis.rules import RULES
+from matplotlib.backends.backend_agg import FigureCanvasAgg
 from matplotlib.colors import to_rgb
 from matplotlib.image import imread
 from skimage.color import deltaE_ciede2000, xyz2lab
@@ -169,9 +170,11 @@ def test_the_legend_says_why_fewer_cells_are_drawn_and_that_no_rule_fails(reject
 def test_no_text_of_a_picture_is_cut_off(rejected: drain_gis.Verdict) -> None:
     rejected.rules, rejected.made.dem.paths = {**rejected.rules, 14: (10**9, (0, 0))}, ["an elevation model.tif" * 9]
     figure = draw(rejected)
-    texts = [*figure.texts, *figure.legends[0].get_texts()]
-    ends = {one.get_text(): one.get_window_extent(figure.canvas.get_renderer()).x1 for one in texts}
-    assert len(ends) > 4 and {text: end for text, end in ends.items() if end > figure.bbox.x1} == {}
+    renderer = FigureCanvasAgg(figure).get_renderer()
+    axes, drawn_to = figure.axes[0], figure.get_tightbbox(renderer).x1 * figure.dpi
+    texts = [*axes.texts, *axes.get_legend().get_texts()]
+    ends = {one.get_text(): one.get_window_extent(renderer).x1 for one in texts}
+    assert len(ends) > 4 and {text: end for text, end in ends.items() if end > drawn_to} == {}
 
 
 @pytest.mark.parametrize("shape", [(1, 1), (1, 500), (3000, 3), (2, 9000), (37, 41)])

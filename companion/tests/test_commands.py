@@ -119,7 +119,7 @@ def test_no_output_takes_the_place_of_an_input(
         "judge --from saga --dem {dem} --con {con} --dir {dir} --inland-sinks", "judge {base}/nothere", "judge {base}", "judge {con}",
         "judge --from hydrosheds --con {con} --inland-sinks", "import --con {con}", "whole --unit 0.02 {dem} {base}/w.tif",
         "judge --acc {acc}", "make {dem}", "make {dem} {base}/x.tif", "derive {dir} {base}/acc.tif", "surface --con {con}",
-        "judge --con {con} --out {base}/none/r.html", "make {dem} {base}/none/con.tif", "whole {dem} {base}/none/w.tif",
+        "judge --con {con} --out {base}/none/r.html", "make {dem} {base}/none/con.tif", "make {dem} {base}/con.bil", "whole {dem} {base}/none/w.tif",
     ],
 )  # fmt: skip
 def test_faults_of_the_command_line(files: dict[str, str], tmp_path: Path, words: str) -> None:

@@ -9,13 +9,8 @@ import pytest
 import worlds
 from conftest import drain_gis as command
 from drain_gis.tools import TOOLS
+from worlds import BIG, CODES, DEM
 
-BIG = 2**53
-"""From here on double precision no longer holds all whole numbers."""
-
-# Two basins: a ridge between two slopes.
-DEM = np.array([[1, 2, 3, 2, 1]], np.int32)
-CODES = np.array([[0, 16, 16, 1, 0]], np.uint8)
 ACC = np.array([[3, 2, 1, 1, 2]], np.int64)
 BAS = np.array([[1, 1, 1, 2, 2]], np.int64)
 FEET, DEGREES = 2277, worlds.Affine(0.5, 0, 10, 0, -0.5, 50)

@@ -40,6 +40,14 @@ def test_a_rim_without_directions_is_completed_only_on_request() -> None:
     assert verdict and any(f"{rim.sum()} cells at the rim" in note for note in verdict.notes)
 
 
+def test_a_rim_is_completed_by_drops_of_32_bits() -> None:
+    """Twice the square of the first drop has 65 bits."""
+    dem = np.array([[2**32 - 2, 0], [2**31, 2**31]])
+    bare = np.ma.masked_all(dem.shape, np.uint8)
+    verdict = drain_gis.audit(dem, con=dem, dir=bare, complete_rim=True, codes="esri")
+    assert verdict and any("4 cells at the rim" in note for note in verdict.notes), verdict
+
+
 def test_sinks() -> None:
     assert drain_gis.audit(BOWL, con=BOWL, dir=DOWN, sinks=[(2, 2)], codes="esri")
     assert not drain_gis.audit(BOWL, con=BOWL, dir=DOWN, codes="esri")

@@ -178,6 +178,16 @@ def test_formats_of_the_tools_are_read(tmp_path: Path, level: dict[str, str]) ->
     assert command("judge", "--dem", grass, "--con", level["con"]).status == 0
 
 
+def test_made_heights_have_the_scale_of_the_elevations(tmp_path: Path, level: dict[str, str]) -> None:
+    with rasterio.open(level["dem"], "r+") as file:
+        file.scales, file.offsets = [0.01], [100]
+    made = {"con": tmp_path / "made-con.tif", "dir": tmp_path / "made-dir.tif"}
+    assert command("make", level["dem"], *made.values()).status == 0
+    assert command("judge", *worlds.words({"dem": level["dem"], **made})).status == 0
+    with rasterio.open(made["con"]) as con, rasterio.open(made["dir"]) as codes:
+        assert (con.scales, con.offsets, codes.scales) == ((0.01,), (100.0,), (1.0,))
+
+
 def test_bands_and_scales_are_refused(tmp_path: Path, level: dict[str, str]) -> None:
     with rasterio.open(tmp_path / "two.tif", "w", driver="GTiff", height=23, width=31, count=2, dtype="uint8") as file:
         file.write(np.ones((2, 23, 31), np.uint8))

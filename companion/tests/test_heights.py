@@ -7,18 +7,13 @@ import drain_gis
 import libraries
 import numpy as np
 import pytest
+import rasterio
 import worlds
 from conftest import drain_gis as command
-from drain_gis import heights, sets, tiles
+from drain_gis import heights, sets
 from drain_gis.layers import Layer, layer_of
 from drain_gis.rules import NOT_FILLED
-
-BIG = 2**53
-"""From here on double precision no longer holds all whole numbers."""
-
-# A ridge between two slopes.
-DEM = np.array([[1, 2, 3, 2, 1]], np.int32)
-CODES = np.array([[0, 16, 16, 1, 0]], np.uint8)
+from worlds import BIG, CODES, DEM
 
 
 def unit_of(a: Any) -> heights.Unit:
@@ -32,18 +27,27 @@ def test_all_numbers_stay_apart_and_exact_in_each_unit(kind: str, per: int) -> N
     a = (np.arange(-(1 << 15) + 1, 1 << 15) / per).astype(kind).reshape(5, -1)
     unit = unit_of(a)
     whole = unit.whole(a, a != a).ravel()
-    assert (np.diff(whole) > 0).all() and np.array_equal(unit.heights(whole).astype(kind), a.ravel())
+    assert (np.diff(whole) > 0).all() and np.array_equal((whole / unit.per).astype(kind), a.ravel())
 
 
 @pytest.mark.parametrize(
-    ("factor", "plus"), [(0.1, 0), (0.01, 5.0), (0.001, -3.0), (1, 40000), (0.5, 0), (2**-7, 90), (1e-4, 9000)]
-)
-def test_a_whole_set_in_each_unit(factor: float, plus: float) -> None:
+    ("factor", "plus", "kind"),
+    [
+        (0.1, 0, "f8"), (0.01, 5.0, "f8"), (0.001, -3.0, "f8"), (1, 40000, "f8"), (0.5, 0, "f8"), (2**-7, 90, "f8"), (1e-4, 9000, "f8"),
+        (1, 9_000_000, "i4"), (0.1, 385, "f4"), (0.01, -400, "f8"), (2**-9, 3, "f4"),
+    ],
+)  # fmt: skip
+def test_a_whole_set_in_each_unit(tmp_path: Path, factor: float, plus: float, kind: str) -> None:
+    """It is judged, and made anew."""
     world = worlds.random_world(seed=12)
-    dem, con = (np.ma.array((a * factor + plus).round(7), mask=world.void) for a in (world.dem, world.con))
+    dem, con = (np.ma.array((a * factor + plus).round(7).astype(kind), mask=world.void) for a in (world.dem, world.con))
     rest = {name: world.masked(name) for name in ("dir", "acc", "bas")}
     assert drain_gis.audit(dem, con=con, **rest, codes="esri")
-    con[world.cells()[40]] += factor
+    outs = {name: tmp_path / f"{name}.tif" for name in worlds.PRODUCTS}
+    drain_gis.make(dem, outs, "esri")
+    assert drain_gis.audit(dem, **outs, codes="esri", acc_counts="cells")
+    assert np.array_equal(layer_of("con", outs["con"]).window(0, len(con))[0][~world.void], con.compressed())
+    con[world.cells()[40]] += np.array(factor, kind)
     assert not drain_gis.audit(dem, con=con, **rest, codes="esri")
 
 
@@ -126,7 +130,11 @@ def test_whole_heights_of_64_bits_stay_apart(kind: str, plus: int) -> None:
     for cell, by in (((0, 1), 1), ((0, 2), -1)):
         con = dem.copy()
         con[cell] += np.array(by).astype(kind)
-        assert not drain_gis.audit(dem, con=con).accepted
+        verdict, text = (
+            drain_gis.audit(dem, con=con, parts=True),
+            f"1 cell too {'high' if by > 0 else 'low'}, by at most 1 ",
+        )
+        assert not verdict.accepted and text in verdict.parts["con"]
     spread = np.where(DEM == 3, np.array(2**62, kind), dem)
     assert drain_gis.audit(spread, con=spread)
     assert not drain_gis.audit(spread, con=np.where(DEM == 3, spread + np.array(1, kind), spread)).accepted
@@ -141,6 +149,9 @@ DEGREES = worlds.Affine(1 / 3600, 0, 11.5, 0, -1 / 3600, 47.25)
     [
         pytest.param((GROUND + 900).astype("f4"), 2**16, worlds.UTM, 32616, "steps of 2^-", id="float32 in UTM"),
         pytest.param((GROUND + 900).astype("f4"), 2**16, DEGREES, 4326, "steps of 2^-", id="float32 in degrees"),
+        pytest.param(
+            (GROUND + 900).round(3).astype("f4"), 2**16, worlds.UTM, 32616, "steps of 2^-", id="millimetres"
+        ),
         pytest.param((GROUND + 2500).round(2), 100, worlds.UTM, 32616, "hundredths", id="hundredths"),
         pytest.param((GROUND + 2500).round(4), 10_000, DEGREES, 4326, "10^-4", id="10^-4 in degrees"),
         pytest.param((GROUND * 1e6).astype("i4"), 1, worlds.UTM, 32616, "whole numbers", id="signed"),
@@ -150,7 +161,10 @@ DEGREES = worlds.Affine(1 / 3600, 0, 11.5, 0, -1 / 3600, 47.25)
 def test_elevations_of_32_bits_are_judged_whole(
     tmp_path: Path, z: Any, per: int, place: Any, epsg: Any, unit: str
 ) -> None:
-    """A rectangle with faults of steepness and without: each raster is judged, and a way that is less steep is found."""
+    """A rectangle with faults of steepness and without: each raster is judged, and a way that is less steep is found.
+
+    What drain-gis make writes of it is accepted, and has the surface of libraries.
+    """
     steps = np.rint(z.astype(np.float64) * per).astype(np.int64)
     steps -= steps.min()
     assert np.ptp(steps) > (20_000 if per == 100 else 65_535)
@@ -163,6 +177,13 @@ def test_elevations_of_32_bits_are_judged_whole(
     assert (done.status, f"accepted rows=17 cols=40 data={z.size} " in done.out) == (0, True), done
     assert "judged: con, dir, acc, bas over dem, 17 rows by 40 columns" in done.out
     assert unit in done.out.split("heights: ")[1]
+    made = {name: str(tmp_path / f"made-{name}.tif") for name in worlds.PRODUCTS}
+    assert command("make", "--to", "saga", paths["dem"], *made.values()).status == 0
+    done = command("judge", *worlds.words({"dem": paths["dem"], **made}, "saga"))
+    assert (done.status, "accepted rows=17 cols=40" in done.out) == (0, True), done
+    with rasterio.open(made["con"]) as file, rasterio.open(paths["dem"]) as dem:
+        assert np.array_equal(file.read(1), con)
+        assert (file.crs, file.transform, file.shape, file.dtypes) == (dem.crs, dem.transform, dem.shape, dem.dtypes)
     keys = libraries.slopes(world.con, world.void)
     best, codes = np.max(list(keys.values()), axis=0), world.dir.copy()
     row, col = np.argwhere(sum((0 < key) & (key < best) for key in keys.values()) > 0)[-1]
@@ -173,20 +194,45 @@ def test_elevations_of_32_bits_are_judged_whole(
         assert done.status == 1 and f"rule 10 Slope: 1 cell, first at row {row}, column {col}" in done.out, done
 
 
-def test_made_rasters_of_heights_that_tiles_hold(tmp_path: Path) -> None:
-    """Whole numbers and floats of any offset; one step more is refused."""
-    outs = {name: tmp_path / f"{name}.tif" for name in worlds.PRODUCTS}
-    for factor, plus, kind in ((1, 9_000_000, "i4"), (0.1, 385, "f4"), (0.01, -400, "f8"), (2**-9, 3, "f4")):
-        world = worlds.random_world(seed=8)
-        dem, con = (np.ma.array((a * factor + plus).astype(kind), mask=world.void) for a in (world.dem, world.con))
-        drain_gis.make(dem, outs, "esri")
-        assert drain_gis.audit(dem, **outs, codes="esri", acc_counts="cells")
-        assert np.array_equal(layer_of("con", outs["con"]).window(0, len(con))[0][~world.void], con.compressed())
-    drain_gis.make(np.array([[7, tiles.STEPS + 7]]), outs)
-    with pytest.raises(drain_gis.CannotJudge, match="65,535 whole numbers.*16 bits"):
-        drain_gis.make(np.array([[7, tiles.STEPS + 8]]), outs)
+@pytest.mark.parametrize("kind", "? i1 u1 i2 u2 i4 u4 i8 u8 f2 f4 f8".split())
+def test_rasters_of_each_kind_of_numbers_are_made(tmp_path: Path, kind: str) -> None:
+    outs, world = {name: tmp_path / f"{name}.tif" for name in worlds.PRODUCTS}, worlds.random_world(seed=8)
+    dem = np.ma.array(world.dem.astype(kind), mask=world.void)
+    drain_gis.make(dem, outs)
+    assert drain_gis.audit(dem, **outs, codes="drain", acc_counts="cells")
+
+
+def test_a_no_data_number_is_none_of_the_heights(tmp_path: Path) -> None:
+    outs = {"con": tmp_path / "con.tif"}
+    for row, void in (([0, 255, 9], False), ([0, 9, 9], True), ([255, 9, 9], True)):
+        dem = np.ma.array([row], np.uint8, mask=[[False, False, void]])
+        drain_gis.make(dem, outs)
+        assert np.array_equal(layer_of("con", outs["con"]).window(0, 1)[1], dem.mask)
+    with pytest.raises(drain_gis.CannotJudge, match="no number left for no data"):
+        drain_gis.make(np.ma.array([[0, 255, 9]], np.uint8, mask=[[False, False, True]]), outs)
+
+
+def test_heights_that_32_bits_do_not_hold_are_not_made(tmp_path: Path) -> None:
+    """All but one of the numbers of 32 bits are; one step more is refused."""
+    outs = {"con": tmp_path / "con.tif"}
+    drain_gis.make(np.array([[1, 2**32 - 1]]), outs)
+    with pytest.raises(drain_gis.CannotJudge, match=f"{2**32 - 1:,} whole numbers, which 32 bits"):
+        drain_gis.make(np.array([[0, 2**32 - 1]]), outs)
     with pytest.raises(drain_gis.CannotJudge, match="whole --unit 1 rounds"):
-        drain_gis.make(np.array([[0.1, 9000.2]], np.float32), outs)
+        drain_gis.make(np.array([[0.1, 4e9]]), outs)
+
+
+def test_a_surface_in_another_unit_is_named() -> None:
+    """As of a tool that ran on centimetres: the answer asks for the unit."""
+    world = worlds.random_world(seed=3)
+    for dem, con, plus, text in (
+        (1, 100, 0, "100 times"),
+        (10, 1, 0, "0.1 times"),
+        (1, 3.25, 0, "3.25 times"),
+        (1, 1, 1, ""),
+    ):
+        verdict = drain_gis.audit(world.masked("dem") * dem + 0.0, con=world.masked("con") * con + plus)
+        assert not verdict and (f"WARNING: con is mostly {text} dem" in str(verdict)) == bool(text), str(verdict)
 
 
 @pytest.mark.parametrize("height", [2.0**53, 2.0**60, 1e300])

@@ -13,7 +13,7 @@ import libraries
 import numpy as np
 import pytest
 import worlds
-from drain_gis import layers, tiles
+from drain_gis import layers
 from drain_gis.drain import Program
 from drain_gis.rules import NOT_FILLED
 from drain_gis.tools import TOOLS
@@ -205,24 +205,39 @@ def test_steepness_of_floats_is_that_of_libraries(terrain: Any, twos: int, kind:
     assert verdict.judged == ("con", "dir", "acc", "bas") and not verdict.dropped
 
 
+@settings(max_examples=40)
+@given(terrains(), st.integers(0, 20), st.sampled_from(["f4", "f8"]), st.sampled_from(list(TOOLS)), st.booleans())
+def test_what_is_made_is_right_by_libraries(terrain: Any, twos: int, kind: str, tool: str, has_sink: bool) -> None:
+    """con, dir, acc and bas of floats of 32 bits, on rectangles with voids, and with an inland sink."""
+    _, void, rng = terrain
+    steps = rng.integers(-(10**6), 9 * 10**6, void.shape)
+    dem = np.ma.array((steps / 2**twos).astype(kind), mask=void)
+    sinks = (tuple(map(int, np.argwhere(~void)[0])),) if has_sink else ()
+    with TemporaryDirectory() as folder:
+        outs = {name: Path(folder) / f"{name}.tif" for name in worlds.PRODUCTS}
+        drain_gis.make(dem, outs, tool, sinks=sinks)
+        assert drain_gis.audit(dem, **outs, sinks=sinks, codes=tool, acc_counts="cells")
+        made = {name: layers.layer_of(name, path).window(0, len(void)) for name, path in outs.items()}
+    assert all(np.array_equal(blank, void) for _, blank in made.values())
+    numbers = {name: np.where(void, BLANK, a) for name, (a, _) in made.items()}
+    numbers["con"] = np.where(void, BLANK, np.ldexp(made["con"][0].astype(np.float64), twos)).astype(np.int64)
+    meaning = {**TOOLS[tool].meaning(), BLANK: BLANK}
+    numbers["dir"] = np.vectorize(meaning.get, otypes=[np.int64])(numbers["dir"])
+    assert np.array_equal(numbers["con"][~void], libraries.least_surface(steps, void, sinks)[~void])
+    assert sinks or not libraries.faults(steps, void, numbers)
+
+
 @settings(max_examples=35)
-@given(
-    terrains(),
-    st.sampled_from(["f4", "f8"]),
-    st.sampled_from(["none", "higher", "lower"]),
-    st.sampled_from([7, 10**4]),
-)
-def test_surfaces_of_any_heights_are_that_of_libraries(terrain: Any, kind: str, changed: str, size: int) -> None:
-    """Heights without a unit are judged by their ranks; where they are many, the least surface is made in slices."""
+@given(terrains(), st.sampled_from(["f4", "f8"]), st.sampled_from(["none", "higher", "lower"]))
+def test_surfaces_of_any_heights_are_that_of_libraries(terrain: Any, kind: str, changed: str) -> None:
+    """Heights without a unit are judged by their ranks."""
     _, void, rng = terrain
     z = (rng.random(void.shape) * 100).astype(kind)
     least = libraries.least_surface(z.astype(np.float64), void).astype(kind)
     con, cell = least.copy(), tuple(np.argwhere(~void)[rng.integers((~void).sum())])
     if changed != "none":
         con[cell] = np.nextafter(con[cell], np.array(1e9 if changed == "higher" else -1e9, kind))
-    with pytest.MonkeyPatch.context() as patch:
-        patch.setattr(tiles, "STEPS", size)
-        verdict = drain_gis.audit(np.ma.array(z, mask=void), con=np.ma.array(con, mask=void), parts=True)
+    verdict = drain_gis.audit(np.ma.array(z, mask=void), con=np.ma.array(con, mask=void), parts=True)
     assert bool(verdict) == (changed == "none")
     if not verdict:
         others = {tuple(at): verdict.map[tuple(at)] for at in np.argwhere(verdict.map % 255)}

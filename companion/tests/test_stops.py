@@ -38,7 +38,8 @@ def test_a_full_disk_leaves_nothing(tmp_path: Path) -> None:
     out, temporary = tmp_path / "out", tmp_path / "tmp"
     temporary.mkdir()
     for room in (0, 200, 4000):
-        for words in (["import", *SAGA, out], ["judge", *SAGA, *outputs(tmp_path)]):
+        made = ["make", FIXTURES / "dem.tif", tmp_path / "con.tif", tmp_path / "dir.tif"]
+        for words in (["import", *SAGA, out], ["judge", *SAGA, *outputs(tmp_path)], made):
             done = start(*words, room=room, TMPDIR=str(temporary))
             assert (done.status, "failed: " in done.error) == (3, True), (room, done)
             assert list(tmp_path.iterdir()) == [temporary] and not list(temporary.iterdir()), (room, words[0])
@@ -56,7 +57,7 @@ def test_whole_heights_on_a_full_disk_leave_nothing(tmp_path: Path) -> None:
 
 
 STEPS = [
-    ("import", "convert", "put_heights"), ("import", "convert", "put_labels"), ("import", "folder", "record_of"),
+    ("import", "convert", "put_ground"), ("import", "convert", "put_labels"), ("import", "folder", "record_of"),
     ("judge", "convert", "put_counts"), ("judge", "picture", "write_picture"), ("judge", "maps", "write_map"),
     ("judge", "report", "write_report"),
 ]  # fmt: skip

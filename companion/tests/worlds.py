@@ -13,6 +13,10 @@ from rasterio.transform import Affine
 UTM = Affine(30, 0, 500000, 0, -30, 4000000)
 PRODUCTS = ("con", "dir", "acc", "bas")
 Cell = tuple[int, int]
+BIG = 2**53  # from here on double precision no longer holds all whole numbers
+# Two basins: a ridge between two slopes.
+DEM = np.array([[1, 2, 3, 2, 1]], np.int32)
+CODES = np.array([[0, 16, 16, 1, 0]], np.uint8)
 
 
 @dataclass
