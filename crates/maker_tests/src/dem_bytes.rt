@@ -12,7 +12,8 @@ use std::test::Fail;
 
 /// A raster of 2 rows and 3 columns, of 16 bits, the most significant byte first, behind a byte and with two more in each
 /// row.
-const HEADER: &[u8] = b"NROWS 2\nNCOLS 3\nULXMAP 0\nULYMAP 1\nXDIM 1\nYDIM 1\nNBITS 16\nBYTEORDER M\nSKIPBYTES 1\nTOTALROWBYTES 8\n";
+const HEADER: &[u8] =
+    b"NROWS 2\nNCOLS 3\nULXMAP 0\nULYMAP 1\nXDIM 1\nYDIM 1\nNBITS 16\nBYTEORDER M\nSKIPBYTES 1\nTOTALROWBYTES 8\n";
 
 /// Its heights are 7, -32768, 5 and 6, -2, 5.
 static BODY: [u8; 15] = [9, 0, 7, 128, 0, 0, 5, 9, 9, 0, 6, 255, 254, 0, 5];
