@@ -142,6 +142,7 @@ class Faults:
         words = ["explain", "--side", "3", "--products", str(self.apart), str(self.tile), str(self.other)]
         self.explain_seam, self.seam_object = (Run(drain, [*words, *form], "", status=2) for form in ([], ["--json"]))
         self.window, self.window_over = (self.window_run("0,0,3,2", "e", self.made / "report.txt", "cols=2 data=3 raised=0 outlets=3") for _ in range(2))
+        self.window_dem = Run(drain, [*self.window.words[:7], "--at", "7,5", *given], self.window.line)
         self.reports, self.texts = [scratch / "west.txt", scratch / "east.txt"], []
         self.merge = Run(drain, ["merge", *map(str, self.reports)], self.check.line)
         self.merge_listed = Run(drain, [*self.merge.words, *self.listing], "refused SinkLeftOut 1\n", status=2)
@@ -357,6 +358,7 @@ class Faults:
         makers = [self.make, self.make_listed, self.make_over, self.make_dem, self.derive, self.derive_over, self.window, self.window_over]
         explained = [self.explain, self.explain_object, self.explain_over]
         judged = [self.check, self.audit, *self.parts, *self.dems, self.check_listed, self.audit_listed, self.con_listed, self.merge, self.merge_listed]
+        makers.append(self.window_dem)
         runs = [*judged, *explained, *makers, self.fill, self.header]
         self.makers = makers
         self.calls = {call: runs for call in TELLS}
@@ -371,6 +373,7 @@ class Faults:
         self.over[self.derive_over] = {file: b"of before" for file in self.right[self.derive]}
         self.over[self.window_over] = {"report.txt": b"of before"}
         self.over[self.explain_over] = {"faults.hdr": b"of before", "faults.bil": b"of before"}
+        self.learn(self.window_dem)
         for run in (self.make_over, self.derive_over, self.window_over, self.explain_over):
             self.learn(run)
         self.part()

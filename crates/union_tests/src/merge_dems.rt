@@ -8,25 +8,38 @@ use drain_merge::UnionSinks;
 use drain_union::{Decimal, DemPart, UnionGrid};
 use std::test::Fail;
 
-/// A whole number of units.
-const fn whole(units: i64) -> Decimal {
-    Decimal { units, parts: 0 }
-}
-
 /// The part that is the whole raster, of pixels 30 wide and 20 high.
 const PART: DemPart = DemPart {
     at: FIRST,
-    ulx: whole(500015),
-    uly: whole(-9990),
-    xdim: whole(30),
-    ydim: whole(20),
+    ulx: Decimal {
+        units: 500015,
+        parts: 0,
+    },
+    uly: Decimal {
+        units: -9990,
+        parts: 0,
+    },
+    xdim: Decimal {
+        units: 30,
+        parts: 0,
+    },
+    ydim: Decimal {
+        units: 20,
+        parts: 0,
+    },
 };
 
 /// The part that begins in row 1 and column 2.
 const OTHER: DemPart = DemPart {
     at: Cell { row: 1, col: 2 },
-    ulx: whole(500075),
-    uly: whole(-10010),
+    ulx: Decimal {
+        units: 500075,
+        parts: 0,
+    },
+    uly: Decimal {
+        units: -10010,
+        parts: 0,
+    },
     ..PART
 };
 
@@ -140,7 +153,10 @@ static PARTS: [(DemPart, &str); 17] = [
     ),
     (
         DemPart {
-            ydim: whole(40),
+            ydim: Decimal {
+                units: 40,
+                parts: 0,
+            },
             ..PART
         },
         "refused OtherGrid 3",
@@ -148,21 +164,30 @@ static PARTS: [(DemPart, &str); 17] = [
     // A number that no header has.
     (
         DemPart {
-            ulx: whole(10000000001),
+            ulx: Decimal {
+                units: 10000000001,
+                parts: 0,
+            },
             ..PART
         },
         "refused OtherGrid 3",
     ),
     (
         DemPart {
-            uly: whole(-9223372036854775808),
+            uly: Decimal {
+                units: -9223372036854775808,
+                parts: 0,
+            },
             ..PART
         },
         "refused OtherGrid 3",
     ),
     (
         DemPart {
-            xdim: whole(9223372036854775807),
+            xdim: Decimal {
+                units: 9223372036854775807,
+                parts: 0,
+            },
             ..PART
         },
         "refused OtherGrid 3",
@@ -207,7 +232,10 @@ fn tiles_and_parts(rt: HostRuntime) -> Result<(), Fail> {
     };
     let of_none = Window {
         grid: UnionGrid::Dem(DemPart {
-            xdim: whole(10000000001),
+            xdim: Decimal {
+                units: 10000000001,
+                parts: 0,
+            },
             ..PART
         }),
         ..NW

@@ -4,9 +4,10 @@ use crate::agree::{same, same_line};
 use crate::window_inputs::{Inputs, ON_SLOPE_DEM, SLOPE_DEM, right_slope};
 use crate::window_places::{Window, place};
 use drain_grid::Cell;
-use drain_union::{Decimal, DemPart, UnionGrid, WindowReport};
+use drain_union::{Decimal, DemPart, Place, UnionGrid, WindowReport};
 use drain_window::{WindowRefusal, judge_window_dem, window_line};
 use std::alloc::Global;
+use std::process::Abort;
 use std::test::Fail;
 
 /// The answer to a window of the part of a raster that begins at this cell of the whole.
@@ -81,7 +82,13 @@ fn lines(rt: HostRuntime) -> Result<(), Fail> {
         same_line(&rt, line, &window_line(&given), line);
     }
     inputs.acc[7] = 5;
-    let given = answer(rt.alloc(), SLOPE_DEM, &inputs.on_dem(""), (0, 1, 4, 3, "w"), AT)?;
+    let given = answer(
+        rt.alloc(),
+        SLOPE_DEM,
+        &inputs.on_dem(""),
+        (0, 1, 4, 3, "w"),
+        AT,
+    )?;
     let line = "rejected rule=13 Accumulation row=1 col=2";
     same_line(&rt, line, &window_line(&given), line);
     Ok(())
@@ -114,36 +121,50 @@ fn refusals(rt: HostRuntime) -> Result<(), Fail> {
     Ok(())
 }
 
-/// The place in the whole, the part's place by its header, and sinks and outlets in the whole.
+/// The part, by its header.
+const PART: DemPart = DemPart {
+    at: AT,
+    ulx: Decimal {
+        units: 0,
+        parts: -500000000000000,
+    },
+    uly: Decimal { units: 1, parts: 1 },
+    xdim: Decimal {
+        units: 0,
+        parts: 333333333333333,
+    },
+    ydim: Decimal {
+        units: 30,
+        parts: 0,
+    },
+};
+
+/// Fails the test if the report isn't on the part, with this place and this sink in the whole, and without outlets.
+fn same_report(rt: &impl Abort, given: &WindowReport, expected: Place, sink: Cell) {
+    same(rt, "place", given.report.place, expected);
+    same(rt, "grid", given.grid, UnionGrid::Dem(PART));
+    same(rt, "tiles", given.tiles.len(), 0);
+    same(rt, "sinks", given.report.sinks.as_slice(), &[sink]);
+    same(rt, "outlets", given.report.outlets.len(), 0);
+    same(rt, "seams", given.report.seams.len(), 8);
+}
+
+/// Rows and columns are those of the whole.
 #[test]
 fn reports(rt: HostRuntime) -> Result<(), Fail> {
     let inputs = right_slope();
-    let given = answer(rt.alloc(), SLOPE_DEM, &inputs.on_dem("1 2\n3 0\n"), (1, 0, 3, 3, "ne"), AT)??;
-    let mut expected = place((1, 0, 3, 3, "ne"))?;
+    let window = (1, 0, 3, 3, "ne");
+    let given = answer(
+        rt.alloc(),
+        SLOPE_DEM,
+        &inputs.on_dem("1 2\n3 0\n"),
+        window,
+        AT,
+    )??;
+    let mut expected = place(window)?;
     expected.top = 40001;
     expected.left = 7;
-    same(&rt, "place", given.report.place, expected);
-    let part = DemPart {
-        at: AT,
-        ulx: Decimal {
-            units: 0,
-            parts: -500000000000000,
-        },
-        uly: Decimal { units: 1, parts: 1 },
-        xdim: Decimal {
-            units: 0,
-            parts: 333333333333333,
-        },
-        ydim: Decimal {
-            units: 30,
-            parts: 0,
-        },
-    };
-    same(&rt, "grid", given.grid, UnionGrid::Dem(part));
-    same(&rt, "tiles", given.tiles.len(), 0);
     let sink = Cell { row: 40003, col: 7 };
-    same(&rt, "sinks", given.report.sinks.as_slice(), &[sink]);
-    same(&rt, "outlets", given.report.outlets.len(), 0);
-    same(&rt, "seams", given.report.seams.len(), 8);
+    same_report(&rt, &given, expected, sink);
     Ok(())
 }
