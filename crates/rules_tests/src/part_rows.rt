@@ -202,7 +202,7 @@ fn laned_view<'a>(
 ) -> RowView<'a>
     requires { AreRowNumbers (record { z = z.now; products = per_product (λ p. (of_product products p).now) }) }
 {
-    if lanes.take(z, &products, judged) {
+    if lanes.take(z, &products, judged, false) {
         RowView::new(z, marks, products, Some(lanes))
     } else {
         RowView::new(z, marks, products, None)

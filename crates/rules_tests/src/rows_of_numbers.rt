@@ -325,8 +325,13 @@ pub fn verdict_of_kinds(
     )
 }
 
-/// The same with ranks where the elevations are kept as these pixels.
-pub fn verdict_on_ground(alloc: Global, numbers: &[i64], ground: Ground) -> Result<Verdict, Fail> {
+/// The same where the elevations are kept as these pixels.
+pub fn verdict_on_ground(
+    alloc: Global,
+    numbers: &[i64],
+    ground: Ground,
+    judged: Judged,
+) -> Result<Verdict, Fail> {
     let marks = marks_of(&Sinks::none(alloc));
     verdict_either_way(
         alloc,
@@ -336,7 +341,7 @@ pub fn verdict_on_ground(alloc: Global, numbers: &[i64], ground: Ground) -> Resu
             marks: &marks,
             ground,
             kinds: AS_NUMBERS,
-            judged: Judged::AllWithRanks,
+            judged,
             is_laned: true,
         },
     )

@@ -5,7 +5,7 @@ use crate::examples::{Part, accepted, same};
 use crate::part_rows::Ground;
 use crate::rows_of_numbers::{level_rows, verdict_on_ground};
 use crate::unasked_ranks::put;
-use drain_grid::{Product, Rule, Verdict};
+use drain_grid::{Judged, Product, Rule, Verdict};
 use drain_pixels::PixelKind;
 use std::alloc::Global;
 use std::test::Fail;
@@ -24,7 +24,7 @@ fn rows_at(alloc: Global, height: i64) -> Result<Vec<i64>, Fail> {
 }
 
 /// Heights, and how their pixels are kept.
-static LEVELS: [(&str, i64, Ground); 9] = [
+static LEVELS: [(&str, i64, Ground); 13] = [
     ("a tile", 0, (PixelKind::Any, Some(-32768))),
     ("8 bits", 200, (PixelKind::U8, Some(255))),
     ("16 bits without voids", -7, (PixelKind::I16, None)),
@@ -37,6 +37,10 @@ static LEVELS: [(&str, i64, Ground); 9] = [
     ),
     ("32 bits", 8848000, (PixelKind::I32, Some(-32768))),
     ("32 bits without voids", -2147483648, (PixelKind::I32, None)),
+    ("one below 16 bits", -32768, (PixelKind::I32, None)),
+    ("one above 16 bits", 32768, (PixelKind::I32, None)),
+    ("the lowest of lanes", -2147483647, (PixelKind::I32, None)),
+    ("above lanes", 2147483648, (PixelKind::U32, Some(0))),
     ("the greatest", 4294967295, (PixelKind::U32, Some(0))),
 ];
 
@@ -45,7 +49,7 @@ static LEVELS: [(&str, i64, Ground); 9] = [
 fn level_rows_of_any_height(rt: HostRuntime) -> Result<(), Fail> {
     for &(name, height, ground) in &LEVELS {
         let numbers = rows_at(rt.alloc(), height)?;
-        let given = verdict_on_ground(rt.alloc(), &numbers, ground)?;
+        let given = verdict_on_ground(rt.alloc(), &numbers, ground, Judged::AllWithRanks)?;
         same(&rt, name, given, accepted(3, 600, 1800, 0, 1202));
     }
     Ok(())
@@ -88,7 +92,7 @@ fn a_void_by_any_number(rt: HostRuntime) -> Result<(), Fail> {
         ] {
             put(&mut numbers, (part, (1, 1), number))?;
         }
-        let given = verdict_on_ground(rt.alloc(), &numbers, ground)?;
+        let given = verdict_on_ground(rt.alloc(), &numbers, ground, Judged::AllWithRanks)?;
         same(&rt, name, given, accepted(3, 600, 1799, 0, 1202));
     }
     Ok(())
@@ -107,16 +111,75 @@ fn a_pit_of_the_lowest_height(rt: HostRuntime) -> Result<(), Fail> {
     let mut numbers = rows_at(rt.alloc(), 0)?;
     put(&mut numbers, (Part::Elevations, (1, 300), -32768))?;
     for &(name, ground) in &PITS {
-        let given = verdict_on_ground(rt.alloc(), &numbers, ground)?;
+        let given = verdict_on_ground(rt.alloc(), &numbers, ground, Judged::AllWithRanks)?;
         same(&rt, name, given, accepted(3, 600, 1800, 1, 1202));
     }
     let void = (PixelKind::I16, Some(-32768));
-    let given = verdict_on_ground(rt.alloc(), &numbers, void)?;
+    let given = verdict_on_ground(rt.alloc(), &numbers, void, Judged::AllWithRanks)?;
     let expected = Verdict::Rejected {
         rule: Rule::Accumulation,
         row: 0,
         col: 300,
     };
     same(&rt, "a void", given, expected);
+    Ok(())
+}
+
+/// A cell with two lower neighbours: its height, the drops to the north and to the north-east, and the code of the
+/// steeper way. By the first six, twice the one square and the other differ by 1, or pass 64 bits.
+static DROPS: [(&str, i64, i64, i64, i64); 9] = [
+    ("16 bits, across", 0, 13860, 19601, 128),
+    ("16 bits, along", 30000, 33461, 47321, 64),
+    ("32 bits, across", 0, 543339720, 768398401, 128),
+    ("32 bits, along", 2147483647, 1311738121, 1855077841, 64),
+    ("64 bits, along", 2147483647, 3037000500, 4294967294, 64),
+    ("64 bits, across", 2147483647, 3036999999, 4294967294, 128),
+    ("from one above 16 bits", 32768, 1, 65536, 128),
+    ("near", 8848000, 5, 7, 64),
+    ("near, across", 8848000, 2, 3, 128),
+];
+
+/// The numbers of three rows with these two drops beside column 300 of the second, whose code is this one.
+fn rows_with_drops(
+    alloc: Global,
+    (height, along, across): (i64, i64, i64),
+    code: i64,
+) -> Result<Vec<i64>, Fail> {
+    let mut numbers = rows_at(alloc, height)?;
+    for part in [Part::Elevations, Part::Con] {
+        put(&mut numbers, (part, (0, 300), height - along))?;
+        put(&mut numbers, (part, (0, 301), height - across))?;
+    }
+    for (place, beside) in [
+        ((0, 299), 1),
+        ((0, 300), 1),
+        ((0, 302), 16),
+        ((1, 299), 128),
+        ((1, 300), code),
+        ((1, 302), 32),
+    ] {
+        put(&mut numbers, (Part::Dir, place, beside))?;
+    }
+    Ok(numbers)
+}
+
+/// The steeper way is right, and the other one isn't.
+#[test]
+fn the_steeper_of_two_drops(rt: HostRuntime) -> Result<(), Fail> {
+    let ground = (PixelKind::I32, None);
+    for &(name, height, along, across, steeper) in &DROPS {
+        let drops = (height, along, across);
+        let right = rows_with_drops(rt.alloc(), drops, steeper)?;
+        let given = verdict_on_ground(rt.alloc(), &right, ground, Judged::ConDir)?;
+        same(&rt, name, given, accepted(3, 600, 1800, 0, 1199));
+        let wrong = rows_with_drops(rt.alloc(), drops, 192 - steeper)?;
+        let given = verdict_on_ground(rt.alloc(), &wrong, ground, Judged::ConDir)?;
+        let expected = Verdict::Rejected {
+            rule: Rule::Slope,
+            row: 1,
+            col: 300,
+        };
+        same(&rt, name, given, expected);
+    }
     Ok(())
 }
