@@ -41,7 +41,7 @@ def make(
         job, one = Job(Program(program), Path(work), codes), Set(Path(work), (layer.rows, layer.cols), PLAIN)
         one.take_heights(kind)
         job.sinks = list(sinks or [])
-        made = Converted(job, one, {"dem": layer}, (), {}, False, unit, unit)
+        made = Converted(job, one, {"dem": layer}, (), {}, False, unit)
         put_ground(made)
         products = job.program.make(one, job.work)
         for name, path in outs.items():
