@@ -73,9 +73,7 @@ class Converted:
     judged: tuple[str, ...]
     dropped: dict[str, str]  # name to the reason, of each raster that was given and can't be judged
     own_ground: bool
-    # None where no heights were given, or none that are whole in a unit: then con is judged by ranks, dir isn't.
-    unit: Unit | None = None
-    scale: Unit | Ranks = Unit()  # what turns heights into the numbers of the set: the unit, or ranks
+    scale: Unit | Ranks = Ranks(np.zeros(0))  # what turns heights into the numbers of the set
     notes: list[str] = field(default_factory=list)
     data: Array = field(default_factory=lambda: np.zeros((0, 0), bool))
     plus: int = 0
@@ -89,6 +87,11 @@ class Converted:
     def dem(self) -> Layer:
         """The elevations."""
         return self.layers["dem"]
+
+    @property
+    def unit(self) -> Unit | None:
+        """None where no heights were given, or none that are whole in a unit: then con is judged by ranks, dir isn't."""
+        return self.scale if isinstance(self.scale, Unit) else None
 
     @property
     def many(self) -> int:

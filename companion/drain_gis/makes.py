@@ -41,7 +41,7 @@ def make(
         job, one = Job(Program(program), Path(work), codes), Set(Path(work), (layer.rows, layer.cols), PLAIN)
         one.take_heights(kind)
         job.sinks = list(sinks or [])
-        made = Converted(job, one, {"dem": layer}, (), {}, False, unit, unit)
+        made = Converted(job, one, {"dem": layer}, (), {}, False, unit)
         put_ground(made)
         products = job.program.make(one, job.work)
         for name, path in outs.items():
@@ -52,15 +52,13 @@ def make(
 
 def heights(made: Converted, unit: Unit, con: Array) -> Written:
     """con in the numbers of dem: each height of the filled surface is one of the elevations."""
-    kind, is_single, free = made.dem.dtype, True, list[Any]([made.dem.nodata])
+    kind, is_single = made.dem.dtype, True
     if kind.kind == "f":
         kind = np.promote_types(kind, np.float32)
-        free += [NO_HEIGHT, float(np.finfo(kind).min)]
-    else:
-        if kind.itemsize == 8 and not made.data.all():  # rasterio writes no no-data number of 64 bits
-            kind = np.dtype(made.set.kinds["con"][0])
-        free += bounds(kind)
-    free = [number for number in free if number is not None and holds(kind, number)]
+    elif kind.itemsize == 8 and not made.data.all():  # rasterio writes no no-data number of 64 bits
+        kind = np.dtype(made.set.kinds["con"][0])
+    ends = (NO_HEIGHT, float(np.finfo(kind).min)) if kind.kind == "f" else bounds(kind)
+    free = [number for number in (made.dem.nodata, *ends) if number is not None and holds(kind, number)]
     for _, found, void in made.windows("dem"):
         there = found[~void]
         with np.errstate(over="ignore"):
