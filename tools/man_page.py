@@ -9,7 +9,7 @@ import subprocess
 import sys
 
 NAMES = {
-    "drain": "checks drainage rasters computed from SRTM elevation tiles",
+    "drain": "checks drainage rasters computed from a DEM",
     "drain-gis": "has drain judge drainage rasters of any tool",
 }
 

@@ -1,7 +1,6 @@
 //! The help texts of `drain explain`: what it does, its page, exit statuses and arguments.
 
-pub const ABOUT: &str =
-    "Explain what is wrong with the rasters of a mosaic, where, and at how many cells";
+pub const ABOUT: &str = "Explain what is wrong with rasters, where, and at how many cells";
 
 pub const LONG_ABOUT: &str =
     "Reads what drain check reads if the folder DIR has a file rnk.hdr or rnk.bil, and otherwise what drain audit

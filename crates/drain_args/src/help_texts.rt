@@ -42,11 +42,10 @@ Examples:
 }
 
 pub const ABOUT: &str =
-    "Checks drainage rasters computed from SRTM elevation tiles, and makes them. What an acceptance \
+    "Checks drainage rasters computed from SRTM tiles or any other DEM, and makes them. What an acceptance \
     means is proved, whichever tool made the rasters.";
 
-pub const AUDIT_ABOUT: &str =
-    "Audit the four rasters of a mosaic, whichever tool made them, against its tiles";
+pub const AUDIT_ABOUT: &str = "Audit the four rasters of elevations, whichever tool made them";
 
 pub const AUDIT_LONG_ABOUT: &str = judged_about!(
     "four",
@@ -69,8 +68,7 @@ pub const AUDIT_AFTER: &str = judged_after!(
     "audit"
 );
 
-pub const CHECK_ABOUT: &str =
-    "Check the four rasters of a mosaic and a certificate of ranks against its tiles";
+pub const CHECK_ABOUT: &str = "Check the four rasters of elevations and a certificate of ranks";
 
 pub const CHECK_LONG_ABOUT: &str = judged_about!(
     "five",

@@ -3,6 +3,7 @@
 
 pub mod clusters;
 pub(crate) mod commands;
+mod elevations;
 pub mod explain_texts;
 pub mod form;
 pub mod given;

@@ -2,10 +2,11 @@
 
 ghost use Rattle.std.specs.Prelude.{◌≡◌, ◌++◌, IfOk, IfSome, codes};
 ghost use Rattle.clap.specs.Matches.{found_of};
-ghost use Rattle.drain_args.specs.Requests.{AreElevations, AreInputs, AreTiles, IsDemOption, IsListOption, IsMap, IsMergeArgs, IsProductArgs, IsRequestOf, IsStart, map_ending};
+ghost use Rattle.drain_args.specs.Requests.{AreInputs, IsListOption, IsMap, IsMergeArgs, IsProductArgs, IsRequestOf, IsStart, map_ending};
 
 use crate::clusters::first_cluster;
 use crate::commands::{AUDIT, CHECK, CommandSpec, DERIVE, EXPLAIN, MAKE, WINDOW, command, program};
+use crate::elevations::elevations_given;
 use crate::given::{flag_given, option_given, paths_given, side_given, text_given};
 use crate::place_texts::{first_cell, inner_sides, window_place};
 use crate::{explain_texts, help_texts, window_texts};
@@ -192,56 +193,6 @@ fn product_args<'a, E>(given: &ArgMatches<'a>, option: &str, elevations: E) -> P
     }
 }
 
-/// The tiles.
-fn tiles_given<'a>(alloc: Global, given: &ArgMatches<'a>) -> Result<TileArgs<'a>, Error>
-    ensures { IfOk result (AreTiles (found_of given.now)) }
-{
-    let side = side_given(alloc, given)?;
-    let paths = paths_given(alloc, given, "tiles")?;
-    Ok(TileArgs { side, paths })
-}
-
-/// The path of a raster of elevations has another ending.
-#[derive(Clone, Copy)]
-struct OtherRaster;
-
-/// The raster of elevations, if one is named.
-fn dem_given<'a>(given: &ArgMatches<'a>) -> Result<Option<DemArgs<'a>>, OtherRaster>
-    ensures { IfOk result (IsDemOption (found_of given.now)) }
-{
-    let Some(path) = option_given(given, "dem") else {
-        return Ok(None);
-    };
-    if let Some(stem) = path.strip_suffix(".bil") {
-        return Ok(Some(DemArgs {
-            stem,
-            ending: DemEnding::Lower,
-        }));
-    }
-    match path.strip_suffix(".BIL") {
-        Some(stem) => Ok(Some(DemArgs {
-            stem,
-            ending: DemEnding::Upper,
-        })),
-        None => Err(OtherRaster),
-    }
-}
-
-/// The elevations of this command: one raster, or else tiles.
-fn elevations_given<'a>(
-    alloc: Global,
-    spec: &'static CommandSpec,
-    given: &ArgMatches<'a>,
-) -> Result<Elevations<'a>, Error>
-    ensures { IfOk result (AreElevations (found_of given.now)) }
-{
-    match dem_given(given) {
-        Ok(Some(dem)) => Ok(Elevations::Dem(dem)),
-        Ok(None) => Ok(Elevations::Tiles(tiles_given(alloc, given)?)),
-        Err(OtherRaster) => Err(bad_value(alloc, spec, help_texts::BAD_DEM)?),
-    }
-}
-
 /// The inputs of this command whose products are there already.
 fn inputs_given<'a>(
     alloc: Global,
@@ -299,7 +250,7 @@ fn list_given(given: &ArgMatches<'_>) -> Result<Option<Judged>, OtherList>
 }
 
 /// The usage error for the value of an argument of this command.
-fn bad_value(
+pub(crate) fn bad_value(
     alloc: Global,
     spec: &'static CommandSpec,
     message: &'static str,

@@ -8,7 +8,7 @@ use Rattle.drain_grid.specs.declared.judged.Judged.{Judged}
 use Rattle.drain_grid.specs.declared.judged.Rules.{Rules}
 use Rattle.drain_answer.specs.declared.refusal.Refusal.{Refusal}
 use Rattle.drain_verdict.specs.Inputs.{Inputs, as_five, Encode}
-use Rattle.drain_verdict.specs.GroundSets.{AreNotesIn, GroundSet, IsReadable, IsReadIn, IsRefusalIn, rules_in, set_grid, set_numbers, set_products}
+use Rattle.drain_verdict.specs.GroundSets.{AreNotesIn, GroundSet, IsReadable, IsRefusalIn, rules_in, set_grid, set_numbers, set_products}
 use Rattle.drain_verdict.specs.Meaning.{input_grid, input_products, nodata_numbers}
 use Rattle.drain_verdict.specs.TileGround.{set_of}
 use Rattle.drain_grid.specs.declared.cell.Cell.{Cell}
@@ -31,10 +31,6 @@ AreReadable i = IsReadable (set_of i)
 -- the refusal is the first that applies; out of memory and a failed read say nothing of the bytes
 abbrev pub IsRefusal : Inputs → Refusal → Type 0
 IsRefusal i refusal = IsRefusalIn (set_of i) refusal
-
--- the inputs are read to the end: no refusal applies, or this is the first
-abbrev pub IsReadAnswer : Inputs → Result (Unit {0}) Refusal → Type 0
-IsReadAnswer i answer = IsReadIn (set_of i) answer
 
 -- the answer of a check: the first refusal that applies, else the verdict
 abbrev pub IsAnswerIn : GroundSet → Result Verdict Refusal → Type 0

@@ -16,7 +16,6 @@ pub mod next_rows;
 pub mod outcome;
 pub mod part_auditor;
 mod placing;
-pub mod read_inputs;
 pub mod read_set;
 pub mod stages;
 mod tile_ground;
