@@ -147,8 +147,11 @@ fn rows_with_drops(
 ) -> Result<Vec<i64>, Fail> {
     let mut numbers = rows_at(alloc, height)?;
     for part in [Part::Elevations, Part::Con] {
-        put(&mut numbers, (part, (0, 300), height - along))?;
-        put(&mut numbers, (part, (0, 301), height - across))?;
+        put(&mut numbers, (part, (0, 300), height.saturating_sub(along)))?;
+        put(
+            &mut numbers,
+            (part, (0, 301), height.saturating_sub(across)),
+        )?;
     }
     for (place, beside) in [
         ((0, 299), 1),
@@ -172,7 +175,7 @@ fn the_steeper_of_two_drops(rt: HostRuntime) -> Result<(), Fail> {
         let right = rows_with_drops(rt.alloc(), drops, steeper)?;
         let given = verdict_on_ground(rt.alloc(), &right, ground, Judged::ConDir)?;
         same(&rt, name, given, accepted(3, 600, 1800, 0, 1199));
-        let wrong = rows_with_drops(rt.alloc(), drops, 192 - steeper)?;
+        let wrong = rows_with_drops(rt.alloc(), drops, 192i64.saturating_sub(steeper))?;
         let given = verdict_on_ground(rt.alloc(), &wrong, ground, Judged::ConDir)?;
         let expected = Verdict::Rejected {
             rule: Rule::Slope,
