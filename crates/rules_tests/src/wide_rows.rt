@@ -37,7 +37,7 @@ static LEVELS: [(&str, i64, Ground); 13] = [
     ),
     ("32 bits", 8848000, (PixelKind::I32, Some(-32768))),
     ("32 bits without voids", -2147483648, (PixelKind::I32, None)),
-    ("one below 16 bits", -32768, (PixelKind::I32, None)),
+    ("one below 16 bits", -32769, (PixelKind::I32, None)),
     ("one above 16 bits", 32768, (PixelKind::I32, None)),
     ("the lowest of lanes", -2147483647, (PixelKind::I32, None)),
     ("above lanes", 2147483648, (PixelKind::U32, Some(0))),
@@ -134,7 +134,7 @@ static DROPS: [(&str, i64, i64, i64, i64); 9] = [
     ("32 bits, along", 2147483647, 1311738121, 1855077841, 64),
     ("64 bits, along", 2147483647, 3037000500, 4294967294, 64),
     ("64 bits, across", 2147483647, 3036999999, 4294967294, 128),
-    ("from one above 16 bits", 32768, 1, 65536, 128),
+    ("from one above 16 bits", 32768, 1, 65537, 128),
     ("near", 8848000, 5, 7, 64),
     ("near, across", 8848000, 2, 3, 128),
 ];
