@@ -203,7 +203,6 @@ judge 'no memory for a raster to make products of' 3 "$scratch/want" $?
 : >"$scratch/out"
 "$drain" make "${lake[@]}" --out "$again" >/dev/full 2>"$scratch/err"
 judge 'a full standard output: make of the valley' 3 "$scratch/want" $?
-rm "$again"/*
 "$drain" make "${lake[@]}" --out "$again" >&- 2>"$scratch/err"
 judge 'a closed standard output: make of the valley' 3 "$scratch/want" $?
 judge_empty 'a closed standard output: make of the valley' "$again"
