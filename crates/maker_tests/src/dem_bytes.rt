@@ -44,8 +44,10 @@ fn refusal(alloc: Global, line: &[u8], body: &[u8]) -> Result<Option<Refusal>, A
 
 /// The products of it.
 fn made_with(alloc: Global, line: &[u8]) -> Result<ProductSet, Fail> {
-    let Ok(dem) = read_with(alloc, line, &BODY)? else {
-        return Err("the raster is refused".into());
+    let dem = match read_with(alloc, line, &BODY)? {
+        Ok(dem) => dem,
+        Err(Refusal::OutOfMemory) => return Err("failed OutOfMemory".into()),
+        Err(_) => return Err("the raster is refused".into()),
     };
     let sinks = Sinks::none(alloc);
     Ok(make_dem(alloc, &dem.raster, &sinks, &mut Unfollowed)?)
