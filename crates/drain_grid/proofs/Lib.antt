@@ -9,6 +9,7 @@ pub mod CellSets
 pub mod CellSums
 pub mod Chains
 pub mod Codes
+pub mod Distances
 pub mod Decisions
 pub mod Neighbors
 pub mod Runs

@@ -5,6 +5,7 @@ use Rattle.drain_grid.specs.declared.direction.Direction.TheVariants.{East, Sout
 use Rattle.drain_grid.specs.declared.patch.Patch.{Patch}
 use Rattle.drain_grid.specs.Direction.{order_of}
 use Rattle.drain_grid.specs.Values.{Values}
+use Rattle.drain_grid.specs.Spacing.{unit_spacing}
 use Rattle.drain_grid.specs.Slope.{slope_key, IsSteepest, IsFirstSteepest}
 use Rattle.drain_grid.specs.Grid.{IsOpenCell}
 use Rattle.drain_grid.specs.Run.{run, run_end, RunEnds, upstream_count, ShareBasin}
@@ -22,6 +23,7 @@ hollow here east southeast south = record {
   around =
       Some (level east) ∷ Some (level southeast) ∷ Some (level south) ∷ Some (level here) ∷
       Some (level here) ∷ Some (level here) ∷ Some (level here) ∷ Some (level here) ∷ [];
+  spacing = unit_spacing;
 }
 
 abbrev first_steepest : (p : Patch) (d : Direction) → Decision (IsFirstSteepest p (Some d))
@@ -43,11 +45,11 @@ east_is_steeper = (first_steepest (hollow (pos 10) (pos 5) (pos 3) (pos 10)) Eas
 east_is_deep : IsFirstSteepest (hollow (pos 32767) (negsuc 32766) (negsuc 32766) (pos 32767)) (Some East)
 east_is_deep = (first_steepest (hollow (pos 32767) (negsuc 32766) (negsuc 32766) (pos 32767)) East).sound refl
 
-deep_key : slope_key true (pos 32767 -ℤ negsuc 32766) ≡ pos 8589410312
+deep_key : slope_key 2 (pos 32767 -ℤ negsuc 32766) ≡ pos 8589410312
 deep_key = refl
 
 -- the greatest drop of pixels takes more than 64 bits
-deepest_key : slope_key true (pos 4294967295 -ℤ negsuc 2147483647) ≡ pos 83010348305923178498
+deepest_key : slope_key 2 (pos 4294967295 -ℤ negsuc 2147483647) ≡ pos 83010348305923178498
 deepest_key = refl
 
 -- of two that tie both are steepest, and east is the first

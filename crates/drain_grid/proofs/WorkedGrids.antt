@@ -2,6 +2,7 @@
 use Rattle.std.proofs.Common.{ℕ, ℤ, pos, ◌==◌, ◌&&◌, if◌then◌else◌, List, [], ◌∷◌, Some, None, slice_index_or}
 use Rattle.drain_grid.specs.declared.cell.Cell.{Cell}
 use Rattle.drain_grid.specs.Values.{NoDataNumbers}
+use Rattle.drain_grid.specs.Spacing.{unit_spacing}
 use Rattle.drain_grid.specs.Product.{default_numbers}
 use Rattle.drain_grid.specs.Grid.{Grid, Products, no_sink}
 
@@ -18,7 +19,7 @@ changed f at n c = if (c.row == at.row) && (c.col == at.col) then pos n else f c
 
 -- a square grid without voids
 abbrev pub square : ℕ → (Cell → ℤ) → Grid
-square side heights = record { extent = record { rows = side; cols = side }; elevation = λ c. Some (heights c); sink = no_sink }
+square side heights = record { extent = record { rows = side; cols = side }; elevation = λ c. Some (heights c); sink = no_sink; spacing = λ row. unit_spacing }
 
 -- the default no-data numbers
 abbrev pub defaults : NoDataNumbers
@@ -68,7 +69,7 @@ flat_products = record {
 
 -- side 2, all void
 abbrev pub void_grid : Grid
-void_grid = record { extent = record { rows = 2; cols = 2 }; elevation = λ c. None; sink = no_sink }
+void_grid = record { extent = record { rows = 2; cols = 2 }; elevation = λ c. None; sink = no_sink; spacing = λ row. unit_spacing }
 
 abbrev pub void_products : Products
 void_products = record {
@@ -148,7 +149,7 @@ ring_products = record {
 
 -- two tiles of side 3, all 0, with a column of voids between them
 abbrev pub gap_grid : Grid
-gap_grid = record { extent = record { rows = 3; cols = 7 }; elevation = λ c. if c.col == 3 then None else Some (pos 0); sink = no_sink }
+gap_grid = record { extent = record { rows = 3; cols = 7 }; elevation = λ c. if c.col == 3 then None else Some (pos 0); sink = no_sink; spacing = λ row. unit_spacing }
 
 abbrev pub gap_products : Products
 gap_products = record {

@@ -1,9 +1,12 @@
 -- What the local rules say of the whole grid.
-use Rattle.std.specs.Prelude.{◌≡◌, ℤ, pos, ◌↔◌, IsTrue, option_map}
+use Rattle.std.specs.Prelude.{◌≡◌, ℕ, ◌*◌, ◌<◌, ℤ, pos, ◌*ℤ◌, ◌<ℤ◌, ◌↔◌, IsTrue, option_map, if◌then◌else◌}
 use Rattle.drain_grid.specs.declared.cell.Cell.{Cell}
 use Rattle.drain_grid.specs.Values.{NoDataNumbers}
 use Rattle.drain_grid.specs.declared.direction.Direction.{Direction}
 use Rattle.drain_grid.specs.declared.rule.Rule.{Rule}
+use Rattle.drain_grid.specs.Direction.{is_straight}
+use Rattle.drain_grid.specs.Slope.{slope_key}
+use Rattle.drain_grid.specs.Spacing.{Distances, IsSpacing, distance_square, unit_spacing, weight_of}
 use Rattle.drain_grid.specs.Extent.{step}
 use Rattle.drain_grid.specs.Open.{IsGap}
 use Rattle.drain_grid.specs.Grid.{Grid, Products, IsInside, HasData, IsOpenCell}
@@ -101,3 +104,17 @@ abbrev pub OpenWithoutSinks : Type 0
 OpenWithoutSinks =
     (g : Grid) (c : Cell) → ¬ IsTrue (g.sink c) →
     IsOpenCell g c ↔ (HasData g c × ((d : Direction) × IsGap (option_map g.elevation (step g.extent c d))))
+
+-- keys compare as slopes do: the way in direction d over a drop x is steeper than that in direction e over a drop y
+-- exactly where x / distance is greater than y / distance, squared and multiplied out
+abbrev pub KeysCompareSlopes : Type 0
+KeysCompareSlopes =
+    (s : Distances) (d e : Direction) (x y : ℕ) → IsSpacing s →
+    ((y * y) * distance_square s d < (x * x) * distance_square s e) ↔
+    (slope_key (weight_of s e) (pos y) <ℤ slope_key (weight_of s d) (pos x))
+
+-- on unit spacing a key is twice the square of the drop along a row or a column, and its square across a corner
+abbrev pub KeysOnUnitSpacing : Type 0
+KeysOnUnitSpacing =
+    (d : Direction) (drop : ℤ) →
+    slope_key (weight_of unit_spacing d) drop ≡ (if is_straight d then pos 2 *ℤ (drop *ℤ drop) else drop *ℤ drop)

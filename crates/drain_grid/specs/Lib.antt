@@ -21,5 +21,6 @@ pub mod RulesAbout
 pub mod Run
 pub mod SinkTexts
 pub mod Slope
+pub mod Spacing
 pub mod Values
 pub mod WholeGrid

@@ -4,11 +4,12 @@
 
 ghost use Rattle.std.specs.Prelude.{◌≡◌, pos, neg_ℤ};
 ghost use Rattle.drain_grid.specs.OffData.{FoundOffDataIsRight};
-ghost use Rattle.drain_grid.specs.Laws.{CorrectByRulesAlone, CorrectFromRules, CorrectIsLocal, CountsUpstream, LabelsAreBasins, LeastFromRules, LeastFromRulesProfile2, OpenWithoutSinks, Profile2FromProfile1, RanksPlayNoPart, RulesAreCorrect, RulesFromCorrect, RunsEnd, RunsEndByCounts, SoundFromCorrect};
+ghost use Rattle.drain_grid.specs.Laws.{CorrectByRulesAlone, CorrectFromRules, CorrectIsLocal, CountsUpstream, KeysCompareSlopes, KeysOnUnitSpacing, LabelsAreBasins, LeastFromRules, LeastFromRulesProfile2, OpenWithoutSinks, Profile2FromProfile1, RanksPlayNoPart, RulesAreCorrect, RulesFromCorrect, RunsEnd, RunsEndByCounts, SoundFromCorrect};
 
 use crate::cell::MAX_LENGTH;
 use crate::degree::UNITS_PER_DEGREE;
 use crate::nodata::{GREATEST_NODATA, LEAST_NODATA};
+use crate::spacing::GREATEST_SPACING;
 use crate::tile::{GREATEST_SAMPLE, LEAST_SAMPLE, MAX_SIDE, MIN_SIDE, VOID};
 use crate::values::{GREATEST_PIXEL, LEAST_PIXEL};
 
@@ -30,6 +31,7 @@ pub fn constants()
     ensures units_per_degree { UNITS_PER_DEGREE ≡ 1000000000000000 }
     ensures least_nodata { LEAST_NODATA ≡ neg_ℤ (pos 10000000000) }
     ensures greatest_nodata { GREATEST_NODATA ≡ pos 10000000000 }
+    ensures greatest_spacing { GREATEST_SPACING ≡ 1073741824 }
 {}
 
 /// With spill parents rules 4 to 9 make `con` the spill level of each data cell, and the least surface that drains.
@@ -115,4 +117,14 @@ pub fn found_off_data_is_right()
 /// Which cells are open if none is listed as a sink: those with data on the edge of the grid or next to a void.
 pub fn open_without_sinks()
     ensures { OpenWithoutSinks }
+{}
+
+/// Keys compare as slopes do: drop over distance.
+pub fn keys_compare_slopes()
+    ensures { KeysCompareSlopes }
+{}
+
+/// On unit spacing a key is twice the square of the drop along a row or a column, and its square across a corner.
+pub fn keys_on_unit_spacing()
+    ensures { KeysOnUnitSpacing }
 {}

@@ -1,4 +1,4 @@
 pub mod Places
-pub mod GreatestKeys
 pub mod Keys
 pub mod NamedSlopes
+pub mod Fractions

@@ -1,21 +1,25 @@
 //! The rules on slopes at a cell, Slope and OutletCode, and the first of the steepest ways down.
 //!
-//! Slopes are compared by whole numbers. Over a drop `d` the slope is `d` along a row or a column and `d / √2` across a
-//! corner, so twice its square is `2 * d * d` and `d * d`: its key. Slopes compare as their keys do, with no rounding.
-//! Pixels run from -2147483648 to 4294967295, so a key can need 67 bits, and is kept in 128. A key of 0 means that the
-//! neighbour is not lower. One call looks at one cell and takes no memory.
+//! Slopes are compared by whole numbers. The square of the slope of a drop `d` over a distance `l` is `d * d / (l * l)`,
+//! and two fractions compare as their products across. Pixels run from -2147483648 to 4294967295 and distances up to
+//! 2^30, so a product can need 127 bits. The definition has no fraction: a direction's key is the square of its drop
+//! times a weight in proportion to `1 / (l * l)`, and `is_steeper` compares keys without computing them. One call looks
+//! at one cell and takes no memory.
 //!
 //! Source: the steepest of eight neighbours with the diagonal at root two is D8 (O'Callaghan and Mark 1984). The keys,
 //! the order among equals and the rules' wording are this project's own.
 #![tactic(auto)]
 
-ghost use Rattle.std.specs.Prelude.{◌≡◌, ◌↔◌, ◌<◌, ◌^◌, pos, IsTrue, MatchOption, Some};
+ghost use Rattle.std.specs.Prelude.{◌≡◌, ◌↔◌, ◌<◌, ◌≤◌, ◌*◌, ◌^◌, ◌<ℤ◌, pos, IsTrue, Some};
 ghost use Rattle.drain_grid.specs.Direction.{Names};
-ghost use Rattle.drain_grid.specs.Patch.{IsOpen, HasLower};
+ghost use Rattle.drain_grid.specs.Patch.{IsDataCell, IsOpen};
 ghost use Rattle.drain_grid.specs.PatchRules.{flow_rules};
 ghost use Rattle.drain_grid.specs.Rule.{IsSlopeRule, IsLeastFault};
-ghost use Rattle.drain_grid.specs.Slope.{slope_key, IsSteepest, IsFirstSteepest};
-ghost use Rattle.drain_slope.specs.Key.{key_of, key_at, IsGreatestKey, IsSteepestKey, IsFirstWithKey};
+ghost use Rattle.drain_grid.specs.Slope.{IsSteepest, IsFirstSteepest};
+ghost use Rattle.drain_grid.specs.Spacing.{IsSpacing};
+ghost use Rattle.drain_slope.specs.Key.{IsFirstGreatest, drop_at, drop_of, key_at};
+
+pub mod fraction;
 
 use drain_grid::{CellValues, Direction, Patch, Rule};
 
@@ -24,15 +28,27 @@ use drain_grid::{CellValues, Direction, Patch, Rule};
 pub fn steepest(patch: &Patch) -> Option<Direction>
     ensures { IsFirstSteepest patch.now result }
 {
-    let steepest = steepest_key(patch)?;
-    first_with_key(patch, steepest)
+    distances_are_valid(patch);
+    let first = first_greatest(patch);
+    if has_data(patch) && drop(patch, first) > 0 {
+        Some(first)
+    } else {
+        None
+    }
+}
+
+/// Whether the cell has an elevation.
+fn has_data(patch: &Patch) -> bool
+    ensures { IsTrue result ↔ IsDataCell patch.now }
+{
+    patch.here.z.is_some()
 }
 
 /// The first of the two rules that fails at the cell, none if they both hold. A void keeps them both.
 pub fn fault(patch: &Patch) -> Option<Rule>
     ensures least { IsLeastFault IsSlopeRule (flow_rules patch.now) result }
 {
-    match steepest_key(patch) {
+    match steepest(patch) {
         Some(steepest) => {
             if leads_steepest(patch, steepest) {
                 None
@@ -57,81 +73,96 @@ fn keeps_outlet_code(patch: &Patch) -> bool
     patch.here.dir == 0 || !patch.is_open()
 }
 
-/// Whether the code names a steepest direction.
-fn leads_steepest(patch: &Patch, steepest: u128) -> bool
-    requires { IsSteepestKey patch.now steepest }
+/// Whether the code names a steepest direction: one that is as steep as this steepest one.
+fn leads_steepest(patch: &Patch, steepest: Direction) -> bool
+    requires { IsFirstSteepest patch.now (Some steepest) }
     ensures { IsTrue result ↔ ((d : Direction) × Names patch.now.here.dir d × IsSteepest patch.now d) }
 {
     match patch.here.direction() {
-        Some(direction) => key(patch, direction) == steepest,
+        Some(direction) => is_as_steep(patch, direction, steepest),
         None => false,
     }
 }
 
-/// The first direction with this key, if there is one.
-fn first_with_key(patch: &Patch, expected: u128) -> Option<Direction>
-    ensures { IsFirstWithKey patch.now expected result }
+/// Whether a direction is as steep as a steepest one.
+fn is_as_steep(patch: &Patch, direction: Direction, steepest: Direction) -> bool
+    requires { IsFirstSteepest patch.now (Some steepest) }
+    ensures { IsTrue result ↔ IsSteepest patch.now direction }
 {
+    distances_are_valid(patch);
+    !is_steeper(patch, steepest, direction)
+}
+
+/// The first of the directions with the greatest key.
+fn first_greatest(patch: &Patch) -> Direction
+    ensures { IsFirstGreatest patch.now result }
+{
+    let mut greatest = Direction::East;
     for direction in Direction::ALL {
-        if key(patch, direction) == expected {
-            return Some(direction);
+        if is_steeper(patch, direction, greatest) {
+            greatest = direction;
         }
-    }
-    None
-}
-
-/// The key of the steepest ways down; none if no neighbour is lower, and at a void.
-fn steepest_key(patch: &Patch) -> Option<u128>
-    ensures { MatchOption result (¬ HasLower patch.now) (IsSteepestKey patch.now) }
-{
-    if patch.here.z.is_none() {
-        return None;
-    }
-    match greatest_key(patch) {
-        0 => None,
-        greatest => Some(greatest),
-    }
-}
-
-/// The greatest of the keys in the eight directions.
-pub fn greatest_key(patch: &Patch) -> u128
-    ensures { IsGreatestKey patch.now result }
-{
-    let mut greatest = 0;
-    for direction in Direction::ALL {
-        greatest = greatest.max(key(patch, direction));
     }
     greatest
 }
 
-/// The key of the way down in this direction, 0 if no neighbour there is lower. Rule Slope takes a way with the
-/// greatest.
-pub fn key(patch: &Patch, direction: Direction) -> u128
-    ensures { pos result ≡ key_at patch.now direction }
+/// Whether the way in the first direction is steeper than that in the second. A way that isn't down is as steep as
+/// none.
+pub fn is_steeper(patch: &Patch, first: Direction, second: Direction) -> bool
+    ensures { IsTrue result ↔ (key_at patch.now second <ℤ key_at patch.now first) }
+{
+    let over = patch.spacing.distance_square(first);
+    let other_over = patch.spacing.distance_square(second);
+    is_less(drop(patch, second), over, drop(patch, first), other_over)
+}
+
+/// Whether the square of a drop times that of a distance is less than another such product.
+fn is_less(drop: u64, distance_square: u64, other_drop: u64, other_distance_square: u64) -> bool
+    requires drop { drop < 2 ^ 33 }
+    requires other_drop { other_drop < 2 ^ 33 }
+    requires distance { distance_square ≤ 2 ^ 61 }
+    requires other_distance { other_distance_square ≤ 2 ^ 61 }
+    ensures { IsTrue result ↔ ((drop * drop) * distance_square < (other_drop * other_drop) * other_distance_square) }
+{
+    product(drop, distance_square) < product(other_drop, other_distance_square)
+}
+
+/// The square of a drop times that of a distance.
+fn product(drop: u64, distance_square: u64) -> u128
+    requires drop { drop < 2 ^ 33 }
+    requires distance { distance_square ≤ 2 ^ 61 }
+    ensures { result ≡ (drop * drop) * distance_square }
+{
+    let square = drop as u128 * drop as u128;
+    square * distance_square as u128
+}
+
+/// The drop in this direction, 0 if no neighbour there is lower.
+pub fn drop(patch: &Patch, direction: Direction) -> u64
+    ensures is { pos result ≡ drop_at patch.now direction }
+    ensures few { result < 2 ^ 33 }
 {
     match patch.neighbor(direction) {
-        Some(there) => key_to(patch, direction, &there),
+        Some(there) => drop_to(patch, &there),
         None => 0,
     }
 }
 
-/// The key of the way to these values, 0 if they are not those of a lower data cell.
-fn key_to(patch: &Patch, direction: Direction, there: &CellValues) -> u128
-    ensures { pos result ≡ key_of patch.now direction (Some there.now) }
+/// The drop to these values, 0 if they are not those of a lower data cell.
+fn drop_to(patch: &Patch, there: &CellValues) -> u64
+    ensures is { pos result ≡ drop_of patch.now (Some there.now) }
+    ensures few { result < 2 ^ 33 }
 {
     if there.z.is_some() && there.con < patch.here.con {
-        let drop = (patch.here.con - there.con) as u64;
-        key_of_drop(direction.is_straight(), drop)
+        (patch.here.con - there.con) as u64
     } else {
         0
     }
 }
 
-/// The key of a drop.
-fn key_of_drop(straight: bool, drop: u64) -> u128
-    requires { drop < 2 ^ 33 }
-    ensures { pos result ≡ slope_key straight (pos drop) }
+/// The distances of a patch are valid.
+fn distances_are_valid(patch: &Patch)
+    ensures { IsSpacing patch.now.spacing }
 {
-    let square = drop as u128 * drop as u128;
-    if straight { 2 * square } else { square }
+    let _width = patch.spacing.width;
 }
