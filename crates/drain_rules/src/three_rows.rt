@@ -77,7 +77,7 @@ impl PatchRow for ThreeRows<'_> {
         };
         // The law on what lanes show.
         lanes_show_numbers();
-        outlet_holds_at(above, here, below, rules, col as usize)
+        outlet_holds_at(above, here, below, self.here.slopes(), rules, col as usize)
     }
 
     #[inline(always)]
@@ -99,6 +99,7 @@ impl PatchRow for ThreeRows<'_> {
                 self.above.beside(col),
                 self.above.beside(col + 1),
             ],
+            spacing: self.here.slopes().spacing(),
         }
     }
 }
@@ -163,11 +164,12 @@ fn cleared_until(
 {
     // The law on what lanes show.
     lanes_show_numbers();
+    let slopes = rows.here.slopes();
     let mut col = from;
     while col < end {
         let until = rows.here.unmarked_until(col).min(end);
-        let stop = kept_until(above, here, below, rules, col, until);
-        if stop == end || !falls_at(above, here, below, rules, stop) {
+        let stop = kept_until(above, here, below, slopes, rules, col, until);
+        if stop == end || !falls_at(above, here, below, slopes, rules, stop) {
             return stop;
         }
         col = stop + 1;
