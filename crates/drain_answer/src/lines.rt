@@ -111,13 +111,13 @@ fn of_product(text: &str, product: Product) -> Line
 }
 
 /// These words and a whole number.
-fn of_number(text: &str, number: u64) -> Line
+fn of_number(text: &str, value: u64) -> Line
     requires { length text.now ≤ 40 }
-    ensures { result.bytes ≡ text.now ++ decimal number }
+    ensures { result.bytes ≡ text.now ++ decimal value }
 {
     let mut line = words(text);
     let mut digits = Buffer::new();
-    line.push_str(digits.format(number));
+    line.push_str(digits.format(value));
     line
 }
 
