@@ -1,7 +1,7 @@
 use Rattle.drain_verdict.specs.Inputs.{Encode}
 use Rattle.drain_verdict.specs.Headline.{IsRight}
 use Rattle.drain_verdict.proofs.Acceptance.{accepted_is_right, when_accepted}
-use Rattle.drain_verdict.proofs.checker.check.Goals as goal
+use Rattle.drain_verdict.proofs.checker.check_given.Goals as goal
 
 pub returns-clause-right : goal.returns-clause-right
 returns-clause-right g c =

@@ -5,7 +5,7 @@ use Rattle.drain_verdict.specs.Headline.{IsRight, TilesAreOne, ElevationIsTheirs
 use Rattle.drain_verdict.specs.Meaning.{input_grid, nodata_numbers, input_products, input_tiles, tiling_of}
 use Rattle.drain_verdict.proofs.Acceptance.{right_of, tiles_agree}
 use Rattle.drain_verdict.proofs.AuditAnswers.{answer_certified, exactly, sound_of, when_audited, when_given}
-use Rattle.drain_verdict.proofs.auditor.audit.Goals as goal
+use Rattle.drain_verdict.proofs.auditor.audit_given.Goals as goal
 
 pub returns-clause-answer : goal.returns-clause-answer
 returns-clause-answer g c = λ inputs tell. answer_certified c.ranks_play_no_part.ensures inputs c.audit_of.result (c.audit_of.ensures.answer inputs tell)
