@@ -5,6 +5,7 @@ ghost use Rattle.drain_grid.specs.declared.cell.Cell.{Cell};
 ghost use Rattle.drain_rules.specs.Rows.{AreRowNumbers, blank};
 ghost use Rattle.drain_rows.specs.RowBuffers.{LanesMatch};
 ghost use Rattle.drain_grid.specs.CellLists.{is_among};
+ghost use Rattle.drain_grid.specs.Spacing.{spacing_of};
 ghost use Rattle.drain_rows.specs.GridRows.{is_listed_void};
 
 use crate::listed_voids::ListedVoids;
@@ -89,7 +90,7 @@ impl RowBuffer {
     ) -> Result<(), OutOfMemory>
         requires whole { AreRowNumbers (buffer_numbers self.old) }
         ensures numbers { buffer_numbers self.new ≡ buffer_numbers self.old }
-        ensures marked { OnOk result (IsMarked sinks.now spacings.now row (marked_of self.new)) }
+        ensures marked { OnOk result (IsMarked sinks.now (spacing_of spacings.now) row (marked_of self.new)) }
         ensures noted { OnOk result ((c : Cell) → is_among voids.new c ≡ (is_among voids.old c || is_listed_void row (buffer_numbers self.new).z self.new.sinks.items c)) }
         ensures wants { OnErr result (¬ (sinks.now ≡ [])) }
     {

@@ -6,6 +6,7 @@ ghost use Rattle.drain_rules.specs.Rows.{AreRowNumbers, blank};
 ghost use Rattle.drain_rows.specs.GridRows.{IsNext, IsWalkStop, ReadsOn, is_listed_void};
 ghost use Rattle.drain_rows.specs.RowBuffers.{LanesMatch, IsMarked, marked_of, buffer_numbers};
 ghost use Rattle.drain_grid.specs.CellLists.{is_among};
+ghost use Rattle.drain_grid.specs.Spacing.{spacing_of};
 
 use crate::grid_rows::GridRows;
 use crate::listed_voids::ListedVoids;
@@ -35,7 +36,7 @@ pub fn read_marked<T, P, S: GridRows<T, P>>(
     ensures as_many { length tiles.new ≡ length tiles.old }
     ensures next { OnOk result (IsNext (S.gives (source.old, tiles.old, products.old)) (S.gives (source.new, tiles.new, products.new)) (buffer_numbers held.new)) }
     ensures whole { OnOk result (AreRowNumbers (buffer_numbers held.new)) }
-    ensures marked { OnOk result (IsMarked sinks.now spacings.now row (marked_of held.new)) }
+    ensures marked { OnOk result (IsMarked sinks.now (spacing_of spacings.now) row (marked_of held.new)) }
     ensures lanes { OnOk result (LanesMatch held.new) }
     ensures noted { OnOk result ((c : Cell) → is_among voids.new c ≡ (is_among voids.old c || is_listed_void row (buffer_numbers held.new).z held.new.sinks.items c)) }
     ensures reads { OnOk result (ReadsOn S.has_read (source.old, tiles.old, products.old) (source.new, tiles.new, products.new) 1 None) }
