@@ -1,11 +1,7 @@
 -- The rows that two windows have in common, counted from the first of them.
-use Rattle.std.proofs.Common.{◌≡◌, ℕ, ◌+◌, ◌-◌, ◌<◌, ◌≤◌, min, max, List, length, slice_index_or, sym, ap, ◌∙◌, arith}
-use Rattle.drain_grid.specs.Spacing.{Distances, unit_spacing}
+use Rattle.std.proofs.Common.{◌≡◌, ℕ, ◌+◌, ◌-◌, ◌<◌, min, max, List, ap, ◌∙◌, arith}
+use Rattle.drain_grid.specs.Spacing.{Distances}
 use Rattle.drain_union.specs.Reports.{spacing_at}
-
--- with a row at most listed, all are alike
-pub one_spacing : (xs : List Distances) (k : ℕ) → length xs ≤ 1 → spacing_at xs k ≡ spacing_at xs 0
-one_spacing xs k few = ap (λ n. slice_index_or xs n unit_spacing) (let none : min k (length xs - 1) ≡ min 0 (length xs - 1) = omega arith in none)
 
 module _ (xs ys : List Distances) (top_a top_b rows_a rows_b top count : ℕ) (first : top ≡ max top_a top_b)
     (counted : count ≡ min (top_a + rows_a) (top_b + rows_b) - top) where
