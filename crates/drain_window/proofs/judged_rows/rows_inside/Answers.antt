@@ -14,6 +14,6 @@ loop-row-preserved c =
 pub returns : goal.returns
 returns c =
     let sp = spacing_of c.args.spacings.now in
-    let all : c.loop-row.row ≡ c.rows_to_list.result = omega (arith, c.loop-row-test.false, c.loop-row.auto.row-end) in
-    are_rows sp c.args.place.now c.rows_to_list.result c.loop-row.listed.items c.rows_to_list.ensures.enough
+    let all : c.loop-row.row ≡ c.rows_to_list-row-end.result = omega (arith, c.loop-row-test.false, c.loop-row.auto.row-end) in
+    are_rows sp c.args.place.now c.rows_to_list-row-end.result c.loop-row.listed.items c.rows_to_list-row-end.ensures.enough
     (subst (λ n. AreFirst sp c.args.place.now n c.loop-row.listed.items) all c.loop-row.invariant)
