@@ -21,6 +21,7 @@ pub mod HandedOn
 pub mod Inflows
 pub mod Tallies
 pub mod LineRuns
+pub mod Listings
 pub mod SinkFaults
 pub mod OpenCells
 pub mod PatchDecisions

@@ -1,5 +1,5 @@
 -- Numbers without a sign that 32 bits hold are pixels.
-use Rattle.std.proofs.Common.{◌<◌, ℕ, pos, List, map, length, get_or, arith, ◌≡◌, Bool, true, false, Some, None, ◌⊎◌, inl, inr, refl, sym, ◌∙◌, [], ◌∷◌, ◌++◌, Result, Ok, Err, ap, append_assoc, ◌+◌, ◌*◌, ◌^◌, ◌≤◌, ◌==◌, ◌&&◌, ◌||◌, is_ok, subst, ◌≢◌, zero, suc}
+use Rattle.std.proofs.Common.{◌<◌, ℕ, pos, List, map, length, get_or, arith, ◌≡◌, Bool, true, false, Some, None, ◌⊎◌, inl, inr, refl, sym, ◌∙◌, [], ◌∷◌, Result, Ok, Err, ap, ◌+◌, ◌*◌, ◌^◌, ◌≤◌, ◌==◌, ◌&&◌, ◌||◌, is_ok, subst}
 use Rattle.std.specs.List.{All, AllByRecursion, list_any}
 use Rattle.std.proofs.lemmas.Int.{ints}
 use Rattle.std.proofs.lemmas.List.Elements.{All-map, recursion_from_All}
@@ -10,8 +10,7 @@ use Rattle.drain_grid.specs.declared.cell.Cell.{Cell}
 use Rattle.drain_grid.specs.declared.sink_line.SinkLine.{SinkLine}
 use Rattle.drain_grid.specs.Grid.{Grid, HasData}
 use Rattle.drain_grid.specs.OffData.{FoundOffDataIsRight}
-use Rattle.drain_grid.specs.SinkTexts.{with_line, is_listed, wide_place, ArePlaces, line_says, listing}
-use Rattle.drain_grid.specs.declared.sink_line.LineSays.TheVariants.{Sink, Nothing, NoSink}
+use Rattle.drain_grid.specs.SinkTexts.{is_listed, wide_place, ArePlaces}
 use Rattle.std.specs.List.Sorted.{IsBinarySearchResult, IsNonDecreasing}
 use Rattle.std.specs.Ordering.{nat_cmp}
 use Rattle.std.proofs.lemmas.Bool.Decides.{nat_tests}
@@ -19,7 +18,6 @@ use Rattle.std.proofs.lemmas.List.{get_or_default}
 use Rattle.std.proofs.lemmas.List.Folds.{list_any_at, list_any_none}
 use Rattle.std.proofs.lemmas.List.Sorted.{list_any-IsPermutation, searched}
 use Rattle.drain_grid.specs.Extent.{same_cell}
-use Rattle.drain_grid.specs.declared.sink_line.LineSays.{LineSays}
 
 pub are_pixels : (xs : List ℕ) → ((i d : ℕ) → i < length xs → get_or xs i d < 4294967296) → All IsPixel (map (λ n. pos n) xs)
 are_pixels xs fit = All-map IsPixel (λ n. pos n) xs (λ i d less. let h = fit i d less in record { low = omega (arith, ints, h); high = omega (arith, ints, h) })
@@ -55,23 +53,6 @@ found_off_data_is_right g sinks has (Some line) told found = record {
       let low = found.least off.place off.listed (slice_get_within sinks off.place off.listed off.is_there) off.is_there no in
       omega (arith, less, low, off.line_is);
 }
-
--- What lines before others list, and what follows.
-
--- what lists these first
-abbrev pub after_these : List SinkLine → Result (List SinkLine) ℕ → Result (List SinkLine) ℕ
-after_these before (Ok sinks) = Ok (before ++ sinks)
-after_these before (Err bad) = Err bad
-
-pub after_none : (rest : Result (List SinkLine) ℕ) → after_these [] rest ≡ rest
-after_none (Ok sinks) = refl
-after_none (Err bad) = refl
-
--- a line that lists a cell joins those before it
-pub after_one_more : (before : List SinkLine) (number : ℕ) (cell : Cell) (rest : Result (List SinkLine) ℕ) →
-    after_these before (with_line number (Sink cell) rest) ≡ after_these (before ++ record { line = number; cell = cell } ∷ []) rest
-after_one_more before number cell (Ok sinks) = ap (λ xs. Ok xs) (sym (append_assoc before (record { line = number; cell = cell } ∷ []) sinks))
-after_one_more before number cell (Err bad) = refl
 
 -- A cell is listed exactly where a search by halves finds its place among the rising places of the listed cells.
 
@@ -124,63 +105,3 @@ listed_by_search sinks places searched_in c x known narrow there place r h =
     ∙ ap (λ xs. list_any (λ y. y == x) xs) there
     ∙ ap (λ (p : ℕ). list_any (λ y. y == p) places) place
     ∙ listed_by_places sinks places c known narrow
-
--- For a reviewer: the number in a listing's error is that of the first bad line, counted from the first line's number.
-
--- k lines come before the first bad one, which has this number
-pub record IsFirstBad (number : ℕ) (lines : List (List ℕ)) (bad k : ℕ) : Type 0 where
-  pub inside : k < length lines
-  pub counted : bad ≡ number + k
-  pub bad_there : line_says (get_or lines k []) ≡ NoSink
-  pub first : (j : ℕ) → j < k → line_says (get_or lines j []) ≢ NoSink
-
-abbrev is_told : Result (List SinkLine) ℕ → Bool
-is_told (Ok sinks) = false
-is_told (Err bad) = true
-
-abbrev told : Result (List SinkLine) ℕ → ℕ
-told (Ok sinks) = 0
-told (Err bad) = bad
-
-past_sink : (number : ℕ) (c : Cell) (rest : Result (List SinkLine) ℕ) (bad : ℕ) → with_line number (Sink c) rest ≡ Err bad → rest ≡ Err bad
-past_sink number c (Ok sinks) bad h = absurd (false≢true (ap is_told h))
-past_sink number c (Err b) bad h = h
-
--- a line that isn't bad before others
-one_before : (number : ℕ) (line : List ℕ) (more : List (List ℕ)) (bad : ℕ) → line_says line ≢ NoSink →
-    (k : ℕ) × IsFirstBad (number + 1) more bad k → (k : ℕ) × IsFirstBad number (line ∷ more) bad k
-one_before number line more bad good later =
-    let found = later.1 in (
-      suc later.0,
-      record {
-        inside = omega (arith, found.inside);
-        counted = omega (arith, found.counted);
-        bad_there = found.bad_there;
-        first = shifted found.first;
-      },
-    )
-  where
-    shifted : ((j : ℕ) → j < later.0 → line_says (get_or more j []) ≢ NoSink) →
-        (j : ℕ) → j < suc later.0 → line_says (get_or (line ∷ more) j []) ≢ NoSink
-    shifted h zero less = good
-    shifted h (suc j) less = h j (omega arith)
-
-at_line : (number : ℕ) (line : List ℕ) (more : List (List ℕ)) (bad : ℕ) (says : LineSays) → line_says line ≡ says →
-    with_line number says (listing (number + 1) more) ≡ Err bad →
-    (listing (number + 1) more ≡ Err bad → (k : ℕ) × IsFirstBad (number + 1) more bad k) → (k : ℕ) × IsFirstBad number (line ∷ more) bad k
-at_line number line more bad NoSink is h later = (
-  0,
-  record {
-    inside = omega arith;
-    counted = let same : number ≡ bad = ap told h in omega (arith, same);
-    bad_there = is;
-    first = λ j less. absurd (omega arith);
-  },
-)
-at_line number line more bad Nothing is h later = one_before number line more bad (λ e. (let same : Nothing ≡ NoSink = sym is ∙ e in cc)) (later h)
-at_line number line more bad (Sink c) is h later = one_before number line more bad (λ e. (let same : Sink c ≡ NoSink = sym is ∙ e in cc))
-    (later (past_sink number c (listing (number + 1) more) bad h))
-
-pub first_bad : (number : ℕ) (lines : List (List ℕ)) (bad : ℕ) → listing number lines ≡ Err bad → (k : ℕ) × IsFirstBad number lines bad k
-first_bad number [] bad h = absurd (false≢true (ap is_told h))
-first_bad number (line ∷ more) bad h = at_line number line more bad (line_says line) refl h (first_bad (number + 1) more bad)

@@ -1,5 +1,5 @@
 -- The definitions worked on small grids: slopes and the first steepest, runs, what drains through a cell, open cells.
-use Rattle.std.proofs.Common.{◌≡◌, ℤ, pos, negsuc, ◌-ℤ◌, true, false, [], ◌∷◌, Some, refl}
+use Rattle.std.proofs.Common.{◌≡◌, ℤ, pos, negsuc, ◌-ℤ◌, false, [], ◌∷◌, Some, refl}
 use Rattle.drain_grid.specs.declared.direction.Direction.{Direction}
 use Rattle.drain_grid.specs.declared.direction.Direction.TheVariants.{East, SouthEast, South}
 use Rattle.drain_grid.specs.declared.patch.Patch.{Patch}

@@ -8,6 +8,7 @@ pub mod Grid
 pub mod SetProduct
 pub mod Judged
 pub mod Laws
+pub mod Listings
 pub mod OffData
 pub mod Numbers
 pub mod Open
@@ -22,5 +23,6 @@ pub mod Run
 pub mod SinkTexts
 pub mod Slope
 pub mod Spacing
+pub mod SpacingTexts
 pub mod Values
 pub mod WholeGrid

@@ -1,6 +1,6 @@
 -- How far apart neighbours are, and what the square of a drop is multiplied by, so that slopes over unequal distances
 -- compare as whole numbers.
-use Rattle.std.specs.Prelude.{ℕ, ◌+◌, ◌*◌, ◌<◌, ◌≤◌, ◌==◌, if◌then◌else◌}
+use Rattle.std.specs.Prelude.{ℕ, ◌+◌, ◌*◌, ◌<◌, ◌≤◌, ◌==◌, if◌then◌else◌, List, slice_index_or}
 use Rattle.drain_grid.specs.declared.cell.Cell.{Cell}
 use Rattle.drain_grid.specs.declared.direction.Direction.{Direction}
 use Rattle.drain_grid.specs.declared.direction.Direction.TheVariants.{East, SouthEast, South, SouthWest, West, NorthWest, North, NorthEast}
@@ -25,6 +25,14 @@ pub record IsDistance (n : ℕ) : Type 0 where
 pub record IsSpacing (s : Distances) : Type 0 where
   pub width : IsDistance s.width
   pub height : IsDistance s.height
+
+-- the spacing of the first rows, and that of each other row
+pub record RowSpacings : Type 0 where
+  pub listed : List Distances
+  pub otherwise : Distances
+
+abbrev pub spacing_of : RowSpacings → ℕ → Distances
+spacing_of s row = slice_index_or s.listed row s.otherwise
 
 -- the square of the distance along a row, along a column, and across a corner
 abbrev pub row_square : Distances → ℕ

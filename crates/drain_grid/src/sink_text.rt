@@ -3,9 +3,10 @@
 ghost use Rattle.std.specs.Prelude.{◌≡◌, ℕ, Ok, IfOk, IfErr};
 ghost use Rattle.drain_grid.specs.SinkTexts.{AreNarrow, sinks_of, IsSinkFault};
 
+use crate::cell::Cell;
 use crate::memory::OutOfMemory;
+use crate::number_line::{LineSays, read_line};
 use crate::numbered_cells::NumberedCells;
-use crate::sink_line::{LineSays, read_line};
 use crate::sinks::Sinks;
 use drain_text::first_line;
 use std::alloc::Global;
@@ -46,12 +47,12 @@ fn read_lines(alloc: Global, text: &[u8]) -> Result<NumberedCells, SinkFault>
         let (line, after) = first_line(rest);
         match read_line(line) {
             LineSays::Nothing => {}
-            LineSays::Sink(cell) => {
-                let Ok(_) = lines.push(number, cell) else {
+            LineSays::Numbers(row, col) => {
+                let Ok(_) = lines.push(number, Cell { row, col }) else {
                     return Err(SinkFault::OutOfMemory);
                 };
             }
-            LineSays::NoSink => return Err(SinkFault::BadSinkLine(number)),
+            LineSays::Other => return Err(SinkFault::BadSinkLine(number)),
         }
         let Some(next) = after else {
             return Ok(lines);

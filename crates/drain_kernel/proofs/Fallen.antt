@@ -75,7 +75,7 @@ is_kept_there bias rules rows k p one shown have passes =
     } in
     let sum = if_tested (has_acc rules.judged) _ _ (sum_from above here below k p shown same) passes.sum in
     let rank = rank_from (has_rnk rules.judged) rules.nodata rows k p.here shown.cell fall.has_data have passes.rank in
-    let made : p ≡ patch_of at p.around = λ i. record { here = values_are here k p.here shown.cell fall.has_data i; around = p.around } in
+    let made : p ≡ patch_of at p.around = λ i. record { here = values_are here k p.here shown.cell fall.has_data i; around = p.around; spacing = shown.square i } in
     subst (IsKept (tried rules)) (sym made) (record {
       holds = cleared rules.judged rules.nodata (patch_of at p.around)
           (λ r own. keeps_rules rules.nodata at p.around sound (has_rnk rules.judged) (has_acc rules.judged) sum rank r);

@@ -3,6 +3,7 @@ use Rattle.std.proofs.Common.{◌≡◌, ℕ, ℤ, pos, Bool, List, Option, Some
 use Rattle.drain_grid.specs.declared.direction.Direction.{Direction}
 use Rattle.drain_grid.specs.declared.patch.Patch.{Patch}
 use Rattle.drain_grid.specs.Patch.{neighbor}
+use Rattle.drain_grid.specs.Spacing.{unit_spacing}
 use Rattle.drain_grid.specs.Values.{Values}
 use Rattle.drain_kernel.specs.LaneNumbers.{LaneNumbers}
 use Rattle.drain_kernel.specs.Shown.{lowered, height_of, HasDataAt, Shows, IsShown, row_beside, col_beside}
@@ -23,7 +24,7 @@ abbrev pub values_of : Numbers → Values
 values_of n = record { z = height_of n.bias n.z; sink = n.sink; con = lowered n.bias n.con; dir = pos n.dir; acc = pos n.acc; bas = pos n.bas; spl = n.spl; rnk = n.rnk }
 
 abbrev pub patch_of : Numbers → List (Option Values) → Patch
-patch_of here around = record { here = values_of here; around = around }
+patch_of here around = record { here = values_of here; around = around; spacing = unit_spacing }
 
 -- the numbers of a cell whose values a row shows
 abbrev pub numbers_in : LaneNumbers → ℕ → Values → Numbers
@@ -64,7 +65,7 @@ pub record HaveDataAt (above here below : LaneNumbers) (k : ℕ) : Type 0 where
 -- so the patch is made of their numbers
 pub patch_is : (above here below : LaneNumbers) (k : ℕ) (p : Patch) → IsShown above here below k p → HasDataAt here k →
     p ≡ patch_of (numbers_in here k p.here) p.around
-patch_is above here below k p shown there = λ i. record { here = values_are here k p.here shown.cell there i; around = p.around }
+patch_is above here below k p shown there = λ i. record { here = values_are here k p.here shown.cell there i; around = p.around; spacing = shown.square i }
 
 pub neighbor_is : (above here below : LaneNumbers) (k : ℕ) (p : Patch) (shown : IsShown above here below k p) (d : Direction) →
     HasDataAt (row_beside above here below d) (col_beside k d) → neighbor p d ≡ Some (values_of (numbers_beside above here below k p shown d))

@@ -8,6 +8,7 @@ use Rattle.drain_grid.specs.Direction.{directions, Names, NamesSome, is_straight
 use Rattle.drain_grid.specs.Values.{Values}
 use Rattle.drain_grid.specs.Patch.{IsDataNeighbor, IsLower, HasLower}
 use Rattle.drain_grid.specs.Slope.{slope_key, IsSteepest}
+use Rattle.drain_grid.specs.Spacing.{unit_spacing, weight_of}
 use Rattle.drain_grid.specs.PatchRules.{SlopeHolds, FlatStepHolds, LabelHolds}
 use Rattle.drain_grid.specs.Unranked.{IsLevelStep, LevelStepHolds}
 use Rattle.drain_grid.proofs.Tallies.{same_some}
@@ -65,10 +66,10 @@ is_steepest highest here n around seen fits d less most = (
         let below = number_of_lower highest here n around seen e m lower in
         let there : (n e).con ≤ here.con = omega arith in
         let own : (n d).con ≤ here.con = omega arith in
-        subst (λ (v : Values). slope_key (is_straight e) (lowered here.bias here.con -ℤ v.con) ≤ℤ slope_key (is_straight d) (lowered here.bias here.con -ℤ lowered (n d).bias (n d).con))
+        subst (λ (v : Values). slope_key (weight_of unit_spacing e) (lowered here.bias here.con -ℤ v.con) ≤ℤ slope_key (weight_of unit_spacing d) (lowered here.bias here.con -ℤ lowered (n d).bias (n d).con))
         (seen.data_is e m lower.beside)
-        (le_of_keys _ _ _ _ (key_is (is_straight e) here.bias (n e).bias here.con (n e).con (seen.bias_is e) there)
-        (key_is (is_straight d) here.bias (n d).bias here.con (n d).con (seen.bias_is d) own) (most e));
+        (le_of_keys _ _ _ _ (key_is e here.bias (n e).bias here.con (n e).con (seen.bias_is e) there)
+        (key_is d here.bias (n d).bias here.con (n d).con (seen.bias_is d) own) (most e));
   },
 )
   where

@@ -10,11 +10,12 @@ use Rattle.drain_grid.specs.declared.rule.Rule.TheVariants.{VoidCell, Missing, B
 use Rattle.drain_grid.specs.declared.set_product.SetProduct.{SetProduct}
 use Rattle.drain_grid.specs.declared.set_product.SetProduct.TheVariants as held
 use Rattle.drain_grid.specs.SetProduct.{product_of}
-use Rattle.drain_grid.specs.Direction.{IsCode, Names, is_straight, names, opposite, directions}
+use Rattle.drain_grid.specs.Direction.{IsCode, Names, names, opposite, directions}
 use Rattle.drain_grid.specs.Values.{Values, NoDataNumbers, value_of}
 use Rattle.drain_grid.specs.Open.{IsGap}
 use Rattle.drain_grid.specs.Patch.{neighbor, height, IsDataNeighbor, IsOpen, IsClosed, IsLower, HasLower}
 use Rattle.drain_grid.specs.Slope.{slope_key, key_to, IsSteepest}
+use Rattle.drain_grid.specs.Spacing.{Distances, weight_of}
 use Rattle.drain_grid.specs.PatchRules.{BelowGroundHolds, NotLeastHolds, SlopeHolds, OutletCodeHolds, FlatStepHolds, AccumulationHolds, LabelHolds, VoidCellWithoutSpill, MissingWithoutSpill, BadCodeWithoutSpill, OpenRaisedWithoutSpill, inflow, check_rules}
 use Rattle.drain_grid.specs.Unranked.{VoidCellWithoutRank, MissingWithoutRank, LevelStepHolds, unranked}
 use Rattle.drain_grid.proofs.OpenCells.{gap_from_void}
@@ -52,14 +53,15 @@ show_turned : {a b : Option Values} → ShowAlike a b → ShowAlike b a
 show_turned (inl none) = inl (none.1, none.0)
 show_turned (inr h) = inr (record { one = h.other; other = h.one; one_is = h.other_is; other_is = h.one_is; same = turned h.same })
 
--- the same cell, and all round it no data on either side or the same numbers
+-- the same cell, all round it no data on either side or the same numbers, and as far apart
 pub record AreAlike (p q : Patch) : Type 0 where
   pub here : AreSame p.here q.here
   pub sink : p.here.sink ≡ q.here.sink
   pub around : (d : Direction) → ShowAlike (neighbor p d) (neighbor q d)
+  pub spacing : p.spacing ≡ q.spacing
 
 pub alike_turned : {p q : Patch} → AreAlike p q → AreAlike q p
-alike_turned h = record { here = turned h.here; sink = sym h.sink; around = λ d. show_turned (h.around d) }
+alike_turned h = record { here = turned h.here; sink = sym h.sink; around = λ d. show_turned (h.around d); spacing = sym h.spacing }
 
 -- and the same ranks, at the cell and at data neighbours
 pub record HaveSameRanks (p q : Patch) : Type 0 where
@@ -138,7 +140,9 @@ lower_there {p} {q} alike d v lower =
       w,
       (
         record { beside = there.1.0; below = below },
-        ap (λ x. slope_key (is_straight d) (x -ℤ v.con)) alike.here.con ∙ ap (λ x. slope_key (is_straight d) (q.here.con -ℤ x)) there.1.1.con,
+        ap (λ x. slope_key (weight_of p.spacing d) (x -ℤ v.con)) alike.here.con
+        ∙ ap (λ x. slope_key (weight_of p.spacing d) (q.here.con -ℤ x)) there.1.1.con
+        ∙ ap (λ (s : Distances). slope_key (weight_of s d) (q.here.con -ℤ w.con)) alike.spacing,
       ),
     )
 

@@ -42,6 +42,7 @@ every_grid_can_be_padded g ps nodata e rows cols =
       extent = e;
       elevation = λ c. if (is_cell_of old c).test then g.elevation c else None;
       sink = g.sink;
+      spacing = g.spacing;
     } in
     let qs : Products = record {
       con = laid old ps.con nodata.con;
@@ -61,6 +62,7 @@ every_grid_can_be_padded g ps nodata e rows cols =
           cols = cols;
           elevations = λ c inside. ap (λ b. if b then g.elevation c else None) (inside_test old c inside);
           sinks = λ c inside. refl;
+          spacings = λ row within. refl;
           voids = λ c inside outside. ap (λ b. is_some (if b then g.elevation c else None)) (outside_test old c outside);
         };
         set = record {
@@ -180,6 +182,7 @@ module _ (g p : Grid) (padded : IsPadded g p) where
           subst (λ o. ShowAlike o (neighbor (patch_at p qs c) d)) (sym (neighbor-patch_at g ps c d))
           (subst (λ o. ShowAlike (option_map (values_at g ps) (step g.extent c d)) o) (sym (neighbor-patch_at p qs c d))
           (shows_alike c d));
+      spacing = sym (padded.spacings c.row inside.row);
     }
 
     pub same_ranks : ((c : Cell) → IsInside g c → qs.rnk c ≡ ps.rnk c) → (c : Cell) → IsInside g c →

@@ -1,16 +1,18 @@
 -- A grid padded with voids: a larger grid, in which it lies from the first row and column on. This project's own.
-use Rattle.std.specs.Prelude.{◌≡◌, ◌≤◌, IsNone}
+use Rattle.std.specs.Prelude.{◌≡◌, ℕ, ◌<◌, ◌≤◌, IsNone}
 use Rattle.drain_grid.specs.declared.cell.Cell.{Cell}
 use Rattle.drain_grid.specs.Values.{NoDataNumbers}
 use Rattle.drain_grid.specs.Grid.{Grid, Products, IsInside}
 use Rattle.drain_grid.specs.Correct.{IsBlankAt}
 
--- p is g with voids after its last row and after its last column; sinks listed at those voids play no part
+-- p is g with voids after its last row and after its last column, and its rows are spaced as those of g; sinks listed
+-- at those voids play no part
 pub record IsPadded (g p : Grid) : Type 0 where
   pub rows : g.extent.rows ≤ p.extent.rows
   pub cols : g.extent.cols ≤ p.extent.cols
   pub elevations : (c : Cell) → IsInside g c → p.elevation c ≡ g.elevation c
   pub sinks : (c : Cell) → IsInside g c → p.sink c ≡ g.sink c
+  pub spacings : (row : ℕ) → row < g.extent.rows → p.spacing row ≡ g.spacing row
   pub voids : (c : Cell) → IsInside p c → ¬ IsInside g c → IsNone (p.elevation c)
 
 -- the four rasters of qs have the numbers of those of ps at the cell

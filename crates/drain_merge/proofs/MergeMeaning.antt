@@ -46,19 +46,19 @@ as_tried n u ps c SharedLabel own fault = absurd (omega (arith, own.1))
 as_tried n u ps c r own fault = fault
 
 pub union_verdict : (e : Extent) → FitsNumbers e → (ws : List WindowReport) (v : MergeVerdict) → IsMerged e ws v → IsUnionVerdict e ws v
-union_verdict e short ws (Accepted counts) (one, fill, lists) = record {
+union_verdict e short ws (Accepted counts) ((one, spaced), fill, lists) = record {
   nodata = one.0;
   one_nodata = one.1;
-  can = inr (can_merge e one.0 ws one.1 fill lists.1);
+  can = inr (can_merge e one.0 ws one.1 spaced fill lists.1);
   none = λ _ some. faulty some.0.report.place some.0.verdict some.2 (lists.0 some.0 some.1);
   means = λ window_of from. record {
-    one_union = inr (union_of_all e short.rows short.cols one.0 ws one.1 fill window_of from lists.0 lists.1);
+    one_union = inr (union_of_all e short.rows short.cols one.0 ws one.1 fill window_of from lists.0 spaced lists.1);
     exactly = λ u ps size are. ((λ yes. is_correct e short.rows short.cols one.0 ws one.1 fill window_of from u ps size are lists.0 lists.2), (λ correct. tt));
     counts = λ u ps size are. union_counts e short.rows short.cols one.0 ws one.1 fill window_of from lists.0 u ps size are counts lists.3;
     first = λ u ps size are. tt;
   };
 }
-union_verdict e short ws (Rejected fault) (one, fill, inl first) = record {
+union_verdict e short ws (Rejected fault) ((one, spaced), fill, inl first) = record {
   nodata = one.0;
   one_nodata = one.1;
   can = inl (some_rejected ws fault first);
@@ -78,13 +78,13 @@ union_verdict e short ws (Rejected fault) (one, fill, inl first) = record {
         as_tried one.0 u ps fault.cell fault.rule told.is_own told);
   };
 }
-union_verdict e short ws (Rejected fault) (one, fill, inr (none, same, rule, first)) = record {
+union_verdict e short ws (Rejected fault) ((one, spaced), fill, inr (none, same, rule, first)) = record {
   nodata = one.0;
   one_nodata = one.1;
-  can = inr (can_merge e one.0 ws one.1 fill same);
+  can = inr (can_merge e one.0 ws one.1 spaced fill same);
   none = λ never. absurd never;
   means = λ window_of from. record {
-    one_union = inr (union_of_all e short.rows short.cols one.0 ws one.1 fill window_of from none same);
+    one_union = inr (union_of_all e short.rows short.cols one.0 ws one.1 fill window_of from none spaced same);
     exactly = λ u ps size are. (
       (λ no. absurd no),
       (λ correct.

@@ -1,6 +1,6 @@
 -- What is computed from lists says whether the products of the union are correct, and what their first fault is.
-use Rattle.std.proofs.Common.{◌≡◌, ℕ, ◌+◌, ◌-◌, ◌^◌, ◌<◌, ◌≤◌, min, ◌⊎◌, inl, inr, pos, Option, Some, None, List, length, slice_index_or, map, IsTrue, refl, sym, ap, subst, ◌∙◌, arith}
-use Rattle.std.specs.List.{Contains}
+use Rattle.std.proofs.Common.{◌≡◌, ℕ, ◌+◌, ◌-◌, ◌^◌, ◌<◌, ◌≤◌, min, ◌⊎◌, inl, inr, pos, Option, Some, None, List, length, slice_index_or, map, IsTrue, [], ◌∷◌, refl, sym, ap, subst, ◌∙◌, arith}
+use Rattle.std.specs.List.{AllPairs, Contains}
 use Rattle.std.proofs.lemmas.List.{get_or-map, length-map}
 use Rattle.std.proofs.lemmas.List.Elements.{All-contains, Contains-get_or}
 use Rattle.drain_grid.specs.declared.cell.Cell.{Cell}
@@ -22,7 +22,7 @@ use Rattle.drain_union.specs.declared.report.Outlet.{Outlet}
 use Rattle.drain_union.specs.declared.place.Place.{Place}
 use Rattle.drain_union.specs.declared.place.TheConstants.{SEAM_DEPTH}
 use Rattle.drain_union.specs.declared.report.Shown.{Shown}
-use Rattle.drain_union.specs.Reports.{ListsOutlets, ShareNoLabel, Report, IsReportOf, CanMerge, ShowTheSame}
+use Rattle.drain_union.specs.Reports.{ListsOutlets, ShareNoLabel, Report, IsReportOf, CanMerge, ShowTheSame, SpacedAlike}
 use Rattle.drain_union.specs.Windows.{BothJudgeOne, JudgesSome, Window, in_union, IsPlaceIn, IsJudgedIn, IsJudgedAtSome, JudgeAll, RulesHoldInside, IsFirstInside, IsNotBefore, IsJudgedOutlet, NoLabelIsShared, AreWindowsOf}
 use Rattle.drain_union.proofs.FirstFaults.{least_fault_is_first}
 use Rattle.drain_union.proofs.ApartPlaces.{judged_apart}
@@ -33,22 +33,31 @@ use Rattle.drain_merge.specs.declared.merge_verdict.Fault.{Fault}
 use Rattle.drain_union.specs.declared.report.WindowReport.{WindowReport}
 use Rattle.drain_merge.specs.Seams.{cell_there, fault_in, union_fault, IsFirstOfFaults, IsFirstSharing}
 use Rattle.drain_merge.specs.Places.{reports_of, places_of, all_outlets, all_seams}
-use Rattle.drain_merge.specs.Merges.{HaveNoData, FillUnion}
+use Rattle.drain_merge.specs.Merges.{HaveNoData, HaveOneSpacing, FillUnion}
 use Rattle.drain_merge.specs.UnionVerdicts.{IsVerdictInside, AreJudgedFrom, windows_of}
 use Rattle.drain_merge.proofs.SortedSeams.{from_flat, in_flat, same_places}
+
+-- what holds of what any two of a list are mapped to holds of any two of the mapped list
+pairs_map : {X Y : Type 0} (f : X → Y) (R : Y → Y → Type 0) (xs : List X) → AllPairs (λ a b. R (f a) (f b)) xs → AllPairs R (map f xs)
+pairs_map f R [] all i j d before below = absurd (omega arith)
+pairs_map f R (x ∷ xs) all i j d before below =
+    let long : length (map f (x ∷ xs)) ≡ length (x ∷ xs) = length-map (x ∷ xs) f in
+    subst (λ a. R a (slice_index_or (map f (x ∷ xs)) j d)) (sym (get_or-map f (x ∷ xs) i x d (omega arith)))
+    (subst (R (f (slice_index_or (x ∷ xs) i x))) (sym (get_or-map f (x ∷ xs) j x d (omega arith))) (all i j x before (omega arith)))
 
 -- an element of the reports is a window's
 from_reports : (ws : List WindowReport) (r : Report) → Contains (reports_of ws) r → (j : WindowReport) × Contains ws j × (j.report ≡ r)
 from_reports ws r has = from_map (λ (j : WindowReport). j.report) ws r has
 
 -- where places fill a union, and what is shown agrees, the reports can be merged
-pub can_merge : (e : Extent) (nodata : NoDataNumbers) (ws : List WindowReport) → HaveNoData nodata ws → FillUnion e (places_of ws) →
+pub can_merge : (e : Extent) (nodata : NoDataNumbers) (ws : List WindowReport) → HaveNoData nodata ws → HaveOneSpacing ws → FillUnion e (places_of ws) →
     ShowTheSame (all_seams ws) (all_seams ws) → CanMerge SEAM_DEPTH e nodata (reports_of ws)
-can_merge e nodata ws one fill same = record {
+can_merge e nodata ws one spaced fill same = record {
   placed = λ r has. All-contains (IsPlaceIn e) (places_of ws) r.place fill.placed (among r has);
   one_nodata = λ r has.
       (let found = from_reports ws r has in
       sym (ap (λ (x : Report). x.nodata) found.2) ∙ All-contains (λ (j : WindowReport). j.report.nodata ≡ nodata) ws found.0 one found.1);
+  spaced = pairs_map (λ (j : WindowReport). j.report) SpacedAlike ws spaced;
   whole = λ c inside. subst (λ (ps : List Place). IsJudgedAtSome ps c) (sym (same_places ws)) (fill.whole c inside);
   overlaps = λ i j d before below.
       (let here : length (reports_of ws) ≡ length ws = length-map ws (λ (w : WindowReport). w.report) in
@@ -165,12 +174,13 @@ module _ (e : Extent) (short_rows : e.rows < 2 ^ 32) (short_cols : e.cols < 2 ^ 
     unshared : ShareNoLabel (all_outlets ws) (all_outlets ws) → NoLabelIsShared windows
     unshared none_shares v w at_v at_w a b out_a out_b same = none_shares _ _ (in_all v at_v a out_a) (in_all w at_w b out_b) same
 
-    pub union_of_all : ShowTheSame (all_seams ws) (all_seams ws) → (u : Grid) × (ps : Products) × (u.extent ≡ e) × AreWindowsOf u ps windows
-    union_of_all same =
+    pub union_of_all : HaveOneSpacing ws → ShowTheSame (all_seams ws) (all_seams ws) →
+        (u : Grid) × (ps : Products) × (u.extent ≡ e) × AreWindowsOf u ps windows
+    union_of_all spaced same =
         one_union SEAM_DEPTH e nodata (reports_of ws) window_of
         (λ r has. (let j = from_reports ws r has in subst (λ (q : Report). IsReportOf SEAM_DEPTH (window_of q) q) j.2 (from j.0 j.1).report))
         (λ r has. (let j = from_reports ws r has in subst (λ (q : Report). IsTrue q.holds) j.2 (says_so j.0 j.1)))
-        (can_merge e nodata ws one fill same)
+        (can_merge e nodata ws one spaced fill same)
 
   -- on a union of which these are the windows
   module _ (u : Grid) (ps : Products) (size : u.extent ≡ e) (are : AreWindowsOf u ps windows) where

@@ -140,6 +140,7 @@ judged_from_map o w j is row col =
       report = record {
         place = ap (place_from o) is.report.place;
         extent = is.report.extent;
+        spacings = is.report.spacings;
         holds = (
           (λ holds. rules_there o j.report.nodata w (is.report.holds.0 holds)),
           (λ hold. is.report.holds.1 (rules_back o j.report.nodata w hold)),

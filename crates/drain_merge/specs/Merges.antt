@@ -1,15 +1,16 @@
 -- What a merge of windows returns, in words of its lists. These definitions are this project's own.
-use Rattle.std.specs.Prelude.{◌≡◌, ◌⊎◌, Some, None, List, [], slice_index_or}
+use Rattle.std.specs.Prelude.{◌≡◌, ◌⊎◌, ℕ, ◌<◌, Option, length, Some, None, List, [], slice_index_or}
 use Rattle.std.specs.List.{All, AllPairs}
 use Rattle.drain_grid.specs.declared.cell.Cell.{Cell}
 use Rattle.drain_grid.specs.declared.rule.Rule.TheVariants.{SharedLabel}
 use Rattle.drain_grid.specs.Extent.{IsCellOf, Extent}
 use Rattle.drain_grid.specs.Values.{NoDataNumbers}
 use Rattle.drain_union.specs.declared.place.Place.{Place}
+use Rattle.drain_union.specs.Reports.{SpacedAlike}
 use Rattle.drain_union.specs.Windows.{BothJudgeOne, JudgesSome, IsPlaceIn, IsJudgedAtSome}
 use Rattle.drain_union.specs.declared.report.WindowReport.{WindowReport}
 use Rattle.drain_merge.specs.declared.merge_verdict.MergeRefusal.{MergeRefusal}
-use Rattle.drain_merge.specs.declared.merge_verdict.MergeRefusal.TheVariants.{NoReports, OtherSide, OtherGrid, OtherNoData, OutsideUnion, JudgesNothing, Overlap, LeftOut, SeamsDiffer, SinkLeftOut, SinkNotListed, OutOfMemory}
+use Rattle.drain_merge.specs.declared.merge_verdict.MergeRefusal.TheVariants.{NoReports, OtherSide, OtherGrid, OtherNoData, OtherSpacing, OutsideUnion, JudgesNothing, Overlap, LeftOut, SeamsDiffer, SinkLeftOut, SinkNotListed, OutOfMemory}
 use Rattle.drain_merge.specs.declared.merge_verdict.MergeVerdict.{MergeVerdict}
 use Rattle.drain_merge.specs.declared.merge_verdict.MergeVerdict.TheVariants.{Accepted, Rejected}
 use Rattle.drain_merge.specs.Seams.{IsFirstUnjudged, IsFirstOfFaults, IsFirstDifference, IsFirstSharing}
@@ -27,6 +28,30 @@ HaveOneNoData windows = (nodata : NoDataNumbers) × HaveNoData nodata windows
 abbrev pub BeginWith : NoDataNumbers → List WindowReport → Type 0
 BeginWith nodata windows = (d : WindowReport) → (slice_index_or windows 0 d).report.nodata ≡ nodata
 
+-- the rows of the union that two windows both have are listed as spaced the same
+abbrev pub HaveRowsAlike : WindowReport → WindowReport → Type 0
+HaveRowsAlike v w = SpacedAlike v.report w.report
+
+-- so of any two of them
+abbrev pub HaveOneSpacing : List WindowReport → Type 0
+HaveOneSpacing windows = AllPairs HaveRowsAlike windows
+
+-- this window lists a row that an earlier one has too as spaced otherwise
+abbrev pub IsSpacedOther : List WindowReport → ℕ → Type 0
+IsSpacedOther windows k =
+    (j : ℕ) × (j < k) × ((d : WindowReport) → ¬ HaveRowsAlike (slice_index_or windows j d) (slice_index_or windows k d))
+
+-- the first window that does, none where none does
+abbrev pub IsFirstSpacedOther : List WindowReport → Option ℕ → Type 0
+IsFirstSpacedOther windows None = HaveOneSpacing windows
+IsFirstSpacedOther windows (Some k) =
+    (k < length windows) × IsSpacedOther windows k
+    × ((i j : ℕ) (d : WindowReport) → i < j → j < k → HaveRowsAlike (slice_index_or windows i d) (slice_index_or windows j d))
+
+-- what windows of one union have in common
+abbrev pub AreOfOneUnion : List WindowReport → Type 0
+AreOfOneUnion windows = HaveOneNoData windows × HaveOneSpacing windows
+
 -- the places lie in a union of this size, judge a cell each, none in common, and judge each of its cells
 pub record FillUnion (e : Extent) (places : List Place) : Type 0 where
   pub placed : All (IsPlaceIn e) places
@@ -42,6 +67,11 @@ IsNoDataRefusal windows (OtherNoData k) =
     (nodata : NoDataNumbers) × BeginWith nodata windows × IsFirstFailing (λ w. w.report.nodata ≡ nodata) windows (Some k)
 IsNoDataRefusal windows other = ⊥
 
+-- why windows are refused for the spacing of their rows
+abbrev pub IsSpacingRefusal : List WindowReport → MergeRefusal → Type 0
+IsSpacingRefusal windows (OtherSpacing k) = IsFirstSpacedOther windows (Some k)
+IsSpacingRefusal windows other = ⊥
+
 -- why places are refused
 abbrev pub IsPlaceRefusal : Extent → List Place → MergeRefusal → Type 0
 IsPlaceRefusal e places (OutsideUnion k) = IsFirstFailing (IsPlaceIn e) places (Some k)
@@ -55,18 +85,19 @@ IsPlaceRefusal e places other = ⊥
 -- why windows are refused: each refusal where it is said, and where no earlier one is
 abbrev pub IsMergeRefusal : Extent → List WindowReport → MergeRefusal → Type 0
 IsMergeRefusal e windows (SeamsDiffer c) =
-    HaveOneNoData windows × FillUnion e (places_of windows) × IsFirstOfFaults windows None × IsFirstDifference (all_seams windows) (Some c)
-IsMergeRefusal e windows OutOfMemory = HaveOneNoData windows
+    AreOfOneUnion windows × FillUnion e (places_of windows) × IsFirstOfFaults windows None × IsFirstDifference (all_seams windows) (Some c)
+IsMergeRefusal e windows OutOfMemory = AreOfOneUnion windows
 IsMergeRefusal e windows NoReports = IsNoDataRefusal windows NoReports
 IsMergeRefusal e windows (OtherSide k) = ⊥
 IsMergeRefusal e windows (OtherGrid k) = ⊥
 IsMergeRefusal e windows (SinkLeftOut n) = ⊥
 IsMergeRefusal e windows (SinkNotListed c) = ⊥
 IsMergeRefusal e windows (OtherNoData k) = IsNoDataRefusal windows (OtherNoData k)
-IsMergeRefusal e windows (OutsideUnion k) = HaveOneNoData windows × IsPlaceRefusal e (places_of windows) (OutsideUnion k)
-IsMergeRefusal e windows (JudgesNothing k) = HaveOneNoData windows × IsPlaceRefusal e (places_of windows) (JudgesNothing k)
-IsMergeRefusal e windows (Overlap clash) = HaveOneNoData windows × IsPlaceRefusal e (places_of windows) (Overlap clash)
-IsMergeRefusal e windows (LeftOut c) = HaveOneNoData windows × IsPlaceRefusal e (places_of windows) (LeftOut c)
+IsMergeRefusal e windows (OtherSpacing k) = HaveOneNoData windows × IsSpacingRefusal windows (OtherSpacing k)
+IsMergeRefusal e windows (OutsideUnion k) = AreOfOneUnion windows × IsPlaceRefusal e (places_of windows) (OutsideUnion k)
+IsMergeRefusal e windows (JudgesNothing k) = AreOfOneUnion windows × IsPlaceRefusal e (places_of windows) (JudgesNothing k)
+IsMergeRefusal e windows (Overlap clash) = AreOfOneUnion windows × IsPlaceRefusal e (places_of windows) (Overlap clash)
+IsMergeRefusal e windows (LeftOut c) = AreOfOneUnion windows × IsPlaceRefusal e (places_of windows) (LeftOut c)
 
 -- the verdict in words of the lists: the first fault of a window; else the first cell of an outlet with the label of one
 -- at an earlier cell; else the counts
@@ -79,4 +110,4 @@ IsListVerdict e windows (Rejected fault) =
     × IsFirstSharing (all_outlets windows) (Some fault.cell))
 
 abbrev pub IsMerged : Extent → List WindowReport → MergeVerdict → Type 0
-IsMerged e windows v = HaveOneNoData windows × FillUnion e (places_of windows) × IsListVerdict e windows v
+IsMerged e windows v = AreOfOneUnion windows × FillUnion e (places_of windows) × IsListVerdict e windows v

@@ -74,6 +74,7 @@ shown_from origin x = record { cell = cell_from origin x.cell; values = x.values
 abbrev pub report_from : Cell → Report → Report
 report_from origin r = record {
   place = place_from origin r.place;
+  spacings = r.spacings;
   nodata = r.nodata;
   holds = r.holds;
   outlets = map (outlet_from origin) r.outlets;

@@ -4,7 +4,7 @@ use Rattle.drain_grid.specs.declared.cell.Cell.{Cell}
 use Rattle.drain_answer.specs.Lines.{counted_line, rejected_line}
 use Rattle.drain_merge.specs.declared.map_merge.MapVerdict.{MapVerdict}
 use Rattle.drain_merge.specs.declared.merge_verdict.MergeRefusal.{MergeRefusal}
-use Rattle.drain_merge.specs.declared.merge_verdict.MergeRefusal.TheVariants.{NoReports, OtherSide, OtherGrid, OtherNoData, OutsideUnion, JudgesNothing, Overlap, LeftOut, SeamsDiffer, SinkLeftOut, SinkNotListed, OutOfMemory}
+use Rattle.drain_merge.specs.declared.merge_verdict.MergeRefusal.TheVariants.{NoReports, OtherSide, OtherGrid, OtherNoData, OtherSpacing, OutsideUnion, JudgesNothing, Overlap, LeftOut, SeamsDiffer, SinkLeftOut, SinkNotListed, OutOfMemory}
 use Rattle.drain_merge.specs.declared.merge_verdict.MergeVerdict.{MergeVerdict}
 use Rattle.drain_merge.specs.declared.merge_verdict.MergeVerdict.TheVariants.{Accepted, Rejected}
 use Rattle.drain_merge.specs.declared.places.Clash.{Clash}
@@ -55,6 +55,7 @@ refusal_line NoReports = codes "refused NoReports"
 refusal_line (OtherSide k) = codes "refused OtherSide " ++ decimal k
 refusal_line (OtherGrid k) = codes "refused OtherGrid " ++ decimal k
 refusal_line (OtherNoData k) = codes "refused OtherNoData " ++ decimal k
+refusal_line (OtherSpacing k) = codes "refused OtherSpacing " ++ decimal k
 refusal_line (OutsideUnion k) = codes "refused OutsideUnion " ++ decimal k
 refusal_line (JudgesNothing k) = codes "refused JudgesNothing " ++ decimal k
 refusal_line (Overlap clash) = overlap_line clash

@@ -8,6 +8,7 @@ pub mod merger;
 pub mod places;
 mod seams;
 mod shared;
+mod spacings;
 pub mod totals;
 
 pub use map_merge::{MapVerdict, UnionBox, merge_on_map};

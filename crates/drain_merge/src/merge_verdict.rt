@@ -173,6 +173,7 @@ fn refusal_line(refusal: MergeRefusal) -> Line
         MergeRefusal::OtherSide(place) => of_number("refused OtherSide ", place as u64),
         MergeRefusal::OtherGrid(place) => of_number("refused OtherGrid ", place as u64),
         MergeRefusal::OtherNoData(place) => of_number("refused OtherNoData ", place as u64),
+        MergeRefusal::OtherSpacing(place) => of_number("refused OtherSpacing ", place as u64),
         MergeRefusal::OutsideUnion(place) => of_number("refused OutsideUnion ", place as u64),
         MergeRefusal::JudgesNothing(place) => of_number("refused JudgesNothing ", place as u64),
         MergeRefusal::Overlap(clash) => overlap(clash),
@@ -245,6 +246,10 @@ pub enum MergeRefusal {
     /// The first window that has other no-data numbers than the first one of the list.
     #[error("a window has other no-data numbers")]
     OtherNoData(usize),
+    /// The first window that lists another spacing than an earlier one for a row of the union that both have, in whichever
+    /// columns.
+    #[error("a row of a window has another spacing")]
+    OtherSpacing(usize),
     /// The first window that doesn't lie in the union, or has a side that isn't inner and isn't the union's edge.
     #[error("a window doesn't fit the union")]
     OutsideUnion(usize),

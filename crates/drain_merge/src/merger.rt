@@ -3,13 +3,14 @@
 ghost use Rattle.std.specs.Prelude.{IfOk, IfErr, OnOk};
 ghost use Rattle.drain_merge.specs.Places.{places_of, all_outlets, all_seams};
 ghost use Rattle.drain_merge.specs.Seams.{IsFirstDifference, IsFirstSharing};
-ghost use Rattle.drain_merge.specs.Merges.{HaveOneNoData, FillUnion, IsNoDataRefusal, IsPlaceRefusal, IsMergeRefusal, IsMerged};
+ghost use Rattle.drain_merge.specs.Merges.{HaveOneNoData, HaveOneSpacing, FillUnion, IsNoDataRefusal, IsSpacingRefusal, IsPlaceRefusal, IsMergeRefusal, IsMerged};
 ghost use Rattle.drain_merge.specs.UnionVerdicts.{IsUnionVerdict};
 
 use crate::merge_verdict::{Fault, MergeRefusal, MergeVerdict, first_fault};
 use crate::places::{UnionSize, first_clash, first_idle, first_outside};
 use crate::seams::{first_difference, first_unjudged};
 use crate::shared::{first_other_nodata, first_sharing, nodata_of};
+use crate::spacings::first_other_spacing;
 use crate::totals::{outlets, places, seams, total};
 use drain_grid::{Cell, OutOfMemory, Rule};
 use drain_union::{Place, WindowReport};
@@ -49,6 +50,7 @@ fn merged(
     ensures refusal { IfErr result (IsMergeRefusal size windows.now) }
 {
     check_nodata(windows)?;
+    check_spacings(windows)?;
     check_places(alloc, size, windows)?;
     if let Some(fault) = first_fault(windows) {
         return Ok(MergeVerdict::Rejected(fault));
@@ -75,6 +77,18 @@ fn check_nodata(windows: &[WindowReport]) -> Result<(), MergeRefusal>
     };
     match first_other_nodata(windows, nodata_of(first)) {
         Some(place) => Err(MergeRefusal::OtherNoData(place)),
+        None => Ok(()),
+    }
+}
+
+/// Refuses windows that list one row of the union with several spacings: they were judged on different distances, so
+/// they are of no one union.
+fn check_spacings(windows: &[WindowReport]) -> Result<(), MergeRefusal>
+    ensures one { OnOk result (HaveOneSpacing windows.now) }
+    ensures refusal { IfErr result (IsSpacingRefusal windows.now) }
+{
+    match first_other_spacing(windows) {
+        Some(place) => Err(MergeRefusal::OtherSpacing(place)),
         None => Ok(()),
     }
 }

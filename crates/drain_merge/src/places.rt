@@ -33,6 +33,7 @@ fn moved_report(origin: Cell, report: Report) -> Report
 {
     let Report {
         place,
+        spacings,
         nodata,
         holds,
         mut outlets,
@@ -44,6 +45,7 @@ fn moved_report(origin: Cell, report: Report) -> Report
     move_sinks(origin, sinks.as_mut_slice());
     Report {
         place: moved_place(origin, place),
+        spacings,
         nodata,
         holds,
         outlets,

@@ -5,6 +5,7 @@ use Rattle.std.proofs.lemmas.List.{get_or_append_left, get_or-append-add}
 use Rattle.drain_grid.specs.declared.cell.Cell.{Cell}
 use Rattle.drain_grid.specs.Extent.{index_of, Extent, IsCellOf}
 use Rattle.drain_grid.specs.Grid.{Grid, Products, IsInside, no_sink}
+use Rattle.drain_grid.specs.Spacing.{unit_spacing}
 use Rattle.drain_grid.proofs.Alike.{in_grid, before_row, same_index}
 use Rattle.drain_paths.specs.declared.flow.Flow.{Flow}
 use Rattle.drain_paths.specs.declared.flow.Flow.TheVariants.{Void, Lost, Ends, ToEast, ToSouthEast, ToSouth, ToSouthWest, ToWest, ToNorthWest, ToNorth, ToNorthEast}
@@ -82,7 +83,8 @@ flow_back Void = refl
 flow_back f = refl
 
 pub grid_of_flows : Extent → List Flow → Grid
-grid_of_flows e flows = record { extent = e; elevation = λ c. height_of_flow (flow_at e flows c); sink = no_sink }
+grid_of_flows e flows =
+    record { extent = e; elevation = λ c. height_of_flow (flow_at e flows c); sink = no_sink; spacing = λ row. unit_spacing }
 
 pub products_of_flows : Extent → List Flow → Products
 products_of_flows e flows = record {

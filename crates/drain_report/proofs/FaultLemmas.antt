@@ -115,6 +115,10 @@ pub record IsLater (text : List ℕ) (n : ℕ) (rest : List ℕ) : Type 0 where
 pub later : (text rest after : List ℕ) (n m : ℕ) → IsLater text n rest → (IsAt (line_feeds text) n rest → IsPast (line_feeds text) n m after) → IsLater text m after
 later text rest after n m here read = let past = read here.at in record { least = omega (arith, here.least, past.0); at = past.1 }
 
+-- after as many lines as there were, none among them
+pub same_or_later : (text rest after : List ℕ) (n m : ℕ) → IsLater text n rest → (IsAt (line_feeds text) n rest → (n ≤ m) × IsAt (line_feeds text) m after) → IsLater text m after
+same_or_later text rest after n m here read = let past = read here.at in record { least = omega (arith, here.least, past.0); at = past.1 }
+
 pub from_head : (text rest : List ℕ) (n : ℕ) → IsPast (line_feeds text) 2 n rest → IsLater text n rest
 from_head text rest n past = record { least = omega (arith, past.0); at = past.1 }
 

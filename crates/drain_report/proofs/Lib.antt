@@ -4,3 +4,4 @@ pub mod FactLemmas
 pub mod ListLemmas
 pub mod TextLemmas
 pub mod FaultLemmas
+pub mod SpacingLists

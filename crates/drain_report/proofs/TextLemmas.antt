@@ -1,7 +1,8 @@
 -- The parts of a text, one after another.
-use Rattle.std.proofs.Common.{◌≡◌, ℕ, Bool, List, [], ◌++◌, refl, ap, ◌∙◌, append_assoc}
+use Rattle.std.proofs.Common.{◌≡◌, ℕ, pos, Bool, List, [], ◌∷◌, ◌++◌, length, refl, ap, ◌∙◌, append_assoc}
 use Rattle.std.specs.Prelude.{Result, IfOk, MatchResult, OnOk, Ok, Err, codes}
 use Rattle.drain_grid.specs.declared.cell.Cell.{Cell}
+use Rattle.drain_grid.specs.Spacing.{Distances}
 use Rattle.drain_grid.specs.Values.{NoDataNumbers}
 use Rattle.drain_hgt.specs.Corner.{Corner}
 use Rattle.drain_grid.specs.declared.verdict.Verdict.{Verdict}
@@ -13,25 +14,26 @@ use Rattle.drain_union.specs.declared.union_grid.UnionGrid.{UnionGrid}
 use Rattle.drain_report.specs.declared.head.Head.{Head}
 use Rattle.drain_report.specs.Facts.{grid_line, nodata_line, outlet_line, place_line, shown_line, sink_line, tile_line, verdict_line}
 use Rattle.drain_report.specs.Faults.{HasVersion}
-use Rattle.drain_report.specs.Contents.{head_text, version_line, list_text, Contents, end_line, head_of}
+use Rattle.drain_report.specs.Contents.{head_text, version_line, all_text, list_text, spacings_text, Contents, end_line, head_of}
+use Rattle.drain_report.specs.Lines.{spaced}
 
 -- parts that were appended
 pub five : (t0 t1 t2 t3 t4 t5 a b c d e : List ℕ) → t1 ≡ t0 ++ a → t2 ≡ t1 ++ b → t3 ≡ t2 ++ c → t4 ≡ t3 ++ d → t5 ≡ t4 ++ e → t5 ≡ t0 ++ (a ++ (b ++ (c ++ (d ++ e))))
 five t0 t1 t2 t3 t4 t5 a b c d e p q r s t = rw (t, s, r, q, p) (simp append_assoc)
 
-pub six_new : (t0 t1 t2 t3 t4 t5 t6 a b c d e f : List ℕ) → t0 ≡ [] → t1 ≡ t0 ++ a → t2 ≡ t1 ++ b → t3 ≡ t2 ++ c → t4 ≡ t3 ++ d → t5 ≡ t4 ++ e → t6 ≡ t5 ++ f → t6 ≡ a ++ (b ++ (c ++ (d ++ (e ++ f))))
-six_new t0 t1 t2 t3 t4 t5 t6 a b c d e f new p q r s t u = rw (u, t, s, r, q, p, new) (simp append_assoc)
+pub seven_new : (t0 t1 t2 t3 t4 t5 t6 t7 a b c d e f g : List ℕ) → t0 ≡ [] → t1 ≡ t0 ++ a → t2 ≡ t1 ++ b → t3 ≡ t2 ++ c → t4 ≡ t3 ++ d → t5 ≡ t4 ++ e → t6 ≡ t5 ++ f → t7 ≡ t6 ++ g → t7 ≡ a ++ (b ++ (c ++ (d ++ (e ++ (f ++ g)))))
+seven_new t0 t1 t2 t3 t4 t5 t6 t7 a b c d e f g new p q r s t u v = rw (v, u, t, s, r, q, p, new) (simp append_assoc)
 
 -- parts that were read
 pub read_five : (text r1 r2 r3 r4 r5 a b c d e : List ℕ) → text ≡ a ++ r1 → r1 ≡ b ++ r2 → r2 ≡ c ++ r3 → r3 ≡ d ++ r4 → r4 ≡ e ++ r5 → text ≡ (a ++ (b ++ (c ++ (d ++ e)))) ++ r5
 read_five text r1 r2 r3 r4 r5 a b c d e p q r s t = rw (p, q, r, s, t) (simp append_assoc)
 
-pub read_six : (text r1 r2 r3 r4 r5 a b c d e f : List ℕ) → text ≡ a ++ r1 → r1 ≡ b ++ r2 → r2 ≡ c ++ r3 → r3 ≡ d ++ r4 → r4 ≡ e ++ r5 → r5 ≡ f → text ≡ a ++ (b ++ (c ++ (d ++ (e ++ f))))
-read_six text r1 r2 r3 r4 r5 a b c d e f p q r s t u =
-    p ∙ ap (λ x. a ++ x) (q ∙ ap (λ x. b ++ x) (r ∙ ap (λ x. c ++ x) (s ∙ ap (λ x. d ++ x) (t ∙ ap (λ x. e ++ x) u))))
+pub read_seven : (text r1 r2 r3 r4 r5 r6 a b c d e f g : List ℕ) → text ≡ a ++ r1 → r1 ≡ b ++ r2 → r2 ≡ c ++ r3 → r3 ≡ d ++ r4 → r4 ≡ e ++ r5 → r5 ≡ f ++ r6 → r6 ≡ g → text ≡ a ++ (b ++ (c ++ (d ++ (e ++ (f ++ g)))))
+read_seven text r1 r2 r3 r4 r5 r6 a b c d e f g p q r s t u v =
+    p ∙ ap (λ x. a ++ x) (q ∙ ap (λ x. b ++ x) (r ∙ ap (λ x. c ++ x) (s ∙ ap (λ x. d ++ x) (t ∙ ap (λ x. e ++ x) (u ∙ ap (λ x. f ++ x) v)))))
 
-pub six_then : (text r1 r2 r3 r4 r5 a b c d e f more : List ℕ) → text ≡ a ++ r1 → r1 ≡ b ++ r2 → r2 ≡ c ++ r3 → r3 ≡ d ++ r4 → r4 ≡ e ++ r5 → r5 ≡ f ++ more → text ≡ (a ++ (b ++ (c ++ (d ++ (e ++ f))))) ++ more
-six_then text r1 r2 r3 r4 r5 a b c d e f more p q r s t u = read_six text r1 r2 r3 r4 r5 a b c d e (f ++ more) p q r s t u ∙ simp append_assoc
+pub seven_then : (text r1 r2 r3 r4 r5 r6 a b c d e f g more : List ℕ) → text ≡ a ++ r1 → r1 ≡ b ++ r2 → r2 ≡ c ++ r3 → r3 ≡ d ++ r4 → r4 ≡ e ++ r5 → r5 ≡ f ++ r6 → r6 ≡ g ++ more → text ≡ (a ++ (b ++ (c ++ (d ++ (e ++ (f ++ g)))))) ++ more
+seven_then text r1 r2 r3 r4 r5 r6 a b c d e f g more p q r s t u v = read_seven text r1 r2 r3 r4 r5 r6 a b c d e f (g ++ more) p q r s t u v ∙ simp append_assoc
 
 -- parts that are to be read
 pub five_split : (a b c d e rest : List ℕ) → (a ++ (b ++ (c ++ (d ++ e)))) ++ rest ≡ a ++ (b ++ (c ++ (d ++ (e ++ rest))))
@@ -65,12 +67,12 @@ abbrev pub head_with : UnionGrid → Verdict → Report → Head
 head_with grid verdict r = record { grid = grid; place = r.place; nodata = r.nodata; verdict = verdict }
 
 -- what these parts say
-abbrev pub contents_with : Head → List Corner → List Cell → List Outlet → List Shown → Contents
-contents_with h tiles sinks outlets seams = record {
+abbrev pub contents_with : Head → List Distances → List Corner → List Cell → List Outlet → List Shown → Contents
+contents_with h spacings tiles sinks outlets seams = record {
   grid = h.grid;
   tiles = tiles;
   verdict = h.verdict;
-  report = record { place = h.place; nodata = h.nodata; holds = is_accepted h.verdict; outlets = outlets; seams = seams; sinks = sinks };
+  report = record { place = h.place; spacings = spacings; nodata = h.nodata; holds = is_accepted h.verdict; outlets = outlets; seams = seams; sinks = sinks };
 }
 
 -- what follows each part of a report
@@ -83,15 +85,28 @@ after_sinks w = list_text (codes "outlets") outlet_line w.report.outlets ++ afte
 abbrev pub after_tiles : Contents → List ℕ
 after_tiles w = list_text (codes "sinks") sink_line w.report.sinks ++ after_sinks w
 
-abbrev pub after_head : Contents → List ℕ
-after_head w = list_text (codes "tiles") tile_line w.tiles ++ after_tiles w
+abbrev pub after_spacings : Contents → List ℕ
+after_spacings w = list_text (codes "tiles") tile_line w.tiles ++ after_tiles w
 
-pub same_contents : (w : Contents) (head : Head) (holds : Bool) (tiles : List Corner) (sinks : List Cell) (outlets : List Outlet) (seams : List Shown)
-    → head ≡ head_of w → holds ≡ w.report.holds → tiles ≡ w.tiles → sinks ≡ w.report.sinks → outlets ≡ w.report.outlets → seams ≡ w.report.seams
+abbrev pub after_head : Contents → List ℕ
+after_head w = spacings_text w.report.spacings ++ after_spacings w
+
+-- the list of tiles begins with its word
+abbrev pub behind_tiles_word : Contents → List ℕ
+behind_tiles_word w = (spaced (pos (length w.tiles) ∷ []) ++ 10 ∷ []) ++ (all_text tile_line w.tiles ++ after_tiles w)
+
+pub tiles_begin : (w : Contents) → after_spacings w ≡ codes "tiles" ++ behind_tiles_word w
+tiles_begin w = simp append_assoc
+
+pub with_word : (w : Contents) → after_head w ≡ spacings_text w.report.spacings ++ (codes "tiles" ++ behind_tiles_word w)
+with_word w = ap (λ t. spacings_text w.report.spacings ++ t) (tiles_begin w)
+
+pub same_contents : (w : Contents) (head : Head) (holds : Bool) (spacings : List Distances) (tiles : List Corner) (sinks : List Cell) (outlets : List Outlet) (seams : List Shown)
+    → head ≡ head_of w → holds ≡ w.report.holds → spacings ≡ w.report.spacings → tiles ≡ w.tiles → sinks ≡ w.report.sinks → outlets ≡ w.report.outlets → seams ≡ w.report.seams
     → record {
       grid = head.grid;
       tiles = tiles;
       verdict = head.verdict;
-      report = record { place = head.place; nodata = head.nodata; holds = holds; outlets = outlets; seams = seams; sinks = sinks };
+      report = record { place = head.place; spacings = spacings; nodata = head.nodata; holds = holds; outlets = outlets; seams = seams; sinks = sinks };
     } ≡ w
-same_contents w head holds tiles sinks outlets seams a b c d e f = rw (a, b, c, d, e, f) refl
+same_contents w head holds spacings tiles sinks outlets seams a b c d e f g = rw (a, b, c, d, e, f, g) refl

@@ -1,7 +1,8 @@
 -- The text of a whole report. The order of its lines is this project's own.
 use Rattle.std.specs.Prelude.{◌<◌, ◌^◌, ℕ, List, ◌++◌, codes, [], ◌∷◌, length}
 use Rattle.drain_report.specs.declared.head.Head.{Head}
-use Rattle.drain_report.specs.Facts.{count_line, GridFits, grid_line, IsPlace, place_line, IsAuditNoData, nodata_line, VerdictFits, verdict_line, IsNarrow, sink_line, IsOutlet, outlet_line, IsShown, shown_line, tile_line}
+use Rattle.drain_report.specs.Facts.{count_line, GridFits, grid_line, IsPlace, place_line, IsAuditNoData, nodata_line, VerdictFits, verdict_line, IsNarrow, sink_line, IsOutlet, outlet_line, IsShown, shown_line, spacing_line, tile_line}
+use Rattle.drain_grid.specs.Spacing.{Distances, IsSpacing}
 use Rattle.drain_grid.specs.declared.verdict.Verdict.{Verdict}
 use Rattle.drain_hgt.specs.Corner.{Corner, IsOnMap}
 use Rattle.drain_union.specs.Reports.{Report, Agree}
@@ -43,6 +44,14 @@ pub record IsListOf {X : Type 0} (P : X → Type 0) (xs : List X) : Type 0 where
 abbrev pub list_text : {X : Type 0} → List ℕ → (X → List ℕ) → List X → List ℕ
 list_text word f xs = count_line word (length xs) ++ all_text f xs
 
+-- the list of spacings, and no line if none is listed
+abbrev pub spacings_text : List Distances → List ℕ
+spacings_text [] = []
+spacings_text (s ∷ ss) = list_text (codes "spacings") spacing_line (s ∷ ss)
+
+abbrev pub SpacingsFit : List Distances → Type 0
+SpacingsFit = IsListOf IsSpacing
+
 -- what the text of a report says
 pub record Contents : Type 0 where
   pub grid : UnionGrid
@@ -63,13 +72,15 @@ end_line = codes "end\n"
 -- all lines of a report
 abbrev pub report_text : Contents → List ℕ
 report_text w =
-    head_text (head_of w) ++ (list_text (codes "tiles") tile_line w.tiles ++ (list_text (codes "sinks") sink_line w.report.sinks
-    ++ (list_text (codes "outlets") outlet_line w.report.outlets ++ (list_text (codes "seams") shown_line w.report.seams ++ end_line))))
+    head_text (head_of w) ++ (spacings_text w.report.spacings ++ (list_text (codes "tiles") tile_line w.tiles
+    ++ (list_text (codes "sinks") sink_line w.report.sinks ++ (list_text (codes "outlets") outlet_line w.report.outlets
+    ++ (list_text (codes "seams") shown_line w.report.seams ++ end_line)))))
 
 -- each number is in the range of its type, and the report holds exactly where its verdict is accepted
 pub record ContentsFit (w : Contents) : Type 0 where
   pub head : HeadFits (head_of w)
   pub holds : Agree w.verdict w.report
+  pub spacings : SpacingsFit w.report.spacings
   pub tiles : IsListOf IsOnMap w.tiles
   pub sinks : IsListOf IsNarrow w.report.sinks
   pub outlets : IsListOf IsOutlet w.report.outlets

@@ -2,6 +2,7 @@
 use Rattle.std.specs.Prelude.{◌≡◌, ◌<◌, ◌^◌, ℕ, ℤ, pos, Bool, Option, Some, None, List, [], ◌∷◌, ◌++◌, codes, if◌then◌else◌}
 use Rattle.std.specs.Fmt.{signed_decimal}
 use Rattle.drain_grid.specs.declared.cell.Cell.{Cell}
+use Rattle.drain_grid.specs.Spacing.{Distances}
 use Rattle.drain_grid.specs.Values.{Values, AreInRange, NoDataNumbers, IsNoData}
 use Rattle.drain_union.specs.declared.report.Outlet.{Outlet}
 use Rattle.drain_union.specs.declared.report.Shown.{Shown}
@@ -40,6 +41,13 @@ cell_numbers c = pos c.row ∷ pos c.col ∷ []
 -- sink ROW COL
 abbrev pub sink_line : Cell → List ℕ
 sink_line c = line (codes "sink") (cell_numbers c)
+
+-- spacing WIDTH HEIGHT
+abbrev pub spacing_numbers : Distances → List ℤ
+spacing_numbers s = pos s.width ∷ pos s.height ∷ []
+
+abbrev pub spacing_line : Distances → List ℕ
+spacing_line s = line (codes "spacing") (spacing_numbers s)
 
 pub record IsOutlet (o : Outlet) : Type 0 where
   pub label : IsLong o.label

@@ -11,6 +11,7 @@ mod numbers;
 mod place;
 mod read;
 mod seams;
+mod spacings;
 mod tiles;
 mod verdict;
 mod write;

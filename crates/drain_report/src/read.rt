@@ -9,6 +9,7 @@ use crate::fault::ReportFault;
 use crate::head::read_head;
 use crate::lines::{Lines, after_word, unread};
 use crate::lists::read_list;
+use crate::spacings::read_spacings;
 use drain_grid::Verdict;
 use drain_union::{Report, WindowReport};
 use std::alloc::Global;
@@ -28,6 +29,10 @@ pub fn read_report(alloc: Global, text: &[u8]) -> Result<WindowReport, ReportFau
     ensures fault { IfErr result (FaultFits text.now) }
 {
     let (head, lines) = match read_head(text) {
+        Ok(read) => read,
+        Err(fault) => return Err(fault),
+    };
+    let (spacings, lines) = match read_spacings(alloc, lines) {
         Ok(read) => read,
         Err(fault) => return Err(fault),
     };
@@ -56,6 +61,7 @@ pub fn read_report(alloc: Global, text: &[u8]) -> Result<WindowReport, ReportFau
         verdict: head.verdict,
         report: Report {
             place: head.place,
+            spacings,
             nodata: head.nodata,
             holds: accepts(&head.verdict),
             outlets,

@@ -7,6 +7,7 @@ ghost use Rattle.drain_report.specs.Contents.{ContentsFit, contents_of, report_t
 use crate::head::{Head, push_head};
 use crate::lines::push;
 use crate::lists::push_list;
+use crate::spacings::push_spacings;
 use drain_grid::OutOfMemory;
 use drain_union::WindowReport;
 use std::alloc::Global;
@@ -29,6 +30,7 @@ pub fn write_report(alloc: Global, window: &WindowReport) -> Result<Vec<u8>, Out
         verdict: window.verdict,
     };
     push_head(&mut text, &head)?;
+    push_spacings(&mut text, &report.spacings)?;
     push_list(&mut text, "tiles", &window.tiles)?;
     push_list(&mut text, "sinks", &report.sinks)?;
     push_list(&mut text, "outlets", &report.outlets)?;

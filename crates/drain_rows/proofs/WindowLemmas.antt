@@ -11,6 +11,7 @@ use Rattle.drain_grid.specs.Grid.{Grid, Products}
 use Rattle.drain_rules.specs.Rows.{IsRowOf, MarkedRow, place, AreRowPatches, AreNumbersOf, AreRowNumbers, RowNumbers, blank}
 use Rattle.drain_grid.specs.CellLists.{is_among}
 use Rattle.drain_grid.specs.PerProduct.{of_product}
+use Rattle.drain_grid.specs.Spacing.{Distances}
 use Rattle.drain_grid.proofs.ByProduct.{by_set_product}
 use Rattle.drain_grid.specs.Values.{IsPixel}
 use Rattle.drain_grid.specs.declared.set_product.SetProduct.{SetProduct}
@@ -95,26 +96,27 @@ blank-whole = record {
 }
 
 -- a row that is marked is a row of the grid
-pub row-marked : (g : Grid) (ps : Products) (sinks : List SinkLine) (rows : ℕ → RowNumbers) (r : ℕ) (row : MarkedRow) → AreRowsOf g ps sinks rows → row.numbers ≡ rows r →
-    IsMarked sinks r row → r < g.extent.rows → IsRowOf g ps r row
-row-marked g ps sinks rows r row all is marked inside =
+pub row-marked : (g : Grid) (ps : Products) (sinks : List SinkLine) (spacing : ℕ → Distances) (rows : ℕ → RowNumbers) (r : ℕ) (row : MarkedRow) → AreRowsOf g ps sinks spacing rows → row.numbers ≡ rows r →
+    IsMarked sinks spacing r row → r < g.extent.rows → IsRowOf g ps r row
+row-marked g ps sinks spacing rows r row all is marked inside =
     let numbers = subst (λ n. AreNumbersOf g ps r n) (sym is) (all.row r inside) in
     record {
       numbers = numbers;
       sinks = λ col across.
-          (let wide = numbers.cols_are in marked col (omega (arith, across, wide)))
+          (let wide = numbers.cols_are in marked.marks col (omega (arith, across, wide)))
           ∙ sym (all.sinks_are (place r col) (record { row = inside; col = across }));
+      spacing = marked.spaced ∙ sym (all.spaced r inside);
     }
 
 -- with the row below, three rows of the grid are in the window
-pub rows-around : (g : Grid) (ps : Products) (sinks : List SinkLine) (rows : ℕ → RowNumbers) (row : ℕ) (three : ThreeRows) → AreRowsOf g ps sinks rows → row < g.extent.rows →
+pub rows-around : (g : Grid) (ps : Products) (sinks : List SinkLine) (spacing : ℕ → Distances) (rows : ℕ → RowNumbers) (row : ℕ) (three : ThreeRows) → AreRowsOf g ps sinks spacing rows → row < g.extent.rows →
     AreSetProducts rows row three.above.numbers three.here.numbers → three.below.numbers ≡ rows (row + 1) →
-    ((r : ℕ) → row ≡ r + 1 → IsMarked sinks r three.above) → IsMarked sinks row three.here → IsMarked sinks (row + 1) three.below → AreRowsAround g ps row three
-rows-around g ps sinks rows row three all inside are below_is above_marked here_marked below_marked = record {
-  here = row-marked g ps sinks rows row three.here all are.here_is here_marked inside;
-  below = λ more. row-marked g ps sinks rows (row + 1) three.below all below_is below_marked more;
+    ((r : ℕ) → row ≡ r + 1 → IsMarked sinks spacing r three.above) → IsMarked sinks spacing row three.here → IsMarked sinks spacing (row + 1) three.below → AreRowsAround g ps row three
+rows-around g ps sinks spacing rows row three all inside are below_is above_marked here_marked below_marked = record {
+  here = row-marked g ps sinks spacing rows row three.here all are.here_is here_marked inside;
+  below = λ more. row-marked g ps sinks spacing rows (row + 1) three.below all below_is below_marked more;
   none_below = λ last. below_is ∙ ap rows (sym last) ∙ all.last;
-  above = λ r is. row-marked g ps sinks rows r three.above all (are.above_is r is) (above_marked r is) (omega (arith, is, inside));
+  above = λ r is. row-marked g ps sinks spacing rows r three.above all (are.above_is r is) (above_marked r is) (omega (arith, is, inside));
   none_above = are.none_above;
 }
 
@@ -128,17 +130,17 @@ held-turned rows row above here above_now here_now are above_is here_is = record
 }
 
 -- so three rows that are those of the window, once it turned, show the patches of the row
-pub window-shows : ThreeRowsShowPatches → (g : Grid) (ps : Products) (sinks : List SinkLine) (rows : ℕ → RowNumbers) (row : ℕ) (three : ThreeRows) (above here below : MarkedRow) →
-    AreRowsOf g ps sinks rows → row < g.extent.rows → three.above ≡ above → three.here ≡ here → three.below ≡ below → AreSetProducts rows row above.numbers here.numbers →
-    below.numbers ≡ rows (row + 1) → ((r : ℕ) → row ≡ r + 1 → IsMarked sinks r above) → IsMarked sinks row here → IsMarked sinks (row + 1) below →
+pub window-shows : ThreeRowsShowPatches → (g : Grid) (ps : Products) (sinks : List SinkLine) (spacing : ℕ → Distances) (rows : ℕ → RowNumbers) (row : ℕ) (three : ThreeRows) (above here below : MarkedRow) →
+    AreRowsOf g ps sinks spacing rows → row < g.extent.rows → three.above ≡ above → three.here ≡ here → three.below ≡ below → AreSetProducts rows row above.numbers here.numbers →
+    below.numbers ≡ rows (row + 1) → ((r : ℕ) → row ≡ r + 1 → IsMarked sinks spacing r above) → IsMarked sinks spacing row here → IsMarked sinks spacing (row + 1) below →
     AreRowPatches g ps row (length three.here.numbers.z) (patch_in three)
-window-shows law g ps sinks rows row three above here below all inside above_is here_is below_is held next above_marked here_marked below_marked =
-    law g ps row three (rows-around g ps sinks rows row three all inside
+window-shows law g ps sinks spacing rows row three above here below all inside above_is here_is below_is held next above_marked here_marked below_marked =
+    law g ps row three (rows-around g ps sinks spacing rows row three all inside
     (held-turned rows row above.numbers here.numbers three.above.numbers three.here.numbers held (ap (λ (m : MarkedRow). m.numbers) above_is) (ap (λ (m : MarkedRow). m.numbers) here_is))
     (ap (λ (m : MarkedRow). m.numbers) below_is ∙ next)
-    (λ r is. subst (IsMarked sinks r) (sym above_is) (above_marked r is))
-    (subst (IsMarked sinks row) (sym here_is) here_marked)
-    (subst (IsMarked sinks (row + 1)) (sym below_is) below_marked))
+    (λ r is. subst (IsMarked sinks spacing r) (sym above_is) (above_marked r is))
+    (subst (IsMarked sinks spacing row) (sym here_is) here_marked)
+    (subst (IsMarked sinks spacing (row + 1)) (sym below_is) below_marked))
 
 -- one row further down
 pub held-more : (rows : ℕ → RowNumbers) (row : ℕ) (here below : RowNumbers) → here ≡ rows row → below ≡ rows (row + 1) → AreSetProducts rows (row + 1) here below

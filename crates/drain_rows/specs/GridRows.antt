@@ -9,6 +9,7 @@ use Rattle.drain_rules.specs.Rows.{AreNumbersOf, RowNumbers, blank, AreRowPatche
 use Rattle.drain_rows.specs.declared.row_visitor.WalkStop.{WalkStop}
 use Rattle.drain_rows.specs.declared.row_visitor.WalkStop.TheVariants.{Source, OutOfMemory}
 use Rattle.drain_grid.specs.Run.{RunEnds}
+use Rattle.drain_grid.specs.Spacing.{Distances}
 use Rattle.drain_grid.specs.declared.patch.Patch.{Patch}
 use Rattle.drain_grid.specs.declared.judged.Rules.{Rules}
 use Rattle.drain_rules.specs.declared.walk.Area.{Area}
@@ -16,16 +17,17 @@ use Rattle.drain_rules.specs.declared.walk.Walk.{Walk}
 use Rattle.drain_rules.specs.Walks.{IsRightOf}
 use Rattle.drain_grid.specs.CellLists.{is_among}
 
--- these are all rows, after the last there is none, and the grid's sinks are the listed ones
-pub record AreRowsOf (g : Grid) (ps : Products) (sinks : List SinkLine) (rows : ℕ → RowNumbers) : Type 0 where
+-- these are all rows, after the last there is none, the grid's sinks are the listed ones, and its rows are spaced so
+pub record AreRowsOf (g : Grid) (ps : Products) (sinks : List SinkLine) (spacing : ℕ → Distances) (rows : ℕ → RowNumbers) : Type 0 where
   pub row : (r : ℕ) → r < g.extent.rows → AreNumbersOf g ps r (rows r)
   pub last : rows g.extent.rows ≡ blank
   pub sinks_are : (c : Cell) → IsInside g c → g.sink c ≡ is_listed sinks c
+  pub spaced : (r : ℕ) → r < g.extent.rows → g.spacing r ≡ spacing r
 
--- this holds of each grid of this extent and with these sinks whose rows are given
-abbrev pub OfGrid : ((ℕ → RowNumbers) → ℕ → Type 0) → Extent → List SinkLine → (Grid → Products → Type 0) → Type 0
-OfGrid gives extent sinks P =
-    (rows : ℕ → RowNumbers) (g : Grid) (ps : Products) → gives rows 0 → g.extent ≡ extent → AreRowsOf g ps sinks rows → P g ps
+-- this holds of each grid of this extent, with these sinks and spaced so, whose rows are given
+abbrev pub OfGrid : ((ℕ → RowNumbers) → ℕ → Type 0) → Extent → List SinkLine → (ℕ → Distances) → (Grid → Products → Type 0) → Type 0
+OfGrid gives extent sinks spacing P =
+    (rows : ℕ → RowNumbers) (g : Grid) (ps : Products) → gives rows 0 → g.extent ≡ extent → AreRowsOf g ps sinks spacing rows → P g ps
 
 -- of the rows to come this is the next, and the others are left
 abbrev pub IsNext : ((ℕ → RowNumbers) → ℕ → Type 0) → ((ℕ → RowNumbers) → ℕ → Type 0) → RowNumbers → Type 0

@@ -4,6 +4,7 @@ use Rattle.drain_grid.specs.declared.set_product.SetProduct.{SetProduct}
 use Rattle.drain_grid.specs.PerProduct.{of_product, per_product}
 use Rattle.drain_grid.specs.declared.sink_line.SinkLine.{SinkLine}
 use Rattle.drain_grid.specs.SinkTexts.{is_listed}
+use Rattle.drain_grid.specs.Spacing.{Distances}
 use Rattle.drain_kernel.specs.Columns.{AreLanesOf}
 use Rattle.drain_rules.specs.Rows.{MarkedRow, RowNumbers}
 use Rattle.drain_rows.specs.declared.row_buffer.RowBuffer.{RowBuffer}
@@ -12,13 +13,15 @@ use Rattle.drain_rows.specs.declared.row_buffer.RowBuffer.{RowBuffer}
 abbrev pub buffer_numbers : RowBuffer → RowNumbers
 buffer_numbers row = record { z = row.z; products = per_product (λ p. of_product row.products p) }
 
--- the same with its marks
+-- the same with its marks, and how far apart its cells are
 abbrev pub marked_of : RowBuffer → MarkedRow
-marked_of row = record { numbers = buffer_numbers row; sinks = row.sinks.items }
+marked_of row = record { numbers = buffer_numbers row; sinks = row.sinks.items; spacing = row.spacing }
 
--- the listed sinks of the row with this number are marked, and no other column
-abbrev pub IsMarked : List SinkLine → ℕ → MarkedRow → Type 0
-IsMarked sinks r row = (col : ℕ) → col < length row.numbers.z → slice_index_or row.sinks col false ≡ is_listed sinks (record { row = r; col = col })
+-- the listed sinks of the row with this number are marked, and no other column; and it is spaced as the row of this
+-- number is
+pub record IsMarked (sinks : List SinkLine) (spacing : ℕ → Distances) (r : ℕ) (row : MarkedRow) : Type 0 where
+  pub marks : (col : ℕ) → col < length row.numbers.z → slice_index_or row.sinks col false ≡ is_listed sinks (record { row = r; col = col })
+  pub spaced : row.spacing ≡ spacing r
 
 -- each product has as many numbers as there are elevations
 abbrev pub IsEven : RowNumbers → Type 0

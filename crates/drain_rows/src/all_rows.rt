@@ -3,6 +3,7 @@
 ghost use Rattle.std.specs.Prelude.{◌≡◌, ◌<◌, ◌+◌, ◌⊎◌, ℕ, [], length, None, IfOk, IfErr, OnErr, OnOk};
 ghost use Rattle.drain_grid.specs.declared.cell.TheConstants.{MAX_LENGTH};
 ghost use Rattle.drain_grid.specs.Grid.{Grid, Products};
+ghost use Rattle.drain_grid.specs.Spacing.{spacing_of};
 ghost use Rattle.drain_rules.specs.Rows.{AreRowNumbers, RowNumbers, blank};
 ghost use Rattle.drain_rules.specs.ThreeRows.{patch_in};
 ghost use Rattle.drain_rows.specs.GridRows.{OfGrid, ReadsOn, IsRowsStop, AreListedVoids, OfNotedRow};
@@ -14,13 +15,13 @@ use crate::listed_voids::ListedVoids;
 use crate::row_buffer::RowBuffer;
 use crate::row_visitor::{RowVisitor, WalkStop};
 use crate::window::{Window, read_marked};
-use drain_grid::{OutOfMemory, Rules, Shape, Sinks};
+use drain_grid::{OutOfMemory, Rules, Shape, Sinks, Spacings};
 use drain_rules::ThreeRows;
 use drain_rules::laws::three_rows_show_patches;
 use std::alloc::Global;
 
-/// Shows the visitor each row of the grid of this shape and with these sinks, whose rows the source gives, and returns
-/// the listed sinks that are voids.
+/// Shows the visitor each row of the grid of this shape, with these sinks and spaced so, whose rows the source gives, and
+/// returns the listed sinks that are voids.
 ///
 /// It asks for one row more than there are, and gets none. It stops if the source does, or if memory runs out where the
 /// visitor needs memory or there are sinks.
@@ -28,6 +29,7 @@ pub fn visit_rows<T, P, S: GridRows<T, P>, K: RowVisitor>(
     alloc: Global,
     shape: Shape,
     sinks: &Sinks,
+    spacings: &Spacings,
     rules: &Rules,
     source: &mut S,
     tiles: &mut [T],
@@ -37,19 +39,20 @@ pub fn visit_rows<T, P, S: GridRows<T, P>, K: RowVisitor>(
     requires counted { length tiles.old ≡ S.count source.old }
     requires uncounted { K.counts 0 notes.old }
     requires unnoted { (g : Grid) (ps : Products) → K.are_of rules.now g ps 0 notes.old }
-    ensures voids { IfOk result (λ voids. OfGrid (S.gives (source.old, tiles.old, products.old)) shape sinks.now (λ g ps. AreListedVoids g voids)) }
-    ensures noted { OnOk result (OfGrid (S.gives (source.old, tiles.old, products.old)) shape sinks.now (λ g ps. K.are_of rules.now g ps g.extent.rows notes.new)) }
+    ensures voids { IfOk result (λ voids. OfGrid (S.gives (source.old, tiles.old, products.old)) shape sinks.now (spacing_of spacings.now) (λ g ps. AreListedVoids g voids)) }
+    ensures noted { OnOk result (OfGrid (S.gives (source.old, tiles.old, products.old)) shape sinks.now (spacing_of spacings.now) (λ g ps. K.are_of rules.now g ps g.extent.rows notes.new)) }
     ensures lasting { OnOk result (K.lasting notes.new ≡ K.lasting notes.old) }
     ensures given { OnOk result ((rows : ℕ → RowNumbers) → S.gives (source.old, tiles.old, products.old) rows 0 → S.gives (source.new, tiles.new, products.new) rows (shape.rows + 1)) }
     ensures reads { OnOk result (ReadsOn S.has_read (source.old, tiles.old, products.old) (source.new, tiles.new, products.new) (shape.rows + 1) None) }
     ensures stops { IfErr result (IsRowsStop S.has_read (source.old, tiles.old, products.old) (source.new, tiles.new, products.new)
-        (OfGrid (S.gives (source.old, tiles.old, products.old)) shape sinks.now (K.wants rules.now) ⊎ ¬ (sinks.now ≡ []))) }
+        (OfGrid (S.gives (source.old, tiles.old, products.old)) shape sinks.now (spacing_of spacings.now) (K.wants rules.now) ⊎ ¬ (sinks.now ≡ []))) }
 {
     let mut window = Window::new(alloc);
     let mut voids = ListedVoids::new(alloc);
     note_rows(
         shape,
         sinks,
+        spacings,
         rules,
         source,
         tiles,
@@ -65,6 +68,7 @@ pub fn visit_rows<T, P, S: GridRows<T, P>, K: RowVisitor>(
 fn note_rows<T, P, S: GridRows<T, P>, K: RowVisitor>(
     shape: Shape,
     sinks: &Sinks,
+    spacings: &Spacings,
     rules: &Rules,
     source: &mut S,
     tiles: &mut [T],
@@ -79,13 +83,13 @@ fn note_rows<T, P, S: GridRows<T, P>, K: RowVisitor>(
     requires here { buffer_numbers window.old.here ≡ blank }
     requires here_lanes { LanesMatch window.old.here }
     requires none { voids.old ≡ [] }
-    ensures voids { OnOk result (OfGrid (S.gives (source.old, tiles.old, products.old)) shape sinks.now (λ g ps. AreListedVoids g voids.new)) }
-    ensures noted { OnOk result (OfGrid (S.gives (source.old, tiles.old, products.old)) shape sinks.now (λ g ps. K.are_of rules.now g ps g.extent.rows notes.new)) }
+    ensures voids { OnOk result (OfGrid (S.gives (source.old, tiles.old, products.old)) shape sinks.now (spacing_of spacings.now) (λ g ps. AreListedVoids g voids.new)) }
+    ensures noted { OnOk result (OfGrid (S.gives (source.old, tiles.old, products.old)) shape sinks.now (spacing_of spacings.now) (λ g ps. K.are_of rules.now g ps g.extent.rows notes.new)) }
     ensures lasting { OnOk result (K.lasting notes.new ≡ K.lasting notes.old) }
     ensures given { OnOk result ((rows : ℕ → RowNumbers) → S.gives (source.old, tiles.old, products.old) rows 0 → S.gives (source.new, tiles.new, products.new) rows (shape.rows + 1)) }
     ensures reads { OnOk result (ReadsOn S.has_read (source.old, tiles.old, products.old) (source.new, tiles.new, products.new) (shape.rows + 1) None) }
     ensures stops { IfErr result (IsRowsStop S.has_read (source.old, tiles.old, products.old) (source.new, tiles.new, products.new)
-        (OfGrid (S.gives (source.old, tiles.old, products.old)) shape sinks.now (K.wants rules.now) ⊎ ¬ (sinks.now ≡ []))) }
+        (OfGrid (S.gives (source.old, tiles.old, products.old)) shape sinks.now (spacing_of spacings.now) (K.wants rules.now) ⊎ ¬ (sinks.now ≡ []))) }
 {
     // The law that builds a row's patches from three rows.
     three_rows_show_patches();
@@ -95,6 +99,7 @@ fn note_rows<T, P, S: GridRows<T, P>, K: RowVisitor>(
         products,
         0,
         sinks,
+        spacings,
         rules.judged,
         false,
         &mut window.below,
@@ -110,6 +115,7 @@ fn note_rows<T, P, S: GridRows<T, P>, K: RowVisitor>(
             products,
             row + 1,
             sinks,
+            spacings,
             rules.judged,
             wide,
             &mut window.below,

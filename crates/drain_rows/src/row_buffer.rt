@@ -5,17 +5,18 @@ ghost use Rattle.drain_grid.specs.declared.cell.Cell.{Cell};
 ghost use Rattle.drain_rules.specs.Rows.{AreRowNumbers, blank};
 ghost use Rattle.drain_rows.specs.RowBuffers.{LanesMatch};
 ghost use Rattle.drain_grid.specs.CellLists.{is_among};
+ghost use Rattle.drain_grid.specs.Spacing.{spacing_of};
 ghost use Rattle.drain_rows.specs.GridRows.{is_listed_void};
 
 use crate::listed_voids::ListedVoids;
-use drain_grid::{Judged, OutOfMemory, PerProduct, Sinks};
+use drain_grid::{Judged, OutOfMemory, PerProduct, Sinks, Spacing, Spacings};
 use drain_kernel::Lanes;
 use drain_pixels::{GroundRow, PixelRow};
 use drain_rules::RowView;
 use std::alloc::Global;
 
-/// The elevations of one row, and each product's numbers, both empty if there is no row; marks at its listed sinks; and
-/// the numbers once more in lanes.
+/// The elevations of one row, and each product's numbers, both empty if there is no row; marks at its listed sinks; how
+/// far apart its cells are; and the numbers once more in lanes.
 ///
 /// It may be filled one after the other. Only a whole row can be viewed: as many numbers of each. No marks mean
 /// no sinks. Lanes are useful if the numbers fit them, and must be filled again for each row.
@@ -24,6 +25,7 @@ pub struct RowBuffer {
     pub z: GroundRow,
     pub products: PerProduct<PixelRow>,
     pub sinks: Vec<bool>,
+    pub spacing: Spacing,
     lanes: Lanes,
     fit: bool,
 }
@@ -46,6 +48,7 @@ impl RowBuffer {
                 rnk: PixelRow::new(alloc),
             },
             sinks: Vec::new(alloc),
+            spacing: Spacing::unit(),
             lanes: Lanes::new(alloc),
             fit: false,
         }
@@ -76,20 +79,22 @@ impl RowBuffer {
             && products.rnk.len() == len
     }
 
-    /// Marks the listed sinks of the row of this number, and notes those that are voids. Without sinks it needs no
-    /// memory.
+    /// Marks the listed sinks of the row of this number, and notes those that are voids; and takes how far apart that
+    /// row's cells are. Without sinks it needs no memory.
     pub fn mark(
         &mut self,
         row: u32,
         sinks: &Sinks,
+        spacings: &Spacings,
         voids: &mut ListedVoids,
     ) -> Result<(), OutOfMemory>
         requires whole { AreRowNumbers (buffer_numbers self.old) }
         ensures numbers { buffer_numbers self.new ≡ buffer_numbers self.old }
-        ensures marked { OnOk result (IsMarked sinks.now row (marked_of self.new)) }
+        ensures marked { OnOk result (IsMarked sinks.now (spacing_of spacings.now) row (marked_of self.new)) }
         ensures noted { OnOk result ((c : Cell) → is_among voids.new c ≡ (is_among voids.old c || is_listed_void row (buffer_numbers self.new).z self.new.sinks.items c)) }
         ensures wants { OnErr result (¬ (sinks.now ≡ [])) }
     {
+        self.spacing = spacings.of_row(row);
         if sinks.count() == 0 {
             self.sinks.clear();
             return Ok(());
@@ -136,6 +141,7 @@ impl RowBuffer {
         RowView::new(
             &self.z,
             self.sinks.as_slice(),
+            self.spacing,
             PerProduct {
                 con: &self.products.con,
                 dir: &self.products.dir,

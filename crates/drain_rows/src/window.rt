@@ -6,24 +6,26 @@ ghost use Rattle.drain_rules.specs.Rows.{AreRowNumbers, blank};
 ghost use Rattle.drain_rows.specs.GridRows.{IsNext, IsWalkStop, ReadsOn, is_listed_void};
 ghost use Rattle.drain_rows.specs.RowBuffers.{LanesMatch, IsMarked, marked_of, buffer_numbers};
 ghost use Rattle.drain_grid.specs.CellLists.{is_among};
+ghost use Rattle.drain_grid.specs.Spacing.{spacing_of};
 
 use crate::grid_rows::GridRows;
 use crate::listed_voids::ListedVoids;
 use crate::row_buffer::RowBuffer;
 use crate::row_visitor::WalkStop;
-use drain_grid::{Judged, OutOfMemory, Sinks};
+use drain_grid::{Judged, OutOfMemory, Sinks, Spacings};
 use drain_rules::ThreeRows;
 use std::alloc::Global;
 use std::mem::swap;
 
-/// Reads the next row, with this number, marks its listed sinks, notes those that are voids, and fills its lanes
-/// for rules about these rasters, of 32 bits if `wide` says so. It stops if the source does, or, where there are sinks, if memory runs out.
+/// Reads the next row, with this number, marks its listed sinks, notes those that are voids, takes how far apart its cells
+/// are, and fills its lanes for rules about these rasters, of 32 bits if `wide` says so. It stops if the source does, or, where there are sinks, if memory runs out.
 pub fn read_marked<T, P, S: GridRows<T, P>>(
     source: &mut S,
     tiles: &mut [T],
     products: &mut P,
     row: u32,
     sinks: &Sinks,
+    spacings: &Spacings,
     judged: Judged,
     wide: bool,
     held: &mut RowBuffer,
@@ -34,7 +36,7 @@ pub fn read_marked<T, P, S: GridRows<T, P>>(
     ensures as_many { length tiles.new ≡ length tiles.old }
     ensures next { OnOk result (IsNext (S.gives (source.old, tiles.old, products.old)) (S.gives (source.new, tiles.new, products.new)) (buffer_numbers held.new)) }
     ensures whole { OnOk result (AreRowNumbers (buffer_numbers held.new)) }
-    ensures marked { OnOk result (IsMarked sinks.now row (marked_of held.new)) }
+    ensures marked { OnOk result (IsMarked sinks.now (spacing_of spacings.now) row (marked_of held.new)) }
     ensures lanes { OnOk result (LanesMatch held.new) }
     ensures noted { OnOk result ((c : Cell) → is_among voids.new c ≡ (is_among voids.old c || is_listed_void row (buffer_numbers held.new).z held.new.sinks.items c)) }
     ensures reads { OnOk result (ReadsOn S.has_read (source.old, tiles.old, products.old) (source.new, tiles.new, products.new) 1 None) }
@@ -44,7 +46,7 @@ pub fn read_marked<T, P, S: GridRows<T, P>>(
         Ok(()) => (),
         Err(stop) => return Err(WalkStop::Source(stop)),
     }
-    match held.mark(row, sinks, voids) {
+    match held.mark(row, sinks, spacings, voids) {
         Ok(()) => {
             held.take_lanes(judged, wide);
             Ok(())

@@ -1,6 +1,6 @@
 -- Grids that are equal at their cells have the same patches there, so the same rules hold, and as many cells have data, are raised
 -- and are outlets. The elevations and numbers of other cells are seen by no patch: a step stays in the grid.
-use Rattle.std.proofs.Common.{◌≡◌, Bool, cond, ◌&&◌, map, Option, Some, None, IsSome, option_map, unwrap_or, pos, int_lt, int_eq, is_some, refl, sym, ap, subst, ◌∙◌}
+use Rattle.std.proofs.Common.{◌≡◌, ◌<◌, Bool, cond, ◌&&◌, map, Option, Some, None, IsSome, option_map, unwrap_or, pos, int_lt, int_eq, is_some, refl, sym, ap, subst, ◌∙◌}
 use Rattle.std.specs.List.{count_by}
 use Rattle.drain_grid.specs.declared.cell.Cell.{Cell}
 use Rattle.drain_grid.specs.declared.direction.Direction.{Direction}
@@ -34,7 +34,11 @@ module _ (g h : Grid) (ps qs : Products) (same : AreEqual g h ps qs) where
   back c = subst (λ (e : Extent). IsCellOf e c) (sym same.extent)
 
   turned : AreEqual h g qs ps
-  turned = record { extent = sym same.extent; values = λ c inside. sym (same.values c (back c inside)) }
+  turned = record {
+    extent = sym same.extent;
+    values = λ c inside. sym (same.values c (back c inside));
+    spacing = λ row inside. sym (same.spacing row (subst (λ (e : Extent). row < e.rows) (sym same.extent) inside));
+  }
 
   -- the patch of a cell is the same
   beside_same : (c : Cell) (d : Direction) → option_map (values_at g ps) (step g.extent c d) ≡ option_map (values_at h qs) (step h.extent c d)
@@ -43,7 +47,7 @@ module _ (g h : Grid) (ps qs : Products) (same : AreEqual g h ps qs) where
       ∙ ap (λ (e : Extent). option_map (values_at h qs) (step e c d)) same.extent
 
   patch_same : (c : Cell) → IsInside g c → patch_at g ps c ≡ patch_at h qs c
-  patch_same c inside = λ i. record { here = same.values c inside i; around = map (λ d. beside_same c d i) directions }
+  patch_same c inside = λ i. record { here = same.values c inside i; around = map (λ d. beside_same c d i) directions; spacing = same.spacing c.row inside.row i }
 
   -- so a rule holds there where it holds here
   data_back : (c : Cell) → HasData h c → HasData g c

@@ -131,6 +131,7 @@ patch-is g ps row col rows are inside = λ i. record {
       ∷ level-west g ps rows.above col (row + 0) (col + 0) above none_above (omega arith) i
       ∷ level g ps rows.above col (row + 0) (col + 1) above none_above refl i
       ∷ level g ps rows.above (col + 1) (row + 0) (col + 2) above none_above (omega arith) i ∷ [];
+  spacing = are.here.spacing i;
 }
   where
     below : (r : ℕ) → row + 2 ≡ r + 1 → r < g.extent.rows → IsRowOf g ps r rows.below

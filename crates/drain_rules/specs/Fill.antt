@@ -15,6 +15,7 @@ use Rattle.drain_grid.specs.declared.fill_verdict.FillCounts.{FillCounts}
 use Rattle.drain_grid.specs.declared.fill_verdict.FillRefusal.TheVariants.{BadSide, BadLength}
 use Rattle.drain_grid.specs.declared.patch.Patch.{Patch}
 use Rattle.drain_grid.specs.RulesAbout.{IsBlankPart}
+use Rattle.drain_grid.specs.Spacing.{unit_spacing}
 use Rattle.drain_grid.specs.Values.{Values}
 use Rattle.drain_grid.specs.Judged.{IfJudged, has_rnk}
 use Rattle.drain_grid.specs.declared.judged.Rules.{Rules}
@@ -30,12 +31,13 @@ signed_at bytes start place = cast_signed w16 (fill_number_at bytes start 2 plac
 abbrev pub square : ℕ → Extent
 square side = record { rows = side; cols = side }
 
--- the grid of the first part: two bytes for each cell, and no sinks
+-- the grid of the first part: two bytes for each cell, no sinks, and square cells
 abbrev pub fill_grid : ℕ → List ℕ → Grid
 fill_grid side bytes = record {
   extent = square side;
   elevation = λ c. height_from (signed_at bytes 0 (index_of (square side) c));
   sink = no_sink;
+  spacing = λ row. unit_spacing;
 }
 
 -- the products of the other parts, of two, one and four bytes for each cell; those that are not there are 0

@@ -1,5 +1,5 @@
 -- What a verdict depends on: the values of a grid and its products at the cells of the grid, and nothing else.
-use Rattle.std.specs.Prelude.{◌≡◌}
+use Rattle.std.specs.Prelude.{◌≡◌, ◌<◌}
 use Rattle.drain_grid.specs.declared.cell.Cell.{Cell}
 use Rattle.drain_grid.specs.Values.{NoDataNumbers, Values}
 use Rattle.drain_grid.specs.Grid.{Grid, Products, IsInside, values_at}
@@ -15,10 +15,12 @@ use Rattle.drain_rules.specs.Areas.{HasCell, IsOutletCell, everywhere}
 use Rattle.drain_rules.specs.Labels.{IsLabelOf, AreLabelsBefore, HasNoLabel}
 use Rattle.drain_rules.specs.Rows.{place}
 
--- the two grids have one extent, and at each cell of it the same elevation and the same numbers
+-- the two grids have one extent, at each cell of it the same elevation and the same numbers, and each row of it is
+-- spaced alike
 pub record AreEqual (g h : Grid) (ps qs : Products) : Type 0 where
   pub extent : g.extent ≡ h.extent
   pub values : (c : Cell) → IsInside g c → values_at g ps c ≡ values_at h qs c
+  pub spacing : (row : ℕ) → row < g.extent.rows → g.spacing row ≡ h.spacing row
 
 -- a verdict on the one is a verdict on the other
 abbrev pub EqualGridsHaveOneVerdict : Type 0

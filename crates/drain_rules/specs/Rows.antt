@@ -15,6 +15,7 @@ use Rattle.drain_grid.specs.declared.cell.TheConstants.{MAX_LENGTH}
 use Rattle.drain_grid.specs.declared.set_product.SetProduct.{SetProduct}
 use Rattle.drain_grid.specs.declared.per_product.PerProduct.{PerProduct}
 use Rattle.drain_grid.specs.PerProduct.{of_product, per_product}
+use Rattle.drain_grid.specs.Spacing.{Distances}
 use Rattle.drain_grid.specs.Values.{IsPixel, Values}
 use Rattle.drain_kernel.specs.declared.lanes.Lanes.{Lanes}
 use Rattle.drain_kernel.specs.Columns.{AreLanesOf}
@@ -116,10 +117,12 @@ raised_between shown from end = count_by shows_raised (map shown (range_with_len
 
 -- A row of a grid and its products as lists of numbers, and of marks at listed sinks; and its values at a column.
 
--- the numbers, and a mark for each column, true at a listed sink; columns past the last mark are not listed
+-- the numbers, a mark for each column, true at a listed sink, where columns past the last mark are not listed; and how
+-- far apart its cells are from their neighbours
 pub record MarkedRow : Type 0 where
   pub numbers : RowNumbers
   pub sinks : List Bool
+  pub spacing : Distances
 
 -- the values of the row at a column; of spill parents 0
 abbrev pub values_in : MarkedRow → ℕ → Values
@@ -147,7 +150,8 @@ west_neighbor row (suc col) = beside row col
 abbrev pub IsNoRow : MarkedRow → Type 0
 IsNoRow row = row.numbers ≡ blank
 
--- it is a row of the grid, and marks its sinks
+-- it is a row of the grid, marks its sinks, and is spaced as there
 pub record IsRowOf (g : Grid) (ps : Products) (row : ℕ) (marked : MarkedRow) : Type 0 where
   pub numbers : AreNumbersOf g ps row marked.numbers
   pub sinks : (col : ℕ) → col < g.extent.cols → slice_index_or marked.sinks col false ≡ g.sink (place row col)
+  pub spacing : marked.spacing ≡ g.spacing row

@@ -11,6 +11,7 @@ patch_in rows col = record {
   here = values_in rows.here col;
   around = beside rows.here (col + 1) ∷ beside rows.below (col + 1) ∷ beside rows.below col ∷ west_neighbor rows.below col
       ∷ west_neighbor rows.here col ∷ west_neighbor rows.above col ∷ beside rows.above col ∷ beside rows.above (col + 1) ∷ [];
+  spacing = rows.here.spacing;
 }
 
 -- they are a row of the grid and those above and below it, none at the grid's edge

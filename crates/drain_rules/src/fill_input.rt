@@ -9,7 +9,7 @@ ghost use Rattle.drain_grid.specs.Grid.{IsSide};
 use crate::part_rules::is_blank;
 use byteorder::{BigEndian, ByteOrder};
 use drain_grid::tile::height_from;
-use drain_grid::{Cell, CellSource, CellValues, Rules, Shape, VOID, widened};
+use drain_grid::{Cell, CellSource, CellValues, Rules, Shape, Spacing, VOID, widened};
 
 /// Whether the cell is a void, and the judged rasters have their no-data numbers.
 pub fn is_blank_void(here: &CellValues, rules: &Rules) -> bool
@@ -112,6 +112,7 @@ impl<'a> FillInput<'a> {
 
 impl<'a> CellSource for FillInput<'a> {
     ghost use Rattle.drain_grid.specs.Grid.{values_at};
+    ghost use Rattle.drain_grid.specs.Spacing.{unit_spacing};
     ghost use Rattle.drain_rules.specs.Fill.{square};
     ghost use Rattle.drain_rules.specs.Verdicts.{parts_grid, parts_products};
 
@@ -119,8 +120,14 @@ impl<'a> CellSource for FillInput<'a> {
 
     ghost shown = { λ input. values_at (parts_grid input) (parts_products input) };
 
+    ghost spaced = { λ input row. unit_spacing };
+
     fn shape(&self) -> Shape {
         self.shape
+    }
+
+    fn spacing(&self, _row: u32) -> Spacing {
+        Spacing::unit()
     }
 
     fn values(&self, cell: Cell) -> CellValues {

@@ -4,11 +4,12 @@ ghost use Rattle.std.specs.Prelude.{◌≡◌, ◌<◌, ◌≤◌, ℕ, false, s
 ghost use Rattle.drain_fill.specs.Below.{AreRowHeights, IsBelowAt};
 ghost use Rattle.drain_grid.specs.declared.cell.TheConstants.{MAX_LENGTH};
 ghost use Rattle.drain_grid.specs.PerProduct.{of_product, per_product};
+ghost use Rattle.drain_grid.specs.Spacing.{unit_spacing};
 ghost use Rattle.drain_grid.specs.Values.{IsPixel};
 ghost use Rattle.drain_rules.specs.Rows.{values_in, beside, west_neighbor, AreLanesIfAny, AreRowNumbers, grounds};
 
 use crate::screen::{Grounds, cells_above_ground};
-use drain_grid::{CellValues, PerProduct, SetProduct};
+use drain_grid::{CellValues, PerProduct, SetProduct, Spacing};
 use drain_kernel::Lanes;
 use drain_pixels::{GroundRow, PixelKind, PixelRow};
 use std::marker::Model;
@@ -56,12 +57,14 @@ pub fn unmarked_until(marks: &[bool], from: usize, end: usize) -> usize
     last
 }
 
-/// One row: elevations, none at a void, and each product's numbers, as many of each; marks, true at a listed sink; and
-/// the lanes of its numbers if they were made. It has no numbers if there is no row; a missing mark means false.
+/// One row: elevations, none at a void, and each product's numbers, as many of each; marks, true at a listed sink; how far
+/// apart its cells are; and the lanes of its numbers if they were made. It has no numbers if there is no row; a missing
+/// mark means false.
 #[derive(Drop)]
 pub struct RowView<'a> {
     z: &'a GroundRow,
     sinks: &'a [bool],
+    spacing: Spacing,
     products: PerProduct<&'a PixelRow>,
     lanes: Option<&'a Lanes>,
 }
@@ -77,16 +80,18 @@ impl<'a> Model for RowView<'a> {
     ghost view = { λ row. record {
       numbers = record { z = row.z.now; products = per_product (λ p. (of_product row.products p).now) };
       sinks = row.sinks.now;
+      spacing = row.spacing;
     } };
 
     ghost invariant = { λ row. IsLanedRow (record { z = row.z.now; products = per_product (λ p. (of_product row.products p).now) }) (option_copied row.lanes) };
 }
 
 impl<'a> RowView<'a> {
-    /// The row of these numbers and marks, with the lanes of the numbers, or none.
+    /// The row of these numbers and marks, spaced so, with the lanes of the numbers, or none.
     pub fn new(
         z: &'a GroundRow,
         sinks: &'a [bool],
+        spacing: Spacing,
         products: PerProduct<&'a PixelRow>,
         lanes: Option<&'a Lanes>,
     ) -> RowView<'a>
@@ -94,13 +99,29 @@ impl<'a> RowView<'a> {
         requires laned { AreLanesIfAny (record { z = z.now; products = per_product (λ p. (of_product products p).now) }) (option_copied lanes) }
         ensures numbers { result.numbers ≡ record { z = z.entry.now; products = per_product (λ p. (of_product products.entry p).now) } }
         ensures sinks { result.sinks ≡ sinks.entry.now }
+        ensures spacing { result.spacing ≡ spacing }
     {
         RowView {
             z,
             sinks,
+            spacing,
             products,
             lanes,
         }
+    }
+
+    /// How far apart its cells are from their neighbours.
+    pub fn spacing(&self) -> Spacing
+        ensures { result ≡ self.now.spacing }
+    {
+        self.spacing
+    }
+
+    /// Whether its cells are square, of width and height 1.
+    pub fn has_unit_cells(&self) -> bool
+        ensures { IsTrue result ↔ (self.now.spacing ≡ unit_spacing) }
+    {
+        self.spacing.width == 1 && self.spacing.height == 1
     }
 
     /// How many columns there are, at most 28,801.

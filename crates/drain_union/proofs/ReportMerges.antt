@@ -1,5 +1,5 @@
 -- Reports that can be merged are on windows that agree, so what they say is said of one union.
-use Rattle.std.proofs.Common.{◌≡◌, ℕ, ◌<◌, ◌⊎◌, inl, inr, ◌↔◌, List, [], ◌∷◌, length, map, slice_index_or, IsTrue, sym, ap, subst, ◌∙◌, arith}
+use Rattle.std.proofs.Common.{◌≡◌, ℕ, ◌+◌, ◌<◌, ◌⊎◌, inl, inr, ◌↔◌, List, [], ◌∷◌, length, map, slice_index_or, IsTrue, sym, ap, subst, ◌∙◌, arith}
 use Rattle.std.specs.List.{Contains, AllPairs}
 use Rattle.std.proofs.lemmas.Bool.{cases_order}
 use Rattle.std.proofs.lemmas.List.{get_or_default, get_or-map, length-map}
@@ -9,9 +9,9 @@ use Rattle.drain_grid.specs.Values.{NoDataNumbers}
 use Rattle.drain_grid.specs.Grid.{Grid, Products, IsInside, values_at}
 use Rattle.drain_grid.specs.Correct.{IsCorrect}
 use Rattle.drain_union.specs.declared.report.Outlet.{Outlet}
-use Rattle.drain_union.specs.Reports.{IsSortedByLabel, NoneBesideShares, ListsOutlets, HoldsAllOf, Report, IsReportOf, OverlapInSeams, ShowTheSame, CanMerge}
+use Rattle.drain_union.specs.Reports.{IsSortedByLabel, NoneBesideShares, ListsOutlets, HoldsAllOf, Report, IsReportOf, OverlapInSeams, ShowTheSame, SpacedAlike, spacing_at, CanMerge}
 use Rattle.drain_union.specs.declared.place.Place.{Place}
-use Rattle.drain_union.specs.Windows.{Window, in_union, IsPlaceIn, IsJudgedIn, JudgeAll, RulesHoldInside, NoLabelIsShared, AreLaidIn, OverlapsAgree, AreWindowsOf}
+use Rattle.drain_union.specs.Windows.{Window, in_union, IsPlaceIn, IsJudgedIn, JudgeAll, RulesHoldInside, NoLabelIsShared, AreLaidIn, OverlapsAgree, SpacingsAgree, AreWindowsOf}
 use Rattle.drain_union.specs.Laws.{MergeIsExact}
 use Rattle.drain_union.proofs.JudgedCounts.{one_cell}
 use Rattle.drain_union.proofs.Merges.{merge_tells_shared}
@@ -46,6 +46,13 @@ pairs R xs all x y has_x has_y =
       | inr (inl before) ↦ inr (inl (subst (λ z. R z y) has_x.2 (subst (R (slice_index_or xs has_x.0 x)) at_y (all has_x.0 has_y.0 x before has_y.1))))
       | inr (inr after) ↦ inr (inr (subst (R y) has_x.2 (subst (λ z. R z (slice_index_or xs has_x.0 x)) at_y (all has_y.0 has_x.0 x after has_x.1))))
     ]
+
+-- a report lists one spacing for a row
+spaced_itself : (r : Report) → SpacedAlike r r
+spaced_itself r a b in_a in_b one = ap (spacing_at r.spacings) (omega (arith, one))
+
+spaced_turned : (q r : Report) → SpacedAlike q r → SpacedAlike r q
+spaced_turned q r same a b in_a in_b one = sym (same b a in_b in_a (sym one))
 
 module _ (depth : ℕ) (e : Extent) (nodata : NoDataNumbers) (reports : List Report) (window_of : Report → Window)
     (of : (r : Report) → Contains reports r → IsReportOf depth (window_of r) r) (holds : (r : Report) → Contains reports r → IsTrue r.holds)
@@ -114,6 +121,42 @@ module _ (depth : ℕ) (e : Extent) (nodata : NoDataNumbers) (reports : List Rep
             | inr (inr after) ↦ sym (seams_agree r q has_r has_q after.0 after.1 b a in_b in_a (sym one))
           ]
 
+  -- the rows that two reports have in common, in whichever order they stand
+  alike : (q r : Report) → Contains reports q → Contains reports r → SpacedAlike q r
+  alike q r has_q has_r =
+      elim (pairs SpacedAlike reports can.spaced q r has_q has_r) [
+        | inl same ↦ subst (SpacedAlike q) same (spaced_itself q)
+        | inr (inl before) ↦ before
+        | inr (inr after) ↦ spaced_turned r q after
+      ]
+
+  spaced : SpacingsAgree windows
+  spaced v w at_v at_w =
+      let one = from_map window_of reports v at_v in
+      let two = from_map window_of reports w at_w in
+      subst
+      (λ (y : Window). (a b : Cell) → IsInside v.grid a → IsInside y.grid b → v.place.top + a.row ≡ y.place.top + b.row →
+      v.grid.spacing a.row ≡ y.grid.spacing b.row)
+      two.2
+      (subst
+      (λ (x : Window). (a b : Cell) → IsInside x.grid a → IsInside (window_of two.0).grid b →
+      x.place.top + a.row ≡ (window_of two.0).place.top + b.row → x.grid.spacing a.row ≡ (window_of two.0).grid.spacing b.row)
+      one.2 (by_lists one.0 two.0 one.1 two.1))
+    where
+      by_lists : (q r : Report) → Contains reports q → Contains reports r → (a b : Cell) → IsInside (window_of q).grid a →
+          IsInside (window_of r).grid b → (window_of q).place.top + a.row ≡ (window_of r).place.top + b.row →
+          (window_of q).grid.spacing a.row ≡ (window_of r).grid.spacing b.row
+      by_lists q r has_q has_r a b in_a in_b one =
+          let is_q = of q has_q in
+          let is_r = of r has_r in
+          let rows_q : (window_of q).grid.extent.rows ≡ q.place.extent.rows = ap (λ (x : Extent). x.rows) is_q.extent ∙ ap (λ (p : Place). p.extent.rows) (sym is_q.place) in
+          let rows_r : (window_of r).grid.extent.rows ≡ r.place.extent.rows = ap (λ (x : Extent). x.rows) is_r.extent ∙ ap (λ (p : Place). p.extent.rows) (sym is_r.place) in
+          let in_q : a.row < q.place.extent.rows = subst (λ n. a.row < n) rows_q in_a.row in
+          let in_r : b.row < r.place.extent.rows = subst (λ n. b.row < n) rows_r in_b.row in
+          let row : q.place.top + a.row ≡ r.place.top + b.row =
+          ap (λ (p : Place). p.top + a.row) is_q.place ∙ one ∙ ap (λ (p : Place). p.top + b.row) (sym is_r.place) in
+          is_q.spacings a.row in_a.row ∙ alike q r has_q has_r a.row b.row in_q in_r row ∙ sym (is_r.spacings b.row in_b.row)
+
   -- what the reports say of rules is said of the windows
   hold_there : (w : Window) → Contains windows w → RulesHoldInside nodata w
   hold_there w has =
@@ -123,7 +166,7 @@ module _ (depth : ℕ) (e : Extent) (nodata : NoDataNumbers) (reports : List Rep
 
   -- so they are the windows of one union
   pub one_union : (u : Grid) × (ps : Products) × (u.extent ≡ e) × AreWindowsOf u ps windows
-  one_union = windows_make_union e windows laid judge agree
+  one_union = windows_make_union e windows laid judge agree spaced
 
   module _ (merged : List Outlet) (all : HoldsAllOf (map (λ r. r.outlets) reports) merged) (sorted : IsSortedByLabel merged) where
     labels : NoLabelIsShared windows ↔ NoneBesideShares merged

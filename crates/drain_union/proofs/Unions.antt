@@ -1,11 +1,12 @@
 -- A union is correct where its windows are, and windows that agree make one union.
-use Rattle.std.proofs.Common.{◌≡◌, ◌⊎◌, inl, inr, false, pos, List, None, IsSome, refl, sym, ap, subst, ◌∙◌, arith}
+use Rattle.std.proofs.Common.{◌≡◌, ℕ, ◌+◌, ◌<◌, ◌⊎◌, inl, inr, false, pos, List, None, IsSome, refl, sym, ap, subst, ◌∙◌, arith}
 use Rattle.std.specs.List.{Contains}
 use Rattle.drain_grid.specs.declared.cell.Cell.{Cell}
 use Rattle.drain_grid.specs.declared.patch.Patch.{Patch}
 use Rattle.drain_grid.specs.declared.rule.Rule.{Rule}
 use Rattle.drain_grid.specs.declared.rule.Rule.TheVariants.{SharedLabel}
 use Rattle.drain_grid.specs.Extent.{Extent, IsCellOf, IsEarlier}
+use Rattle.drain_grid.specs.Spacing.{Distances, unit_spacing}
 use Rattle.drain_grid.specs.Values.{Values, NoDataNumbers}
 use Rattle.drain_grid.specs.Rule.{IsAnyRule, IsPatchRule}
 use Rattle.drain_grid.specs.PatchRules.{Profile}
@@ -16,7 +17,8 @@ use Rattle.drain_grid.proofs.Decisions.{cases}
 use Rattle.drain_grid.proofs.Exactly.{correct_by_rules_alone}
 use Rattle.drain_grid.proofs.PatchDecisions.{is_cell_of}
 use Rattle.drain_grid.proofs.Alike.{cases_earlier}
-use Rattle.drain_union.specs.Windows.{Window, in_union, IsWindowOf, IsJudgedIn, JudgeAll, RulesHoldInside, IsJudgedOutlet, NoLabelIsShared, AreLaidIn, OverlapsAgree, AreWindowsOf}
+use Rattle.drain_grid.proofs.Neighbors.{place}
+use Rattle.drain_union.specs.Windows.{Window, in_union, IsWindowOf, IsJudgedIn, JudgeAll, RulesHoldInside, IsJudgedOutlet, NoLabelIsShared, AreLaidIn, OverlapsAgree, SpacingsAgree, AreWindowsOf}
 use Rattle.drain_union.specs.Laws.{CorrectByWindows, WindowsMakeUnion, WindowRejects}
 use Rattle.drain_union.proofs.WindowPatches.{there, patch_of_window}
 
@@ -124,7 +126,8 @@ correct_by_windows u ps nodata windows are judge =
 abbrev nothing : Values
 nothing = record { z = None; sink = false; con = pos 0; dir = pos 0; acc = pos 0; bas = pos 0; spl = pos 0; rnk = pos 0 }
 
-module _ (e : Extent) (windows : List Window) (laid : AreLaidIn e windows) (judge : JudgeAll e windows) (agree : OverlapsAgree windows) where
+module _ (e : Extent) (windows : List Window) (laid : AreLaidIn e windows) (judge : JudgeAll e windows) (agree : OverlapsAgree windows)
+    (spaced : SpacingsAgree windows) where
   abbrev picked : (c : Cell) → IsCellOf e c ⊎ ¬ IsCellOf e c → Values
   picked c (inl inside) = let one = judge c inside in values_at one.0.grid one.0.products one.2.0
   picked c (inr outside) = nothing
@@ -132,8 +135,18 @@ module _ (e : Extent) (windows : List Window) (laid : AreLaidIn e windows) (judg
   abbrev seen : Cell → Values
   seen c = picked c (cases (is_cell_of e c))
 
+  -- a row's spacing is that of the window that judges its first cell
+  abbrev picked_spacing : (row : ℕ) → IsCellOf e (place row 0) ⊎ ¬ IsCellOf e (place row 0) → Distances
+  picked_spacing row (inl inside) = let one = judge (place row 0) inside in one.0.grid.spacing one.2.0.row
+  picked_spacing row (inr outside) = unit_spacing
+
   abbrev made : Grid
-  made = record { extent = e; elevation = λ c. (seen c).z; sink = λ c. (seen c).sink }
+  made = record {
+    extent = e;
+    elevation = λ c. (seen c).z;
+    sink = λ c. (seen c).sink;
+    spacing = λ row. picked_spacing row (cases (is_cell_of e (place row 0)));
+  }
 
   abbrev made_products : Products
   made_products = record {
@@ -155,13 +168,32 @@ module _ (e : Extent) (windows : List Window) (laid : AreLaidIn e windows) (judg
       let is = laid w at_w in
       absurd (out (there e w.place is.0 x (subst (λ (s : Extent). IsCellOf s x) is.1 inside)))
 
+  spaced_same : (w : Window) → Contains windows w → (x : Cell) → IsInside w.grid x →
+      (o : IsCellOf e (place (w.place.top + x.row) 0) ⊎ ¬ IsCellOf e (place (w.place.top + x.row) 0)) →
+      w.grid.spacing x.row ≡ picked_spacing (w.place.top + x.row) o
+  spaced_same w at_w x inside (inl in_e) =
+      let one = judge (place (w.place.top + x.row) 0) in_e in
+      let one_row : one.0.place.top + one.2.0.row ≡ w.place.top + x.row = ap (λ (c : Cell). c.row) one.2.2 in
+      spaced w one.0 at_w one.1 x one.2.0 inside (in_grid one.0 (laid one.0 one.1).1 one.2.0 one.2.1.inside) (sym one_row)
+  spaced_same w at_w x inside (inr out) =
+      let is = laid w at_w in
+      let lies = there e w.place is.0 x (subst (λ (s : Extent). IsCellOf s x) is.1 inside) in
+      let row : w.place.top + x.row < e.rows = lies.row in
+      let col : w.place.left + x.col < e.cols = lies.col in
+      absurd (out (record { row = row; col = omega (arith, col) }))
+
   are_windows : AreWindowsOf made made_products windows
   are_windows w at_w = record {
     placed = (laid w at_w).0;
     extent = (laid w at_w).1;
     values = λ x inside. picked_same w at_w x inside (cases (is_cell_of e (in_union w.place x)));
+    spacings = λ x inside. spaced_same w at_w x inside (cases (is_cell_of e (place (w.place.top + x.row) 0)));
   }
 
 pub windows_make_union : WindowsMakeUnion
-windows_make_union e windows laid judge agree =
-    (made e windows laid judge agree, made_products e windows laid judge agree, refl, are_windows e windows laid judge agree)
+windows_make_union e windows laid judge agree spaced = (
+  made e windows laid judge agree spaced,
+  made_products e windows laid judge agree spaced,
+  refl,
+  are_windows e windows laid judge agree spaced,
+)

@@ -75,7 +75,11 @@ map_same f k h None same = refl
 map_same f k h (Some n) same = ap (λ x. Some x) (same n refl)
 
 pub patch_of_window : PatchOfWindow
-patch_of_window u ps w is c judged = λ i. record { here = is.values c inside i; around = map (λ d. beside d i) directions }
+patch_of_window u ps w is c judged = λ i. record {
+  here = is.values c inside i;
+  around = map (λ d. beside d i) directions;
+  spacing = is.spacings c inside i;
+}
   where
     inside : IsInside w.grid c
     inside = subst (λ (e : Extent). IsCellOf e c) (sym is.extent) judged.inside

@@ -12,7 +12,7 @@ use Rattle.drain_grid.specs.GridRules.{IsFirstFault, data_count, raised_count}
 use Rattle.drain_grid.specs.Correct.{IsCorrect}
 use Rattle.drain_rules.specs.Verdicts.{outlet_count}
 use Rattle.drain_union.specs.declared.report.Outlet.{Outlet}
-use Rattle.drain_union.specs.Windows.{JudgesSome, BothJudgeOne, Window, in_union, IsJudgedAtSome, IsCornerRow, IsCornerCol, IsPlaceIn, IsWindowOf, IsJudgedIn, JudgeAll, RulesHoldInside, IsFirstInside, IsNotBefore, NoLabelIsShared, AreLaidIn, OverlapsAgree, AreWindowsOf}
+use Rattle.drain_union.specs.Windows.{JudgesSome, BothJudgeOne, Window, in_union, IsJudgedAtSome, IsCornerRow, IsCornerCol, IsPlaceIn, IsWindowOf, IsJudgedIn, JudgeAll, RulesHoldInside, IsFirstInside, IsNotBefore, NoLabelIsShared, AreLaidIn, OverlapsAgree, SpacingsAgree, AreWindowsOf}
 use Rattle.drain_union.specs.JudgedCounts.{judged_data, judged_raised, judged_outlets}
 use Rattle.drain_union.specs.Reports.{audited, IsSortedByLabel, NoneBesideShares, ShareNoLabel, ListsOutlets, HoldsAllOf, OverlapInSeams, Report, IsReportOf, CanMerge}
 use Rattle.drain_union.specs.declared.place.Place.{Place}
@@ -32,10 +32,11 @@ CorrectByWindows =
     (u : Grid) (ps : Products) (nodata : NoDataNumbers) (windows : List Window) → AreWindowsOf u ps windows → JudgeAll u.extent windows →
     IsCorrect u ps nodata ↔ (((w : Window) → Contains windows w → RulesHoldInside nodata w) × NoLabelIsShared windows)
 
--- windows that agree where they overlap, and judge each cell of a union of this size, are the windows of one union
+-- windows that agree where they overlap and on the rows that they have in common, and judge each cell of a union of this
+-- size, are the windows of one union
 abbrev pub WindowsMakeUnion : Type 0
 WindowsMakeUnion =
-    (e : Extent) (windows : List Window) → AreLaidIn e windows → JudgeAll e windows → OverlapsAgree windows →
+    (e : Extent) (windows : List Window) → AreLaidIn e windows → JudgeAll e windows → OverlapsAgree windows → SpacingsAgree windows →
     (u : Grid) × (ps : Products) × (u.extent ≡ e) × AreWindowsOf u ps windows
 
 -- in a list sorted by label it is enough to look at outlets side by side

@@ -1,6 +1,6 @@
 -- What a run on one window hands over, and when reports can be put together.
 -- Source: what each tile of a large raster hands over is its edge (Barnes 2016); these facts are this project's own.
-use Rattle.std.specs.Prelude.{pos, ◌≡◌, ◌≢◌, ℕ, ◌-◌, ◌<◌, ◌≤ℤ◌, ◌↔◌, Option, Some, None, List, length, slice_index_or, ◌+◌, ◌≤◌, ◌⊎◌, Bool, true, IsTrue, map, false}
+use Rattle.std.specs.Prelude.{pos, ◌≡◌, ◌≢◌, ℕ, ◌-◌, min, ◌<◌, ◌≤ℤ◌, ◌↔◌, Option, Some, None, List, length, slice_index_or, ◌+◌, ◌≤◌, ◌⊎◌, Bool, true, IsTrue, map, false}
 use Rattle.drain_grid.specs.Values.{NoDataNumbers}
 use Rattle.std.specs.List.{Contains, AllAdjacentBelow, AllPairs}
 use Rattle.drain_grid.specs.declared.cell.Cell.{Cell}
@@ -8,6 +8,7 @@ use Rattle.drain_union.specs.declared.report.Outlet.{Outlet}
 use Rattle.drain_union.specs.Windows.{Window, in_union, IsJudgedOutlet, IsPlaceIn, IsJudgedIn, IsJudgedAtSome, RulesHoldInside}
 use Rattle.drain_grid.specs.Extent.{Extent, IsCellOf}
 use Rattle.drain_grid.specs.Grid.{values_at}
+use Rattle.drain_grid.specs.Spacing.{Distances, unit_spacing}
 use Rattle.drain_union.specs.declared.place.Place.{Place}
 use Rattle.drain_union.specs.declared.report.Shown.{Shown}
 use Rattle.drain_grid.specs.declared.verdict.Verdict.{Verdict}
@@ -78,10 +79,19 @@ pub record ListsSinks (w : Window) (xs : List Cell) : Type 0 where
   pub sound : (x : Cell) → Contains xs x → (c : Cell) × IsJudgedIn w.place c × (w.grid.sink c ≡ true) × (in_union w.place c ≡ x)
   pub complete : (c : Cell) → IsJudgedIn w.place c → w.grid.sink c ≡ true → Contains xs (in_union w.place c)
 
--- a report on one window: where it lies, the no-data numbers, whether the rules hold at its judged cells, and where
--- they do, the outlets that it judged, what it shows along its seams, and the listed sinks that it judged
+-- How far apart the cells of a window's rows are, as a report lists it. Source: this project's own.
+
+-- the spacing of a row, counted from the window's first one: a row after the last one listed is as that one, and where
+-- none is listed cells are square
+abbrev pub spacing_at : List Distances → ℕ → Distances
+spacing_at listed row = slice_index_or listed (min row (length listed - 1)) unit_spacing
+
+-- a report on one window: where it lies, how far apart the cells of its rows are, the no-data numbers, whether the rules
+-- hold at its judged cells, and where they do, the outlets that it judged, what it shows along its seams, and the listed
+-- sinks that it judged
 pub record Report : Type 0 where
   pub place : Place
+  pub spacings : List Distances
   pub nodata : NoDataNumbers
   pub holds : Bool
   pub outlets : List Outlet
@@ -92,6 +102,7 @@ pub record Report : Type 0 where
 pub record IsReportOf (depth : ℕ) (w : Window) (r : Report) : Type 0 where
   pub place : r.place ≡ w.place
   pub extent : w.grid.extent ≡ w.place.extent
+  pub spacings : (row : ℕ) → row < w.grid.extent.rows → w.grid.spacing row ≡ spacing_at r.spacings row
   pub holds : IsTrue r.holds ↔ RulesHoldInside r.nodata w
   pub outlets : IsTrue r.holds → ListsOutlets w r.outlets
   pub seams : IsTrue r.holds → ListsSeams depth w r.seams
@@ -106,10 +117,17 @@ OverlapInSeams depth p q =
 abbrev pub ShowTheSame : List Shown → List Shown → Type 0
 ShowTheSame xs ys = (x y : Shown) → Contains xs x → Contains ys y → x.cell ≡ y.cell → x.values ≡ y.values
 
+-- the rows of the union that both have, in whichever columns, are listed as spaced the same
+abbrev pub SpacedAlike : Report → Report → Type 0
+SpacedAlike q r =
+    (a b : ℕ) → a < q.place.extent.rows → b < r.place.extent.rows → q.place.top + a ≡ r.place.top + b →
+    spacing_at q.spacings a ≡ spacing_at r.spacings b
+
 -- what a merge asks before it looks at labels: where one of these is missing it refuses
 pub record CanMerge (depth : ℕ) (e : Extent) (nodata : NoDataNumbers) (reports : List Report) : Type 0 where
   pub placed : (r : Report) → Contains reports r → IsPlaceIn e r.place
   pub one_nodata : (r : Report) → Contains reports r → r.nodata ≡ nodata
+  pub spaced : AllPairs SpacedAlike reports
   pub whole : (c : Cell) → IsCellOf e c → IsJudgedAtSome (map (λ r. r.place) reports) c
   pub overlaps : AllPairs (λ q r. OverlapInSeams depth q.place r.place) reports
   pub agree : AllPairs (λ q r. ShowTheSame q.seams r.seams) reports

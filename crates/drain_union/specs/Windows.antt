@@ -51,11 +51,12 @@ pub record Window : Type 0 where
   pub grid : Grid
   pub products : Products
 
--- the window shows the union at its place, cell by cell
+-- the window shows the union at its place, cell by cell, and its rows are spaced as the union's
 pub record IsWindowOf (u : Grid) (ps : Products) (w : Window) : Type 0 where
   pub placed : IsPlaceIn u.extent w.place
   pub extent : w.grid.extent ≡ w.place.extent
   pub values : (c : Cell) → IsInside w.grid c → values_at w.grid w.products c ≡ values_at u ps (in_union w.place c)
+  pub spacings : (c : Cell) → IsInside w.grid c → w.grid.spacing c.row ≡ u.spacing (w.place.top + c.row)
 
 -- each cell of a union of this size is judged in some window
 abbrev pub IsJudgedInSome : List Window → Cell → Type 0
@@ -90,6 +91,12 @@ abbrev pub OverlapsAgree : List Window → Type 0
 OverlapsAgree windows =
     (v w : Window) → Contains windows v → Contains windows w → (a b : Cell) → IsInside v.grid a → IsInside w.grid b →
     in_union v.place a ≡ in_union w.place b → values_at v.grid v.products a ≡ values_at w.grid w.products b
+
+-- where two windows have a row in common, in whichever columns, its cells are as far apart in both
+abbrev pub SpacingsAgree : List Window → Type 0
+SpacingsAgree windows =
+    (v w : Window) → Contains windows v → Contains windows w → (a b : Cell) → IsInside v.grid a → IsInside w.grid b →
+    v.place.top + a.row ≡ w.place.top + b.row → v.grid.spacing a.row ≡ w.grid.spacing b.row
 
 -- all of them are windows of this union and its products
 abbrev pub AreWindowsOf : Grid → Products → List Window → Type 0
@@ -134,9 +141,14 @@ IsNotBefore nodata w c r =
 
 -- A box of a grid as a window of it. Source: this project's own.
 
--- the elevations and sinks of the box, as a grid of its own
+-- the elevations and sinks of the box, and how far apart its cells are, as a grid of its own
 abbrev pub cut_grid : Place → Grid → Grid
-cut_grid p g = record { extent = p.extent; elevation = λ c. g.elevation (in_union p c); sink = λ c. g.sink (in_union p c) }
+cut_grid p g = record {
+  extent = p.extent;
+  elevation = λ c. g.elevation (in_union p c);
+  sink = λ c. g.sink (in_union p c);
+  spacing = λ row. g.spacing (p.top + row);
+}
 
 -- and its products
 abbrev pub cut_products : Place → Products → Products

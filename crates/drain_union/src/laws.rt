@@ -16,7 +16,8 @@ pub fn correct_by_windows()
     ensures { CorrectByWindows }
 {}
 
-/// Windows that agree where they overlap, and judge each cell, are the windows of one union.
+/// Windows that agree where they overlap and on the rows that they have in common, and judge each cell, are the windows of
+/// one union.
 pub fn windows_make_union()
     ensures { WindowsMakeUnion }
 {}

@@ -7,5 +7,7 @@ pub mod report;
 pub mod union_grid;
 
 pub use place::{InnerSides, Place, SEAM_DEPTH};
-pub use report::{AuditNoData, Outlet, Report, Shown, WindowReport, first_shared, sort_by_label};
+pub use report::{
+    AuditNoData, Outlet, Report, Shown, WindowReport, first_shared, sort_by_label, spacing_at,
+};
 pub use union_grid::{Decimal, DemPart, UnionGrid};

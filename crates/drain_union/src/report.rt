@@ -1,12 +1,12 @@
 //! A report on one window.
 
 ghost use Rattle.std.specs.List.Sorted.{IsPermutation};
-ghost use Rattle.drain_union.specs.Reports.{IsFirstShared, IsSortedByLabel, audited};
+ghost use Rattle.drain_union.specs.Reports.{IsFirstShared, IsSortedByLabel, audited, spacing_at};
 ghost use Rattle.std.specs.Prelude.{◌≡◌};
 
 use crate::place::Place;
 use crate::union_grid::UnionGrid;
-use drain_grid::{Cell, CellValues, NoData, Verdict};
+use drain_grid::{Cell, CellValues, NoData, Spacing, Verdict};
 use drain_hgt::TileName;
 use std::marker::Model;
 
@@ -87,11 +87,27 @@ pub struct Shown {
     pub values: CellValues,
 }
 
-/// A report on one window: where it lies, the no-data numbers, whether the rules hold at its judged cells, and if they
-/// do, the outlets there, what it shows along its seams, and the listed sinks there.
+/// The spacing of a row of a window, from a report's list: a row after the last one listed is as that one, and cells are
+/// square if none is listed.
+pub fn spacing_at(listed: &[Spacing], row: u32) -> Spacing
+    ensures { result ≡ spacing_at listed.now row }
+{
+    match listed.last() {
+        Some(last) => match listed.get(row as usize) {
+            Some(spacing) => *spacing,
+            None => *last,
+        },
+        None => Spacing::unit(),
+    }
+}
+
+/// A report on one window: where it lies, how far apart the cells of its rows are (`spacing_at`), the no-data numbers,
+/// whether the rules hold at its judged cells, and if they do, the outlets there, what it shows along its seams, and the
+/// listed sinks there.
 #[derive(Drop)]
 pub struct Report {
     pub place: Place,
+    pub spacings: Vec<Spacing>,
     pub nodata: AuditNoData,
     pub holds: bool,
     pub outlets: Vec<Outlet>,
@@ -104,7 +120,7 @@ impl Model for Report {
 
     ghost Value = { Reports.Report };
 
-    ghost view = { λ r. record { place = r.place; nodata = r.nodata; holds = r.holds; outlets = r.outlets.items; seams = r.seams.items; sinks = r.sinks.items } };
+    ghost view = { λ r. record { place = r.place; spacings = r.spacings.items; nodata = r.nodata; holds = r.holds; outlets = r.outlets.items; seams = r.seams.items; sinks = r.sinks.items } };
 }
 
 /// The report on a window with what a user and a merge need beside it: the grid whose rows and columns it counts, the names

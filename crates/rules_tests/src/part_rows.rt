@@ -9,7 +9,7 @@ ghost use Rattle.drain_grid.specs.Values.{IsPixel};
 ghost use Rattle.drain_rules.specs.Rows.{AreRowNumbers};
 
 use crate::examples::{Part, is_pixel, numbers_at};
-use drain_grid::{Judged, PerProduct};
+use drain_grid::{Judged, PerProduct, Spacing};
 use drain_kernel::Lanes;
 use drain_pixels::{GroundRow, PixelKind, PixelRow};
 use drain_rules::RowView;
@@ -160,7 +160,7 @@ impl PartRow {
         };
         match lanes {
             Some(lanes) => laned_view(z, marks, products, judged, lanes),
-            None => RowView::new(z, marks, products, None),
+            None => RowView::new(z, marks, Spacing::unit(), products, None),
         }
     }
 }
@@ -203,8 +203,8 @@ fn laned_view<'a>(
     requires { AreRowNumbers (record { z = z.now; products = per_product (λ p. (of_product products p).now) }) }
 {
     if lanes.take(z, &products, judged, false) {
-        RowView::new(z, marks, products, Some(lanes))
+        RowView::new(z, marks, Spacing::unit(), products, Some(lanes))
     } else {
-        RowView::new(z, marks, products, None)
+        RowView::new(z, marks, Spacing::unit(), products, None)
     }
 }

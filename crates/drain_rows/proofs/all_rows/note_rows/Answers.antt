@@ -1,5 +1,6 @@
 use Rattle.std.proofs.Common.{◌≡◌, None, inl, ◌+◌, ◌<◌, inr, refl, sym, ap, subst, ◌∙◌, arith, rules}
 use Rattle.drain_grid.specs.Extent.{Extent}
+use Rattle.drain_grid.specs.Spacing.{spacing_of}
 use Rattle.drain_rules.specs.Rows.{AreNumbersOf, AreRowNumbers}
 use Rattle.drain_rows.specs.RowBuffers.{LanesMatch, IsMarked, marked_of, buffer_numbers}
 use Rattle.drain_rows.specs.GridRows.{AreVoidsBefore}
@@ -26,7 +27,7 @@ loop-row-init g c =
       below_marked = read.marked;
       voids = λ rows grid ps gives extent all.
           voids-more grid ps 0 _ _ (marked_of c.read_marked.new.held)
-          (row-marked grid ps c.args.sinks.now rows 0 (marked_of c.read_marked.new.held) all (read.next rows 0 gives).0 read.marked)
+          (row-marked grid ps c.args.sinks.now (spacing_of c.args.spacings.now) rows 0 (marked_of c.read_marked.new.held) all (read.next rows 0 gives).0 read.marked)
           (subst (AreVoidsBefore grid 0) (sym c.requires.none) (voids-none grid)) read.noted;
       noted = λ rows grid ps gives extent all. c.requires.unnoted grid ps;
       lasting = refl;
@@ -48,7 +49,7 @@ returns-in_err-note_row-clause-stops g c =
             let inv = c.loop-row.invariant in
             let count = ap (λ (e : Extent). e.rows) extent in
             let inside : row < grid.extent.rows = omega (arith, c.loop-row-test.true, c.rows-row-end.ensures, count) in
-            let shown = window-shows c.three_rows_show_patches.ensures grid ps c.args.sinks.now rows row c.rows-shown.result (marked_of c.loop-row.window.here) (marked_of c.loop-row.window.below)
+            let shown = window-shows c.three_rows_show_patches.ensures grid ps c.args.sinks.now (spacing_of c.args.spacings.now) rows row c.rows-shown.result (marked_of c.loop-row.window.here) (marked_of c.loop-row.window.below)
             (marked_of c.read_marked-in-loop-row.new.held) all inside (c.rows-shown.ensures.above ∙ ap marked_of c.turn.ensures.above) (c.rows-shown.ensures.here ∙ ap marked_of c.turn.ensures.here)
             c.rows-shown.ensures.below (inv.held rows gives) (read.next rows (row + 1) (inv.given rows gives)).0 inv.here_marked inv.below_marked read.marked in
             c.in_err-note_row.ensures.wants grid ps row
@@ -75,16 +76,16 @@ loop-row-preserved g c =
           (read.next rows (row + 1) (inv.given rows gives)).0;
       here_marked = λ r is.
           let same : row ≡ r = omega (arith, is) in
-          subst (λ k. IsMarked c.args.sinks.now k (marked_of c.turn.new.self.here)) same (subst (IsMarked c.args.sinks.now row) (ap marked_of (sym c.turn.ensures.here)) inv.below_marked);
+          subst (λ k. IsMarked c.args.sinks.now (spacing_of c.args.spacings.now) k (marked_of c.turn.new.self.here)) same (subst (IsMarked c.args.sinks.now (spacing_of c.args.spacings.now) row) (ap marked_of (sym c.turn.ensures.here)) inv.below_marked);
       below_marked = read.marked;
       voids = λ rows grid ps gives extent all.
           voids-more grid ps (row + 1) _ _ (marked_of c.read_marked-in-loop-row.new.held)
-          (row-marked grid ps c.args.sinks.now rows (row + 1) (marked_of c.read_marked-in-loop-row.new.held) all (read.next rows (row + 1) (inv.given rows gives)).0 read.marked)
+          (row-marked grid ps c.args.sinks.now (spacing_of c.args.spacings.now) rows (row + 1) (marked_of c.read_marked-in-loop-row.new.held) all (read.next rows (row + 1) (inv.given rows gives)).0 read.marked)
           (inv.voids rows grid ps gives extent all) read.noted;
       noted = λ rows grid ps gives extent all.
           let count = ap (λ (e : Extent). e.rows) extent in
           let inside : row < grid.extent.rows = omega (arith, c.loop-row-test.true, c.rows-row-end.ensures, count) in
-          let shown = window-shows c.three_rows_show_patches.ensures grid ps c.args.sinks.now rows row c.rows-shown.result (marked_of c.loop-row.window.here) (marked_of c.loop-row.window.below)
+          let shown = window-shows c.three_rows_show_patches.ensures grid ps c.args.sinks.now (spacing_of c.args.spacings.now) rows row c.rows-shown.result (marked_of c.loop-row.window.here) (marked_of c.loop-row.window.below)
           (marked_of c.read_marked-in-loop-row.new.held) all inside (c.rows-shown.ensures.above ∙ ap marked_of c.turn.ensures.above) (c.rows-shown.ensures.here ∙ ap marked_of c.turn.ensures.here)
           c.rows-shown.ensures.below (inv.held rows gives) (read.next rows (row + 1) (inv.given rows gives)).0 inv.here_marked inv.below_marked read.marked in
           c.in_ok-note_row.ensures.noted grid ps row

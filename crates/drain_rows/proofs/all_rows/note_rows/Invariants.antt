@@ -1,5 +1,6 @@
 use Rattle.std.proofs.Common.{◌≡◌, ◌+◌, ℕ, None, length}
 use Rattle.drain_grid.specs.Grid.{Grid, Products}
+use Rattle.drain_grid.specs.Spacing.{spacing_of}
 use Rattle.drain_rules.specs.Rows.{AreRowNumbers, RowNumbers}
 use Rattle.drain_rows.specs.GridRows.{OfGrid, ReadsOn, AreVoidsBefore}
 use Rattle.drain_rows.specs.RowBuffers.{LanesMatch, IsMarked, marked_of, buffer_numbers}
@@ -21,10 +22,10 @@ invariant-loop-row g l =
           source.gives (l.source, l.tiles, l.products) rows (l.row + 1);
       held : (rows : ℕ → RowNumbers) → source.gives (l.fn.source, l.fn.tiles, l.fn.products) rows 0 →
           AreSetProducts rows l.row (buffer_numbers l.window.here) (buffer_numbers l.window.below);
-      here_marked : (r : ℕ) → l.row ≡ r + 1 → IsMarked l.sinks r (marked_of l.window.here);
-      below_marked : IsMarked l.sinks l.row (marked_of l.window.below);
-      voids : OfGrid (source.gives (l.fn.source, l.fn.tiles, l.fn.products)) l.fn.shape l.sinks (λ (grid : Grid) (ps : Products). AreVoidsBefore grid (l.row + 1) l.voids);
-      noted : OfGrid (source.gives (l.fn.source, l.fn.tiles, l.fn.products)) l.fn.shape l.sinks (λ (grid : Grid) (ps : Products). g.K.RowVisitor.are_of l.rules grid ps l.row l.notes);
+      here_marked : (r : ℕ) → l.row ≡ r + 1 → IsMarked l.sinks (spacing_of l.spacings) r (marked_of l.window.here);
+      below_marked : IsMarked l.sinks (spacing_of l.spacings) l.row (marked_of l.window.below);
+      voids : OfGrid (source.gives (l.fn.source, l.fn.tiles, l.fn.products)) l.fn.shape l.sinks (spacing_of l.spacings) (λ (grid : Grid) (ps : Products). AreVoidsBefore grid (l.row + 1) l.voids);
+      noted : OfGrid (source.gives (l.fn.source, l.fn.tiles, l.fn.products)) l.fn.shape l.sinks (spacing_of l.spacings) (λ (grid : Grid) (ps : Products). g.K.RowVisitor.are_of l.rules grid ps l.row l.notes);
       lasting : g.K.RowVisitor.lasting l.notes ≡ g.K.RowVisitor.lasting l.fn.notes;
       reads : ReadsOn source.has_read (l.fn.source, l.fn.tiles, l.fn.products) (l.source, l.tiles, l.products) (l.row + 1) None;
     }

@@ -1,0 +1,86 @@
+//! Whether windows agree on how far apart the cells of their rows are.
+//!
+//! Windows side by side share rows and hardly a cell, so what they show along their seams doesn't tell. Reports on
+//! different distances can't be merged: no one grid has them all.
+
+ghost use Rattle.std.specs.Prelude.{◌≡◌, ◌↔◌, ◌+◌, ◌<◌, ◌≤◌, ◌^◌, IsTrue, length, ℕ};
+ghost use Rattle.drain_merge.specs.Merges.{HaveRowsAlike, IsFirstSpacedOther};
+ghost use Rattle.drain_merge.specs.Places.{IsFirstFailing};
+ghost use Rattle.drain_union.specs.Reports.{SpacedAlike, spacing_at};
+
+use drain_grid::Spacing;
+use drain_union::place::end_of;
+use drain_union::{Report, WindowReport, spacing_at};
+
+/// The first window that lists another spacing than an earlier one for a row that both have.
+pub(crate) fn first_other_spacing(windows: &[WindowReport]) -> Option<usize>
+    ensures { IsFirstSpacedOther windows.now result }
+{
+    for later in 0..windows.len() {
+        if let Some(_earlier) = first_unlike(&windows[..later], &windows[later]) {
+            return Some(later);
+        }
+    }
+    None
+}
+
+/// The first of the windows that lists another spacing than this one for a row that both have.
+fn first_unlike(windows: &[WindowReport], window: &WindowReport) -> Option<usize>
+    ensures { IsFirstFailing (λ v. HaveRowsAlike v window.now) windows.now result }
+{
+    for i in 0..windows.len() {
+        if !have_rows_alike(&windows[i], window) {
+            return Some(i);
+        }
+    }
+    None
+}
+
+/// Whether the rows that both windows have are listed as spaced the same.
+fn have_rows_alike(a: &WindowReport, b: &WindowReport) -> bool
+    ensures { IsTrue result ↔ HaveRowsAlike a.now b.now }
+{
+    are_spaced_alike(&a.report, &b.report)
+}
+
+/// The same of their reports.
+fn are_spaced_alike(a: &Report, b: &Report) -> bool
+    ensures { IsTrue result ↔ SpacedAlike a.now b.now }
+{
+    let top = a.place.top.max(b.place.top);
+    let end_a = end_of(a.place.top, a.place.extent.rows());
+    let end_b = end_of(b.place.top, b.place.extent.rows());
+    let count = end_a.min(end_b).saturating_sub(u64::from(top));
+    if a.spacings.len() <= 1 && b.spacings.len() <= 1 {
+        // All rows of a window are alike.
+        return count == 0 || same_spacing(spacing_at(&a.spacings, 0), spacing_at(&b.spacings, 0));
+    }
+    same_rows(
+        &a.spacings,
+        &b.spacings,
+        top - a.place.top,
+        top - b.place.top,
+        count as u32,
+    )
+}
+
+/// Whether so many rows, from one of the first list and from one of the second, are spaced the same.
+fn same_rows(a: &[Spacing], b: &[Spacing], from_a: u32, from_b: u32, count: u32) -> bool
+    requires of_a { from_a + count < 2 ^ 32 }
+    requires of_b { from_b + count < 2 ^ 32 }
+    ensures { IsTrue result ↔ ((k : ℕ) → k < count → spacing_at a.now (from_a + k) ≡ spacing_at b.now (from_b + k)) }
+{
+    for k in 0..count {
+        if !same_spacing(spacing_at(a, from_a + k), spacing_at(b, from_b + k)) {
+            return false;
+        }
+    }
+    true
+}
+
+/// Whether the two are the same.
+fn same_spacing(a: Spacing, b: Spacing) -> bool
+    ensures { IsTrue result ↔ (a ≡ b) }
+{
+    a.width == b.width && a.height == b.height
+}
