@@ -2,18 +2,20 @@
 --
 -- A decimal times a power of ten is one whole number at most, since a power of ten cancels. A lower power than that where
 -- both were divided as often as possible would make both divisible once more.
-use Rattle.std.proofs.Common.{◌≡◌, ◌≢◌, ℕ, zero, suc, ◌+◌, ◌-◌, ◌*◌, ◌/◌, ◌^◌, ◌<◌, ◌≤◌, true, false, List, [], ◌∷◌, ◌++◌, length, get_or, Option, Some, None, MatchOption, arith, refl, sym, ap, ◌∙◌, inl, inr}
+use Rattle.std.proofs.Common.{◌≡◌, ◌≢◌, ℕ, zero, suc, ◌+◌, ◌-◌, ◌*◌, ◌/◌, ◌%◌, ◌^◌, ◌<◌, ◌≤◌, true, false, List, [], ◌∷◌, ◌++◌, length, get_or, Option, Some, None, MatchOption, arith, refl, sym, ap, subst, ◌∙◌, inl, inr}
 use Rattle.std.specs.Borrow.{Bor}
 use Rattle.std.specs.Prelude.{nat_lt}
 use Rattle.std.specs.Int.{IsInRange}
 use Rattle.std.specs.Str.Parse.{AllDigits, digits_value}
-use Rattle.std.proofs.lemmas.Bool.{ltb-true, ltb-false}
+use Rattle.std.specs.List.{list_all}
+use Rattle.std.specs.Char.{is_ascii_digit}
+use Rattle.std.proofs.lemmas.Bool.{le-leb, ltb-true, ltb-false}
 use Rattle.std.proofs.lemmas.Nat.{pow-add}
 use Rattle.std.proofs.Math.Nat.{mul-div_cancel, one-le-pow, pow-suc}
 use Rattle.std.proofs.lemmas.Str.Parse.{IsNumeralModel, digit_from_value, not_in_digits, numerals_by_value, tells_digits}
 use Rattle.std.proofs.lemmas.Str.Pattern.{IsSplitOnceResult, split_after, split_parts}
 use Rattle.drain_grid.specs.Spacing.{Distances, IsSpacing}
-use Rattle.drain_text.proofs.Digits.{last_digits}
+use Rattle.drain_text.proofs.Digits.{both, digit_worth, last_digits}
 use Rattle.drain_args.specs.SpacingTexts.{ArePartsOf, IsDecimal, IsFewDigits, IsLeastUnit, IsSpacingText, IsUnits, IsWritten, comma, point}
 
 -- a factor above 0 cancels
@@ -73,6 +75,14 @@ units_value whole behind places most units digits few is value =
     let tens : 10 ^ most ≡ 10 ^ (most - places) * 10 ^ places = ap (λ (n : ℕ). 10 ^ n) sum ∙ pow-add 10 (most - places) places in
     omega (arith, ap (λ (x : ℕ). x * 10 ^ places) is, ap (λ (x : ℕ). x * 10 ^ most) value, ap (λ (x : ℕ). behind * x) tens)
 
+-- a number that ends in 0 is divided once more
+pub once_more : (number left places : ℕ) → 0 < places → places ≤ 18 → left % 10 ≡ 0 → number ≡ left * 10 ^ (18 - places) → number ≡ left / 10 * 10 ^ (18 - (places - 1))
+once_more number left places some few none is =
+    let k = 18 - places in
+    let next : 18 - (places - 1) ≡ suc k = omega arith in
+    let whole : left ≡ left / 10 * 10 = omega (arith, none) in
+    omega (arith, is, ap (λ (x : ℕ). x * 10 ^ k) whole, ap (λ (n : ℕ). left / 10 * 10 ^ n) next, ap (λ (x : ℕ). left / 10 * x) (pow-suc 10 k))
+
 -- Where a text is cut.
 
 -- no byte of the text is this one
@@ -100,6 +110,19 @@ decimal_avoids text whole fraction written before behind = elim written [
       (avoids_first comma point fraction (λ same. absurd (omega (arith, same))) (digits_avoid comma fraction behind (omega arith))))
   | inr e ↦ subst (Avoids comma) (sym e.0) (digits_avoid comma whole before (omega arith))
 ]
+
+-- digits are tested so
+pub all_ascii : (word : List ℕ) → AllDigits 10 word → list_all is_ascii_digit word ≡ true
+all_ascii [] h = refl
+all_ascii (d ∷ ds) h = let r = digit_from_value d h.0 in rw (le-leb 48 d r.0, le-leb d 57 r.1, all_ascii ds h.1) refl
+
+-- and what is tested so is digits
+pub all_digits : (word : List ℕ) → list_all is_ascii_digit word ≡ true → AllDigits 10 word
+all_digits [] h = tt
+all_digits (d ∷ ds) h =
+    let r = both _ _ h in
+    let w = digit_worth d r.0 in
+    (omega (arith, w), all_digits ds r.1)
 
 -- a point is no digit
 no_point : (before behind : List ℕ) → AllDigits 10 (before ++ point ∷ behind) → ⊥
@@ -170,6 +193,14 @@ no_decimal text whole fraction parts none digits places decimal =
       omega (arith, decimal.some, ap length same.0, ap length same.1),
     )
 
+-- both cases at once
+pub units_matched : (text whole fraction : List ℕ) (r : Option ℕ) → ArePartsOf text whole fraction
+    → MatchOption r ((IsFewDigits whole × IsFewDigits fraction × (0 < length whole + length fraction)) → ⊥)
+    (λ units. IsFewDigits whole × IsFewDigits fraction × (0 < length whole + length fraction) × (units ≡ digits_value 10 whole * 10 ^ 18 + digits_value 10 fraction * 10 ^ (18 - length fraction)))
+    → MatchOption r ((digits places : ℕ) → IsDecimal text digits places → ⊥) (IsUnits text)
+units_matched text whole fraction None parts none = no_decimal text whole fraction parts none
+units_matched text whole fraction (Some units) parts are = units_of_parts text whole fraction units parts are.0 are.1 are.2 are.3
+
 -- The spacing of a text.
 
 -- of two decimals, divided as often as both stay whole
@@ -210,3 +241,17 @@ only_spacing text w h a b width height s named first_text second_text first seco
       same_whole named.width_places named.width_digits named.power (18 - l.times) s.width width named.width left same,
       same_whole named.height_places named.height_digits named.power (18 - l.times) s.height height named.height right same,
     )
+
+-- both cases at once
+pub spacing_matched : (text : List ℕ) (split : Option (Bor (List ℕ) × Bor (List ℕ))) (x : Bor (List ℕ) × Bor (List ℕ)) (a b width height : ℕ) (r : Option Distances)
+    → IsSplitOnceResult 44 text split → split ≡ Some x → IsUnits x.0.now a → IsUnits x.1.now b → IsLeastUnit a b width height
+    → MatchOption r (IsSpacing (record { width = width; height = height }) → ⊥) (λ s. s ≡ record { width = width; height = height })
+    → MatchOption r ((s : Distances) → IsSpacing s → IsSpacingText text s → ⊥) (IsSpacingText text)
+spacing_matched text split x a b width height None h is first second least none = λ s fits named. (
+    let texts = rw is at (texts_at_comma text named.width_text named.height_text split h named.written named.width_digits named.width_places named.width_is) in
+    let same = only_spacing text x.0.now x.1.now a b width height s named (sym texts.0) (sym texts.1) first second least in
+    let all : s ≡ record { width = width; height = height } = λ i. record { width = same.0 i; height = same.1 i } in
+    none (subst IsSpacing all fits))
+spacing_matched text split x a b width height (Some s) h is first second least same =
+    let parts = rw is at (split_parts 44 text split h (omega arith)) in
+    subst (IsSpacingText text) (sym same) (spacing_text text x.0.now x.1.now a b width height parts.0 first second least)

@@ -111,7 +111,7 @@ fn in_least_unit(width: u128, height: u128) -> (u128, u128)
 }
 
 /// The spacing of a width and a height, if each is from 1 to 2^30.
-fn spacing_of(width: u128, height: u128) -> Option<Spacing>
+pub fn spacing_of(width: u128, height: u128) -> Option<Spacing>
     ensures { MatchOption result (IsSpacing (record { width = width; height = height }) → ⊥) (λ s. s ≡ record { width = width; height = height }) }
 {
     if width > u32::MAX as u128 || height > u32::MAX as u128 {
