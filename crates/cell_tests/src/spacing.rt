@@ -14,34 +14,43 @@ const FAR: u32 = 1073741824;
 
 /// A data cell so far below the cell, with this direction.
 fn below(drop: i64, dir: i64) -> Option<CellValues> {
-    CellValues::new(Some(0), false, TOP - drop, dir, 0, 0, 0, 0)
+    let con = TOP.checked_sub(drop)?;
+    CellValues::new(Some(0), false, con, dir, 0, 0, 0, 0)
 }
 
-/// A cell with this direction, and the drops to its neighbours in the order of directions.
-fn patch(spacing: Spacing, dir: i64, drops: [i64; 8]) -> Option<Patch> {
-    let here = below(0, dir)?;
+/// The cell with this direction.
+fn here(dir: i64) -> Result<CellValues, Fail> {
+    match below(0, dir) {
+        Some(cell) => Ok(cell),
+        None => Err("a cell".into()),
+    }
+}
+
+/// The cell, and the drops to its neighbours in the order of directions.
+fn patch(here: CellValues, spacing: Spacing, drops: [i64; 8]) -> Patch {
     let around = drops.map(|drop| below(drop, 0));
-    Some(Patch {
+    Patch {
         here,
         around,
         spacing,
-    })
+    }
 }
 
-/// The codes of the eight directions.
-const CODES: [i64; 8] = [1, 2, 4, 8, 16, 32, 64, 128];
-
-/// The first steepest way down, and the codes that are right, added up.
-fn told((width, height): (u32, u32), drops: [i64; 8]) -> Option<(Option<Direction>, i64)> {
-    let spacing = Spacing::new(width, height)?;
-    let first = steepest(&patch(spacing, 0, drops)?);
+/// The first steepest way down, and the codes of directions that are right, added up.
+fn told((width, height): (u32, u32), drops: [i64; 8]) -> Result<(Option<Direction>, i64), Fail> {
+    let Some(spacing) = Spacing::new(width, height) else {
+        return Err("a spacing".into());
+    };
+    let mut shown = patch(here(0)?, spacing, drops);
+    let first = steepest(&shown);
     let mut right = 0;
-    for code in CODES {
-        if fault(&patch(spacing, code, drops)?).is_none() {
+    for code in [1, 2, 4, 8, 16, 32, 64, 128] {
+        shown.here = here(code)?;
+        if fault(&shown).is_none() {
             right |= code;
         }
     }
-    Some((first, right))
+    Ok((first, right))
 }
 
 /// Width and height; drops to the east, the southeast and the south; the first steepest way down, and the right codes.
@@ -88,11 +97,12 @@ static WAYS: [(&str, (u32, u32), (i64, i64, i64), Direction, i64); 14] = [
 ];
 
 #[test]
-fn ways_over_unequal_distances(rt: HostRuntime) {
-    for &(name, spacing, (in_east, in_southeast, in_south), first, right) in &WAYS {
+fn ways_over_unequal_distances(rt: HostRuntime) -> Result<(), Fail> {
+    for &(name, spacing, (in_east, in_southeast, in_south), way, codes) in &WAYS {
         let drops = [in_east, in_southeast, in_south, 0, 0, 0, 0, 0];
-        same(&rt, name, told(spacing, drops), Some((Some(first), right)));
+        same(&rt, name, told(spacing, drops)?, (Some(way), codes));
     }
+    Ok(())
 }
 
 /// Width and height; drops along rows, columns and across corners; the first steepest way down, and the right codes.
@@ -106,11 +116,12 @@ static ROUND: [(&str, (u32, u32), (i64, i64, i64), Direction, i64); 6] = [
 ];
 
 #[test]
-fn ways_in_all_directions(rt: HostRuntime) {
-    for &(name, spacing, (row, col, corner), first, right) in &ROUND {
+fn ways_in_all_directions(rt: HostRuntime) -> Result<(), Fail> {
+    for &(name, spacing, (row, col, corner), way, codes) in &ROUND {
         let drops = [row, corner, col, corner, row, corner, col, corner];
-        same(&rt, name, told(spacing, drops), Some((Some(first), right)));
+        same(&rt, name, told(spacing, drops)?, (Some(way), codes));
     }
+    Ok(())
 }
 
 /// Two numbers, and whether they are a width and a height.

@@ -19,15 +19,16 @@ fn of_row(spacings: &Spacings, row: u32) -> Distances {
 }
 
 /// What is said of these rows.
-fn given(alloc: Global, input: SpacingInput<'_>) -> Given {
-    let spacings = parse_spacings(alloc, &input)?;
+fn given(alloc: Global, input: &SpacingInput<'_>) -> Given {
+    let spacings = parse_spacings(alloc, input)?;
     let rows = [0, 1, 2, u32::MAX].map(|row| of_row(&spacings, row));
     Ok((spacings.listed_rows(), rows))
 }
 
 /// What a text says.
 fn listed(alloc: Global, text: &str) -> Given {
-    given(alloc, SpacingInput::ByRow(text.as_bytes()))
+    let input = SpacingInput::ByRow(text.as_bytes());
+    given(alloc, &input)
 }
 
 /// Texts, each with the number of rows that it lists, and the spacing of the first three.
@@ -88,9 +89,9 @@ fn one_spacing(rt: HostRuntime) -> Result<(), Fail> {
     let Some(spacing) = Spacing::new(3, 4) else {
         return Err("a spacing".into());
     };
-    let narrow = given(rt.alloc(), SpacingInput::Same(spacing));
+    let narrow = given(rt.alloc(), &SpacingInput::Same(spacing));
     same(&rt, "narrow", narrow, Ok((0, [(3, 4); 4])));
-    let square = given(rt.alloc(), SpacingInput::unit());
+    let square = given(rt.alloc(), &SpacingInput::unit());
     same(&rt, "square", square, Ok((0, [(1, 1); 4])));
     Ok(())
 }
