@@ -1,11 +1,18 @@
 //! Tiles and their products, in bytes.
 
 use drain_device::{ByteList, SliceSource};
+use drain_grid::{Spacing, SpacingInput};
 use drain_hgt::TileInput;
-use drain_verdict::{AuditProducts, RasterInput};
+use drain_verdict::{AuditProducts, Given, RasterInput};
 use std::alloc::{AllocError, Global};
 
-/// Tiles that all have these samples, their products, and a list of sinks.
+/// Square cells.
+const UNIT: SpacingInput = SpacingInput::Same(Spacing {
+    width: 1,
+    height: 1,
+});
+
+/// Tiles that all have these samples, their products, a list of sinks, and how far apart cells are.
 #[derive(Clone, Copy)]
 pub struct Inputs<'a> {
     pub side: u32,
@@ -18,6 +25,7 @@ pub struct Inputs<'a> {
     pub acc: &'a [u8],
     pub bas: &'a [u8],
     pub sinks: &'a str,
+    pub spacing: SpacingInput<'a>,
 }
 
 impl<'a> Inputs<'a> {
@@ -40,6 +48,14 @@ impl<'a> Inputs<'a> {
         header: &str,
     ) -> Result<[RasterInput<SliceSource<'a>>; 1], AllocError> {
         Ok([raster(alloc, header, self.samples)?])
+    }
+
+    /// What is given beside the rasters.
+    pub fn given(&self) -> Given<'a> {
+        Given {
+            sinks: self.sinks.as_bytes(),
+            spacing: self.spacing,
+        }
     }
 
     /// The products as they are read.
@@ -142,6 +158,7 @@ impl Slope {
             acc: &self.acc,
             bas: &self.bas,
             sinks,
+            spacing: UNIT,
         }
     }
 }
@@ -160,4 +177,5 @@ pub const LEVEL_TILES: Inputs = Inputs {
     acc: &[1; 6],
     bas: &[6, 5, 4, 3, 2, 1],
     sinks: "",
+    spacing: UNIT,
 };
