@@ -203,6 +203,15 @@ pub const TILES_HELP: &str = "The tile files, each named after its south-west co
 
 pub const SINKS_HELP: &str = "A list of inland sinks, one a line: ROW COL";
 
+pub const SPACING_HELP: &str =
+    "Width and height of all cells, as 30,20.5, or header, the pixel size of --dem [default: 1,1]";
+
+pub const BAD_SPACING: &str = "the spacing must be two decimals W,H, with at most 18 digits before a point and 18 behind \
+    it, and each from 1 to 1073741824 times the least power of ten that makes both whole; or header, with --dem";
+
+pub const WIDTHS_HELP: &str =
+    "Width and height of the cells of each row, a line each from the north: two whole numbers";
+
 pub const PROGRESS_HELP: &str = "Report progress on standard error, in at most two lines a second";
 
 pub const FILE_HELP: &str = "The header file";
