@@ -2,7 +2,7 @@
 
 use crate::agree::same_rule;
 use drain_accum::fault;
-use drain_grid::{CellValues, Patch, Rule};
+use drain_grid::{CellValues, Patch, Rule, Spacing};
 use std::test::Fail;
 
 /// A data cell with this direction and accumulation.
@@ -32,6 +32,7 @@ fn meeting_place(acc: i64) -> Result<Patch, Fail> {
             cell(4, 1),
             cell(8, 1),
         ],
+        spacing: Spacing::unit(),
     })
 }
 
@@ -62,6 +63,7 @@ fn counts_the_cell_and_what_its_neighbors_hand_on(rt: HostRuntime) -> Result<(),
     let greatest = Patch {
         here: here(4294967295)?,
         around: [cell(16, 4294967295); 8],
+        spacing: Spacing::unit(),
     };
     let one_more = fault(&greatest);
     same_rule(&rt, "one more than 32 bits", one_more, too_few);

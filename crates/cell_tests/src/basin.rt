@@ -2,7 +2,7 @@
 
 use crate::agree::{same, same_rule};
 use drain_basin::{OutletLabels, fault};
-use drain_grid::{CellValues, OutOfMemory, Patch, Rule};
+use drain_grid::{CellValues, OutOfMemory, Patch, Rule, Spacing};
 use std::test::Fail;
 use worked::memory::gave_out;
 
@@ -13,7 +13,11 @@ fn patch(dir: i64) -> Result<Patch, Fail> {
     };
     let mut around = [Some(here); 8];
     around[0] = CellValues::new(Some(0), false, 0, 0, 1, 7, 0, 0);
-    Ok(Patch { here, around })
+    Ok(Patch {
+        here,
+        around,
+        spacing: Spacing::unit(),
+    })
 }
 
 /// Codes, each with the rule that fails.

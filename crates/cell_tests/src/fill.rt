@@ -6,7 +6,7 @@ ghost use Rattle.drain_grid.specs.PatchRules.{BelowGroundHolds};
 
 use crate::agree::{same, same_rule};
 use drain_fill::{fault, fault_above_profile2, fault_profile2, first_below};
-use drain_grid::{CellValues, Patch, Rule};
+use drain_grid::{CellValues, Patch, Rule, Spacing};
 use std::process::Abort;
 use std::test::Fail;
 
@@ -45,7 +45,11 @@ fn neighbor(beside: Beside) -> Option<CellValues> {
 fn patch(here: CellValues, east: Beside, other: Beside) -> Patch {
     let mut around = [neighbor(other); 8];
     around[0] = neighbor(east);
-    Patch { here, around }
+    Patch {
+        here,
+        around,
+        spacing: Spacing::unit(),
+    }
 }
 
 /// Whether the cell is not below its ground. A void never is.

@@ -2,7 +2,7 @@
 
 use crate::agree::same;
 use drain_flat::{fault, fault_without_ranks};
-use drain_grid::{CellValues, Patch, Rule};
+use drain_grid::{CellValues, Patch, Rule, Spacing};
 use std::test::Fail;
 
 /// The rule where it fails with ranks, and where it fails without.
@@ -75,6 +75,7 @@ fn cells_of_a_flat(rt: HostRuntime) -> Result<(), Fail> {
                 level(ranks[6]),
                 level(ranks[7]),
             ],
+            spacing: Spacing::unit(),
         };
         same(&rt, name, told(&patch), expected);
     }
@@ -82,6 +83,7 @@ fn cells_of_a_flat(rt: HostRuntime) -> Result<(), Fail> {
     let corner = Patch {
         here: here(0, 0)?,
         around: [level(0), level(1), level(0), None, None, None, None, None],
+        spacing: Spacing::unit(),
     };
     same(&rt, "in a corner", told(&corner), HOLDS);
     Ok(())
@@ -141,7 +143,11 @@ fn what_a_direction_leads_to(rt: HostRuntime) -> Result<(), Fail> {
         let mut around = [level(3); 8];
         around[0] = east_values(east);
         let here = here(dir, 3)?;
-        let patch = Patch { here, around };
+        let patch = Patch {
+            here,
+            around,
+            spacing: Spacing::unit(),
+        };
         same(&rt, name, told(&patch), expected);
     }
     Ok(())
@@ -155,6 +161,7 @@ fn a_void(rt: HostRuntime) -> Result<(), Fail> {
     let patch = Patch {
         here,
         around: [level(0); 8],
+        spacing: Spacing::unit(),
     };
     same(&rt, "a void", told(&patch), HOLDS);
     Ok(())

@@ -6,7 +6,7 @@ use crate::agree::same;
 use drain_grid::tile::{height_from, is_side};
 use drain_grid::{
     Cell, CellValues, Code, Direction, NoData, Patch, PerProduct, Product, Raster, Rule,
-    SetProduct, Shape,
+    SetProduct, Shape, Spacing,
 };
 use std::test::Fail;
 
@@ -144,6 +144,7 @@ fn open_and_lower_cells(rt: HostRuntime) -> Result<(), Fail> {
     let mut patch = Patch {
         here,
         around: [level(5); 8],
+        spacing: Spacing::unit(),
     };
     let inside = (patch.is_open(), patch.has_lower());
     patch.around[3] = void;

@@ -28,4 +28,8 @@ mod sinks;
 #[cfg(test)]
 mod slope;
 #[cfg(test)]
+mod spacing;
+#[cfg(test)]
+mod spacing_texts;
+#[cfg(test)]
 mod whole_rasters;

@@ -5,7 +5,7 @@ use crate::agree::same;
 use crate::fill::{BELOW, NO_SPILL, RAISED};
 use drain_fill::{fault as fill_fault, fault_profile2};
 use drain_flat::fault as flat_fault;
-use drain_grid::{CellValues, Patch, Rule};
+use drain_grid::{CellValues, Patch, Rule, Spacing};
 use drain_slope::fault as slope_fault;
 use std::test::Fail;
 
@@ -24,6 +24,7 @@ fn told_beside(here: CellValues, are_listed: bool) -> Told {
     let patch = Patch {
         here,
         around: [beside; 8],
+        spacing: Spacing::unit(),
     };
     let faults = [
         fill_fault(&patch),

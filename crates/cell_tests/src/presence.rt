@@ -3,7 +3,7 @@
 
 use crate::agree::same;
 use crate::grid::values;
-use drain_grid::{CellValues, NoData, Patch, Rule};
+use drain_grid::{CellValues, NoData, Patch, Rule, Spacing};
 use std::process::Abort;
 use std::test::Fail;
 
@@ -15,6 +15,7 @@ fn told(here: CellValues, beside: Option<CellValues>) -> Told {
     let patch = Patch {
         here,
         around: [beside; 8],
+        spacing: Spacing::unit(),
     };
     let nodata = NoData::defaults();
     [

@@ -1,9 +1,9 @@
-//! A cell with given heights in the east, the southeast and the south: its first steepest way down, the greatest key,
-//! and the rule that fails. Only what these rules read is given.
+//! A cell with given heights in the east, the southeast and the south: its first steepest way down, its drop, and
+//! the rule that fails. Only what these rules read is given.
 
 use crate::agree::{same, same_rule};
-use drain_grid::{CellValues, Direction, Patch, Rule};
-use drain_slope::{fault, greatest_key, steepest};
+use drain_grid::{CellValues, Direction, Patch, Rule, Spacing};
+use drain_slope::{drop, fault, steepest};
 use std::test::Fail;
 
 /// A cell with an elevation, con and dir; none where a number can't be a cell's.
@@ -30,7 +30,11 @@ fn patch(here: CellValues, east: i64, southeast: i64, south: i64, other: i64) ->
     around[0] = at(east);
     around[1] = at(southeast);
     around[2] = at(south);
-    Patch { here, around }
+    Patch {
+        here,
+        around,
+        spacing: Spacing::unit(),
+    }
 }
 
 const LEAST: i64 = -2147483648;
@@ -39,46 +43,47 @@ const GREATEST: i64 = 4294967295;
 
 const EAST: Option<Direction> = Some(Direction::East);
 
-/// The con of a cell, those in the east, the southeast, the south and elsewhere, the greatest key, and the first steepest way down.
-static WAYS_DOWN: [(&str, i64, (i64, i64, i64, i64), u128, Option<Direction>); 9] = [
+/// The con of a cell, those in the east, the southeast, the south and elsewhere, the first steepest way down, and its drop.
+static WAYS_DOWN: [(&str, i64, (i64, i64, i64, i64), Option<Direction>, u64); 9] = [
     (
         "9 across a corner over 8",
         10,
         (8, 7, 10, 10),
-        9,
         Some(Direction::SouthEast),
+        3,
     ),
-    ("50 over 49 across a corner", 10, (5, 3, 10, 10), 50, EAST),
+    ("50 over 49 across a corner", 10, (5, 3, 10, 10), EAST, 5),
     (
         "equal drops",
         32767,
         (-32767, -32767, 32767, 32767),
-        8589410312,
         EAST,
+        65534,
     ),
-    ("equal slopes", 10, (8, 10, 8, 10), 8, EAST),
-    ("a later one", 10, (9, 10, 8, 10), 8, Some(Direction::South)),
+    ("equal slopes", 10, (8, 10, 8, 10), EAST, 2),
+    ("a later one", 10, (9, 10, 8, 10), Some(Direction::South), 2),
     (
         "the whole range of pixels",
         GREATEST,
         (LEAST, GREATEST, 2147483648, GREATEST),
-        83010348305923178498,
         EAST,
+        6442450943,
     ),
-    ("level", 10, (10, 10, 10, 10), 0, None),
-    ("a pit", 10, (11, 12, 13, 11), 0, None),
-    ("the least", LEAST, (LEAST, 0, GREATEST, 0), 0, None),
+    ("level", 10, (10, 10, 10, 10), None, 0),
+    ("a pit", 10, (11, 12, 13, 11), None, 0),
+    ("the least", LEAST, (LEAST, 0, GREATEST, 0), None, 0),
 ];
 
 #[test]
 fn steepest_ways_down(rt: HostRuntime) -> Result<(), Fail> {
-    for &(name, con, (in_east, in_southeast, in_south, other), key, expected) in &WAYS_DOWN {
+    for &(name, con, (in_east, in_southeast, in_south, other), expected, dropped) in &WAYS_DOWN {
         let Some(here) = at(con) else {
             return Err(name.into());
         };
         let shown = patch(here, in_east, in_southeast, in_south, other);
-        let given = (steepest(&shown), greatest_key(&shown));
-        same(&rt, name, given, (expected, key));
+        let way = steepest(&shown);
+        let given = (way, drop(&shown, way.unwrap_or(Direction::East)));
+        same(&rt, name, given, (expected, dropped));
     }
     Ok(())
 }

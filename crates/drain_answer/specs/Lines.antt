@@ -9,7 +9,7 @@ use Rattle.drain_grid.specs.declared.verdict.Counts.{Counts}
 use Rattle.drain_grid.specs.declared.verdict.Verdict.{Verdict}
 use Rattle.drain_grid.specs.declared.verdict.Verdict.TheVariants.{Accepted, Rejected}
 use Rattle.drain_answer.specs.declared.refusal.Refusal.{Refusal}
-use Rattle.drain_answer.specs.declared.refusal.Refusal.TheVariants.{BadSide, BadName, NoTiles, RepeatedTile, BoxTooLarge, BadHeader, WrongShape, Misplaced, BadTileLength, RasterShort, SeamMismatch, BadSinkLine, SinkNotData, BadDemHeader, BadPixelSize, DemShort, OutOfMemory, ReadFailed}
+use Rattle.drain_answer.specs.declared.refusal.Refusal.TheVariants.{BadSide, BadName, NoTiles, RepeatedTile, BoxTooLarge, BadHeader, WrongShape, Misplaced, BadTileLength, RasterShort, SeamMismatch, BadSinkLine, SinkNotData, BadSpacingLine, SpacingRows, BadDemHeader, BadPixelSize, DemShort, OutOfMemory, ReadFailed}
 
 -- accepted rows=R cols=C data=D raised=U
 abbrev pub counted_line : ℕ → ℕ → ℕ → ℕ → List ℕ
@@ -45,6 +45,8 @@ refusal_line (RasterShort p) = codes "refused RasterShort " ++ product_name p
 refusal_line (SeamMismatch c) = codes "refused SeamMismatch row=" ++ decimal c.row ++ codes " col=" ++ decimal c.col
 refusal_line (BadSinkLine n) = codes "refused BadSinkLine " ++ decimal n
 refusal_line (SinkNotData n) = codes "refused SinkNotData " ++ decimal n
+refusal_line (BadSpacingLine n) = codes "refused BadSpacingLine " ++ decimal n
+refusal_line (SpacingRows n) = codes "refused SpacingRows " ++ decimal n
 refusal_line (BadDemHeader fault) = codes "refused BadHeader dem " ++ fault_text fault
 refusal_line BadPixelSize = codes "refused BadPixelSize dem"
 refusal_line DemShort = codes "refused RasterShort dem"

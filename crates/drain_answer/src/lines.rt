@@ -78,8 +78,10 @@ pub fn refusal_line(refusal: Refusal) -> Line
         Refusal::BadTileLength(name) => of_tile("refused BadTileLength ", name),
         Refusal::RasterShort(product) => of_product("refused RasterShort ", product),
         Refusal::SeamMismatch(cell) => seam_mismatch(cell),
-        Refusal::BadSinkLine(line) => of_line("refused BadSinkLine ", line),
-        Refusal::SinkNotData(line) => of_line("refused SinkNotData ", line),
+        Refusal::BadSinkLine(line) => of_number("refused BadSinkLine ", line),
+        Refusal::SinkNotData(line) => of_number("refused SinkNotData ", line),
+        Refusal::BadSpacingLine(line) => of_number("refused BadSpacingLine ", line),
+        Refusal::SpacingRows(rows) => of_number("refused SpacingRows ", rows),
         Refusal::BadDemHeader(fault) => bad_dem_header(fault),
         Refusal::BadPixelSize => words("refused BadPixelSize dem"),
         Refusal::DemShort => words("refused RasterShort dem"),
@@ -108,14 +110,14 @@ fn of_product(text: &str, product: Product) -> Line
     line
 }
 
-/// These words and the number of a line.
-fn of_line(text: &str, line_number: u64) -> Line
+/// These words and a whole number.
+fn of_number(text: &str, value: u64) -> Line
     requires { length text.now ≤ 40 }
-    ensures { result.bytes ≡ text.now ++ decimal line_number }
+    ensures { result.bytes ≡ text.now ++ decimal value }
 {
     let mut line = words(text);
     let mut digits = Buffer::new();
-    line.push_str(digits.format(line_number));
+    line.push_str(digits.format(value));
     line
 }
 

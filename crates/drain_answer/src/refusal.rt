@@ -48,6 +48,12 @@ pub enum Refusal {
     /// This line of the list of sinks, counted from 1, lists a cell without data: a void, or outside the mosaic.
     #[error("a listed sink is no data cell")]
     SinkNotData(u64),
+    /// This line of the text of spacings, counted from 1, is not a width and a height.
+    #[error("a line is not a width and a height")]
+    BadSpacingLine(u64),
+    /// The text of spacings lists this number of rows, and the mosaic has another.
+    #[error("other rows are listed than there are")]
+    SpacingRows(u64),
     /// The header of the one raster of elevations has this fault. It comes before all else, in place of the refusals of
     /// sides, names and layouts.
     #[error("the header of the elevations has a fault")]

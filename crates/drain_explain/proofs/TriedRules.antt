@@ -3,6 +3,7 @@ use Rattle.std.proofs.Common.{◌≡◌, ℕ, ℤ, pos, ◌+ℤ◌, [], ◌∷�
 use Rattle.std.proofs.lemmas.Int.{ints}
 use Rattle.drain_grid.specs.declared.patch.Patch.{Patch}
 use Rattle.drain_grid.specs.declared.rule.Rule.TheVariants.{BadCode, BelowGround, OpenRaised, NotLeast, Slope, OutletCode, FlatStep, Accumulation, Label, VoidCell, Missing, NoSpill, SpillHeight, SpillRank, SharedLabel}
+use Rattle.drain_grid.specs.Spacing.{unit_spacing}
 use Rattle.drain_grid.specs.Values.{Values, NoDataNumbers}
 use Rattle.drain_grid.specs.PatchRules.{BadCodeWithoutSpill, BelowGroundHolds, OpenRaisedWithoutSpill, NotLeastHolds, SlopeHolds, OutletCodeHolds, FlatStepHolds, AccumulationHolds, LabelHolds, check_rules}
 use Rattle.drain_grid.specs.Unranked.{LevelStepHolds, unranked}
@@ -28,24 +29,25 @@ numbers ground con dir bas = record { z = Some (pos ground); sink = false; con =
 
 -- on the grid's edge, raised above its ground and its eastern neighbour, with a number that is no code
 abbrev pub raised : Patch
-raised = record { here = numbers 0 1 3 0; around = Some (numbers 0 0 0 0) ∷ [] }
+raised = record { here = numbers 0 1 3 0; around = Some (numbers 0 0 0 0) ∷ []; spacing = unit_spacing }
 
 -- on the grid's edge, level with its eastern neighbour, to which it leads, with another label
 abbrev pub astray : Patch
-astray = record { here = numbers 0 0 1 0; around = Some (numbers 0 0 0 1) ∷ [] }
+astray = record { here = numbers 0 0 1 0; around = Some (numbers 0 0 0 1) ∷ []; spacing = unit_spacing }
 
 abbrev beside : Option Values
 beside = Some (numbers 0 0 0 0)
 
 -- below its ground, level with its eight neighbours, with the code of an outlet
 abbrev pub sunk : Patch
-sunk = record { here = numbers 1 0 0 0; around = beside ∷ beside ∷ beside ∷ beside ∷ beside ∷ beside ∷ beside ∷ beside ∷ [] }
+sunk = record { here = numbers 1 0 0 0; around = beside ∷ beside ∷ beside ∷ beside ∷ beside ∷ beside ∷ beside ∷ beside ∷ []; spacing = unit_spacing }
 
 -- a void whose con isn't the no-data number
 abbrev pub void_with_con : NoDataNumbers → Patch
 void_with_con nodata = record {
   here = record { z = None; sink = false; con = nodata.con +ℤ pos 1; dir = pos 0; acc = pos 0; bas = pos 0; spl = pos 0; rnk = pos 0 };
   around = [];
+  spacing = unit_spacing;
 }
 
 -- a data cell whose con is the no-data number
@@ -53,6 +55,7 @@ abbrev pub data_without_con : NoDataNumbers → Patch
 data_without_con nodata = record {
   here = record { z = Some (pos 0); sink = false; con = nodata.con; dir = pos 0; acc = pos 0; bas = pos 0; spl = pos 0; rnk = pos 0 };
   around = [];
+  spacing = unit_spacing;
 }
 
 pub not_next : (n : ℤ) → ¬ (n +ℤ pos 1 ≡ n)

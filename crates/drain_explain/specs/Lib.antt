@@ -1,3 +1,4 @@
 pub mod ElevationRanges
 pub mod Explanations
 pub mod RefusalDetails
+pub mod Slopes

@@ -3,7 +3,7 @@ use Rattle.std.specs.Prelude.{◌≡◌, ◌&&◌, ◌-◌, ◌∷◌, ℕ, List
 use Rattle.drain_mosaic.specs.Tiling.{Tiling, extent_of, left_of, top_of, north_edge, spacing_of, west_edge}
 use Rattle.drain_explain.specs.declared.refusal_detail.NotData.TheVariants.{Void, Outside}
 use Rattle.drain_explain.specs.declared.refusal_detail.RefusalDetail.{RefusalDetail}
-use Rattle.drain_explain.specs.declared.refusal_detail.RefusalDetail.TheVariants.{SinkLine, SinkCell, Seam, Side, Name, Shape, Position, TileLength, RasterLength, PixelSize, DemLength}
+use Rattle.drain_explain.specs.declared.refusal_detail.RefusalDetail.TheVariants.{SinkLine, SinkCell, SpacingLine, SpacingRows, Seam, Side, Name, Shape, Position, TileLength, RasterLength, PixelSize, DemLength}
 use Rattle.drain_explain.specs.declared.refusal_detail.TheConstants.{SHOWN_BYTES}
 use Rattle.drain_text.specs.Text.{lines_of, words_of, whole_number}
 use Rattle.drain_grid.specs.declared.cell.Cell.{Cell}
@@ -20,6 +20,7 @@ use Rattle.drain_hgt.specs.Samples.{tile_length}
 use Rattle.drain_grid.specs.Extent.{Extent}
 use Rattle.drain_raster.specs.Pixels.{header_extent, needed_len}
 use Rattle.drain_verdict.specs.DemGround.{IsDemHeader}
+use Rattle.drain_verdict.specs.Given.{Given, GivenSpacing, by_row}
 use Rattle.drain_verdict.specs.Stages.{IsLayoutOf}
 use Rattle.drain_answer.specs.declared.refusal.Refusal.TheVariants as refusal
 use Rattle.drain_grid.specs.declared.product.Product.TheVariants as product
@@ -45,6 +46,19 @@ IsCellDetail e list number (SinkCell n row col why) =
     × (words_of line ≡ first ∷ second ∷ more) × (whole_number first ≡ Some row) × (whole_number second ≡ Some col)
     × (why ≡ (if nat_lt row e.rows && nat_lt col e.cols then Void else Outside)))
 IsCellDetail e list number other = ⊥
+
+-- What an explanation reports of a refused spacing by row.
+
+-- a bad line: its number, its first bytes, and how many it has
+abbrev pub IsSpacingLineDetail : GivenSpacing → ℕ → RefusalDetail → Type 0
+IsSpacingLineDetail (by_row text) number (SpacingLine n start bytes) =
+    (n ≡ number) × ((line : List ℕ) × HasLine text number line × (start.items ≡ take SHOWN_BYTES line) × (bytes ≡ length line))
+IsSpacingLineDetail given number other = ⊥
+
+-- the rows of the grid, and how many are listed
+abbrev pub IsSpacingRowsDetail : Extent → ℕ → RefusalDetail → Type 0
+IsSpacingRowsDetail e rows (SpacingRows expected found) = (expected ≡ e.rows) × (found ≡ rows)
+IsSpacingRowsDetail e rows other = ⊥
 
 -- What an explanation reports of a cell where two tiles have different heights.
 
@@ -125,27 +139,28 @@ text_given texts product.Bas = texts held.Bas
 text_given texts product.Rnk = texts held.Rnk
 text_given texts product.Spl = []
 
--- the details of each refusal of products and of a list of sinks, which lie on a grid of this size and place
-abbrev pub IsSetDetail : Extent → Place → (SetProduct → List ℕ) → List ℕ → Refusal → RefusalDetail → Type 0
-IsSetDetail e place texts list (refusal.WrongShape p) detail = IsShapeDetail e p (text_given texts p) detail
-IsSetDetail e place texts list (refusal.Misplaced p) detail = IsPositionDetail place p (text_given texts p) detail
-IsSetDetail e place texts list (refusal.RasterShort p) detail = IsRasterLengthDetail p (text_given texts p) detail
-IsSetDetail e place texts list (refusal.BadSinkLine number) detail = IsLineDetail list number detail
-IsSetDetail e place texts list (refusal.SinkNotData number) detail = IsCellDetail e list number detail
-IsSetDetail e place texts list other detail = ⊥
+-- the details of each refusal of products and of what is given, which lie on a grid of this size and place
+abbrev pub IsSetDetail : Extent → Place → (SetProduct → List ℕ) → Given → Refusal → RefusalDetail → Type 0
+IsSetDetail e place texts given (refusal.WrongShape p) detail = IsShapeDetail e p (text_given texts p) detail
+IsSetDetail e place texts given (refusal.Misplaced p) detail = IsPositionDetail place p (text_given texts p) detail
+IsSetDetail e place texts given (refusal.RasterShort p) detail = IsRasterLengthDetail p (text_given texts p) detail
+IsSetDetail e place texts given (refusal.BadSinkLine number) detail = IsLineDetail given.sinks number detail
+IsSetDetail e place texts given (refusal.SinkNotData number) detail = IsCellDetail e given.sinks number detail
+IsSetDetail e place texts given (refusal.BadSpacingLine number) detail = IsSpacingLineDetail given.spacing number detail
+IsSetDetail e place texts given (refusal.SpacingRows rows) detail = IsSpacingRowsDetail e rows detail
+IsSetDetail e place texts given other detail = ⊥
 
 -- of the mosaic of tiles with these names
 abbrev pub OfMosaic : ℕ → List (List ℕ) → (Tiling → Type 0) → Type 0
 OfMosaic side names P = (t : Tiling) × IsLayoutOf side names t × P t
 
--- the details of each refusal, of a second look, a side, the names of tiles, the headers of products and a list of
--- sinks
-abbrev pub IsDetailOf : {L : Type 0} → (L → ℕ → ℕ → ℤ → Type 0) → ℕ → List (List ℕ) → (SetProduct → List ℕ) → List ℕ → Refusal → RefusalDetail → Type 0
-IsDetailOf shows side names texts list refusal.BadSide detail = IsSideDetail side detail
-IsDetailOf shows side names texts list (refusal.BadName place) detail = IsNameDetail names place detail
-IsDetailOf shows side names texts list (refusal.BadTileLength tile) detail = OfMosaic side names (λ t. IsTileLengthDetail t tile detail)
-IsDetailOf shows side names texts list (refusal.SeamMismatch cell) detail = OfMosaic side names (λ t. IsSeamDetail shows t cell detail)
-IsDetailOf shows side names texts list other detail = OfMosaic side names (λ t. IsSetDetail (extent_of t) (place_for t) texts list other detail)
+-- the details of each refusal, of a second look, a side, the names of tiles, the headers of products and what is given
+abbrev pub IsDetailOf : {L : Type 0} → (L → ℕ → ℕ → ℤ → Type 0) → ℕ → List (List ℕ) → (SetProduct → List ℕ) → Given → Refusal → RefusalDetail → Type 0
+IsDetailOf shows side names texts given refusal.BadSide detail = IsSideDetail side detail
+IsDetailOf shows side names texts given (refusal.BadName place) detail = IsNameDetail names place detail
+IsDetailOf shows side names texts given (refusal.BadTileLength tile) detail = OfMosaic side names (λ t. IsTileLengthDetail t tile detail)
+IsDetailOf shows side names texts given (refusal.SeamMismatch cell) detail = OfMosaic side names (λ t. IsSeamDetail shows t cell detail)
+IsDetailOf shows side names texts given other detail = OfMosaic side names (λ t. IsSetDetail (extent_of t) (place_for t) texts given other detail)
 
 -- What an explanation reports of a refused raster of elevations.
 
@@ -163,8 +178,8 @@ IsDemLengthDetail text other = ⊥
 abbrev pub OfDem : List ℕ → (Fields → Type 0) → Type 0
 OfDem text P = (h : Fields) × IsDemHeader h text × P h
 
--- the details of each refusal, of the raster's header, the headers of products and a list of sinks
-abbrev pub IsDemDetailOf : List ℕ → (SetProduct → List ℕ) → List ℕ → Refusal → RefusalDetail → Type 0
-IsDemDetailOf text texts list refusal.BadPixelSize detail = IsPixelSizeDetail text detail
-IsDemDetailOf text texts list refusal.DemShort detail = IsDemLengthDetail text detail
-IsDemDetailOf text texts list other detail = OfDem text (λ h. IsSetDetail (header_extent h) h.place texts list other detail)
+-- the details of each refusal, of the raster's header, the headers of products and what is given
+abbrev pub IsDemDetailOf : List ℕ → (SetProduct → List ℕ) → Given → Refusal → RefusalDetail → Type 0
+IsDemDetailOf text texts given refusal.BadPixelSize detail = IsPixelSizeDetail text detail
+IsDemDetailOf text texts given refusal.DemShort detail = IsDemLengthDetail text detail
+IsDemDetailOf text texts given other detail = OfDem text (λ h. IsSetDetail (header_extent h) h.place texts given other detail)

@@ -2,6 +2,7 @@
 
 ghost use Rattle.std.specs.Prelude.{◌≡◌, ◌↔◌, IfOk, IfSome, IsSome};
 ghost use Rattle.drain_explain.specs.Explanations.{AreFindingsOf, IsEndlessOf, answer_in};
+ghost use Rattle.drain_explain.specs.Slopes.{slopes_of};
 ghost use Rattle.drain_explain.specs.declared.fault_visitor.Mapping.TheVariants.{Drawn};
 ghost use Rattle.drain_grid.specs.declared.judged.Judged.TheVariants.{AllWithRanks};
 ghost use Rattle.drain_hgt.specs.Inputs.{names_of};
@@ -14,6 +15,7 @@ ghost use Rattle.drain_verdict.specs.Stages.{IsLayoutOf};
 use crate::fault_visitor::Mapping;
 use crate::findings::{Explanation, findings_of};
 use crate::seen::see;
+use crate::slopes::slopes_of;
 use drain_answer::Refusal;
 use drain_device::ByteSource;
 use drain_grid::Judged;
@@ -22,29 +24,30 @@ use drain_hgt::laws::one_name;
 use drain_mosaic::Layout;
 use drain_verdict::audit_products::ProductInputs;
 use drain_verdict::stages::layout_of;
-use drain_verdict::{AuditProducts, Products};
+use drain_verdict::{AuditProducts, Given, Products};
 use std::alloc::Global;
 
-/// The verdict of `check` with its explanation, or its refusal.
+/// The verdict of `check_given` with its explanation, or its refusal.
 ///
-/// It reads what `check` reads, in the same order, and has the same refusals. It scans all rows, where a check stops
+/// It reads what `check_given` reads, in the same order, and has the same refusals. It scans all rows, where a check stops
 /// looking at rules, so it takes longer on rejected products. Memory is a check's, and a byte a cell more for a map;
 /// `OutOfMemory` may come where a check finds memory.
 pub fn explain_check<R: ByteSource>(
     alloc: Global,
     side: u32,
     tiles: &mut [TileInput<R>],
-    sinks: &[u8],
+    given: &Given,
     products: &mut Products<R>,
     mapping: Mapping,
 ) -> Result<Explanation<Layout>, Refusal>
     // The answer is a check's.
-    ensures answer { (inputs : Inputs) → Encode R.bytes_left side tiles.old sinks.now products.old inputs → IsOutcomeAnswer AllWithRanks inputs (answer_in result) }
+    ensures answer { (inputs : Inputs) → Encode R.bytes_left side tiles.old given.now products.old inputs → IsOutcomeAnswer AllWithRanks inputs (answer_in result) }
 
     // For an outcome, what every cell showed, with a map if one is required.
-    ensures explained { IfOk result (λ e. (inputs : Inputs) → Encode R.bytes_left side tiles.old sinks.now products.old inputs → AreFindingsOf AllWithRanks inputs e.findings) }
+    ensures explained { IfOk result (λ e. (inputs : Inputs) → Encode R.bytes_left side tiles.old given.now products.old inputs → AreFindingsOf AllWithRanks inputs e.findings) }
     ensures drawn { IfOk result (λ e. IsSome e.findings.map ↔ (mapping ≡ Drawn)) }
     ensures layout { IfOk result (λ e. IsLayoutOf side (names_of tiles.old) e.findings.layout) }
+    ensures slopes { IfOk result (λ e. e.findings.slopes ≡ slopes_of given.now.spacing) }
 
     // How far it reads, when a read fails, and what is unchanged: as for a check.
     ensures uses { CheckUses R.bytes_left R.counts side (tiles.old, products.old) (tiles.new, products.new) result }
@@ -53,7 +56,7 @@ pub fn explain_check<R: ByteSource>(
         alloc,
         side,
         tiles,
-        sinks,
+        given,
         products,
         Judged::AllWithRanks,
         mapping,
@@ -68,24 +71,25 @@ pub fn explain_audit<R: ByteSource>(
     alloc: Global,
     side: u32,
     tiles: &mut [TileInput<R>],
-    sinks: &[u8],
+    given: &Given,
     products: &mut AuditProducts<R>,
     judged: Judged,
     mapping: Mapping,
 ) -> Result<Explanation<Layout>, Refusal>
     // The answer is an audit's.
-    ensures answer { ForAudit R.bytes_left side tiles.old sinks.now products.old (λ inputs. IsOutcomeAnswer judged inputs (answer_in result)) }
+    ensures answer { ForAudit R.bytes_left side tiles.old given.now products.old (λ inputs. IsOutcomeAnswer judged inputs (answer_in result)) }
 
     // For an outcome, what every cell showed, with a map if one is required; and where the path without an end leads.
-    ensures explained { IfOk result (λ e. ForAudit R.bytes_left side tiles.old sinks.now products.old (λ inputs. AreFindingsOf judged inputs e.findings)) }
-    ensures endless { IfOk result (λ e. ForAudit R.bytes_left side tiles.old sinks.now products.old (λ inputs. IfSome e.findings.endless (IsEndlessOf inputs e.outcome))) }
+    ensures explained { IfOk result (λ e. ForAudit R.bytes_left side tiles.old given.now products.old (λ inputs. AreFindingsOf judged inputs e.findings)) }
+    ensures endless { IfOk result (λ e. ForAudit R.bytes_left side tiles.old given.now products.old (λ inputs. IfSome e.findings.endless (IsEndlessOf inputs e.outcome))) }
     ensures drawn { IfOk result (λ e. IsSome e.findings.map ↔ (mapping ≡ Drawn)) }
     ensures layout { IfOk result (λ e. IsLayoutOf side (names_of tiles.old) e.findings.layout) }
+    ensures slopes { IfOk result (λ e. e.findings.slopes ≡ slopes_of given.now.spacing) }
 
     // How far it reads, when a read fails, and what is unchanged: as for an audit.
     ensures uses { AuditUses R.bytes_left R.counts side (tiles.old, products.old) (tiles.new, products.new) result }
 {
-    explain(alloc, side, tiles, sinks, products, judged, mapping)
+    explain(alloc, side, tiles, given, products, judged, mapping)
 }
 
 /// The same of five products or four.
@@ -93,24 +97,25 @@ fn explain<R: ByteSource, P: ProductInputs<R>>(
     alloc: Global,
     side: u32,
     tiles: &mut [TileInput<R>],
-    sinks: &[u8],
+    given: &Given,
     products: &mut P,
     judged: Judged,
     mapping: Mapping,
 ) -> Result<Explanation<Layout>, Refusal>
-    ensures answer { (inputs : Inputs) → Encode R.bytes_left side tiles.old sinks.now (P.inputs products.old) inputs → IsOutcomeAnswer judged inputs (answer_in result) }
-    ensures explained { IfOk result (λ e. (inputs : Inputs) → Encode R.bytes_left side tiles.old sinks.now (P.inputs products.old) inputs → AreFindingsOf judged inputs e.findings) }
-    ensures endless { IfOk result (λ e. (inputs : Inputs) → Encode R.bytes_left side tiles.old sinks.now (P.inputs products.old) inputs → IfSome e.findings.endless (IsEndlessOf inputs e.outcome)) }
+    ensures answer { (inputs : Inputs) → Encode R.bytes_left side tiles.old given.now (P.inputs products.old) inputs → IsOutcomeAnswer judged inputs (answer_in result) }
+    ensures explained { IfOk result (λ e. (inputs : Inputs) → Encode R.bytes_left side tiles.old given.now (P.inputs products.old) inputs → AreFindingsOf judged inputs e.findings) }
+    ensures endless { IfOk result (λ e. (inputs : Inputs) → Encode R.bytes_left side tiles.old given.now (P.inputs products.old) inputs → IfSome e.findings.endless (IsEndlessOf inputs e.outcome)) }
     ensures drawn { IfOk result (λ e. IsSome e.findings.map ↔ (mapping ≡ Drawn)) }
     ensures layout { IfOk result (λ e. IsLayoutOf side (names_of tiles.old) e.findings.layout) }
+    ensures slopes { IfOk result (λ e. e.findings.slopes ≡ slopes_of given.now.spacing) }
     ensures uses { UsesInputs P.inputs (λ ts ps. devices_of ts (P.inputs ps)) R.bytes_left R.counts side (tiles.old, products.old) (tiles.new, products.new) result }
 {
     // The law that bytes name one tile.
     one_name();
     let layout = layout_of(alloc, side, tiles)?;
-    let seen = see::<R, TileInput<R>, P>(alloc, &layout, sinks, tiles, products, judged, mapping)?;
+    let seen = see::<R, TileInput<R>, P>(alloc, &layout, given, tiles, products, judged, mapping)?;
     Ok(Explanation {
         outcome: seen.outcome,
-        findings: findings_of(layout, seen.notes, seen.endless),
+        findings: findings_of(layout, seen.notes, seen.endless, slopes_of(given)),
     })
 }

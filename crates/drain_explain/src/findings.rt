@@ -9,6 +9,7 @@ ghost use Rattle.drain_grid.specs.declared.judged.Rules as declared;
 
 use crate::elevation_range::ElevationRange;
 use crate::fault_visitor::FaultVisitor;
+use crate::slopes::Slopes;
 use drain_answer::{Outcome, Refusal};
 use drain_faults::{FaultMap, FaultyPatch, PerRule, ProductFaults, RuleFaults};
 use drain_grid::{Cell, OutOfMemory, PerProduct, Rule, Rules, SetProduct, Shape};
@@ -63,6 +64,8 @@ pub struct Findings<F> {
     pub endless: Option<(Cell, EndlessPath)>,
     /// The least and the greatest elevation of data cells, none if there is no data cell.
     pub elevations: Option<ElevationRange>,
+    /// Over which distances slopes were compared.
+    pub slopes: Slopes,
 }
 
 impl<F> Findings<F> {
@@ -132,9 +135,11 @@ pub(crate) fn findings_of<F>(
     layout: F,
     notes: FaultVisitor,
     endless: Option<(Cell, EndlessPath)>,
+    slopes: Slopes,
 ) -> Findings<F>
     ensures layout { result.layout ≡ layout }
     ensures endless { result.endless ≡ endless }
+    ensures slopes { result.slopes ≡ slopes }
     ensures drawn { IsSome result.map ↔ IsSome notes.walk.map }
     ensures found { (rules : declared.Rules) (g : Grid) (ps : Products) → 0 < g.extent.rows → AreFaultNotes rules g ps g.extent.rows notes → AreFindingsOn rules g ps result }
 {
@@ -151,5 +156,6 @@ pub(crate) fn findings_of<F>(
         map,
         endless,
         elevations,
+        slopes,
     }
 }

@@ -14,6 +14,7 @@ pub mod laws;
 pub mod refusal_detail;
 pub mod refused;
 pub mod seen;
+pub mod slopes;
 
 pub use elevation_range::ElevationRange;
 pub use explain::{explain_audit, explain_check};
@@ -22,3 +23,4 @@ pub use fault_visitor::{FaultVisitor, Mapping};
 pub use findings::{Explanation, Findings, answer_and_findings, judged_product};
 pub use refusal_detail::{Extent, NotData, RefusalDetail, SHOWN_BYTES, TileValue};
 pub use refused::{FileLookup, detail_of, detail_of_dem};
+pub use slopes::Slopes;

@@ -1,8 +1,9 @@
 //! What was expected and found in refused inputs.
 
 ghost use Rattle.std.specs.Prelude.{◌≢◌, ◌↔◌, ◌<◌, IfSome, IsTrue, length, ◌≡◌, ◌-◌, ◌&&◌, nat_lt, option_map, slice_get, take, if◌then◌else◌};
-ghost use Rattle.drain_explain.specs.RefusalDetails.{IsHeightAt, IsSeamDetail, IsCellDetail, IsLineDetail};
+ghost use Rattle.drain_explain.specs.RefusalDetails.{IsHeightAt, IsSeamDetail, IsCellDetail, IsLineDetail, IsSpacingLineDetail, IsSpacingRowsDetail};
 ghost use Rattle.drain_text.specs.Text.{lines_of};
+ghost use Rattle.drain_verdict.specs.Given.{spacing_from};
 
 use crate::refused::FileLookup;
 use drain_grid::{Cell, Product, Shape, VOID};
@@ -10,6 +11,7 @@ use drain_header::Place;
 use drain_hgt::TileName;
 use drain_mosaic::Layout;
 use drain_text::{first_line, first_word, whole_number};
+use drain_verdict::SpacingInput;
 use std::alloc::Global;
 
 /// The first tile with data at the cell, and the first that gives another height there.
@@ -80,6 +82,36 @@ pub(crate) fn sink_line_detail(alloc: Global, list: &[u8], number: u64) -> Optio
     })
 }
 
+/// The first bytes of the line of a text by row, as in the text, and how many it has; none if memory runs out.
+pub(crate) fn spacing_line_detail(
+    alloc: Global,
+    spacing: &SpacingInput<'_>,
+    number: u64,
+) -> Option<RefusalDetail>
+    ensures { IfSome result (IsSpacingLineDetail (spacing_from spacing.now) number) }
+{
+    let SpacingInput::ByRow(text) = spacing else {
+        return None;
+    };
+    let line = line_of(text, number)?;
+    let start = Vec::from_slice(alloc, shown_of(line)).ok()?;
+    Some(RefusalDetail::SpacingLine {
+        number,
+        start,
+        bytes: line.len() as u64,
+    })
+}
+
+/// The rows of the grid, and how many a text by row lists.
+pub(crate) fn spacing_rows_detail(shape: Shape, rows: u64) -> RefusalDetail
+    ensures { IsSpacingRowsDetail shape rows result }
+{
+    RefusalDetail::SpacingRows {
+        expected: shape.rows(),
+        found: rows,
+    }
+}
+
 /// The bytes of a line that are shown.
 fn shown_of(line: &[u8]) -> &[u8]
     ensures { result.now ≡ take SHOWN_BYTES line.now }
@@ -132,7 +164,7 @@ fn line_of(list: &[u8], number: u64) -> Option<&[u8]>
     Some(first_line(rest).0)
 }
 
-/// How many bytes of a bad line of a list of sinks are shown.
+/// How many bytes of a bad line of a list are shown.
 pub const SHOWN_BYTES: usize = 80;
 
 /// The details of a refusal beyond its line.
@@ -185,6 +217,17 @@ pub enum RefusalDetail {
         row: u64,
         col: u64,
         why: NotData,
+    },
+    /// `BadSpacingLine`: the same of a line of a spacing by row.
+    SpacingLine {
+        number: u64,
+        start: Vec<u8>,
+        bytes: u64,
+    },
+    /// `SpacingRows`: the rows of the elevations, and how many the spacing by row lists.
+    SpacingRows {
+        expected: u32,
+        found: u64,
     },
     /// `BadPixelSize`: the width and the height of a pixel by the header of the raster of elevations, in units of 10^-15
     /// of its own, where those above 0 are sizes.

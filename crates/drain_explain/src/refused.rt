@@ -8,7 +8,8 @@ ghost use Rattle.drain_hgt.specs.Inputs.{names_of};
 ghost use Rattle.drain_verdict.specs.Stages.{IsLayoutOf};
 
 use crate::refusal_detail::{
-    Extent, RefusalDetail, seam_detail, sink_cell_detail, sink_line_detail,
+    Extent, RefusalDetail, seam_detail, sink_cell_detail, sink_line_detail, spacing_line_detail,
+    spacing_rows_detail,
 };
 use drain_answer::Refusal;
 use drain_grid::{PerProduct, Product, Shape};
@@ -18,7 +19,7 @@ use drain_hgt::{TileInput, TileName};
 use drain_mosaic::Layout;
 use drain_raster::{needed_len, shape};
 use drain_verdict::stages::layout_of;
-use drain_verdict::{RasterInput, dem_header};
+use drain_verdict::{Given, RasterInput, dem_header};
 use std::alloc::Global;
 
 /// A second look at the files of inputs. It gives nothing if a file can't be looked at again.
@@ -48,10 +49,10 @@ pub fn detail_of<R, L: FileLookup>(
     side: u32,
     tiles: &[TileInput<R>],
     headers: &PerProduct<&[u8]>,
-    sinks: &[u8],
+    given: &Given,
     look: &mut L,
 ) -> Option<RefusalDetail>
-    ensures { IfSome result (IsDetailOf L.shows side (names_of tiles.now) (λ p. (of_product headers.now p).now) sinks.now refusal) }
+    ensures { IfSome result (IsDetailOf L.shows side (names_of tiles.now) (λ p. (of_product headers.now p).now) given.now refusal) }
 {
     match refusal {
         Refusal::BadSide => Some(RefusalDetail::Side(side)),
@@ -63,7 +64,7 @@ pub fn detail_of<R, L: FileLookup>(
         _ => {
             let layout = mosaic(alloc, side, tiles)?;
             let place = place_for(&layout);
-            set_detail(alloc, refusal, layout.shape(), place, headers, sinks, look)
+            set_detail(alloc, refusal, layout.shape(), place, headers, given, look)
         }
     }
 }
@@ -74,10 +75,10 @@ pub fn detail_of_dem<R, L: FileLookup>(
     refusal: Refusal,
     dem: &RasterInput<R>,
     headers: &PerProduct<&[u8]>,
-    sinks: &[u8],
+    given: &Given,
     look: &mut L,
 ) -> Option<RefusalDetail>
-    ensures { IfSome result (IsDemDetailOf dem.now.header (λ p. (of_product headers.now p).now) sinks.now refusal) }
+    ensures { IfSome result (IsDemDetailOf dem.now.header (λ p. (of_product headers.now p).now) given.now refusal) }
 {
     match refusal {
         Refusal::BadPixelSize => pixel_size_detail(dem.header.as_slice()),
@@ -90,24 +91,24 @@ pub fn detail_of_dem<R, L: FileLookup>(
                 shape(&header),
                 header.place,
                 headers,
-                sinks,
+                given,
                 look,
             )
         }
     }
 }
 
-/// The details of a refusal of products or of the list of sinks, which lie on a grid of this shape and place.
+/// The details of a refusal of products, of the list of sinks or of a spacing by row, on a grid of this shape and place.
 fn set_detail<L: FileLookup>(
     alloc: Global,
     refusal: Refusal,
     shape: Shape,
     place: Place,
     headers: &PerProduct<&[u8]>,
-    sinks: &[u8],
+    given: &Given,
     look: &mut L,
 ) -> Option<RefusalDetail>
-    ensures { IfSome result (IsSetDetail shape place (λ p. (of_product headers.now p).now) sinks.now refusal) }
+    ensures { IfSome result (IsSetDetail shape place (λ p. (of_product headers.now p).now) given.now refusal) }
 {
     match refusal {
         Refusal::WrongShape(product) => shape_detail(shape, product, text_of(headers, product)),
@@ -115,8 +116,10 @@ fn set_detail<L: FileLookup>(
         Refusal::RasterShort(product) => {
             raster_length_detail(product, text_of(headers, product), look)
         }
-        Refusal::BadSinkLine(number) => sink_line_detail(alloc, sinks, number),
-        Refusal::SinkNotData(number) => sink_cell_detail(shape, sinks, number),
+        Refusal::BadSinkLine(number) => sink_line_detail(alloc, given.sinks, number),
+        Refusal::SinkNotData(number) => sink_cell_detail(shape, given.sinks, number),
+        Refusal::BadSpacingLine(number) => spacing_line_detail(alloc, &given.spacing, number),
+        Refusal::SpacingRows(rows) => Some(spacing_rows_detail(shape, rows)),
         _ => None,
     }
 }

@@ -13,6 +13,7 @@ use drain_answer::{Outcome, Refusal};
 use drain_device::ByteSource;
 use drain_grid::{Cell, Judged, OutOfMemory};
 use drain_paths::EndlessPath;
+use drain_verdict::Given;
 use drain_verdict::audit_products::ProductInputs;
 use drain_verdict::ground::GroundInput;
 use drain_verdict::judgement::judge_set;
@@ -32,17 +33,17 @@ pub struct Seen {
 pub fn see<R: ByteSource, T: GroundInput<R>, P: ProductInputs<R>>(
     alloc: Global,
     frame: &T::Frame,
-    sinks: &[u8],
+    given: &Given,
     inputs: &mut [T],
     products: &mut P,
     judged: Judged,
     mapping: Mapping,
 ) -> Result<Seen, Refusal>
     requires fit { T.fit frame.now inputs.old }
-    ensures answer { ForSet T.terrain (T.means frame.now inputs.old) R.bytes_left sinks.now (P.inputs products.old) (λ s. IsOutcomeIn judged s (outcome_in result)) }
-    ensures noted { IfOk result (λ seen. ForSet T.terrain (T.means frame.now inputs.old) R.bytes_left sinks.now (P.inputs products.old)
+    ensures answer { ForSet T.terrain (T.means frame.now inputs.old) R.bytes_left given.now (P.inputs products.old) (λ s. IsOutcomeIn judged s (outcome_in result)) }
+    ensures noted { IfOk result (λ seen. ForSet T.terrain (T.means frame.now inputs.old) R.bytes_left given.now (P.inputs products.old)
         (λ s. (0 < (set_grid s).extent.rows) × AreNotesIn AreFaultNotes judged s seen.notes)) }
-    ensures endless { IfOk result (λ seen. ForSet T.terrain (T.means frame.now inputs.old) R.bytes_left sinks.now (P.inputs products.old)
+    ensures endless { IfOk result (λ seen. ForSet T.terrain (T.means frame.now inputs.old) R.bytes_left given.now (P.inputs products.old)
         (λ s. IfSome seen.endless (IsEndlessIn s seen.outcome))) }
     ensures drawn { IfOk result (λ seen. IsSome seen.notes.walk.map ↔ (mapping ≡ Drawn)) }
     ensures uses { UsesSet P.inputs (λ xs ps. set_devices T.devices xs (P.inputs ps)) (T.within frame.now) T.kept R.bytes_left R.counts (inputs.old, products.old) (inputs.new, products.new) result }
@@ -55,7 +56,7 @@ pub fn see<R: ByteSource, T: GroundInput<R>, P: ProductInputs<R>>(
         Err(OutOfMemory) => return Err(Refusal::OutOfMemory),
     };
     let judgement = judge_set::<R, T, P, FaultVisitor>(
-        alloc, frame, sinks, inputs, products, judged, walk,
+        alloc, frame, given, inputs, products, judged, walk,
     )?;
     let outcome = outcome_of(judged, &judgement.verdict, judgement.cell);
     let endless = match endless_of(alloc, &judgement.flows, shape, &outcome) {

@@ -6,6 +6,7 @@ use Rattle.drain_grid.specs.declared.sink_line.SinkLine.{SinkLine}
 use Rattle.drain_grid.specs.Extent.{Extent, index_of, step}
 use Rattle.drain_grid.specs.Grid.{Grid, HasData, IsInside, IsOpenCell, height_at}
 use Rattle.drain_grid.specs.SinkTexts.{is_listed}
+use Rattle.drain_grid.specs.Spacing.{unit_spacing}
 use Rattle.drain_grid.specs.Values.{IsPixel}
 use Rattle.drain_flood.specs.declared.layers.TheConstants.{OPEN, REACHED, UNREACHED, VOID}
 
@@ -23,9 +24,9 @@ abbrev pub listed_elevation : DataCells → List ℤ → Cell → Option ℤ
 listed_elevation w numbers c =
     if data_mark w c == UNREACHED then Some (slice_index_or numbers (index_of w.extent c) (pos 0)) else None
 
--- the grid with these elevations, whose sinks the lines list
+-- the grid with these elevations, whose sinks the lines list; how far apart its cells are plays no part in a surface
 abbrev pub listed_grid : DataCells → List ℤ → List SinkLine → Grid
-listed_grid w numbers sinks = record { extent = w.extent; elevation = listed_elevation w numbers; sink = is_listed sinks }
+listed_grid w numbers sinks = record { extent = w.extent; elevation = listed_elevation w numbers; sink = is_listed sinks; spacing = λ row. unit_spacing }
 
 -- there is no data in this direction: around the grid, or at a void
 abbrev pub IsGapBeside : DataCells → Cell → Direction → Type 0

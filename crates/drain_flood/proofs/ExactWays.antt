@@ -1,15 +1,16 @@
 -- The first steepest way down that a patch of the surface alone shows is that of the grid.
-use Rattle.std.proofs.Common.{◌≡◌, ◌≢◌, ◌∙◌, inl, inr, ◌<◌, ◌≤ℤ◌, ◌<ℤ◌, ◌==◌, ℕ, ℤ, Option, Some, None, IsSome, IsNone, if◌then◌else◌, refl, sym, ap, subst, arith, eq-eqb}
+use Rattle.std.proofs.Common.{◌≡◌, ◌≢◌, ◌∙◌, inl, inr, ◌<◌, ◌≤ℤ◌, ◌<ℤ◌, ◌==◌, ℕ, ℤ, Option, Some, None, IsSome, if◌then◌else◌, refl, sym, ap, subst, arith, eq-eqb}
 use Rattle.std.proofs.lemmas.Bool.{ne_eqb, false≢true}
 use Rattle.std.proofs.lemmas.Int.{ints, by_lt_z}
 use Rattle.drain_grid.specs.declared.cell.Cell.{Cell}
 use Rattle.drain_grid.specs.declared.direction.Direction.{Direction}
 use Rattle.drain_grid.specs.declared.patch.Patch.{Patch}
 use Rattle.drain_grid.specs.Direction.{order_of}
-use Rattle.drain_grid.specs.Extent.{step}
+use Rattle.drain_grid.specs.Extent.{Extent}
 use Rattle.drain_grid.specs.Grid.{Grid, Products, HasData, IsInside, patch_at, values_at}
 use Rattle.drain_grid.specs.Patch.{IsLower}
 use Rattle.drain_grid.specs.Slope.{IsFirstSteepest, IsSteepest, key_to}
+use Rattle.drain_grid.specs.Spacing.{Distances}
 use Rattle.drain_grid.specs.Values.{Values}
 use Rattle.drain_grid.proofs.Neighbors.{step_lies}
 use Rattle.drain_grid.proofs.Patches.{cell_shown, shown_cell}
@@ -27,7 +28,7 @@ none_at mark z is some = false≢true (subst (λ b. IsSome (if b then None else 
 
 module _ (g : Grid) (f : Flooding) (surface : IsSurfaceOf g f) (c : Cell) (inside : IsInside g c) where
   abbrev gs : Grid
-  gs = marked_grid g.extent f
+  gs = marked_grid (g.spacing c.row) g.extent f
 
   abbrev ps : Products
   ps = marked_products g.extent f
@@ -98,7 +99,7 @@ module _ (g : Grid) (f : Flooding) (surface : IsSurfaceOf g f) (c : Cell) (insid
       over_all : (k top a b : ℤ) → k ≤ℤ top → top ≡ a → a ≤ℤ b → k ≤ℤ b
       over_all k top a b h is over = omega (arith, ints)
 
-  pub code_of_steepest : (way : Option Direction) → IsFirstSteepest p way → (code : ℕ) → code ≡ way_code (mark_at g.extent f c) way → IsCodeAt g f c code
+  code_of_steepest : (way : Option Direction) → IsFirstSteepest p way → (code : ℕ) → code ≡ way_code (mark_at g.extent f c) way → IsCodeAt g f c code
   code_of_steepest None none code is = record {
     void = λ void. is ∙ surface.voids c inside void;
     way = λ here. record { way = None; down = none_down none here; is = is };
@@ -107,3 +108,13 @@ module _ (g : Grid) (f : Flooding) (surface : IsSurfaceOf g f) (c : Cell) (insid
     void = λ void. absurd (none_at (mark_at g.extent f c) (con_at g.extent f c) (surface.voids c inside void) low.0);
     way = λ here. record { way = Some d; down = some_down d steepest earlier; is = is };
   }
+
+-- the same of a patch that the code put together
+pub code_of_patch : (g : Grid) (f : Flooding) (c : Cell) (e : Extent) (spacing : Distances) (p : Patch) → IsSurfaceOf g f → IsInside g c → g.extent ≡ e →
+    g.spacing c.row ≡ spacing → p ≡ patch_at (marked_grid spacing e f) (marked_products e f) c → (way : Option Direction) → IsFirstSteepest p way →
+    (code : ℕ) → code ≡ way_code (mark_at g.extent f c) way → IsCodeAt g f c code
+code_of_patch g f c e spacing p surface inside same spaced shown way first =
+    code_of_steepest g f surface c inside way
+    (subst (λ (s : Distances). IsFirstSteepest (patch_at (marked_grid s g.extent f) (marked_products g.extent f) c) way) (sym spaced)
+    (subst (λ (e : Extent). IsFirstSteepest (patch_at (marked_grid spacing e f) (marked_products e f) c) way) (sym same)
+    (subst (λ (q : Patch). IsFirstSteepest q way) shown first)))

@@ -5,13 +5,13 @@ use Rattle.drain_grid.specs.declared.cell.Cell.{Cell}
 use Rattle.drain_grid.specs.declared.direction.Direction.{Direction}
 use Rattle.drain_grid.specs.declared.rule.Rule.{Rule}
 use Rattle.drain_grid.specs.declared.rule.Rule.TheVariants.{Slope, OutletCode, FlatStep, Accumulation, Label, SharedLabel}
-use Rattle.drain_grid.specs.Direction.{is_straight}
 use Rattle.drain_grid.specs.Grid.{Grid, Products, HasData, IsInside, values_at, patch_at}
 use Rattle.drain_grid.specs.GridRules.{HoldsAt}
 use Rattle.drain_grid.specs.Patch.{IsLower, HasLower}
 use Rattle.drain_grid.specs.PatchRules.{flow_rules, BadCodeWithoutSpill, SlopeHolds, OutletCodeHolds, FlatStepHolds}
 use Rattle.drain_grid.specs.Rule.{IsWayRule}
 use Rattle.drain_grid.specs.Slope.{slope_key, key_to}
+use Rattle.drain_grid.specs.Spacing.{weight_of}
 use Rattle.drain_grid.specs.Values.{Values}
 use Rattle.drain_grid.proofs.Neighbors.{step_lies}
 use Rattle.drain_grid.proofs.Patches.{IsOpen-patch_at, cell_shown, shown_cell}
@@ -53,7 +53,8 @@ module _ (g : Grid) (f : Flooding) (w : Laying) (ps : Products) (are : AreWaysOn
 
   same_key : (d : Direction) (n : Cell) → key_to (patch_at g ps c) d (values_at g ps n) ≡ key_down g f c d n
   same_key d n =
-      ap (λ z. slope_key (is_straight d) (z -ℤ ps.con n)) (shows.con c) ∙ ap (λ z. slope_key (is_straight d) (con_at g.extent f c -ℤ z)) (shows.con n)
+      let weight = weight_of (g.spacing c.row) d in
+      ap (λ z. slope_key weight (z -ℤ ps.con n)) (shows.con c) ∙ ap (λ z. slope_key weight (con_at g.extent f c -ℤ z)) (shows.con n)
 
   slope_down : (d : Direction) (n : Cell) → IsDown g f w c d n → SlopeHolds (patch_at g ps c)
   slope_down d n down low = (

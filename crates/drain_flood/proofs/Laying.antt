@@ -17,7 +17,8 @@ use Rattle.std.proofs.lemmas.Int.{ints, clamps, by_lt_z}
 use Rattle.std.proofs.lemmas.List.Elements.{All-nil, All-push, All-get_or, Contains-append_left, Contains-push}
 use Rattle.drain_grid.specs.declared.sink_line.SinkLine.{SinkLine}
 use Rattle.drain_grid.specs.SinkTexts.{is_listed}
-use Rattle.drain_grid.specs.WholeGrid.{elevation_at, grid_of}
+use Rattle.drain_grid.specs.Spacing.{Distances, unit_spacing}
+use Rattle.drain_grid.specs.WholeGrid.{elevation_at, spaced_grid}
 use Rattle.drain_grid.proofs.Decisions.{cases}
 use Rattle.drain_grid.proofs.PatchDecisions.{open_cell}
 use Rattle.drain_grid.proofs.Runs.{index_of-below}
@@ -61,14 +62,15 @@ laid_row e f down start len lanes some most start_is long first last each = reco
 }
 
 -- the code of a cell of the row
-pub row_code : (g : Grid) (f : Flooding) (c : Cell) (row start : ℕ) (a h b codes marks dirs : List ℕ) → IsFlooded g f → IsInside g c → c.row ≡ row →
+pub row_code : (g : Grid) (f : Flooding) (c : Cell) (row start : ℕ) (a h b codes marks dirs : List ℕ) → IsFlooded g f → g.spacing row ≡ unit_spacing → IsInside g c → c.row ≡ row →
     AreRowLanes g.extent f row a → AreRowLanes g.extent f (row + 1) h → AreRowLanes g.extent f (row + 2) b → slice_index codes c.col ≡ fall_at a h b c.col →
     marks ≡ f.mark → start ≡ row * g.extent.cols →
     (slice_index codes c.col < 256 → slice_index dirs (start + c.col) ≡ (if slice_index codes c.col == 0 then slice_index marks (start + c.col) else slice_index codes c.col)) →
     IsCodeAt g f c (slice_index dirs (index_of g.extent c))
-row_code g f c row start a h b codes marks dirs flooded inside at in_a in_h in_b code_is marks_are start_is put =
+row_code g f c row start a h b codes marks dirs flooded unit inside at in_a in_h in_b code_is marks_are start_is put =
     let here : start + c.col ≡ index_of g.extent c = place_in_own_row c.row c.col row start g.extent.cols at start_is in
-    code_from_lanes g f c a h b (slice_index codes c.col) (slice_index marks (start + c.col)) (slice_index dirs (index_of g.extent c)) flooded inside
+    code_from_lanes g f c a h b (slice_index codes c.col) (slice_index marks (start + c.col)) (slice_index dirs (index_of g.extent c)) flooded
+    (subst (λ r. g.spacing r ≡ unit_spacing) (sym at) unit) inside
     (three_rows (AreRowLanes g.extent f) row c.row a h b at in_a in_h in_b) code_is (ap (slice_index marks) here ∙ ap (λ xs. slice_index xs (index_of g.extent c)) marks_are)
     (ap (slice_index dirs) (sym here) ∙ put (fall_small a h b c.col (slice_index codes c.col) code_is))
 
@@ -307,32 +309,32 @@ module _ (g : Grid) (f : Flooding) (laid : IsLaid g f (g.extent.rows * g.extent.
   }
 
 -- an open cell of a grid of elevations is one that is listed, or next to a gap
-pub open_found : (h : Heights) (sinks : List SinkLine) (c : Cell) (listed found : Bool) → IsCellOf h.extent c → IsSome (elevation_at h c) → listed ≡ is_listed sinks c →
-    (IsTrue found ↔ (IsTrue listed ⊎ IsBesideGap h c)) → (IsTrue found ↔ IsOpenCell (grid_of h sinks) c)
-open_found h sinks c listed found inside some same told = (
+pub open_found : (spacing : ℕ → Distances) (h : Heights) (sinks : List SinkLine) (c : Cell) (listed found : Bool) → IsCellOf h.extent c → IsSome (elevation_at h c) → listed ≡ is_listed sinks c →
+    (IsTrue found ↔ (IsTrue listed ⊎ IsBesideGap h c)) → (IsTrue found ↔ IsOpenCell (spaced_grid spacing h sinks) c)
+open_found spacing h sinks c listed found inside some same told = (
   (λ is. (inside, (some, subst (λ b. IsTrue b ⊎ IsBesideGap h c) same (told.0 is)))),
   (λ is. told.1 (subst (λ b. IsTrue b ⊎ IsBesideGap h c) (sym same) is.1.1)),
 )
 
 -- a data cell that the code started
-pub laid_data : (h : Heights) (sinks : List SinkLine) (old new : Flooding) (c : Cell) (ground : ℤ) (listed opens_it : Bool) → IsCellOf h.extent c →
+pub laid_data : (spacing : ℕ → Distances) (h : Heights) (sinks : List SinkLine) (old new : Flooding) (c : Cell) (ground : ℤ) (listed opens_it : Bool) → IsCellOf h.extent c →
     elevation_at h c ≡ Some ground → NO_HEIGHT <ℤ ground → listed ≡ is_listed sinks c → (IsTrue opens_it ↔ (IsTrue listed ⊎ IsBesideGap h c)) →
-    Lays h.extent old new c ground opens_it → IsLaid (grid_of h sinks) old (index_of h.extent c) → IsLaid (grid_of h sinks) new (index_of h.extent c + 1)
-laid_data h sinks old new c ground listed true inside z low same told lays laid =
+    Lays h.extent old new c ground opens_it → IsLaid (spaced_grid spacing h sinks) old (index_of h.extent c) → IsLaid (spaced_grid spacing h sinks) new (index_of h.extent c + 1)
+laid_data spacing h sinks old new c ground listed true inside z low same told lays laid =
     let some : IsSome (elevation_at h c) = subst IsSome (sym z) refl in
-    let height : height_at (grid_of h sinks) c ≡ ground = ap (λ o. unwrap_or o (pos 0)) z in
-    laid_open (grid_of h sinks) c inside old new ground (record { inside = inside; is_data = some }) height low laid
-    ((open_found h sinks c listed true inside some same told).0 refl) lays
-laid_data h sinks old new c ground listed false inside z low same told lays laid =
+    let height : height_at (spaced_grid spacing h sinks) c ≡ ground = ap (λ o. unwrap_or o (pos 0)) z in
+    laid_open (spaced_grid spacing h sinks) c inside old new ground (record { inside = inside; is_data = some }) height low laid
+    ((open_found spacing h sinks c listed true inside some same told).0 refl) lays
+laid_data spacing h sinks old new c ground listed false inside z low same told lays laid =
     let some : IsSome (elevation_at h c) = subst IsSome (sym z) refl in
-    let height : height_at (grid_of h sinks) c ≡ ground = ap (λ o. unwrap_or o (pos 0)) z in
-    laid_closed (grid_of h sinks) c inside old new ground (record { inside = inside; is_data = some }) height low laid
-    (λ open_n. false≢true ((open_found h sinks c listed false inside some same told).1 open_n)) lays
+    let height : height_at (spaced_grid spacing h sinks) c ≡ ground = ap (λ o. unwrap_or o (pos 0)) z in
+    laid_closed (spaced_grid spacing h sinks) c inside old new ground (record { inside = inside; is_data = some }) height low laid
+    (λ open_n. false≢true ((open_found spacing h sinks c listed false inside some same told).1 open_n)) lays
 
 -- a void that was passed
-pub laid_gap : (h : Heights) (sinks : List SinkLine) (f : Flooding) (c : Cell) → IsCellOf h.extent c → elevation_at h c ≡ None →
-    IsLaid (grid_of h sinks) f (index_of h.extent c) → IsLaid (grid_of h sinks) f (index_of h.extent c + 1)
-laid_gap h sinks f c inside z laid = laid_void (grid_of h sinks) c inside f (subst IsNone (sym z) refl) laid
+pub laid_gap : (spacing : ℕ → Distances) (h : Heights) (sinks : List SinkLine) (f : Flooding) (c : Cell) → IsCellOf h.extent c → elevation_at h c ≡ None →
+    IsLaid (spaced_grid spacing h sinks) f (index_of h.extent c) → IsLaid (spaced_grid spacing h sinks) f (index_of h.extent c + 1)
+laid_gap spacing h sinks f c inside z laid = laid_void (spaced_grid spacing h sinks) c inside f (subst IsNone (sym z) refl) laid
 
 -- in a blank flood no cell is started
 pub laid_blank : (g : Grid) (f : Flooding) → g.extent ≡ f.extent → IsBlankFlood f → IsLaid g f 0

@@ -15,6 +15,7 @@ pub mod Laying
 pub mod GapColumns
 pub mod SteepestWays
 pub mod ExactWays
+pub mod ExactRows
 pub mod Settling
 pub mod FlatRules
 pub mod Walking

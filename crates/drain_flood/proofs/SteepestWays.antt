@@ -1,14 +1,15 @@
 -- The first steepest way down of a cell, from three rows of lanes.
-use Rattle.std.proofs.Common.{◌≡◌, ◌≢◌, ◌∙◌, ℕ, ◌+◌, ◌-◌, ◌*◌, ◌<◌, ◌≤◌, ◌==◌, inl, inr, ℤ, pos, ◌+ℤ◌, ◌-ℤ◌, ◌≤ℤ◌, ◌<ℤ◌, Bool, true, false, List, Some, None, slice_index, if◌then◌else◌, refl, sym, ap, subst, arith}
+use Rattle.std.proofs.Common.{◌≡◌, ◌≢◌, ◌∙◌, ℕ, ◌+◌, ◌-◌, ◌*◌, ◌<◌, ◌≤◌, ◌==◌, inl, inr, ℤ, pos, ◌+ℤ◌, ◌-ℤ◌, ◌≤ℤ◌, ◌<ℤ◌, List, Some, None, slice_index, if◌then◌else◌, refl, sym, ap, subst, arith}
 use Rattle.std.proofs.lemmas.Bool.{ne_eqb}
 use Rattle.std.proofs.lemmas.Int.{ints}
 use Rattle.drain_grid.specs.declared.cell.Cell.{Cell}
 use Rattle.drain_grid.specs.declared.direction.Direction.{Direction}
-use Rattle.drain_grid.specs.declared.direction.Direction.TheVariants.{East}
+use Rattle.drain_grid.specs.declared.direction.Direction.TheVariants.{East, SouthEast, South, SouthWest, West, NorthWest, North, NorthEast}
 use Rattle.drain_grid.specs.Direction.{code_of, cols_right, is_straight, rows_down}
 use Rattle.drain_grid.specs.Extent.{step}
 use Rattle.drain_grid.specs.Grid.{Grid, HasData, IsInside}
 use Rattle.drain_grid.specs.Slope.{slope_key}
+use Rattle.drain_grid.specs.Spacing.{Distances, unit_spacing, weight_of}
 use Rattle.drain_grid.proofs.Decisions.{cases}
 use Rattle.drain_grid.proofs.Neighbors.{step_gives, step_lies}
 use Rattle.drain_grid.proofs.Tallies.{none_some, some_or_none}
@@ -49,17 +50,28 @@ level_data lane less = ap (λ b. if b then 0 else lane) (ne_eqb lane GAP (λ sam
 level_void : (lane : ℕ) → lane ≡ GAP → level_of_lane lane ≡ 0
 level_void lane gap = ap level_of_lane gap
 
+once : (square : ℕ) → pos (1 * square) ≡ pos square
+once square = ap pos (omega arith)
+
+-- the key of a natural drop on unit spacing
+unit_key : (d : Direction) (drop : ℕ) → slope_key (weight_of unit_spacing d) (pos drop) ≡ pos (weight (is_straight d) (drop * drop))
+unit_key East drop = refl
+unit_key SouthEast drop = once (drop * drop)
+unit_key South drop = refl
+unit_key SouthWest drop = once (drop * drop)
+unit_key West drop = refl
+unit_key NorthWest drop = once (drop * drop)
+unit_key North drop = refl
+unit_key NorthEast drop = once (drop * drop)
+
 -- the drop of the heights is that of the lanes
-key_is : (s : Bool) (x y : ℤ) (level lane : ℕ) → pos level ≡ x +ℤ pos 32767 → pos lane ≡ y +ℤ pos 32767 → lane ≤ level →
-    slope_key s (x -ℤ y) ≡ pos (weight s ((level - lane) * (level - lane)))
-key_is s x y level lane level_is lane_is most = ap (slope_key s) drop_is ∙ of_natural s (level - lane)
+key_is : (spacing : Distances) (d : Direction) (x y : ℤ) (level lane : ℕ) → spacing ≡ unit_spacing → pos level ≡ x +ℤ pos 32767 → pos lane ≡ y +ℤ pos 32767 → lane ≤ level →
+    slope_key (weight_of spacing d) (x -ℤ y) ≡ pos (weight (is_straight d) ((level - lane) * (level - lane)))
+key_is spacing d x y level lane unit level_is lane_is most =
+    ap (λ s. slope_key (weight_of s d) (x -ℤ y)) unit ∙ (ap (slope_key (weight_of unit_spacing d)) drop_is ∙ unit_key d (level - lane))
   where
     drop_is : x -ℤ y ≡ pos (level - lane)
     drop_is = omega (arith, ints)
-
-    of_natural : (s : Bool) (drop : ℕ) → slope_key s (pos drop) ≡ pos (weight s (drop * drop))
-    of_natural true drop = refl
-    of_natural false drop = refl
 
 less_lanes : (x y : ℤ) (p q : ℕ) → pos p ≡ x +ℤ pos 32767 → pos q ≡ y +ℤ pos 32767 → x <ℤ y → p < q
 less_lanes x y p q p_is q_is less = omega (arith, ints)
@@ -88,8 +100,8 @@ less_weak p q less = omega (arith, less)
 below_gap : (p q : ℕ) → p < q → q < GAP → p < GAP
 below_gap p q less most = omega (arith, less, most)
 
--- a data cell of a flooded grid, and three rows of lanes round it
-module _ (g : Grid) (f : Flooding) (flooded : IsFlooded g f) (c : Cell) (inside : IsInside g c) (a h b : List ℕ)
+-- a data cell of a flooded grid in a row of unit spacing, and three rows of lanes round it
+module _ (g : Grid) (f : Flooding) (flooded : IsFlooded g f) (c : Cell) (unit : g.spacing c.row ≡ unit_spacing) (inside : IsInside g c) (a h b : List ℕ)
     (rows : (d : Direction) → AreRowLanes g.extent f (c.row + rows_down d) (row_beside a h b d)) where
   abbrev L : Direction → ℕ
   L d = number_beside a h b c.col d
@@ -138,7 +150,7 @@ module _ (g : Grid) (f : Flooding) (flooded : IsFlooded g f) (c : Cell) (inside 
     key_of_lane : (d : Direction) (n : Cell) → IsLowerNeighbor g f c d n → key_down g f c d n ≡ pos (key_of level L d)
     key_of_lane d n lower =
         let lane = lower_lane d n lower in
-        key_is (is_straight d) (con_at g.extent f c) (con_at g.extent f n) level (L d) level_is lane.0 (less_weak _ _ lane.1)
+        key_is (g.spacing c.row) d (con_at g.extent f c) (con_at g.extent f n) level (L d) unit level_is lane.0 (less_weak _ _ lane.1)
 
     none_down : ((d : Direction) → level ≤ L d) → IsWayDown g f c None
     none_down most d n lower = not_both _ _ (lower_lane d n lower).1 (most d)
@@ -175,28 +187,28 @@ fall_small a h b col code is =
     ]
 
 -- so the code that is put is right
-pub code_from_lanes : (g : Grid) (f : Flooding) (c : Cell) (a h b : List ℕ) (code mark put : ℕ) → IsFlooded g f → IsInside g c →
+pub code_from_lanes : (g : Grid) (f : Flooding) (c : Cell) (a h b : List ℕ) (code mark put : ℕ) → IsFlooded g f → g.spacing c.row ≡ unit_spacing → IsInside g c →
     ((d : Direction) → AreRowLanes g.extent f (c.row + rows_down d) (row_beside a h b d)) → code ≡ fall_at a h b c.col → mark ≡ mark_at g.extent f c →
     put ≡ (if code == 0 then mark else code) → IsCodeAt g f c put
-code_from_lanes g f c a h b code mark put flooded inside rows code_is mark_is put_is = record {
+code_from_lanes g f c a h b code mark put flooded unit inside rows code_is mark_is put_is = record {
   void = λ void.
-      (let gap = (own g f flooded c inside a h b rows).none (flooded.blank c inside void) in
+      (let gap = (own g f flooded c unit inside a h b rows).none (flooded.blank c inside void) in
       elim (fall_at_means a h b c.col) [
         | inl (none, most) ↦ put_mark (code_is ∙ none) ∙ flooded.surface.voids c inside void
         | inr (d, named, first) ↦ absurd (none_below _ _ (level_void _ gap) first.lower)
       ]);
   way = λ here.
       (let level_is : level_of_lane (level_in h c.col) ≡ level_in h c.col =
-      level_data (level_in h c.col) ((own g f flooded c inside a h b rows).below (data_height g f flooded c inside a h b rows c here)) in
+      level_data (level_in h c.col) ((own g f flooded c unit inside a h b rows).below (data_height g f flooded c unit inside a h b rows c here)) in
       elim (subst (λ z. MeansFall z (number_beside a h b c.col) (fall_at a h b c.col)) level_is (fall_at_means a h b c.col)) [
         | inl (none, most) ↦ record {
           way = None;
-          down = none_down g f flooded c inside a h b rows here most;
+          down = none_down g f flooded c unit inside a h b rows here most;
           is = put_mark (code_is ∙ none);
         }
         | inr (d, named, first) ↦ record {
           way = Some d;
-          down = first_down g f flooded c inside a h b rows here d first;
+          down = first_down g f flooded c unit inside a h b rows here d first;
           is = put_is ∙ (ap (λ k. if k == 0 then mark else k) (code_is ∙ named) ∙ code_put d mark);
         }
       ]);

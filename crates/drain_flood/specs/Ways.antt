@@ -3,10 +3,11 @@
 use Rattle.std.specs.Prelude.{◌≡◌, ℕ, ◌*◌, ◌<◌, ℤ, ◌-ℤ◌, ◌≤ℤ◌, ◌<ℤ◌, List, length, slice_index_or, Option, Some, None, IsNone, ◌≢◌, zero, suc, ◌+◌, ◌≤◌, pos, nat_lt, ◌==◌, if◌then◌else◌, [], ◌∷◌, ◌++◌, map, get_or, Contains}
 use Rattle.drain_grid.specs.declared.cell.Cell.{Cell}
 use Rattle.drain_grid.specs.declared.direction.Direction.{Direction}
-use Rattle.drain_grid.specs.Direction.{code_of, is_straight, order_of}
+use Rattle.drain_grid.specs.Direction.{code_of, order_of}
 use Rattle.drain_grid.specs.Extent.{Extent, index_of, step}
 use Rattle.drain_grid.specs.Grid.{Grid, HasData, IsInside, Products, no_sink}
 use Rattle.drain_grid.specs.Slope.{slope_key}
+use Rattle.drain_grid.specs.Spacing.{Distances, weight_of}
 use Rattle.drain_flood.specs.declared.layers.TheConstants.{VOID}
 use Rattle.drain_flood.specs.Floods.{Flooding, con_at, mark_at}
 use Rattle.std.specs.List.{All}
@@ -18,9 +19,13 @@ pub record IsLowerNeighbor (g : Grid) (f : Flooding) (c : Cell) (d : Direction) 
   pub has_data : HasData g n
   pub below : con_at g.extent f n <ℤ con_at g.extent f c
 
--- the key of the slope down to it
+-- the rows of the grid are spaced so
+abbrev pub IsSpaced : Grid → (ℕ → Distances) → Type 0
+IsSpaced g spacing = (row : ℕ) → row < g.extent.rows → g.spacing row ≡ spacing row
+
+-- the key of the slope down to it, on the spacing of the row that the water leaves
 abbrev pub key_down : Grid → Flooding → Cell → Direction → Cell → ℤ
-key_down g f c d n = slope_key (is_straight d) (con_at g.extent f c -ℤ con_at g.extent f n)
+key_down g f c d n = slope_key (weight_of (g.spacing c.row) d) (con_at g.extent f c -ℤ con_at g.extent f n)
 
 -- no lower cell has a greater key, and none in an earlier direction as great a one
 pub record IsSteepestNeighbor (g : Grid) (f : Flooding) (c : Cell) (d : Direction) (n : Cell) : Type 0 where
@@ -57,12 +62,13 @@ pub record AreFirstCodes (g : Grid) (f : Flooding) (dirs : List ℕ) : Type 0 wh
 
 -- The surface alone as a grid with one product: what the rule on slopes looks at.
 
--- a cell has data unless its mark is that of a void
-abbrev pub marked_grid : Extent → Flooding → Grid
-marked_grid e f = record {
+-- a cell has data unless its mark is that of a void; all rows have one spacing
+abbrev pub marked_grid : Distances → Extent → Flooding → Grid
+marked_grid spacing e f = record {
   extent = e;
   elevation = λ c. if mark_at e f c == VOID then None else Some (con_at e f c);
   sink = no_sink;
+  spacing = λ row. spacing;
 }
 
 abbrev pub marked_products : Extent → Flooding → Products

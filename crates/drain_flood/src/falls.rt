@@ -1,4 +1,4 @@
-//! The first steepest ways down along a row, many cells at a time.
+//! The first steepest ways down along a row of square cells, many at a time.
 //!
 //! Heights are laid in lanes of 16 bits, 32,767 more than the height. A void's lane is above that of any height, and so
 //! are the lanes around the grid: neither a void nor an edge needs a test. Each loop is without a branch. Two minima
@@ -8,6 +8,7 @@
 ghost use Rattle.std.specs.Prelude.{◌≡◌, ◌≤◌, ◌<◌, ◌+◌, ◌*◌, ◌/◌, ◌^◌, ◌&&◌, ◌==◌, ℕ, pos, min, nat_lt, length, slice_index, slice_index_or, if◌then◌else◌};
 ghost use Rattle.drain_grid.specs.Extent.{index_of};
 ghost use Rattle.drain_grid.specs.Grid.{Grid, IsInside};
+ghost use Rattle.drain_grid.specs.Spacing.{unit_spacing};
 ghost use Rattle.drain_grid.specs.declared.cell.Cell.{Cell};
 ghost use Rattle.drain_flood.specs.Floods.{IsFlooded};
 ghost use Rattle.drain_flood.specs.Ways.{IsCodeAt};
@@ -222,7 +223,7 @@ fn put_codes(codes: &[u16], marks: &[u8], start: usize, dirs: &mut [u8])
     }
 }
 
-/// Puts the code of each cell of a row at its place. The other slices are room for lanes and codes.
+/// Puts the code of each cell of a row of square cells at its place. The other slices are room for lanes and codes.
 pub(crate) fn put_row(
     surface: &Surface<Vec<i16>>,
     row: u32,
@@ -243,7 +244,7 @@ pub(crate) fn put_row(
     ensures below_len { length below.new ≡ length below.old }
     ensures codes_len { length codes.new ≡ length codes.old }
     ensures dirs_len { length dirs.new ≡ length dirs.old }
-    ensures row { (g : Grid) → g.extent ≡ surface.now.extent → IsFlooded g surface.now → (c : Cell) → IsInside g c → c.row ≡ row → IsCodeAt g surface.now c (slice_index dirs.new (index_of g.extent c)) }
+    ensures row { (g : Grid) → g.extent ≡ surface.now.extent → g.spacing row ≡ unit_spacing → IsFlooded g surface.now → (c : Cell) → IsInside g c → c.row ≡ row → IsCodeAt g surface.now c (slice_index dirs.new (index_of g.extent c)) }
     ensures others { (i : ℕ) → i < row * surface.now.extent.cols → slice_index dirs.new i ≡ slice_index dirs.old i }
 {
     lay_row(surface, row as usize, above);

@@ -11,7 +11,8 @@
 ghost use Rattle.std.specs.Prelude.{◌≡◌, ◌↔◌, ◌+◌, ◌*◌, ◌<◌, ℕ, ℤ, pos, false, List, [], ◌∷◌, ◌++◌, None, MatchOption, IfSome, IfOk, OnOk, IsTrue, length, slice_index_or, vec_len, if◌then◌else◌};
 ghost use Rattle.drain_grid.specs.declared.sink_line.SinkLine.{SinkLine};
 ghost use Rattle.drain_grid.specs.SinkTexts.{is_listed};
-ghost use Rattle.drain_grid.specs.WholeGrid.{grid_of};
+ghost use Rattle.drain_grid.specs.Spacing.{Distances};
+ghost use Rattle.drain_grid.specs.WholeGrid.{spaced_grid};
 ghost use Rattle.drain_grid.specs.Path.{IsFilled};
 ghost use Rattle.drain_flood.specs.Laid.{Puts, Lays, IsLaid, IsBlankFlood, IsGapAround};
 ghost use Rattle.drain_grid.specs.declared.cell.Cell.{Cell};
@@ -56,13 +57,14 @@ impl Model for Flood {
     ghost invariant = { λ f. AreTogether f.shape f.con.items f.mark.items f.trail.items f.queue };
 }
 
-/// The filled surface: raises each data cell to the lowest level from which water can leave.
+/// The filled surface: raises each data cell to the lowest level from which water can leave. How far apart cells are
+/// plays no part.
 pub fn fill(alloc: Global, elevation: &Elevation, sinks: &Sinks) -> Result<Flood, OutOfMemory>
     ensures extent { IfOk result (λ flood. flood.extent ≡ elevation.now.extent) }
-    ensures flooded { IfOk result (IsFlooded (grid_of elevation.now sinks.now)) }
+    ensures flooded { IfOk result (λ flood. (spacing : ℕ → Distances) → IsFlooded (spaced_grid spacing elevation.now sinks.now) flood) }
 
     // These levels are the spill level of each data cell, and the least surface that covers the ground and drains.
-    ensures filled { IfOk result (λ flood. IsFilled (grid_of elevation.now sinks.now) (con_at elevation.now.extent flood)) }
+    ensures filled { IfOk result (λ flood. (spacing : ℕ → Distances) → IsFilled (spaced_grid spacing elevation.now sinks.now) (con_at elevation.now.extent flood)) }
 {
     // The law that a flooded grid is filled.
     flood_is_filled();
@@ -94,7 +96,7 @@ impl Flood {
     #[inline(never)]
     fn start(alloc: Global, elevation: &Elevation, sinks: &Sinks) -> Result<Flood, OutOfMemory>
         ensures extent { IfOk result (λ flood. flood.extent ≡ elevation.now.extent) }
-        ensures laid { IfOk result (λ flood. IsFloodOf (grid_of elevation.now sinks.now) flood NO_HEIGHT []) }
+        ensures laid { IfOk result (λ flood. (spacing : ℕ → Distances) → IsFloodOf (spaced_grid spacing elevation.now sinks.now) flood NO_HEIGHT []) }
     {
         let shape = elevation.shape();
         let mut flood = Flood::blank(alloc, shape)?;
@@ -138,7 +140,7 @@ impl Flood {
         requires inside { row < elevation.now.extent.rows }
         requires counted { length listed.now ≡ elevation.now.extent.cols }
         ensures extent { self.new.extent ≡ self.old.extent }
-        ensures laid { OnOk result ((sinks : List SinkLine) → ((col : ℕ) → col < length listed.now → slice_index_or listed.now col false ≡ is_listed sinks (record { row = row; col = col })) → IsLaid (grid_of elevation.now sinks) self.old (row * elevation.now.extent.cols) → IsLaid (grid_of elevation.now sinks) self.new ((row + 1) * elevation.now.extent.cols)) }
+        ensures laid { OnOk result ((spacing : ℕ → Distances) (sinks : List SinkLine) → ((col : ℕ) → col < length listed.now → slice_index_or listed.now col false ≡ is_listed sinks (record { row = row; col = col })) → IsLaid (spaced_grid spacing elevation.now sinks) self.old (row * elevation.now.extent.cols) → IsLaid (spaced_grid spacing elevation.now sinks) self.new ((row + 1) * elevation.now.extent.cols)) }
     {
         let mut west = is_gap_in(elevation, row, 0);
         let mut here = is_gap_in(elevation, row, 1);
@@ -164,7 +166,7 @@ impl Flood {
         requires inside { IsCellOf elevation.now.extent cell }
         requires beside { IsTrue beside ↔ IsGapAround elevation.now cell }
         ensures extent { self.new.extent ≡ self.old.extent }
-        ensures laid { OnOk result ((sinks : List SinkLine) → listed ≡ is_listed sinks cell → IsLaid (grid_of elevation.now sinks) self.old (index_of elevation.now.extent cell) → IsLaid (grid_of elevation.now sinks) self.new (index_of elevation.now.extent cell + 1)) }
+        ensures laid { OnOk result ((spacing : ℕ → Distances) (sinks : List SinkLine) → listed ≡ is_listed sinks cell → IsLaid (spaced_grid spacing elevation.now sinks) self.old (index_of elevation.now.extent cell) → IsLaid (spaced_grid spacing elevation.now sinks) self.new (index_of elevation.now.extent cell + 1)) }
     {
         match elevation.z(cell) {
             Some(ground) => {

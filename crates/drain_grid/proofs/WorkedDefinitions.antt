@@ -5,7 +5,7 @@ use Rattle.drain_grid.specs.declared.direction.Direction.TheVariants.{East, Sout
 use Rattle.drain_grid.specs.declared.patch.Patch.{Patch}
 use Rattle.drain_grid.specs.Direction.{order_of}
 use Rattle.drain_grid.specs.Values.{Values}
-use Rattle.drain_grid.specs.Spacing.{unit_spacing}
+use Rattle.drain_grid.specs.Spacing.{Distances, unit_spacing}
 use Rattle.drain_grid.specs.Slope.{slope_key, IsSteepest, IsFirstSteepest}
 use Rattle.drain_grid.specs.Grid.{IsOpenCell}
 use Rattle.drain_grid.specs.Run.{run, run_end, RunEnds, upstream_count, ShareBasin}
@@ -17,14 +17,18 @@ use Rattle.drain_grid.proofs.WorkedGrids.{cell, slope_grid, slope_products, ring
 abbrev level : ℤ → Values
 level con = record { z = Some (pos 0); sink = false; con = con; dir = pos 0; acc = pos 0; bas = pos 0; spl = pos 0; rnk = pos 0 }
 
-abbrev hollow : (here east southeast south : ℤ) → Patch
-hollow here east southeast south = record {
+abbrev hollow_on : Distances → (here east southeast south : ℤ) → Patch
+hollow_on spacing here east southeast south = record {
   here = level here;
   around =
       Some (level east) ∷ Some (level southeast) ∷ Some (level south) ∷ Some (level here) ∷
       Some (level here) ∷ Some (level here) ∷ Some (level here) ∷ Some (level here) ∷ [];
-  spacing = unit_spacing;
+  spacing = spacing;
 }
+
+-- the same on square cells
+abbrev hollow : (here east southeast south : ℤ) → Patch
+hollow = hollow_on unit_spacing
 
 abbrev first_steepest : (p : Patch) (d : Direction) → Decision (IsFirstSteepest p (Some d))
 first_steepest p d =
@@ -61,6 +65,20 @@ tie_south = (is_steepest (hollow (pos 10) (pos 8) (pos 10) (pos 8)) South).sound
 
 tie_first : IsFirstSteepest (hollow (pos 10) (pos 8) (pos 10) (pos 8)) (Some East)
 tie_first = (first_steepest (hollow (pos 10) (pos 8) (pos 10) (pos 8)) East).sound refl
+
+-- over cells 3 wide and 4 high drops of 3, 5 and 4 tie, and east is the first
+abbrev narrow : Patch
+narrow = hollow_on (record { width = 3; height = 4 }) (pos 10) (pos 7) (pos 5) (pos 6)
+
+narrow_south : IsSteepest narrow South
+narrow_south = (is_steepest narrow South).sound refl
+
+narrow_first : IsFirstSteepest narrow (Some East)
+narrow_first = (first_steepest narrow East).sound refl
+
+-- over cells 4 wide and 3 high the same drops make the way south the steepest
+low_south : IsFirstSteepest (hollow_on (record { width = 4; height = 3 }) (pos 10) (pos 7) (pos 5) (pos 6)) (Some South)
+low_south = (first_steepest (hollow_on (record { width = 4; height = 3 }) (pos 10) (pos 7) (pos 5) (pos 6)) South).sound refl
 
 -- on the slope runs go east, and four cells drain through the last of a row
 slope_run : run slope_grid slope_products (cell 1 0) ≡ cell 1 0 ∷ cell 1 1 ∷ cell 1 2 ∷ cell 1 3 ∷ []

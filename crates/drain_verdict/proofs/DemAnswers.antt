@@ -20,6 +20,7 @@ use Rattle.drain_rules.specs.Verdicts.{IfAccepted}
 use Rattle.drain_text.specs.First.{IsBefore, IsFirst}
 use Rattle.drain_verdict.specs.Answers.{AreCorrectIn, IfAccepts, IsAcceptance, IsAnswerIn, IsAuditIn, IsPlainIn}
 use Rattle.drain_verdict.specs.DemGround.{AreHeadersKept, DemTakesAtMost, DemTexts, DemUses, ElevationIsItsPixels, EncodesDem, HasDemHeader, IsDemHeader, IsDemHeaderRefusal, IsDemInput, dem_audit_devices, dem_check_devices, dem_devices, dem_fields, dem_ground}
+use Rattle.drain_verdict.specs.Given.{Given}
 use Rattle.drain_verdict.specs.GroundSets.{EncodeTexts, GroundSet, IsReadable, IsRefusalIn, StandsIn, set_grid, set_numbers, set_products}
 use Rattle.drain_verdict.specs.Texts.{SetTexts}
 use Rattle.drain_verdict.specs.Headline.{ProductsAreRight}
@@ -94,24 +95,24 @@ pixels_are bl dem d t header tell readable =
       pixels = λ c inside. refl;
     }
 
-module _ {R : Type 0} (bl : R → Option (List ℕ)) (dem : List (RasterInput R)) (sinks : List ℕ) (ps : Products R) where
+module _ {R : Type 0} (bl : R → Option (List ℕ)) (dem : List (RasterInput R)) (given : Given) (ps : Products R) where
   -- what follows from an answer that isn't a refusal
   pub when_ok : {V : Type 0} (IsThe : GroundSet → Result V Refusal → Type 0) (Fact : V → DemTexts → SetTexts → Type 0) → ((v : V) (d : DemTexts) (t : SetTexts) → EncodesDem bl dem d → IsThe (dem_set d t) (Ok v) → Fact v d t) →
-      (result : Result V Refusal) → ((d : DemTexts) (t : SetTexts) → EncodesDem bl dem d → EncodeTexts bl sinks ps t → IsThe (dem_set d t) result) →
-      IfOk result (λ v. (d : DemTexts) (t : SetTexts) → EncodesDem bl dem d → EncodeTexts bl sinks ps t → Fact v d t)
+      (result : Result V Refusal) → ((d : DemTexts) (t : SetTexts) → EncodesDem bl dem d → EncodeTexts bl given ps t → IsThe (dem_set d t) result) →
+      IfOk result (λ v. (d : DemTexts) (t : SetTexts) → EncodesDem bl dem d → EncodeTexts bl given ps t → Fact v d t)
   when_ok IsThe Fact follows (Ok v) answer = λ d t tell told. follows v d t tell (answer d t tell told)
   when_ok IsThe Fact follows (Err refusal) answer = tt
 
   -- the elevations are pixels, where the answer isn't a refusal
   pub when_read : {V : Type 0} (IsThe : GroundSet → Result V Refusal → Type 0) → ((s : GroundSet) (v : V) → IsThe s (Ok v) → IsReadable s) → (result : Result V Refusal) → IfOk result (λ v. HasDemHeader dem) →
-      ((d : DemTexts) (t : SetTexts) → EncodesDem bl dem d → EncodeTexts bl sinks ps t → IsThe (dem_set d t) result) →
-      IfOk result (λ v. (d : DemTexts) (t : SetTexts) → EncodesDem bl dem d → EncodeTexts bl sinks ps t → ElevationIsItsPixels d)
+      ((d : DemTexts) (t : SetTexts) → EncodesDem bl dem d → EncodeTexts bl given ps t → IsThe (dem_set d t) result) →
+      IfOk result (λ v. (d : DemTexts) (t : SetTexts) → EncodesDem bl dem d → EncodeTexts bl given ps t → ElevationIsItsPixels d)
   when_read IsThe readable (Ok v) header answer = λ d t tell told. pixels_are bl dem d t header tell (readable (dem_set d t) v (answer d t tell told))
   when_read IsThe readable (Err refusal) header answer = tt
 
   -- and from a check that accepts
-  pub when_checked : CorrectFromRules → (result : Result Verdict Refusal) → ((d : DemTexts) (t : SetTexts) → EncodesDem bl dem d → EncodeTexts bl sinks ps t → IsAnswerIn (dem_set d t) result) →
-      IfAccepted result ((d : DemTexts) (t : SetTexts) → EncodesDem bl dem d → EncodeTexts bl sinks ps t → ProductsAreRight (dem_set d t))
+  pub when_checked : CorrectFromRules → (result : Result Verdict Refusal) → ((d : DemTexts) (t : SetTexts) → EncodesDem bl dem d → EncodeTexts bl given ps t → IsAnswerIn (dem_set d t) result) →
+      IfAccepted result ((d : DemTexts) (t : SetTexts) → EncodesDem bl dem d → EncodeTexts bl given ps t → ProductsAreRight (dem_set d t))
   when_checked law (Ok (checked.Accepted counts)) answer = λ d t tell told.
       let s = dem_set d t in
       let correct = law (set_grid s) (set_products s) (set_numbers s) (answer d t tell told).1.0 in
@@ -120,8 +121,8 @@ module _ {R : Type 0} (bl : R → Option (List ℕ)) (dem : List (RasterInput R)
   when_checked law (Err refusal) answer = tt
 
   -- and from an audit that accepts
-  pub when_audited : CorrectIsLocal → SoundFromCorrect → (result : Result AuditVerdict Refusal) → ((d : DemTexts) (t : SetTexts) → EncodesDem bl dem d → EncodeTexts bl sinks ps t → IsPlainIn (dem_set d t) result) →
-      IfAccepts result ((d : DemTexts) (t : SetTexts) → EncodesDem bl dem d → EncodeTexts bl sinks ps t → ProductsAreRight (dem_set d t))
+  pub when_audited : CorrectIsLocal → SoundFromCorrect → (result : Result AuditVerdict Refusal) → ((d : DemTexts) (t : SetTexts) → EncodesDem bl dem d → EncodeTexts bl given ps t → IsPlainIn (dem_set d t) result) →
+      IfAccepts result ((d : DemTexts) (t : SetTexts) → EncodesDem bl dem d → EncodeTexts bl given ps t → ProductsAreRight (dem_set d t))
   when_audited law sound (Ok (Accepted counts)) answer = λ d t tell told.
       let s = dem_set d t in
       let correct = (exactly law (set_grid s) (set_products s) (set_numbers s) (Accepted counts) (answer d t tell told).2).0 tt in

@@ -126,13 +126,13 @@ bodies_told {R} bytes_left (tile ∷ tiles) all =
     (told_is (bytes_left tile.body) (All-head P tile tiles all), bodies_told bytes_left tiles (All-tail P tile tiles all))
 
 pub inputs_are_told : NamesGiveCorners → {R : Type 0} (bytes_left : R → Option (List ℕ)) → InputsAreTold bytes_left
-inputs_are_told corner bytes_left side tiles sinks ps tiles_tell products_tell = (
+inputs_are_told corner bytes_left side tiles given ps tiles_tell products_tell = (
   record {
     side = side;
     names = names_of tiles;
     corners = map corner.0 (names_of tiles);
     tiles = map (λ t. told (bytes_left t.body)) tiles;
-    sinks = sinks;
+    given = given;
     header = λ p. (of_product ps p).header;
     raster = λ p. told (bytes_left (of_product ps p).body);
   },
@@ -141,7 +141,7 @@ inputs_are_told corner bytes_left side tiles sinks ps tiles_tell products_tell =
     names_are = refl;
     corners_are = corners_named corner.0 corner.1 (names_of tiles);
     tiles_are = bodies_told bytes_left tiles tiles_tell;
-    sinks_are = refl;
+    given_is = refl;
     headers_are = λ p. refl;
     rasters_are = λ p. told_is (bytes_left (of_product ps p).body) (products_tell p);
   },

@@ -15,6 +15,7 @@ mod RowDevices
 pub mod RowGiven
 pub mod RowReads
 pub mod SinkAnswers
+pub mod SpacingAnswers
 pub mod StartAnswers
 pub mod TileBodies
 mod TileSteps

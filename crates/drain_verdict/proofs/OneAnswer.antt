@@ -7,7 +7,7 @@ use Rattle.drain_answer.specs.declared.outcome.AuditVerdict.TheVariants as audit
 use Rattle.drain_answer.specs.declared.outcome.Outcome.{Outcome}
 use Rattle.drain_answer.specs.declared.outcome.Outcome.TheVariants as judged_as
 use Rattle.drain_answer.specs.declared.refusal.Refusal.{Refusal}
-use Rattle.drain_answer.specs.declared.refusal.Refusal.TheVariants.{BadHeader, WrongShape, Misplaced, RasterShort, BadSinkLine, SinkNotData, OutOfMemory, ReadFailed}
+use Rattle.drain_answer.specs.declared.refusal.Refusal.TheVariants.{BadHeader, WrongShape, Misplaced, RasterShort, BadSinkLine, SinkNotData, BadSpacingLine, SpacingRows, OutOfMemory, ReadFailed}
 use Rattle.drain_filled.specs.Compared.{IsFirstUnfilled}
 use Rattle.std.specs.Prelude.{slice_index_or}
 use Rattle.drain_grid.proofs.Alike.{cases_earlier}
@@ -36,7 +36,7 @@ use Rattle.drain_header.specs.declared.fault.HeaderFault.{HeaderFault}
 use Rattle.drain_header.specs.Faults.{Answers}
 use Rattle.drain_rules.specs.Verdicts.{IsVerdict, IsVerdictAmong, IsVerdictBy}
 use Rattle.drain_text.specs.First.{IsFirst}
-use Rattle.drain_verdict.proofs.Order.{at_bad_line, at_header, at_off_data, at_raster}
+use Rattle.drain_verdict.proofs.Order.{at_bad_line, at_bad_spacing, at_header, at_off_data, at_raster, at_spacing_rows}
 use Rattle.drain_verdict.specs.Answers.{IsAnswerIn, IsAuditIn, IsAuditVerdict, certified, certified_nodata}
 use Rattle.drain_verdict.specs.Ground.{refusal_kind}
 use Rattle.drain_verdict.specs.GroundSets.{GroundSet, IsReadable, IsRefusalIn, StandsIn, order_in, place_in, set_grid, set_numbers, set_products}
@@ -231,6 +231,8 @@ module _ (s : GroundSet) (sound : IsSound s.terrain) where
       at_raster s (IsThis (RasterShort p)) (unless _) (λ q place stands. ap (λ (x : Product). RasterShort x) (same_product (product_of q) p place)) b kind
   same_refusal (BadSinkLine n) b is kind = at_bad_line (IsThis (BadSinkLine n)) (λ m place stands. ap (λ (x : ℕ). BadSinkLine x) place) b kind
   same_refusal (SinkNotData n) b is kind = at_off_data (IsThis (SinkNotData n)) (λ m place stands. ap (λ (x : ℕ). SinkNotData x) place) b kind
+  same_refusal (BadSpacingLine n) b is kind = at_bad_spacing (IsThis (BadSpacingLine n)) (λ m place stands. ap (λ (x : ℕ). BadSpacingLine x) place) b kind
+  same_refusal (SpacingRows n) b is kind = at_spacing_rows (IsThis (SpacingRows n)) (λ m place stands. ap (λ (x : ℕ). SpacingRows x) place) b kind
   same_refusal OutOfMemory b is kind = absurd is
   same_refusal ReadFailed b is kind = absurd is
   same_refusal a b is kind = absurd (sound a is)

@@ -9,7 +9,7 @@ use Rattle.drain_text.specs.First.{IsBefore, IsFirst}
 use Rattle.drain_hgt.specs.Corner.{Corner}
 use Rattle.drain_header.specs.declared.fault.HeaderFault.{HeaderFault}
 use Rattle.drain_answer.specs.declared.refusal.Refusal.{Refusal}
-use Rattle.drain_answer.specs.declared.refusal.Refusal.TheVariants.{BadSide, BadName, NoTiles, RepeatedTile, BoxTooLarge, BadHeader, WrongShape, Misplaced, BadTileLength, RasterShort, SeamMismatch, BadSinkLine, SinkNotData, BadDemHeader, BadPixelSize, DemShort, OutOfMemory, ReadFailed}
+use Rattle.drain_answer.specs.declared.refusal.Refusal.TheVariants.{BadSide, BadName, NoTiles, RepeatedTile, BoxTooLarge, BadHeader, WrongShape, Misplaced, BadTileLength, RasterShort, SeamMismatch, BadSinkLine, SinkNotData, BadSpacingLine, SpacingRows, BadDemHeader, BadPixelSize, DemShort, OutOfMemory, ReadFailed}
 use Rattle.drain_verdict.specs.Ground.{refusal_kind}
 use Rattle.drain_verdict.specs.GroundSets.{GroundSet, IsReadable, IsRefusalIn, NoneStandsIn, StandsIn, order_in, place_in}
 
@@ -59,6 +59,14 @@ pub at_off_data : (P : Refusal → Type 0) → ((n : ℕ) → P (SinkNotData n))
 at_off_data P line (SinkNotData n) e = line n
 at_off_data P line b e = absurd (omega arith)
 
+pub at_bad_spacing : (P : Refusal → Type 0) → ((n : ℕ) → P (BadSpacingLine n)) → (b : Refusal) → refusal_kind b ≡ 10 → P b
+at_bad_spacing P line (BadSpacingLine n) e = line n
+at_bad_spacing P line b e = absurd (omega arith)
+
+pub at_spacing_rows : (P : Refusal → Type 0) → ((n : ℕ) → P (SpacingRows n)) → (b : Refusal) → refusal_kind b ≡ 11 → P b
+at_spacing_rows P rows (SpacingRows n) e = rows n
+at_spacing_rows P rows b e = absurd (omega arith)
+
 -- Refusals that are the ground's own.
 
 -- it applies to the set exactly if the ground refuses it, and has its place there
@@ -101,7 +109,7 @@ none_more Holds kind before here b less =
     below_more (λ n. refusal_kind b ≡ n → ¬ Holds b) kind (λ n earlier e. before b (omega (arith, earlier, e))) (λ e. here b e) (refusal_kind b) less refl
 
 -- if no refusal of any kind applies, the bytes are readable
-pub readable : (s : GroundSet) → NoneStandsIn s 10 → IsReadable s
+pub readable : (s : GroundSet) → NoneStandsIn s 12 → IsReadable s
 readable s none OutOfMemory stands = stands
 readable s none ReadFailed stands = stands
 readable s none b stands = none b (omega arith) stands

@@ -22,11 +22,13 @@ use Rattle.drain_grid.specs.Product.{default_no_data}
 use Rattle.drain_rules.specs.Rows.{AreNumbersOf, blank, place}
 use Rattle.drain_grid.specs.declared.sink_line.SinkLine.{SinkLine}
 use Rattle.drain_grid.specs.SinkTexts.{is_listed}
+use Rattle.drain_grid.specs.Spacing.{Distances}
 use Rattle.drain_rows.specs.GridRows.{AreRowsOf}
 use Rattle.drain_rows.specs.RowBuffers.{IsEven}
 use Rattle.drain_answer.specs.declared.refusal.Refusal.{Refusal}
 use Rattle.drain_answer.specs.declared.refusal.Refusal.TheVariants.{RasterShort}
 use Rattle.drain_grid.proofs.ByProduct.{by_set_product, by_set_product_or_spill, of_held}
+use Rattle.drain_verdict.specs.Given.{row_spacing}
 use Rattle.drain_verdict.specs.Ground.{AreGroundRows, GroundToGive}
 use Rattle.drain_verdict.specs.GroundSets.{GroundSet, IsRefusalIn, NoneStandsIn, set_grid, set_numbers, set_products}
 use Rattle.drain_verdict.specs.Texts.{nodata_in, set_fields, set_listed, set_nodata}
@@ -156,11 +158,12 @@ module _ (laws : RasterLaws) (s : GroundSet) (hs : PerProduct Fields) (fields : 
     blank_even = by_set_product (λ p. length (of_product blank.products p) ≡ length blank.z) refl refl refl refl refl
 
     -- the rows that were given are those of the grid and of the products
-    pub rows_of_bytes : (sinks : List SinkLine) → sinks ≡ set_listed s.texts → AreRowsOf (set_grid s) (set_products s) sinks (row_given rows_to_give)
-    rows_of_bytes sinks sinks_are = record {
+    pub rows_of_bytes : (sinks : List SinkLine) (spacing : ℕ → Distances) → sinks ≡ set_listed s.texts → spacing ≡ row_spacing s.texts.given.spacing → AreRowsOf (set_grid s) (set_products s) sinks spacing (row_given rows_to_give)
+    rows_of_bytes sinks spacing sinks_are spacing_is = record {
       row = λ r inside. subst (AreNumbersOf (set_grid s) (set_products s) r) (sym ((is_row_given rows_to_give r).even (even r inside))) (numbers_given r inside);
       last = (is_row_given rows_to_give s.terrain.extent.rows).even (subst IsEven (sym none_given) blank_even) ∙ none_given;
       sinks_are = λ c inside. ap (λ (lines : List SinkLine). is_listed lines c) (sym sinks_are);
+      spaced = λ r inside. ap (λ (s : ℕ → Distances). s r) (sym spacing_is);
     }
 
 -- the numbers for no data are the headers'

@@ -5,11 +5,10 @@ use Rattle.drain_grid.specs.declared.cell.Cell.{Cell}
 use Rattle.drain_grid.specs.declared.per_product.PerProduct.{PerProduct}
 use Rattle.drain_grid.specs.declared.set_product.SetProduct.{SetProduct}
 use Rattle.drain_grid.specs.PerProduct.{of_product}
-use Rattle.drain_grid.specs.declared.sink_line.SinkLine.{SinkLine}
 use Rattle.drain_grid.specs.Grid.{Grid}
 use Rattle.drain_grid.specs.Grid as grid
 use Rattle.drain_grid.specs.OffData.{FoundOffDataIsRight}
-use Rattle.drain_grid.specs.SinkTexts.{sinks_of}
+use Rattle.drain_grid.specs.Spacing.{spacing_of}
 use Rattle.drain_grid.specs.Extent.{Extent}
 use Rattle.drain_grid.specs.Values.{NoDataNumbers}
 use Rattle.drain_header.specs.Header.{Fields}
@@ -21,18 +20,18 @@ use Rattle.drain_rows.specs.declared.row_visitor.WalkStop.TheVariants as walk_st
 use Rattle.drain_rows.specs.GridRows.{IsRowsStop, OfGrid, ReadsOn, AreListedVoids}
 use Rattle.drain_verdict.specs.Ground.{AreGroundRows, GroundToGive, IsToldOf}
 use Rattle.drain_verdict.specs.GroundSets.{AreNotesIn, AreTextsIn, GroundSet, IsReadable, IsRefusalIn, NoneStandsIn, rules_in, set_grid, set_products}
-use Rattle.drain_verdict.specs.Texts.{nodata_in, set_listed}
+use Rattle.drain_verdict.specs.Texts.{nodata_in}
 use Rattle.drain_verdict.specs.InputReads.{HaveBeenRead, Reading, inputs_lent, products_lent, readers}
 use Rattle.drain_verdict.specs.InputRows.{AreBegun, HasStopped, IsToldRefusal}
 use Rattle.drain_verdict.specs.Laws.{RasterLaws}
-use Rattle.drain_verdict.specs.Stages.{IsBadLine, IsToldOfSinks}
-use Rattle.drain_verdict.specs.declared.stages.SinkListing.{SinkListing}
+use Rattle.drain_verdict.specs.Listings.{IsListingOf, IsToldOfLists}
+use Rattle.drain_verdict.specs.declared.listings.Listing.{Listing}
 use Rattle.drain_verdict.specs.Refusals.{IsOfBodies, refusal_of}
 use Rattle.drain_verdict.specs.ToGive.{AreGiven, HaveCome, IsAfter}
 use Rattle.drain_answer.specs.declared.refusal.Refusal.{Refusal}
 use Rattle.drain_answer.specs.declared.refusal.Refusal.TheVariants.{OutOfMemory, ReadFailed}
 use Rattle.drain_verdict.proofs.RowAnswers.{nodata_are, rows_of_bytes, told_none, told_refusal, AreAtEnd, at_end}
-use Rattle.drain_verdict.proofs.SinkAnswers.{sinks_none, sinks_refused}
+use Rattle.drain_verdict.proofs.SpacingAnswers.{lists_none, lists_refused}
 use Rattle.drain_verdict.proofs.RowDevices.{come_none}
 use Rattle.drain_verdict.proofs.RowStart.{after_none, row_given, start_given, to_give}
 
@@ -86,38 +85,38 @@ module _ {M X R : Type 0} (after : M → List X → GroundToGive → ℕ → Typ
 
   module _ (told : IsToldRefusal s.terrain (HasStopped (readers now)) None) where
     -- if none was reported, what holds of the grid that is given by rows holds of that of the set
-    pub given_holds : (sinks : List SinkLine) (P : Grid → grid.Products → Type 0) → sinks ≡ set_listed s.texts → OfGrid (AreGiven after bl start) e sinks P → P (set_grid s) (set_products s)
-    given_holds sinks P sinks_are of_grid =
+    pub given_holds : (listing : Listing) (P : Grid → grid.Products → Type 0) → IsListingOf listing s.texts.given → OfGrid (AreGiven after bl start) e listing.sinks.sinks (spacing_of listing.spacing.spacings) P → P (set_grid s) (set_products s)
+    given_holds listing P listed of_grid =
         of_grid (row_given (to_give t hs s.texts.raster)) (set_grid s) (set_products s)
         (start_given after bl Begun t hs (readers start) (inputs_lent start) (products_lent start) s.texts.raster of_set.begun of_set.starts of_set.texts.rasters) of_set.extent_is
-        (rows_of_bytes of_set.laws s hs of_set.texts.fields ended t (of_set.ground_rows told.0) told.1 sinks sinks_are)
+        (rows_of_bytes of_set.laws s hs of_set.texts.fields ended t (of_set.ground_rows told.0) told.1 listing.sinks.sinks (spacing_of listing.spacing.spacings) listed.sinks listed.spacing.spacing)
 
-    -- and no refusal before the list of sinks applies
+    -- and no refusal before the lists applies
     none_stood : NoneStandsIn s 8
     none_stood = told_none of_set.laws s hs of_set.texts.fields ended told of_set.none_before
 
-    -- so the refusal of the list is the answer
-    pub sinks_answer : FoundOffDataIsRight → (listing : SinkListing) (voids : List Cell) (refusal : Refusal) → listing.sinks ≡ set_listed s.texts → IsBadLine (sinks_of s.texts.sinks) listing.bad →
-        OfGrid (AreGiven after bl start) e listing.sinks (λ g products. AreListedVoids g voids) → IsToldOfSinks listing e voids (Some refusal) → IsRefusalIn s refusal
-    sinks_answer law listing voids refusal sinks_are bad_is of_grid said =
-        let voids_are = given_holds listing.sinks (λ g products. AreListedVoids g voids) sinks_are of_grid in
-        sinks_refused s listing e voids sinks_are bad_is (sym of_set.extent_is) voids_are law refusal said none_stood
+    -- so the refusal of the lists is the answer
+    pub lists_answer : FoundOffDataIsRight → (listing : Listing) (voids : List Cell) (refusal : Refusal) → IsListingOf listing s.texts.given →
+        OfGrid (AreGiven after bl start) e listing.sinks.sinks (spacing_of listing.spacing.spacings) (λ g products. AreListedVoids g voids) → IsToldOfLists listing e voids (Some refusal) → IsRefusalIn s refusal
+    lists_answer law listing voids refusal listed of_grid said =
+        let voids_are = given_holds listing (λ g products. AreListedVoids g voids) listed of_grid in
+        lists_refused s listing e voids listed (sym of_set.extent_is) voids_are law refusal said none_stood
 
     -- or else none applies
-    pub none_stands : FoundOffDataIsRight → (listing : SinkListing) (voids : List Cell) → listing.sinks ≡ set_listed s.texts → IsBadLine (sinks_of s.texts.sinks) listing.bad →
-        OfGrid (AreGiven after bl start) e listing.sinks (λ g products. AreListedVoids g voids) → IsToldOfSinks listing e voids None → IsReadable s
-    none_stands law listing voids sinks_are bad_is of_voids said =
-        let voids_are = given_holds listing.sinks (λ g products. AreListedVoids g voids) sinks_are of_voids in
-        sinks_none s listing e voids sinks_are bad_is (sym of_set.extent_is) voids_are law said none_stood
+    pub none_stands : FoundOffDataIsRight → (listing : Listing) (voids : List Cell) → IsListingOf listing s.texts.given →
+        OfGrid (AreGiven after bl start) e listing.sinks.sinks (spacing_of listing.spacing.spacings) (λ g products. AreListedVoids g voids) → IsToldOfLists listing e voids None → IsReadable s
+    none_stands law listing voids listed of_voids said =
+        let voids_are = given_holds listing (λ g products. AreListedVoids g voids) listed of_voids in
+        lists_none s listing e voids listed (sym of_set.extent_is) voids_are law said none_stood
 
     -- and notes of the grid that is given are of the set's grid
-    pub notes_hold : {K : Type 0} (are_of : Rules → Grid → grid.Products → ℕ → K → Type 0) (rules : Rules) (notes : K) (sinks : List SinkLine) → rules.nodata ≡ nodata_in hs → sinks ≡ set_listed s.texts →
-        OfGrid (AreGiven after bl start) e sinks (λ g products. are_of rules g products g.extent.rows notes) → AreNotesIn are_of rules.judged s notes
-    notes_hold are_of rules notes sinks nodata_is sinks_are of_grid =
+    pub notes_hold : {K : Type 0} (are_of : Rules → Grid → grid.Products → ℕ → K → Type 0) (rules : Rules) (notes : K) (listing : Listing) → rules.nodata ≡ nodata_in hs → IsListingOf listing s.texts.given →
+        OfGrid (AreGiven after bl start) e listing.sinks.sinks (spacing_of listing.spacing.spacings) (λ g products. are_of rules g products g.extent.rows notes) → AreNotesIn are_of rules.judged s notes
+    notes_hold are_of rules notes listing nodata_is listed of_grid =
         let numbers = nodata_is ∙ nodata_are s hs of_set.texts.fields in
         let same : rules ≡ rules_in rules.judged s = ap (λ (n : NoDataNumbers). rules_with_nodata rules n) numbers in
         subst (λ (r : Rules). are_of r (set_grid s) (set_products s) (set_grid s).extent.rows notes) same
-        (given_holds sinks (λ g products. are_of rules g products g.extent.rows notes) sinks_are of_grid)
+        (given_holds listing (λ g products. are_of rules g products g.extent.rows notes) listed of_grid)
       where
         rules_with_nodata : Rules → NoDataNumbers → Rules
         rules_with_nodata rules n = record { nodata = n; judged = rules.judged }

@@ -5,7 +5,7 @@ use Rattle.drain_answer.specs.declared.outcome.AuditVerdict.TheVariants as audit
 use Rattle.drain_answer.specs.declared.outcome.Outcome.{Outcome}
 use Rattle.drain_answer.specs.declared.outcome.Outcome.TheVariants as judged_as
 use Rattle.drain_answer.specs.declared.refusal.Refusal.{Refusal}
-use Rattle.drain_answer.specs.declared.refusal.Refusal.TheVariants.{BadHeader, WrongShape, Misplaced, RasterShort, BadSinkLine, SinkNotData, OutOfMemory, ReadFailed}
+use Rattle.drain_answer.specs.declared.refusal.Refusal.TheVariants.{BadHeader, WrongShape, Misplaced, RasterShort, BadSinkLine, SinkNotData, BadSpacingLine, SpacingRows, OutOfMemory, ReadFailed}
 use Rattle.drain_grid.specs.declared.cell.Cell.{Cell}
 use Rattle.drain_grid.specs.declared.judged.Judged.{Judged}
 use Rattle.drain_grid.specs.declared.judged.Judged.TheVariants.{Con, ConDir, ConDirAcc, ConDirBas, All, AllWithRanks}
@@ -20,6 +20,7 @@ use Rattle.drain_grid.specs.PatchRules.{check_rules}
 use Rattle.drain_grid.specs.Rule.{IsAnyRule}
 use Rattle.drain_grid.specs.RulesAbout.{IsPartRule, IsTried, part_rules, tried}
 use Rattle.drain_grid.specs.SetProduct.{OfSetProduct}
+use Rattle.drain_grid.specs.Spacing.{Distances}
 use Rattle.drain_grid.specs.SinkTexts.{is_listed}
 use Rattle.drain_grid.specs.Unranked.{run_steps}
 use Rattle.drain_grid.specs.Values.{NoDataNumbers, Values}
@@ -31,6 +32,7 @@ use Rattle.drain_text.specs.First.{IsBefore, IsFirst}
 use Rattle.drain_verdict.proofs.OneAnswer.{audit_is_one, audit_once, check_is_one, outcome_is_one, outcome_once, verdict_once}
 use Rattle.drain_verdict.proofs.SameGrids as grids
 use Rattle.drain_verdict.specs.Answers.{IsAnswerIn, IsAuditIn, IsAuditVerdict, certified, certified_nodata, certified_ranks}
+use Rattle.drain_verdict.specs.Given.{row_spacing}
 use Rattle.drain_verdict.specs.Ground.{Ground}
 use Rattle.drain_verdict.specs.GroundSets.{GroundSet, IsReadable, IsRefusalIn, StandsIn, order_in, set_grid, set_numbers, set_products}
 use Rattle.drain_verdict.specs.Outcomes.{IsConOutcome, IsOutcome, IsOutcomeIn, IsRankOutcome, IsWayOutcome, rules_of, without_outlets}
@@ -67,6 +69,9 @@ module _ (runs_kept : PaddingKeepsRuns) (endless_kept : PaddingKeepsFirstEndless
   abbrev sink : Cell → Bool
   sink = is_listed (set_listed t)
 
+  abbrev spacing : ℕ → Distances
+  spacing = row_spacing t.given.spacing
+
   abbrev here : GroundSet
   here = set_at e a t
 
@@ -80,17 +85,17 @@ module _ (runs_kept : PaddingKeepsRuns) (endless_kept : PaddingKeepsFirstEndless
   nodata = set_numbers here
 
   -- each cell shows the same, whatever the products
-  shown : grids.ShowAlike e a.elevation b.elevation sink ps ps
+  shown : grids.ShowAlike e a.elevation b.elevation sink spacing ps ps
   shown c inside = ap (λ (z : Option ℤ). record { z = z; sink = sink c; con = ps.con c; dir = ps.dir c; acc = ps.acc c; bas = ps.bas c; spl = ps.spl c; rnk = ps.rnk c }) (same c inside)
 
   -- with ranks that are steps of paths too, where all end
   ranks : AllRunsEnd (set_grid here) ps → (c : Cell) → IsCellOf e c → certified_ranks (set_grid here) ps c ≡ certified_ranks (set_grid there) ps c
   ranks ends c inside =
       by_data (a.elevation c) (b.elevation c) (run_steps (set_grid here) ps c) (run_steps (set_grid there) ps c) (pos UNKNOWN) (same c inside)
-      (λ is_data. grids.steps e a.elevation b.elevation sink ps ps shown runs_kept nodata ends c (record { inside = inside; is_data = is_data }))
+      (λ is_data. grids.steps e a.elevation b.elevation sink spacing ps ps shown runs_kept nodata ends c (record { inside = inside; is_data = is_data }))
 
   shown_with_ranks : AllRunsEnd (set_grid here) ps →
-      grids.ShowAlike e a.elevation b.elevation sink (certified (set_grid here) ps) (certified (set_grid there) ps)
+      grids.ShowAlike e a.elevation b.elevation sink spacing (certified (set_grid here) ps) (certified (set_grid there) ps)
   shown_with_ranks ends c inside = λ i. record {
     z = same c inside i;
     sink = sink c;
@@ -103,37 +108,37 @@ module _ (runs_kept : PaddingKeepsRuns) (endless_kept : PaddingKeepsFirstEndless
   }
 
   ends_there : AllRunsEnd (set_grid here) ps → AllRunsEnd (set_grid there) ps
-  ends_there ends = grids.runs_end e a.elevation b.elevation sink ps ps shown runs_kept nodata ends
+  ends_there ends = grids.runs_end e a.elevation b.elevation sink spacing ps ps shown runs_kept nodata ends
 
   checked_there : (verdict : Verdict) → AllRunsEnd (set_grid here) ps →
       IsVerdict (set_grid here) (certified (set_grid here) ps) (certified_nodata nodata) verdict →
       IsVerdict (set_grid there) (certified (set_grid there) ps) (certified_nodata nodata) verdict
   checked_there verdict ends is =
-      grids.verdict e a.elevation b.elevation sink (certified (set_grid here) ps) (certified (set_grid there) ps) (shown_with_ranks ends)
+      grids.verdict e a.elevation b.elevation sink spacing (certified (set_grid here) ps) (certified (set_grid there) ps) (shown_with_ranks ends)
       (check_rules (certified_nodata nodata)) IsAnyRule verdict is
 
   audit_there : (verdict : AuditVerdict) → IsAuditVerdict (set_grid here) ps nodata verdict → IsAuditVerdict (set_grid there) ps nodata verdict
   audit_there (audited.NoEnd row col) is =
-      grids.first_endless e a.elevation b.elevation sink ps ps shown endless_kept nodata (record { row = row; col = col }) is
+      grids.first_endless e a.elevation b.elevation sink spacing ps ps shown endless_kept nodata (record { row = row; col = col }) is
   audit_there (audited.Accepted counts) is = (ends_there is.0, checked_there (checked.Accepted counts) is.0 is.1)
   audit_there (audited.Rejected rule row col) is = (ends_there is.0, checked_there (checked.Rejected rule row col) is.0 is.1)
 
   tried_there : (judged : Judged) (verdict : Verdict) → IsVerdictBy (rules_of judged nodata) (set_grid here) ps verdict →
       IsVerdictBy (rules_of judged nodata) (set_grid there) ps verdict
-  tried_there judged = grids.verdict e a.elevation b.elevation sink ps ps shown (tried (rules_of judged nodata)) (IsTried judged)
+  tried_there judged = grids.verdict e a.elevation b.elevation sink spacing ps ps shown (tried (rules_of judged nodata)) (IsTried judged)
 
   con_there : (outcome : Outcome) → IsConOutcome (set_grid here) ps nodata outcome → IsConOutcome (set_grid there) ps nodata outcome
   con_there (judged_as.AcceptedSurface counts) is = (
-    grids.rules e a.elevation b.elevation sink ps ps shown (part_rules Con nodata) (IsPartRule Con) is.0,
-    grids.least_there e a.elevation b.elevation sink ps ps shown ps.con is.1,
-    is.2 ∙ ap without_outlets (grids.counts e a.elevation b.elevation sink ps ps shown),
+    grids.rules e a.elevation b.elevation sink spacing ps ps shown (part_rules Con nodata) (IsPartRule Con) is.0,
+    grids.least_there e a.elevation b.elevation sink spacing ps ps shown ps.con is.1,
+    is.2 ∙ ap without_outlets (grids.counts e a.elevation b.elevation sink spacing ps ps shown),
   )
   con_there (judged_as.NotFilled row col) is = (
-    grids.rules e a.elevation b.elevation sink ps ps shown (part_rules Con nodata) (IsPartRule Con) is.0,
-    grids.first_unfilled e a.elevation b.elevation sink ps ps shown (record { row = row; col = col }) ps.con is.1,
+    grids.rules e a.elevation b.elevation sink spacing ps ps shown (part_rules Con nodata) (IsPartRule Con) is.0,
+    grids.first_unfilled e a.elevation b.elevation sink spacing ps ps shown (record { row = row; col = col }) ps.con is.1,
   )
   con_there (judged_as.Rejected rule row col) is =
-      grids.first_fault e a.elevation b.elevation sink ps ps shown (part_rules Con nodata) (IsPartRule Con) (record { row = row; col = col }) rule is
+      grids.first_fault e a.elevation b.elevation sink spacing ps ps shown (part_rules Con nodata) (IsPartRule Con) (record { row = row; col = col }) rule is
   con_there (judged_as.Accepted counts) is = is
   con_there (judged_as.NoEnd row col) is = is
 
@@ -141,7 +146,7 @@ module _ (runs_kept : PaddingKeepsRuns) (endless_kept : PaddingKeepsFirstEndless
   way_there judged (judged_as.Accepted counts) is = (ends_there is.0, tried_there judged (checked.Accepted counts) is.1)
   way_there judged (judged_as.Rejected rule row col) is = (ends_there is.0, tried_there judged (checked.Rejected rule row col) is.1)
   way_there judged (judged_as.NoEnd row col) is =
-      grids.first_endless e a.elevation b.elevation sink ps ps shown endless_kept nodata (record { row = row; col = col }) is
+      grids.first_endless e a.elevation b.elevation sink spacing ps ps shown endless_kept nodata (record { row = row; col = col }) is
   way_there judged (judged_as.AcceptedSurface counts) is = is
   way_there judged (judged_as.NotFilled row col) is = is
 
@@ -166,8 +171,10 @@ module _ (runs_kept : PaddingKeepsRuns) (endless_kept : PaddingKeepsFirstEndless
       listed = is.listed;
       is_there = is.is_there;
       line_is = is.line_is;
-      no_data = λ has. is.no_data (grids.data_back e a.elevation b.elevation sink ps ps shown is.listed.cell has);
+      no_data = λ has. is.no_data (grids.data_back e a.elevation b.elevation sink spacing ps ps shown is.listed.cell has);
     }
+    stands_there (BadSpacingLine n) is = is
+    stands_there (SpacingRows n) is = is
     stands_there OutOfMemory is = is
     stands_there ReadFailed is = is
     stands_there refusal is = absurd (one_sound refusal is)
@@ -180,6 +187,8 @@ module _ (runs_kept : PaddingKeepsRuns) (endless_kept : PaddingKeepsFirstEndless
     order_there (RasterShort p) is = refl
     order_there (BadSinkLine n) is = refl
     order_there (SinkNotData n) is = refl
+    order_there (BadSpacingLine n) is = refl
+    order_there (SpacingRows n) is = refl
     order_there OutOfMemory is = refl
     order_there ReadFailed is = refl
     order_there refusal is = absurd (one_sound refusal is)

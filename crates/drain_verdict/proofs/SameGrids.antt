@@ -20,6 +20,7 @@ use Rattle.drain_grid.specs.GridRules.{HoldsAt, IsFirstFault, RulesHold}
 use Rattle.drain_grid.specs.Path.{IsLeastSurface, Surface}
 use Rattle.drain_grid.specs.PatchRules.{Profile}
 use Rattle.drain_grid.specs.Run.{RunEnds}
+use Rattle.drain_grid.specs.Spacing.{Distances}
 use Rattle.drain_grid.specs.Unranked.{IsFirstEndless, run_steps}
 use Rattle.drain_grid.specs.Values.{NoDataNumbers, Values}
 use Rattle.drain_laws.specs.Laws.{PaddingKeepsFirstEndless, PaddingKeepsRuns}
@@ -28,15 +29,15 @@ use Rattle.drain_rows.specs.GridRows.{AllRunsEnd}
 use Rattle.drain_rules.specs.Verdicts.{IsVerdictAmong, counts_of}
 
 -- the grid of these
-abbrev pub on : Extent → (Cell → Option ℤ) → (Cell → Bool) → Grid
-on e z sink = record { extent = e; elevation = z; sink = sink }
+abbrev pub on : Extent → (Cell → Option ℤ) → (Cell → Bool) → (ℕ → Distances) → Grid
+on e z sink spacing = record { extent = e; elevation = z; sink = sink; spacing = spacing }
 
 -- each cell shows the same in both
-abbrev pub ShowAlike : Extent → (Cell → Option ℤ) → (Cell → Option ℤ) → (Cell → Bool) → Products → Products → Type 0
-ShowAlike e z w sink ps qs = (c : Cell) → IsCellOf e c → values_at (on e z sink) ps c ≡ values_at (on e w sink) qs c
+abbrev pub ShowAlike : Extent → (Cell → Option ℤ) → (Cell → Option ℤ) → (Cell → Bool) → (ℕ → Distances) → Products → Products → Type 0
+ShowAlike e z w sink spacing ps qs = (c : Cell) → IsCellOf e c → values_at (on e z sink spacing) ps c ≡ values_at (on e w sink spacing) qs c
 
-pub turned : (e : Extent) (z w : Cell → Option ℤ) (sink : Cell → Bool) (ps qs : Products) → ShowAlike e z w sink ps qs → ShowAlike e w z sink qs ps
-turned e z w sink ps qs same c inside = sym (same c inside)
+pub turned : (e : Extent) (z w : Cell → Option ℤ) (sink : Cell → Bool) (spacing : ℕ → Distances) (ps qs : Products) → ShowAlike e z w sink spacing ps qs → ShowAlike e w z sink spacing qs ps
+turned e z w sink spacing ps qs same c inside = sym (same c inside)
 
 -- 1 where the test passes
 abbrev one_if : Bool → ℕ
@@ -47,12 +48,12 @@ abbrev rest_of : List Cell → List Cell
 rest_of [] = []
 rest_of (c ∷ cs) = cs
 
-module _ (e : Extent) (z w : Cell → Option ℤ) (sink : Cell → Bool) (ps qs : Products) (same : ShowAlike e z w sink ps qs) where
+module _ (e : Extent) (z w : Cell → Option ℤ) (sink : Cell → Bool) (spacing : ℕ → Distances) (ps qs : Products) (same : ShowAlike e z w sink spacing ps qs) where
   abbrev g : Grid
-  g = on e z sink
+  g = on e z sink spacing
 
   abbrev h : Grid
-  h = on e w sink
+  h = on e w sink spacing
 
   values : (o : Option Cell) → ((n : Cell) → o ≡ Some n → IsCellOf e n) → option_map (values_at g ps) o ≡ option_map (values_at h qs) o
   values None inside = refl
@@ -62,6 +63,7 @@ module _ (e : Extent) (z w : Cell → Option ℤ) (sink : Cell → Bool) (ps qs 
   patch c inside = λ i. record {
     here = same c inside i;
     around = map (λ d. values (step e c d) (λ n is. (step_lies e c n d is).0) i) directions;
+    spacing = spacing c.row;
   }
 
   pub data_there : (c : Cell) → HasData g c → HasData h c
@@ -107,6 +109,7 @@ module _ (e : Extent) (z w : Cell → Option ℤ) (sink : Cell → Bool) (ps qs 
       cols = omega arith;
       elevations = λ c inside. sym (ap (λ (v : Values). v.z) (same c inside));
       sinks = λ c inside. refl;
+      spacings = λ row below. refl;
       voids = λ c inside beyond. absurd (beyond inside);
     };
     set = record {
@@ -139,26 +142,26 @@ module _ (e : Extent) (z w : Cell → Option ℤ) (sink : Cell → Bool) (ps qs 
       (λ c here. refl) least
 
 -- both ways
-module _ (e : Extent) (z w : Cell → Option ℤ) (sink : Cell → Bool) (ps qs : Products) (same : ShowAlike e z w sink ps qs) where
-  pub first_fault : (profile : Profile) (IsOwn : Rule → Type 0) (c : Cell) (r : Rule) → IsFirstFault profile IsOwn (on e z sink) ps c r →
-      IsFirstFault profile IsOwn (on e w sink) qs c r
+module _ (e : Extent) (z w : Cell → Option ℤ) (sink : Cell → Bool) (spacing : ℕ → Distances) (ps qs : Products) (same : ShowAlike e z w sink spacing ps qs) where
+  pub first_fault : (profile : Profile) (IsOwn : Rule → Type 0) (c : Cell) (r : Rule) → IsFirstFault profile IsOwn (on e z sink spacing) ps c r →
+      IsFirstFault profile IsOwn (on e w sink spacing) qs c r
   first_fault profile IsOwn c r fault = record {
     inside = fault.inside;
     is_own = fault.is_own;
-    fails = λ own. fault.fails (holds e w z sink qs ps (turned e z w sink ps qs same) profile c r fault.inside own);
-    first = λ b q at_b own earlier. holds e z w sink ps qs same profile b q at_b (fault.first b q at_b own earlier);
+    fails = λ own. fault.fails (holds e w z sink spacing qs ps (turned e z w sink spacing ps qs same) profile c r fault.inside own);
+    first = λ b q at_b own earlier. holds e z w sink spacing ps qs same profile b q at_b (fault.first b q at_b own earlier);
   }
 
-  pub verdict : (profile : Profile) (IsOwn : Rule → Type 0) (verdict : Verdict) → IsVerdictAmong profile IsOwn (on e z sink) ps verdict →
-      IsVerdictAmong profile IsOwn (on e w sink) qs verdict
-  verdict profile IsOwn (Accepted found) is = (rules e z w sink ps qs same profile IsOwn is.0, is.1 ∙ counts e z w sink ps qs same)
+  pub verdict : (profile : Profile) (IsOwn : Rule → Type 0) (verdict : Verdict) → IsVerdictAmong profile IsOwn (on e z sink spacing) ps verdict →
+      IsVerdictAmong profile IsOwn (on e w sink spacing) qs verdict
+  verdict profile IsOwn (Accepted found) is = (rules e z w sink spacing ps qs same profile IsOwn is.0, is.1 ∙ counts e z w sink spacing ps qs same)
   verdict profile IsOwn (Rejected rule row col) is = first_fault profile IsOwn (record { row = row; col = col }) rule is
 
-  pub first_unfilled : (c : Cell) (s : Surface) → IsFirstUnfilled (on e z sink) s c → IsFirstUnfilled (on e w sink) s c
+  pub first_unfilled : (c : Cell) (s : Surface) → IsFirstUnfilled (on e z sink spacing) s c → IsFirstUnfilled (on e w sink spacing) s c
   first_unfilled c s is = record {
-    here = data_there e z w sink ps qs same c is.here;
-    filled = (is.filled.0, least_there e z w sink ps qs same is.filled.0 is.filled.1);
-    differs = λ t least. is.differs t (least_there e w z sink qs ps (turned e z w sink ps qs same) t least);
+    here = data_there e z w sink spacing ps qs same c is.here;
+    filled = (is.filled.0, least_there e z w sink spacing ps qs same is.filled.0 is.filled.1);
+    differs = λ t least. is.differs t (least_there e w z sink spacing qs ps (turned e z w sink spacing ps qs same) t least);
     before = λ t least b at_b earlier.
-        is.before t (least_there e w z sink qs ps (turned e z w sink ps qs same) t least) b (data_back e z w sink ps qs same b at_b) earlier;
+        is.before t (least_there e w z sink spacing qs ps (turned e z w sink spacing ps qs same) t least) b (data_back e z w sink spacing ps qs same b at_b) earlier;
   }

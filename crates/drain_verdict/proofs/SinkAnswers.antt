@@ -17,7 +17,7 @@ use Rattle.drain_verdict.specs.Stages.{IsBadLine, IsToldOfSinks}
 use Rattle.drain_verdict.specs.declared.stages.SinkListing.{SinkListing}
 use Rattle.drain_answer.specs.declared.refusal.Refusal.{Refusal}
 use Rattle.drain_answer.specs.declared.refusal.Refusal.TheVariants.{BadSinkLine, SinkNotData}
-use Rattle.drain_verdict.proofs.Order.{at_bad_line, at_off_data, first_of, none_more, readable}
+use Rattle.drain_verdict.proofs.Order.{at_bad_line, at_off_data, first_of, none_more}
 
 -- a cell that a line lists is listed
 listed_there : (sinks : List SinkLine) (k : ℕ) (s : SinkLine) → slice_get sinks k ≡ Some s → is_listed sinks s.cell ≡ true
@@ -37,19 +37,19 @@ one_bad lines n m a b = let same : Err n ≡ Err m = sym a ∙ b in cc
 no_bad : (lines : Result (List SinkLine) ℕ) (n : ℕ) → IsBadLine lines None → lines ≡ Err n → ⊥
 no_bad lines n fine bad = let no : Ok fine.0 ≡ Err n = sym fine.1 ∙ bad in cc
 
-module _ (set : GroundSet) (listing : SinkListing) (e : Extent) (voids : List Cell) (sinks_are : listing.sinks ≡ set_listed set.texts) (bad_is : IsBadLine (sinks_of set.texts.sinks) listing.bad)
+module _ (set : GroundSet) (listing : SinkListing) (e : Extent) (voids : List Cell) (sinks_are : listing.sinks ≡ set_listed set.texts) (bad_is : IsBadLine (sinks_of set.texts.given.sinks) listing.bad)
     (extent_is : e ≡ (set_grid set).extent) (voids_are : AreListedVoids (set_grid set) voids) where
   -- the first bad line is reported first
   bad_refused : (n : ℕ) → listing.bad ≡ Some n → NoneStandsIn set 8 → IsRefusalIn set (BadSinkLine n)
   bad_refused n is none =
-      let bad = subst (IsBadLine (sinks_of set.texts.sinks)) is bad_is in
+      let bad = subst (IsBadLine (sinks_of set.texts.given.sinks)) is bad_is in
       first_of set (StandsIn set) 8 n (BadSinkLine n) refl bad none
-      (at_bad_line (λ b. place_in set b < n → ¬ StandsIn set b) (λ m less stands. let same = one_bad (sinks_of set.texts.sinks) n m bad stands in omega (arith, less, same)))
+      (at_bad_line (λ b. place_in set b < n → ¬ StandsIn set b) (λ m less stands. let same = one_bad (sinks_of set.texts.given.sinks) n m bad stands in omega (arith, less, same)))
 
   lines_none : listing.bad ≡ None → NoneStandsIn set 8 → NoneStandsIn set 9
   lines_none is none =
       none_more (StandsIn set) 8 none
-      (at_bad_line (λ b. ¬ StandsIn set b) (λ n stands. no_bad (sinks_of set.texts.sinks) n (subst (IsBadLine (sinks_of set.texts.sinks)) is bad_is) stands))
+      (at_bad_line (λ b. ¬ StandsIn set b) (λ n stands. no_bad (sinks_of set.texts.given.sinks) n (subst (IsBadLine (sinks_of set.texts.given.sinks)) is bad_is) stands))
 
   -- a listed cell has data exactly where it is said so
   told_there : (k : ℕ) (s : SinkLine) → slice_get listing.sinks k ≡ Some s →
@@ -91,15 +91,15 @@ module _ (set : GroundSet) (listing : SinkListing) (e : Extent) (voids : List Ce
   sinks_refused law (SinkNotData n) told none = off_refused law n told.1 (lines_none told.0 none)
   sinks_refused law refusal told none = absurd told
 
-  -- if none is reported, none applies
-  pub sinks_none : FoundOffDataIsRight → IsToldOfSinks listing e voids None → NoneStandsIn set 8 → IsReadable set
+  -- if none is reported, none of its kinds applies
+  pub sinks_none : FoundOffDataIsRight → IsToldOfSinks listing e voids None → NoneStandsIn set 8 → NoneStandsIn set 10
   sinks_none law told none =
       let never : IsOffAnswer (set_grid set) (set_listed set.texts) None = off_is law None told.1 in
-      readable set (none_more (StandsIn set) 9 (lines_none told.0 none) (at_off_data (λ b. ¬ StandsIn set b) (λ n stands. never n stands)))
+      none_more (StandsIn set) 9 (lines_none told.0 none) (at_off_data (λ b. ¬ StandsIn set b) (λ n stands. never n stands))
 
 -- a list that isn't refused is one of sinks
-pub listed_ok : (set : GroundSet) → IsReadable set → sinks_of set.texts.sinks ≡ Ok (set_listed set.texts)
-listed_ok set readable = by_lines (sinks_of set.texts.sinks) (λ n is. readable (BadSinkLine n) is)
+pub listed_ok : (set : GroundSet) → IsReadable set → sinks_of set.texts.given.sinks ≡ Ok (set_listed set.texts)
+listed_ok set readable = by_lines (sinks_of set.texts.given.sinks) (λ n is. readable (BadSinkLine n) is)
   where
     by_lines : (lines : Result (List SinkLine) ℕ) → ((n : ℕ) → lines ≡ Err n → ⊥) → lines ≡ Ok (lines_in lines)
     by_lines (Ok sinks) good = refl

@@ -19,6 +19,7 @@ use Rattle.drain_header.specs.Header.{Fields}
 use Rattle.drain_mosaic.specs.Tiling.{Tiling, extent_of}
 use Rattle.drain_answer.specs.declared.refusal.Refusal.{Refusal}
 use Rattle.drain_answer.specs.declared.refusal.Refusal.TheVariants.{ReadFailed}
+use Rattle.drain_verdict.specs.Given.{Given}
 use Rattle.drain_verdict.specs.Ground.{IsLaidOn, NoneRefusesBefore}
 use Rattle.drain_verdict.specs.GroundSets.{AreTextsIn, EncodeTexts, ForSet, GroundSet, IsRefusalIn, NoneStandsIn}
 use Rattle.drain_verdict.specs.Inputs.{Inputs, Encode, Products}
@@ -39,33 +40,33 @@ named_each tiles corners named = sym (AllZip-long IsNameOf (names_of tiles) corn
 pub told_of_inputs : (P : ℕ → List (List ℕ) → Type 0) (i : Inputs) (side : ℕ) (names : List (List ℕ)) → i.side ≡ side → i.names ≡ names → P side names → P i.side i.names
 told_of_inputs P i side names side_is names_are holds = subst (λ s. P s i.names) (sym side_is) (subst (P side) (sym names_are) holds)
 
-layout_told : {R : Type 0} (bytes_left : R → Option (List ℕ)) (side : ℕ) (tiles : List (TileInput R)) (sinks : List ℕ) (ps : Products R) (i : Inputs) (t : Tiling) →
-    Encode bytes_left side tiles sinks ps i → IsLayoutOf side (names_of tiles) t → IsLayoutOf i.side i.names t
-layout_told bytes_left side tiles sinks ps i t tell is = told_of_inputs (λ side names. IsLayoutOf side names t) i side (names_of tiles) tell.side_is tell.names_are is
+layout_told : {R : Type 0} (bytes_left : R → Option (List ℕ)) (side : ℕ) (tiles : List (TileInput R)) (given : Given) (ps : Products R) (i : Inputs) (t : Tiling) →
+    Encode bytes_left side tiles given ps i → IsLayoutOf side (names_of tiles) t → IsLayoutOf i.side i.names t
+layout_told bytes_left side tiles given ps i t tell is = told_of_inputs (λ side names. IsLayoutOf side names t) i side (names_of tiles) tell.side_is tell.names_are is
 
 -- the layout of a side and names is one of its own side
 pub laid : (side : ℕ) (names : List (List ℕ)) (t : Tiling) → IsLayoutOf side names t → IsLayoutOf t.side names t
 laid side names t is = subst (λ s. IsLayoutOf s names t) (sym is.side_is) is
 
 -- and what is said of the side is said of that
-pub at_side : {R : Type 0} (bytes_left : R → Option (List ℕ)) (side : ℕ) (tiles : List (TileInput R)) (sinks : List ℕ) (ps : Products R) (i : Inputs) (t : Tiling) →
-    IsLayoutOf side (names_of tiles) t → Encode bytes_left side tiles sinks ps i → Encode bytes_left t.side tiles sinks ps i
-at_side bytes_left side tiles sinks ps i t is tell = subst (λ s. Encode bytes_left s tiles sinks ps i) (sym is.side_is) tell
+pub at_side : {R : Type 0} (bytes_left : R → Option (List ℕ)) (side : ℕ) (tiles : List (TileInput R)) (given : Given) (ps : Products R) (i : Inputs) (t : Tiling) →
+    IsLayoutOf side (names_of tiles) t → Encode bytes_left side tiles given ps i → Encode bytes_left t.side tiles given ps i
+at_side bytes_left side tiles given ps i t is tell = subst (λ s. Encode bytes_left s tiles given ps i) (sym is.side_is) tell
 
 -- it is that of the inputs
-pub layout_of_inputs : OneName → {R : Type 0} (bytes_left : R → Option (List ℕ)) (side : ℕ) (tiles : List (TileInput R)) (sinks : List ℕ) (ps : Products R) (i : Inputs) (t : Tiling) →
-    Encode bytes_left side tiles sinks ps i → IsLayoutOf side (names_of tiles) t → t ≡ tiling_of i
-layout_of_inputs one bytes_left side tiles sinks ps i t tell is = layout_is one i tell.corners_are t (layout_told bytes_left side tiles sinks ps i t tell is)
+pub layout_of_inputs : OneName → {R : Type 0} (bytes_left : R → Option (List ℕ)) (side : ℕ) (tiles : List (TileInput R)) (given : Given) (ps : Products R) (i : Inputs) (t : Tiling) →
+    Encode bytes_left side tiles given ps i → IsLayoutOf side (names_of tiles) t → t ≡ tiling_of i
+layout_of_inputs one bytes_left side tiles given ps i t tell is = layout_is one i tell.corners_are t (layout_told bytes_left side tiles given ps i t tell is)
 
 -- and a shape of its size is that of the grid
-pub shape_of_inputs : OneName → {R : Type 0} (bytes_left : R → Option (List ℕ)) (t : Tiling) (tiles : List (TileInput R)) (sinks : List ℕ) (ps : Products R) (i : Inputs) (shape : Extent) →
-    Encode bytes_left t.side tiles sinks ps i → IsLayoutOf t.side (names_of tiles) t → shape ≡ extent_of t → shape ≡ (input_grid i).extent
-shape_of_inputs one bytes_left t tiles sinks ps i shape tell is shape_is = shape_is ∙ ap extent_of (layout_of_inputs one bytes_left t.side tiles sinks ps i t tell is)
+pub shape_of_inputs : OneName → {R : Type 0} (bytes_left : R → Option (List ℕ)) (t : Tiling) (tiles : List (TileInput R)) (given : Given) (ps : Products R) (i : Inputs) (shape : Extent) →
+    Encode bytes_left t.side tiles given ps i → IsLayoutOf t.side (names_of tiles) t → shape ≡ extent_of t → shape ≡ (input_grid i).extent
+shape_of_inputs one bytes_left t tiles given ps i shape tell is shape_is = shape_is ∙ ap extent_of (layout_of_inputs one bytes_left t.side tiles given ps i t tell is)
 
 -- the refusal of the layout is the answer
-pub layout_answer : OneName → {R : Type 0} (bytes_left : R → Option (List ℕ)) (side : ℕ) (tiles : List (TileInput R)) (sinks : List ℕ) (ps : Products R) (i : Inputs) (refusal : Refusal) →
-    Encode bytes_left side tiles sinks ps i → IsLayoutRefusal side (names_of tiles) refusal → IsAnswer i (Err refusal)
-layout_answer one bytes_left side tiles sinks ps i refusal tell bad =
+pub layout_answer : OneName → {R : Type 0} (bytes_left : R → Option (List ℕ)) (side : ℕ) (tiles : List (TileInput R)) (given : Given) (ps : Products R) (i : Inputs) (refusal : Refusal) →
+    Encode bytes_left side tiles given ps i → IsLayoutRefusal side (names_of tiles) refusal → IsAnswer i (Err refusal)
+layout_answer one bytes_left side tiles given ps i refusal tell bad =
     layout_refused one i tell.corners_are refusal
     (told_of_inputs (λ side names. IsLayoutRefusal side names refusal) i side (names_of tiles) tell.side_is tell.names_are bad)
 
@@ -76,17 +77,17 @@ layout_reads_none side names refusal bad is =
     subst (IsLayoutRefusal side names) same bad
 
 -- what is encoded of the tiles
-pub encode_tiles : {R : Type 0} (bytes_left : R → Option (List ℕ)) (side : ℕ) (tiles : List (TileInput R)) (sinks : List ℕ) (ps : Products R) (i : Inputs) → Encode bytes_left side tiles sinks ps i → TellTiles bytes_left side tiles i
-encode_tiles bytes_left side tiles sinks ps i tell = record { side_is = tell.side_is; names_are = tell.names_are; corners_are = tell.corners_are; tiles_are = tell.tiles_are }
+pub encode_tiles : {R : Type 0} (bytes_left : R → Option (List ℕ)) (side : ℕ) (tiles : List (TileInput R)) (given : Given) (ps : Products R) (i : Inputs) → Encode bytes_left side tiles given ps i → TellTiles bytes_left side tiles i
+encode_tiles bytes_left side tiles given ps i tell = record { side_is = tell.side_is; names_are = tell.names_are; corners_are = tell.corners_are; tiles_are = tell.tiles_are }
 
 -- and of the texts
-pub encode_texts : {R : Type 0} (bytes_left : R → Option (List ℕ)) (side : ℕ) (tiles : List (TileInput R)) (sinks : List ℕ) (ps : Products R) (i : Inputs) → Encode bytes_left side tiles sinks ps i → EncodeTexts bytes_left sinks ps (texts_of i)
-encode_texts bytes_left side tiles sinks ps i tell = record { sinks_are = tell.sinks_are; headers_are = tell.headers_are; rasters_are = tell.rasters_are }
+pub encode_texts : {R : Type 0} (bytes_left : R → Option (List ℕ)) (side : ℕ) (tiles : List (TileInput R)) (given : Given) (ps : Products R) (i : Inputs) → Encode bytes_left side tiles given ps i → EncodeTexts bytes_left given ps (texts_of i)
+encode_texts bytes_left side tiles given ps i tell = record { given_is = tell.given_is; headers_are = tell.headers_are; rasters_are = tell.rasters_are }
 
 -- what holds of the set of the call holds of the inputs that it encodes
-pub of_tiles : {R : Type 0} (bytes_left : R → Option (List ℕ)) (side : ℕ) (tiles : List (TileInput R)) (sinks : List ℕ) (ps : Products R) (Fact : GroundSet → Type 0) →
-    ForSet tile_ground (λ i. TellTiles bytes_left side tiles i) bytes_left sinks ps Fact → (i : Inputs) → Encode bytes_left side tiles sinks ps i → Fact (set_of i)
-of_tiles bytes_left side tiles sinks ps Fact holds i tell = holds i (texts_of i) (encode_tiles bytes_left side tiles sinks ps i tell) (encode_texts bytes_left side tiles sinks ps i tell)
+pub of_tiles : {R : Type 0} (bytes_left : R → Option (List ℕ)) (side : ℕ) (tiles : List (TileInput R)) (given : Given) (ps : Products R) (Fact : GroundSet → Type 0) →
+    ForSet tile_ground (λ i. TellTiles bytes_left side tiles i) bytes_left given ps Fact → (i : Inputs) → Encode bytes_left side tiles given ps i → Fact (set_of i)
+of_tiles bytes_left side tiles given ps Fact holds i tell = holds i (texts_of i) (encode_tiles bytes_left side tiles given ps i tell) (encode_texts bytes_left side tiles given ps i tell)
 
 -- Headers of a set.
 
@@ -101,7 +102,7 @@ pub takes_as_told : {R : Type 0} (bytes_left : R → Option (List ℕ)) (e : Ext
     BodyTakesAtMost bytes_left (of_product hs p) old new p → RasterTakesAtMost bytes_left old new p
 takes_as_told bytes_left e Holds old new hs headers p taken = subst (λ (h : Fields). BodyTakesAtMost bytes_left h old new p) (headers p).described.fields taken
 
-module _ {R : Type 0} (bytes_left : R → Option (List ℕ)) (s : GroundSet) (sinks : List ℕ) (ps : Products R) (tell : EncodeTexts bytes_left sinks ps s.texts)
+module _ {R : Type 0} (bytes_left : R → Option (List ℕ)) (s : GroundSet) (given : Given) (ps : Products R) (tell : EncodeTexts bytes_left given ps s.texts)
     (e : Extent) (Holds : Place → Type 0) (laid : IsLaidOn e Holds s.terrain) (early : NoneRefusesBefore s.terrain 4) where
   -- the refusal of a header is the answer
   pub header_answer : (refusal : Refusal) → IsFirstRefusalOf e Holds (λ p. (of_product ps p).header) refusal → IsRefusalIn s refusal

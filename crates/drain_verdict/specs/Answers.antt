@@ -7,6 +7,7 @@ use Rattle.drain_rules.specs.Verdicts.{IsVerdictOf, IsVerdict}
 use Rattle.drain_grid.specs.declared.judged.Judged.{Judged}
 use Rattle.drain_grid.specs.declared.judged.Rules.{Rules}
 use Rattle.drain_answer.specs.declared.refusal.Refusal.{Refusal}
+use Rattle.drain_verdict.specs.Given.{Given}
 use Rattle.drain_verdict.specs.Inputs.{Inputs, as_five, Encode}
 use Rattle.drain_verdict.specs.GroundSets.{AreNotesIn, GroundSet, IsReadable, IsRefusalIn, rules_in, set_grid, set_numbers, set_products}
 use Rattle.drain_verdict.specs.Meaning.{input_grid, input_products, nodata_numbers}
@@ -103,8 +104,8 @@ IsAcceptance (Rejected rule row col) = ⊥
 IsAcceptance (NoEnd row col) = ⊥
 
 -- the fact holds of the inputs of the call, with con's bytes in place of ranks, of which no fact says anything
-abbrev pub ForAudit : {R : Type 0} → (R → Option (List ℕ)) → ℕ → List (TileInput R) → List ℕ → AuditProducts R → (Inputs → Type 0) → Type 0
-ForAudit bytes_left side tiles sinks ps Fact = (i : Inputs) → Encode bytes_left side tiles sinks (as_five ps) i → Fact i
+abbrev pub ForAudit : {R : Type 0} → (R → Option (List ℕ)) → ℕ → List (TileInput R) → Given → AuditProducts R → (Inputs → Type 0) → Type 0
+ForAudit bytes_left side tiles given ps Fact = (i : Inputs) → Encode bytes_left side tiles given (as_five ps) i → Fact i
 
 -- the fact holds where the answer is an acceptance
 abbrev pub IfAccepts : Result AuditVerdict Refusal → Type 0 → Type 0
@@ -114,8 +115,8 @@ IfAccepts (Ok (NoEnd row col)) P = Unit {0}
 IfAccepts (Err refusal) P = Unit {0}
 
 -- where the answer is an acceptance, the fact holds of the inputs of the call
-abbrev pub AuditMeans : {R : Type 0} → (Inputs → Type 0) → (R → Option (List ℕ)) → ℕ → List (TileInput R) → List ℕ → AuditProducts R → Result AuditVerdict Refusal → Type 0
-AuditMeans Fact bytes_left side tiles sinks ps answer = IfAccepts answer (ForAudit bytes_left side tiles sinks ps Fact)
+abbrev pub AuditMeans : {R : Type 0} → (Inputs → Type 0) → (R → Option (List ℕ)) → ℕ → List (TileInput R) → Given → AuditProducts R → Result AuditVerdict Refusal → Type 0
+AuditMeans Fact bytes_left side tiles given ps answer = IfAccepts answer (ForAudit bytes_left side tiles given ps Fact)
 
 -- the products of the set are correct
 abbrev pub AreCorrectIn : GroundSet → Type 0

@@ -16,6 +16,7 @@ use Rattle.drain_raster.specs.Placing.{HasPixelSize, LiesOn}
 use Rattle.drain_raster.specs.RasterRows.{raster_rows}
 use Rattle.drain_text.specs.Text.{lines_of}
 use Rattle.drain_verdict.specs.declared.next_rows.RasterInput.{RasterInput}
+use Rattle.drain_verdict.specs.Given.{Given}
 use Rattle.drain_verdict.specs.Ground.{Ground, GroundToGive}
 use Rattle.drain_verdict.specs.GroundSets.{EncodeTexts, ForSet, GroundSet}
 use Rattle.drain_verdict.specs.Texts.{SetTexts}
@@ -91,12 +92,12 @@ EncodesDem bytes_left (input ∷ []) d = (d.header ≡ input.header) × (bytes_l
 EncodesDem bytes_left (input ∷ other ∷ more) d = ⊥
 
 -- the fact holds of the set of the call: of the raster and the texts that the arguments encode
-abbrev pub ForDem : {R : Type 0} → (R → Option (List ℕ)) → List (RasterInput R) → List ℕ → Products R → (GroundSet → Type 0) → Type 0
-ForDem bytes_left dem sinks ps Fact = ForSet dem_ground (EncodesDem bytes_left dem) bytes_left sinks ps Fact
+abbrev pub ForDem : {R : Type 0} → (R → Option (List ℕ)) → List (RasterInput R) → Given → Products R → (GroundSet → Type 0) → Type 0
+ForDem bytes_left dem given ps Fact = ForSet dem_ground (EncodesDem bytes_left dem) bytes_left given ps Fact
 
 -- the fact holds of the raster of the call
-abbrev pub ForDemTexts : {R : Type 0} → (R → Option (List ℕ)) → List (RasterInput R) → List ℕ → Products R → (DemTexts → Type 0) → Type 0
-ForDemTexts bytes_left dem sinks ps Fact = (d : DemTexts) (t : SetTexts) → EncodesDem bytes_left dem d → EncodeTexts bytes_left sinks ps t → Fact d
+abbrev pub ForDemTexts : {R : Type 0} → (R → Option (List ℕ)) → List (RasterInput R) → Given → Products R → (DemTexts → Type 0) → Type 0
+ForDemTexts bytes_left dem given ps Fact = (d : DemTexts) (t : SetTexts) → EncodesDem bytes_left dem d → EncodeTexts bytes_left given ps t → Fact d
 
 -- the header is what its text says, and the elevation of each cell is the pixel that the bytes mean, none where that is the
 -- header's no-data number

@@ -2,7 +2,7 @@
 -- elevations: tiles, or a raster of them. Source: this project's own.
 use Rattle.std.specs.Prelude.{◌≡◌, ◌↔◌, ℕ, ◌<◌, ℤ, List, [], length, slice_index_or, Option, Some, None}
 use Rattle.drain_answer.specs.declared.refusal.Refusal.{Refusal}
-use Rattle.drain_answer.specs.declared.refusal.Refusal.TheVariants.{BadSide, BadName, NoTiles, RepeatedTile, BoxTooLarge, BadHeader, WrongShape, Misplaced, BadTileLength, RasterShort, SeamMismatch, BadSinkLine, SinkNotData, BadDemHeader, BadPixelSize, DemShort, OutOfMemory, ReadFailed}
+use Rattle.drain_answer.specs.declared.refusal.Refusal.TheVariants.{BadSide, BadName, NoTiles, RepeatedTile, BoxTooLarge, BadHeader, WrongShape, Misplaced, BadTileLength, RasterShort, SeamMismatch, BadSinkLine, SinkNotData, BadSpacingLine, SpacingRows, BadDemHeader, BadPixelSize, DemShort, OutOfMemory, ReadFailed}
 use Rattle.drain_device.specs.RowSteps.{Coming, nth_row}
 use Rattle.drain_grid.specs.declared.cell.Cell.{Cell}
 use Rattle.drain_grid.specs.Extent.{Extent}
@@ -20,7 +20,7 @@ pub record Ground : Type 1 where
   pub among : Refusal → ℕ
 
 -- the kind of a refusal, by the order of kinds: 1 to 3 come before any header is read, 4 are those of headers, 5 of the
--- lengths of a ground, 6 of rasters, 7 of a ground's values, 8 and 9 of the list of sinks
+-- lengths of a ground, 6 of rasters, 7 of a ground's values, 8 and 9 of the list of sinks, 10 and 11 of a spacing by row
 abbrev pub refusal_kind : Refusal → ℕ
 refusal_kind BadSide = 1
 refusal_kind (BadName k) = 2
@@ -35,11 +35,13 @@ refusal_kind (RasterShort p) = 6
 refusal_kind (SeamMismatch c) = 7
 refusal_kind (BadSinkLine n) = 8
 refusal_kind (SinkNotData n) = 9
+refusal_kind (BadSpacingLine n) = 10
+refusal_kind (SpacingRows n) = 11
 refusal_kind (BadDemHeader fault) = 1
 refusal_kind BadPixelSize = 2
 refusal_kind DemShort = 5
-refusal_kind OutOfMemory = 10
-refusal_kind ReadFailed = 11
+refusal_kind OutOfMemory = 12
+refusal_kind ReadFailed = 13
 
 -- the refusal is the first of this kind that applies to the ground
 pub record IsFirstOwn (g : Ground) (kind : ℕ) (refusal : Refusal) : Type 0 where

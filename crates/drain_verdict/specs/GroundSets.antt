@@ -1,7 +1,7 @@
--- A ground with a list of sinks and its products: what their bytes mean, and why they are refused.
+-- A ground with a list of sinks, its spacing and its products: what their bytes mean, and why they are refused.
 use Rattle.std.specs.Prelude.{◌≡◌, ℕ, ◌+◌, ◌*◌, ◌<◌, List, Option, Some, Result, Ok, Err}
 use Rattle.drain_answer.specs.declared.refusal.Refusal.{Refusal}
-use Rattle.drain_answer.specs.declared.refusal.Refusal.TheVariants.{BadHeader, WrongShape, Misplaced, RasterShort, BadSinkLine, SinkNotData, OutOfMemory, ReadFailed}
+use Rattle.drain_answer.specs.declared.refusal.Refusal.TheVariants.{BadHeader, WrongShape, Misplaced, RasterShort, BadSinkLine, SinkNotData, BadSpacingLine, SpacingRows, OutOfMemory, ReadFailed}
 use Rattle.drain_grid.specs.declared.judged.Judged.{Judged}
 use Rattle.drain_grid.specs.declared.judged.Rules.{Rules}
 use Rattle.drain_grid.specs.declared.per_product.PerProduct.{PerProduct}
@@ -16,6 +16,7 @@ use Rattle.drain_header.specs.Faults.{Answers}
 use Rattle.drain_header.specs.Header.{Fields}
 use Rattle.drain_raster.specs.Pixels.{header_extent, IsShort}
 use Rattle.drain_text.specs.First.{IsFirst}
+use Rattle.drain_verdict.specs.Given.{Given, HasBadSpacing, HasOtherRows}
 use Rattle.drain_verdict.specs.Ground.{Ground, refusal_kind}
 use Rattle.drain_verdict.specs.Inputs.{Products}
 use Rattle.drain_verdict.specs.Texts.{SetTexts, grid_on, set_fields, set_listed, text_numbers, text_products}
@@ -26,19 +27,19 @@ pub record GroundSet : Type 1 where
   pub texts : SetTexts
 
 -- the arguments encode these texts, where the bytes of devices are known
-pub record EncodeTexts {R : Type 0} (bytes_left : R → Option (List ℕ)) (sinks : List ℕ) (ps : Products R) (t : SetTexts) : Type 0 where
-  pub sinks_are : t.sinks ≡ sinks
+pub record EncodeTexts {R : Type 0} (bytes_left : R → Option (List ℕ)) (given : Given) (ps : Products R) (t : SetTexts) : Type 0 where
+  pub given_is : t.given ≡ given
   pub headers_are : (p : SetProduct) → t.header p ≡ (of_product ps p).header
   pub rasters_are : (p : SetProduct) → bytes_left (of_product ps p).body ≡ Some (t.raster p)
 
 -- the fact holds of the set of the call: of a ground that its inputs mean, and of the texts that its arguments encode
-abbrev pub ForSet : {X R : Type 0} → (X → Ground) → (X → Type 0) → (R → Option (List ℕ)) → List ℕ → Products R → (GroundSet → Type 0) → Type 0
-ForSet {X} terrain Means bytes_left sinks ps Fact =
-    (x : X) (t : SetTexts) → Means x → EncodeTexts bytes_left sinks ps t → Fact (record { terrain = terrain x; texts = t })
+abbrev pub ForSet : {X R : Type 0} → (X → Ground) → (X → Type 0) → (R → Option (List ℕ)) → Given → Products R → (GroundSet → Type 0) → Type 0
+ForSet {X} terrain Means bytes_left given ps Fact =
+    (x : X) (t : SetTexts) → Means x → EncodeTexts bytes_left given ps t → Fact (record { terrain = terrain x; texts = t })
 
 -- What the bytes mean.
 
--- the grid of the elevations and the listed sinks
+-- the grid of the elevations and the listed sinks, whose cells are as far apart as given
 abbrev pub set_grid : GroundSet → grid.Grid
 set_grid s = grid_on s.terrain.extent s.terrain.elevation s.texts
 
@@ -65,8 +66,10 @@ StandsIn s (BadHeader p fault) = OfSetProduct (λ h. Answers (s.texts.header h) 
 StandsIn s (WrongShape p) = OfSetProduct (λ h. ¬ HasShapeIn s h) p
 StandsIn s (Misplaced p) = OfSetProduct (λ h. ¬ s.terrain.Holds (set_fields s.texts h).place) p
 StandsIn s (RasterShort p) = OfSetProduct (λ h. IsShort (set_fields s.texts h) (s.texts.raster h)) p
-StandsIn s (BadSinkLine n) = sinks_of s.texts.sinks ≡ Err n
+StandsIn s (BadSinkLine n) = sinks_of s.texts.given.sinks ≡ Err n
 StandsIn s (SinkNotData n) = IsOffData (set_grid s) (set_listed s.texts) n
+StandsIn s (BadSpacingLine n) = HasBadSpacing s.texts.given.spacing n
+StandsIn s (SpacingRows n) = HasOtherRows s.texts.given.spacing s.terrain.extent n
 StandsIn s OutOfMemory = ⊥
 StandsIn s ReadFailed = ⊥
 StandsIn s refusal = s.terrain.Refuses refusal
@@ -79,6 +82,8 @@ place_in s (Misplaced p) = 3 * place_of p + 2
 place_in s (RasterShort p) = place_of p
 place_in s (BadSinkLine n) = n
 place_in s (SinkNotData n) = n
+place_in s (BadSpacingLine n) = n
+place_in s (SpacingRows n) = n
 place_in s OutOfMemory = 0
 place_in s ReadFailed = 0
 place_in s refusal = s.terrain.among refusal
@@ -115,7 +120,7 @@ pub record AreTextsIn {R : Type 0} (bytes_left : R → Option (List ℕ)) (hs : 
   pub fields : (p : SetProduct) → of_product hs p ≡ set_fields t p
   pub rasters : (p : SetProduct) → bytes_left (of_product ps p).body ≡ Some (t.raster p)
 
--- the fact holds of each set with a ground of these texts, and with such headers, rasters and lists of sinks, of which no
+-- the fact holds of each set with a ground of these texts, and with such headers, rasters and what is given, of which no
 -- refusal of the ground alone or of a header applies
 abbrev pub ForRead : {X R : Type 0} → (X → Ground) → (X → Type 0) → (R → Option (List ℕ)) → PerProduct Fields → Products R → (SetTexts → Type 0) → (GroundSet → Type 0) → Type 0
 ForRead {X} terrain Means bytes_left hs ps Lists Fact =

@@ -10,18 +10,19 @@ use Rattle.drain_mosaic.specs.Mosaic.{TilesAgree, IsElevation}
 use Rattle.drain_grid.specs.declared.verdict.Verdict.{Verdict}
 use Rattle.drain_rules.specs.Verdicts.{IfAccepted}
 use Rattle.drain_answer.specs.declared.refusal.Refusal.{Refusal}
+use Rattle.drain_verdict.specs.Given.{Given}
 use Rattle.drain_verdict.specs.Inputs.{Inputs, Encode, Products}
 use Rattle.drain_verdict.specs.GroundSets.{GroundSet, set_grid, set_numbers, set_products}
 use Rattle.drain_verdict.specs.Meaning.{input_grid, input_tiles, tiling_of}
 use Rattle.drain_verdict.specs.TileGround.{set_of}
 
 -- the fact holds of the inputs of the call
-abbrev pub ForCheck : {R : Type 0} → (R → Option (List ℕ)) → ℕ → List (TileInput R) → List ℕ → Products R → (Inputs → Type 0) → Type 0
-ForCheck bytes_left side tiles sinks ps Fact = (i : Inputs) → Encode bytes_left side tiles sinks ps i → Fact i
+abbrev pub ForCheck : {R : Type 0} → (R → Option (List ℕ)) → ℕ → List (TileInput R) → Given → Products R → (Inputs → Type 0) → Type 0
+ForCheck bytes_left side tiles given ps Fact = (i : Inputs) → Encode bytes_left side tiles given ps i → Fact i
 
 -- where the answer is an acceptance, the fact holds of the inputs of the call
-abbrev pub AcceptedMeans : {R : Type 0} → (Inputs → Type 0) → (R → Option (List ℕ)) → ℕ → List (TileInput R) → List ℕ → Products R → Result Verdict Refusal → Type 0
-AcceptedMeans Fact bytes_left side tiles sinks ps answer = IfAccepted answer (ForCheck bytes_left side tiles sinks ps Fact)
+abbrev pub AcceptedMeans : {R : Type 0} → (Inputs → Type 0) → (R → Option (List ℕ)) → ℕ → List (TileInput R) → Given → Products R → Result Verdict Refusal → Type 0
+AcceptedMeans Fact bytes_left side tiles given ps answer = IfAccepted answer (ForCheck bytes_left side tiles given ps Fact)
 
 -- the tiles agree
 abbrev pub TilesAreOne : Inputs → Type 0

@@ -1,6 +1,7 @@
 pub mod Answers
 pub mod Inputs
 pub mod Deciding
+pub mod Given
 pub mod Ground
 pub mod GroundSets
 pub mod Uses
@@ -9,6 +10,7 @@ pub mod InputReads
 pub mod InputRows
 pub mod Judgements
 pub mod Laws
+pub mod Listings
 pub mod Meaning
 pub mod Outcomes
 pub mod Reading

@@ -20,9 +20,9 @@ tiling_of i = record { side = i.side; corners = i.corners }
 abbrev pub input_tiles : Inputs → List mosaic.Tile
 input_tiles i = mosaic.tiles_of i.corners (map samples_of i.tiles)
 
--- the list of sinks, the headers and the rasters
+-- the list of sinks and how far apart cells are, the headers and the rasters
 abbrev pub texts_of : Inputs → SetTexts
-texts_of i = record { sinks = i.sinks; header = i.header; raster = i.raster }
+texts_of i = record { given = i.given; header = i.header; raster = i.raster }
 
 -- the lines that list a cell
 abbrev pub listed_in : Inputs → List SinkLine

@@ -2,7 +2,7 @@
 -- with its products.
 use Rattle.std.specs.Prelude.{ℕ}
 use Rattle.drain_answer.specs.declared.refusal.Refusal.{Refusal}
-use Rattle.drain_answer.specs.declared.refusal.Refusal.TheVariants.{BadTileLength, RasterShort, SeamMismatch, BadSinkLine, SinkNotData, DemShort, OutOfMemory, ReadFailed}
+use Rattle.drain_answer.specs.declared.refusal.Refusal.TheVariants.{BadTileLength, RasterShort, SeamMismatch, BadSinkLine, SinkNotData, BadSpacingLine, SpacingRows, DemShort, OutOfMemory, ReadFailed}
 use Rattle.drain_grid.specs.declared.set_product.SetProduct.{SetProduct}
 use Rattle.drain_rows.specs.declared.row_visitor.WalkStop.{WalkStop}
 use Rattle.drain_rows.specs.declared.row_visitor.WalkStop.TheVariants as walk_stop
@@ -26,7 +26,7 @@ refusal_order i refusal = order_in (set_of i) refusal
 abbrev pub NoneStandsBefore : Inputs → ℕ → Type 0
 NoneStandsBefore i kind = NoneStandsIn (set_of i) kind
 
--- a refusal that comes once bodies are read: of bytes, seams or the list of sinks, or out of memory, or a failed read
+-- a refusal that comes once bodies are read: of bytes, seams, the list of sinks or a spacing by row, or out of memory, or a failed read
 abbrev pub IsOfBodies : Refusal → Type 0
 IsOfBodies (BadTileLength c) = Unit {0}
 IsOfBodies DemShort = Unit {0}
@@ -34,6 +34,8 @@ IsOfBodies (RasterShort p) = Unit {0}
 IsOfBodies (SeamMismatch c) = Unit {0}
 IsOfBodies (BadSinkLine n) = Unit {0}
 IsOfBodies (SinkNotData n) = Unit {0}
+IsOfBodies (BadSpacingLine n) = Unit {0}
+IsOfBodies (SpacingRows n) = Unit {0}
 IsOfBodies OutOfMemory = Unit {0}
 IsOfBodies ReadFailed = Unit {0}
 IsOfBodies refusal = ⊥

@@ -1,4 +1,5 @@
--- What lies on a ground: a list of sinks, and each product's header and raster; and what these texts mean.
+-- What lies on a ground: a list of sinks, how far apart cells are, and each product's header and raster; and what these
+-- texts mean.
 use Rattle.std.specs.Prelude.{ℕ, ℤ, List, [], unwrap_or, Option, Result, Ok, Err}
 use Rattle.drain_grid.specs.declared.cell.Cell.{Cell}
 use Rattle.drain_grid.specs.declared.per_product.PerProduct.{PerProduct}
@@ -14,10 +15,11 @@ use Rattle.drain_grid.specs.Values.{NoDataNumbers}
 use Rattle.drain_header.specs.Header.{Fields, header_of}
 use Rattle.drain_raster.specs.Pixels.{pixel_at}
 use Rattle.drain_text.specs.Text.{lines_of}
+use Rattle.drain_verdict.specs.Given.{Given, row_spacing}
 
--- the list of sinks, and each product's header and body
+-- the list of sinks and how far apart cells are, and each product's header and body
 pub record SetTexts : Type 0 where
-  pub sinks : List ℕ
+  pub given : Given
   pub header : SetProduct → List ℕ
   pub raster : SetProduct → List ℕ
 
@@ -28,11 +30,11 @@ lines_in (Err bad) = []
 
 -- the lines that list a cell
 abbrev pub set_listed : SetTexts → List SinkLine
-set_listed t = lines_in (sinks_of t.sinks)
+set_listed t = lines_in (sinks_of t.given.sinks)
 
--- the grid of these elevations and of the listed sinks
+-- the grid of these elevations and of the listed sinks, whose cells are as far apart as given
 abbrev pub grid_on : Extent → (Cell → Option ℤ) → SetTexts → grid.Grid
-grid_on e elevation t = record { extent = e; elevation = elevation; sink = is_listed (set_listed t) }
+grid_on e elevation t = record { extent = e; elevation = elevation; sink = is_listed (set_listed t); spacing = row_spacing t.given.spacing }
 
 -- what a product's header says
 abbrev pub set_fields : SetTexts → SetProduct → Fields

@@ -93,7 +93,7 @@ tile_ground i = record {
   among = tile_place i;
 }
 
--- the same with the list of sinks, the headers and the rasters
+-- the same with the list of sinks and how far apart cells are, the headers and the rasters
 abbrev pub set_of : Inputs → GroundSet
 set_of i = record { terrain = tile_ground i; texts = texts_of i }
 

@@ -6,10 +6,12 @@
 
 ghost use Rattle.std.specs.Prelude.{◌↔◌, IfOk};
 ghost use Rattle.drain_verdict.specs.Answers.{AreCorrect, AuditMeans, IsAcceptance, IsAuditAnswer, IsAnswerWithoutRanks, ForAudit};
+ghost use Rattle.drain_verdict.specs.Given.{plain};
 ghost use Rattle.drain_verdict.specs.Headline.{IsRight, TilesAreOne, ElevationIsTheirs};
 ghost use Rattle.drain_verdict.specs.Uses.{AuditUses};
 
 use crate::audit_products::AuditProducts;
+use crate::given::Given;
 use crate::judgement::judge_tiles;
 use crate::outcome::verdict_of_both;
 use drain_answer::{AuditVerdict, Refusal};
@@ -20,7 +22,7 @@ use drain_hgt::TileInput;
 use drain_mosaic::laws::agreement_gives_elevation;
 use std::alloc::Global;
 
-/// Whether the four products of the tiles are correct, or the first refusal.
+/// Whether the four products of the tiles are correct on unit spacing, or the first refusal.
 ///
 /// `side`, `tiles` and `sinks` are those of `check`, and so are the refusals, of con, dir, acc and bas in this order.
 /// If none applies: `NoEnd` with the first data cell in row order whose path reaches no code 0, as it meets a number
@@ -36,15 +38,42 @@ pub fn audit<R: ByteSource>(
     products: &mut AuditProducts<R>,
 ) -> Result<AuditVerdict, Refusal>
     // Unless memory ran out or a read failed, the answer is that of the bytes.
-    ensures answer { ForAudit R.bytes_left side tiles.old sinks.now products.old (λ inputs. IsAuditAnswer inputs result) }
+    ensures answer { ForAudit R.bytes_left side tiles.old (plain sinks.now) products.old (λ inputs. IsAuditAnswer inputs result) }
 
     // If it gives a verdict, the tiles agree on one elevation raster, and it accepts exactly correct products.
-    ensures tiles_agree { IfOk result (λ verdict. ForAudit R.bytes_left side tiles.old sinks.now products.old TilesAreOne) }
-    ensures elevation { IfOk result (λ verdict. ForAudit R.bytes_left side tiles.old sinks.now products.old ElevationIsTheirs) }
-    ensures exactly { IfOk result (λ verdict. ForAudit R.bytes_left side tiles.old sinks.now products.old (λ inputs. IsAcceptance verdict ↔ AreCorrect inputs)) }
+    ensures tiles_agree { IfOk result (λ verdict. ForAudit R.bytes_left side tiles.old (plain sinks.now) products.old TilesAreOne) }
+    ensures elevation { IfOk result (λ verdict. ForAudit R.bytes_left side tiles.old (plain sinks.now) products.old ElevationIsTheirs) }
+    ensures exactly { IfOk result (λ verdict. ForAudit R.bytes_left side tiles.old (plain sinks.now) products.old (λ inputs. IsAcceptance verdict ↔ AreCorrect inputs)) }
 
     // Whenever it accepts, the inputs are right: `IsRight` has a field for each sentence.
-    ensures right { AuditMeans IsRight R.bytes_left side tiles.old sinks.now products.old result }
+    ensures right { AuditMeans IsRight R.bytes_left side tiles.old (plain sinks.now) products.old result }
+
+    // How far it reads, when a read fails, and what is unchanged.
+    ensures uses { AuditUses R.bytes_left R.counts side (tiles.old, products.old) (tiles.new, products.new) result }
+{
+    audit_given(alloc, side, tiles, &Given::plain(sinks), products)
+}
+
+/// Whether the four products of the tiles, whose cells are as far apart as given, are correct, or the first refusal.
+///
+/// `given` is that of `check_given`, and so are the refusals; the answer without a refusal is that of `audit`.
+pub fn audit_given<R: ByteSource>(
+    alloc: Global,
+    side: u32,
+    tiles: &mut [TileInput<R>],
+    given: &Given,
+    products: &mut AuditProducts<R>,
+) -> Result<AuditVerdict, Refusal>
+    // Unless memory ran out or a read failed, the answer is that of the bytes.
+    ensures answer { ForAudit R.bytes_left side tiles.old given.now products.old (λ inputs. IsAuditAnswer inputs result) }
+
+    // If it gives a verdict, the tiles agree on one elevation raster, and it accepts exactly correct products.
+    ensures tiles_agree { IfOk result (λ verdict. ForAudit R.bytes_left side tiles.old given.now products.old TilesAreOne) }
+    ensures elevation { IfOk result (λ verdict. ForAudit R.bytes_left side tiles.old given.now products.old ElevationIsTheirs) }
+    ensures exactly { IfOk result (λ verdict. ForAudit R.bytes_left side tiles.old given.now products.old (λ inputs. IsAcceptance verdict ↔ AreCorrect inputs)) }
+
+    // Whenever it accepts, the inputs are right: `IsRight` has a field for each sentence.
+    ensures right { AuditMeans IsRight R.bytes_left side tiles.old given.now products.old result }
 
     // How far it reads, when a read fails, and what is unchanged.
     ensures uses { AuditUses R.bytes_left R.counts side (tiles.old, products.old) (tiles.new, products.new) result }
@@ -54,7 +83,7 @@ pub fn audit<R: ByteSource>(
     ranks_play_no_part();
     sound_from_correct();
     agreement_gives_elevation();
-    audit_of(alloc, side, tiles, sinks, products)
+    audit_of(alloc, side, tiles, given, products)
 }
 
 /// The answer to the bytes, without ranks.
@@ -62,12 +91,12 @@ fn audit_of<R: ByteSource>(
     alloc: Global,
     side: u32,
     tiles: &mut [TileInput<R>],
-    sinks: &[u8],
+    given: &Given,
     products: &mut AuditProducts<R>,
 ) -> Result<AuditVerdict, Refusal>
-    ensures answer { ForAudit R.bytes_left side tiles.old sinks.now products.old (λ inputs. IsAnswerWithoutRanks inputs result) }
+    ensures answer { ForAudit R.bytes_left side tiles.old given.now products.old (λ inputs. IsAnswerWithoutRanks inputs result) }
     ensures uses { AuditUses R.bytes_left R.counts side (tiles.old, products.old) (tiles.new, products.new) result }
 {
-    let judgement = judge_tiles(alloc, side, tiles, sinks, products, Judged::All)?;
+    let judgement = judge_tiles(alloc, side, tiles, given, products, Judged::All)?;
     Ok(verdict_of_both(&judgement.verdict, judgement.cell))
 }

@@ -17,6 +17,7 @@ ghost use Rattle.drain_verdict.specs.Stages.{IsLayoutOf};
 
 use crate::audit_products::ProductInputs;
 use crate::decider::{Decider, RanksDecide};
+use crate::given::Given;
 use crate::ground::GroundInput;
 use crate::read_set::read_set;
 use crate::stages::layout_of;
@@ -48,29 +49,29 @@ pub(crate) fn judge_tiles<R: ByteSource, P: ProductInputs<R>>(
     alloc: Global,
     side: u32,
     tiles: &mut [TileInput<R>],
-    sinks: &[u8],
+    given: &Given,
     products: &mut P,
     judged: Judged,
 ) -> Result<Judgement<Walk<OutletLabels>>, Refusal>
-    ensures answer { (inputs : Inputs) → Encode R.bytes_left side tiles.old sinks.now (P.inputs products.old) inputs → IsJudgement judged inputs result }
+    ensures answer { (inputs : Inputs) → Encode R.bytes_left side tiles.old given.now (P.inputs products.old) inputs → IsJudgement judged inputs result }
     ensures uses { UsesInputs P.inputs (λ ts ps. devices_of ts (P.inputs ps)) R.bytes_left R.counts side (tiles.old, products.old) (tiles.new, products.new) result }
 {
     // The law that bytes name one tile.
     one_name();
     let layout = layout_of(alloc, side, tiles)?;
     let walk = Walk::new(alloc);
-    judge(alloc, &layout, sinks, tiles, products, judged, walk)
+    judge(alloc, &layout, given, tiles, products, judged, walk)
 }
 
 /// Judges inputs of this mosaic, or returns the first refusal: the headers of its products, the bytes of its tiles and
-/// rasters, and a list of sinks. The walk sees each row of the grid, and gives the verdict of the rules.
+/// rasters, a list of sinks and a spacing by row. The walk sees each row of the grid, and gives the verdict of the rules.
 ///
 /// Of con alone the filled surface decides besides, of rasters with directions the paths, and with ranks nothing. See
 /// `check` for the order of refusals, and for how far it reads.
 pub fn judge<R: ByteSource, P: ProductInputs<R>, W: VerdictVisitor + Drop>(
     alloc: Global,
     layout: &Layout,
-    sinks: &[u8],
+    given: &Given,
     tiles: &mut [TileInput<R>],
     products: &mut P,
     judged: Judged,
@@ -79,25 +80,25 @@ pub fn judge<R: ByteSource, P: ProductInputs<R>, W: VerdictVisitor + Drop>(
     requires laid { IsLayoutOf layout.now.side (names_of tiles.old) layout.now }
     requires uncounted { W.counts 0 walk }
     requires unnoted { (rules : declared.Rules) (g : Grid) (ps : grid.Products) → W.are_of rules g ps 0 walk }
-    ensures answer { (inputs : Inputs) → Encode R.bytes_left layout.now.side tiles.old sinks.now (P.inputs products.old) inputs → IsJudgement judged inputs result }
+    ensures answer { (inputs : Inputs) → Encode R.bytes_left layout.now.side tiles.old given.now (P.inputs products.old) inputs → IsJudgement judged inputs result }
     ensures lasting { IfOk result (λ judgement. W.lasting judgement.walk ≡ W.lasting walk) }
-    ensures noted { IfOk result (λ judgement. (inputs : Inputs) → Encode R.bytes_left layout.now.side tiles.old sinks.now (P.inputs products.old) inputs → AreNotesOf W.are_of judged inputs judgement.walk) }
-    ensures flows { IfOk result (λ judgement. (inputs : Inputs) → Encode R.bytes_left layout.now.side tiles.old sinks.now (P.inputs products.old) inputs → AreFlowsFor judged (input_grid inputs) (input_products inputs) (extent_of layout.now) judgement.flows) }
+    ensures noted { IfOk result (λ judgement. (inputs : Inputs) → Encode R.bytes_left layout.now.side tiles.old given.now (P.inputs products.old) inputs → AreNotesOf W.are_of judged inputs judgement.walk) }
+    ensures flows { IfOk result (λ judgement. (inputs : Inputs) → Encode R.bytes_left layout.now.side tiles.old given.now (P.inputs products.old) inputs → AreFlowsFor judged (input_grid inputs) (input_products inputs) (extent_of layout.now) judgement.flows) }
     ensures uses { UsesInputs P.inputs (λ ts ps. devices_of ts (P.inputs ps)) R.bytes_left R.counts layout.now.side (tiles.old, products.old) (tiles.new, products.new) result }
 {
-    judge_set::<R, TileInput<R>, P, W>(alloc, layout, sinks, tiles, products, judged, walk)
+    judge_set::<R, TileInput<R>, P, W>(alloc, layout, given, tiles, products, judged, walk)
 }
 
 /// Judges a ground with this frame from these inputs, or returns the first refusal: the headers of its products, the bytes
-/// of the inputs and of rasters, and a list of sinks. The walk sees each row of the grid, and gives the verdict of the
-/// rules.
+/// of the inputs and of rasters, a list of sinks and a spacing by row. The walk sees each row of the grid, and gives the
+/// verdict of the rules.
 ///
 /// Of con alone the filled surface decides besides, of rasters with directions the paths, and with ranks nothing. See
 /// `check` for the order of refusals, and for how far it reads.
 pub fn judge_set<R: ByteSource, T: GroundInput<R>, P: ProductInputs<R>, W: VerdictVisitor + Drop>(
     alloc: Global,
     frame: &T::Frame,
-    sinks: &[u8],
+    given: &Given,
     inputs: &mut [T],
     products: &mut P,
     judged: Judged,
@@ -106,22 +107,22 @@ pub fn judge_set<R: ByteSource, T: GroundInput<R>, P: ProductInputs<R>, W: Verdi
     requires fit { T.fit frame.now inputs.old }
     requires uncounted { W.counts 0 walk }
     requires unnoted { (rules : declared.Rules) (g : Grid) (ps : grid.Products) → W.are_of rules g ps 0 walk }
-    ensures answer { ForSet T.terrain (T.means frame.now inputs.old) R.bytes_left sinks.now (P.inputs products.old) (λ s. IsJudgementIn judged s result) }
+    ensures answer { ForSet T.terrain (T.means frame.now inputs.old) R.bytes_left given.now (P.inputs products.old) (λ s. IsJudgementIn judged s result) }
     ensures lasting { IfOk result (λ judgement. W.lasting judgement.walk ≡ W.lasting walk) }
-    ensures noted { IfOk result (λ judgement. ForSet T.terrain (T.means frame.now inputs.old) R.bytes_left sinks.now (P.inputs products.old) (λ s. AreNotesIn W.are_of judged s judgement.walk)) }
-    ensures flows { IfOk result (λ judgement. ForSet T.terrain (T.means frame.now inputs.old) R.bytes_left sinks.now (P.inputs products.old)
+    ensures noted { IfOk result (λ judgement. ForSet T.terrain (T.means frame.now inputs.old) R.bytes_left given.now (P.inputs products.old) (λ s. AreNotesIn W.are_of judged s judgement.walk)) }
+    ensures flows { IfOk result (λ judgement. ForSet T.terrain (T.means frame.now inputs.old) R.bytes_left given.now (P.inputs products.old)
         (λ s. AreFlowsFor judged (set_grid s) (set_products s) (T.extent frame.now) judgement.flows)) }
     ensures uses { UsesSet P.inputs (λ xs ps. set_devices T.devices xs (P.inputs ps)) (T.within frame.now) T.kept R.bytes_left R.counts (inputs.old, products.old) (inputs.new, products.new) result }
 {
     match judged {
         Judged::Con => {
-            judge_by::<R, T, P, ConRows, W>(alloc, frame, sinks, inputs, products, judged, walk)
+            judge_by::<R, T, P, ConRows, W>(alloc, frame, given, inputs, products, judged, walk)
         }
         Judged::ConDir | Judged::ConDirAcc | Judged::ConDirBas | Judged::All => {
-            judge_by::<R, T, P, CellFlows, W>(alloc, frame, sinks, inputs, products, judged, walk)
+            judge_by::<R, T, P, CellFlows, W>(alloc, frame, given, inputs, products, judged, walk)
         }
         Judged::AllWithRanks => {
-            judge_by::<R, T, P, RanksDecide, W>(alloc, frame, sinks, inputs, products, judged, walk)
+            judge_by::<R, T, P, RanksDecide, W>(alloc, frame, given, inputs, products, judged, walk)
         }
     }
 }
@@ -136,7 +137,7 @@ fn judge_by<
 >(
     alloc: Global,
     frame: &T::Frame,
-    sinks: &[u8],
+    given: &Given,
     inputs: &mut [T],
     products: &mut P,
     judged: Judged,
@@ -146,10 +147,10 @@ fn judge_by<
     requires fit { T.fit frame.now inputs.old }
     requires uncounted { W.counts 0 walk }
     requires unnoted { (rules : declared.Rules) (g : Grid) (ps : grid.Products) → W.are_of rules g ps 0 walk }
-    ensures answer { ForSet T.terrain (T.means frame.now inputs.old) R.bytes_left sinks.now (P.inputs products.old) (λ s. IsJudgementIn judged s result) }
+    ensures answer { ForSet T.terrain (T.means frame.now inputs.old) R.bytes_left given.now (P.inputs products.old) (λ s. IsJudgementIn judged s result) }
     ensures lasting { IfOk result (λ judgement. W.lasting judgement.walk ≡ W.lasting walk) }
-    ensures noted { IfOk result (λ judgement. ForSet T.terrain (T.means frame.now inputs.old) R.bytes_left sinks.now (P.inputs products.old) (λ s. AreNotesIn W.are_of judged s judgement.walk)) }
-    ensures flows { IfOk result (λ judgement. ForSet T.terrain (T.means frame.now inputs.old) R.bytes_left sinks.now (P.inputs products.old)
+    ensures noted { IfOk result (λ judgement. ForSet T.terrain (T.means frame.now inputs.old) R.bytes_left given.now (P.inputs products.old) (λ s. AreNotesIn W.are_of judged s judgement.walk)) }
+    ensures flows { IfOk result (λ judgement. ForSet T.terrain (T.means frame.now inputs.old) R.bytes_left given.now (P.inputs products.old)
         (λ s. D.leave (set_grid s) (set_products s) (T.extent frame.now) judgement.flows)) }
     ensures uses { UsesSet P.inputs (λ xs ps. set_devices T.devices xs (P.inputs ps)) (T.within frame.now) T.kept R.bytes_left R.counts (inputs.old, products.old) (inputs.new, products.new) result }
 {
@@ -160,7 +161,7 @@ fn judge_by<
         second: walk,
     };
     read_set::<R, T, P, BothVisitors<D, W>>(
-        alloc, frame, sinks, inputs, products, judged, &mut both,
+        alloc, frame, given, inputs, products, judged, &mut both,
     )?;
     let shape = T::shape(frame);
     let verdict = both.second.verdict(shape);
@@ -168,7 +169,7 @@ fn judge_by<
         first: decider,
         second: walk,
     } = both;
-    match decider.decide(alloc, shape, sinks, judged, &verdict) {
+    match decider.decide(alloc, shape, given.sinks, judged, &verdict) {
         Ok(decided) => Ok(Judgement {
             verdict,
             cell: decided.cell,

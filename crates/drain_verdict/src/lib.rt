@@ -8,10 +8,12 @@ pub mod checker;
 pub mod decider;
 pub mod dem_auditor;
 mod dem_ground;
+pub mod given;
 pub mod ground;
 mod input_rows;
 pub mod judgement;
 pub mod laws;
+pub mod listings;
 pub mod next_rows;
 pub mod outcome;
 pub mod part_auditor;
@@ -21,15 +23,18 @@ pub mod stages;
 mod tile_ground;
 
 pub use audit_products::AuditProducts;
-pub use auditor::audit;
-pub use checker::check;
+pub use auditor::{audit, audit_given};
+pub use checker::{check, check_given};
 pub use decider::certify;
 pub use dem_auditor::{audit_dem, audit_part_dem, check_dem};
 pub use dem_ground::dem_header;
 pub use drain_answer::{AuditVerdict, Outcome, Refusal, audit_report, fill_report, report};
-pub use drain_grid::{Counts, FillCounts, FillRefusal, FillVerdict, Verdict};
+pub use drain_grid::{
+    Counts, FillCounts, FillRefusal, FillVerdict, Spacing, SpacingInput, Verdict,
+};
 pub use drain_paths::CertifyRefusal;
 pub use drain_rules::check_fill;
+pub use given::Given;
 pub use judgement::{Judgement, judge};
 pub use next_rows::{Products, RasterInput};
 pub use part_auditor::audit_part;

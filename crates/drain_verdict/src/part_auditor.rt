@@ -8,6 +8,7 @@ ghost use Rattle.drain_verdict.specs.Outcomes.{AreJudgedRight, IsOutcomeAnswer};
 ghost use Rattle.drain_verdict.specs.Uses.{AuditUses};
 
 use crate::audit_products::AuditProducts;
+use crate::given::Given;
 use crate::judgement::judge_tiles;
 use crate::outcome::outcome_of;
 use drain_answer::{Outcome, Refusal};
@@ -20,7 +21,7 @@ use std::alloc::Global;
 
 /// Whether the judged rasters are right, or the first refusal: some are if they are part of a correct set.
 ///
-/// `side`, `tiles` and `sinks` are those of an audit, and so are the refusals, of the judged rasters in their order. Of
+/// `side`, `tiles` and `given` are those of an audit, and so are the refusals, of the judged rasters in their order. Of
 /// a raster that isn't judged no number matters; it may be a source of zeros with con's header. If no refusal applies:
 /// `NoEnd` with the first data cell in row order whose path reaches no code 0, if directions are judged; else `Rejected`
 /// with the first fault of the rules about the judged rasters; of con alone `NotFilled` with the first cell where it is
@@ -30,15 +31,15 @@ pub fn audit_part<R: ByteSource>(
     alloc: Global,
     side: u32,
     tiles: &mut [TileInput<R>],
-    sinks: &[u8],
+    given: &Given,
     products: &mut AuditProducts<R>,
     judged: Judged,
 ) -> Result<Outcome, Refusal>
     // Unless memory ran out or a read failed, the answer is that of the bytes.
-    ensures answer { ForAudit R.bytes_left side tiles.old sinks.now products.old (λ inputs. IsOutcomeAnswer judged inputs result) }
+    ensures answer { ForAudit R.bytes_left side tiles.old given.now products.old (λ inputs. IsOutcomeAnswer judged inputs result) }
 
     // If it gives an outcome, it accepts exactly if the judged rasters are right; ranks are none of these.
-    ensures exactly { has_rnk judged ≡ false → IfOk result (λ outcome. ForAudit R.bytes_left side tiles.old sinks.now products.old (λ inputs. IsAcceptedOutcome outcome ↔ AreJudgedRight judged inputs)) }
+    ensures exactly { has_rnk judged ≡ false → IfOk result (λ outcome. ForAudit R.bytes_left side tiles.old given.now products.old (λ inputs. IsAcceptedOutcome outcome ↔ AreJudgedRight judged inputs)) }
 
     // How far it reads, when a read fails, and what is unchanged: as for an audit.
     ensures uses { AuditUses R.bytes_left R.counts side (tiles.old, products.old) (tiles.new, products.new) result }
@@ -47,7 +48,7 @@ pub fn audit_part<R: ByteSource>(
     correct_is_local();
     part_is_local();
     surface_is_part();
-    answer_of(alloc, side, tiles, sinks, products, judged)
+    answer_of(alloc, side, tiles, given, products, judged)
 }
 
 /// The answer to the bytes.
@@ -55,13 +56,13 @@ fn answer_of<R: ByteSource>(
     alloc: Global,
     side: u32,
     tiles: &mut [TileInput<R>],
-    sinks: &[u8],
+    given: &Given,
     products: &mut AuditProducts<R>,
     judged: Judged,
 ) -> Result<Outcome, Refusal>
-    ensures answer { ForAudit R.bytes_left side tiles.old sinks.now products.old (λ inputs. IsOutcomeAnswer judged inputs result) }
+    ensures answer { ForAudit R.bytes_left side tiles.old given.now products.old (λ inputs. IsOutcomeAnswer judged inputs result) }
     ensures uses { AuditUses R.bytes_left R.counts side (tiles.old, products.old) (tiles.new, products.new) result }
 {
-    let judgement = judge_tiles(alloc, side, tiles, sinks, products, judged)?;
+    let judgement = judge_tiles(alloc, side, tiles, given, products, judged)?;
     Ok(outcome_of(judged, &judgement.verdict, judgement.cell))
 }

@@ -1,9 +1,9 @@
 //! Reading the bytes of a ground and its products, the five of a check or the four of an audit.
 //!
 //! Once the ground's frame is right come the stages, in the order of their refusals: the headers, product by product; then
-//! the rows of the ground and of all rasters together. After the last row come refusals of lengths, rasters, values and
-//! the list of sinks, in this order. Each row is shown to a visitor; what it has seen decides nothing here. No device is
-//! called before every header is right.
+//! the rows of the ground and of all rasters together. After the last row come refusals of lengths, rasters, values, the
+//! list of sinks and a spacing by row, in this order. Each row is shown to a visitor; what it has seen decides nothing
+//! here. No device is called before every header is right.
 
 ghost use Rattle.std.specs.Prelude.{◌≡◌, ℕ, length, map, IfErr, IsErrOf, OnOk};
 ghost use Rattle.drain_device.specs.FaultLists.{SomeReadFails};
@@ -13,23 +13,24 @@ ghost use Rattle.drain_grid.specs.declared.set_product.SetProduct.{SetProduct};
 ghost use Rattle.drain_grid.specs.Grid as grid;
 ghost use Rattle.drain_grid.specs.Grid.{Grid};
 ghost use Rattle.drain_grid.specs.PerProduct.{of_product};
-ghost use Rattle.drain_grid.specs.SinkTexts.{sinks_of};
 ghost use Rattle.drain_header.specs.Header.{Fields};
 ghost use Rattle.drain_raster.specs.Pixels.{header_extent};
 ghost use Rattle.drain_verdict.specs.GroundSets.{AreNotesIn, AreTextsIn, EncodeTexts, ForRead, ForSet, IsReadIn};
-ghost use Rattle.drain_verdict.specs.Texts.{SetTexts, nodata_in, set_listed};
+ghost use Rattle.drain_verdict.specs.Texts.{SetTexts, nodata_in};
 ghost use Rattle.drain_verdict.specs.InputReads.{HaveBeenRead, as_read, with_rasters};
 ghost use Rattle.drain_verdict.specs.InputRows.{AreAlike, AreBegun};
+ghost use Rattle.drain_verdict.specs.Listings.{IsListingOf};
 ghost use Rattle.drain_verdict.specs.Refusals as refusals;
 ghost use Rattle.drain_verdict.specs.Refusals.{IsOfBodies};
-ghost use Rattle.drain_verdict.specs.Stages.{IsBadLine};
 ghost use Rattle.drain_verdict.specs.Uses.{BodyTakesAtMost, UsesSet, set_devices};
 
 use crate::audit_products::ProductInputs;
+use crate::given::Given;
 use crate::ground::GroundInput;
 use crate::input_rows::{InputRows, begin_rows, refusal_of_rows};
 use crate::laws::raster_laws;
-use crate::stages::{SinkListing, nodata_of, read_headers, sink_listing, sink_refusal};
+use crate::listings::{Listing, listing_of, listing_refusal};
+use crate::stages::{nodata_of, read_headers};
 use drain_answer::Refusal;
 use drain_device::ByteSource;
 use drain_grid::laws::found_off_data_is_right;
@@ -40,14 +41,14 @@ use drain_rows::{RowVisitor, WalkStop, visit_rows};
 use std::alloc::Global;
 
 /// Reads a ground with this frame from these inputs: the headers of its products, the bytes of the inputs and of rasters,
-/// and a list of sinks. Shows the visitor each row of the grid, under the rules about judged rasters, or returns the first
-/// refusal.
+/// a list of sinks and a spacing by row. Shows the visitor each row of the grid, under the rules about judged rasters, or
+/// returns the first refusal.
 ///
 /// See `check` for the order of refusals, and for how far it reads.
 pub fn read_set<R: ByteSource, T: GroundInput<R>, P: ProductInputs<R>, K: RowVisitor>(
     alloc: Global,
     frame: &T::Frame,
-    sinks: &[u8],
+    given: &Given,
     inputs: &mut [T],
     products: &mut P,
     judged: Judged,
@@ -56,9 +57,9 @@ pub fn read_set<R: ByteSource, T: GroundInput<R>, P: ProductInputs<R>, K: RowVis
     requires fit { T.fit frame.now inputs.old }
     requires uncounted { K.counts 0 notes.old }
     requires unnoted { (rules : declared.Rules) (g : Grid) (ps : grid.Products) → K.are_of rules g ps 0 notes.old }
-    ensures answer { ForSet T.terrain (T.means frame.now inputs.old) R.bytes_left sinks.now (P.inputs products.old) (λ s. IsReadIn s result) }
+    ensures answer { ForSet T.terrain (T.means frame.now inputs.old) R.bytes_left given.now (P.inputs products.old) (λ s. IsReadIn s result) }
     ensures lasting { OnOk result (K.lasting notes.new ≡ K.lasting notes.old) }
-    ensures noted { OnOk result (ForSet T.terrain (T.means frame.now inputs.old) R.bytes_left sinks.now (P.inputs products.old) (λ s. AreNotesIn K.are_of judged s notes.new)) }
+    ensures noted { OnOk result (ForSet T.terrain (T.means frame.now inputs.old) R.bytes_left given.now (P.inputs products.old) (λ s. AreNotesIn K.are_of judged s notes.new)) }
     ensures uses { UsesSet P.inputs (λ xs ps. set_devices T.devices xs (P.inputs ps)) (T.within frame.now) T.kept R.bytes_left R.counts (inputs.old, products.old) (inputs.new, products.new) result }
 {
     // The laws of what the inputs mean and of what is read of them.
@@ -66,7 +67,7 @@ pub fn read_set<R: ByteSource, T: GroundInput<R>, P: ProductInputs<R>, K: RowVis
     T::reading_laws();
     let headers = read_headers::<R, T>(frame, &products.texts())?;
     read_bodies::<R, T, P, K>(
-        alloc, frame, headers, sinks, inputs, products, judged, notes,
+        alloc, frame, headers, given, inputs, products, judged, notes,
     )
 }
 
@@ -75,7 +76,7 @@ fn read_bodies<R: ByteSource, T: GroundInput<R>, P: ProductInputs<R>, K: RowVisi
     alloc: Global,
     frame: &T::Frame,
     headers: PerProduct<Header>,
-    sinks: &[u8],
+    given: &Given,
     inputs: &mut [T],
     products: &mut P,
     judged: Judged,
@@ -86,9 +87,9 @@ fn read_bodies<R: ByteSource, T: GroundInput<R>, P: ProductInputs<R>, K: RowVisi
     requires alike { AreAlike (P.inputs products.old) headers }
     requires uncounted { K.counts 0 notes.old }
     requires unnoted { (rules : declared.Rules) (g : Grid) (ps : grid.Products) → K.are_of rules g ps 0 notes.old }
-    ensures answer { ForRead T.terrain (λ x. T.means frame.now inputs.old x × T.framed frame.now x) R.bytes_left headers (P.inputs products.old) (λ t. t.sinks ≡ sinks.now) (λ s. IsReadIn s result) }
+    ensures answer { ForRead T.terrain (λ x. T.means frame.now inputs.old x × T.framed frame.now x) R.bytes_left headers (P.inputs products.old) (λ t. t.given ≡ given.now) (λ s. IsReadIn s result) }
     ensures lasting { OnOk result (K.lasting notes.new ≡ K.lasting notes.old) }
-    ensures noted { OnOk result (ForRead T.terrain (λ x. T.means frame.now inputs.old x × T.framed frame.now x) R.bytes_left headers (P.inputs products.old) (λ t. t.sinks ≡ sinks.now) (λ s. AreNotesIn K.are_of judged s notes.new)) }
+    ensures noted { OnOk result (ForRead T.terrain (λ x. T.means frame.now inputs.old x × T.framed frame.now x) R.bytes_left headers (P.inputs products.old) (λ t. t.given ≡ given.now) (λ s. AreNotesIn K.are_of judged s notes.new)) }
     ensures inputs_within { T.within frame.now inputs.old inputs.new }
     ensures rasters_within { (p : SetProduct) → BodyTakesAtMost R.bytes_left (of_product headers p) (P.inputs products.old) (P.inputs products.new) p }
     ensures faults { SomeReadFails (map R.counts (set_devices T.devices inputs.old (P.inputs products.old))) (map R.counts (set_devices T.devices inputs.new (P.inputs products.new))) (IsErrOf result Refusal.ReadFailed) }
@@ -99,7 +100,7 @@ fn read_bodies<R: ByteSource, T: GroundInput<R>, P: ProductInputs<R>, K: RowVisi
     // The laws that the rows of a raster have the bytes that it needs, and of what is read of the ground's inputs.
     raster_rows_take_what_is_needed();
     T::reading_laws();
-    let listing = match sink_listing(alloc, sinks) {
+    let listing = match listing_of(alloc, given) {
         Ok(listing) => listing,
         Err(OutOfMemory) => return Err(Refusal::OutOfMemory),
     };
@@ -111,11 +112,11 @@ fn read_bodies<R: ByteSource, T: GroundInput<R>, P: ProductInputs<R>, K: RowVisi
     )
 }
 
-/// Reads the rows of new readers to the last, or returns the refusal that they report then, or that of the list of sinks.
+/// Reads the rows of new readers to the last, or returns the refusal that they report then, or that of the lists.
 fn read_rows<R: ByteSource, T: GroundInput<R>, P: ProductInputs<R>, K: RowVisitor>(
     alloc: Global,
     frame: &T::Frame,
-    listing: &SinkListing,
+    listing: &Listing,
     rules: &Rules,
     rows: &mut InputRows<R, T::Rows>,
     inputs: &mut [T],
@@ -129,12 +130,12 @@ fn read_rows<R: ByteSource, T: GroundInput<R>, P: ProductInputs<R>, K: RowVisito
     ensures answer { (hs : PerProduct Fields) → AreBegun (T.begun frame.now) hs (with_rasters P.readers rows.old) → rules.now.nodata ≡ nodata_in hs
         → ((p : SetProduct) → header_extent (of_product hs p) ≡ T.extent frame.now)
         → ForRead T.terrain (λ x. T.means frame.now inputs.old x × T.framed frame.now x) R.bytes_left hs (P.inputs products.old)
-        (λ t. (listing.now.sinks ≡ set_listed t) × IsBadLine (sinks_of t.sinks) listing.now.bad) (λ s. IsReadIn s result) }
+        (λ t. IsListingOf listing.now t.given) (λ s. IsReadIn s result) }
     ensures lasting { OnOk result (K.lasting notes.new ≡ K.lasting notes.old) }
     ensures noted { OnOk result ((hs : PerProduct Fields) → AreBegun (T.begun frame.now) hs (with_rasters P.readers rows.old) → rules.now.nodata ≡ nodata_in hs
         → ((p : SetProduct) → header_extent (of_product hs p) ≡ T.extent frame.now)
         → ForRead T.terrain (λ x. T.means frame.now inputs.old x × T.framed frame.now x) R.bytes_left hs (P.inputs products.old)
-        (λ t. (listing.now.sinks ≡ set_listed t) × IsBadLine (sinks_of t.sinks) listing.now.bad) (λ s. AreNotesIn K.are_of rules.now.judged s notes.new)) }
+        (λ t. IsListingOf listing.now t.given) (λ s. AreNotesIn K.are_of rules.now.judged s notes.new)) }
     ensures reads { HaveBeenRead T.has_read R.bytes_left R.counts (as_read P.readers P.inputs (rows.old, inputs.old, products.old)) (as_read P.readers P.inputs (rows.new, inputs.new, products.new)) (IsErrOf result Refusal.ReadFailed) }
     ensures of_bodies { IfErr result IsOfBodies }
 {
@@ -148,7 +149,8 @@ fn read_rows<R: ByteSource, T: GroundInput<R>, P: ProductInputs<R>, K: RowVisito
     let voids = match visit_rows(
         alloc,
         shape,
-        &listing.sinks,
+        &listing.sinks.sinks,
+        &listing.spacing.spacings,
         rules,
         rows,
         inputs,
@@ -161,7 +163,7 @@ fn read_rows<R: ByteSource, T: GroundInput<R>, P: ProductInputs<R>, K: RowVisito
     if let Some(refusal) = refusal_of_rows::<R, T, P>(frame, rows, products) {
         return Err(refusal);
     }
-    match sink_refusal(listing, shape, &voids) {
+    match listing_refusal(listing, shape, &voids) {
         Some(refusal) => Err(refusal),
         None => Ok(()),
     }

@@ -17,7 +17,7 @@ use Rattle.drain_explain.proofs.explain.explain.Goals as goal
 pub returns-in_err-layout-clause-answer : goal.returns-in_err-layout-clause-answer
 returns-in_err-layout-clause-answer g c = λ inputs tell.
     let told = err_from_is_err_and c.from_residual.result c.from_residual.ensures.1 in
-    rw (told.1, told.2) (layout_answer c.one_name.ensures g.R.ByteSource.bytes_left c.args.side c.args.tiles.now c.args.sinks.now (g.P.ProductInputs.inputs c.args.products.now) inputs _ tell c.in_err-layout.ensures.refusal)
+    rw (told.1, told.2) (layout_answer c.one_name.ensures g.R.ByteSource.bytes_left c.args.side c.args.tiles.now c.args.given.now (g.P.ProductInputs.inputs c.args.products.now) inputs _ tell c.in_err-layout.ensures.refusal)
 
 pub returns-in_err-layout-clause-uses : goal.returns-in_err-layout-clause-uses
 returns-in_err-layout-clause-uses g c =
@@ -33,9 +33,9 @@ pub returns-in_err-seen-clause-answer : goal.returns-in_err-seen-clause-answer
 returns-in_err-seen-clause-answer g c = λ inputs tell.
     let told = err_from_is_err_and c.from_residual-in_err-seen.result c.from_residual-in_err-seen.ensures.1 in
     let t = c.in_ok-layout.layout in
-    rw (told.1, told.2) (of_tiles g.R.ByteSource.bytes_left t.side c.args.tiles.now c.args.sinks.now (g.P.ProductInputs.inputs c.args.products.now) (λ s. IsOutcomeIn c.args.judged s (Err c.in_err-seen.field-0.0))
+    rw (told.1, told.2) (of_tiles g.R.ByteSource.bytes_left t.side c.args.tiles.now c.args.given.now (g.P.ProductInputs.inputs c.args.products.now) (λ s. IsOutcomeIn c.args.judged s (Err c.in_err-seen.field-0.0))
     c.in_err-seen.ensures.answer inputs
-    (at_side g.R.ByteSource.bytes_left c.args.side c.args.tiles.now c.args.sinks.now (g.P.ProductInputs.inputs c.args.products.now) inputs t c.in_ok-layout.ensures.layout tell))
+    (at_side g.R.ByteSource.bytes_left c.args.side c.args.tiles.now c.args.given.now (g.P.ProductInputs.inputs c.args.products.now) inputs t c.in_ok-layout.ensures.layout tell))
 
 pub returns-in_err-seen-clause-uses : goal.returns-in_err-seen-clause-uses
 returns-in_err-seen-clause-uses g c =
@@ -54,23 +54,23 @@ returns-clause-uses g c =
 pub returns-clause-answer : goal.returns-clause-answer
 returns-clause-answer g c = λ inputs tell.
     let t = c.in_ok-layout.layout in
-    of_tiles g.R.ByteSource.bytes_left t.side c.args.tiles.now c.args.sinks.now (g.P.ProductInputs.inputs c.args.products.now) (λ s. IsOutcomeIn c.args.judged s (outcome_in (Ok c.in_ok-seen.seen)))
+    of_tiles g.R.ByteSource.bytes_left t.side c.args.tiles.now c.args.given.now (g.P.ProductInputs.inputs c.args.products.now) (λ s. IsOutcomeIn c.args.judged s (outcome_in (Ok c.in_ok-seen.seen)))
     c.in_ok-seen.ensures.answer inputs
-    (at_side g.R.ByteSource.bytes_left c.args.side c.args.tiles.now c.args.sinks.now (g.P.ProductInputs.inputs c.args.products.now) inputs t c.in_ok-layout.ensures.layout tell)
+    (at_side g.R.ByteSource.bytes_left c.args.side c.args.tiles.now c.args.given.now (g.P.ProductInputs.inputs c.args.products.now) inputs t c.in_ok-layout.ensures.layout tell)
 
 pub returns-clause-explained : goal.returns-clause-explained
 returns-clause-explained g c = λ inputs tell.
     let t = c.in_ok-layout.layout in
-    let noted = of_tiles g.R.ByteSource.bytes_left t.side c.args.tiles.now c.args.sinks.now (g.P.ProductInputs.inputs c.args.products.now)
+    let noted = of_tiles g.R.ByteSource.bytes_left t.side c.args.tiles.now c.args.given.now (g.P.ProductInputs.inputs c.args.products.now)
     (λ s. (0 < (set_grid s).extent.rows) × AreNotesIn AreFaultNotes c.args.judged s c.in_ok-seen.seen.notes)
     c.in_ok-seen.ensures.noted inputs
-    (at_side g.R.ByteSource.bytes_left c.args.side c.args.tiles.now c.args.sinks.now (g.P.ProductInputs.inputs c.args.products.now) inputs t c.in_ok-layout.ensures.layout tell) in
+    (at_side g.R.ByteSource.bytes_left c.args.side c.args.tiles.now c.args.given.now (g.P.ProductInputs.inputs c.args.products.now) inputs t c.in_ok-layout.ensures.layout tell) in
     c.findings_of.ensures.found (rules_at c.args.judged inputs) (input_grid inputs) (input_products inputs) noted.0 noted.1
 
 pub returns-clause-endless : goal.returns-clause-endless
 returns-clause-endless g c = λ inputs tell.
     let t = c.in_ok-layout.layout in
-    let told = of_tiles g.R.ByteSource.bytes_left t.side c.args.tiles.now c.args.sinks.now (g.P.ProductInputs.inputs c.args.products.now) (λ s. IfSome c.in_ok-seen.seen.endless (IsEndlessOn (set_grid s) (set_products s) c.in_ok-seen.seen.outcome))
+    let told = of_tiles g.R.ByteSource.bytes_left t.side c.args.tiles.now c.args.given.now (g.P.ProductInputs.inputs c.args.products.now) (λ s. IfSome c.in_ok-seen.seen.endless (IsEndlessOn (set_grid s) (set_products s) c.in_ok-seen.seen.outcome))
     c.in_ok-seen.ensures.endless inputs
-    (at_side g.R.ByteSource.bytes_left c.args.side c.args.tiles.now c.args.sinks.now (g.P.ProductInputs.inputs c.args.products.now) inputs t c.in_ok-layout.ensures.layout tell) in
+    (at_side g.R.ByteSource.bytes_left c.args.side c.args.tiles.now c.args.given.now (g.P.ProductInputs.inputs c.args.products.now) inputs t c.in_ok-layout.ensures.layout tell) in
     subst (λ (o : Option (Cell × EndlessPath)). IfSome o (IsEndlessOf inputs c.in_ok-seen.seen.outcome)) (sym c.findings_of.ensures.endless) told

@@ -17,5 +17,5 @@ returns-clause-elevation g c = λ d t tell told.
 
 pub returns-clause-right : goal.returns-clause-right
 returns-clause-right g c =
-    when_checked g.R.ByteSource.bytes_left c.args.dem.now c.args.sinks.now c.args.products.now c.correct_from_rules.ensures (Ok c.in_ok-judgement.judgement.verdict)
+    when_checked g.R.ByteSource.bytes_left c.args.dem.now c.args.given.now c.args.products.now c.correct_from_rules.ensures (Ok c.in_ok-judgement.judgement.verdict)
     (λ d t tell told. (let j = c.in_ok-judgement.ensures.answer d t tell told in (j.readable, j.verdict)))

@@ -8,17 +8,17 @@ use Rattle.drain_verdict.proofs.judgement.judge.Goals as goal
 
 pub returns-clause-answer : goal.returns-clause-answer
 returns-clause-answer g c =
-    of_tiles g.R.ByteSource.bytes_left c.args.layout.now.side c.args.tiles.now c.args.sinks.now (g.P.ProductInputs.inputs c.args.products.now) (λ s. IsJudgementIn c.args.judged s c.judge_set.result) c.judge_set.ensures.answer
+    of_tiles g.R.ByteSource.bytes_left c.args.layout.now.side c.args.tiles.now c.args.given.now (g.P.ProductInputs.inputs c.args.products.now) (λ s. IsJudgementIn c.args.judged s c.judge_set.result) c.judge_set.ensures.answer
 
 pub returns-clause-noted : goal.returns-clause-noted
 returns-clause-noted g c =
     IfOk-weaker c.judge_set.result _ _ (λ judgement noted.
-    of_tiles g.R.ByteSource.bytes_left c.args.layout.now.side c.args.tiles.now c.args.sinks.now (g.P.ProductInputs.inputs c.args.products.now) (λ s. AreNotesIn g.W.RowVisitor.are_of c.args.judged s judgement.walk) noted)
+    of_tiles g.R.ByteSource.bytes_left c.args.layout.now.side c.args.tiles.now c.args.given.now (g.P.ProductInputs.inputs c.args.products.now) (λ s. AreNotesIn g.W.RowVisitor.are_of c.args.judged s judgement.walk) noted)
     c.judge_set.ensures.noted
 
 pub returns-clause-flows : goal.returns-clause-flows
 returns-clause-flows g c =
     IfOk-weaker c.judge_set.result _ _ (λ judgement flows.
-    of_tiles g.R.ByteSource.bytes_left c.args.layout.now.side c.args.tiles.now c.args.sinks.now (g.P.ProductInputs.inputs c.args.products.now)
+    of_tiles g.R.ByteSource.bytes_left c.args.layout.now.side c.args.tiles.now c.args.given.now (g.P.ProductInputs.inputs c.args.products.now)
     (λ s. AreFlowsFor c.args.judged (set_grid s) (set_products s) (extent_of c.args.layout.now) judgement.flows) flows)
     c.judge_set.ensures.flows

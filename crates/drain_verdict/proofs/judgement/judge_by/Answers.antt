@@ -3,6 +3,7 @@ use Rattle.std.proofs.lemmas.Result.{err_from_is_err_and}
 use Rattle.drain_answer.specs.declared.refusal.Refusal.TheVariants.{OutOfMemory}
 use Rattle.drain_grid.specs.Extent.{Extent, IsExtent}
 use Rattle.drain_grid.specs.SinkTexts.{sinks_of}
+use Rattle.drain_verdict.specs.Given.{Given}
 use Rattle.drain_verdict.specs.GroundSets.{GroundSet, rules_in, set_grid, set_products}
 use Rattle.drain_verdict.specs.Texts.{set_listed}
 use Rattle.drain_verdict.specs.Uses.{set_devices}
@@ -36,7 +37,7 @@ returns-in-Ok-clause-answer g c = λ x t means tell.
     let extent = c.shape-shape.ensures ∙ sym ((c.meaning_laws.ensures.laid c.args.frame.now x framed).extent_is) in
     let noted = c.in_ok-read_set.ensures.noted x t means tell in
     let answer = c.in_ok-read_set.ensures.answer x t means tell in
-    let listed = ap sinks_of (sym tell.sinks_are) ∙ listed_ok s answer in
+    let listed = ap sinks_of (ap (λ (given : Given). given.sinks) (c.given.view_is ∙ sym tell.given_is)) ∙ listed_ok s answer in
     let rows = subst (λ (e : Extent). g.D.RowVisitor.are_of (rules_in c.args.judged s) (set_grid s) (set_products s) e.rows c.read_set.new.notes.first) (sym extent) noted.0 in
     let verdict = c.verdict-verdict.ensures (rules_in c.args.judged s) (set_grid s) (set_products s) (sym extent) noted.1 in
     record {

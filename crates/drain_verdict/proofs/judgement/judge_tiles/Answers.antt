@@ -8,7 +8,7 @@ use Rattle.drain_verdict.proofs.judgement.judge_tiles.Goals as goal
 pub returns-in_err-layout-clause-answer : goal.returns-in_err-layout-clause-answer
 returns-in_err-layout-clause-answer g c = λ inputs tell.
     let told = err_from_is_err_and c.from_residual.result c.from_residual.ensures.1 in
-    rw (told.1, told.2) (layout_answer c.one_name.ensures g.R.ByteSource.bytes_left c.args.side c.args.tiles.now c.args.sinks.now (g.P.ProductInputs.inputs c.args.products.now) inputs _ tell c.in_err-layout.ensures.refusal)
+    rw (told.1, told.2) (layout_answer c.one_name.ensures g.R.ByteSource.bytes_left c.args.side c.args.tiles.now c.args.given.now (g.P.ProductInputs.inputs c.args.products.now) inputs _ tell c.in_err-layout.ensures.refusal)
 
 pub returns-in_err-layout-clause-uses : goal.returns-in_err-layout-clause-uses
 returns-in_err-layout-clause-uses g c =
@@ -26,7 +26,7 @@ judge-requires-clause-unnoted g c = λ rules grid ps. record { rows_are = c.new-
 pub returns-clause-answer : goal.returns-clause-answer
 returns-clause-answer g c = λ inputs tell.
     c.judge.ensures.answer inputs
-    (at_side g.R.ByteSource.bytes_left c.args.side c.args.tiles.now c.args.sinks.now (g.P.ProductInputs.inputs c.args.products.now) inputs c.in_ok-layout.layout c.in_ok-layout.ensures.layout tell)
+    (at_side g.R.ByteSource.bytes_left c.args.side c.args.tiles.now c.args.given.now (g.P.ProductInputs.inputs c.args.products.now) inputs c.in_ok-layout.layout c.in_ok-layout.ensures.layout tell)
 
 pub returns-clause-uses : goal.returns-clause-uses
 returns-clause-uses g c =

@@ -8,7 +8,7 @@ use Rattle.drain_verdict.proofs.part_auditor.audit_part.Goals as goal
 
 pub returns-clause-exactly : goal.returns-clause-exactly
 returns-clause-exactly g c = λ none.
-    when_judged (Encode g.R.ByteSource.bytes_left c.args.side c.args.tiles.now c.args.sinks.now (as_five c.args.products.now)) c.args.judged
+    when_judged (Encode g.R.ByteSource.bytes_left c.args.side c.args.tiles.now c.args.given.now (as_five c.args.products.now)) c.args.judged
     (λ outcome inputs. IsAcceptedOutcome outcome ↔ AreJudgedRight c.args.judged inputs)
     (λ outcome inputs answer. exactly c.correct_is_local.ensures c.part_is_local.ensures c.surface_is_part.ensures c.args.judged (input_grid inputs) (input_products inputs) (nodata_numbers inputs) outcome none answer.1)
     c.answer_of.result c.answer_of.ensures.answer

@@ -1,11 +1,9 @@
-use Rattle.std.proofs.Common.{◌≡◌, ℕ, List, ap, subst, sym, ◌∙◌}
+use Rattle.std.proofs.Common.{◌≡◌, subst, sym}
 use Rattle.std.proofs.lemmas.Result.{err_from_is_err_and}
-use Rattle.drain_grid.specs.SinkTexts.{sinks_of}
 use Rattle.drain_answer.specs.declared.refusal.Refusal.TheVariants.{ReadFailed}
 use Rattle.drain_rows.proofs.WindowLemmas.{on-ok}
-use Rattle.drain_verdict.specs.Texts.{lines_in}
 use Rattle.drain_verdict.specs.InputReads.{as_read}
-use Rattle.drain_verdict.specs.Stages.{IsBadLine}
+use Rattle.drain_verdict.specs.Listings.{IsListingOf}
 use Rattle.drain_verdict.proofs.AuditDevices.{devices_none}
 use Rattle.drain_verdict.proofs.RowDevices.{bodies_taken, devices_fail}
 use Rattle.drain_verdict.proofs.read_set.read_bodies.Goals as goal
@@ -38,18 +36,16 @@ pub read_rows-requires-clause-counted : goal.read_rows-requires-clause-counted
 read_rows-requires-clause-counted g c = c.reading_laws.ensures.counted c.args.frame.now c.in_ok-rows.rows.elevations c.in_ok-rows.ensures.begun.elevations
 
 pub returns-clause-answer : goal.returns-clause-answer
-returns-clause-answer g c = λ x t means texts sinks none.
-    let sinks_are = c.in-Ok.ensures.sinks ∙ ap (λ (text : List ℕ). lines_in (sinks_of text)) (sym sinks) in
-    let bad_is = subst (λ (text : List ℕ). IsBadLine (sinks_of text) c.in-Ok.listing.bad) (sym sinks) c.in-Ok.ensures.bad in
-    c.read_rows.ensures.answer c.args.headers c.in_ok-rows.ensures.begun c.nodata_of-nodata.ensures c.requires.shapes x t means texts (sinks_are, bad_is) none
+returns-clause-answer g c = λ x t means texts given none.
+    let listed = subst (IsListingOf c.in-Ok.listing) (sym given) c.in-Ok.ensures in
+    c.read_rows.ensures.answer c.args.headers c.in_ok-rows.ensures.begun c.nodata_of-nodata.ensures c.requires.shapes x t means texts listed none
 
 pub returns-clause-noted : goal.returns-clause-noted
 returns-clause-noted g c =
     on-ok c.read_rows.result
-    (λ noted x t means texts sinks none.
-    let sinks_are = c.in-Ok.ensures.sinks ∙ ap (λ (text : List ℕ). lines_in (sinks_of text)) (sym sinks) in
-    let bad_is = subst (λ (text : List ℕ). IsBadLine (sinks_of text) c.in-Ok.listing.bad) (sym sinks) c.in-Ok.ensures.bad in
-    noted c.args.headers c.in_ok-rows.ensures.begun c.nodata_of-nodata.ensures c.requires.shapes x t means texts (sinks_are, bad_is) none)
+    (λ noted x t means texts given none.
+    let listed = subst (IsListingOf c.in-Ok.listing) (sym given) c.in-Ok.ensures in
+    noted c.args.headers c.in_ok-rows.ensures.begun c.nodata_of-nodata.ensures c.requires.shapes x t means texts listed none)
     c.read_rows.ensures.noted
 
 pub returns-clause-inputs_within : goal.returns-clause-inputs_within

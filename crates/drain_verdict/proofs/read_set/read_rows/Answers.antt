@@ -4,7 +4,7 @@ use Rattle.drain_answer.specs.declared.refusal.Refusal.TheVariants.{ReadFailed}
 use Rattle.drain_verdict.specs.GroundSets.{GroundSet}
 use Rattle.drain_verdict.specs.InputReads.{as_read}
 use Rattle.drain_verdict.specs.Refusals.{refusal_of}
-use Rattle.drain_verdict.proofs.RowCheck.{all_read, came, ground_asked, none_stands, notes_hold, of_call, of_reading_answers, of_reading_bodies, refusal_answers, refused, sinks_answer}
+use Rattle.drain_verdict.proofs.RowCheck.{all_read, came, ground_asked, none_stands, notes_hold, of_call, of_reading_answers, of_reading_bodies, refusal_answers, refused, lists_answer}
 use Rattle.drain_verdict.proofs.read_set.read_rows.Goals as goal
 
 pub returns-in-Err-clause-answer : goal.returns-in-Err-clause-answer
@@ -58,8 +58,8 @@ returns-in-Some-clause-reads g c =
     all_read g.T.GroundInput.after g.T.GroundInput.has_read g.R.ByteSource.bytes_left g.R.ByteSource.counts c.reading_laws.ensures.nothing (as_read g.P.ProductInputs.readers g.P.ProductInputs.inputs) (c.args.rows.now, c.args.inputs.now, c.args.products.now) (new.source, new.tiles, new.products) _ c.in-Ok.ensures.reads
     (λ is. c.in-Some.ensures.no_read (let same : c.in-Some.refusal ≡ ReadFailed = cc in ap Some same))
 
-pub returns-in-Some-sink_refusal-clause-answer : goal.returns-in-Some-sink_refusal-clause-answer
-returns-in-Some-sink_refusal-clause-answer g c = λ hs begun nodata shapes x t means texts lists none.
+pub returns-in-Some-listing_refusal-clause-answer : goal.returns-in-Some-listing_refusal-clause-answer
+returns-in-Some-listing_refusal-clause-answer g c = λ hs begun nodata shapes x t means texts lists none.
     let view = as_read g.P.ProductInputs.readers g.P.ProductInputs.inputs in
     let new = c.visit_rows.new in
     let s : GroundSet = record { terrain = g.T.GroundInput.terrain x; texts = t } in
@@ -72,14 +72,14 @@ returns-in-Some-sink_refusal-clause-answer g c = λ hs begun nodata shapes x t m
     let come = came g.T.GroundInput.after g.T.GroundInput.has_read g.R.ByteSource.bytes_left g.R.ByteSource.counts c.reading_laws.ensures.nothing view (c.args.rows.now, c.args.inputs.now, c.args.products.now) (new.source, new.tiles, new.products) _ None c.in-Ok.ensures.reads in
     let asked = subst (λ (e : Extent). g.T.GroundInput.after new.source.elevations new.tiles (g.T.GroundInput.rows_of x) (e.rows + 1)) c.shape-shape.ensures
     (ground_asked g.T.GroundInput.after g.T.GroundInput.has_read g.R.ByteSource.bytes_left g.R.ByteSource.counts (g.T.GroundInput.begun c.args.frame.now) s (g.T.GroundInput.rows_of x) hs start now c.shape-shape.result of_set come) in
-    sinks_answer g.T.GroundInput.after g.T.GroundInput.has_read g.R.ByteSource.bytes_left g.R.ByteSource.counts (g.T.GroundInput.begun c.args.frame.now) s (g.T.GroundInput.rows_of x) hs start now c.shape-shape.result of_set come (c.in_default.ensures.refusal x new.tiles framed asked)
-    c.found_off_data_is_right.ensures c.args.listing.now c.in-Ok.voids c.in-Some-sink_refusal.refusal lists.0 lists.1 c.in-Ok.ensures.voids c.in-Some-sink_refusal.ensures.told
+    lists_answer g.T.GroundInput.after g.T.GroundInput.has_read g.R.ByteSource.bytes_left g.R.ByteSource.counts (g.T.GroundInput.begun c.args.frame.now) s (g.T.GroundInput.rows_of x) hs start now c.shape-shape.result of_set come (c.in_default.ensures.refusal x new.tiles framed asked)
+    c.found_off_data_is_right.ensures c.args.listing.now c.in-Ok.voids c.in-Some-listing_refusal.refusal lists c.in-Ok.ensures.voids c.in-Some-listing_refusal.ensures.told
 
-pub returns-in-Some-sink_refusal-clause-reads : goal.returns-in-Some-sink_refusal-clause-reads
-returns-in-Some-sink_refusal-clause-reads g c =
+pub returns-in-Some-listing_refusal-clause-reads : goal.returns-in-Some-listing_refusal-clause-reads
+returns-in-Some-listing_refusal-clause-reads g c =
     let new = c.visit_rows.new in
     all_read g.T.GroundInput.after g.T.GroundInput.has_read g.R.ByteSource.bytes_left g.R.ByteSource.counts c.reading_laws.ensures.nothing (as_read g.P.ProductInputs.readers g.P.ProductInputs.inputs) (c.args.rows.now, c.args.inputs.now, c.args.products.now) (new.source, new.tiles, new.products) _ c.in-Ok.ensures.reads
-    (λ is. c.in-Some-sink_refusal.ensures.no_read (let same : c.in-Some-sink_refusal.refusal ≡ ReadFailed = cc in ap Some same))
+    (λ is. c.in-Some-listing_refusal.ensures.no_read (let same : c.in-Some-listing_refusal.refusal ≡ ReadFailed = cc in ap Some same))
 
 pub returns-clause-answer : goal.returns-clause-answer
 returns-clause-answer g c = λ hs begun nodata shapes x t means texts lists none.
@@ -96,7 +96,7 @@ returns-clause-answer g c = λ hs begun nodata shapes x t means texts lists none
     let asked = subst (λ (e : Extent). g.T.GroundInput.after new.source.elevations new.tiles (g.T.GroundInput.rows_of x) (e.rows + 1)) c.shape-shape.ensures
     (ground_asked g.T.GroundInput.after g.T.GroundInput.has_read g.R.ByteSource.bytes_left g.R.ByteSource.counts (g.T.GroundInput.begun c.args.frame.now) s (g.T.GroundInput.rows_of x) hs start now c.shape-shape.result of_set come) in
     none_stands g.T.GroundInput.after g.T.GroundInput.has_read g.R.ByteSource.bytes_left g.R.ByteSource.counts (g.T.GroundInput.begun c.args.frame.now) s (g.T.GroundInput.rows_of x) hs start now c.shape-shape.result of_set come (c.in_default.ensures.refusal x new.tiles framed asked)
-    c.found_off_data_is_right.ensures c.args.listing.now c.in-Ok.voids lists.0 lists.1 c.in-Ok.ensures.voids c.in-None.ensures.told
+    c.found_off_data_is_right.ensures c.args.listing.now c.in-Ok.voids lists c.in-Ok.ensures.voids c.in-None.ensures.told
 
 pub returns-clause-noted : goal.returns-clause-noted
 returns-clause-noted g c = λ hs begun nodata shapes x t means texts lists none.
@@ -113,7 +113,7 @@ returns-clause-noted g c = λ hs begun nodata shapes x t means texts lists none.
     let asked = subst (λ (e : Extent). g.T.GroundInput.after new.source.elevations new.tiles (g.T.GroundInput.rows_of x) (e.rows + 1)) c.shape-shape.ensures
     (ground_asked g.T.GroundInput.after g.T.GroundInput.has_read g.R.ByteSource.bytes_left g.R.ByteSource.counts (g.T.GroundInput.begun c.args.frame.now) s (g.T.GroundInput.rows_of x) hs start now c.shape-shape.result of_set come) in
     notes_hold g.T.GroundInput.after g.T.GroundInput.has_read g.R.ByteSource.bytes_left g.R.ByteSource.counts (g.T.GroundInput.begun c.args.frame.now) s (g.T.GroundInput.rows_of x) hs start now c.shape-shape.result of_set come (c.in_default.ensures.refusal x new.tiles framed asked)
-    g.K.RowVisitor.are_of c.args.rules.now new.notes c.args.listing.now.sinks nodata lists.0 c.in-Ok.ensures.noted
+    g.K.RowVisitor.are_of c.args.rules.now new.notes c.args.listing.now nodata lists c.in-Ok.ensures.noted
 
 pub returns-clause-reads : goal.returns-clause-reads
 returns-clause-reads g c =

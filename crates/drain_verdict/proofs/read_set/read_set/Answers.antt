@@ -11,7 +11,7 @@ pub returns-in_err-headers-clause-answer : goal.returns-in_err-headers-clause-an
 returns-in_err-headers-clause-answer g c = λ x t means tell.
     let told = err_from_is_err_and c.from_residual.result c.from_residual.ensures.1 in
     let framed = c.meaning_laws.ensures.framed c.args.frame.now c.args.inputs.now x c.requires.fit means in
-    rw (told.1, told.2) (header_answer g.R.ByteSource.bytes_left (record { terrain = g.T.GroundInput.terrain x; texts = t }) c.args.sinks.now (g.P.ProductInputs.inputs c.args.products.now) tell _ _
+    rw (told.1, told.2) (header_answer g.R.ByteSource.bytes_left (record { terrain = g.T.GroundInput.terrain x; texts = t }) c.args.given.now (g.P.ProductInputs.inputs c.args.products.now) tell _ _
     (c.meaning_laws.ensures.laid c.args.frame.now x framed) (c.meaning_laws.ensures.none_early c.args.frame.now c.args.inputs.now x c.requires.fit means) _
     (told_of_same _ _ _ _ _ c.in_err-headers.ensures.refusal c.texts.ensures))
 
@@ -30,20 +30,20 @@ read_bodies-requires-clause-alike g c =
 pub returns-clause-answer : goal.returns-clause-answer
 returns-clause-answer g c = λ x t means tell.
     let framed = c.meaning_laws.ensures.framed c.args.frame.now c.args.inputs.now x c.requires.fit means in
-    let begun = started g.R.ByteSource.bytes_left (record { terrain = g.T.GroundInput.terrain x; texts = t }) c.args.sinks.now (g.P.ProductInputs.inputs c.args.products.now) tell _ _
+    let begun = started g.R.ByteSource.bytes_left (record { terrain = g.T.GroundInput.terrain x; texts = t }) c.args.given.now (g.P.ProductInputs.inputs c.args.products.now) tell _ _
     (c.meaning_laws.ensures.laid c.args.frame.now x framed) (c.meaning_laws.ensures.none_early c.args.frame.now c.args.inputs.now x c.requires.fit means) c.in_ok-headers.headers
     (headers_of_same _ _ _ _ _ c.in_ok-headers.ensures.headers c.texts.ensures) in
-    c.read_bodies.ensures.answer x t (means, framed) begun.0 tell.sinks_are begun.1
+    c.read_bodies.ensures.answer x t (means, framed) begun.0 tell.given_is begun.1
 
 pub returns-clause-noted : goal.returns-clause-noted
 returns-clause-noted g c =
     on-ok c.read_bodies.result
     (λ noted x t means tell.
     let framed = c.meaning_laws.ensures.framed c.args.frame.now c.args.inputs.now x c.requires.fit means in
-    let begun = started g.R.ByteSource.bytes_left (record { terrain = g.T.GroundInput.terrain x; texts = t }) c.args.sinks.now (g.P.ProductInputs.inputs c.args.products.now) tell _ _
+    let begun = started g.R.ByteSource.bytes_left (record { terrain = g.T.GroundInput.terrain x; texts = t }) c.args.given.now (g.P.ProductInputs.inputs c.args.products.now) tell _ _
     (c.meaning_laws.ensures.laid c.args.frame.now x framed) (c.meaning_laws.ensures.none_early c.args.frame.now c.args.inputs.now x c.requires.fit means) c.in_ok-headers.headers
     (headers_of_same _ _ _ _ _ c.in_ok-headers.ensures.headers c.texts.ensures) in
-    noted x t (means, framed) begun.0 tell.sinks_are begun.1)
+    noted x t (means, framed) begun.0 tell.given_is begun.1)
     c.read_bodies.ensures.noted
 
 pub returns-clause-uses : goal.returns-clause-uses

@@ -9,7 +9,7 @@ use Rattle.drain_flood.proofs.Laying.{laid_data, laid_gap, above_void}
 use Rattle.drain_flood.proofs.flood.Flood.lay_cell.Goals as goal
 
 pub returns-in_ok-lay-in-Some-clause-laid : goal.returns-in_ok-lay-in-Some-clause-laid
-returns-in_ok-lay-in-Some-clause-laid c = λ sinks same laid.
+returns-in_ok-lay-in-Some-clause-laid c = λ spacing sinks same laid.
     (let h = c.args.elevation.now in
     let fits : SFits w16 c.in-Some.ground = search rules in
     let ground_is = to_z-of_z w16 c.in-Some.ground fits in
@@ -18,11 +18,11 @@ returns-in_ok-lay-in-Some-clause-laid c = λ sinks same laid.
     let lays : Lays h.extent c.args.self.now c.lay.new.self c.args.cell c.in-Some.ground c.is_open-opens.result =
     subst (λ z. Lays h.extent c.args.self.now c.lay.new.self c.args.cell z c.is_open-opens.result) ground_is
     (subst (λ e. Lays e c.args.self.now c.lay.new.self c.args.cell (to_z w16 (of_z w16 c.in-Some.ground)) c.is_open-opens.result) c.requires.same c.in_ok-lay-in-Some.ensures.lays) in
-    laid_data h sinks c.args.self.now c.lay.new.self c.args.cell c.in-Some.ground c.args.listed c.is_open-opens.result c.requires.inside
+    laid_data spacing h sinks c.args.self.now c.lay.new.self c.args.cell c.in-Some.ground c.args.listed c.is_open-opens.result c.requires.inside
     (sym c.in-Some.ensures.height) above same
     (or_of c.is_open-opens.result c.args.listed c.args.beside c.is_open-opens.ensures
     (beside_gap h c.args.cell c.in-Some.ground c.requires.inside (sym c.in-Some.ensures.height) c.args.beside c.requires.beside)) lays laid)
 
 pub returns-in-None-clause-laid : goal.returns-in-None-clause-laid
-returns-in-None-clause-laid c = λ sinks same laid.
-    laid_gap c.args.elevation.now sinks c.args.self.now c.args.cell c.requires.inside (sym c.in-None.ensures.height) laid
+returns-in-None-clause-laid c = λ spacing sinks same laid.
+    laid_gap spacing c.args.elevation.now sinks c.args.self.now c.args.cell c.requires.inside (sym c.in-None.ensures.height) laid

@@ -2,7 +2,8 @@
 use Rattle.std.proofs.Common.{◌≡◌, ◌↔◌, IsTrue, ℕ, ◌+◌, ◌*◌, ◌<◌, false, List, length, slice_index_or}
 use Rattle.drain_grid.specs.declared.sink_line.SinkLine.{SinkLine}
 use Rattle.drain_grid.specs.SinkTexts.{is_listed}
-use Rattle.drain_grid.specs.WholeGrid.{grid_of}
+use Rattle.drain_grid.specs.Spacing.{Distances}
+use Rattle.drain_grid.specs.WholeGrid.{spaced_grid}
 use Rattle.drain_flood.specs.Laid.{IsLaid, IsGapIn}
 use Rattle.drain_flood.proofs.flood.Flood.lay_row.Given as goal
 
@@ -11,7 +12,7 @@ invariant-loop-col l = record {
   west : IsTrue l.west ↔ IsGapIn l.elevation l.row (l.col + 0);
   here : IsTrue l.here ↔ IsGapIn l.elevation l.row (l.col + 1);
   extent : l.self.extent ≡ l.fn.self.extent;
-  laid : (sinks : List SinkLine) → ((col : ℕ) → col < length l.listed → slice_index_or l.listed col false ≡ is_listed sinks (record { row = l.row; col = col })) →
-      IsLaid (grid_of l.elevation sinks) l.fn.self (l.row * l.elevation.extent.cols) →
-      IsLaid (grid_of l.elevation sinks) l.self (l.row * l.elevation.extent.cols + l.col);
+  laid : (spacing : ℕ → Distances) (sinks : List SinkLine) → ((col : ℕ) → col < length l.listed → slice_index_or l.listed col false ≡ is_listed sinks (record { row = l.row; col = col })) →
+      IsLaid (spaced_grid spacing l.elevation sinks) l.fn.self (l.row * l.elevation.extent.cols) →
+      IsLaid (spaced_grid spacing l.elevation sinks) l.self (l.row * l.elevation.extent.cols + l.col);
 }
