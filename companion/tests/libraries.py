@@ -43,7 +43,8 @@ def least_surface(z: np.ndarray, void: np.ndarray, sinks: tuple[tuple[int, int],
 
 def slopes(con: np.ndarray, void: np.ndarray, sizes: tuple[int, int] = SQUARE) -> dict[int, np.ndarray]:
     """Code to the square of the slope down that way, times the product of the three squared distances; 0 where it isn't down."""
-    found, squares = {}, {code: (right * sizes[0]) ** 2 + (down * sizes[1]) ** 2 for code, (down, right) in STEP.items()}
+    squares = {code: (right * sizes[0]) ** 2 + (down * sizes[1]) ** 2 for code, (down, right) in STEP.items()}
+    found = {}
     for code, beside in shifted(np.where(void, HIGH, con.astype(np.int64)), HIGH).items():
         drop = np.where(void | (beside == HIGH), 0, np.maximum(con.astype(np.int64) - beside, 0))
         found[code] = drop**2 * (squares[1] * squares[2] * squares[4] // squares[code])

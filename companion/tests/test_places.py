@@ -106,7 +106,9 @@ def test_longitudes_modulo_360(tmp_path: Path, world: worlds.World) -> None:
 def test_directions_by_distances_on_the_ground_are_told_apart(tmp_path: Path) -> None:
     """At 60 degrees north a degree of longitude is half as long as one of latitude."""
     z = np.random.default_rng(2).integers(0, 900, (30, 30)).astype(np.int32)
-    made, place = libraries.make(z, z < 0, np.random.default_rng(3), sizes=(1, 2)), Affine(0.001, 0, 10, 0, -0.001, 60.015)
+    place, made = Affine(0.001, 0, 10, 0, -0.001, 60.015), libraries.make(
+        z, z < 0, np.random.default_rng(3), sizes=(1, 2)
+    )
     arrays = {"dem": z, "dir": made["dir"].astype(np.uint8)}
     paths = {n: worlds.write_tif(tmp_path / f"{n}.tif", a, None, place, 4326) for n, a in arrays.items()}
     done = command("judge", *worlds.words(paths))

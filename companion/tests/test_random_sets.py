@@ -127,7 +127,13 @@ def cases(draw: Any, spacings: tuple[str, ...] = ("unit", *SPACINGS)) -> Case:
     if changed in ("none", "con", "dir"):
         for name in draw(st.sets(st.sampled_from(["acc", "bas"]))):
             del given[name]
-    options = {"codes": codes, "ends": ends, "acc_counts": counting, "nodata": dict.fromkeys(given, NODATA), "spacing": spacing}
+    options = {
+        "codes": codes,
+        "ends": ends,
+        "acc_counts": counting,
+        "nodata": dict.fromkeys(given, NODATA),
+        "spacing": spacing,
+    }
     return Case(changed, z, void, seen, given, options)
 
 
@@ -210,7 +216,12 @@ def test_steepness_of_floats_is_that_of_libraries(terrain: Any, twos: int, kind:
 
 @settings(max_examples=40)
 @given(
-    terrains(), st.integers(0, 20), st.sampled_from(["f4", "f8"]), st.sampled_from(list(TOOLS)), st.booleans(), st.sampled_from(list(SPACINGS))
+    terrains(),
+    st.integers(0, 20),
+    st.sampled_from(["f4", "f8"]),
+    st.sampled_from(list(TOOLS)),
+    st.booleans(),
+    st.sampled_from(list(SPACINGS)),
 )
 def test_what_is_made_is_right_by_libraries(
     terrain: Any, twos: int, kind: str, tool: str, has_sink: bool, spacing: str
