@@ -80,7 +80,7 @@ def sizes_of(word: str) -> Pair:
     while any(size.denominator > 1 for size in sizes):
         sizes = [size * 10 for size in sizes]
     if not sizes or not all(1 <= size <= MOST for size in sizes):
-        raise CannotJudge(f"--spacing {word}: expected {', '.join(KINDS)}, or W,H: two numbers above 0 of at most nine digits")
+        raise CannotJudge(f"--spacing {word}: expected {', '.join(KINDS)}, or W,H: two sizes, as 10,12.5")
     return int(sizes[0]), int(sizes[1])
 
 

@@ -50,7 +50,8 @@ def note_shares(made: Converted) -> None:
     ways = {kind: spacing_of(kind, dem) for kind in kinds} | {own.kind: own}
     found = dict(zip(ways, shares(made, [(name, way) for way in ways.values()])))
     listed = ", ".join(f"{found[kind]:.1%} by {way}" for kind, way in ways.items())
-    text, best = f"dir: steepest ways, of all cells with a lower neighbour: {listed}", max(found, key=lambda kind: found[kind])
+    text = f"dir: steepest ways, of all cells with a lower neighbour: {listed}"
+    best = max(found, key=lambda kind: found[kind])
     if found[best] > found[own.kind] + BETTER:
         text += f". Slopes were judged by {own}: --spacing {best} fits better"
     made.note(text)

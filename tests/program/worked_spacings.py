@@ -16,7 +16,7 @@ from pathlib import Path
 sys.dont_write_bytecode = True
 import made_dems
 import worked_dems
-from dem_sets import FALL, FALL_LINE, PIT, one_dem
+from dem_sets import FALL, FALL_LINE, PIT, one_dem, pixels_of
 from small_sets import DemSet, Lines, Set, one_tile
 from worked_lines import PIT as PIT_TILE
 from worked_lines import PIT_LINE
@@ -85,6 +85,21 @@ CORNERS = [
     Corner(f"{MOST},{MOST}", (1000, 1001, 1000), {EAST, SOUTH}),
 ]
 
+# Widths and heights of pixels in a header, and the right codes for drops of 3, 5 and 4; none where no two whole numbers up to
+# 2^30 have their ratio. Of a decimal 15 places count.
+HEADERS = [
+    ("3", "4", {EAST, SOUTH_EAST, SOUTH}),
+    ("30", "40", {EAST, SOUTH_EAST, SOUTH}),
+    ("3e-4", ".00040", {EAST, SOUTH_EAST, SOUTH}),
+    ("0.000000000000003", "0.0000000000000049", {EAST, SOUTH_EAST, SOUTH}),
+    ("3221225469", "4294967292", {EAST, SOUTH_EAST, SOUTH}),
+    ("0.000833333333333", "0.000833333333333", {SOUTH}),
+    ("4", "3", {SOUTH}),
+    ("1", "1.000000000000001", set()),
+    ("0.000000000000001", "0.000001073741825", set()),
+    ("0.000000000000001", "0.000001073741824", {EAST}),
+]
+
 THREE = "1 1\n1 1\n1 1\n"
 # Texts for three rows.
 TEXTS = [
@@ -137,6 +152,23 @@ class Runs(Lines):
                         for command in (["audit"], ["audit", "--only", "con,dir"], ["check"]):
                             self.expect(f"{command} {corner}, {code}", LINE if code in corner.right else SLOPE, [*command, *words])
                         self.made(corner, words, Path(folder, "made"))
+
+    def headers(self) -> None:
+        """Pixel sizes of the elevations' header, and the place of a raster that is refused."""
+        for width, height, right in HEADERS:
+            for code in (EAST, SOUTH_EAST, SOUTH):
+                con, *others = Corner("", (3, 5, 4), right).products(code)
+                products = pixels_of(one_dem(2, 2, "i", con, con, *others), width, height)
+                with tempfile.TemporaryDirectory() as folder:
+                    command = ["audit", *products.write(Path(folder)), "--spacing", "header"]
+                    if right:
+                        self.expect(f"header {width} {height}, {code}", LINE if code in right else SLOPE, command)
+                    else:
+                        self.expect_usage(command)
+        for line, change in (("NBANDS 2", "BadHeader dem NotOneBand"), ("YDIM 0", "BadPixelSize dem"), ("XDIM -30", "BadPixelSize dem")):
+            with tempfile.TemporaryDirectory() as folder:
+                words = FALL.with_line("dem", line).write(Path(folder))
+                self.expect(f"header {line}", f"refused {change}", ["audit", *words, "--spacing", "header"])
 
     def made(self, corner: Corner, words: list[str], out: Path) -> None:
         out.mkdir()
@@ -208,6 +240,7 @@ class Runs(Lines):
 def main() -> None:
     runs = Runs(Path(sys.argv[1]).resolve())
     runs.corners()
+    runs.headers()
     runs.texts()
     runs.order()
     runs.words()
