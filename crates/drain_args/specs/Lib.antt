@@ -1,3 +1,4 @@
 pub mod Clusters
 pub mod PlaceTexts
 pub mod Requests
+pub mod SpacingTexts

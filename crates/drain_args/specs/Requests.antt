@@ -19,7 +19,10 @@ use Rattle.drain_args.specs.declared.requests.WindowArgs.{WindowArgs}
 use Rattle.drain_args.specs.declared.requests.Request.{Request}
 use Rattle.drain_args.specs.declared.requests.Request.TheVariants.{Audit, Check, Derive, Explain, Window, Merge, Make, Fill, Header}
 use Rattle.drain_args.specs.declared.commands.TheConstants.{DEFAULT_SIDE}
+use Rattle.drain_args.specs.declared.spacings.SpacingChoice.{SpacingChoice}
+use Rattle.drain_args.specs.declared.spacings.SpacingChoice.TheVariants.{Unit as Square, Same, Header as OfHeader, ByRow}
 use Rattle.drain_args.specs.PlaceTexts.{IsBox, IsCellText, IsInner}
+use Rattle.drain_args.specs.SpacingTexts.{IsSpacingText}
 use Rattle.drain_grid.specs.declared.cell.Cell.{Cell}
 use Rattle.drain_union.specs.Windows.{IsOrigin}
 
@@ -55,16 +58,34 @@ abbrev pub AreElevations : Found → Elevations → Type 0
 AreElevations f (Tiles tiles) = IsDemOption f None × AreTiles f tiles
 AreElevations f (Dem dem) = IsDemOption f (Some dem)
 
--- the elevations are as given, the folder of the products is that of this option, and the rest that of the options
-pub record IsProductArgs {E : Type 0} (option : Text) (f : Found) (IsGiven : E → Type 0) (args : ProductArgs E) : Type 0 where
-  pub elevations : IsGiven args.elevations
+-- what a text of --spacing chooses: the header of a raster of elevations, or the width and height that it names
+abbrev pub IsSpacingChoice : Text → Elevations → SpacingChoice → Type 0
+IsSpacingChoice text (Dem dem) OfHeader = text ≡ codes "header"
+IsSpacingChoice text (Tiles tiles) OfHeader = ⊥
+IsSpacingChoice text e (Same s) = IsSpacingText text s
+IsSpacingChoice text e Square = ⊥
+IsSpacingChoice text e (ByRow path) = ⊥
+
+-- how far apart cells are: by the text of one option, by the path of another, or on unit spacing; no two options say it
+abbrev pub IsSpacingOption : Found → Elevations → SpacingChoice → Type 0
+IsSpacingOption f e Square = (first_value f (codes "spacing") ≡ None) × (first_value f (codes "widths") ≡ None)
+IsSpacingOption f e (ByRow path) = (first_value f (codes "spacing") ≡ None) × (first_value f (codes "widths") ≡ Some path.now)
+IsSpacingOption f e (Same s) =
+    (text : Text) × (first_value f (codes "spacing") ≡ Some text) × IsSpacingChoice text e (Same s) × (first_value f (codes "widths") ≡ None)
+IsSpacingOption f e OfHeader =
+    (text : Text) × (first_value f (codes "spacing") ≡ Some text) × IsSpacingChoice text e OfHeader × (first_value f (codes "widths") ≡ None)
+
+-- the folder of the products is that of this option, and the rest is as the options say
+pub record IsProductArgs (option : Text) (f : Found) (args : ProductArgs Elevations) : Type 0 where
+  pub elevations : AreElevations f args.elevations
   pub folder : args.folder.now ≡ unwrap_or (first_value f option) []
   pub sinks : option_map (λ path. path.now) args.sinks ≡ first_value f (codes "sinks")
+  pub spacing : IsSpacingOption f args.elevations args.spacing
   pub progress : IsFlag (codes "progress") f args.progress
 
 -- inputs whose products are there already, of tiles or of one raster
 abbrev pub AreInputs : Found → ProductArgs Elevations → Type 0
-AreInputs f args = IsProductArgs (codes "products") f (AreElevations f) args
+AreInputs f args = IsProductArgs (codes "products") f args
 
 -- a raster of elevations begins at the cell of the whole that an option names; none is named for tiles
 abbrev pub IsStart : Found → Elevations → Cell → Type 0
@@ -118,7 +139,7 @@ IsRequestOf name f (Explain args) =
     (name ≡ codes "explain") × (AreInputs f args.inputs × (IsListOption f args.only × (IsMap f args.map × IsFlag (codes "json") f args.json)))
 IsRequestOf name f (Window args) = (name ≡ codes "window") × IsWindowArgs f args
 IsRequestOf name f (Merge args) = (name ≡ codes "merge") × IsMergeArgs f args
-IsRequestOf name f (Make args) = (name ≡ codes "make") × IsProductArgs (codes "out") f (AreElevations f) args
+IsRequestOf name f (Make args) = (name ≡ codes "make") × IsProductArgs (codes "out") f args
 IsRequestOf name f (Derive args) =
     (name ≡ codes "derive") × (AreInputs f args.inputs × (args.out.now ≡ unwrap_or (first_value f (codes "out")) []))
 IsRequestOf name f (Fill side) = (name ≡ codes "fill") × IsSideOption f side

@@ -24,6 +24,8 @@ enum ArgSpec {
     Out,
     Only,
     Sinks,
+    Spacing,
+    Widths,
     Progress,
     Map,
     Json,
@@ -52,6 +54,8 @@ pub(crate) const AUDIT: CommandSpec = CommandSpec {
         ArgSpec::Products,
         ArgSpec::Only,
         ArgSpec::Sinks,
+        ArgSpec::Spacing,
+        ArgSpec::Widths,
         ArgSpec::Progress,
         ArgSpec::Tiles,
     ],
@@ -67,6 +71,8 @@ pub(crate) const CHECK: CommandSpec = CommandSpec {
         ArgSpec::Side,
         ArgSpec::Products,
         ArgSpec::Sinks,
+        ArgSpec::Spacing,
+        ArgSpec::Widths,
         ArgSpec::Progress,
         ArgSpec::Tiles,
     ],
@@ -83,6 +89,8 @@ pub(crate) const EXPLAIN: CommandSpec = CommandSpec {
         ArgSpec::Products,
         ArgSpec::Only,
         ArgSpec::Sinks,
+        ArgSpec::Spacing,
+        ArgSpec::Widths,
         ArgSpec::Progress,
         ArgSpec::Tiles,
         ArgSpec::Map,
@@ -104,6 +112,8 @@ pub(crate) const WINDOW: CommandSpec = CommandSpec {
         ArgSpec::Inner,
         ArgSpec::Report,
         ArgSpec::Sinks,
+        ArgSpec::Spacing,
+        ArgSpec::Widths,
         ArgSpec::Progress,
         ArgSpec::Tiles,
     ],
@@ -127,6 +137,8 @@ pub(crate) const MAKE: CommandSpec = CommandSpec {
         ArgSpec::Side,
         ArgSpec::Out,
         ArgSpec::Sinks,
+        ArgSpec::Spacing,
+        ArgSpec::Widths,
         ArgSpec::Progress,
         ArgSpec::Tiles,
     ],
@@ -225,6 +237,8 @@ fn argument<'a>(alloc: Global, spec: ArgSpec) -> Result<Arg<'a>, AllocError> {
         ArgSpec::Out => folder(alloc, "out", help_texts::OUT_HELP),
         ArgSpec::Only => only(alloc),
         ArgSpec::Sinks => file(alloc, "sinks", help_texts::SINKS_HELP),
+        ArgSpec::Spacing => spacing(alloc)?,
+        ArgSpec::Widths => file(alloc, "widths", help_texts::WIDTHS_HELP),
         ArgSpec::Progress => flag(alloc, "progress", help_texts::PROGRESS_HELP),
         ArgSpec::Map => file(alloc, "map", explain_texts::MAP_HELP),
         ArgSpec::Json => flag(alloc, "json", explain_texts::JSON_HELP),
@@ -252,6 +266,13 @@ fn side<'a>(alloc: Global) -> Arg<'a> {
         .value_parser(clap::value_parser!(u32))
         .default_value(DEFAULT_SIDE_TEXT)
         .help(help_texts::SIDE_HELP)
+}
+
+/// Width and height of all cells, which go with no text that says them row by row.
+fn spacing<'a>(alloc: Global) -> Result<Arg<'a>, AllocError> {
+    path(alloc, "spacing", "W,H", help_texts::SPACING_HELP)
+        .long("spacing")
+        .conflicts_with("widths")
 }
 
 /// A required option that names a folder.

@@ -16,6 +16,11 @@ and DIR/con.bil, and so on.
 A listed sink is a data cell where water may end inland, as in a lake without an outlet. Its line in FILE
 is its row and its column, counted from 0 at the north-west corner of the mosaic.
 
+Slopes are compared over square cells, or over the width and height of cells that --spacing gives, in any one
+unit, or --widths, in a unit for each row: a line for each row from the north, two whole numbers up to
+1073741824. The width in a row is that for water that leaves one of its cells. --spacing header takes the
+ratio of XDIM and YDIM in the header of --dem.
+
 A raster of elevations may have any shape up to 28801 by 28801, pixels of 8, 16 or 32 bits and any unit. A
 cell is void where its pixel is the header's NODATA. The other rasters lie on it: the same rows and columns,
 the corner within a hundredth of a pixel.")
@@ -31,7 +36,8 @@ macro_rules! judged_after {
   2  refused BadSide, refused BadName I, refused NoTiles, refused RepeatedTile TILE, refused BoxTooLarge,
      refused BadHeader PRODUCT FAULT (a fault of drain header), refused WrongShape PRODUCT,
      refused Misplaced PRODUCT, refused BadTileLength TILE, refused RasterShort PRODUCT,
-     refused SeamMismatch row=R col=C, refused BadSinkLine LINE, refused SinkNotData LINE;
+     refused SeamMismatch row=R col=C, refused BadSinkLine LINE, refused SinkNotData LINE,
+     refused BadSpacingLine LINE, refused SpacingRows ROWS;
      with --dem refused BadHeader dem FAULT, refused BadPixelSize dem, refused RasterShort dem
   3  failed Open PATH, failed ReadFailed, failed OutOfMemory, or standard output couldn't be written
 
@@ -95,8 +101,9 @@ DIR/con.bil, and the same for dir, acc, bas and rnk. drain check --help says wha
 of elevations they lie as it does, and con has its pixels and its NODATA, or 4294967296 if it has none.
 
 Depressions are filled by a flood inwards from edges, voids and listed sinks (Priority-Flood). Off flats the
-direction is the first of the steepest descents in the order E, SE, S, SW, W, NW, N, NE; on flats it is the
-shortest way to a lower cell or an outlet. Labels number the outlets from 1, row by row.
+direction is the first of the steepest descents in the order E, SE, S, SW, W, NW, N, NE, over square cells or
+those of --spacing or --widths; on flats it is the shortest way to a lower cell or an outlet. Labels number the
+outlets from 1, row by row.
 
 The rasters are proved to be correct, and the files are created only when no refusal is possible any
 more. Existing files are replaced. Prints one line.";
@@ -105,8 +112,8 @@ pub const MAKE_AFTER: &str = "Lines and exit statuses:
   0  made rows=R cols=C
   2  refused BadSide, refused BadName I, refused NoTiles, refused RepeatedTile TILE, refused BoxTooLarge,
      refused BadTileLength TILE, refused SeamMismatch row=R col=C, refused BadSinkLine LINE,
-     refused SinkNotData LINE; with --dem refused BadHeader dem FAULT, refused BadPixelSize dem,
-     refused RasterShort dem; nothing was written
+     refused SinkNotData LINE, refused BadSpacingLine LINE, refused SpacingRows ROWS; with --dem
+     refused BadHeader dem FAULT, refused BadPixelSize dem, refused RasterShort dem; nothing was written
   3  failed Open PATH, failed ReadFailed, failed WriteFailed, failed OutOfMemory; files that were there
      before stay as they were, but for links and failed renames; or standard output couldn't be written,
      and the files may be complete
@@ -202,6 +209,15 @@ pub const BAD_DEM: &str = "the name of a raster of elevations must end in .bil";
 pub const TILES_HELP: &str = "The tile files, each named after its south-west corner";
 
 pub const SINKS_HELP: &str = "A list of inland sinks, one a line: ROW COL";
+
+pub const SPACING_HELP: &str =
+    "Width and height of all cells, as 30,20.5, or header, the pixel size of --dem [default: 1,1]";
+
+pub const BAD_SPACING: &str =
+    "the spacing must be W,H: two decimals, each from 1 to 1073741824 once both are whole numbers; or header, with --dem";
+
+pub const WIDTHS_HELP: &str =
+    "Width and height of the cells of each row, a line each from the north: two whole numbers";
 
 pub const PROGRESS_HELP: &str = "Report progress on standard error, in at most two lines a second";
 

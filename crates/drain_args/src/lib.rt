@@ -10,4 +10,6 @@ pub mod given;
 pub mod help_texts;
 pub mod place_texts;
 pub mod requests;
+pub mod spacing_texts;
+pub mod spacings;
 pub mod window_texts;

@@ -2,13 +2,14 @@
 
 ghost use Rattle.std.specs.Prelude.{◌≡◌, ◌++◌, IfOk, IfSome, codes};
 ghost use Rattle.clap.specs.Matches.{found_of};
-ghost use Rattle.drain_args.specs.Requests.{AreInputs, IsListOption, IsMap, IsMergeArgs, IsProductArgs, IsRequestOf, IsStart, map_ending};
+ghost use Rattle.drain_args.specs.Requests.{IsListOption, IsMap, IsMergeArgs, IsProductArgs, IsRequestOf, IsStart, map_ending};
 
 use crate::clusters::first_cluster;
 use crate::commands::{AUDIT, CHECK, CommandSpec, DERIVE, EXPLAIN, MAKE, WINDOW, command, program};
 use crate::elevations::elevations_given;
 use crate::given::{flag_given, option_given, paths_given, side_given, text_given};
 use crate::place_texts::{first_cell, inner_sides, window_place};
+use crate::spacings::{SpacingChoice, spacing_given};
 use crate::{explain_texts, help_texts, window_texts};
 use clap::error::ErrorKind;
 use clap::{ArgMatches, Error};
@@ -40,13 +41,14 @@ pub enum Request<'a> {
     Header { path: &'a str },
 }
 
-/// Where elevations come from, the list of sinks at this path, and the folder of the products: a check reads them there,
-/// `make` writes them there; and whether progress is reported.
+/// Where elevations come from, the list of sinks at this path, how far apart cells are, and the folder of the products: a
+/// check reads them there, `make` writes them there; and whether progress is reported.
 #[derive(Drop)]
 pub struct ProductArgs<'a, E> {
     pub elevations: E,
     pub folder: &'a str,
     pub sinks: Option<&'a str>,
+    pub spacing: SpacingChoice<'a>,
     pub progress: bool,
 }
 
@@ -153,8 +155,8 @@ fn no_command(alloc: Global) -> Result<Error, AllocError> {
 /// The request of the command of this name, with these values of its arguments.
 ///
 /// A map whose name doesn't end in `.bil` is a usage error, and so are a raster of elevations whose name doesn't end in
-/// `.bil` or `.BIL`, another list of rasters, a side that is no number,
-/// a box that is none, other letters than those of sides, a raster of elevations of a window without the cell at which it
+/// `.bil` or `.BIL`, another list of rasters, a side that is no number, a spacing that is none, or that of a header
+/// beside tiles, or two of them, a box that is none, other letters than those of sides, a raster of elevations of a window without the cell at which it
 /// begins, tiles with one, and a name that is no command's.
 pub fn request_of<'a>(
     alloc: Global,
@@ -165,11 +167,13 @@ pub fn request_of<'a>(
 {
     match name {
         "audit" => audit_request(alloc, given),
-        "check" => Ok(Request::Check(inputs_given(alloc, &CHECK, given)?)),
+        "check" => Ok(Request::Check(inputs_given(
+            alloc, &CHECK, given, "products",
+        )?)),
         "explain" => explain_request(alloc, given),
         "window" => window_request(alloc, given),
         "merge" => Ok(Request::Merge(merge_args(alloc, given)?)),
-        "make" => make_request(alloc, given),
+        "make" => Ok(Request::Make(inputs_given(alloc, &MAKE, given, "out")?)),
         "derive" => derive_request(alloc, given),
         "fill" => Ok(Request::Fill {
             side: side_given(alloc, given)?,
@@ -181,36 +185,26 @@ pub fn request_of<'a>(
     }
 }
 
-/// The inputs with these elevations, and the folder of their products that this option names.
-fn product_args<'a, E>(given: &ArgMatches<'a>, option: &str, elevations: E) -> ProductArgs<'a, E>
-    ensures { IsProductArgs option.now (found_of given.now) (λ e. e ≡ elevations) result }
-{
-    ProductArgs {
-        elevations,
-        folder: text_given(given, option),
-        sinks: option_given(given, "sinks"),
-        progress: flag_given(given, "progress"),
-    }
-}
-
-/// The inputs of this command whose products are there already.
+/// The inputs of this command, and the folder of their products that this option names.
 fn inputs_given<'a>(
     alloc: Global,
     spec: &'static CommandSpec,
     given: &ArgMatches<'a>,
+    option: &str,
 ) -> Result<ProductArgs<'a, Elevations<'a>>, Error>
-    ensures { IfOk result (AreInputs (found_of given.now)) }
+    ensures { IfOk result (IsProductArgs option.now (found_of given.now)) }
 {
     let elevations = elevations_given(alloc, spec, given)?;
-    Ok(product_args(given, "products", elevations))
-}
-
-/// The elevations of which products are to be made.
-fn make_request<'a>(alloc: Global, given: &ArgMatches<'a>) -> Result<Request<'a>, Error>
-    ensures { IfOk result (IsRequestOf (codes "make") (found_of given.now)) }
-{
-    let elevations = elevations_given(alloc, &MAKE, given)?;
-    Ok(Request::Make(product_args(given, "out", elevations)))
+    let Ok(spacing) = spacing_given(given, &elevations) else {
+        return Err(bad_value(alloc, spec, help_texts::BAD_SPACING)?);
+    };
+    Ok(ProductArgs {
+        elevations,
+        folder: text_given(given, option),
+        sinks: option_given(given, "sinks"),
+        spacing,
+        progress: flag_given(given, "progress"),
+    })
 }
 
 /// What is to be audited.
@@ -220,7 +214,7 @@ fn audit_request<'a>(alloc: Global, given: &ArgMatches<'a>) -> Result<Request<'a
     let Ok(list) = list_given(given) else {
         return Err(bad_value(alloc, &AUDIT, help_texts::BAD_LIST)?);
     };
-    let inputs = inputs_given(alloc, &AUDIT, given)?;
+    let inputs = inputs_given(alloc, &AUDIT, given, "products")?;
     let judged = match list {
         Some(judged) => judged,
         None => Judged::All,
@@ -270,7 +264,7 @@ fn explain_request<'a>(alloc: Global, given: &ArgMatches<'a>) -> Result<Request<
     let Ok(only) = list_given(given) else {
         return Err(bad_value(alloc, &EXPLAIN, help_texts::BAD_LIST)?);
     };
-    let inputs = inputs_given(alloc, &EXPLAIN, given)?;
+    let inputs = inputs_given(alloc, &EXPLAIN, given, "products")?;
     Ok(Request::Explain(ExplainArgs {
         inputs,
         only,
@@ -325,7 +319,7 @@ fn window_request<'a>(alloc: Global, given: &ArgMatches<'a>) -> Result<Request<'
     let Some(place) = window_place(text_given(given, "box"), inner) else {
         return Err(bad_value(alloc, &WINDOW, window_texts::BAD_BOX)?);
     };
-    let inputs = inputs_given(alloc, &WINDOW, given)?;
+    let inputs = inputs_given(alloc, &WINDOW, given, "products")?;
     let Some(at) = start_given(given, &inputs.elevations) else {
         return Err(bad_value(alloc, &WINDOW, window_texts::BAD_AT)?);
     };
@@ -352,7 +346,7 @@ fn merge_args<'a>(alloc: Global, given: &ArgMatches<'a>) -> Result<MergeArgs<'a>
 fn derive_request<'a>(alloc: Global, given: &ArgMatches<'a>) -> Result<Request<'a>, Error>
     ensures { IfOk result (IsRequestOf (codes "derive") (found_of given.now)) }
 {
-    let inputs = inputs_given(alloc, &DERIVE, given)?;
+    let inputs = inputs_given(alloc, &DERIVE, given, "products")?;
     Ok(Request::Derive(DeriveArgs {
         inputs,
         out: text_given(given, "out"),

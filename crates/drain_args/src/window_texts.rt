@@ -29,7 +29,8 @@ is rejected, but not if it is refused. An existing file is replaced, unless it i
 line.
 
 A listed sink is a data cell where water may end inland, as in a lake without an outlet. Its line in the list
-is its row and its column, counted from 0 at the north-west corner of the mosaic or of the part.";
+is its row and its column, counted from 0 at the north-west corner of the mosaic or of the part. --widths has a
+line for each row of the mosaic or of the part. The report has the spacing of the window's rows.";
 
 pub const WINDOW_AFTER: &str = "Lines and exit statuses:
   0  accepted rows=R cols=C data=D raised=U outlets=O
@@ -101,6 +102,7 @@ pub const MERGE_AFTER: &str = "Lines and exit statuses:
      refused OtherGrid I                     report I isn't of the raster of which the first report is: of tiles,
                                              or by its header and --at of other pixels or another place
      refused OtherNoData I                   report I has other no-data numbers than the first report
+     refused OtherSpacing I                  report I has another spacing than an earlier one for a row of both
      refused OutsideUnion I                  a side of window I isn't inner, and is no edge of the union
      refused JudgesNothing I                 all rows, or all columns, of window I are rings
      refused Overlap I J                     the two windows judge one cell both: they share more than two

@@ -11,6 +11,7 @@ use Rattle.drain_verdict.specs.Outcomes.{IsOutcomeAnswer, IsOutcomeIn}
 use Rattle.drain_verdict.specs.DemGround.{AreHeadersKept, DemTakesAtMost, DemUses, ForDem}
 use Rattle.drain_verdict.specs.declared.next_rows.RasterInput.{RasterInput}
 use Rattle.drain_answer.specs.declared.refusal.Refusal.{Refusal}
+use Rattle.drain_verdict.specs.Given.{Given}
 use Rattle.drain_verdict.specs.Inputs.{Inputs, Encode, Products}
 use Rattle.drain_verdict.specs.Uses.{UsesInputs}
 use Rattle.drain_verdict.proofs.AuditDevices.{failed_alike}
@@ -41,11 +42,11 @@ uses_as_told {F} inputs_of devices source side old new (Err refusal) uses =
     uses_alike inputs_of devices source.bytes_left source.counts side side old new explained _ refl (failed_alike refusal) uses.untouched uses
 
 -- the outcome that is explained, or the refusal, is that for the judged rasters
-pub explained_outcome : {F R P : Type 0} (inputs_of : P → Products R) (devices : List (TileInput R) → P → List R) (judged : Judged) (source : Source R) (side : ℕ) (tiles_old tiles_new : List (TileInput R)) (sinks : List ℕ) (ps_old ps_new : P) (explained : Result (Explanation F) Refusal) →
-    ((i : Inputs) → Encode source.bytes_left side tiles_old sinks (inputs_of ps_old) i → IsOutcomeAnswer judged i (answer_in explained)) →
+pub explained_outcome : {F R P : Type 0} (inputs_of : P → Products R) (devices : List (TileInput R) → P → List R) (judged : Judged) (source : Source R) (side : ℕ) (tiles_old tiles_new : List (TileInput R)) (given : Given) (ps_old ps_new : P) (explained : Result (Explanation F) Refusal) →
+    ((i : Inputs) → Encode source.bytes_left side tiles_old given (inputs_of ps_old) i → IsOutcomeAnswer judged i (answer_in explained)) →
     UsesInputs inputs_of devices source.bytes_left source.counts side (tiles_old, ps_old) (tiles_new, ps_new) explained →
-    IsJudgement inputs_of devices (IsOutcomeAnswer judged) source side tiles_old tiles_new sinks ps_old ps_new (answer_in explained)
-explained_outcome inputs_of devices judged source side tiles_old tiles_new sinks ps_old ps_new explained answer uses = record {
+    IsJudgement inputs_of devices (IsOutcomeAnswer judged) source side tiles_old tiles_new given ps_old ps_new (answer_in explained)
+explained_outcome inputs_of devices judged source side tiles_old tiles_new given ps_old ps_new explained answer uses = record {
   answer = answer;
   uses = uses_as_told inputs_of devices source side (tiles_old, ps_old) (tiles_new, ps_new) explained uses;
 }
@@ -59,11 +60,11 @@ dem_uses_as_told {F} inputs_of devices source old new (Err refusal) uses =
     let explained : Result (Explanation F) Refusal = Err refusal in
     set_uses_alike inputs_of devices (DemTakesAtMost source.bytes_left) AreHeadersKept source.bytes_left source.counts old new explained _ (failed_alike refusal) uses.untouched uses
 
-pub explained_on_dem : {F R P : Type 0} (inputs_of : P → Products R) (devices : List (RasterInput R) → P → List R) (judged : Judged) (source : Source R) (dem_old dem_new : List (RasterInput R)) (sinks : List ℕ) (ps_old ps_new : P) (explained : Result (Explanation F) Refusal) →
-    ForDem source.bytes_left dem_old sinks (inputs_of ps_old) (λ s. IsOutcomeIn judged s (answer_in explained)) →
+pub explained_on_dem : {F R P : Type 0} (inputs_of : P → Products R) (devices : List (RasterInput R) → P → List R) (judged : Judged) (source : Source R) (dem_old dem_new : List (RasterInput R)) (given : Given) (ps_old ps_new : P) (explained : Result (Explanation F) Refusal) →
+    ForDem source.bytes_left dem_old given (inputs_of ps_old) (λ s. IsOutcomeIn judged s (answer_in explained)) →
     DemUses inputs_of devices source.bytes_left source.counts (dem_old, ps_old) (dem_new, ps_new) explained →
-    IsDemJudgement inputs_of devices (IsOutcomeIn judged) source dem_old dem_new sinks ps_old ps_new (answer_in explained)
-explained_on_dem inputs_of devices judged source dem_old dem_new sinks ps_old ps_new explained answer uses = record {
+    IsDemJudgement inputs_of devices (IsOutcomeIn judged) source dem_old dem_new given ps_old ps_new (answer_in explained)
+explained_on_dem inputs_of devices judged source dem_old dem_new given ps_old ps_new explained answer uses = record {
   answer = answer;
   uses = dem_uses_as_told inputs_of devices source (dem_old, ps_old) (dem_new, ps_new) explained uses;
 }

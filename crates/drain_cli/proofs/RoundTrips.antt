@@ -29,7 +29,9 @@ use Rattle.drain_maker.specs.Mosaics.{IsMosaicOf}
 use Rattle.drain_maker.specs.ProductFiles.{WritesFiles, header_on, made_header, set_bytes}
 use Rattle.drain_maker.specs.Made.{AreMade}
 use Rattle.drain_grid.specs.declared.product.Product.TheVariants as product
-use Rattle.drain_maker.specs.Accepted.{AreFilesOf, MadeIsAccepted, MadeOnDemIsAccepted}
+use Rattle.drain_maker.specs.Accepted.{AreFilesOf, AreGivenSpacings, MadeIsAccepted, MadeOnDemIsAccepted}
+use Rattle.drain_grid.specs.Spacing.{spacing_of}
+use Rattle.drain_verdict.specs.Given.{Given}
 use Rattle.drain_cli.specs.RoundTrip.{AreWrittenAndGiven, WhatIsWrittenIsAccepted, WhatIsWrittenOnDemIsAccepted, files_given}
 
 -- The first 65,537 bytes of a text have its answer, and what is left after reading them.
@@ -160,14 +162,17 @@ files-same sink h ps empty written t all =
 
 pub accepted : {R F : Type 0} (bytes_left : R → Option (List ℕ)) (sink : Sink F) →
     MadeIsAccepted → WhatIsWrittenIsAccepted bytes_left sink
-accepted bytes_left sink law side tiles sinks t ps empty written i made tell sinks_are all answer is =
+accepted bytes_left sink law side tiles given t ps empty written i made tell given_are all answer is =
     let mosaic = made.mosaic i tell in
     let tiling = mosaic.tiling_is in
-    law i made.elevation made.listed ps tell.corners_are (subst (λ u. IsMosaicOf i u made.elevation) tiling mosaic) (ap sinks_of sinks_are ∙ made.listed_are)
-    (subst (λ u. AreMade u made.elevation made.listed ps) tiling made.made)
+    law i made.elevation made.listed made.spacings ps tell.corners_are (subst (λ u. IsMosaicOf i u made.elevation) tiling mosaic)
+    (ap (λ (g : Given). sinks_of g.sinks) given_are ∙ made.listed_are)
+    (subst (λ (g : Given). AreGivenSpacings g.spacing made.elevation.extent made.spacings) (sym given_are) made.spacings_are)
+    (subst (λ u. AreMade u made.elevation made.listed (spacing_of made.spacings) ps) tiling made.made)
     (subst (λ (u : Tiling). AreFilesOf (made_header u product.Con) (texts_of i) ps) tiling (files-same sink (made_header t product.Con) ps empty written (texts_of i) all)) answer is
 
 pub accepted_on_dem : {R F : Type 0} (bytes_left : R → Option (List ℕ)) (sink : Sink F) →
     MadeOnDemIsAccepted → WhatIsWrittenOnDemIsAccepted bytes_left sink
-accepted_on_dem bytes_left sink law dem sinks h ps empty written d t made tell sinks_are all answer is =
-    law d t h made.elevation made.listed ps (made.dem_is d tell) (ap sinks_of sinks_are ∙ made.listed_are) made.made (files-same sink h ps empty written t all) answer is
+accepted_on_dem bytes_left sink law dem given h ps empty written d t made tell given_are all answer is =
+    law d t h made.elevation made.listed made.spacings ps (made.dem_is d tell) (ap (λ (g : Given). sinks_of g.sinks) given_are ∙ made.listed_are)
+    (subst (λ (g : Given). AreGivenSpacings g.spacing made.elevation.extent made.spacings) (sym given_are) made.spacings_are) made.made (files-same sink h ps empty written t all) answer is

@@ -19,6 +19,7 @@ use Rattle.drain_verdict.specs.Stages.{IsLayoutOf}
 use Rattle.drain_mosaic.specs.Tiling.{Tiling}
 use Rattle.drain_verdict.specs.Answers.{ForAudit}
 use Rattle.drain_verdict.specs.DemGround.{DemUses, ForDem, IsDemInput, dem_audit_devices}
+use Rattle.drain_verdict.specs.Given.{plain}
 use Rattle.drain_verdict.specs.Inputs.{as_five}
 use Rattle.drain_verdict.specs.declared.next_rows.RasterInput.{RasterInput}
 use Rattle.drain_verdict.specs.Uses.{AuditUses}
@@ -54,16 +55,16 @@ none_status (NoEnd row col) = Rejected
 pub record IsDerivation {R : Type 0} (source : Source R) (side : ℕ) (tiles_old tiles_new : List (TileInput R)) (sinks : List ℕ)
     (products_old products_new : AuditProducts R) (outcome : Result (Tiling × Derived) DeriveRefusal) : Type 0 where
   pub layout : IfOk outcome (λ set. IsLayoutOf side (names_of tiles_old) set.0)
-  pub derived : IfOk outcome (λ set. ForAudit source.bytes_left side tiles_old sinks products_old (λ i. AreDerivedOf i set.1))
-  pub err : IfErr outcome (λ why. ForAudit source.bytes_left side tiles_old sinks products_old (λ i. IsDeriveRefusal i why))
+  pub derived : IfOk outcome (λ set. ForAudit source.bytes_left side tiles_old (plain sinks) products_old (λ i. AreDerivedOf i set.1))
+  pub err : IfErr outcome (λ why. ForAudit source.bytes_left side tiles_old (plain sinks) products_old (λ i. IsDeriveRefusal i why))
   pub uses : AuditUses source.bytes_left source.counts side (tiles_old, products_old) (tiles_new, products_new) (reading_in outcome)
 
 -- the same of directions on one raster of elevations
 pub record IsDemDerivation {R : Type 0} (source : Source R) (dem_old dem_new : List (RasterInput R)) (sinks : List ℕ)
     (products_old products_new : AuditProducts R) (outcome : Result (Fields × Derived) DeriveRefusal) : Type 0 where
   pub header : IfOk outcome (λ set. IsDemInput set.0 dem_old)
-  pub derived : IfOk outcome (λ set. ForDem source.bytes_left dem_old sinks (as_five products_old) (λ s. AreDerivedIn s set.1))
-  pub err : IfErr outcome (λ why. ForDem source.bytes_left dem_old sinks (as_five products_old) (λ s. IsDeriveRefusalIn s why))
+  pub derived : IfOk outcome (λ set. ForDem source.bytes_left dem_old (plain sinks) (as_five products_old) (λ s. AreDerivedIn s set.1))
+  pub err : IfErr outcome (λ why. ForDem source.bytes_left dem_old (plain sinks) (as_five products_old) (λ s. IsDeriveRefusalIn s why))
   pub uses : DemUses as_five dem_audit_devices source.bytes_left source.counts (dem_old, products_old) (dem_new, products_new) (reading_in outcome)
 
 -- what was derived is returned, and nothing printed; or the reason is printed, and its status returned

@@ -8,6 +8,7 @@ use Rattle.drain_answer.specs.declared.refusal.Refusal.{Refusal}
 use Rattle.drain_answer.specs.OutcomeLines.{outcome_report_line}
 use Rattle.drain_grid.specs.declared.judged.Judged.TheVariants.{AllWithRanks}
 use Rattle.drain_verdict.specs.DemGround.{dem_audit_devices, dem_check_devices}
+use Rattle.drain_verdict.specs.Given.{Given}
 use Rattle.drain_verdict.specs.Inputs.{as_five}
 use Rattle.drain_verdict.specs.Uses.{devices_of}
 use Rattle.drain_verdict.specs.Outcomes.{IsOutcomeAnswer, IsOutcomeIn}
@@ -33,28 +34,28 @@ use Rattle.drain_page.specs.Texts.{IsAnswerLine, line_feed}
 use Rattle.drain_answer.specs.Printing.{PrintsText}
 
 -- the outcome for the products that were opened: five with ranks, or those of four that are judged
-abbrev pub IsOutcome : {R : Type 0} → Source R → ℕ → List (TileInput R) → List (TileInput R) → List ℕ → JudgedProducts R → JudgedProducts R → Result Outcome Refusal → Type 0
-IsOutcome source side tiles_old tiles_new sinks (products.Five old) (products.Five new) outcome =
-    IsJudgement (λ ps. ps) devices_of (IsOutcomeAnswer AllWithRanks) source side tiles_old tiles_new sinks old new outcome
-IsOutcome source side tiles_old tiles_new sinks (products.Four old judged) (products.Four new then) outcome =
-    IsPartOutcome source judged side tiles_old tiles_new sinks old new outcome × (then ≡ judged)
-IsOutcome source side tiles_old tiles_new sinks old new other = ⊥
+abbrev pub IsOutcome : {R : Type 0} → Source R → ℕ → List (TileInput R) → List (TileInput R) → Given → JudgedProducts R → JudgedProducts R → Result Outcome Refusal → Type 0
+IsOutcome source side tiles_old tiles_new given (products.Five old) (products.Five new) outcome =
+    IsJudgement (λ ps. ps) devices_of (IsOutcomeAnswer AllWithRanks) source side tiles_old tiles_new given old new outcome
+IsOutcome source side tiles_old tiles_new given (products.Four old judged) (products.Four new then) outcome =
+    IsPartOutcome source judged side tiles_old tiles_new given old new outcome × (then ≡ judged)
+IsOutcome source side tiles_old tiles_new given old new other = ⊥
 
 -- the same beside one raster of elevations
-abbrev pub IsDemOutcome : {R : Type 0} → Source R → List (RasterInput R) → List (RasterInput R) → List ℕ → JudgedProducts R → JudgedProducts R → Result Outcome Refusal → Type 0
-IsDemOutcome source dem_old dem_new sinks (products.Five old) (products.Five new) outcome =
-    IsDemJudgement (λ ps. ps) dem_check_devices (IsOutcomeIn AllWithRanks) source dem_old dem_new sinks old new outcome
-IsDemOutcome source dem_old dem_new sinks (products.Four old judged) (products.Four new then) outcome =
-    IsDemJudgement as_five dem_audit_devices (IsOutcomeIn judged) source dem_old dem_new sinks old new outcome × (then ≡ judged)
-IsDemOutcome source dem_old dem_new sinks old new other = ⊥
+abbrev pub IsDemOutcome : {R : Type 0} → Source R → List (RasterInput R) → List (RasterInput R) → Given → JudgedProducts R → JudgedProducts R → Result Outcome Refusal → Type 0
+IsDemOutcome source dem_old dem_new given (products.Five old) (products.Five new) outcome =
+    IsDemJudgement (λ ps. ps) dem_check_devices (IsOutcomeIn AllWithRanks) source dem_old dem_new given old new outcome
+IsDemOutcome source dem_old dem_new given (products.Four old judged) (products.Four new then) outcome =
+    IsDemJudgement as_five dem_audit_devices (IsOutcomeIn judged) source dem_old dem_new given old new outcome × (then ≡ judged)
+IsDemOutcome source dem_old dem_new given old new other = ⊥
 
 -- beside the elevations that were opened
-abbrev pub IsOutcomeOn : {R : Type 0} → Source R → OpenElevations R → OpenElevations R → List ℕ → JudgedProducts R → JudgedProducts R → Result Outcome Refusal → Type 0
-IsOutcomeOn source (Tiles old) (Tiles new) sinks products_old products_new outcome =
-    IsOutcome source old.side old.tiles.items new.tiles.items sinks products_old products_new outcome
-IsOutcomeOn source (Dem old) (Dem new) sinks products_old products_new outcome = IsDemOutcome source old new sinks products_old products_new outcome
-IsOutcomeOn source (Tiles old) (Dem new) sinks products_old products_new outcome = ⊥
-IsOutcomeOn source (Dem old) (Tiles new) sinks products_old products_new outcome = ⊥
+abbrev pub IsOutcomeOn : {R : Type 0} → Source R → OpenElevations R → OpenElevations R → Given → JudgedProducts R → JudgedProducts R → Result Outcome Refusal → Type 0
+IsOutcomeOn source (Tiles old) (Tiles new) given products_old products_new outcome =
+    IsOutcome source old.side old.tiles.items new.tiles.items given products_old products_new outcome
+IsOutcomeOn source (Dem old) (Dem new) given products_old products_new outcome = IsDemOutcome source old new given products_old products_new outcome
+IsOutcomeOn source (Tiles old) (Dem new) given products_old products_new outcome = ⊥
+IsOutcomeOn source (Dem old) (Tiles new) given products_old products_new outcome = ⊥
 
 -- a text begins with the line of its answer; an object is on a line of its own, and its first member is that line
 abbrev pub BeginsWith : Form → List ℕ → List ℕ → Type 0

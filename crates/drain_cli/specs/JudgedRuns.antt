@@ -26,6 +26,7 @@ use Rattle.drain_verdict.specs.declared.next_rows.RasterInput.{RasterInput}
 use Rattle.drain_verdict.specs.Outcomes.{IsOutcomeAnswer, IsOutcomeIn}
 use Rattle.drain_grid.specs.declared.verdict.Verdict.{Verdict}
 use Rattle.drain_verdict.specs.Answers.{IsAnswer, IsAnswerIn, IsAuditAnswer}
+use Rattle.drain_verdict.specs.Given.{Given}
 use Rattle.drain_verdict.specs.Inputs.{audit_devices, as_five, Inputs, Products, Encode}
 use Rattle.drain_verdict.specs.Uses.{devices_of, UsesInputs}
 use Rattle.drain_verdict.specs.declared.audit_products.AuditProducts.{AuditProducts}
@@ -65,38 +66,38 @@ answer_line (Part answer) = outcome_report_line answer
 -- the answer is that of the bytes that the devices had left, if they are known, and says how the inputs are used; the
 -- products are read as these five, from these devices
 pub record IsJudgement {R P V : Type 0} (inputs_of : P → Products R) (devices : List (TileInput R) → P → List R) (IsAnswerTo : Inputs → Result V Refusal → Type 0)
-    (source : Source R) (side : ℕ) (tiles_old tiles_new : List (TileInput R)) (sinks : List ℕ) (products_old products_new : P) (outcome : Result V Refusal) : Type 0 where
-  pub answer : (i : Inputs) → Encode source.bytes_left side tiles_old sinks (inputs_of products_old) i → IsAnswerTo i outcome
+    (source : Source R) (side : ℕ) (tiles_old tiles_new : List (TileInput R)) (given : Given) (products_old products_new : P) (outcome : Result V Refusal) : Type 0 where
+  pub answer : (i : Inputs) → Encode source.bytes_left side tiles_old given (inputs_of products_old) i → IsAnswerTo i outcome
   pub uses : UsesInputs inputs_of devices source.bytes_left source.counts side (tiles_old, products_old) (tiles_new, products_new) outcome
 
 -- of the five products of a check
-abbrev pub IsCheckOutcome : {R : Type 0} → Source R → ℕ → List (TileInput R) → List (TileInput R) → List ℕ → Products R → Products R → Result Verdict Refusal → Type 0
-IsCheckOutcome source side tiles_old tiles_new sinks old new outcome = IsJudgement (λ ps. ps) devices_of IsAnswer source side tiles_old tiles_new sinks old new outcome
+abbrev pub IsCheckOutcome : {R : Type 0} → Source R → ℕ → List (TileInput R) → List (TileInput R) → Given → Products R → Products R → Result Verdict Refusal → Type 0
+IsCheckOutcome source side tiles_old tiles_new given old new outcome = IsJudgement (λ ps. ps) devices_of IsAnswer source side tiles_old tiles_new given old new outcome
 
 -- of the four products of an audit
-abbrev pub IsAuditOutcome : {R : Type 0} → Source R → ℕ → List (TileInput R) → List (TileInput R) → List ℕ → AuditProducts R → AuditProducts R → Result AuditVerdict Refusal → Type 0
-IsAuditOutcome source side tiles_old tiles_new sinks old new outcome =
-    IsJudgement as_five audit_devices IsAuditAnswer source side tiles_old tiles_new sinks old new outcome
+abbrev pub IsAuditOutcome : {R : Type 0} → Source R → ℕ → List (TileInput R) → List (TileInput R) → Given → AuditProducts R → AuditProducts R → Result AuditVerdict Refusal → Type 0
+IsAuditOutcome source side tiles_old tiles_new given old new outcome =
+    IsJudgement as_five audit_devices IsAuditAnswer source side tiles_old tiles_new given old new outcome
 
 -- of those of the four products that are judged
-abbrev pub IsPartOutcome : {R : Type 0} → Source R → Judged → ℕ → List (TileInput R) → List (TileInput R) → List ℕ → AuditProducts R → AuditProducts R → Result Outcome Refusal → Type 0
-IsPartOutcome source judged side tiles_old tiles_new sinks old new outcome =
-    IsJudgement as_five audit_devices (IsOutcomeAnswer judged) source side tiles_old tiles_new sinks old new outcome
+abbrev pub IsPartOutcome : {R : Type 0} → Source R → Judged → ℕ → List (TileInput R) → List (TileInput R) → Given → AuditProducts R → AuditProducts R → Result Outcome Refusal → Type 0
+IsPartOutcome source judged side tiles_old tiles_new given old new outcome =
+    IsJudgement as_five audit_devices (IsOutcomeAnswer judged) source side tiles_old tiles_new given old new outcome
 
 -- the answer that the line and the status print
-abbrev pub PrintsAnswer : {R W : Type 0} → Source R → Sink W → Judged → ℕ → List (TileInput R) → List (TileInput R) → List ℕ → AuditProducts R → AuditProducts R → W → W → ℕ → Type 0
-PrintsAnswer source sink judged side tiles_old tiles_new sinks old new out_old out_new code = (outcome : Result Outcome Refusal)
-    × IsPartOutcome source judged side tiles_old tiles_new sinks old new outcome
+abbrev pub PrintsAnswer : {R W : Type 0} → Source R → Sink W → Judged → ℕ → List (TileInput R) → List (TileInput R) → Given → AuditProducts R → AuditProducts R → W → W → ℕ → Type 0
+PrintsAnswer source sink judged side tiles_old tiles_new given old new out_old out_new code = (outcome : Result Outcome Refusal)
+    × IsPartOutcome source judged side tiles_old tiles_new given old new outcome
     × Prints sink out_old out_new (answer_line (answer.Part outcome)) (answer_status (answer.Part outcome)) code
 
 -- that of an audit of all four
-abbrev pub PrintsAudit : {R W : Type 0} → Source R → Sink W → ℕ → List (TileInput R) → List (TileInput R) → List ℕ → AuditProducts R → AuditProducts R → W → W → ℕ → Type 0
-PrintsAudit source sink side tiles_old tiles_new sinks old new out_old out_new code = (verdict : Result AuditVerdict Refusal)
-    × IsAuditOutcome source side tiles_old tiles_new sinks old new verdict
+abbrev pub PrintsAudit : {R W : Type 0} → Source R → Sink W → ℕ → List (TileInput R) → List (TileInput R) → Given → AuditProducts R → AuditProducts R → W → W → ℕ → Type 0
+PrintsAudit source sink side tiles_old tiles_new given old new out_old out_new code = (verdict : Result AuditVerdict Refusal)
+    × IsAuditOutcome source side tiles_old tiles_new given old new verdict
     × Prints sink out_old out_new (answer_line (answer.Audit verdict)) (answer_status (answer.Audit verdict)) code
 
 -- a run on four products: an audit of all, or of some
-abbrev pub IsFourRun : {R W : Type 0} → Source R → Sink W → Judged → ℕ → List (TileInput R) → List (TileInput R) → List ℕ → AuditProducts R → AuditProducts R → W → W → ℕ → Type 0
+abbrev pub IsFourRun : {R W : Type 0} → Source R → Sink W → Judged → ℕ → List (TileInput R) → List (TileInput R) → Given → AuditProducts R → AuditProducts R → W → W → ℕ → Type 0
 IsFourRun source sink All = PrintsAudit source sink
 IsFourRun source sink Con = PrintsAnswer source sink Con
 IsFourRun source sink ConDir = PrintsAnswer source sink ConDir
@@ -105,37 +106,37 @@ IsFourRun source sink ConDirBas = PrintsAnswer source sink ConDirBas
 IsFourRun source sink AllWithRanks = PrintsAnswer source sink AllWithRanks
 
 -- a run on the products that were opened: a check of five, or an audit of four
-abbrev pub IsJudgedRun : {R W : Type 0} → Source R → Sink W → ℕ → List (TileInput R) → List (TileInput R) → List ℕ → JudgedProducts R → JudgedProducts R → W → W → ℕ → Type 0
-IsJudgedRun source sink side tiles_old tiles_new sinks (Five old) (Five new) out_old out_new code = (verdict : Result Verdict Refusal)
-    × IsCheckOutcome source side tiles_old tiles_new sinks old new verdict
+abbrev pub IsJudgedRun : {R W : Type 0} → Source R → Sink W → ℕ → List (TileInput R) → List (TileInput R) → Given → JudgedProducts R → JudgedProducts R → W → W → ℕ → Type 0
+IsJudgedRun source sink side tiles_old tiles_new given (Five old) (Five new) out_old out_new code = (verdict : Result Verdict Refusal)
+    × IsCheckOutcome source side tiles_old tiles_new given old new verdict
     × Prints sink out_old out_new (answer_line (answer.Check verdict)) (answer_status (answer.Check verdict)) code
-IsJudgedRun source sink side tiles_old tiles_new sinks (Four old judged) (Four new then) out_old out_new code =
-    IsFourRun source sink judged side tiles_old tiles_new sinks old new out_old out_new code
-IsJudgedRun source sink side tiles_old tiles_new sinks old new out_old out_new code = ⊥
+IsJudgedRun source sink side tiles_old tiles_new given (Four old judged) (Four new then) out_old out_new code =
+    IsFourRun source sink judged side tiles_old tiles_new given old new out_old out_new code
+IsJudgedRun source sink side tiles_old tiles_new given old new out_old out_new code = ⊥
 
 -- Beside one raster of elevations.
 
 -- the answer is that of the bytes that the devices had left, if they are known, and says how the inputs are used; the
 -- products are read as these five, from these devices
 pub record IsDemJudgement {R P V : Type 0} (inputs_of : P → Products R) (devices : List (RasterInput R) → P → List R) (IsAnswerTo : GroundSet → Result V Refusal → Type 0)
-    (source : Source R) (dem_old dem_new : List (RasterInput R)) (sinks : List ℕ) (products_old products_new : P) (outcome : Result V Refusal) : Type 0 where
-  pub answer : ForDem source.bytes_left dem_old sinks (inputs_of products_old) (λ s. IsAnswerTo s outcome)
+    (source : Source R) (dem_old dem_new : List (RasterInput R)) (given : Given) (products_old products_new : P) (outcome : Result V Refusal) : Type 0 where
+  pub answer : ForDem source.bytes_left dem_old given (inputs_of products_old) (λ s. IsAnswerTo s outcome)
   pub uses : DemUses inputs_of devices source.bytes_left source.counts (dem_old, products_old) (dem_new, products_new) outcome
 
 -- a run on the products that were opened: a check of five, or an audit of those of four that are judged
-abbrev pub IsDemRun : {R W : Type 0} → Source R → Sink W → List (RasterInput R) → List (RasterInput R) → List ℕ → JudgedProducts R → JudgedProducts R → W → W → ℕ → Type 0
-IsDemRun source sink dem_old dem_new sinks (Five old) (Five new) out_old out_new code = (verdict : Result Verdict Refusal)
-    × IsDemJudgement (λ ps. ps) dem_check_devices IsAnswerIn source dem_old dem_new sinks old new verdict
+abbrev pub IsDemRun : {R W : Type 0} → Source R → Sink W → List (RasterInput R) → List (RasterInput R) → Given → JudgedProducts R → JudgedProducts R → W → W → ℕ → Type 0
+IsDemRun source sink dem_old dem_new given (Five old) (Five new) out_old out_new code = (verdict : Result Verdict Refusal)
+    × IsDemJudgement (λ ps. ps) dem_check_devices IsAnswerIn source dem_old dem_new given old new verdict
     × Prints sink out_old out_new (answer_line (answer.Check verdict)) (answer_status (answer.Check verdict)) code
-IsDemRun source sink dem_old dem_new sinks (Four old judged) (Four new then) out_old out_new code = (outcome : Result Outcome Refusal)
-    × IsDemJudgement as_five dem_audit_devices (IsOutcomeIn judged) source dem_old dem_new sinks old new outcome
+IsDemRun source sink dem_old dem_new given (Four old judged) (Four new then) out_old out_new code = (outcome : Result Outcome Refusal)
+    × IsDemJudgement as_five dem_audit_devices (IsOutcomeIn judged) source dem_old dem_new given old new outcome
     × Prints sink out_old out_new (answer_line (answer.Part outcome)) (answer_status (answer.Part outcome)) code
-IsDemRun source sink dem_old dem_new sinks old new out_old out_new code = ⊥
+IsDemRun source sink dem_old dem_new given old new out_old out_new code = ⊥
 
 -- a run beside the elevations that were opened
-abbrev pub IsRun : {R W : Type 0} → Source R → Sink W → OpenElevations R → OpenElevations R → List ℕ → JudgedProducts R → JudgedProducts R → W → W → ℕ → Type 0
-IsRun source sink (Tiles old) (Tiles new) sinks products_old products_new out_old out_new code =
-    IsJudgedRun source sink old.side old.tiles.items new.tiles.items sinks products_old products_new out_old out_new code
-IsRun source sink (Dem old) (Dem new) sinks products_old products_new out_old out_new code = IsDemRun source sink old new sinks products_old products_new out_old out_new code
-IsRun source sink (Tiles old) (Dem new) sinks products_old products_new out_old out_new code = ⊥
-IsRun source sink (Dem old) (Tiles new) sinks products_old products_new out_old out_new code = ⊥
+abbrev pub IsRun : {R W : Type 0} → Source R → Sink W → OpenElevations R → OpenElevations R → Given → JudgedProducts R → JudgedProducts R → W → W → ℕ → Type 0
+IsRun source sink (Tiles old) (Tiles new) given products_old products_new out_old out_new code =
+    IsJudgedRun source sink old.side old.tiles.items new.tiles.items given products_old products_new out_old out_new code
+IsRun source sink (Dem old) (Dem new) given products_old products_new out_old out_new code = IsDemRun source sink old new given products_old products_new out_old out_new code
+IsRun source sink (Tiles old) (Dem new) given products_old products_new out_old out_new code = ⊥
+IsRun source sink (Dem old) (Tiles new) given products_old products_new out_old out_new code = ⊥

@@ -2,6 +2,7 @@
 use Rattle.std.specs.Prelude.{◌≡◌, Ok, ℕ, List, [], ◌∷◌, map, Option, Some, Result}
 use Rattle.drain_merge.specs.UnionVerdicts.{IsJudgedFrom}
 use Rattle.drain_report.specs.Contents.{contents_of}
+use Rattle.drain_verdict.specs.Given.{Given}
 use Rattle.drain_verdict.specs.Inputs.{Inputs}
 use Rattle.drain_verdict.specs.Texts.{SetTexts}
 use Rattle.drain_window.specs.WindowAnswers.{IsDemWindow, IsWindowAnswer, window_in, window_of}
@@ -11,7 +12,8 @@ use Rattle.drain_union.specs.declared.report.WindowReport.{WindowReport}
 use Rattle.std.specs.List.{All, flat_map}
 use Rattle.drain_device.specs.Failing.{Sink}
 use Rattle.drain_grid.specs.declared.product_set.ProductSet.{ProductSet}
-use Rattle.drain_grid.specs.WholeGrid.{grid_of, products_of}
+use Rattle.drain_grid.specs.Spacing.{spacing_of}
+use Rattle.drain_grid.specs.WholeGrid.{products_of, spaced_grid}
 use Rattle.drain_grid.specs.SetProduct.{products}
 use Rattle.drain_hgt.specs.declared.input.TileInput.{TileInput}
 use Rattle.drain_mosaic.specs.Tiling.{Tiling}
@@ -24,7 +26,7 @@ use Rattle.drain_verdict.specs.Meaning.{texts_of}
 use Rattle.drain_verdict.specs.declared.next_rows.RasterInput.{RasterInput}
 use Rattle.drain_grid.specs.declared.product.Product.TheVariants.{Con}
 use Rattle.drain_header.specs.Header.{Fields}
-use Rattle.drain_maker.specs.Dems.{dem_grid}
+use Rattle.drain_maker.specs.Dems.{spaced_dem_grid}
 use Rattle.drain_maker.specs.Accepted.{IsMadeAcceptance}
 use Rattle.drain_maker.specs.ProductFiles.{WritesFiles, made_header, set_bytes}
 use Rattle.drain_cli.specs.MadeSets.{IsDemSetOf, IsSetOf}
@@ -53,19 +55,19 @@ pub record AreWrittenAndGiven {F : Type 0} (sink : Sink F) (h : Fields) (ps : Pr
   pub written_are : WritesFiles sink empty written (set_bytes h ps) (Ok tt)
   pub given_are : map sink.bytes_taken written ≡ map Some (files_given t)
 
--- products that were made of tiles and a list of sinks and written into empty files are accepted when checked with the
+-- products that were made of tiles, a list of sinks and a spacing and written into empty files are accepted when checked with the
 -- same, unless memory runs out or a read fails
 abbrev pub WhatIsWrittenIsAccepted : {R F : Type 0} → (R → Option (List ℕ)) → Sink F → Type 0
 WhatIsWrittenIsAccepted {R} {F} bytes_left sink =
-    (side : ℕ) (tiles : List (TileInput R)) (sinks : List ℕ) (t : Tiling) (ps : ProductSet) (empty written : List F) (i : Inputs) →
-    (made : IsSetOf bytes_left side tiles sinks t ps) → TellTiles bytes_left side tiles i → i.sinks ≡ sinks →
+    (side : ℕ) (tiles : List (TileInput R)) (given : Given) (t : Tiling) (ps : ProductSet) (empty written : List F) (i : Inputs) →
+    (made : IsSetOf bytes_left side tiles given t ps) → TellTiles bytes_left side tiles i → i.given ≡ given →
     AreWrittenAndGiven sink (made_header t Con) ps empty written (texts_of i) →
-    (answer : Result Verdict Refusal) → IsAnswer i answer → IsMadeAcceptance (grid_of made.elevation made.listed) (products_of ps) answer
+    (answer : Result Verdict Refusal) → IsAnswer i answer → IsMadeAcceptance (spaced_grid (spacing_of made.spacings) made.elevation made.listed) (products_of ps) answer
 
 -- and those that were made of one raster of elevations are accepted with that raster
 abbrev pub WhatIsWrittenOnDemIsAccepted : {R F : Type 0} → (R → Option (List ℕ)) → Sink F → Type 0
 WhatIsWrittenOnDemIsAccepted {R} {F} bytes_left sink =
-    (dem : List (RasterInput R)) (sinks : List ℕ) (h : Fields) (ps : ProductSet) (empty written : List F) (d : DemTexts) (t : SetTexts) →
-    (made : IsDemSetOf bytes_left dem sinks h ps) → EncodesDem bytes_left dem d → t.sinks ≡ sinks →
+    (dem : List (RasterInput R)) (given : Given) (h : Fields) (ps : ProductSet) (empty written : List F) (d : DemTexts) (t : SetTexts) →
+    (made : IsDemSetOf bytes_left dem given h ps) → EncodesDem bytes_left dem d → t.given ≡ given →
     AreWrittenAndGiven sink h ps empty written t →
-    (answer : Result Verdict Refusal) → IsAnswerIn (record { terrain = dem_ground d; texts = t }) answer → IsMadeAcceptance (dem_grid made.elevation made.listed) (products_of ps) answer
+    (answer : Result Verdict Refusal) → IsAnswerIn (record { terrain = dem_ground d; texts = t }) answer → IsMadeAcceptance (spaced_dem_grid (spacing_of made.spacings) made.elevation made.listed) (products_of ps) answer

@@ -16,6 +16,7 @@ use Rattle.drain_answer.specs.Printing.{Prints}
 use Rattle.drain_answer.specs.Statuses.{refusal_status}
 use Rattle.drain_verdict.specs.Answers.{ForAudit}
 use Rattle.drain_verdict.specs.DemGround.{DemUses, ForDem, dem_audit_devices}
+use Rattle.drain_verdict.specs.Given.{Given}
 use Rattle.drain_verdict.specs.Inputs.{as_five}
 use Rattle.drain_verdict.specs.Uses.{AuditUses}
 use Rattle.drain_verdict.specs.declared.audit_products.AuditProducts.{AuditProducts}
@@ -55,15 +56,15 @@ reported_status v (Ok done) = verdict_status v
 reported_status v (Err fault) = Failed
 
 -- the outcome is the answer to the bytes that the devices had left, if they are known; they are read as by an audit
-pub record IsWindowOutcome {R : Type 0} (source : Source R) (p : Place) (side : ℕ) (tiles_old tiles_new : List (TileInput R)) (sinks : List ℕ)
+pub record IsWindowOutcome {R : Type 0} (source : Source R) (p : Place) (side : ℕ) (tiles_old tiles_new : List (TileInput R)) (given : Given)
     (products_old products_new : AuditProducts R) (outcome : Result WindowReport WindowRefusal) : Type 0 where
-  pub answer : ForAudit source.bytes_left side tiles_old sinks products_old (λ i. IsWindowAnswer p i outcome)
+  pub answer : ForAudit source.bytes_left side tiles_old given products_old (λ i. IsWindowAnswer p i outcome)
   pub uses : AuditUses source.bytes_left source.counts side (tiles_old, products_old) (tiles_new, products_new) (as_refused outcome)
 
 -- the same of a part of a raster of elevations, which begins at this cell of the whole
-pub record IsDemWindowOutcome {R : Type 0} (source : Source R) (p : Place) (at : Cell) (dem_old dem_new : List (RasterInput R)) (sinks : List ℕ)
+pub record IsDemWindowOutcome {R : Type 0} (source : Source R) (p : Place) (at : Cell) (dem_old dem_new : List (RasterInput R)) (given : Given)
     (products_old products_new : AuditProducts R) (outcome : Result WindowReport WindowRefusal) : Type 0 where
-  pub answer : ForDem source.bytes_left dem_old sinks (as_five products_old) (λ s. IsDemWindow at p s outcome)
+  pub answer : ForDem source.bytes_left dem_old given (as_five products_old) (λ s. IsDemWindow at p s outcome)
   pub part : IfOk outcome (IsOfDem at dem_old)
   pub uses : DemUses as_five dem_audit_devices source.bytes_left source.counts (dem_old, products_old) (dem_new, products_new) (as_refused outcome)
 

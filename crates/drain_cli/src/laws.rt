@@ -8,8 +8,8 @@ use drain_device::{ByteSink, ByteSource};
 use drain_maker::laws::{made_is_accepted, made_on_dem_is_accepted};
 use drain_union::laws::four_numbers;
 
-/// What `make_set` made and `write_and_place` wrote into empty files is accepted by `check` with the same tiles and sinks,
-/// unless memory runs out or a read fails: for any sources whose bytes are known, and any sinks whose written bytes are
+/// What `make_set_given` made and `write_and_place` wrote into empty files is accepted by `check_given` with the same tiles,
+/// sinks and spacing, unless memory runs out or a read fails: for any sources whose bytes are known, and any sinks whose written bytes are
 /// known.
 pub fn what_is_written_is_accepted<R: ByteSource, F: ByteSink>()
     ensures { WhatIsWrittenIsAccepted R.bytes_left F.ByteSink }
@@ -17,7 +17,7 @@ pub fn what_is_written_is_accepted<R: ByteSource, F: ByteSink>()
     made_is_accepted();
 }
 
-/// And what `make_dem_set` made is accepted with the same raster of elevations and sinks.
+/// And what `make_dem_set` made is accepted with the same raster of elevations, sinks and spacing.
 pub fn what_is_written_on_dem_is_accepted<R: ByteSource, F: ByteSink>()
     ensures { WhatIsWrittenOnDemIsAccepted R.bytes_left F.ByteSink }
 {

@@ -22,6 +22,7 @@ use drain_files::open_files::Opener;
 use drain_files::open_judged::{OpenFiles, open_judged};
 use drain_grid::Judged;
 use drain_progress::progress::Progress;
+use drain_verdict::Given;
 use std::fs::File;
 use std::io;
 
@@ -94,11 +95,15 @@ fn judge_files(
                 mut elevations,
                 mut products,
                 sinks,
+                spacing,
             },
         ) => run_judged(
             rt.alloc(),
             &mut elevations,
-            sinks.as_slice(),
+            &Given {
+                sinks: sinks.as_slice(),
+                spacing: spacing.input(),
+            },
             &mut products,
             out,
         ),

@@ -4,6 +4,7 @@ pub mod derive_set;
 pub mod explain_dem;
 pub mod explain_files;
 pub mod judge;
+pub mod made_spacing;
 pub mod make_set;
 pub mod report_input;
 pub mod report_output;

@@ -1,3 +1,4 @@
 pub mod FileIds
 pub mod FilePaths
 pub mod Files
+pub mod OpenSpacings

@@ -8,6 +8,7 @@ pub mod map_file;
 pub mod open_failure;
 pub mod open_files;
 pub mod open_judged;
+pub mod open_spacing;
 pub mod output_paths;
 pub mod outputs;
 pub mod source_or_zeros;

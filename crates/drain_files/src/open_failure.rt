@@ -94,6 +94,14 @@ fn line_of(alloc: Global, path: &str) -> Result<Vec<u8>, AllocError>
     Ok(line)
 }
 
+/// Prints the usage error for a header whose pixel sizes give no spacing, and returns the exit status.
+pub fn print_no_spacing(rt: &HostRuntime) -> u8 {
+    let _ = eprintln!(rt;
+        "error: XDIM and YDIM of the header aren't in the ratio of two whole numbers up to 1073741824: write --spacing W,H"
+    );
+    Status::Refused.code()
+}
+
 /// Prints why files aren't open, and returns the exit status.
 pub fn print_open_fault(rt: &HostRuntime, fault: OpenFault, out: &mut impl ByteSink) -> u8 {
     match fault {
@@ -103,5 +111,6 @@ pub fn print_open_fault(rt: &HostRuntime, fault: OpenFault, out: &mut impl ByteS
             status
         }
         OpenFault::Body(fault) => print_failure(out, fault),
+        OpenFault::NoSpacing => print_no_spacing(rt),
     }
 }

@@ -1,6 +1,6 @@
-//! Opening files to read, tiles and a list of sinks among them, and creating files to write.
+//! Opening files to read, tiles, a list of sinks and a text of widths among them, and creating files to write.
 
-ghost use Rattle.std.specs.Prelude.{◌≡◌, IfOk, length, vec_len, [], None};
+ghost use Rattle.std.specs.Prelude.{◌≡◌, ◌≤◌, IfOk, length, vec_len, [], None};
 ghost use Rattle.std.specs.List.{AllZip};
 ghost use Rattle.drain_hgt.specs.Inputs.{names_of};
 ghost use Rattle.drain_files.specs.FilePaths.{IsLastPart};
@@ -11,7 +11,7 @@ use crate::file_paths::tile_name;
 use crate::open_failure::Reason;
 use crate::outputs::{OutputSink, Outputs};
 use crate::source_or_zeros::SourceOrZeros;
-use crate::whole_input::read_text;
+use crate::whole_input::{MAX_TEXT_BYTES, MAX_WIDTHS_BYTES, read_text};
 use drain_device::{BodyFault, ByteList, Reader, Writer};
 use drain_header::Header;
 use drain_hgt::TileInput;
@@ -85,8 +85,10 @@ impl<'a> Opener<'a> {
 pub enum OpenFault {
     /// The file at this path can't be opened, for this reason.
     Open(String, Reason),
-    /// A header or a list of sinks can't be read, or memory was refused.
+    /// A header, a list of sinks or a text of widths can't be read, or memory was refused.
     Body(BodyFault),
+    /// No two whole numbers from 1 to 2^30 are in the ratio of the header's pixel sizes.
+    NoSpacing,
 }
 
 impl OpenFault {
@@ -157,8 +159,24 @@ pub fn list_at(opener: &mut Opener<'_>, path: Option<&str>) -> Result<Vec<u8>, O
 
 /// The bytes of the text at this path. The file is closed again.
 pub fn text_at(opener: &mut Opener<'_>, path: &str) -> Result<Vec<u8>, OpenFault> {
+    text_of_at_most(opener, path, MAX_TEXT_BYTES)
+}
+
+/// The bytes of the text of widths at this path.
+pub fn widths_at(opener: &mut Opener<'_>, path: &str) -> Result<Vec<u8>, OpenFault> {
+    text_of_at_most(opener, path, MAX_WIDTHS_BYTES)
+}
+
+/// The bytes of the text at this path, which may have no more than these. The file is closed again.
+fn text_of_at_most(
+    opener: &mut Opener<'_>,
+    path: &str,
+    most: usize,
+) -> Result<Vec<u8>, OpenFault>
+    requires { most ≤ MAX_TEXT_BYTES }
+{
     let mut file = opener.open(path)?;
-    match read_text(opener.alloc(), &mut file) {
+    match read_text(opener.alloc(), &mut file, most) {
         Ok(text) => Ok(text),
         Err(fault) => Err(OpenFault::Body(fault)),
     }

@@ -1,15 +1,17 @@
 //! Opening the files to be checked: the tiles in the order given, or the header and the raster of elevations; then each
-//! product's header, which is read whole, and raster; then the list of sinks, which is read whole.
+//! product's header, which is read whole, and raster; then the list of sinks and the text of widths, which are read whole.
 
 ghost use Rattle.std.specs.Prelude.{◌≡◌, [], IfOk, None};
 ghost use Rattle.drain_files.specs.Files.{AreElevationsOf, AreOf, AreTilesOf};
+ghost use Rattle.drain_files.specs.OpenSpacings.{IsSpacingOf};
 
 use crate::file_paths::{dem_path, header_path, raster_path};
 use crate::open_files::{InputFile, OpenFault, Opener, list_at, open_tiles};
+use crate::open_spacing::{OpenSpacing, open_spacing};
 use crate::source_or_zeros::SourceOrZeros;
 use drain_args::requests::{DemArgs, Elevations, ProductArgs, TileArgs};
 use drain_device::{ByteList, read_body};
-use drain_grid::{Judged, PerProduct, Product, SetProduct};
+use drain_grid::{Judged, PerProduct, Product, SetProduct, Spacing};
 use drain_header::{MAX_HEADER_BYTES, parse_header};
 use drain_hgt::TileInput;
 use drain_maker::product_files::Part;
@@ -20,12 +22,13 @@ use drain_progress::rows::read_rows;
 use drain_verdict::{AuditProducts, Products, RasterInput};
 use std::alloc::Global;
 
-/// Open files, of which only the headers and the list of sinks have been read.
+/// Open files, of which only the headers, the list of sinks and the text of widths have been read.
 #[derive(Drop)]
 pub struct OpenFiles<E, P> {
     pub elevations: E,
     pub products: P,
     pub sinks: Vec<u8>,
+    pub spacing: OpenSpacing,
 }
 
 /// Open tiles, each with this number of samples along an edge.
@@ -57,18 +60,22 @@ pub fn open_judged<'a>(
     judged: Judged,
     progress: &'a Progress<'a>,
 ) -> Result<OpenFiles<OpenElevations<InputFile<'a>>, JudgedProducts<InputFile<'a>>>, OpenFault>
-    // What is required is what is judged: these rasters, on these elevations, and no sinks if no list is named.
+    // What is required is what is judged: these rasters, on these elevations and this spacing, and no sinks if no list is
+    // named.
     ensures judged { IfOk result (λ files. AreOf judged files.products) }
     ensures elevations { IfOk result (λ files. AreElevationsOf args.now.elevations files.elevations) }
     ensures sinks { args.now.sinks ≡ None → IfOk result (λ files. files.sinks.items ≡ []) }
+    ensures spacing { IfOk result (λ files. IsSpacingOf args.now.spacing files.elevations files.spacing) }
 {
     let elevations = open_elevations(opener, &args.elevations)?;
     let products = open_products(opener, args.folder, judged, progress)?;
     let sinks = list_at(opener, args.sinks)?;
+    let spacing = open_spacing(opener, &args.spacing, &elevations)?;
     Ok(OpenFiles {
         elevations,
         products,
         sinks,
+        spacing,
     })
 }
 
@@ -116,20 +123,23 @@ pub fn open_audited<'a>(
     progress: &'a Progress<'a>,
 ) -> Result<OpenFiles<OpenElevations<InputFile<'a>>, AuditProducts<InputFile<'a>>>, OpenFault>
     ensures elevations { IfOk result (λ files. AreElevationsOf args.now.elevations files.elevations) }
+    ensures spacing { IfOk result (λ files. IsSpacingOf args.now.spacing files.elevations files.spacing) }
 {
     let elevations = open_elevations(opener, &args.elevations)?;
     let mut products = open_four(opener, args.folder, Judged::All)?;
     count_con(&mut products.con, progress);
     let sinks = list_at(opener, args.sinks)?;
+    let spacing = open_spacing(opener, &args.spacing, &elevations)?;
     Ok(OpenFiles {
         elevations,
         products,
         sinks,
+        spacing,
     })
 }
 
 /// Opens the elevations, the directions and the list of sinks. Directions alone are given: their header and zeros take the
-/// place of the other rasters.
+/// place of the other rasters. Spacing makes no difference to what follows from directions.
 pub fn open_directions<'a>(
     opener: &mut Opener<'_>,
     args: &ProductArgs<'_, Elevations<'_>>,
@@ -146,6 +156,7 @@ pub fn open_directions<'a>(
         elevations,
         products: AuditProducts { con, dir, acc, bas },
         sinks,
+        spacing: OpenSpacing::Same(Spacing::unit()),
     })
 }
 

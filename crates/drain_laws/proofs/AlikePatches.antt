@@ -141,8 +141,8 @@ lower_there {p} {q} alike d v lower =
       (
         record { beside = there.1.0; below = below },
         ap (λ x. slope_key (weight_of p.spacing d) (x -ℤ v.con)) alike.here.con
-        ∙ ap (λ x. slope_key (weight_of p.spacing d) (q.here.con -ℤ x)) there.1.1.con
-        ∙ ap (λ (s : Distances). slope_key (weight_of s d) (q.here.con -ℤ w.con)) alike.spacing,
+            ∙ ap (λ x. slope_key (weight_of p.spacing d) (q.here.con -ℤ x)) there.1.1.con
+            ∙ ap (λ (s : Distances). slope_key (weight_of s d) (q.here.con -ℤ w.con)) alike.spacing,
       ),
     )
 

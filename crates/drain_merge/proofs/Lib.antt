@@ -4,6 +4,7 @@ pub mod NewNumbers
 pub mod SortedOutlets
 pub mod SameValues
 pub mod SortedSeams
+pub mod SpacedRows
 pub mod MergedUnions
 pub mod MergedCounts
 pub mod MergeMeaning

@@ -51,10 +51,6 @@ fn are_spaced_alike(a: &Report, b: &Report) -> bool
     let end_a = end_of(a.place.top, a.place.extent.rows());
     let end_b = end_of(b.place.top, b.place.extent.rows());
     let count = end_a.min(end_b).saturating_sub(u64::from(top));
-    if a.spacings.len() <= 1 && b.spacings.len() <= 1 {
-        // All rows of a window are alike.
-        return count == 0 || same_spacing(spacing_at(&a.spacings, 0), spacing_at(&b.spacings, 0));
-    }
     same_rows(
         &a.spacings,
         &b.spacings,
@@ -70,12 +66,24 @@ fn same_rows(a: &[Spacing], b: &[Spacing], from_a: u32, from_b: u32, count: u32)
     requires of_b { from_b + count < 2 ^ 32 }
     ensures { IsTrue result ↔ ((k : ℕ) → k < count → spacing_at a.now (from_a + k) ≡ spacing_at b.now (from_b + k)) }
 {
-    for k in 0..count {
+    for k in 0..rows_to_compare(a, b, count) {
         if !same_spacing(spacing_at(a, from_a + k), spacing_at(b, from_b + k)) {
             return false;
         }
     }
     true
+}
+
+/// How many of so many rows are compared: of two windows that list a row at most, one.
+fn rows_to_compare(a: &[Spacing], b: &[Spacing], count: u32) -> u32
+    ensures few { result ≤ count }
+    ensures enough { (from_a from_b : ℕ) → ((k : ℕ) → k < result → spacing_at a.now (from_a + k) ≡ spacing_at b.now (from_b + k)) → (k : ℕ) → k < count → spacing_at a.now (from_a + k) ≡ spacing_at b.now (from_b + k) }
+{
+    if a.len() <= 1 && b.len() <= 1 {
+        count.min(1)
+    } else {
+        count
+    }
 }
 
 /// Whether the two are the same.

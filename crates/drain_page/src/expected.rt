@@ -5,25 +5,17 @@ ghost use Rattle.std.specs.Prelude.{◌≡◌};
 use crate::frame::Frame;
 use crate::json_text::{JsonText, JsonValue};
 use crate::names::{shown_code, shown_number, shown_rule};
+use crate::slopes::{WayDown, is_steepest, push_ways, ways_down};
 use drain_explain::{Findings, judged_product};
 use drain_faults::FaultyPatch;
 use drain_faults::product_faults::{nodata_of, number_at};
 use drain_fill::{Opening, greatest_allowed, opening_of};
 use drain_flat::{is_flat_way, is_flat_way_without_ranks};
-use drain_grid::{CellValues, Code, Direction, Judged, Patch, Rule, SetProduct};
-use drain_slope::{greatest_key, key};
+use drain_grid::{CellValues, Code, Judged, Patch, Rule, SetProduct};
 use std::alloc::{AllocError, Global};
 
 /// The nine codes.
 const CODES: [i64; 9] = [0, 1, 2, 4, 8, 16, 32, 64, 128];
-
-/// A way down: how far, and its key.
-#[derive(Clone, Copy)]
-pub struct WayDown {
-    pub direction: Direction,
-    pub drop: i64,
-    pub key: u128,
-}
 
 /// What a rule expected at a cell. What it says nothing about is none or empty.
 #[derive(Drop)]
@@ -122,7 +114,7 @@ fn is_allowed(rule: Rule, patch: &Patch, judged: Judged, code: i64) -> bool {
     match (rule, Code::from_number(code)) {
         (Rule::BadCode, _) => true,
         (Rule::OutletCode, Some(Code::Outlet)) => true,
-        (Rule::Slope, Some(Code::To(direction))) => is_steepest(patch, key(patch, direction)),
+        (Rule::Slope, Some(Code::To(direction))) => is_steepest(patch, direction),
         (Rule::FlatStep, Some(Code::To(direction))) => {
             if judged.has_rnk() {
                 is_flat_way(patch, direction)
@@ -132,39 +124,6 @@ fn is_allowed(rule: Rule, patch: &Patch, judged: Judged, code: i64) -> bool {
         }
         _ => false,
     }
-}
-
-/// Whether a way with this key is a steepest way down.
-pub(crate) fn is_steepest(patch: &Patch, key: u128) -> bool {
-    key != 0 && key == greatest_key(patch)
-}
-
-/// The ways to lower neighbours, if the rule is Slope.
-fn ways_down(alloc: Global, rule: Rule, patch: &Patch) -> Result<Vec<WayDown>, AllocError> {
-    let mut ways = Vec::new(alloc);
-    for direction in Direction::ALL {
-        let key = key(patch, direction);
-        if rule == Rule::Slope && key != 0 {
-            ways.push(WayDown {
-                direction,
-                drop: drop_to(patch, direction),
-                key,
-            })?;
-        }
-    }
-    Ok(ways)
-}
-
-/// How far the neighbour in this direction is below.
-fn drop_to(patch: &Patch, direction: Direction) -> i64 {
-    match patch.neighbor(direction) {
-        Some(there) => difference(&patch.here, &there),
-        None => 0,
-    }
-}
-
-fn difference(here: &CellValues, there: &CellValues) -> i64 {
-    here.con - there.con
 }
 
 /// Why the cell is open, if the rule is about open cells.
@@ -276,24 +235,6 @@ fn push_along(text: &mut String, codes: &[i64], judged: Judged) -> Result<(), Al
     text.push_str(if codes.is_empty() { "none" } else { "" })
 }
 
-/// A line for each way down with its direction, drop and key.
-fn push_ways(text: &mut String, patch: &Patch, ways: &[WayDown]) -> Result<(), AllocError> {
-    for WayDown {
-        direction,
-        drop,
-        key,
-    } in ways {
-        let word = shown_code(direction.code());
-        let end = if is_steepest(patch, *key) {
-            ", steepest"
-        } else {
-            ""
-        };
-        writeln!(text, "  {word}: drop {drop}, key {key}{end}")?;
-    }
-    Ok(())
-}
-
 /// What was expected; null if no rule fails. A member that the rule doesn't use is null or empty.
 pub(crate) fn write_expected<F>(
     alloc: Global,
@@ -328,16 +269,6 @@ fn write_members(json: &mut JsonText, expected: &Expected) -> Result<(), AllocEr
     json.list("ways", &expected.ways)?;
     json.member("open", expected.open)?;
     json.end_object()
-}
-
-impl JsonValue for WayDown {
-    fn append(self, json: &mut JsonText) -> Result<(), AllocError> {
-        json.begin_object_item()?;
-        json.member("code", self.direction.code())?;
-        json.member("drop", self.drop)?;
-        json.member("key", self.key)?;
-        json.end_object()
-    }
 }
 
 /// Why a cell is open, by a word.

@@ -12,6 +12,7 @@ use crate::patch_json::write_patch;
 use crate::refusal::write_refusal;
 use crate::rules::{write_products, write_rules};
 use crate::run::write_run;
+use crate::slopes::write_slopes;
 use drain_answer::outcome_report;
 use drain_explain::{ElevationRange, Findings, RefusalDetail};
 use drain_grid::OutOfMemory;
@@ -20,7 +21,7 @@ use std::alloc::{AllocError, Global};
 
 /// The page as one JSON object on one line, which ends with a line feed. Its first member is the answer's line. The
 /// other members are always there: null or an empty list if there is nothing to report. On a raster of elevations there
-/// is one more, `elevation`.
+/// is one more, `elevation`, and where cells aren't square one more, `slopes`.
 pub fn page_json<F: Frame>(alloc: Global, facts: &Facts<F>) -> Result<String, OutOfMemory>
     ensures { IfOk result (λ line. IsAnswerLine (outcome_report_line facts.now.answer) (string_bytes line)) }
 {
@@ -79,6 +80,7 @@ fn write_findings<F: Frame>(
     json.member("rows", findings.layout.shape().rows())?;
     json.member("cols", findings.layout.shape().cols())?;
     write_elevations::<F>(json, findings.elevations)?;
+    write_slopes(json, findings)?;
     json.member("ranks", findings.rules.judged.has_rnk())?;
     write_rules(json, findings)?;
     write_products(json, findings)?;

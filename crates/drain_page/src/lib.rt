@@ -14,6 +14,7 @@ mod patch_text;
 mod refusal;
 mod rules;
 mod run;
+mod slopes;
 pub mod text_page;
 
 pub use facts::Facts;

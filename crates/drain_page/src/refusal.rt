@@ -80,7 +80,7 @@ pub(crate) fn push_refusal(
             number,
             start,
             bytes,
-        } => push_sink_line(alloc, text, *number, start, *bytes),
+        } => push_line(alloc, text, "a row and a column, such as 12 7", *number, start, *bytes),
         RefusalDetail::SinkCell {
             number,
             row,
@@ -93,6 +93,22 @@ pub(crate) fn push_refusal(
                 "expected: line {number}: a data cell\nfound: row {row}, column {col}, {why}{outside}"
             )
         }
+        RefusalDetail::SpacingLine {
+            number,
+            start,
+            bytes,
+        } => push_line(
+            alloc,
+            text,
+            "a width and a height, such as 30 20",
+            *number,
+            start,
+            *bytes,
+        ),
+        RefusalDetail::SpacingRows { expected, found } => writeln!(
+            text,
+            "expected: a line for each of {expected} rows\nfound: lines for {found} rows"
+        ),
         RefusalDetail::PixelSize { xdim, ydim } => writeln!(
             text,
             "expected: XDIM and YDIM above 0\nfound: XDIM {}, YDIM {}",
@@ -124,20 +140,18 @@ fn push_position(
     )
 }
 
-/// A bad line of the list of sinks, and how much of it is shown, if it isn't the whole line.
-fn push_sink_line(
+/// A bad line of a list, what it should be, and how much of it is shown, if it isn't the whole line.
+fn push_line(
     alloc: Global,
     text: &mut String,
+    expected: &'static str,
     number: u64,
     start: &[u8],
     bytes: u64,
 ) -> Result<(), AllocError> {
     let line = shown_bytes(alloc, start)?;
     let shown = start.len() as u64;
-    writeln!(
-        text,
-        "expected: line {number}: a row and a column, such as 12 7"
-    )?;
+    writeln!(text, "expected: line {number}: {expected}")?;
     if shown >= bytes {
         writeln!(text, "found: line {number}: {line}")
     } else {
@@ -184,6 +198,8 @@ fn kind(detail: &RefusalDetail) -> &'static str {
         RefusalDetail::Seam { .. } => "seam",
         RefusalDetail::SinkLine { .. } => "sink_line",
         RefusalDetail::SinkCell { .. } => "sink_cell",
+        RefusalDetail::SpacingLine { .. } => "spacing_line",
+        RefusalDetail::SpacingRows { .. } => "spacing_rows",
         RefusalDetail::PixelSize { .. } => "pixel_size",
         RefusalDetail::DemLength { .. } => "dem_length",
     }
@@ -227,6 +243,11 @@ fn write_members(
             number,
             start,
             bytes,
+        }
+        | RefusalDetail::SpacingLine {
+            number,
+            start,
+            bytes,
         } => {
             json.member("line", *number)?;
             write_shown(alloc, json, start)?;
@@ -243,6 +264,10 @@ fn write_members(
             json.member("xdim", units_text(*xdim).as_str())?;
             json.member("ydim", units_text(*ydim).as_str())?;
             json.end_object()
+        }
+        RefusalDetail::SpacingRows { expected, found } => {
+            json.member("expected", *expected)?;
+            json.member("found", *found)
         }
         RefusalDetail::DemLength { expected, found } => {
             json.member("expected", *expected)?;

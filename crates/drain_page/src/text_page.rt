@@ -9,6 +9,7 @@ use crate::patch_text::push_first;
 use crate::refusal::push_refusal;
 use crate::rules::push_rules;
 use crate::run::push_run;
+use crate::slopes::push_slopes;
 use drain_answer::outcome_report;
 use drain_explain::{ElevationRange, Findings};
 use drain_grid::OutOfMemory;
@@ -40,7 +41,7 @@ fn explanation<F: Frame>(alloc: Global, facts: &Facts<F>) -> Result<String, Allo
     Ok(text)
 }
 
-/// The elevations, the rules, the first cell at which one fails, and the first path without an end.
+/// The elevations, how far apart cells are, the rules, the first cell at which one fails, and the first path without an end.
 fn push_findings<F: Frame>(
     alloc: Global,
     text: &mut String,
@@ -51,6 +52,7 @@ fn push_findings<F: Frame>(
     if words.has_elevations {
         push_elevations(text, findings.elevations)?;
     }
+    push_slopes(text, findings)?;
     push_rules(text, findings)?;
     if let Some(first) = &findings.first {
         text.push_str("\n")?;

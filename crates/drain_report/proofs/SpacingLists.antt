@@ -1,10 +1,10 @@
 -- The list of spacings stands in a text where a spacing is listed, and nowhere else.
-use Rattle.std.proofs.Common.{◌≡◌, ◌↔◌, ℕ, ◌<◌, ◌^◌, ℤ, pos, List, [], ◌∷◌, ◌++◌, length, get_or, slice_index_or, append_assoc, refl, sym, ap, subst, ◌∙◌, arith}
-use Rattle.std.specs.Prelude.{Option, Some, None, IfSome, IsSome, codes}
+use Rattle.std.proofs.Common.{◌≡◌, ◌↔◌, true, false, ℕ, ◌<◌, ◌^◌, ℤ, pos, List, [], ◌∷◌, ◌++◌, length, get_or, slice_index_or, append_assoc, refl, sym, ap, subst, ◌∙◌, arith}
+use Rattle.std.specs.Prelude.{Option, Some, None, IfSome, IsSome, MatchOption, is_some, codes}
 use Rattle.std.proofs.lemmas.Bool.{false≢true}
 use Rattle.drain_grid.specs.Spacing.{Distances, IsDistance, IsSpacing}
-use Rattle.drain_report.specs.Contents.{all_text, list_text, spacings_text, SpacingsFit}
-use Rattle.drain_report.specs.Facts.{IsNarrow, spacing_line, spacing_numbers}
+use Rattle.drain_report.specs.Contents.{all_text, list_text, spacings_text}
+use Rattle.drain_report.specs.Facts.{spacing_line, spacing_numbers}
 use Rattle.drain_report.specs.Lines.{AreLong, spaced}
 use Rattle.drain_report.proofs.FactLemmas.{narrow_long}
 use Rattle.drain_report.proofs.ListLemmas.{exact_from}
@@ -70,3 +70,12 @@ some_listed (s ∷ ss) text r a word is = omega arith
 pub listed_text : (xs : List Distances) → 0 < length xs → spacings_text xs ≡ list_text (codes "spacings") spacing_line xs
 listed_text [] some = absurd (omega arith)
 listed_text (s ∷ ss) some = refl
+
+-- a text that isn't found to begin with a word doesn't, and one that is found to does
+pub word_missing : {X : Type 0} (P : X → Type 0) (o : Option X) → MatchOption o ⊥ P → is_some o ≡ false → ⊥
+word_missing P None h is = h
+word_missing P (Some x) h is = false≢true (sym is)
+
+pub word_found : {X : Type 0} (P : X → Type 0) (o : Option X) → IfSome o P → is_some o ≡ true → (x : X) × P x
+word_found P None h is = absurd (false≢true is)
+word_found P (Some x) h is = (x, h)

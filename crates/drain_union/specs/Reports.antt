@@ -86,6 +86,10 @@ pub record ListsSinks (w : Window) (xs : List Cell) : Type 0 where
 abbrev pub spacing_at : List Distances → ℕ → Distances
 spacing_at listed row = slice_index_or listed (min row (length listed - 1)) unit_spacing
 
+-- the list gives the spacing of each row of the window
+abbrev pub ListsSpacings : Window → List Distances → Type 0
+ListsSpacings w listed = (row : ℕ) → row < w.grid.extent.rows → w.grid.spacing row ≡ spacing_at listed row
+
 -- a report on one window: where it lies, how far apart the cells of its rows are, the no-data numbers, whether the rules
 -- hold at its judged cells, and where they do, the outlets that it judged, what it shows along its seams, and the listed
 -- sinks that it judged
@@ -102,7 +106,7 @@ pub record Report : Type 0 where
 pub record IsReportOf (depth : ℕ) (w : Window) (r : Report) : Type 0 where
   pub place : r.place ≡ w.place
   pub extent : w.grid.extent ≡ w.place.extent
-  pub spacings : (row : ℕ) → row < w.grid.extent.rows → w.grid.spacing row ≡ spacing_at r.spacings row
+  pub spacings : ListsSpacings w r.spacings
   pub holds : IsTrue r.holds ↔ RulesHoldInside r.nodata w
   pub outlets : IsTrue r.holds → ListsOutlets w r.outlets
   pub seams : IsTrue r.holds → ListsSeams depth w r.seams

@@ -90,7 +90,7 @@ module _ (nodata : NoDataNumbers) (origin : Cell) (p : Place) (g : Grid) (ps : P
   cut = record { place = p; grid = cut_grid p g; products = cut_products p ps }
 
   is_window : IsWindowOf g ps cut
-  is_window = record { placed = placed; extent = refl; values = λ c inside. refl }
+  is_window = record { placed = placed; extent = refl; values = λ c inside. refl; spacings = λ c inside. refl }
 
   -- at a judged cell a rule of a patch holds in both or in neither
   to_grid : (c : Cell) (r : Rule) → IsJudgedIn p c → IsPatchRule r → HoldsAt (unranked nodata) here.grid here.products c r → HoldsAt (unranked nodata) g ps (in_union p c) r

@@ -1,4 +1,5 @@
 pub mod JudgedWindows
+pub mod RowLists
 pub mod SeamCells
 pub mod SinkLists
 pub mod WindowVerdicts

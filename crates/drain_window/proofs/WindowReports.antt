@@ -17,13 +17,14 @@ use Rattle.drain_verdict.proofs.DemAnswers.{dem_four_failed}
 use Rattle.drain_verdict.proofs.InputLemmas.{four_failed}
 use Rattle.drain_verdict.specs.declared.audit_products.AuditProducts.{AuditProducts}
 use Rattle.drain_verdict.proofs.AuditDevices.{none_alike}
-use Rattle.drain_union.specs.Reports.{Report, audited, IsSortedByLabel, ListsOutlets, IsReportOf, ListsSeams, ListsSinks}
+use Rattle.drain_union.specs.Reports.{Report, audited, IsSortedByLabel, ListsOutlets, IsReportOf, ListsSeams, ListsSinks, ListsSpacings}
 use Rattle.drain_union.specs.declared.report.WindowReport.{WindowReport}
 use Rattle.drain_window.specs.WindowAnswers.{as_refused, IsWithTiles}
 use Rattle.drain_window.specs.declared.answered.WindowRefusal.{WindowRefusal}
 use Rattle.drain_window.specs.declared.answered.WindowRefusal.TheVariants.{Inputs as OfInputs, OutsideMosaic}
 use Rattle.std.specs.List.Sorted.{IsPermutation}
 use Rattle.std.proofs.lemmas.List.Sorted.{Contains-permutation, IsPermutation-sym}
+use Rattle.drain_grid.specs.Spacing.{Distances}
 use Rattle.drain_grid.specs.declared.cell.Cell.{Cell}
 use Rattle.drain_grid.specs.declared.rule.Rule.{Rule}
 use Rattle.drain_grid.specs.Grid.{Grid, Products}
@@ -125,12 +126,13 @@ module _ (judges : WalkJudgesWindow) (lists : WalkListsSeams) (nodata : NoDataNu
       (subst (λ q. ListsSeamsAbove seams.origin q g ps seams.rows seams.seams.items) of.place (listed_seams.right fits))))
 
 -- the report on a window where the rules hold
-pub report_sound : (nodata at : NoDataNumbers) (origin : Cell) (p : Place) (g : Grid) (ps : Products) (outlets sorted : List Outlet) (shown : List Shown) (sinks : List Cell) (tally : Tally) → FourNumbers → at ≡ audited nodata →
-    IsOfWindow nodata origin p g ps outlets (Sound tally) → IsSortedByLabel sorted → IsPermutation outlets sorted → ListsSeams SEAM_DEPTH (window_at origin p g ps) shown → ListsSinks (window_at origin p g ps) sinks →
-    IsReportOf SEAM_DEPTH (window_at origin p g ps) (record { place = moved origin p; nodata = at; holds = true; outlets = sorted; seams = shown; sinks = sinks })
-report_sound nodata at origin p g ps outlets sorted shown sinks tally four same of rise moves seams sinks_are = record {
+pub report_sound : (nodata at : NoDataNumbers) (origin : Cell) (p : Place) (g : Grid) (ps : Products) (outlets sorted : List Outlet) (shown : List Shown) (sinks : List Cell) (spacings : List Distances) (tally : Tally) → FourNumbers → at ≡ audited nodata →
+    IsOfWindow nodata origin p g ps outlets (Sound tally) → IsSortedByLabel sorted → IsPermutation outlets sorted → ListsSeams SEAM_DEPTH (window_at origin p g ps) shown → ListsSinks (window_at origin p g ps) sinks → ListsSpacings (window_at origin p g ps) spacings →
+    IsReportOf SEAM_DEPTH (window_at origin p g ps) (record { place = moved origin p; spacings = spacings; nodata = at; holds = true; outlets = sorted; seams = shown; sinks = sinks })
+report_sound nodata at origin p g ps outlets sorted shown sinks spacings tally four same of rise moves seams sinks_are spaced = record {
   place = refl;
   extent = refl;
+  spacings = spaced;
   holds = (λ is. subst (λ n. RulesHoldInside n (window_at origin p g ps)) (sym same) ((four nodata (window_at origin p g ps)).0.0 of.0), λ holds. refl);
   outlets = λ is. listed nodata origin p g ps outlets sorted rise moves of.1;
   seams = λ is. seams;
@@ -138,12 +140,13 @@ report_sound nodata at origin p g ps outlets sorted shown sinks tally four same 
 }
 
 -- and where one fails
-pub report_faulty : (nodata at : NoDataNumbers) (origin : Cell) (p : Place) (g : Grid) (ps : Products) (outlets : List Outlet) (cell : Cell) (rule : Rule) (none : List Outlet) (nothing : List Shown) (no_sink : List Cell) → FourNumbers → at ≡ audited nodata →
-    IsOfWindow nodata origin p g ps outlets (Faulty cell rule) →
-    IsReportOf SEAM_DEPTH (window_at origin p g ps) (record { place = moved origin p; nodata = at; holds = false; outlets = none; seams = nothing; sinks = no_sink })
-report_faulty nodata at origin p g ps outlets cell rule none nothing no_sink four same of = record {
+pub report_faulty : (nodata at : NoDataNumbers) (origin : Cell) (p : Place) (g : Grid) (ps : Products) (outlets : List Outlet) (cell : Cell) (rule : Rule) (none : List Outlet) (nothing : List Shown) (no_sink : List Cell) (spacings : List Distances) → FourNumbers → at ≡ audited nodata →
+    IsOfWindow nodata origin p g ps outlets (Faulty cell rule) → ListsSpacings (window_at origin p g ps) spacings →
+    IsReportOf SEAM_DEPTH (window_at origin p g ps) (record { place = moved origin p; spacings = spacings; nodata = at; holds = false; outlets = none; seams = nothing; sinks = no_sink })
+report_faulty nodata at origin p g ps outlets cell rule none nothing no_sink spacings four same of spaced = record {
   place = refl;
   extent = refl;
+  spacings = spaced;
   holds = (
     λ is. absurd (let no : ⊥ = cc in no),
     λ holds.

@@ -23,6 +23,7 @@ use Rattle.drain_grid.specs.declared.verdict.Verdict.TheVariants.{Accepted, Reje
 use Rattle.drain_mosaic.specs.Tiling.{Tiling}
 use Rattle.drain_verdict.specs.Answers.{AreReadable}
 use Rattle.drain_verdict.specs.DemGround.{ForDem}
+use Rattle.drain_verdict.specs.Given.{Given}
 use Rattle.drain_verdict.specs.GroundSets.{GroundSet, set_grid, set_numbers, set_products}
 use Rattle.drain_verdict.specs.Inputs.{Inputs, Products as AllProducts}
 use Rattle.drain_verdict.specs.TileGround.{set_of}
@@ -99,23 +100,23 @@ first_of Told p (Err refusal) answer = tt
 
 -- the same of a raster of elevations
 
-pub dem_answered : {R : Type 0} (bl : R → Option (List ℕ)) (dem : List (RasterInput R)) (sinks : List ℕ) (ps : AllProducts R) (at : Cell) (p : Place) (Fact : WindowReport → GroundSet → Type 0) →
+pub dem_answered : {R : Type 0} (bl : R → Option (List ℕ)) (dem : List (RasterInput R)) (given : Given) (ps : AllProducts R) (at : Cell) (p : Place) (Fact : WindowReport → GroundSet → Type 0) →
     ((a : WindowReport) (s : GroundSet) → IsDemWindow at p s (Ok a) → Fact a s) →
-    (result : Result WindowReport WindowRefusal) → ForDem bl dem sinks ps (λ s. IsDemWindow at p s result) → IfOk result (λ a. ForDem bl dem sinks ps (λ s. Fact a s))
-dem_answered bl dem sinks ps at p Fact follow (Ok a) answer = λ d t tell told. follow a _ (answer d t tell told)
-dem_answered bl dem sinks ps at p Fact follow (Err refusal) answer = tt
+    (result : Result WindowReport WindowRefusal) → ForDem bl dem given ps (λ s. IsDemWindow at p s result) → IfOk result (λ a. ForDem bl dem given ps (λ s. Fact a s))
+dem_answered bl dem given ps at p Fact follow (Ok a) answer = λ d t tell told. follow a _ (answer d t tell told)
+dem_answered bl dem given ps at p Fact follow (Err refusal) answer = tt
 
-dem_first_in : {R : Type 0} (bl : R → Option (List ℕ)) (dem : List (RasterInput R)) (sinks : List ℕ) (ps : AllProducts R) (at : Cell) (p : Place) (verdict : Verdict) →
-    ForDem bl dem sinks ps (λ s. IsJudgedVerdict (set_numbers s) at p (set_grid s) (set_products s) verdict) →
-    IfRejected verdict (λ (cell : Cell) (rule : Rule). ForDem bl dem sinks ps (λ s. IsFirstInside (set_numbers s) (window_in at p s) cell rule))
-dem_first_in bl dem sinks ps at p (Accepted counts) is = tt
-dem_first_in bl dem sinks ps at p (Rejected rule row col) is = is
+dem_first_in : {R : Type 0} (bl : R → Option (List ℕ)) (dem : List (RasterInput R)) (given : Given) (ps : AllProducts R) (at : Cell) (p : Place) (verdict : Verdict) →
+    ForDem bl dem given ps (λ s. IsJudgedVerdict (set_numbers s) at p (set_grid s) (set_products s) verdict) →
+    IfRejected verdict (λ (cell : Cell) (rule : Rule). ForDem bl dem given ps (λ s. IsFirstInside (set_numbers s) (window_in at p s) cell rule))
+dem_first_in bl dem given ps at p (Accepted counts) is = tt
+dem_first_in bl dem given ps at p (Rejected rule row col) is = is
 
-pub dem_first : {R : Type 0} (bl : R → Option (List ℕ)) (dem : List (RasterInput R)) (sinks : List ℕ) (ps : AllProducts R) (at : Cell) (p : Place) (result : Result WindowReport WindowRefusal) →
-    ForDem bl dem sinks ps (λ s. IsDemWindow at p s result) →
-    IfOk result (λ a. IfRejected a.verdict (λ (cell : Cell) (rule : Rule). ForDem bl dem sinks ps (λ s. IsFirstInside (set_numbers s) (window_in at p s) cell rule)))
-dem_first bl dem sinks ps at p (Ok a) answer = dem_first_in bl dem sinks ps at p a.verdict (λ d t tell told. (answer d t tell told).1.1.verdict)
-dem_first bl dem sinks ps at p (Err refusal) answer = tt
+pub dem_first : {R : Type 0} (bl : R → Option (List ℕ)) (dem : List (RasterInput R)) (given : Given) (ps : AllProducts R) (at : Cell) (p : Place) (result : Result WindowReport WindowRefusal) →
+    ForDem bl dem given ps (λ s. IsDemWindow at p s result) →
+    IfOk result (λ a. IfRejected a.verdict (λ (cell : Cell) (rule : Rule). ForDem bl dem given ps (λ s. IsFirstInside (set_numbers s) (window_in at p s) cell rule)))
+dem_first bl dem given ps at p (Ok a) answer = dem_first_in bl dem given ps at p a.verdict (λ d t tell told. (answer d t tell told).1.1.verdict)
+dem_first bl dem given ps at p (Err refusal) answer = tt
 
 -- a refusal of the ground is the answer to its tiles
 pub refused_answer : (origin : Cell) (p : Place) (i : Inputs) (refusal : WindowRefusal) → IsOrigin origin → IsWindowIn origin p (set_of i) (Err refusal) → IsWindowAnswer p i (Err refusal)

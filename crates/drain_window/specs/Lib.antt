@@ -1,4 +1,5 @@
 pub mod JudgedAreas
+pub mod JudgedRows
 pub mod Laws
 pub mod WindowLines
 pub mod SeamRows

@@ -11,7 +11,7 @@ ghost use Rattle.drain_window.specs.WindowNotes.{AreOfWindow};
 ghost use Rattle.drain_window.specs.SeamRows.{EndsInRange};
 ghost use Rattle.drain_window.specs.WindowWalks.{IsSeamWalkOf, IsWindowWalkOf};
 ghost use Rattle.drain_union.specs.Windows.{window_at, IsOrigin, IsPlaceIn};
-ghost use Rattle.drain_union.specs.Reports.{IsSortedByLabel, ListsSinks, Agree};
+ghost use Rattle.drain_union.specs.Reports.{IsSortedByLabel, ListsSinks, ListsSpacings, Agree};
 
 use crate::judged_area::judged_area;
 use crate::laws::{walk_judges_window, walk_lists_seams};
@@ -19,7 +19,7 @@ use crate::listed_outlets::ListedOutlets;
 use crate::seam_walk::SeamWalk;
 use drain_answer::Refusal;
 use drain_answer::lines::{self, Line, verdict_line, words};
-use drain_grid::{Cell, Counts, Verdict};
+use drain_grid::{Cell, Counts, Spacing, Verdict};
 use drain_rules::walk::{RowOutcome, Tally};
 use drain_rules::{Area, Walk};
 use drain_union::laws::four_numbers;
@@ -58,8 +58,8 @@ pub fn refusal_line(refusal: &WindowRefusal) -> Line
     }
 }
 
-/// The verdict and the report from the notes of all rows of a grid, for the window at this place of it, and the listed
-/// sinks that it judges. None if the notes are of another window, which never happens.
+/// The verdict and the report from the notes of all rows of a grid, for the window at this place of it, the listed sinks
+/// that it judges, and the spacing of its rows. None if the notes are of another window, which never happens.
 pub(crate) fn answered(
     alloc: Global,
     place: &Place,
@@ -67,12 +67,13 @@ pub(crate) fn answered(
     walk: Walk<ListedOutlets>,
     seams: SeamWalk,
     sinks: Vec<Cell>,
+    spacings: Vec<Spacing>,
 ) -> Option<(Verdict, Report)>
     requires placed { EndsInRange place.now }
     requires moved { IsOrigin origin }
     ensures agree { IfSome result (λ a. Agree a.0 a.1) }
     ensures answer { IfSome result (λ a. (nodata : NoDataNumbers) (g : Grid) (ps : Products) → IsPlaceIn g.extent place.now → 0 < g.extent.rows
-        → IsWindowWalkOf nodata g ps g.extent.rows walk → IsSeamWalkOf (record { nodata = nodata; judged = All }) g ps g.extent.rows seams → ListsSinks (window_at origin place.now g ps) sinks.items → IsAnswerOn nodata origin place.now g ps a.0 a.1) }
+        → IsWindowWalkOf nodata g ps g.extent.rows walk → IsSeamWalkOf (record { nodata = nodata; judged = All }) g ps g.extent.rows seams → ListsSinks (window_at origin place.now g ps) sinks.items → ListsSpacings (window_at origin place.now g ps) spacings.items → IsAnswerOn nodata origin place.now g ps a.0 a.1) }
 {
     // The laws on what the notes say of the window.
     walk_judges_window();
@@ -89,6 +90,7 @@ pub(crate) fn answered(
             Verdict::Accepted(counts_of(place, &total)),
             Report {
                 place: at,
+                spacings,
                 nodata,
                 holds: true,
                 outlets: sorted(walk.labels.outlets),
@@ -104,6 +106,7 @@ pub(crate) fn answered(
             },
             Report {
                 place: at,
+                spacings,
                 nodata,
                 holds: false,
                 outlets: Vec::new(alloc),

@@ -24,7 +24,7 @@ use drain_hgt::name::{HALF_TURN, POLE};
 use drain_hgt::{TileInput, TileName};
 use drain_mosaic::Layout;
 use drain_union::{Place, Report, UnionGrid, WindowReport};
-use drain_verdict::AuditProducts;
+use drain_verdict::{AuditProducts, Given};
 use drain_verdict::stages::layout_of;
 use std::alloc::Global;
 
@@ -65,24 +65,25 @@ fn samples_between(side: u32, from: i16, to: i16) -> u32
 
 /// Whether the rules hold at the judged cells of one window, with its report; or why that isn't answered.
 ///
-/// `side`, `tiles`, `sinks` and `products` are those of an audit of the mosaic of the tiles. `place` is where the window
+/// `side`, `tiles`, `given` and `products` are those of an audit of the mosaic of the tiles. `place` is where the window
 /// lies in this mosaic: on its inner sides the union goes on, and each other side has to be an edge of the mosaic. The
 /// rules are tried at each cell of the window but those of the outermost row or column of an inner side. The report has
-/// the window's place on the map. Memory: the outlets of the window, what it shows along its seams, and three rows.
+/// the window's place on the map, and the spacing of its rows. Memory: the outlets of the window, what it shows along its
+/// seams, three rows, and 8 bytes for each row of a text of spacings.
 pub fn judge_window<R: ByteSource>(
     alloc: Global,
     side: u32,
     tiles: &mut [TileInput<R>],
-    sinks: &[u8],
+    given: &Given,
     products: &mut AuditProducts<R>,
     place: &Place,
 ) -> Result<WindowReport, WindowRefusal>
     // Unless memory ran out or a read failed, the answer is that of the bytes.
-    ensures answer { ForAudit R.bytes_left side tiles.old sinks.now products.old (λ inputs. IsWindowAnswer place.now inputs result) }
+    ensures answer { ForAudit R.bytes_left side tiles.old given.now products.old (λ inputs. IsWindowAnswer place.now inputs result) }
 
     // The report is that of the window, with the no-data numbers of con, dir, acc and bas.
-    ensures report { IfOk result (λ a. ForAudit R.bytes_left side tiles.old sinks.now products.old (λ inputs. IsReportOf SEAM_DEPTH (window_of place.now inputs) a.report)) }
-    ensures nodata { IfOk result (λ a. ForAudit R.bytes_left side tiles.old sinks.now products.old (λ inputs. a.report.nodata ≡ audited (nodata_numbers inputs))) }
+    ensures report { IfOk result (λ a. ForAudit R.bytes_left side tiles.old given.now products.old (λ inputs. IsReportOf SEAM_DEPTH (window_of place.now inputs) a.report)) }
+    ensures nodata { IfOk result (λ a. ForAudit R.bytes_left side tiles.old given.now products.old (λ inputs. a.report.nodata ≡ audited (nodata_numbers inputs))) }
 
     // How far it reads, when a read fails, and what is unchanged: as for an audit.
     ensures uses { AuditUses R.bytes_left R.counts side (tiles.old, products.old) (tiles.new, products.new) (as_refused result) }
@@ -91,9 +92,9 @@ pub fn judge_window<R: ByteSource>(
     ensures agree { IfOk result (λ a. Agree a.verdict a.report) }
 
     // A rejection has the first fault of the window.
-    ensures first { IfOk result (λ a. IfRejected a.verdict (λ cell rule. ForAudit R.bytes_left side tiles.old sinks.now products.old (λ inputs. IsFirstInside (nodata_numbers inputs) (window_of place.now inputs) cell rule))) }
+    ensures first { IfOk result (λ a. IfRejected a.verdict (λ cell rule. ForAudit R.bytes_left side tiles.old given.now products.old (λ inputs. IsFirstInside (nodata_numbers inputs) (window_of place.now inputs) cell rule))) }
 {
-    answer_of(alloc, side, tiles, sinks, products, place)
+    answer_of(alloc, side, tiles, given, products, place)
 }
 
 /// The answer to the bytes.
@@ -101,18 +102,18 @@ fn answer_of<R: ByteSource>(
     alloc: Global,
     side: u32,
     tiles: &mut [TileInput<R>],
-    sinks: &[u8],
+    given: &Given,
     products: &mut AuditProducts<R>,
     place: &Place,
 ) -> Result<WindowReport, WindowRefusal>
-    ensures answer { ForAudit R.bytes_left side tiles.old sinks.now products.old (λ inputs. IsWindowAnswer place.now inputs result) }
+    ensures answer { ForAudit R.bytes_left side tiles.old given.now products.old (λ inputs. IsWindowAnswer place.now inputs result) }
     ensures uses { AuditUses R.bytes_left R.counts side (tiles.old, products.old) (tiles.new, products.new) (as_refused result) }
     ensures agree { IfOk result (λ a. Agree a.verdict a.report) }
 {
     // The law that bytes name one tile.
     one_name();
     match layout_of(alloc, side, tiles) {
-        Ok(layout) => answer_in(alloc, &layout, sinks, tiles, products, place),
+        Ok(layout) => answer_in(alloc, &layout, given, tiles, products, place),
         Err(refusal) => Err(WindowRefusal::Inputs(refusal)),
     }
 }
@@ -121,20 +122,20 @@ fn answer_of<R: ByteSource>(
 fn answer_in<R: ByteSource>(
     alloc: Global,
     layout: &Layout,
-    sinks: &[u8],
+    given: &Given,
     tiles: &mut [TileInput<R>],
     products: &mut AuditProducts<R>,
     place: &Place,
 ) -> Result<WindowReport, WindowRefusal>
     requires laid { IsLayoutOf layout.now.side (names_of tiles.old) layout.now }
-    ensures answer { ForAudit R.bytes_left layout.now.side tiles.old sinks.now products.old (λ inputs. IsWindowAnswer place.now inputs result) }
+    ensures answer { ForAudit R.bytes_left layout.now.side tiles.old given.now products.old (λ inputs. IsWindowAnswer place.now inputs result) }
     ensures uses { AuditUses R.bytes_left R.counts layout.now.side (tiles.old, products.old) (tiles.new, products.new) (as_refused result) }
     ensures agree { IfOk result (λ a. Agree a.verdict a.report) }
 {
     // The law that bytes name one tile.
     one_name();
     let origin = map_origin(layout);
-    match judge_ground::<R, TileInput<R>>(alloc, layout, origin, sinks, tiles, products, place) {
+    match judge_ground::<R, TileInput<R>>(alloc, layout, origin, given, tiles, products, place) {
         Ok((verdict, report)) => with_tiles(alloc, layout, verdict, report),
         Err(refusal) => Err(refusal),
     }

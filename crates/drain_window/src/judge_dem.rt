@@ -17,7 +17,7 @@ use drain_device::ByteSource;
 use drain_grid::Cell;
 use drain_header::Header;
 use drain_union::{Decimal, DemPart, Place, UnionGrid, WindowReport};
-use drain_verdict::{AuditProducts, RasterInput, dem_header};
+use drain_verdict::{AuditProducts, Given, RasterInput, dem_header};
 use std::alloc::Global;
 
 /// Units of 10^-15 in one.
@@ -65,7 +65,7 @@ fn part(header: &Header, at: Cell) -> DemPart
 /// Whether the rules hold at the judged cells of one window of a raster of elevations, with its report; or why that isn't
 /// answered.
 ///
-/// `dem`, `sinks` and `products` are those of an audit of one part of the raster, which begins at the cell `at` of the
+/// `dem`, `given` and `products` are those of an audit of one part of the raster, which begins at the cell `at` of the
 /// whole. `place` is where the window lies in the part: on its inner sides the whole goes on, and each other side has to
 /// be an edge of the part. The rules are tried as by `judge_window`. The report has the window's place in the whole, and
 /// what the part's header says of its place. A part that ends beyond the greatest row or column of 32 bits is refused as
@@ -73,17 +73,17 @@ fn part(header: &Header, at: Cell) -> DemPart
 pub fn judge_window_dem<R: ByteSource>(
     alloc: Global,
     dem: &mut [RasterInput<R>; 1],
-    sinks: &[u8],
+    given: &Given,
     products: &mut AuditProducts<R>,
     place: &Place,
     at: Cell,
 ) -> Result<WindowReport, WindowRefusal>
     // Unless memory ran out or a read failed, the answer is that of the bytes.
-    ensures answer { ForDem R.bytes_left dem.old sinks.now (as_five products.old) (λ s. IsDemWindow at place.now s result) }
+    ensures answer { ForDem R.bytes_left dem.old given.now (as_five products.old) (λ s. IsDemWindow at place.now s result) }
 
     // The report is that of the window, with the no-data numbers of con, dir, acc and bas, and names the part.
-    ensures report { IfOk result (λ a. ForDem R.bytes_left dem.old sinks.now (as_five products.old) (λ s. IsReportOf SEAM_DEPTH (window_in at place.now s) a.report)) }
-    ensures nodata { IfOk result (λ a. ForDem R.bytes_left dem.old sinks.now (as_five products.old) (λ s. a.report.nodata ≡ audited (set_numbers s))) }
+    ensures report { IfOk result (λ a. ForDem R.bytes_left dem.old given.now (as_five products.old) (λ s. IsReportOf SEAM_DEPTH (window_in at place.now s) a.report)) }
+    ensures nodata { IfOk result (λ a. ForDem R.bytes_left dem.old given.now (as_five products.old) (λ s. a.report.nodata ≡ audited (set_numbers s))) }
     ensures part { IfOk result (IsOfDem at dem.old) }
 
     // How far it reads, when a read fails, and what is unchanged: as for an audit.
@@ -93,21 +93,21 @@ pub fn judge_window_dem<R: ByteSource>(
     ensures agree { IfOk result (λ a. Agree a.verdict a.report) }
 
     // A rejection has the first fault of the window.
-    ensures first { IfOk result (λ a. IfRejected a.verdict (λ cell rule. ForDem R.bytes_left dem.old sinks.now (as_five products.old) (λ s. IsFirstInside (set_numbers s) (window_in at place.now s) cell rule))) }
+    ensures first { IfOk result (λ a. IfRejected a.verdict (λ cell rule. ForDem R.bytes_left dem.old given.now (as_five products.old) (λ s. IsFirstInside (set_numbers s) (window_in at place.now s) cell rule))) }
 {
-    answer_of(alloc, dem, sinks, products, place, at)
+    answer_of(alloc, dem, given, products, place, at)
 }
 
 /// The answer to the bytes.
 fn answer_of<R: ByteSource>(
     alloc: Global,
     dem: &mut [RasterInput<R>; 1],
-    sinks: &[u8],
+    given: &Given,
     products: &mut AuditProducts<R>,
     place: &Place,
     at: Cell,
 ) -> Result<WindowReport, WindowRefusal>
-    ensures answer { ForDem R.bytes_left dem.old sinks.now (as_five products.old) (λ s. IsDemWindow at place.now s result) }
+    ensures answer { ForDem R.bytes_left dem.old given.now (as_five products.old) (λ s. IsDemWindow at place.now s result) }
     ensures part { IfOk result (IsOfDem at dem.old) }
     ensures uses { DemUses as_five dem_audit_devices R.bytes_left R.counts (dem.old, products.old) (dem.new, products.new) (as_refused result) }
     ensures agree { IfOk result (λ a. Agree a.verdict a.report) }
@@ -116,7 +116,7 @@ fn answer_of<R: ByteSource>(
         Ok(header) => header,
         Err(refusal) => return Err(WindowRefusal::Inputs(refusal)),
     };
-    match judge_ground::<R, RasterInput<R>>(alloc, &header, at, sinks, dem, products, place) {
+    match judge_ground::<R, RasterInput<R>>(alloc, &header, at, given, dem, products, place) {
         Ok((verdict, report)) => Ok(WindowReport {
             grid: UnionGrid::Dem(part(&header, at)),
             tiles: Vec::new(alloc),

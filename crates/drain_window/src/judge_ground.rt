@@ -10,6 +10,7 @@ ghost use Rattle.drain_window.specs.WindowAnswers.{as_refused, IsPlacedAnswer, I
 
 use crate::answered::{WindowRefusal, answered};
 use crate::judged_area::{judged_area, judged_sinks};
+use crate::judged_rows::judged_spacings;
 use crate::listed_outlets::ListedOutlets;
 use crate::seam_walk::SeamWalk;
 use drain_answer::Refusal;
@@ -19,7 +20,7 @@ use drain_rows::BothVisitors;
 use drain_rules::Walk;
 use drain_union::place::is_origin;
 use drain_union::{Place, Report};
-use drain_verdict::AuditProducts;
+use drain_verdict::{AuditProducts, Given};
 use drain_verdict::ground::GroundInput;
 use drain_verdict::read_set::read_set;
 use std::alloc::Global;
@@ -29,13 +30,13 @@ pub(crate) fn judge_ground<R: ByteSource, T: GroundInput<R>>(
     alloc: Global,
     frame: &T::Frame,
     origin: Cell,
-    sinks: &[u8],
+    given: &Given,
     inputs: &mut [T],
     products: &mut AuditProducts<R>,
     place: &Place,
 ) -> Result<(Verdict, Report), WindowRefusal>
     requires fit { T.fit frame.now inputs.old }
-    ensures answer { ForSet T.terrain (T.means frame.now inputs.old) R.bytes_left sinks.now (as_five products.old) (λ s. IsWindowIn origin place.now s result) }
+    ensures answer { ForSet T.terrain (T.means frame.now inputs.old) R.bytes_left given.now (as_five products.old) (λ s. IsWindowIn origin place.now s result) }
     ensures uses { UsesSet as_five (λ xs ps. set_devices T.devices xs (as_five ps)) (T.within frame.now) T.kept R.bytes_left R.counts (inputs.old, products.old) (inputs.new, products.new) (as_refused result) }
     ensures agree { IfOk result (λ a. Agree a.0 a.1) }
 {
@@ -45,7 +46,7 @@ pub(crate) fn judge_ground<R: ByteSource, T: GroundInput<R>>(
     if !is_origin(origin) || !place.lies_in(T::shape(frame)) {
         return Err(WindowRefusal::OutsideMosaic);
     }
-    match judge_placed::<R, T>(alloc, frame, origin, sinks, inputs, products, place) {
+    match judge_placed::<R, T>(alloc, frame, origin, given, inputs, products, place) {
         Ok(answer) => Ok(answer),
         Err(refusal) => Err(WindowRefusal::Inputs(refusal)),
     }
@@ -56,7 +57,7 @@ fn judge_placed<R: ByteSource, T: GroundInput<R>>(
     alloc: Global,
     frame: &T::Frame,
     origin: Cell,
-    sinks: &[u8],
+    given: &Given,
     inputs: &mut [T],
     products: &mut AuditProducts<R>,
     place: &Place,
@@ -64,7 +65,7 @@ fn judge_placed<R: ByteSource, T: GroundInput<R>>(
     requires fit { T.fit frame.now inputs.old }
     requires moved { IsOrigin origin }
     requires placed { IsPlaceIn (T.extent frame.now) place.now }
-    ensures answer { ForSet T.terrain (T.means frame.now inputs.old) R.bytes_left sinks.now (as_five products.old) (λ s. IsPlacedAnswer origin place.now s result) }
+    ensures answer { ForSet T.terrain (T.means frame.now inputs.old) R.bytes_left given.now (as_five products.old) (λ s. IsPlacedAnswer origin place.now s result) }
     ensures uses { UsesSet as_five (λ xs ps. set_devices T.devices xs (as_five ps)) (T.within frame.now) T.kept R.bytes_left R.counts (inputs.old, products.old) (inputs.new, products.new) result }
     ensures agree { IfOk result (λ a. Agree a.0 a.1) }
 {
@@ -79,7 +80,7 @@ fn judge_placed<R: ByteSource, T: GroundInput<R>>(
     read_set::<R, T, AuditProducts<R>, BothVisitors<SeamWalk, Walk<ListedOutlets>>>(
         alloc,
         frame,
-        sinks,
+        given,
         inputs,
         products,
         Judged::All,
@@ -89,10 +90,13 @@ fn judge_placed<R: ByteSource, T: GroundInput<R>>(
         first: seams,
         second: walk,
     } = notes;
-    let Ok(sinks) = judged_sinks(alloc, sinks, place, origin) else {
+    let Ok(sinks) = judged_sinks(alloc, given.sinks, place, origin) else {
         return Err(Refusal::OutOfMemory);
     };
-    match answered(alloc, place, origin, walk, seams, sinks) {
+    let Ok(spacings) = judged_spacings(alloc, &given.spacing, place) else {
+        return Err(Refusal::OutOfMemory);
+    };
+    match answered(alloc, place, origin, walk, seams, sinks, spacings) {
         Some(answer) => Ok(answer),
         None => Err(Refusal::OutOfMemory),
     }

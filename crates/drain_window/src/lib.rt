@@ -10,6 +10,7 @@ pub mod judge;
 pub mod judge_dem;
 mod judge_ground;
 mod judged_area;
+mod judged_rows;
 pub mod laws;
 pub mod listed_outlets;
 pub mod seam_walk;

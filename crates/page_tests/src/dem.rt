@@ -8,7 +8,7 @@ use crate::worked::{Form, cells, no_fault_on, page_has, page_of, rejected};
 use drain_answer::{Outcome, Refusal};
 use drain_explain::{ElevationRange, Findings, NotData, RefusalDetail};
 use drain_faults::FaultyPatch;
-use drain_grid::{Cell, CellValues, Counts, Judged, Patch, Rule};
+use drain_grid::{Cell, CellValues, Counts, Judged, Patch, Rule, Spacing};
 use drain_header::{Header, parse_header};
 use drain_page::Facts;
 use drain_paths::{EndlessPath, LostBy};
@@ -39,6 +39,7 @@ fn corner() -> Result<Patch, &'static str> {
     Ok(Patch {
         here: cell(3, 0, 1)?,
         around,
+        spacing: Spacing::unit(),
     })
 }
 

@@ -1,7 +1,7 @@
 //! What each rule expected, at a cell of ground 5 with neighbours in the east and the southeast, and others at 9.
 
 use crate::worked::{Form, Numbers, cell, one_fault, page_has, rejected, values, void};
-use drain_grid::{CellValues, Judged, Patch, Rule};
+use drain_grid::{CellValues, Judged, Patch, Rule, Spacing};
 use drain_mosaic::Layout;
 use drain_page::Facts;
 use std::alloc::Global;
@@ -185,6 +185,7 @@ fn patch(row: &Row) -> Result<Patch, &'static str> {
     Ok(Patch {
         here: cell(5, row.sink, row.here)?,
         around,
+        spacing: Spacing::unit(),
     })
 }
 
@@ -216,7 +217,11 @@ fn open_beside(alloc: Global, north: Option<CellValues>) -> Result<Facts<Layout>
     let mut around = [Some(cell(9, false, (9, 0, 1, 7, 9))?); 8];
     around[6] = north;
     let here = cell(5, false, (6, 0, 1, 7, 9))?;
-    let patch = Patch { here, around };
+    let patch = Patch {
+        here,
+        around,
+        spacing: Spacing::unit(),
+    };
     let findings = one_fault(alloc, Rule::OpenRaised, Judged::AllWithRanks, patch)?;
     Ok(rejected(Rule::OpenRaised, 1, 2, findings))
 }
@@ -250,6 +255,7 @@ fn numbered_void(alloc: Global, judged: Judged) -> Result<Facts<Layout>, Fail> {
     let patch = Patch {
         here: values(None, false, (4, 255, 0, 0, 3), 255)?,
         around: [None; 8],
+        spacing: Spacing::unit(),
     };
     Ok(rejected(
         Rule::VoidCell,

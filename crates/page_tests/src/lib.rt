@@ -14,6 +14,8 @@ mod refusals;
 #[cfg(test)]
 mod runs;
 #[cfg(test)]
+mod slopes;
+#[cfg(test)]
 mod whole;
 #[cfg(test)]
 mod whole_pages;

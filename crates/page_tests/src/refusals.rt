@@ -116,6 +116,21 @@ fn facts(alloc: Global, kind: usize) -> Result<Facts<Layout>, Fail> {
                 bytes: 100000000,
             },
         ),
+        11 => refused(
+            Refusal::BadSpacingLine(3),
+            RefusalDetail::SpacingLine {
+                number: 3,
+                start: bytes(alloc, b"0 1")?,
+                bytes: 3,
+            },
+        ),
+        12 => refused(
+            Refusal::SpacingRows(3),
+            RefusalDetail::SpacingRows {
+                expected: 4,
+                found: 3,
+            },
+        ),
         _ => refused(
             Refusal::BadName(1),
             RefusalDetail::Name(bytes(alloc, b"\"\\\x7f\0/")?),
@@ -124,7 +139,7 @@ fn facts(alloc: Global, kind: usize) -> Result<Facts<Layout>, Fail> {
 }
 
 /// For each of them the text below its line, and its JSON.
-static WANTED: [(&str, &str); 12] = [
+static WANTED: [(&str, &str); 14] = [
     (
         "\nexpected: a side from 2 to 3601\nfound: 7000\n",
         r#""refusal":{"about":"side","least":2,"greatest":3601,"found":7000},"rows""#,
@@ -168,6 +183,14 @@ static WANTED: [(&str, &str); 12] = [
     (
         "\nexpected: line 7: a row and a column, such as 12 7\nfound: line 7, the first 3 of 100000000 bytes: 1 \\xc3\n",
         r#""refusal":{"about":"sink_line","line":7,"found":"1 \\xc3","bytes":100000000},"rows""#,
+    ),
+    (
+        "\nexpected: line 3: a width and a height, such as 30 20\nfound: line 3: 0 1\n",
+        r#""refusal":{"about":"spacing_line","line":3,"found":"0 1","bytes":3},"rows""#,
+    ),
+    (
+        "\nexpected: a line for each of 4 rows\nfound: lines for 3 rows\n",
+        r#""refusal":{"about":"spacing_rows","expected":4,"found":3},"rows""#,
     ),
     (
         "\nexpected: the name of a tile, such as N36W085.hgt\nfound: \"\\\\\\x7f\\x00/\n",

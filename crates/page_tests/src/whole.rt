@@ -8,7 +8,7 @@ use crate::worked::{
 use drain_answer::{Outcome, Refusal};
 use drain_explain::Findings;
 use drain_faults::FaultyPatch;
-use drain_grid::{Cell, Counts, Judged, Patch, Rule};
+use drain_grid::{Cell, Counts, Judged, Patch, Rule, Spacing};
 use drain_mosaic::Layout;
 use drain_page::{Facts, OUT_OF_MEMORY_OBJECT, failure_json};
 use std::alloc::Global;
@@ -30,7 +30,11 @@ fn edge() -> Result<Patch, &'static str> {
     }
     around[4] = Some(void()?);
     let here = cell(5, false, (5, 1, 0, 7, 3))?;
-    Ok(Patch { here, around })
+    Ok(Patch {
+        here,
+        around,
+        spacing: Spacing::unit(),
+    })
 }
 
 fn two_rules(alloc: Global) -> Result<Findings<Layout>, Fail> {

@@ -3,9 +3,9 @@
 
 use crate::agree::has;
 use drain_answer::Outcome;
-use drain_explain::Findings;
+use drain_explain::{Findings, Slopes};
 use drain_faults::{FaultyPatch, PerRule, ProductFaults, RuleFaults};
-use drain_grid::{Cell, CellValues, Judged, NoData, Patch, PerProduct, Rule, Rules};
+use drain_grid::{Cell, CellValues, Judged, NoData, Patch, PerProduct, Rule, Rules, Spacing};
 use drain_hgt::TileName;
 use drain_mosaic::Layout;
 use drain_page::{Facts, Frame, page_json, page_text};
@@ -92,6 +92,7 @@ pub fn no_fault_on<F>(layout: F, judged: Judged) -> Findings<F> {
         map: None,
         endless: None,
         elevations: None,
+        slopes: Slopes::Cells(Spacing::unit()),
     }
 }
 

@@ -12,6 +12,8 @@ mod merge_lines;
 #[cfg(test)]
 mod merge_maps;
 #[cfg(test)]
+mod merge_spacings;
+#[cfg(test)]
 mod merged_windows;
 #[cfg(test)]
 mod merges;
@@ -33,3 +35,5 @@ mod window_lines;
 mod window_places;
 #[cfg(test)]
 mod window_reports;
+#[cfg(test)]
+mod window_spacings;

@@ -57,10 +57,14 @@ fn lines_of_verdicts(rt: HostRuntime) {
 }
 
 /// Refusals, each with its line.
-static REFUSALS: [(MergeRefusal, &str); 13] = [
+static REFUSALS: [(MergeRefusal, &str); 14] = [
     (MergeRefusal::NoReports, "refused NoReports"),
     (MergeRefusal::OtherSide(0), "refused OtherSide 0"),
     (MergeRefusal::OtherNoData(12), "refused OtherNoData 12"),
+    (
+        MergeRefusal::OtherSpacing(18446744073709551615),
+        "refused OtherSpacing 18446744073709551615",
+    ),
     (
         MergeRefusal::OutsideUnion(18446744073709551615),
         "refused OutsideUnion 18446744073709551615",

@@ -1,6 +1,6 @@
 //! The windows of a union of 4 rows and 4 columns: boxes of 3 rows and 3 columns that overlap by two, and narrow ones.
 
-use drain_grid::{Cell, CellValues, Counts, NoData, Rule, Shape, Verdict};
+use drain_grid::{Cell, CellValues, Counts, NoData, Rule, Shape, Spacing, Verdict};
 use drain_merge::UnionSize;
 use drain_union::{
     AuditNoData, InnerSides, Outlet, Place, Report, SEAM_DEPTH, Shown, UnionGrid, WindowReport,
@@ -36,6 +36,8 @@ pub struct Window {
     pub outlet: (u32, u32),
     /// The accumulation that it shows along its seams.
     pub acc: i64,
+    /// The spacings of its rows, as it lists them.
+    pub spacings: &'static [(u32, u32)],
     /// The listed sinks that it took.
     pub sinks: &'static [(u32, u32)],
 }
@@ -52,6 +54,7 @@ pub const NW: Window = Window {
     label: 1,
     outlet: (0, 0),
     acc: 7,
+    spacings: &[],
     sinks: &[],
 };
 
@@ -132,7 +135,7 @@ impl Window {
         };
         let report = match self.fault {
             None => self.accepted(alloc, origin, place)?,
-            Some(_) => self.rejected(alloc, place),
+            Some(_) => self.rejected(alloc, place)?,
         };
         Ok(WindowReport {
             grid: self.grid,
@@ -179,6 +182,7 @@ impl Window {
     fn accepted(&self, alloc: Global, origin: Cell, place: Place) -> Result<Report, Fail> {
         Ok(Report {
             place,
+            spacings: spacings(alloc, self.spacings)?,
             nodata: self.nodata(),
             holds: true,
             outlets: self.outlets(alloc, origin)?,
@@ -187,15 +191,16 @@ impl Window {
         })
     }
 
-    fn rejected(&self, alloc: Global, place: Place) -> Report {
-        Report {
+    fn rejected(&self, alloc: Global, place: Place) -> Result<Report, Fail> {
+        Ok(Report {
             place,
+            spacings: spacings(alloc, self.spacings)?,
             nodata: self.nodata(),
             holds: false,
             outlets: Vec::new(alloc),
             seams: Vec::new(alloc),
             sinks: Vec::new(alloc),
-        }
+        })
     }
 
     fn outlets(&self, alloc: Global, origin: Cell) -> Result<Vec<Outlet>, AllocError> {
@@ -227,6 +232,18 @@ fn seams(alloc: Global, place: &Place, acc: i64) -> Result<Vec<Shown>, Fail> {
         }
     }
     Ok(seams)
+}
+
+/// These widths and heights as spacings.
+fn spacings(alloc: Global, sizes: &[(u32, u32)]) -> Result<Vec<Spacing>, Fail> {
+    let mut spacings = Vec::new(alloc);
+    for &(width, height) in sizes {
+        let Some(spacing) = Spacing::new(width, height) else {
+            return Err(Fail::new("a spacing"));
+        };
+        spacings.push(spacing)?;
+    }
+    Ok(spacings)
 }
 
 /// The map's cells of these cells of a union.

@@ -11,7 +11,7 @@ fn fault(alloc: Global, text: &[u8]) -> Option<ReportFault> {
 }
 
 /// What is replaced in the lines, and the fault.
-static FAULTS: [(usize, &str, ReportFault); 41] = [
+static FAULTS: [(usize, &str, ReportFault); 49] = [
     (1, "drain-window-report 2", ReportFault::WrongVersion),
     (1, "drain-window-report 4", ReportFault::WrongVersion),
     (1, "drain-window-report 3 ", ReportFault::WrongVersion),
@@ -52,6 +52,18 @@ static FAULTS: [(usize, &str, ReportFault); 41] = [
     (5, "accepted 3 4 8 1 4294967296", ReportFault::OutOfRange(5)),
     (5, "rejected 16 0 0", ReportFault::OutOfRange(5)),
     (5, "taken 3 4 8 1 1", ReportFault::BadLine(5)),
+    (6, "spacings 0", ReportFault::BadLine(6)),
+    (6, "spacing 1 2", ReportFault::BadLine(6)),
+    (6, "spacings 1", ReportFault::BadLine(7)),
+    (6, "spacings 1\nspacing 0 1", ReportFault::OutOfRange(7)),
+    (
+        6,
+        "spacings 1\nspacing 1 1073741825",
+        ReportFault::OutOfRange(7),
+    ),
+    (6, "spacings 1\nspacing 1", ReportFault::BadLine(7)),
+    (6, "spacings 1\nspacing 1 2 3", ReportFault::BadLine(7)),
+    (6, "spacings 1\nspacing 1 2", ReportFault::BadLine(8)),
     (6, "tiles 3", ReportFault::BadLine(9)),
     (6, "tiles 1", ReportFault::BadLine(8)),
     (7, "tile n37w105.hgt", ReportFault::BadLine(7)),

@@ -3,7 +3,7 @@
 use crate::report_texts::text;
 use drain_grid::{Cell, Rule, Verdict};
 use drain_report::{read_report, write_report};
-use drain_union::{Decimal, DemPart, UnionGrid};
+use drain_union::{Decimal, DemPart, UnionGrid, spacing_at};
 use std::test::Fail;
 
 #[test]
@@ -13,6 +13,7 @@ fn an_accepted_window_is_read_and_written_again(rt: HostRuntime) -> Result<(), F
     assert_eq!(rt; window.grid, UnionGrid::Tiles(1201));
     assert_eq!(rt; window.tiles.len(), 2);
     assert_eq!(rt; window.report.holds, true);
+    assert_eq!(rt; window.report.spacings.len(), 0);
     assert_eq!(rt; window.report.sinks.len(), 2);
     let second = Cell {
         row: 62401,
@@ -56,6 +57,37 @@ fn a_rejected_window_is_read_and_written_again(rt: HostRuntime) -> Result<(), Fa
     assert_eq!(rt; window.report.sinks.len(), 0);
     let again = write_report(rt.alloc(), &window)?;
     assert_eq!(rt; again.as_slice(), REJECTED);
+    Ok(())
+}
+
+/// A window whose rows are spaced otherwise, with the least and the greatest numbers.
+const SPACED: &[u8] = b"drain-window-report 3
+side 3601
+window 0 0 4 28801 0 0 0 0
+nodata -32768 255 0 0
+rejected 10 3 28800
+spacings 3
+spacing 1 1073741824
+spacing 1073741824 1
+spacing 1 1
+tiles 0
+sinks 0
+outlets 0
+seams 0
+end
+";
+
+#[test]
+fn spacings_are_read_and_written_again(rt: HostRuntime) -> Result<(), Fail> {
+    let window = read_report(rt.alloc(), SPACED)?;
+    let spacings = &window.report.spacings;
+    assert_eq!(rt; spacings.len(), 3);
+    for (row, width) in [(0, 1), (1, 1073741824), (2, 1), (3, 1)] {
+        assert_eq!(rt; spacing_at(spacings, row).width, width);
+    }
+    assert_eq!(rt; spacing_at(spacings, 0).height, 1073741824);
+    let again = write_report(rt.alloc(), &window)?;
+    assert_eq!(rt; again.as_slice(), SPACED);
     Ok(())
 }
 

@@ -21,8 +21,8 @@ fn answer(
     let place = place(window)?;
     let mut dem = inputs.dem(alloc, header)?;
     let mut products = inputs.products(alloc)?;
-    let sinks = inputs.sinks.as_bytes();
-    Ok(judge_window_dem(alloc, &mut dem, sinks, &mut products, &place, at))
+    let given = inputs.given()?;
+    Ok(judge_window_dem(alloc, &mut dem, &given, &mut products, &place, at))
 }
 
 /// Where the part begins in the whole.

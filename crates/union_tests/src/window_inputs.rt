@@ -1,11 +1,20 @@
 //! Tiles and their products, in bytes.
 
 use drain_device::{ByteList, SliceSource};
+use drain_grid::{Spacing, SpacingInput};
 use drain_hgt::TileInput;
-use drain_verdict::{AuditProducts, RasterInput};
+use drain_verdict::{AuditProducts, Given, RasterInput};
 use std::alloc::{AllocError, Global};
+use std::test::Fail;
 
-/// Tiles that all have these samples, their products, and a list of sinks.
+/// How far apart the cells are: of one width and height, or by a text with a line for each row.
+#[derive(Clone, Copy)]
+pub enum Cells<'a> {
+    Of(u32, u32),
+    ByRow(&'a str),
+}
+
+/// Tiles that all have these samples, their products, a list of sinks, and how far apart cells are.
 #[derive(Clone, Copy)]
 pub struct Inputs<'a> {
     pub side: u32,
@@ -18,6 +27,7 @@ pub struct Inputs<'a> {
     pub acc: &'a [u8],
     pub bas: &'a [u8],
     pub sinks: &'a str,
+    pub cells: Cells<'a>,
 }
 
 impl<'a> Inputs<'a> {
@@ -40,6 +50,21 @@ impl<'a> Inputs<'a> {
         header: &str,
     ) -> Result<[RasterInput<SliceSource<'a>>; 1], AllocError> {
         Ok([raster(alloc, header, self.samples)?])
+    }
+
+    /// What is given beside the rasters.
+    pub fn given(&self) -> Result<Given<'a>, Fail> {
+        let spacing = match self.cells {
+            Cells::Of(width, height) => match Spacing::new(width, height) {
+                Some(spacing) => SpacingInput::Same(spacing),
+                None => return Err(Fail::new("a spacing")),
+            },
+            Cells::ByRow(text) => SpacingInput::ByRow(text.as_bytes()),
+        };
+        Ok(Given {
+            sinks: self.sinks.as_bytes(),
+            spacing,
+        })
     }
 
     /// The products as they are read.
@@ -142,6 +167,7 @@ impl Slope {
             acc: &self.acc,
             bas: &self.bas,
             sinks,
+            cells: Cells::Of(1, 1),
         }
     }
 }
@@ -160,4 +186,5 @@ pub const LEVEL_TILES: Inputs = Inputs {
     acc: &[1; 6],
     bas: &[6, 5, 4, 3, 2, 1],
     sinks: "",
+    cells: Cells::Of(1, 1),
 };

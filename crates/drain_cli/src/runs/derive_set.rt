@@ -65,6 +65,7 @@ fn derived_of_files(
         mut elevations,
         mut products,
         sinks,
+        spacing: _,
     } = inputs_or_print(opener, opened, "the products", outputs, out)?;
     derive_opened(
         opener.alloc(),

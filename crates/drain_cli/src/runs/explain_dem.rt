@@ -15,14 +15,14 @@ use drain_explain::{
 use drain_files::open_judged::{JudgedProducts, OpenElevations, OpenTiles};
 use drain_header::Header;
 use drain_page::Facts;
-use drain_verdict::{Outcome, RasterInput, Refusal};
+use drain_verdict::{Given, Outcome, RasterInput, Refusal};
 use std::alloc::Global;
 
 /// Explains the answer to the products that were opened beside their elevations, and returns the exit status.
 pub fn run_explain_on<R: ByteSource, B: ExplainOutput + FileLookup, W: ByteSink>(
     alloc: Global,
     elevations: &mut OpenElevations<R>,
-    sinks: &[u8],
+    given: &Given,
     products: &mut JudgedProducts<R>,
     mapping: Mapping,
     form: Form,
@@ -30,7 +30,7 @@ pub fn run_explain_on<R: ByteSource, B: ExplainOutput + FileLookup, W: ByteSink>
     out: &mut W,
 ) -> u8
     ensures run { (answer : Result declared.Outcome declared_refusal.Refusal)
-        × IsOutcomeOn R.ByteSource elevations.old elevations.new sinks.now products.old products.new answer
+        × IsOutcomeOn R.ByteSource elevations.old elevations.new given.now products.old products.new answer
         × Explains W.ByteSink out.old out.new (FailsToSave B.ExplainOutput.has_saved) form answer result }
 {
     match elevations {
@@ -38,7 +38,7 @@ pub fn run_explain_on<R: ByteSource, B: ExplainOutput + FileLookup, W: ByteSink>
             alloc,
             *side,
             tiles.as_mut_slice(),
-            sinks,
+            given,
             products,
             mapping,
             form,
@@ -46,7 +46,7 @@ pub fn run_explain_on<R: ByteSource, B: ExplainOutput + FileLookup, W: ByteSink>
             out,
         ),
         OpenElevations::Dem(dem) => {
-            run_explain_dem(alloc, dem, sinks, products, mapping, form, beside, out)
+            run_explain_dem(alloc, dem, given, products, mapping, form, beside, out)
         }
     }
 }
@@ -55,7 +55,7 @@ pub fn run_explain_on<R: ByteSource, B: ExplainOutput + FileLookup, W: ByteSink>
 pub fn run_explain_dem<R: ByteSource, B: ExplainOutput + FileLookup, W: ByteSink>(
     alloc: Global,
     dem: &mut [RasterInput<R>; 1],
-    sinks: &[u8],
+    given: &Given,
     products: &mut JudgedProducts<R>,
     mapping: Mapping,
     form: Form,
@@ -63,14 +63,14 @@ pub fn run_explain_dem<R: ByteSource, B: ExplainOutput + FileLookup, W: ByteSink
     out: &mut W,
 ) -> u8
     ensures run { (answer : Result declared.Outcome declared_refusal.Refusal)
-        × IsDemOutcome R.ByteSource dem.old dem.new sinks.now products.old products.new answer
+        × IsDemOutcome R.ByteSource dem.old dem.new given.now products.old products.new answer
         × Explains W.ByteSink out.old out.new (FailsToSave B.ExplainOutput.has_saved) form answer result }
 {
-    let (answer, findings) = explain_products(alloc, dem, sinks, products, mapping);
+    let (answer, findings) = explain_products(alloc, dem, given, products, mapping);
     let refusal = match refusal_of(&answer) {
         Some(refusal) => {
             let headers = headers_of(products);
-            detail_of_dem(alloc, refusal, &dem[0], &headers, sinks, beside)
+            detail_of_dem(alloc, refusal, &dem[0], &headers, given, beside)
         }
         None => None,
     };
@@ -86,18 +86,18 @@ pub fn run_explain_dem<R: ByteSource, B: ExplainOutput + FileLookup, W: ByteSink
 fn explain_products<R: ByteSource>(
     alloc: Global,
     dem: &mut [RasterInput<R>; 1],
-    sinks: &[u8],
+    given: &Given,
     products: &mut JudgedProducts<R>,
     mapping: Mapping,
 ) -> (Result<Outcome, Refusal>, Option<Findings<Header>>)
-    ensures { IsDemOutcome R.ByteSource dem.old dem.new sinks.now products.old products.new result.0 }
+    ensures { IsDemOutcome R.ByteSource dem.old dem.new given.now products.old products.new result.0 }
 {
     match products {
         JudgedProducts::Five(five) => {
-            answer_and_findings(explain_check_dem(alloc, dem, sinks, five, mapping))
+            answer_and_findings(explain_check_dem(alloc, dem, given, five, mapping))
         }
         JudgedProducts::Four(four, judged) => answer_and_findings(explain_audit_dem(
-            alloc, dem, sinks, four, *judged, mapping,
+            alloc, dem, given, four, *judged, mapping,
         )),
     }
 }

@@ -5,7 +5,7 @@ ghost use Rattle.drain_grid.specs.declared.judged.Judged as grid;
 
 use crate::runs::explain_dem::run_explain_on;
 use crate::runs::run_explain;
-use crate::runs::run_explain::{ExplainOutput, MapFault, print_page_failure};
+use crate::runs::run_explain::{ExplainOutput, MapFault, PageFailure, print_page_failure};
 use drain_answer::outcome::Status;
 use drain_args::form::Form;
 use drain_args::requests::{Elevations, ExplainArgs};
@@ -14,7 +14,7 @@ use drain_explain::{FileLookup, Mapping};
 use drain_files::file_id::FileId;
 use drain_files::file_paths::{header_path, raster_path};
 use drain_files::map_file::{MapClash, map_clash, map_paths, write_map};
-use drain_files::open_failure::{Placing, place_written, print_reason};
+use drain_files::open_failure::{Placing, place_written, print_no_spacing, print_reason};
 use drain_files::open_files::{OpenFault, Opener};
 use drain_files::open_judged::{OpenFiles, open_judged};
 use drain_files::outputs::{Failure, Outputs, look};
@@ -22,6 +22,7 @@ use drain_grid::{Judged, Product};
 use drain_header::Header;
 use drain_maker::product_files::SetFault;
 use drain_progress::progress::Progress;
+use drain_verdict::Given;
 use std::alloc::Global;
 
 /// Explains the products of a folder, and returns the exit status.
@@ -73,6 +74,7 @@ fn explain_opened(
                 mut elevations,
                 mut products,
                 sinks,
+                spacing,
             },
         ) => {
             if let Some(status) = refused_map(rt, args, opener.ids(), out) {
@@ -81,7 +83,10 @@ fn explain_opened(
             run_explain_on(
                 rt.alloc(),
                 &mut elevations,
-                sinks.as_slice(),
+                &Given {
+                    sinks: sinks.as_slice(),
+                    spacing: spacing.input(),
+                },
                 &mut products,
                 mapping(args),
                 form(args),
@@ -116,10 +121,15 @@ fn refused_map(
 
 /// Prints why the files aren't open, and returns the exit status.
 fn print_unopened(rt: &HostRuntime, fault: OpenFault, form: Form, out: &mut impl ByteSink) -> u8 {
-    if let OpenFault::Open(path, reason) = &fault {
-        print_reason(rt, path.as_str(), *reason);
-    }
-    print_page_failure(rt.alloc(), &fault.into(), form, out)
+    let why = match fault {
+        OpenFault::Open(path, reason) => {
+            print_reason(rt, path.as_str(), reason);
+            PageFailure::Open(path)
+        }
+        OpenFault::Body(fault) => PageFailure::from(fault),
+        OpenFault::NoSpacing => return print_no_spacing(rt),
+    };
+    print_page_failure(rt.alloc(), &why, form, out)
 }
 
 /// Prints the usage error for a map that must not be written there.
@@ -220,7 +230,7 @@ fn save(
             print_reason(rt, path.as_str(), reason);
             Err(MapFault::Open(path))
         }
-        Err(OpenFault::Body(_)) => Err(MapFault::OutOfMemory),
+        Err(OpenFault::Body(_) | OpenFault::NoSpacing) => Err(MapFault::OutOfMemory),
     };
     outputs.end();
     saved

@@ -15,6 +15,7 @@ ghost use Rattle.drain_verdict.specs.Outcomes.{AreJudgedRight};
 ghost use Rattle.drain_answer.specs.Printing.{Prints};
 ghost use Rattle.drain_grid.specs.declared.verdict.Verdict.{Verdict};
 ghost use Rattle.drain_verdict.specs.Answers.{AreCorrect, ForAudit};
+ghost use Rattle.drain_verdict.specs.Given.{plain};
 ghost use Rattle.drain_verdict.specs.Headline.{ForCheck, IsRight};
 
 use crate::answer::{Answer, print_answer};
@@ -23,7 +24,8 @@ use drain_files::open_judged::{JudgedProducts, OpenElevations, OpenTiles};
 use drain_grid::Judged;
 use drain_hgt::TileInput;
 use drain_verdict::{
-    AuditProducts, Products, RasterInput, audit, audit_part, audit_part_dem, check, check_dem,
+    AuditProducts, Given, Products, RasterInput, audit_given, audit_part, audit_part_dem,
+    check_dem, check_given,
 };
 use std::alloc::Global;
 
@@ -42,17 +44,36 @@ pub fn run_check<R: ByteSource, W: ByteSink>(
     out: &mut W,
 ) -> u8
     ensures run { (answer : Result Verdict Refusal)
-        × IsCheckOutcome R.ByteSource side tiles.old tiles.new sinks.now products.old products.new answer
+        × IsCheckOutcome R.ByteSource side tiles.old tiles.new (plain sinks.now) products.old products.new answer
         × Prints W.ByteSink out.old out.new (report_line answer) (answer_status (Check answer)) result }
 
     // A run ends with 0 only if the tiles agree and the products are correct.
-    ensures correct { result ≡ 0 → ForCheck R.bytes_left side tiles.old sinks.now products.old IsRight }
+    ensures correct { result ≡ 0 → ForCheck R.bytes_left side tiles.old (plain sinks.now) products.old IsRight }
 {
-    let answer = check(alloc, side, tiles, sinks, products);
+    run_check_given(alloc, side, tiles, &Given::plain(sinks), products, out)
+}
+
+/// As `run_check`, with the list of sinks and the spacing that are given.
+pub fn run_check_given<R: ByteSource, W: ByteSink>(
+    alloc: Global,
+    side: u32,
+    tiles: &mut [TileInput<R>],
+    given: &Given,
+    products: &mut Products<R>,
+    out: &mut W,
+) -> u8
+    ensures run { (answer : Result Verdict Refusal)
+        × IsCheckOutcome R.ByteSource side tiles.old tiles.new given.now products.old products.new answer
+        × Prints W.ByteSink out.old out.new (report_line answer) (answer_status (Check answer)) result }
+
+    // A run ends with 0 only if the tiles agree and the products are correct.
+    ensures correct { result ≡ 0 → ForCheck R.bytes_left side tiles.old given.now products.old IsRight }
+{
+    let answer = check_given(alloc, side, tiles, given, products);
     print_answer(out, &Answer::Check(answer))
 }
 
-/// Audits products against their tiles, prints the line of the answer and returns the exit status.
+/// Audits products against their tiles on unit spacing, prints the line of the answer and returns the exit status.
 ///
 /// Arguments, reading and statuses are those of `run_check`.
 pub fn run_audit<R: ByteSource, W: ByteSink>(
@@ -64,14 +85,34 @@ pub fn run_audit<R: ByteSource, W: ByteSink>(
     out: &mut W,
 ) -> u8
     ensures run { (answer : Result AuditVerdict Refusal)
-        × IsAuditOutcome R.ByteSource side tiles.old tiles.new sinks.now products.old products.new answer
+        × IsAuditOutcome R.ByteSource side tiles.old tiles.new (plain sinks.now) products.old products.new answer
         × Prints W.ByteSink out.old out.new (audit_report_line answer) (answer_status (Audit answer)) result }
 
     // A run ends with 0 only if the tiles agree and the products are correct, and with 1 only if the products aren't.
-    ensures correct { result ≡ 0 → ForAudit R.bytes_left side tiles.old sinks.now products.old IsRight }
-    ensures not_correct { result ≡ 1 → ForAudit R.bytes_left side tiles.old sinks.now products.old (λ inputs. ¬ AreCorrect inputs) }
+    ensures correct { result ≡ 0 → ForAudit R.bytes_left side tiles.old (plain sinks.now) products.old IsRight }
+    ensures not_correct { result ≡ 1 → ForAudit R.bytes_left side tiles.old (plain sinks.now) products.old (λ inputs. ¬ AreCorrect inputs) }
 {
-    let answer = audit(alloc, side, tiles, sinks, products);
+    run_audit_given(alloc, side, tiles, &Given::plain(sinks), products, out)
+}
+
+/// As `run_audit`, with the list of sinks and the spacing that are given.
+pub fn run_audit_given<R: ByteSource, W: ByteSink>(
+    alloc: Global,
+    side: u32,
+    tiles: &mut [TileInput<R>],
+    given: &Given,
+    products: &mut AuditProducts<R>,
+    out: &mut W,
+) -> u8
+    ensures run { (answer : Result AuditVerdict Refusal)
+        × IsAuditOutcome R.ByteSource side tiles.old tiles.new given.now products.old products.new answer
+        × Prints W.ByteSink out.old out.new (audit_report_line answer) (answer_status (Audit answer)) result }
+
+    // A run ends with 0 only if the tiles agree and the products are correct, and with 1 only if the products aren't.
+    ensures correct { result ≡ 0 → ForAudit R.bytes_left side tiles.old given.now products.old IsRight }
+    ensures not_correct { result ≡ 1 → ForAudit R.bytes_left side tiles.old given.now products.old (λ inputs. ¬ AreCorrect inputs) }
+{
+    let answer = audit_given(alloc, side, tiles, given, products);
     print_answer(out, &Answer::Audit(answer))
 }
 
@@ -82,20 +123,20 @@ pub fn run_part_audit<R: ByteSource, W: ByteSink>(
     alloc: Global,
     side: u32,
     tiles: &mut [TileInput<R>],
-    sinks: &[u8],
+    given: &Given,
     products: &mut AuditProducts<R>,
     judged: Judged,
     out: &mut W,
 ) -> u8
     ensures run { (answer : Result Outcome Refusal)
-        × IsPartOutcome R.ByteSource judged side tiles.old tiles.new sinks.now products.old products.new answer
+        × IsPartOutcome R.ByteSource judged side tiles.old tiles.new given.now products.old products.new answer
         × Prints W.ByteSink out.old out.new (outcome_report_line answer) (answer_status (Part answer)) result }
 
     // A run ends with 0 only if the judged rasters are right, and with 1 only if they aren't; ranks are none of these.
-    ensures correct { has_rnk judged ≡ false → result ≡ 0 → ForAudit R.bytes_left side tiles.old sinks.now products.old (AreJudgedRight judged) }
-    ensures not_correct { has_rnk judged ≡ false → result ≡ 1 → ForAudit R.bytes_left side tiles.old sinks.now products.old (λ inputs. ¬ AreJudgedRight judged inputs) }
+    ensures correct { has_rnk judged ≡ false → result ≡ 0 → ForAudit R.bytes_left side tiles.old given.now products.old (AreJudgedRight judged) }
+    ensures not_correct { has_rnk judged ≡ false → result ≡ 1 → ForAudit R.bytes_left side tiles.old given.now products.old (λ inputs. ¬ AreJudgedRight judged inputs) }
 {
-    let answer = audit_part(alloc, side, tiles, sinks, products, judged);
+    let answer = audit_part(alloc, side, tiles, given, products, judged);
     print_answer(out, &Answer::Part(answer))
 }
 
@@ -104,18 +145,18 @@ pub fn run_part_audit<R: ByteSource, W: ByteSink>(
 pub fn run_judged<R: ByteSource, W: ByteSink>(
     alloc: Global,
     elevations: &mut OpenElevations<R>,
-    sinks: &[u8],
+    given: &Given,
     products: &mut JudgedProducts<R>,
     out: &mut W,
 ) -> u8
-    // What is judged are the rasters of the products, on these elevations with these sinks.
-    ensures run { IsRun R.ByteSource W.ByteSink elevations.old elevations.new sinks.now products.old products.new out.old out.new result }
+    // What is judged are the rasters of the products, on these elevations with these sinks and this spacing.
+    ensures run { IsRun R.ByteSource W.ByteSink elevations.old elevations.new given.now products.old products.new out.old out.new result }
 {
     match elevations {
         OpenElevations::Tiles(OpenTiles { side, tiles }) => {
-            run_on_tiles(alloc, *side, tiles.as_mut_slice(), sinks, products, out)
+            run_on_tiles(alloc, *side, tiles.as_mut_slice(), given, products, out)
         }
-        OpenElevations::Dem(dem) => run_on_dem(alloc, dem, sinks, products, out),
+        OpenElevations::Dem(dem) => run_on_dem(alloc, dem, given, products, out),
     }
 }
 
@@ -124,22 +165,22 @@ fn run_on_tiles<R: ByteSource, W: ByteSink>(
     alloc: Global,
     side: u32,
     tiles: &mut [TileInput<R>],
-    sinks: &[u8],
+    given: &Given,
     products: &mut JudgedProducts<R>,
     out: &mut W,
 ) -> u8
-    ensures run { IsJudgedRun R.ByteSource W.ByteSink side tiles.old tiles.new sinks.now products.old products.new out.old out.new result }
+    ensures run { IsJudgedRun R.ByteSource W.ByteSink side tiles.old tiles.new given.now products.old products.new out.old out.new result }
 {
     match products {
-        JudgedProducts::Five(five) => run_check(alloc, side, tiles, sinks, five, out),
+        JudgedProducts::Five(five) => run_check_given(alloc, side, tiles, given, five, out),
         JudgedProducts::Four(four, judged) => match *judged {
-            Judged::All => run_audit(alloc, side, tiles, sinks, four, out),
+            Judged::All => run_audit_given(alloc, side, tiles, given, four, out),
             Judged::Con
             | Judged::ConDir
             | Judged::ConDirAcc
             | Judged::ConDirBas
             | Judged::AllWithRanks => {
-                run_part_audit(alloc, side, tiles, sinks, four, *judged, out)
+                run_part_audit(alloc, side, tiles, given, four, *judged, out)
             }
         },
     }
@@ -149,19 +190,19 @@ fn run_on_tiles<R: ByteSource, W: ByteSink>(
 fn run_on_dem<R: ByteSource, W: ByteSink>(
     alloc: Global,
     dem: &mut [RasterInput<R>; 1],
-    sinks: &[u8],
+    given: &Given,
     products: &mut JudgedProducts<R>,
     out: &mut W,
 ) -> u8
-    ensures run { IsDemRun R.ByteSource W.ByteSink dem.old dem.new sinks.now products.old products.new out.old out.new result }
+    ensures run { IsDemRun R.ByteSource W.ByteSink dem.old dem.new given.now products.old products.new out.old out.new result }
 {
     match products {
         JudgedProducts::Five(five) => {
-            let answer = check_dem(alloc, dem, sinks, five);
+            let answer = check_dem(alloc, dem, given, five);
             print_answer(out, &Answer::Check(answer))
         }
         JudgedProducts::Four(four, judged) => {
-            let answer = audit_part_dem(alloc, dem, sinks, four, *judged);
+            let answer = audit_part_dem(alloc, dem, given, four, *judged);
             print_answer(out, &Answer::Part(answer))
         }
     }

@@ -8,8 +8,12 @@ ghost use Rattle.drain_hgt.specs.Inputs.{names_of, tile_devices, TilesTakeAtMost
 ghost use Rattle.drain_cli.specs.declared.runs.make_set.NoSet.{NoSet};
 ghost use Rattle.drain_cli.specs.MadeSets.{IsDemSetOf, IsNoDemSet, IsNoSet, IsSetOf, no_set_line, no_set_status};
 ghost use Rattle.drain_answer.specs.Printing.{Prints};
+ghost use Rattle.drain_files.specs.OpenSpacings.{IsSpacingOf};
+ghost use Rattle.drain_verdict.specs.Given.{plain};
 ghost use Rattle.drain_verdict.specs.DemGround.{AreHeadersKept, DemTakesAtMost, dem_devices};
 
+use crate::runs::made_spacing;
+use crate::runs::made_spacing::{MadeSpacing, NoSpacing, made_spacing};
 use crate::runs::write_set::write_and_place;
 use drain_answer::lines::{Line, refusal_line, words};
 use drain_answer::outcome::Status;
@@ -19,7 +23,10 @@ use drain_device::{ByteSink, ByteSource};
 use drain_files::file_id::FileId;
 use drain_files::open_failure::print_open_fault;
 use drain_files::open_files::{InputFile, OpenFault, Opener, create_files, list_at};
-use drain_files::open_judged::{OpenElevations, OpenTiles, count_rows, open_elevations};
+use drain_files::open_judged::{
+    OpenElevations, OpenFiles, OpenTiles, count_rows, open_elevations,
+};
+use drain_files::open_spacing::open_spacing;
 use drain_files::output_paths::{inputs_or_print, output_paths};
 use drain_files::outputs::{Failure, Outputs};
 use drain_grid::{Product, ProductSet, SinkFault, parse_sinks};
@@ -34,7 +41,7 @@ use drain_mosaic::Layout;
 use drain_progress::progress::{MakeProgress, Progress};
 use drain_progress::progress_lines::Phase;
 use drain_progress::rows::count_tiles;
-use drain_verdict::{RasterInput, Refusal};
+use drain_verdict::{Given, RasterInput, Refusal};
 use std::alloc::Global;
 
 /// Makes products of elevations and writes them into a folder, and returns the exit status. The files are created once
@@ -78,26 +85,43 @@ fn made_of_files<'a>(
     ensures written { IfOk result (λ set. SetFits set.0 set.1) }
 {
     let opened = open_inputs(opener, progress, args);
-    let (mut elevations, sinks) = inputs_or_print(opener, opened, "the products", outputs, out)?;
+    let OpenFiles {
+        mut elevations,
+        products: (),
+        sinks,
+        spacing,
+    } = inputs_or_print(opener, opened, "the products", outputs, out)?;
     make_opened(
         opener.alloc(),
         &mut elevations,
-        sinks.as_slice(),
+        &Given {
+            sinks: sinks.as_slice(),
+            spacing: spacing.input(),
+        },
         &mut MakeProgress(progress),
         out,
     )
 }
 
-/// Opens the elevations, whose rows are counted, and reads the list of sinks. The first fault ends it.
+/// Opens the elevations, whose rows are counted, and reads the list of sinks and the text of widths. The first fault ends
+/// it.
 fn open_inputs<'a>(
     opener: &mut Opener<'_>,
     progress: &'a Progress<'a>,
     args: &ProductArgs<'_, Elevations<'_>>,
-) -> Result<(OpenElevations<InputFile<'a>>, Vec<u8>), OpenFault> {
+) -> Result<OpenFiles<OpenElevations<InputFile<'a>>, ()>, OpenFault>
+    ensures spacing { IfOk result (λ files. IsSpacingOf args.now.spacing files.elevations files.spacing) }
+{
     let mut elevations = open_elevations(opener, &args.elevations)?;
     count_elevations(&mut elevations, progress);
     let sinks = list_at(opener, args.sinks)?;
-    Ok((elevations, sinks))
+    let spacing = open_spacing(opener, &args.spacing, &elevations)?;
+    Ok(OpenFiles {
+        elevations,
+        products: (),
+        sinks,
+        spacing,
+    })
 }
 
 /// Has the rows of elevations counted.
@@ -118,7 +142,7 @@ fn count_elevations<'a>(
 fn make_opened<R: ByteSource, W: ByteSink>(
     alloc: Global,
     elevations: &mut OpenElevations<R>,
-    sinks: &[u8],
+    given: &Given,
     follow: &mut impl Follow,
     out: &mut W,
 ) -> Result<(Header, ProductSet), u8>
@@ -126,12 +150,12 @@ fn make_opened<R: ByteSource, W: ByteSink>(
 {
     match elevations {
         OpenElevations::Tiles(OpenTiles { side, tiles }) => {
-            match make_set(alloc, *side, tiles.as_mut_slice(), sinks, follow, out) {
+            match make_set_given(alloc, *side, tiles.as_mut_slice(), given, follow, out) {
                 Ok((layout, products)) => Ok((product_header(&layout, Product::Con), products)),
                 Err(status) => Err(status),
             }
         }
-        OpenElevations::Dem(dem) => make_dem_set(alloc, dem, sinks, follow, out),
+        OpenElevations::Dem(dem) => make_dem_set(alloc, dem, given, follow, out),
     }
 }
 
@@ -172,11 +196,13 @@ pub enum NoSet {
     Ground(Refusal),
     /// Of the list of sinks.
     Sinks(SinkFault),
+    /// Of how far apart cells are.
+    Spacing(NoSpacing),
     /// The maker returned none.
     Maker(MakeRefusal),
 }
 
-/// Reads the tiles and makes the products of their mosaic. If there are none, it prints why and returns the exit
+/// Reads the tiles and makes the products of their mosaic on unit spacing. If there are none, it prints why and returns the exit
 /// status: 2 for `refused BadSide`, `BadName`, `NoTiles`, `RepeatedTile`, `BoxTooLarge`, `BadTileLength`,
 /// `SeamMismatch`, `BadSinkLine`, `SinkNotData` and `MakerFault`, in this order; 3 for `failed OutOfMemory` and `failed
 /// ReadFailed`, and if the line can't be written.
@@ -191,18 +217,41 @@ pub fn make_set<R: ByteSource, W: ByteSink>(
     follow: &mut impl Follow,
     out: &mut W,
 ) -> Result<(Layout, ProductSet), u8>
-    ensures made { IfOk result (λ set. IsSetOf R.bytes_left side tiles.old sinks.now set.0 set.1) }
+    ensures made { IfOk result (λ set. IsSetOf R.bytes_left side tiles.old (plain sinks.now) set.0 set.1) }
     ensures written { IfOk result (λ set. SetFits (made_header set.0 Product.Con) set.1) }
     ensures no_read_failed { OnOk result (SomeReadFails (map R.counts (tile_devices tiles.old)) (map R.counts (tile_devices tiles.new)) ⊥) }
     ensures quiet { OnOk result (out.new ≡ out.old) }
-    ensures refused { IfErr result (λ code. (why : NoSet) × IsNoSet R.ByteSource side tiles.old tiles.new sinks.now why
+    ensures refused { IfErr result (λ code. (why : NoSet) × IsNoSet R.ByteSource side tiles.old tiles.new (plain sinks.now) why
         × Prints W.ByteSink out.old out.new (no_set_line why) (no_set_status why) code) }
 
     // How far it reads, and that names are unchanged.
     ensures within { TilesTakeAtMost R.bytes_left side tiles.old tiles.new }
     ensures names { names_of tiles.new ≡ names_of tiles.old }
 {
-    match read_and_make(alloc, side, tiles, sinks, follow) {
+    make_set_given(alloc, side, tiles, &Given::plain(sinks), follow, out)
+}
+
+/// As `make_set`, on the spacing that is given: after `SinkNotData` it may be refused by `BadSpacingLine` or `SpacingRows`.
+pub fn make_set_given<R: ByteSource, W: ByteSink>(
+    alloc: Global,
+    side: u32,
+    tiles: &mut [TileInput<R>],
+    given: &Given,
+    follow: &mut impl Follow,
+    out: &mut W,
+) -> Result<(Layout, ProductSet), u8>
+    ensures made { IfOk result (λ set. IsSetOf R.bytes_left side tiles.old given.now set.0 set.1) }
+    ensures written { IfOk result (λ set. SetFits (made_header set.0 Product.Con) set.1) }
+    ensures no_read_failed { OnOk result (SomeReadFails (map R.counts (tile_devices tiles.old)) (map R.counts (tile_devices tiles.new)) ⊥) }
+    ensures quiet { OnOk result (out.new ≡ out.old) }
+    ensures refused { IfErr result (λ code. (why : NoSet) × IsNoSet R.ByteSource side tiles.old tiles.new given.now why
+        × Prints W.ByteSink out.old out.new (no_set_line why) (no_set_status why) code) }
+
+    // How far it reads, and that names are unchanged.
+    ensures within { TilesTakeAtMost R.bytes_left side tiles.old tiles.new }
+    ensures names { names_of tiles.new ≡ names_of tiles.old }
+{
+    match read_and_make(alloc, side, tiles, given, follow) {
         Ok(set) => Ok(set),
         Err(why) => Err(print_line(out, &line_of(&why), status_of(&why))),
     }
@@ -213,13 +262,13 @@ fn read_and_make<R: ByteSource>(
     alloc: Global,
     side: u32,
     tiles: &mut [TileInput<R>],
-    sinks: &[u8],
+    given: &Given,
     follow: &mut impl Follow,
 ) -> Result<(Layout, ProductSet), NoSet>
-    ensures made { IfOk result (λ set. IsSetOf R.bytes_left side tiles.old sinks.now set.0 set.1) }
+    ensures made { IfOk result (λ set. IsSetOf R.bytes_left side tiles.old given.now set.0 set.1) }
     ensures written { IfOk result (λ set. SetFits (made_header set.0 Product.Con) set.1) }
     ensures no_read_failed { OnOk result (SomeReadFails (map R.counts (tile_devices tiles.old)) (map R.counts (tile_devices tiles.new)) ⊥) }
-    ensures refused { IfErr result (IsNoSet R.ByteSource side tiles.old tiles.new sinks.now) }
+    ensures refused { IfErr result (IsNoSet R.ByteSource side tiles.old tiles.new given.now) }
     ensures within { TilesTakeAtMost R.bytes_left side tiles.old tiles.new }
     ensures names { names_of tiles.new ≡ names_of tiles.old }
 {
@@ -227,13 +276,17 @@ fn read_and_make<R: ByteSource>(
         Ok(mosaic) => mosaic,
         Err(refusal) => return Err(NoSet::Ground(refusal)),
     };
-    let listed = match parse_sinks(alloc, sinks) {
+    let listed = match parse_sinks(alloc, given.sinks) {
         Ok(listed) => listed,
         Err(fault) => return Err(NoSet::Sinks(fault)),
     };
     let Mosaic { layout, elevation } = mosaic;
-    match make_freeing(alloc, &layout, elevation, &listed, follow) {
-        Ok(products) => Ok((layout, products)),
+    let MadeSpacing { spacings, fault } = made_spacing(alloc, given, layout.shape());
+    match make_freeing(alloc, &layout, elevation, &listed, &spacings, follow) {
+        Ok(products) => match fault {
+            None => Ok((layout, products)),
+            Some(why) => Err(NoSet::Spacing(why)),
+        },
         Err(refusal) => Err(NoSet::Maker(refusal)),
     }
 }
@@ -243,22 +296,22 @@ fn read_and_make<R: ByteSource>(
 pub fn make_dem_set<R: ByteSource, W: ByteSink>(
     alloc: Global,
     dem: &mut [RasterInput<R>; 1],
-    sinks: &[u8],
+    given: &Given,
     follow: &mut impl Follow,
     out: &mut W,
 ) -> Result<(Header, ProductSet), u8>
-    ensures made { IfOk result (λ set. IsDemSetOf R.bytes_left dem.old sinks.now set.0 set.1) }
+    ensures made { IfOk result (λ set. IsDemSetOf R.bytes_left dem.old given.now set.0 set.1) }
     ensures written { IfOk result (λ set. SetFits set.0 set.1) }
     ensures no_read_failed { OnOk result (SomeReadFails (map R.counts (dem_devices dem.old)) (map R.counts (dem_devices dem.new)) ⊥) }
     ensures quiet { OnOk result (out.new ≡ out.old) }
-    ensures refused { IfErr result (λ code. (why : NoSet) × IsNoDemSet R.ByteSource dem.old dem.new sinks.now why
+    ensures refused { IfErr result (λ code. (why : NoSet) × IsNoDemSet R.ByteSource dem.old dem.new given.now why
         × Prints W.ByteSink out.old out.new (no_set_line why) (no_set_status why) code) }
 
     // How far it reads, and that the header's text is unchanged.
     ensures within { DemTakesAtMost R.bytes_left dem.old dem.new }
     ensures headers { AreHeadersKept dem.old dem.new }
 {
-    match read_and_make_dem(alloc, dem, sinks, follow) {
+    match read_and_make_dem(alloc, dem, given, follow) {
         Ok(made) => Ok(made),
         Err(why) => Err(print_line(out, &line_of(&why), status_of(&why))),
     }
@@ -268,13 +321,13 @@ pub fn make_dem_set<R: ByteSource, W: ByteSink>(
 fn read_and_make_dem<R: ByteSource>(
     alloc: Global,
     dem: &mut [RasterInput<R>; 1],
-    sinks: &[u8],
+    given: &Given,
     follow: &mut impl Follow,
 ) -> Result<(Header, ProductSet), NoSet>
-    ensures made { IfOk result (λ set. IsDemSetOf R.bytes_left dem.old sinks.now set.0 set.1) }
+    ensures made { IfOk result (λ set. IsDemSetOf R.bytes_left dem.old given.now set.0 set.1) }
     ensures written { IfOk result (λ set. SetFits set.0 set.1) }
     ensures no_read_failed { OnOk result (SomeReadFails (map R.counts (dem_devices dem.old)) (map R.counts (dem_devices dem.new)) ⊥) }
-    ensures refused { IfErr result (IsNoDemSet R.ByteSource dem.old dem.new sinks.now) }
+    ensures refused { IfErr result (IsNoDemSet R.ByteSource dem.old dem.new given.now) }
     ensures within { DemTakesAtMost R.bytes_left dem.old dem.new }
     ensures headers { AreHeadersKept dem.old dem.new }
 {
@@ -282,13 +335,17 @@ fn read_and_make_dem<R: ByteSource>(
         Ok(read) => read,
         Err(why) => return Err(NoSet::Ground(why)),
     };
-    let listed = match parse_sinks(alloc, sinks) {
+    let listed = match parse_sinks(alloc, given.sinks) {
         Ok(listed) => listed,
         Err(fault) => return Err(NoSet::Sinks(fault)),
     };
     let Dem { header, raster } = read;
-    match make_dem(alloc, &raster, &listed, follow) {
-        Ok(products) => Ok((header, products)),
+    let MadeSpacing { spacings, fault } = made_spacing(alloc, given, raster.shape());
+    match make_dem(alloc, &raster, &listed, &spacings, follow) {
+        Ok(products) => match fault {
+            None => Ok((header, products)),
+            Some(why) => Err(NoSet::Spacing(why)),
+        },
         Err(refusal) => Err(NoSet::Maker(refusal)),
     }
 }
@@ -301,6 +358,7 @@ fn line_of(why: &NoSet) -> Line
         NoSet::Ground(refusal) => refusal_line(*refusal),
         NoSet::Sinks(SinkFault::BadSinkLine(line)) => refusal_line(Refusal::BadSinkLine(*line)),
         NoSet::Sinks(SinkFault::OutOfMemory) => words("failed OutOfMemory"),
+        NoSet::Spacing(why) => made_spacing::line_of(*why),
         NoSet::Maker(MakeRefusal::SinkNotData(line)) => refusal_line(Refusal::SinkNotData(*line)),
         NoSet::Maker(MakeRefusal::MakerFault) => words("refused MakerFault"),
         NoSet::Maker(MakeRefusal::OutOfMemory) => words("failed OutOfMemory"),
@@ -315,6 +373,7 @@ fn status_of(why: &NoSet) -> Status
         NoSet::Ground(refusal) => Status::of_refusal(*refusal),
         NoSet::Sinks(SinkFault::OutOfMemory) => Status::Failed,
         NoSet::Sinks(SinkFault::BadSinkLine(_)) => Status::Refused,
+        NoSet::Spacing(why) => made_spacing::status_of(*why),
         NoSet::Maker(MakeRefusal::OutOfMemory) => Status::Failed,
         NoSet::Maker(_) => Status::Refused,
     }

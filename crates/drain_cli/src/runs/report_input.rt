@@ -15,7 +15,7 @@ use drain_answer::lines::{Line, words};
 use drain_answer::outcome::Status;
 use drain_answer::print::print_line;
 use drain_device::{BodyFault, ByteSink, ByteSource};
-use drain_files::whole_input::read_text;
+use drain_files::whole_input::{MAX_TEXT_BYTES, read_text};
 use drain_report::{ReportFault, read_report};
 use drain_union::WindowReport;
 use itoa::Buffer;
@@ -61,7 +61,7 @@ fn read_window<R: ByteSource>(alloc: Global, from: &mut R) -> Result<WindowRepor
     ensures back { (w : WindowReportOf) → ContentsFit (contents_of w) → R.bytes_left from.old ≡ Some (text_of w) → MatchResult result (λ window. contents_of window ≡ contents_of w) (λ why. fault_status why ≡ Status.Failed) }
     ensures why { IfErr result (IsBadReport R.ByteSource from.old from.new) }
 {
-    let text = match read_text(alloc, from) {
+    let text = match read_text(alloc, from, MAX_TEXT_BYTES) {
         Ok(text) => text,
         Err(fault) => return Err(BadReport::Unread(fault)),
     };

@@ -19,7 +19,6 @@ use drain_explain::{
 };
 use drain_files::file_paths::{dem_path, raster_path};
 use drain_files::open_failure::print_open_failure;
-use drain_files::open_files::OpenFault;
 use drain_files::open_judged::JudgedProducts;
 use drain_grid::{PerProduct, Product};
 use drain_header::Header;
@@ -28,7 +27,7 @@ use drain_maker::product_files::Part;
 use drain_maker::product_header;
 use drain_mosaic::Layout;
 use drain_page::{Facts, Frame, OUT_OF_MEMORY_OBJECT, failure_json, page_json, page_text};
-use drain_verdict::{Outcome, Refusal};
+use drain_verdict::{Given, Outcome, Refusal};
 use std::alloc::{AllocError, Global};
 use std::fs;
 use std::fs::File;
@@ -81,7 +80,8 @@ fn length_of(rt: &HostRuntime, path: &str) -> Option<u64> {
 pub enum PageFailure {
     /// The file at this path can't be opened or created.
     Open(String),
-    /// An input failed, or was interrupted for the 1,000th time; or a list of sinks is too long.
+    /// An input failed, or was interrupted for the 1,000th time; or a list of sinks or a text of widths is too
+    /// long.
     ReadFailed,
     /// A file of a map failed, was interrupted for the 1,000th time, or accepted no byte of some.
     WriteFailed,
@@ -89,12 +89,11 @@ pub enum PageFailure {
     OutOfMemory,
 }
 
-impl From<OpenFault> for PageFailure {
-    fn from(fault: OpenFault) -> PageFailure {
+impl From<BodyFault> for PageFailure {
+    fn from(fault: BodyFault) -> PageFailure {
         match fault {
-            OpenFault::Open(path, _) => PageFailure::Open(path),
-            OpenFault::Body(BodyFault::ReadFailed) => PageFailure::ReadFailed,
-            OpenFault::Body(BodyFault::OutOfMemory) => PageFailure::OutOfMemory,
+            BodyFault::ReadFailed => PageFailure::ReadFailed,
+            BodyFault::OutOfMemory => PageFailure::OutOfMemory,
         }
     }
 }
@@ -289,7 +288,7 @@ pub fn run_explain<R: ByteSource, B: ExplainOutput + FileLookup, W: ByteSink>(
     alloc: Global,
     side: u32,
     tiles: &mut [TileInput<R>],
-    sinks: &[u8],
+    given: &Given,
     products: &mut JudgedProducts<R>,
     mapping: Mapping,
     form: Form,
@@ -297,14 +296,14 @@ pub fn run_explain<R: ByteSource, B: ExplainOutput + FileLookup, W: ByteSink>(
     out: &mut W,
 ) -> u8
     ensures run { (answer : Result declared.Outcome declared_refusal.Refusal)
-        × IsOutcome R.ByteSource side tiles.old tiles.new sinks.now products.old products.new answer
+        × IsOutcome R.ByteSource side tiles.old tiles.new given.now products.old products.new answer
         × Explains W.ByteSink out.old out.new (FailsToSave B.ExplainOutput.has_saved) form answer result }
 {
-    let (answer, findings) = explain_products(alloc, side, tiles, sinks, products, mapping);
+    let (answer, findings) = explain_products(alloc, side, tiles, given, products, mapping);
     let refusal = match refusal_of(&answer) {
         Some(refusal) => {
             let headers = headers_of(products);
-            detail_of(alloc, refusal, side, tiles, &headers, sinks, beside)
+            detail_of(alloc, refusal, side, tiles, &headers, given, beside)
         }
         None => None,
     };
@@ -321,18 +320,18 @@ fn explain_products<R: ByteSource>(
     alloc: Global,
     side: u32,
     tiles: &mut [TileInput<R>],
-    sinks: &[u8],
+    given: &Given,
     products: &mut JudgedProducts<R>,
     mapping: Mapping,
 ) -> (Result<Outcome, Refusal>, Option<Findings<Layout>>)
-    ensures { IsOutcome R.ByteSource side tiles.old tiles.new sinks.now products.old products.new result.0 }
+    ensures { IsOutcome R.ByteSource side tiles.old tiles.new given.now products.old products.new result.0 }
 {
     match products {
         JudgedProducts::Five(five) => {
-            answer_and_findings(explain_check(alloc, side, tiles, sinks, five, mapping))
+            answer_and_findings(explain_check(alloc, side, tiles, given, five, mapping))
         }
         JudgedProducts::Four(four, judged) => answer_and_findings(explain_audit(
-            alloc, side, tiles, sinks, four, *judged, mapping,
+            alloc, side, tiles, given, four, *judged, mapping,
         )),
     }
 }

@@ -22,7 +22,7 @@ use drain_grid::Cell;
 use drain_hgt::TileInput;
 use drain_progress::progress::Progress;
 use drain_union::{Place, WindowReport};
-use drain_verdict::{AuditProducts, RasterInput};
+use drain_verdict::{AuditProducts, Given, RasterInput};
 use drain_window::answered::refusal_line;
 use drain_window::{WindowRefusal, judge_window, judge_window_dem};
 use std::alloc::{AllocError, Global};
@@ -69,16 +69,21 @@ fn judged_files<'a>(
         mut elevations,
         mut products,
         sinks,
+        spacing,
     } = inputs_or_print(opener, opened, "the report", report, out)?;
     if let Some(status) = refused_name(opener.rt(), args, out) {
         return Err(status);
     }
+    let given = Given {
+        sinks: sinks.as_slice(),
+        spacing: spacing.input(),
+    };
     match &mut elevations {
         OpenElevations::Tiles(tiles) => judge_or_print(
             opener.alloc(),
             tiles.side,
             tiles.tiles.as_mut_slice(),
-            sinks.as_slice(),
+            &given,
             &mut products,
             &args.place,
             out,
@@ -86,7 +91,7 @@ fn judged_files<'a>(
         OpenElevations::Dem(dem) => judge_dem_or_print(
             opener.alloc(),
             dem,
-            sinks.as_slice(),
+            &given,
             &mut products,
             &args.place,
             args.at,
@@ -147,42 +152,42 @@ fn write_at(
 /// no verdict, it prints why and returns the exit status: 2 for a refusal, 3 for `failed OutOfMemory` and `failed
 /// ReadFailed`, and if the line can't be written.
 ///
-/// `side`, `tiles`, `sinks` and `products` are those of an audit of the mosaic, and are read as by an audit.
+/// `side`, `tiles`, `given` and `products` are those of an audit of the mosaic, and are read as by an audit.
 pub fn judge_or_print<R: ByteSource, W: ByteSink>(
     alloc: Global,
     side: u32,
     tiles: &mut [TileInput<R>],
-    sinks: &[u8],
+    given: &Given,
     products: &mut AuditProducts<R>,
     place: &Place,
     out: &mut W,
 ) -> Result<WindowReport, u8>
     ensures run { (outcome : Result WindowReport WindowRefusal)
-        × IsWindowOutcome R.ByteSource place.now side tiles.old tiles.new sinks.now products.old products.new outcome
+        × IsWindowOutcome R.ByteSource place.now side tiles.old tiles.new given.now products.old products.new outcome
         × IsWindowHandedOver W.ByteSink out.old out.new outcome result }
 {
-    let outcome = judge_window(alloc, side, tiles, sinks, products, place);
+    let outcome = judge_window(alloc, side, tiles, given, products, place);
     hand_over(outcome, out)
 }
 
 /// Judges the window that lies at this place of a part of a raster of elevations, which begins at this cell of the whole,
 /// and returns what is to be reported, or prints why there is nothing, as for tiles.
 ///
-/// `dem`, `sinks` and `products` are those of an audit of the part, and are read as by an audit.
+/// `dem`, `given` and `products` are those of an audit of the part, and are read as by an audit.
 pub fn judge_dem_or_print<R: ByteSource, W: ByteSink>(
     alloc: Global,
     dem: &mut [RasterInput<R>; 1],
-    sinks: &[u8],
+    given: &Given,
     products: &mut AuditProducts<R>,
     place: &Place,
     at: Cell,
     out: &mut W,
 ) -> Result<WindowReport, u8>
     ensures run { (outcome : Result WindowReport WindowRefusal)
-        × IsDemWindowOutcome R.ByteSource place.now at dem.old dem.new sinks.now products.old products.new outcome
+        × IsDemWindowOutcome R.ByteSource place.now at dem.old dem.new given.now products.old products.new outcome
         × IsWindowHandedOver W.ByteSink out.old out.new outcome result }
 {
-    let outcome = judge_window_dem(alloc, dem, sinks, products, place, at);
+    let outcome = judge_window_dem(alloc, dem, given, products, place, at);
     hand_over(outcome, out)
 }
 

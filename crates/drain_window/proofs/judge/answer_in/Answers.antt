@@ -15,9 +15,9 @@ pub returns-in-Ok-clause-answer : goal.returns-in-Ok-clause-answer
 returns-in-Ok-clause-answer g c = λ inputs tell.
     let v = c.in-Ok.verdict in
     let r = c.in-Ok.report in
-    let is = layout_of_inputs c.one_name.ensures g.R.ByteSource.bytes_left c.args.layout.now.side c.args.tiles.now c.args.sinks.now
+    let is = layout_of_inputs c.one_name.ensures g.R.ByteSource.bytes_left c.args.layout.now.side c.args.tiles.now c.args.given.now
     (as_five c.args.products.now) inputs c.args.layout.now tell c.requires.laid in
-    let answer = of_tiles g.R.ByteSource.bytes_left c.args.layout.now.side c.args.tiles.now c.args.sinks.now (as_five c.args.products.now)
+    let answer = of_tiles g.R.ByteSource.bytes_left c.args.layout.now.side c.args.tiles.now c.args.given.now (as_five c.args.products.now)
     (λ s. IsWindowIn c.map_origin-origin.result c.args.place.now s (Ok (v, r))) c.in-Ok.ensures.answer inputs tell in
     with_tiles_answer c.args.layout.now v r c.with_tiles.result c.with_tiles.ensures c.args.place.now inputs is answer.1.0 answer.0.placed
     (subst (λ (o : Cell). IsAnswerOn (nodata_numbers inputs) o c.args.place.now (input_grid inputs) (input_products inputs) v r)
@@ -39,7 +39,7 @@ returns-in-Ok-clause-agree g c =
 pub returns-in-Err-clause-answer : goal.returns-in-Err-clause-answer
 returns-in-Err-clause-answer g c = λ inputs tell.
     refused_answer c.map_origin-origin.result c.args.place.now inputs c.in-Err.refusal c.map_origin-origin.ensures.fits
-    (of_tiles g.R.ByteSource.bytes_left c.args.layout.now.side c.args.tiles.now c.args.sinks.now (as_five c.args.products.now)
+    (of_tiles g.R.ByteSource.bytes_left c.args.layout.now.side c.args.tiles.now c.args.given.now (as_five c.args.products.now)
     (λ s. IsWindowIn c.map_origin-origin.result c.args.place.now s (Err c.in-Err.refusal)) c.in-Err.ensures.answer inputs tell)
 
 pub returns-in-Err-clause-uses : goal.returns-in-Err-clause-uses

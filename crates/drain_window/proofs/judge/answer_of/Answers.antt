@@ -6,7 +6,7 @@ use Rattle.drain_window.proofs.judge.answer_of.Goals as goal
 
 pub returns-in-Err-clause-answer : goal.returns-in-Err-clause-answer
 returns-in-Err-clause-answer g c = λ inputs tell.
-    layout_answer c.one_name.ensures g.R.ByteSource.bytes_left c.args.side c.args.tiles.now c.args.sinks.now (as_five c.args.products.now) inputs c.in-Err.refusal
+    layout_answer c.one_name.ensures g.R.ByteSource.bytes_left c.args.side c.args.tiles.now c.args.given.now (as_five c.args.products.now) inputs c.in-Err.refusal
     tell c.in-Err.ensures.refusal
 
 pub returns-in-Err-clause-uses : goal.returns-in-Err-clause-uses
@@ -20,4 +20,4 @@ answer_in-requires g c = record { laid = laid c.args.side _ c.in-Ok.layout c.in-
 pub returns-in-Ok-clause-answer : goal.returns-in-Ok-clause-answer
 returns-in-Ok-clause-answer g c = λ inputs tell.
     c.answer_in.ensures.answer inputs
-    (at_side g.R.ByteSource.bytes_left c.args.side c.args.tiles.now c.args.sinks.now (as_five c.args.products.now) inputs c.in-Ok.layout c.in-Ok.ensures.layout tell)
+    (at_side g.R.ByteSource.bytes_left c.args.side c.args.tiles.now c.args.given.now (as_five c.args.products.now) inputs c.in-Ok.layout c.in-Ok.ensures.layout tell)

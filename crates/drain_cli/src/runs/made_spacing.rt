@@ -1,0 +1,93 @@
+//! How far apart cells are where products are made, from what is given; and why that is refused.
+//!
+//! As a check does, `make` tells of a bad text of widths after all else: until then cells are square.
+
+ghost use Rattle.std.specs.Prelude.{◌≡◌, IfOk, IfErr, IfSome, None};
+ghost use Rattle.drain_cli.specs.MadeSets.{IsNoSpacing, no_spacing_line, no_spacing_status};
+ghost use Rattle.drain_maker.specs.Accepted.{AreGivenSpacings};
+
+use drain_answer::Refusal;
+use drain_answer::lines::{Line, refusal_line, words};
+use drain_answer::outcome::Status;
+use drain_grid::{Shape, Spacing, SpacingFault, SpacingInput, Spacings, parse_spacings};
+use drain_verdict::Given;
+use std::alloc::Global;
+
+/// Why there is no spacing.
+#[derive(Clone, Copy)]
+pub enum NoSpacing {
+    /// This line of a text by row is bad.
+    BadLine(u64),
+    /// A text by row lists this number of rows, and there is another.
+    OtherRows(u64),
+    /// Memory was refused.
+    OutOfMemory,
+}
+
+/// The spacing of each row of a grid of this shape, or square cells and why there is none.
+#[derive(Drop)]
+pub struct MadeSpacing {
+    pub spacings: Spacings,
+    pub fault: Option<NoSpacing>,
+}
+
+/// What is given for a grid of this shape.
+pub fn made_spacing(alloc: Global, given: &Given, shape: Shape) -> MadeSpacing
+    ensures given { result.fault ≡ None → AreGivenSpacings given.now.spacing shape result.spacings }
+    ensures fault { IfSome result.fault (IsNoSpacing given.now.spacing shape) }
+{
+    match spacings_for(alloc, given, shape) {
+        Ok(spacings) => MadeSpacing {
+            spacings,
+            fault: None,
+        },
+        Err(fault) => MadeSpacing {
+            spacings: Spacings::same(alloc, Spacing::unit()),
+            fault: Some(fault),
+        },
+    }
+}
+
+/// The spacing of each row.
+fn spacings_for(alloc: Global, given: &Given, shape: Shape) -> Result<Spacings, NoSpacing>
+    ensures given { IfOk result (AreGivenSpacings given.now.spacing shape) }
+    ensures fault { IfErr result (IsNoSpacing given.now.spacing shape) }
+{
+    let spacings = match parse_spacings(alloc, &given.spacing) {
+        Ok(spacings) => spacings,
+        Err(SpacingFault::BadSpacingLine(line)) => return Err(NoSpacing::BadLine(line)),
+        Err(SpacingFault::OutOfMemory) => return Err(NoSpacing::OutOfMemory),
+    };
+    match &given.spacing {
+        SpacingInput::Same(_) => Ok(spacings),
+        SpacingInput::ByRow(_) => {
+            let rows = spacings.listed_rows();
+            if rows == shape.rows() as usize {
+                Ok(spacings)
+            } else {
+                Err(NoSpacing::OtherRows(rows as u64))
+            }
+        }
+    }
+}
+
+/// The line that says why there is no spacing.
+pub fn line_of(why: NoSpacing) -> Line
+    ensures { result.bytes ≡ no_spacing_line why }
+{
+    match why {
+        NoSpacing::BadLine(line) => refusal_line(Refusal::BadSpacingLine(line)),
+        NoSpacing::OtherRows(rows) => refusal_line(Refusal::SpacingRows(rows)),
+        NoSpacing::OutOfMemory => words("failed OutOfMemory"),
+    }
+}
+
+/// Its exit status.
+pub fn status_of(why: NoSpacing) -> Status
+    ensures { result ≡ no_spacing_status why }
+{
+    match why {
+        NoSpacing::BadLine(_) | NoSpacing::OtherRows(_) => Status::Refused,
+        NoSpacing::OutOfMemory => Status::Failed,
+    }
+}

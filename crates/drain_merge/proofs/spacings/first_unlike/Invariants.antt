@@ -1,0 +1,6 @@
+use Rattle.std.specs.List.{AllWithin}
+use Rattle.drain_merge.specs.Merges.{HaveRowsAlike}
+use Rattle.drain_merge.proofs.spacings.first_unlike.Given as goal
+
+abbrev pub invariant-loop-i : goal.invariant-loop-i
+invariant-loop-i l = AllWithin (λ v. HaveRowsAlike v l.window) l.windows 0 l.i
