@@ -21,7 +21,9 @@ use Rattle.drain_kernel.proofs.Meaning.{are_complete, no_outlet, not_zero}
 use Rattle.drain_kernel.proofs.NamedNumbers.{named_is, names_some}
 use Rattle.drain_kernel.proofs.Numbers.{Numbers, numbers_in, patch_of, values_are}
 use Rattle.drain_kernel.proofs.Counting.{if_tested}
-use Rattle.drain_kernel.proofs.Ways.{AreSeen, steepest_from}
+use Rattle.drain_kernel.proofs.Ways.{AreSeen, steepest_down}
+use Rattle.drain_kernel.specs.declared.slopes.Slopes.{Slopes}
+use Rattle.drain_kernel.specs.Slopes.{AreSound}
 use Rattle.drain_kernel.proofs.OnGround.{IsSound, keeps_rules, rank_from}
 use Rattle.drain_kernel.proofs.SeenNumbers.{are_seen, numbers_seen, sum_from}
 
@@ -32,10 +34,10 @@ record OfFall (here : Numbers) (around : List (Option Values)) : Type 0 where
   way : (d : Direction) × Names (pos here.dir) d × IsSteepest (patch_of here around) d
   label : LabelHolds (patch_of here around)
 
-of_fall : (here : Numbers) (n : Direction → Numbers) (around : List (Option Values)) → AreSeen (highest here.bias) here n around →
-    keeps_fall here.bias here.z here.con here.dir (map (λ d. (n d).con) directions) here.bas (map (λ d. (n d).bas) directions) ≡ true → OfFall here around
+of_fall : (slopes : Slopes) (here : Numbers) (n : Direction → Numbers) (around : List (Option Values)) → AreSound slopes → here.spacing ≡ slopes.spacing →
+    AreSeen (highest here.bias) here n around → keeps_fall slopes here.bias here.z here.con here.dir (map (λ d. (n d).con) directions) here.bas (map (λ d. (n d).bas) directions) ≡ true → OfFall here around
 unfolding keeps_fall
-of_fall here n around seen h =
+of_fall slopes here n around sound spaced seen h =
     let labelled = and_parts _ _ h in
     let falls = and_parts _ _ labelled.0 in
     let named = and_parts _ _ falls.0 in
@@ -45,22 +47,23 @@ of_fall here n around seen h =
     record {
       has_data = no_void here.z level.0;
       level = (Decides-eqb _ _).0 level.1;
-      way = (code.0, code.1, steepest_from (highest here.bias) here n around seen code.0 code.1 (le_from _ _ fits.1) falls.1);
+      way = (code.0, code.1, steepest_down slopes (highest here.bias) here n around sound spaced seen code.0 code.1 (le_from _ _ fits.1) falls.1);
       label = λ _ e m names_e beside.
           let same : pos here.bas ≡ pos (n e).bas = ap pos (sym ((Decides-eqb _ _).0 labelled.1) ∙ named_is (λ d. (n d).bas) here.dir e names_e) in
           same ∙ ap (λ (v : Values). v.bas) (seen.data_is e m beside);
     }
 
 -- so at a column where the tests pass
-pub is_kept_there : (bias : ℕ) (rules : Rules) (rows : ThreeLanes) (k : ℕ) (p : Patch) → HaveOneBias bias rows → IsShownRoundIn rows k p →
+pub is_kept_there : (bias : ℕ) (rules : Rules) (rows : ThreeLanes) (k : ℕ) (p : Patch) → HaveOneBias bias rows → AreSound rows.slopes →
+    p.spacing ≡ rows.slopes.spacing → IsShownRoundIn rows k p →
     IfJudged (has_rnk rules.judged) (HaveRanks rows) → FallsAt rules rows k → IsKept (tried rules) p
-is_kept_there bias rules rows k p one shown have passes =
+is_kept_there bias rules rows k p one slopes_sound spaced shown have passes =
     let same = bias_beside bias rows one in
     let above = rows.above in
     let here = rows.here in
     let below = rows.below in
-    let at = numbers_in here k p.here in
-    let fall = of_fall at (numbers_seen above here below k p shown) p.around (are_seen above here below k p shown same) passes.fall in
+    let at = numbers_in p.spacing here k p.here in
+    let fall = of_fall rows.slopes at (numbers_seen above here below k p shown) p.around slopes_sound spaced (are_seen above here below k p shown same) passes.fall in
     let here_is = some_height at.bias at.z fall.has_data in
     let lower : HasLower (patch_of at p.around) = (ap is_some here_is, (fall.way.0, (fall.way.2.0, fall.way.2.1.lower))) in
     let sound : IsSound rules.nodata at p.around = record {
@@ -75,7 +78,7 @@ is_kept_there bias rules rows k p one shown have passes =
     } in
     let sum = if_tested (has_acc rules.judged) _ _ (sum_from above here below k p shown same) passes.sum in
     let rank = rank_from (has_rnk rules.judged) rules.nodata rows k p.here shown.cell fall.has_data have passes.rank in
-    let made : p ≡ patch_of at p.around = λ i. record { here = values_are here k p.here shown.cell fall.has_data i; around = p.around; spacing = shown.square i } in
+    let made : p ≡ patch_of at p.around = λ i. record { here = values_are p.spacing here k p.here shown.cell fall.has_data i; around = p.around; spacing = p.spacing } in
     subst (IsKept (tried rules)) (sym made) (record {
       holds = cleared rules.judged rules.nodata (patch_of at p.around)
           (λ r own. keeps_rules rules.nodata at p.around sound (has_rnk rules.judged) (has_acc rules.judged) sum rank r);

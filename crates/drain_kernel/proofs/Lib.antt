@@ -8,6 +8,7 @@ pub mod Counting
 pub mod ClearedRules
 pub mod Numbers
 pub mod Inland
+pub mod FractionWays
 pub mod Ways
 pub mod Meaning
 pub mod SeenNumbers

@@ -26,6 +26,7 @@ use Rattle.drain_kernel.specs.Tests.{adds_up}
 use Rattle.drain_kernel.proofs.Inland.{bias_beside, IsInland, inland_from, of_each, not_open, OfSurface, of_surface}
 use Rattle.drain_kernel.proofs.Numbers.{Numbers, HaveDataAt, values_of, patch_of, numbers_in, numbers_beside, patch_is, neighbor_is}
 use Rattle.drain_kernel.proofs.Counting.{inflow_passed, total_is, if_tested, summed}
+use Rattle.drain_kernel.specs.Slopes.{AreSound}
 use Rattle.drain_kernel.proofs.Ways.{OfDirection, of_direction, of_label, IsRanked, ranked_from, flat_step_from}
 
 -- the four numbers aren't their products' no-data numbers
@@ -143,7 +144,7 @@ not_zero code d is differs h = differs (same_natural d 0 (sym is ∙ h))
 -- where ranks are checked, they were taken, and their tests give what is required of the numbers
 ranks_from : (ranks : Bool) (nodata : NoDataNumbers) (rows : ThreeLanes) (k : ℕ) (p : Patch) (shown : IsShownIn rows k p) →
     HaveDataAt rows.above rows.here rows.below k → IfJudged ranks (HaveRanks rows) → IfJudged ranks (RanksPassAt nodata rows k) →
-    IfJudged ranks (Ranked nodata (numbers_in rows.here k p.here) (numbers_beside rows.above rows.here rows.below k p shown))
+    IfJudged ranks (Ranked nodata (numbers_in p.spacing rows.here k p.here) (numbers_beside rows.above rows.here rows.below k p shown))
 ranks_from false nodata rows k p shown known have passes = tt
 ranks_from true nodata rows k p shown known have passes =
     let above = rows.above in
@@ -153,25 +154,26 @@ ranks_from true nodata rows k p shown known have passes =
     let has : (d : Direction) → HasRanks (row_beside above here below d) = of_each (λ d. HasRanks (row_beside above here below d))
     have.here_has have.below_has have.below_has have.below_has have.here_has have.above_has have.above_has have.above_has in
     record {
-      leads = ranked_from (numbers_in here k p.here) (numbers_beside above here below k p shown) (slice_index here.rnk k)
+      leads = ranked_from (numbers_in p.spacing here k p.here) (numbers_beside above here below k p shown) (slice_index here.rnk k)
           (λ d. slice_index (row_beside above here below d).rnk (col_beside k d)) own
           (λ d. (shown.around_is d).1.shown.rnk_is (has d) (known.beside_has d)) passes.ranked;
       differs = subst (λ r. r ≢ nodata.rnk) (sym own) passes.has_rank;
     }
 
 -- so at a column of three rows where all tests pass
-pub is_kept : (bias : ℕ) (rules : Rules) (rows : ThreeLanes) (k : ℕ) (p : Patch) → HaveOneBias bias rows → IsShownIn rows k p →
+pub is_kept : (bias : ℕ) (rules : Rules) (rows : ThreeLanes) (k : ℕ) (p : Patch) → HaveOneBias bias rows → AreSound rows.slopes →
+    p.spacing ≡ rows.slopes.spacing → IsShownIn rows k p →
     IfJudged (has_rnk rules.judged) (HaveRanks rows) → PassesAt rules rows k → IsKept (tried rules) p
-is_kept bias rules rows k p one shown have passes =
+is_kept bias rules rows k p one sound spaced shown have passes =
     let above = rows.above in
     let here = rows.here in
     let below = rows.below in
-    let at = numbers_in here k p.here in
+    let at = numbers_in p.spacing here k p.here in
     let n = numbers_beside above here below k p shown in
     let nine = have_data_from rows k passes.inland in
     let known = inland_from at n p.around (λ d. neighbor_is above here below k p shown d (nine.beside_has d)) (bias_beside bias rows one) shown.not_listed
     nine.here_has nine.beside_has in
-    let direction = of_direction at n p.around known passes.direction in
+    let direction = of_direction rows.slopes at n p.around sound spaced known passes.direction in
     let passed : Passed rules.nodata at n p.around = record {
       inland = known;
       surface = of_surface at n p.around known passes.surface;

@@ -115,10 +115,10 @@ is_right_outlet bias rules rows k p one shown have passes =
     let above = rows.above in
     let here = rows.here in
     let below = rows.below in
-    let at = numbers_in here k p.here in
+    let at = numbers_in p.spacing here k p.here in
     let outlet = of_outlet at (numbers_seen above here below k p shown) p.around (are_seen above here below k p shown one_bias) passes.outlet in
     let here_is = some_height at.bias at.z outlet.has_data in
-    let same : p ≡ patch_of at p.around = λ i. record { here = values_are here k p.here shown.cell outlet.has_data i; around = p.around; spacing = shown.square i } in
+    let same : p ≡ patch_of at p.around = λ i. record { here = values_are p.spacing here k p.here shown.cell outlet.has_data i; around = p.around; spacing = p.spacing } in
     let opened = subst IsOpen same
     (open_beside above here below k p shown (subst IsSome (sym (shown.cell.z_is ∙ here_is)) refl) outlet.void.0 outlet.void.1) in
     let sound : IsSound rules.nodata at p.around = record {

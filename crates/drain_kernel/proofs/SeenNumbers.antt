@@ -6,6 +6,7 @@ use Rattle.drain_grid.specs.declared.direction.Direction.{Direction}
 use Rattle.drain_grid.specs.declared.direction.Direction.TheVariants.{East, SouthEast, South, SouthWest, West, NorthWest, North, NorthEast}
 use Rattle.drain_grid.specs.declared.patch.Patch.{Patch}
 use Rattle.drain_grid.specs.Direction.{directions, code_of, names, opposite}
+use Rattle.drain_grid.specs.Spacing.{Distances}
 use Rattle.drain_grid.specs.Values.{Values}
 use Rattle.drain_grid.specs.PatchRules.{AccumulationHolds, inflow}
 use Rattle.drain_grid.proofs.Tallies.{same_some}
@@ -54,16 +55,16 @@ inflow_seen d bias z code acc v z_is dir_is acc_is = by_test (z == 0) (Decides-e
         some ∙ inflow_passed true (code == code_of (opposite d)) acc refl
 
 -- the numbers that are seen of a cell
-abbrev seen_in : ℕ → LaneNumbers → ℕ → Values → Numbers
-seen_in bias row k v = record (numbers_in row k v) { con = seen_con bias (slice_index row.z k) (slice_index row.con k) }
+abbrev seen_in : Distances → ℕ → LaneNumbers → ℕ → Values → Numbers
+seen_in spacing bias row k v = record (numbers_in spacing row k v) { con = seen_con bias (slice_index row.z k) (slice_index row.con k) }
 
 -- those of the neighbours
 abbrev pub numbers_seen : (above here below : LaneNumbers) (k : ℕ) (p : Patch) → IsShownRound above here below k p → Direction → Numbers
-numbers_seen above here below k p shown d = seen_in here.bias (row_beside above here below d) (col_beside k d) (shown.around_is d).0
+numbers_seen above here below k p shown d = seen_in p.spacing here.bias (row_beside above here below d) (col_beside k d) (shown.around_is d).0
 
 -- they are the neighbour's, if it has data
-seen_are_values : (bias : ℕ) (row : LaneNumbers) (k : ℕ) (v : Values) → Shows row k v → HasDataAt row k → values_of (seen_in bias row k v) ≡ v
-seen_are_values bias row k v s there =
+seen_are_values : (spacing : Distances) (bias : ℕ) (row : LaneNumbers) (k : ℕ) (v : Values) → Shows row k v → HasDataAt row k → values_of (seen_in spacing bias row k v) ≡ v
+seen_are_values spacing bias row k v s there =
     let con : lowered row.bias (seen_con bias (slice_index row.z k) (slice_index row.con k)) ≡ v.con =
     ap (lowered row.bias) (seen_data (slice_index row.z k) (highest bias) (slice_index row.con k) there) ∙ sym (s.con_is there) in
     λ i. record {
@@ -80,7 +81,7 @@ seen_are_values bias row k v s there =
 module _ (above here below : LaneNumbers) (k : ℕ) (p : Patch) (shown : IsShownRound above here below k p)
     (same : (d : Direction) → (row_beside above here below d).bias ≡ here.bias) where
   abbrev own : Numbers
-  own = numbers_in here k p.here
+  own = numbers_in p.spacing here k p.here
 
   abbrev beside : Direction → Numbers
   beside = numbers_seen above here below k p shown
@@ -94,13 +95,13 @@ module _ (above here below : LaneNumbers) (k : ℕ) (p : Patch) (shown : IsShown
         let at = (shown.around_is d).1 in
         let same : v ≡ m = same_some v m (sym at.is ∙ found.is) in
         let some : IsSome v.z = subst (λ (w : Values). IsSome w.z) (sym same) found.has_data in
-        seen_are_values here.bias (row_beside above here below d) (col_beside k d) v at.shown (some_lane _ _ v.z at.shown.z_is some) ∙ same;
+        seen_are_values p.spacing here.bias (row_beside above here below d) (col_beside k d) v at.shown (some_lane _ _ v.z at.shown.z_is some) ∙ same;
     has_data = λ d low.
         let v = (shown.around_is d).0 in
         let at = (shown.around_is d).1 in
         let there = seen_low here.bias _ _ low in
         record {
-          is = at.is ∙ ap Some (sym (seen_are_values here.bias (row_beside above here below d) (col_beside k d) v at.shown there));
+          is = at.is ∙ ap Some (sym (seen_are_values p.spacing here.bias (row_beside above here below d) (col_beside k d) v at.shown there));
           has_data = ap is_some (some_height _ _ there);
         };
   }

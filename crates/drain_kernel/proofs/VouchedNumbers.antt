@@ -7,7 +7,7 @@ use Rattle.std.proofs.lemmas.Bool.Decides.{Decides-eqb}
 use Rattle.drain_grid.specs.Values.{NoDataNumbers}
 use Rattle.drain_kernel.specs.Around.{is_direction_code, around_in, named_in}
 use Rattle.drain_kernel.specs.Shown.{lowered}
-use Rattle.drain_kernel.specs.Tests.{adds_up, keeps_direction, keeps_surface}
+use Rattle.drain_kernel.specs.Tests.{adds_up, keeps_surface}
 use Rattle.drain_kernel.proofs.Inland.{le_from}
 use Rattle.drain_kernel.specs.Images.{EachHasImage}
 
@@ -46,7 +46,7 @@ some_sum acc codes accs h =
 -- a cell with data that keeps the rules on con and dir
 pub has_way : (nodata : NoDataNumbers) (rows : ThreeLanes) (k : ℕ) → ((con : ℕ) → 1 ≤ con → lowered rows.here.bias con ≢ nodata.con) →
     ((code : ℕ) → IsTrue (is_direction_code code) → pos code ≢ nodata.dir) → IsInlandAt rows k → KeepsWayAt rows k → HasWayAt nodata rows.here k
-unfolding keeps_direction keeps_surface
+unfolding keeps_surface
 has_way nodata rows k no_con no_dir inland ways = record {
   con_differs = no_con _ (some_con _ _ inland.here_is.middle (le_from _ _ (and_parts _ _ ways.surface).0));
   dir_differs = no_dir _ (and_parts _ _ ways.direction).0;

@@ -1,5 +1,5 @@
 -- What the tests of the direction and of ranks give at an inland cell.
-use Rattle.std.proofs.Common.{◌≡◌, ◌⊎◌, ℕ, ◌-◌, ◌*◌, ◌≤◌, ◌<◌, ℤ, pos, ◌-ℤ◌, ◌≤ℤ◌, ◌<ℤ◌, Bool, true, false, not, map, List, Option, inl, inr, refl, sym, ◌∙◌, ap, subst, arith}
+use Rattle.std.proofs.Common.{◌≡◌, ◌⊎◌, ℕ, ◌-◌, ◌*◌, ◌≤◌, ◌<◌, ℤ, pos, ◌-ℤ◌, ◌≤ℤ◌, ◌<ℤ◌, Bool, true, false, not, ◌==◌, map, List, Option, inl, inr, refl, sym, ◌∙◌, ap, subst, arith, if◌then◌else◌}
 use Rattle.std.proofs.lemmas.Bool.{false≢true, and_parts, or_cases}
 use Rattle.std.proofs.lemmas.Bool.Decides.{Decides-eqb, Decides-ltb}
 use Rattle.std.proofs.lemmas.Int.{ints}
@@ -8,15 +8,18 @@ use Rattle.drain_grid.specs.Direction.{directions, Names, NamesSome, is_straight
 use Rattle.drain_grid.specs.Values.{Values}
 use Rattle.drain_grid.specs.Patch.{IsDataNeighbor, IsLower, HasLower}
 use Rattle.drain_grid.specs.Slope.{slope_key, IsSteepest}
-use Rattle.drain_grid.specs.Spacing.{unit_spacing, weight_of}
+use Rattle.drain_grid.specs.Spacing.{Distances, unit_spacing, weight_of}
 use Rattle.drain_grid.specs.PatchRules.{SlopeHolds, FlatStepHolds, LabelHolds}
 use Rattle.drain_grid.specs.Unranked.{IsLevelStep, LevelStepHolds}
 use Rattle.drain_grid.proofs.Tallies.{same_some}
 use Rattle.drain_kernel.specs.Around.{least_straight_in, least_across_in}
 use Rattle.drain_kernel.specs.Shown.{lowered}
-use Rattle.drain_kernel.specs.Tests.{keeps_direction, keeps_label, falls_steepest, steps_along, is_ranked}
+use Rattle.drain_kernel.specs.declared.slopes.Slopes.{Slopes}
+use Rattle.drain_kernel.specs.Slopes.{AreSound, falls_by_fractions, falls_down, is_unit, keeps_way_down}
+use Rattle.drain_kernel.specs.Tests.{keeps_label, falls_steepest, steps_along, is_ranked}
 use Rattle.drain_kernel.proofs.Inland.{IsInland, is_beside, of_beside, le_from}
-use Rattle.drain_kernel.proofs.Keys.{weight, key_is, straight_is_greatest, across_is_greatest}
+use Rattle.drain_kernel.proofs.FractionWays.{counted, steepest_by_fractions}
+use Rattle.drain_kernel.proofs.Keys.{weight, key_is, unit_weight, straight_is_greatest, across_is_greatest}
 use Rattle.drain_kernel.proofs.NamedNumbers.{named_is, names_some, straight_is, least_straight_bound, least_across_bound, least_bound}
 use Rattle.drain_kernel.proofs.Numbers.{Numbers, values_of, patch_of}
 
@@ -55,9 +58,8 @@ number_of_lower highest here n around seen d m lower =
 
 -- the keys of lower neighbours, and that of a steepest
 is_steepest : (highest : ℕ) (here : Numbers) (n : Direction → Numbers) (around : List (Option Values)) → AreSeen highest here n around → here.con ≤ highest → (d : Direction) →
-    (n d).con < here.con →
-    ((e : Direction) → weight (is_straight e) ((here.con - (n e).con) * (here.con - (n e).con)) ≤
-    weight (is_straight d) ((here.con - (n d).con) * (here.con - (n d).con))) → IsSteepest (patch_of here around) d
+    (n d).con < here.con → ((e : Direction) → counted here.spacing here.con e (n e).con ≤ counted here.spacing here.con d (n d).con) →
+    IsSteepest (patch_of here around) d
 is_steepest highest here n around seen fits d less most = (
   values_of (n d),
   record {
@@ -66,47 +68,78 @@ is_steepest highest here n around seen fits d less most = (
         let below = number_of_lower highest here n around seen e m lower in
         let there : (n e).con ≤ here.con = omega arith in
         let own : (n d).con ≤ here.con = omega arith in
-        subst (λ (v : Values). slope_key (weight_of unit_spacing e) (lowered here.bias here.con -ℤ v.con) ≤ℤ slope_key (weight_of unit_spacing d) (lowered here.bias here.con -ℤ lowered (n d).bias (n d).con))
+        subst (λ (v : Values). slope_key (weight_of here.spacing e) (lowered here.bias here.con -ℤ v.con) ≤ℤ slope_key (weight_of here.spacing d) (lowered here.bias here.con -ℤ lowered (n d).bias (n d).con))
         (seen.data_is e m lower.beside)
-        (le_of_keys _ _ _ _ (key_is e here.bias (n e).bias here.con (n e).con (seen.bias_is e) there)
-        (key_is d here.bias (n d).bias here.con (n d).con (seen.bias_is d) own) (most e));
+        (le_of_keys _ _ _ _ (key_is (weight_of here.spacing e) here.bias (n e).bias here.con (n e).con (seen.bias_is e) there)
+        (key_is (weight_of here.spacing d) here.bias (n d).bias here.con (n d).con (seen.bias_is d) own) (most e));
   },
 )
   where
     le_of_keys : (a b : ℤ) (x y : ℕ) → a ≡ pos x → b ≡ pos y → x ≤ y → a ≤ℤ b
     le_of_keys a b x y is_x is_y h = omega (arith, ints)
 
--- the code leads down the steepest way
-pub steepest_from : (highest : ℕ) (here : Numbers) (n : Direction → Numbers) (around : List (Option Values)) → AreSeen highest here n around → (d : Direction) →
-    Names (pos here.dir) d → here.con ≤ highest → falls_steepest here.con here.dir (map (λ d. (n d).con) directions) ≡ true →
-    IsSteepest (patch_of here around) d
+-- the code leads down the steepest way between square cells
+steepest_by_squares : (con code : ℕ) (cons : Direction → ℕ) (d : Direction) → Names (pos code) d → falls_steepest con code (map cons directions) ≡ true →
+    (cons d < con) × ((e : Direction) → counted unit_spacing con e (cons e) ≤ counted unit_spacing con d (cons d))
 unfolding falls_steepest
-steepest_from highest here n around seen d named fits h =
-    let cons = λ (e : Direction). (n e).con in
+steepest_by_squares con code cons d named h =
     let parts = and_parts _ _ h in
-    let next = named_is cons here.dir d named in
-    let less : (n d).con < here.con = subst (λ x. x < here.con) next ((Decides-ltb _ _).0 parts.0) in
-    let way = straight_is here.dir d named in
-    is_steepest highest here n around seen fits d less (λ e. elim (or_cases _ _ parts.1) [
-      | inl straight ↦ (
-          let bound = and_parts _ _ straight in
-          let goes = and_parts _ _ bound.0 in
-          let at : (n d).con ≡ least_straight_in (map cons directions) = sym next ∙ (Decides-eqb _ _).0 goes.1 in
-          subst (λ s. weight (is_straight e) ((here.con - (n e).con) * (here.con - (n e).con)) ≤ weight s ((here.con - (n d).con) * (here.con - (n d).con))) (sym (sym way ∙ goes.0))
-          (subst (λ x. weight (is_straight e) ((here.con - (n e).con) * (here.con - (n e).con)) ≤ weight true ((here.con - x) * (here.con - x))) (sym at)
-          (straight_is_greatest here.con _ _ (n e).con (is_straight e) (least_straight_bound cons e) (least_across_bound cons e) (le_from _ _ bound.1))))
-      | inr across ↦ (
-          let bound = and_parts _ _ across in
-          let goes = and_parts _ _ bound.0 in
-          let at : (n d).con ≡ least_across_in (map cons directions) = sym next ∙ (Decides-eqb _ _).0 goes.1 in
-          subst (λ s. weight (is_straight e) ((here.con - (n e).con) * (here.con - (n e).con)) ≤ weight s ((here.con - (n d).con) * (here.con - (n d).con))) (sym (sym way ∙ false_from _ goes.0))
-          (subst (λ x. weight (is_straight e) ((here.con - (n e).con) * (here.con - (n e).con)) ≤ weight false ((here.con - x) * (here.con - x))) (sym at)
-          (across_is_greatest here.con _ _ (n e).con (is_straight e) (least_straight_bound cons e) (least_across_bound cons e) (le_from _ _ bound.1))))
-    ])
+    let next = named_is cons code d named in
+    let way = straight_is code d named in (
+      subst (λ x. x < con) next ((Decides-ltb _ _).0 parts.0),
+      (λ e. by_weights e (elim (or_cases _ _ parts.1) [
+        | inl straight ↦ (
+            let bound = and_parts _ _ straight in
+            let goes = and_parts _ _ bound.0 in
+            let at : cons d ≡ least_straight_in (map cons directions) = sym next ∙ (Decides-eqb _ _).0 goes.1 in
+            subst (λ s. weight (is_straight e) ((con - cons e) * (con - cons e)) ≤ weight s ((con - cons d) * (con - cons d))) (sym (sym way ∙ goes.0))
+            (subst (λ x. weight (is_straight e) ((con - cons e) * (con - cons e)) ≤ weight true ((con - x) * (con - x))) (sym at)
+            (straight_is_greatest con _ _ (cons e) (is_straight e) (least_straight_bound cons e) (least_across_bound cons e) (le_from _ _ bound.1))))
+        | inr across ↦ (
+            let bound = and_parts _ _ across in
+            let goes = and_parts _ _ bound.0 in
+            let at : cons d ≡ least_across_in (map cons directions) = sym next ∙ (Decides-eqb _ _).0 goes.1 in
+            subst (λ s. weight (is_straight e) ((con - cons e) * (con - cons e)) ≤ weight s ((con - cons d) * (con - cons d))) (sym (sym way ∙ false_from _ goes.0))
+            (subst (λ x. weight (is_straight e) ((con - cons e) * (con - cons e)) ≤ weight false ((con - x) * (con - x))) (sym at)
+            (across_is_greatest con _ _ (cons e) (is_straight e) (least_straight_bound cons e) (least_across_bound cons e) (le_from _ _ bound.1))))
+      ])),
+    )
   where
     false_from : (b : Bool) → not b ≡ true → b ≡ false
     false_from true e = absurd (false≢true e)
     false_from false e = refl
+
+    by_weights : (e : Direction) → weight (is_straight e) ((con - cons e) * (con - cons e)) ≤ weight (is_straight d) ((con - cons d) * (con - cons d)) →
+        counted unit_spacing con e (cons e) ≤ counted unit_spacing con d (cons d)
+    by_weights e most =
+        subst (λ x. x ≤ counted unit_spacing con d (cons d)) (unit_weight e ((con - cons e) * (con - cons e)))
+        (subst (λ x. weight (is_straight e) ((con - cons e) * (con - cons e)) ≤ x) (unit_weight d ((con - cons d) * (con - cons d))) most)
+
+-- the spacing is that of unit cells where the test says so
+unit_from : (s : Distances) → is_unit s ≡ true → unit_spacing ≡ s
+unit_from s h =
+    let parts = and_parts (s.width == 1) (s.height == 1) h in
+    let width : 1 ≡ s.width = sym ((Decides-eqb s.width 1).0 parts.0) in
+    let height : 1 ≡ s.height = sym ((Decides-eqb s.height 1).0 parts.1) in
+    λ i. record { width = width i; height = height i }
+
+-- the code leads down the steepest way, by the slopes of its row
+pub steepest_down : (s : Slopes) (highest : ℕ) (here : Numbers) (n : Direction → Numbers) (around : List (Option Values)) → AreSound s → here.spacing ≡ s.spacing →
+    AreSeen highest here n around → (d : Direction) → Names (pos here.dir) d → here.con ≤ highest →
+    falls_down s here.con here.dir (map (λ d. (n d).con) directions) ≡ true → IsSteepest (patch_of here around) d
+steepest_down s highest here n around sound spaced seen d named fits h =
+    let cons = λ (e : Direction). (n e).con in
+    let falls = by_test (is_unit s.spacing) refl h in
+    is_steepest highest here n around seen fits d falls.0
+    (subst (λ t. (e : Direction) → counted t here.con e (cons e) ≤ counted t here.con d (cons d)) (sym spaced) falls.1)
+  where
+    by_test : (b : Bool) → is_unit s.spacing ≡ b →
+        (if b then falls_steepest here.con here.dir (map (λ d. (n d).con) directions) else falls_by_fractions s here.con here.dir (map (λ d. (n d).con) directions)) ≡ true →
+        ((n d).con < here.con) × ((e : Direction) → counted s.spacing here.con e (n e).con ≤ counted s.spacing here.con d (n d).con)
+    by_test true unit passes =
+        let falls = steepest_by_squares here.con here.dir (λ e. (n e).con) d named passes in
+        (falls.0, subst (λ t. (e : Direction) → counted t here.con e (n e).con ≤ counted t here.con d (n d).con) (unit_from s.spacing unit) falls.1)
+    by_test false other passes = steepest_by_fractions s here.con here.dir (λ e. (n e).con) d sound named passes
 
 -- a step along the flat, at a cell with no lower neighbour
 step_from : (here : Numbers) (n : Direction → Numbers) (around : List (Option Values)) → IsInland here n around → (d : Direction) → Names (pos here.dir) d →
@@ -136,16 +169,15 @@ pub record OfDirection (here : Numbers) (around : List (Option Values)) : Type 0
   pub slope : SlopeHolds (patch_of here around)
   pub level_step : LevelStepHolds (patch_of here around)
 
-pub of_direction : (here : Numbers) (n : Direction → Numbers) (around : List (Option Values)) → IsInland here n around →
-    keeps_direction here.con here.dir (map (λ d. (n d).con) directions) ≡ true → OfDirection here around
-unfolding keeps_direction
-of_direction here n around known h =
+pub of_direction : (s : Slopes) (here : Numbers) (n : Direction → Numbers) (around : List (Option Values)) → AreSound s → here.spacing ≡ s.spacing →
+    IsInland here n around → keeps_way_down s here.con here.dir (map (λ d. (n d).con) directions) ≡ true → OfDirection here around
+of_direction s here n around sound spaced known h =
     let goes = and_parts _ _ h in
     let code = names_some here.dir goes.0 in
     let d = code.0 in
     elim (or_cases _ _ goes.1) [
       | inl falls ↦ (
-          let steepest = steepest_from here.con here n around (seen_inland here.con here n around known) d code.1 (omega arith) falls in
+          let steepest = steepest_down s here.con here n around sound spaced (seen_inland here.con here n around known) d code.1 (omega arith) falls in
           record {
             named = code;
             slope = λ _. (d, code.1, steepest);

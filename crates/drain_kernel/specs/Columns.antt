@@ -12,7 +12,8 @@ use Rattle.drain_grid.specs.Values.{NoDataNumbers}
 use Rattle.drain_grid.specs.declared.judged.Rules.{Rules}
 use Rattle.drain_kernel.specs.Around.{around_in}
 use Rattle.drain_grid.specs.Judged.{IfJudged, has_acc, has_rnk}
-use Rattle.drain_kernel.specs.Tests.{keeps_surface, keeps_direction, keeps_label, adds_up, is_ranked}
+use Rattle.drain_kernel.specs.Slopes.{keeps_way_down}
+use Rattle.drain_kernel.specs.Tests.{keeps_surface, keeps_label, adds_up, is_ranked}
 
 -- What is known of a cleared cell, of rules that look at its patch only.
 
@@ -141,7 +142,7 @@ keeps_surface_at rows k = keeps_surface (slice_index rows.here.z k) (slice_index
 
 -- the rules of the direction hold, without ranks
 abbrev pub keeps_direction_at : ThreeLanes → ℕ → Bool
-keeps_direction_at rows k = keeps_direction (slice_index rows.here.con k) (slice_index rows.here.dir k) (cons_round rows k)
+keeps_direction_at rows k = keeps_way_down rows.slopes (slice_index rows.here.con k) (slice_index rows.here.dir k) (cons_round rows k)
 
 -- both hold
 pub record KeepsWayAt (rows : ThreeLanes) (k : ℕ) : Type 0 where

@@ -5,7 +5,9 @@ use Rattle.drain_grid.specs.declared.judged.Rules.{Rules}
 use Rattle.drain_kernel.specs.Around.{is_direction_code, named_in}
 use Rattle.drain_grid.specs.Judged.{IfJudged, has_acc, has_rnk}
 use Rattle.drain_kernel.specs.Columns.{HasCountsAt, HasRankAt, HasWayAt, accs_round, codes_round, cons_round, heights_round, labels_round}
-use Rattle.drain_kernel.specs.Tests.{adds_up, falls_steepest}
+use Rattle.drain_kernel.specs.declared.slopes.Slopes.{Slopes}
+use Rattle.drain_kernel.specs.Slopes.{falls_down}
+use Rattle.drain_kernel.specs.Tests.{adds_up}
 
 -- a neighbour's number, if it is no void; else another one
 abbrev pub seen : ℕ → ℕ → ℕ → ℕ
@@ -31,15 +33,15 @@ each_seen seen zs xs =
     seen (slice_index zs 6) (slice_index xs 6) ∷ seen (slice_index zs 7) (slice_index xs 7) ∷ []
 
 -- the cell has data and is not raised, and its code leads down the steepest way, to a cell of its label
-unfoldable pub keeps_fall : ℕ → ℕ → ℕ → ℕ → List ℕ → ℕ → List ℕ → Bool
-keeps_fall bias height con code cons label labels =
-    ((((not (height == 0) && con == height) && nat_le con (highest bias)) && is_direction_code code) && falls_steepest con code cons) &&
+unfoldable pub keeps_fall : Slopes → ℕ → ℕ → ℕ → ℕ → List ℕ → ℕ → List ℕ → Bool
+keeps_fall slopes bias height con code cons label labels =
+    ((((not (height == 0) && con == height) && nat_le con (highest bias)) && is_direction_code code) && falls_down slopes con code cons) &&
     named_in code labels == label
 
 -- so at a column
 abbrev pub keeps_fall_at : ThreeLanes → ℕ → Bool
 keeps_fall_at rows k =
-    keeps_fall rows.here.bias (slice_index rows.here.z k) (slice_index rows.here.con k) (slice_index rows.here.dir k)
+    keeps_fall rows.slopes rows.here.bias (slice_index rows.here.z k) (slice_index rows.here.con k) (slice_index rows.here.dir k)
     (each_seen (seen_con rows.here.bias) (heights_round rows k) (cons_round rows k)) (slice_index rows.here.bas k) (labels_round rows k)
 
 -- its accumulation is one more than what its data neighbours pass on

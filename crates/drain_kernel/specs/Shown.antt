@@ -4,7 +4,6 @@ use Rattle.drain_grid.specs.declared.direction.Direction.{Direction}
 use Rattle.drain_grid.specs.declared.direction.Direction.TheVariants.{East, SouthEast, South, SouthWest, West, NorthWest, North, NorthEast}
 use Rattle.drain_grid.specs.declared.patch.Patch.{Patch}
 use Rattle.drain_grid.specs.Patch.{neighbor}
-use Rattle.drain_grid.specs.Spacing.{unit_spacing}
 use Rattle.drain_grid.specs.Values.{Values}
 use Rattle.drain_kernel.specs.LaneNumbers.{LaneNumbers}
 
@@ -72,15 +71,13 @@ pub record IsShownAt (above here below : LaneNumbers) (k : ℕ) (p : Patch) (d :
   pub is : neighbor p d ≡ Some v
   pub shown : Shows (row_beside above here below d) (col_beside k d) v
 
--- the patch round a column with eight neighbours, of square cells
+-- the patch round a column with eight neighbours
 pub record IsShownRound (above here below : LaneNumbers) (k : ℕ) (p : Patch) : Type 0 where
   pub cell : Shows here k p.here
-  pub square : p.spacing ≡ unit_spacing
   pub around_is : (d : Direction) → (v : Values) × IsShownAt above here below k p d v
 
--- the patch round a column with eight neighbours, of square cells, and of a cell that is not listed as a sink
+-- the patch round a column with eight neighbours, of a cell that is not listed as a sink
 pub record IsShown (above here below : LaneNumbers) (k : ℕ) (p : Patch) : Type 0 where
   pub cell : Shows here k p.here
-  pub square : p.spacing ≡ unit_spacing
   pub not_listed : p.here.sink ≡ false
   pub around_is : (d : Direction) → (v : Values) × IsShownAt above here below k p d v

@@ -1,8 +1,9 @@
 //! The tests at a column of three rows. Each comment says what holds where the column passes.
 
-ghost use Rattle.std.specs.Prelude.{◌≡◌, ◌<◌, ◌+◌, IsTrue, false, slice_index};
+ghost use Rattle.std.specs.Prelude.{◌≡◌, ◌<◌, ◌+◌, IsTrue, false, slice_index, true};
 ghost use Rattle.drain_kernel.specs.Columns.{adds_up_at, AreDataAt, HasCountsAt, HaveLabelAt, HasWayAt, KeepsWayAt, keeps_direction_at, keeps_label_at, keeps_surface_at, IsInnerColumn, IsInRows};
 ghost use Rattle.drain_kernel.specs.Shown.{cols};
+ghost use Rattle.drain_kernel.specs.Slopes.{is_unit};
 
 use crate::cells::{
     acc_differs, bas_differs, dir_differs, keeps_direction, keeps_label, keeps_surface,
@@ -13,6 +14,7 @@ use crate::lane_row::LaneRow;
 use crate::lane_rows::LaneRows;
 use crate::near::FirstTest;
 use crate::sums::{adds_up, adds_up_by_capped, adds_up_by_middle};
+use crate::ways_down::keeps_by_fractions;
 use drain_grid::NoData;
 use drain_pixels::row_lanes::HeightLane;
 
@@ -72,16 +74,18 @@ impl<H: LaneHeight> ColumnTest for SurfaceTest<'_, H> {
     }
 }
 
-/// The rules of the conditioned elevation and of the direction hold, without ranks, by the test that is tried first.
+/// The rules of the conditioned elevation and of the direction hold, without ranks, by the test that is tried first; of
+/// square cells.
 #[derive(Drop)]
 pub struct WaysTest<'a, H: HeightLane>(pub &'a LaneRows<'a, H>);
 
 impl<H: FirstTest> ColumnTest for WaysTest<'_, H> {
-    ghost CanTest = { λ test. IsInnerColumn test.0.now };
+    ghost CanTest = { λ test k. IsInnerColumn test.0.now k × is_unit test.0.now.slopes.spacing ≡ true };
 
     ghost Passed = { λ test. KeepsWayAt test.0.now };
 
     #[inline(always)]
+    #[tactic(auto, using(crate::proofs::Keys::unit_passes))]
     fn passes(&self, k: usize) -> bool {
         let rows = self.0;
         let here = &rows.here;
@@ -94,12 +98,31 @@ impl<H: FirstTest> ColumnTest for WaysTest<'_, H> {
     }
 }
 
-/// The rules of the direction hold, without ranks, however great the drops are.
+/// The rules of the direction hold, without ranks, however great the drops are; of square cells.
 #[derive(Drop)]
 pub struct DirectionTest<'a, H: HeightLane>(pub &'a LaneRows<'a, H>);
 
 impl<H: LaneHeight> ColumnTest for DirectionTest<'_, H> {
-    ghost CanTest = { λ test. IsInnerColumn test.0.now };
+    ghost CanTest = { λ test k. IsInnerColumn test.0.now k × is_unit test.0.now.slopes.spacing ≡ true };
+
+    ghost Passed = { λ test k. IsTrue (keeps_direction_at test.0.now k) };
+
+    ghost Failed = { λ test k. keeps_direction_at test.0.now k ≡ false };
+
+    #[inline(always)]
+    #[tactic(auto, using(crate::proofs::Keys::unit_passes, crate::proofs::Keys::unit_fails))]
+    fn passes(&self, k: usize) -> bool {
+        let rows = self.0;
+        keeps_direction(rows.here.con(k), rows.here.code(k), rows.cons_round(k))
+    }
+}
+
+/// The rules of the direction hold, without ranks, by fractions; of cells that aren't square.
+#[derive(Drop)]
+pub struct FractionsTest<'a, H: HeightLane>(pub &'a LaneRows<'a, H>);
+
+impl<H: LaneHeight> ColumnTest for FractionsTest<'_, H> {
+    ghost CanTest = { λ test k. IsInnerColumn test.0.now k × is_unit test.0.now.slopes.spacing ≡ false };
 
     ghost Passed = { λ test k. IsTrue (keeps_direction_at test.0.now k) };
 
@@ -108,7 +131,12 @@ impl<H: LaneHeight> ColumnTest for DirectionTest<'_, H> {
     #[inline(always)]
     fn passes(&self, k: usize) -> bool {
         let rows = self.0;
-        keeps_direction(rows.here.con(k), rows.here.code(k), rows.cons_round(k))
+        keeps_by_fractions(
+            rows.slopes,
+            rows.here.con(k),
+            rows.here.code(k),
+            rows.cons_round(k),
+        )
     }
 }
 

@@ -11,7 +11,7 @@ ghost use Rattle.drain_grid.specs.RulesAbout.{tried};
 ghost use Rattle.drain_kernel.specs.Shown.{cols, HasRanks, IsInner, IsShownRound};
 
 use crate::around::{Eight, is_direction};
-use crate::cells::{falls_steepest, keeps_label};
+use crate::cells::keeps_label;
 use crate::column_test::ColumnTest;
 use crate::columns::{CountsTest, WayTest};
 use crate::lane_height::LaneHeight;
@@ -19,7 +19,9 @@ use crate::lane_row::LaneRow;
 use crate::lane_rows::{LaneRows, narrow_rows, wide_rows};
 use crate::lanes::Lanes;
 use crate::ranked::HasRankTest;
+use crate::slopes::Slopes;
 use crate::sums::adds_up;
+use crate::ways_down::falls_down;
 use drain_grid::{Judged, NoData, Rules};
 
 /// A neighbour's number, if its elevation is none of a void; else another one.
@@ -69,6 +71,7 @@ fn codes_seen<H: LaneHeight>(zs: Eight<H>, codes: [u16; 8]) -> [u16; 8]
 #[inline(always)]
 #[tactic(auto, unfolding(crate::specs::Falls::keeps_fall))]
 fn keeps_fall<H: LaneHeight>(
+    slopes: &Slopes,
     height: H,
     con: H,
     code: u16,
@@ -76,13 +79,13 @@ fn keeps_fall<H: LaneHeight>(
     label: u32,
     labels: [u32; 8],
 ) -> bool
-    ensures { result ≡ keeps_fall H.bias (H.number height) (H.number con) code (eight H.number cons) label labels }
+    ensures { result ≡ keeps_fall slopes.now H.bias (H.number height) (H.number con) code (eight H.number cons) label labels }
 {
     !height.is_void()
         & con.is_same(height)
         & con.is_at_most(H::highest())
         & is_direction(code)
-        & falls_steepest(con, code, cons)
+        & falls_down(slopes, con, code, cons)
         & keeps_label(code, label, labels)
 }
 
@@ -96,6 +99,7 @@ fn fall_holds<H: LaneHeight>(rows: &LaneRows<H>, k: usize) -> bool
     let cons = cons_seen(rows.heights_round(k), rows.cons_round(k));
     let labels = rows.labels_round(k);
     keeps_fall(
+        rows.slopes,
         here.height(k),
         here.con(k),
         here.code(k),
@@ -168,7 +172,7 @@ fn tests_pass<H: LaneHeight>(rows: &LaneRows<H>, rules: &Rules, k: usize) -> boo
 fn is_cleared_at<H: LaneHeight>(rows: &LaneRows<H>, rules: &Rules, k: usize) -> bool
     requires inside { k ≤ cols rows.now.here }
     ensures inner { IsTrue result → IsInnerColumn rows.now k }
-    ensures kept { IsTrue result → (p : Patch) → IsShownRoundIn rows.now k p → IsKept (tried rules.now) p }
+    ensures kept { IsTrue result → (p : Patch) → p.spacing ≡ rows.now.slopes.spacing → IsShownRoundIn rows.now k p → IsKept (tried rules.now) p }
 {
     if !rows.are_alike(rules.judged) {
         return false;
@@ -179,19 +183,26 @@ fn is_cleared_at<H: LaneHeight>(rows: &LaneRows<H>, rules: &Rules, k: usize) -> 
     tests_pass(rows, rules, k)
 }
 
-/// Whether the cell at a column lies on its ground and falls. Then its patch in the three rows keeps every rule that
-/// is tried, SharedLabel left out, whether it is a listed sink or not, and whether voids are beside it. False shows no fault. It is
+/// Whether the cell at a column lies on its ground and falls, by the slopes of its row. Then its patch in the three rows keeps
+/// every rule that is tried, SharedLabel left out, whether it is a listed sink or not, and whether voids are beside it. False shows no fault. It is
 /// false at the first and the last column, if the rows have different lengths or heights of different widths, and if
 /// ranks are judged and one row has none.
-pub fn falls_at(above: &Lanes, here: &Lanes, below: &Lanes, rules: &Rules, k: usize) -> bool
+pub fn falls_at(
+    above: &Lanes,
+    here: &Lanes,
+    below: &Lanes,
+    slopes: &Slopes,
+    rules: &Rules,
+    k: usize,
+) -> bool
     requires inside { k ≤ cols here.now }
     ensures inner { IsTrue result → IsInner above.now here.now below.now k }
-    ensures kept { IsTrue result → (p : Patch) → IsShownRound above.now here.now below.now k p → IsKept (tried rules.now) p }
+    ensures kept { IsTrue result → (p : Patch) → p.spacing ≡ slopes.now.spacing → IsShownRound above.now here.now below.now k p → IsKept (tried rules.now) p }
 {
-    if let Some(rows) = narrow_rows(above, here, below) {
+    if let Some(rows) = narrow_rows(above, here, below, slopes) {
         return is_cleared_at(&rows, rules, k);
     }
-    if let Some(rows) = wide_rows(above, here, below) {
+    if let Some(rows) = wide_rows(above, here, below, slopes) {
         return is_cleared_at(&rows, rules, k);
     }
     false

@@ -1,6 +1,6 @@
 //! How far along a row every rule of a patch holds.
 
-ghost use Rattle.std.specs.Prelude.{◌≤◌, IsTrue};
+ghost use Rattle.std.specs.Prelude.{◌≡◌, ◌≤◌, IsTrue};
 ghost use Rattle.drain_grid.specs.declared.patch.Patch.{Patch};
 ghost use Rattle.drain_grid.specs.Judged.{IfJudged, has_rnk};
 ghost use Rattle.drain_kernel.specs.Columns.{Along, PassesAt, IsKept, HaveRanks, IsInnerColumn, IsShownIn, IsStretch};
@@ -11,6 +11,7 @@ use crate::lane_height::LaneHeight;
 use crate::lane_rows::{LaneRows, narrow_rows, wide_rows};
 use crate::lanes::Lanes;
 use crate::near::FirstTest;
+use crate::slopes::Slopes;
 use crate::stretches::is_inland;
 use crate::strides::passed_strides;
 use drain_grid::Rules;
@@ -64,7 +65,7 @@ fn cleared_until<H: FirstTest>(
     ensures forward { from ≤ result }
     ensures within { result ≤ until }
     ensures inner { Along from result (IsInnerColumn rows.now) }
-    ensures kept { Along from result (λ k. (p : Patch) → IsShownIn rows.now k p → IsKept (tried rules.now) p) }
+    ensures kept { Along from result (λ k. (p : Patch) → p.spacing ≡ rows.now.slopes.spacing → IsShownIn rows.now k p → IsKept (tried rules.now) p) }
 {
     if !rows.are_alike(rules.judged) {
         return from;
@@ -82,13 +83,14 @@ fn cleared_until<H: FirstTest>(
 }
 
 /// A column to which cells can be cleared from this one on, at most `until`. At each column before it the patch of the
-/// three rows, for a cell that isn't a listed sink, keeps every rule that is tried, SharedLabel left out. It may be any such column,
+/// three rows, for a cell that isn't a listed sink, by the slopes of its row keeps every rule that is tried, SharedLabel left out. It may be any such column,
 /// even `from`, so it shows no fault. It is `from` at the first and the last column, if the rows have different lengths
 /// or heights of different widths, and if ranks are judged and one row has none.
 pub fn kept_until(
     above: &Lanes,
     here: &Lanes,
     below: &Lanes,
+    slopes: &Slopes,
     rules: &Rules,
     from: usize,
     until: usize,
@@ -98,12 +100,12 @@ pub fn kept_until(
     ensures forward { from ≤ result }
     ensures within { result ≤ until }
     ensures inner { Along from result (IsInner above.now here.now below.now) }
-    ensures kept { Along from result (λ k. (p : Patch) → IsShown above.now here.now below.now k p → IsKept (tried rules.now) p) }
+    ensures kept { Along from result (λ k. (p : Patch) → p.spacing ≡ slopes.now.spacing → IsShown above.now here.now below.now k p → IsKept (tried rules.now) p) }
 {
-    if let Some(rows) = narrow_rows(above, here, below) {
+    if let Some(rows) = narrow_rows(above, here, below, slopes) {
         return cleared_until(&rows, rules, from, until);
     }
-    if let Some(rows) = wide_rows(above, here, below) {
+    if let Some(rows) = wide_rows(above, here, below, slopes) {
         return cleared_until(&rows, rules, from, until);
     }
     from

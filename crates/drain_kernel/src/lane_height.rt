@@ -3,10 +3,11 @@
 use crate::cells::{differs, differs_short};
 use drain_grid::NoData;
 use drain_pixels::row_lanes::HeightLane;
+use drain_slope::fraction::Fraction;
 
 /// A height in a lane: a number, as many above the lowest height as the height lies.
 pub trait LaneHeight: HeightLane {
-    ghost use Rattle.std.specs.Prelude.{◌≡◌, ◌≢◌, ◌-◌, ◌==◌, IsTrue, min, max, nat_lt, nat_le, neg_ℤ, pos};
+    ghost use Rattle.std.specs.Prelude.{◌≡◌, ◌≢◌, ◌-◌, ◌*◌, ◌==◌, IsTrue, min, max, nat_lt, nat_le, neg_ℤ, pos};
     ghost use Rattle.drain_kernel.specs.Falls.{highest};
     ghost use Rattle.drain_kernel.specs.Shown.{lowered};
     ghost use Rattle.drain_kernel.specs.Tests.{is_as_steep, is_as_steep_across};
@@ -54,6 +55,10 @@ pub trait LaneHeight: HeightLane {
     /// Whether this drop across a corner is at least as steep as that one along a row or a column.
     fn is_as_steep_across(self, along: Self) -> bool
         ensures { result ≡ is_as_steep_across (Self.number self) (Self.number along) };
+
+    /// Whether this drop is no steeper than another, by a fraction.
+    fn is_no_steeper(self, other: Self, fraction: Fraction) -> bool
+        ensures { result ≡ nat_le (Self.number self * fraction.p) (Self.number other * fraction.q) };
 
     /// Whether a conditioned elevation isn't its no-data number.
     fn con_differs(self, nodata: &NoData) -> bool
@@ -121,6 +126,11 @@ impl LaneHeight for u16 {
     }
 
     #[inline(always)]
+    fn is_no_steeper(self, other: u16, fraction: Fraction) -> bool {
+        u32::from(self) * u32::from(fraction.p) <= u32::from(other) * u32::from(fraction.q)
+    }
+
+    #[inline(always)]
     fn con_differs(self, nodata: &NoData) -> bool {
         differs_short(self, nodata.con + 32768)
     }
@@ -184,6 +194,11 @@ impl LaneHeight for u32 {
         let along_square = u64::from(along) * u64::from(along);
         let aslant_square = u64::from(self) * u64::from(self);
         along_square <= aslant_square / 2
+    }
+
+    #[inline(always)]
+    fn is_no_steeper(self, other: u32, fraction: Fraction) -> bool {
+        u64::from(self) * u64::from(fraction.p) <= u64::from(other) * u64::from(fraction.q)
     }
 
     #[inline(always)]

@@ -6,16 +6,18 @@ use crate::around::{Eight, around, heights_around};
 use crate::lane_height::LaneHeight;
 use crate::lane_row::LaneRow;
 use crate::lanes::Lanes;
+use crate::slopes::Slopes;
 use drain_grid::Judged;
 use drain_pixels::row_lanes::HeightLane;
 use std::marker::Model;
 
-/// A row of lanes, and those above and below it.
+/// A row of lanes, and those above and below it; and how steepness is compared in it.
 #[derive(Drop)]
 pub(crate) struct LaneRows<'a, H: HeightLane> {
     pub(crate) above: LaneRow<'a, H>,
     pub(crate) here: LaneRow<'a, H>,
     pub(crate) below: LaneRow<'a, H>,
+    pub(crate) slopes: &'a Slopes,
 }
 
 impl<'a, H: HeightLane> Model for LaneRows<'a, H> {
@@ -23,7 +25,7 @@ impl<'a, H: HeightLane> Model for LaneRows<'a, H> {
 
     ghost Value = { ThreeLanes };
 
-    ghost view = { λ rows. record { above = rows.above; here = rows.here; below = rows.below } };
+    ghost view = { λ rows. record { above = rows.above; here = rows.here; below = rows.below; slopes = rows.slopes.now } };
 }
 
 impl<'a, H: LaneHeight> LaneRows<'a, H> {
@@ -34,21 +36,29 @@ impl<'a, H: LaneHeight> LaneRows<'a, H> {
     ghost use Rattle.drain_kernel.specs.Images.{EachHasImage, at_most, lower, upper};
     ghost use Rattle.drain_kernel.specs.Columns.{AreAsLong, HaveRanks, IsInnerColumn};
     ghost use Rattle.drain_kernel.specs.LaneNumbers.{HaveOneBias};
+    ghost use Rattle.drain_kernel.specs.Slopes.{AreSound};
 
     /// Three rows, if there are three.
     pub(crate) fn of(
         above: Option<LaneRow<'a, H>>,
         here: Option<LaneRow<'a, H>>,
         below: Option<LaneRow<'a, H>>,
+        slopes: &'a Slopes,
     ) -> Option<LaneRows<'a, H>>
         ensures above { IfSome result (λ rows. above.entry ≡ Some rows.above) }
         ensures here { IfSome result (λ rows. here.entry ≡ Some rows.here) }
         ensures below { IfSome result (λ rows. below.entry ≡ Some rows.below) }
+        ensures slopes { IfSome result (λ rows. rows.slopes ≡ slopes.entry.now) }
     {
         let (Some(above), Some(here), Some(below)) = (above, here, below) else {
             return None;
         };
-        Some(LaneRows { above, here, below })
+        Some(LaneRows {
+            above,
+            here,
+            below,
+            slopes,
+        })
     }
 
     /// Whether all three rows have ranks, if ranks are judged.
@@ -67,7 +77,9 @@ impl<'a, H: LaneHeight> LaneRows<'a, H> {
         ensures lengths { IsTrue result → AreAsLong self.now }
         ensures ranks { IsTrue result → IfJudged (has_rnk judged) (HaveRanks self.now) }
         ensures bias { IsTrue result → HaveOneBias H.bias self.now }
+        ensures slopes { AreSound self.now.slopes }
     {
+        self.slopes.tell();
         self.above.tell_bias();
         self.here.tell_bias();
         self.below.tell_bias();
@@ -199,10 +211,11 @@ pub(crate) fn narrow_rows<'a>(
     above: &'a Lanes,
     here: &'a Lanes,
     below: &'a Lanes,
+    slopes: &'a Slopes,
 ) -> Option<LaneRows<'a, u16>>
-    ensures { IfSome result (λ rows. rows ≡ record { above = above.entry.now; here = here.entry.now; below = below.entry.now }) }
+    ensures { IfSome result (λ rows. rows ≡ record { above = above.entry.now; here = here.entry.now; below = below.entry.now; slopes = slopes.entry.now }) }
 {
-    LaneRows::of(above.narrow(), here.narrow(), below.narrow())
+    LaneRows::of(above.narrow(), here.narrow(), below.narrow(), slopes)
 }
 
 /// The rows, if the heights of all are in 32 bits.
@@ -210,8 +223,9 @@ pub(crate) fn wide_rows<'a>(
     above: &'a Lanes,
     here: &'a Lanes,
     below: &'a Lanes,
+    slopes: &'a Slopes,
 ) -> Option<LaneRows<'a, u32>>
-    ensures { IfSome result (λ rows. rows ≡ record { above = above.entry.now; here = here.entry.now; below = below.entry.now }) }
+    ensures { IfSome result (λ rows. rows ≡ record { above = above.entry.now; here = here.entry.now; below = below.entry.now; slopes = slopes.entry.now }) }
 {
-    LaneRows::of(above.wide(), here.wide(), below.wide())
+    LaneRows::of(above.wide(), here.wide(), below.wide(), slopes)
 }

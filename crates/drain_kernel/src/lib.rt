@@ -17,12 +17,15 @@ mod near;
 pub mod outlets;
 mod product_lanes;
 mod ranked;
+pub mod slopes;
 mod stretches;
 mod strides;
 mod sums;
 mod vouched;
+mod ways_down;
 
 pub use falls::falls_at;
 pub use kept::kept_until;
 pub use lanes::Lanes;
 pub use outlets::outlet_holds_at;
+pub use slopes::Slopes;

@@ -15,6 +15,7 @@ use crate::falls::{cons_seen, keeps_rank, products_are_there, seen_sum_holds};
 use crate::lane_height::LaneHeight;
 use crate::lane_rows::{LaneRows, narrow_rows, wide_rows};
 use crate::lanes::Lanes;
+use crate::slopes::Slopes;
 use drain_grid::Rules;
 
 /// Whether a cell has data, is not raised, has code 0, and lies beside a void, with no lower neighbour.
@@ -83,15 +84,22 @@ fn is_right_outlet_at<H: LaneHeight>(rows: &LaneRows<H>, rules: &Rules, k: usize
 /// VoidCell to Label, whether it is a listed sink or not. False shows no fault. It is false at the first and the last
 /// column, if the rows have different lengths or heights of different widths, and if ranks are judged and one row has
 /// none.
-pub fn outlet_holds_at(above: &Lanes, here: &Lanes, below: &Lanes, rules: &Rules, k: usize) -> bool
+pub fn outlet_holds_at(
+    above: &Lanes,
+    here: &Lanes,
+    below: &Lanes,
+    slopes: &Slopes,
+    rules: &Rules,
+    k: usize,
+) -> bool
     requires inside { k ≤ cols here.now }
     ensures inner { IsTrue result → IsInner above.now here.now below.now k }
     ensures kept { IsTrue result → (p : Patch) → IsShownRound above.now here.now below.now k p → IsLeastFault IsPatchRule (tried rules.now p) None }
 {
-    if let Some(rows) = narrow_rows(above, here, below) {
+    if let Some(rows) = narrow_rows(above, here, below, slopes) {
         return is_right_outlet_at(&rows, rules, k);
     }
-    if let Some(rows) = wide_rows(above, here, below) {
+    if let Some(rows) = wide_rows(above, here, below, slopes) {
         return is_right_outlet_at(&rows, rules, k);
     }
     false

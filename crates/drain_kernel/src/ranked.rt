@@ -1,9 +1,11 @@
 //! The tests of ranks at a column.
 
-ghost use Rattle.std.specs.Prelude.{◌≡◌, ◌≢◌, ◌<◌, IsTrue, false, length, pos};
+ghost use Rattle.std.specs.Prelude.{◌≡◌, ◌≢◌, ◌<◌, IsTrue, false, length, pos, true};
 ghost use Rattle.drain_kernel.specs.Columns.{HasRankAt, KeepsRankedWayAt, is_ranked_at, keeps_direction_at, HaveRanks, IsInnerColumn};
 ghost use Rattle.drain_kernel.specs.Eights.{eight};
-ghost use Rattle.drain_kernel.specs.Tests.{is_ranked, is_ranked_by_halves, keeps_direction};
+ghost use Rattle.drain_kernel.specs.Slopes.{is_unit, keeps_way_down};
+ghost use Rattle.drain_kernel.specs.Tests.{is_ranked, is_ranked_by_halves};
+ghost use Rattle.drain_kernel.specs.declared.slopes.Slopes.{Slopes};
 
 use crate::around::{Eight, least_across, least_straight, named, named_height};
 use crate::cells::differs;
@@ -26,7 +28,7 @@ fn falls_or_is_ranked<H: LaneHeight>(
     capped_rank: u16,
     capped_ranks: [u16; 8],
 ) -> bool
-    ensures { IsTrue result → IsTrue (keeps_direction (H.number con) code (eight H.number cons)) → IsTrue (is_ranked (H.number con) code (eight H.number cons) capped_rank capped_ranks) }
+    ensures { (slopes : Slopes) → IsTrue result → IsTrue (keeps_way_down slopes (H.number con) code (eight H.number cons)) → IsTrue (is_ranked (H.number con) code (eight H.number cons) capped_rank capped_ranks) }
 {
     let least = least_straight(cons).lesser(least_across(cons));
     least.is_below(con) | (named(code, capped_ranks) < capped_rank)
@@ -87,12 +89,12 @@ impl<H: LaneHeight> ColumnTest for CappedRanksTest<'_, H> {
 }
 
 /// The rules of the conditioned elevation and of the direction hold, by the test that is tried first, and the code leads
-/// to a smaller conditioned elevation or to a smaller rank, by capped ranks.
+/// to a smaller conditioned elevation or to a smaller rank, by capped ranks; of square cells.
 #[derive(Drop)]
 pub struct RankedWaysTest<'a, H: HeightLane>(pub &'a LaneRows<'a, H>);
 
 impl<H: FirstTest> ColumnTest for RankedWaysTest<'_, H> {
-    ghost CanTest = { λ test k. IsInnerColumn test.0.now k × HaveRanks test.0.now };
+    ghost CanTest = { λ test k. IsInnerColumn test.0.now k × HaveRanks test.0.now × is_unit test.0.now.slopes.spacing ≡ true };
 
     ghost Passed = { λ test. KeepsRankedWayAt test.0.now };
 

@@ -1,13 +1,14 @@
 //! Columns along a row, one stride at a time.
 
-ghost use Rattle.std.specs.Prelude.{◌≤◌, IsTrue};
+ghost use Rattle.std.specs.Prelude.{◌≡◌, ◌≤◌, IsTrue, false, true};
 ghost use Rattle.drain_grid.specs.Judged.{IfJudged, has_acc, has_rnk};
 ghost use Rattle.drain_kernel.specs.Columns.{adds_up_at, Along, HasWayAt, IsInlandAt, KeepsCountsAt, KeepsRankedWayAt, KeepsWayAt, PassesAt, RanksPassAt, HaveRanks, IsStretch};
+ghost use Rattle.drain_kernel.specs.Slopes.{is_unit};
 
 use crate::column_test::passes_along;
 use crate::columns::{
-    CappedSumTest, CountsTest, DirectionTest, LabelTest, MiddleSumTest, SumTest, SurfaceTest,
-    WayTest, WaysTest,
+    CappedSumTest, CountsTest, DirectionTest, FractionsTest, LabelTest, MiddleSumTest, SumTest,
+    SurfaceTest, WayTest, WaysTest,
 };
 use crate::lane_rows::LaneRows;
 use crate::near::FirstTest;
@@ -30,21 +31,37 @@ fn sums_pass<H: FirstTest>(rows: &LaneRows<H>, judged: Judged, from: usize, end:
     }
 }
 
-/// Whether the rules of the conditioned elevation and of the direction, without ranks, hold, by squares that hold any drop's.
+/// Whether the rules of the conditioned elevation and of the direction, without ranks, hold, by squares that hold any
+/// drop's; of square cells.
 fn keep_ways<H: FirstTest>(rows: &LaneRows<H>, from: usize, end: usize) -> bool
-    requires { IsStretch rows.now from end }
+    requires stretch { IsStretch rows.now from end }
+    requires unit { is_unit rows.now.slopes.spacing ≡ true }
     ensures { IsTrue result → Along from end (KeepsWayAt rows.now) }
 {
     passes_along(&SurfaceTest(&*rows), from, end) && passes_along(&DirectionTest(&*rows), from, end)
 }
 
-/// Whether the rules of the conditioned elevation and of the direction, without ranks, hold: by the test that is tried
-/// first, of heights of 16 bits by squares of 16 bits; else by squares that hold any drop's.
+/// Whether these rules hold, by fractions; of cells that aren't square.
+fn keep_ways_by_fractions<H: FirstTest>(rows: &LaneRows<H>, from: usize, end: usize) -> bool
+    requires stretch { IsStretch rows.now from end }
+    requires not_unit { is_unit rows.now.slopes.spacing ≡ false }
+    ensures { IsTrue result → Along from end (KeepsWayAt rows.now) }
+{
+    passes_along(&SurfaceTest(&*rows), from, end) && passes_along(&FractionsTest(&*rows), from, end)
+}
+
+/// Whether the rules of the conditioned elevation and of the direction, without ranks, hold: of square cells by the test
+/// that is tried first, of heights of 16 bits by squares of 16 bits; else by squares that hold any drop's. Of other cells
+/// by fractions.
 fn ways_pass<H: FirstTest>(rows: &LaneRows<H>, from: usize, end: usize) -> bool
     requires { IsStretch rows.now from end }
     ensures { IsTrue result → Along from end (KeepsWayAt rows.now) }
 {
-    passes_along(&WaysTest(&*rows), from, end) || keep_ways(rows, from, end)
+    if rows.slopes.are_unit() {
+        passes_along(&WaysTest(&*rows), from, end) || keep_ways(rows, from, end)
+    } else {
+        keep_ways_by_fractions(rows, from, end)
+    }
 }
 
 /// Whether these rules hold, and each code leads to a smaller conditioned elevation or to a smaller rank: by numbers of
@@ -55,7 +72,10 @@ fn ranked_ways_pass<H: FirstTest>(rows: &LaneRows<H>, from: usize, end: usize) -
     requires ranks { HaveRanks rows.now }
     ensures { IsTrue result → Along from end (KeepsRankedWayAt rows.now) }
 {
-    if rows.here.capped_rank(from) < 65535 && passes_along(&RankedWaysTest(&*rows), from, end) {
+    if rows.slopes.are_unit()
+        && rows.here.capped_rank(from) < 65535
+        && passes_along(&RankedWaysTest(&*rows), from, end)
+    {
         return true;
     }
     ways_pass(rows, from, end) && passes_along(&RanksTest(&*rows), from, end)

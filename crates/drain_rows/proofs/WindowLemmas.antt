@@ -32,6 +32,11 @@ pub on-ok : {T E : Type 0} (r : Result T E) {P Q : Type 0} → (P → Q) → OnO
 on-ok (Ok x) follows holds = follows holds
 on-ok (Err told) follows holds = tt
 
+-- so is what follows from two
+pub on-both-ok : {T E : Type 0} (r : Result T E) {P Q R : Type 0} → (P → Q → R) → OnOk r P → OnOk r Q → OnOk r R
+on-both-ok (Ok x) follows one other = follows one other
+on-both-ok (Err told) follows one other = tt
+
 -- a stop of one call is one of all calls so far
 pub stops_then : {State Stop W V : Type 0} (has_read : State → State → ℕ → Option Stop → Type 0) (before here after : State) (one calls : ℕ) (stop : WalkStop Stop) →
     ((told : Option Stop) → ReadsOn has_read here after one told → ReadsOn has_read before after calls told) → (W → V) →

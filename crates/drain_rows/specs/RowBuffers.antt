@@ -15,7 +15,7 @@ buffer_numbers row = record { z = row.z; products = per_product (λ p. of_produc
 
 -- the same with its marks, and how far apart its cells are
 abbrev pub marked_of : RowBuffer → MarkedRow
-marked_of row = record { numbers = buffer_numbers row; sinks = row.sinks.items; spacing = row.spacing }
+marked_of row = record { numbers = buffer_numbers row; sinks = row.sinks.items; spacing = row.slopes.spacing }
 
 -- the listed sinks of the row with this number are marked, and no other column; and it is spaced as the row of this
 -- number is

@@ -10,7 +10,7 @@ ghost use Rattle.drain_rows.specs.GridRows.{is_listed_void};
 
 use crate::listed_voids::ListedVoids;
 use drain_grid::{Judged, OutOfMemory, PerProduct, Sinks, Spacing, Spacings};
-use drain_kernel::Lanes;
+use drain_kernel::{Lanes, Slopes};
 use drain_pixels::{GroundRow, PixelRow};
 use drain_rules::RowView;
 use std::alloc::Global;
@@ -25,7 +25,7 @@ pub struct RowBuffer {
     pub z: GroundRow,
     pub products: PerProduct<PixelRow>,
     pub sinks: Vec<bool>,
-    pub spacing: Spacing,
+    slopes: Slopes,
     lanes: Lanes,
     fit: bool,
 }
@@ -48,7 +48,7 @@ impl RowBuffer {
                 rnk: PixelRow::new(alloc),
             },
             sinks: Vec::new(alloc),
-            spacing: Spacing::unit(),
+            slopes: Slopes::of(Spacing::unit()),
             lanes: Lanes::new(alloc),
             fit: false,
         }
@@ -94,7 +94,7 @@ impl RowBuffer {
         ensures noted { OnOk result ((c : Cell) → is_among voids.new c ≡ (is_among voids.old c || is_listed_void row (buffer_numbers self.new).z self.new.sinks.items c)) }
         ensures wants { OnErr result (¬ (sinks.now ≡ [])) }
     {
-        self.spacing = spacings.of_row(row);
+        self.space(spacings.of_row(row));
         if sinks.count() == 0 {
             self.sinks.clear();
             return Ok(());
@@ -106,6 +106,16 @@ impl RowBuffer {
             return Ok(());
         }
         voids.note_row(row, &self.z, self.sinks.as_slice())
+    }
+
+    /// Takes how far apart its cells are. Where that is as in the row before, nothing is computed.
+    fn space(&mut self, spacing: Spacing)
+        ensures spaced { self.new.slopes.spacing ≡ spacing }
+        ensures numbers { buffer_numbers self.new ≡ buffer_numbers self.old }
+    {
+        if self.slopes.spacing() != spacing {
+            self.slopes = Slopes::of(spacing);
+        }
     }
 
     /// Whether its heights are in lanes of 32 bits.
@@ -141,7 +151,7 @@ impl RowBuffer {
         RowView::new(
             &self.z,
             self.sinks.as_slice(),
-            self.spacing,
+            &self.slopes,
             PerProduct {
                 con: &self.products.con,
                 dir: &self.products.dir,

@@ -11,7 +11,6 @@ use Rattle.drain_rules.specs.Rows.{raised_between, shows_raised, MarkedRow, besi
 use Rattle.std.proofs.lemmas.Bool.{lt-ltb}
 use Rattle.drain_grid.specs.declared.direction.Direction.{Direction}
 use Rattle.drain_grid.specs.declared.direction.Direction.TheVariants.{East, SouthEast, South, SouthWest, West, NorthWest, North, NorthEast}
-use Rattle.drain_grid.specs.Spacing.{unit_spacing}
 use Rattle.drain_grid.specs.Values.{Values}
 use Rattle.drain_rules.specs.declared.three_rows.ThreeRows.{ThreeRows}
 use Rattle.drain_rules.specs.ThreeRows.{patch_in}
@@ -56,7 +55,7 @@ west_is row (suc c) some less =
 pub row_shown : LanesShowNumbers → (lanes : Lanes) (row : MarkedRow) → AreTaken lanes row → (col : ℕ) → col < length row.numbers.z → Shows lanes col (values_in row col)
 row_shown show lanes row taken col less = show lanes row.numbers.z row.numbers.products taken col less (slice_index_or row.sinks col false)
 
-module _ (show : LanesShowNumbers) (rows : ThreeRows) (above here below : Lanes) (over : AreTaken above rows.above) (at : AreTaken here rows.here) (under : AreTaken below rows.below) (col : ℕ) (inner : IsInner above here below col) (square : rows.here.spacing ≡ unit_spacing) where
+module _ (show : LanesShowNumbers) (rows : ThreeRows) (above here below : Lanes) (over : AreTaken above rows.above) (at : AreTaken here rows.here) (under : AreTaken below rows.below) (col : ℕ) (inner : IsInner above here below col) where
   -- each neighbour is what its lanes show
   around : (d : Direction) → (v : Values) × IsShownAt above here below col (patch_in rows col) d v
   around East =
@@ -86,17 +85,12 @@ module _ (show : LanesShowNumbers) (rows : ThreeRows) (above here below : Lanes)
 
   -- so the patch is
   pub patch_shown_round : IsShownRound above here below col (patch_in rows col)
-  patch_shown_round = record {
-    cell = row_shown show here rows.here at col (omega (arith, inner.here_right, at.len));
-    square = square;
-    around_is = around;
-  }
+  patch_shown_round = record { cell = row_shown show here rows.here at col (omega (arith, inner.here_right, at.len)); around_is = around }
 
   -- and of a cell that isn't marked
   pub patch_shown : slice_index_or rows.here.sinks col false ≡ false → IsShown above here below col (patch_in rows col)
   patch_shown unmarked = record {
     cell = row_shown show here rows.here at col (omega (arith, inner.here_right, at.len));
-    square = square;
     not_listed = unmarked;
     around_is = around;
   }

@@ -4,13 +4,12 @@ ghost use Rattle.std.specs.Prelude.{◌≡◌, ◌<◌, ◌≤◌, ℕ, false, s
 ghost use Rattle.drain_fill.specs.Below.{AreRowHeights, IsBelowAt};
 ghost use Rattle.drain_grid.specs.declared.cell.TheConstants.{MAX_LENGTH};
 ghost use Rattle.drain_grid.specs.PerProduct.{of_product, per_product};
-ghost use Rattle.drain_grid.specs.Spacing.{unit_spacing};
 ghost use Rattle.drain_grid.specs.Values.{IsPixel};
 ghost use Rattle.drain_rules.specs.Rows.{values_in, beside, west_neighbor, AreLanesIfAny, AreRowNumbers, grounds};
 
 use crate::screen::{Grounds, cells_above_ground};
-use drain_grid::{CellValues, PerProduct, SetProduct, Spacing};
-use drain_kernel::Lanes;
+use drain_grid::{CellValues, PerProduct, SetProduct};
+use drain_kernel::{Lanes, Slopes};
 use drain_pixels::{GroundRow, PixelKind, PixelRow};
 use std::marker::Model;
 
@@ -64,7 +63,7 @@ pub fn unmarked_until(marks: &[bool], from: usize, end: usize) -> usize
 pub struct RowView<'a> {
     z: &'a GroundRow,
     sinks: &'a [bool],
-    spacing: Spacing,
+    slopes: &'a Slopes,
     products: PerProduct<&'a PixelRow>,
     lanes: Option<&'a Lanes>,
 }
@@ -80,7 +79,7 @@ impl<'a> Model for RowView<'a> {
     ghost view = { λ row. record {
       numbers = record { z = row.z.now; products = per_product (λ p. (of_product row.products p).now) };
       sinks = row.sinks.now;
-      spacing = row.spacing;
+      spacing = row.slopes.now.spacing;
     } };
 
     ghost invariant = { λ row. IsLanedRow (record { z = row.z.now; products = per_product (λ p. (of_product row.products p).now) }) (option_copied row.lanes) };
@@ -91,7 +90,7 @@ impl<'a> RowView<'a> {
     pub fn new(
         z: &'a GroundRow,
         sinks: &'a [bool],
-        spacing: Spacing,
+        slopes: &'a Slopes,
         products: PerProduct<&'a PixelRow>,
         lanes: Option<&'a Lanes>,
     ) -> RowView<'a>
@@ -99,29 +98,22 @@ impl<'a> RowView<'a> {
         requires laned { AreLanesIfAny (record { z = z.now; products = per_product (λ p. (of_product products p).now) }) (option_copied lanes) }
         ensures numbers { result.numbers ≡ record { z = z.entry.now; products = per_product (λ p. (of_product products.entry p).now) } }
         ensures sinks { result.sinks ≡ sinks.entry.now }
-        ensures spacing { result.spacing ≡ spacing }
+        ensures spacing { result.spacing ≡ slopes.entry.now.spacing }
     {
         RowView {
             z,
             sinks,
-            spacing,
+            slopes,
             products,
             lanes,
         }
     }
 
-    /// How far apart its cells are from their neighbours.
-    pub fn spacing(&self) -> Spacing
-        ensures { result ≡ self.now.spacing }
+    /// How steepness is compared in it, and so how far apart its cells are from their neighbours.
+    pub fn slopes(&self) -> &'a Slopes
+        ensures { result.now.spacing ≡ self.now.spacing }
     {
-        self.spacing
-    }
-
-    /// Whether its cells are square, of width and height 1.
-    pub fn has_unit_cells(&self) -> bool
-        ensures { IsTrue result ↔ (self.now.spacing ≡ unit_spacing) }
-    {
-        self.spacing.width == 1 && self.spacing.height == 1
+        self.slopes
     }
 
     /// How many columns there are, at most 28,801.

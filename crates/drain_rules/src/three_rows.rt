@@ -5,7 +5,6 @@ ghost use Rattle.drain_rules.specs.Fill.{IsBlankVoid};
 ghost use Rattle.drain_rules.specs.Rows.{values_in, raised_between};
 ghost use Rattle.drain_kernel.specs.Columns.{IsKept, AreLanesOf};
 ghost use Rattle.drain_grid.specs.RulesAbout.{tried};
-ghost use Rattle.drain_grid.specs.Spacing.{unit_spacing};
 ghost use Rattle.drain_rules.specs.ThreeRows.{patch_in};
 
 use crate::fill_input::is_blank_void;
@@ -44,10 +43,10 @@ impl PatchRow for ThreeRows<'_> {
         }
     }
 
-    /// Those that the lanes of the three rows clear; none if a row has no lanes or its cells aren't square, and none of con
-    /// alone, since lanes clear no cell without a direction.
+    /// Those that the lanes of the three rows clear; none if a row has no lanes, and none of con alone, since lanes clear
+    /// no cell without a direction.
     fn kept_from(&self, rules: &Rules, from: u32, end: u32) -> Kept {
-        if rules.judged.has_dir() && self.here.has_unit_cells() {
+        if rules.judged.has_dir() {
             self.cleared_from(rules, from, end)
         } else {
             Kept::none(from)
@@ -63,13 +62,10 @@ impl PatchRow for ThreeRows<'_> {
         col
     }
 
-    /// Those that the lanes of the three rows show beside voids; none if a row has no lanes or its cells aren't square, and
-    /// none without an accumulation, since an outlet is shown by its sum too.
+    /// Those that the lanes of the three rows show beside voids; none if a row has no lanes, and none without an
+    /// accumulation, since an outlet is shown by its sum too.
     fn is_right_outlet(&self, rules: &Rules, col: u32) -> bool {
         if !rules.judged.has_acc() {
-            return false;
-        }
-        if !self.here.has_unit_cells() {
             return false;
         }
         let (Some(above), Some(here), Some(below)) = (
@@ -81,7 +77,7 @@ impl PatchRow for ThreeRows<'_> {
         };
         // The law on what lanes show.
         lanes_show_numbers();
-        outlet_holds_at(above, here, below, rules, col as usize)
+        outlet_holds_at(above, here, below, self.here.slopes(), rules, col as usize)
     }
 
     #[inline(always)]
@@ -103,7 +99,7 @@ impl PatchRow for ThreeRows<'_> {
                 self.above.beside(col),
                 self.above.beside(col + 1),
             ],
-            spacing: self.here.spacing(),
+            spacing: self.here.slopes().spacing(),
         }
     }
 }
@@ -120,7 +116,6 @@ impl ThreeRows<'_> {
 
     /// Those that the lanes clear.
     fn cleared_from(&self, rules: &Rules, from: u32, end: u32) -> Kept
-        requires square { self.now.here.spacing ≡ unit_spacing }
         requires before { from ≤ end }
         requires inside { end ≤ length self.now.here.numbers.z }
         ensures forward { from ≤ result.end }
@@ -158,7 +153,6 @@ fn cleared_until(
     from: usize,
     end: usize,
 ) -> usize
-    requires square { rows.now.here.spacing ≡ unit_spacing }
     requires above_lanes { AreLanesOf above.now rows.now.above.numbers.z rows.now.above.numbers.products }
     requires here_lanes { AreLanesOf here.now rows.now.here.numbers.z rows.now.here.numbers.products }
     requires below_lanes { AreLanesOf below.now rows.now.below.numbers.z rows.now.below.numbers.products }
@@ -170,11 +164,12 @@ fn cleared_until(
 {
     // The law on what lanes show.
     lanes_show_numbers();
+    let slopes = rows.here.slopes();
     let mut col = from;
     while col < end {
         let until = rows.here.unmarked_until(col).min(end);
-        let stop = kept_until(above, here, below, rules, col, until);
-        if stop == end || !falls_at(above, here, below, rules, stop) {
+        let stop = kept_until(above, here, below, slopes, rules, col, until);
+        if stop == end || !falls_at(above, here, below, slopes, rules, stop) {
             return stop;
         }
         col = stop + 1;

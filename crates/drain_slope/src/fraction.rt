@@ -1,47 +1,113 @@
-//! A fraction that decides between two ways of different distances, in 32 bits.
+//! Fractions of 16 bits that decide which of two ways of different distances is steeper, many cells at a time.
 //!
 //! Let `q / p` be no greater than the ratio of two distances. Where `drop * p <= other * q`, the first drop over its
-//! distance is no greater than the other over its own. So a row of one spacing needs one test for each pair of
-//! distances, and a cell two products. If the fraction is the greatest of its size, the test misses no drop of its size.
+//! distance is no greater than the other over its own. So a row of one spacing needs one fraction for each pair of
+//! distances, and a cell one product for each drop. Drops of 16 bits are fractions themselves, so of these drops the
+//! greatest such fraction misses none.
 
-ghost use Rattle.std.specs.Prelude.{◌≡◌, ◌↔◌, ◌<◌, ◌≤◌, ◌*◌, ◌^◌, ◌≤ℤ◌, pos, IsTrue};
-ghost use Rattle.drain_grid.specs.Slope.{slope_key};
-ghost use Rattle.drain_grid.specs.Spacing.{distance_square, weight_of};
+ghost use Rattle.std.specs.Prelude.{◌↔◌, ◌≤◌, ◌^◌, IsTrue};
+ghost use Rattle.drain_slope.specs.Fractions.{IsBelow};
 
-use drain_grid::{Direction, Spacing};
+/// The fraction `q / p`.
+#[derive(Clone, Copy, PartialEq, Eq, Debug)]
+pub struct Fraction {
+    pub p: u16,
+    pub q: u16,
+}
 
-/// Whether the fraction is no greater than the ratio of two distances, and has a denominator.
-pub fn is_below_ratio(p: u16, q: u16, square: u64, other_square: u64) -> bool
+/// A fraction no greater than the ratio of two distances, by their squares: the greatest of 16 bits, by a walk down the
+/// Stern-Brocot tree.
+pub fn fraction_below(square: u64, other_square: u64) -> Fraction
     requires square { square ≤ 2 ^ 61 }
     requires other { other_square ≤ 2 ^ 61 }
-    ensures { IsTrue result ↔ ((0 < p) × (other_square * (q * q) ≤ square * (p * p))) }
+    ensures { IsBelow square other_square result }
 {
-    let below = other_square as u128 * (q as u128 * q as u128);
-    let above = square as u128 * (p as u128 * p as u128);
-    0 < p && below <= above
+    let found = found_below(square, other_square);
+    if is_below(found, square, other_square) {
+        found
+    } else {
+        Fraction { p: 1, q: 0 }
+    }
 }
 
-/// Whether a drop is no steeper than another, by the fraction.
-#[inline(always)]
-pub fn is_no_steeper(p: u16, q: u16, drop: u16, other: u16) -> bool
-    ensures { IsTrue result ↔ (drop * p ≤ other * q) }
+/// Whether the fraction is no greater than the ratio of two distances, and has a denominator.
+fn is_below(fraction: Fraction, square: u64, other_square: u64) -> bool
+    requires square { square ≤ 2 ^ 61 }
+    requires other { other_square ≤ 2 ^ 61 }
+    ensures { IsTrue result ↔ IsBelow square other_square fraction }
 {
-    u32::from(drop) * u32::from(p) <= u32::from(other) * u32::from(q)
+    let q = u128::from(fraction.q);
+    let p = u128::from(fraction.p);
+    let below = u128::from(other_square) * (q * q);
+    let above = u128::from(square) * (p * p);
+    0 < fraction.p && below <= above
 }
 
-/// Whether the fraction shows that a way down is no steeper than another: then its key is no greater.
-pub fn shows_no_steeper(
-    spacing: &Spacing,
-    way: Direction,
-    other_way: Direction,
-    p: u16,
-    q: u16,
-    drop: u16,
-    other: u16,
-) -> bool
-    ensures { IsTrue result → slope_key (weight_of spacing.now way) (pos drop) ≤ℤ slope_key (weight_of spacing.now other_way) (pos other) }
+/// The fraction at the end of the walk: from below and from above in turn, towards the ratio.
+fn found_below(square: u64, other_square: u64) -> Fraction
+    requires square { square ≤ 2 ^ 61 }
+    requires other { other_square ≤ 2 ^ 61 }
 {
-    let square = spacing.distance_square(way);
-    let other_square = spacing.distance_square(other_way);
-    is_below_ratio(p, q, square, other_square) && is_no_steeper(p, q, drop, other)
+    let mut low = Fraction { p: 1, q: 0 };
+    let mut high = Fraction { p: 0, q: 1 };
+    for _ in 0..24 {
+        let lower = moved(low, high, true, square, other_square);
+        let upper = moved(high, lower, false, square, other_square);
+        if lower == low && upper == high {
+            break;
+        }
+        low = lower;
+        high = upper;
+    }
+    low
+}
+
+/// The fraction moved towards another as often as it stays on its side of the ratio, below or above: by twice as many
+/// steps each time, then by half as many.
+fn moved(
+    from: Fraction,
+    to: Fraction,
+    below: bool,
+    square: u64,
+    other_square: u64,
+) -> Fraction
+    requires square { square ≤ 2 ^ 61 }
+    requires other { other_square ≤ 2 ^ 61 }
+{
+    let mut at = from;
+    let mut steps = 1u16;
+    for _ in 0..15 {
+        let Some(next) = stepped(at, to, steps) else {
+            break;
+        };
+        if is_below(next, square, other_square) != below {
+            break;
+        }
+        at = next;
+        steps = steps.saturating_mul(2);
+    }
+    for _ in 0..15 {
+        steps /= 2;
+        if steps == 0 {
+            break;
+        }
+        let Some(next) = stepped(at, to, steps) else {
+            continue;
+        };
+        if is_below(next, square, other_square) == below {
+            at = next;
+        }
+    }
+    at
+}
+
+/// The fraction after this many steps towards another, if 16 bits hold it.
+fn stepped(from: Fraction, to: Fraction, steps: u16) -> Option<Fraction> {
+    let p = u32::from(from.p) + u32::from(to.p) * u32::from(steps);
+    let q = u32::from(from.q) + u32::from(to.q) * u32::from(steps);
+    if let (Ok(p), Ok(q)) = (u16::try_from(p), u16::try_from(q)) {
+        Some(Fraction { p, q })
+    } else {
+        None
+    }
 }

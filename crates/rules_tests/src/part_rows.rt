@@ -10,7 +10,7 @@ ghost use Rattle.drain_rules.specs.Rows.{AreRowNumbers};
 
 use crate::examples::{Part, is_pixel, numbers_at};
 use drain_grid::{Judged, PerProduct, Spacing};
-use drain_kernel::Lanes;
+use drain_kernel::{Lanes, Slopes};
 use drain_pixels::{GroundRow, PixelKind, PixelRow};
 use drain_rules::RowView;
 use std::alloc::Global;
@@ -117,6 +117,7 @@ fn ground_row(alloc: Global, ground: Ground, numbers: &[i64]) -> Result<GroundRo
 pub struct PartRow {
     z: GroundRow,
     products: PerProduct<PixelRow>,
+    slopes: Slopes,
     ghost whole: { AreRowNumbers (record { z = z; products = per_product (λ p. of_product products p) }) } by { Prim.hlevel props },
 }
 
@@ -151,6 +152,7 @@ impl PartRow {
         lanes: Option<&'a mut Lanes>,
     ) -> RowView<'a> {
         let z = &self.z;
+        let slopes = &self.slopes;
         let products = PerProduct {
             con: &self.products.con,
             dir: &self.products.dir,
@@ -159,8 +161,8 @@ impl PartRow {
             rnk: &self.products.rnk,
         };
         match lanes {
-            Some(lanes) => laned_view(z, marks, products, judged, lanes),
-            None => RowView::new(z, marks, Spacing::unit(), products, None),
+            Some(lanes) => laned_view(z, marks, slopes, products, judged, lanes),
+            None => RowView::new(z, marks, slopes, products, None),
         }
     }
 }
@@ -189,13 +191,18 @@ fn part_row(
         bas,
         rnk,
     };
-    PartRow { z, products }
+    PartRow {
+        z,
+        products,
+        slopes: Slopes::of(Spacing::unit()),
+    }
 }
 
 /// The row of these numbers and marks, with the lanes of its numbers where they fit.
 fn laned_view<'a>(
     z: &'a GroundRow,
     marks: &'a [bool],
+    slopes: &'a Slopes,
     products: PerProduct<&'a PixelRow>,
     judged: Judged,
     lanes: &'a mut Lanes,
@@ -203,8 +210,8 @@ fn laned_view<'a>(
     requires { AreRowNumbers (record { z = z.now; products = per_product (λ p. (of_product products p).now) }) }
 {
     if lanes.take(z, &products, judged, false) {
-        RowView::new(z, marks, Spacing::unit(), products, Some(lanes))
+        RowView::new(z, marks, slopes, products, Some(lanes))
     } else {
-        RowView::new(z, marks, Spacing::unit(), products, None)
+        RowView::new(z, marks, slopes, products, None)
     }
 }

@@ -3,5 +3,5 @@ use Rattle.drain_kernel.proofs.Fallen.{is_kept_there}
 use Rattle.drain_kernel.proofs.falls.is_cleared_at.Goals as goal
 
 pub returns-clause-kept : goal.returns-clause-kept
-returns-clause-kept g c = λ falls p shown.
-    is_kept_there _ c.args.rules.now c.args.rows.now c.args.k p (c.if-not-are_alike.ensures.bias refl) shown (c.if-not-are_alike.ensures.ranks refl) (c.tests_pass.ensures falls)
+returns-clause-kept g c = λ falls p spaced shown.
+    is_kept_there _ c.args.rules.now c.args.rows.now c.args.k p (c.if-not-are_alike.ensures.bias refl) c.if-not-are_alike.ensures.slopes spaced shown (c.if-not-are_alike.ensures.ranks refl) (c.tests_pass.ensures falls)

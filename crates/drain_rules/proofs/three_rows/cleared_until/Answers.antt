@@ -1,4 +1,4 @@
-use Rattle.std.proofs.Common.{ℕ, ◌<◌, ◌≤◌, inl, inr, arith, below_more}
+use Rattle.std.proofs.Common.{ℕ, ◌<◌, ◌≤◌, inl, inr, sym, arith, below_more}
 use Rattle.std.proofs.lemmas.Bool.{cases_lt}
 use Rattle.drain_grid.specs.declared.patch.Patch.{Patch}
 use Rattle.drain_grid.specs.PatchRules.{Profile}
@@ -22,9 +22,9 @@ returns-then-stop-end-clause-kept c =
     let rows = c.args.rows.now in
     let stop = c.kept_until-stop.ensures in
     joined (tried c.args.rules.now) (patch_in rows) c.args.from c.loop-col.col c.kept_until-stop.result c.loop-col.invariant.kept
-    (λ k past less. stop.kept k past less (patch_in rows k)
+    (λ k past less. stop.kept k past less (patch_in rows k) (sym c.slopes-slopes.ensures)
     (patch_shown c.lanes_show_numbers.ensures rows c.args.above.now c.args.here.now c.args.below.now c.requires.above_lanes c.requires.here_lanes c.requires.below_lanes k
-    (stop.inner k past less) c.requires.square (c.unmarked_until.ensures.unmarked k past (omega (arith, less, stop.within, c.min-until.ensures)))))
+    (stop.inner k past less) (c.unmarked_until.ensures.unmarked k past (omega (arith, less, stop.within, c.min-until.ensures)))))
 
 -- and the cell after it, if it falls
 pub loop-col-preserved : goal.loop-col-preserved
@@ -32,9 +32,9 @@ loop-col-preserved c =
     let rows = c.args.rows.now in
     let stop = c.kept_until-stop.ensures in
     let inner = c.falls_at.ensures.inner c.if-not-falls_at.false in
-    let one = c.falls_at.ensures.kept c.if-not-falls_at.false (patch_in rows c.kept_until-stop.result)
+    let one = c.falls_at.ensures.kept c.if-not-falls_at.false (patch_in rows c.kept_until-stop.result) (sym c.slopes-slopes.ensures)
     (patch_shown_round c.lanes_show_numbers.ensures rows c.args.above.now c.args.here.now c.args.below.now c.requires.above_lanes c.requires.here_lanes c.requires.below_lanes
-    c.kept_until-stop.result inner c.requires.square) in
+    c.kept_until-stop.result inner) in
     record {
       forward = omega (arith, c.loop-col.invariant.forward, stop.forward);
       within = omega (arith, inner.here_right);
@@ -42,8 +42,8 @@ loop-col-preserved c =
           below_more (λ (n : ℕ). c.args.from ≤ n → IsKept (tried c.args.rules.now) (patch_in rows n)) c.kept_until-stop.result
           (λ n earlier from.
           joined (tried c.args.rules.now) (patch_in rows) c.args.from c.loop-col.col c.kept_until-stop.result c.loop-col.invariant.kept
-          (λ m past less. stop.kept m past less (patch_in rows m)
+          (λ m past less. stop.kept m past less (patch_in rows m) (sym c.slopes-slopes.ensures)
           (patch_shown c.lanes_show_numbers.ensures rows c.args.above.now c.args.here.now c.args.below.now c.requires.above_lanes c.requires.here_lanes c.requires.below_lanes m
-          (stop.inner m past less) c.requires.square (c.unmarked_until.ensures.unmarked m past (omega (arith, less, stop.within, c.min-until.ensures))))) n from earlier)
+          (stop.inner m past less) (c.unmarked_until.ensures.unmarked m past (omega (arith, less, stop.within, c.min-until.ensures))))) n from earlier)
           (λ from. one) k less past;
     }

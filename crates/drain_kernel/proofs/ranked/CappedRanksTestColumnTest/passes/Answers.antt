@@ -6,7 +6,8 @@ use Rattle.drain_kernel.proofs.ranked.CappedRanksTestColumnTest.passes.Goals as 
 
 pub returns-clause-passed : goal.returns-clause-passed
 returns-clause-passed g c = λ h.
-    ranked_by_capped _ _ _ _ _ _ _ _ _ _ (c.con.ensures ∙ ap (λ (r : ThreeLanes). slice_index r.here.con c.args.k) c.rows.view_is)
+    let slopes = (c.args.self.now.0).now.slopes in
+    ranked_by_capped slopes _ _ _ _ _ _ _ _ _ _ (c.con.ensures ∙ ap (λ (r : ThreeLanes). slice_index r.here.con c.args.k) c.rows.view_is)
     (c.code.ensures ∙ ap (λ (r : ThreeLanes). slice_index r.here.dir c.args.k) c.rows.view_is) c.cons_round.ensures
     (c.capped_rank.ensures ∙ ap (λ (r : ThreeLanes). at_most (slice_index r.here.rnk c.args.k)) c.rows.view_is) c.capped_ranks_round.ensures
-    (c.falls_or_is_ranked.ensures h)
+    (c.falls_or_is_ranked.ensures slopes h)
