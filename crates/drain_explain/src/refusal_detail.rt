@@ -95,10 +95,11 @@ pub(crate) fn spacing_line_detail(
     };
     let line = line_of(text, number)?;
     let start = Vec::from_slice(alloc, shown_of(line)).ok()?;
+    let bytes = line.len() as u64;
     Some(RefusalDetail::SpacingLine {
         number,
         start,
-        bytes: line.len() as u64,
+        bytes,
     })
 }
 

@@ -7,6 +7,7 @@ ghost use Rattle.drain_grid.specs.Correct.{IsCorrect};
 ghost use Rattle.drain_grid.specs.Product.{default_numbers};
 ghost use Rattle.drain_grid.specs.WholeGrid.{grid_of, products_of};
 ghost use Rattle.drain_verdict.specs.Answers.{AreCorrect, ForAudit};
+ghost use Rattle.drain_verdict.specs.Given.{plain};
 ghost use Rattle.drain_verdict.specs.Headline.{ForCheck, IsRight};
 
 use drain_device::ByteSource;
@@ -24,7 +25,7 @@ pub fn are_right<R: ByteSource>(
     tiles: &mut [TileInput<R>],
     rasters: &mut AuditProducts<R>,
 ) -> Result<bool, Refusal>
-    ensures exactly { IfOk result (λ right. ForAudit R.bytes_left 1201 tiles.old [] rasters.old (λ inputs. IsTrue right ↔ AreCorrect inputs)) }
+    ensures exactly { IfOk result (λ right. ForAudit R.bytes_left 1201 tiles.old (plain []) rasters.old (λ inputs. IsTrue right ↔ AreCorrect inputs)) }
 {
     match audit(alloc, SIDE, tiles, &[], rasters) {
         Ok(AuditVerdict::Accepted(_)) => Ok(true),
@@ -39,7 +40,7 @@ pub fn are_shown_right<R: ByteSource>(
     tiles: &mut [TileInput<R>],
     rasters: &mut Products<R>,
 ) -> Result<bool, Refusal>
-    ensures right { IfOk result (λ right. IsTrue right → ForCheck R.bytes_left 1201 tiles.old [] rasters.old IsRight) }
+    ensures right { IfOk result (λ right. IsTrue right → ForCheck R.bytes_left 1201 tiles.old (plain []) rasters.old IsRight) }
 {
     match check(alloc, SIDE, tiles, &[], rasters) {
         Ok(Verdict::Accepted(_)) => Ok(true),

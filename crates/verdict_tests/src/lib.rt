@@ -33,4 +33,6 @@ mod second_checks;
 #[cfg(test)]
 mod sources;
 #[cfg(test)]
+mod spacings;
+#[cfg(test)]
 mod tells;

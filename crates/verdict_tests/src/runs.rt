@@ -5,7 +5,10 @@ use crate::inputs::{AtOnce, ConHeaded, Faulty, Reading, products, tiles};
 use drain_answer::lines::Line;
 use drain_device::ByteSource;
 use drain_hgt::TileInput;
-use drain_verdict::{AuditProducts, Products, audit, audit_report, check, report};
+use drain_verdict::{
+    AuditProducts, Given, Products, SpacingInput, audit, audit_given, audit_report, check,
+    check_given, report,
+};
 use std::alloc::{AllocError, Global};
 use std::test::Fail;
 
@@ -76,6 +79,29 @@ fn told_of<'a, R: ByteSource + Drop, G: Reading<'a, R>>(
 /// The line when sources give all bytes at once.
 pub fn told_at_once(alloc: Global, asked: Checked, example: &Example) -> Result<Line, AllocError> {
     told_of(alloc, asked, ConHeaded::by_itself(example), AtOnce)
+}
+
+/// The same of cells that are so far apart.
+pub fn told_spaced(
+    alloc: Global,
+    asked: Checked,
+    example: &Example,
+    spacing: SpacingInput<'_>,
+) -> Result<Line, AllocError> {
+    let side = example.side;
+    let mut tiles = tiles(alloc, example.tiles(), AtOnce)?;
+    let mut five = products(alloc, ConHeaded::by_itself(example), AtOnce)?;
+    let given = Given {
+        sinks: example.sinks.as_slice(),
+        spacing,
+    };
+    Ok(match asked {
+        Checked::Check => report(&check_given(alloc, side, &mut tiles, &given, &mut five)),
+        Checked::Audit => {
+            let mut four = without_ranks(five);
+            audit_report(&audit_given(alloc, side, &mut tiles, &given, &mut four))
+        }
+    })
 }
 
 /// The line of a check whose sources give all bytes at once, with this header of con.
