@@ -21,7 +21,7 @@ fn answer(
     let place = place(window)?;
     let mut dem = inputs.dem(alloc, header)?;
     let mut products = inputs.products(alloc)?;
-    let given = inputs.given();
+    let given = inputs.given()?;
     Ok(judge_window_dem(alloc, &mut dem, &given, &mut products, &place, at))
 }
 

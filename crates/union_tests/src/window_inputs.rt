@@ -5,12 +5,14 @@ use drain_grid::{Spacing, SpacingInput};
 use drain_hgt::TileInput;
 use drain_verdict::{AuditProducts, Given, RasterInput};
 use std::alloc::{AllocError, Global};
+use std::test::Fail;
 
-/// Square cells.
-const UNIT: SpacingInput = SpacingInput::Same(Spacing {
-    width: 1,
-    height: 1,
-});
+/// How far apart the cells are: of one width and height, or by a text with a line for each row.
+#[derive(Clone, Copy)]
+pub enum Cells<'a> {
+    Of(u32, u32),
+    ByRow(&'a str),
+}
 
 /// Tiles that all have these samples, their products, a list of sinks, and how far apart cells are.
 #[derive(Clone, Copy)]
@@ -25,7 +27,7 @@ pub struct Inputs<'a> {
     pub acc: &'a [u8],
     pub bas: &'a [u8],
     pub sinks: &'a str,
-    pub spacing: SpacingInput<'a>,
+    pub cells: Cells<'a>,
 }
 
 impl<'a> Inputs<'a> {
@@ -51,11 +53,18 @@ impl<'a> Inputs<'a> {
     }
 
     /// What is given beside the rasters.
-    pub fn given(&self) -> Given<'a> {
-        Given {
+    pub fn given(&self) -> Result<Given<'a>, Fail> {
+        let spacing = match self.cells {
+            Cells::Of(width, height) => match Spacing::new(width, height) {
+                Some(spacing) => SpacingInput::Same(spacing),
+                None => return Err(Fail::new("a spacing")),
+            },
+            Cells::ByRow(text) => SpacingInput::ByRow(text.as_bytes()),
+        };
+        Ok(Given {
             sinks: self.sinks.as_bytes(),
-            spacing: self.spacing,
-        }
+            spacing,
+        })
     }
 
     /// The products as they are read.
@@ -158,7 +167,7 @@ impl Slope {
             acc: &self.acc,
             bas: &self.bas,
             sinks,
-            spacing: UNIT,
+            cells: Cells::Of(1, 1),
         }
     }
 }
@@ -177,5 +186,5 @@ pub const LEVEL_TILES: Inputs = Inputs {
     acc: &[1; 6],
     bas: &[6, 5, 4, 3, 2, 1],
     sinks: "",
-    spacing: UNIT,
+    cells: Cells::Of(1, 1),
 };

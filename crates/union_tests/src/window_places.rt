@@ -37,6 +37,6 @@ pub fn answer(
     let place = place(window)?;
     let mut tiles = inputs.tiles(alloc)?;
     let mut products = inputs.products(alloc)?;
-    let given = inputs.given();
+    let given = inputs.given()?;
     Ok(judge_window(alloc, inputs.side, &mut tiles, &given, &mut products, &place))
 }

@@ -2,9 +2,8 @@
 //! reports list.
 
 use crate::agree::{same, same_line};
-use crate::window_inputs::{Inputs, Slope};
+use crate::window_inputs::{Cells, Inputs, Slope};
 use crate::window_places::{Window, answer};
-use drain_grid::{Spacing, SpacingInput};
 use drain_window::window_line;
 use std::test::Fail;
 
@@ -25,71 +24,71 @@ const LEANING: Slope = Slope {
 };
 
 /// The spacing, the window, the line of the answer, and the widths and heights that the report lists.
-static CASES: [(SpacingInput, Window, &str, &[(u32, u32)]); 11] = [
+static CASES: [(Cells, Window, &str, &[(u32, u32)]); 11] = [
     (
-        SpacingInput::Same(Spacing { width: 1, height: 1 }),
+        Cells::Of(1, 1),
         (0, 0, 4, 4, ""),
         "rejected rule=10 Slope row=0 col=0",
         &[],
     ),
     (
-        SpacingInput::Same(Spacing { width: 1, height: 10 }),
+        Cells::Of(1, 10),
         (0, 0, 4, 4, ""),
         "accepted rows=4 cols=4 data=16 raised=0 outlets=1",
         &[(1, 10)],
     ),
     (
-        SpacingInput::Same(Spacing { width: 10, height: 1 }),
+        Cells::Of(10, 1),
         (0, 0, 4, 4, ""),
         "rejected rule=10 Slope row=0 col=0",
         &[(10, 1)],
     ),
     (
-        SpacingInput::ByRow(b"1 10\n1 10\n\n1 10\n1 10\n"),
+        Cells::ByRow("1 10\n1 10\n\n1 10\n1 10\n"),
         (0, 0, 3, 4, "s"),
         "accepted rows=3 cols=4 data=8 raised=0 outlets=0",
         &[(1, 10)],
     ),
     (
-        SpacingInput::ByRow(b"1 1\n1 1\n1 1\n1 1"),
+        Cells::ByRow("1 1\n1 1\n1 1\n1 1"),
         (1, 0, 3, 4, "n"),
         "rejected rule=10 Slope row=1 col=0",
         &[],
     ),
     // The widths are those of the window's own rows.
     (
-        SpacingInput::ByRow(b"1 1\n4 40\n3 40\n2 40\n"),
+        Cells::ByRow("1 1\n4 40\n3 40\n2 40\n"),
         (1, 0, 3, 4, "n"),
         "accepted rows=3 cols=4 data=8 raised=0 outlets=1",
         &[(4, 40), (3, 40), (2, 40)],
     ),
     (
-        SpacingInput::ByRow(b"1 10\n1 1\n1 10\n1 10\n"),
+        Cells::ByRow("1 10\n1 1\n1 10\n1 10\n"),
         (0, 0, 4, 4, ""),
         "rejected rule=10 Slope row=1 col=0",
         &[(1, 10), (1, 1), (1, 10)],
     ),
     // The row of a ring isn't judged, and is listed.
     (
-        SpacingInput::ByRow(b"9 9\n1 1\n1 10\n1 10\n"),
+        Cells::ByRow("9 9\n1 1\n1 10\n1 10\n"),
         (1, 0, 3, 4, "n"),
         "accepted rows=3 cols=4 data=8 raised=0 outlets=1",
         &[(1, 1), (1, 10)],
     ),
     (
-        SpacingInput::ByRow(b"1 10\n1 10\n1 10\n1 1\n"),
+        Cells::ByRow("1 10\n1 10\n1 10\n1 1\n"),
         (0, 0, 3, 3, "es"),
         "accepted rows=3 cols=3 data=4 raised=0 outlets=0",
         &[(1, 10)],
     ),
     (
-        SpacingInput::ByRow(b"1 10\n1 10\n1 0\n1 10\n"),
+        Cells::ByRow("1 10\n1 10\n1 0\n1 10\n"),
         (0, 0, 4, 4, ""),
         "refused BadSpacingLine 3",
         &[],
     ),
     (
-        SpacingInput::ByRow(b"1 10\n1 10\n1 10\n"),
+        Cells::ByRow("1 10\n1 10\n1 10\n"),
         (0, 0, 3, 4, "s"),
         "refused SpacingRows 3",
         &[],
@@ -98,9 +97,9 @@ static CASES: [(SpacingInput, Window, &str, &[(u32, u32)]); 11] = [
 
 #[test]
 fn windows_with_spacings(rt: HostRuntime) -> Result<(), Fail> {
-    for &(spacing, window, line, listed) in &CASES {
+    for &(cells, window, line, listed) in &CASES {
         let inputs = Inputs {
-            spacing,
+            cells,
             ..LEANING.listing("")
         };
         let given = answer(rt.alloc(), &inputs, window)?;
