@@ -138,6 +138,26 @@ uint32_t drain_audit_only(uint32_t side, const drain_tile *tiles, size_t tile_co
 uint32_t drain_audit_only_dem(const drain_raster *dem, const uint8_t *sinks, size_t sinks_length,
                               const drain_audit_rasters *rasters, uint32_t judged, drain_answer *answer);
 
+/* How far apart cells are, for slopes. width, height: those of all cells, 1 to 2^30 each, in one unit; widths: no bytes.
+ * Or both numbers are 0, and widths is a text of lines `WIDTH HEIGHT`, one for each row from the north. Make one by
+ * drain_cells(width, height) or drain_widths(text, length). */
+typedef struct drain_spacing {
+    uint32_t width;
+    uint32_t height;
+    drain_bytes widths;
+} drain_spacing;
+
+/* As drain_audit_only and drain_audit_only_dem, over these distances; those judge over square cells, as drain_cells(1, 1)
+ * does. spacing is never NULL; where it is none of the above, the answer is `refused BadChoice`; of a text it may be
+ * `refused BadSpacingLine L` or `refused SpacingRows N`.
+ * Each returns answer->status. */
+uint32_t drain_audit_only_spaced(uint32_t side, const drain_tile *tiles, size_t tile_count, const uint8_t *sinks,
+                                 size_t sinks_length, const drain_spacing *spacing,
+                                 const drain_audit_rasters *rasters, uint32_t judged, drain_answer *answer);
+uint32_t drain_audit_only_dem_spaced(const drain_raster *dem, const uint8_t *sinks, size_t sinks_length,
+                                     const drain_spacing *spacing, const drain_audit_rasters *rasters,
+                                     uint32_t judged, drain_answer *answer);
+
 /* Whether ranks show that the rasters are correct for the tiles. The arguments are those of drain_audit.
  * Returns answer->status. */
 uint32_t drain_check(uint32_t side, const drain_tile *tiles, size_t tile_count, const uint8_t *sinks,
@@ -177,6 +197,16 @@ uint32_t drain_explain_dem(const drain_raster *dem, const uint8_t *sinks, size_t
                            const drain_audit_rasters *rasters, uint32_t judged, uint8_t *map, size_t map_length,
                            drain_faults *faults, drain_answer *answer);
 
+/* As drain_explain and drain_explain_dem, over these distances: spacing is that of drain_audit_only_spaced.
+ * Each returns answer->status. */
+uint32_t drain_explain_spaced(uint32_t side, const drain_tile *tiles, size_t tile_count, const uint8_t *sinks,
+                              size_t sinks_length, const drain_spacing *spacing, const drain_audit_rasters *rasters,
+                              uint32_t judged, uint8_t *map, size_t map_length, drain_faults *faults,
+                              drain_answer *answer);
+uint32_t drain_explain_dem_spaced(const drain_raster *dem, const uint8_t *sinks, size_t sinks_length,
+                                  const drain_spacing *spacing, const drain_audit_rasters *rasters, uint32_t judged,
+                                  uint8_t *map, size_t map_length, drain_faults *faults, drain_answer *answer);
+
 /* Accumulation, basin labels and ranks that follow from directions: what `drain derive` writes. dir: the raster of
  * directions. acc, bas, rnk: memory for rows * cols numbers each, row by row from the north; ..count of them, and no
  * address is NULL. A void has 0 in acc and bas, and 4294967295 in rnk. With another count, where the inputs aren't
@@ -214,6 +244,21 @@ static inline drain_bytes drain_bytes_of(const void *at, size_t length) {
     bytes.length = at ? length : 0;
     bytes.missing = at ? 0 : length;
     return bytes;
+}
+
+/* Cells of one width and height, and rows of a text. */
+static inline drain_spacing drain_cells(uint32_t width, uint32_t height) {
+    drain_spacing spacing;
+    spacing.width = width;
+    spacing.height = height;
+    spacing.widths = drain_bytes_of(NULL, 0);
+    return spacing;
+}
+
+static inline drain_spacing drain_widths(const void *text, size_t length) {
+    drain_spacing spacing = drain_cells(0, 0);
+    spacing.widths = drain_bytes_of(text, length);
+    return spacing;
 }
 
 /* Pixels in memory without a header: rows by columns, row by row from the north, without gaps between rows. bits: 8, 16

@@ -62,7 +62,7 @@ cut_tiles i = record {
   names = i.names;
   corners = i.corners;
   tiles = i.tiles;
-  sinks = i.sinks;
+  given = i.given;
   header = λ p. take 65537 (i.header p);
   raster = i.raster;
 }
@@ -91,7 +91,7 @@ tile_refusals i = record { Refuses = TilesRefuse (cut_tiles i); among = tile_pla
 
 pub same_tiles : (i : Inputs) → IsReadable (set_of (cut_tiles i)) → cut_tiles i ≡ i
 same_tiles i readable =
-    ap (λ t. record { side = i.side; names = i.names; corners = i.corners; tiles = i.tiles; sinks = t.sinks; header = t.header; raster = t.raster })
+    ap (λ t. record { side = i.side; names = i.names; corners = i.corners; tiles = i.tiles; given = t.given; header = t.header; raster = t.raster })
     (same_texts (tile_ground i) (tile_refusals i) (texts_of i) readable)
 
 abbrev pub tile_cut : Cut Inputs

@@ -18,13 +18,13 @@ corners_named corner_of gives (name ∷ names) all =
     (subst (IsNameOf name) (sym (gives name here.0 here.1)) here.1, corners_named corner_of gives names (All-tail P name names all))
 
 pub bytes_are_inputs : NamesGiveCorners → BytesAreInputs
-bytes_are_inputs corner side tiles sinks raster = (
+bytes_are_inputs corner side tiles given raster = (
   record {
     side = side;
     names = map (λ t. t.name.bytes.now) tiles;
     corners = map corner.0 (map (λ t. t.name.bytes.now) tiles);
     tiles = map (λ t. t.samples.bytes.now) tiles;
-    sinks = sinks;
+    given = given;
     header = λ p. (raster p).header.bytes.now;
     raster = λ p. (raster p).pixels.bytes.now;
   },
@@ -33,17 +33,17 @@ bytes_are_inputs corner side tiles sinks raster = (
     names_are = refl;
     corners_are = corners_named corner.0 corner.1 (map (λ t. t.name.bytes.now) tiles);
     tiles_are = refl;
-    sinks_are = refl;
+    given_are = refl;
     headers_are = λ p. refl;
     rasters_are = λ p. refl;
   },
 )
 
 pub bytes_are_dem_inputs : BytesAreDemInputs
-bytes_are_dem_inputs dem sinks raster = (
+bytes_are_dem_inputs dem given raster = (
   record {
     dem = record { header = dem.header.bytes.now; body = dem.pixels.bytes.now };
-    texts = record { sinks = sinks; header = λ p. (raster p).header.bytes.now; raster = λ p. (raster p).pixels.bytes.now };
+    texts = record { given = given; header = λ p. (raster p).header.bytes.now; raster = λ p. (raster p).pixels.bytes.now };
   },
-  record { dem_header_is = refl; dem_body_is = refl; sinks_are = refl; headers_are = λ p. refl; rasters_are = λ p. refl },
+  record { dem_header_is = refl; dem_body_is = refl; given_are = refl; headers_are = λ p. refl; rasters_are = λ p. refl },
 )

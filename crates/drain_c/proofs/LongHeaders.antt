@@ -62,7 +62,7 @@ same_fault text fault is = elim (short_or_long text) [
 
 -- the first bytes of each header
 abbrev pub cut_texts : SetTexts → SetTexts
-cut_texts t = record { sinks = t.sinks; header = λ p. take 65537 (t.header p); raster = t.raster }
+cut_texts t = record { given = t.given; header = λ p. take 65537 (t.header p); raster = t.raster }
 
 -- words for the refusals of a ground that apply where its own do, in the same order
 pub record SameRefusals (g : Ground) : Type 1 where
@@ -229,4 +229,4 @@ same_texts g o t readable =
       | inl kept ↦ kept
       | inr long ↦ absurd (readable (BadHeader (product_of p) TooLong) (too_long_at g o t p long))
     ]) in
-    ap (λ header. record { sinks = t.sinks; header = header; raster = t.raster }) (fun_ext kept)
+    ap (λ header. record { given = t.given; header = header; raster = t.raster }) (fun_ext kept)

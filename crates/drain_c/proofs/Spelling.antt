@@ -1,4 +1,5 @@
 -- What an audit and a check say of the sources of a call holds of the bytes of the call.
+use Rattle.drain_verdict.specs.Given.{Given}
 use Rattle.std.proofs.Common.{◌≡◌, ℕ, ◌+◌, ◌<◌, List, [], ◌∷◌, ◌++◌, length, map, take, get_or, Option, Some, Result, Ok, Err, IfOk, refl, sym, ap, subst, ◌∙◌}
 use Rattle.std.proofs.lemmas.List.{take_more}
 use Rattle.std.proofs.lemmas.Slice.Zip.{all_zipped_more}
@@ -80,42 +81,42 @@ bodies bytes_left (g ∷ given) [] are = absurd are
 bodies bytes_left (g ∷ given) (tile ∷ tiles) are = (are.0.1, bodies bytes_left given tiles are.1)
 
 -- the sources have the bytes of the inputs, and the first bytes of each header
-pub tells : {R : Type 0} (bytes_left : R → Option (List ℕ)) (side : ℕ) (given : List TileBytes) (sinks : List ℕ) (raster : SetProduct → RasterBytes)
+pub tells : {R : Type 0} (bytes_left : R → Option (List ℕ)) (side : ℕ) (given : List TileBytes) (beside : Given) (raster : SetProduct → RasterBytes)
     (tiles : List (TileInput R)) (ps : Products R) → AreTilesOf bytes_left given tiles → AreRastersOf bytes_left raster ps →
-    (i : Inputs) → AreOfBytes side given sinks raster i → Encode bytes_left side tiles sinks ps (cut_tiles i)
-tells bytes_left side given sinks raster tiles ps are_tiles are_rasters i are = record {
+    (i : Inputs) → AreOfBytes side given beside raster i → Encode bytes_left side tiles beside ps (cut_tiles i)
+tells bytes_left side given beside raster tiles ps are_tiles are_rasters i are = record {
   side_is = are.side_is;
   names_are = are.names_are ∙ same_names bytes_left given tiles are_tiles;
   corners_are = are.corners_are;
   tiles_are = subst (AreBodies bytes_left tiles) (sym are.tiles_are) (bodies bytes_left given tiles are_tiles);
-  sinks_are = are.sinks_are;
+  given_are = are.given_are;
   headers_are = λ p. ap (take 65537) (are.headers_are p) ∙ sym (are_rasters p).0;
   rasters_are = λ p. (are_rasters p).1 ∙ ap Some (sym (are.rasters_are p));
 }
 
-abbrev pub tile_call : {R : Type 0} (bytes_left : R → Option (List ℕ)) (side : ℕ) (given : List TileBytes) (sinks : List ℕ) (raster : SetProduct → RasterBytes)
+abbrev pub tile_call : {R : Type 0} (bytes_left : R → Option (List ℕ)) (side : ℕ) (given : List TileBytes) (beside : Given) (raster : SetProduct → RasterBytes)
     (tiles : List (TileInput R)) (ps : Products R) → AreTilesOf bytes_left given tiles → AreRastersOf bytes_left raster ps → Call tile_cut
-tile_call bytes_left side given sinks raster tiles ps are_tiles are_rasters = record {
-  Of = AreOfBytes side given sinks raster;
-  For = ForCheck bytes_left side tiles sinks ps;
-  of_sources = λ Fact fact i are. fact (cut_tiles i) (tells bytes_left side given sinks raster tiles ps are_tiles are_rasters i are);
+tile_call bytes_left side given beside raster tiles ps are_tiles are_rasters = record {
+  Of = AreOfBytes side given beside raster;
+  For = ForCheck bytes_left side tiles beside ps;
+  of_sources = λ Fact fact i are. fact (cut_tiles i) (tells bytes_left side given beside raster tiles ps are_tiles are_rasters i are);
 }
 
 -- One raster of elevations.
 
 -- the fact holds of the inputs that the sources have
-abbrev pub ForDemInputs : {R : Type 0} → (R → Option (List ℕ)) → List (RasterInput R) → List ℕ → Products R → (DemInputs → Type 0) → Type 0
-ForDemInputs bytes_left dem sinks ps Fact = (d : DemTexts) (t : SetTexts) → EncodesDem bytes_left dem d → EncodeTexts bytes_left sinks ps t → Fact (record { dem = d; texts = t })
+abbrev pub ForDemInputs : {R : Type 0} → (R → Option (List ℕ)) → List (RasterInput R) → Given → Products R → (DemInputs → Type 0) → Type 0
+ForDemInputs bytes_left dem beside ps Fact = (d : DemTexts) (t : SetTexts) → EncodesDem bytes_left dem d → EncodeTexts bytes_left beside ps t → Fact (record { dem = d; texts = t })
 
-abbrev pub dem_call : {R : Type 0} (bytes_left : R → Option (List ℕ)) (given : RasterBytes) (sinks : List ℕ) (raster : SetProduct → RasterBytes)
+abbrev pub dem_call : {R : Type 0} (bytes_left : R → Option (List ℕ)) (given : RasterBytes) (beside : Given) (raster : SetProduct → RasterBytes)
     (dem : RasterInput R) (ps : Products R) → IsRasterOf bytes_left given dem → AreRastersOf bytes_left raster ps → Call dem_cut
-dem_call bytes_left given sinks raster dem ps is_dem are_rasters = record {
-  Of = AreOfDem given sinks raster;
-  For = ForDemInputs bytes_left (dem ∷ []) sinks ps;
+dem_call bytes_left given beside raster dem ps is_dem are_rasters = record {
+  Of = AreOfDem given beside raster;
+  For = ForDemInputs bytes_left (dem ∷ []) beside ps;
   of_sources = λ Fact fact i are. fact (cut_dem i).dem (cut_dem i).texts
       (ap (take 65537) are.dem_header_is ∙ sym is_dem.0, is_dem.1 ∙ ap Some (sym are.dem_body_is))
       (record {
-        sinks_are = are.sinks_are;
+        given_are = are.given_are;
         headers_are = λ p. ap (take 65537) (are.headers_are p) ∙ sym (are_rasters p).0;
         rasters_are = λ p. (are_rasters p).1 ∙ ap Some (sym (are.rasters_are p));
       });

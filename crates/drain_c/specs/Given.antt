@@ -8,6 +8,7 @@ use Rattle.drain_c.specs.declared.given.CheckBytes.{CheckBytes}
 use Rattle.drain_grid.specs.declared.set_product.SetProduct.{SetProduct}
 use Rattle.drain_grid.specs.declared.set_product.SetProduct.TheVariants.{Con, Dir, Acc, Bas, Rnk}
 use Rattle.drain_hgt.specs.Name.{IsNameOf}
+use Rattle.drain_verdict.specs.Given.{Given}
 use Rattle.drain_verdict.specs.Inputs.{Inputs, AreNames}
 
 -- the raster of a product; con stands in the place of ranks, which an audit doesn't read
@@ -26,15 +27,15 @@ check_raster ps Bas = ps.bas
 check_raster ps Rnk = ps.rnk
 
 -- the inputs are these bytes; which tiles the names name is a function of the names
-pub record AreOfBytes (side : ℕ) (tiles : List TileBytes) (sinks : List ℕ) (raster : SetProduct → RasterBytes) (i : Inputs) : Type 0 where
+pub record AreOfBytes (side : ℕ) (tiles : List TileBytes) (given : Given) (raster : SetProduct → RasterBytes) (i : Inputs) : Type 0 where
   pub side_is : i.side ≡ side
   pub names_are : i.names ≡ map (λ t. t.name.bytes.now) tiles
   pub corners_are : AreNames i.names → AllZip IsNameOf i.names i.corners
   pub tiles_are : i.tiles ≡ map (λ t. t.samples.bytes.now) tiles
-  pub sinks_are : i.sinks ≡ sinks
+  pub given_are : i.given ≡ given
   pub headers_are : (p : SetProduct) → i.header p ≡ (raster p).header.bytes.now
   pub rasters_are : (p : SetProduct) → i.raster p ≡ (raster p).pixels.bytes.now
 
 -- the fact holds of the inputs that are these bytes
-abbrev pub OfBytes : ℕ → List TileBytes → List ℕ → (SetProduct → RasterBytes) → (Inputs → Type 0) → Type 0
-OfBytes side tiles sinks raster Fact = (i : Inputs) → AreOfBytes side tiles sinks raster i → Fact i
+abbrev pub OfBytes : ℕ → List TileBytes → Given → (SetProduct → RasterBytes) → (Inputs → Type 0) → Type 0
+OfBytes side tiles given raster Fact = (i : Inputs) → AreOfBytes side tiles given raster i → Fact i

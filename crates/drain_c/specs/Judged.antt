@@ -8,6 +8,7 @@ use Rattle.drain_c.specs.GivenDem.{DemInputs, OfDemBytes}
 use Rattle.drain_grid.specs.declared.judged.Judged.{Judged}
 use Rattle.drain_grid.specs.declared.judged.Judged.TheVariants.{Con, ConDir, ConDirAcc, ConDirBas, All}
 use Rattle.drain_grid.specs.Judged.{has_dir, has_acc, has_bas}
+use Rattle.drain_verdict.specs.Given.{Given}
 use Rattle.drain_verdict.specs.Inputs.{Inputs}
 
 -- the rasters that a number names: con counts 1, dir 2, acc 4, bas 8
@@ -24,9 +25,9 @@ judged_bytes judged ps = record {
 }
 
 -- the fact holds of the inputs that are these bytes
-abbrev pub OfJudgedBytes : ℕ → List TileBytes → List ℕ → Judged → AuditBytes → (Inputs → Type 0) → Type 0
-OfJudgedBytes side tiles sinks judged ps Fact = OfBytes side tiles sinks (audit_raster (judged_bytes judged ps)) Fact
+abbrev pub OfJudgedBytes : ℕ → List TileBytes → Given → Judged → AuditBytes → (Inputs → Type 0) → Type 0
+OfJudgedBytes side tiles given judged ps Fact = OfBytes side tiles given (audit_raster (judged_bytes judged ps)) Fact
 
 -- the same over one raster of elevations
-abbrev pub OfJudgedDem : RasterBytes → List ℕ → Judged → AuditBytes → (DemInputs → Type 0) → Type 0
-OfJudgedDem dem sinks judged ps Fact = OfDemBytes dem sinks (audit_raster (judged_bytes judged ps)) Fact
+abbrev pub OfJudgedDem : RasterBytes → Given → Judged → AuditBytes → (DemInputs → Type 0) → Type 0
+OfJudgedDem dem given judged ps Fact = OfDemBytes dem given (audit_raster (judged_bytes judged ps)) Fact

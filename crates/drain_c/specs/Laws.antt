@@ -1,4 +1,5 @@
 -- What the clauses about the bytes of a call rest on.
+use Rattle.drain_verdict.specs.Given.{Given}
 use Rattle.std.specs.Prelude.{ℕ, List}
 use Rattle.drain_c.specs.declared.given.TileBytes.{TileBytes}
 use Rattle.drain_c.specs.declared.given.RasterBytes.{RasterBytes}
@@ -9,8 +10,8 @@ use Rattle.drain_verdict.specs.Inputs.{Inputs}
 
 -- whatever the bytes are, there are inputs that are these bytes
 abbrev pub BytesAreInputs : Type 0
-BytesAreInputs = (side : ℕ) (tiles : List TileBytes) (sinks : List ℕ) (raster : SetProduct → RasterBytes) → (i : Inputs) × AreOfBytes side tiles sinks raster i
+BytesAreInputs = (side : ℕ) (tiles : List TileBytes) (given : Given) (raster : SetProduct → RasterBytes) → (i : Inputs) × AreOfBytes side tiles given raster i
 
 -- the same over one raster of elevations
 abbrev pub BytesAreDemInputs : Type 0
-BytesAreDemInputs = (dem : RasterBytes) (sinks : List ℕ) (raster : SetProduct → RasterBytes) → (i : DemInputs) × AreOfDem dem sinks raster i
+BytesAreDemInputs = (dem : RasterBytes) (given : Given) (raster : SetProduct → RasterBytes) → (i : DemInputs) × AreOfDem dem given raster i

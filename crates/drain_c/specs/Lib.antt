@@ -9,3 +9,4 @@ pub mod Shown
 pub mod Explained
 pub mod Derived
 pub mod Laws
+pub mod Spacings

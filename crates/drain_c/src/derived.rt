@@ -6,6 +6,7 @@ ghost use Rattle.drain_c.specs.Given.{OfBytes, audit_raster};
 ghost use Rattle.drain_c.specs.GivenDem.{OfDemBytes, dem_set};
 ghost use Rattle.drain_maker.specs.Derived.{AreDerivedIn, AreDerivedOf, IsDeriveRefusal, IsDeriveRefusalIn, AreCounts, IsCounts};
 ghost use Rattle.drain_raster.specs.Bytes.{CanSpellIn};
+ghost use Rattle.drain_verdict.specs.Given.{plain};
 ghost use Rattle.drain_verdict.specs.DemGround.{ElevationIsItsPixels};
 
 use crate::given::{AuditBytes, RasterBytes, TileBytes};
@@ -34,9 +35,9 @@ pub fn derive_rasters<'a>(
     tiles: &[TileBytes<'a>],
     products: &AuditBytes<'a>,
 ) -> Result<(Shape, Derived), DeriveRefusal>
-    ensures derived { IfOk result (λ made. OfBytes side tiles.now [] (audit_raster products.now) (λ inputs. AreDerivedOf inputs made.1)) }
+    ensures derived { IfOk result (λ made. OfBytes side tiles.now (plain []) (audit_raster products.now) (λ inputs. AreDerivedOf inputs made.1)) }
     ensures counts { IfOk result (λ made. AreCounts made.0 made.1) }
-    ensures err { IfErr result (λ why. OfBytes side tiles.now [] (audit_raster products.now) (λ inputs. IsDeriveRefusal inputs why)) }
+    ensures err { IfErr result (λ why. OfBytes side tiles.now (plain []) (audit_raster products.now) (λ inputs. IsDeriveRefusal inputs why)) }
 {
     let mut tiles = match tile_inputs(alloc, tiles) {
         Ok(tiles) => tiles,
@@ -56,10 +57,10 @@ pub fn derive_dem_rasters<'a>(
     dem: &RasterBytes<'a>,
     products: &AuditBytes<'a>,
 ) -> Result<(Shape, Derived), DeriveRefusal>
-    ensures derived { IfOk result (λ made. OfDemBytes dem.now [] (audit_raster products.now) (λ inputs. AreDerivedIn (dem_set inputs) made.1)) }
-    ensures elevation { IfOk result (λ made. OfDemBytes dem.now [] (audit_raster products.now) (λ inputs. ElevationIsItsPixels inputs.dem)) }
+    ensures derived { IfOk result (λ made. OfDemBytes dem.now (plain []) (audit_raster products.now) (λ inputs. AreDerivedIn (dem_set inputs) made.1)) }
+    ensures elevation { IfOk result (λ made. OfDemBytes dem.now (plain []) (audit_raster products.now) (λ inputs. ElevationIsItsPixels inputs.dem)) }
     ensures counts { IfOk result (λ made. AreCounts made.0 made.1) }
-    ensures err { IfErr result (λ why. OfDemBytes dem.now [] (audit_raster products.now) (λ inputs. IsDeriveRefusalIn (dem_set inputs) why)) }
+    ensures err { IfErr result (λ why. OfDemBytes dem.now (plain []) (audit_raster products.now) (λ inputs. IsDeriveRefusalIn (dem_set inputs) why)) }
 {
     let mut dem = match raster_input(alloc, dem) {
         Ok(dem) => [dem],

@@ -6,6 +6,7 @@ ghost use Rattle.drain_c.specs.Given.{OfBytes, audit_raster};
 ghost use Rattle.drain_c.specs.Shown.{Reports, ShowsMissing};
 ghost use Rattle.drain_c.specs.Whole.{is_audit_whole};
 ghost use Rattle.drain_answer.specs.AuditLines.{audit_report_line};
+ghost use Rattle.drain_verdict.specs.Given.{plain};
 ghost use Rattle.drain_verdict.specs.Answers.{AreCorrect, IsAuditAnswer};
 ghost use Rattle.drain_verdict.specs.Headline.{TilesAreOne, ElevationIsTheirs};
 
@@ -13,6 +14,7 @@ use crate::answer::{Answer, show_audit, show_missing};
 use crate::given::{AuditBytes, TileBytes};
 use crate::judge::judge_audit;
 use crate::whole::is_audit_whole;
+use drain_verdict::Given;
 use std::alloc::Global;
 
 /// Whether the four rasters are correct for the tiles: 0 where they are, 1 where they aren't, 2 where the bytes have no
@@ -27,24 +29,24 @@ pub extern "C" fn drain_audit<'a>(
     answer: &mut Answer,
 ) -> u32
     // Where it gives a verdict, it is 0 exactly where the rasters are correct.
-    ensures exactly { result < 2 → OfBytes side tiles.now sinks.now (audit_raster rasters.now) (λ inputs. (result ≡ 0) ↔ AreCorrect inputs) }
+    ensures exactly { result < 2 → OfBytes side tiles.now (plain sinks.now) (audit_raster rasters.now) (λ inputs. (result ≡ 0) ↔ AreCorrect inputs) }
 
     // And then the tiles agree on one elevation raster.
-    ensures tiles_agree { result < 2 → OfBytes side tiles.now sinks.now (audit_raster rasters.now) TilesAreOne }
-    ensures elevation { result < 2 → OfBytes side tiles.now sinks.now (audit_raster rasters.now) ElevationIsTheirs }
+    ensures tiles_agree { result < 2 → OfBytes side tiles.now (plain sinks.now) (audit_raster rasters.now) TilesAreOne }
+    ensures elevation { result < 2 → OfBytes side tiles.now (plain sinks.now) (audit_raster rasters.now) ElevationIsTheirs }
 
     // Where bytes are missing, for which C had NULL, it says so.
     ensures missing { IsFalse (is_audit_whole tiles.now rasters.now) → ShowsMissing answer.new }
 
     // Else what it writes is the answer of an audit of these bytes: the numbers, and the line that the program prints.
-    ensures answer { IsTrue (is_audit_whole tiles.now rasters.now) → OfBytes side tiles.now sinks.now (audit_raster rasters.now) (λ inputs. Reports (IsAuditAnswer inputs) audit_found audit_report_line answer.new) }
+    ensures answer { IsTrue (is_audit_whole tiles.now rasters.now) → OfBytes side tiles.now (plain sinks.now) (audit_raster rasters.now) (λ inputs. Reports (IsAuditAnswer inputs) audit_found audit_report_line answer.new) }
     ensures status { answer.new.status ≡ result }
 {
     if !is_audit_whole(tiles, rasters) {
         show_missing(answer);
         return answer.status;
     }
-    let judged = judge_audit(alloc, side, tiles, sinks, rasters);
+    let judged = judge_audit(alloc, side, tiles, &Given::plain(sinks), rasters);
     show_audit(&judged, answer);
     answer.status
 }

@@ -9,6 +9,7 @@ ghost use Rattle.drain_c.specs.Judged.{OfJudgedDem, judged_bytes, judged_of};
 ghost use Rattle.drain_c.specs.Shown.{Reports, ShowsBadChoice, ShowsMissing};
 ghost use Rattle.drain_c.specs.Whole.{is_dem_audit_whole};
 ghost use Rattle.drain_grid.specs.Judged.{has_rnk};
+ghost use Rattle.drain_verdict.specs.Given.{plain};
 ghost use Rattle.drain_verdict.specs.DemGround.{ElevationIsItsPixels};
 ghost use Rattle.drain_verdict.specs.Outcomes.{AreRightIn, IsOutcomeIn};
 
@@ -18,6 +19,7 @@ use crate::judge_dem::judge_dem_some;
 use crate::judged::{judged_bytes, judged_of};
 use crate::whole::is_dem_audit_whole;
 use drain_grid::Judged;
+use drain_verdict::Given;
 use std::alloc::Global;
 
 /// Whether the judged rasters are right for the raster of elevations, part of a correct set: 0 where they are, 1 where they
@@ -36,22 +38,22 @@ pub extern "C" fn drain_audit_only_dem<'a>(
     ensures unknown { IsNone (judged_of judged) → ShowsBadChoice answer.new }
 
     // Where it gives a verdict, it is 0 exactly where the judged rasters are right.
-    ensures exactly { IfSome (judged_of judged) (λ some. result < 2 → OfJudgedDem dem.now sinks.now some rasters.now (λ inputs. (result ≡ 0) ↔ AreRightIn some (dem_set inputs))) }
+    ensures exactly { IfSome (judged_of judged) (λ some. result < 2 → OfJudgedDem dem.now (plain sinks.now) some rasters.now (λ inputs. (result ≡ 0) ↔ AreRightIn some (dem_set inputs))) }
 
     // And then each cell's elevation is the pixel that the bytes mean.
-    ensures elevation { IfSome (judged_of judged) (λ some. result < 2 → OfJudgedDem dem.now sinks.now some rasters.now (λ inputs. ElevationIsItsPixels inputs.dem)) }
+    ensures elevation { IfSome (judged_of judged) (λ some. result < 2 → OfJudgedDem dem.now (plain sinks.now) some rasters.now (λ inputs. ElevationIsItsPixels inputs.dem)) }
 
     // Where bytes of a judged raster or of the elevations are missing, for which C had NULL, it says so.
     ensures missing { IfSome (judged_of judged) (λ some. IsFalse (is_dem_audit_whole dem.now (judged_bytes some rasters.now)) → ShowsMissing answer.new) }
 
     // Else what it writes is the answer of an audit of these rasters: the numbers, and the line that the program prints.
-    ensures answer { IfSome (judged_of judged) (λ some. IsTrue (is_dem_audit_whole dem.now (judged_bytes some rasters.now)) → OfJudgedDem dem.now sinks.now some rasters.now (λ inputs. Reports (IsOutcomeIn some (dem_set inputs)) outcome_found outcome_report_line answer.new)) }
+    ensures answer { IfSome (judged_of judged) (λ some. IsTrue (is_dem_audit_whole dem.now (judged_bytes some rasters.now)) → OfJudgedDem dem.now (plain sinks.now) some rasters.now (λ inputs. Reports (IsOutcomeIn some (dem_set inputs)) outcome_found outcome_report_line answer.new)) }
     ensures status { answer.new.status ≡ result }
 {
     match judged_of(judged) {
         Some(judged) => {
             let rasters = judged_bytes(judged, rasters);
-            audit_judged_dem(alloc, dem, sinks, &rasters, judged, answer)
+            audit_judged_dem(alloc, dem, &Given::plain(sinks), &rasters, judged, answer)
         }
         None => {
             show_bad_choice(answer);
@@ -61,25 +63,25 @@ pub extern "C" fn drain_audit_only_dem<'a>(
 }
 
 /// The same of these rasters.
-fn audit_judged_dem<'a>(
+pub(crate) fn audit_judged_dem<'a>(
     alloc: Global,
     dem: &RasterBytes<'a>,
-    sinks: &[u8],
+    given: &Given,
     rasters: &AuditBytes<'a>,
     judged: Judged,
     answer: &mut Answer,
 ) -> u32
-    ensures exactly { has_rnk judged ≡ false → result < 2 → OfDemBytes dem.now sinks.now (audit_raster rasters.now) (λ inputs. (result ≡ 0) ↔ AreRightIn judged (dem_set inputs)) }
-    ensures elevation { result < 2 → OfDemBytes dem.now sinks.now (audit_raster rasters.now) (λ inputs. ElevationIsItsPixels inputs.dem) }
+    ensures exactly { has_rnk judged ≡ false → result < 2 → OfDemBytes dem.now given.now (audit_raster rasters.now) (λ inputs. (result ≡ 0) ↔ AreRightIn judged (dem_set inputs)) }
+    ensures elevation { result < 2 → OfDemBytes dem.now given.now (audit_raster rasters.now) (λ inputs. ElevationIsItsPixels inputs.dem) }
     ensures missing { IsFalse (is_dem_audit_whole dem.now rasters.now) → ShowsMissing answer.new }
-    ensures answer { IsTrue (is_dem_audit_whole dem.now rasters.now) → OfDemBytes dem.now sinks.now (audit_raster rasters.now) (λ inputs. Reports (IsOutcomeIn judged (dem_set inputs)) outcome_found outcome_report_line answer.new) }
+    ensures answer { IsTrue (is_dem_audit_whole dem.now rasters.now) → OfDemBytes dem.now given.now (audit_raster rasters.now) (λ inputs. Reports (IsOutcomeIn judged (dem_set inputs)) outcome_found outcome_report_line answer.new) }
     ensures status { answer.new.status ≡ result }
 {
     if !is_dem_audit_whole(dem, rasters) {
         show_missing(answer);
         return answer.status;
     }
-    let outcome = judge_dem_some(alloc, dem, sinks, rasters, judged);
+    let outcome = judge_dem_some(alloc, dem, given, rasters, judged);
     show_outcome(&outcome, answer);
     answer.status
 }

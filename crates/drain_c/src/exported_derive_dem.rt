@@ -6,6 +6,7 @@ ghost use Rattle.drain_c.specs.Given.{audit_raster};
 ghost use Rattle.drain_c.specs.GivenDem.{OfDemBytes, dem_set};
 ghost use Rattle.drain_c.specs.Shown.{ShowsMissing};
 ghost use Rattle.drain_c.specs.Whole.{is_dem_audit_whole};
+ghost use Rattle.drain_verdict.specs.Given.{plain};
 ghost use Rattle.drain_verdict.specs.DemGround.{ElevationIsItsPixels};
 
 use crate::answer::{Answer, show_missing};
@@ -33,15 +34,15 @@ pub extern "C" fn drain_derive_dem<'a>(
     ensures missing { IsFalse (is_dem_audit_whole dem.now (directions_alone dir.now)) → ShowsMissing answer.new }
 
     // Else what it writes is the first reason why nothing follows, or that it does; or that memory has another length.
-    ensures answer { IsTrue (is_dem_audit_whole dem.now (directions_alone dir.now)) → OfDemBytes dem.now [] (audit_raster (directions_alone dir.now)) (λ inputs. ReportsDerivation (dem_set inputs) acc.old bas.old rnk.old answer.new) }
+    ensures answer { IsTrue (is_dem_audit_whole dem.now (directions_alone dir.now)) → OfDemBytes dem.now (plain []) (audit_raster (directions_alone dir.now)) (λ inputs. ReportsDerivation (dem_set inputs) acc.old bas.old rnk.old answer.new) }
     ensures status { answer.new.status ≡ result }
 
     // With status 0 the rasters are written, else nothing.
-    ensures derived { result ≡ 0 → OfDemBytes dem.now [] (audit_raster (directions_alone dir.now)) (λ inputs. AreDerivedNumbers (dem_set inputs) acc.new bas.new rnk.new) }
+    ensures derived { result ≡ 0 → OfDemBytes dem.now (plain []) (audit_raster (directions_alone dir.now)) (λ inputs. AreDerivedNumbers (dem_set inputs) acc.new bas.new rnk.new) }
     ensures unwritten { result ≢ 0 → (acc.new ≡ acc.old) × (bas.new ≡ bas.old) × (rnk.new ≡ rnk.old) }
 
     // And with status 0 each cell's elevation is the pixel that the bytes mean.
-    ensures elevation { result ≡ 0 → OfDemBytes dem.now [] (audit_raster (directions_alone dir.now)) (λ inputs. ElevationIsItsPixels inputs.dem) }
+    ensures elevation { result ≡ 0 → OfDemBytes dem.now (plain []) (audit_raster (directions_alone dir.now)) (λ inputs. ElevationIsItsPixels inputs.dem) }
 {
     let rasters = directions_alone(dir);
     if !is_dem_audit_whole(dem, &rasters) {

@@ -6,6 +6,7 @@ ghost use Rattle.drain_c.specs.Given.{OfBytes, audit_raster};
 ghost use Rattle.drain_c.specs.Judged.{OfJudgedBytes, judged_bytes, judged_of};
 ghost use Rattle.drain_c.specs.Shown.{ShowsBadChoice, ShowsMissing};
 ghost use Rattle.drain_c.specs.Whole.{is_audit_whole};
+ghost use Rattle.drain_verdict.specs.Given.{plain};
 ghost use Rattle.drain_verdict.specs.TileGround.{set_of};
 
 use crate::answer::{Answer, show_bad_choice, show_missing};
@@ -16,6 +17,7 @@ use crate::judged::{judged_bytes, judged_of};
 use crate::show_explained::show_explained;
 use crate::whole::is_audit_whole;
 use drain_grid::Judged;
+use drain_verdict::Given;
 use std::alloc::Global;
 
 /// The answer of `drain_audit_only` with what explains it: the cells at which each rule about the judged rasters fails,
@@ -38,18 +40,18 @@ pub extern "C" fn drain_explain<'a>(
 
     // Else what it writes is the answer of an audit of these rasters; or, if this is no refusal and the map's memory has
     // another length, that refusal.
-    ensures answer { IfSome (judged_of judged) (λ some. IsTrue (is_audit_whole tiles.now (judged_bytes some rasters.now)) → OfJudgedBytes side tiles.now sinks.now some rasters.now (λ inputs. ReportsMapped some (set_of inputs) map.old answer.new)) }
+    ensures answer { IfSome (judged_of judged) (λ some. IsTrue (is_audit_whole tiles.now (judged_bytes some rasters.now)) → OfJudgedBytes side tiles.now (plain sinks.now) some rasters.now (λ inputs. ReportsMapped some (set_of inputs) map.old answer.new)) }
     ensures status { answer.new.status ≡ result }
 
     // With a verdict what explains it is written, else nothing.
-    ensures explained { IfSome (judged_of judged) (λ some. result < 2 → OfJudgedBytes side tiles.now sinks.now some rasters.now (λ inputs. Explains some (set_of inputs) faults.new map.new)) }
+    ensures explained { IfSome (judged_of judged) (λ some. result < 2 → OfJudgedBytes side tiles.now (plain sinks.now) some rasters.now (λ inputs. Explains some (set_of inputs) faults.new map.new)) }
     ensures unwritten { 2 ≤ result → (map.new ≡ map.old) × (faults.new ≡ faults.old) }
 {
     match judged_of(judged) {
         Some(judged) => {
             let rasters = judged_bytes(judged, rasters);
             explain_judged(
-                alloc, side, tiles, sinks, &rasters, judged, map, faults, answer,
+                alloc, side, tiles, &Given::plain(sinks), &rasters, judged, map, faults, answer,
             )
         }
         None => {
@@ -60,11 +62,11 @@ pub extern "C" fn drain_explain<'a>(
 }
 
 /// The same of these rasters.
-fn explain_judged<'a>(
+pub(crate) fn explain_judged<'a>(
     alloc: Global,
     side: u32,
     tiles: &[TileBytes<'a>],
-    sinks: &[u8],
+    given: &Given,
     rasters: &AuditBytes<'a>,
     judged: Judged,
     map: &mut [u8],
@@ -72,16 +74,16 @@ fn explain_judged<'a>(
     answer: &mut Answer,
 ) -> u32
     ensures missing { IsFalse (is_audit_whole tiles.now rasters.now) → ShowsMissing answer.new }
-    ensures answer { IsTrue (is_audit_whole tiles.now rasters.now) → OfBytes side tiles.now sinks.now (audit_raster rasters.now) (λ inputs. ReportsMapped judged (set_of inputs) map.old answer.new) }
+    ensures answer { IsTrue (is_audit_whole tiles.now rasters.now) → OfBytes side tiles.now given.now (audit_raster rasters.now) (λ inputs. ReportsMapped judged (set_of inputs) map.old answer.new) }
     ensures status { answer.new.status ≡ result }
-    ensures explained { result < 2 → OfBytes side tiles.now sinks.now (audit_raster rasters.now) (λ inputs. Explains judged (set_of inputs) faults.new map.new) }
+    ensures explained { result < 2 → OfBytes side tiles.now given.now (audit_raster rasters.now) (λ inputs. Explains judged (set_of inputs) faults.new map.new) }
     ensures unwritten { 2 ≤ result → (map.new ≡ map.old) × (faults.new ≡ faults.old) }
 {
     if !is_audit_whole(tiles, rasters) {
         show_missing(answer);
         return answer.status;
     }
-    let explained = judge_explained(alloc, side, tiles, sinks, rasters, judged);
+    let explained = judge_explained(alloc, side, tiles, given, rasters, judged);
     show_explained(&explained, map, faults, answer);
     answer.status
 }

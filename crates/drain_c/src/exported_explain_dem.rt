@@ -7,6 +7,7 @@ ghost use Rattle.drain_c.specs.GivenDem.{OfDemBytes, dem_set};
 ghost use Rattle.drain_c.specs.Judged.{OfJudgedDem, judged_bytes, judged_of};
 ghost use Rattle.drain_c.specs.Shown.{ShowsBadChoice, ShowsMissing};
 ghost use Rattle.drain_c.specs.Whole.{is_dem_audit_whole};
+ghost use Rattle.drain_verdict.specs.Given.{plain};
 ghost use Rattle.drain_verdict.specs.DemGround.{ElevationIsItsPixels};
 
 use crate::answer::{Answer, show_bad_choice, show_missing};
@@ -17,6 +18,7 @@ use crate::judged::{judged_bytes, judged_of};
 use crate::show_explained::show_explained;
 use crate::whole::is_dem_audit_whole;
 use drain_grid::Judged;
+use drain_verdict::Given;
 use std::alloc::Global;
 
 /// The answer of `drain_audit_only_dem` with what explains it: the cells at which each rule about the judged rasters
@@ -38,20 +40,20 @@ pub extern "C" fn drain_explain_dem<'a>(
 
     // Else what it writes is the answer of an audit of these rasters; or, if this is no refusal and the map's memory has
     // another length, that refusal.
-    ensures answer { IfSome (judged_of judged) (λ some. IsTrue (is_dem_audit_whole dem.now (judged_bytes some rasters.now)) → OfJudgedDem dem.now sinks.now some rasters.now (λ inputs. ReportsMapped some (dem_set inputs) map.old answer.new)) }
+    ensures answer { IfSome (judged_of judged) (λ some. IsTrue (is_dem_audit_whole dem.now (judged_bytes some rasters.now)) → OfJudgedDem dem.now (plain sinks.now) some rasters.now (λ inputs. ReportsMapped some (dem_set inputs) map.old answer.new)) }
     ensures status { answer.new.status ≡ result }
 
     // With a verdict what explains it is written, else nothing.
-    ensures explained { IfSome (judged_of judged) (λ some. result < 2 → OfJudgedDem dem.now sinks.now some rasters.now (λ inputs. Explains some (dem_set inputs) faults.new map.new)) }
+    ensures explained { IfSome (judged_of judged) (λ some. result < 2 → OfJudgedDem dem.now (plain sinks.now) some rasters.now (λ inputs. Explains some (dem_set inputs) faults.new map.new)) }
     ensures unwritten { 2 ≤ result → (map.new ≡ map.old) × (faults.new ≡ faults.old) }
 
     // And with a verdict each cell's elevation is the pixel that the bytes mean.
-    ensures elevation { IfSome (judged_of judged) (λ some. result < 2 → OfJudgedDem dem.now sinks.now some rasters.now (λ inputs. ElevationIsItsPixels inputs.dem)) }
+    ensures elevation { IfSome (judged_of judged) (λ some. result < 2 → OfJudgedDem dem.now (plain sinks.now) some rasters.now (λ inputs. ElevationIsItsPixels inputs.dem)) }
 {
     match judged_of(judged) {
         Some(judged) => {
             let rasters = judged_bytes(judged, rasters);
-            explain_judged_dem(alloc, dem, sinks, &rasters, judged, map, faults, answer)
+            explain_judged_dem(alloc, dem, &Given::plain(sinks), &rasters, judged, map, faults, answer)
         }
         None => {
             show_bad_choice(answer);
@@ -61,10 +63,10 @@ pub extern "C" fn drain_explain_dem<'a>(
 }
 
 /// The same of these rasters.
-fn explain_judged_dem<'a>(
+pub(crate) fn explain_judged_dem<'a>(
     alloc: Global,
     dem: &RasterBytes<'a>,
-    sinks: &[u8],
+    given: &Given,
     rasters: &AuditBytes<'a>,
     judged: Judged,
     map: &mut [u8],
@@ -72,17 +74,17 @@ fn explain_judged_dem<'a>(
     answer: &mut Answer,
 ) -> u32
     ensures missing { IsFalse (is_dem_audit_whole dem.now rasters.now) → ShowsMissing answer.new }
-    ensures answer { IsTrue (is_dem_audit_whole dem.now rasters.now) → OfDemBytes dem.now sinks.now (audit_raster rasters.now) (λ inputs. ReportsMapped judged (dem_set inputs) map.old answer.new) }
+    ensures answer { IsTrue (is_dem_audit_whole dem.now rasters.now) → OfDemBytes dem.now given.now (audit_raster rasters.now) (λ inputs. ReportsMapped judged (dem_set inputs) map.old answer.new) }
     ensures status { answer.new.status ≡ result }
-    ensures explained { result < 2 → OfDemBytes dem.now sinks.now (audit_raster rasters.now) (λ inputs. Explains judged (dem_set inputs) faults.new map.new) }
+    ensures explained { result < 2 → OfDemBytes dem.now given.now (audit_raster rasters.now) (λ inputs. Explains judged (dem_set inputs) faults.new map.new) }
     ensures unwritten { 2 ≤ result → (map.new ≡ map.old) × (faults.new ≡ faults.old) }
-    ensures elevation { result < 2 → OfDemBytes dem.now sinks.now (audit_raster rasters.now) (λ inputs. ElevationIsItsPixels inputs.dem) }
+    ensures elevation { result < 2 → OfDemBytes dem.now given.now (audit_raster rasters.now) (λ inputs. ElevationIsItsPixels inputs.dem) }
 {
     if !is_dem_audit_whole(dem, rasters) {
         show_missing(answer);
         return answer.status;
     }
-    let explained = judge_dem_explained(alloc, dem, sinks, rasters, judged);
+    let explained = judge_dem_explained(alloc, dem, given, rasters, judged);
     show_explained(&explained, map, faults, answer);
     answer.status
 }

@@ -42,3 +42,12 @@ pub struct CheckBytes<'a> {
     pub bas: RasterBytes<'a>,
     pub rnk: RasterBytes<'a>,
 }
+
+/// How far apart cells are: a width and a height of all cells; or, where both are 0, a text with a line for each row.
+#[derive(Clone, Copy)]
+#[repr(C)]
+pub struct SpacingBytes<'a> {
+    pub width: u32,
+    pub height: u32,
+    pub widths: GivenBytes<'a>,
+}

@@ -15,7 +15,9 @@ use crate::sources::{audit_inputs, check_inputs, tile_inputs};
 use drain_explain::{Explanation, Mapping, explain_audit};
 use drain_grid::{Judged, Verdict};
 use drain_mosaic::Layout;
-use drain_verdict::{AuditVerdict, Outcome, Refusal, audit, audit_part, check};
+use drain_verdict::{
+    AuditVerdict, Given, Outcome, Refusal, audit_given, audit_part, check_given,
+};
 use std::alloc::Global;
 
 /// The answer of an audit.
@@ -23,17 +25,17 @@ pub fn judge_audit<'a>(
     alloc: Global,
     side: u32,
     tiles: &[TileBytes<'a>],
-    sinks: &[u8],
+    given: &Given,
     products: &AuditBytes<'a>,
 ) -> Result<AuditVerdict, Refusal>
-    ensures answer { OfBytes side tiles.now sinks.now (audit_raster products.now) (λ inputs. IsAuditAnswer inputs result) }
-    ensures exactly { IfOk result (λ verdict. OfBytes side tiles.now sinks.now (audit_raster products.now) (λ inputs. IsAcceptance verdict ↔ AreCorrect inputs)) }
-    ensures tiles_agree { IfOk result (λ verdict. OfBytes side tiles.now sinks.now (audit_raster products.now) TilesAreOne) }
-    ensures elevation { IfOk result (λ verdict. OfBytes side tiles.now sinks.now (audit_raster products.now) ElevationIsTheirs) }
+    ensures answer { OfBytes side tiles.now given.now (audit_raster products.now) (λ inputs. IsAuditAnswer inputs result) }
+    ensures exactly { IfOk result (λ verdict. OfBytes side tiles.now given.now (audit_raster products.now) (λ inputs. IsAcceptance verdict ↔ AreCorrect inputs)) }
+    ensures tiles_agree { IfOk result (λ verdict. OfBytes side tiles.now given.now (audit_raster products.now) TilesAreOne) }
+    ensures elevation { IfOk result (λ verdict. OfBytes side tiles.now given.now (audit_raster products.now) ElevationIsTheirs) }
 {
     let mut tiles = tile_inputs(alloc, tiles)?;
     let mut products = audit_inputs(alloc, products)?;
-    audit(alloc, side, tiles.as_mut_slice(), sinks, &mut products)
+    audit_given(alloc, side, tiles.as_mut_slice(), given, &mut products)
 }
 
 /// The answer of an audit of some rasters.
@@ -41,12 +43,12 @@ pub fn judge_some<'a>(
     alloc: Global,
     side: u32,
     tiles: &[TileBytes<'a>],
-    sinks: &[u8],
+    given: &Given,
     products: &AuditBytes<'a>,
     judged: Judged,
 ) -> Result<Outcome, Refusal>
-    ensures answer { OfBytes side tiles.now sinks.now (audit_raster products.now) (λ inputs. IsOutcomeAnswer judged inputs result) }
-    ensures exactly { has_rnk judged ≡ false → IfOk result (λ outcome. OfBytes side tiles.now sinks.now (audit_raster products.now) (λ inputs. IsAcceptedOutcome outcome ↔ AreJudgedRight judged inputs)) }
+    ensures answer { OfBytes side tiles.now given.now (audit_raster products.now) (λ inputs. IsOutcomeAnswer judged inputs result) }
+    ensures exactly { has_rnk judged ≡ false → IfOk result (λ outcome. OfBytes side tiles.now given.now (audit_raster products.now) (λ inputs. IsAcceptedOutcome outcome ↔ AreJudgedRight judged inputs)) }
 {
     let mut tiles = tile_inputs(alloc, tiles)?;
     let mut products = audit_inputs(alloc, products)?;
@@ -54,7 +56,7 @@ pub fn judge_some<'a>(
         alloc,
         side,
         tiles.as_mut_slice(),
-        sinks,
+        given,
         &mut products,
         judged,
     )
@@ -65,19 +67,19 @@ pub fn judge_explained<'a>(
     alloc: Global,
     side: u32,
     tiles: &[TileBytes<'a>],
-    sinks: &[u8],
+    given: &Given,
     products: &AuditBytes<'a>,
     judged: Judged,
 ) -> Result<Explanation<Layout>, Refusal>
-    ensures answer { OfBytes side tiles.now sinks.now (audit_raster products.now) (λ inputs. IsOutcomeAnswer judged inputs (answer_in result)) }
-    ensures explained { IfOk result (λ e. OfBytes side tiles.now sinks.now (audit_raster products.now) (λ inputs. AreFindingsOf judged inputs e.findings)) }
+    ensures answer { OfBytes side tiles.now given.now (audit_raster products.now) (λ inputs. IsOutcomeAnswer judged inputs (answer_in result)) }
+    ensures explained { IfOk result (λ e. OfBytes side tiles.now given.now (audit_raster products.now) (λ inputs. AreFindingsOf judged inputs e.findings)) }
     ensures drawn { IfOk result (λ e. IsSome e.findings.map) }
 {
     let mut tiles = tile_inputs(alloc, tiles)?;
     let mut products = audit_inputs(alloc, products)?;
     let tiles = tiles.as_mut_slice();
     let mapping = Mapping::Drawn;
-    explain_audit(alloc, side, tiles, sinks, &mut products, judged, mapping)
+    explain_audit(alloc, side, tiles, given, &mut products, judged, mapping)
 }
 
 /// The answer of a check.
@@ -85,13 +87,13 @@ pub fn judge_check<'a>(
     alloc: Global,
     side: u32,
     tiles: &[TileBytes<'a>],
-    sinks: &[u8],
+    given: &Given,
     products: &CheckBytes<'a>,
 ) -> Result<Verdict, Refusal>
-    ensures answer { OfBytes side tiles.now sinks.now (check_raster products.now) (λ inputs. IsAnswer inputs result) }
-    ensures right { IfAccepted result (OfBytes side tiles.now sinks.now (check_raster products.now) IsRight) }
+    ensures answer { OfBytes side tiles.now given.now (check_raster products.now) (λ inputs. IsAnswer inputs result) }
+    ensures right { IfAccepted result (OfBytes side tiles.now given.now (check_raster products.now) IsRight) }
 {
     let mut tiles = tile_inputs(alloc, tiles)?;
     let mut products = check_inputs(alloc, products)?;
-    check(alloc, side, tiles.as_mut_slice(), sinks, &mut products)
+    check_given(alloc, side, tiles.as_mut_slice(), given, &mut products)
 }

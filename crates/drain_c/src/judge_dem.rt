@@ -17,73 +17,75 @@ use crate::sources::{audit_inputs, check_inputs, raster_input};
 use drain_explain::{Explanation, Mapping, explain_audit_dem};
 use drain_grid::{Judged, Verdict};
 use drain_header::Header;
-use drain_verdict::{AuditVerdict, Outcome, Refusal, audit_dem, audit_part_dem, check_dem};
+use drain_verdict::{
+    AuditVerdict, Given, Outcome, Refusal, audit_dem, audit_part_dem, check_dem,
+};
 use std::alloc::Global;
 
 /// The answer of an audit.
 pub fn judge_dem_audit<'a>(
     alloc: Global,
     dem: &RasterBytes<'a>,
-    sinks: &[u8],
+    given: &Given,
     products: &AuditBytes<'a>,
 ) -> Result<AuditVerdict, Refusal>
-    ensures answer { OfDemBytes dem.now sinks.now (audit_raster products.now) (λ inputs. IsAuditIn (dem_set inputs) result) }
-    ensures exactly { IfOk result (λ verdict. OfDemBytes dem.now sinks.now (audit_raster products.now) (λ inputs. IsAcceptance verdict ↔ AreCorrectIn (dem_set inputs))) }
-    ensures elevation { IfOk result (λ verdict. OfDemBytes dem.now sinks.now (audit_raster products.now) (λ inputs. ElevationIsItsPixels inputs.dem)) }
+    ensures answer { OfDemBytes dem.now given.now (audit_raster products.now) (λ inputs. IsAuditIn (dem_set inputs) result) }
+    ensures exactly { IfOk result (λ verdict. OfDemBytes dem.now given.now (audit_raster products.now) (λ inputs. IsAcceptance verdict ↔ AreCorrectIn (dem_set inputs))) }
+    ensures elevation { IfOk result (λ verdict. OfDemBytes dem.now given.now (audit_raster products.now) (λ inputs. ElevationIsItsPixels inputs.dem)) }
 {
     let mut dem = [raster_input(alloc, dem)?];
     let mut products = audit_inputs(alloc, products)?;
-    audit_dem(alloc, &mut dem, sinks, &mut products)
+    audit_dem(alloc, &mut dem, given, &mut products)
 }
 
 /// The answer of an audit of some rasters.
 pub fn judge_dem_some<'a>(
     alloc: Global,
     dem: &RasterBytes<'a>,
-    sinks: &[u8],
+    given: &Given,
     products: &AuditBytes<'a>,
     judged: Judged,
 ) -> Result<Outcome, Refusal>
-    ensures answer { OfDemBytes dem.now sinks.now (audit_raster products.now) (λ inputs. IsOutcomeIn judged (dem_set inputs) result) }
-    ensures elevation { IfOk result (λ outcome. OfDemBytes dem.now sinks.now (audit_raster products.now) (λ inputs. ElevationIsItsPixels inputs.dem)) }
-    ensures exactly { has_rnk judged ≡ false → IfOk result (λ outcome. OfDemBytes dem.now sinks.now (audit_raster products.now) (λ inputs. IsAcceptedOutcome outcome ↔ AreRightIn judged (dem_set inputs))) }
+    ensures answer { OfDemBytes dem.now given.now (audit_raster products.now) (λ inputs. IsOutcomeIn judged (dem_set inputs) result) }
+    ensures elevation { IfOk result (λ outcome. OfDemBytes dem.now given.now (audit_raster products.now) (λ inputs. ElevationIsItsPixels inputs.dem)) }
+    ensures exactly { has_rnk judged ≡ false → IfOk result (λ outcome. OfDemBytes dem.now given.now (audit_raster products.now) (λ inputs. IsAcceptedOutcome outcome ↔ AreRightIn judged (dem_set inputs))) }
 {
     let mut dem = [raster_input(alloc, dem)?];
     let mut products = audit_inputs(alloc, products)?;
-    audit_part_dem(alloc, &mut dem, sinks, &mut products, judged)
+    audit_part_dem(alloc, &mut dem, given, &mut products, judged)
 }
 
 /// The answer of an audit of some rasters with what explains it, and a map.
 pub fn judge_dem_explained<'a>(
     alloc: Global,
     dem: &RasterBytes<'a>,
-    sinks: &[u8],
+    given: &Given,
     products: &AuditBytes<'a>,
     judged: Judged,
 ) -> Result<Explanation<Header>, Refusal>
-    ensures answer { OfDemBytes dem.now sinks.now (audit_raster products.now) (λ inputs. IsOutcomeIn judged (dem_set inputs) (answer_in result)) }
-    ensures explained { IfOk result (λ e. OfDemBytes dem.now sinks.now (audit_raster products.now) (λ inputs. AreFindingsIn judged (dem_set inputs) e.findings)) }
+    ensures answer { OfDemBytes dem.now given.now (audit_raster products.now) (λ inputs. IsOutcomeIn judged (dem_set inputs) (answer_in result)) }
+    ensures explained { IfOk result (λ e. OfDemBytes dem.now given.now (audit_raster products.now) (λ inputs. AreFindingsIn judged (dem_set inputs) e.findings)) }
     ensures drawn { IfOk result (λ e. IsSome e.findings.map) }
-    ensures elevation { IfOk result (λ e. OfDemBytes dem.now sinks.now (audit_raster products.now) (λ inputs. ElevationIsItsPixels inputs.dem)) }
+    ensures elevation { IfOk result (λ e. OfDemBytes dem.now given.now (audit_raster products.now) (λ inputs. ElevationIsItsPixels inputs.dem)) }
 {
     let mut dem = [raster_input(alloc, dem)?];
     let mut products = audit_inputs(alloc, products)?;
     let mapping = Mapping::Drawn;
-    explain_audit_dem(alloc, &mut dem, sinks, &mut products, judged, mapping)
+    explain_audit_dem(alloc, &mut dem, given, &mut products, judged, mapping)
 }
 
 /// The answer of a check.
 pub fn judge_dem_check<'a>(
     alloc: Global,
     dem: &RasterBytes<'a>,
-    sinks: &[u8],
+    given: &Given,
     products: &CheckBytes<'a>,
 ) -> Result<Verdict, Refusal>
-    ensures answer { OfDemBytes dem.now sinks.now (check_raster products.now) (λ inputs. IsAnswerIn (dem_set inputs) result) }
-    ensures elevation { IfOk result (λ verdict. OfDemBytes dem.now sinks.now (check_raster products.now) (λ inputs. ElevationIsItsPixels inputs.dem)) }
-    ensures right { IfAccepted result (OfDemBytes dem.now sinks.now (check_raster products.now) (λ inputs. ProductsAreRight (dem_set inputs))) }
+    ensures answer { OfDemBytes dem.now given.now (check_raster products.now) (λ inputs. IsAnswerIn (dem_set inputs) result) }
+    ensures elevation { IfOk result (λ verdict. OfDemBytes dem.now given.now (check_raster products.now) (λ inputs. ElevationIsItsPixels inputs.dem)) }
+    ensures right { IfAccepted result (OfDemBytes dem.now given.now (check_raster products.now) (λ inputs. ProductsAreRight (dem_set inputs))) }
 {
     let mut dem = [raster_input(alloc, dem)?];
     let mut products = check_inputs(alloc, products)?;
-    check_dem(alloc, &mut dem, sinks, &mut products)
+    check_dem(alloc, &mut dem, given, &mut products)
 }

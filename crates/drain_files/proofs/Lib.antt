@@ -1,1 +1,2 @@
+mod LowestTerms
 pub mod PathLemmas

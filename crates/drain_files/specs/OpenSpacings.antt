@@ -43,8 +43,8 @@ IsHeaderSpacing text s = (h : Fields) → Answers text (Ok h) → IsPixelSpacing
 
 -- that of the raster of elevations; of tiles unit spacing
 abbrev pub IsOpenSpacing : {R : Type 0} → OpenElevations R → Distances → Type 0
-IsOpenSpacing (Tiles tiles) s = s ≡ unit_spacing
-IsOpenSpacing (Dem dem) s = (input : RasterInput _) (rest : List (RasterInput _)) → dem ≡ input ∷ rest → IsHeaderSpacing input.header s
+IsOpenSpacing {R} (Tiles tiles) s = s ≡ unit_spacing
+IsOpenSpacing {R} (Dem dem) s = (input : RasterInput R) (rest : List (RasterInput R)) → dem ≡ input ∷ rest → IsHeaderSpacing input.header s
 
 -- the spacing that is judged by is the one that the command line names
 abbrev pub IsSpacingOf : {R : Type 0} → SpacingChoice → OpenElevations R → OpenSpacing → Type 0

@@ -1,3 +1,4 @@
+use Rattle.drain_verdict.specs.Given.{plain}
 use Rattle.drain_c.specs.Found.{audit_found}
 use Rattle.drain_c.specs.Given.{AreOfBytes, audit_raster}
 use Rattle.drain_c.proofs.Statuses.{audit_statuses, below_two, exactly, from_two}
@@ -6,7 +7,7 @@ use Rattle.drain_c.proofs.exported_audit.drain_audit.Goals as goal
 
 pub returns-clause-exactly : goal.returns-clause-exactly
 returns-clause-exactly c below =
-    exactly audit_found IsAcceptance audit_statuses (AreOfBytes c.args.side c.args.tiles.now c.args.sinks.now (audit_raster c.args.rasters.now)) AreCorrect
+    exactly audit_found IsAcceptance audit_statuses (AreOfBytes c.args.side c.args.tiles.now (plain c.args.sinks.now) (audit_raster c.args.rasters.now)) AreCorrect
     c.judge_audit-judged.result c.show_audit.new.answer.status c.show_audit.ensures.status_is below c.judge_audit-judged.ensures.exactly
 
 pub returns-clause-tiles_agree : goal.returns-clause-tiles_agree

@@ -1,3 +1,4 @@
+use Rattle.drain_verdict.specs.Given.{plain}
 use Rattle.drain_c.specs.Found.{audit_found}
 use Rattle.drain_c.specs.Given.{audit_raster}
 use Rattle.drain_c.specs.GivenDem.{AreOfDem, dem_set}
@@ -7,7 +8,7 @@ use Rattle.drain_c.proofs.exported_audit_dem.drain_audit_dem.Goals as goal
 
 pub returns-clause-exactly : goal.returns-clause-exactly
 returns-clause-exactly c below =
-    exactly audit_found IsAcceptance audit_statuses (AreOfDem c.args.dem.now c.args.sinks.now (audit_raster c.args.rasters.now)) (λ inputs. AreCorrectIn (dem_set inputs))
+    exactly audit_found IsAcceptance audit_statuses (AreOfDem c.args.dem.now (plain c.args.sinks.now) (audit_raster c.args.rasters.now)) (λ inputs. AreCorrectIn (dem_set inputs))
     c.judge_dem_audit-judged.result c.show_audit.new.answer.status c.show_audit.ensures.status_is below c.judge_dem_audit-judged.ensures.exactly
 
 pub returns-clause-elevation : goal.returns-clause-elevation

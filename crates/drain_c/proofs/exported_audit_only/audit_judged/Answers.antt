@@ -7,5 +7,5 @@ use Rattle.drain_c.proofs.exported_audit_only.audit_judged.Goals as goal
 
 pub returns-clause-exactly : goal.returns-clause-exactly
 returns-clause-exactly c unranked below =
-    exactly outcome_found IsAcceptedOutcome outcome_statuses (AreOfBytes c.args.side c.args.tiles.now c.args.sinks.now (audit_raster c.args.rasters.now)) (AreJudgedRight c.args.judged)
+    exactly outcome_found IsAcceptedOutcome outcome_statuses (AreOfBytes c.args.side c.args.tiles.now c.args.given.now (audit_raster c.args.rasters.now)) (AreJudgedRight c.args.judged)
     c.judge_some-outcome.result c.show_outcome.new.answer.status c.show_outcome.ensures.status_is below (c.judge_some-outcome.ensures.exactly unranked)

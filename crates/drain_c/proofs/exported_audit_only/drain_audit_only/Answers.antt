@@ -1,5 +1,6 @@
 use Rattle.std.proofs.Common.{◌≡◌, ◌<◌, ◌↔◌, Some, IsTrue}
 use Rattle.drain_answer.specs.OutcomeLines.{outcome_report_line}
+use Rattle.drain_verdict.specs.Given.{plain}
 use Rattle.drain_c.specs.Found.{outcome_found}
 use Rattle.drain_c.specs.Given.{OfBytes, audit_raster}
 use Rattle.drain_c.specs.Judged.{judged_of}
@@ -12,12 +13,12 @@ use Rattle.drain_c.proofs.exported_audit_only.drain_audit_only.Goals as goal
 pub returns-in-Some-clause-exactly : goal.returns-in-Some-clause-exactly
 returns-in-Some-clause-exactly c =
     let is : judged_of c.args.judged ≡ Some c.in-Some.judged = cc in
-    of_choice (λ some ps. c.audit_judged.result < 2 → OfBytes c.args.side c.args.tiles.now c.args.sinks.now (audit_raster ps) (λ inputs. (c.audit_judged.result ≡ 0) ↔ AreJudgedRight some inputs))
+    of_choice (λ some ps. c.audit_judged.result < 2 → OfBytes c.args.side c.args.tiles.now (plain c.args.sinks.now) (audit_raster ps) (λ inputs. (c.audit_judged.result ≡ 0) ↔ AreJudgedRight some inputs))
     c.args.judged c.in-Some.judged c.args.rasters.now c.judged_bytes-rasters.result is c.judged_bytes-rasters.ensures
     (c.audit_judged.ensures.exactly (unranked c.args.judged c.in-Some.judged is))
 
 pub returns-in-Some-clause-answer : goal.returns-in-Some-clause-answer
 returns-in-Some-clause-answer c =
     of_choice (λ some ps. IsTrue (is_audit_whole c.args.tiles.now ps) →
-    OfBytes c.args.side c.args.tiles.now c.args.sinks.now (audit_raster ps) (λ inputs. Reports (IsOutcomeAnswer some inputs) outcome_found outcome_report_line c.audit_judged.new.answer))
+    OfBytes c.args.side c.args.tiles.now (plain c.args.sinks.now) (audit_raster ps) (λ inputs. Reports (IsOutcomeAnswer some inputs) outcome_found outcome_report_line c.audit_judged.new.answer))
     c.args.judged c.in-Some.judged c.args.rasters.now c.judged_bytes-rasters.result (cc) c.judged_bytes-rasters.ensures c.audit_judged.ensures.answer

@@ -12,27 +12,27 @@ use Rattle.drain_c.proofs.judge.judge_audit.Goals as goal
 pub returns-clause-answer : goal.returns-clause-answer
 returns-clause-answer c =
     let tiles = subst (AreTilesOf bytes_left-value.it c.args.tiles.now) (sym c.as_mut_slice.ensures.value) c.in_ok-tiles.ensures.same in
-    let call = tile_call bytes_left-value.it c.args.side c.args.tiles.now c.args.sinks.now (audit_raster c.args.products.now) c.as_mut_slice.result.now
+    let call = tile_call bytes_left-value.it c.args.side c.args.tiles.now c.args.given.now (audit_raster c.args.products.now) c.as_mut_slice.result.now
     (as_five c.in_ok-products.products) tiles c.in_ok-products.ensures.same in
-    answer_of_bytes tile_cut call IsAuditIn audits c.audit.result c.audit.ensures.answer
+    answer_of_bytes tile_cut call IsAuditIn audits c.audit_given.result c.audit_given.ensures.answer
 
 pub returns-clause-exactly : goal.returns-clause-exactly
 returns-clause-exactly c =
     let tiles = subst (AreTilesOf bytes_left-value.it c.args.tiles.now) (sym c.as_mut_slice.ensures.value) c.in_ok-tiles.ensures.same in
-    let call = tile_call bytes_left-value.it c.args.side c.args.tiles.now c.args.sinks.now (audit_raster c.args.products.now) c.as_mut_slice.result.now
+    let call = tile_call bytes_left-value.it c.args.side c.args.tiles.now c.args.given.now (audit_raster c.args.products.now) c.as_mut_slice.result.now
     (as_five c.in_ok-products.products) tiles c.in_ok-products.ensures.same in
-    fact_of_bytes tile_cut call IsAuditIn audits (λ verdict inputs. IsAcceptance verdict ↔ AreCorrect inputs) c.audit.result c.audit.ensures.answer c.audit.ensures.exactly
+    fact_of_bytes tile_cut call IsAuditIn audits (λ verdict inputs. IsAcceptance verdict ↔ AreCorrect inputs) c.audit_given.result c.audit_given.ensures.answer c.audit_given.ensures.exactly
 
 pub returns-clause-tiles_agree : goal.returns-clause-tiles_agree
 returns-clause-tiles_agree c =
     let tiles = subst (AreTilesOf bytes_left-value.it c.args.tiles.now) (sym c.as_mut_slice.ensures.value) c.in_ok-tiles.ensures.same in
-    let call = tile_call bytes_left-value.it c.args.side c.args.tiles.now c.args.sinks.now (audit_raster c.args.products.now) c.as_mut_slice.result.now
+    let call = tile_call bytes_left-value.it c.args.side c.args.tiles.now c.args.given.now (audit_raster c.args.products.now) c.as_mut_slice.result.now
     (as_five c.in_ok-products.products) tiles c.in_ok-products.ensures.same in
-    fact_of_bytes tile_cut call IsAuditIn audits (λ verdict. TilesAreOne) c.audit.result c.audit.ensures.answer c.audit.ensures.tiles_agree
+    fact_of_bytes tile_cut call IsAuditIn audits (λ verdict. TilesAreOne) c.audit_given.result c.audit_given.ensures.answer c.audit_given.ensures.tiles_agree
 
 pub returns-clause-elevation : goal.returns-clause-elevation
 returns-clause-elevation c =
     let tiles = subst (AreTilesOf bytes_left-value.it c.args.tiles.now) (sym c.as_mut_slice.ensures.value) c.in_ok-tiles.ensures.same in
-    let call = tile_call bytes_left-value.it c.args.side c.args.tiles.now c.args.sinks.now (audit_raster c.args.products.now) c.as_mut_slice.result.now
+    let call = tile_call bytes_left-value.it c.args.side c.args.tiles.now c.args.given.now (audit_raster c.args.products.now) c.as_mut_slice.result.now
     (as_five c.in_ok-products.products) tiles c.in_ok-products.ensures.same in
-    fact_of_bytes tile_cut call IsAuditIn audits (λ verdict. ElevationIsTheirs) c.audit.result c.audit.ensures.answer c.audit.ensures.elevation
+    fact_of_bytes tile_cut call IsAuditIn audits (λ verdict. ElevationIsTheirs) c.audit_given.result c.audit_given.ensures.answer c.audit_given.ensures.elevation

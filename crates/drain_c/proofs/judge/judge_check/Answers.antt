@@ -11,13 +11,13 @@ use Rattle.drain_c.proofs.judge.judge_check.Goals as goal
 pub returns-clause-answer : goal.returns-clause-answer
 returns-clause-answer c =
     let tiles = subst (AreTilesOf bytes_left-value.it c.args.tiles.now) (sym c.as_mut_slice.ensures.value) c.in_ok-tiles.ensures.same in
-    let call = tile_call bytes_left-value.it c.args.side c.args.tiles.now c.args.sinks.now (check_raster c.args.products.now) c.as_mut_slice.result.now
+    let call = tile_call bytes_left-value.it c.args.side c.args.tiles.now c.args.given.now (check_raster c.args.products.now) c.as_mut_slice.result.now
     c.in_ok-products.products tiles c.in_ok-products.ensures.same in
-    answer_of_bytes tile_cut call IsAnswerIn checks c.check.result c.check.ensures.answer
+    answer_of_bytes tile_cut call IsAnswerIn checks c.check_given.result c.check_given.ensures.answer
 
 pub returns-clause-right : goal.returns-clause-right
 returns-clause-right c =
     let tiles = subst (AreTilesOf bytes_left-value.it c.args.tiles.now) (sym c.as_mut_slice.ensures.value) c.in_ok-tiles.ensures.same in
-    let call = tile_call bytes_left-value.it c.args.side c.args.tiles.now c.args.sinks.now (check_raster c.args.products.now) c.as_mut_slice.result.now
+    let call = tile_call bytes_left-value.it c.args.side c.args.tiles.now c.args.given.now (check_raster c.args.products.now) c.as_mut_slice.result.now
     c.in_ok-products.products tiles c.in_ok-products.ensures.same in
-    accepted_of_bytes tile_cut call checks IsRight c.check.result c.check.ensures.answer c.check.ensures.right
+    accepted_of_bytes tile_cut call checks IsRight c.check_given.result c.check_given.ensures.answer c.check_given.ensures.right

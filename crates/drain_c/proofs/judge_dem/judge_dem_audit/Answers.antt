@@ -11,19 +11,19 @@ use Rattle.drain_c.proofs.judge_dem.judge_dem_audit.Goals as goal
 
 pub returns-clause-answer : goal.returns-clause-answer
 returns-clause-answer c =
-    let call = dem_call bytes_left-value.it c.args.dem.now c.args.sinks.now (audit_raster c.args.products.now) c.in_ok-raster_input.field-0
+    let call = dem_call bytes_left-value.it c.args.dem.now c.args.given.now (audit_raster c.args.products.now) c.in_ok-raster_input.field-0
     (as_five c.in_ok-products.products) c.in_ok-raster_input.ensures.same c.in_ok-products.ensures.same in
     answer_of_bytes dem_cut call IsAuditIn audits c.audit_dem.result c.audit_dem.ensures.answer
 
 pub returns-clause-exactly : goal.returns-clause-exactly
 returns-clause-exactly c =
-    let call = dem_call bytes_left-value.it c.args.dem.now c.args.sinks.now (audit_raster c.args.products.now) c.in_ok-raster_input.field-0
+    let call = dem_call bytes_left-value.it c.args.dem.now c.args.given.now (audit_raster c.args.products.now) c.in_ok-raster_input.field-0
     (as_five c.in_ok-products.products) c.in_ok-raster_input.ensures.same c.in_ok-products.ensures.same in
     fact_of_bytes dem_cut call IsAuditIn audits (λ verdict inputs. IsAcceptance verdict ↔ AreCorrectIn (dem_set inputs)) c.audit_dem.result
     c.audit_dem.ensures.answer c.audit_dem.ensures.exactly
 
 pub returns-clause-elevation : goal.returns-clause-elevation
 returns-clause-elevation c =
-    let call = dem_call bytes_left-value.it c.args.dem.now c.args.sinks.now (audit_raster c.args.products.now) c.in_ok-raster_input.field-0
+    let call = dem_call bytes_left-value.it c.args.dem.now c.args.given.now (audit_raster c.args.products.now) c.in_ok-raster_input.field-0
     (as_five c.in_ok-products.products) c.in_ok-raster_input.ensures.same c.in_ok-products.ensures.same in
     fact_of_bytes dem_cut call IsAuditIn audits (λ verdict inputs. ElevationIsItsPixels inputs.dem) c.audit_dem.result c.audit_dem.ensures.answer c.audit_dem.ensures.elevation

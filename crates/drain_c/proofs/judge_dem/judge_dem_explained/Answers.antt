@@ -12,20 +12,20 @@ use Rattle.drain_c.proofs.judge_dem.judge_dem_explained.Goals as goal
 
 pub returns-clause-answer : goal.returns-clause-answer
 returns-clause-answer c =
-    let call = dem_call bytes_left-value.it c.args.dem.now c.args.sinks.now (audit_raster c.args.products.now) c.in_ok-raster_input.field-0
+    let call = dem_call bytes_left-value.it c.args.dem.now c.args.given.now (audit_raster c.args.products.now) c.in_ok-raster_input.field-0
     (as_five c.in_ok-products.products) c.in_ok-raster_input.ensures.same c.in_ok-products.ensures.same in
     answer_of_bytes dem_cut call (IsOutcomeIn c.args.judged) (outcomes c.args.judged) (answer_in c.explain_audit_dem.result) c.explain_audit_dem.ensures.answer
 
 pub returns-clause-explained : goal.returns-clause-explained
 returns-clause-explained c =
-    let call = dem_call bytes_left-value.it c.args.dem.now c.args.sinks.now (audit_raster c.args.products.now) c.in_ok-raster_input.field-0
+    let call = dem_call bytes_left-value.it c.args.dem.now c.args.given.now (audit_raster c.args.products.now) c.in_ok-raster_input.field-0
     (as_five c.in_ok-products.products) c.in_ok-raster_input.ensures.same c.in_ok-products.ensures.same in
     fact_of_bytes dem_cut call (λ s answer. IsOutcomeIn c.args.judged s (answer_in {F = Fields} answer)) (explanations {F = Fields} c.args.judged)
     (λ e inputs. AreFindingsIn c.args.judged (dem_set inputs) e.findings) c.explain_audit_dem.result c.explain_audit_dem.ensures.answer c.explain_audit_dem.ensures.explained
 
 pub returns-clause-elevation : goal.returns-clause-elevation
 returns-clause-elevation c =
-    let call = dem_call bytes_left-value.it c.args.dem.now c.args.sinks.now (audit_raster c.args.products.now) c.in_ok-raster_input.field-0
+    let call = dem_call bytes_left-value.it c.args.dem.now c.args.given.now (audit_raster c.args.products.now) c.in_ok-raster_input.field-0
     (as_five c.in_ok-products.products) c.in_ok-raster_input.ensures.same c.in_ok-products.ensures.same in
     fact_of_bytes dem_cut call (λ s answer. IsOutcomeIn c.args.judged s (answer_in {F = Fields} answer)) (explanations {F = Fields} c.args.judged)
     (λ e inputs. ElevationIsItsPixels inputs.dem) c.explain_audit_dem.result c.explain_audit_dem.ensures.answer c.explain_audit_dem.ensures.elevation

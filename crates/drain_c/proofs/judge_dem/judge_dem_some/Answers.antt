@@ -12,20 +12,20 @@ use Rattle.drain_c.proofs.judge_dem.judge_dem_some.Goals as goal
 
 pub returns-clause-answer : goal.returns-clause-answer
 returns-clause-answer c =
-    let call = dem_call bytes_left-value.it c.args.dem.now c.args.sinks.now (audit_raster c.args.products.now) c.in_ok-raster_input.field-0
+    let call = dem_call bytes_left-value.it c.args.dem.now c.args.given.now (audit_raster c.args.products.now) c.in_ok-raster_input.field-0
     (as_five c.in_ok-products.products) c.in_ok-raster_input.ensures.same c.in_ok-products.ensures.same in
     answer_of_bytes dem_cut call (IsOutcomeIn c.args.judged) (outcomes c.args.judged) c.audit_part_dem.result c.audit_part_dem.ensures.answer
 
 pub returns-clause-exactly : goal.returns-clause-exactly
 returns-clause-exactly c unranked =
-    let call = dem_call bytes_left-value.it c.args.dem.now c.args.sinks.now (audit_raster c.args.products.now) c.in_ok-raster_input.field-0
+    let call = dem_call bytes_left-value.it c.args.dem.now c.args.given.now (audit_raster c.args.products.now) c.in_ok-raster_input.field-0
     (as_five c.in_ok-products.products) c.in_ok-raster_input.ensures.same c.in_ok-products.ensures.same in
     fact_of_bytes dem_cut call (IsOutcomeIn c.args.judged) (outcomes c.args.judged) (λ outcome inputs. IsAcceptedOutcome outcome ↔ AreRightIn c.args.judged (dem_set inputs))
     c.audit_part_dem.result c.audit_part_dem.ensures.answer (c.audit_part_dem.ensures.exactly unranked)
 
 pub returns-clause-elevation : goal.returns-clause-elevation
 returns-clause-elevation c =
-    let call = dem_call bytes_left-value.it c.args.dem.now c.args.sinks.now (audit_raster c.args.products.now) c.in_ok-raster_input.field-0
+    let call = dem_call bytes_left-value.it c.args.dem.now c.args.given.now (audit_raster c.args.products.now) c.in_ok-raster_input.field-0
     (as_five c.in_ok-products.products) c.in_ok-raster_input.ensures.same c.in_ok-products.ensures.same in
     fact_of_bytes dem_cut call (IsOutcomeIn c.args.judged) (outcomes c.args.judged) (λ outcome inputs. ElevationIsItsPixels inputs.dem)
     c.audit_part_dem.result c.audit_part_dem.ensures.answer c.audit_part_dem.ensures.elevation
