@@ -67,3 +67,9 @@ returns-in_default-clause-uses g c =
     set_uses_alike as_five (λ xs ps. set_devices g.T.GroundInput.devices xs (as_five ps)) (g.T.GroundInput.within c.args.frame.now) g.T.GroundInput.kept g.R.ByteSource.bytes_left g.R.ByteSource.counts
     (c.args.inputs.now, c.args.products.now) (c.read_set.new.inputs, c.read_set.new.products)
     (Ok c.in_ok-read_set.field-0) (Err OutOfMemory) (memory_alike c.in_ok-read_set.field-0) (λ not. absurd (not tt)) c.in_ok-read_set.ensures.uses
+
+pub returns-in_default-judged_spacings-clause-uses : goal.returns-in_default-judged_spacings-clause-uses
+returns-in_default-judged_spacings-clause-uses g c =
+    set_uses_alike as_five (λ xs ps. set_devices g.T.GroundInput.devices xs (as_five ps)) (g.T.GroundInput.within c.args.frame.now) g.T.GroundInput.kept g.R.ByteSource.bytes_left g.R.ByteSource.counts
+    (c.args.inputs.now, c.args.products.now) (c.read_set.new.inputs, c.read_set.new.products)
+    (Ok c.in_ok-read_set.field-0) (Err OutOfMemory) (memory_alike c.in_ok-read_set.field-0) (λ not. absurd (not tt)) c.in_ok-read_set.ensures.uses

@@ -1,4 +1,5 @@
-use Rattle.std.proofs.Common.{◌+◌, Some, None, inl, inr, rules}
+use Rattle.std.proofs.Common.{◌+◌, Some, None, inl, inr, sym, ap, ◌∙◌}
+use Rattle.std.proofs.lemmas.Bool.{false≢true}
 use Rattle.std.specs.List.{All}
 use Rattle.drain_grid.specs.declared.set_product.SetProduct.TheVariants.{Con, Dir, Acc, Bas, Rnk}
 use Rattle.drain_grid.specs.PerProduct.{of_product, per_product}
@@ -55,8 +56,11 @@ pub returns-clause-whole : goal.returns-clause-whole
 returns-clause-whole g c =
     let row : RowNumbers = record { z = c.read_row.new.out; products = per_product (λ p. (of_product c.read_rasters.new.out p)) } in
     let kept : IsKept row (buffer_numbers c.if-not-is_even.out) = elim c.if-not-is_even.branch [
-      | then-not-is_even w ↦ inr (search rules, search rules)
-      | else-not-is_even w ↦ inl (search rules, search rules)
+      | then-not-is_even w ↦ inr (
+        (λ even. false≢true (sym w.if-not-is_even.true ∙ c.is_even.ensures.1 even)),
+        ap buffer_numbers w.out-is ∙ w.clear.ensures,
+      )
+      | else-not-is_even w ↦ inl (c.is_even.ensures.0 w.if-not-is_even.false, ap buffer_numbers w.out-is)
     ] in
     kept_numbers row (buffer_numbers c.if-not-is_even.out) c.in_ok-read_row.ensures.narrow c.in_ok-read_row.ensures.pixels
     (let each = c.in_ok-read_rasters.ensures.pixels in by_set_product (λ p. All IsPixel (of_product row.products p)) (each Con) (each Dir) (each Acc) (each Bas) (each Rnk)) kept
@@ -65,8 +69,11 @@ pub returns-clause-next : goal.returns-clause-next
 returns-clause-next g c =
     let row : RowNumbers = record { z = c.read_row.new.out; products = per_product (λ p. (of_product c.read_rasters.new.out p)) } in
     let kept : IsKept row (buffer_numbers c.if-not-is_even.out) = elim c.if-not-is_even.branch [
-      | then-not-is_even w ↦ inr (search rules, search rules)
-      | else-not-is_even w ↦ inl (search rules, search rules)
+      | then-not-is_even w ↦ inr (
+        (λ even. false≢true (sym w.if-not-is_even.true ∙ c.is_even.ensures.1 even)),
+        ap buffer_numbers w.out-is ∙ w.clear.ensures,
+      )
+      | else-not-is_even w ↦ inl (c.is_even.ensures.0 w.if-not-is_even.false, ap buffer_numbers w.out-is)
     ] in
     next_given g.T.GroundInput.after g.T.GroundInput.has_read g.R.ByteSource.bytes_left g.R.ByteSource.counts (with_rasters g.P.ProductInputs.readers c.args.self.now) _ c.args.inputs.now c.read_row.new.inputs (g.P.ProductInputs.inputs c.args.products.now) (g.P.ProductInputs.inputs c.read_rasters.new.self) row (buffer_numbers c.if-not-is_even.out) kept
     c.in_ok-read_row.ensures.rows (let each = c.in_ok-read_rasters.ensures.rows in by_set_product _ (each Con) (each Dir) (each Acc) (each Bas) (each Rnk))
