@@ -36,6 +36,7 @@ class Options:
     inland_sinks: bool = False
     acc_counts: str = "auto"
     cell_area: float | None = None
+    spacing: str | None = None  # of spacing.KINDS, or W,H; the tool's own if it is None
     allow_drivers: str | None = None
 
     def __post_init__(self) -> None:
@@ -103,7 +104,8 @@ class Converted:
         """What is judged over what, in words, and over how many rows and columns."""
         ground = "itself" if self.own_ground else "dem" if self.unit else "the order of the heights of dem"
         ground = "no heights" if isinstance(self.dem, Level) else ground
-        return f"{', '.join(self.judged) or 'paths'} over {ground}, {self.dem.rows:,} rows by {self.dem.cols:,} columns"
+        slopes = "" if self.set.spacing.is_unit else f", slopes by {self.set.spacing}"
+        return f"{', '.join(self.judged) or 'paths'} over {ground}, {self.dem.rows:,} rows by {self.dem.cols:,} columns{slopes}"
 
     @property
     def is_whole(self) -> bool:

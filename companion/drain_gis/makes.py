@@ -13,13 +13,14 @@ from .convert import convert, put_ground
 from .drain import Program
 from .errors import CannotJudge
 from .flow import Flow
-from .grids import check_grid
+from .grids import PLAIN, check_grid
 from .heights import Unit, find_unit
 from .job import Converted, Job
 from .layers import DRIVERS, Layer, Level, drivers_of, holds, layer_of, open_file
 from .maps import write_raster, written_whole
-from .sets import PLAIN, PRODUCTS, Set, bounds
-from .tools import TOOLS
+from .sets import PRODUCTS, Set, bounds
+from .spacing import Spacing
+from .tools import TOOLS, spacing_of_tool
 
 NO_CODE, NO_HEIGHT = -32768, -9999  # what a made dir, and made heights, have where there is no data
 Written = tuple[str, float | None, Iterator[tuple[int, Array]]]  # type, no-data number, rows
@@ -27,11 +28,12 @@ Written = tuple[str, float | None, Iterator[tuple[int, Array]]]  # type, no-data
 
 def make(
     dem: Any, outs: Mapping[str, Path], codes: str = "drain", *, nodata: Any = None, sinks: Any = None,
-    program: str | None = None, allow_drivers: str | None = None,
-) -> None:  # fmt: skip
+    spacing: str | None = None, program: str | None = None, allow_drivers: str | None = None,
+) -> Spacing:  # fmt: skip
     """Writes the right con, dir, acc and bas of elevations: `outs` has a path for each that is wanted.
 
-    con has the unit of dem, and its type or one of 32 bits; dir has the codes of a tool. Raises CannotJudge, or DrainFailed.
+    con has the unit of dem, and its type or one of 32 bits; dir has the codes of a tool, and goes steepest by a spacing, which is
+    returned: the tool's own unless one is named. Raises CannotJudge, or DrainFailed.
     """
     layer = layer_of("dem", dem, nodata, drivers_of(allow_drivers))
     check_outs(outs, PRODUCTS, [layer], codes)
@@ -40,6 +42,7 @@ def make(
     with tempfile.TemporaryDirectory(prefix="drain-gis-") as work:
         job, one = Job(Program(program), Path(work), codes), Set(Path(work), (layer.rows, layer.cols), PLAIN)
         one.take_heights(kind)
+        one.spacing = spacing_of_tool(codes, layer, spacing)
         job.sinks = list(sinks or [])
         made = Converted(job, one, {"dem": layer}, (), {}, False, unit)
         put_ground(made)
@@ -48,6 +51,7 @@ def make(
             with written_whole(path) as new:
                 done = heights(made, unit, products["con"]) if name == "con" else numbers(made, name, products[name])
                 write_raster(new, layer, *done, is_scaled=name == "con")
+        return one.spacing
 
 
 def heights(made: Converted, unit: Unit, con: Array) -> Written:

@@ -1,4 +1,4 @@
-"""How many cells go down a steepest way, by the codes of each tool and by each distance; and the unit of con: of a sample of rows.
+"""How many cells go down a steepest way, by the codes of each tool and by each spacing; and the unit of con: of a sample of rows.
 
 It explains an answer, and decides nothing.
 """
@@ -6,18 +6,19 @@ It explains an answer, and decides nothing.
 import numpy as np
 
 from .around import OUTLET, Around
-from .grids import cell_sizes, in_degrees, is_square
+from .grids import in_degrees, is_square
 from .job import Converted
 from .layers import Level
-from .tools import DISTANCES, TOOLS
+from .spacing import GROUND, Spacing, spacing_of
+from .tools import TOOLS
 
 SAMPLE = 200_000  # about how many cells are looked at
-# How much larger a share has to be for a warning: by another tool's codes, and by another distance.
+# How much larger a share has to be for a warning: by another tool's codes, and by another spacing.
 MUCH_BETTER, BETTER = 0.2, 0.01
 
 
-def shares(made: Converted, ways: list[tuple[str, str]]) -> list[float]:
-    """The share of the cells with a lower neighbour that go a steepest way, by each tool's codes and distance."""
+def shares(made: Converted, ways: list[tuple[str, Spacing]]) -> list[float]:
+    """The share of the cells with a lower neighbour that go a steepest way, by each tool's codes and each spacing."""
     (rows, cols), layer = made.data.shape, made.layers.get("con", made.dem)
     found, lower = [0] * len(ways), 0
     for row in range(0, rows, -(-rows * cols // SAMPLE)):
@@ -27,11 +28,11 @@ def shares(made: Converted, ways: list[tuple[str, str]]) -> list[float]:
         at = np.flatnonzero(~none[0] & made.data[row])
         around = Around(np.stack([np.full(at.size, row - top), at], axis=1), heights, made.data[top:last])
         lower += int(around.lower.sum())
-        for n, (tool, distance) in enumerate(ways):
+        for n, (tool, spacing) in enumerate(ways):
             codes = np.full(at.size, OUTLET, np.uint8)
             for number, code in TOOLS[tool].codes.items():
                 codes[numbers[0, at] == number] = code
-            found[n] += int(around.is_steepest(codes, cell_sizes(made.dem, distance, row)).sum())
+            found[n] += int(around.is_steepest(codes, spacing.of_row(row)).sum())
     return [many / max(1, lower) for many in found]
 
 
@@ -41,18 +42,18 @@ def can_sample(made: Converted) -> bool:
 
 
 def note_shares(made: Converted) -> None:
-    """Notes, of a DEM in degrees or with cells that aren't square, how many cells go steepest by each distance."""
-    name, dem = made.job.tool, made.dem
+    """Notes, of a DEM in degrees or with cells that aren't square, how many cells go steepest by each spacing."""
+    name, dem, own = made.job.tool, made.dem, made.set.spacing
     if not can_sample(made) or not (in_degrees(dem) or not is_square(dem)):
         return
-    ways = ["unit", *([] if is_square(dem) else ["cells"]), *(["ground"] if in_degrees(dem) else [])]
-    found = shares(made, [(name, way) for way in ways])
-    listed = ", ".join(f"{share:.1%} by {DISTANCES[way]}" for way, share in zip(ways, found))
-    own = TOOLS[name].spacing[int(in_degrees(dem))]
-    text = f"dir: steepest ways, of all cells with a lower neighbour: {listed}; {name} takes {DISTANCES[own]}"
-    text += "" if own == "unit" else f", `drain` {DISTANCES['unit']}"
-    if max(found) > found[0] + BETTER:
-        text += ", so expect Slope. acc and bas along dir can be judged (leave out --dem and --con)"
+    kinds = ["unit", *([] if is_square(dem) else ["cells"]), *(GROUND if in_degrees(dem) else [])]
+    ways = {kind: spacing_of(kind, dem) for kind in kinds} | {own.kind: own}
+    found = dict(zip(ways, shares(made, [(name, way) for way in ways.values()])))
+    listed = ", ".join(f"{found[kind]:.1%} by {way}" for kind, way in ways.items())
+    text = f"dir: steepest ways, of all cells with a lower neighbour: {listed}"
+    best = max(found, key=lambda kind: found[kind])
+    if found[best] > found[own.kind] + BETTER:
+        text += f". Slopes were judged by {own}: --spacing {best} fits better"
     made.note(text)
 
 
@@ -71,7 +72,7 @@ def better_codes(made: Converted) -> str:
     """Whether another tool's codes fit much better: asked after a rejection."""
     if not can_sample(made):
         return ""
-    fits, own = dict(zip(TOOLS, shares(made, [(name, "unit") for name in TOOLS]))), made.job.tool
+    fits, own = dict(zip(TOOLS, shares(made, [(name, made.set.spacing) for name in TOOLS]))), made.job.tool
     best = max(fits, key=lambda name: fits[name])
     if fits[best] <= fits[own] + MUCH_BETTER:
         return ""

@@ -16,6 +16,8 @@ STEP = {1: (0, 1), 2: (1, 1), 4: (1, 0), 8: (1, -1), 16: (0, -1), 32: (-1, -1), 
 
 BLANK, HIGH = -99, 10**9
 """No data in an array that is judged, and more than any height."""
+SQUARE = (1, 1)
+"""The width and the height of cells; they and drops may be so large that 64 bits hold `slopes`."""
 
 
 def shifted(a: np.ndarray, outside: int | bool) -> dict[int, np.ndarray]:
@@ -39,12 +41,13 @@ def least_surface(z: np.ndarray, void: np.ndarray, sinks: tuple[tuple[int, int],
     return np.where(void, 0, reconstruction(seed, mask, "erosion", np.ones((3, 3)))).astype(z.dtype)
 
 
-def slopes(con: np.ndarray, void: np.ndarray) -> dict[int, np.ndarray]:
-    """Code to twice the square of the slope down that way; 0 where it isn't down."""
+def slopes(con: np.ndarray, void: np.ndarray, sizes: tuple[int, int] = SQUARE) -> dict[int, np.ndarray]:
+    """Code to the square of the slope down that way, times the product of the three squared distances; 0 where it isn't down."""
+    squares = {code: (right * sizes[0]) ** 2 + (down * sizes[1]) ** 2 for code, (down, right) in STEP.items()}
     found = {}
     for code, beside in shifted(np.where(void, HIGH, con.astype(np.int64)), HIGH).items():
         drop = np.where(void | (beside == HIGH), 0, np.maximum(con.astype(np.int64) - beside, 0))
-        found[code] = drop**2 * (1 if all(STEP[code]) else 2)
+        found[code] = drop**2 * (squares[1] * squares[2] * squares[4] // squares[code])
     return found
 
 
@@ -86,9 +89,9 @@ def are_labels(bas: np.ndarray, components: np.ndarray, void: np.ndarray) -> boo
     return bool(pairs.shape[1] == np.unique(pairs[0]).size == np.unique(pairs[1]).size)
 
 
-def right_codes(con: np.ndarray, codes: np.ndarray, void: np.ndarray) -> np.ndarray:
+def right_codes(con: np.ndarray, codes: np.ndarray, void: np.ndarray, sizes: tuple[int, int] = SQUARE) -> np.ndarray:
     """Where a code keeps its rule: a steepest way if a neighbour is lower, 0 at an outlet, level on a flat."""
-    keys, ends = slopes(con, void), open_cells(void)
+    keys, ends = slopes(con, void, sizes), open_cells(void)
     best = np.max(list(keys.values()), axis=0)
     right = ~void & (best == 0) & ends & (codes == 0)
     for code, beside in shifted(con, HIGH).items():
@@ -110,20 +113,24 @@ def flow_faults(codes: np.ndarray, products: Mapping[str, np.ndarray], void: np.
     return {name for name, is_right in right.items() if not is_right}
 
 
-def faults(z: np.ndarray, void: np.ndarray, products: Mapping[str, np.ndarray]) -> set[str]:
+def faults(
+    z: np.ndarray, void: np.ndarray, products: Mapping[str, np.ndarray], sizes: tuple[int, int] = SQUARE
+) -> set[str]:
     """What is wrong with these products: BLANK means no data in them. acc or bas may be left out."""
     if any(((a == BLANK) != void).any() for a in products.values()):
         return {"no data"}
     found = {"con"} if (products["con"] != least_surface(z, void))[~void].any() else set()
-    found |= {"dir"} if not right_codes(products["con"], products["dir"], void)[~void].all() else set()
+    found |= {"dir"} if not right_codes(products["con"], products["dir"], void, sizes)[~void].all() else set()
     _, goes = graph_of(products["dir"], void)
     stops = (~void & ~goes & (products["dir"] != 0)).any()
     return found | ({"path"} if stops else flow_faults(products["dir"], products, void))
 
 
-def random_steepest(con: np.ndarray, void: np.ndarray, rng: np.random.Generator) -> np.ndarray:
+def random_steepest(
+    con: np.ndarray, void: np.ndarray, rng: np.random.Generator, sizes: tuple[int, int] = SQUARE
+) -> np.ndarray:
     """A steepest way of each cell, any of those that are; 0 where no neighbour is lower."""
-    keys = slopes(con, void)
+    keys = slopes(con, void, sizes)
     best, codes = np.max(list(keys.values()), axis=0), np.zeros(con.shape, np.int64)
     for code in rng.permutation(list(STEP)):
         codes[(keys[code] == best) & (best > 0)] = code
@@ -131,11 +138,12 @@ def random_steepest(con: np.ndarray, void: np.ndarray, rng: np.random.Generator)
 
 
 def make(
-    z: np.ndarray, void: np.ndarray, rng: np.random.Generator, sinks: tuple[tuple[int, int], ...] = ()
-) -> dict[str, np.ndarray]:
+    z: np.ndarray, void: np.ndarray, rng: np.random.Generator, sinks: tuple[tuple[int, int], ...] = (),
+    sizes: tuple[int, int] = SQUARE,
+) -> dict[str, np.ndarray]:  # fmt: skip
     """Right products, any of those that are: over flats along a shortest way of a random graph."""
     con = least_surface(z, void, sinks)
-    codes = random_steepest(con, void, rng)
+    codes = random_steepest(con, void, rng, sizes)
     reached = ~void & ((codes > 0) | open_cells(void))
     for sink in sinks:
         reached[sink] = True

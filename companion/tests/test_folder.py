@@ -111,7 +111,7 @@ WRONG = [
     ("notes", {"a": 1}), ("transform", [0] * 6), ("transform", ["a", 1, 0, 0, 0, -1]), ("transform", [0, 1]), ("crs", "no WKT"),
     ("inputs", [["dem", "/d.tif", "no hash"]]), ("inputs", [["dem"]]), ("unit", {}), ("unit", {"tens": 9, "twos": 0}), ("per", 0),
     *(("heights", odd) for odd in ([], ["<f4", 0], ["<i4", 7], ["<i8", -(2**63)], ["<u4", 0], ["<i4", -(2.0**31)], 4, [["<i4"], 0])),
-    ("per", "1"), ("plus", 2), ("own_ground", 1), ("dem", 3), ("drain_gis", "0"), ("judged", ["dir", "con"]), ("crs", None),
+    ("spacing", "sphere"), ("spacing", "1,0"), ("spacing", 1), ("per", "1"), ("plus", 2), ("own_ground", 1), ("dem", 3), ("drain_gis", "0"), ("judged", ["dir", "con"]), ("crs", None),
 ]  # fmt: skip
 
 

@@ -106,11 +106,15 @@ def test_longitudes_modulo_360(tmp_path: Path, world: worlds.World) -> None:
 def test_directions_by_distances_on_the_ground_are_told_apart(tmp_path: Path) -> None:
     """At 60 degrees north a degree of longitude is half as long as one of latitude."""
     z = np.random.default_rng(2).integers(0, 900, (30, 30)).astype(np.int32)
-    con, steepest, codes = libraries.least_surface(z, z < 0), np.zeros(z.shape), np.zeros(z.shape, np.uint8)
-    for code, beside in libraries.shifted(con, libraries.HIGH).items():
-        slope = (con - beside) / np.hypot(worlds.STEP[code][0], worlds.STEP[code][1] / 2)
-        codes[slope > steepest], steepest = code, np.maximum(slope, steepest)
-    place = Affine(0.001, 0, 10, 0, -0.001, 60)
-    paths = {n: worlds.write_tif(tmp_path / f"{n}.tif", a, None, place, 4326) for n, a in (("dem", z), ("dir", codes))}
-    out = command("judge", *worlds.words(paths)).out
-    assert any("on the ground" in line and "100.0%" in line for line in out.splitlines()), out
+    place, made = Affine(0.001, 0, 10, 0, -0.001, 60.015), libraries.make(
+        z, z < 0, np.random.default_rng(3), sizes=(1, 2)
+    )
+    arrays = {"dem": z, "dir": made["dir"].astype(np.uint8)}
+    paths = {n: worlds.write_tif(tmp_path / f"{n}.tif", a, None, place, 4326) for n, a in arrays.items()}
+    done = command("judge", *worlds.words(paths))
+    best = next(line for line in done.out.splitlines() if "steepest ways" in line)
+    assert done.status == 1 and "rule 10 Slope" in done.out and "100.0% by distances on a sphere" in best, done
+    assert "Slopes were judged by unit spacing: --spacing sphere fits better" in best, done
+    ground = command("judge", *worlds.words(paths), "--spacing", "sphere")
+    assert ground.status == 0 and "fits better" not in ground.out, ground
+    assert "slopes by distances on a sphere" in ground.out

@@ -24,6 +24,7 @@ from hypothesis.extra.numpy import arrays
 BLANK, NODATA, AREA = libraries.BLANK, -9999, 250
 PLACE = worlds.Affine(25, 0, 500000.5, 0, -10, 4e6)
 CHANGES = ("none", "con", "dir", "acc", "label", "merge", "blank", "filled void")
+SPACINGS = {"unit": (1, 1), "3,4": (3, 4), "2,1": (2, 1), "0.5,1.2": (5, 12)}
 
 
 @dataclass
@@ -39,7 +40,8 @@ class Case:
 
     def faults(self) -> set[str]:
         """What libraries find wrong in what is given."""
-        return libraries.faults(self.z, self.void, {name: a for name, a in self.seen.items() if name in self.given})
+        seen = {name: a for name, a in self.seen.items() if name in self.given}
+        return libraries.faults(self.z, self.void, seen, SPACINGS[self.options["spacing"]])
 
 
 @st.composite
@@ -91,10 +93,11 @@ def ends_at_0(codes: np.ndarray, con: np.ndarray, void: np.ndarray) -> np.ndarra
 
 
 @st.composite
-def cases(draw: Any) -> Case:
-    """A set in other codes, units, kinds of numbers and ways of counting, mostly with one change."""
+def cases(draw: Any, spacings: tuple[str, ...] = ("unit", *SPACINGS)) -> Case:
+    """A set in other codes, units, kinds of numbers, spacings and ways of counting, mostly with one change."""
     z, void, rng = draw(terrains())
-    products = libraries.make(z, void, rng)
+    spacing = draw(st.sampled_from(spacings))
+    products = libraries.make(z, void, rng, sizes=SPACINGS[spacing])
     changed, tool = draw(st.sampled_from(CHANGES)), TOOLS[codes := draw(st.sampled_from(list(TOOLS)))]
     for a in products.values():
         a[void] = BLANK
@@ -124,7 +127,13 @@ def cases(draw: Any) -> Case:
     if changed in ("none", "con", "dir"):
         for name in draw(st.sets(st.sampled_from(["acc", "bas"]))):
             del given[name]
-    options = {"codes": codes, "ends": ends, "acc_counts": counting, "nodata": dict.fromkeys(given, NODATA)}
+    options = {
+        "codes": codes,
+        "ends": ends,
+        "acc_counts": counting,
+        "nodata": dict.fromkeys(given, NODATA),
+        "spacing": spacing,
+    }
     return Case(changed, z, void, seen, given, options)
 
 
@@ -149,7 +158,7 @@ def test_a_verdict_is_that_of_libraries(case: Case, window: int, by_files: bool)
 
 
 @settings(max_examples=100)
-@given(cases(), st.booleans(), st.booleans())
+@given(cases(("unit",)), st.booleans(), st.booleans())
 def test_library_and_program_give_the_same(alone: str, case: Case, without_heights: bool, parts: bool) -> None:
     """Of arrays in memory, judged by the library, and by a program that has none beside it: the whole verdict, and the map."""
     if Program().library is None:
@@ -206,8 +215,17 @@ def test_steepness_of_floats_is_that_of_libraries(terrain: Any, twos: int, kind:
 
 
 @settings(max_examples=40)
-@given(terrains(), st.integers(0, 20), st.sampled_from(["f4", "f8"]), st.sampled_from(list(TOOLS)), st.booleans())
-def test_what_is_made_is_right_by_libraries(terrain: Any, twos: int, kind: str, tool: str, has_sink: bool) -> None:
+@given(
+    terrains(),
+    st.integers(0, 20),
+    st.sampled_from(["f4", "f8"]),
+    st.sampled_from(list(TOOLS)),
+    st.booleans(),
+    st.sampled_from(list(SPACINGS)),
+)
+def test_what_is_made_is_right_by_libraries(
+    terrain: Any, twos: int, kind: str, tool: str, has_sink: bool, spacing: str
+) -> None:
     """con, dir, acc and bas of floats of 32 bits, on rectangles with voids, and with an inland sink."""
     _, void, rng = terrain
     steps = rng.integers(-(10**6), 9 * 10**6, void.shape)
@@ -215,8 +233,8 @@ def test_what_is_made_is_right_by_libraries(terrain: Any, twos: int, kind: str, 
     sinks = (tuple(map(int, np.argwhere(~void)[0])),) if has_sink else ()
     with TemporaryDirectory() as folder:
         outs = {name: Path(folder) / f"{name}.tif" for name in worlds.PRODUCTS}
-        drain_gis.make(dem, outs, tool, sinks=sinks)
-        assert drain_gis.audit(dem, **outs, sinks=sinks, codes=tool, acc_counts="cells")
+        drain_gis.make(dem, outs, tool, sinks=sinks, spacing=spacing)
+        assert drain_gis.audit(dem, **outs, sinks=sinks, codes=tool, acc_counts="cells", spacing=spacing)
         made = {name: layers.layer_of(name, path).window(0, len(void)) for name, path in outs.items()}
     assert all(np.array_equal(blank, void) for _, blank in made.values())
     numbers = {name: np.where(void, BLANK, a) for name, (a, _) in made.items()}
@@ -224,7 +242,7 @@ def test_what_is_made_is_right_by_libraries(terrain: Any, twos: int, kind: str, 
     meaning = {**TOOLS[tool].meaning(), BLANK: BLANK}
     numbers["dir"] = np.vectorize(meaning.get, otypes=[np.int64])(numbers["dir"])
     assert np.array_equal(numbers["con"][~void], libraries.least_surface(steps, void, sinks)[~void])
-    assert sinks or not libraries.faults(steps, void, numbers)
+    assert sinks or not libraries.faults(steps, void, numbers, SPACINGS[spacing])
 
 
 @settings(max_examples=35)

@@ -2,10 +2,10 @@
 """Prints the right line of `drain audit` for four rasters, or some of them, by docs/RULES.md: slow and plain, for up to
 some 200,000 cells.
 
-audit.py --side N --products DIR [--only LIST] [--sinks FILE] TILE..     ends with the status that goes with the line
-audit.py --dem FILE --products DIR [--only LIST] [--sinks FILE]          elevations come from one raster
+audit.py --side N --products DIR [OPTIONS] TILE..     ends with the status that goes with the line
+audit.py --dem FILE --products DIR [OPTIONS]          elevations come from one raster
 
-It knows nothing of ranks: it follows each run of directions to its end. LIST has the given rasters, as con,dir; files of
+OPTIONS are [--only LIST] [--sinks FILE] [--spacing W,H | --widths FILE]. It knows nothing of ranks: it follows each run of directions to its end. LIST has the given rasters, as con,dir; files of
 others aren't opened.
 """
 
@@ -15,7 +15,7 @@ import sys
 
 sys.dont_write_bytecode = True
 from make_products import PRODUCTS, RULES, Rules, Terrain, flood, verdict
-from plain_inputs import Dem, Header, Mosaic, Refused, listed_sinks
+from plain_inputs import Dem, Header, Mosaic, Refused, listed_sinks, spacing_of, spacings_of
 
 NO_DATA = {name: nodata for name, _, _, _, nodata in PRODUCTS if name != "rnk"}
 STATUSES = ["accepted", "rejected", "refused", "failed"]
@@ -115,8 +115,9 @@ def headers_of(ground, texts):
     return headers
 
 
-def audited(ground, body, texts, bodies, sinks):
-    """The line for these bytes: of the elevations, of the headers and rasters by product, and of a list of sinks."""
+def audited(ground, body, texts, bodies, sinks, spacing=None):
+    """The line for these bytes: of the elevations, of the headers and rasters by product, of a list of sinks, and of the
+    spacing: None, a pair, or a text by row."""
     headers = headers_of(ground, texts)
     ground.judge_lengths(body)
     products = {name: headers[name].pixels(bodies[name]) for name in texts}
@@ -128,7 +129,8 @@ def audited(ground, body, texts, bodies, sinks):
     for number, row, col in listed:
         if row >= ground.rows or col >= ground.cols or z[row * ground.cols + col] is None:
             raise Refused(f"SinkNotData {number}")
-    terrain = Terrain(ground.rows, ground.cols, z, [(row, col) for _, row, col in listed])
+    spacings = spacings_of(spacing, ground.rows)
+    terrain = Terrain(ground.rows, ground.cols, z, [(row, col) for _, row, col in listed], spacings)
     nodata = {name: NO_DATA[name] if header.nodata is None else header.nodata for name, header in headers.items()}
     return line_of(terrain, products, nodata)
 
@@ -138,8 +140,9 @@ def contents(path):
         return file.read()
 
 
-def audit(files, folder, sinks, given=tuple(NO_DATA)):
-    """The line for these files of elevations and the products at these paths, read in the order of the program."""
+def audit(files, folder, sinks, given=tuple(NO_DATA), spacing=None):
+    """The line for these files of elevations and the products at these paths, read in the order of the program. The spacing
+    is None, a pair, or the path of a text by row."""
     try:
         files.read()
         texts, bodies = {}, {}
@@ -147,7 +150,8 @@ def audit(files, folder, sinks, given=tuple(NO_DATA)):
             texts[name] = contents(os.path.join(folder, name + ".hdr"))
             bodies[name] = contents(os.path.join(folder, name + ".bil"))
         list_ = contents(sinks) if sinks else b""
-        return audited(files.ground(), files.body, texts, bodies, list_)
+        spacing = spacing if spacing is None or isinstance(spacing, tuple) else contents(spacing)
+        return audited(files.ground(), files.body, texts, bodies, list_, spacing)
     except FileNotFoundError as fault:
         return f"failed Open {fault.filename}"
     except Refused as fault:
@@ -161,10 +165,12 @@ def main():
     words.add_argument("--products", required=True)
     words.add_argument("--only", choices=LISTS, default=LISTS[-1])
     words.add_argument("--sinks")
+    words.add_argument("--spacing", type=spacing_of)
+    words.add_argument("--widths")
     words.add_argument("tiles", nargs="*")
     given = words.parse_args()
     files = DemFile(given.dem) if given.dem else TileFiles(given.side, given.tiles)
-    line = audit(files, given.products, given.sinks, given.only.split(","))
+    line = audit(files, given.products, given.sinks, given.only.split(","), given.widths or given.spacing)
     print(line)
     return STATUSES.index(line.split(" ")[0])
 

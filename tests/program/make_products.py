@@ -15,10 +15,11 @@ import heapq
 import os
 import struct
 import sys
+from fractions import Fraction
 
 VOID = -32768
 STEPS = {1: (0, 1), 2: (1, 1), 4: (1, 0), 8: (1, -1), 16: (0, -1), 32: (-1, -1), 64: (-1, 0), 128: (-1, 1)}
-STRAIGHT = (1, 4, 16, 64)
+UNIT_SPACING = (1, 1)
 
 # Name, bits of a pixel, whether it is signed, its form for struct, and the no-data number.
 PRODUCTS = [
@@ -34,11 +35,18 @@ def opposite(code):
     return code << 4 if code < 16 else code >> 4
 
 
-class Terrain:
-    """Elevations in row order, None at voids."""
+def distance_square(spacing, code):
+    """The square of the distance to the neighbour that a code leads to, where cells have this width and this height."""
+    (width, height), (down, right) = spacing, STEPS[code]
+    return (right * width) ** 2 + (down * height) ** 2
 
-    def __init__(self, rows, cols, z, sinks=()):
+
+class Terrain:
+    """Elevations in row order, None at voids; and of each row the width and the height of its cells, in a unit of its own."""
+
+    def __init__(self, rows, cols, z, sinks=(), spacings=None):
         self.rows, self.cols, self.z = rows, cols, z
+        self.spacings = spacings or [UNIT_SPACING] * rows
         self.around = {}
         self.sinks = {row * cols + col for row, col in sinks}
 
@@ -66,13 +74,16 @@ class Terrain:
     def is_open(self, cell):
         return self.z[cell] is not None and (cell in self.sinks or len(self.data_neighbors(cell)) < 8)
 
+    def distance_square(self, cell, code):
+        """The square of the distance to the neighbour that a code leads to, by the row of the cell that water leaves."""
+        return distance_square(self.spacings[cell // self.cols], code)
+
+    def slope_square(self, cell, code, drop):
+        """The square of a slope: of drop over distance."""
+        return Fraction(drop * drop, self.distance_square(cell, code))
+
 
 # Making
-
-
-def key(code, drop):
-    """Twice the square of the slope."""
-    return 2 * drop * drop if code in STRAIGHT else drop * drop
 
 
 def flood(terrain):
@@ -103,9 +114,9 @@ def direct(terrain, con, back):
     """dir: the first of the steepest ways down; on flats 0 at open cells, and else the way back over which the flood came."""
     dir_ = [None] * len(con)
     for cell in terrain.data_cells():
-        ways = [(key(code, con[cell] - con[other]), code) for code, other in terrain.data_neighbors(cell) if con[other] < con[cell]]
-        if ways:
-            dir_[cell] = max(ways, key=lambda way: way[0])[1]
+        drops = {code: con[cell] - con[other] for code, other in terrain.data_neighbors(cell) if con[other] < con[cell]}
+        if drops:
+            dir_[cell] = max(drops, key=lambda code: terrain.slope_square(cell, code, drops[code]))
         else:
             dir_[cell] = back[cell]
     return dir_
@@ -251,8 +262,8 @@ class Rules:
     def slope(self, cell):
         if self.z[cell] is None or not self.lower(cell):
             return True
-        keys = {code: key(code, self.con[cell] - self.con[other]) for code, other in self.lower(cell)}
-        return keys.get(self.dir[cell]) == max(keys.values())
+        slopes = {code: self.terrain.slope_square(cell, code, self.con[cell] - self.con[other]) for code, other in self.lower(cell)}
+        return slopes.get(self.dir[cell]) == max(slopes.values())
 
     def outlet_code(self, cell):
         return not self.terrain.is_open(cell) or bool(self.lower(cell)) or self.dir[cell] == 0

@@ -6,7 +6,7 @@ import sys
 sys.dont_write_bytecode = True
 from audit import RULES_ABOUT, STATUSES, AuditRules, contents, first_endless, line_of
 from make_products import PRODUCTS, RULES, Rules, Terrain, verdict
-from plain_inputs import Header, listed_sinks
+from plain_inputs import Header, listed_sinks, spacings_of
 
 ALL_NO_DATA = {name: nodata for name, _, _, _, nodata in PRODUCTS}
 SOUND, SOUND_VOID = 0, 255
@@ -20,12 +20,13 @@ class CheckRules(Rules):
         self.nodata = nodata
 
 
-def ground_of(files, sinks):
-    """The ground of these files, and its terrain with the listed sinks."""
+def ground_of(files, sinks, spacing=None):
+    """The ground of these files, and its terrain with the listed sinks, and with a spacing: None, a pair or a text by row."""
     files.read()
     ground = files.ground()
     listed = listed_sinks(contents(sinks) if sinks else b"")
-    return ground, Terrain(ground.rows, ground.cols, ground.elevations(files.body), [(row, col) for _, row, col in listed])
+    spacings = spacings_of(spacing, ground.rows)
+    return ground, Terrain(ground.rows, ground.cols, ground.elevations(files.body), [(row, col) for _, row, col in listed], spacings)
 
 
 class Explained:

@@ -15,6 +15,8 @@ MOST_SIDE = 3601
 MOST_BOX = 8
 MOST_HEADER_BYTES = 65536
 MOST_ROWS = 28801
+# Of the width and the height of cells.
+MOST_SIZE = 2**30
 WHOLE_KEYS = ["NROWS", "NCOLS", "NBANDS", "NBITS", "SKIPBYTES", "BANDROWBYTES", "TOTALROWBYTES"]
 PLACE_KEYS = ["ULXMAP", "ULYMAP", "XDIM", "YDIM"]
 # Of the numbers of a place.
@@ -230,17 +232,46 @@ class Dem:
         return [None if number == self.header.nodata else number for number in self.header.pixels(body)]
 
 
-# Lists of sinks
+# Lists of sinks, and spacings
 
 
-def listed_sinks(text):
-    """The cells that a list of sinks names, each a row and a column after its line number."""
-    listed = []
+def pairs_of(text, least, most, name):
+    """The two whole numbers of each line that isn't empty, after its line number; a line without two such numbers has this
+    refusal."""
+    pairs = []
     for number, line in enumerate(text.decode("latin-1").split("\n"), 1):
         words = [word for word in re.split("[ \t]+", line[:-1] if line.endswith("\r") else line) if word]
         if not words:
             continue
-        if len(words) != 2 or not all(re.fullmatch("[0-9]+", word) and int(word) < 2**32 for word in words):
-            raise Refused(f"BadSinkLine {number}")
-        listed.append((number, int(words[0]), int(words[1])))
+        if len(words) != 2 or not all(re.fullmatch("[0-9]+", word) and least <= int(word) <= most for word in words):
+            raise Refused(f"{name} {number}")
+        pairs.append((number, int(words[0]), int(words[1])))
+    return pairs
+
+
+def listed_sinks(text):
+    """The cells that a list of sinks names, each a row and a column after its line number."""
+    return pairs_of(text, 0, 2**32 - 1, "BadSinkLine")
+
+
+def spacings_of(given, rows):
+    """The width and the height of the cells of each row: 1 and 1 where nothing is given, the same pair in each row, or the
+    lines of a text."""
+    if not isinstance(given, bytes):
+        return [given or (1, 1)] * rows
+    listed = [(width, height) for _, width, height in pairs_of(given, 1, MOST_SIZE, "BadSpacingLine")]
+    if len(listed) != rows:
+        raise Refused(f"SpacingRows {len(listed)}")
     return listed
+
+
+def spacing_of(word):
+    """The two whole numbers of `W,H`: decimals, times the least power of ten that makes both whole. Another word is a
+    ValueError."""
+    found = re.fullmatch(r"([0-9]+\.?[0-9]*|\.[0-9]+),([0-9]+\.?[0-9]*|\.[0-9]+)", word)
+    sizes = [Fraction(f"0{size}") for size in found.groups()] if found else []
+    while any(size.denominator > 1 for size in sizes):
+        sizes = [10 * size for size in sizes]
+    if not sizes or not all(1 <= size <= MOST_SIZE for size in sizes):
+        raise ValueError(f"{word}: no width and height")
+    return tuple(map(int, sizes))

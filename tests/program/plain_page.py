@@ -9,7 +9,7 @@ from dataclasses import dataclass
 from fractions import Fraction
 
 sys.dont_write_bytecode = True
-from make_products import PRODUCTS, RULES, STEPS, fixed, key
+from make_products import PRODUCTS, RULES, STEPS, fixed
 from plain_faults import Explained
 from plain_inputs import UNIT, Dem
 
@@ -100,8 +100,10 @@ class Expected:
     def slope(self) -> None:
         drops = {code: self.rules.con[self.cell] - self.rules.con[other] for code, other in self.rules.lower(self.cell)}
         self.product = "dir"
-        self.ways = [(code, drops[code], key(code, drops[code])) for code in STEPS if code in drops]
-        greatest = max(key for _, _, key in self.ways)
+        # A key is twice the square of the slope.
+        keys = {code: int(2 * self.plain.terrain.slope_square(self.cell, code, drop)) for code, drop in drops.items()}
+        self.ways = [(code, drops[code], keys[code]) for code in STEPS if code in drops]
+        greatest = max(keys.values())
         self.codes = [code for code, _, key in self.ways if key == greatest]
         self.words = "dir of a steepest descent"
 

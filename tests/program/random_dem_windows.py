@@ -1,7 +1,8 @@
 #!/usr/bin/env python3
 """Cuts small random sets on a raster of elevations, right ones and ones with one number changed, into windows as a user does:
 each lies in a part of the raster with a header of its own. Judges the windows by the program, merges their reports, and compares
-the line with the rules on the whole (audit.py). Reports of a part at another place, or with other pixels, must be refused.
+the line with the rules on the whole (audit.py). Reports of a part at another place, with other pixels, or with another spacing of
+a row that another one has, must be refused.
 
 random_dem_windows.py DRAIN
 
@@ -18,8 +19,10 @@ from pathlib import Path
 sys.dont_write_bytecode = True
 from audit import NO_DATA, AuditRules
 from make_products import RULES, verdict
+from plain_inputs import MOST_SIZE
 from random_dems import RandomDem, rename_blank
 from random_sets import Case, kind_of
+from random_spacings import random_spacing
 
 CASES = 400
 SHARED_LABEL = 15
@@ -66,6 +69,7 @@ class Part:
         shift = [case.dice.choice([0, size // 200, -(size // 200)]) for size in (xdim, ydim)]
         self.ground.place = [ulx + self.cols[0] * xdim + shift[0], uly - self.rows[0] * ydim + shift[1], xdim, ydim]
         self.at = [self.rows[0], self.cols[0]]
+        self.spacings = case.terrain.spacings[slice(*self.rows)]
         self.report = folder / "report.txt"
 
     def cut(self, numbers):
@@ -81,13 +85,26 @@ class Part:
             (self.folder / f"{name}.bil").write_bytes(body)
         inside = [(row, col) for row, col in self.case.sinks if row in range(*self.rows) and col in range(*self.cols)]
         (self.folder / "sinks.txt").write_text("".join(f"{row - self.rows[0]} {col - self.cols[0]}\n" for row, col in inside))
+        (self.folder / "widths.txt").write_text("".join(f"{width} {height}\n" for width, height in self.spacings))
+
+    def spacing_words(self):
+        """The option that gives the spacing, if one is needed; where all rows are alike either of two."""
+        if set(self.spacings) == {(1, 1)} and self.case.dice.random() < 0.5:
+            return []
+        if len(set(self.spacings)) == 1 and self.case.dice.random() < 0.5:
+            return ["--spacing", "{},{}".format(*self.spacings[0])]
+        return ["--widths", self.folder / "widths.txt"]
+
+    def listed(self):
+        """The width and the height of the cells of each row of the window."""
+        return {row: self.spacings[row - self.rows[0]] for row in range(*self.window_rows)}
 
     def judge(self, drain):
         """What the program ends with and prints."""
         (top, bottom), (left, right) = self.window_rows, self.window_cols
         box = [top - self.rows[0], left - self.cols[0], bottom - top, right - left]
         words = ["window", *self.ground.words(self.folder), "--at", ",".join(map(str, self.at)), "--box", ",".join(map(str, box))]
-        words += ["--inner", self.inner] if self.inner else []
+        words += [*(["--inner", self.inner] if self.inner else []), *self.spacing_words()]
         return run(drain, *words, "--products", self.folder, "--sinks", self.folder / "sinks.txt", "--report", self.report)
 
 
@@ -110,6 +127,32 @@ def wrong_verdict(drain, case, parts):
     line = expected(case)
     answer = merge(drain, case, parts)
     return None if answer == (int(line.startswith("rejected")), line + "\n") else f"{answer}, not {line!r}", kind_of(line)
+
+
+def wrong_spacing(drain, case, parts):
+    """What is wrong with the refusal of a part with another spacing of one row, None where nothing is."""
+    part = case.dice.choice(parts)
+    row = case.dice.choice(list(part.listed())) - part.rows[0]
+    kept, (width, height) = part.spacings, part.spacings[row]
+    near = [(width + 1, height), (width, height + 1), (width - 1, height), (width, height - 1)]
+    other_pair = case.dice.choice([pair for pair in near if min(pair) > 0 and max(pair) <= MOST_SIZE])
+    part.spacings = [*kept[:row], other_pair, *kept[row + 1 :]]
+    listed = [it.listed() for it in parts]
+    differ = (
+        later for later, pairs in enumerate(listed) if any(it.get(row, pair) != pair for it in listed[:later] for row, pair in pairs.items())
+    )
+    other = next(differ, None)
+    if other is not None:
+        part.write()
+        status, line = part.judge(drain)
+        answer, refused = merge(drain, case, parts), f"refused OtherSpacing {other}\n"
+        part.spacings = kept
+        part.write()
+        if status not in (0, 1) or answer != (2, refused):
+            return f"another spacing: {line!r}, {answer}, not {refused!r}"
+        part.judge(drain)
+    part.spacings = kept
+    return None
 
 
 def wrong_refusal(drain, case, parts):
@@ -139,14 +182,15 @@ def judge(number, folder, drain):
     ground = RandomDem(dice)
     if any(place + size * 80 > GREATEST for place, size in zip(map(abs, ground.place), ground.place[2:])):
         ground.place[2:] = [10**15, 10**15 // 1200]
-    case = Case(dice, folder, ground)
+    spacing_dice = random.Random(f"spacing {number}")
+    case = Case(dice, folder, ground, spacing_dice.choice([None, random_spacing(spacing_dice, ground.rows)]))
     [lambda _: None, Case.change, Case.change, Case.turn, Case.lower, rename_blank][number % 6](case)
     case.write()
     places = [(rows, cols) for rows in spans(dice, ground.rows) for cols in spans(dice, ground.cols)]
     parts = [Part(case, folder / str(place), rows, cols) for place, (rows, cols) in enumerate(places)]
     wrong, kind = wrong_verdict(drain, case, parts)
     if not wrong and len(parts) > 1:
-        wrong = wrong_refusal(drain, case, parts)
+        wrong = wrong_spacing(drain, case, parts) or wrong_refusal(drain, case, parts)
     return wrong, kind
 
 

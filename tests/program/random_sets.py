@@ -18,7 +18,8 @@ from pathlib import Path
 sys.dont_write_bytecode = True
 from audit import LISTS, NO_DATA, STATUSES, audit
 from derive import BLANK, derive
-from make_products import STEPS, Terrain, key, make
+from make_products import STEPS, Terrain, make
+from plain_inputs import spacings_of
 
 CASES = 600
 
@@ -58,15 +59,21 @@ class Meaning:
                 return None
         return run
 
+    def square_between(self, cell, other):
+        """The square of the distance between the middles of two cells, with the sizes of the first one's row."""
+        (width, height), cols = self.terrain.spacings[cell // self.terrain.cols], self.terrain.cols
+        return (cell % cols - other % cols) ** 2 * width**2 + (cell // cols - other // cols) ** 2 * height**2
+
     def is_right_way(self, cell):
-        """A steepest descent; where nothing is lower 0 at an open cell, and else along the flat."""
-        drops = {code: self.con[cell] - self.con[other] for code, other in self.terrain.data_neighbors(cell)}
-        slopes = {code: key(code, drop) for code, drop in drops.items() if drop > 0}
-        if slopes:
-            return slopes.get(self.dir[cell]) == max(slopes.values())
+        """A lower cell to which no other's slope is greater; where nothing is lower 0 at an open cell, and else along the flat."""
+        drops = {other: self.con[cell] - self.con[other] for _, other in self.terrain.data_neighbors(cell)}
+        way, lower = self.way(cell), [other for other, drop in drops.items() if drop > 0]
+        if lower:
+            squares = {other: self.square_between(cell, other) for other in lower}
+            return way in lower and all(drops[way] ** 2 * squares[other] >= drops[other] ** 2 * squares[way] for other in lower)
         if self.terrain.is_open(cell):
             return self.dir[cell] == 0
-        return drops.get(self.dir[cell]) == 0
+        return drops.get(way) == 0
 
     def is_correct(self):
         levels = least_surface(self.terrain)
@@ -81,14 +88,14 @@ class Meaning:
 
 
 class Case:
-    """A ground, a list of sinks and four rasters, written into a folder."""
+    """A ground, a list of sinks and four rasters, written into a folder. A spacing is None, a pair, or a text by row."""
 
-    def __init__(self, dice, folder, ground):
-        self.dice, self.folder, self.ground, self.z = dice, folder, ground, ground.z
+    def __init__(self, dice, folder, ground, spacing=None):
+        self.dice, self.folder, self.ground, self.z, self.spacing = dice, folder, ground, ground.z, spacing
         data = [cell for cell, height in enumerate(self.z) if height is not None]
         listed = dice.sample(data, min(len(data), dice.choice([0, 0, 1, 3])))
         self.sinks = [(cell // ground.cols, cell % ground.cols) for cell in listed]
-        self.terrain = Terrain(ground.rows, ground.cols, self.z, self.sinks)
+        self.terrain = Terrain(ground.rows, ground.cols, self.z, self.sinks, spacings_of(spacing, ground.rows))
         self.products = make(self.terrain)
         self.nodata = ground.no_data_of(self.products)
         for name, blank in self.nodata.items():
@@ -125,10 +132,19 @@ class Case:
             header, body = self.ground.raster(name, self.nodata[name], self.products[name])
             (self.folder / f"{name}.hdr").write_text(header)
             (self.folder / f"{name}.bil").write_bytes(body)
+        if isinstance(self.spacing, bytes):
+            (self.folder / "widths.txt").write_bytes(self.spacing)
 
     def line(self, given):
         """The line by audit.py, of these products."""
-        return audit(self.ground.files(self.folder), self.folder, self.folder / "sinks.txt", given)
+        spacing = self.folder / "widths.txt" if isinstance(self.spacing, bytes) else self.spacing
+        return audit(self.ground.files(self.folder), self.folder, self.folder / "sinks.txt", given, spacing)
+
+    def spacing_words(self):
+        """The option that gives the spacing, if there is one."""
+        if self.spacing is None:
+            return []
+        return ["--widths", self.folder / "widths.txt"] if isinstance(self.spacing, bytes) else ["--spacing", "{},{}".format(*self.spacing)]
 
     def is_part_of_correct(self, given):
         """Whether values of the other products exist that make a correct set with these. If there are any, then those that
@@ -156,7 +172,7 @@ class Case:
 
     def answer(self, drain, *words):
         """What the program ends with and prints."""
-        command = [drain, *words, "--products", self.folder, "--sinks", self.folder / "sinks.txt", *self.ground.words(self.folder)]
+        command = [drain, *words, "--products", self.folder, "--sinks", self.folder / "sinks.txt", *self.spacing_words(), *self.ground.words(self.folder)]
         ended = subprocess.run(command, stdout=subprocess.PIPE, stderr=subprocess.PIPE, timeout=120, check=False)
         return ended.returncode, ended.stdout.decode()
 

@@ -108,10 +108,12 @@ is_static || {
 add_runs "$here/worked_lines.py" "$drain"
 add_runs "$here/worked_dems.py" "$drain"
 add_runs "$here/made_dems.py" "$drain"
+add_runs "$here/worked_spacings.py" "$drain"
 add_runs "$here/cut_inputs.py" "$drain"
 add_runs "$here/random_audits.py" "$drain"
 add_runs "$here/random_dems.py" "$drain"
 add_runs "$here/random_dem_windows.py" "$drain"
+add_runs "$here/random_spacings.py" "$drain"
 add_runs "$here/explain.py" "$drain"
 
 # A library that is loaded before the C library's makes calls of the program fail, so a C compiler is needed. A static

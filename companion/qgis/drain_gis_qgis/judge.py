@@ -32,8 +32,8 @@ HELP = """Says whether drainage rasters are correct for their elevations, and wh
 Accepted: what was given is correct at each cell, by the definitions of drain. Rejected: the log has the line of drain
 and the first fault; the map shows the first rule that fails at each cell, the report says more.
 
-Water flows one way from each cell (D8), slopes are drop over distance with cells one unit apart, and water leaves at
-the edge and at voids. Tested, not proved: that what drain reads says what the layers say."""
+Water flows one way from each cell (D8), slopes are drop over distance as the tool measures it, and water leaves at the
+edge and at voids. Tested, not proved: that what drain reads says what the layers say."""
 
 
 class FaultStyle(core.QgsProcessingLayerPostProcessorInterface):

@@ -14,6 +14,8 @@ mod fill;
 #[cfg(test)]
 mod flat;
 #[cfg(test)]
+mod fractions;
+#[cfg(test)]
 mod grid;
 #[cfg(test)]
 mod open;

@@ -58,12 +58,7 @@ fn falls_by_fractions<H: LaneHeight>(slopes: &Slopes, con: H, code: u16, cons: E
 
 /// Whether the code leads down the steepest way.
 #[inline(always)]
-pub(crate) fn falls_down<H: LaneHeight>(
-    slopes: &Slopes,
-    con: H,
-    code: u16,
-    cons: Eight<H>,
-) -> bool
+pub(crate) fn falls_down<H: LaneHeight>(slopes: &Slopes, con: H, code: u16, cons: Eight<H>) -> bool
     ensures { result ≡ falls_down slopes.now (H.number con) code (eight H.number cons) }
 {
     if slopes.are_unit() {

@@ -64,13 +64,7 @@ fn found_below(square: u64, other_square: u64) -> Fraction
 
 /// The fraction moved towards another as often as it stays on its side of the ratio, below or above: by twice as many
 /// steps each time, then by half as many.
-fn moved(
-    from: Fraction,
-    to: Fraction,
-    below: bool,
-    square: u64,
-    other_square: u64,
-) -> Fraction
+fn moved(from: Fraction, to: Fraction, below: bool, square: u64, other_square: u64) -> Fraction
     requires square { square ≤ 2 ^ 61 }
     requires other { other_square ≤ 2 ^ 61 }
 {

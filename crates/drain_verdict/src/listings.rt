@@ -3,7 +3,9 @@
 //! A text with a bad line is refused only after the last row, so that earlier refusals are told first. During the walk it
 //! lists no sink, or unit spacing.
 
-ghost use Rattle.std.specs.Prelude.{◌≡◌, ◌≢◌, IfOk, IfSome, Some};
+ghost use Rattle.std.specs.Prelude.{◌≡◌, ◌≢◌, Err, IfOk, IfSome, Some};
+ghost use Rattle.drain_grid.specs.Spacing.{spacing_of};
+ghost use Rattle.drain_grid.specs.SpacingTexts.{spacing_in};
 ghost use Rattle.drain_verdict.specs.Given.{spacing_from};
 ghost use Rattle.drain_verdict.specs.Listings.{AreRowsCounted, IsListedSpacing, IsListingOf, IsToldOfLists, IsToldOfSpacing};
 ghost use Rattle.drain_verdict.specs.Refusals.{IsOfBodies};
@@ -55,12 +57,20 @@ fn spacing_listing(alloc: Global, input: &SpacingInput<'_>) -> Result<SpacingLis
                 rows,
             })
         }
-        Err(SpacingFault::BadSpacingLine(line)) => Ok(SpacingListing {
-            spacings: Spacings::same(alloc, Spacing::unit()),
-            bad: Some(line),
-            rows: None,
-        }),
+        Err(SpacingFault::BadSpacingLine(line)) => Ok(square_cells(alloc, line)),
         Err(SpacingFault::OutOfMemory) => Err(OutOfMemory),
+    }
+}
+
+/// Square cells, of a text with this bad line.
+fn square_cells(alloc: Global, line: u64) -> SpacingListing
+    ensures spacing { spacing_of result.spacings ≡ spacing_in (Err line) }
+    ensures bad { result.bad ≡ Some line }
+{
+    SpacingListing {
+        spacings: Spacings::same(alloc, Spacing::unit()),
+        bad: Some(line),
+        rows: None,
     }
 }
 

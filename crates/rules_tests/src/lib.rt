@@ -30,6 +30,7 @@ mod rows_of_numbers;
 #[cfg(test)]
 mod screened_rows;
 #[cfg(test)]
+mod spaced_rows;
 mod spill_levels;
 #[cfg(test)]
 mod unasked_ranks;

@@ -17,13 +17,14 @@ use std::alloc::Global;
 use std::test::Fail;
 
 /// The rows of six parts, one part's after the other's, and the columns of each. What is kept of the pixels of
-/// elevations, and which number means a void.
+/// elevations, and which number means a void. How far apart cells are.
 #[derive(Clone, Copy)]
 pub struct PartRows<'a> {
     pub numbers: &'a [i64],
     pub rows: u8,
     pub cols: u16,
     pub ground: Ground,
+    pub spacing: Spacing,
 }
 
 impl<'a> PartRows<'a> {
@@ -141,7 +142,8 @@ impl PartRow {
         let acc = parts.product_of(alloc, (Part::Acc, acc), row, count)?;
         let bas = parts.product_of(alloc, (Part::Bas, bas), row, count)?;
         let rnk = parts.product_of(alloc, (Part::Rnk, rnk), row, count)?;
-        Ok(part_row(z, con, dir, acc, bas, rnk))
+        let slopes = Slopes::of(parts.spacing);
+        Ok(part_row(z, slopes, con, dir, acc, bas, rnk))
     }
 
     /// The row with these marks, and with the lanes of its numbers if they are to be taken and fit.
@@ -170,6 +172,7 @@ impl PartRow {
 /// The row of these elevations and products.
 fn part_row(
     z: GroundRow,
+    slopes: Slopes,
     con: PixelRow,
     dir: PixelRow,
     acc: PixelRow,
@@ -194,7 +197,7 @@ fn part_row(
     PartRow {
         z,
         products,
-        slopes: Slopes::of(Spacing::unit()),
+        slopes,
     }
 }
 

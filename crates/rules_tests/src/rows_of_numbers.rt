@@ -5,7 +5,7 @@ ghost use Rattle.std.specs.Prelude.{◌≡◌, ◌<◌, ◌+◌, OnOk};
 use crate::part_rows::{AS_NUMBERS, Ground, Kinds, OF_TILES, PartRow, PartRows};
 use drain_basin::OutletLabels;
 use drain_faults::FaultWalk;
-use drain_grid::{Judged, NoData, Rules, Shape, Sinks, Verdict, parse_sinks};
+use drain_grid::{Judged, NoData, Rules, Shape, Sinks, Spacing, Verdict, parse_sinks};
 use drain_kernel::Lanes;
 use drain_rules::{Kept, PatchRow, RowView, ThreeRows, Walk};
 use std::alloc::{AllocError, Global};
@@ -49,6 +49,7 @@ struct Given<'a> {
     kinds: Kinds,
     judged: Judged,
     is_laned: bool,
+    spacing: Spacing,
 }
 
 impl<'a> Given<'a> {
@@ -59,6 +60,7 @@ impl<'a> Given<'a> {
             rows: 3,
             cols: COLS,
             ground: self.ground,
+            spacing: self.spacing,
         };
         PartRow::new(self.alloc, parts, row, self.kinds)
     }
@@ -217,6 +219,7 @@ pub fn faults_by_rows(alloc: Global, numbers: &[i64], is_laned: bool) -> Result<
         kinds: AS_NUMBERS,
         judged: Judged::AllWithRanks,
         is_laned,
+        spacing: Spacing::unit(),
     };
     let mut walk = FaultWalk::new(alloc);
     note_rows(&mut walk, given, &mut Room::new(alloc))?;
@@ -251,10 +254,32 @@ pub fn kept_of_kinds(
         kinds,
         judged: Judged::AllWithRanks,
         is_laned: true,
+        spacing: Spacing::unit(),
     };
     let numbers = numbers_round(given, row)?;
     let mut room = Room::new(alloc);
     match kept_in_row(&three_rows(given, &numbers, row, &mut room), from) {
+        Some(kept) => Ok(kept),
+        None => Err("a column".into()),
+    }
+}
+
+/// The cells of the second row that lanes clear from its second column on, where cells are so far apart.
+pub fn kept_when_spaced(alloc: Global, numbers: &[i64], spacing: Spacing) -> Result<Kept, Fail> {
+    let marks = marks_of(&Sinks::none(alloc));
+    let given = Given {
+        alloc,
+        numbers,
+        marks: &marks,
+        ground: OF_TILES,
+        kinds: AS_NUMBERS,
+        judged: Judged::AllWithRanks,
+        is_laned: true,
+        spacing,
+    };
+    let numbers = numbers_round(given, 1)?;
+    let mut room = Room::new(alloc);
+    match kept_in_row(&three_rows(given, &numbers, 1, &mut room), 1) {
         Some(kept) => Ok(kept),
         None => Err("a column".into()),
     }
@@ -283,6 +308,7 @@ pub fn is_outlet_by_lanes(
         kinds: AS_NUMBERS,
         judged: Judged::AllWithRanks,
         is_laned: true,
+        spacing: Spacing::unit(),
     };
     let numbers = numbers_round(given, row)?;
     let mut room = Room::new(alloc);
@@ -321,6 +347,7 @@ pub fn verdict_of_kinds(
             kinds,
             judged,
             is_laned: true,
+            spacing: Spacing::unit(),
         },
     )
 }
@@ -343,6 +370,7 @@ pub fn verdict_on_ground(
             kinds: AS_NUMBERS,
             judged,
             is_laned: true,
+            spacing: Spacing::unit(),
         },
     )
 }

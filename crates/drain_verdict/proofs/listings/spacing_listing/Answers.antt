@@ -1,9 +1,10 @@
-use Rattle.std.proofs.Common.{◌≡◌, ◌∙◌, [], Err, ap, subst, sym}
+use Rattle.std.proofs.Common.{◌∙◌, Option, ap, subst, sym}
 use Rattle.drain_grid.specs.declared.spacing_text.SpacingFault.{SpacingFault}
-use Rattle.drain_grid.specs.Spacing.{Distances, RowSpacings, spacing_of}
 use Rattle.drain_grid.specs.SpacingTexts.{IsSpacingFault, spacing_in}
 use Rattle.drain_verdict.specs.Given.{HasBadSpacing, spacing_from}
-use Rattle.drain_verdict.proofs.SpacingAnswers.{said_is, text_told, unit_there}
+use Rattle.drain_verdict.specs.Listings.{IsTextTold}
+use Rattle.std.specs.Prelude.{ℕ}
+use Rattle.drain_verdict.proofs.SpacingAnswers.{said_is, text_told}
 use Rattle.drain_verdict.proofs.listings.spacing_listing.Goals as goal
 
 pub returns-in-Ok : goal.returns-in-Ok
@@ -16,6 +17,7 @@ pub returns-in-Err-BadSpacingLine : goal.returns-in-Err-BadSpacingLine
 returns-in-Err-BadSpacingLine c =
     let fault = subst (λ (f : SpacingFault). IsSpacingFault c.args.input.now f) c.in-Err-BadSpacingLine.field-0-is c.in-Err-BadSpacingLine.ensures.err in
     let bad : HasBadSpacing (spacing_from c.args.input.now) c.in-Err-BadSpacingLine.line = sym (said_is c.args.input.now) ∙ fault in
-    let unit : spacing_of c.same.result ≡ spacing_in (Err c.in-Err-BadSpacingLine.line) =
-    ap spacing_of (c.same.ensures ∙ ap (λ (s : Distances). record { listed = []; otherwise = s }) c.unit.ensures) ∙ unit_there c.in-Err-BadSpacingLine.line in
-    record { spacing = unit ∙ ap spacing_in (sym bad); told = bad }
+    record {
+      spacing = c.square_cells.ensures.spacing ∙ ap spacing_in (sym bad);
+      told = subst (λ (told : Option ℕ). IsTextTold (spacing_from c.args.input.now) told c.square_cells.result.rows) (sym c.square_cells.ensures.bad) bad;
+    }
