@@ -3,7 +3,8 @@
 use crate::inputs::Parts;
 use crate::making::make_on;
 use crate::printed::{empty_files, files_of, same_bytes, same_line};
-use drain_grid::SetProduct;
+use drain_grid::{SetProduct, SpacingInput};
+use drain_verdict::Given;
 use std::alloc::Global;
 use std::process::Abort;
 use std::test::Fail;
@@ -23,7 +24,8 @@ fn con_has_the_pixels_and_the_place_of_the_elevations(rt: HostRuntime) -> Result
         header: HEADER,
         raster: &[200, 1, 7],
     };
-    let run = make_on(rt.alloc(), dem, b"", files.as_mut_slice())?;
+    let given = Given::plain(b"");
+    let run = make_on(rt.alloc(), dem, &given, files.as_mut_slice())?;
     same_line(&rt, "made", &run, "made rows=1 cols=3\n", 0);
     let con = files_of(files.as_slice(), SetProduct::Con)?;
     same_bytes(&rt, "con.hdr", con.0, CON);
@@ -33,12 +35,12 @@ fn con_has_the_pixels_and_the_place_of_the_elevations(rt: HostRuntime) -> Result
     Ok(())
 }
 
-/// Fails the test if products of this raster and list of sinks have another line.
+/// Fails the test if products of this raster with what is given have another line.
 fn refused(
     rt: &impl Abort,
     alloc: Global,
     raster: &[u8],
-    sinks: &[u8],
+    given: &Given,
     line: &str,
 ) -> Result<(), Fail> {
     let mut files = empty_files(alloc, 0)?;
@@ -46,7 +48,7 @@ fn refused(
         header: HEADER,
         raster,
     };
-    let run = make_on(alloc, dem, sinks, files.as_mut_slice())?;
+    let run = make_on(alloc, dem, given, files.as_mut_slice())?;
     same_line(rt, line, &run, line, 2);
     Ok(())
 }
@@ -54,7 +56,28 @@ fn refused(
 #[test]
 fn a_short_raster_comes_before_sinks(rt: HostRuntime) -> Result<(), Fail> {
     let alloc = rt.alloc();
-    refused(&rt, alloc, &[5, 6], b"x", "refused RasterShort dem\n")?;
-    refused(&rt, alloc, &[5, 6, 7], b"0 0\nx", "refused BadSinkLine 2\n")?;
-    refused(&rt, alloc, &[5, 1, 7], b"0 1", "refused SinkNotData 1\n")
+    let bad = Given::plain(b"0 0\nx");
+    refused(&rt, alloc, &[5, 6], &bad, "refused RasterShort dem\n")?;
+    refused(&rt, alloc, &[5, 6, 7], &bad, "refused BadSinkLine 2\n")?;
+    let off = Given::plain(b"0 1");
+    refused(&rt, alloc, &[5, 1, 7], &off, "refused SinkNotData 1\n")
+}
+
+/// These sinks, and this text of widths.
+fn spaced<'a>(sinks: &'a [u8], widths: &'a [u8]) -> Given<'a> {
+    Given {
+        sinks,
+        spacing: SpacingInput::ByRow(widths),
+    }
+}
+
+#[test]
+fn a_bad_spacing_comes_behind_sinks(rt: HostRuntime) -> Result<(), Fail> {
+    let alloc = rt.alloc();
+    let both = spaced(b"0 1", b"3 0");
+    refused(&rt, alloc, &[5, 1, 7], &both, "refused SinkNotData 1\n")?;
+    let bad = spaced(b"", b"3 4\n\n3 0\n4");
+    refused(&rt, alloc, &[5, 1, 7], &bad, "refused BadSpacingLine 3\n")?;
+    let rows = spaced(b"", b"3 4\n\n4 3\n");
+    refused(&rt, alloc, &[5, 1, 7], &rows, "refused SpacingRows 2\n")
 }

@@ -12,6 +12,7 @@ use drain_files::open_judged::JudgedProducts;
 use drain_grid::{Judged, Product};
 use drain_header::Header;
 use drain_maker::product_files::SetFault;
+use drain_verdict::Given;
 use std::alloc::{AllocError, Global};
 use std::test::Fail;
 
@@ -106,7 +107,7 @@ fn explain(
         alloc,
         2,
         &mut tiles,
-        &[],
+        &Given::plain(&[]),
         &mut products,
         Mapping::Drawn,
         form,

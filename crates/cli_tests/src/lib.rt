@@ -28,4 +28,6 @@ mod printed;
 #[cfg(test)]
 mod progress;
 #[cfg(test)]
+mod spacings;
+#[cfg(test)]
 mod stamped_reads;

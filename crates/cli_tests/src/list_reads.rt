@@ -2,7 +2,7 @@
 
 use drain_device::faults::{ScriptSource, Scripted};
 use drain_device::{BodyFault, DeviceFault};
-use drain_files::whole_input::read_text;
+use drain_files::whole_input::{MAX_TEXT_BYTES, read_text};
 use std::alloc::Global;
 use std::process::Abort;
 use std::test::Fail;
@@ -42,7 +42,7 @@ fn came(
         return Ok(None);
     }
     let mut source = ScriptSource::new(list, most, script);
-    let came = read_text(alloc, &mut source)?;
+    let came = read_text(alloc, &mut source, MAX_TEXT_BYTES)?;
     Ok(if came.as_slice() == list {
         Some(came.len())
     } else {

@@ -12,6 +12,7 @@ use drain_grid::Product;
 use drain_maker::follow::Unfollowed;
 use drain_maker::product_files::{FILE_COUNT, SetFault};
 use drain_maker::product_header;
+use drain_verdict::Given;
 use std::alloc::{AllocError, Global};
 use std::test::Fail;
 
@@ -72,14 +73,14 @@ fn set_status<F: ByteSink>(
 fn dem_status<F: ByteSink>(
     alloc: Global,
     dem: Parts<'_>,
-    sinks: &[u8],
+    given: &Given,
     files: &mut [F],
     out: &mut VecSink,
 ) -> Result<u8, AllocError>
     requires { length files.old ≡ FILE_COUNT }
 {
     let mut dem = [product(alloc, dem)?];
-    match make_dem_set(alloc, &mut dem, sinks, &mut Unfollowed, out) {
+    match make_dem_set(alloc, &mut dem, given, &mut Unfollowed, out) {
         Ok((header, products)) => Ok(write_and_place(
             alloc,
             &header,
@@ -107,16 +108,16 @@ pub fn make<F: ByteSink>(
     Ok(Printed::new(out.as_slice(), status)?)
 }
 
-/// The output of a run that makes products of one raster of elevations with this list of sinks.
+/// The output of a run that makes products of one raster of elevations with what is given.
 pub fn make_on<F: ByteSink>(
     alloc: Global,
     dem: Parts<'_>,
-    sinks: &[u8],
+    given: &Given,
     files: &mut [F],
 ) -> Result<Printed, Fail>
     requires { length files.old ≡ FILE_COUNT }
 {
     let mut out = VecSink::new(room(alloc)?);
-    let status = dem_status(alloc, dem, sinks, files, &mut out)?;
+    let status = dem_status(alloc, dem, given, files, &mut out)?;
     Ok(Printed::new(out.as_slice(), status)?)
 }

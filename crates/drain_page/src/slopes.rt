@@ -42,7 +42,7 @@ pub(crate) fn ways_down(
             ways.push(WayDown {
                 direction,
                 drop,
-                over: over(patch, direction, drop),
+                over: compared_by(patch, direction, drop),
             })?;
         }
     }
@@ -50,7 +50,7 @@ pub(crate) fn ways_down(
 }
 
 /// What a drop in this direction is compared by.
-fn over(patch: &Patch, direction: Direction, drop: u64) -> Over {
+fn compared_by(patch: &Patch, direction: Direction, drop: u64) -> Over {
     if patch.spacing != Spacing::unit() {
         return Over::DistanceSquare(patch.spacing.distance_square(direction));
     }
