@@ -167,14 +167,16 @@ class Runs(Lines):
         """Pixel sizes of the elevations' header, and the place of a raster that is refused."""
         for width, height, right in HEADERS:
             for code in (EAST, SOUTH_EAST, SOUTH):
-                con, *others = Corner("", (3, 5, 4), right).products(code)
+                corner = Corner("", (3, 5, 4), right)
+                con, *others = corner.products(code)
                 products = pixels_of(one_dem(2, 2, "i", con, con, *others), width, height)
                 with tempfile.TemporaryDirectory() as folder:
-                    command = ["audit", *products.write(Path(folder)), "--spacing", "header"]
+                    words = [*products.write(Path(folder)), "--spacing", "header"]
                     if right:
-                        self.expect(f"header {width} {height}, {code}", LINE if code in right else SLOPE, command)
+                        self.expect(f"header {width} {height}, {code}", LINE if code in right else SLOPE, ["audit", *words])
+                        self.made(corner, words, Path(folder, "made"))
                     else:
-                        self.expect_usage(command)
+                        self.expect_usage(["audit", *words])
         for line, change in (("NBANDS 2", "BadHeader dem NotOneBand"), ("YDIM 0", "BadPixelSize dem"), ("XDIM -30", "BadPixelSize dem")):
             with tempfile.TemporaryDirectory() as folder:
                 words = FALL.with_line("dem", line).write(Path(folder))
