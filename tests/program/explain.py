@@ -24,12 +24,13 @@ from plain_page import ON_RASTER, Page
 from random_audits import RandomTiles
 from random_dems import RandomDem
 from random_sets import Case
+from random_spacings import random_spacing
 from worked_sets import WORKED
 
 SAMPLES = Path(__file__).resolve().parents[2] / "samples"
 RANDOM_SETS = 240
 CHANGED_SETS = 12
-MEMBERS = ["answer", "refusal", "rows", "cols", "elevation", "ranks", "rules", "products", "patch", "expected", "run"]
+MEMBERS = ["answer", "refusal", "rows", "cols", "elevation", "slopes", "ranks", "rules", "products", "patch", "expected", "run"]
 
 
 class Wrong(Exception):
@@ -62,7 +63,9 @@ class Explanation:
         same("the status with JSON", status, self.plain.status())
         page = json.loads(object_text)
         wanted = Page(self.plain, self.ring_start(page))
-        same("the members", list(page), [it for it in MEMBERS if it != "elevation" or wanted.words == ON_RASTER])
+        missing = [] if wanted.words == ON_RASTER else ["elevation"]
+        missing += [] if wanted.slopes_object() else ["slopes"]
+        same("the members", list(page), [it for it in MEMBERS if it not in missing])
         for member, value in wanted.as_object().items():
             same(f"{member} in JSON", page[member], value)
         for told, line in zip_longest(text.split("\n"), wanted.as_text().split("\n")):
@@ -84,15 +87,15 @@ class Sets:
     def judge_tiles(self, name, side, folder, sinks, tiles, ranks):
         self.judge(name, TileFiles(side, tiles), ["--side", side, *tiles], folder, sinks, ranks)
 
-    def judge(self, name, files, elevations, folder, sinks, ranks):
+    def judge(self, name, files, elevations, folder, sinks, ranks, spacing=None):
         """Compares the explanation of all rasters, with ranks or not, and that of each list. The elevations are words of the
-        command line, and files."""
+        command line, with an option for the spacing, and files."""
         words = [*map(str, elevations), "--products", str(folder), *(["--sinks", str(sinks)] if sinks else [])]
-        ground, terrain = ground_of(files, sinks)
+        ground, terrain = ground_of(files, sinks, spacing)
         whole = [name for name in ALL_NO_DATA if ranks or name != "rnk"]
         for given, only in [(whole, []), *((list_.split(","), ["--only", list_]) for list_ in LISTS)]:
             try:
-                Explanation(self.drain, [*only, *words], Explained(ground, terrain, folder, given), self.scratch).compare()
+                Explanation(self.drain, [*only, *words], Explained(ground, terrain, folder, given, spacing), self.scratch).compare()
                 self.passed += 1
             except Wrong as wrong:
                 self.failed += 1
@@ -144,17 +147,19 @@ class Sets:
     def random(self, ground_of):
         """Small sets over grounds of this kind."""
         for number in range(RANDOM_SETS):
-            dice = random.Random(number)
+            dice, other_dice = random.Random(number), random.Random(f"spacing {number}")
             folder = self.scratch / f"random{number}"
             folder.mkdir()
-            case = Case(dice, folder, ground_of(dice))
+            ground = ground_of(dice)
+            case = Case(dice, folder, ground, other_dice.choice([None, random_spacing(other_dice, ground.rows)]))
             for _ in range(dice.choice([0, 1, 1, 3, 10])):
                 dice.choice([case.change, case.change, case.turn])()
             case.write()
             ranks = number % 2 == 0
             if ranks:
                 self.write_ranks(case)
-            self.judge(f"random set {number}", case.ground.files(folder), case.ground.words(folder), folder, folder / "sinks.txt", ranks)
+            words = [*case.spacing_words(), *case.ground.words(folder)]
+            self.judge(f"random set {number}", ground.files(folder), words, folder, folder / "sinks.txt", ranks, case.spacing)
             shutil.rmtree(folder)
 
     def write_ranks(self, case):

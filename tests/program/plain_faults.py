@@ -30,10 +30,11 @@ def ground_of(files, sinks, spacing=None):
 
 
 class Explained:
-    """What there is to report of given products that aren't refused, as con and dir; with rnk it is a check."""
+    """What there is to report of given products that aren't refused, as con and dir; with rnk it is a check. The terrain has
+    this spacing: None, a pair or a text by row."""
 
-    def __init__(self, ground, terrain, folder, given):
-        self.ground, self.terrain = ground, terrain
+    def __init__(self, ground, terrain, folder, given, spacing=None):
+        self.ground, self.terrain, self.spacing = ground, terrain, spacing
         self.ranks = "rnk" in given
         headers = {name: Header(contents(folder / f"{name}.hdr")) for name in given}
         products = {name: headers[name].pixels(contents(folder / f"{name}.bil")) for name in given}

@@ -66,6 +66,7 @@ class Expected:
         self.at_fault: list[str] = []
         self.codes: list[int] = []
         self.ways: list[tuple[int, int, int]] = []
+        self.is_square = True
         self.open: str | None = None
         getattr(self, holds)()
         self.found = self.rules.products[self.product][cell] if self.product else None
@@ -98,13 +99,16 @@ class Expected:
         self.words = f"con at most {self.number}"
 
     def slope(self) -> None:
-        drops = {code: self.rules.con[self.cell] - self.rules.con[other] for code, other in self.rules.lower(self.cell)}
+        terrain, found = self.plain.terrain, []
+        for code, other in self.rules.lower(self.cell):
+            drop = self.rules.con[self.cell] - self.rules.con[other]
+            found.append((terrain.slope_square(self.cell, code, drop), code, drop))
         self.product = "dir"
-        # A key is twice the square of the slope.
-        keys = {code: int(2 * self.plain.terrain.slope_square(self.cell, code, drop)) for code, drop in drops.items()}
-        self.ways = [(code, drops[code], keys[code]) for code in STEPS if code in drops]
-        greatest = max(keys.values())
-        self.codes = [code for code, _, key in self.ways if key == greatest]
+        self.codes = [code for slope, code, _ in found if slope == max(found)[0]]
+        # On square cells a way has a key, twice the square of the slope.
+        self.is_square = terrain.spacings[self.cell // terrain.cols] == (1, 1)
+        for slope, code, drop in found:
+            self.ways.append((code, drop, int(2 * slope) if self.is_square else terrain.distance_square(self.cell, code)))
         self.words = "dir of a steepest descent"
 
     def outlet_code(self) -> None:
@@ -159,14 +163,15 @@ class Expected:
             "number": self.number,
             "products": self.at_fault,
             "codes": self.codes,
-            "ways": [{"code": code, "drop": drop, "key": key} for code, drop, key in self.ways],
+            "ways": [{"code": code, "drop": drop, "key" if self.is_square else "distance_squared": by} for code, drop, by in self.ways],
             "open": self.open,
         }
 
     def lines(self) -> list[str]:
         lines = [f"rule {self.rule} {self.name}", f"expected: {self.words}"]
-        for code, drop, square in self.ways:
-            lines.append(f"  {code_text(code)}: drop {drop}, key {square}{', steepest' if code in self.codes else ''}")
+        for code, drop, by in self.ways:
+            by_text = f"{'key' if self.is_square else 'distance squared'} {by}{', steepest' if code in self.codes else ''}"
+            lines.append(f"  {code_text(code)}: drop {drop}, {by_text}")
         if self.product:
             found = code_text(self.found) if self.product == "dir" else str(self.found)
             lines.append(f"found: {self.product} {found}")
@@ -220,6 +225,7 @@ class Page:
             "rows": self.plain.terrain.rows,
             "cols": self.plain.terrain.cols,
             **({"elevation": elevation} if self.words == ON_RASTER else {}),
+            **self.slopes_object(),
             "ranks": self.plain.ranks,
             "rules": [{"rule": it["rule"], "name": it["name"], **self.faults(it)} for it in self.plain.by_rule],
             "products": [
@@ -234,6 +240,13 @@ class Page:
             "expected": self.expected and self.expected.as_object(),
             "run": self.run_object(),
         }
+
+    def slopes_object(self) -> dict:
+        """The spacing, where it isn't that of square cells."""
+        spacing = self.plain.spacing
+        if spacing in (None, (1, 1)):
+            return {}
+        return {"slopes": "widths by row" if isinstance(spacing, bytes) else dict(zip(("width", "height"), spacing))}
 
     def cell_object(self, place: dict) -> dict:
         east, north = self.coordinates(place)
@@ -279,6 +292,8 @@ class Page:
     def as_text(self) -> str:
         found = self.elevations()
         range_lines = [f"elevation from {min(found)} to {max(found)}"] if found else []
+        for slopes in self.slopes_object().values():
+            range_lines.append(f"slopes: {slopes if isinstance(slopes, str) else 'cells {width} by {height}'.format(**slopes)}")
         parts = [[self.plain.line], range_lines + self.rule_lines()]
         if self.expected:
             parts.append([*self.patch_lines(), *self.expected.lines()])

@@ -7,6 +7,7 @@ worked_spacings.py DRAIN
 Prints the cases that failed and, in its last line, how many passed.
 """
 
+import json
 import sys
 import tempfile
 from dataclasses import dataclass
@@ -126,6 +127,15 @@ TEXTS = [
     ("0 1\nx", "refused BadSpacingLine 1"),
 ]  # fmt: skip
 
+# What is explained of a text for three rows: what stands below the line, and the object's member `refusal`.
+PAGES = [
+    (
+        "1 1\n\n0 \t1\n", "BadSpacingLine 3", "expected: line 3: a width and a height, such as 30 20\nfound: line 3: 0 \\x091",
+        {"about": "spacing_line", "line": 3, "found": "0 \\x091", "bytes": 4},
+    ),
+    ("1 1\n1 1\n", "SpacingRows 2", "expected: a line for each of 3 rows\nfound: lines for 2 rows", {"about": "spacing_rows", "expected": 3, "found": 2}),
+]  # fmt: skip
+
 # Words that are no spacing.
 NO_SPACINGS = [
     "", ",", "1", "1,", ",1", "1,1,1", "1 1", "1;1", "0,1", "1,0", "0.0,1", "-1,1", "+1,1", "1e0,1", "1 ,1", "1, 1", "x,1", "1..0,1",
@@ -157,14 +167,16 @@ class Runs(Lines):
         """Pixel sizes of the elevations' header, and the place of a raster that is refused."""
         for width, height, right in HEADERS:
             for code in (EAST, SOUTH_EAST, SOUTH):
-                con, *others = Corner("", (3, 5, 4), right).products(code)
+                corner = Corner("", (3, 5, 4), right)
+                con, *others = corner.products(code)
                 products = pixels_of(one_dem(2, 2, "i", con, con, *others), width, height)
                 with tempfile.TemporaryDirectory() as folder:
-                    command = ["audit", *products.write(Path(folder)), "--spacing", "header"]
+                    words = [*products.write(Path(folder)), "--spacing", "header"]
                     if right:
-                        self.expect(f"header {width} {height}, {code}", LINE if code in right else SLOPE, command)
+                        self.expect(f"header {width} {height}, {code}", LINE if code in right else SLOPE, ["audit", *words])
+                        self.made(corner, words, Path(folder, "made"))
                     else:
-                        self.expect_usage(command)
+                        self.expect_usage(["audit", *words])
         for line, change in (("NBANDS 2", "BadHeader dem NotOneBand"), ("YDIM 0", "BadPixelSize dem"), ("XDIM -30", "BadPixelSize dem")):
             with tempfile.TemporaryDirectory() as folder:
                 words = FALL.with_line("dem", line).write(Path(folder))
@@ -186,6 +198,16 @@ class Runs(Lines):
             for products in (PIT, PIT_TILE):
                 for command in ("audit", "check"):
                     self.expect_set(repr(text), line, command, products, text)
+
+    def pages(self) -> None:
+        for text, line, below, refusal in PAGES:
+            for products in (PIT, PIT_TILE):
+                with tempfile.TemporaryDirectory() as folder:
+                    words = [*products.write(Path(folder)), "--widths", f"{folder}/widths.txt"]
+                    Path(folder, "widths.txt").write_text(text, newline="")
+                    page, told = (self.run(["explain", *more, *words]).stdout.decode() for more in ([], ["--json"]))
+                    self.count(f"page of {text!r}", page == f"refused {line}\n\n{below}\n", repr(page))
+                    self.count(f"object of {text!r}", json.loads(told or "{}").get("refusal") == refusal, told)
 
     def order(self) -> None:
         """What is refused before a text, the least bad line, the number of rows, and a rejection, in this order."""
@@ -242,6 +264,7 @@ def main() -> None:
     runs.corners()
     runs.headers()
     runs.texts()
+    runs.pages()
     runs.order()
     runs.words()
     print(f"worked spacings: {runs.passed} passed, {runs.failed} failed")
