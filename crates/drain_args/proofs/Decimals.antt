@@ -173,13 +173,13 @@ units_of_parts text whole fraction units parts before behind some is = record {
     places_are = refl;
   };
   value = λ d p decimal. (
-    let same = parts.only decimal.whole decimal.fraction decimal.written decimal.before.digits in
-    let places : p ≡ length fraction = decimal.places_are ∙ ap length same.1 in
-    let digits : d ≡ digits_value 10 whole * 10 ^ length fraction + digits_value 10 fraction =
-    decimal.digits_are ∙ ap (λ (ds : List ℕ). digits_value 10 ds * 10 ^ length decimal.fraction + digits_value 10 decimal.fraction) same.0
-    ∙ ap (λ (ds : List ℕ). digits_value 10 whole * 10 ^ length ds + digits_value 10 ds) same.1 in
-    ap (λ (n : ℕ). units * 10 ^ n) places
-    ∙ units_value (digits_value 10 whole) (digits_value 10 fraction) (length fraction) 18 units d behind.few is digits);
+      let same = parts.only decimal.whole decimal.fraction decimal.written decimal.before.digits in
+      let places : p ≡ length fraction = decimal.places_are ∙ ap length same.1 in
+      let digits : d ≡ digits_value 10 whole * 10 ^ length fraction + digits_value 10 fraction =
+      decimal.digits_are ∙ ap (λ (ds : List ℕ). digits_value 10 ds * 10 ^ length decimal.fraction + digits_value 10 decimal.fraction) same.0
+      ∙ ap (λ (ds : List ℕ). digits_value 10 whole * 10 ^ length ds + digits_value 10 ds) same.1 in
+      ap (λ (n : ℕ). units * 10 ^ n) places
+      ∙ units_value (digits_value 10 whole) (digits_value 10 fraction) (length fraction) 18 units d behind.few is digits);
 }
 
 -- of other parts there is none
@@ -236,8 +236,7 @@ only_spacing text w h a b width height s named first_text second_text first seco
     let below : named.power ≤ 18 - l.times = named.least (18 - l.times) width height left right in
     let above = least_power width named.width_places named.width_digits height named.height_places named.height_digits 18 l.times left right l.least
     named.power s.width s.height named.width named.height in
-    let same : named.power ≡ 18 - l.times = omega (arith, below, above) in
-    (
+    let same : named.power ≡ 18 - l.times = omega (arith, below, above) in (
       same_whole named.width_places named.width_digits named.power (18 - l.times) s.width width named.width left same,
       same_whole named.height_places named.height_digits named.power (18 - l.times) s.height height named.height right same,
     )

@@ -167,9 +167,7 @@ pub fn request_of<'a>(
 {
     match name {
         "audit" => audit_request(alloc, given),
-        "check" => Ok(Request::Check(inputs_given(
-            alloc, &CHECK, given, "products",
-        )?)),
+        "check" => Ok(Request::Check(inputs_given(alloc, &CHECK, given, "products")?)),
         "explain" => explain_request(alloc, given),
         "window" => window_request(alloc, given),
         "merge" => Ok(Request::Merge(merge_args(alloc, given)?)),

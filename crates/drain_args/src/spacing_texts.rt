@@ -53,7 +53,7 @@ fn parts(text: &str) -> (&str, &str)
 fn units_of(whole: &[u8], fraction: &[u8]) -> Option<u128>
     ensures { MatchOption result ((IsFewDigits whole.now × IsFewDigits fraction.now × (0 < length whole.now + length fraction.now)) → ⊥)
         (λ units. IsFewDigits whole.now × IsFewDigits fraction.now × (0 < length whole.now + length fraction.now)
-            × (units ≡ digits_value 10 whole.now * 10 ^ 18 + digits_value 10 fraction.now * 10 ^ (18 - length fraction.now))) }
+        × (units ≡ digits_value 10 whole.now * 10 ^ 18 + digits_value 10 fraction.now * 10 ^ (18 - length fraction.now))) }
 {
     if whole.is_empty() && fraction.is_empty() {
         return None;

@@ -46,10 +46,7 @@ pub(crate) fn spacing_given<'a>(
 }
 
 /// The choice that the text of `--spacing` names.
-fn choice_of<'a>(
-    text: &str,
-    elevations: &Elevations<'_>,
-) -> Result<SpacingChoice<'a>, OtherSpacing>
+fn choice_of<'a>(text: &str, elevations: &Elevations<'_>) -> Result<SpacingChoice<'a>, OtherSpacing>
     ensures { IfOk result (IsSpacingChoice text.now elevations.now) }
 {
     if text == "header" {

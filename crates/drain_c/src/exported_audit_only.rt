@@ -49,7 +49,15 @@ pub extern "C" fn drain_audit_only<'a>(
     match judged_of(judged) {
         Some(judged) => {
             let rasters = judged_bytes(judged, rasters);
-            audit_judged(alloc, side, tiles, &Given::plain(sinks), &rasters, judged, answer)
+            audit_judged(
+                alloc,
+                side,
+                tiles,
+                &Given::plain(sinks),
+                &rasters,
+                judged,
+                answer,
+            )
         }
         None => {
             show_bad_choice(answer);

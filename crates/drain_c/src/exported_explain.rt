@@ -51,7 +51,15 @@ pub extern "C" fn drain_explain<'a>(
         Some(judged) => {
             let rasters = judged_bytes(judged, rasters);
             explain_judged(
-                alloc, side, tiles, &Given::plain(sinks), &rasters, judged, map, faults, answer,
+                alloc,
+                side,
+                tiles,
+                &Given::plain(sinks),
+                &rasters,
+                judged,
+                map,
+                faults,
+                answer,
             )
         }
         None => {

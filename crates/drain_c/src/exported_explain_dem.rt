@@ -53,7 +53,16 @@ pub extern "C" fn drain_explain_dem<'a>(
     match judged_of(judged) {
         Some(judged) => {
             let rasters = judged_bytes(judged, rasters);
-            explain_judged_dem(alloc, dem, &Given::plain(sinks), &rasters, judged, map, faults, answer)
+            explain_judged_dem(
+                alloc,
+                dem,
+                &Given::plain(sinks),
+                &rasters,
+                judged,
+                map,
+                faults,
+                answer,
+            )
         }
         None => {
             show_bad_choice(answer);

@@ -11,8 +11,8 @@ ghost use Rattle.drain_c.specs.Whole.{is_dem_audit_whole};
 ghost use Rattle.drain_verdict.specs.DemGround.{ElevationIsItsPixels};
 
 use crate::answer::{Answer, show_bad_choice};
-use crate::faults::Faults;
 use crate::exported_explain_dem::explain_judged_dem;
+use crate::faults::Faults;
 use crate::given::{AuditBytes, RasterBytes, SpacingBytes};
 use crate::judged::{judged_bytes, judged_of};
 use crate::spacing::spacing_passed;

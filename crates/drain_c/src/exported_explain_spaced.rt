@@ -10,8 +10,8 @@ ghost use Rattle.drain_c.specs.Whole.{is_audit_whole};
 ghost use Rattle.drain_verdict.specs.TileGround.{set_of};
 
 use crate::answer::{Answer, show_bad_choice};
-use crate::faults::Faults;
 use crate::exported_explain::explain_judged;
+use crate::faults::Faults;
 use crate::given::{AuditBytes, SpacingBytes, TileBytes};
 use crate::judged::{judged_bytes, judged_of};
 use crate::spacing::spacing_passed;
@@ -51,7 +51,9 @@ pub extern "C" fn drain_explain_spaced<'a>(
         (Some(judged), Some(spacing)) => {
             let rasters = judged_bytes(judged, rasters);
             let given = Given { sinks, spacing };
-            explain_judged(alloc, side, tiles, &given, &rasters, judged, map, faults, answer)
+            explain_judged(
+                alloc, side, tiles, &given, &rasters, judged, map, faults, answer,
+            )
         }
         _ => {
             show_bad_choice(answer);

@@ -15,9 +15,7 @@ use crate::sources::{audit_inputs, check_inputs, tile_inputs};
 use drain_explain::{Explanation, Mapping, explain_audit};
 use drain_grid::{Judged, Verdict};
 use drain_mosaic::Layout;
-use drain_verdict::{
-    AuditVerdict, Given, Outcome, Refusal, audit_given, audit_part, check_given,
-};
+use drain_verdict::{AuditVerdict, Given, Outcome, Refusal, audit_given, audit_part, check_given};
 use std::alloc::Global;
 
 /// The answer of an audit.

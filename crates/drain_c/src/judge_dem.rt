@@ -17,9 +17,7 @@ use crate::sources::{audit_inputs, check_inputs, raster_input};
 use drain_explain::{Explanation, Mapping, explain_audit_dem};
 use drain_grid::{Judged, Verdict};
 use drain_header::Header;
-use drain_verdict::{
-    AuditVerdict, Given, Outcome, Refusal, audit_dem, audit_part_dem, check_dem,
-};
+use drain_verdict::{AuditVerdict, Given, Outcome, Refusal, audit_dem, audit_part_dem, check_dem};
 use std::alloc::Global;
 
 /// The answer of an audit.

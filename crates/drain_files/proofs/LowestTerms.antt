@@ -53,10 +53,10 @@ pub pixel_matched : (h : Fields) (x y : ℕ) (r : Option Distances) → AreSizes
 pixel_matched h x y None are none = λ s fits is. none s fits (is.sizes x y are)
 pixel_matched h x y (Some s) are l = record {
   sizes = λ a b others. (
-    let width : pos x ≡ pos a = sym are.width ∙ others.width in
-    let height : pos y ≡ pos b = sym are.height ∙ others.height in
-    let w : x ≡ a = cc in
-    let v : y ≡ b = cc in
-    subst (λ m. IsLowest m b s) w (subst (λ n. IsLowest x n s) v l));
+      let width : pos x ≡ pos a = sym are.width ∙ others.width in
+      let height : pos y ≡ pos b = sym are.height ∙ others.height in
+      let w : x ≡ a = cc in
+      let v : y ≡ b = cc in
+      subst (λ m. IsLowest m b s) w (subst (λ n. IsLowest x n s) v l));
   other = λ none. absurd (none x y are);
 }

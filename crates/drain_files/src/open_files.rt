@@ -168,11 +168,7 @@ pub fn widths_at(opener: &mut Opener<'_>, path: &str) -> Result<Vec<u8>, OpenFau
 }
 
 /// The bytes of the text at this path, which may have no more than these. The file is closed again.
-fn text_of_at_most(
-    opener: &mut Opener<'_>,
-    path: &str,
-    most: usize,
-) -> Result<Vec<u8>, OpenFault>
+fn text_of_at_most(opener: &mut Opener<'_>, path: &str, most: usize) -> Result<Vec<u8>, OpenFault>
     requires { most ≤ MAX_TEXT_BYTES }
 {
     let mut file = opener.open(path)?;

@@ -80,7 +80,14 @@ pub(crate) fn push_refusal(
             number,
             start,
             bytes,
-        } => push_line(alloc, text, "a row and a column, such as 12 7", *number, start, *bytes),
+        } => push_line(
+            alloc,
+            text,
+            "a row and a column, such as 12 7",
+            *number,
+            start,
+            *bytes,
+        ),
         RefusalDetail::SinkCell {
             number,
             row,

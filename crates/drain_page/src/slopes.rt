@@ -121,10 +121,7 @@ pub(crate) fn push_slopes<F>(text: &mut String, findings: &Findings<F>) -> Resul
 }
 
 /// The width and height of all cells, or that a text lists them; no member on square cells.
-pub(crate) fn write_slopes<F>(
-    json: &mut JsonText,
-    findings: &Findings<F>,
-) -> Result<(), AllocError>
+pub(crate) fn write_slopes<F>(json: &mut JsonText, findings: &Findings<F>) -> Result<(), AllocError>
     ensures { json.new ≡ json.old }
 {
     match findings.slopes {

@@ -23,9 +23,7 @@ use drain_device::{ByteSink, ByteSource};
 use drain_files::file_id::FileId;
 use drain_files::open_failure::print_open_fault;
 use drain_files::open_files::{InputFile, OpenFault, Opener, create_files, list_at};
-use drain_files::open_judged::{
-    OpenElevations, OpenFiles, OpenTiles, count_rows, open_elevations,
-};
+use drain_files::open_judged::{OpenElevations, OpenFiles, OpenTiles, count_rows, open_elevations};
 use drain_files::open_spacing::open_spacing;
 use drain_files::output_paths::{inputs_or_print, output_paths};
 use drain_files::outputs::{Failure, Outputs};
