@@ -16,6 +16,8 @@ use Rattle.drain_grid.specs.OffData.{IsOffData}
 use Rattle.drain_grid.specs.Product.{default_no_data}
 use Rattle.drain_grid.specs.Grid.{Grid, Heights, Pixels}
 use Rattle.drain_grid.specs.Values.{NoDataNumbers}
+use Rattle.drain_grid.specs.Spacing.{Distances, RowSpacings, spacing_of, unit_spacing}
+use Rattle.drain_grid.specs.SpacingTexts.{spacing_in}
 use Rattle.drain_grid.specs.WholeGrid.{grid_of, number_at, products_of, raster_in}
 use Rattle.drain_header.specs.declared.fault.HeaderFault.{HeaderFault}
 use Rattle.drain_header.specs.Faults.{Answers, Describes}
@@ -31,9 +33,10 @@ use Rattle.drain_grid.specs.declared.verdict.Verdict.TheVariants.{Accepted, Reje
 use Rattle.drain_rules.specs.Verdicts.{counts_of, IsVerdict}
 use Rattle.drain_rules.specs.Laws.{AreEqual, EqualGridsHaveOneVerdict}
 use Rattle.drain_answer.specs.declared.refusal.Refusal.{Refusal}
-use Rattle.drain_answer.specs.declared.refusal.Refusal.TheVariants.{BadSide, BadName, BoxTooLarge, BadHeader, WrongShape, Misplaced, RasterShort, BadSinkLine, SinkNotData, OutOfMemory, ReadFailed}
+use Rattle.drain_answer.specs.declared.refusal.Refusal.TheVariants.{BadSide, BadName, BoxTooLarge, BadHeader, WrongShape, Misplaced, RasterShort, BadSinkLine, SinkNotData, BadSpacingLine, SpacingRows, OutOfMemory, ReadFailed}
 use Rattle.drain_verdict.specs.DemGround.{dem_ground}
 use Rattle.drain_verdict.specs.GroundSets.{GroundSet, HasShapeIn, IsReadable, set_grid, set_numbers, set_products}
+use Rattle.drain_verdict.specs.Given.{HasOtherRows}
 use Rattle.drain_verdict.specs.Inputs.{Inputs}
 use Rattle.drain_verdict.specs.Texts.{lines_in, set_fields, set_listed, set_number}
 use Rattle.drain_verdict.specs.Meaning.{tiling_of}
@@ -43,7 +46,7 @@ use Rattle.drain_verdict.specs.Answers.{IsAnswerIn}
 use Rattle.drain_maker.specs.ProductFiles.{SetFits, con_no_data, header_on, made_header}
 use Rattle.drain_maker.specs.Dems.{dem_elevation}
 use Rattle.drain_maker.specs.Made.{AreRasters, made_numbers}
-use Rattle.drain_maker.specs.Accepted.{AreNamed, AreFilesOf, IsMadeAcceptance, MadeIsAccepted, MadeOnDemIsAccepted}
+use Rattle.drain_maker.specs.Accepted.{AreGivenSpacings, AreNamed, AreFilesOf, IsMadeAcceptance, MadeIsAccepted, MadeOnDemIsAccepted}
 use Rattle.drain_grid.proofs.ByProduct.{none_of_held}
 use Rattle.drain_maker.proofs.FileLemmas.{FitHeaders-set}
 use Rattle.drain_maker.proofs.Placing.{near_by_names, no_way, side_by_readable}
@@ -72,27 +75,32 @@ number_in_bytes numbers h p c shape back inside =
     ∙ ap (λ (xs : List ℤ). get_or xs (index_of (header_extent h) c) (pos 0)) (sym back.numbers)
     ∙ numbers h p.nodata (raster_bytes h p) c inside
 
--- the grid of elevations in memory and of listed sinks
-abbrev grid_with : Extent → (Cell → Option ℤ) → List SinkLine → Grid
-grid_with e elevation sinks = record { extent = e; elevation = elevation; sink = is_listed sinks }
+-- the grid of elevations in memory and of listed sinks, whose rows are spaced so
+abbrev grid_with : Extent → (Cell → Option ℤ) → List SinkLine → (ℕ → Distances) → Grid
+grid_with e elevation sinks spacing = record { extent = e; elevation = elevation; sink = is_listed sinks; spacing = spacing }
+
+-- that of square cells
+abbrev square_with : Extent → (Cell → Option ℤ) → List SinkLine → Grid
+square_with e elevation sinks = grid_with e elevation sinks (λ row. unit_spacing)
 
 -- products made for elevations in memory that are those of a ground, whose rasters have this header; and their files
-record AreMadeFor (s : GroundSet) (h : Fields) (e : Extent) (elevation : Cell → Option ℤ) (sinks : List SinkLine) (ps : ProductSet) : Type 0 where
+record AreMadeFor (s : GroundSet) (h : Fields) (e : Extent) (elevation : Cell → Option ℤ) (sinks : List SinkLine) (spacings : RowSpacings) (ps : ProductSet) : Type 0 where
   bounds : (p : SetProduct) → AreWithinBounds (header_on h (product_of p))
   readable : (refusal : Refusal) → ¬ s.terrain.Refuses refusal
   size : header_extent h ≡ s.terrain.extent
   shape : e ≡ s.terrain.extent
   elevation_is : (c : Cell) → IsCellOf e c → elevation c ≡ s.terrain.elevation c
   holds : s.terrain.Holds h.place
-  listed : sinks_of s.texts.sinks ≡ Ok sinks
-  on_data : (line : ℕ) → ¬ IsOffData (grid_with e elevation sinks) sinks line
+  listed : sinks_of s.texts.given.sinks ≡ Ok sinks
+  given : AreGivenSpacings s.texts.given.spacing e spacings
+  on_data : (line : ℕ) → ¬ IsOffData (square_with e elevation sinks) sinks line
   fits : SetFits h ps
   pixels : AreRasters ps
-  rules : RulesHold (check_rules (made_numbers (con_no_data h))) IsAnyRule (grid_with e elevation sinks) (products_of ps)
+  rules : RulesHold (check_rules (made_numbers (con_no_data h))) IsAnyRule (grid_with e elevation sinks (spacing_of spacings)) (products_of ps)
   files : AreFilesOf h s.texts ps
 
-module _ (text : TextReadsBack) (bytes : BytesReadBack) (s : GroundSet) (h : Fields) (e : Extent) (elevation : Cell → Option ℤ) (sinks : List SinkLine) (ps : ProductSet)
-    (made : AreMadeFor s h e elevation sinks ps) where
+module _ (text : TextReadsBack) (bytes : BytesReadBack) (s : GroundSet) (h : Fields) (e : Extent) (elevation : Cell → Option ℤ) (sinks : List SinkLine) (spacings : RowSpacings) (ps : ProductSet)
+    (made : AreMadeFor s h e elevation sinks spacings ps) where
   abbrev at : SetProduct → Fields
   at p = header_on h (product_of p)
 
@@ -143,6 +151,9 @@ module _ (text : TextReadsBack) (bytes : BytesReadBack) (s : GroundSet) (h : Fie
           is_data = subst (λ (z : Option ℤ). IsSome z) (made.elevation_is stands.listed.cell has.inside) has.is_data;
         });
       })
+  none_stands (BadSpacingLine n) stands = let no : Ok spacings ≡ Err n = sym made.given.are ∙ stands in cc
+  none_stands (SpacingRows n) stands =
+      made.given.rows n (subst (λ (x : Extent). HasOtherRows s.texts.given.spacing x n) (sym made.shape) stands)
   none_stands OutOfMemory stands = stands
   none_stands ReadFailed stands = stands
   none_stands refusal stands = made.readable refusal stands
@@ -156,7 +167,7 @@ module _ (text : TextReadsBack) (bytes : BytesReadBack) (s : GroundSet) (h : Fie
       ∙ ap (λ (body : List ℕ). pixel_at (set_fields s.texts p) body c) (sym (made.files.rasters_are p))
 
   -- the grid and the products are those of the files
-  grids_equal : NumbersArePixels → AreEqual (grid_with e elevation sinks) (set_grid s) (products_of ps) (set_products s)
+  grids_equal : NumbersArePixels → AreEqual (grid_with e elevation sinks (spacing_of spacings)) (set_grid s) (products_of ps) (set_products s)
   grids_equal numbers = record {
     extent = made.shape;
     values = λ c inside. λ k. record {
@@ -169,6 +180,7 @@ module _ (text : TextReadsBack) (bytes : BytesReadBack) (s : GroundSet) (h : Fie
       spl = pos 0;
       rnk = number_kept numbers Rnk c inside k;
     };
+    spacing = λ row less. sym (ap (λ (r : Result RowSpacings ℕ). spacing_in r row) made.given.are);
   }
 
   -- the no-data numbers are those of the headers
@@ -184,14 +196,14 @@ module _ (text : TextReadsBack) (bytes : BytesReadBack) (s : GroundSet) (h : Fie
 
   module _ (numbers : NumbersArePixels) (one_verdict : EqualGridsHaveOneVerdict) where
     -- so the verdict on what was made, an acceptance with its counts, is that on the files
-    verdict_kept : IsVerdict (set_grid s) (set_products s) (set_numbers s) (Accepted (counts_of (grid_with e elevation sinks) (products_of ps)))
+    verdict_kept : IsVerdict (set_grid s) (set_products s) (set_numbers s) (Accepted (counts_of (grid_with e elevation sinks (spacing_of spacings)) (products_of ps)))
     verdict_kept =
-        let accepted : Verdict = Accepted (counts_of (grid_with e elevation sinks) (products_of ps)) in
+        let accepted : Verdict = Accepted (counts_of (grid_with e elevation sinks (spacing_of spacings)) (products_of ps)) in
         subst (λ (n : NoDataNumbers). IsVerdict (set_grid s) (set_products s) n accepted) numbers_said
-        (one_verdict (grid_with e elevation sinks) (set_grid s) (products_of ps) (set_products s) (made_numbers (con_no_data h)) (grids_equal numbers) accepted (made.rules, refl))
+        (one_verdict (grid_with e elevation sinks (spacing_of spacings)) (set_grid s) (products_of ps) (set_products s) (made_numbers (con_no_data h)) (grids_equal numbers) accepted (made.rules, refl))
 
     -- and the answer is an acceptance
-    answer_is : (answer : Result Verdict Refusal) → IsAnswerIn s answer → IsMadeAcceptance (grid_with e elevation sinks) (products_of ps) answer
+    answer_is : (answer : Result Verdict Refusal) → IsAnswerIn s answer → IsMadeAcceptance (grid_with e elevation sinks (spacing_of spacings)) (products_of ps) answer
     answer_is (Ok (Accepted counts)) is = is.1.1 ∙ sym verdict_kept.1
     answer_is (Ok (Rejected rule row col)) is =
         let c : Cell = record { row = row; col = col } in
@@ -228,12 +240,14 @@ tiles_readable i e mosaic (Misplaced p) stands = stands
 tiles_readable i e mosaic (RasterShort p) stands = stands
 tiles_readable i e mosaic (BadSinkLine n) stands = stands
 tiles_readable i e mosaic (SinkNotData n) stands = stands
+tiles_readable i e mosaic (BadSpacingLine n) stands = stands
+tiles_readable i e mosaic (SpacingRows n) stands = stands
 tiles_readable i e mosaic refusal stands = mosaic.readable refusal (tt, stands)
 
 pub made_is_accepted : TextReadsBack → BytesReadBack → NumbersArePixels → EqualGridsHaveOneVerdict → MadeIsAccepted
-made_is_accepted text bytes numbers one_verdict i e sinks ps named mosaic listed made files =
+made_is_accepted text bytes numbers one_verdict i e sinks spacings ps named mosaic listed given made files =
     let fits = small i e named mosaic in
-    answer_is text bytes (set_of i) (made_header (tiling_of i) product.Con) e.extent (grid_of e sinks).elevation sinks ps (record {
+    answer_is text bytes (set_of i) (made_header (tiling_of i) product.Con) e.extent (grid_of e sinks).elevation sinks spacings ps (record {
       bounds = tile_bounds (tiling_of i) fits;
       readable = tiles_readable i e mosaic;
       size = refl;
@@ -241,6 +255,7 @@ made_is_accepted text bytes numbers one_verdict i e sinks ps named mosaic listed
       elevation_is = mosaic.elevation_is;
       holds = placed (tiling_of i) fits.side;
       listed = listed;
+      given = given;
       on_data = made.on_data;
       fits = FitHeaders-set (tiling_of i) ps (made.shape ∙ mosaic.extent_is) made.written;
       pixels = made.rasters;
@@ -265,9 +280,9 @@ lies_there h = record {
 }
 
 pub made_on_dem_is_accepted : TextReadsBack → BytesReadBack → NumbersArePixels → EqualGridsHaveOneVerdict → MadeOnDemIsAccepted
-made_on_dem_is_accepted text bytes numbers one_verdict d t h p sinks ps dem listed made files =
+made_on_dem_is_accepted text bytes numbers one_verdict d t h p sinks spacings ps dem listed given made files =
     let same = dem.header.described.fields in
-    answer_is text bytes (record { terrain = dem_ground d; texts = t }) h p.extent (dem_elevation p) sinks ps (record {
+    answer_is text bytes (record { terrain = dem_ground d; texts = t }) h p.extent (dem_elevation p) sinks spacings ps (record {
       bounds = λ q. bounds_on h (product_of q) dem.header.bounds;
       readable = dem.readable;
       size = ap header_extent same;
@@ -275,6 +290,7 @@ made_on_dem_is_accepted text bytes numbers one_verdict d t h p sinks ps dem list
       elevation_is = dem.elevation_is;
       holds = subst (λ (k : Fields). LiesOn k h.place) same (lies_there h);
       listed = listed;
+      given = given;
       on_data = made.on_data;
       fits = made.written;
       pixels = made.rasters;

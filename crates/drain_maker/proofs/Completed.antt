@@ -1,6 +1,6 @@
 -- Heights and directions that are right stay so whatever the other products are. Products whose acc, bas and rnk are derived are correct exactly if con and dir are right: each fact about the other
 -- three is one about what is derived.
-use Rattle.std.proofs.Common.{◌≡◌, ◌≢◌, ◌∙◌, ◌==◌, ◌||◌, ℤ, ◌-ℤ◌, ◌≤ℤ◌, ◌<ℤ◌, inl, inr, Option, Some, option_and_then, refl, sym, ap, subst}
+use Rattle.std.proofs.Common.{◌≡◌, ◌≢◌, ◌∙◌, ℤ, ◌-ℤ◌, ◌≤ℤ◌, ◌<ℤ◌, inl, inr, Option, Some, option_and_then, refl, sym, ap, subst}
 use Rattle.drain_grid.specs.declared.cell.Cell.{Cell}
 use Rattle.drain_grid.specs.Unranked.{RanksAreSteps}
 use Rattle.drain_grid.specs.Correct.{IsCorrect, NeverClimbs}
@@ -10,6 +10,7 @@ use Rattle.drain_grid.specs.Grid.{Grid, Products, Pixels}
 use Rattle.drain_grid.specs.Path.{IsLeastSurface}
 use Rattle.drain_grid.specs.Run.{IsLowerCell, IsSteepestCell, IsFlatCell, IsOutlet, only_data, next}
 use Rattle.drain_grid.specs.Slope.{slope_key}
+use Rattle.drain_grid.specs.Spacing.{weight_between}
 use Rattle.drain_grid.specs.Values.{NoDataNumbers}
 use Rattle.drain_grid.proofs.AllRules.{correct_from_rules}
 use Rattle.drain_grid.proofs.FromCorrect.{rules_from_correct}
@@ -38,7 +39,7 @@ steepest g ps qs con c n h = record {
 }
   where
     key : (Cell → ℤ) → Cell → ℤ
-    key f m = slope_key ((c.row == m.row) || (c.col == m.col)) (f c -ℤ f m)
+    key f m = slope_key (weight_between (g.spacing c.row) c m) (f c -ℤ f m)
 
 code : (ps qs : Products) → ps.dir ≡ qs.dir → (c : Cell) → ps.dir c ≡ qs.dir c
 code ps qs dir c = ap (λ (f : Cell → ℤ). f c) dir

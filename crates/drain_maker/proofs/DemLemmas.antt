@@ -12,6 +12,7 @@ use Rattle.drain_grid.specs.Extent.{IsCellOf, index_of}
 use Rattle.drain_grid.specs.Grid.{Grid, HasData, IsInside, Pixels, height_at}
 use Rattle.drain_grid.specs.OffData.{FoundOffDataIsRight, IsLeastOff, IsOffAnswer}
 use Rattle.drain_grid.specs.Path.{IsPath, NeverRises}
+use Rattle.drain_grid.specs.Spacing.{Distances}
 use Rattle.drain_grid.specs.Values.{IsPixel}
 use Rattle.drain_grid.specs.WholeGrid.{number_at}
 use Rattle.drain_grid.proofs.Alike.{same_index}
@@ -23,7 +24,7 @@ use Rattle.drain_raster.specs.Bytes.{CanSpellAllIn, CanSpellIn}
 use Rattle.drain_flood.specs.Floods.{Flooding, IsSurfaceOf, ShowsVoids, con_at}
 use Rattle.drain_filled.specs.Compared.{HasHeights}
 use Rattle.drain_filled.specs.Grounds.{ArePixelHeights, DataCells, HasDataCells}
-use Rattle.drain_maker.specs.Dems.{AreOfGround, IsHeightAt, MarksDem, dem_elevation, dem_grid, has_elevation}
+use Rattle.drain_maker.specs.Dems.{AreOfGround, IsHeightAt, MarksDem, dem_elevation, dem_grid, has_elevation, spaced_dem_grid}
 
 -- the test of a listed cell is whether it has data
 told : (p : Pixels) (sinks : List SinkLine) (c : Cell) →
@@ -63,9 +64,9 @@ not_void : (b : Bool) (n : ℤ) → IsSome (if b then None else Some n) → b �
 not_void true n some is = false≢true some
 not_void false n some is = false≢true is
 
-module _ (p : Pixels) (sinks : List SinkLine) where
+module _ (spacing : ℕ → Distances) (p : Pixels) (sinks : List SinkLine) where
   abbrev g : Grid
-  g = dem_grid p sinks
+  g = spaced_dem_grid spacing p sinks
 
   pub height_is : (c : Cell) → HasData g c → height_at g c ≡ number_at p c
   height_is c here = some_is (int_eq (number_at p c) p.nodata) (number_at p c) here.is_data
@@ -120,26 +121,26 @@ module _ (g : Grid) (f : Flooding) (surface : IsSurfaceOf g f) where
   of_ground c here = let way = surface.drains c here in on_path c way.0 way.1 way.2
 
 -- so its height at a data cell is no void's
-pub shows_voids : (p : Pixels) (sinks : List SinkLine) (f : Flooding) (void : ℤ) → IsSurfaceOf (dem_grid p sinks) f →
-    ((c : Cell) → IsInside (dem_grid p sinks) c → IsNone (dem_elevation p c) → con_at p.extent f c ≡ void) →
-    ((c : Cell) → IsInside (dem_grid p sinks) c → IsNone (dem_elevation p c) → void ≡ p.nodata) → ShowsVoids (dem_grid p sinks) f p.nodata
-shows_voids p sinks f void surface voids same = record {
+pub shows_voids : (spacing : ℕ → Distances) (p : Pixels) (sinks : List SinkLine) (f : Flooding) (void : ℤ) → IsSurfaceOf (spaced_dem_grid spacing p sinks) f →
+    ((c : Cell) → IsInside (spaced_dem_grid spacing p sinks) c → IsNone (dem_elevation p c) → con_at p.extent f c ≡ void) →
+    ((c : Cell) → IsInside (spaced_dem_grid spacing p sinks) c → IsNone (dem_elevation p c) → void ≡ p.nodata) → ShowsVoids (spaced_dem_grid spacing p sinks) f p.nodata
+shows_voids spacing p sinks f void surface voids same = record {
   voids = λ c inside none. voids c inside none ∙ same c inside none;
   differs = λ c here is.
-      (let up = of_ground (dem_grid p sinks) f surface c here in
-      data_differs p sinks up.0 up.1 (sym (height_is p sinks up.0 up.1) ∙ sym up.2 ∙ is));
+      (let up = of_ground (spaced_dem_grid spacing p sinks) f surface c here in
+      data_differs spacing p sinks up.0 up.1 (sym (height_is spacing p sinks up.0 up.1) ∙ sym up.2 ∙ is));
 }
 
 -- whatever encodes the numbers of the raster encodes con's: each is one of them
-pub con_spelled : (p : Pixels) (sinks : List SinkLine) (con : Pixels) (signed : Bool) (bits : ℕ) → con.extent ≡ p.extent → AreOfGround (dem_grid p sinks) (number_at con) →
+pub con_spelled : (spacing : ℕ → Distances) (p : Pixels) (sinks : List SinkLine) (con : Pixels) (signed : Bool) (bits : ℕ) → con.extent ≡ p.extent → AreOfGround (spaced_dem_grid spacing p sinks) (number_at con) →
     ((c : Cell) → IsCellOf p.extent c → IsNone (dem_elevation p c) → number_at con c ≡ p.nodata) → CanSpellAllIn signed bits p → CanSpellAllIn signed bits con
-con_spelled p sinks con signed bits shape ground voids spelled c inside =
+con_spelled spacing p sinks con signed bits shape ground voids spelled c inside =
     let there : IsCellOf p.extent c = subst (λ e. IsCellOf e c) shape inside in
     elim (none_or_some (dem_elevation p c)) [
-      | inl none ↦ subst (CanSpellIn signed bits) (void_is p sinks c none ∙ sym (voids c there none)) (spelled c there)
+      | inl none ↦ subst (CanSpellIn signed bits) (void_is spacing p sinks c none ∙ sym (voids c there none)) (spelled c there)
       | inr some ↦
           (let up = ground c (record { inside = there; is_data = some }) in
-          subst (CanSpellIn signed bits) (sym (up.2 ∙ height_is p sinks up.0 up.1)) (spelled up.0 up.1.inside))
+          subst (CanSpellIn signed bits) (sym (up.2 ∙ height_is spacing p sinks up.0 up.1)) (spelled up.0 up.1.inside))
     ]
 
 -- one more number, as `with_next` of drain_flood

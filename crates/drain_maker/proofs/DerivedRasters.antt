@@ -3,6 +3,7 @@ use Rattle.std.proofs.Common.{ℤ, Bool, Option, subst, ◌≡◌, ◌↔◌, Re
 use Rattle.drain_grid.specs.declared.cell.Cell.{Cell}
 use Rattle.drain_grid.specs.Grid.{Grid, Products, HasData, Pixels}
 use Rattle.drain_grid.specs.Extent.{Extent}
+use Rattle.drain_grid.specs.Spacing.{Distances}
 use Rattle.drain_paths.specs.Basins.{ends_before, AreBasinLabels}
 use Rattle.drain_maker.specs.Derived.{AreDerived, DerivedByDirections, IsDeriveRefusalIn, IsFlowsRefusal, IsRefusalFor, reading_in}
 use Rattle.drain_paths.specs.declared.flow.CertifyRefusal.{CertifyRefusal}
@@ -24,21 +25,21 @@ use Rattle.drain_paths.specs.Walks.{AreRunSteps}
 use Rattle.drain_paths.specs.declared.flow.CertifyRefusal.TheVariants as certify
 use Rattle.drain_paths.specs.Ways as certified
 
--- Nothing that is derived looks at sinks, or at a product but dir.
+-- Nothing that is derived looks at sinks or at spacing, or at a product but dir.
 
--- the grid with other sinks
-abbrev pub with_sinks : Grid → (Cell → Bool) → Grid
-with_sinks g sink = record { extent = g.extent; elevation = g.elevation; sink = sink }
+-- the grid with other sinks, and spaced otherwise
+abbrev pub with_sinks : Grid → (Cell → Bool) → (ℕ → Distances) → Grid
+with_sinks g sink spacing = record { extent = g.extent; elevation = g.elevation; sink = sink; spacing = spacing }
 
 -- the products with these directions
 abbrev pub with_dir : Products → (Cell → ℤ) → Products
 with_dir qs dir = record { con = qs.con; dir = dir; acc = qs.acc; bas = qs.bas; spl = qs.spl; rnk = qs.rnk }
 
-others : (g : Grid) (sink : Cell → Bool) (ps qs : Products) (acc bas rnk : Pixels) → AreDerived g ps acc bas rnk →
-    AreDerived (with_sinks g sink) (with_dir qs ps.dir) acc bas rnk
+others : (g : Grid) (sink : Cell → Bool) (spacing : ℕ → Distances) (ps qs : Products) (acc bas rnk : Pixels) → AreDerived g ps acc bas rnk →
+    AreDerived (with_sinks g sink spacing) (with_dir qs ps.dir) acc bas rnk
 unfolding ends_before
-others g sink ps qs acc bas rnk derived =
-    let at : (c : Cell) → HasData (with_sinks g sink) c → HasData g c = λ c here. record { inside = here.inside; is_data = here.is_data } in
+others g sink spacing ps qs acc bas rnk derived =
+    let at : (c : Cell) → HasData (with_sinks g sink spacing) c → HasData g c = λ c here. record { inside = here.inside; is_data = here.is_data } in
     record {
       acc_extent = derived.acc_extent;
       bas_extent = derived.bas_extent;
@@ -61,9 +62,9 @@ others g sink ps qs acc bas rnk derived =
 
 pub derived_by_directions : DerivedByDirections
 derived_by_directions g h ps qs acc bas rnk extent elevation dir derived =
-    subst (λ (e : Extent). AreDerived (record { extent = e; elevation = h.elevation; sink = h.sink }) qs acc bas rnk) extent
-    (subst (λ (z : Cell → Option ℤ). AreDerived (record { extent = g.extent; elevation = z; sink = h.sink }) qs acc bas rnk) elevation
-    (subst (λ (d : Cell → ℤ). AreDerived (with_sinks g h.sink) (with_dir qs d) acc bas rnk) dir (others g h.sink ps qs acc bas rnk derived)))
+    subst (λ (e : Extent). AreDerived (record { extent = e; elevation = h.elevation; sink = h.sink; spacing = h.spacing }) qs acc bas rnk) extent
+    (subst (λ (z : Cell → Option ℤ). AreDerived (record { extent = g.extent; elevation = z; sink = h.sink; spacing = h.spacing }) qs acc bas rnk) elevation
+    (subst (λ (d : Cell → ℤ). AreDerived (with_sinks g h.sink h.spacing) (with_dir qs d) acc bas rnk) dir (others g h.sink h.spacing ps qs acc bas rnk derived)))
 
 -- Answers to what was read: which say that memory ran out, and none that a read failed.
 

@@ -8,5 +8,6 @@ pub mod RoutedProducts
 pub mod ShownRasters
 pub mod MosaicAnswers
 pub mod TileLists
+pub mod UnitSpacing
 pub mod DemLemmas
 pub mod DemReading

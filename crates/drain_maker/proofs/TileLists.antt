@@ -15,7 +15,7 @@ use Rattle.drain_hgt.specs.Corner.{Corner}
 use Rattle.drain_hgt.specs.Samples.{IsTile, samples_of, tile_length}
 use Rattle.drain_hgt.specs.Inputs.{names_of, tile_devices, AreBodies, IsFirstBadLength}
 use Rattle.drain_answer.specs.declared.refusal.Refusal.{Refusal}
-use Rattle.drain_answer.specs.declared.refusal.Refusal.TheVariants.{BadSide, BadName, NoTiles, RepeatedTile, BoxTooLarge, BadHeader, WrongShape, Misplaced, BadTileLength, RasterShort, SeamMismatch, BadSinkLine, SinkNotData, BadDemHeader, BadPixelSize, DemShort, OutOfMemory, ReadFailed}
+use Rattle.drain_answer.specs.declared.refusal.Refusal.TheVariants.{BadSide, BadName, NoTiles, RepeatedTile, BoxTooLarge, BadHeader, WrongShape, Misplaced, BadTileLength, RasterShort, SeamMismatch, BadSinkLine, SinkNotData, BadSpacingLine, SpacingRows, BadDemHeader, BadPixelSize, DemShort, OutOfMemory, ReadFailed}
 use Rattle.drain_device.specs.FaultLists.{SomeReadFails}
 use Rattle.drain_verdict.specs.Stages.{IsTileRefusal}
 use Rattle.drain_maker.specs.Mosaics.{AreSamplesOf, IsOneTileRefusal}
@@ -229,6 +229,8 @@ refusal-there side place corners corner bs cs b (RasterShort p) is named before 
 refusal-there side place corners corner bs cs b (SeamMismatch c) is named before refused = refused
 refusal-there side place corners corner bs cs b (BadSinkLine n) is named before refused = refused
 refusal-there side place corners corner bs cs b (SinkNotData n) is named before refused = refused
+refusal-there side place corners corner bs cs b (BadSpacingLine n) is named before refused = refused
+refusal-there side place corners corner bs cs b (SpacingRows n) is named before refused = refused
 refusal-there side place corners corner bs cs b (BadDemHeader fault) is named before refused = refused
 refusal-there side place corners corner bs cs b BadPixelSize is named before refused = refused
 refusal-there side place corners corner bs cs b DemShort is named before refused = refused

@@ -1,5 +1,5 @@
 -- Products that were made and written are accepted: what the files are, and the answer to them.
-use Rattle.std.specs.Prelude.{◌≡◌, List, Result, Ok, Err}
+use Rattle.std.specs.Prelude.{◌≡◌, ℕ, List, Result, Ok, Err}
 use Rattle.std.specs.List.{AllZip}
 use Rattle.drain_grid.specs.declared.product.Product.TheVariants.{Con}
 use Rattle.drain_grid.specs.declared.set_product.SetProduct.{SetProduct}
@@ -8,7 +8,9 @@ use Rattle.drain_grid.specs.declared.product_set.ProductSet.{ProductSet}
 use Rattle.drain_grid.specs.declared.sink_line.SinkLine.{SinkLine}
 use Rattle.drain_grid.specs.SinkTexts.{sinks_of}
 use Rattle.drain_grid.specs.Grid.{Grid, Pixels, Products, Heights}
-use Rattle.drain_grid.specs.WholeGrid.{grid_of, products_of, raster_in}
+use Rattle.drain_grid.specs.Extent.{Extent}
+use Rattle.drain_grid.specs.Spacing.{RowSpacings, spacing_of}
+use Rattle.drain_grid.specs.WholeGrid.{products_of, raster_in, spaced_grid}
 use Rattle.drain_hgt.specs.Name.{IsNameOf}
 use Rattle.drain_header.specs.Header.{Fields}
 use Rattle.drain_header.specs.Text.{text_of}
@@ -19,10 +21,11 @@ use Rattle.drain_rules.specs.Verdicts.{counts_of}
 use Rattle.drain_answer.specs.declared.refusal.Refusal.{Refusal}
 use Rattle.drain_answer.specs.declared.refusal.Refusal.TheVariants.{OutOfMemory, ReadFailed}
 use Rattle.drain_verdict.specs.DemGround.{DemTexts, dem_ground}
+use Rattle.drain_verdict.specs.Given.{GivenSpacing, HasOtherRows, spacings_given}
 use Rattle.drain_verdict.specs.Inputs.{Inputs, AreNames}
 use Rattle.drain_verdict.specs.Meaning.{texts_of, tiling_of}
 use Rattle.drain_verdict.specs.Texts.{SetTexts}
-use Rattle.drain_maker.specs.Dems.{AreMadeOn, IsDemOf, dem_grid}
+use Rattle.drain_maker.specs.Dems.{AreMadeOn, IsDemOf, spaced_dem_grid}
 use Rattle.drain_maker.specs.Mosaics.{IsMosaicOf}
 use Rattle.drain_verdict.specs.Answers.{IsAnswer, IsAnswerIn}
 use Rattle.drain_maker.specs.ProductFiles.{header_on, made_header}
@@ -46,16 +49,23 @@ IsMadeAcceptance g ps (Err OutOfMemory) = Unit {0}
 IsMadeAcceptance g ps (Err ReadFailed) = Unit {0}
 IsMadeAcceptance g ps (Err refusal) = ⊥
 
--- products made for a mosaic and listed sinks are accepted with its tiles and that list
+-- these are the spacings that are given, and a text that lists them lists each row of the grid
+pub record AreGivenSpacings (given : GivenSpacing) (e : Extent) (spacings : RowSpacings) : Type 0 where
+  pub are : spacings_given given ≡ Ok spacings
+  pub rows : (count : ℕ) → ¬ HasOtherRows given e count
+
+-- products made for a mosaic, listed sinks and a spacing are accepted with its tiles, that list and that spacing
 abbrev pub MadeIsAccepted : Type 0
 MadeIsAccepted =
-    (i : Inputs) (e : Heights) (sinks : List SinkLine) (ps : ProductSet) → AreNamed i → IsMosaicOf i (tiling_of i) e → sinks_of i.sinks ≡ Ok sinks →
-    AreMade (tiling_of i) e sinks ps → AreFilesOf (made_header (tiling_of i) Con) (texts_of i) ps →
-    (answer : Result Verdict Refusal) → IsAnswer i answer → IsMadeAcceptance (grid_of e sinks) (products_of ps) answer
+    (i : Inputs) (e : Heights) (sinks : List SinkLine) (spacings : RowSpacings) (ps : ProductSet) → AreNamed i → IsMosaicOf i (tiling_of i) e →
+    sinks_of i.given.sinks ≡ Ok sinks → AreGivenSpacings i.given.spacing e.extent spacings →
+    AreMade (tiling_of i) e sinks (spacing_of spacings) ps → AreFilesOf (made_header (tiling_of i) Con) (texts_of i) ps →
+    (answer : Result Verdict Refusal) → IsAnswer i answer → IsMadeAcceptance (spaced_grid (spacing_of spacings) e sinks) (products_of ps) answer
 
 -- and those made for one raster of elevations with that raster
 abbrev pub MadeOnDemIsAccepted : Type 0
 MadeOnDemIsAccepted =
-    (d : DemTexts) (t : SetTexts) (h : Fields) (p : Pixels) (sinks : List SinkLine) (ps : ProductSet) → IsDemOf d h p → sinks_of t.sinks ≡ Ok sinks →
-    AreMadeOn h p sinks ps → AreFilesOf h t ps →
-    (answer : Result Verdict Refusal) → IsAnswerIn (record { terrain = dem_ground d; texts = t }) answer → IsMadeAcceptance (dem_grid p sinks) (products_of ps) answer
+    (d : DemTexts) (t : SetTexts) (h : Fields) (p : Pixels) (sinks : List SinkLine) (spacings : RowSpacings) (ps : ProductSet) → IsDemOf d h p →
+    sinks_of t.given.sinks ≡ Ok sinks → AreGivenSpacings t.given.spacing p.extent spacings → AreMadeOn h p sinks (spacing_of spacings) ps → AreFilesOf h t ps →
+    (answer : Result Verdict Refusal) → IsAnswerIn (record { terrain = dem_ground d; texts = t }) answer →
+    IsMadeAcceptance (spaced_dem_grid (spacing_of spacings) p sinks) (products_of ps) answer

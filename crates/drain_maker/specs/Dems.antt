@@ -9,6 +9,7 @@ use Rattle.drain_grid.specs.Extent.{IsCellOf}
 use Rattle.drain_grid.specs.Grid.{Grid, HasData, Pixels, height_at}
 use Rattle.drain_grid.specs.OffData.{IsFirstOffData, IsOffData}
 use Rattle.drain_grid.specs.SinkTexts.{is_listed}
+use Rattle.drain_grid.specs.Spacing.{Distances, unit_spacing}
 use Rattle.drain_grid.specs.Values.{IsPixel}
 use Rattle.drain_grid.specs.GridRules.{RulesHold}
 use Rattle.drain_grid.specs.PatchRules.{check_rules}
@@ -31,15 +32,19 @@ use Rattle.drain_maker.specs.declared.maker.MakeRefusal.TheVariants.{MakerFault,
 abbrev pub dem_elevation : Pixels → Cell → Option ℤ
 dem_elevation p c = height_with (Some p.nodata) (number_at p c)
 
--- the grid of these elevations, whose sinks the lines list
+-- the grid of these elevations, whose sinks the lines list, and whose rows are spaced so
+abbrev pub spaced_dem_grid : (ℕ → Distances) → Pixels → List SinkLine → Grid
+spaced_dem_grid spacing p sinks = record { extent = p.extent; elevation = dem_elevation p; sink = is_listed sinks; spacing = spacing }
+
+-- that of square cells
 abbrev pub dem_grid : Pixels → List SinkLine → Grid
-dem_grid p sinks = record { extent = p.extent; elevation = dem_elevation p; sink = is_listed sinks }
+dem_grid p sinks = spaced_dem_grid (λ row. unit_spacing) p sinks
 
 -- the cell lies in the raster, and has an elevation
 abbrev pub has_elevation : Pixels → Cell → Bool
 has_elevation p c = nat_lt c.row p.extent.rows && (nat_lt c.col p.extent.cols && is_some (dem_elevation p c))
 
--- each listed cell has data
+-- each listed cell has data; how far apart cells are plays no part
 abbrev pub AreOnDemData : Pixels → List SinkLine → Type 0
 AreOnDemData p sinks = (line : ℕ) → ¬ IsOffData (dem_grid p sinks) sinks line
 
@@ -75,11 +80,11 @@ pub record MarksDem (p : Pixels) (w : DataCells) : Type 0 where
 abbrev pub AreOfGround : Grid → (Cell → ℤ) → Type 0
 AreOfGround g con = (c : Cell) → HasData g c → (n : Cell) × HasData g n × (con c ≡ height_at g n)
 
--- products that were made for these elevations with this header, and these sinks
-pub record AreMadeOn (h : Fields) (p : Pixels) (sinks : List SinkLine) (ps : ProductSet) : Type 0 where
+-- products that were made for these elevations with this header, these sinks and this spacing
+pub record AreMadeOn (h : Fields) (p : Pixels) (sinks : List SinkLine) (spacing : ℕ → Distances) (ps : ProductSet) : Type 0 where
   pub shape : ps.con.extent ≡ p.extent
   pub nodata : nodata_of ps ≡ made_numbers (con_no_data h)
-  pub rules : RulesHold (check_rules (made_numbers (con_no_data h))) IsAnyRule (dem_grid p sinks) (products_of ps)
+  pub rules : RulesHold (check_rules (made_numbers (con_no_data h))) IsAnyRule (spaced_dem_grid spacing p sinks) (products_of ps)
   pub written : SetFits h ps
   pub rasters : AreRasters ps
   pub on_data : AreOnDemData p sinks

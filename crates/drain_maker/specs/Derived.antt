@@ -119,15 +119,15 @@ pub record IsCompleted (g : Grid) (ps : Products) (acc bas rnk : Pixels) (nodata
   pub correct : AreRouted g ps nodata ↔ IsCorrect g (with_derived ps acc bas rnk) nodata
   pub rules : AreRouted g ps nodata ↔ RulesHold (check_rules nodata) IsAnyRule g (with_derived ps acc bas rnk)
 
--- of every grid and products, whatever cells are listed as sinks: what is derived never spoils a right con and dir, and
--- never hides a wrong one
+-- of every grid and products, whatever cells are listed as sinks and however far apart cells are: what is derived never
+-- spoils a right con and dir, and never hides a wrong one
 abbrev pub DerivedCompletes : Type 0
 DerivedCompletes =
     (g : Grid) (ps : Products) (acc bas rnk : Pixels) (nodata : NoDataNumbers) → AreDefaultBut nodata → AreDerived g ps acc bas rnk →
     IsCompleted g ps acc bas rnk nodata
 
--- what is derived follows from elevations and directions alone: grids may differ in their sinks, and products in all
--- other numbers
+-- what is derived follows from elevations and directions alone: grids may differ in their sinks and their spacing, and
+-- products in all other numbers
 abbrev pub DerivedByDirections : Type 0
 DerivedByDirections =
     (g h : Grid) (ps qs : Products) (acc bas rnk : Pixels) → g.extent ≡ h.extent → g.elevation ≡ h.elevation → ps.dir ≡ qs.dir →

@@ -9,7 +9,8 @@ use Rattle.drain_grid.specs.declared.product.Product.TheVariants.{Acc, Bas, Dir,
 use Rattle.drain_grid.specs.Product.{default_no_data, default_numbers}
 use Rattle.drain_grid.specs.Values.{NoDataNumbers}
 use Rattle.drain_grid.specs.Grid.{Heights, ArePixels, Grid, Products}
-use Rattle.drain_grid.specs.WholeGrid.{grid_of, products_of, nodata_of, raster_in}
+use Rattle.drain_grid.specs.Spacing.{Distances}
+use Rattle.drain_grid.specs.WholeGrid.{grid_of, products_of, nodata_of, raster_in, spaced_grid}
 use Rattle.drain_grid.specs.Rule.{IsAnyRule}
 use Rattle.drain_grid.specs.PatchRules.{check_rules}
 use Rattle.drain_grid.specs.GridRules.{RulesHold}
@@ -29,9 +30,9 @@ use Rattle.drain_flood.specs.declared.level_queue.TheConstants.{MAX_CELLS}
 use Rattle.drain_flood.specs.Flats.{Laying, AreWaysOnFlats}
 use Rattle.drain_flood.specs.Floods.{Flooding, IsSurfaceOf, ShowsVoids, con_at}
 
--- all rules of a check hold at every cell, with the default no-data numbers
-abbrev pub KeepsEveryRule : Heights → List SinkLine → ProductSet → Type 0
-KeepsEveryRule e sinks ps = RulesHold (check_rules default_numbers) IsAnyRule (grid_of e sinks) (products_of ps)
+-- all rules of a check hold at every cell of the grid, with the default no-data numbers
+abbrev pub KeepsEveryRule : Grid → ProductSet → Type 0
+KeepsEveryRule g ps = RulesHold (check_rules default_numbers) IsAnyRule g (products_of ps)
 
 -- the pixels of each product's header can encode each of its numbers
 abbrev pub CanBeWritten : Tiling → ProductSet → Type 0
@@ -45,7 +46,7 @@ AreMadeSpelled ps = (p : SetProduct) → CanSpellAllIn (is_signed (product_of p)
 abbrev pub AreRasters : ProductSet → Type 0
 AreRasters ps = (p : SetProduct) → ArePixels (raster_in ps p)
 
--- each listed cell has data
+-- each listed cell has data; how far apart cells are plays no part
 abbrev pub AreOnData : Heights → List SinkLine → Type 0
 AreOnData e sinks = (line : ℕ) → ¬ IsOffData (grid_of e sinks) sinks line
 
@@ -62,11 +63,11 @@ abbrev pub Succeeds : Heights → List SinkLine → Result ProductSet MakeRefusa
 Succeeds e sinks (Ok ps) = Unit {0}
 Succeeds e sinks (Err refusal) = AreOnData e sinks → refusal ≡ OutOfMemory
 
--- products that were made for the elevations of a mosaic and these sinks
-pub record AreMade (t : Tiling) (e : Heights) (sinks : List SinkLine) (ps : ProductSet) : Type 0 where
+-- products that were made for the elevations of a mosaic, these sinks and this spacing
+pub record AreMade (t : Tiling) (e : Heights) (sinks : List SinkLine) (spacing : ℕ → Distances) (ps : ProductSet) : Type 0 where
   pub shape : ps.con.extent ≡ e.extent
   pub nodata : nodata_of ps ≡ default_numbers
-  pub rules : KeepsEveryRule e sinks ps
+  pub rules : KeepsEveryRule (spaced_grid spacing e sinks) ps
   pub written : CanBeWritten t ps
   pub rasters : AreRasters ps
   pub on_data : AreOnData e sinks

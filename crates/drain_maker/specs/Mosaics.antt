@@ -8,7 +8,7 @@ use Rattle.drain_hgt.specs.Samples.{IsTile, samples_of}
 use Rattle.drain_mosaic.specs.declared.seams.SeamFault.{SeamFault}
 use Rattle.drain_mosaic.specs.Mosaic.{tiles_of, TilesAgree, IsElevation, IsFirstSeam}
 use Rattle.drain_answer.specs.declared.refusal.Refusal.{Refusal}
-use Rattle.drain_answer.specs.declared.refusal.Refusal.TheVariants.{BadTileLength, SeamMismatch, OutOfMemory, ReadFailed, BadHeader, WrongShape, Misplaced, RasterShort, BadSinkLine, SinkNotData}
+use Rattle.drain_answer.specs.declared.refusal.Refusal.TheVariants.{BadTileLength, SeamMismatch, OutOfMemory, ReadFailed, BadHeader, WrongShape, Misplaced, RasterShort, BadSinkLine, SinkNotData, BadSpacingLine, SpacingRows}
 use Rattle.drain_grid.specs.declared.cell.Cell.{Cell}
 use Rattle.drain_grid.specs.Extent.{IsCellOf}
 use Rattle.drain_text.specs.First.{IsFirst}
@@ -50,7 +50,7 @@ abbrev pub IsSeamFaultAs : SeamFault → Refusal → Type 0
 IsSeamFaultAs (seam.SeamMismatch c) refusal = refusal ≡ SeamMismatch c
 IsSeamFaultAs seam.OutOfMemory refusal = refusal ≡ OutOfMemory
 
--- the refusal is about side, names or tiles, and not about a product or a list of sinks
+-- the refusal is about side, names or tiles, and not about a product, a list of sinks or a spacing by row
 abbrev pub IsOfTiles : Refusal → Type 0
 IsOfTiles (BadHeader p fault) = ⊥
 IsOfTiles (WrongShape p) = ⊥
@@ -58,6 +58,8 @@ IsOfTiles (Misplaced p) = ⊥
 IsOfTiles (RasterShort p) = ⊥
 IsOfTiles (BadSinkLine n) = ⊥
 IsOfTiles (SinkNotData n) = ⊥
+IsOfTiles (BadSpacingLine n) = ⊥
+IsOfTiles (SpacingRows n) = ⊥
 IsOfTiles refusal = Unit {0}
 
 -- such a refusal applies

@@ -1,6 +1,6 @@
 //! Making products of one raster of elevations of any shape: correct by proof.
 
-ghost use Rattle.std.specs.Prelude.{◌≡◌, ◌*◌, IfOk, length, pos, slice_index_or};
+ghost use Rattle.std.specs.Prelude.{◌≡◌, ℕ, ◌*◌, IfOk, length, pos, slice_index_or};
 ghost use Rattle.drain_grid.specs.Correct.{IsCorrect, RunsAreSound};
 ghost use Rattle.drain_grid.specs.declared.cell.Cell.{Cell};
 ghost use Rattle.drain_grid.specs.Extent.{IsCellOf, index_of};
@@ -9,10 +9,11 @@ ghost use Rattle.drain_grid.specs.PatchRules.{check_rules};
 ghost use Rattle.drain_grid.specs.Rule.{IsAnyRule};
 ghost use Rattle.drain_grid.specs.Values.{IsNoData, IsPixel};
 ghost use Rattle.drain_grid.specs.Grid.{ArePixels};
+ghost use Rattle.drain_grid.specs.Spacing.{Distances, spacing_of};
 ghost use Rattle.drain_grid.specs.WholeGrid.{nodata_of, number_at, products_of};
 ghost use Rattle.drain_flood.specs.Floods.{IsSurfaceOf, ShowsVoids};
 ghost use Rattle.drain_header.specs.Header.{Fields};
-ghost use Rattle.drain_maker.specs.Dems.{AreOfGround, DemSucceeds, IsDemSinkAnswer, IsHeightAt, IsMarkedBy, MarksDem, dem_elevation, dem_grid};
+ghost use Rattle.drain_maker.specs.Dems.{AreOfGround, DemSucceeds, IsDemSinkAnswer, IsHeightAt, IsMarkedBy, MarksDem, dem_elevation, spaced_dem_grid};
 ghost use Rattle.drain_maker.specs.Made.{AreRasters, AreRightProducts, made_numbers};
 ghost use Rattle.drain_maker.specs.ProductFiles.{FitsHeader, SetFits};
 
@@ -26,7 +27,8 @@ use drain_flood::{Surface, WideHeights};
 use drain_grid::laws::found_off_data_is_right;
 use drain_grid::values::{GREATEST_PIXEL, LEAST_PIXEL};
 use drain_grid::{
-    Cell, OutOfMemory, Product, ProductSet, Raster, Shape, SinkData, Sinks, first_off_data,
+    Cell, OutOfMemory, Product, ProductSet, Raster, Shape, SinkData, Sinks, Spacings,
+    first_off_data,
 };
 use std::alloc::Global;
 
@@ -60,8 +62,8 @@ fn elevation(dem: &Raster, cell: Cell) -> Option<i64>
     }
 }
 
-/// The products of a raster of elevations with these sinks. Their no-data numbers are the default ones, but that of con,
-/// which is the raster's.
+/// The products of a raster of elevations with these sinks, whose rows are spaced so. Their no-data numbers are the
+/// default ones, but that of con, which is the raster's.
 ///
 /// A cell's elevation is its number, a whole number in any unit; it is void where that is the raster's no-data number. So
 /// where no cell is to be void, that number is one that no pixel encodes. `SinkNotData` has the least line that lists a
@@ -70,16 +72,17 @@ pub fn make_dem(
     alloc: Global,
     dem: &Raster,
     sinks: &Sinks,
+    spacings: &Spacings,
     follow: &mut impl Follow,
 ) -> Result<ProductSet, MakeRefusal>
     ensures shape { IfOk result (λ products. products.con.extent ≡ dem.now.extent) }
     ensures nodata { IfOk result (λ products. nodata_of products ≡ made_numbers dem.now.nodata) }
-    ensures rules { IfOk result (λ products. RulesHold (check_rules (made_numbers dem.now.nodata)) IsAnyRule (dem_grid dem.now sinks.now) (products_of products)) }
+    ensures rules { IfOk result (λ products. RulesHold (check_rules (made_numbers dem.now.nodata)) IsAnyRule (spaced_dem_grid (spacing_of spacings.now) dem.now sinks.now) (products_of products)) }
     ensures rasters { IfOk result AreRasters }
 
     // Each conditioned elevation is the elevation of some cell: so con's no-data number is at voids alone, and whatever
     // encodes the elevations encodes con.
-    ensures ground { IfOk result (λ products. AreOfGround (dem_grid dem.now sinks.now) (number_at products.con)) }
+    ensures ground { IfOk result (λ products. AreOfGround (spaced_dem_grid (spacing_of spacings.now) dem.now sinks.now) (number_at products.con)) }
     ensures written { IfOk result (λ products. (h : Fields) → FitsHeader h dem.now → SetFits h products) }
 
     // Every listed cell has data, or the first line whose cell has none is reported.
@@ -89,15 +92,15 @@ pub fn make_dem(
     ensures succeeds { DemSucceeds dem.now sinks.now result }
 
     // What every rule at every cell means: the products are correct, and every run is sound.
-    ensures correct { IfOk result (λ products. IsCorrect (dem_grid dem.now sinks.now) (products_of products) (made_numbers dem.now.nodata)) }
-    ensures runs { IfOk result (λ products. RunsAreSound (dem_grid dem.now sinks.now) (products_of products)) }
+    ensures correct { IfOk result (λ products. IsCorrect (spaced_dem_grid (spacing_of spacings.now) dem.now sinks.now) (products_of products) (made_numbers dem.now.nodata)) }
+    ensures runs { IfOk result (λ products. RunsAreSound (spaced_dem_grid (spacing_of spacings.now) dem.now sinks.now) (products_of products)) }
 {
     // The law that the first listed cell without data is the grid's.
     found_off_data_is_right();
     if let Some(line) = first_off_data(sinks, &DemCells { dem }) {
         return Err(MakeRefusal::SinkNotData(line));
     }
-    match build_dem(alloc, dem, sinks, follow) {
+    match build_dem(alloc, dem, sinks, spacings, follow) {
         Ok(products) => Ok(products),
         Err(OutOfMemory) => Err(MakeRefusal::OutOfMemory),
     }
@@ -108,13 +111,14 @@ fn build_dem(
     alloc: Global,
     dem: &Raster,
     sinks: &Sinks,
+    spacings: &Spacings,
     follow: &mut impl Follow,
 ) -> Result<ProductSet, OutOfMemory>
     ensures shape { IfOk result (λ products. products.con.extent ≡ dem.now.extent) }
     ensures nodata { IfOk result (λ products. nodata_of products ≡ made_numbers dem.now.nodata) }
-    ensures right { IfOk result (λ products. AreRightProducts (dem_grid dem.now sinks.now) (made_numbers dem.now.nodata) (products_of products)) }
+    ensures right { IfOk result (λ products. AreRightProducts (spaced_dem_grid (spacing_of spacings.now) dem.now sinks.now) (made_numbers dem.now.nodata) (products_of products)) }
     ensures rasters { IfOk result AreRasters }
-    ensures ground { IfOk result (λ products. AreOfGround (dem_grid dem.now sinks.now) (number_at products.con)) }
+    ensures ground { IfOk result (λ products. AreOfGround (spaced_dem_grid (spacing_of spacings.now) dem.now sinks.now) (number_at products.con)) }
     ensures written { IfOk result (λ products. (h : Fields) → FitsHeader h dem.now → SetFits h products) }
 {
     follow.begin(Part::Surface);
@@ -123,7 +127,7 @@ fn build_dem(
     let _cells = shape.cells();
     let surface = surface_of(alloc, dem, sinks)?;
     follow.begin(Part::Directions);
-    let codes = exact_directions(alloc, &surface)?;
+    let codes = exact_directions(alloc, &surface, spacings)?;
     let routes = route(alloc, surface, codes)?;
     let both = count_and_label(alloc, &routes.dir, shape, follow)?;
     Ok(ProductSet {
@@ -152,8 +156,8 @@ fn surface_of(
     sinks: &Sinks,
 ) -> Result<Surface<WideHeights>, OutOfMemory>
     ensures extent { IfOk result (λ surface. surface.extent ≡ dem.now.extent) }
-    ensures surface { IfOk result (IsSurfaceOf (dem_grid dem.now sinks.now)) }
-    ensures voids { IfOk result (λ surface. ShowsVoids (dem_grid dem.now sinks.now) surface dem.now.nodata) }
+    ensures surface { IfOk result (λ surface. (spacing : ℕ → Distances) → IsSurfaceOf (spaced_dem_grid spacing dem.now sinks.now) surface) }
+    ensures voids { IfOk result (λ surface. (spacing : ℕ → Distances) → ShowsVoids (spaced_dem_grid spacing dem.now sinks.now) surface dem.now.nodata) }
 {
     let ground = ground_of(alloc, dem)?;
     let heights = heights_of(alloc, dem)?;

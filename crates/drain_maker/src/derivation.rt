@@ -10,6 +10,7 @@ ghost use Rattle.drain_raster.specs.Pixels.{header_extent};
 ghost use Rattle.drain_verdict.specs.Answers.{ForAudit};
 ghost use Rattle.drain_verdict.specs.DemGround.{DemUses, ForDem, IsDemInput, dem_audit_devices};
 ghost use Rattle.drain_verdict.specs.Stages.{IsLayoutOf};
+ghost use Rattle.drain_verdict.specs.Given.{plain};
 ghost use Rattle.drain_verdict.specs.GroundSets.{ForSet, IsRefusalIn};
 ghost use Rattle.drain_verdict.specs.Inputs.{as_five};
 ghost use Rattle.drain_verdict.specs.Uses.{AuditUses, UsesSet, set_devices};
@@ -27,7 +28,7 @@ use drain_paths::{CellFlows, CertifyRefusal, Flow, accumulate, count_steps, labe
 use drain_verdict::ground::GroundInput;
 use drain_verdict::read_set::read_set;
 use drain_verdict::stages::layout_of;
-use drain_verdict::{AuditProducts, RasterInput, dem_header};
+use drain_verdict::{AuditProducts, Given, RasterInput, dem_header};
 use std::alloc::Global;
 use thiserror::Error;
 
@@ -82,7 +83,7 @@ pub enum DeriveRefusal {
 /// Accumulation, labels and ranks that follow from the directions of a mosaic, with its layout.
 ///
 /// `side`, `tiles`, `sinks` and `products` are those of an audit, and so are the refusals. Tiles say which cells are
-/// voids, and dir says the rest: no number of con, acc or bas matters, and no listed sink. If no refusal applies:
+/// voids, and dir says the rest: no number of con, acc or bas matters, no listed sink, and not how far apart cells are. If no refusal applies:
 /// `NoEnd` with the first data cell in row order whose path reaches no code 0, exactly if there is one. Memory: 14 bytes
 /// for each cell of the mosaic.
 pub fn derive<R: ByteSource>(
@@ -93,10 +94,10 @@ pub fn derive<R: ByteSource>(
     products: &mut AuditProducts<R>,
 ) -> Result<(Layout, Derived), DeriveRefusal>
     ensures layout { IfOk result (λ made. IsLayoutOf side (names_of tiles.old) made.0) }
-    ensures derived { IfOk result (λ made. ForAudit R.bytes_left side tiles.old sinks.now products.old (λ inputs. AreDerivedOf inputs made.1)) }
+    ensures derived { IfOk result (λ made. ForAudit R.bytes_left side tiles.old (plain sinks.now) products.old (λ inputs. AreDerivedOf inputs made.1)) }
     ensures counts { IfOk result (λ made. AreCounts (extent_of made.0) made.1) }
     ensures written { IfOk result (λ made. CanBeDerived made.0 made.1) }
-    ensures err { IfErr result (λ why. ForAudit R.bytes_left side tiles.old sinks.now products.old (λ inputs. IsDeriveRefusal inputs why)) }
+    ensures err { IfErr result (λ why. ForAudit R.bytes_left side tiles.old (plain sinks.now) products.old (λ inputs. IsDeriveRefusal inputs why)) }
 
     // How far it reads, when a read fails, and what is unchanged: as for an audit.
     ensures uses { AuditUses R.bytes_left R.counts side (tiles.old, products.old) (tiles.new, products.new) (reading_in result) }
@@ -123,10 +124,10 @@ pub fn derive_dem<R: ByteSource>(
     products: &mut AuditProducts<R>,
 ) -> Result<(Header, Derived), DeriveRefusal>
     ensures header { IfOk result (λ made. IsDemInput made.0 dem.old) }
-    ensures derived { IfOk result (λ made. ForDem R.bytes_left dem.old sinks.now (as_five products.old) (λ s. AreDerivedIn s made.1)) }
+    ensures derived { IfOk result (λ made. ForDem R.bytes_left dem.old (plain sinks.now) (as_five products.old) (λ s. AreDerivedIn s made.1)) }
     ensures counts { IfOk result (λ made. AreCounts (header_extent made.0) made.1) }
     ensures written { IfOk result (λ made. DerivedFit made.0 made.1) }
-    ensures err { IfErr result (λ why. ForDem R.bytes_left dem.old sinks.now (as_five products.old) (λ s. IsDeriveRefusalIn s why)) }
+    ensures err { IfErr result (λ why. ForDem R.bytes_left dem.old (plain sinks.now) (as_five products.old) (λ s. IsDeriveRefusalIn s why)) }
 
     // How far it reads, when a read fails, and what is unchanged: as for an audit.
     ensures uses { DemUses as_five dem_audit_devices R.bytes_left R.counts (dem.old, products.old) (dem.new, products.new) (reading_in result) }
@@ -150,9 +151,9 @@ fn derive_on<R: ByteSource, T: GroundInput<R>>(
     products: &mut AuditProducts<R>,
 ) -> Result<Derived, DeriveRefusal>
     requires fit { T.fit frame.now inputs.old }
-    ensures derived { IfOk result (λ made. ForSet T.terrain (T.means frame.now inputs.old) R.bytes_left sinks.now (as_five products.old) (λ s. AreDerivedIn s made)) }
+    ensures derived { IfOk result (λ made. ForSet T.terrain (T.means frame.now inputs.old) R.bytes_left (plain sinks.now) (as_five products.old) (λ s. AreDerivedIn s made)) }
     ensures counts { IfOk result (AreCounts (T.extent frame.now)) }
-    ensures err { IfErr result (λ why. ForSet T.terrain (T.means frame.now inputs.old) R.bytes_left sinks.now (as_five products.old) (λ s. IsDeriveRefusalIn s why)) }
+    ensures err { IfErr result (λ why. ForSet T.terrain (T.means frame.now inputs.old) R.bytes_left (plain sinks.now) (as_five products.old) (λ s. IsDeriveRefusalIn s why)) }
     ensures uses { UsesSet as_five (λ xs ps. set_devices T.devices xs (as_five ps)) (T.within frame.now) T.kept R.bytes_left R.counts (inputs.old, products.old) (inputs.new, products.new) (reading_in result) }
 {
     match flows_on::<R, T>(alloc, frame, sinks, inputs, products) {
@@ -198,8 +199,8 @@ fn flows_on<R: ByteSource, T: GroundInput<R>>(
 ) -> Result<CellFlows, Refusal>
     requires fit { T.fit frame.now inputs.old }
     ensures counted { IfOk result (λ flows. length flows ≡ (T.extent frame.now).rows * (T.extent frame.now).cols) }
-    ensures flows { IfOk result (λ flows. ForSet T.terrain (T.means frame.now inputs.old) R.bytes_left sinks.now (as_five products.old) (λ s. HasFlowsIn s (T.extent frame.now) flows)) }
-    ensures err { IfErr result (λ refusal. ForSet T.terrain (T.means frame.now inputs.old) R.bytes_left sinks.now (as_five products.old) (λ s. IsRefusalIn s refusal)) }
+    ensures flows { IfOk result (λ flows. ForSet T.terrain (T.means frame.now inputs.old) R.bytes_left (plain sinks.now) (as_five products.old) (λ s. HasFlowsIn s (T.extent frame.now) flows)) }
+    ensures err { IfErr result (λ refusal. ForSet T.terrain (T.means frame.now inputs.old) R.bytes_left (plain sinks.now) (as_five products.old) (λ s. IsRefusalIn s refusal)) }
     ensures uses { UsesSet as_five (λ xs ps. set_devices T.devices xs (as_five ps)) (T.within frame.now) T.kept R.bytes_left R.counts (inputs.old, products.old) (inputs.new, products.new) result }
 {
     // The laws of what the inputs mean.
@@ -208,7 +209,7 @@ fn flows_on<R: ByteSource, T: GroundInput<R>>(
     read_set::<R, T, AuditProducts<R>, CellFlows>(
         alloc,
         frame,
-        sinks,
+        &Given::plain(sinks),
         inputs,
         products,
         Judged::All,

@@ -3,7 +3,8 @@
 ghost use Rattle.std.specs.Prelude.{◌≡◌, IfOk};
 ghost use Rattle.drain_grid.specs.Correct.{IsCorrect, RunsAreSound};
 ghost use Rattle.drain_grid.specs.Product.{default_numbers};
-ghost use Rattle.drain_grid.specs.WholeGrid.{grid_of, products_of, nodata_of};
+ghost use Rattle.drain_grid.specs.Spacing.{spacing_of};
+ghost use Rattle.drain_grid.specs.WholeGrid.{grid_of, products_of, nodata_of, spaced_grid};
 ghost use Rattle.drain_mosaic.specs.Tiling.{extent_of};
 ghost use Rattle.drain_maker.specs.Made.{KeepsEveryRule, CanBeWritten, AreRasters, IsSinkAnswer, Succeeds};
 
@@ -11,7 +12,7 @@ use crate::follow::{Follow, Unfollowed};
 use crate::mosaic::AsElevation;
 use crate::products::build;
 use drain_grid::laws::found_off_data_is_right;
-use drain_grid::{Elevation, OutOfMemory, ProductSet, Sinks, first_off_data};
+use drain_grid::{Elevation, OutOfMemory, ProductSet, Sinks, Spacing, Spacings, first_off_data};
 use drain_mosaic::Layout;
 use std::alloc::Global;
 use thiserror::Error;
@@ -30,7 +31,7 @@ pub enum MakeRefusal {
     SinkNotData(u64),
 }
 
-/// The products of a mosaic's elevations with these sinks, with the default no-data numbers.
+/// The products of a mosaic's elevations with these sinks, on unit spacing, with the default no-data numbers.
 ///
 /// `SinkNotData` has the least line that lists a cell without data, and comes before all else. `OutOfMemory` comes if
 /// memory was refused. There is no other refusal. All rules hold at every cell of what it returns, and the pixels of
@@ -45,7 +46,7 @@ pub fn make(
     requires same_shape { elevation.now.extent ≡ extent_of layout.now }
     ensures shape { IfOk result (λ products. products.con.extent ≡ elevation.now.extent) }
     ensures nodata { IfOk result (λ products. nodata_of products ≡ default_numbers) }
-    ensures rules { IfOk result (KeepsEveryRule elevation.now sinks.now) }
+    ensures rules { IfOk result (KeepsEveryRule (grid_of elevation.now sinks.now)) }
     ensures written { IfOk result (CanBeWritten layout.now) }
     ensures rasters { IfOk result AreRasters }
 
@@ -59,11 +60,12 @@ pub fn make(
     ensures correct { IfOk result (λ products. IsCorrect (grid_of elevation.now sinks.now) (products_of products) default_numbers) }
     ensures runs { IfOk result (λ products. RunsAreSound (grid_of elevation.now sinks.now) (products_of products)) }
 {
-    make_freeing(alloc, layout, elevation, sinks, &mut Unfollowed)
+    let spacings = Spacings::same(alloc, Spacing::unit());
+    make_freeing(alloc, layout, elevation, sinks, &spacings, &mut Unfollowed)
 }
 
-/// The products of a mosaic's elevations with these sinks, with the default no-data numbers, for a caller who follows
-/// how they are made: each part is reported when it begins.
+/// The products of a mosaic's elevations with these sinks, whose rows are spaced so, with the default no-data numbers, for
+/// a caller who follows how they are made: each part is reported when it begins.
 ///
 /// What is returned, and when, is as with `make`. The elevations are lent or given away. Given ones are freed as soon as
 /// they aren't needed any more.
@@ -72,12 +74,13 @@ pub fn make_freeing<E: AsElevation + Drop>(
     layout: &Layout,
     elevation: E,
     sinks: &Sinks,
+    spacings: &Spacings,
     follow: &mut impl Follow,
 ) -> Result<ProductSet, MakeRefusal>
     requires same_shape { (E.heights elevation).extent ≡ extent_of layout.now }
     ensures shape { IfOk result (λ products. products.con.extent ≡ (E.heights elevation).extent) }
     ensures nodata { IfOk result (λ products. nodata_of products ≡ default_numbers) }
-    ensures rules { IfOk result (KeepsEveryRule (E.heights elevation) sinks.now) }
+    ensures rules { IfOk result (KeepsEveryRule (spaced_grid (spacing_of spacings.now) (E.heights elevation) sinks.now)) }
     ensures written { IfOk result (CanBeWritten layout.now) }
     ensures rasters { IfOk result AreRasters }
 
@@ -88,15 +91,15 @@ pub fn make_freeing<E: AsElevation + Drop>(
     ensures succeeds { Succeeds (E.heights elevation) sinks.now result }
 
     // What every rule at every cell means: the products are correct, and every run is sound.
-    ensures correct { IfOk result (λ products. IsCorrect (grid_of (E.heights elevation) sinks.now) (products_of products) default_numbers) }
-    ensures runs { IfOk result (λ products. RunsAreSound (grid_of (E.heights elevation) sinks.now) (products_of products)) }
+    ensures correct { IfOk result (λ products. IsCorrect (spaced_grid (spacing_of spacings.now) (E.heights elevation) sinks.now) (products_of products) default_numbers) }
+    ensures runs { IfOk result (λ products. RunsAreSound (spaced_grid (spacing_of spacings.now) (E.heights elevation) sinks.now) (products_of products)) }
 {
     // The law that the first listed cell without data is the grid's.
     found_off_data_is_right();
     if let Some(line) = first_off_data(sinks, elevation.as_elevation()) {
         return Err(MakeRefusal::SinkNotData(line));
     }
-    match build(alloc, elevation, sinks, follow) {
+    match build(alloc, elevation, sinks, spacings, follow) {
         Ok(products) => Ok(products),
         Err(OutOfMemory) => Err(MakeRefusal::OutOfMemory),
     }

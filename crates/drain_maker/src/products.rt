@@ -1,12 +1,13 @@
 //! The five rasters of an elevation.
 
-ghost use Rattle.std.specs.Prelude.{◌≡◌, ◌*◌, ℤ, pos, map, true, false, All, vec_len, IfOk, length, List};
+ghost use Rattle.std.specs.Prelude.{◌≡◌, ◌*◌, ℕ, ℤ, pos, map, true, false, All, vec_len, IfOk, length, List};
 ghost use Rattle.drain_grid.specs.Product.{default_no_data, default_numbers};
 ghost use Rattle.drain_grid.specs.Grid.{ArePixels, Heights, Grid};
 ghost use Rattle.drain_raster.specs.Bytes.{CanSpellIn, CanSpellAllIn};
-ghost use Rattle.drain_grid.specs.WholeGrid.{grid_of, products_of, nodata_of};
+ghost use Rattle.drain_grid.specs.Spacing.{Distances, spacing_of};
+ghost use Rattle.drain_grid.specs.WholeGrid.{products_of, nodata_of, spaced_grid};
 ghost use Rattle.drain_flood.specs.Floods.{IsFlooded, IsSurfaceOf, ShowsVoids};
-ghost use Rattle.drain_flood.specs.Ways.{AreFirstCodes};
+ghost use Rattle.drain_flood.specs.Ways.{AreFirstCodes, IsSpaced};
 ghost use Rattle.drain_flood.specs.declared.layers.TheConstants.{NO_HEIGHT};
 ghost use Rattle.drain_maker.specs.Made.{AreRoutes, SomeRunsEnd, AreCountsAndLabels, AreRightProducts, AreRasters, AreMadeSpelled};
 ghost use Rattle.drain_paths.specs.Basins.{AreBasinLabels};
@@ -20,7 +21,7 @@ use crate::mosaic::AsElevation;
 use drain_flood::laws::flood_shows_voids;
 use drain_flood::ways::directions;
 use drain_flood::{Flood, HeightList, Surface, fill, ways_on_flats};
-use drain_grid::{Elevation, OutOfMemory, Product, ProductSet, Raster, Shape, Sinks};
+use drain_grid::{Elevation, OutOfMemory, Product, ProductSet, Raster, Shape, Sinks, Spacings};
 use drain_paths::{CertifyRefusal, accumulate, flows_of_codes, label_code_basins};
 use std::alloc::Global;
 
@@ -85,7 +86,7 @@ pub(crate) fn flooded(
     follow: &mut impl Follow,
 ) -> Result<Flood, OutOfMemory>
     ensures extent { IfOk result (λ flood. flood.extent ≡ elevation.now.extent) }
-    ensures flooded { IfOk result (IsFlooded (grid_of elevation.now sinks.now)) }
+    ensures flooded { IfOk result (λ flood. (spacing : ℕ → Distances) → IsFlooded (spaced_grid spacing elevation.now sinks.now) flood) }
 {
     follow.begin(Part::Surface);
     fill(alloc, elevation, sinks)
@@ -95,18 +96,19 @@ pub(crate) fn flooded(
 fn route_flooded(
     alloc: Global,
     flood: Flood,
+    spacings: &Spacings,
     follow: &mut impl Follow,
 ) -> Result<Routes<Vec<i16>>, OutOfMemory>
     ensures con { IfOk result (λ routes. vec_len routes.con ≡ flood.extent.rows * flood.extent.cols) }
     ensures rnk { IfOk result (λ routes. vec_len routes.rnk ≡ flood.extent.rows * flood.extent.cols) }
     ensures dir { IfOk result (λ routes. vec_len routes.dir ≡ flood.extent.rows * flood.extent.cols) }
-    ensures routes { IfOk result (λ routes. (g : Grid) → g.extent ≡ flood.extent → IsFlooded g flood → AreRoutes g NO_HEIGHT routes.con.items routes.rnk.items routes.dir.items) }
+    ensures routes { IfOk result (λ routes. (g : Grid) → g.extent ≡ flood.extent → IsSpaced g (spacing_of spacings.now) → IsFlooded g flood → AreRoutes g NO_HEIGHT routes.con.items routes.rnk.items routes.dir.items) }
 {
     // The law that voids, and they alone, have the no-data height.
     flood_shows_voids();
     follow.begin(Part::Directions);
     let surface = flood.into_surface(alloc)?;
-    let codes = directions(alloc, &surface)?;
+    let codes = directions(alloc, &surface, spacings)?;
     route(alloc, surface, codes)
 }
 
@@ -185,23 +187,24 @@ fn label_ended(alloc: Global, codes: &[u8], shape: Shape) -> Result<Vec<u32>, Ou
     }
 }
 
-/// The products of a grid's elevations with these sinks, with the default no-data numbers. The elevations are dropped
-/// once the grid is flooded.
+/// The products of a grid's elevations with these sinks, whose rows are spaced so, with the default no-data numbers. The
+/// elevations are dropped once the grid is flooded.
 pub(crate) fn build<E: AsElevation + Drop>(
     alloc: Global,
     elevation: E,
     sinks: &Sinks,
+    spacings: &Spacings,
     follow: &mut impl Follow,
 ) -> Result<ProductSet, OutOfMemory>
     ensures shape { IfOk result (λ products. products.con.extent ≡ (E.heights elevation).extent) }
     ensures nodata { IfOk result (λ products. nodata_of products ≡ default_numbers) }
-    ensures right { IfOk result (λ products. AreRightProducts (grid_of (E.heights elevation) sinks.now) default_numbers (products_of products)) }
+    ensures right { IfOk result (λ products. AreRightProducts (spaced_grid (spacing_of spacings.now) (E.heights elevation) sinks.now) default_numbers (products_of products)) }
     ensures written { IfOk result AreMadeSpelled }
     ensures rasters { IfOk result AreRasters }
 {
     let flood = flooded(alloc, elevation.as_elevation(), sinks, follow)?;
     drop(elevation);
-    build_on(alloc, flood, follow)
+    build_on(alloc, flood, spacings, follow)
 }
 
 /// The products of a flooded grid. It isn't inlined, so that a profile shows it.
@@ -210,12 +213,13 @@ pub(crate) fn build<E: AsElevation + Drop>(
 fn build_on(
     alloc: Global,
     flood: Flood,
+    spacings: &Spacings,
     follow: &mut impl Follow,
 ) -> Result<ProductSet, OutOfMemory>
-    requires flooded { (heights : Heights) × (sinks : List SinkLine) × (heights.extent ≡ flood.extent) × IsFlooded (grid_of heights sinks) flood }
+    requires flooded { (heights : Heights) × (sinks : List SinkLine) × (heights.extent ≡ flood.extent) × IsFlooded (spaced_grid (spacing_of spacings.now) heights sinks) flood }
     ensures shape { IfOk result (λ products. products.con.extent ≡ flood.extent) }
     ensures nodata { IfOk result (λ products. nodata_of products ≡ default_numbers) }
-    ensures right { IfOk result (λ products. (heights : Heights) (sinks : List SinkLine) → heights.extent ≡ flood.extent → IsFlooded (grid_of heights sinks) flood → AreRightProducts (grid_of heights sinks) default_numbers (products_of products)) }
+    ensures right { IfOk result (λ products. (heights : Heights) (sinks : List SinkLine) → heights.extent ≡ flood.extent → IsFlooded (spaced_grid (spacing_of spacings.now) heights sinks) flood → AreRightProducts (spaced_grid (spacing_of spacings.now) heights sinks) default_numbers (products_of products)) }
     ensures written { IfOk result AreMadeSpelled }
     ensures rasters { IfOk result AreRasters }
 {
@@ -223,7 +227,7 @@ fn build_on(
     routes_keep_rules();
     let shape = flood.shape();
     let _cells = shape.cells();
-    let routes = route_flooded(alloc, flood, follow)?;
+    let routes = route_flooded(alloc, flood, spacings, follow)?;
     let both = count_and_label(alloc, &routes.dir, shape, follow)?;
     Ok(ProductSet {
         con: raster_of_heights(shape, Product::Con, routes.con),

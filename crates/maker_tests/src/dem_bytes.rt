@@ -3,7 +3,7 @@
 use crate::agree::{same, same_numbers};
 use crate::raster_numbers::Numbers;
 use drain_device::{ByteList, SliceSource};
-use drain_grid::{ProductSet, Sinks};
+use drain_grid::{ProductSet, Sinks, Spacing, Spacings};
 use drain_maker::follow::Unfollowed;
 use drain_maker::{Dem, make_dem, read_dem};
 use drain_verdict::{RasterInput, Refusal};
@@ -50,7 +50,14 @@ fn made_with(alloc: Global, line: &[u8]) -> Result<ProductSet, Fail> {
         Err(_) => return Err("the raster is refused".into()),
     };
     let sinks = Sinks::none(alloc);
-    Ok(make_dem(alloc, &dem.raster, &sinks, &mut Unfollowed)?)
+    let spacings = Spacings::same(alloc, Spacing::unit());
+    Ok(make_dem(
+        alloc,
+        &dem.raster,
+        &sinks,
+        &spacings,
+        &mut Unfollowed,
+    )?)
 }
 
 #[test]

@@ -1,7 +1,7 @@
 //! Who follows how products are made sees the parts in their order.
 
 use crate::made::{elevation, one_tile};
-use drain_grid::Sinks;
+use drain_grid::{Sinks, Spacing, Spacings};
 use drain_maker::follow::{Follow, Part};
 use drain_maker::make_freeing;
 use std::alloc::Global;
@@ -33,7 +33,9 @@ fn begun_with_a_pit(alloc: Global) -> Result<Begun, Fail> {
         first: [None; 5],
         number: 0,
     };
-    make_freeing(alloc, &layout, elevation, &Sinks::none(alloc), &mut begun)?;
+    let sinks = Sinks::none(alloc);
+    let spacings = Spacings::same(alloc, Spacing::unit());
+    make_freeing(alloc, &layout, elevation, &sinks, &spacings, &mut begun)?;
     Ok(begun)
 }
 

@@ -30,6 +30,8 @@ mod numbers;
 #[cfg(test)]
 mod raster_numbers;
 #[cfg(test)]
+mod spaced_rows;
+#[cfg(test)]
 mod terrain_samples;
 #[cfg(test)]
 mod terrains;

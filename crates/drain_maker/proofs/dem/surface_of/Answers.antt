@@ -1,13 +1,14 @@
-use Rattle.std.proofs.Common.{◌≡◌, ◌∙◌, sym, subst, rules}
+use Rattle.std.proofs.Common.{◌≡◌, ◌∙◌, ℕ, sym, subst, rules}
 use mir.Syntax.{w64}
 use mir.Val.{SFits, to_z, of_z}
 use Rattle.std.proofs.lemmas.Int.{to_z-of_z}
 use Rattle.std.proofs.lemmas.Result.{IfOk-weaker}
 use Rattle.drain_grid.specs.Grid.{height_at}
+use Rattle.drain_grid.specs.Spacing.{Distances}
 use Rattle.drain_grid.specs.Values.{IsPixel}
 use Rattle.drain_flood.specs.Floods.{IsSurfaceOf, ShowsVoids}
 use Rattle.drain_filled.specs.Compared.{HasHeights}
-use Rattle.drain_maker.specs.Dems.{dem_grid}
+use Rattle.drain_maker.specs.Dems.{spaced_dem_grid}
 use Rattle.drain_maker.proofs.DemLemmas.{both_ok, cells_of, heights_are, pixels_are, shows_voids, void_is_pixel}
 use Rattle.drain_maker.proofs.dem.surface_of.Goals as goal
 
@@ -16,10 +17,12 @@ returns-clause-surface c =
     let p = c.args.dem.now in
     let sinks = c.args.sinks.now in
     let items = c.in_ok-heights.heights.items in
-    let heights : HasHeights (dem_grid p sinks) (height_at (dem_grid p sinks)) c.as_slice.result.now =
-    subst (HasHeights (dem_grid p sinks) (height_at (dem_grid p sinks))) (sym c.as_slice.ensures.value) (heights_are p sinks items c.in_ok-heights.ensures.heights) in
-    IfOk-weaker c.filled_surface.result _ (IsSurfaceOf (dem_grid p sinks))
-    (λ surface is. is (dem_grid p sinks) (cells_of p sinks c.in_ok-ground.ground c.in_ok-ground.ensures) heights (pixels_are p sinks items c.in_ok-heights.ensures.heights))
+    IfOk-weaker c.filled_surface.result _ (λ surface. (spacing : ℕ → Distances) → IsSurfaceOf (spaced_dem_grid spacing p sinks) surface)
+    (λ surface is spacing.
+    (let g = spaced_dem_grid spacing p sinks in
+    let heights : HasHeights g (height_at g) c.as_slice.result.now =
+    subst (HasHeights g (height_at g)) (sym c.as_slice.ensures.value) (heights_are spacing p sinks items c.in_ok-heights.ensures.heights) in
+    is g (cells_of spacing p sinks c.in_ok-ground.ground c.in_ok-ground.ensures) heights (pixels_are spacing p sinks items c.in_ok-heights.ensures.heights)))
     c.filled_surface.ensures.surface
 
 pub returns-clause-voids : goal.returns-clause-voids
@@ -30,9 +33,10 @@ returns-clause-voids c =
     let fits : SFits w64 c.nodata.result = search rules in
     let void_fits : SFits w64 c.void_number.result = search rules in
     let nodata : to_z w64 (of_z w64 c.nodata.result) ≡ p.nodata = to_z-of_z w64 c.nodata.result fits ∙ c.nodata.ensures.number in
-    both_ok c.filled_surface.result (IsSurfaceOf (dem_grid p sinks)) _ (λ surface. ShowsVoids (dem_grid p sinks) surface p.nodata)
-    (λ surface is voids.
-    shows_voids p sinks surface _ is (voids (dem_grid p sinks) (cells_of p sinks c.in_ok-ground.ground c.in_ok-ground.ensures))
+    both_ok c.filled_surface.result (λ surface. (spacing : ℕ → Distances) → IsSurfaceOf (spaced_dem_grid spacing p sinks) surface) _
+    (λ surface. (spacing : ℕ → Distances) → ShowsVoids (spaced_dem_grid spacing p sinks) surface p.nodata)
+    (λ surface is voids spacing.
+    shows_voids spacing p sinks surface _ (is spacing) (voids (spaced_dem_grid spacing p sinks) (cells_of spacing p sinks c.in_ok-ground.ground c.in_ok-ground.ensures))
     (λ x inside none. to_z-of_z w64 c.void_number.result void_fits
-    ∙ (c.void_number.ensures.same (subst IsPixel (sym nodata) (void_is_pixel p sinks items c.in_ok-heights.ensures.heights x inside none)) ∙ nodata)))
+    ∙ (c.void_number.ensures.same (subst IsPixel (sym nodata) (void_is_pixel spacing p sinks items c.in_ok-heights.ensures.heights x inside none)) ∙ nodata)))
     (returns-clause-surface c) c.filled_surface.ensures.voids

@@ -1,5 +1,6 @@
 use Rattle.std.proofs.Common.{Ok, Err, subst}
 use Rattle.drain_mosaic.specs.Tiling.{Tiling}
+use Rattle.drain_verdict.specs.Given.{plain}
 use Rattle.drain_verdict.specs.Inputs.{audit_devices, as_five}
 use Rattle.drain_verdict.specs.Uses.{AuditUses}
 use Rattle.drain_verdict.proofs.StartAnswers.{at_side, layout_answer, layout_reads_none, of_tiles}
@@ -11,7 +12,7 @@ use Rattle.drain_maker.proofs.derivation.derive.Goals as goal
 
 pub returns-in-Err-clause-err : goal.returns-in-Err-clause-err
 returns-in-Err-clause-err g c = λ inputs tell.
-    layout_answer c.one_name.ensures g.R.ByteSource.bytes_left c.args.side c.args.tiles.now c.args.sinks.now (as_five c.args.products.now) inputs c.in-Err.refusal tell c.in-Err.ensures.refusal
+    layout_answer c.one_name.ensures g.R.ByteSource.bytes_left c.args.side c.args.tiles.now (plain c.args.sinks.now) (as_five c.args.products.now) inputs c.in-Err.refusal tell c.in-Err.ensures.refusal
 
 pub returns-in-Err-clause-uses : goal.returns-in-Err-clause-uses
 returns-in-Err-clause-uses g c =
@@ -20,8 +21,8 @@ returns-in-Err-clause-uses g c =
 pub returns-in-Ok-derive_on-clause-derived : goal.returns-in-Ok-derive_on-clause-derived
 returns-in-Ok-derive_on-clause-derived g c = λ inputs tell.
     let t = c.in-Ok.layout in
-    of_tiles g.R.ByteSource.bytes_left t.side c.args.tiles.now c.args.sinks.now (as_five c.args.products.now) (λ s. AreDerivedIn s c.in-Ok-derive_on.derived) c.in-Ok-derive_on.ensures.derived inputs
-    (at_side g.R.ByteSource.bytes_left c.args.side c.args.tiles.now c.args.sinks.now (as_five c.args.products.now) inputs t c.in-Ok.ensures.layout tell)
+    of_tiles g.R.ByteSource.bytes_left t.side c.args.tiles.now (plain c.args.sinks.now) (as_five c.args.products.now) (λ s. AreDerivedIn s c.in-Ok-derive_on.derived) c.in-Ok-derive_on.ensures.derived inputs
+    (at_side g.R.ByteSource.bytes_left c.args.side c.args.tiles.now (plain c.args.sinks.now) (as_five c.args.products.now) inputs t c.in-Ok.ensures.layout tell)
 
 pub returns-in-Ok-derive_on-clause-uses : goal.returns-in-Ok-derive_on-clause-uses
 returns-in-Ok-derive_on-clause-uses g c =
@@ -33,8 +34,8 @@ returns-in-Ok-derive_on-clause-uses g c =
 pub returns-in-Err-derive_on-clause-err : goal.returns-in-Err-derive_on-clause-err
 returns-in-Err-derive_on-clause-err g c = λ inputs tell.
     let t = c.in-Ok.layout in
-    of_tiles g.R.ByteSource.bytes_left t.side c.args.tiles.now c.args.sinks.now (as_five c.args.products.now) (λ s. IsDeriveRefusalIn s c.in-Err-derive_on.why) c.in-Err-derive_on.ensures.err inputs
-    (at_side g.R.ByteSource.bytes_left c.args.side c.args.tiles.now c.args.sinks.now (as_five c.args.products.now) inputs t c.in-Ok.ensures.layout tell)
+    of_tiles g.R.ByteSource.bytes_left t.side c.args.tiles.now (plain c.args.sinks.now) (as_five c.args.products.now) (λ s. IsDeriveRefusalIn s c.in-Err-derive_on.why) c.in-Err-derive_on.ensures.err inputs
+    (at_side g.R.ByteSource.bytes_left c.args.side c.args.tiles.now (plain c.args.sinks.now) (as_five c.args.products.now) inputs t c.in-Ok.ensures.layout tell)
 
 pub returns-in-Err-derive_on-clause-uses : goal.returns-in-Err-derive_on-clause-uses
 returns-in-Err-derive_on-clause-uses g c =

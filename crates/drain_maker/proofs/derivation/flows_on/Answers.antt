@@ -3,7 +3,7 @@ use Rattle.std.proofs.lemmas.Result.{err_from_is_err_and}
 use Rattle.drain_grid.specs.Extent.{Extent}
 use Rattle.drain_paths.specs.Flows.{AreFirstFlows, AreFlowsOf}
 use Rattle.drain_paths.proofs.GridFlows.{AreFirstFlows-none, AreFlowsOf-all}
-use Rattle.drain_verdict.specs.GroundSets.{GroundSet, set_grid, set_products}
+use Rattle.drain_verdict.specs.GroundSets.{EncodeTexts, GroundSet, set_grid, set_products}
 use Rattle.drain_verdict.specs.Inputs.{as_five}
 use Rattle.drain_verdict.specs.Uses.{set_devices}
 use Rattle.drain_verdict.proofs.AuditDevices.{failed_alike}
@@ -17,7 +17,7 @@ read_set-requires-clause-unnoted g c = λ rules grid ps. subst (AreFirstFlows gr
 pub returns-in_err-read_set-clause-err : goal.returns-in_err-read_set-clause-err
 returns-in_err-read_set-clause-err g c =
     let told = err_from_is_err_and c.from_residual.result c.from_residual.ensures.1 in
-    rw (told.1, told.2) c.in_err-read_set.ensures.answer
+    rw (told.1, told.2) (rw c.plain.ensures at c.in_err-read_set.ensures.answer)
 
 pub returns-in_err-read_set-clause-uses : goal.returns-in_err-read_set-clause-uses
 returns-in_err-read_set-clause-uses g c =
@@ -31,9 +31,10 @@ pub returns-clause-flows : goal.returns-clause-flows
 returns-clause-flows g c =
     if_same c.counted.result c.read_set.new.notes _ c.counted.ensures.same (λ x t means tell.
     (let s : GroundSet = record { terrain = g.T.GroundInput.terrain x; texts = t } in
+    let told = subst (λ given. EncodeTexts g.R.ByteSource.bytes_left given (as_five c.args.products.now) t) (sym c.plain.ensures) tell in
     let framed = c.meaning_laws.ensures.framed c.args.frame.now c.args.inputs.now x c.requires.fit means in
-    let flows = AreFlowsOf-all (set_grid s) (set_products s) (set_grid s).extent c.read_set.new.notes (c.in_ok-read_set.ensures.noted x t means tell) in (
-      c.in_ok-read_set.ensures.answer x t means tell,
+    let flows = AreFlowsOf-all (set_grid s) (set_products s) (set_grid s).extent c.read_set.new.notes (c.in_ok-read_set.ensures.noted x t means told) in (
+      c.in_ok-read_set.ensures.answer x t means told,
       subst (λ (e : Extent). AreFlowsOf (set_grid s) (set_products s) e c.read_set.new.notes) (c.meaning_laws.ensures.laid c.args.frame.now x framed).extent_is flows,
     )))
 

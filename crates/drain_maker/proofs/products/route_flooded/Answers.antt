@@ -1,17 +1,19 @@
 use Rattle.std.proofs.Common.{◌≡◌, ◌∙◌, sym}
 use Rattle.std.proofs.lemmas.Result.{IfOk-weaker}
 use Rattle.drain_grid.specs.Grid.{Grid}
+use Rattle.drain_grid.specs.Spacing.{spacing_of}
 use Rattle.drain_flood.specs.declared.layers.TheConstants.{NO_HEIGHT}
 use Rattle.drain_flood.specs.Floods.{IsFlooded}
+use Rattle.drain_flood.specs.Ways.{IsSpaced}
 use Rattle.drain_maker.specs.Made.{AreRoutes}
 use Rattle.drain_maker.proofs.products.route_flooded.Goals as goal
 
 pub returns-clause-routes : goal.returns-clause-routes
 returns-clause-routes t c =
-    IfOk-weaker c.route.result _ (λ routes. (g : Grid) → g.extent ≡ c.args.flood.extent → IsFlooded g c.args.flood →
+    IfOk-weaker c.route.result _ (λ routes. (g : Grid) → g.extent ≡ c.args.flood.extent → IsSpaced g (spacing_of c.args.spacings.now) → IsFlooded g c.args.flood →
     AreRoutes g NO_HEIGHT routes.con.items routes.rnk.items routes.dir.items)
-    (λ routes are g same flooded.
+    (λ routes are g same spaced flooded.
     (let there = same ∙ sym c.in_ok-surface.ensures.extent in
     let surface = c.in_ok-surface.ensures.flooded g flooded in
-    are g NO_HEIGHT there surface.surface (c.flood_shows_voids.ensures g c.in_ok-surface.surface surface) (c.in_ok-codes.ensures.codes g there surface)))
+    are g NO_HEIGHT there surface.surface (c.flood_shows_voids.ensures g c.in_ok-surface.surface surface) (c.in_ok-codes.ensures.codes g there spaced surface)))
     c.route.ensures.routes
