@@ -202,6 +202,10 @@ _Static_assert(offsetof(drain_answer, line) == 16 && DRAIN_LINE_SIZE == 164 && s
 _Static_assert(offsetof(drain_fault_cells, cells) == 0 && offsetof(drain_fault_cells, row) == 4, "cells and row");
 _Static_assert(offsetof(drain_fault_cells, col) == 8 && sizeof(drain_faults) == 180, "col and the size");
 
+/* A spacing lies as given.rt has it. */
+_Static_assert(offsetof(drain_spacing, width) == 0 && offsetof(drain_spacing, height) == 4, "width and height");
+_Static_assert(offsetof(drain_spacing, widths) == 8 && sizeof(drain_spacing) == 32, "the text of widths");
+
 /* Whether all of these bytes are this one. */
 int are_all(const void *bytes, size_t length, uint8_t byte) {
     for (size_t i = 0; i < length; i++)
@@ -380,6 +384,7 @@ int main(int argc, char **argv) {
     test_layout();
     test_rejection();
     test_choices(argv[5]);
+    test_spacings(argv[5]);
     test_explanation(argv[5]);
     test_derivation(argv[5]);
     test_version();

@@ -28,6 +28,7 @@ uint32_t explain_samples(drain_answer *answer);
 uint32_t derive_samples(drain_answer *answer);
 
 void test_choices(const char *line);
+void test_spacings(const char *line);
 void test_explanation(const char *line);
 void test_derivation(const char *line);
 void test_version(void);

@@ -35,6 +35,43 @@ void test_choices(const char *line) {
     }
 }
 
+/* On square cells of any size the answer is that of an audit; on others a way is too flat. A text by row has to have a line
+ * for each of the 51 rows. */
+void test_spacings(const char *line) {
+    static const char bad[] = "1 1\n1 0\n";
+    char rows[51 * 4];
+    for (size_t i = 0; i < 51; i++)
+        memcpy(rows + 4 * i, "7 7\n", 4);
+    const struct {
+        const char *name;
+        drain_spacing spacing;
+        uint32_t status;
+        const char *line;
+    } cases[] = {
+        {"cells of 1 by 1", drain_cells(1, 1), 0, line},
+        {"cells of 7 by 7", drain_cells(7, 7), 0, line},
+        {"rows of 7 by 7", drain_widths(rows, sizeof rows), 0, line},
+        {"50 rows", drain_widths(rows, sizeof rows - 4), 2, "refused SpacingRows 50"},
+        {"a bad row", drain_widths(bad, sizeof bad - 1), 2, "refused BadSpacingLine 2"},
+        {"no width", drain_cells(0, 1), 2, "refused BadChoice"},
+        {"a width past 2^30", drain_cells(1073741825, 1), 2, "refused BadChoice"},
+        {"NULL for rows", drain_widths(NULL, 4), 2, "refused BadChoice"},
+    };
+    for (size_t i = 0; i < sizeof cases / sizeof *cases; i++) {
+        drain_answer answer = unwritten();
+        uint32_t status = drain_audit_only_spaced(side, &tile, 1, no_sinks, 0, &cases[i].spacing, &rasters, DRAIN_ALL, &answer);
+        judge(status == cases[i].status && says(&answer, status, cases[i].line), "%s: status %u: %.164s", cases[i].name, status, answer.line);
+    }
+    drain_spacing wide = drain_cells(2, 1);
+    drain_answer answer = unwritten(), explained = unwritten();
+    drain_faults faults;
+    uint8_t map[MAP_LENGTH];
+    uint32_t status = drain_audit_only_spaced(side, &tile, 1, no_sinks, 0, &wide, &rasters, DRAIN_ALL, &answer);
+    judge(status == 1 && answer.rule == 10, "cells of 2 by 1: status %u: %.164s", status, answer.line);
+    status = drain_explain_spaced(side, &tile, 1, no_sinks, 0, &wide, &rasters, DRAIN_ALL, map, sizeof map, &faults, &explained);
+    judge(status == 1 && !strcmp(answer.line, explained.line) && faults.rules[9].row == answer.row && faults.rules[9].col == answer.col, "cells of 2 by 1 explained: %.164s", explained.line);
+}
+
 /* acc counts one cell too many at row 3, column 7, so that cell is wrong by rule 13, and so is the one to which it flows, south of
  * it; no other is. The map has a byte for each cell, and nothing is written where its memory has another length, where the
  * inputs are refused, or for a number that names no choice. */

@@ -32,7 +32,7 @@ pub struct MadeSpacing {
 }
 
 /// What is given for a grid of this shape.
-pub fn made_spacing(alloc: Global, given: &Given, shape: Shape) -> MadeSpacing
+pub fn spacing_to_make(alloc: Global, given: &Given, shape: Shape) -> MadeSpacing
     ensures given { result.fault ≡ None → AreGivenSpacings given.now.spacing shape result.spacings }
     ensures fault { IfSome result.fault (IsNoSpacing given.now.spacing shape) }
 {

@@ -13,7 +13,7 @@ ghost use Rattle.drain_verdict.specs.Given.{plain};
 ghost use Rattle.drain_verdict.specs.DemGround.{AreHeadersKept, DemTakesAtMost, dem_devices};
 
 use crate::runs::made_spacing;
-use crate::runs::made_spacing::{MadeSpacing, NoSpacing, made_spacing};
+use crate::runs::made_spacing::{MadeSpacing, NoSpacing, spacing_to_make};
 use crate::runs::write_set::write_and_place;
 use drain_answer::lines::{Line, refusal_line, words};
 use drain_answer::outcome::Status;
@@ -279,7 +279,7 @@ fn read_and_make<R: ByteSource>(
         Err(fault) => return Err(NoSet::Sinks(fault)),
     };
     let Mosaic { layout, elevation } = mosaic;
-    let MadeSpacing { spacings, fault } = made_spacing(alloc, given, layout.shape());
+    let MadeSpacing { spacings, fault } = spacing_to_make(alloc, given, layout.shape());
     match make_freeing(alloc, &layout, elevation, &listed, &spacings, follow) {
         Ok(products) => match fault {
             None => Ok((layout, products)),
@@ -338,7 +338,7 @@ fn read_and_make_dem<R: ByteSource>(
         Err(fault) => return Err(NoSet::Sinks(fault)),
     };
     let Dem { header, raster } = read;
-    let MadeSpacing { spacings, fault } = made_spacing(alloc, given, raster.shape());
+    let MadeSpacing { spacings, fault } = spacing_to_make(alloc, given, raster.shape());
     match make_dem(alloc, &raster, &listed, &spacings, follow) {
         Ok(products) => match fault {
             None => Ok((header, products)),
