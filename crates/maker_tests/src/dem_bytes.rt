@@ -51,13 +51,7 @@ fn made_with(alloc: Global, line: &[u8]) -> Result<ProductSet, Fail> {
     };
     let sinks = Sinks::none(alloc);
     let spacings = Spacings::same(alloc, Spacing::unit());
-    Ok(make_dem(
-        alloc,
-        &dem.raster,
-        &sinks,
-        &spacings,
-        &mut Unfollowed,
-    )?)
+    Ok(make_dem(alloc, &dem.raster, &sinks, &spacings, &mut Unfollowed)?)
 }
 
 #[test]

@@ -67,13 +67,7 @@ fn made_of_dem(alloc: Global, corner: u8, rows: &[u8]) -> Result<ProductSet, Fai
     };
     let spacings = spaced(alloc, rows)?;
     let sinks = Sinks::none(alloc);
-    Ok(make_dem(
-        alloc,
-        &dem.raster,
-        &sinks,
-        &spacings,
-        &mut Unfollowed,
-    )?)
+    Ok(make_dem(alloc, &dem.raster, &sinks, &spacings, &mut Unfollowed)?)
 }
 
 /// The code of the middle cell.
