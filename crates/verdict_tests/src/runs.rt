@@ -6,8 +6,7 @@ use drain_answer::lines::Line;
 use drain_device::ByteSource;
 use drain_hgt::TileInput;
 use drain_verdict::{
-    AuditProducts, Given, Products, SpacingInput, audit, audit_given, audit_report, check,
-    check_given, report,
+    AuditProducts, Given, Products, audit, audit_given, audit_report, check, check_given, report,
 };
 use std::alloc::{AllocError, Global};
 use std::test::Fail;
@@ -81,25 +80,21 @@ pub fn told_at_once(alloc: Global, asked: Checked, example: &Example) -> Result<
     told_of(alloc, asked, ConHeaded::by_itself(example), AtOnce)
 }
 
-/// The same of cells that are so far apart.
-pub fn told_spaced(
+/// The same with this list of sinks, of cells that are so far apart.
+pub fn told_given(
     alloc: Global,
     asked: Checked,
     example: &Example,
-    spacing: SpacingInput<'_>,
+    given: &Given,
 ) -> Result<Line, AllocError> {
     let side = example.side;
     let mut tiles = tiles(alloc, example.tiles(), AtOnce)?;
     let mut five = products(alloc, ConHeaded::by_itself(example), AtOnce)?;
-    let given = Given {
-        sinks: example.sinks.as_slice(),
-        spacing,
-    };
     Ok(match asked {
-        Checked::Check => report(&check_given(alloc, side, &mut tiles, &given, &mut five)),
+        Checked::Check => report(&check_given(alloc, side, &mut tiles, given, &mut five)),
         Checked::Audit => {
             let mut four = without_ranks(five);
-            audit_report(&audit_given(alloc, side, &mut tiles, &given, &mut four))
+            audit_report(&audit_given(alloc, side, &mut tiles, given, &mut four))
         }
     })
 }

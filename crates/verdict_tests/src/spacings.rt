@@ -3,8 +3,8 @@
 
 use crate::agree::same_line;
 use crate::example::{Example, changed, one_tile};
-use crate::runs::{Checked, told_spaced};
-use drain_verdict::{Spacing, SpacingInput};
+use crate::runs::{Checked, told_given};
+use drain_verdict::{Given, Spacing, SpacingInput};
 use std::alloc::Global;
 use std::process::Abort;
 use std::test::Fail;
@@ -101,13 +101,13 @@ static LISTS: [(&str, &str, &str); 4] = [
     ("0 0", "1 1\n1 1\nx", "refused BadSpacingLine 3"),
 ];
 
-/// The peak with a list of sinks, which leads southeast or not.
-fn peak(southeast: bool, list: &str) -> Example {
+/// The peak, which leads southeast or not.
+fn peak(southeast: bool) -> Example {
     let numbers = leads_east();
     if southeast {
-        one_tile(3, &changed(&numbers, &SOUTHEAST)).listing(list)
+        one_tile(3, &changed(&numbers, &SOUTHEAST))
     } else {
-        one_tile(3, &numbers).listing(list)
+        one_tile(3, &numbers)
     }
 }
 
@@ -116,30 +116,38 @@ fn both_tell(
     rt: &impl Abort,
     alloc: Global,
     example: &Example,
-    spacing: SpacingInput<'_>,
+    given: &Given,
     owed: &str,
 ) -> Result<(), Fail> {
-    same_line(
-        rt,
-        owed,
-        &told_spaced(alloc, Checked::Check, example, spacing)?,
-        owed,
-    );
-    same_line(
-        rt,
-        owed,
-        &told_spaced(alloc, Checked::Audit, example, spacing)?,
-        owed,
-    );
+    let checked = told_given(alloc, Checked::Check, example, given)?;
+    same_line(rt, owed, &checked, owed);
+    let audited = told_given(alloc, Checked::Audit, example, given)?;
+    same_line(rt, owed, &audited, owed);
     Ok(())
+}
+
+/// Fails the test if the peak that leads east or the one that leads southeast has another line.
+fn each_tells(
+    rt: &impl Abort,
+    alloc: Global,
+    given: &Given,
+    (east, southeast): (&str, &str),
+) -> Result<(), Fail> {
+    both_tell(rt, alloc, &peak(false), given, east)?;
+    both_tell(rt, alloc, &peak(true), given, southeast)
 }
 
 #[test]
 fn cells_of_one_size(rt: HostRuntime) -> Result<(), Fail> {
     for &((width, height), east, southeast) in &CELLS {
-        let spacing = SpacingInput::Same(Spacing::new(width, height).ok_or("no spacing")?);
-        both_tell(&rt, rt.alloc(), &peak(false, ""), spacing, east)?;
-        both_tell(&rt, rt.alloc(), &peak(true, ""), spacing, southeast)?;
+        let Some(spacing) = Spacing::new(width, height) else {
+            return Err("no spacing".into());
+        };
+        let given = Given {
+            sinks: &[],
+            spacing: SpacingInput::Same(spacing),
+        };
+        each_tells(&rt, rt.alloc(), &given, (east, southeast))?;
     }
     Ok(())
 }
@@ -147,9 +155,11 @@ fn cells_of_one_size(rt: HostRuntime) -> Result<(), Fail> {
 #[test]
 fn spacings_by_row(rt: HostRuntime) -> Result<(), Fail> {
     for &(text, east, southeast) in &ROWS {
-        let spacing = SpacingInput::ByRow(text.as_bytes());
-        both_tell(&rt, rt.alloc(), &peak(false, ""), spacing, east)?;
-        both_tell(&rt, rt.alloc(), &peak(true, ""), spacing, southeast)?;
+        let given = Given {
+            sinks: &[],
+            spacing: SpacingInput::ByRow(text.as_bytes()),
+        };
+        each_tells(&rt, rt.alloc(), &given, (east, southeast))?;
     }
     Ok(())
 }
@@ -157,8 +167,11 @@ fn spacings_by_row(rt: HostRuntime) -> Result<(), Fail> {
 #[test]
 fn lists_before_spacings(rt: HostRuntime) -> Result<(), Fail> {
     for &(list, text, line) in &LISTS {
-        let spacing = SpacingInput::ByRow(text.as_bytes());
-        both_tell(&rt, rt.alloc(), &peak(false, list), spacing, line)?;
+        let given = Given {
+            sinks: list.as_bytes(),
+            spacing: SpacingInput::ByRow(text.as_bytes()),
+        };
+        each_tells(&rt, rt.alloc(), &given, (line, line))?;
     }
     Ok(())
 }
