@@ -1,13 +1,12 @@
 -- A list of the first rows' spacings, of which the last one is that of all rows after it.
 use Rattle.std.proofs.Common.{◌≡◌, ℕ, zero, suc, ◌+◌, ◌-◌, ◌<◌, ◌≤◌, min, inl, inr, List, [], ◌∷◌, ◌++◌, length, slice_index_or, length-append, refl, sym, ap, subst, ◌∙◌, arith}
-use Rattle.std.proofs.lemmas.Bool.{cases_lt, cases_order}
+use Rattle.std.proofs.lemmas.Bool.{cases_lt}
 use Rattle.std.proofs.lemmas.List.{get_or_append_left, get_or-append-add}
 use Rattle.drain_grid.specs.declared.spacing_text.SpacingInput.{SpacingInput}
 use Rattle.drain_grid.specs.declared.spacing_text.SpacingInput.TheVariants.{Same, ByRow}
 use Rattle.drain_grid.specs.Spacing.{Distances, unit_spacing}
 use Rattle.drain_grid.specs.SpacingTexts.{spacing_said}
 use Rattle.drain_union.specs.declared.place.Place.{Place}
-use Rattle.drain_union.specs.Reports.{spacing_at}
 use Rattle.drain_verdict.specs.Given.{Given, row_spacing, spacing_from}
 use Rattle.drain_window.specs.JudgedRows.{AreAlikeTo, AreRowsOf, IsEnough, last_spacing}
 

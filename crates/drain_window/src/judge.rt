@@ -24,8 +24,8 @@ use drain_hgt::name::{HALF_TURN, POLE};
 use drain_hgt::{TileInput, TileName};
 use drain_mosaic::Layout;
 use drain_union::{Place, Report, UnionGrid, WindowReport};
-use drain_verdict::{AuditProducts, Given};
 use drain_verdict::stages::layout_of;
+use drain_verdict::{AuditProducts, Given};
 use std::alloc::Global;
 
 /// The tiles, in the order given.

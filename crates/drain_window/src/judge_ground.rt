@@ -20,9 +20,9 @@ use drain_rows::BothVisitors;
 use drain_rules::Walk;
 use drain_union::place::is_origin;
 use drain_union::{Place, Report};
-use drain_verdict::{AuditProducts, Given};
 use drain_verdict::ground::GroundInput;
 use drain_verdict::read_set::read_set;
+use drain_verdict::{AuditProducts, Given};
 use std::alloc::Global;
 
 /// The verdict and the report on the window at this place of a ground, which begins at this cell of the union.

@@ -14,30 +14,66 @@ static UNIONS: [(&str, &[Window], &str); 12] = [
     (
         "cells of one width and height",
         &[
-            Window { spacings: &[(3, 4)], ..NW },
-            Window { spacings: &[(3, 4)], ..NE },
-            Window { spacings: &[(3, 4)], ..SW },
-            Window { spacings: &[(3, 4)], ..SE },
+            Window {
+                spacings: &[(3, 4)],
+                ..NW
+            },
+            Window {
+                spacings: &[(3, 4)],
+                ..NE
+            },
+            Window {
+                spacings: &[(3, 4)],
+                ..SW
+            },
+            Window {
+                spacings: &[(3, 4)],
+                ..SE
+            },
         ],
         WHOLE,
     ),
     (
         "width and height changed in one window",
         &[
-            Window { spacings: &[(3, 4)], ..NW },
-            Window { spacings: &[(3, 4)], ..NE },
-            Window { spacings: &[(4, 3)], ..SW },
-            Window { spacings: &[(3, 4)], ..SE },
+            Window {
+                spacings: &[(3, 4)],
+                ..NW
+            },
+            Window {
+                spacings: &[(3, 4)],
+                ..NE
+            },
+            Window {
+                spacings: &[(4, 3)],
+                ..SW
+            },
+            Window {
+                spacings: &[(3, 4)],
+                ..SE
+            },
         ],
         "refused OtherSpacing 2",
     ),
     (
         "the same ratio in another unit",
         &[
-            Window { spacings: &[(3, 4)], ..NW },
-            Window { spacings: &[(6, 8)], ..NE },
-            Window { spacings: &[(3, 4)], ..SW },
-            Window { spacings: &[(3, 4)], ..SE },
+            Window {
+                spacings: &[(3, 4)],
+                ..NW
+            },
+            Window {
+                spacings: &[(6, 8)],
+                ..NE
+            },
+            Window {
+                spacings: &[(3, 4)],
+                ..SW
+            },
+            Window {
+                spacings: &[(3, 4)],
+                ..SE
+            },
         ],
         "refused OtherSpacing 1",
     ),
@@ -47,7 +83,10 @@ static UNIONS: [(&str, &[Window], &str); 12] = [
             NW,
             NE,
             SW,
-            Window { spacings: &[(1, 2)], ..SE },
+            Window {
+                spacings: &[(1, 2)],
+                ..SE
+            },
         ],
         "refused OtherSpacing 3",
     ),
@@ -55,8 +94,14 @@ static UNIONS: [(&str, &[Window], &str); 12] = [
         "square cells, as they are and as a list",
         &[
             NW,
-            Window { spacings: &[(1, 1)], ..NE },
-            Window { spacings: &[(1, 1), (1, 1), (1, 1)], ..SW },
+            Window {
+                spacings: &[(1, 1)],
+                ..NE
+            },
+            Window {
+                spacings: &[(1, 1), (1, 1), (1, 1)],
+                ..SW
+            },
             SE,
         ],
         WHOLE,
@@ -64,48 +109,102 @@ static UNIONS: [(&str, &[Window], &str); 12] = [
     (
         "rows that grow narrower",
         &[
-            Window { spacings: &[(9, 9), (8, 9), (7, 9)], ..NW },
-            Window { spacings: &[(9, 9), (8, 9), (7, 9)], ..NE },
-            Window { spacings: &[(8, 9), (7, 9), (6, 9)], ..SW },
-            Window { spacings: &[(8, 9), (7, 9), (6, 9)], ..SE },
+            Window {
+                spacings: &[(9, 9), (8, 9), (7, 9)],
+                ..NW
+            },
+            Window {
+                spacings: &[(9, 9), (8, 9), (7, 9)],
+                ..NE
+            },
+            Window {
+                spacings: &[(8, 9), (7, 9), (6, 9)],
+                ..SW
+            },
+            Window {
+                spacings: &[(8, 9), (7, 9), (6, 9)],
+                ..SE
+            },
         ],
         WHOLE,
     ),
     (
         "the list of a northern window in a southern one",
         &[
-            Window { spacings: &[(9, 9), (8, 9), (7, 9)], ..NW },
-            Window { spacings: &[(9, 9), (8, 9), (7, 9)], ..NE },
-            Window { spacings: &[(9, 9), (8, 9), (7, 9)], ..SW },
-            Window { spacings: &[(8, 9), (7, 9), (6, 9)], ..SE },
+            Window {
+                spacings: &[(9, 9), (8, 9), (7, 9)],
+                ..NW
+            },
+            Window {
+                spacings: &[(9, 9), (8, 9), (7, 9)],
+                ..NE
+            },
+            Window {
+                spacings: &[(9, 9), (8, 9), (7, 9)],
+                ..SW
+            },
+            Window {
+                spacings: &[(8, 9), (7, 9), (6, 9)],
+                ..SE
+            },
         ],
         "refused OtherSpacing 2",
     ),
     (
         "the last row alone",
         &[
-            Window { spacings: &[(9, 9), (8, 9)], ..NW },
-            Window { spacings: &[(9, 9), (8, 9)], ..NE },
-            Window { spacings: &[(8, 9)], ..SW },
-            Window { spacings: &[(8, 9), (8, 9), (7, 9)], ..SE },
+            Window {
+                spacings: &[(9, 9), (8, 9)],
+                ..NW
+            },
+            Window {
+                spacings: &[(9, 9), (8, 9)],
+                ..NE
+            },
+            Window {
+                spacings: &[(8, 9)],
+                ..SW
+            },
+            Window {
+                spacings: &[(8, 9), (8, 9), (7, 9)],
+                ..SE
+            },
         ],
         "refused OtherSpacing 3",
     ),
     (
         "rows listed up to the last that differs",
         &[
-            Window { spacings: &[(9, 9), (8, 9)], ..NW },
-            Window { spacings: &[(9, 9), (8, 9), (8, 9)], ..NE },
-            Window { spacings: &[(8, 9)], ..SW },
-            Window { spacings: &[(8, 9), (8, 9), (8, 9)], ..SE },
+            Window {
+                spacings: &[(9, 9), (8, 9)],
+                ..NW
+            },
+            Window {
+                spacings: &[(9, 9), (8, 9), (8, 9)],
+                ..NE
+            },
+            Window {
+                spacings: &[(8, 9)],
+                ..SW
+            },
+            Window {
+                spacings: &[(8, 9), (8, 9), (8, 9)],
+                ..SE
+            },
         ],
         WHOLE,
     ),
     (
         "windows that share no column",
         &[
-            Window { spacings: &[(2, 1)], ..COLUMN },
-            Window { spacings: &[(2, 1), (2, 1), (2, 1), (3, 1)], ..REST },
+            Window {
+                spacings: &[(2, 1)],
+                ..COLUMN
+            },
+            Window {
+                spacings: &[(2, 1), (2, 1), (2, 1), (3, 1)],
+                ..REST
+            },
         ],
         "refused OtherSpacing 1",
     ),
@@ -113,8 +212,14 @@ static UNIONS: [(&str, &[Window], &str); 12] = [
         "other no-data numbers before other spacings",
         &[
             NW,
-            Window { spacings: &[(1, 2)], ..NE },
-            Window { nodata: (-9999, 0), ..SW },
+            Window {
+                spacings: &[(1, 2)],
+                ..NE
+            },
+            Window {
+                nodata: (-9999, 0),
+                ..SW
+            },
             SE,
         ],
         "refused OtherNoData 2",
@@ -124,7 +229,11 @@ static UNIONS: [(&str, &[Window], &str); 12] = [
         &[
             NW,
             NW,
-            Window { fault: Some((1, 1)), spacings: &[(1, 2)], ..SE },
+            Window {
+                fault: Some((1, 1)),
+                spacings: &[(1, 2)],
+                ..SE
+            },
         ],
         "refused OtherSpacing 2",
     ),

@@ -38,5 +38,12 @@ pub fn answer(
     let mut tiles = inputs.tiles(alloc)?;
     let mut products = inputs.products(alloc)?;
     let given = inputs.given()?;
-    Ok(judge_window(alloc, inputs.side, &mut tiles, &given, &mut products, &place))
+    Ok(judge_window(
+        alloc,
+        inputs.side,
+        &mut tiles,
+        &given,
+        &mut products,
+        &place,
+    ))
 }

@@ -1,5 +1,4 @@
-use Rattle.std.proofs.Common.{◌≡◌, ℕ, ◌+◌, ◌-◌, ◌<◌, min, max, List, sym, ap, ◌∙◌, arith}
-use Rattle.drain_grid.specs.Spacing.{Distances}
+use Rattle.std.proofs.Common.{◌≡◌, ℕ, ◌+◌, ◌-◌, min, max, sym, ap, ◌∙◌, arith}
 use Rattle.drain_union.specs.declared.place.Place.{Place}
 use Rattle.drain_union.specs.Reports.{Report, spacing_at}
 use Rattle.drain_merge.proofs.SpacedRows.{alike_from, alike_to}

@@ -1,11 +1,11 @@
-use Rattle.std.proofs.Common.{◌≡◌, ℕ, ◌<◌, ◌∙◌, List, Ok, Err, sym, ap, subst, arith, rules}
+use Rattle.std.proofs.Common.{◌≡◌, ◌<◌, ◌∙◌, Ok, Err, sym, ap, subst, arith, rules}
 use Rattle.std.proofs.lemmas.Result.{err_from_is_err_and}
 use Rattle.drain_grid.specs.Extent.{Extent, IsExtent}
 use Rattle.drain_grid.specs.SinkTexts.{is_listed, sinks_of}
 use Rattle.drain_verdict.proofs.AuditDevices.{failed_alike, none_alike}
 use Rattle.drain_verdict.proofs.InputLemmas.{set_uses_alike}
 use Rattle.drain_verdict.proofs.OutcomeLemmas.{memory_alike}
-use Rattle.drain_verdict.specs.Given.{Given}
+use Rattle.drain_verdict.specs.Given.{Given, spacing_from}
 use Rattle.drain_verdict.specs.GroundSets.{GroundSet, set_grid, set_numbers, set_products}
 use Rattle.drain_verdict.specs.Inputs.{as_five}
 use Rattle.drain_verdict.specs.Texts.{lines_in}
@@ -44,8 +44,10 @@ returns-in-Some-clause-answer g c = λ x t means tell.
     let some : 0 < (set_grid s).extent.rows = omega (arith, fits.some_row) in
     let placed = subst (λ (e : Extent). IsPlaceIn e c.args.place.now) (sym laid.extent_is) c.requires.placed in
     let noted = c.in_ok-read_set.ensures.noted x t means tell in
-    let listed = c.in-Ok.ensures (set_grid s) (set_products s) (ap (λ (given : Given). is_listed (lines_in (sinks_of given.sinks))) tell.given_is) in
-    let spaced = as_given c.args.given.now t.given c.args.place.now c.in-Ok-judged_spacings.spacings.items tell.given_is c.in-Ok-judged_spacings.ensures in (
+    let said : Given = record { sinks = c.given.inside.sinks.now; spacing = spacing_from c.given.inside.spacing } in
+    let same : t.given ≡ said = tell.given_is ∙ sym c.given.view_is in
+    let listed = c.in-Ok.ensures (set_grid s) (set_products s) (ap (λ (given : Given). is_listed (lines_in (sinks_of given.sinks))) same) in
+    let spaced = as_given said t.given c.args.place.now c.in-Ok-judged_spacings.spacings.items same c.in-Ok-judged_spacings.ensures in (
       c.in_ok-read_set.ensures.answer x t means tell,
       c.in-Some.ensures.answer (set_numbers s) (set_grid s) (set_products s) placed some (record { rows_are = noted.1.rows_are; right = noted.1.right }) noted.0 listed spaced,
     )

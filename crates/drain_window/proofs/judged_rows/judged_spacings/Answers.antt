@@ -1,4 +1,4 @@
-use Rattle.std.proofs.Common.{◌≡◌, ℕ, subst, ◌∙◌}
+use Rattle.std.proofs.Common.{ℕ, subst, ◌∙◌}
 use Rattle.std.proofs.lemmas.Result.{IfOk-weaker}
 use Rattle.drain_grid.specs.Spacing.{Distances, spacing_of}
 use Rattle.drain_verdict.specs.Given.{row_spacing, spacing_from}
