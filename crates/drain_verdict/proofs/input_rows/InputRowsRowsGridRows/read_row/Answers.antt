@@ -1,4 +1,4 @@
-use Rattle.std.proofs.Common.{◌+◌, Some, None, inl, inr, sym, ap, ◌∙◌}
+use Rattle.std.proofs.Common.{◌+◌, ◌∙◌, Some, None, ap, inl, inr, sym}
 use Rattle.std.proofs.lemmas.Bool.{false≢true}
 use Rattle.std.specs.List.{All}
 use Rattle.drain_grid.specs.declared.set_product.SetProduct.TheVariants.{Con, Dir, Acc, Bas, Rnk}
@@ -56,10 +56,7 @@ pub returns-clause-whole : goal.returns-clause-whole
 returns-clause-whole g c =
     let row : RowNumbers = record { z = c.read_row.new.out; products = per_product (λ p. (of_product c.read_rasters.new.out p)) } in
     let kept : IsKept row (buffer_numbers c.if-not-is_even.out) = elim c.if-not-is_even.branch [
-      | then-not-is_even w ↦ inr (
-        (λ even. false≢true (sym w.if-not-is_even.true ∙ c.is_even.ensures.1 even)),
-        ap buffer_numbers w.out-is ∙ w.clear.ensures,
-      )
+      | then-not-is_even w ↦ inr (λ even. false≢true (sym w.if-not-is_even.true ∙ c.is_even.ensures.1 even), ap buffer_numbers w.out-is ∙ w.clear.ensures)
       | else-not-is_even w ↦ inl (c.is_even.ensures.0 w.if-not-is_even.false, ap buffer_numbers w.out-is)
     ] in
     kept_numbers row (buffer_numbers c.if-not-is_even.out) c.in_ok-read_row.ensures.narrow c.in_ok-read_row.ensures.pixels
@@ -69,10 +66,7 @@ pub returns-clause-next : goal.returns-clause-next
 returns-clause-next g c =
     let row : RowNumbers = record { z = c.read_row.new.out; products = per_product (λ p. (of_product c.read_rasters.new.out p)) } in
     let kept : IsKept row (buffer_numbers c.if-not-is_even.out) = elim c.if-not-is_even.branch [
-      | then-not-is_even w ↦ inr (
-        (λ even. false≢true (sym w.if-not-is_even.true ∙ c.is_even.ensures.1 even)),
-        ap buffer_numbers w.out-is ∙ w.clear.ensures,
-      )
+      | then-not-is_even w ↦ inr (λ even. false≢true (sym w.if-not-is_even.true ∙ c.is_even.ensures.1 even), ap buffer_numbers w.out-is ∙ w.clear.ensures)
       | else-not-is_even w ↦ inl (c.is_even.ensures.0 w.if-not-is_even.false, ap buffer_numbers w.out-is)
     ] in
     next_given g.T.GroundInput.after g.T.GroundInput.has_read g.R.ByteSource.bytes_left g.R.ByteSource.counts (with_rasters g.P.ProductInputs.readers c.args.self.now) _ c.args.inputs.now c.read_row.new.inputs (g.P.ProductInputs.inputs c.args.products.now) (g.P.ProductInputs.inputs c.read_rasters.new.self) row (buffer_numbers c.if-not-is_even.out) kept
