@@ -4,7 +4,7 @@ use Rattle.drain_merge.specs.MapBoxes.{box_of, boxed, HasMapSinks, IsMapRefusal,
 use Rattle.drain_merge.specs.UnionVerdicts.{IsUnionVerdict}
 use Rattle.drain_merge.specs.declared.map_merge.MapVerdict.{MapVerdict}
 use Rattle.drain_merge.specs.declared.merge_verdict.MergeRefusal.{MergeRefusal}
-use Rattle.drain_merge.specs.declared.merge_verdict.MergeRefusal.TheVariants.{NoReports, OtherSide, OtherGrid, OtherNoData, OutsideUnion, JudgesNothing, Overlap, LeftOut, SeamsDiffer, SinkLeftOut, SinkNotListed, OutOfMemory}
+use Rattle.drain_merge.specs.declared.merge_verdict.MergeRefusal.TheVariants.{NoReports, OtherSide, OtherGrid, OtherNoData, OtherSpacing, OutsideUnion, JudgesNothing, Overlap, LeftOut, SeamsDiffer, SinkLeftOut, SinkNotListed, OutOfMemory}
 use Rattle.drain_merge.specs.declared.merge_verdict.MergeVerdict.{MergeVerdict}
 use Rattle.drain_merge.specs.declared.merge_verdict.MergeVerdict.TheVariants.{Accepted, Rejected}
 use Rattle.drain_merge.specs.declared.totals.UnionSinks.{UnionSinks}
@@ -24,6 +24,7 @@ refused_above_1 NoReports = omega arith
 refused_above_1 (OtherSide k) = omega arith
 refused_above_1 (OtherGrid k) = omega arith
 refused_above_1 (OtherNoData k) = omega arith
+refused_above_1 (OtherSpacing k) = omega arith
 refused_above_1 (OutsideUnion k) = omega arith
 refused_above_1 (JudgesNothing k) = omega arith
 refused_above_1 (Overlap clash) = omega arith

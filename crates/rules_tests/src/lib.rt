@@ -31,6 +31,7 @@ mod rows_of_numbers;
 mod screened_rows;
 #[cfg(test)]
 mod spaced_rows;
+#[cfg(test)]
 mod spill_levels;
 #[cfg(test)]
 mod unasked_ranks;
