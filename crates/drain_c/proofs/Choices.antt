@@ -1,10 +1,13 @@
 -- What holds of the rasters that a number names, which are none with ranks.
 use Rattle.std.proofs.Common.{◌≡◌, ℕ, ◌==◌, Bool, true, false, if◌then◌else◌, Option, Some, None, IfSome, refl, sym, subst}
 use Rattle.drain_c.specs.declared.given.AuditBytes.{AuditBytes}
+use Rattle.drain_c.specs.declared.given.SpacingBytes.{SpacingBytes}
 use Rattle.drain_c.specs.Judged.{judged_bytes, judged_of}
+use Rattle.drain_c.specs.Spacings.{spacing_passed}
 use Rattle.drain_grid.specs.declared.judged.Judged.{Judged}
 use Rattle.drain_grid.specs.declared.judged.Judged.TheVariants.{Con, ConDir, ConDirAcc, ConDirBas, All}
 use Rattle.drain_grid.specs.Judged.{has_rnk}
+use Rattle.drain_verdict.specs.Given.{Given, GivenSpacing}
 
 abbrev IsUnranked : Option Judged → Type 0
 IsUnranked None = Unit {0}
@@ -21,6 +24,16 @@ each n = either (n == 1) (Some Con) _ refl (either (n == 3) (Some ConDir) _ refl
 pub unranked : (n : ℕ) (judged : Judged) → judged_of n ≡ Some judged → has_rnk judged ≡ false
 unranked n judged is = subst IsUnranked is (each n)
 
-pub of_choice : (P : Judged → AuditBytes → Type 0) (n : ℕ) (judged : Judged) (given bytes : AuditBytes) → judged_of n ≡ Some judged → bytes ≡ judged_bytes judged given →
-    P judged bytes → IfSome (judged_of n) (λ some. P some (judged_bytes some given))
-of_choice P n judged given bytes is bytes_are holds = subst (λ o. IfSome o (λ some. P some (judged_bytes some given))) (sym is) (subst (P judged) bytes_are holds)
+-- what holds of the judged rasters and of what is given beside them
+pub of_choice : (P : Judged → AuditBytes → Given → Type 0) (n : ℕ) (judged : Judged) (rasters bytes : AuditBytes) (said given : Given) → judged_of n ≡ Some judged →
+    bytes ≡ judged_bytes judged rasters → given ≡ said → P judged bytes given → IfSome (judged_of n) (λ some. P some (judged_bytes some rasters) said)
+of_choice P n judged rasters bytes said given is bytes_are given_is holds =
+    subst (λ o. IfSome o (λ some. P some (judged_bytes some rasters) said)) (sym is) (subst (λ ps. P judged ps said) bytes_are (subst (P judged bytes) given_is holds))
+
+-- the same on a passed spacing
+pub of_spacing : (P : Judged → AuditBytes → GivenSpacing → Type 0) (n : ℕ) (judged : Judged) (rasters bytes : AuditBytes) (said : SpacingBytes) (cells : GivenSpacing) →
+    judged_of n ≡ Some judged → bytes ≡ judged_bytes judged rasters → Some cells ≡ spacing_passed said → P judged bytes cells →
+    IfSome (judged_of n) (λ some. IfSome (spacing_passed said) (λ passed. P some (judged_bytes some rasters) passed))
+of_spacing P n judged rasters bytes said cells is bytes_are passes holds =
+    subst (λ o. IfSome o (λ some. IfSome (spacing_passed said) (λ passed. P some (judged_bytes some rasters) passed))) (sym is)
+    (subst (λ o. IfSome o (λ passed. P judged (judged_bytes judged rasters) passed)) passes (subst (λ ps. P judged ps cells) bytes_are holds))

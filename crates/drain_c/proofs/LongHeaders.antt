@@ -6,7 +6,7 @@ use Rattle.std.proofs.Math.Path.{fun_ext}
 use Rattle.std.proofs.lemmas.Bool.{leb-true, leb-false}
 use Rattle.std.proofs.lemmas.List.{take_all, length-take-le}
 use Rattle.drain_answer.specs.declared.refusal.Refusal.{Refusal}
-use Rattle.drain_answer.specs.declared.refusal.Refusal.TheVariants.{BadHeader, WrongShape, Misplaced, RasterShort, BadSinkLine, SinkNotData, OutOfMemory, ReadFailed}
+use Rattle.drain_answer.specs.declared.refusal.Refusal.TheVariants.{BadHeader, WrongShape, Misplaced, RasterShort, BadSinkLine, SinkNotData, BadSpacingLine, SpacingRows, OutOfMemory, ReadFailed}
 use Rattle.drain_grid.specs.declared.product.Product.{Product}
 use Rattle.drain_grid.specs.declared.product.Product.TheVariants as product
 use Rattle.drain_grid.specs.declared.set_product.SetProduct.{SetProduct}
@@ -99,6 +99,8 @@ same_order g o t (Misplaced p) = refl
 same_order g o t (RasterShort p) = refl
 same_order g o t (BadSinkLine n) = refl
 same_order g o t (SinkNotData n) = refl
+same_order g o t (BadSpacingLine n) = refl
+same_order g o t (SpacingRows n) = refl
 same_order g o t OutOfMemory = refl
 same_order g o t ReadFailed = refl
 same_order g o t refusal = ap (λ n. (refusal_kind refusal, n)) (o.places refusal)
@@ -171,6 +173,8 @@ earlier g o t (Misplaced p) stands = of_header g o t (Misplaced p) p (LiesElsewh
 earlier g o t (RasterShort p) stands = of_header g o t (RasterShort p) p (IsRasterShort t) (λ s. s) (inl (omega arith)) stands
 earlier g o t (BadSinkLine n) stands = itself g o t (BadSinkLine n) stands
 earlier g o t (SinkNotData n) stands = itself g o t (SinkNotData n) stands
+earlier g o t (BadSpacingLine n) stands = itself g o t (BadSpacingLine n) stands
+earlier g o t (SpacingRows n) stands = itself g o t (SpacingRows n) stands
 earlier g o t OutOfMemory stands = absurd stands
 earlier g o t ReadFailed stands = absurd stands
 earlier g o t refusal stands = itself g o t refusal ((o.applies refusal).1 stands)
@@ -199,6 +203,8 @@ first_applies g o t (Misplaced p) stands first = of_first_bytes g o t p (LiesEls
 first_applies g o t (RasterShort p) stands first = of_first_bytes g o t p (IsRasterShort t) (first (BadHeader p TooLong) (inl (omega arith))) stands
 first_applies g o t (BadSinkLine n) stands first = stands
 first_applies g o t (SinkNotData n) stands first = stands
+first_applies g o t (BadSpacingLine n) stands first = stands
+first_applies g o t (SpacingRows n) stands first = stands
 first_applies g o t OutOfMemory stands first = absurd stands
 first_applies g o t ReadFailed stands first = absurd stands
 first_applies g o t refusal stands first = (o.applies refusal).0 stands

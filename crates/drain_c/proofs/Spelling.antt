@@ -1,5 +1,4 @@
 -- What an audit and a check say of the sources of a call holds of the bytes of the call.
-use Rattle.drain_verdict.specs.Given.{Given}
 use Rattle.std.proofs.Common.{◌≡◌, ℕ, ◌+◌, ◌<◌, List, [], ◌∷◌, ◌++◌, length, map, take, get_or, Option, Some, Result, Ok, Err, IfOk, refl, sym, ap, subst, ◌∙◌}
 use Rattle.std.proofs.lemmas.List.{take_more}
 use Rattle.std.proofs.lemmas.Slice.Zip.{all_zipped_more}
@@ -18,6 +17,7 @@ use Rattle.drain_rules.specs.Verdicts.{IfAccepted}
 use Rattle.drain_answer.specs.declared.refusal.Refusal.{Refusal}
 use Rattle.drain_verdict.specs.Answers.{IsAnswerIn}
 use Rattle.drain_verdict.specs.DemGround.{DemTexts, EncodesDem}
+use Rattle.drain_verdict.specs.Given.{Given}
 use Rattle.drain_verdict.specs.GroundSets.{EncodeTexts, GroundSet}
 use Rattle.drain_verdict.specs.Headline.{ForCheck}
 use Rattle.drain_verdict.specs.Inputs.{Inputs, Encode, Products}
@@ -89,7 +89,7 @@ tells bytes_left side given beside raster tiles ps are_tiles are_rasters i are =
   names_are = are.names_are ∙ same_names bytes_left given tiles are_tiles;
   corners_are = are.corners_are;
   tiles_are = subst (AreBodies bytes_left tiles) (sym are.tiles_are) (bodies bytes_left given tiles are_tiles);
-  given_are = are.given_are;
+  given_is = are.given_are;
   headers_are = λ p. ap (take 65537) (are.headers_are p) ∙ sym (are_rasters p).0;
   rasters_are = λ p. (are_rasters p).1 ∙ ap Some (sym (are.rasters_are p));
 }
@@ -116,7 +116,7 @@ dem_call bytes_left given beside raster dem ps is_dem are_rasters = record {
   of_sources = λ Fact fact i are. fact (cut_dem i).dem (cut_dem i).texts
       (ap (take 65537) are.dem_header_is ∙ sym is_dem.0, is_dem.1 ∙ ap Some (sym are.dem_body_is))
       (record {
-        given_are = are.given_are;
+        given_is = are.given_are;
         headers_are = λ p. ap (take 65537) (are.headers_are p) ∙ sym (are_rasters p).0;
         rasters_are = λ p. (are_rasters p).1 ∙ ap Some (sym (are.rasters_are p));
       });

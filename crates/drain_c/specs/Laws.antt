@@ -1,11 +1,11 @@
 -- What the clauses about the bytes of a call rest on.
-use Rattle.drain_verdict.specs.Given.{Given}
 use Rattle.std.specs.Prelude.{ℕ, List}
 use Rattle.drain_c.specs.declared.given.TileBytes.{TileBytes}
 use Rattle.drain_c.specs.declared.given.RasterBytes.{RasterBytes}
 use Rattle.drain_c.specs.Given.{AreOfBytes}
 use Rattle.drain_c.specs.GivenDem.{AreOfDem, DemInputs}
 use Rattle.drain_grid.specs.declared.set_product.SetProduct.{SetProduct}
+use Rattle.drain_verdict.specs.Given.{Given}
 use Rattle.drain_verdict.specs.Inputs.{Inputs}
 
 -- whatever the bytes are, there are inputs that are these bytes

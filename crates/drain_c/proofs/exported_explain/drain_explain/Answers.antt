@@ -9,11 +9,11 @@ use Rattle.drain_c.proofs.exported_explain.drain_explain.Goals as goal
 
 pub returns-in-Some-clause-answer : goal.returns-in-Some-clause-answer
 returns-in-Some-clause-answer c =
-    of_choice (λ some ps. IsTrue (is_audit_whole c.args.tiles.now ps) → OfBytes c.args.side c.args.tiles.now (plain c.args.sinks.now) (audit_raster ps)
+    of_choice (λ some ps given. IsTrue (is_audit_whole c.args.tiles.now ps) → OfBytes c.args.side c.args.tiles.now given (audit_raster ps)
     (λ inputs. ReportsMapped some (set_of inputs) c.args.map.now c.explain_judged.new.answer))
-    c.args.judged c.in-Some.judged c.args.rasters.now c.judged_bytes-rasters.result (cc) c.judged_bytes-rasters.ensures c.explain_judged.ensures.answer
+    c.args.judged c.in-Some.judged c.args.rasters.now c.judged_bytes-rasters.result (plain c.args.sinks.now) c.plain.result (cc) c.judged_bytes-rasters.ensures c.plain.ensures c.explain_judged.ensures.answer
 
 pub returns-in-Some-clause-explained : goal.returns-in-Some-clause-explained
 returns-in-Some-clause-explained c =
-    of_choice (λ some ps. c.explain_judged.result < 2 → OfBytes c.args.side c.args.tiles.now (plain c.args.sinks.now) (audit_raster ps) (λ inputs. Explains some (set_of inputs) c.explain_judged.new.faults c.explain_judged.new.map))
-    c.args.judged c.in-Some.judged c.args.rasters.now c.judged_bytes-rasters.result (cc) c.judged_bytes-rasters.ensures c.explain_judged.ensures.explained
+    of_choice (λ some ps given. c.explain_judged.result < 2 → OfBytes c.args.side c.args.tiles.now given (audit_raster ps) (λ inputs. Explains some (set_of inputs) c.explain_judged.new.faults c.explain_judged.new.map))
+    c.args.judged c.in-Some.judged c.args.rasters.now c.judged_bytes-rasters.result (plain c.args.sinks.now) c.plain.result (cc) c.judged_bytes-rasters.ensures c.plain.ensures c.explain_judged.ensures.explained
