@@ -5,6 +5,7 @@ use crate::runs::derive_set::derive_files;
 use crate::runs::explain_files::explain_files;
 use crate::runs::judge::run_judged;
 use crate::runs::make_set::make_from_files;
+use crate::runs::opened_given::given_of;
 use crate::runs::run_explain::print_out_of_memory;
 use crate::runs::run_fill::run_fill;
 use crate::runs::run_header::run_header;
@@ -22,7 +23,6 @@ use drain_files::open_files::Opener;
 use drain_files::open_judged::{OpenFiles, open_judged};
 use drain_grid::Judged;
 use drain_progress::progress::Progress;
-use drain_verdict::Given;
 use std::fs::File;
 use std::io;
 
@@ -100,10 +100,7 @@ fn judge_files(
         ) => run_judged(
             rt.alloc(),
             &mut elevations,
-            &Given {
-                sinks: sinks.as_slice(),
-                spacing: spacing.input(),
-            },
+            &given_of(sinks.as_slice(), &spacing),
             &mut products,
             out,
         ),

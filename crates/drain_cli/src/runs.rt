@@ -6,6 +6,7 @@ pub mod explain_files;
 pub mod judge;
 pub mod made_spacing;
 pub mod make_set;
+pub mod opened_given;
 pub mod report_input;
 pub mod report_output;
 pub mod run_explain;

@@ -10,7 +10,7 @@ use drain_device::{ByteList, SliceSource};
 use drain_grid::{ProductSet, Sinks, SpacingInput, Spacings, parse_spacings};
 use drain_maker::follow::Unfollowed;
 use drain_maker::{make_dem, make_freeing, read_dem};
-use drain_verdict::RasterInput;
+use drain_verdict::{RasterInput, Refusal};
 use std::alloc::Global;
 use std::test::Fail;
 
@@ -62,8 +62,10 @@ fn made_of_dem(alloc: Global, corner: u8, rows: &[u8]) -> Result<ProductSet, Fai
         header: ByteList::new(HEADER.to_vec(alloc)?),
         body: SliceSource::new(&body),
     }];
-    let Ok(dem) = read_dem(alloc, &mut input) else {
-        return Err("the raster is refused".into());
+    let dem = match read_dem(alloc, &mut input) {
+        Ok(dem) => dem,
+        Err(Refusal::OutOfMemory) => return Err("failed OutOfMemory".into()),
+        Err(_) => return Err("the raster is refused".into()),
     };
     let spacings = spaced(alloc, rows)?;
     let sinks = Sinks::none(alloc);

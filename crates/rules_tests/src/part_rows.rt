@@ -9,7 +9,7 @@ ghost use Rattle.drain_grid.specs.Values.{IsPixel};
 ghost use Rattle.drain_rules.specs.Rows.{AreRowNumbers};
 
 use crate::examples::{Part, is_pixel, numbers_at};
-use drain_grid::{Judged, PerProduct, Spacing};
+use drain_grid::{Judged, PerProduct};
 use drain_kernel::{Lanes, Slopes};
 use drain_pixels::{GroundRow, PixelKind, PixelRow};
 use drain_rules::RowView;
@@ -17,14 +17,13 @@ use std::alloc::Global;
 use std::test::Fail;
 
 /// The rows of six parts, one part's after the other's, and the columns of each. What is kept of the pixels of
-/// elevations, and which number means a void. How far apart cells are.
+/// elevations, and which number means a void.
 #[derive(Clone, Copy)]
 pub struct PartRows<'a> {
     pub numbers: &'a [i64],
     pub rows: u8,
     pub cols: u16,
     pub ground: Ground,
-    pub spacing: Spacing,
 }
 
 impl<'a> PartRows<'a> {
@@ -118,7 +117,6 @@ fn ground_row(alloc: Global, ground: Ground, numbers: &[i64]) -> Result<GroundRo
 pub struct PartRow {
     z: GroundRow,
     products: PerProduct<PixelRow>,
-    slopes: Slopes,
     ghost whole: { AreRowNumbers (record { z = z; products = per_product (λ p. of_product products p) }) } by { Prim.hlevel props },
 }
 
@@ -142,19 +140,18 @@ impl PartRow {
         let acc = parts.product_of(alloc, (Part::Acc, acc), row, count)?;
         let bas = parts.product_of(alloc, (Part::Bas, bas), row, count)?;
         let rnk = parts.product_of(alloc, (Part::Rnk, rnk), row, count)?;
-        let slopes = Slopes::of(parts.spacing);
-        Ok(part_row(z, slopes, con, dir, acc, bas, rnk))
+        Ok(part_row(z, con, dir, acc, bas, rnk))
     }
 
-    /// The row with these marks, and with the lanes of its numbers if they are to be taken and fit.
+    /// The row with these marks, its cells so far apart, and with the lanes of its numbers if they are to be taken and fit.
     pub fn view<'a>(
         &'a self,
         marks: &'a [bool],
+        slopes: &'a Slopes,
         judged: Judged,
         lanes: Option<&'a mut Lanes>,
     ) -> RowView<'a> {
         let z = &self.z;
-        let slopes = &self.slopes;
         let products = PerProduct {
             con: &self.products.con,
             dir: &self.products.dir,
@@ -172,7 +169,6 @@ impl PartRow {
 /// The row of these elevations and products.
 fn part_row(
     z: GroundRow,
-    slopes: Slopes,
     con: PixelRow,
     dir: PixelRow,
     acc: PixelRow,
@@ -194,11 +190,7 @@ fn part_row(
         bas,
         rnk,
     };
-    PartRow {
-        z,
-        products,
-        slopes,
-    }
+    PartRow { z, products }
 }
 
 /// The row of these numbers and marks, with the lanes of its numbers where they fit.

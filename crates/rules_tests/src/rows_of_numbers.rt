@@ -6,7 +6,7 @@ use crate::part_rows::{AS_NUMBERS, Ground, Kinds, OF_TILES, PartRow, PartRows};
 use drain_basin::OutletLabels;
 use drain_faults::FaultWalk;
 use drain_grid::{Judged, NoData, Rules, Shape, Sinks, Spacing, Verdict, parse_sinks};
-use drain_kernel::Lanes;
+use drain_kernel::{Lanes, Slopes};
 use drain_rules::{Kept, PatchRow, RowView, ThreeRows, Walk};
 use std::alloc::{AllocError, Global};
 use std::test::Fail;
@@ -49,7 +49,6 @@ struct Given<'a> {
     kinds: Kinds,
     judged: Judged,
     is_laned: bool,
-    spacing: Spacing,
 }
 
 impl<'a> Given<'a> {
@@ -60,7 +59,6 @@ impl<'a> Given<'a> {
             rows: 3,
             cols: COLS,
             ground: self.ground,
-            spacing: self.spacing,
         };
         PartRow::new(self.alloc, parts, row, self.kinds)
     }
@@ -124,6 +122,7 @@ impl Room {
 fn row_view<'a>(
     given: Given<'a>,
     numbers: &'a PartRow,
+    slopes: &'a Slopes,
     row: Option<u8>,
     lanes: &'a mut Lanes,
 ) -> RowView<'a> {
@@ -132,21 +131,22 @@ fn row_view<'a>(
     } else {
         None
     };
-    numbers.view(given.marks(row), given.judged, lanes)
+    numbers.view(given.marks(row), slopes, given.judged, lanes)
 }
 
 /// A row with those above and below it.
 fn three_rows<'a>(
     given: Given<'a>,
     numbers: &'a Numbers,
+    slopes: &'a Slopes,
     row: u8,
     room: &'a mut Room,
 ) -> ThreeRows<'a> {
     let (above, below) = beside(row);
     ThreeRows {
-        above: row_view(given, &numbers.above, above, &mut room.above),
-        here: row_view(given, &numbers.here, Some(row), &mut room.here),
-        below: row_view(given, &numbers.below, below, &mut room.below),
+        above: row_view(given, &numbers.above, slopes, above, &mut room.above),
+        here: row_view(given, &numbers.here, slopes, Some(row), &mut room.here),
+        below: row_view(given, &numbers.below, slopes, below, &mut room.below),
     }
 }
 
@@ -167,7 +167,8 @@ fn check_row(
     ensures { OnOk result (walk.new.rows ≡ walk.old.rows + 1) }
 {
     let numbers = numbers_round(given, row)?;
-    let rows = three_rows(given, &numbers, row, room);
+    let slopes = Slopes::of(Spacing::unit());
+    let rows = three_rows(given, &numbers, &slopes, row, room);
     Ok(walk.check_row(&rows, &rules_about(given.judged))?)
 }
 
@@ -195,7 +196,8 @@ fn note_row(walk: &mut FaultWalk, given: Given<'_>, row: u8, room: &mut Room) ->
     ensures { OnOk result (walk.new.rows ≡ walk.old.rows + 1) }
 {
     let numbers = numbers_round(given, row)?;
-    let rows = three_rows(given, &numbers, row, room);
+    let slopes = Slopes::of(Spacing::unit());
+    let rows = three_rows(given, &numbers, &slopes, row, room);
     Ok(walk.note_row(&rows, &rules_about(given.judged))?)
 }
 
@@ -219,7 +221,6 @@ pub fn faults_by_rows(alloc: Global, numbers: &[i64], is_laned: bool) -> Result<
         kinds: AS_NUMBERS,
         judged: Judged::AllWithRanks,
         is_laned,
-        spacing: Spacing::unit(),
     };
     let mut walk = FaultWalk::new(alloc);
     note_rows(&mut walk, given, &mut Room::new(alloc))?;
@@ -254,11 +255,11 @@ pub fn kept_of_kinds(
         kinds,
         judged: Judged::AllWithRanks,
         is_laned: true,
-        spacing: Spacing::unit(),
     };
     let numbers = numbers_round(given, row)?;
+    let slopes = Slopes::of(Spacing::unit());
     let mut room = Room::new(alloc);
-    match kept_in_row(&three_rows(given, &numbers, row, &mut room), from) {
+    match kept_in_row(&three_rows(given, &numbers, &slopes, row, &mut room), from) {
         Some(kept) => Ok(kept),
         None => Err("a column".into()),
     }
@@ -275,11 +276,11 @@ pub fn kept_when_spaced(alloc: Global, numbers: &[i64], spacing: Spacing) -> Res
         kinds: AS_NUMBERS,
         judged: Judged::AllWithRanks,
         is_laned: true,
-        spacing,
     };
     let numbers = numbers_round(given, 1)?;
+    let slopes = Slopes::of(spacing);
     let mut room = Room::new(alloc);
-    match kept_in_row(&three_rows(given, &numbers, 1, &mut room), 1) {
+    match kept_in_row(&three_rows(given, &numbers, &slopes, 1, &mut room), 1) {
         Some(kept) => Ok(kept),
         None => Err("a column".into()),
     }
@@ -308,11 +309,11 @@ pub fn is_outlet_by_lanes(
         kinds: AS_NUMBERS,
         judged: Judged::AllWithRanks,
         is_laned: true,
-        spacing: Spacing::unit(),
     };
     let numbers = numbers_round(given, row)?;
+    let slopes = Slopes::of(Spacing::unit());
     let mut room = Room::new(alloc);
-    let rows = three_rows(given, &numbers, row, &mut room);
+    let rows = three_rows(given, &numbers, &slopes, row, &mut room);
     Ok(col < rows.cols() && rows.is_right_outlet(&rules_about(Judged::AllWithRanks), col))
 }
 
@@ -347,7 +348,6 @@ pub fn verdict_of_kinds(
             kinds,
             judged,
             is_laned: true,
-            spacing: Spacing::unit(),
         },
     )
 }
@@ -370,7 +370,6 @@ pub fn verdict_on_ground(
             kinds: AS_NUMBERS,
             judged,
             is_laned: true,
-            spacing: Spacing::unit(),
         },
     )
 }

@@ -4,6 +4,7 @@ ghost use Rattle.std.specs.Prelude.{◌≡◌, length, IfOk, Some};
 ghost use Rattle.drain_grid.specs.declared.judged.Judged as grid;
 
 use crate::runs::explain_dem::run_explain_on;
+use crate::runs::opened_given::given_of;
 use crate::runs::run_explain;
 use crate::runs::run_explain::{ExplainOutput, MapFault, PageFailure, print_page_failure};
 use drain_answer::outcome::Status;
@@ -22,7 +23,6 @@ use drain_grid::{Judged, Product};
 use drain_header::Header;
 use drain_maker::product_files::SetFault;
 use drain_progress::progress::Progress;
-use drain_verdict::Given;
 use std::alloc::Global;
 
 /// Explains the products of a folder, and returns the exit status.
@@ -83,10 +83,7 @@ fn explain_opened(
             run_explain_on(
                 rt.alloc(),
                 &mut elevations,
-                &Given {
-                    sinks: sinks.as_slice(),
-                    spacing: spacing.input(),
-                },
+                &given_of(sinks.as_slice(), &spacing),
                 &mut products,
                 mapping(args),
                 form(args),

@@ -14,6 +14,7 @@ ghost use Rattle.drain_verdict.specs.DemGround.{AreHeadersKept, DemTakesAtMost, 
 
 use crate::runs::made_spacing;
 use crate::runs::made_spacing::{MadeSpacing, NoSpacing, spacing_to_make};
+use crate::runs::opened_given::given_of;
 use crate::runs::write_set::write_and_place;
 use drain_answer::lines::{Line, refusal_line, words};
 use drain_answer::outcome::Status;
@@ -92,10 +93,7 @@ fn made_of_files<'a>(
     make_opened(
         opener.alloc(),
         &mut elevations,
-        &Given {
-            sinks: sinks.as_slice(),
-            spacing: spacing.input(),
-        },
+        &given_of(sinks.as_slice(), &spacing),
         &mut MakeProgress(progress),
         out,
     )

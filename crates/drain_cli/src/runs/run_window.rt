@@ -6,6 +6,7 @@ ghost use Rattle.drain_cli.specs.WindowRuns.{IsDemWindowOutcome, IsWindowHandedO
 ghost use Rattle.drain_window.specs.declared.answered.WindowRefusal.{WindowRefusal};
 ghost use Rattle.drain_union.specs.declared.report.WindowReport.{WindowReport};
 
+use crate::runs::opened_given::given_of;
 use crate::runs::report_output::report_and_print;
 use drain_answer::outcome::Status;
 use drain_answer::print::{print_failure, print_line};
@@ -74,10 +75,7 @@ fn judged_files<'a>(
     if let Some(status) = refused_name(opener.rt(), args, out) {
         return Err(status);
     }
-    let given = Given {
-        sinks: sinks.as_slice(),
-        spacing: spacing.input(),
-    };
+    let given = given_of(sinks.as_slice(), &spacing);
     match &mut elevations {
         OpenElevations::Tiles(tiles) => judge_or_print(
             opener.alloc(),
