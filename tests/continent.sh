@@ -1,6 +1,6 @@
 #!/usr/bin/env bash
 # Runs the tests of examples/continent (tests/continent) with a program `drain`: the plan, cut rasters, jobs and engines, and verdicts on a
-# union by its windows beside audits of the whole. It needs Debian's /usr/bin/python3 with GDAL and numpy, and fails where they are missing;
+# union by its windows, and by merges of merges, beside audits of the whole. It needs Debian's /usr/bin/python3 with GDAL and numpy, and fails where they are missing;
 # with WITHOUT_COMPANION=1 it then prints that the tests of cut rasters were left out. GNU parallel and snakemake are tried if they are there.
 # Usage: tests/continent.sh DRAIN
 set -u
@@ -9,7 +9,7 @@ export DRAIN PYTHONDONTWRITEBYTECODE=1
 tests=$(cd "$(dirname "$0")" && pwd)/continent
 python=/usr/bin/python3
 
-modules=(test_plan test_jobs test_changes test_verdicts test_reports test_sinks)
+modules=(test_plan test_merges test_jobs test_changes test_dem test_trees test_verdicts test_reports test_sinks)
 if "$python" -c 'import numpy, osgeo.gdal' 2>/dev/null; then
     modules+=(test_cut)
 elif [ "${WITHOUT_COMPANION:-}" = 1 ]; then

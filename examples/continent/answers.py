@@ -1,27 +1,32 @@
 #!/usr/bin/python3
-"""The answers to windows, each with a record of the files that it rests on.
+"""The answers to windows and merges, each with a record of the files that it rests on.
 
     answers.py begin WORK WORD..  does nothing if there is an answer that counts; else drops it, and writes WORK/inputs
     answers.py keep WORK WORD..   keeps WORK/line and WORK/report as the answer, if the files are those of WORK/inputs
-    answers.py reports            prints the paths of all reports; names windows without an answer on standard error
     answers.py drop               drops records of answers that don't count, and the verdict if it rests on one
     answers.py shared             prints the files that are read for each window, without the parts of VRTs
 
 WORD.. is the line of a window in OUT/windows.txt. The record, OUT/inputs/NAME.txt, has this line, then size, time of
 the last change in nanoseconds, inode and path of each file: tiles, rasters with headers, the list of sinks, and the
-answer's own line and report. The answer counts as long as all of it is the same. OUT, RASTERS and perhaps SINKS are in
-the environment. The verdict is OUT/verdict.txt, which Snakemake writes; a refused one is dropped too.
+answer's own line and report. The answer counts as long as all of it is the same. Merges have the same in OUT/merges:
+their records have the line of OUT/merges.txt, and the reports that they take; a refused merge has no report. OUT, RASTERS
+and perhaps SINKS are in the environment. The verdict is OUT/verdict.txt, which Snakemake writes; a refused one is dropped
+too.
 """
 
 import os
 import sys
-from collections.abc import Iterator, Sequence
+from collections.abc import Sequence
+from functools import cache, cached_property
 from hashlib import sha256
 from pathlib import Path
 
 sys.dont_write_bytecode = True
-from cut import NO_DATA, CannotCut, opened
-from windows import Window
+from groups import UNION, Merge
+from places import Window
+from rasters import NO_DATA, CannotCut, opened, raster_at
+
+Answered = Window | Merge
 
 
 def state(path: Path, kept_as: Path | None = None) -> str:
@@ -56,75 +61,127 @@ class Answers:
         shared += [[Path(os.path.abspath(sinks))]] if sinks else []
         self.shared = [path for files in shared for path in (files if len(files) <= 2 else files[:1])]
         self.states = [line for files in shared for line in states(files)]
+        self.known: dict[str, str] = {}
+        """What is at fault with answers to windows that were looked at."""
 
-    def plan(self) -> Iterator[Window]:
-        with open(self.out / "windows.txt", encoding="utf-8") as lines:
-            yield from (Window.of(line.split()) for line in lines)
+    @cached_property
+    def windows(self) -> dict[str, Window]:
+        plan = (self.out / "windows.txt").read_text(encoding="utf-8")
+        return {window.name: window for window in (Window.of(line.split()) for line in plan.splitlines())}
 
-    def paths(self, window: Window) -> list[Path]:
+    @cached_property
+    def merges(self) -> dict[str, Merge]:
+        """Each after its members; the last one is that of the union."""
+        plan = (self.out / "merges.txt").read_text(encoding="utf-8")
+        return {merge.name: merge for merge in (Merge.of(line.split()) for line in plan.splitlines())}
+
+    @property
+    def groups(self) -> list[Merge]:
+        return [merge for merge in self.merges.values() if merge.name != UNION]
+
+    def paths(self, of: Answered) -> list[Path]:
         """The files of an answer: its record, line and report."""
-        return [self.out / folder / f"{window.name}.txt" for folder in ("inputs", "lines", "reports")]
+        out = self.out / "merges" if isinstance(of, Merge) else self.out
+        return [out / folder / f"{of.name}.txt" for folder in ("inputs", "lines", "reports")]
 
-    def inputs(self, window: Window) -> list[str]:
+    def inputs(self, of: Answered) -> list[str]:
         """The record of an answer without its own files, as they are now."""
-        return [str(window), *(state(Path(tile)) for tile in window.tiles), *self.states]
+        if isinstance(of, Merge):
+            return [str(of), *map(state, self.taken(of))]
+        tiles = dem_states(of.dem) if of.dem else [state(Path(tile)) for tile in of.tiles]
+        return [str(of), *tiles, *self.states]
 
-    def fault(self, window: Window) -> str:
-        """Why a window has no answer that counts; empty if it has one."""
-        record, line, report = self.paths(window)
+    def taken(self, merge: Merge) -> list[Path]:
+        """The reports that a merge takes. In place of a group that has none it takes what this one would."""
+        found = []
+        for part in self.parts(merge):
+            report = self.paths(part)[2]
+            if not self.fault(part) and report.exists():
+                found.append(report)
+            elif isinstance(part, Merge):
+                found += self.taken(part)
+        return found
+
+    def parts(self, merge: Merge) -> list[Answered]:
+        """The members that the plans have."""
+        named = [self.merges.get(name) or self.windows.get(name) for name in merge.members]
+        return [part for part in named if part]
+
+    def is_whole(self, merge: Merge) -> bool:
+        """Whether each window of a group has an answer, so that they fill a box."""
+        parts = self.parts(merge)
+        return len(parts) == len(merge.members) and all(
+            self.is_whole(part) if isinstance(part, Merge) else not self.fault(part) for part in parts
+        )
+
+    def fault(self, of: Answered) -> str:
+        """Why a window, or a merge, has no answer that counts; empty if it has one."""
+        if isinstance(of, Merge):
+            return self.look_at(of)
+        if of.name not in self.known:
+            self.known[of.name] = self.look_at(of)
+        return self.known[of.name]
+
+    def look_at(self, of: Answered) -> str:
+        record, line, report = self.paths(of)
         if not record.exists():
             said = line.read_text().rstrip("\n") if line.exists() else ""
             return said if said.startswith("refused ") else "no answer yet"
         try:
-            name = changed(read(record), [*self.inputs(window), state(line), state(report)])
+            has_report = isinstance(of, Window) or report.exists()
+            name = changed(read(record), [*self.inputs(of), state(line), *([state(report)] if has_report else [])])
         except OSError as error:
             return f"{error.filename}: {error.strerror}"
         return f"{name} changed after the window was judged" if name else ""
 
-    def begin(self, window: Window, work: Path) -> None:
-        if self.fault(window):
-            for path in self.paths(window):
+    def begin(self, of: Answered, work: Path) -> None:
+        if self.fault(of):
+            for path in self.paths(of):
                 path.unlink(missing_ok=True)
-            write(work / "inputs", self.inputs(window))
+            write(work / "inputs", self.inputs(of))
 
-    def keep(self, window: Window, work: Path) -> None:
-        record, line, report = self.paths(window)
+    def keep(self, of: Answered, work: Path) -> None:
+        record, line, report = self.paths(of)
         given = read(work / "inputs")
-        if name := changed(given, self.inputs(window)):
-            sys.exit(f"{window.name}: {name} changed while the window was judged")
-        write(work / "inputs", [*given, state(work / "line", line), state(work / "report", report)])
+        if name := changed(given, self.inputs(of)):
+            sys.exit(f"{of.name}: {name} changed while the window was judged")
+        has_report = isinstance(of, Window) or (work / "report").exists()
+        reports = [state(work / "report", report)] if has_report else []
+        write(work / "inputs", [*given, state(work / "line", line), *reports])
         # The record comes last: without it an answer doesn't count.
-        for path, source in ((line, "line"), (report, "report"), (record, "inputs")):
-            path.parent.mkdir(exist_ok=True)
+        for path, source in ((line, "line"), *([(report, "report")] if has_report else []), (record, "inputs")):
+            path.parent.mkdir(parents=True, exist_ok=True)
             os.replace(work / source, path)
 
-    def reports(self) -> list[Path]:
-        """The reports of all answers. It fails if one doesn't count any longer."""
-        found, stale = [], False
-        for window in self.plan():
-            record, _, report = self.paths(window)
+    def tell_missing(self) -> None:
+        """Names windows without an answer. It fails if one has an answer that doesn't count any longer."""
+        stale = False
+        for window in self.windows.values():
             if fault := self.fault(window):
-                stale |= record.exists()
+                stale |= self.paths(window)[0].exists()
                 print(f"{window.name}: {fault}", file=sys.stderr)
-            else:
-                found.append(report)
         if stale:
             sys.exit("judge these windows again")
-        return found
 
     def drop(self) -> None:
         verdict = self.out / "verdict.txt"
         is_void = verdict.exists() and verdict.read_text().startswith("refused ")
-        for window in self.plan():
-            record, _, _ = self.paths(window)
+        answered: list[Answered] = [*self.windows.values(), *self.groups]
+        for of in answered:
+            record, _, _ = self.paths(of)
             # A job that runs has no record, and may get one now.
             had_record = record.exists()
-            if self.fault(window):
+            if self.fault(of):
                 is_void = True
                 if had_record:
                     record.unlink(missing_ok=True)
         if is_void:
             verdict.unlink(missing_ok=True)
+
+
+@cache
+def dem_states(dem: Path) -> list[str]:
+    return states(raster_at(dem).files)
 
 
 def read(path: Path) -> list[str]:
@@ -144,8 +201,6 @@ def main(words: Sequence[str]) -> None:
                 answers.begin(Window.of(window), Path(work))
             case ["keep", work, *window]:
                 answers.keep(Window.of(window), Path(work))
-            case ["reports"]:
-                print(*answers.reports(), sep="\n")
             case ["drop"]:
                 answers.drop()
             case ["shared"]:

@@ -6,12 +6,17 @@
 # next time. It is 3 if the run failed, for lack of room or memory, as a file can't be read or changed meanwhile: then
 # nothing is left, and the same words try again. A signal leaves nothing either, but SIGKILL does: OUT/work/NAME.*. Each
 # job has folders of its own, so that no job takes the files of another.
-# Usage: job.sh NAME BOX INNER MOSAIC TILE..     a line of OUT/windows.txt
+# Usage: job.sh NAME BOX INNER MOSAIC TILE..     a line of OUT/windows.txt; or with a DEM in place of tiles
 # In the environment: DRAIN, the program; SIDE, samples along an edge of a tile; RASTERS, the union's rasters (cut.py);
 # OUT; perhaps SINKS, the union's list; and CUTS, a folder for the cut rasters, such as a node's own disk (OUT/work).
+# A DEM needs no SIDE.
 set -u
 here=$(dirname "$0")
-for word in "${DRAIN:-}" "${SIDE:-}" "${RASTERS:-}" "${OUT:-}" "${3:-}"; do
+case ${5:-.hgt} in
+*.[hH][gG][tT]) is_dem='' ;;
+*) is_dem=yes ;;
+esac
+for word in "${DRAIN:-}" "${SIDE:-$is_dem}" "${RASTERS:-}" "${OUT:-}" "${3:-}"; do
     [ -n "$word" ] || { echo 'DRAIN, SIDE, RASTERS, OUT or the words of a window are missing' >&2; exit 3; }
 done
 name=$1 box=$2 inner=$3
@@ -29,13 +34,22 @@ work=$(mktemp -d "$OUT/work/$name.XXXXXX") || exit 3
 
 mkdir -p "${CUTS:-$OUT/work}" || exit 3
 cuts=$(mktemp -d "${CUTS:-$OUT/work}/$name.cut.XXXXXX") || exit 3
-"$here/cut.py" --side "$SIDE" ${SINKS:+--sinks "$SINKS"} "$RASTERS" "$cuts" "$@" || exit 3
+"$here/cut.py" ${SIDE:+--side "$SIDE"} ${SINKS:+--sinks "$SINKS"} "$RASTERS" "$cuts" "$@" || exit 3
 
 judge() {
+    # Where the mosaic begins in the union.
+    at=${4%,*,*}
     shift 4
+    [ -z "$is_dem" ] || shift
     [ "$inner" = - ] || set -- --inner "$inner" "$@"
     [ -z "${SINKS:-}" ] || set -- --sinks "$cuts/sinks.txt" "$@"
-    "$DRAIN" window --side "$SIDE" --products "$cuts" --box "$box" --report "$work/report" "$@" >"$work/line"
+    set -- --products "$cuts" --box "$box" --report "$work/report" "$@"
+    if [ -n "$is_dem" ]; then
+        set -- --dem "$cuts/dem.bil" --at "$at" "$@"
+    else
+        set -- --side "$SIDE" "$@"
+    fi
+    "$DRAIN" window "$@" >"$work/line"
 }
 judge "$@"
 status=$?

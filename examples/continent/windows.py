@@ -1,5 +1,5 @@
 #!/usr/bin/python3
-"""Plans the windows by which a union of SRTM tiles is judged: OUT/windows.txt, a line for each.
+"""Plans the windows by which a union of SRTM tiles, or of one DEM, is judged: OUT/windows.txt, a line for each.
 
     NAME BOX INNER MOSAIC TILE..
 
@@ -9,6 +9,10 @@ sides on which the union goes on, letters of n e s w, or - for none. NAME is its
 A window is W by W tiles. On its inner sides it begins one row or column behind the edge that its first tile shares with
 the tile before, and ends two behind the edge of its last tile. So two windows overlap by exactly two rows or columns,
 and all tiles over a window's cells are its own or the next ones south and east, which are handed in too.
+
+With --dem a window is N by N pixels, MOSAIC the part of the DEM that it fills, and the DEM stands in place of tiles.
+
+OUT/merges.txt has the merges of the windows' reports (groups.py).
 """
 
 import argparse
@@ -21,57 +25,16 @@ from dataclasses import dataclass
 from pathlib import Path
 from typing import NamedTuple
 
+sys.dont_write_bytecode = True
+from groups import LEAST_GROUP, MERGE_BYTES, tree
+from places import Box, Corner, Window, corner_of
+from rasters import CannotCut, raster_at
+
 LEAST_SIDE, MOST_SIDE, MOST_TILES = 4, 3601, 8
+LEAST_PIXELS, MOST_PIXELS, SHARED = 4, 28_801, 2
+MEGABYTE = 1_000_000
 PLAIN_PATH = re.compile(r"[A-Za-z0-9_./+,=@%-]+")
-TILE = re.compile(r"([NS])(\d\d)([EW])(\d\d\d)(?:\.hgt)?", re.IGNORECASE)
 VOID_SAMPLE = b"\x80\x00"
-
-
-class Corner(NamedTuple):
-    """The south-west corner of a tile, in whole degrees north and east."""
-
-    lat: int
-    lon: int
-
-    def __str__(self) -> str:
-        north, east = "NS"[self.lat < 0], "EW"[self.lon < 0]
-        return f"{north}{abs(self.lat):02d}{east}{abs(self.lon):03d}"
-
-
-class Box(NamedTuple):
-    """The first row and column of a box of cells, and its size."""
-
-    row: int
-    col: int
-    rows: int
-    cols: int
-
-    def __str__(self) -> str:
-        return ",".join(map(str, self))
-
-
-@dataclass(frozen=True)
-class Window:
-    """A line of the plan."""
-
-    name: str
-    box: Box
-    """The window in the mosaic of its tiles."""
-
-    inner: str
-    mosaic: Box
-    """The mosaic in the union."""
-
-    tiles: Sequence[str]
-
-    def __str__(self) -> str:
-        return " ".join([self.name, str(self.box), self.inner or "-", str(self.mosaic), *self.tiles])
-
-    @staticmethod
-    def of(words: Sequence[str]) -> "Window":
-        """The window of a line's words."""
-        name, box, inner, mosaic, *tiles = words
-        return Window(name, box_of(box), inner.replace("-", ""), box_of(mosaic), tiles)
 
 
 class Span(NamedTuple):
@@ -91,25 +54,12 @@ class Span(NamedTuple):
     behind: bool
 
 
-def box_of(text: str) -> Box:
-    row, col, rows, cols = map(int, text.split(","))
-    return Box(row, col, rows, cols)
-
-
 def plain(path: Path) -> str:
     """The absolute path. The scripts split the plan's lines at spaces, and give them to a shell."""
     text = os.path.abspath(path)
     if not PLAIN_PATH.fullmatch(text):
         sys.exit(f"{text}: a path of the plan may have the letters A to Z and a to z, digits and _./+,=@%- only")
     return text
-
-
-def corner_of(name: str) -> Corner | None:
-    """The corner that a tile's name has; None of another name."""
-    if not (match := TILE.fullmatch(name)):
-        return None
-    north, lat, east, lon = match.groups()
-    return Corner(int(lat) * (1 if north in "Nn" else -1), int(lon) * (1 if east in "Ee" else -1))
 
 
 def spans(tiles: int, width: int, steps: int) -> list[Span]:
@@ -192,6 +142,59 @@ def plan(tiles: Tiles, first: Corner, last: Corner, width: int) -> list[Window]:
     return windows
 
 
+def raster_spans(cells: int, most: int) -> list[tuple[int, int]]:
+    """The windows along one side of a DEM, the first cell of each and how many: at most `most`, two shared with the next."""
+    firsts = range(0, max(cells - SHARED, 1), most - SHARED)
+    return [(first, min(most, cells - first)) for first in firsts]
+
+
+def raster_plan(dem: str, rows: int, cols: int, most: int) -> list[Window]:
+    """The windows of a DEM, row by row. Each is a part of it, whole."""
+    downs, acrosses = raster_spans(rows, most), raster_spans(cols, most)
+    digits = len(str(max(len(downs), len(acrosses)) - 1))
+    windows = []
+    for i, (top, high) in enumerate(downs):
+        for j, (left, wide) in enumerate(acrosses):
+            sides = {"n": top > 0, "e": left + wide < cols, "s": top + high < rows, "w": left > 0}
+            name, inner = f"r{i:0{digits}d}c{j:0{digits}d}", "".join(
+                side for side, is_inner in sides.items() if is_inner
+            )
+            windows.append(Window(name, Box(0, 0, high, wide), inner, Box(top, left, high, wide), [dem]))
+    return windows
+
+
+def planned_tiles(given: argparse.Namespace) -> tuple[list[Window], str]:
+    """The windows of a folder of tiles, and what they cover."""
+    if not LEAST_SIDE <= given.side <= MOST_SIDE:
+        sys.exit(f"--side {given.side} isn't from {LEAST_SIDE} to {MOST_SIDE}")
+    if not 1 <= given.width < MOST_TILES:
+        sys.exit(f"--width {given.width} isn't from 1 to {MOST_TILES - 1}: a window needs the tiles next to it too")
+    tiles = Tiles(given.tiles, given.out / "voids", given.side)
+    corners = [corner_of(name) for name in given.box] if given.box else list(tiles.paths)
+    if not corners or None in corners:
+        sys.exit(f"no tile's name: {' '.join(given.box)}" if given.box else f"no tiles in {given.tiles}")
+    known = [corner for corner in corners if corner]
+    first = Corner(max(corner.lat for corner in known), min(corner.lon for corner in known))
+    last = Corner(min(corner.lat for corner in known), max(corner.lon for corner in known))
+    steps = given.side - 1
+    size = f"{(first.lat - last.lat + 1) * steps + 1} rows, {(last.lon - first.lon + 1) * steps + 1} columns"
+    return plan(tiles, first, last, given.width), f"{size}, from {first} to {last}"
+
+
+def planned_dem(given: argparse.Namespace) -> tuple[list[Window], str]:
+    """The windows of a DEM, and what they cover."""
+    if not LEAST_PIXELS <= given.pixels <= MOST_PIXELS:
+        sys.exit(f"--pixels {given.pixels} isn't from {LEAST_PIXELS} to {MOST_PIXELS}")
+    path = plain(given.dem)
+    if path.lower().endswith(".hgt"):
+        sys.exit(f"{path}: a tile; --dem is for other rasters")
+    try:
+        form = raster_at(Path(path)).form
+    except (CannotCut, OSError) as error:
+        sys.exit(str(error))
+    return raster_plan(path, form.rows, form.cols, given.pixels), f"{form.rows} rows, {form.cols} columns"
+
+
 def main() -> None:
     about, _, more = (__doc__ or "").partition("\n")
     form = argparse.RawDescriptionHelpFormatter
@@ -207,30 +210,36 @@ def main() -> None:
         help="the north-west and the south-east tile of the union, as"
         " N59W125 N24W067 [default: the bounding box of all tiles]",
     )
-    parser.add_argument("tiles", type=Path, metavar="TILES", help="the folder of the tiles")
-    parser.add_argument("out", type=Path, metavar="OUT", help="the folder to write windows.txt into")
+    parser.add_argument("--dem", type=Path, help="a BIL file, or a raster that GDAL reads, in place of TILES")
+    parser.add_argument(
+        "--pixels", type=int, default=10_000, metavar="N", help="pixels along an edge of its windows [default: 10000]"
+    )
+    parser.add_argument(
+        "--group",
+        type=int,
+        metavar="G",
+        help="merge reports by G times G, and so on [default: so that a merge holds at most"
+        f" {MERGE_BYTES // MEGABYTE} MB]",
+    )
+    parser.add_argument("tiles", type=Path, nargs="?", metavar="TILES", help="the folder of the tiles")
+    parser.add_argument("out", type=Path, metavar="OUT", help="the folder to write windows.txt and merges.txt into")
     given = parser.parse_args()
-    if not LEAST_SIDE <= given.side <= MOST_SIDE:
-        sys.exit(f"--side {given.side} isn't from {LEAST_SIDE} to {MOST_SIDE}")
-    if not 1 <= given.width < MOST_TILES:
-        sys.exit(f"--width {given.width} isn't from 1 to {MOST_TILES - 1}: a window needs the tiles next to it too")
-    tiles = Tiles(given.tiles, given.out / "voids", given.side)
-    corners = [corner_of(name) for name in given.box] if given.box else list(tiles.paths)
-    if not corners or None in corners:
-        sys.exit(f"no tile's name: {' '.join(given.box)}" if given.box else f"no tiles in {given.tiles}")
-    known = [corner for corner in corners if corner]
-    first = Corner(max(corner.lat for corner in known), min(corner.lon for corner in known))
-    last = Corner(min(corner.lat for corner in known), max(corner.lon for corner in known))
+    if (given.tiles is None) == (given.dem is None):
+        parser.error("either TILES or --dem is needed")
+    if given.group is not None and given.group < LEAST_GROUP:
+        sys.exit(f"--group {given.group} is less than {LEAST_GROUP}")
     plain(given.out)
+    windows, covered = planned_dem(given) if given.dem else planned_tiles(given)
+    merges = tree(windows, given.group)
     given.out.mkdir(parents=True, exist_ok=True)
-    windows = plan(tiles, first, last, given.width)
     file, text = given.out / "windows.txt", "".join(f"{window}\n" for window in windows)
     if file.exists() and file.read_text(encoding="utf-8") != text:
         sys.exit(f"{file} is another plan: take a new OUT, as reports of other windows may be there")
     write_whole(file, text.encode())
-    steps = given.side - 1
-    size = f"{(first.lat - last.lat + 1) * steps + 1} rows, {(last.lon - first.lon + 1) * steps + 1} columns"
-    print(f"{len(windows)} windows of a union of {size}, from {first} to {last}")
+    write_whole(given.out / "merges.txt", "".join(f"{merge}\n" for merge in merges).encode())
+    most = max(merge.bytes for merge in merges) // MEGABYTE + 1
+    print(f"{len(windows)} windows of a union of {covered}")
+    print(f"{len(merges)} merges in {merges[-1].level} levels, of at most {most} MB")
 
 
 if __name__ == "__main__":

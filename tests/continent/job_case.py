@@ -7,6 +7,7 @@ import subprocess
 import sys
 import tempfile
 import unittest
+from collections.abc import Sequence
 from pathlib import Path
 
 from scripts import EXAMPLE, SHELL_LOOP
@@ -14,10 +15,13 @@ from scripts import EXAMPLE, SHELL_LOOP
 SIDE = 5
 PROGRAM = """#!/bin/sh
 # Stands in for `drain`: notes its words in $OUT/words, writes a report, and does what $OUT/answer says.
-# A merge does what $OUT/merged says. While a window is judged, the file $grows grows.
+# A merge does what $OUT/merged says, that of a group what $OUT/joined says. While a window is judged, the file $grows grows.
 echo "$*" >>"$OUT/words"
 if [ "$1" = merge ]; then
-    read -r status line <"$OUT/merged"
+    said=merged
+    [ "$2" != --report ] || said=joined
+    read -r status line <"$OUT/$said"
+    [ "$said$status" != joined0 ] || echo report >"$3"
     echo "$line"
     exit "$status"
 fi
@@ -53,6 +57,9 @@ ENGINES = {
 class JobCase(unittest.TestCase):
     """A union of 3 by 3 tiles, in 9 windows."""
 
+    PLAN: Sequence[str] = ()
+    """More words for windows.py."""
+
     def setUp(self) -> None:
         scratch = tempfile.TemporaryDirectory()
         self.addCleanup(scratch.cleanup)
@@ -72,7 +79,7 @@ class JobCase(unittest.TestCase):
         self.program.write_text(PROGRAM)
         self.program.chmod(0o755)
         command = [sys.executable, "-B", EXAMPLE / "windows.py", "--side", str(SIDE), "--width", "1"]
-        subprocess.run([*command, self.folder / "tiles", self.out], check=True, stdout=subprocess.DEVNULL)
+        subprocess.run([*command, *self.PLAN, self.folder / "tiles", self.out], check=True, stdout=subprocess.DEVNULL)
         self.lines = (self.out / "windows.txt").read_text().splitlines()
         known = {"DRAIN": self.program, "SIDE": SIDE, "RASTERS": self.folder / "rasters", "OUT": self.out}
         self.env = {**os.environ, **{key: str(value) for key, value in known.items()}}
@@ -80,12 +87,16 @@ class JobCase(unittest.TestCase):
         self.env |= {"SLURM_ARRAY_TASK_MIN": "1", "SLURM_ARRAY_TASK_MAX": "1"}
         self.answer("0 accepted rows=1")
         self.merged("0 accepted of all")
+        self.joined("0 accepted of a group")
 
     def answer(self, text: str) -> None:
         (self.out / "answer").write_text(f"{text}\n")
 
     def merged(self, text: str) -> None:
         (self.out / "merged").write_text(f"{text}\n")
+
+    def joined(self, text: str) -> None:
+        (self.out / "joined").write_text(f"{text}\n")
 
     def run_script(self, name: str, *words: str, **env: str) -> subprocess.CompletedProcess[str]:
         env = {**self.env, **env}

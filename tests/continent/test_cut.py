@@ -28,6 +28,7 @@ GDAL_KINDS = {
     "i2": gdal.GDT_Int16,
     "u1": gdal.GDT_Byte,
     "u4": gdal.GDT_UInt32,
+    "i4": gdal.GDT_Int32,
     "f4": gdal.GDT_Float32,
 }
 MIDDLE = Window(
@@ -63,11 +64,13 @@ def write_tif(
     north: float = NORTH,
     step: float = 0.1,
     options: Sequence[str] = (),
+    height: float | None = None,
 ) -> None:
     rows, cols = array.shape
     name = array.dtype.str[1:]
     file = gdal.GetDriverByName("GTiff").Create(str(path), cols, rows, 1, GDAL_KINDS[name], list(options))
-    file.SetGeoTransform([west - step / 2, step, 0, north + step / 2, 0, -step])
+    height = height or step
+    file.SetGeoTransform([west - step / 2, step, 0, north + height / 2, 0, -height])
     file.GetRasterBand(1).WriteArray(array)
     if nodata is not None:
         file.GetRasterBand(1).SetNoDataValue(nodata)
@@ -253,6 +256,27 @@ class Cuts(unittest.TestCase):
         self.assertIn("1 bands of Float32; one of whole numbers is needed", self.run_script(MIDDLE))
         (self.rasters / "con.tif").write_bytes(b"none")
         self.assertIn("con.tif", self.run_script(MIDDLE))
+
+    def test_parts_of_a_dem(self) -> None:
+        """Boxes of pixels of any size, with and without a no-data number, out of BIL files and what GDAL reads."""
+        self.arrays["dem"] = numbers(np.dtype("i4"), 7)
+        write_bil(self.folder / "dem.bil", self.arrays["dem"], "M", 3, 5)
+        for header in [self.folder / "dem.hdr", *self.rasters.glob("*.hdr")]:
+            header.write_text(header.read_text().replace("YDIM 0.1\n", "YDIM 0.25\n"))
+        write_tif(self.folder / "dem.tif", self.arrays["dem"], nodata=-7, step=0.1, height=0.25)
+        for source, nodata in (("dem.bil", None), ("dem.tif", -7)):
+            for box in (Box(0, 0, 9, 12), Box(7, 10, 24, 31), Box(12, 5, 1, 3)):
+                window = Window("w", Box(0, 0, box.rows, box.cols), "", box, [str(self.folder / source)])
+                self.assertEqual(self.run_script(window), "")
+                for name, array in self.arrays.items():
+                    file = gdal.Open(str(self.cut / f"{name}.bil"))
+                    rows = array[box.row : box.row + box.rows, box.col : box.col + box.cols]
+                    np.testing.assert_array_equal(file.ReadAsArray(), rows, name)
+                    expected = [WEST + box.col / 10 - 0.05, 0.1, 0, NORTH - box.row / 4 + 0.125, 0, -0.25]
+                    np.testing.assert_allclose(file.GetGeoTransform(), expected, rtol=0, atol=1e-12)
+                self.assertEqual("NODATA" in (self.cut / "dem.hdr").read_text(), nodata is not None)
+                dem = gdal.Open(str(self.cut / "dem.bil"))
+                self.assertEqual(dem.GetRasterBand(1).GetNoDataValue(), nodata)
 
     def test_a_list_of_sinks(self) -> None:
         (self.folder / "sinks.txt").write_bytes(b"10 10\n11 11\n30 30\n\n22 22")

@@ -4,6 +4,7 @@ DRAIN in the environment names the program.
 """
 
 import os
+import re
 import shutil
 import struct
 import subprocess
@@ -153,7 +154,7 @@ class Reports(UnionCase):
         lines = text.splitlines(keepends=True)
         report = self.folder / "report"
         for name, changed, fault in [
-            ("another version", text.replace("report 3", "report 2", 1), "WrongVersion"),
+            ("another version", re.sub("report [0-9]+", "report 2", text, count=1), "WrongVersion"),
             ("nothing", "", "WrongVersion"),
             ("cut behind a line", "".join(lines[:-1]), f"MissingLine {len(lines)}"),
             ("cut within a line", text[:-1], f"MissingLine {len(lines)}"),

@@ -148,9 +148,9 @@ def make_union(folder: Path, sinks: str | None = None) -> Union:
 class Windows:
     """The windows of a union, and the answers to them in a folder."""
 
-    def __init__(self, union: Union, out: Path, width: int = 1) -> None:
+    def __init__(self, union: Union, out: Path, width: int = 1, *more: object) -> None:
         self.union, self.out = union, out
-        words = ["--side", SIDE, "--width", width, union.folder / "tiles", out]
+        words = ["--side", SIDE, "--width", width, *more, union.folder / "tiles", out]
         command = [sys.executable, "-B", EXAMPLE / "windows.py", *words]
         subprocess.run(list(map(str, command)), check=True, stdout=subprocess.DEVNULL)
         lines = (out / "windows.txt").read_text().splitlines()

@@ -145,6 +145,8 @@ class Faults:
         self.window_dem = Run(drain, [*self.window.words[:7], "--at", "7,5", *given], self.window.line)
         self.reports, self.texts = [scratch / "west.txt", scratch / "east.txt"], []
         self.merge = Run(drain, ["merge", *map(str, self.reports)], self.check.line)
+        joined = ["merge", "--report", str(self.made / "report.txt"), *map(str, self.reports)]
+        self.join, self.join_over = (Run(drain, joined, self.check.line) for _ in range(2))
         self.merge_listed = Run(drain, [*self.merge.words, *self.listing], "refused SinkLeftOut 1\n", status=2)
         self.fill = Run(drain, ["fill", "--side", "3"], "accepted rows=3 cols=3 data=9 raised=1\n", stdin=PIT / "pit-3.fill")
         header = subprocess.run([drain, "header", PIT / "pit-3/con.hdr"], stdout=subprocess.PIPE, check=True).stdout.decode()
@@ -309,7 +311,7 @@ class Faults:
 
     def killed(self):
         """A run that writes files is killed in place of each call that creates, writes or renames one."""
-        for run in (self.make, self.make_over, self.make_dem, self.derive, self.derive_over, self.window, self.window_over, self.explain_over):
+        for run in (self.make, self.make_over, self.make_dem, self.derive, self.derive_over, self.window, self.window_over, self.join, self.join_over, self.explain_over):
             for call in ("open", "write", "rename"):
                 for name, ended in self.each_call(run, call, "killed"):
                     self.judge(name, ended == (-9, "", ""), ended)
@@ -323,7 +325,7 @@ class Faults:
         parts = [(self.parts[0], [self.tile, *rasters[:1]]), (self.parts[1], [self.tile, *rasters[:2]]), (self.derive, [self.tile, rasters[1]])]
         parts += [(self.make_dem, [self.dem]), *((run, [self.dem, rasters[0]]) for run in self.dems)]
         four = [self.tile, *rasters[:-1]]
-        for run, files in ((self.check, [self.tile, *rasters]), (self.audit, four), (self.window, four), (self.merge, self.reports), *parts):
+        for run, files in ((self.check, [self.tile, *rasters]), (self.audit, four), (self.window, four), (self.merge, self.reports), (self.join, self.reports), *parts):
             for file in files:
                 for how in ("cut", "turned"):
                     for name, ended in self.each_call(run, "read", how, FAIL_FILE=str(file)):
@@ -355,7 +357,7 @@ class Faults:
         self.right[run] = contents(self.made)
 
     def all(self):
-        makers = [self.make, self.make_listed, self.make_over, self.make_dem, self.derive, self.derive_over, self.window, self.window_over]
+        makers = [self.make, self.make_listed, self.make_over, self.make_dem, self.derive, self.derive_over, self.window, self.window_over, self.join, self.join_over]
         explained = [self.explain, self.explain_object, self.explain_over]
         judged = [self.check, self.audit, *self.parts, *self.dems, self.check_listed, self.audit_listed, self.con_listed, self.merge, self.merge_listed]
         makers.append(self.window_dem)
@@ -367,14 +369,14 @@ class Faults:
         self.calls["rename"] = [*explained, *makers]
         self.over, self.right = {}, {}
         self.report()
-        for run in (self.make, self.make_listed, self.make_dem, self.derive, self.window, self.explain, self.explain_object):
+        for run in (self.make, self.make_listed, self.make_dem, self.derive, self.window, self.join, self.explain, self.explain_object):
             self.learn(run)
         self.over[self.make_over] = self.right[self.make_listed]
         self.over[self.derive_over] = {file: b"of before" for file in self.right[self.derive]}
-        self.over[self.window_over] = {"report.txt": b"of before"}
+        self.over[self.window_over] = self.over[self.join_over] = {"report.txt": b"of before"}
         self.over[self.explain_over] = {"faults.hdr": b"of before", "faults.bil": b"of before"}
         self.learn(self.window_dem)
-        for run in (self.make_over, self.derive_over, self.window_over, self.explain_over):
+        for run in (self.make_over, self.derive_over, self.window_over, self.join_over, self.explain_over):
             self.learn(run)
         self.part()
         for run in (self.explain_seam, self.seam_object):

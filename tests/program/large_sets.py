@@ -163,9 +163,9 @@ def report(row: int, col: int) -> str:
         if code == 0 and (down, across) not in unjudged:
             outlets.append(f"outlet {label} {place}\n")
         if (down, across) in near:
-            seams.append(f"seam {place} {LEVEL} 0 {LEVEL} {code} {count} {label} 0 {LEVEL}\n")
+            seams.append(f"seam {place} {LEVEL} 0 {LEVEL} {code} {count} {label}\n")
     return (
-        f"drain-window-report 3\nside {REPORTS_SIDE}\n"
+        f"drain-window-report 4\nside {REPORTS_SIDE}\n"
         f"window {top + row} {left + col} 3 3 {north:d} {south:d} {west:d} {east:d}\n"
         f"nodata -32768 255 0 0\naccepted 3 3 {9 - len(unjudged)} 0 {len(outlets)}\n"
         f"tiles 1\ntile {TILE}\nsinks 0\noutlets {len(outlets)}\n{''.join(outlets)}"

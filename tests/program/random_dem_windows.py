@@ -1,7 +1,7 @@
 #!/usr/bin/env python3
 """Cuts small random sets on a raster of elevations, right ones and ones with one number changed, into windows as a user does:
-each lies in a part of the raster with a header of its own. Judges the windows by the program, merges their reports, and compares
-the line with the rules on the whole (audit.py). Reports of a part at another place, with other pixels, or with another spacing of
+each lies in a part of the raster with a header of its own. Judges the windows by the program, merges their reports, at once and
+by a random tree of merges, and compares the line with the rules on the whole (audit.py). Reports of a part at another place, with other pixels, or with another spacing of
 a row that another one has, must be refused.
 
 random_dem_windows.py DRAIN
@@ -23,6 +23,7 @@ from plain_inputs import MOST_SIZE
 from random_dems import RandomDem, rename_blank
 from random_sets import Case, kind_of
 from random_spacings import random_spacing
+from window_trees import Leaf, Tree
 
 CASES = 400
 SHARED_LABEL = 15
@@ -118,15 +119,23 @@ def merge(drain, case, parts):
 
 
 def wrong_verdict(drain, case, parts):
-    """What is wrong with the merge, None where nothing is; and the kind of its line."""
+    """What is wrong with the merges, None where nothing is; and the kind of their line."""
+    leaves = []
     for part in parts:
         part.write()
         status, line = part.judge(drain)
         if status not in (0, 1):
             return f"window {part.at}: {line!r}", None
+        leaves.append(Leaf(part.window_rows, part.window_cols, part.inner, part.report, line))
     line = expected(case)
+    right = (int(line.startswith("rejected")), line + "\n")
     answer = merge(drain, case, parts)
-    return None if answer == (int(line.startswith("rejected")), line + "\n") else f"{answer}, not {line!r}", kind_of(line)
+    if answer != right:
+        return f"{answer}, not {line!r}", kind_of(line)
+    tree = Tree(random.Random(f"tree {case.folder.name}"), case.folder, lambda *words: run(drain, "merge", *words))
+    reports = tree.last_reports(leaves)
+    answer = run(drain, "merge", "--sinks", case.folder / "sinks.txt", *reports)
+    return tree.wrong or (None if answer == right else f"a tree: {answer}, not {line!r}"), kind_of(line)
 
 
 def wrong_spacing(drain, case, parts):

@@ -62,7 +62,7 @@ of_east() { of_valley east 'accepted rows=40 cols=38 data=1429 raised=59 outlets
 merged=("$scratch/west.txt" "$scratch/east.txt")
 of_west
 head -n 3 "$scratch/west.txt" >"$scratch/out"
-want 'drain-window-report 3
+want 'drain-window-report 4
 dem 7 100000 431012 500000000000000 5271987 500000000000000 25 0 25 0
 window 7 100000 40 20 0 0 0 1'
 judge 'the head of a report on the valley' 0 "$scratch/want" 0
@@ -70,6 +70,48 @@ of_east
 judge_words 'the valley by windows' 0 'accepted rows=40 cols=56 data=2189 raised=70 outlets=3' merge --sinks "$valley/sinks.txt" "${merged[@]}"
 echo '37 13' >"$scratch/sinks.txt"
 judge_words 'the valley by windows, a list in other rows' 2 'refused SinkLeftOut 1' merge --sinks "$scratch/sinks.txt" "${merged[@]}"
+
+# A merge of merges: the report of the box of windows takes their place. That of one window is its own, and one of all has no
+# seams. Nothing is written where it is refused, over a report, or where the device takes no byte.
+whole='accepted rows=40 cols=56 data=2189 raised=70 outlets=3'
+judge_words 'the report of one window' 0 'accepted rows=40 cols=20 data=760 raised=11 outlets=2' merge --report "$scratch/again.txt" "$scratch/west.txt"
+judge_file 'the report of one window' "$scratch/again.txt" <"$scratch/west.txt"
+judge_words 'the report of a box' 0 "$whole" merge --report "$scratch/both.txt" "$scratch/again.txt" "$scratch/east.txt"
+grep -v '^outlet ' "$scratch/both.txt" >"$scratch/out"
+want "drain-window-report 4
+dem 7 100000 431012 500000000000000 5271987 500000000000000 25 0 25 0
+window 7 100000 40 56 0 0 0 0
+$(sed -n 's/^nodata/&/p' "$scratch/west.txt")
+accepted 40 56 2189 70 3
+tiles 0
+sinks 1
+sink 37 100013
+outlets 3
+seams 0
+end"
+judge 'the report of a box but for its outlets' 0 "$scratch/want" 0
+judge_words 'a merge of it' 0 "$whole" merge --sinks "$valley/sinks.txt" "$scratch/both.txt"
+judge_words 'a box and a window of it' 2 'refused Overlap 0 1' merge --report "$scratch/out.txt" "$scratch/both.txt" "$scratch/east.txt"
+cp "$scratch/both.txt" "$scratch/before.txt"
+judge_words 'a refused box over a report' 2 'refused Overlap 0 1' merge --report "$scratch/both.txt" "$scratch/east.txt" "$scratch/east.txt"
+judge_file 'after a refused box' "$scratch/both.txt" <"$scratch/before.txt"
+want -
+ls "$scratch" | grep -x out.txt >"$scratch/out" 2>"$scratch/err"
+judge 'no report of a refused box' 0 "$scratch/want" 0
+judge_words 'a box over no room' 3 'failed WriteFailed' merge --report /dev/full "${merged[@]}"
+for how in 'ln -s' ln path; do
+    cp "$scratch/west.txt" "$scratch/input.txt"
+    rm -f "$scratch/over.txt"
+    report=$scratch/over.txt
+    case $how in path) report=$scratch/../${scratch##*/}/input.txt ;; *) $how "$scratch/input.txt" "$report" ;; esac
+    want -
+    timeout 20 "$drain" merge --report "$report" "$scratch/input.txt" "$scratch/east.txt" </dev/null >"$scratch/out" 2>"$scratch/err"
+    judge "$how: the report of a box over a report" 2 "$scratch/want" $? words
+    judge_file "$how: the report of a box over a report" "$scratch/input.txt" <"$scratch/west.txt"
+done
+want -
+timeout 20 "$drain" merge --sinks "$valley/sinks.txt" --report "$scratch/out.txt" "${merged[@]}" </dev/null >"$scratch/out" 2>"$scratch/err"
+judge 'the report of a box with a list' 2 "$scratch/want" $? words
 
 # Places that don't fit the header: a column and a row beside, and row and column exchanged; and tiles beside the raster.
 for at in 7,100001 6,100000 100000,7; do

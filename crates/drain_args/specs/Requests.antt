@@ -104,6 +104,7 @@ pub record IsWindowArgs (f : Found) (args : WindowArgs) : Type 0 where
 pub record IsMergeArgs (f : Found) (args : MergeArgs) : Type 0 where
   pub reports : map (λ path. path.now) args.reports.items ≡ unwrap_or (option_map raw_values (matched_of f (codes "reports"))) []
   pub sinks : option_map (λ path. path.now) args.sinks ≡ first_value f (codes "sinks")
+  pub report : option_map (λ path. path.now) args.report ≡ first_value f (codes "report")
 
 abbrev pub map_ending : Text
 map_ending = codes ".bil"

@@ -33,6 +33,7 @@ enum ArgSpec {
     WindowBox,
     Inner,
     Report,
+    BoxReport,
     Tiles,
     Reports,
     Header,
@@ -124,7 +125,7 @@ const MERGE: CommandSpec = CommandSpec {
     about: window_texts::MERGE_ABOUT,
     long_about: window_texts::MERGE_LONG_ABOUT,
     after: window_texts::MERGE_AFTER,
-    args: &[ArgSpec::Sinks, ArgSpec::Reports],
+    args: &[ArgSpec::Sinks, ArgSpec::BoxReport, ArgSpec::Reports],
 };
 
 pub(crate) const MAKE: CommandSpec = CommandSpec {
@@ -246,6 +247,7 @@ fn argument<'a>(alloc: Global, spec: ArgSpec) -> Result<Arg<'a>, AllocError> {
         ArgSpec::WindowBox => window_box(alloc),
         ArgSpec::Inner => inner(alloc),
         ArgSpec::Report => file(alloc, "report", window_texts::REPORT_HELP).required(true),
+        ArgSpec::BoxReport => box_report(alloc)?,
         ArgSpec::Tiles => paths(alloc, "tiles", "TILE", help_texts::TILES_HELP),
         ArgSpec::Reports => paths(alloc, "reports", "REPORT", window_texts::REPORTS_HELP),
         ArgSpec::Header => header(alloc),
@@ -318,6 +320,11 @@ fn paths<'a>(
     help: &'static str,
 ) -> Arg<'a> {
     path(alloc, name, value, help).action(ArgAction::Append)
+}
+
+/// The report of the box, with which no list of sinks is compared: its rows and columns are those of the union.
+fn box_report<'a>(alloc: Global) -> Result<Arg<'a>, AllocError> {
+    file(alloc, "report", window_texts::BOX_REPORT_HELP).conflicts_with("sinks")
 }
 
 fn header<'a>(alloc: Global) -> Arg<'a> {

@@ -11,7 +11,7 @@ ghost use Rattle.drain_args.specs.PlaceTexts.{IsBox, IsCellText, IsInner, has, i
 use drain_grid::{Cell, Shape};
 use drain_text::numbers::whole_number;
 use drain_union::place::is_origin;
-use drain_union::{InnerSides, Place};
+use drain_union::{InnerSides, Place, UnionSize};
 
 /// The place of the box that the text names, with these inner sides.
 ///
@@ -29,7 +29,7 @@ pub fn window_place(text: &str, inner: InnerSides) -> Option<Place>
     Some(Place {
         top,
         left,
-        extent,
+        extent: UnionSize::of(extent),
         inner,
     })
 }

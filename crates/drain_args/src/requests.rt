@@ -99,11 +99,12 @@ pub struct WindowArgs<'a> {
     pub report: &'a str,
 }
 
-/// The reports at these paths, and the list of the union's sinks at this path.
+/// The reports at these paths, the list of the union's sinks at this path, and the path for the report of their box.
 #[derive(Drop)]
 pub struct MergeArgs<'a> {
     pub reports: Vec<&'a str>,
     pub sinks: Option<&'a str>,
+    pub report: Option<&'a str>,
 }
 
 /// What is to be derived from, and the folder for it.
@@ -337,6 +338,7 @@ fn merge_args<'a>(alloc: Global, given: &ArgMatches<'a>) -> Result<MergeArgs<'a>
     Ok(MergeArgs {
         reports,
         sinks: option_given(given, "sinks"),
+        report: option_given(given, "report"),
     })
 }
 

@@ -88,7 +88,13 @@ side that isn't inner has to be an edge of the union.
 
 With --sinks FILE the sinks that the windows took have to be those of the list, which has rows and columns of
 the union. Without it the union's sinks are those that the windows took. Rows and columns are counted from 0
-at the north-west corner of the union. Prints one line.";
+at the north-west corner of the union. Prints one line.
+
+With --report FILE the windows are a part of the union: they have to fill the smallest box around them, on
+whose sides the union may go on. The report of this box is written into FILE, as drain window writes that of a
+window, and takes the place of theirs in a later merge: so a large union is merged in groups, and groups of
+groups, with the same verdict. The line says of the box what that of drain window says of a window. Rows and
+columns of a refusal are then those of the map, or of the whole raster.";
 
 pub const MERGE_AFTER: &str = "Lines and exit statuses:
   0  accepted rows=R cols=C data=D raised=U outlets=O
@@ -112,9 +118,12 @@ pub const MERGE_AFTER: &str = "Lines and exit statuses:
      refused BadSinkLine LINE                a line of the list is no sink's
      refused SinkLeftOut LINE                no window took the sink of this line
      refused SinkNotListed row=R col=C       a window took this cell as a sink, but the list lacks it
-  3  failed Open PATH, failed ReadFailed, failed OutOfMemory, or standard output couldn't be written
+  3  failed Open PATH, failed ReadFailed, failed WriteFailed, failed OutOfMemory, or standard output couldn't be
+     written; a report that was there then still is
 
 Example:
   drain merge west.txt east.txt";
+
+pub const BOX_REPORT_HELP: &str = "The file to write the report of the box of all windows into";
 
 pub const REPORTS_HELP: &str = "The reports on all windows of the union";

@@ -13,8 +13,8 @@ use Rattle.drain_union.specs.declared.report.WindowReport.{WindowReport}
 use Rattle.drain_union.specs.Reports.{Agree, audited, Report, IsReportOf}
 use Rattle.drain_cli.specs.WindowRuns.{IsReadable, text_of}
 use Rattle.drain_merge.specs.UnionVerdicts.{IsJudgedFrom, IsVerdictInside}
-use Rattle.drain_grid.specs.declared.verdict.Verdict.{Verdict}
-use Rattle.drain_grid.specs.declared.verdict.Verdict.TheVariants.{Accepted, Rejected}
+use Rattle.drain_union.specs.declared.verdict.UnionVerdict.{UnionVerdict}
+use Rattle.drain_union.specs.declared.verdict.UnionVerdict.TheVariants.{Accepted, Rejected}
 use Rattle.drain_grid.specs.declared.cell.Cell.{Cell}
 use Rattle.drain_grid.specs.Grid.{Grid, Products}
 use Rattle.drain_grid.specs.Values.{NoDataNumbers}
@@ -59,10 +59,10 @@ failed_code (Ok all) status code failed is = is ∙ ap status_code failed
 failed_code (Err gave_up) status code failed is = is
 
 -- a verdict with all no-data numbers is one with those of an audit
-inside : FourNumbers → (n : NoDataNumbers) (origin : Cell) (p : Place) (g : Grid) (ps : Products) (v : Verdict) → IsJudgedVerdict n origin p g ps v →
+inside : FourNumbers → (n : NoDataNumbers) (origin : Cell) (p : Place) (g : Grid) (ps : Products) (v : UnionVerdict) → IsJudgedVerdict n origin p g ps v →
     IsVerdictInside (audited n) (window_at origin p g ps) v
 inside four n origin p g ps (Accepted counts) is = ((four n (window_at origin p g ps)).0.0 is.0, is.1)
-inside four n origin p g ps (Rejected rule row col) is = (four n (window_at origin p g ps)).1 (record { row = row; col = col }) rule is
+inside four n origin p g ps (Rejected fault) is = (four n (window_at origin p g ps)).1 fault.cell fault.rule is
 
 judged_again : FourNumbers → (n : NoDataNumbers) (origin : Cell) (p : Place) (g : Grid) (ps : Products) (written read : WindowReport) →
     IsAnswerOn n origin p g ps written.verdict written.report → contents_of read ≡ contents_of written → IsJudgedFrom (window_at origin p g ps) read
@@ -76,7 +76,7 @@ judged_again four n origin p g ps written read is same =
       report = subst (λ (r : Report). IsReportOf SEAM_DEPTH w r) (sym report) is.report;
       verdict =
           subst (λ (r : Report). IsVerdictInside r.nodata w read.verdict) (sym report)
-          (subst (λ (v : Verdict). IsVerdictInside written.report.nodata w v) (sym verdict) of_written);
+          (subst (λ (v : UnionVerdict). IsVerdictInside written.report.nodata w v) (sym verdict) of_written);
     }
 
 pub read_is_judged : FourNumbers → ReadIsJudged

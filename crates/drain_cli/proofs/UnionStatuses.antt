@@ -5,12 +5,13 @@ use Rattle.drain_merge.specs.UnionVerdicts.{IsUnionVerdict}
 use Rattle.drain_merge.specs.declared.map_merge.MapVerdict.{MapVerdict}
 use Rattle.drain_merge.specs.declared.merge_verdict.MergeRefusal.{MergeRefusal}
 use Rattle.drain_merge.specs.declared.merge_verdict.MergeRefusal.TheVariants.{NoReports, OtherSide, OtherGrid, OtherNoData, OtherSpacing, OutsideUnion, JudgesNothing, Overlap, LeftOut, SeamsDiffer, SinkLeftOut, SinkNotListed, OutOfMemory}
-use Rattle.drain_merge.specs.declared.merge_verdict.MergeVerdict.{MergeVerdict}
-use Rattle.drain_merge.specs.declared.merge_verdict.MergeVerdict.TheVariants.{Accepted, Rejected}
+use Rattle.drain_union.specs.declared.verdict.UnionVerdict.{UnionVerdict}
+use Rattle.drain_union.specs.declared.verdict.UnionVerdict.TheVariants.{Accepted, Rejected}
 use Rattle.drain_merge.specs.declared.totals.UnionSinks.{UnionSinks}
 use Rattle.drain_answer.specs.Statuses.{status_code}
 use Rattle.drain_union.specs.declared.report.WindowReport.{WindowReport}
-use Rattle.drain_cli.specs.MergeRuns.{IsMergeOutcome, MakeUnion, merge_status, UnionIsCorrect, UnionIsNotCorrect, verdict_status}
+use Rattle.drain_cli.specs.MergeRuns.{IsMergeOutcome, MakeUnion, merge_status, UnionIsCorrect, UnionIsNotCorrect}
+use Rattle.drain_cli.specs.WindowRuns.{verdict_status}
 
 -- a merge answers with an outcome
 pub outcome_is : (sinks : UnionSinks) (ws : List WindowReport) (answer : Result MapVerdict MergeRefusal) → IfOk answer (IsMapVerdict ws) → IfOk answer (λ union. HasMapSinks sinks ws) →
@@ -34,15 +35,15 @@ refused_above_1 (SinkLeftOut n) = omega arith
 refused_above_1 (SinkNotListed c) = omega arith
 refused_above_1 OutOfMemory = omega arith
 
-correct_if : (ws : List WindowReport) (v : MergeVerdict) → IsUnionVerdict (box_of ws).size (boxed ws) v → status_code (verdict_status v) ≡ 0 → UnionIsCorrect ws
+correct_if : (ws : List WindowReport) (v : UnionVerdict) → IsUnionVerdict (box_of ws).size (boxed ws) v → status_code (verdict_status v) ≡ 0 → UnionIsCorrect ws
 correct_if ws (Accepted counts) is zero = (is.nodata, is.one_nodata, λ window_of from u ps size are. ((is.means window_of from).exactly u ps size are).0 tt)
 correct_if ws (Rejected fault) is zero = absurd (omega (arith, zero))
 
-not_correct_if : (ws : List WindowReport) (v : MergeVerdict) → IsUnionVerdict (box_of ws).size (boxed ws) v → status_code (verdict_status v) ≡ 1 → UnionIsNotCorrect ws
+not_correct_if : (ws : List WindowReport) (v : UnionVerdict) → IsUnionVerdict (box_of ws).size (boxed ws) v → status_code (verdict_status v) ≡ 1 → UnionIsNotCorrect ws
 not_correct_if ws (Accepted counts) is one = absurd (omega (arith, one))
 not_correct_if ws (Rejected fault) is one = (is.nodata, is.one_nodata, λ window_of from u ps size are. ((is.means window_of from).exactly u ps size are).1)
 
-one_if : (ws : List WindowReport) (v : MergeVerdict) → IsUnionVerdict (box_of ws).size (boxed ws) v → status_code (verdict_status v) ≡ 0 → MakeUnion ws
+one_if : (ws : List WindowReport) (v : UnionVerdict) → IsUnionVerdict (box_of ws).size (boxed ws) v → status_code (verdict_status v) ≡ 0 → MakeUnion ws
 one_if ws (Accepted counts) is zero = λ window_of from.
     elim ((is.means window_of from).one_union) [ inl some ↦ absurd (is.none tt some) | inr union ↦ union ]
 one_if ws (Rejected fault) is zero = absurd (omega (arith, zero))

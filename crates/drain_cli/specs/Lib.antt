@@ -7,3 +7,4 @@ pub mod MergeRuns
 pub mod ReportInputs
 pub mod WindowRuns
 pub mod RoundTrip
+pub mod JoinRuns

@@ -1,6 +1,7 @@
 -- How a run of `drain merge` ends, and what its status means. The words are this project's own.
 use Rattle.std.specs.Prelude.{◌≡◌, ℕ, List, Result, Ok, Err, codes}
 use Rattle.drain_answer.specs.Lines.{refusal_line}
+use Rattle.drain_cli.specs.WindowRuns.{verdict_status}
 use Rattle.drain_answer.specs.declared.refusal.Refusal.TheVariants as inputs
 use Rattle.drain_grid.specs.Correct.{IsCorrect}
 use Rattle.drain_grid.specs.Grid.{Grid, Products}
@@ -13,8 +14,6 @@ use Rattle.drain_merge.specs.UnionVerdicts.{AreJudgedFrom, windows_of}
 use Rattle.drain_merge.specs.declared.map_merge.MapVerdict.{MapVerdict}
 use Rattle.drain_merge.specs.declared.merge_verdict.MergeRefusal.{MergeRefusal}
 use Rattle.drain_merge.specs.declared.merge_verdict.MergeRefusal.TheVariants.{OutOfMemory}
-use Rattle.drain_merge.specs.declared.merge_verdict.MergeVerdict.{MergeVerdict}
-use Rattle.drain_merge.specs.declared.merge_verdict.MergeVerdict.TheVariants.{Accepted, Rejected}
 use Rattle.drain_merge.specs.declared.totals.UnionSinks.{UnionSinks}
 use Rattle.drain_answer.specs.declared.outcome.Status.{Status}
 use Rattle.drain_answer.specs.declared.outcome.Status.TheVariants as status
@@ -27,16 +26,15 @@ abbrev pub IsMergeOutcome : UnionSinks → List WindowReport → Result MapVerdi
 IsMergeOutcome sinks windows (Ok union) = IsMapVerdict windows union × HasMapSinks sinks windows
 IsMergeOutcome sinks windows (Err refusal) = IsMapRefusal sinks windows refusal
 
--- done if the union is accepted, rejected if it isn't
-abbrev pub verdict_status : MergeVerdict → Status
-verdict_status (Accepted counts) = status.Done
-verdict_status (Rejected fault) = status.Rejected
+-- the status of a refusal: failed if memory ran out
+abbrev pub refused_status : MergeRefusal → Status
+refused_status OutOfMemory = status.Failed
+refused_status refusal = status.Refused
 
--- the status of an answer: failed if memory ran out, else refused if there is no verdict
+-- the status of an answer
 abbrev pub merge_status : Result MapVerdict MergeRefusal → Status
 merge_status (Ok union) = verdict_status union.verdict
-merge_status (Err OutOfMemory) = status.Failed
-merge_status (Err refusal) = status.Refused
+merge_status (Err refusal) = refused_status refusal
 
 -- this holds of the products of each union whose windows are reported, with the no-data numbers of the reports
 abbrev pub OfUnion : List WindowReport → (NoDataNumbers → Grid → Products → Type 0) → Type 0

@@ -1,12 +1,12 @@
 -- How the first part of a run of `drain window` ends: with what is to be reported, or with the reason why there is none.
 use Rattle.std.specs.Prelude.{ℕ, List, Result, Ok, Err, IfOk, codes, ◌≡◌}
-use Rattle.drain_answer.specs.Lines.{verdict_line}
 use Rattle.drain_maker.specs.declared.product_files.SetFault.{SetFault}
 use Rattle.drain_maker.specs.declared.product_files.SetFault.TheVariants.{WriteFailed, OutOfMemory}
 use Rattle.drain_answer.specs.declared.outcome.Status.{Status}
 use Rattle.drain_answer.specs.declared.outcome.Status.TheVariants.{Done, Rejected, Failed, Refused}
 use Rattle.drain_report.specs.Contents.{ContentsFit, contents_of, report_text}
-use Rattle.drain_grid.specs.declared.verdict.Verdict.{Verdict}
+use Rattle.drain_union.specs.VerdictLines.{verdict_line}
+use Rattle.drain_union.specs.declared.verdict.UnionVerdict.{UnionVerdict}
 use Rattle.drain_union.specs.Reports.{Agree}
 use Rattle.drain_union.specs.declared.report.WindowReport.{WindowReport}
 use Rattle.drain_device.specs.Failing.{Sink, Source}
@@ -26,7 +26,7 @@ use Rattle.drain_window.specs.WindowLines.{refusal_line}
 use Rattle.drain_window.specs.declared.answered.WindowRefusal.{WindowRefusal}
 use Rattle.drain_window.specs.declared.answered.WindowRefusal.TheVariants.{Inputs, OutsideMosaic}
 use Rattle.drain_union.specs.declared.place.Place.{Place}
-use Rattle.drain_grid.specs.declared.verdict.Verdict.TheVariants as window
+use Rattle.drain_union.specs.declared.verdict.UnionVerdict.TheVariants as window
 
 -- The line and the status for a report that was written, or couldn't be. The words are this project's own.
 
@@ -40,18 +40,18 @@ IsReadable w (Ok done) = Agree w.verdict w.report → ContentsFit (contents_of w
 IsReadable w (Err fault) = Unit {0}
 
 -- the line of the verdict, if its report was written
-abbrev pub reported_line : Verdict → Result (Unit {0}) SetFault → List ℕ
+abbrev pub reported_line : UnionVerdict → Result (Unit {0}) SetFault → List ℕ
 reported_line v (Ok done) = verdict_line v
 reported_line v (Err WriteFailed) = codes "failed WriteFailed"
 reported_line v (Err OutOfMemory) = codes "failed OutOfMemory"
 
 -- the status of a verdict
-abbrev pub verdict_status : Verdict → Status
+abbrev pub verdict_status : UnionVerdict → Status
 verdict_status (window.Accepted counts) = Done
-verdict_status (window.Rejected rule row col) = Rejected
+verdict_status (window.Rejected fault) = Rejected
 
 -- its status, if its report was written
-abbrev pub reported_status : Verdict → Result (Unit {0}) SetFault → Status
+abbrev pub reported_status : UnionVerdict → Result (Unit {0}) SetFault → Status
 reported_status v (Ok done) = verdict_status v
 reported_status v (Err fault) = Failed
 

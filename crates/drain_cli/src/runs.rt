@@ -12,6 +12,7 @@ pub mod report_output;
 pub mod run_explain;
 pub mod run_fill;
 pub mod run_header;
+pub mod run_join;
 pub mod run_merge;
 pub mod run_window;
 pub mod write_set;

@@ -80,7 +80,7 @@ pub fn inputs_or_print<T: Drop>(
 
 /// If one of these paths of outputs leads to an input, prints the usage error for the first, and returns the exit
 /// status. Where that can't be found out, the file is tested when it is created.
-fn print_overwriting(opener: &Opener<'_>, outputs: &str, paths: &[String]) -> Option<u8> {
+pub fn print_overwriting(opener: &Opener<'_>, outputs: &str, paths: &[String]) -> Option<u8> {
     for path in paths {
         if let Ok(target) = target_at(opener.rt(), path.as_str()) {
             if is_input(target, opener.ids()) {

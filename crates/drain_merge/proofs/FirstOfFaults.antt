@@ -6,7 +6,7 @@ use Rattle.std.proofs.lemmas.List.{get_or_default, length-take-le, take_more}
 use Rattle.std.proofs.lemmas.List.Sorted.{Contains-permutation, IsPermutation-sym}
 use Rattle.std.proofs.lemmas.List.Elements.{Contains-append_left, Contains-push, Contains-push_cases}
 use Rattle.drain_union.proofs.FirstFaults.{pair_trans}
-use Rattle.drain_merge.specs.declared.merge_verdict.Fault.{Fault}
+use Rattle.drain_union.specs.declared.verdict.Fault.{Fault}
 use Rattle.drain_union.specs.declared.report.WindowReport.{WindowReport}
 use Rattle.drain_merge.specs.Seams.{union_fault, ComesBefore, IsEarlierFault, IsFirstOfFaults}
 use Rattle.drain_grid.proofs.Alike.{earlier_differs}

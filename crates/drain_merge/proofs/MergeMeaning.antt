@@ -1,5 +1,5 @@
 -- The verdict in words of lists is the verdict on the union.
-use Rattle.std.proofs.Common.{◌≡◌, inl, inr, Some, None, List, sym, subst, arith}
+use Rattle.std.proofs.Common.{inl, inr, List, sym, subst, arith}
 use Rattle.drain_grid.specs.declared.cell.Cell.{Cell}
 use Rattle.drain_grid.specs.declared.rule.Rule.{Rule}
 use Rattle.drain_grid.specs.declared.rule.Rule.TheVariants.{SharedLabel}
@@ -9,32 +9,17 @@ use Rattle.drain_grid.specs.Rule.{IsAnyRule, IsPatchRule}
 use Rattle.drain_grid.specs.Extent.{Extent}
 use Rattle.drain_grid.specs.Unranked.{unranked}
 use Rattle.drain_grid.specs.Values.{NoDataNumbers}
-use Rattle.drain_grid.specs.declared.verdict.Verdict.{Verdict}
-use Rattle.drain_grid.specs.declared.verdict.Verdict.TheVariants.{Accepted as WindowAccepted, Rejected as WindowRejected}
-use Rattle.drain_grid.proofs.Tallies.{none_some}
-use Rattle.drain_union.specs.declared.place.Place.{Place}
-use Rattle.drain_merge.specs.declared.merge_verdict.Fault.{Fault}
 use Rattle.drain_union.specs.declared.report.WindowReport.{WindowReport}
-use Rattle.drain_merge.specs.declared.merge_verdict.MergeVerdict.{MergeVerdict}
-use Rattle.drain_merge.specs.declared.merge_verdict.MergeVerdict.TheVariants.{Accepted, Rejected}
-use Rattle.drain_merge.specs.Seams.{fault_in, IsFirstOfFaults}
-use Rattle.drain_merge.specs.Merges.{IsMerged}
-use Rattle.drain_merge.specs.Places.{FitsNumbers}
-use Rattle.drain_merge.specs.UnionVerdicts.{IsRejected, SomeIsRejected, IsTriedWith, IsUnionVerdict}
+use Rattle.drain_union.specs.declared.verdict.UnionVerdict.{UnionVerdict}
+use Rattle.drain_union.specs.declared.verdict.UnionVerdict.TheVariants.{Accepted, Rejected}
+use Rattle.drain_merge.specs.Merges.{AreOfOneUnion, IsListVerdict, IsMerged}
+use Rattle.drain_merge.specs.Places.{places_of}
+use Rattle.drain_union.specs.Sizes.{FitsNumbers}
+use Rattle.drain_merge.specs.UnionVerdicts.{IsTriedWith, IsUnionVerdict}
+use Rattle.drain_merge.proofs.WholeBoxes.{as_union, FillUnion}
+use Rattle.drain_merge.proofs.JudgedWindows.{faulty, some_rejected}
 use Rattle.drain_merge.proofs.MergedCounts.{union_counts}
 use Rattle.drain_merge.proofs.MergedUnions.{can_merge, union_of_all, is_correct, not_correct, first_of_patches, first_shared_label}
-
-rejected_if : (p : Place) (v : Verdict) (fault : Fault) → fault_in p v ≡ Some fault → IsRejected v
-rejected_if p (WindowAccepted counts) fault is = none_some fault is
-rejected_if p (WindowRejected rule row col) fault is = tt
-
--- a rejected window has a fault
-faulty : (p : Place) (v : Verdict) → IsRejected v → ¬ (fault_in p v ≡ None)
-faulty p (WindowAccepted counts) never = absurd never
-faulty p (WindowRejected rule row col) rejected = λ is. none_some _ (sym is)
-
-some_rejected : (ws : List WindowReport) (fault : Fault) → IsFirstOfFaults ws (Some fault) → SomeIsRejected ws
-some_rejected ws fault first = (first.0.0, first.0.1, rejected_if first.0.0.report.place first.0.0.verdict fault first.0.2)
 
 any_patch : (q : Rule) → IsPatchRule q → IsAnyRule q
 any_patch q own = (own.0, omega (arith, own.1))
@@ -45,8 +30,8 @@ as_tried : (n : NoDataNumbers) (u : Grid) (ps : Products) (c : Cell) (r : Rule) 
 as_tried n u ps c SharedLabel own fault = absurd (omega (arith, own.1))
 as_tried n u ps c r own fault = fault
 
-pub union_verdict : (e : Extent) → FitsNumbers e → (ws : List WindowReport) (v : MergeVerdict) → IsMerged e ws v → IsUnionVerdict e ws v
-union_verdict e short ws (Accepted counts) ((one, spaced), fill, lists) = record {
+verdict_of : (e : Extent) → FitsNumbers e → (ws : List WindowReport) (v : UnionVerdict) → AreOfOneUnion ws × FillUnion e (places_of ws) × IsListVerdict e ws v → IsUnionVerdict e ws v
+verdict_of e short ws (Accepted counts) ((one, spaced), fill, lists) = record {
   nodata = one.0;
   one_nodata = one.1;
   can = inr (can_merge e one.0 ws one.1 spaced fill lists.1);
@@ -58,7 +43,7 @@ union_verdict e short ws (Accepted counts) ((one, spaced), fill, lists) = record
     first = λ u ps size are. tt;
   };
 }
-union_verdict e short ws (Rejected fault) ((one, spaced), fill, inl first) = record {
+verdict_of e short ws (Rejected fault) ((one, spaced), fill, inl first) = record {
   nodata = one.0;
   one_nodata = one.1;
   can = inl (some_rejected ws fault first);
@@ -78,7 +63,7 @@ union_verdict e short ws (Rejected fault) ((one, spaced), fill, inl first) = rec
         as_tried one.0 u ps fault.cell fault.rule told.is_own told);
   };
 }
-union_verdict e short ws (Rejected fault) ((one, spaced), fill, inr (none, same, rule, first)) = record {
+verdict_of e short ws (Rejected fault) ((one, spaced), fill, inr (none, same, rule, first)) = record {
   nodata = one.0;
   one_nodata = one.1;
   can = inr (can_merge e one.0 ws one.1 spaced fill same);
@@ -98,3 +83,6 @@ union_verdict e short ws (Rejected fault) ((one, spaced), fill, inr (none, same,
         (first_shared_label e short.rows short.cols one.0 ws one.1 fill window_of from u ps size are none fault.cell first);
   };
 }
+
+pub union_verdict : (e : Extent) → FitsNumbers e → (ws : List WindowReport) (v : UnionVerdict) → IsMerged e ws v → IsUnionVerdict e ws v
+union_verdict e short ws v (alike, fill, lists) = verdict_of e short ws v (alike, as_union e (places_of ws) fill, lists)

@@ -6,21 +6,21 @@ use Rattle.drain_merge.specs.declared.merge_verdict.MergeRefusal.{MergeRefusal}
 use Rattle.drain_merge.specs.declared.merge_verdict.MergeRefusal.TheVariants.{OutOfMemory}
 use Rattle.drain_merge.specs.declared.totals.UnionSinks.{UnionSinks}
 use Rattle.drain_merge.specs.MapBoxes.{box_of, boxed, HaveOneGrid, IsBoxRefusal, IsMapRefusal, top_of, left_of, JudgedFromMap, BoxBegins}
-use Rattle.drain_merge.specs.Places.{judged_from, cell_from, place_from, outlet_from, shown_from, window_from}
+use Rattle.drain_merge.specs.Places.{judged_from, outlet_from, shown_from}
 use Rattle.std.specs.List.{Contains}
 use Rattle.std.proofs.lemmas.List.{get_or-map, length-map}
 use Rattle.drain_grid.specs.declared.cell.Cell.{Cell}
 use Rattle.drain_grid.specs.Grid.{values_at}
 use Rattle.drain_grid.specs.Values.{NoDataNumbers}
 use Rattle.drain_grid.proofs.Neighbors.{place}
-use Rattle.drain_grid.specs.declared.verdict.Verdict.{Verdict}
-use Rattle.drain_grid.specs.declared.verdict.Verdict.TheVariants.{Accepted, Rejected}
+use Rattle.drain_union.specs.declared.verdict.UnionVerdict.{UnionVerdict}
+use Rattle.drain_union.specs.declared.verdict.UnionVerdict.TheVariants.{Accepted, Rejected}
 use Rattle.drain_union.specs.declared.report.Outlet.{Outlet}
 use Rattle.drain_union.specs.declared.place.Place.{Place}
 use Rattle.drain_union.specs.declared.place.TheConstants.{SEAM_DEPTH}
 use Rattle.drain_union.specs.declared.report.Shown.{Shown}
 use Rattle.drain_union.specs.Reports.{ListsOutlets, IsSortedByLabel, IsOnSeam, ListsSeams, ListsSinks}
-use Rattle.drain_union.specs.Windows.{Window, in_union, IsJudgedIn, IsJudgedOutlet, RulesHoldInside}
+use Rattle.drain_union.specs.Windows.{Window, cell_from, place_from, window_from, in_union, IsJudgedIn, IsJudgedOutlet, RulesHoldInside}
 use Rattle.drain_union.proofs.ReportMerges.{from_map, to_map}
 use Rattle.drain_merge.specs.UnionVerdicts.{IsVerdictInside}
 
@@ -69,12 +69,12 @@ rules_there o n w hold c r judged own = hold c r (judged_back o w.place c judged
 rules_back : (o : Cell) (n : NoDataNumbers) (w : Window) → RulesHoldInside n (window_from o w) → RulesHoldInside n w
 rules_back o n w hold c r judged own = hold c r (judged_there o w.place c judged) own
 
-verdict_there : (o : Cell) (n : NoDataNumbers) (w : Window) (v : Verdict) → IsVerdictInside n w v → IsVerdictInside n (window_from o w) v
+verdict_there : (o : Cell) (n : NoDataNumbers) (w : Window) (v : UnionVerdict) → IsVerdictInside n w v → IsVerdictInside n (window_from o w) v
 verdict_there o n w (Accepted counts) is =
     let k = is.1 in
     (rules_there o n w is.0, record { rows = k.rows; cols = k.cols; data_cells = k.data_cells; raised = k.raised; outlets = k.outlets })
-verdict_there o n w (Rejected rule row col) is = record {
-  judged = judged_there o w.place (place row col) is.judged;
+verdict_there o n w (Rejected fault) is = record {
+  judged = judged_there o w.place fault.cell is.judged;
   is_own = is.is_own;
   fails = is.fails;
   first = λ b q judged own before. is.first b q (judged_back o w.place b judged) own before;

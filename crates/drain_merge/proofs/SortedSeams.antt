@@ -18,7 +18,7 @@ use Rattle.drain_merge.specs.Seams.{Differ, IsFirstDifference, AreInRowOrder, No
 use Rattle.drain_grid.proofs.Decisions.{cases, passes}
 use Rattle.drain_grid.proofs.Alike.{earlier_trans, earlier_differs}
 use Rattle.drain_merge.proofs.FirstOfFaults.{both_permuted, pair_permuted}
-use Rattle.drain_merge.proofs.SameValues.{values_test, same_values, values_pass}
+use Rattle.drain_union.proofs.SameValues.{values_test, same_values, values_pass}
 
 -- Cells of a list, by a test and by their places.
 
@@ -39,10 +39,10 @@ at_place (d ∷ cells) c (suc k, below, is) = (let at = at_place cells c (k, ome
 
 -- What the lists of all windows hold.
 
-first_one : {X : Type 0} (x : X) (xs : List X) → Contains (x ∷ xs) x
+pub first_one : {X : Type 0} (x : X) (xs : List X) → Contains (x ∷ xs) x
 first_one x xs = (0, omega arith, refl)
 
-later_one : {X : Type 0} (v x : X) (xs : List X) → Contains xs x → Contains (v ∷ xs) x
+pub later_one : {X : Type 0} (v x : X) (xs : List X) → Contains xs x → Contains (v ∷ xs) x
 later_one v x xs has = (suc has.0, omega (arith, has.1), has.2)
 
 pub from_flat : {X Y : Type 0} (f : X → List Y) (xs : List X) (y : Y) → Contains (flat_map f xs) y → (x : X) × Contains xs x × Contains (f x) y

@@ -8,8 +8,7 @@ use Rattle.drain_grid.specs.Extent.{IsCellOf, Extent}
 use Rattle.drain_grid.specs.Grid.{Grid, Products}
 use Rattle.drain_grid.specs.SinkTexts.{is_listed}
 use Rattle.drain_grid.specs.Values.{Values, NoDataNumbers}
-use Rattle.drain_grid.specs.declared.verdict.Verdict.{Verdict}
-use Rattle.drain_grid.specs.declared.verdict.Verdict.TheVariants.{Accepted, Rejected}
+use Rattle.drain_union.specs.declared.verdict.UnionVerdict.TheVariants.{Accepted, Rejected}
 use Rattle.drain_union.specs.declared.place.Place.{Place}
 use Rattle.drain_union.specs.declared.place.TheConstants.{SEAM_DEPTH}
 use Rattle.drain_union.specs.declared.report.WindowReport.{WindowReport}
@@ -18,7 +17,7 @@ use Rattle.drain_union.specs.Windows.{Window, in_union, IsJudgedIn, RulesHoldIns
 use Rattle.drain_union.proofs.Merges.{line_of}
 use Rattle.drain_union.proofs.ReportMerges.{from_map, to_map}
 use Rattle.drain_merge.specs.declared.map_merge.UnionBox.{UnionBox}
-use Rattle.drain_merge.specs.declared.merge_verdict.MergeVerdict.{MergeVerdict}
+use Rattle.drain_union.specs.declared.verdict.UnionVerdict.{UnionVerdict}
 use Rattle.drain_merge.specs.declared.totals.UnionSinks.{UnionSinks}
 use Rattle.drain_merge.specs.declared.totals.UnionSinks.TheVariants.{AsTaken, Listed}
 use Rattle.drain_merge.specs.Places.{reports_of, all_sinks, judged_from}
@@ -35,13 +34,13 @@ one_test false true there back = back refl
 one_test false false there back = refl
 
 -- the rules hold in a window that isn't rejected
-holds_unless : (nodata : NoDataNumbers) (w : Window) (v : Verdict) → ¬ IsRejected v → IsVerdictInside nodata w v → RulesHoldInside nodata w
+holds_unless : (nodata : NoDataNumbers) (w : Window) (v : UnionVerdict) → ¬ IsRejected v → IsVerdictInside nodata w v → RulesHoldInside nodata w
 holds_unless nodata w (Accepted counts) not is = is.0
-holds_unless nodata w (Rejected rule row col) not is = absurd (not tt)
+holds_unless nodata w (Rejected fault) not is = absurd (not tt)
 
 module _ (e : Extent) (nodata : NoDataNumbers) (ws : List WindowReport) (none : ¬ SomeIsRejected ws) (can : CanMerge SEAM_DEPTH e nodata (reports_of ws))
     (window_of : Report → Window) (from : AreJudgedFrom window_of ws) (u : Grid) (ps : Products) (size : u.extent ≡ e)
-    (are : AreWindowsOf u ps (windows_of window_of ws)) (lines : List SinkLine) (taken : TakeLines lines ws) where
+    (are : AreWindowsOf u ps (windows_of window_of ws)) (lines : List SinkLine) (taken : TakeLines lines (all_sinks ws)) where
   to_window : (j : WindowReport) → Contains ws j → Contains (windows_of window_of ws) (window_of j.report)
   to_window j has = to_map window_of (reports_of ws) j.report (to_map (λ (k : WindowReport). k.report) ws j has)
 
@@ -88,7 +87,7 @@ module _ (e : Extent) (nodata : NoDataNumbers) (ws : List WindowReport) (none : 
           sym (ap u.sink x.3) ∙ sym (shows j.0 j.1 x.0 x.1.inside) ∙ x.2
 
 -- so each union of which these are the windows has the listed sinks
-box_sinks : (sinks : UnionSinks) (e : Extent) (ws : List WindowReport) (v : MergeVerdict) → IsUnionVerdict e ws v → AreTaken sinks ws →
+box_sinks : (sinks : UnionSinks) (e : Extent) (ws : List WindowReport) (v : UnionVerdict) → IsUnionVerdict e ws v → AreTaken sinks ws →
     SomeIsRejected ws
     ⊎ ((window_of : Report → Window) → AreJudgedFrom window_of ws → (u : Grid) (ps : Products) → u.extent ≡ e → AreWindowsOf u ps (windows_of window_of ws) → HasSinks sinks u)
 box_sinks sinks e ws v is (inl rejected) = inl rejected
@@ -101,7 +100,7 @@ box_sinks (Listed lines) e ws v is (inr (none, taken)) =
       | inr can ↦ union_sink e is.nodata ws none can window_of from u ps size are lines taken c inside
     ])
 
-pub map_sinks : (sinks : UnionSinks) (ws moved : List WindowReport) (b : UnionBox) (v : MergeVerdict) → b ≡ box_of ws → moved ≡ map (judged_from b.origin) ws →
+pub map_sinks : (sinks : UnionSinks) (ws moved : List WindowReport) (b : UnionBox) (v : UnionVerdict) → b ≡ box_of ws → moved ≡ map (judged_from b.origin) ws →
     IsUnionVerdict b.size moved v → AreTaken sinks moved → HasMapSinks sinks ws
 map_sinks sinks ws moved b v bounds is verdict taken =
     let all : moved ≡ boxed ws = is ∙ ap (λ (x : UnionBox). map (judged_from x.origin) ws) bounds in

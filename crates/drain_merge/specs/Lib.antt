@@ -5,3 +5,8 @@ pub mod UnionSinks
 pub mod Merges
 pub mod UnionVerdicts
 pub mod MapBoxes
+pub mod Boxes
+pub mod Unjudged
+pub mod Filling
+pub mod BoxReports
+pub mod Trees

@@ -4,7 +4,7 @@ use Rattle.std.specs.List.{All, Contains}
 use Rattle.drain_grid.specs.Grid.{Grid, Products}
 use Rattle.drain_grid.specs.Extent.{Extent}
 use Rattle.drain_union.specs.Reports.{Report}
-use Rattle.drain_union.specs.Windows.{Window, AreWindowsOf}
+use Rattle.drain_union.specs.Windows.{Window, window_from, AreWindowsOf}
 use Rattle.drain_union.specs.declared.report.WindowReport.{WindowReport}
 use Rattle.drain_union.specs.declared.union_grid.DemPart.{DemPart}
 use Rattle.drain_union.specs.declared.union_grid.UnionGrid.{UnionGrid}
@@ -14,10 +14,10 @@ use Rattle.drain_merge.specs.declared.map_merge.MapVerdict.{MapVerdict}
 use Rattle.drain_merge.specs.declared.map_merge.UnionBox.{UnionBox}
 use Rattle.drain_merge.specs.declared.merge_verdict.MergeRefusal.{MergeRefusal}
 use Rattle.drain_merge.specs.declared.merge_verdict.MergeRefusal.TheVariants.{OtherSide, OtherGrid, OutOfMemory}
-use Rattle.drain_merge.specs.declared.merge_verdict.MergeVerdict.{MergeVerdict}
+use Rattle.drain_union.specs.declared.verdict.UnionVerdict.{UnionVerdict}
 use Rattle.drain_merge.specs.declared.totals.UnionSinks.{UnionSinks}
 use Rattle.drain_merge.specs.Merges.{IsMergeRefusal}
-use Rattle.drain_merge.specs.Places.{judged_from, IsFirstFailing, window_from}
+use Rattle.drain_merge.specs.Places.{all_sinks, judged_from, IsFirstFailing}
 use Rattle.drain_merge.specs.UnionSinks.{HasSinks, IsSinkRefusal, TakeSinks}
 use Rattle.drain_merge.specs.UnionVerdicts.{AreJudgedFrom, IsUnionVerdict, SomeIsRejected, windows_of, IsJudgedFrom}
 use Rattle.drain_grid.specs.declared.cell.Cell.{Cell}
@@ -82,7 +82,7 @@ pub record IsMapVerdict (windows : List WindowReport) (m : MapVerdict) : Type 0 
 
 -- unless a window is rejected the windows took the sinks of the union
 abbrev pub AreTaken : UnionSinks → List WindowReport → Type 0
-AreTaken sinks windows = SomeIsRejected windows ⊎ ((¬ SomeIsRejected windows) × TakeSinks sinks windows)
+AreTaken sinks windows = SomeIsRejected windows ⊎ ((¬ SomeIsRejected windows) × TakeSinks sinks (all_sinks windows))
 
 -- unless a window is rejected, each union of which these are the windows has these sinks
 abbrev pub HasMapSinks : UnionSinks → List WindowReport → Type 0
@@ -96,7 +96,7 @@ HasMapSinks sinks windows =
 abbrev pub IsBoxRefusal : Extent → UnionSinks → List WindowReport → MergeRefusal → Type 0
 IsBoxRefusal e sinks windows refusal =
     IsMergeRefusal e windows refusal
-    ⊎ (((v : MergeVerdict) × IsUnionVerdict e windows v) × (¬ SomeIsRejected windows) × IsSinkRefusal sinks windows refusal)
+    ⊎ (((v : UnionVerdict) × IsUnionVerdict e windows v) × (¬ SomeIsRejected windows) × IsSinkRefusal sinks (all_sinks windows) refusal)
 
 -- a refusal of windows on a map is one for their grids, or one on the box, unless memory runs out
 abbrev pub IsMapRefusal : UnionSinks → List WindowReport → MergeRefusal → Type 0

@@ -1,19 +1,22 @@
 -- What a merge of windows returns, in words of its lists. These definitions are this project's own.
-use Rattle.std.specs.Prelude.{◌≡◌, ◌⊎◌, ℕ, ◌<◌, Option, length, Some, None, List, [], slice_index_or}
+use Rattle.std.specs.Prelude.{false, ◌≡◌, ◌⊎◌, ℕ, ◌<◌, Option, length, Some, None, List, [], slice_index_or}
 use Rattle.std.specs.List.{All, AllPairs}
 use Rattle.drain_grid.specs.declared.cell.Cell.{Cell}
 use Rattle.drain_grid.specs.declared.rule.Rule.TheVariants.{SharedLabel}
-use Rattle.drain_grid.specs.Extent.{IsCellOf, Extent}
+use Rattle.drain_grid.specs.Extent.{Extent}
 use Rattle.drain_grid.specs.Values.{NoDataNumbers}
 use Rattle.drain_union.specs.declared.place.Place.{Place}
 use Rattle.drain_union.specs.Reports.{SpacedAlike}
-use Rattle.drain_union.specs.Windows.{BothJudgeOne, JudgesSome, IsPlaceIn, IsJudgedAtSome}
+use Rattle.drain_union.specs.Joins.{LiesInBox}
+use Rattle.drain_union.specs.Windows.{BothJudgeOne, JudgesSome, IsJudgedAt, IsJudgedAtSome}
 use Rattle.drain_union.specs.declared.report.WindowReport.{WindowReport}
 use Rattle.drain_merge.specs.declared.merge_verdict.MergeRefusal.{MergeRefusal}
 use Rattle.drain_merge.specs.declared.merge_verdict.MergeRefusal.TheVariants.{NoReports, OtherSide, OtherGrid, OtherNoData, OtherSpacing, OutsideUnion, JudgesNothing, Overlap, LeftOut, SeamsDiffer, SinkLeftOut, SinkNotListed, OutOfMemory}
-use Rattle.drain_merge.specs.declared.merge_verdict.MergeVerdict.{MergeVerdict}
-use Rattle.drain_merge.specs.declared.merge_verdict.MergeVerdict.TheVariants.{Accepted, Rejected}
-use Rattle.drain_merge.specs.Seams.{IsFirstUnjudged, IsFirstOfFaults, IsFirstDifference, IsFirstSharing}
+use Rattle.drain_union.specs.declared.verdict.Fault.{Fault}
+use Rattle.drain_union.specs.declared.verdict.UnionVerdict.{UnionVerdict}
+use Rattle.drain_union.specs.declared.verdict.UnionVerdict.TheVariants.{Accepted, Rejected}
+use Rattle.drain_merge.specs.Seams.{IsFirstOfFaults, IsFirstDifference, IsFirstSharing}
+use Rattle.drain_merge.specs.Unjudged.{IsFirstUnjudged}
 use Rattle.drain_merge.specs.Places.{places_of, all_outlets, all_seams, IsFirstFailing, IsFirstClash}
 use Rattle.drain_merge.specs.Totals.{AreCountsOf}
 
@@ -52,12 +55,16 @@ IsFirstSpacedOther windows (Some k) =
 abbrev pub AreOfOneUnion : List WindowReport → Type 0
 AreOfOneUnion windows = HaveOneNoData windows × HaveOneSpacing windows
 
--- the places lie in a union of this size, judge a cell each, none in common, and judge each of its cells
-pub record FillUnion (e : Extent) (places : List Place) : Type 0 where
-  pub placed : All (IsPlaceIn e) places
+-- the box that a union of this size is
+abbrev pub whole_box : Extent → Place
+whole_box e = record { top = 0; left = 0; extent = e; inner = record { north = false; south = false; west = false; east = false } }
+
+-- the places lie in the box, judge a cell each, none in common, and judge each cell that it judges
+pub record FillBox (box : Place) (places : List Place) : Type 0 where
+  pub placed : All (LiesInBox box) places
   pub some : All JudgesSome places
   pub apart : AllPairs (λ p q. ¬ BothJudgeOne p q) places
-  pub whole : (c : Cell) → IsCellOf e c → IsJudgedAtSome places c
+  pub whole : (c : Cell) → IsJudgedAt box c → IsJudgedAtSome places c
 
 -- why windows are refused for their no-data numbers: the list is empty, or this is the first window that has other
 -- numbers than the first one
@@ -72,20 +79,20 @@ abbrev pub IsSpacingRefusal : List WindowReport → MergeRefusal → Type 0
 IsSpacingRefusal windows (OtherSpacing k) = IsFirstSpacedOther windows (Some k)
 IsSpacingRefusal windows other = ⊥
 
--- why places are refused
-abbrev pub IsPlaceRefusal : Extent → List Place → MergeRefusal → Type 0
-IsPlaceRefusal e places (OutsideUnion k) = IsFirstFailing (IsPlaceIn e) places (Some k)
-IsPlaceRefusal e places (JudgesNothing k) = All (IsPlaceIn e) places × IsFirstFailing JudgesSome places (Some k)
-IsPlaceRefusal e places (Overlap clash) = All (IsPlaceIn e) places × All JudgesSome places × IsFirstClash places (Some clash)
-IsPlaceRefusal e places (LeftOut c) =
-    All (IsPlaceIn e) places × All JudgesSome places × AllPairs (λ p q. ¬ BothJudgeOne p q) places × IsFirstUnjudged e places (Some c)
-IsPlaceRefusal e places OutOfMemory = Unit {0}
-IsPlaceRefusal e places other = ⊥
+-- why places don't fill a box
+abbrev pub IsPlaceRefusal : Place → List Place → MergeRefusal → Type 0
+IsPlaceRefusal box places (OutsideUnion k) = IsFirstFailing (LiesInBox box) places (Some k)
+IsPlaceRefusal box places (JudgesNothing k) = All (LiesInBox box) places × IsFirstFailing JudgesSome places (Some k)
+IsPlaceRefusal box places (Overlap clash) = All (LiesInBox box) places × All JudgesSome places × IsFirstClash places (Some clash)
+IsPlaceRefusal box places (LeftOut c) =
+    All (LiesInBox box) places × All JudgesSome places × AllPairs (λ p q. ¬ BothJudgeOne p q) places × IsFirstUnjudged box places (Some c)
+IsPlaceRefusal box places OutOfMemory = Unit {0}
+IsPlaceRefusal box places other = ⊥
 
 -- why windows are refused: each refusal where it is said, and where no earlier one is
 abbrev pub IsMergeRefusal : Extent → List WindowReport → MergeRefusal → Type 0
 IsMergeRefusal e windows (SeamsDiffer c) =
-    AreOfOneUnion windows × FillUnion e (places_of windows) × IsFirstOfFaults windows None × IsFirstDifference (all_seams windows) (Some c)
+    AreOfOneUnion windows × FillBox (whole_box e) (places_of windows) × IsFirstOfFaults windows None × IsFirstDifference (all_seams windows) (Some c)
 IsMergeRefusal e windows OutOfMemory = AreOfOneUnion windows
 IsMergeRefusal e windows NoReports = IsNoDataRefusal windows NoReports
 IsMergeRefusal e windows (OtherSide k) = ⊥
@@ -94,14 +101,18 @@ IsMergeRefusal e windows (SinkLeftOut n) = ⊥
 IsMergeRefusal e windows (SinkNotListed c) = ⊥
 IsMergeRefusal e windows (OtherNoData k) = IsNoDataRefusal windows (OtherNoData k)
 IsMergeRefusal e windows (OtherSpacing k) = HaveOneNoData windows × IsSpacingRefusal windows (OtherSpacing k)
-IsMergeRefusal e windows (OutsideUnion k) = AreOfOneUnion windows × IsPlaceRefusal e (places_of windows) (OutsideUnion k)
-IsMergeRefusal e windows (JudgesNothing k) = AreOfOneUnion windows × IsPlaceRefusal e (places_of windows) (JudgesNothing k)
-IsMergeRefusal e windows (Overlap clash) = AreOfOneUnion windows × IsPlaceRefusal e (places_of windows) (Overlap clash)
-IsMergeRefusal e windows (LeftOut c) = AreOfOneUnion windows × IsPlaceRefusal e (places_of windows) (LeftOut c)
+IsMergeRefusal e windows (OutsideUnion k) = AreOfOneUnion windows × IsPlaceRefusal (whole_box e) (places_of windows) (OutsideUnion k)
+IsMergeRefusal e windows (JudgesNothing k) = AreOfOneUnion windows × IsPlaceRefusal (whole_box e) (places_of windows) (JudgesNothing k)
+IsMergeRefusal e windows (Overlap clash) = AreOfOneUnion windows × IsPlaceRefusal (whole_box e) (places_of windows) (Overlap clash)
+IsMergeRefusal e windows (LeftOut c) = AreOfOneUnion windows × IsPlaceRefusal (whole_box e) (places_of windows) (LeftOut c)
+
+-- windows of one union fill it, and this is the first fault of one
+abbrev pub CanBePutTogether : Extent → List WindowReport → Option Fault → Type 0
+CanBePutTogether e windows first = AreOfOneUnion windows × FillBox (whole_box e) (places_of windows) × IsFirstOfFaults windows first
 
 -- the verdict in words of the lists: the first fault of a window; else the first cell of an outlet with the label of one
 -- at an earlier cell; else the counts
-abbrev pub IsListVerdict : Extent → List WindowReport → MergeVerdict → Type 0
+abbrev pub IsListVerdict : Extent → List WindowReport → UnionVerdict → Type 0
 IsListVerdict e windows (Accepted counts) =
     IsFirstOfFaults windows None × IsFirstDifference (all_seams windows) None × IsFirstSharing (all_outlets windows) None × AreCountsOf e windows counts
 IsListVerdict e windows (Rejected fault) =
@@ -109,5 +120,5 @@ IsListVerdict e windows (Rejected fault) =
     ⊎ (IsFirstOfFaults windows None × IsFirstDifference (all_seams windows) None × (fault.rule ≡ SharedLabel)
     × IsFirstSharing (all_outlets windows) (Some fault.cell))
 
-abbrev pub IsMerged : Extent → List WindowReport → MergeVerdict → Type 0
-IsMerged e windows v = AreOfOneUnion windows × FillUnion e (places_of windows) × IsListVerdict e windows v
+abbrev pub IsMerged : Extent → List WindowReport → UnionVerdict → Type 0
+IsMerged e windows v = AreOfOneUnion windows × FillBox (whole_box e) (places_of windows) × IsListVerdict e windows v

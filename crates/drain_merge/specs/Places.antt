@@ -1,6 +1,5 @@
 -- When places of windows make a union. These definitions are this project's own.
-use Rattle.std.specs.Prelude.{◌<◌, ◌^◌, List, map, ℕ, Option, Some, None, length, slice_index_or, ◌-◌}
-use Rattle.drain_grid.specs.Extent.{Extent}
+use Rattle.std.specs.Prelude.{◌<◌, List, map, ℕ, Option, Some, None, length, slice_index_or}
 use Rattle.std.specs.List.{flat_map, All, AllPairs, AllWithin, HoldsAt}
 use Rattle.drain_grid.specs.declared.cell.Cell.{Cell}
 use Rattle.drain_union.specs.declared.report.Outlet.{Outlet}
@@ -8,15 +7,8 @@ use Rattle.drain_union.specs.declared.place.Place.{Place}
 use Rattle.drain_union.specs.declared.report.Shown.{Shown}
 use Rattle.drain_union.specs.Reports.{Report}
 use Rattle.drain_union.specs.declared.report.WindowReport.{WindowReport}
-use Rattle.drain_union.specs.Windows.{BothJudgeOne, Window}
+use Rattle.drain_union.specs.Windows.{BothJudgeOne, cell_from, place_from}
 use Rattle.drain_merge.specs.declared.places.Clash.{Clash}
-
--- The size of a union.
-
--- rows and columns are numbers of 32 bits
-pub record FitsNumbers (e : Extent) : Type 0 where
-  pub rows : e.rows < 2 ^ 32
-  pub cols : e.cols < 2 ^ 32
 
 -- What the windows of a union hand over. These definitions are this project's own.
 
@@ -59,12 +51,6 @@ IsFirstClash places (Some clash) =
 
 -- What a window hands over, with rows and columns counted from another cell. These definitions are this project's own.
 
-abbrev pub cell_from : Cell → Cell → Cell
-cell_from origin c = record { row = c.row - origin.row; col = c.col - origin.col }
-
-abbrev pub place_from : Cell → Place → Place
-place_from origin p = record { top = p.top - origin.row; left = p.left - origin.col; extent = p.extent; inner = p.inner }
-
 abbrev pub outlet_from : Cell → Outlet → Outlet
 outlet_from origin x = record { label = x.label; cell = cell_from origin x.cell }
 
@@ -84,7 +70,3 @@ report_from origin r = record {
 
 abbrev pub judged_from : Cell → WindowReport → WindowReport
 judged_from origin j = record { grid = j.grid; tiles = j.tiles; verdict = j.verdict; report = report_from origin j.report }
-
--- the window, as one of a union that begins at this cell
-abbrev pub window_from : Cell → Window → Window
-window_from origin w = record { place = place_from origin w.place; grid = w.grid; products = w.products }

@@ -1,17 +1,16 @@
 -- What windows show along their seams. These definitions are this project's own.
-use Rattle.std.specs.Prelude.{◌≡◌, ℕ, ◌<◌, ◌⊎◌, ◌<ℤ◌, Option, Some, None, List, length, slice_index_or, ◌≢◌, ◌-◌, slice_index, ◌+◌, ◌^◌, min}
+use Rattle.std.specs.Prelude.{◌≡◌, ℕ, ◌<◌, ◌⊎◌, ◌<ℤ◌, Option, Some, None, List, length, slice_index_or, ◌≢◌, ◌-◌, ◌+◌, ◌^◌, min}
 use Rattle.std.specs.List.{AllAdjacentBelow, Contains}
 use Rattle.drain_grid.specs.declared.cell.Cell.{Cell}
-use Rattle.drain_grid.specs.Extent.{IsEarlier, IsCellOf, Extent}
+use Rattle.drain_grid.specs.Extent.{IsEarlier}
 use Rattle.drain_union.specs.declared.report.Outlet.{Outlet}
 use Rattle.drain_union.specs.Reports.{SharesAt, ShareNoLabel, ShowTheSame}
 use Rattle.drain_union.specs.declared.place.Place.{Place}
-use Rattle.drain_union.specs.Windows.{IsJudgedAtSome}
 use Rattle.drain_union.specs.declared.report.Shown.{Shown}
 use Rattle.drain_grid.specs.GridRules.{IsEarlierPair}
-use Rattle.drain_grid.specs.declared.verdict.Verdict.{Verdict}
-use Rattle.drain_grid.specs.declared.verdict.Verdict.TheVariants.{Accepted, Rejected}
-use Rattle.drain_merge.specs.declared.merge_verdict.Fault.{Fault}
+use Rattle.drain_union.specs.declared.verdict.UnionVerdict.{UnionVerdict}
+use Rattle.drain_union.specs.declared.verdict.UnionVerdict.TheVariants.{Accepted, Rejected}
+use Rattle.drain_union.specs.declared.verdict.Fault.{Fault}
 use Rattle.drain_union.specs.declared.report.WindowReport.{WindowReport}
 
 -- Labels that two outlets share. These definitions are this project's own.
@@ -47,36 +46,6 @@ abbrev pub IsEarlierOf : Option Cell → Cell → Cell → Type 0
 IsEarlierOf None c e = e ≡ c
 IsEarlierOf (Some b) c e = ((e ≡ b) × ¬ IsEarlier c b) ⊎ ((e ≡ c) × IsEarlier c b)
 
--- The first cell of a union that no window judges. These definitions are this project's own.
-
--- the first cell in row order of a union of this size that is judged at no place, none where each cell is judged
-abbrev pub IsFirstUnjudged : Extent → List Place → Option Cell → Type 0
-IsFirstUnjudged e places None = (c : Cell) → IsCellOf e c → IsJudgedAtSome places c
-IsFirstUnjudged e places (Some c) =
-    IsCellOf e c × (¬ IsJudgedAtSome places c) × ((b : Cell) → IsCellOf e b → IsEarlier b c → IsJudgedAtSome places b)
-
--- this column of the row is judged at some place
-abbrev pub IsJudgedCrossing : List Place → ℕ → ℕ → Type 0
-IsJudgedCrossing places row col = IsJudgedAtSome places (record { row = row; col = col })
-
--- the first of these columns below the end that isn't judged in this row, none where all are
-abbrev pub IsFirstInRow : ℕ → ℕ → List ℕ → List Place → Option ℕ → Type 0
-IsFirstInRow end row cols places None = (col : ℕ) → Contains cols col → col < end → IsJudgedCrossing places row col
-IsFirstInRow end row cols places (Some col) =
-    Contains cols col × (col < end) × (¬ IsJudgedCrossing places row col)
-    × ((b : ℕ) → Contains cols b → b < col → IsJudgedCrossing places row b)
-
--- the first crossing of these rows and columns in a union of this size that isn't judged, none where all are
-abbrev pub IsFirstCrossing : Extent → List ℕ → List ℕ → List Place → Option Cell → Type 0
-IsFirstCrossing e rows cols places None = (c : Cell) → Contains rows c.row → Contains cols c.col → IsCellOf e c → IsJudgedAtSome places c
-IsFirstCrossing e rows cols places (Some c) =
-    Contains rows c.row × Contains cols c.col × IsCellOf e c × (¬ IsJudgedAtSome places c)
-    × ((b : Cell) → Contains rows b.row → Contains cols b.col → IsCellOf e b → IsEarlier b c → IsJudgedAtSome places b)
-
--- the number at this place is below the end, and it isn't the one before it
-abbrev pub IsNewBelow : List ℕ → ℕ → ℕ → Type 0
-IsNewBelow numbers k end = (slice_index numbers k < end) × (0 < k → slice_index numbers (k - 1) ≢ slice_index numbers k)
-
 -- x and y are of one cell and show other values
 abbrev pub Differ : Shown → Shown → Type 0
 Differ x y = (x.cell ≡ y.cell) × (x.values ≢ y.values)
@@ -107,14 +76,14 @@ IsFirstDiffering xs (Some k) = (0 < k) × (k < length xs) × DiffersAt xs k × N
 
 -- The first faults of windows, at the union's cells. These definitions are this project's own.
 
--- the union's cell at this row and column of a place; one that no union has where the numbers don't fit
-abbrev pub cell_there : Place → ℕ → ℕ → Cell
-cell_there p row col = record { row = min (p.top + row) (2 ^ 32 - 1); col = min (p.left + col) (2 ^ 32 - 1) }
+-- the union's cell that is the place's cell; one that no union has where the numbers don't fit
+abbrev pub cell_there : Place → Cell → Cell
+cell_there p c = record { row = min (p.top + c.row) (2 ^ 32 - 1); col = min (p.left + c.col) (2 ^ 32 - 1) }
 
 -- the fault of a rejected window
-abbrev pub fault_in : Place → Verdict → Option Fault
+abbrev pub fault_in : Place → UnionVerdict → Option Fault
 fault_in p (Accepted counts) = None
-fault_in p (Rejected rule row col) = Some (record { cell = cell_there p row col; rule = rule })
+fault_in p (Rejected fault) = Some (record { cell = cell_there p fault.cell; rule = fault.rule })
 
 abbrev pub union_fault : WindowReport → Option Fault
 union_fault w = fault_in w.report.place w.verdict

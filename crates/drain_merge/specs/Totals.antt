@@ -3,28 +3,28 @@ use Rattle.std.specs.Prelude.{◌≡◌, ℕ, ◌-◌, ◌^◌, min, List, sum_b
 use Rattle.drain_grid.specs.GridRules.{data_count, raised_count}
 use Rattle.drain_grid.specs.Grid.{Grid, Products}
 use Rattle.drain_grid.specs.Extent.{Extent}
-use Rattle.drain_grid.specs.declared.verdict.Verdict.{Verdict}
-use Rattle.drain_grid.specs.declared.verdict.Verdict.TheVariants.{Accepted, Rejected}
+use Rattle.drain_union.specs.declared.verdict.UnionVerdict.{UnionVerdict}
+use Rattle.drain_union.specs.declared.verdict.UnionVerdict.TheVariants.{Accepted, Rejected}
 use Rattle.drain_rules.specs.Verdicts.{outlet_count}
 use Rattle.drain_union.specs.declared.report.WindowReport.{WindowReport}
-use Rattle.drain_merge.specs.declared.totals.UnionCounts.{UnionCounts}
+use Rattle.drain_union.specs.declared.verdict.UnionCounts.{UnionCounts}
 
 -- the number, or the greatest of 64 bits
 abbrev pub capped : ℕ → ℕ
 capped n = min n (2 ^ 64 - 1)
 
 -- the counts of an accepted window
-abbrev pub data_cells_in : Verdict → ℕ
+abbrev pub data_cells_in : UnionVerdict → ℕ
 data_cells_in (Accepted counts) = counts.data_cells
-data_cells_in (Rejected rule row col) = 0
+data_cells_in (Rejected fault) = 0
 
-abbrev pub raised_in : Verdict → ℕ
+abbrev pub raised_in : UnionVerdict → ℕ
 raised_in (Accepted counts) = counts.raised
-raised_in (Rejected rule row col) = 0
+raised_in (Rejected fault) = 0
 
-abbrev pub outlets_in : Verdict → ℕ
+abbrev pub outlets_in : UnionVerdict → ℕ
 outlets_in (Accepted counts) = counts.outlets
-outlets_in (Rejected rule row col) = 0
+outlets_in (Rejected fault) = 0
 
 abbrev pub data_cells_of : WindowReport → ℕ
 data_cells_of w = data_cells_in w.verdict

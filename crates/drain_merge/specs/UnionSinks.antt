@@ -6,12 +6,10 @@ use Rattle.drain_grid.specs.Extent.{IsCellOf}
 use Rattle.drain_grid.specs.Grid.{Grid}
 use Rattle.drain_grid.specs.SinkTexts.{is_listed}
 use Rattle.drain_grid.specs.CellLists.{is_among}
-use Rattle.drain_union.specs.declared.report.WindowReport.{WindowReport}
 use Rattle.drain_merge.specs.declared.merge_verdict.MergeRefusal.{MergeRefusal}
 use Rattle.drain_merge.specs.declared.merge_verdict.MergeRefusal.TheVariants.{SinkLeftOut, SinkNotListed, OutOfMemory}
 use Rattle.drain_merge.specs.declared.totals.UnionSinks.{UnionSinks}
 use Rattle.drain_merge.specs.declared.totals.UnionSinks.TheVariants.{AsTaken, Listed}
-use Rattle.drain_merge.specs.Places.{all_sinks}
 
 -- each line's cell is one of these
 abbrev pub HaveLines : List SinkLine → List Cell → Type 0
@@ -21,14 +19,14 @@ HaveLines lines cells = (k : ℕ) (s : SinkLine) → slice_get lines k ≡ Some 
 abbrev pub AreListed : List SinkLine → List Cell → Type 0
 AreListed lines cells = (k : ℕ) (c : Cell) → slice_get cells k ≡ Some c → is_listed lines c ≡ true
 
--- the windows took the sinks of these lines, and no others
-abbrev pub TakeLines : List SinkLine → List WindowReport → Type 0
-TakeLines lines windows = HaveLines lines (all_sinks windows) × AreListed lines (all_sinks windows)
+-- these cells are the sinks of these lines, and no others
+abbrev pub TakeLines : List SinkLine → List Cell → Type 0
+TakeLines lines cells = HaveLines lines cells × AreListed lines cells
 
--- the windows took the sinks of the union
-abbrev pub TakeSinks : UnionSinks → List WindowReport → Type 0
-TakeSinks AsTaken windows = Unit {0}
-TakeSinks (Listed lines) windows = TakeLines lines windows
+-- they are the sinks of the union
+abbrev pub TakeSinks : UnionSinks → List Cell → Type 0
+TakeSinks AsTaken cells = Unit {0}
+TakeSinks (Listed lines) cells = TakeLines lines cells
 
 -- the number of the first line whose cell is none of these, none where there is no such line
 abbrev pub IsFirstLeftOut : List SinkLine → List Cell → Option ℕ → Type 0
@@ -44,16 +42,16 @@ IsFirstNotListed lines cells (Some c) =
     (k : ℕ) × (slice_get cells k ≡ Some c) × (is_listed lines c ≡ false)
     × ((j : ℕ) (d : Cell) → j < k → slice_get cells j ≡ Some d → is_listed lines d ≡ true)
 
--- why windows are refused that took other sinks than those of these lines
-abbrev pub IsListedRefusal : List SinkLine → List WindowReport → MergeRefusal → Type 0
-IsListedRefusal lines windows (SinkLeftOut n) = IsFirstLeftOut lines (all_sinks windows) (Some n)
-IsListedRefusal lines windows (SinkNotListed c) = HaveLines lines (all_sinks windows) × IsFirstNotListed lines (all_sinks windows) (Some c)
-IsListedRefusal lines windows OutOfMemory = Unit {0}
-IsListedRefusal lines windows other = ⊥
+-- why windows are refused that took these cells as sinks, where others are listed
+abbrev pub IsListedRefusal : List SinkLine → List Cell → MergeRefusal → Type 0
+IsListedRefusal lines cells (SinkLeftOut n) = IsFirstLeftOut lines cells (Some n)
+IsListedRefusal lines cells (SinkNotListed c) = HaveLines lines cells × IsFirstNotListed lines cells (Some c)
+IsListedRefusal lines cells OutOfMemory = Unit {0}
+IsListedRefusal lines cells other = ⊥
 
-abbrev pub IsSinkRefusal : UnionSinks → List WindowReport → MergeRefusal → Type 0
-IsSinkRefusal AsTaken windows refusal = ⊥
-IsSinkRefusal (Listed lines) windows refusal = IsListedRefusal lines windows refusal
+abbrev pub IsSinkRefusal : UnionSinks → List Cell → MergeRefusal → Type 0
+IsSinkRefusal AsTaken cells refusal = ⊥
+IsSinkRefusal (Listed lines) cells refusal = IsListedRefusal lines cells refusal
 
 -- a grid has these sinks: those of the list, if there is one
 abbrev pub HasSinks : UnionSinks → Grid → Type 0

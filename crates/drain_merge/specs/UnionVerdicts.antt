@@ -1,14 +1,12 @@
 -- What the verdict on windows says of their union. These definitions are this project's own.
 use Rattle.std.specs.Prelude.{ℕ, List, ◌++◌, Result, Ok, Err, codes, decimal, ◌≡◌, ◌↔◌, ◌⊎◌, map}
 use Rattle.drain_grid.specs.declared.cell.Cell.{Cell}
-use Rattle.drain_answer.specs.Lines.{counted_line, rejected_line}
 use Rattle.drain_merge.specs.declared.map_merge.MapVerdict.{MapVerdict}
 use Rattle.drain_merge.specs.declared.merge_verdict.MergeRefusal.{MergeRefusal}
 use Rattle.drain_merge.specs.declared.merge_verdict.MergeRefusal.TheVariants.{NoReports, OtherSide, OtherGrid, OtherNoData, OtherSpacing, OutsideUnion, JudgesNothing, Overlap, LeftOut, SeamsDiffer, SinkLeftOut, SinkNotListed, OutOfMemory}
-use Rattle.drain_merge.specs.declared.merge_verdict.MergeVerdict.{MergeVerdict}
-use Rattle.drain_merge.specs.declared.merge_verdict.MergeVerdict.TheVariants.{Accepted, Rejected}
+use Rattle.drain_union.specs.declared.verdict.UnionVerdict.{UnionVerdict}
+use Rattle.drain_union.specs.declared.verdict.UnionVerdict.TheVariants.{Accepted, Rejected}
 use Rattle.drain_merge.specs.declared.places.Clash.{Clash}
-use Rattle.drain_merge.specs.declared.totals.UnionCounts.{UnionCounts}
 use Rattle.std.specs.List.{Contains}
 use Rattle.drain_grid.specs.Correct.{IsCorrect}
 use Rattle.drain_grid.specs.declared.rule.Rule.{Rule}
@@ -19,11 +17,10 @@ use Rattle.drain_grid.specs.Rule.{IsAnyRule, IsPatchRule}
 use Rattle.drain_grid.specs.Extent.{Extent}
 use Rattle.drain_grid.specs.Unranked.{unranked}
 use Rattle.drain_grid.specs.Values.{NoDataNumbers}
-use Rattle.drain_grid.specs.declared.verdict.Verdict.{Verdict}
-use Rattle.drain_grid.specs.declared.verdict.Verdict.TheVariants.{Accepted as WindowAccepted, Rejected as WindowRejected}
 use Rattle.drain_union.specs.declared.place.TheConstants.{SEAM_DEPTH}
 use Rattle.drain_union.specs.JudgedCounts.{AreCountsInside}
 use Rattle.drain_union.specs.Reports.{Report, IsReportOf, CanMerge}
+use Rattle.drain_union.specs.VerdictLines.{verdict_line}
 use Rattle.drain_union.specs.Windows.{Window, RulesHoldInside, IsFirstInside, AreWindowsOf}
 use Rattle.drain_union.specs.declared.report.WindowReport.{WindowReport}
 use Rattle.drain_merge.specs.Places.{reports_of}
@@ -31,15 +28,6 @@ use Rattle.drain_merge.specs.Merges.{HaveNoData}
 use Rattle.drain_merge.specs.Totals.{AreUnionCounts}
 
 -- The line for the answer of a merge. Its words are this project's own.
-
--- accepted rows=R cols=C data=D raised=U outlets=O
-abbrev pub accepted_line : UnionCounts → List ℕ
-accepted_line c = counted_line c.rows c.cols c.data_cells c.raised ++ codes " outlets=" ++ decimal c.outlets
-
--- the line of a verdict; a fault's as in a check
-abbrev pub union_line : MergeVerdict → List ℕ
-union_line (Accepted counts) = accepted_line counts
-union_line (Rejected fault) = rejected_line fault.rule fault.cell.row fault.cell.col
 
 -- row=R col=C, with a space before each
 abbrev pub cell_text : Cell → List ℕ
@@ -67,14 +55,14 @@ refusal_line OutOfMemory = codes "failed OutOfMemory"
 
 -- the line of any answer
 abbrev pub merge_line : Result MapVerdict MergeRefusal → List ℕ
-merge_line (Ok union) = union_line union.verdict
+merge_line (Ok union) = verdict_line union.verdict
 merge_line (Err refusal) = refusal_line refusal
 
 -- accepted where the rules hold at each judged cell, with the counts of these cells, else rejected with the first fault
 -- there
-abbrev pub IsVerdictInside : NoDataNumbers → Window → Verdict → Type 0
-IsVerdictInside nodata w (WindowAccepted counts) = RulesHoldInside nodata w × AreCountsInside w counts
-IsVerdictInside nodata w (WindowRejected rule row col) = IsFirstInside nodata w (record { row = row; col = col }) rule
+abbrev pub IsVerdictInside : NoDataNumbers → Window → UnionVerdict → Type 0
+IsVerdictInside nodata w (Accepted counts) = RulesHoldInside nodata w × AreCountsInside w counts
+IsVerdictInside nodata w (Rejected fault) = IsFirstInside nodata w fault.cell fault.rule
 
 -- this is handed over of the window
 pub record IsJudgedFrom (w : Window) (j : WindowReport) : Type 0 where
@@ -90,14 +78,14 @@ abbrev pub windows_of : (Report → Window) → List WindowReport → List Windo
 windows_of window_of judged = map window_of (reports_of judged)
 
 -- some window is rejected
-abbrev pub IsRejected : Verdict → Type 0
-IsRejected (WindowAccepted counts) = ⊥
-IsRejected (WindowRejected rule row col) = Unit {0}
+abbrev pub IsRejected : UnionVerdict → Type 0
+IsRejected (Accepted counts) = ⊥
+IsRejected (Rejected fault) = Unit {0}
 
 abbrev pub SomeIsRejected : List WindowReport → Type 0
 SomeIsRejected judged = (j : WindowReport) × Contains judged j × IsRejected j.verdict
 
-abbrev pub IsAccepted : MergeVerdict → Type 0
+abbrev pub IsAccepted : UnionVerdict → Type 0
 IsAccepted (Accepted counts) = Unit {0}
 IsAccepted (Rejected fault) = ⊥
 
@@ -107,30 +95,30 @@ IsTriedWith SharedLabel = IsAnyRule
 IsTriedWith rule = IsPatchRule
 
 -- a rejection tells the first fault of these products
-abbrev pub TellsFirstFault : NoDataNumbers → Grid → Products → MergeVerdict → Type 0
+abbrev pub TellsFirstFault : NoDataNumbers → Grid → Products → UnionVerdict → Type 0
 TellsFirstFault nodata u ps (Accepted counts) = Unit {0}
 TellsFirstFault nodata u ps (Rejected fault) = IsFirstFault (unranked nodata) (IsTriedWith fault.rule) u ps fault.cell fault.rule
 
 -- an acceptance has the counts of the union's cells
-abbrev pub HasCounts : Grid → Products → MergeVerdict → Type 0
+abbrev pub HasCounts : Grid → Products → UnionVerdict → Type 0
 HasCounts u ps (Accepted counts) = AreUnionCounts u ps counts
 HasCounts u ps (Rejected fault) = Unit {0}
 
 -- unless a window is rejected these are the windows of one union; and of each union of which they are, the products are
 -- correct exactly where the verdict accepts, the counts are those of its cells, and the fault that it tells is the first
-pub record IsVerdictOn (e : Extent) (nodata : NoDataNumbers) (judged : List WindowReport) (window_of : Report → Window) (v : MergeVerdict) : Type 0 where
+pub record IsVerdictOn (e : Extent) (nodata : NoDataNumbers) (judged : List WindowReport) (windows : List Window) (v : UnionVerdict) : Type 0 where
   pub one_union : SomeIsRejected judged
-      ⊎ ((u : Grid) × (ps : Products) × (u.extent ≡ e) × AreWindowsOf u ps (windows_of window_of judged))
-  pub exactly : (u : Grid) (ps : Products) → u.extent ≡ e → AreWindowsOf u ps (windows_of window_of judged) → IsAccepted v ↔ IsCorrect u ps nodata
-  pub counts : (u : Grid) (ps : Products) → u.extent ≡ e → AreWindowsOf u ps (windows_of window_of judged) → HasCounts u ps v
-  pub first : (u : Grid) (ps : Products) → u.extent ≡ e → AreWindowsOf u ps (windows_of window_of judged) → TellsFirstFault nodata u ps v
+      ⊎ ((u : Grid) × (ps : Products) × (u.extent ≡ e) × AreWindowsOf u ps windows)
+  pub exactly : (u : Grid) (ps : Products) → u.extent ≡ e → AreWindowsOf u ps windows → IsAccepted v ↔ IsCorrect u ps nodata
+  pub counts : (u : Grid) (ps : Products) → u.extent ≡ e → AreWindowsOf u ps windows → HasCounts u ps v
+  pub first : (u : Grid) (ps : Products) → u.extent ≡ e → AreWindowsOf u ps windows → TellsFirstFault nodata u ps v
 
 -- the verdict on what is handed over of windows: these have one set of no-data numbers, unless one is rejected their
 -- reports can be merged, an acceptance is of accepted windows alone, and the verdict is right on whatever windows the
 -- reports are of
-pub record IsUnionVerdict (e : Extent) (judged : List WindowReport) (v : MergeVerdict) : Type 0 where
+pub record IsUnionVerdict (e : Extent) (judged : List WindowReport) (v : UnionVerdict) : Type 0 where
   pub nodata : NoDataNumbers
   pub one_nodata : HaveNoData nodata judged
   pub can : SomeIsRejected judged ⊎ CanMerge SEAM_DEPTH e nodata (reports_of judged)
   pub none : IsAccepted v → ¬ SomeIsRejected judged
-  pub means : (window_of : Report → Window) → AreJudgedFrom window_of judged → IsVerdictOn e nodata judged window_of v
+  pub means : (window_of : Report → Window) → AreJudgedFrom window_of judged → IsVerdictOn e nodata judged (windows_of window_of judged) v

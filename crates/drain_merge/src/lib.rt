@@ -1,18 +1,28 @@
 //! The reports of the windows of a union, combined into one verdict on the union.
 #![tactic(auto)]
 
+mod all_lists;
+mod box_places;
+mod edges;
+mod filling;
+pub mod joined;
+mod joined_spacings;
 pub mod laws;
 pub mod map_merge;
 pub mod merge_verdict;
 pub mod merger;
+mod outer_seams;
 pub mod places;
 mod seams;
 mod shared;
+mod smallest_box;
 mod spacings;
 pub mod totals;
+mod unjudged;
 
+pub use joined::join;
 pub use map_merge::{MapVerdict, UnionBox, merge_on_map};
-pub use merge_verdict::{Fault, MergeRefusal, MergeVerdict, merge_line};
+pub use merge_verdict::{MergeRefusal, merge_line};
 pub use merger::merge;
-pub use places::{Clash, UnionSize};
-pub use totals::{UnionCounts, UnionSinks};
+pub use places::Clash;
+pub use totals::UnionSinks;

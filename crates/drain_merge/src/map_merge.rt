@@ -5,14 +5,14 @@ ghost use Rattle.drain_merge.specs.MapBoxes.{AreTaken, box_of, HasMapSinks, IsBo
 ghost use Rattle.drain_merge.specs.Places.{judged_from};
 ghost use Rattle.drain_merge.specs.UnionVerdicts.{IsUnionVerdict};
 
-use crate::merge_verdict::{MergeRefusal, MergeVerdict};
+use crate::merge_verdict::MergeRefusal;
 use crate::merger::merge;
-use crate::places::{UnionSize, moved_window};
+use crate::places::moved_window;
 use crate::shared::check_grids;
-use crate::totals::{UnionSinks, check_sinks, some_is_rejected};
+use crate::smallest_box::edges;
+use crate::totals::{UnionSinks, all_sinks, check_sinks, some_is_rejected};
 use drain_grid::{Cell, OutOfMemory};
-use drain_union::place::end_of;
-use drain_union::{Place, WindowReport};
+use drain_union::{UnionSize, UnionVerdict, WindowReport};
 use std::alloc::Global;
 
 /// The box that holds a union: the map's row and column of its first cell, and its size.
@@ -26,7 +26,7 @@ pub struct UnionBox {
 #[derive(Clone, Copy, PartialEq, Eq, Debug)]
 pub struct MapVerdict {
     pub bounds: UnionBox,
-    pub verdict: MergeVerdict,
+    pub verdict: UnionVerdict,
 }
 
 /// The verdict on the union of windows whose places and cells count the rows and columns of a map: on the smallest box
@@ -49,7 +49,7 @@ pub fn merge_on_map(
     check_grids(&windows)?;
     let bounds = union_box(&windows);
     let moved = moved_windows(alloc, bounds.origin, windows)?;
-    let verdict = verdict_on(alloc, bounds.size, &moved, sinks)?;
+    let verdict = verdict_on(alloc, bounds.size, moved, sinks)?;
     Ok(MapVerdict { bounds, verdict })
 }
 
@@ -57,17 +57,23 @@ pub fn merge_on_map(
 fn verdict_on(
     alloc: Global,
     size: UnionSize,
-    windows: &[WindowReport],
+    windows: Vec<WindowReport>,
     sinks: &UnionSinks,
-) -> Result<MergeVerdict, MergeRefusal>
-    ensures means { IfOk result (IsUnionVerdict size windows.now) }
-    ensures taken { OnOk result (AreTaken sinks.now windows.now) }
-    ensures refusal { IfErr result (IsBoxRefusal size sinks.now windows.now) }
+) -> Result<UnionVerdict, MergeRefusal>
+    ensures means { IfOk result (IsUnionVerdict size windows.items) }
+    ensures taken { OnOk result (AreTaken sinks.now windows.items) }
+    ensures refusal { IfErr result (IsBoxRefusal size sinks.now windows.items) }
 {
+    let is_rejected = some_is_rejected(&windows);
+    let taken = all_sinks(alloc, &windows);
     let verdict = merge(alloc, size, windows)?;
-    if !some_is_rejected(windows) {
-        check_sinks(alloc, windows, sinks)?;
+    if is_rejected {
+        return Ok(verdict);
     }
+    let Ok(taken) = taken else {
+        return Err(MergeRefusal::OutOfMemory);
+    };
+    check_sinks(alloc, &taken, sinks)?;
     Ok(verdict)
 }
 
@@ -90,33 +96,16 @@ fn moved_windows(
 fn union_box(windows: &[WindowReport]) -> UnionBox
     ensures { result ≡ box_of windows.now }
 {
-    let mut top = u32::MAX;
-    let mut left = u32::MAX;
-    let mut bottom = 0;
-    let mut right = 0;
-    for window in windows {
-        let place = place_of(window);
-        top = top.min(place.top);
-        left = left.min(place.left);
-        bottom = end_of(place.top, place.extent.rows()).max(bottom);
-        right = end_of(place.left, place.extent.cols()).max(right);
-    }
+    let edges = edges(windows);
     let origin = Cell {
-        row: top,
-        col: left,
+        row: edges.top,
+        col: edges.left,
     };
     let size = UnionSize {
-        rows: length_between(top, bottom),
-        cols: length_between(left, right),
+        rows: length_between(edges.top, edges.bottom),
+        cols: length_between(edges.left, edges.right),
     };
     UnionBox { origin, size }
-}
-
-/// Where the window lies.
-fn place_of(window: &WindowReport) -> Place
-    ensures { result ≡ window.now.report.place }
-{
-    window.report.place
 }
 
 /// How many rows or columns there are from the first one up to an end, at most the greatest number of 32 bits.

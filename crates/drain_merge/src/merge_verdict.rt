@@ -1,83 +1,18 @@
 //! The verdict on a union, and why there is none.
 
 ghost use Rattle.std.specs.Prelude.{◌≡◌, ◌↔◌, IsTrue, ◌≤◌, ◌++◌, length, decimal};
-ghost use Rattle.drain_union.specs.Windows.{BothJudgeOne, JudgesSome, IsJudgedAtSome, judged_bottom, judged_left, judged_right, judged_top};
 ghost use Rattle.drain_grid.specs.Extent.{IsEarlier};
 ghost use Rattle.drain_merge.specs.Seams.{union_fault, ComesBefore, IsFirstOfFaults, IsEarlierFault};
 ghost use Rattle.arrayvec.specs.ArrayString.{array_string_len};
-ghost use Rattle.drain_merge.specs.UnionVerdicts.{cell_text, merge_line, overlap_line, refusal_line, union_line, accepted_line};
+ghost use Rattle.drain_merge.specs.UnionVerdicts.{cell_text, merge_line, overlap_line, refusal_line};
 
 use crate::map_merge::MapVerdict;
 use crate::places::Clash;
-use crate::totals::UnionCounts;
-use drain_answer::lines::{Line, counted, push_count, push_number, rejected, words};
-use drain_grid::{Cell, OutOfMemory, Rule, Verdict};
-use drain_union::place::end_of;
-use drain_union::{Place, WindowReport};
+use drain_answer::lines::{Line, push_count, push_number, words};
+use drain_grid::{Cell, OutOfMemory};
+use drain_union::verdict_line::verdict_line;
+use drain_union::{Fault, UnionVerdict, WindowReport};
 use thiserror::Error;
-
-/// Whether some window judges this cell of the union.
-pub fn is_judged(places: &[Place], cell: Cell) -> bool
-    ensures { IsTrue result ↔ IsJudgedAtSome places.now cell }
-{
-    for place in places {
-        if place.judges(cell) {
-            return true;
-        }
-    }
-    false
-}
-
-/// The first row that the window at this place judges.
-fn top_of(place: &Place) -> u64
-    ensures { result ≡ judged_top place.now }
-{
-    u64::from(place.top) + u64::from(place.inner.north)
-}
-
-/// The first column that the window at this place judges.
-fn left_of(place: &Place) -> u64
-    ensures { result ≡ judged_left place.now }
-{
-    u64::from(place.left) + u64::from(place.inner.west)
-}
-
-/// One more than the last row that the window at this place judges.
-pub(crate) fn bottom_of(place: &Place) -> u64
-    ensures { result ≡ judged_bottom place.now }
-{
-    end_of(place.top, place.extent.rows()).saturating_sub(u64::from(place.inner.south))
-}
-
-/// One more than the last column that the window at this place judges.
-pub(crate) fn right_of(place: &Place) -> u64
-    ensures { result ≡ judged_right place.now }
-{
-    end_of(place.left, place.extent.cols()).saturating_sub(u64::from(place.inner.east))
-}
-
-/// Whether the window at this place judges a cell.
-pub(crate) fn judges_some(place: &Place) -> bool
-    ensures { IsTrue result ↔ JudgesSome place.now }
-{
-    top_of(place) < bottom_of(place) && left_of(place) < right_of(place)
-}
-
-/// Whether a cell of the union is judged at both places.
-pub(crate) fn both_judge_one(p: &Place, q: &Place) -> bool
-    ensures { IsTrue result ↔ BothJudgeOne p.now q.now }
-{
-    let top = top_of(p).max(top_of(q));
-    let left = left_of(p).max(left_of(q));
-    top < bottom_of(p).min(bottom_of(q)) && left < right_of(p).min(right_of(q))
-}
-
-/// A cell of the union at which this rule fails.
-#[derive(Clone, Copy, PartialEq, Eq, Debug)]
-pub struct Fault {
-    pub cell: Cell,
-    pub rule: Rule,
-}
 
 /// The first of the faults that windows have, in the union's row order, and at one cell in the order of the rules.
 pub(crate) fn first_fault(windows: &[WindowReport]) -> Option<Fault>
@@ -95,14 +30,17 @@ fn fault_of(window: &WindowReport) -> Option<Fault>
     ensures { result ≡ union_fault window.now }
 {
     match window.verdict {
-        Verdict::Accepted(_) => None,
-        Verdict::Rejected { rule, row, col } => {
+        UnionVerdict::Accepted(_) => None,
+        UnionVerdict::Rejected(fault) => {
             let place = &window.report.place;
             let cell = Cell {
-                row: place.top.saturating_add(row),
-                col: place.left.saturating_add(col),
+                row: place.top.saturating_add(fault.cell.row),
+                col: place.left.saturating_add(fault.cell.col),
             };
-            Some(Fault { cell, rule })
+            Some(Fault {
+                cell,
+                rule: fault.rule,
+            })
         }
     }
 }
@@ -139,33 +77,13 @@ pub fn merge_line(answer: &Result<MapVerdict, MergeRefusal>) -> Line
     ensures { result.bytes ≡ merge_line answer.now }
 {
     match answer {
-        Ok(union) => union_line(&union.verdict),
+        Ok(union) => verdict_line(&union.verdict),
         Err(refusal) => refusal_line(*refusal),
     }
 }
 
-/// The line of a verdict.
-fn union_line(verdict: &MergeVerdict) -> Line
-    ensures { result.bytes ≡ union_line verdict.now }
-{
-    match verdict {
-        MergeVerdict::Accepted(counts) => accepted(counts),
-        MergeVerdict::Rejected(fault) => rejected(fault.rule, fault.cell.row, fault.cell.col),
-    }
-}
-
-/// The line of an acceptance, with its counts.
-fn accepted(counts: &UnionCounts) -> Line
-    ensures { result.bytes ≡ accepted_line counts.now }
-{
-    let mut line = counted(counts.rows, counts.cols, counts.data_cells, counts.raised);
-    line.push_str(" outlets=");
-    push_count(&mut line, counts.outlets);
-    line
-}
-
 /// The line of a refusal, or of a failure.
-fn refusal_line(refusal: MergeRefusal) -> Line
+pub fn refusal_line(refusal: MergeRefusal) -> Line
     ensures { result.bytes ≡ refusal_line refusal }
 {
     match refusal {
@@ -217,15 +135,6 @@ fn of_cell(text: &str, cell: Cell) -> Line
     line.push_str(" col=");
     push_number(&mut line, cell.col);
     line
-}
-
-/// Accepted exactly if the products of the union are correct, with its counts. Else the first fault: of the rules from
-/// VoidCell to Label if a window was rejected; else that of SharedLabel, at the first cell with the label of an outlet
-/// at an earlier cell.
-#[derive(Clone, Copy, PartialEq, Eq, Debug)]
-pub enum MergeVerdict {
-    Accepted(UnionCounts),
-    Rejected(Fault),
 }
 
 /// Why there is no verdict, in the order in which refusals are returned. Windows are counted from 0, in the order of the

@@ -1,13 +1,12 @@
-//! The size of a union, and where its windows lie.
+//! Where the windows of a union lie.
 
 ghost use Rattle.std.specs.Prelude.{◌≡◌, map, ◌↔◌, IsTrue};
-ghost use Rattle.drain_merge.specs.Places.{cell_from, judged_from, outlet_from, place_from, report_from, shown_from, IsFirstClash, IsFirstFailing, IsFirstWith};
-ghost use Rattle.drain_union.specs.Windows.{BothJudgeOne, JudgesSome, IsPlaceIn};
+ghost use Rattle.drain_merge.specs.Places.{judged_from, outlet_from, report_from, shown_from, IsFirstClash, IsFirstFailing, IsFirstWith};
+ghost use Rattle.drain_union.specs.Windows.{BothJudgeOne, cell_from, JudgesSome, place_from};
 
-use crate::merge_verdict::{both_judge_one, judges_some};
+use crate::edges::{both_judge_one, judges_some};
 use drain_grid::Cell;
 use drain_union::{Outlet, Place, Report, Shown, WindowReport};
-use std::marker::Model;
 
 /// A window's report, with rows and columns counted from this cell.
 pub(crate) fn moved_window(origin: Cell, window: WindowReport) -> WindowReport
@@ -121,49 +120,6 @@ fn moved_cell(origin: Cell, cell: Cell) -> Cell
         row: cell.row.saturating_sub(origin.row),
         col: cell.col.saturating_sub(origin.col),
     }
-}
-
-/// The rows and columns of a union. Unlike those of a grid they have no bound of their own.
-#[derive(Clone, Copy, PartialEq, Eq, Debug)]
-pub struct UnionSize {
-    pub rows: u32,
-    pub cols: u32,
-}
-
-impl Model for UnionSize {
-    ghost use Rattle.drain_grid.specs.Extent.{Extent};
-    ghost use Rattle.drain_merge.specs.Places.{FitsNumbers};
-
-    ghost Value = { Extent };
-
-    ghost view = { λ s. record { rows = s.rows; cols = s.cols } };
-
-    ghost invariant = { λ s. FitsNumbers (record { rows = s.rows; cols = s.cols }) };
-
-    ghost inverse = { λ e. record { rows = e.rows; cols = e.cols } };
-}
-
-impl UnionSize {
-    ghost use Rattle.drain_union.specs.Windows.{IsPlaceIn};
-
-    /// Whether the place lies in a union of this size, and each side that isn't inner is the union's edge.
-    pub fn has_place(self, place: &Place) -> bool
-        ensures { IsTrue result ↔ IsPlaceIn self place.now }
-    {
-        place.fits(self.rows, self.cols)
-    }
-}
-
-/// The first place that doesn't lie in a union of this size, or has a side that isn't inner and isn't the union's edge.
-pub(crate) fn first_outside(size: UnionSize, places: &[Place]) -> Option<usize>
-    ensures { IsFirstFailing (IsPlaceIn size) places.now result }
-{
-    for i in 0..places.len() {
-        if !size.has_place(&places[i]) {
-            return Some(i);
-        }
-    }
-    None
 }
 
 /// The first place that judges no cell: all its rows, or all its columns, are rings.

@@ -5,13 +5,12 @@ ghost use Rattle.drain_grid.specs.declared.cell.Cell.{Cell};
 ghost use Rattle.drain_grid.specs.CellLists.{is_among};
 ghost use Rattle.drain_merge.specs.UnionSinks.{IsFirstLeftOut, IsFirstNotListed, IsListedRefusal, IsSinkRefusal, TakeLines, TakeSinks};
 ghost use Rattle.drain_merge.specs.UnionVerdicts.{IsRejected, SomeIsRejected};
-ghost use Rattle.drain_merge.specs.Places.{all_outlets, all_seams, all_sinks, places_of};
+ghost use Rattle.drain_merge.specs.Places.{all_sinks, places_of};
 ghost use Rattle.drain_merge.specs.Totals.{AreCountsOf, capped, data_cells_of, raised_of, outlets_of};
 
 use crate::merge_verdict::MergeRefusal;
-use crate::places::UnionSize;
-use drain_grid::{Cell, OutOfMemory, Sinks, Verdict};
-use drain_union::{Outlet, Place, Shown, WindowReport};
+use drain_grid::{Cell, OutOfMemory, Sinks};
+use drain_union::{Place, UnionCounts, UnionSize, UnionVerdict, WindowReport};
 use std::alloc::Global;
 use std::collections::BTreeSet;
 
@@ -24,32 +23,31 @@ pub enum UnionSinks {
     Listed(Sinks),
 }
 
-/// Refuses windows that took other sinks than the union has.
+/// Refuses windows that took these sinks, if the union has others.
 pub(crate) fn check_sinks(
     alloc: Global,
-    windows: &[WindowReport],
+    taken: &[Cell],
     union: &UnionSinks,
 ) -> Result<(), MergeRefusal>
-    ensures same { OnOk result (TakeSinks union.now windows.now) }
-    ensures refusal { IfErr result (IsSinkRefusal union.now windows.now) }
+    ensures same { OnOk result (TakeSinks union.now taken.now) }
+    ensures refusal { IfErr result (IsSinkRefusal union.now taken.now) }
 {
     match union {
         UnionSinks::AsTaken => Ok(()),
-        UnionSinks::Listed(listed) => check_listed(alloc, windows, listed),
+        UnionSinks::Listed(listed) => check_listed(alloc, taken, listed),
     }
 }
 
-/// Refuses windows that took other sinks than these.
-fn check_listed(alloc: Global, windows: &[WindowReport], listed: &Sinks) -> Result<(), MergeRefusal>
-    ensures same { OnOk result (TakeLines listed.now windows.now) }
-    ensures refusal { IfErr result (IsListedRefusal listed.now windows.now) }
+/// Refuses windows that took these sinks, if the list has others.
+fn check_listed(alloc: Global, taken: &[Cell], listed: &Sinks) -> Result<(), MergeRefusal>
+    ensures same { OnOk result (TakeLines listed.now taken.now) }
+    ensures refusal { IfErr result (IsListedRefusal listed.now taken.now) }
 {
-    let taken = sinks(alloc, windows)?;
-    let set = set_of(alloc, &taken)?;
+    let set = set_of(alloc, taken)?;
     if let Some(line) = first_left_out(listed, &set) {
         return Err(MergeRefusal::SinkLeftOut(line));
     }
-    match first_not_listed(&taken, listed) {
+    match first_not_listed(taken, listed) {
         Some(cell) => Err(MergeRefusal::SinkNotListed(cell)),
         None => Ok(()),
     }
@@ -108,20 +106,9 @@ fn is_rejected(window: &WindowReport) -> bool
     ensures { IsTrue result ↔ IsRejected window.now.verdict }
 {
     match window.verdict {
-        Verdict::Accepted(_) => false,
-        Verdict::Rejected { .. } => true,
+        UnionVerdict::Accepted(_) => false,
+        UnionVerdict::Rejected { .. } => true,
     }
-}
-
-/// The size of a union, and how many of its cells have data, are raised, and are outlets. A count that doesn't fit is
-/// the greatest number of 64 bits; no count of a union's own cells is as large.
-#[derive(Clone, Copy, PartialEq, Eq, Debug)]
-pub struct UnionCounts {
-    pub rows: u32,
-    pub cols: u32,
-    pub data_cells: u64,
-    pub raised: u64,
-    pub outlets: u64,
 }
 
 /// The counts of a union of this size: the sums of those of its windows.
@@ -129,8 +116,8 @@ pub(crate) fn total(size: UnionSize, windows: &[WindowReport]) -> UnionCounts
     ensures { AreCountsOf size windows.now result }
 {
     let mut counts = UnionCounts {
-        rows: size.rows,
-        cols: size.cols,
+        rows: size.rows(),
+        cols: size.cols(),
         data_cells: 0,
         raised: 0,
         outlets: 0,
@@ -150,14 +137,14 @@ fn with_window(counts: UnionCounts, window: &WindowReport) -> UnionCounts
     ensures outlets { result.outlets ≡ capped (counts.outlets + outlets_of window.now) }
 {
     match &window.verdict {
-        Verdict::Accepted(more) => UnionCounts {
+        UnionVerdict::Accepted(more) => UnionCounts {
             rows: counts.rows,
             cols: counts.cols,
-            data_cells: counts.data_cells.saturating_add(u64::from(more.data_cells)),
-            raised: counts.raised.saturating_add(u64::from(more.raised)),
-            outlets: counts.outlets.saturating_add(u64::from(more.outlets)),
+            data_cells: counts.data_cells.saturating_add(more.data_cells),
+            raised: counts.raised.saturating_add(more.raised),
+            outlets: counts.outlets.saturating_add(more.outlets),
         },
-        Verdict::Rejected { .. } => counts,
+        UnionVerdict::Rejected { .. } => counts,
     }
 }
 
@@ -172,19 +159,8 @@ pub(crate) fn places(alloc: Global, windows: &[WindowReport]) -> Result<Vec<Plac
     Ok(places)
 }
 
-/// The outlets of all windows.
-pub(crate) fn outlets(alloc: Global, windows: &[WindowReport]) -> Result<Vec<Outlet>, OutOfMemory>
-    ensures { IfOk result (λ outlets. outlets.items ≡ all_outlets windows.now) }
-{
-    let mut outlets = Vec::new(alloc);
-    for window in windows {
-        outlets.extend_from_slice(&window.report.outlets)?;
-    }
-    Ok(outlets)
-}
-
 /// The listed sinks that all windows took.
-pub(crate) fn sinks(alloc: Global, windows: &[WindowReport]) -> Result<Vec<Cell>, OutOfMemory>
+pub(crate) fn all_sinks(alloc: Global, windows: &[WindowReport]) -> Result<Vec<Cell>, OutOfMemory>
     ensures { IfOk result (λ sinks. sinks.items ≡ all_sinks windows.now) }
 {
     let mut sinks = Vec::new(alloc);
@@ -192,15 +168,4 @@ pub(crate) fn sinks(alloc: Global, windows: &[WindowReport]) -> Result<Vec<Cell>
         sinks.extend_from_slice(&window.report.sinks)?;
     }
     Ok(sinks)
-}
-
-/// What all windows show along their seams.
-pub(crate) fn seams(alloc: Global, windows: &[WindowReport]) -> Result<Vec<Shown>, OutOfMemory>
-    ensures { IfOk result (λ seams. seams.items ≡ all_seams windows.now) }
-{
-    let mut seams = Vec::new(alloc);
-    for window in windows {
-        seams.extend_from_slice(&window.report.seams)?;
-    }
-    Ok(seams)
 }

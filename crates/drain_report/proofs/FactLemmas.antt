@@ -3,12 +3,12 @@ use Rattle.std.proofs.Common.{◌≡◌, ◌++◌, ℕ, ℤ, pos, Bool, true, fa
 use Rattle.std.specs.Prelude.{Option, None, Some, IfSome, IsSome, codes, slice_index_or}
 use mir.Val.{bool_byte}
 use Rattle.drain_grid.specs.declared.cell.Cell.{Cell}
-use Rattle.drain_grid.specs.declared.rule.Rule.{Rule}
 use Rattle.drain_grid.specs.Extent.{Extent}
 use Rattle.drain_grid.specs.Values.{Values, AreInRange, NoDataNumbers, IsNoData, IsPixel}
-use Rattle.drain_grid.specs.declared.verdict.Counts.{Counts}
-use Rattle.drain_grid.specs.declared.verdict.Verdict.{Verdict}
-use Rattle.drain_grid.specs.declared.verdict.Verdict.TheVariants.{Accepted, Rejected}
+use Rattle.drain_union.specs.declared.verdict.Fault.{Fault}
+use Rattle.drain_union.specs.declared.verdict.UnionCounts.{UnionCounts}
+use Rattle.drain_union.specs.declared.verdict.UnionVerdict.{UnionVerdict}
+use Rattle.drain_union.specs.declared.verdict.UnionVerdict.TheVariants.{Accepted, Rejected}
 use Rattle.drain_union.specs.declared.place.InnerSides.{InnerSides}
 use Rattle.drain_union.specs.declared.place.Place.{Place}
 use Rattle.drain_union.specs.declared.union_grid.DemPart.{DemPart}
@@ -21,6 +21,7 @@ use Rattle.std.proofs.lemmas.Int.{fits_signed_from_abs, ints}
 use Rattle.drain_grid.specs.Rule.{rule_number}
 use Rattle.drain_grid.proofs.AllRules.{numbered}
 use Rattle.drain_union.specs.declared.report.Outlet.{Outlet}
+use Rattle.drain_union.specs.SeamValues.{AreOfSeam, seam_values}
 
 -- Facts with the same numbers are the same; a verdict is of one kind.
 
@@ -32,9 +33,10 @@ pub some_of : {X : Type 0} (r : Option X) (v w : X) → IsSome r → IfSome r (�
 some_of None v w some is same = cc
 some_of (Some x) v w some is same = ap (λ y. Some y) (is ∙ same)
 
-pub same_values : (v : Values) (z : Option ℤ) (sink : Bool) (con dir acc bas spl rnk : ℤ) → z ≡ v.z → sink ≡ v.sink → con ≡ v.con → dir ≡ v.dir → acc ≡ v.acc → bas ≡ v.bas → spl ≡ v.spl → rnk ≡ v.rnk
-    → record { z = z; sink = sink; con = con; dir = dir; acc = acc; bas = bas; spl = spl; rnk = rnk } ≡ v
-same_values v z sink con dir acc bas spl rnk a b c d e f g h = rw (a, b, c, d, e, f, g, h) refl
+pub same_values : (v : Values) (z : Option ℤ) (sink : Bool) (con dir acc bas : ℤ) → AreOfSeam v → z ≡ v.z → sink ≡ v.sink → con ≡ v.con → dir ≡ v.dir → acc ≡ v.acc → bas ≡ v.bas
+    → seam_values z sink con dir acc bas ≡ v
+same_values v z sink con dir acc bas of a b c d e f =
+    λ i. record { z = a i; sink = b i; con = c i; dir = d i; acc = e i; bas = f i; spl = sym of.spl i; rnk = (c ∙ sym of.rnk) i }
 
 pub flag_is : (b : Bool) → pos (bool_byte b) ≡ flag_number b
 flag_is true = refl
@@ -43,20 +45,19 @@ flag_is false = refl
 pub two_same : {a b c d : ℤ} → a ≡ c → b ≡ d → a ∷ b ∷ [] ≡ c ∷ d ∷ []
 two_same aa bb = rw (aa, bb) refl
 
-pub seven_same : {a b c d e f g h i j k l m n : ℤ} → a ≡ h → b ≡ i → c ≡ j → d ≡ k → e ≡ l → f ≡ m → g ≡ n
-    → a ∷ b ∷ c ∷ d ∷ e ∷ f ∷ g ∷ [] ≡ h ∷ i ∷ j ∷ k ∷ l ∷ m ∷ n ∷ []
-seven_same aa bb cc' dd ee ff gg = rw (aa, bb, cc', dd, ee, ff, gg) refl
+pub five_same : {a b c d e f g h i j : ℤ} → a ≡ f → b ≡ g → c ≡ h → d ≡ i → e ≡ j → a ∷ b ∷ c ∷ d ∷ e ∷ [] ≡ f ∷ g ∷ h ∷ i ∷ j ∷ []
+five_same aa bb cc' dd ee = rw (aa, bb, cc', dd, ee) refl
 
 -- a line is of one kind
 pub not_both_kinds : (text x y : List ℕ) (ns ms : List ℤ) → text ≡ line (codes "accepted") ns ++ x → text ≡ line (codes "rejected") ms ++ y → ⊥
 not_both_kinds text x y ns ms p q = let e : 97 ≡ 114 = ap (λ l. slice_index_or l 0 0) (sym p ∙ q) in absurd (omega (arith, e))
 
 -- what holds of both kinds holds of a verdict
-pub by_kind : (Q : Verdict → Type 0) (text rest : List ℕ) → ((c : Counts) → CountsFit c → text ≡ verdict_line (Accepted c) ++ rest → Q (Accepted c))
-    → ((r : Rule) (c : Cell) → IsNarrow c → text ≡ verdict_line (Rejected r c.row c.col) ++ rest → Q (Rejected r c.row c.col))
-    → (v : Verdict) → VerdictFits v → text ≡ verdict_line v ++ rest → Q v
+pub by_kind : (Q : UnionVerdict → Type 0) (text rest : List ℕ) → ((c : UnionCounts) → CountsFit c → text ≡ verdict_line (Accepted c) ++ rest → Q (Accepted c))
+    → ((f : Fault) → IsNarrow f.cell → text ≡ verdict_line (Rejected f) ++ rest → Q (Rejected f))
+    → (v : UnionVerdict) → VerdictFits v → text ≡ verdict_line v ++ rest → Q v
 by_kind Q text rest accepted rejected (Accepted c) fit is = accepted c fit is
-by_kind Q text rest accepted rejected (Rejected r row col) fit is = rejected r (record { row = row; col = col }) fit is
+by_kind Q text rest accepted rejected (Rejected f) fit is = rejected f fit is
 
 pub same_place : (p : Place) (top left : ℕ) (extent : Extent) (inner : InnerSides) → top ≡ p.top → left ≡ p.left → extent ≡ p.extent → inner ≡ p.inner
     → record { top = top; left = left; extent = extent; inner = inner } ≡ p
@@ -84,16 +85,8 @@ height_long None ok = tt
 height_long (Some z) ok = pixel_long z ok
 
 pub others_long : (v : Values) → AreInRange v → AreLong (other_numbers v)
-others_long v fit = (
-  flag_long v.sink,
-  (
-    pixel_long v.con fit.con_ok,
-    (
-      pixel_long v.dir fit.dir_ok,
-      (pixel_long v.acc fit.acc_ok, (pixel_long v.bas fit.bas_ok, (pixel_long v.spl fit.spl_ok, (pixel_long v.rnk fit.rnk_ok, tt)))),
-    ),
-  ),
-)
+others_long v fit =
+    (flag_long v.sink, (pixel_long v.con fit.con_ok, (pixel_long v.dir fit.dir_ok, (pixel_long v.acc fit.acc_ok, (pixel_long v.bas fit.bas_ok, tt)))))
 
 pub narrow_cell_long : (c : Cell) → IsNarrow c → AreLong (cell_numbers c)
 narrow_cell_long c fit = (narrow_long c.row fit.row, (narrow_long c.col fit.col, tt))
@@ -109,7 +102,7 @@ pub corner_narrow : (p : Place) → IsPlace p → IsNarrow (corner_of p)
 corner_narrow p fit = record { row = fit.top; col = fit.left }
 
 pub size_narrow : (p : Place) → IsPlace p → IsNarrow (size_of p)
-size_narrow p fit = let rows = fit.extent.rows_fit in let cols = fit.extent.cols_fit in record { row = omega arith; col = omega arith }
+size_narrow p fit = record { row = fit.extent.rows; col = fit.extent.cols }
 
 pub place_long : (p : Place) → IsPlace p → AreLong (place_numbers p)
 place_long p fit =
@@ -134,19 +127,22 @@ pub nodata_long : (n : NoDataNumbers) → IsAuditNoData n → AreLong (nodata_nu
 nodata_long n fit =
     (nodata_number_long n.con fit.con, (nodata_number_long n.dir fit.dir, (nodata_number_long n.acc fit.acc, (nodata_number_long n.bas fit.bas, tt))))
 
-pub counts_long : (c : Counts) → CountsFit c → AreLong (count_numbers c)
+pub wide_long : (n : ℕ) → n < 2 ^ 63 → IsLong (pos n)
+wide_long n small = fits_signed_from_abs w64 (pos n) (omega arith)
+
+pub counts_long : (c : UnionCounts) → CountsFit c → AreLong (count_numbers c)
 counts_long c fit = (
   narrow_long c.rows fit.rows,
   (
     narrow_long c.cols fit.cols,
-    (narrow_long c.data_cells fit.data_cells, (narrow_long c.raised fit.raised, (narrow_long c.outlets fit.outlets, tt))),
+    (wide_long c.data_cells fit.data_cells, (wide_long c.raised fit.raised, (wide_long c.outlets fit.outlets, tt))),
   ),
 )
 
-pub fault_long : (r : Rule) (c : Cell) → IsNarrow c → AreLong (fault_numbers r c.row c.col)
-fault_long r c fit =
-    let few = (numbered r).1 in
-    (narrow_long (rule_number r) (omega (arith, few)), (narrow_long c.row fit.row, (narrow_long c.col fit.col, tt)))
+pub fault_long : (f : Fault) → IsNarrow f.cell → AreLong (fault_numbers f)
+fault_long f fit =
+    let few = (numbered f.rule).1 in
+    (narrow_long (rule_number f.rule) (omega (arith, few)), (narrow_long f.cell.row fit.row, (narrow_long f.cell.col fit.col, tt)))
 
 -- the line of a grid is of one kind
 

@@ -62,11 +62,11 @@ pub exact_from : (i n : ℕ) (ns : List ℤ) → i + n ≡ length ns → drop i 
 exact_from i zero ns e = drop_all i ns (omega arith)
 exact_from i (suc n) ns e = drop_more ns i (pos 0) (omega arith) ∙ ap (λ t. get_or ns i (pos 0) ∷ t) (exact_from (i + 1) n ns (omega arith))
 
-pub seven : (ns : List ℤ) (p q r s t u v : ℤ) → length ns ≡ 7 → get_or ns 0 (pos 0) ≡ p → get_or ns 1 (pos 0) ≡ q → get_or ns 2 (pos 0) ≡ r → get_or ns 3 (pos 0) ≡ s
-    → get_or ns 4 (pos 0) ≡ t → get_or ns 5 (pos 0) ≡ u → get_or ns 6 (pos 0) ≡ v → ns ≡ p ∷ q ∷ r ∷ s ∷ t ∷ u ∷ v ∷ []
-seven ns p q r s t u v long a b c d e f g =
-    let all : ns ≡ get_or ns 0 (pos 0) ∷ get_or ns 1 (pos 0) ∷ get_or ns 2 (pos 0) ∷ get_or ns 3 (pos 0) ∷ get_or ns 4 (pos 0) ∷ get_or ns 5 (pos 0) ∷ get_or ns 6 (pos 0) ∷ [] = exact_from 0 7 ns (omega arith) in
-    all ∙ rw (a, b, c, d, e, f, g) refl
+pub five_numbers : (ns : List ℤ) (p q r s t : ℤ) → length ns ≡ 5 → get_or ns 0 (pos 0) ≡ p → get_or ns 1 (pos 0) ≡ q → get_or ns 2 (pos 0) ≡ r → get_or ns 3 (pos 0) ≡ s
+    → get_or ns 4 (pos 0) ≡ t → ns ≡ p ∷ q ∷ r ∷ s ∷ t ∷ []
+five_numbers ns p q r s t long a b c d e =
+    let all : ns ≡ get_or ns 0 (pos 0) ∷ get_or ns 1 (pos 0) ∷ get_or ns 2 (pos 0) ∷ get_or ns 3 (pos 0) ∷ get_or ns 4 (pos 0) ∷ [] = exact_from 0 5 ns (omega arith) in
+    all ∙ rw (a, b, c, d, e) refl
 
 -- a number that was read from the slice
 pub held : (ns : List ℤ) (k : ℕ) (r : ℤ) → AreLong ns → k < length ns → r ≡ get_or ns k (pos 0) → get_or ns k (pos 0) ≡ to_z w64 (of_z w64 r)

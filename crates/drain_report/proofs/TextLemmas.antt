@@ -5,7 +5,7 @@ use Rattle.drain_grid.specs.declared.cell.Cell.{Cell}
 use Rattle.drain_grid.specs.Spacing.{Distances}
 use Rattle.drain_grid.specs.Values.{NoDataNumbers}
 use Rattle.drain_hgt.specs.Corner.{Corner}
-use Rattle.drain_grid.specs.declared.verdict.Verdict.{Verdict}
+use Rattle.drain_union.specs.declared.verdict.UnionVerdict.{UnionVerdict}
 use Rattle.drain_union.specs.Reports.{Report, is_accepted}
 use Rattle.drain_union.specs.declared.report.Outlet.{Outlet}
 use Rattle.drain_union.specs.declared.place.Place.{Place}
@@ -58,12 +58,12 @@ pub on_ok : {X E P Q : Type 0} (r : Result X E) → (P → Q) → OnOk r P → O
 on_ok (Ok x) f p = f p
 on_ok (Err e) f p = tt
 
-pub same_head : (h : Head) (grid : UnionGrid) (place : Place) (nodata : NoDataNumbers) (verdict : Verdict) → grid ≡ h.grid → place ≡ h.place → nodata ≡ h.nodata → verdict ≡ h.verdict
+pub same_head : (h : Head) (grid : UnionGrid) (place : Place) (nodata : NoDataNumbers) (verdict : UnionVerdict) → grid ≡ h.grid → place ≡ h.place → nodata ≡ h.nodata → verdict ≡ h.verdict
     → record { grid = grid; place = place; nodata = nodata; verdict = verdict } ≡ h
 same_head h grid place nodata verdict a b c d = rw (a, b, c, d) refl
 
 -- the first lines of a report with this grid and this verdict
-abbrev pub head_with : UnionGrid → Verdict → Report → Head
+abbrev pub head_with : UnionGrid → UnionVerdict → Report → Head
 head_with grid verdict r = record { grid = grid; place = r.place; nodata = r.nodata; verdict = verdict }
 
 -- what these parts say

@@ -3,17 +3,17 @@ use Rattle.std.specs.Prelude.{◌<◌, ◌^◌, ℕ, List, ◌++◌, codes, [], 
 use Rattle.drain_report.specs.declared.head.Head.{Head}
 use Rattle.drain_report.specs.Facts.{count_line, GridFits, grid_line, IsPlace, place_line, IsAuditNoData, nodata_line, VerdictFits, verdict_line, IsNarrow, sink_line, IsOutlet, outlet_line, IsShown, shown_line, spacing_line, tile_line}
 use Rattle.drain_grid.specs.Spacing.{Distances, IsSpacing}
-use Rattle.drain_grid.specs.declared.verdict.Verdict.{Verdict}
 use Rattle.drain_hgt.specs.Corner.{Corner, IsOnMap}
 use Rattle.drain_union.specs.Reports.{Report, Agree}
 use Rattle.drain_union.specs.declared.report.WindowReport.{WindowReport}
 use Rattle.drain_union.specs.declared.union_grid.UnionGrid.{UnionGrid}
+use Rattle.drain_union.specs.declared.verdict.UnionVerdict.{UnionVerdict}
 
 -- The first lines of a report.
 
 -- the version of the form
 abbrev pub version_line : List ℕ
-version_line = codes "drain-window-report 3\n"
+version_line = codes "drain-window-report 4\n"
 
 abbrev pub head_text : Head → List ℕ
 head_text h = version_line ++ (grid_line h.grid ++ (place_line h.place ++ (nodata_line h.nodata ++ verdict_line h.verdict)))
@@ -56,7 +56,7 @@ SpacingsFit = IsListOf IsSpacing
 pub record Contents : Type 0 where
   pub grid : UnionGrid
   pub tiles : List Corner
-  pub verdict : Verdict
+  pub verdict : UnionVerdict
   pub report : Report
 
 abbrev pub contents_of : WindowReport → Contents

@@ -12,12 +12,13 @@ use Rattle.drain_union.specs.declared.union_grid.Decimal.{Decimal}
 use Rattle.drain_union.specs.declared.union_grid.DemPart.{DemPart}
 use Rattle.drain_union.specs.declared.union_grid.UnionGrid.{UnionGrid}
 use Rattle.drain_union.specs.declared.union_grid.UnionGrid.TheVariants.{Tiles, Dem}
-use Rattle.drain_grid.specs.Extent.{IsExtent}
 use Rattle.drain_grid.specs.Rule.{rule_number}
-use Rattle.drain_grid.specs.declared.rule.Rule.{Rule}
-use Rattle.drain_grid.specs.declared.verdict.Counts.{Counts}
-use Rattle.drain_grid.specs.declared.verdict.Verdict.{Verdict}
-use Rattle.drain_grid.specs.declared.verdict.Verdict.TheVariants.{Accepted, Rejected}
+use Rattle.drain_union.specs.SeamValues.{AreOfSeam}
+use Rattle.drain_union.specs.Sizes.{FitsNumbers}
+use Rattle.drain_union.specs.declared.verdict.Fault.{Fault}
+use Rattle.drain_union.specs.declared.verdict.UnionCounts.{UnionCounts}
+use Rattle.drain_union.specs.declared.verdict.UnionVerdict.{UnionVerdict}
+use Rattle.drain_union.specs.declared.verdict.UnionVerdict.TheVariants.{Accepted, Rejected}
 use Rattle.drain_hgt.specs.Corner.{Corner}
 use Rattle.drain_hgt.specs.Name.{name_of}
 use Rattle.drain_report.specs.Lines.{IsLong, line, spaced}
@@ -65,17 +66,22 @@ height_word (Some z) = signed_decimal z
 abbrev pub seam_text : List ℤ → Option ℤ → List ℤ → List ℕ
 seam_text cell z others = codes "seam" ++ (spaced cell ++ 32 ∷ (height_word z ++ (spaced others ++ 10 ∷ [])))
 
--- SINK CON DIR ACC BAS SPL RNK
+-- SINK CON DIR ACC BAS
 abbrev pub other_numbers : Values → List ℤ
-other_numbers v = flag_number v.sink ∷ v.con ∷ v.dir ∷ v.acc ∷ v.bas ∷ v.spl ∷ v.rnk ∷ []
+other_numbers v = flag_number v.sink ∷ v.con ∷ v.dir ∷ v.acc ∷ v.bas ∷ []
 
--- seam ROW COL Z SINK CON DIR ACC BAS SPL RNK
+-- seam ROW COL Z SINK CON DIR ACC BAS
 abbrev pub shown_line : Shown → List ℕ
 shown_line s = seam_text (cell_numbers s.cell) s.values.z (other_numbers s.values)
 
+-- each number can be a pixel, and the values are an audit's
+pub record AreShown (v : Values) : Type 0 where
+  pub in_range : AreInRange v
+  pub of_seam : AreOfSeam v
+
 pub record IsShown (s : Shown) : Type 0 where
   pub cell : IsNarrow s.cell
-  pub values : AreInRange s.values
+  pub values : AreShown s.values
 
 -- a line of one whole number
 abbrev pub count_line : List ℕ → ℕ → List ℕ
@@ -123,7 +129,7 @@ place_line p = line (codes "window") (place_numbers p)
 pub record IsPlace (p : Place) : Type 0 where
   pub top : p.top < 2 ^ 32
   pub left : p.left < 2 ^ 32
-  pub extent : IsExtent p.extent
+  pub extent : FitsNumbers p.extent
 
 -- nodata CON DIR ACC BAS
 abbrev pub nodata_numbers : NoDataNumbers → List ℤ
@@ -141,28 +147,29 @@ pub record IsAuditNoData (n : NoDataNumbers) : Type 0 where
   pub spl : n.spl ≡ pos 0
   pub rnk : n.rnk ≡ pos 0
 
-abbrev pub count_numbers : Counts → List ℤ
+abbrev pub count_numbers : UnionCounts → List ℤ
 count_numbers c = pos c.rows ∷ pos c.cols ∷ pos c.data_cells ∷ pos c.raised ∷ pos c.outlets ∷ []
 
-pub record CountsFit (c : Counts) : Type 0 where
+-- rows and columns are numbers of 32 bits, and the others signed ones of 64 bits
+pub record CountsFit (c : UnionCounts) : Type 0 where
   pub rows : c.rows < 2 ^ 32
   pub cols : c.cols < 2 ^ 32
-  pub data_cells : c.data_cells < 2 ^ 32
-  pub raised : c.raised < 2 ^ 32
-  pub outlets : c.outlets < 2 ^ 32
+  pub data_cells : c.data_cells < 2 ^ 63
+  pub raised : c.raised < 2 ^ 63
+  pub outlets : c.outlets < 2 ^ 63
 
-abbrev pub fault_numbers : Rule → ℕ → ℕ → List ℤ
-fault_numbers rule row col = pos (rule_number rule) ∷ pos row ∷ pos col ∷ []
+abbrev pub fault_numbers : Fault → List ℤ
+fault_numbers f = pos (rule_number f.rule) ∷ pos f.cell.row ∷ pos f.cell.col ∷ []
 
 -- accepted ROWS COLS DATA RAISED OUTLETS, or rejected RULE ROW COL
-abbrev pub verdict_line : Verdict → List ℕ
+abbrev pub verdict_line : UnionVerdict → List ℕ
 verdict_line (Accepted c) = line (codes "accepted") (count_numbers c)
-verdict_line (Rejected rule row col) = line (codes "rejected") (fault_numbers rule row col)
+verdict_line (Rejected fault) = line (codes "rejected") (fault_numbers fault)
 
--- its numbers are of 32 bits
-abbrev pub VerdictFits : Verdict → Type 0
+-- each number is in its range
+abbrev pub VerdictFits : UnionVerdict → Type 0
 VerdictFits (Accepted c) = CountsFit c
-VerdictFits (Rejected rule row col) = IsNarrow (record { row = row; col = col })
+VerdictFits (Rejected fault) = IsNarrow fault.cell
 
 -- tile NAME
 abbrev pub tile_line : Corner → List ℕ

@@ -97,6 +97,24 @@ pub fn whole_at(numbers: &[i64], place: usize) -> Option<u32>
     whole(at(numbers, place))
 }
 
+/// The number as one of 63 bits, none below 0.
+fn count(number: i64) -> Option<u64>
+    ensures sound { IfSome result (λ n. number ≡ pos n) }
+    ensures back { (n : ℕ) → n < 2 ^ 63 → number ≡ pos n → result ≡ Some n }
+{
+    u64::try_from(number).ok()
+}
+
+/// The whole number of 63 bits at a place.
+pub fn count_at(numbers: &[i64], place: usize) -> Option<u64>
+    requires long { AreLong numbers.now }
+    requires inside { place < length numbers.now }
+    ensures sound { IfSome result (λ n. get_or numbers.now place (pos 0) ≡ pos n) }
+    ensures back { (n : ℕ) → n < 2 ^ 63 → get_or numbers.now place (pos 0) ≡ pos n → result ≡ Some n }
+{
+    count(at(numbers, place))
+}
+
 /// The flag of 0 or 1, none of another number.
 fn flag(number: i64) -> Option<bool>
     ensures sound { IfSome result (λ b. number ≡ flag_number b) }

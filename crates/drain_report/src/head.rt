@@ -12,9 +12,9 @@ use crate::facts::{Fact, ReportLine, at, read_fact};
 use crate::fault::ReportFault;
 use crate::grid::{push_grid, read_grid};
 use crate::lines::{Lines, after_word, push, push_line};
+use drain_grid::OutOfMemory;
 use drain_grid::nodata::{GREATEST_NODATA, LEAST_NODATA};
-use drain_grid::{OutOfMemory, Verdict};
-use drain_union::{AuditNoData, Place, UnionGrid};
+use drain_union::{AuditNoData, Place, UnionGrid, UnionVerdict};
 
 /// The no-data number at a place, if it is in range.
 fn nodata_at(numbers: &[i64], place: usize) -> Option<i64>
@@ -70,11 +70,11 @@ pub struct Head {
     pub grid: UnionGrid,
     pub place: Place,
     pub nodata: AuditNoData,
-    pub verdict: Verdict,
+    pub verdict: UnionVerdict,
 }
 
 /// The first line.
-const VERSION: &[u8] = b"drain-window-report 3\n";
+const VERSION: &[u8] = b"drain-window-report 4\n";
 
 /// What follows the first line.
 fn first_lines(text: &[u8]) -> Result<Lines, ReportFault>
@@ -110,7 +110,7 @@ pub fn read_head(text: &[u8]) -> Result<(Head, Lines), ReportFault>
         Ok(read) => read,
         Err(fault) => return Err(fault),
     };
-    let (verdict, lines) = match Verdict::read_from(lines) {
+    let (verdict, lines) = match UnionVerdict::read_from(lines) {
         Ok(read) => read,
         Err(fault) => return Err(fault),
     };

@@ -1,7 +1,7 @@
 //! The line of a window's place.
 
 ghost use Rattle.std.specs.Prelude.{◌≡◌, drop, length, Some, IfSome};
-ghost use Rattle.drain_grid.specs.Extent.{IsExtent};
+ghost use Rattle.drain_union.specs.Sizes.{FitsNumbers};
 ghost use Rattle.drain_union.specs.declared.place.InnerSides.{InnerSides as SidesOf};
 ghost use Rattle.drain_report.specs.Lines.{AreLong};
 ghost use Rattle.drain_report.specs.Facts.{side_numbers, place_numbers, place_line, IsPlace};
@@ -9,8 +9,8 @@ ghost use Rattle.drain_report.specs.Facts.{side_numbers, place_numbers, place_li
 use crate::facts::{Fact, ReportLine, cell_at, flag_at, read_fact};
 use crate::fault::ReportFault;
 use crate::lines::{Lines, push_line};
-use drain_grid::{Cell, OutOfMemory, Shape};
-use drain_union::{InnerSides, Place};
+use drain_grid::{Cell, OutOfMemory};
+use drain_union::{InnerSides, Place, UnionSize};
 
 /// The inner sides, which follow the place's four numbers.
 fn sides(numbers: &[i64]) -> Option<InnerSides>
@@ -41,21 +41,23 @@ impl Fact for Place {
     fn from_numbers(numbers: &[i64]) -> Option<Place> {
         let corner = cell_at(numbers, 0)?;
         let size = cell_at(numbers, 2)?;
-        let extent = Shape::new(size.row, size.col)?;
         let inner = sides(numbers)?;
         Some(Place {
             top: corner.row,
             left: corner.col,
-            extent,
+            extent: UnionSize {
+                rows: size.row,
+                cols: size.col,
+            },
             inner,
         })
     }
 }
 
-/// The rows and columns of a shape.
-fn size(extent: Shape) -> Cell
+/// The rows and columns of a size.
+fn size(extent: UnionSize) -> Cell
     ensures size { result ≡ record { row = extent.rows; col = extent.cols } }
-    ensures in_range { IsExtent extent }
+    ensures in_range { FitsNumbers extent }
 {
     Cell {
         row: extent.rows(),

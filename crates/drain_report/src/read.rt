@@ -10,8 +10,7 @@ use crate::head::read_head;
 use crate::lines::{Lines, after_word, unread};
 use crate::lists::read_list;
 use crate::spacings::read_spacings;
-use drain_grid::Verdict;
-use drain_union::{Report, WindowReport};
+use drain_union::{Report, UnionVerdict, WindowReport};
 use std::alloc::Global;
 
 /// The report that a text holds.
@@ -72,12 +71,12 @@ pub fn read_report(alloc: Global, text: &[u8]) -> Result<WindowReport, ReportFau
 }
 
 /// Whether the rules hold, by the verdict.
-fn accepts(verdict: &Verdict) -> bool
+fn accepts(verdict: &UnionVerdict) -> bool
     ensures { result ≡ is_accepted verdict.now }
 {
     match verdict {
-        Verdict::Accepted(_) => true,
-        Verdict::Rejected { .. } => false,
+        UnionVerdict::Accepted(_) => true,
+        UnionVerdict::Rejected(_) => false,
     }
 }
 

@@ -1,18 +1,18 @@
 //! What is shown at the cells of a seam, as lines of a report.
 
 ghost use Rattle.std.specs.Prelude.{◌≡◌, ◌<◌, ◌^◌, ◌∷◌, ◌++◌, ℕ, ℤ, List, Option, Some, IfSome, IfOk, OnOk, MatchOption, MatchResult, length};
-ghost use Rattle.drain_grid.specs.Values.{Values, AreInRange};
+ghost use Rattle.drain_grid.specs.Values.{Values};
 ghost use Rattle.drain_union.specs.declared.report.Shown.{Shown as ShownOf};
 ghost use Rattle.drain_report.specs.Faults.{IsAt, IsPast, IsLineFault};
 ghost use Rattle.drain_report.specs.Lines.{IsLong, AreLong};
-ghost use Rattle.drain_report.specs.Facts.{cell_numbers, height_word, other_numbers, seam_text, shown_line, IsShown};
+ghost use Rattle.drain_report.specs.Facts.{cell_numbers, height_word, other_numbers, seam_text, shown_line, AreShown, IsShown};
 
 use crate::facts::{ReportLine, at, cell_at, flag_at};
 use crate::fault::ReportFault;
 use crate::lines::{Lines, after_word, push, push_number, push_numbers, read_numbers, unread};
 use crate::numbers::{number, word_after_space};
-use drain_grid::{CellValues, OutOfMemory};
-use drain_union::Shown;
+use drain_grid::OutOfMemory;
+use drain_union::{SeamValues, Shown};
 
 /// The elevation after a space, none at a void, and what follows it.
 fn first_height(text: &[u8]) -> Option<(Option<i64>, &[u8])>
@@ -45,7 +45,7 @@ fn seam_after<'a>(
     ensures cell_long { IfSome result (λ _. AreLong cell.new) }
     ensures height_long { IfSome result (λ found. IfSome found.0 IsLong) }
     ensures others_long { IfSome result (λ _. AreLong others.new) }
-    ensures back { (s : ShownOf) (rest : List ℕ) → IsShown s → length cell.old ≡ 2 → length others.old ≡ 7 → text.now ≡ shown_line s ++ rest → MatchOption result ⊥ (λ found. (cell.new ≡ cell_numbers s.cell) × ((found.0 ≡ s.values.z) × ((others.new ≡ other_numbers s.values) × (found.1.now ≡ rest)))) }
+    ensures back { (s : ShownOf) (rest : List ℕ) → IsShown s → length cell.old ≡ 2 → length others.old ≡ 5 → text.now ≡ shown_line s ++ rest → MatchOption result ⊥ (λ found. (cell.new ≡ cell_numbers s.cell) × ((found.0 ≡ s.values.z) × ((others.new ≡ other_numbers s.values) × (found.1.now ≡ rest)))) }
 {
     let Some(after) = after_word(text, b"seam") else {
         return None;
@@ -66,22 +66,20 @@ fn seam_after<'a>(
 }
 
 /// The values at a cell, from its elevation and the numbers after it.
-fn values(z: Option<i64>, others: &[i64]) -> Option<CellValues>
+fn values(z: Option<i64>, others: &[i64]) -> Option<SeamValues>
     requires long { AreLong others.now }
-    requires len { length others.now ≡ 7 }
+    requires len { length others.now ≡ 5 }
     ensures sound { IfSome result (λ v. (z ≡ v.z) × (others.now ≡ other_numbers v)) }
-    ensures back { (v : Values) → AreInRange v → z ≡ v.z → others.now ≡ other_numbers v → result ≡ Some v }
+    ensures back { (v : Values) → AreShown v → z ≡ v.z → others.now ≡ other_numbers v → result ≡ Some v }
 {
     let sink = flag_at(others, 0)?;
-    CellValues::of_height(
+    SeamValues::of_height(
         z,
         sink,
         at(others, 1),
         at(others, 2),
         at(others, 3),
         at(others, 4),
-        at(others, 5),
-        at(others, 6),
     )
 }
 
@@ -90,7 +88,7 @@ fn shown(cell: &[i64], z: Option<i64>, others: &[i64]) -> Option<Shown>
     requires cell_long { AreLong cell.now }
     requires cell_len { length cell.now ≡ 2 }
     requires others_long { AreLong others.now }
-    requires others_len { length others.now ≡ 7 }
+    requires others_len { length others.now ≡ 5 }
     ensures sound { IfSome result (λ s. seam_text cell.now z others.now ≡ shown_line s) }
     ensures back { (s : ShownOf) → IsShown s → cell.now ≡ cell_numbers s.cell → z ≡ s.values.z → others.now ≡ other_numbers s.values → result ≡ Some s }
 {
@@ -116,7 +114,7 @@ impl ReportLine for Shown {
 
     fn read_from<'a>(lines: Lines<'a>) -> Result<(Shown, Lines<'a>), ReportFault> {
         let mut cell = [0i64; 2];
-        let mut others = [0i64; 7];
+        let mut others = [0i64; 5];
         let Some((z, rest)) = seam_after(lines.rest, &mut cell, &mut others) else {
             return Err(unread(lines));
         };
@@ -135,8 +133,6 @@ impl ReportLine for Shown {
             values.dir,
             values.acc,
             values.bas,
-            values.spl,
-            values.rnk,
         ];
         push(text, b"seam")?;
         push_numbers(text, &cell)?;

@@ -1,16 +1,17 @@
 //! The line of a verdict.
 
-ghost use Rattle.std.specs.Prelude.{◌≡◌, ◌<◌, ◌^◌, ◌++◌, ℕ, List, pos, Some, IfSome, IfOk, MatchResult};
-ghost use Rattle.drain_grid.specs.declared.cell.Cell.{Cell as CellOf};
+ghost use Rattle.std.specs.Prelude.{◌≡◌, ◌<◌, ◌^◌, ◌++◌, ℕ, List, pos, Some, IfSome, IfOk, OnOk, MatchResult};
 ghost use Rattle.drain_grid.specs.declared.rule.Rule.{Rule as RuleOf};
+ghost use Rattle.drain_union.specs.declared.verdict.Fault.{Fault as FaultOf};
 ghost use Rattle.drain_grid.specs.Rule.{rule_number};
 ghost use Rattle.drain_report.specs.Faults.{IsAt, IsPast, IsLineFault};
 ghost use Rattle.drain_report.specs.Facts.{IsNarrow, CountsFit, VerdictFits, count_numbers, fault_numbers, verdict_line};
 
-use crate::facts::{Fact, ReportLine, at, cell_at, read_fact, whole_at};
+use crate::facts::{Fact, ReportLine, at, cell_at, count_at, read_fact, whole_at};
 use crate::fault::ReportFault;
 use crate::lines::{Lines, push_line, read_line};
-use drain_grid::{Cell, Counts, OutOfMemory, Rule, Verdict};
+use drain_grid::{OutOfMemory, Rule};
+use drain_union::{Fault, UnionCounts, UnionVerdict};
 
 /// The rule of a number from 1 to 15.
 fn rule(number: i64) -> Option<Rule>
@@ -37,20 +38,20 @@ fn rule(number: i64) -> Option<Rule>
     }
 }
 
-impl Fact for Counts {
+impl Fact for UnionCounts {
     ghost numbers_of = { count_numbers };
 
     ghost how_many = { 5 };
 
     ghost is_in_range = { CountsFit };
 
-    fn from_numbers(numbers: &[i64]) -> Option<Counts> {
+    fn from_numbers(numbers: &[i64]) -> Option<UnionCounts> {
         let rows = whole_at(numbers, 0)?;
         let cols = whole_at(numbers, 1)?;
-        let data_cells = whole_at(numbers, 2)?;
-        let raised = whole_at(numbers, 3)?;
-        let outlets = whole_at(numbers, 4)?;
-        Some(Counts {
+        let data_cells = count_at(numbers, 2)?;
+        let raised = count_at(numbers, 3)?;
+        let outlets = count_at(numbers, 4)?;
+        Some(UnionCounts {
             rows,
             cols,
             data_cells,
@@ -60,80 +61,97 @@ impl Fact for Counts {
     }
 }
 
-/// A rule that fails, and the first cell where it does.
-#[derive(Clone, Copy)]
-struct Rejection {
-    rule: Rule,
-    cell: Cell,
-}
-
-impl Fact for Rejection {
-    ghost numbers_of = { λ r. fault_numbers r.rule r.cell.row r.cell.col };
+impl Fact for Fault {
+    ghost numbers_of = { fault_numbers };
 
     ghost how_many = { 3 };
 
-    ghost is_in_range = { λ r. IsNarrow r.cell };
+    ghost is_in_range = { λ f. IsNarrow f.cell };
 
-    fn from_numbers(numbers: &[i64]) -> Option<Rejection> {
+    fn from_numbers(numbers: &[i64]) -> Option<Fault> {
         let rule = rule(at(numbers, 0))?;
         let cell = cell_at(numbers, 1)?;
-        Some(Rejection { rule, cell })
+        Some(Fault { cell, rule })
     }
 }
 
 /// Reads the line of a fault.
-fn read_rejection<'a>(lines: Lines<'a>) -> Result<(Verdict, Lines<'a>), ReportFault>
+fn read_fault<'a>(lines: Lines<'a>) -> Result<(UnionVerdict, Lines<'a>), ReportFault>
     ensures sound { IfOk result (λ found. lines.entry.rest.now ≡ verdict_line found.0 ++ found.1.rest.now) }
-    ensures back { (r : RuleOf) (cell : CellOf) (rest : List ℕ) → IsNarrow cell → lines.entry.rest.now ≡ verdict_line (Verdict.Rejected r cell.row cell.col) ++ rest → MatchResult result (λ found. (found.0 ≡ Verdict.Rejected r cell.row cell.col) × (found.1.rest.now ≡ rest)) (λ _. ⊥) }
+    ensures back { (f : FaultOf) (rest : List ℕ) → IsNarrow f.cell → lines.entry.rest.now ≡ verdict_line (UnionVerdict.Rejected f) ++ rest → MatchResult result (λ found. (found.0 ≡ UnionVerdict.Rejected f) × (found.1.rest.now ≡ rest)) (λ _. ⊥) }
     ensures place { (feeds : ℕ) → feeds < 2 ^ 63 → IsAt feeds lines.entry.number lines.entry.rest.now → MatchResult result (λ found. IsPast feeds lines.entry.number found.1.number found.1.rest.now) (IsLineFault feeds lines.entry.number) }
 {
     let mut numbers = [0i64; 3];
-    let (found, next): (Rejection, Lines<'a>) = match read_fact(lines, "rejected", &mut numbers) {
+    let (found, next): (Fault, Lines<'a>) = match read_fact(lines, "rejected", &mut numbers) {
         Ok(read) => read,
         Err(fault) => return Err(fault),
     };
-    let verdict = Verdict::Rejected {
-        rule: found.rule,
-        row: found.cell.row,
-        col: found.cell.col,
-    };
-    Ok((verdict, next))
+    Ok((UnionVerdict::Rejected(found), next))
 }
 
-impl ReportLine for Verdict {
+/// The count as a signed number of 64 bits; a larger one is refused as memory is.
+fn signed(count: u64) -> Result<i64, OutOfMemory>
+    ensures value { IfOk result (λ n. n ≡ pos count) }
+    ensures in_range { IfOk result (λ _. count < 2 ^ 63) }
+{
+    match i64::try_from(count) {
+        Ok(number) => Ok(number),
+        Err(_) => Err(OutOfMemory),
+    }
+}
+
+/// Appends the line of counts.
+fn push_counts(text: &mut Vec<u8>, counts: &UnionCounts) -> Result<(), OutOfMemory>
+    ensures written { OnOk result (text.new.items ≡ text.old.items ++ verdict_line (UnionVerdict.Accepted counts.now)) }
+    ensures in_range { OnOk result (CountsFit counts.now) }
+{
+    let data_cells = signed(counts.data_cells)?;
+    let raised = signed(counts.raised)?;
+    let outlets = signed(counts.outlets)?;
+    let numbers = [
+        i64::from(counts.rows),
+        i64::from(counts.cols),
+        data_cells,
+        raised,
+        outlets,
+    ];
+    push_line(text, "accepted", &numbers)
+}
+
+/// Appends the line of a fault.
+fn push_fault(text: &mut Vec<u8>, fault: &Fault) -> Result<(), OutOfMemory>
+    ensures written { OnOk result (text.new.items ≡ text.old.items ++ verdict_line (UnionVerdict.Rejected fault.now)) }
+    ensures in_range { IsNarrow fault.now.cell }
+{
+    let numbers = [
+        i64::from(fault.rule.number()),
+        i64::from(fault.cell.row),
+        i64::from(fault.cell.col),
+    ];
+    push_line(text, "rejected", &numbers)
+}
+
+impl ReportLine for UnionVerdict {
     ghost line_of = { verdict_line };
 
     ghost fits = { VerdictFits };
 
-    fn read_from<'a>(lines: Lines<'a>) -> Result<(Verdict, Lines<'a>), ReportFault> {
+    fn read_from<'a>(lines: Lines<'a>) -> Result<(UnionVerdict, Lines<'a>), ReportFault> {
         let mut numbers = [0i64; 5];
         let next = match read_line(lines, "accepted", &mut numbers) {
             Ok(next) => next,
-            Err(_) => return read_rejection(lines),
+            Err(_) => return read_fault(lines),
         };
-        let Some(counts) = Counts::from_numbers(&numbers) else {
+        let Some(counts) = UnionCounts::from_numbers(&numbers) else {
             return Err(ReportFault::OutOfRange(lines.number));
         };
-        Ok((Verdict::Accepted(counts), next))
+        Ok((UnionVerdict::Accepted(counts), next))
     }
 
     fn push_to(&self, text: &mut Vec<u8>) -> Result<(), OutOfMemory> {
-        let verdict = *self;
-        match verdict {
-            Verdict::Accepted(counts) => {
-                let numbers = [
-                    i64::from(counts.rows),
-                    i64::from(counts.cols),
-                    i64::from(counts.data_cells),
-                    i64::from(counts.raised),
-                    i64::from(counts.outlets),
-                ];
-                push_line(text, "accepted", &numbers)
-            }
-            Verdict::Rejected { rule, row, col } => {
-                let numbers = [i64::from(rule.number()), i64::from(row), i64::from(col)];
-                push_line(text, "rejected", &numbers)
-            }
+        match self {
+            UnionVerdict::Accepted(counts) => push_counts(text, counts),
+            UnionVerdict::Rejected(fault) => push_fault(text, fault),
         }
     }
 }

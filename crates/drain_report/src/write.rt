@@ -14,7 +14,8 @@ use std::alloc::Global;
 
 /// The text of a report, in ASCII.
 ///
-/// The lists are as long as 32 bits count; a longer one is refused as memory is.
+/// The lists are as long as 32 bits count, and counts of cells are signed numbers of 64 bits; a longer list and a larger
+/// count are refused as memory is.
 pub fn write_report(alloc: Global, window: &WindowReport) -> Result<Vec<u8>, OutOfMemory>
     ensures written { IfOk result (λ text. text.items ≡ report_text (contents_of window.now)) }
 

@@ -9,8 +9,9 @@ use Rattle.drain_grid.proofs.Neighbors.{place}
 use Rattle.drain_union.specs.declared.place.Place.{Place}
 use Rattle.drain_union.specs.Windows.{IsJudgedAlong, IsJudgedAt, JudgesSome, BothJudgeOne, in_union, IsPlaceIn, judged_top, judged_left, judged_bottom, judged_right}
 use Rattle.drain_union.specs.Reports.{OverlapInSeams}
+use Rattle.drain_union.specs.Joins.{LiesInBox}
 use Rattle.drain_union.specs.Laws.{JudgedApart}
-use Rattle.drain_union.proofs.JudgedCounts.{judged_both, judged_at}
+use Rattle.drain_union.proofs.JudgedCounts.{all_of, judged_both, judged_at}
 
 -- a judged cell of the union lies between the edges of the judged rows and columns
 pub record IsWithinEdges (p : Place) (c : Cell) : Type 0 where
@@ -109,45 +110,66 @@ other : {X : Type 0} (b : Bool) → b ≡ false → IsTrue b ⊎ X → X
 other b unset (inl is) = absurd (false≢true (sym unset ∙ is))
 other b unset (inr x) = x
 
--- along one direction: n numbers from t on, then m numbers from v on, below an end
-along : (s f : Bool) (t n v m end a b x y : ℕ) → IsTrue s ⊎ (t + n ≡ end) → IsTrue f ⊎ (v ≡ 0) → v + m ≤ end → t + a ≡ v + b →
+-- along one direction: n numbers from t on, then m numbers from v on, from a start up to an end
+along : (s f : Bool) (t n v m begin end a b x y : ℕ) → IsTrue s ⊎ (t + n ≡ end) → IsTrue f ⊎ (v ≡ begin) → begin ≤ t → v + m ≤ end → t + a ≡ v + b →
     a < n → b < m → x < n → (IsTrue s → x + 1 < n) → y < m → (IsTrue f → 0 < y) →
     t + n - (if s then 1 else 0) ≤ v + (if f then 1 else 0) → (IsTrue s × (n ≤ a + 2)) × (IsTrue f × (b < 2))
-along true true t n v m end a b x y edge start below same in_a in_b in_x more in_y some apart =
+along true true t n v m begin end a b x y edge start above below same in_a in_b in_x more in_y some apart =
     ((refl, omega (arith, same, in_a, apart)), (refl, omega (arith, same, in_a, apart)))
-along true false t n v m end a b x y edge start below same in_a in_b in_x more in_y some apart =
+along true false t n v m begin end a b x y edge start above below same in_a in_b in_x more in_y some apart =
     let next : x + 1 < n = more refl in
-    let zero_at : v ≡ 0 = other false refl start in
-    absurd (omega (arith, zero_at, apart))
-along false true t n v m end a b x y edge start below same in_a in_b in_x more in_y some apart =
+    let at_start : v ≡ begin = other false refl start in
+    absurd (omega (arith, at_start, above, apart))
+along false true t n v m begin end a b x y edge start above below same in_a in_b in_x more in_y some apart =
     let after : 0 < y = some refl in
     let at_end : t + n ≡ end = other false refl edge in
     absurd (omega (arith, at_end, below, in_y, apart))
-along false false t n v m end a b x y edge start below same in_a in_b in_x more in_y some apart =
+along false false t n v m begin end a b x y edge start above below same in_a in_b in_x more in_y some apart =
     let at_end : t + n ≡ end = other false refl edge in
     absurd (omega (arith, at_end, below, in_y, apart))
 
-by_edges : (e : Extent) (p q : Place) → IsPlaceIn e p → IsPlaceIn e q → JudgesSome p → JudgesSome q → AreEdgesApart p q → OverlapInSeams 2 p q
-by_edges e p q in_p in_q of_p of_q (inl (inl above)) a b at_a at_b same =
+-- what a side that isn't inner is in a box
+side : {X Y Z : Type 0} → X ⊎ (Y × Z) → X ⊎ Y
+side (inl inner) = inl inner
+side (inr outer) = inr outer.0
+
+by_edges : (box p q : Place) → LiesInBox box p → LiesInBox box q → JudgesSome p → JudgesSome q → AreEdgesApart p q → OverlapInSeams 2 p q
+by_edges box p q in_p in_q of_p of_q (inl (inl above)) a b at_a at_b same =
     let row : p.top + a.row ≡ q.top + b.row = ap (λ (c : Cell). c.row) same in
-    let both = along p.inner.south q.inner.north p.top p.extent.rows q.top q.extent.rows e.rows a.row b.row of_p.0.row of_q.0.row
-    in_p.south in_q.north in_q.rows row at_a.row at_b.row of_p.1.inside.row of_p.1.south of_q.1.inside.row of_q.1.north above in
+    let both = along p.inner.south q.inner.north p.top p.extent.rows q.top q.extent.rows box.top (box.top + box.extent.rows) a.row b.row of_p.0.row of_q.0.row
+    (side in_p.south) (side in_q.north) in_p.rows_from in_q.rows_to row at_a.row at_b.row of_p.1.inside.row of_p.1.south of_q.1.inside.row of_q.1.north above in
     (record { inside = at_a; beside = inl (inr both.0) }, record { inside = at_b; beside = inl (inl both.1) })
-by_edges e p q in_p in_q of_p of_q (inl (inr below)) a b at_a at_b same =
+by_edges box p q in_p in_q of_p of_q (inl (inr below)) a b at_a at_b same =
     let row : q.top + b.row ≡ p.top + a.row = ap (λ (c : Cell). c.row) (sym same) in
-    let both = along q.inner.south p.inner.north q.top q.extent.rows p.top p.extent.rows e.rows b.row a.row of_q.0.row of_p.0.row
-    in_q.south in_p.north in_p.rows row at_b.row at_a.row of_q.1.inside.row of_q.1.south of_p.1.inside.row of_p.1.north below in
+    let both = along q.inner.south p.inner.north q.top q.extent.rows p.top p.extent.rows box.top (box.top + box.extent.rows) b.row a.row of_q.0.row of_p.0.row
+    (side in_q.south) (side in_p.north) in_q.rows_from in_p.rows_to row at_b.row at_a.row of_q.1.inside.row of_q.1.south of_p.1.inside.row of_p.1.north below in
     (record { inside = at_a; beside = inl (inl both.1) }, record { inside = at_b; beside = inl (inr both.0) })
-by_edges e p q in_p in_q of_p of_q (inr (inl before)) a b at_a at_b same =
+by_edges box p q in_p in_q of_p of_q (inr (inl before)) a b at_a at_b same =
     let col : p.left + a.col ≡ q.left + b.col = ap (λ (c : Cell). c.col) same in
-    let both = along p.inner.east q.inner.west p.left p.extent.cols q.left q.extent.cols e.cols a.col b.col of_p.0.col of_q.0.col
-    in_p.east in_q.west in_q.cols col at_a.col at_b.col of_p.1.inside.col of_p.1.east of_q.1.inside.col of_q.1.west before in
+    let both = along p.inner.east q.inner.west p.left p.extent.cols q.left q.extent.cols box.left (box.left + box.extent.cols) a.col b.col of_p.0.col of_q.0.col
+    (side in_p.east) (side in_q.west) in_p.cols_from in_q.cols_to col at_a.col at_b.col of_p.1.inside.col of_p.1.east of_q.1.inside.col of_q.1.west before in
     (record { inside = at_a; beside = inr (inr both.0) }, record { inside = at_b; beside = inr (inl both.1) })
-by_edges e p q in_p in_q of_p of_q (inr (inr behind)) a b at_a at_b same =
+by_edges box p q in_p in_q of_p of_q (inr (inr behind)) a b at_a at_b same =
     let col : q.left + b.col ≡ p.left + a.col = ap (λ (c : Cell). c.col) (sym same) in
-    let both = along q.inner.east p.inner.west q.left q.extent.cols p.left p.extent.cols e.cols b.col a.col of_q.0.col of_p.0.col
-    in_q.east in_p.west in_p.cols col at_b.col at_a.col of_q.1.inside.col of_q.1.east of_p.1.inside.col of_p.1.west behind in
+    let both = along q.inner.east p.inner.west q.left q.extent.cols p.left p.extent.cols box.left (box.left + box.extent.cols) b.col a.col of_q.0.col of_p.0.col
+    (side in_q.east) (side in_p.west) in_q.cols_from in_p.cols_to col at_b.col at_a.col of_q.1.inside.col of_q.1.east of_p.1.inside.col of_p.1.west behind in
     (record { inside = at_a; beside = inr (inl both.1) }, record { inside = at_b; beside = inr (inr both.0) })
 
+pub apart_in_box : (box p q : Place) → LiesInBox box p → LiesInBox box q → JudgesSome p → JudgesSome q → ¬ BothJudgeOne p q → OverlapInSeams 2 p q
+apart_in_box box p q in_p in_q some_p some_q none = by_edges box p q in_p in_q some_p some_q (edges_apart p q some_p some_q none)
+
+-- a place in a union lies in the box that is all of it
+pub in_all_of : (e : Extent) (p : Place) → IsPlaceIn e p → LiesInBox (all_of e) p
+in_all_of e p is = record {
+  rows_from = omega arith;
+  rows_to = omega (arith, is.rows);
+  cols_from = omega arith;
+  cols_to = omega (arith, is.cols);
+  north = elim is.north [ inl inner ↦ inl inner | inr edge ↦ inr (edge, false≢true) ];
+  south = elim is.south [ inl inner ↦ inl inner | inr edge ↦ inr (omega (arith, edge), false≢true) ];
+  west = elim is.west [ inl inner ↦ inl inner | inr edge ↦ inr (edge, false≢true) ];
+  east = elim is.east [ inl inner ↦ inl inner | inr edge ↦ inr (omega (arith, edge), false≢true) ];
+}
+
 pub judged_apart : JudgedApart
-judged_apart e p q in_p in_q some_p some_q none = by_edges e p q in_p in_q some_p some_q (edges_apart p q some_p some_q none)
+judged_apart e p q in_p in_q = apart_in_box (all_of e) p q (in_all_of e p in_p) (in_all_of e q in_q)

@@ -1,11 +1,11 @@
 -- The first faults of windows keep their order in the union, so the least of them is the union's.
 use Rattle.std.proofs.Common.{◌≡◌, ◌+◌, ◌⊎◌, inl, inr, sym, ap, subst, ◌∙◌, arith}
-use Rattle.std.specs.List.{Contains}
 use Rattle.std.proofs.lemmas.Bool.{cases_order}
 use Rattle.drain_grid.specs.declared.cell.Cell.{Cell}
 use Rattle.drain_grid.specs.declared.rule.Rule.{Rule}
 use Rattle.drain_grid.specs.Extent.{IsEarlier}
 use Rattle.drain_grid.specs.Rule.{IsPatchRule, rule_number}
+use Rattle.drain_grid.specs.Values.{NoDataNumbers}
 use Rattle.drain_grid.specs.Unranked.{unranked}
 use Rattle.drain_grid.specs.GridRules.{HoldsAt, IsEarlierPair}
 use Rattle.drain_grid.proofs.Alike.{cases_earlier, earlier_trans}
@@ -43,11 +43,27 @@ pair_order a b p q =
       | inr (inr after) ↦ inr (inl (inl after))
     ]
 
+-- an earlier pair of a window is an earlier one of the union
+pub moved_earlier : (p : Place) (a b : Cell) (q r : Rule) → IsEarlierPair a q b r → IsEarlierPair (in_union p a) q (in_union p b) r
+moved_earlier p a b q r (inl before) = inl (moved p a b before)
+moved_earlier p a b q r (inr same) = inr (ap (in_union p) same.0, same.1)
+
 moved_pair : (p : Place) (a b : Cell) (q r : Rule) → IsEarlierPair a q b r ⊎ ((a ≡ b) × (rule_number q ≡ rule_number r)) →
     IsEarlierPair (in_union p a) q (in_union p b) r ⊎ ((in_union p a ≡ in_union p b) × (rule_number q ≡ rule_number r))
-moved_pair p a b q r (inl (inl before)) = inl (inl (moved p a b before))
-moved_pair p a b q r (inl (inr same)) = inl (inr (ap (in_union p) same.0, same.1))
+moved_pair p a b q r (inl before) = inl (moved_earlier p a b q r before)
 moved_pair p a b q r (inr same) = inr (ap (in_union p) same.0, same.1)
+
+-- what stands before a pair of the union holds in a window that has no fault before the pair
+pub in_window : (nodata : NoDataNumbers) (c : Cell) (r : Rule) (v : Window) (x : Cell) (q : Rule) → IsJudgedIn v.place x → IsPatchRule q →
+    IsEarlierPair (in_union v.place x) q c r → RulesHoldInside nodata v ⊎ IsNotBefore nodata v c r →
+    HoldsAt (unranked nodata) v.grid v.products x q
+in_window nodata c r v x q judged own before (inl hold) = hold x q judged own
+in_window nodata c r v x q judged own before (inr fault) =
+    elim (pair_order x fault.0 q fault.1) [
+      | inl sooner ↦ fault.2.first x q judged own sooner
+      | inr later ↦
+          absurd (fault.3 (pair_trans (in_union v.place fault.0) (in_union v.place x) c fault.1 q r (moved_pair v.place fault.0 x fault.1 q later) before))
+    ]
 
 pub least_fault_is_first : LeastFaultIsFirst
 least_fault_is_first u ps nodata windows are judge w c r at_w is least = record {
@@ -62,17 +78,5 @@ least_fault_is_first u ps nodata windows are judge w c r at_w is least = record 
       subst (λ z. IsEarlierPair z q (in_union w.place c) r) (sym at_b) earlier in
       subst (λ z. HoldsAt (unranked nodata) u ps z q) at_b
       (by_patch (unranked nodata) one.0.grid u one.0.products ps one.2.0 (in_union one.0.place one.2.0) q own
-      (patch_of_window u ps one.0 (are one.0 one.1) one.2.0 one.2.1) (in_window one.0 one.1 one.2.0 q one.2.1 own before (least one.0 one.1))));
+      (patch_of_window u ps one.0 (are one.0 one.1) one.2.0 one.2.1) (in_window nodata (in_union w.place c) r one.0 one.2.0 q one.2.1 own before (least one.0 one.1))));
 }
-  where
-    in_window : (v : Window) → Contains windows v → (x : Cell) (q : Rule) → IsJudgedIn v.place x → IsPatchRule q →
-        IsEarlierPair (in_union v.place x) q (in_union w.place c) r → RulesHoldInside nodata v ⊎ IsNotBefore nodata v (in_union w.place c) r →
-        HoldsAt (unranked nodata) v.grid v.products x q
-    in_window v at_v x q judged own before (inl hold) = hold x q judged own
-    in_window v at_v x q judged own before (inr fault) =
-        elim (pair_order x fault.0 q fault.1) [
-          | inl sooner ↦ fault.2.first x q judged own sooner
-          | inr later ↦
-              absurd (fault.3 (pair_trans (in_union v.place fault.0) (in_union v.place x) (in_union w.place c) fault.1 q r
-              (moved_pair v.place fault.0 x fault.1 q later) before))
-        ]

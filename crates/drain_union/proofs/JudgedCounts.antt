@@ -1,23 +1,28 @@
--- The counts of windows that judge each cell of their union once are the union's. Each judged cell is counted at the
--- union's cell that it is, so the counts are a sum over windows, their cells and the union's cells; in another order that
--- is a sum over the union's cells, where one window counts, and of it one cell.
-use Rattle.std.proofs.Common.{◌≡◌, ◌+◌, ◌-◌, ◌<◌, ◌≤◌, ap, arith, ◌≢◌, ℕ, zero, suc, inl, inr, pos, Bool, true, false, cond, ◌&&◌, is_some, int_lt, unwrap_or, IsTrue, List, [], ◌∷◌, map, length, slice_index_or, refl, sym, subst, ◌∙◌}
+-- The counts of windows that judge each cell of a box once, and no other, are the box's. Each judged cell is counted at
+-- the box's cell that it is, so the counts are a sum over windows, their cells and the box's cells; in another order that
+-- is a sum over the box's cells, where one window counts, and of it one cell. A union is a box that judges all its cells.
+use Rattle.std.proofs.Common.{◌≡◌, ◌+◌, ◌-◌, ◌*◌, ◌<◌, ◌≤◌, ap, arith, ◌≢◌, ℕ, zero, suc, inl, inr, pos, Bool, true, false, cond, ◌&&◌, is_some, int_lt, unwrap_or, IsTrue, List, [], ◌∷◌, map, length, slice_index_or, refl, sym, subst, ◌∙◌}
 use Rattle.drain_grid.specs.declared.cell.Cell.{Cell}
 use Rattle.drain_grid.proofs.Neighbors.{place, same_place}
 use Rattle.drain_union.specs.declared.place.Place.{Place}
-use Rattle.drain_union.specs.Windows.{IsJudgedAlong, IsJudgedAt, BothJudgeOne, Window, in_union, IsJudgedIn, AreWindowsOf, JudgeAll}
+use Rattle.drain_union.specs.Windows.{IsJudgedAlong, IsJudgedAt, BothJudgeOne, Window, in_union, IsJudgedIn, IsJudgedInSome, AreWindowsOf, JudgeAll}
 use Rattle.std.specs.Ordering.{int_eq}
-use Rattle.std.specs.List.{AllPairs, Contains, sum_by, flat_map, range_with_len}
+use Rattle.std.specs.List.{AllPairs, Contains, count_by, sum_by, flat_map, range_with_len}
 use Rattle.std.proofs.lemmas.Bool.{false≢true, false_from_ne_true, cases_eq, cases_order}
-use Rattle.std.proofs.lemmas.List.Sums.{sum_by-cons, sum_by-append}
-use Rattle.drain_grid.specs.GridRules.{is_data, is_raised}
+use Rattle.std.proofs.lemmas.List.Concat.{length-flat_map}
+use Rattle.std.proofs.lemmas.List.FromFn.{length-map-range_with_len, length-range_with_len}
+use Rattle.std.proofs.lemmas.List.Sums.{count_by-le-length, sum_by-append, sum_by-cons, sum_by-le}
+use Rattle.std.proofs.lemmas.Nat.{mul-le}
+use Rattle.drain_grid.specs.GridRules.{is_data, is_raised, data_count, raised_count}
 use Rattle.drain_grid.specs.Extent.{IsCellOf, same_cell, cells, Extent}
 use Rattle.drain_grid.specs.Grid.{Grid, Products, values_at}
 use Rattle.drain_grid.specs.Values.{Values}
-use Rattle.drain_grid.proofs.CellSums.{same_cell_true, same_cell_self, sum_by_cells_one, sum_by_cells_same, sum_by_same, sum_by_swap, sum_by_zero}
-use Rattle.drain_rules.specs.Verdicts.{has_outlet_code}
-use Rattle.drain_union.specs.JudgedCounts.{ring, judged_row, judged_cells}
+use Rattle.drain_grid.proofs.CellSums.{same_cell_true, same_cell_self, sum_by_same, sum_by_swap, sum_by_zero}
+use Rattle.drain_rules.specs.Verdicts.{has_outlet_code, outlet_count}
+use Rattle.drain_union.specs.JudgedCounts.{ring, judged_row, judged_cells, judged_data, judged_raised, judged_outlets}
 use Rattle.drain_union.specs.Laws.{CountsAddUp}
+use Rattle.drain_union.proofs.Unions.{in_grid}
+use Rattle.drain_union.proofs.WindowPatches.{there}
 
 -- A cell of the union is judged at a place where its row and its column are.
 
@@ -183,6 +188,15 @@ module _ (p : Place) where
       (λ r other. sum_by_zero (λ k. f (place r k)) (range_with_len left cols) (λ k. others (place r k) (λ same. other (ap (λ (x : Cell). x.row) same))))
       ∙ range_one (λ k. f (place c.row k)) left cols c.col col.0 col.1 (λ k other. others (place c.row k) (λ same. other (ap (λ (x : Cell). x.col) same)))
 
+-- no more cells are judged than the place has
+pub judged_most : (p : Place) (counts : Cell → Bool) → count_by counts (judged_cells p) ≤ p.extent.rows * p.extent.cols
+judged_most p counts =
+    let in_row : (r : ℕ) → length (judged_row p r) ≤ cols p = λ r. omega (arith, length-map-range_with_len (place r) (left p) (cols p)) in
+    let all = sum_by-le (λ r. length (judged_row p r)) (cols p) (range_with_len (top p) (rows p)) (λ i d below. in_row (slice_index_or (range_with_len (top p) (rows p)) i d)) in
+    let many : length (range_with_len (top p) (rows p)) * cols p ≡ rows p * cols p = ap (λ n. n * cols p) (length-range_with_len (top p) (rows p)) in
+    let most = mul-le (rows p) (cols p) p.extent.rows p.extent.cols (omega arith) (omega arith) in
+    omega (arith, count_by-le-length counts (judged_cells p), length-flat_map (judged_row p) (range_with_len (top p) (rows p)), all, many, most)
+
 -- a place puts two cells at one cell only where they are one
 pub one_cell : (p : Place) (a b : Cell) → in_union p a ≡ in_union p b → a ≡ b
 one_cell p a b same =
@@ -190,52 +204,53 @@ one_cell p a b same =
     let col : p.left + a.col ≡ p.left + b.col = ap (λ (c : Cell). c.col) same in
     same_place a b (omega (arith, row)) (omega (arith, col))
 
-module _ (u : Grid) (ps : Products) (windows : List Window) (are : AreWindowsOf u ps windows) (whole : JudgeAll u.extent windows)
+-- windows that judge the cells of a box, and no other, and each of them once
+module _ (box : Place) (windows : List Window)
+    (within : (w : Window) → Contains windows w → (x : Cell) → IsJudgedIn w.place x → IsJudgedAt box (in_union w.place x))
+    (whole : (c : Cell) → IsJudgedIn box c → IsJudgedInSome windows (in_union box c))
     (apart : AllPairs (λ v w. ¬ BothJudgeOne v.place w.place) windows) where
-  inside_union : (w : Window) → Contains windows w → (x : Cell) → IsJudgedIn w.place x → IsCellOf u.extent (in_union w.place x)
-  inside_union w has x judged =
-      let placed = (are w has).placed in
-      let rows : w.place.top + w.place.extent.rows ≤ u.extent.rows = placed.rows in
-      let cols : w.place.left + w.place.extent.cols ≤ u.extent.cols = placed.cols in
-      let row : x.row < w.place.extent.rows = judged.inside.row in
-      let col : x.col < w.place.extent.cols = judged.inside.col in
-      record { row = omega arith; col = omega arith }
-
-  -- terms of the union's cells, and of the windows' cells that are these
+  -- terms of the box's cells, and of the windows' cells that are these
   module _ (f : Cell → ℕ) (of : Window → Cell → ℕ)
-      (alike : (w : Window) → Contains windows w → (x : Cell) → IsJudgedIn w.place x → of w x ≡ f (in_union w.place x)) where
-    -- what a window counts of a cell of the union
+      (alike : (w : Window) → Contains windows w → (x c : Cell) → IsJudgedIn w.place x → IsJudgedIn box c → in_union w.place x ≡ in_union box c →
+      of w x ≡ f c) where
+    -- what a window counts of a cell of the box
     abbrev term : Window → Cell → ℕ
-    term w c = sum_by (λ x. cond (same_cell c (in_union w.place x)) (f c) 0) (judged_cells w.place)
+    term w c = sum_by (λ x. cond (same_cell (in_union box c) (in_union w.place x)) (f c) 0) (judged_cells w.place)
 
-    window_sum : (w : Window) → Contains windows w → sum_by (of w) (judged_cells w.place) ≡ sum_by (term w) (cells u.extent)
+    window_sum : (w : Window) → Contains windows w → sum_by (of w) (judged_cells w.place) ≡ sum_by (term w) (judged_cells box)
     window_sum w has =
-        judged_same w.place (of w) (λ x. sum_by (λ c. cond (same_cell c (in_union w.place x)) (f c) 0) (cells u.extent))
-        (λ x judged. alike w has x judged ∙ sym (at_one (in_union w.place x) (inside_union w has x judged)))
-        ∙ sum_by_swap (λ x c. cond (same_cell c (in_union w.place x)) (f c) 0) (judged_cells w.place) (cells u.extent)
+        judged_same w.place (of w) (λ x. sum_by (λ c. cond (same_cell (in_union box c) (in_union w.place x)) (f c) 0) (judged_cells box)) at_one
+        ∙ sum_by_swap (λ x c. cond (same_cell (in_union box c) (in_union w.place x)) (f c) 0) (judged_cells w.place) (judged_cells box)
       where
-        at_one : (d : Cell) → IsCellOf u.extent d → sum_by (λ c. cond (same_cell c d) (f c) 0) (cells u.extent) ≡ f d
-        at_one d inside =
-            sum_by_cells_one (λ c. cond (same_cell c d) (f c) 0) u.extent d inside
-            (λ c differ. ap (λ b. cond b (f c) 0) (false_from_ne_true (same_cell c d) (λ is. differ (same_cell_true c d is))))
-            ∙ ap (λ b. cond b (f d) 0) (same_cell_self d)
+        at_one : (x : Cell) → IsJudgedIn w.place x →
+            of w x ≡ sum_by (λ c. cond (same_cell (in_union box c) (in_union w.place x)) (f c) 0) (judged_cells box)
+        at_one x judged =
+            let at = within w has x judged in
+            let here : same_cell (in_union box at.0) (in_union w.place x) ≡ true =
+            subst (λ d. same_cell (in_union box at.0) d ≡ true) at.2 (same_cell_self (in_union box at.0)) in
+            let one = judged_one box (λ c. cond (same_cell (in_union box c) (in_union w.place x)) (f c) 0) at.0 at.1
+            (λ c differ. ap (λ b. cond b (f c) 0) (false_from_ne_true (same_cell (in_union box c) (in_union w.place x))
+            (λ is. differ (one_cell box c at.0 (same_cell_true (in_union box c) (in_union w.place x) is ∙ sym at.2))))) in
+            alike w has x at.0 judged at.1 (sym at.2) ∙ sym (one ∙ ap (λ b. cond b (f at.0) 0) here)
 
     -- nothing of a cell that it doesn't judge, and of another one all
-    term_none : (w : Window) (c : Cell) → ¬ IsJudgedAt w.place c → term w c ≡ 0
+    term_none : (w : Window) (c : Cell) → ¬ IsJudgedAt w.place (in_union box c) → term w c ≡ 0
     term_none w c not =
-        judged_same w.place (λ x. cond (same_cell c (in_union w.place x)) (f c) 0) (λ _. 0)
+        judged_same w.place (λ x. cond (same_cell (in_union box c) (in_union w.place x)) (f c) 0) (λ _. 0)
         (λ x judged. ap (λ b. cond b (f c) 0)
-        (false_from_ne_true (same_cell c (in_union w.place x)) (λ is. not (x, judged, sym (same_cell_true c (in_union w.place x) is)))))
+        (false_from_ne_true (same_cell (in_union box c) (in_union w.place x))
+        (λ is. not (x, judged, sym (same_cell_true (in_union box c) (in_union w.place x) is)))))
         ∙ sum_by_zero (λ _. 0) (judged_cells w.place) (λ _. refl)
 
-    term_all : (w : Window) (c x : Cell) → IsJudgedIn w.place x → in_union w.place x ≡ c → term w c ≡ f c
+    term_all : (w : Window) (c x : Cell) → IsJudgedIn w.place x → in_union w.place x ≡ in_union box c → term w c ≡ f c
     term_all w c x judged is =
-        judged_one w.place (λ y. cond (same_cell c (in_union w.place y)) (f c) 0) x judged
+        judged_one w.place (λ y. cond (same_cell (in_union box c) (in_union w.place y)) (f c) 0) x judged
         (λ y differ. ap (λ b. cond b (f c) 0)
-        (false_from_ne_true (same_cell c (in_union w.place y)) (λ same. differ (one_cell w.place y x (sym (same_cell_true c (in_union w.place y) same) ∙ sym is)))))
-        ∙ ap (λ b. cond b (f c) 0) (subst (λ d. same_cell c d ≡ true) (sym is) (same_cell_self c))
+        (false_from_ne_true (same_cell (in_union box c) (in_union w.place y))
+        (λ same. differ (one_cell w.place y x (sym (same_cell_true (in_union box c) (in_union w.place y) same) ∙ sym is)))))
+        ∙ ap (λ b. cond b (f c) 0) (subst (λ d. same_cell (in_union box c) d ≡ true) (sym is) (same_cell_self (in_union box c)))
 
-    once : (c : Cell) → IsCellOf u.extent c → sum_by (λ w. term w c) windows ≡ f c
+    once : (c : Cell) → IsJudgedIn box c → sum_by (λ w. term w c) windows ≡ f c
     once c inside =
         let at = whole c inside in
         let w = at.0 in
@@ -244,33 +259,89 @@ module _ (u : Grid) (ps : Products) (windows : List Window) (are : AreWindowsOf 
         ∙ ap (λ (v : Window). term v c) at.1.2
         ∙ term_all w c at.2.0 at.2.1 at.2.2
       where
-        others : (j : ℕ) → j < length windows → j ≢ (whole c inside).1.0 → ¬ IsJudgedAt (slice_index_or windows j (whole c inside).0).place c
+        others : (j : ℕ) → j < length windows → j ≢ (whole c inside).1.0 →
+            ¬ IsJudgedAt (slice_index_or windows j (whole c inside).0).place (in_union box c)
         others j below differ judged =
             let at = whole c inside in
-            let here : IsJudgedAt (slice_index_or windows at.1.0 at.0).place c = subst (λ (v : Window). IsJudgedAt v.place c) (sym at.1.2) at.2 in
+            let here : IsJudgedAt (slice_index_or windows at.1.0 at.0).place (in_union box c) =
+            subst (λ (v : Window). IsJudgedAt v.place (in_union box c)) (sym at.1.2) at.2 in
             elim (cases_order j at.1.0) [
               | inl same ↦ absurd (differ same)
-              | inr (inl before) ↦ apart j at.1.0 at.0 before at.1.1 (c, judged, here)
-              | inr (inr after) ↦ apart at.1.0 j at.0 after below (c, here, judged)
+              | inr (inl before) ↦ apart j at.1.0 at.0 before at.1.1 (in_union box c, judged, here)
+              | inr (inr after) ↦ apart at.1.0 j at.0 after below (in_union box c, here, judged)
             ]
 
-    pub add_up : sum_by (λ w. sum_by (of w) (judged_cells w.place)) windows ≡ sum_by f (cells u.extent)
+    add_up : sum_by (λ w. sum_by (of w) (judged_cells w.place)) windows ≡ sum_by f (judged_cells box)
     add_up =
-        listed_same (λ w. sum_by (of w) (judged_cells w.place)) (λ w. sum_by (term w) (cells u.extent)) windows window_sum
-        ∙ sum_by_swap term windows (cells u.extent)
-        ∙ sum_by_cells_same (λ c. sum_by (λ w. term w c) windows) f u.extent once
+        listed_same (λ w. sum_by (of w) (judged_cells w.place)) (λ w. sum_by (term w) (judged_cells box)) windows window_sum
+        ∙ sum_by_swap term windows (judged_cells box)
+        ∙ judged_same box (λ c. sum_by (λ w. term w c) windows) f once
 
-  shown : (w : Window) → Contains windows w → (x : Cell) → IsJudgedIn w.place x → values_at w.grid w.products x ≡ values_at u ps (in_union w.place x)
-  shown w has x judged =
+  -- so where windows show what a grid and its products show in the box, their counts add up to those of its cells
+  module _ (g : Grid) (ps : Products)
+      (shown : (w : Window) → Contains windows w → (x c : Cell) → IsJudgedIn w.place x → IsJudgedIn box c → in_union w.place x ≡ in_union box c →
+      values_at w.grid w.products x ≡ values_at g ps c) where
+    pub add_up_data : sum_by judged_data windows ≡ count_by (is_data g) (judged_cells box)
+    add_up_data = add_up (λ c. cond (is_data g c) 1 0) (λ w x. cond (is_data w.grid x) 1 0)
+        (λ w has x c at at_c same. ap (λ (v : Values). cond (is_some v.z) 1 0) (shown w has x c at at_c same))
+
+    pub add_up_raised : sum_by judged_raised windows ≡ count_by (is_raised g ps) (judged_cells box)
+    add_up_raised = add_up (λ c. cond (is_raised g ps c) 1 0) (λ w x. cond (is_raised w.grid w.products x) 1 0)
+        (λ w has x c at at_c same. ap (λ (v : Values). cond (is_some v.z && int_lt (unwrap_or v.z (pos 0)) v.con) 1 0) (shown w has x c at at_c same))
+
+    pub add_up_outlets : sum_by judged_outlets windows ≡ count_by (has_outlet_code g ps) (judged_cells box)
+    add_up_outlets = add_up (λ c. cond (has_outlet_code g ps c) 1 0) (λ w x. cond (has_outlet_code w.grid w.products x) 1 0)
+        (λ w has x c at at_c same. ap (λ (v : Values). cond (is_some v.z && int_eq v.dir (pos 0)) 1 0) (shown w has x c at at_c same))
+
+-- the box that is all of a union
+abbrev pub all_of : Extent → Place
+all_of e = record { top = 0; left = 0; extent = e; inner = record { north = false; south = false; west = false; east = false } }
+
+in_all : (e : Extent) (c : Cell) → in_union (all_of e) c ≡ c
+in_all e c =
+    let row : 0 + c.row ≡ c.row = omega arith in
+    let col : 0 + c.col ≡ c.col = omega arith in
+    λ i. place (row i) (col i)
+
+all_cells : (e : Extent) → judged_cells (all_of e) ≡ cells e
+all_cells e =
+    let rows : e.rows - 0 - 0 ≡ e.rows = omega arith in
+    let cols : e.cols - 0 - 0 ≡ e.cols = omega arith in
+    λ i. flat_map (λ r. map (place r) (range_with_len 0 (cols i))) (range_with_len 0 (rows i))
+
+all_judged : (e : Extent) (c : Cell) → IsCellOf e c → IsJudgedIn (all_of e) c
+all_judged e c inside = record {
+  inside = inside;
+  north = λ no. absurd (false≢true no);
+  south = λ no. absurd (false≢true no);
+  west = λ no. absurd (false≢true no);
+  east = λ no. absurd (false≢true no);
+}
+
+module _ (u : Grid) (ps : Products) (windows : List Window) (are : AreWindowsOf u ps windows) (whole : JudgeAll u.extent windows)
+    (apart : AllPairs (λ v w. ¬ BothJudgeOne v.place w.place) windows) where
+  within_all : (w : Window) → Contains windows w → (x : Cell) → IsJudgedIn w.place x → IsJudgedAt (all_of u.extent) (in_union w.place x)
+  within_all w has x judged =
+      let c = in_union w.place x in
+      (c, all_judged u.extent c (there u.extent w.place (are w has).placed x judged.inside), in_all u.extent c)
+
+  all_judged_there : (c : Cell) → IsJudgedIn (all_of u.extent) c → IsJudgedInSome windows (in_union (all_of u.extent) c)
+  all_judged_there c judged = subst (IsJudgedInSome windows) (sym (in_all u.extent c)) (whole c judged.inside)
+
+  shown_there : (w : Window) → Contains windows w → (x c : Cell) → IsJudgedIn w.place x → IsJudgedIn (all_of u.extent) c →
+      in_union w.place x ≡ in_union (all_of u.extent) c → values_at w.grid w.products x ≡ values_at u ps c
+  shown_there w has x c judged_x judged_c same =
       let is = are w has in
-      is.values x (subst (λ (e : Extent). IsCellOf e x) (sym is.extent) judged.inside)
+      is.values x (in_grid w is.extent x judged_x.inside) ∙ ap (values_at u ps) (same ∙ in_all u.extent c)
+
+  add_up_all : (sum_by judged_data windows ≡ data_count u) × (sum_by judged_raised windows ≡ raised_count u ps)
+      × (sum_by judged_outlets windows ≡ outlet_count u ps)
+  add_up_all = (
+    add_up_data (all_of u.extent) windows within_all all_judged_there apart u ps shown_there ∙ ap (count_by (is_data u)) (all_cells u.extent),
+    add_up_raised (all_of u.extent) windows within_all all_judged_there apart u ps shown_there ∙ ap (count_by (is_raised u ps)) (all_cells u.extent),
+    add_up_outlets (all_of u.extent) windows within_all all_judged_there apart u ps shown_there
+        ∙ ap (count_by (has_outlet_code u ps)) (all_cells u.extent),
+  )
 
 pub counts_add_up : CountsAddUp
-counts_add_up u ps windows are whole apart = (
-  add_up u ps windows are whole apart (λ c. cond (is_data u c) 1 0) (λ w x. cond (is_data w.grid x) 1 0)
-      (λ w has x judged. ap (λ (v : Values). cond (is_some v.z) 1 0) (shown u ps windows are whole apart w has x judged)),
-  add_up u ps windows are whole apart (λ c. cond (is_raised u ps c) 1 0) (λ w x. cond (is_raised w.grid w.products x) 1 0)
-      (λ w has x judged. ap (λ (v : Values). cond (is_some v.z && int_lt (unwrap_or v.z (pos 0)) v.con) 1 0) (shown u ps windows are whole apart w has x judged)),
-  add_up u ps windows are whole apart (λ c. cond (has_outlet_code u ps c) 1 0) (λ w x. cond (has_outlet_code w.grid w.products x) 1 0)
-      (λ w has x judged. ap (λ (v : Values). cond (is_some v.z && int_eq v.dir (pos 0)) 1 0) (shown u ps windows are whole apart w has x judged)),
-)
+counts_add_up u ps windows are whole apart = add_up_all u ps windows are whole apart

@@ -38,7 +38,7 @@ to_map f xs x has =
     (has.0, subst (λ n. has.0 < n) (sym (length-map xs f)) has.1, get_or-map f xs has.0 x (f x) has.1 ∙ ap f has.2)
 
 -- two elements are one, or the one stands before the other
-pairs : {X : Type 0} (R : X → X → Type 0) (xs : List X) → AllPairs R xs → (x y : X) → Contains xs x → Contains xs y → (x ≡ y) ⊎ (R x y ⊎ R y x)
+pub pairs : {X : Type 0} (R : X → X → Type 0) (xs : List X) → AllPairs R xs → (x y : X) → Contains xs x → Contains xs y → (x ≡ y) ⊎ (R x y ⊎ R y x)
 pairs R xs all x y has_x has_y =
     let at_y : slice_index_or xs has_y.0 x ≡ y = get_or_default xs has_y.0 x y has_y.1 ∙ has_y.2 in
     elim (cases_order has_x.0 has_y.0) [
@@ -54,29 +54,11 @@ spaced_itself r a b in_a in_b one = ap (spacing_at r.spacings) (omega (arith, on
 spaced_turned : (q r : Report) → SpacedAlike q r → SpacedAlike r q
 spaced_turned q r same a b in_a in_b one = sym (same b a in_b in_a (sym one))
 
-module _ (depth : ℕ) (e : Extent) (nodata : NoDataNumbers) (reports : List Report) (window_of : Report → Window)
+-- reports that agree are on windows that do
+module _ (depth : ℕ) (reports : List Report) (window_of : Report → Window)
     (of : (r : Report) → Contains reports r → IsReportOf depth (window_of r) r) (holds : (r : Report) → Contains reports r → IsTrue r.holds)
-    (can : CanMerge depth e nodata reports) where
-  abbrev windows : List Window
-  windows = map window_of reports
-
-  laid : AreLaidIn e windows
-  laid w has =
-      let one = from_map window_of reports w has in
-      let is = of one.0 one.1 in
-      subst (λ (v : Window). IsPlaceIn e v.place × (v.grid.extent ≡ v.place.extent)) one.2
-      (subst (IsPlaceIn e) is.place (can.placed one.0 one.1), is.extent)
-
-  judge : JudgeAll e windows
-  judge c inside =
-      let judged = can.whole c inside in
-      let one = from_map (λ (r : Report). r.place) reports judged.0 judged.1 in
-      let is = of one.0 one.1 in (
-        window_of one.0,
-        to_map window_of reports one.0 one.1,
-        subst (λ (p : Place). (x : Cell) × IsJudgedIn p x × (in_union p x ≡ c)) (sym one.2 ∙ is.place) judged.2,
-      )
-
+    (overlaps : AllPairs (λ q r. OverlapInSeams depth q.place r.place) reports) (same_seams : AllPairs (λ q r. ShowTheSame q.seams r.seams) reports)
+    (same_rows : AllPairs SpacedAlike reports) where
   -- what two reports show at one cell, where the one stands before the other
   seams_agree : (q r : Report) → Contains reports q → Contains reports r → OverlapInSeams depth q.place r.place → ShowTheSame q.seams r.seams →
       (a b : Cell) → IsInside (window_of q).grid a → IsInside (window_of r).grid b →
@@ -92,7 +74,7 @@ module _ (depth : ℕ) (e : Extent) (nodata : NoDataNumbers) (reports : List Rep
       let on = seams a b there_a there_b one in
       same _ _ ((is_q.seams (holds q has_q)).complete a on.0) ((is_r.seams (holds r has_r)).complete b on.1) one
 
-  agree : OverlapsAgree windows
+  pub agree : OverlapsAgree (map window_of reports)
   agree v w at_v at_w =
       let one = from_map window_of reports v at_v in
       let two = from_map window_of reports w at_w in
@@ -111,7 +93,7 @@ module _ (depth : ℕ) (e : Extent) (nodata : NoDataNumbers) (reports : List Rep
           values_at (window_of q).grid (window_of q).products a ≡ values_at (window_of r).grid (window_of r).products b
       by_reports q r has_q has_r a b in_a in_b one =
           elim (pairs (λ x y. OverlapInSeams depth x.place y.place × ShowTheSame x.seams y.seams) reports
-          (λ i j d before below. (can.overlaps i j d before below, can.agree i j d before below)) q r has_q has_r) [
+          (λ i j d before below. (overlaps i j d before below, same_seams i j d before below)) q r has_q has_r) [
             | inl same ↦
                 (let again : in_union (window_of q).place a ≡ in_union (window_of q).place b =
                 one ∙ ap (λ (x : Report). in_union (window_of x).place b) (sym same) in
@@ -124,13 +106,13 @@ module _ (depth : ℕ) (e : Extent) (nodata : NoDataNumbers) (reports : List Rep
   -- the rows that two reports have in common, in whichever order they stand
   alike : (q r : Report) → Contains reports q → Contains reports r → SpacedAlike q r
   alike q r has_q has_r =
-      elim (pairs SpacedAlike reports can.spaced q r has_q has_r) [
+      elim (pairs SpacedAlike reports same_rows q r has_q has_r) [
         | inl same ↦ subst (SpacedAlike q) same (spaced_itself q)
         | inr (inl before) ↦ before
         | inr (inr after) ↦ spaced_turned r q after
       ]
 
-  spaced : SpacingsAgree windows
+  pub spaced : SpacingsAgree (map window_of reports)
   spaced v w at_v at_w =
       let one = from_map window_of reports v at_v in
       let two = from_map window_of reports w at_w in
@@ -157,6 +139,29 @@ module _ (depth : ℕ) (e : Extent) (nodata : NoDataNumbers) (reports : List Rep
           ap (λ (p : Place). p.top + a.row) is_q.place ∙ one ∙ ap (λ (p : Place). p.top + b.row) (sym is_r.place) in
           is_q.spacings a.row in_a.row ∙ alike q r has_q has_r a.row b.row in_q in_r row ∙ sym (is_r.spacings b.row in_b.row)
 
+module _ (depth : ℕ) (e : Extent) (nodata : NoDataNumbers) (reports : List Report) (window_of : Report → Window)
+    (of : (r : Report) → Contains reports r → IsReportOf depth (window_of r) r) (holds : (r : Report) → Contains reports r → IsTrue r.holds)
+    (can : CanMerge depth e nodata reports) where
+  abbrev windows : List Window
+  windows = map window_of reports
+
+  laid : AreLaidIn e windows
+  laid w has =
+      let one = from_map window_of reports w has in
+      let is = of one.0 one.1 in
+      subst (λ (v : Window). IsPlaceIn e v.place × (v.grid.extent ≡ v.place.extent)) one.2
+      (subst (IsPlaceIn e) is.place (can.placed one.0 one.1), is.extent)
+
+  judge : JudgeAll e windows
+  judge c inside =
+      let judged = can.whole c inside in
+      let one = from_map (λ (r : Report). r.place) reports judged.0 judged.1 in
+      let is = of one.0 one.1 in (
+        window_of one.0,
+        to_map window_of reports one.0 one.1,
+        subst (λ (p : Place). (x : Cell) × IsJudgedIn p x × (in_union p x ≡ c)) (sym one.2 ∙ is.place) judged.2,
+      )
+
   -- what the reports say of rules is said of the windows
   hold_there : (w : Window) → Contains windows w → RulesHoldInside nodata w
   hold_there w has =
@@ -166,7 +171,8 @@ module _ (depth : ℕ) (e : Extent) (nodata : NoDataNumbers) (reports : List Rep
 
   -- so they are the windows of one union
   pub one_union : (u : Grid) × (ps : Products) × (u.extent ≡ e) × AreWindowsOf u ps windows
-  one_union = windows_make_union e windows laid judge agree spaced
+  one_union = windows_make_union e windows laid judge (agree depth reports window_of of holds can.overlaps can.agree can.spaced)
+      (spaced depth reports window_of of holds can.overlaps can.agree can.spaced)
 
   module _ (merged : List Outlet) (all : HoldsAllOf (map (λ r. r.outlets) reports) merged) (sorted : IsSortedByLabel merged) where
     labels : NoLabelIsShared windows ↔ NoneBesideShares merged

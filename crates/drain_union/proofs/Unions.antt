@@ -28,7 +28,7 @@ pub by_patch : (profile : Profile) (g h : Grid) (ps qs : Products) (a b : Cell) 
 by_patch profile g h ps qs a b SharedLabel own same holds = absurd (omega arith)
 by_patch profile g h ps qs a b r own same holds = subst (λ (p : Patch). profile p r) same holds
 
-in_grid : (w : Window) → w.grid.extent ≡ w.place.extent → (c : Cell) → IsCellOf w.place.extent c → IsInside w.grid c
+pub in_grid : (w : Window) → w.grid.extent ≡ w.place.extent → (c : Cell) → IsCellOf w.place.extent c → IsInside w.grid c
 in_grid w same c inside = subst (λ (e : Extent). IsCellOf e c) (sym same) inside
 
 -- what holds in the union holds in a window
@@ -123,7 +123,7 @@ correct_by_windows u ps nodata windows are judge =
     )
 
 -- what stands outside of all windows, where nothing looks
-abbrev nothing : Values
+abbrev pub nothing : Values
 nothing = record { z = None; sink = false; con = pos 0; dir = pos 0; acc = pos 0; bas = pos 0; spl = pos 0; rnk = pos 0 }
 
 module _ (e : Extent) (windows : List Window) (laid : AreLaidIn e windows) (judge : JudgeAll e windows) (agree : OverlapsAgree windows)

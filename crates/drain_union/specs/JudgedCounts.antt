@@ -3,7 +3,7 @@ use Rattle.std.specs.Prelude.{◌≡◌, ℕ, ◌-◌, Bool, if◌then◌else◌
 use Rattle.std.specs.List.{count_by, flat_map, range_with_len}
 use Rattle.drain_grid.specs.declared.cell.Cell.{Cell}
 use Rattle.drain_grid.specs.GridRules.{is_data, is_raised}
-use Rattle.drain_grid.specs.declared.verdict.Counts.{Counts}
+use Rattle.drain_union.specs.declared.verdict.UnionCounts.{UnionCounts}
 use Rattle.drain_rules.specs.Rows.{place}
 use Rattle.drain_rules.specs.Verdicts.{has_outlet_code}
 use Rattle.drain_union.specs.declared.place.Place.{Place}
@@ -31,7 +31,7 @@ abbrev pub judged_outlets : Window → ℕ
 judged_outlets w = count_by (has_outlet_code w.grid w.products) (judged_cells w.place)
 
 -- the counts of an accepted window: its size, and those of its judged cells
-pub record AreCountsInside (w : Window) (k : Counts) : Type 0 where
+pub record AreCountsInside (w : Window) (k : UnionCounts) : Type 0 where
   pub rows : k.rows ≡ w.place.extent.rows
   pub cols : k.cols ≡ w.place.extent.cols
   pub data_cells : k.data_cells ≡ judged_data w

@@ -3,3 +3,8 @@ pub mod JudgedCounts
 pub mod Laws
 pub mod Reports
 pub mod UnionGrids
+pub mod Joins
+pub mod JoinLaws
+pub mod Sizes
+pub mod SeamValues
+pub mod VerdictLines

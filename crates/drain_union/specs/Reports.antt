@@ -11,8 +11,8 @@ use Rattle.drain_grid.specs.Grid.{values_at}
 use Rattle.drain_grid.specs.Spacing.{Distances, unit_spacing}
 use Rattle.drain_union.specs.declared.place.Place.{Place}
 use Rattle.drain_union.specs.declared.report.Shown.{Shown}
-use Rattle.drain_grid.specs.declared.verdict.Verdict.{Verdict}
-use Rattle.drain_grid.specs.declared.verdict.Verdict.TheVariants.{Accepted, Rejected}
+use Rattle.drain_union.specs.declared.verdict.UnionVerdict.{UnionVerdict}
+use Rattle.drain_union.specs.declared.verdict.UnionVerdict.TheVariants.{Accepted, Rejected}
 
 -- The no-data numbers that a report has. Source: this project's own.
 
@@ -138,10 +138,10 @@ pub record CanMerge (depth : ℕ) (e : Extent) (nodata : NoDataNumbers) (reports
 
 -- What a verdict on a window says of its report.
 
-abbrev pub is_accepted : Verdict → Bool
+abbrev pub is_accepted : UnionVerdict → Bool
 is_accepted (Accepted counts) = true
-is_accepted (Rejected rule row col) = false
+is_accepted (Rejected fault) = false
 
 -- the report says that the rules hold exactly where the verdict accepts
-abbrev pub Agree : Verdict → Report → Type 0
+abbrev pub Agree : UnionVerdict → Report → Type 0
 Agree v r = r.holds ≡ is_accepted v

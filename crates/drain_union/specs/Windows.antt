@@ -23,6 +23,18 @@ in_union p c = record { row = p.top + c.row; col = p.left + c.col }
 abbrev pub moved : Cell → Place → Place
 moved by p = record { top = by.row + p.top; left = by.col + p.left; extent = p.extent; inner = p.inner }
 
+-- a cell, a place and a window of a map, where rows and columns count from this cell of it
+abbrev pub cell_from : Cell → Cell → Cell
+cell_from origin c = record { row = c.row - origin.row; col = c.col - origin.col }
+
+abbrev pub place_from : Cell → Place → Place
+place_from origin p = record { top = p.top - origin.row; left = p.left - origin.col; extent = p.extent; inner = p.inner }
+
+-- the place doesn't begin before this cell
+pub record IsFrom (origin : Cell) (p : Place) : Type 0 where
+  pub rows : origin.row ≤ p.top
+  pub cols : origin.col ≤ p.left
+
 -- each cell of a grid that begins at this cell of the union has a row and a column of 32 bits there
 pub record IsOrigin (origin : Cell) : Type 0 where
   pub rows : origin.row + MAX_LENGTH < 2 ^ 32
@@ -57,6 +69,9 @@ pub record IsWindowOf (u : Grid) (ps : Products) (w : Window) : Type 0 where
   pub extent : w.grid.extent ≡ w.place.extent
   pub values : (c : Cell) → IsInside w.grid c → values_at w.grid w.products c ≡ values_at u ps (in_union w.place c)
   pub spacings : (c : Cell) → IsInside w.grid c → w.grid.spacing c.row ≡ u.spacing (w.place.top + c.row)
+
+abbrev pub window_from : Cell → Window → Window
+window_from origin w = record { place = place_from origin w.place; grid = w.grid; products = w.products }
 
 -- each cell of a union of this size is judged in some window
 abbrev pub IsJudgedInSome : List Window → Cell → Type 0
@@ -101,6 +116,10 @@ SpacingsAgree windows =
 -- all of them are windows of this union and its products
 abbrev pub AreWindowsOf : Grid → Products → List Window → Type 0
 AreWindowsOf u ps windows = (w : Window) → Contains windows w → IsWindowOf u ps w
+
+-- all of them are windows of a map, on which this union begins at this cell
+abbrev pub AreWindowsFrom : Cell → Grid → Products → List Window → Type 0
+AreWindowsFrom origin u ps windows = (w : Window) → Contains windows w → IsFrom origin w.place × IsWindowOf u ps (window_from origin w)
 
 -- a cell that is judged at some place
 abbrev pub IsJudgedAtSome : List Place → Cell → Type 0

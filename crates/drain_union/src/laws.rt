@@ -3,6 +3,7 @@
 //! Each law is a function with nothing to do: its contract is the law, and a caller that calls it has the law at hand.
 
 ghost use Rattle.drain_union.specs.Windows.{CutIsWindow};
+ghost use Rattle.drain_union.specs.JoinLaws.{FillByEdges, GroupIsOfWindow, JoinAddsUp, JoinIsReport, JoinTellsFault};
 ghost use Rattle.drain_union.specs.Laws.{PatchOfWindow, CorrectByWindows, WindowsMakeUnion, SortedTellsShared, MergeTellsShared, OpenInWindow, MergeIsExact, CornersTellWhole, WindowRejects, LeastFaultIsFirst, JudgedApart, FourNumbers, CountsAddUp};
 
 /// At a judged cell the patch of a window is the union's.
@@ -76,4 +77,29 @@ pub fn counts_add_up()
 /// A box of a grid, as a grid of its own, is a window of it.
 pub fn cut_is_window()
     ensures { CutIsWindow }
+{}
+
+/// Places in a box fill it if they judge each cell that it judges.
+pub fn fill_by_edges()
+    ensures { FillByEdges }
+{}
+
+/// The report that the reports of windows make is a report of what their union shows at the box that they fill.
+pub fn join_is_report()
+    ensures { JoinIsReport }
+{}
+
+/// The least of the first faults of windows is the first fault of the box that they fill.
+pub fn join_tells_fault()
+    ensures { JoinTellsFault }
+{}
+
+/// The counts of windows add up to those of the box that they fill.
+pub fn join_adds_up()
+    ensures { JoinAddsUp }
+{}
+
+/// The report that a group of reports makes is of a window, and theirs are windows of each union of which this one is.
+pub fn group_is_of_window()
+    ensures { GroupIsOfWindow }
 {}

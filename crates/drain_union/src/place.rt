@@ -3,6 +3,7 @@
 ghost use Rattle.std.specs.Prelude.{◌≡◌, ◌↔◌, ◌+◌, ◌^◌, ◌<◌, IsTrue};
 ghost use Rattle.drain_union.specs.Windows.{IsJudgedAlong, IsOrigin};
 
+use crate::size::UnionSize;
 use drain_grid::cell::MAX_LENGTH;
 use drain_grid::{Cell, Shape};
 
@@ -24,7 +25,7 @@ pub struct InnerSides {
 pub struct Place {
     pub top: u32,
     pub left: u32,
-    pub extent: Shape,
+    pub extent: UnionSize,
     pub inner: InnerSides,
 }
 

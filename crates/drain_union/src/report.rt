@@ -5,8 +5,10 @@ ghost use Rattle.drain_union.specs.Reports.{IsFirstShared, IsSortedByLabel, audi
 ghost use Rattle.std.specs.Prelude.{◌≡◌};
 
 use crate::place::Place;
+use crate::seam_values::SeamValues;
 use crate::union_grid::UnionGrid;
-use drain_grid::{Cell, CellValues, NoData, Spacing, Verdict};
+use crate::verdict::UnionVerdict;
+use drain_grid::{Cell, NoData, Spacing};
 use drain_hgt::TileName;
 use std::marker::Model;
 
@@ -84,7 +86,7 @@ impl AuditNoData {
 #[derive(Clone, Copy, PartialEq, Eq, Debug)]
 pub struct Shown {
     pub cell: Cell,
-    pub values: CellValues,
+    pub values: SeamValues,
 }
 
 /// The spacing of a row of a window, from a report's list: a row after the last one listed is as that one, and cells are
@@ -130,6 +132,6 @@ impl Model for Report {
 pub struct WindowReport {
     pub grid: UnionGrid,
     pub tiles: Vec<TileName>,
-    pub verdict: Verdict,
+    pub verdict: UnionVerdict,
     pub report: Report,
 }

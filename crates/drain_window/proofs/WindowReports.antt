@@ -6,7 +6,6 @@ use Rattle.drain_device.specs.declared.counts.FaultCounts.{FaultCounts}
 use Rattle.drain_device.proofs.FaultLists.{SomeReadFails-iff}
 use Rattle.drain_hgt.specs.declared.input.TileInput.{TileInput}
 use Rattle.drain_mosaic.specs.Tiling.{Tiling}
-use Rattle.drain_grid.specs.declared.verdict.Verdict.{Verdict}
 use Rattle.drain_verdict.proofs.OutcomeLemmas.{memory_alike}
 use Rattle.drain_verdict.specs.Refusals.{IsOfBodies}
 use Rattle.drain_verdict.specs.DemGround.{DemUses, dem_audit_devices, dem_check_devices}
@@ -19,6 +18,7 @@ use Rattle.drain_verdict.specs.declared.audit_products.AuditProducts.{AuditProdu
 use Rattle.drain_verdict.proofs.AuditDevices.{none_alike}
 use Rattle.drain_union.specs.Reports.{Report, audited, IsSortedByLabel, ListsOutlets, IsReportOf, ListsSeams, ListsSinks, ListsSpacings}
 use Rattle.drain_union.specs.declared.report.WindowReport.{WindowReport}
+use Rattle.drain_union.specs.declared.verdict.UnionVerdict.{UnionVerdict}
 use Rattle.drain_window.specs.WindowAnswers.{as_refused, IsWithTiles}
 use Rattle.drain_window.specs.declared.answered.WindowRefusal.{WindowRefusal}
 use Rattle.drain_window.specs.declared.answered.WindowRefusal.TheVariants.{Inputs as OfInputs, OutsideMosaic}
@@ -68,26 +68,26 @@ module _ {R : Type 0} (bytes_left : R → Option (List ℕ)) (counts : R → Fau
     untouched = untouched;
   }
 
-  pub with_tiles_uses : (t : Tiling) (v : Verdict) (r : Report) (result : Result WindowReport WindowRefusal) → IsWithTiles t v r result →
-      AuditUses {T = Verdict × Report} bytes_left counts side old new (Ok (v, r)) → AuditUses bytes_left counts side old new (as_refused result)
-  with_tiles_uses t v r (Ok a) is uses = used_again {A = Verdict × Report} (Ok (v, r)) (Ok a) (none_alike {A = Verdict × Report} (v, r) a) tt uses
+  pub with_tiles_uses : (t : Tiling) (v : UnionVerdict) (r : Report) (result : Result WindowReport WindowRefusal) → IsWithTiles t v r result →
+      AuditUses {T = UnionVerdict × Report} bytes_left counts side old new (Ok (v, r)) → AuditUses bytes_left counts side old new (as_refused result)
+  with_tiles_uses t v r (Ok a) is uses = used_again {A = UnionVerdict × Report} (Ok (v, r)) (Ok a) (none_alike {A = UnionVerdict × Report} (v, r) a) tt uses
   with_tiles_uses t v r (Err refusal) same uses =
       subst (λ (x : WindowRefusal). AuditUses bytes_left counts side old new (as_refused {A = WindowReport} (Err x))) (sym same)
-      (used_again {A = Verdict × Report} (Ok (v, r)) (Err OutOfMemory) (memory_alike {A = Verdict × Report} (v, r)) (λ not. absurd (not tt)) uses)
+      (used_again {A = UnionVerdict × Report} (Ok (v, r)) (Err OutOfMemory) (memory_alike {A = UnionVerdict × Report} (v, r)) (λ not. absurd (not tt)) uses)
 
 -- a refusal is that of the ground
 
 pub refused : {R : Type 0} (bl : R → Option (List ℕ)) (ct : R → FaultCounts) (side : ℕ) (old new : List (TileInput R) × AuditProducts R) (refusal : WindowRefusal) →
-    UsesInputs as_five (λ ts ps. devices_of ts (as_five ps)) bl ct side old new (as_refused {A = Verdict × Report} (Err refusal)) →
+    UsesInputs as_five (λ ts ps. devices_of ts (as_five ps)) bl ct side old new (as_refused {A = UnionVerdict × Report} (Err refusal)) →
     AuditUses bl ct side old new (as_refused {A = WindowReport} (Err refusal))
-refused bl ct side old new (OfInputs refusal) uses = four_failed {A = Verdict × Report} bl ct side old new refusal uses
-refused bl ct side old new OutsideMosaic uses = four_failed {A = Verdict × Report} bl ct side old new BoxTooLarge uses
+refused bl ct side old new (OfInputs refusal) uses = four_failed {A = UnionVerdict × Report} bl ct side old new refusal uses
+refused bl ct side old new OutsideMosaic uses = four_failed {A = UnionVerdict × Report} bl ct side old new BoxTooLarge uses
 
 pub dem_refused : {R : Type 0} (bl : R → Option (List ℕ)) (ct : R → FaultCounts) (old new : List (RasterInput R) × AuditProducts R) (refusal : WindowRefusal) →
-    DemUses as_five (λ xs ps. dem_check_devices xs (as_five ps)) bl ct old new (as_refused {A = Verdict × Report} (Err refusal)) →
+    DemUses as_five (λ xs ps. dem_check_devices xs (as_five ps)) bl ct old new (as_refused {A = UnionVerdict × Report} (Err refusal)) →
     DemUses as_five dem_audit_devices bl ct old new (as_refused {A = WindowReport} (Err refusal))
-dem_refused bl ct old new (OfInputs refusal) uses = dem_four_failed {A = Verdict × Report} bl ct old new refusal uses
-dem_refused bl ct old new OutsideMosaic uses = dem_four_failed {A = Verdict × Report} bl ct old new BoxTooLarge uses
+dem_refused bl ct old new (OfInputs refusal) uses = dem_four_failed {A = UnionVerdict × Report} bl ct old new refusal uses
+dem_refused bl ct old new OutsideMosaic uses = dem_four_failed {A = UnionVerdict × Report} bl ct old new BoxTooLarge uses
 
 -- a sorted list of the same outlets is that of the window
 listed : (nodata : NoDataNumbers) (origin : Cell) (p : Place) (g : Grid) (ps : Products) (outlets sorted : List Outlet) → IsSortedByLabel sorted → IsPermutation outlets sorted →

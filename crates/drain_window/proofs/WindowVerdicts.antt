@@ -8,7 +8,9 @@ use Rattle.drain_grid.specs.Grid.{Grid, Products}
 use Rattle.drain_grid.proofs.CellSums.{sum_by_same}
 use Rattle.drain_grid.proofs.Neighbors.{place}
 use Rattle.drain_rules.specs.declared.walk.Tally.{Tally}
-use Rattle.drain_grid.specs.declared.verdict.Counts.{Counts}
+use Rattle.drain_union.specs.declared.verdict.UnionCounts.{UnionCounts}
+use Rattle.drain_union.specs.declared.verdict.UnionVerdict.{UnionVerdict}
+use Rattle.drain_union.specs.declared.verdict.UnionVerdict.TheVariants.{Accepted, Rejected}
 use Rattle.drain_rules.specs.Verdicts.{has_outlet_code}
 use Rattle.drain_union.specs.declared.place.Place.{Place}
 use Rattle.drain_union.specs.Windows.{window_at, in_union, IsFirstInside, IsOrigin, IsPlaceIn}
@@ -18,8 +20,6 @@ use Rattle.drain_rules.specs.Areas.{CountsAmong}
 use Rattle.drain_window.specs.JudgedAreas.{cells_in, judged_area, row_cells_of}
 use Rattle.drain_answer.specs.declared.refusal.Refusal.TheVariants.{BoxTooLarge, ReadFailed}
 use Rattle.drain_grid.specs.declared.rule.Rule.{Rule}
-use Rattle.drain_grid.specs.declared.verdict.Verdict.{Verdict}
-use Rattle.drain_grid.specs.declared.verdict.Verdict.TheVariants.{Accepted, Rejected}
 use Rattle.drain_mosaic.specs.Tiling.{Tiling}
 use Rattle.drain_verdict.specs.Answers.{AreReadable}
 use Rattle.drain_verdict.specs.DemGround.{ForDem}
@@ -69,7 +69,7 @@ area_sum f p =
     ∙ sym (by_rows p (λ c. f (in_union p c)))
 
 -- the counts among the cells of a judged area are those of the window there
-pub counts_inside : (origin : Cell) (p : Place) (g : Grid) (ps : Products) (tally : Tally) (k : Counts) → CountsAmong g ps (cells_in (judged_area p)) tally →
+pub counts_inside : (origin : Cell) (p : Place) (g : Grid) (ps : Products) (tally : Tally) (k : UnionCounts) → CountsAmong g ps (cells_in (judged_area p)) tally →
     k.rows ≡ p.extent.rows → k.cols ≡ p.extent.cols → k.data_cells ≡ tally.data_cells → k.raised ≡ tally.raised → k.outlets ≡ tally.outlets →
     AreCountsInside (window_at origin p g ps) k
 counts_inside origin p g ps tally k among rows cols data_cells raised outlets = record {
@@ -87,11 +87,11 @@ when_answered Told p Fact follow (Ok a) answer = λ i told. follow a i (answer i
 when_answered Told p Fact follow (Err refusal) answer = tt
 
 -- a rejection has the first fault
-first_in : (Told : Inputs → Type 0) (p : Place) (verdict : Verdict) →
+first_in : (Told : Inputs → Type 0) (p : Place) (verdict : UnionVerdict) →
     ((i : Inputs) → Told i → IsJudgedVerdict (nodata_numbers i) (map_origin (tiling_of i)) p (input_grid i) (input_products i) verdict) →
     IfRejected verdict (λ (cell : Cell) (rule : Rule). (i : Inputs) → Told i → IsFirstInside (nodata_numbers i) (window_of p i) cell rule)
 first_in Told p (Accepted counts) is = tt
-first_in Told p (Rejected rule row col) is = is
+first_in Told p (Rejected fault) is = is
 
 pub first_of : (Told : Inputs → Type 0) (p : Place) (result : Result WindowReport WindowRefusal) → ((i : Inputs) → Told i → IsWindowAnswer p i result) →
     IfOk result (λ a. IfRejected a.verdict (λ (cell : Cell) (rule : Rule). (i : Inputs) → Told i → IsFirstInside (nodata_numbers i) (window_of p i) cell rule))
@@ -106,11 +106,11 @@ pub dem_answered : {R : Type 0} (bl : R → Option (List ℕ)) (dem : List (Rast
 dem_answered bl dem given ps at p Fact follow (Ok a) answer = λ d t tell told. follow a _ (answer d t tell told)
 dem_answered bl dem given ps at p Fact follow (Err refusal) answer = tt
 
-dem_first_in : {R : Type 0} (bl : R → Option (List ℕ)) (dem : List (RasterInput R)) (given : Given) (ps : AllProducts R) (at : Cell) (p : Place) (verdict : Verdict) →
+dem_first_in : {R : Type 0} (bl : R → Option (List ℕ)) (dem : List (RasterInput R)) (given : Given) (ps : AllProducts R) (at : Cell) (p : Place) (verdict : UnionVerdict) →
     ForDem bl dem given ps (λ s. IsJudgedVerdict (set_numbers s) at p (set_grid s) (set_products s) verdict) →
     IfRejected verdict (λ (cell : Cell) (rule : Rule). ForDem bl dem given ps (λ s. IsFirstInside (set_numbers s) (window_in at p s) cell rule))
 dem_first_in bl dem given ps at p (Accepted counts) is = tt
-dem_first_in bl dem given ps at p (Rejected rule row col) is = is
+dem_first_in bl dem given ps at p (Rejected fault) is = is
 
 pub dem_first : {R : Type 0} (bl : R → Option (List ℕ)) (dem : List (RasterInput R)) (given : Given) (ps : AllProducts R) (at : Cell) (p : Place) (result : Result WindowReport WindowRefusal) →
     ForDem bl dem given ps (λ s. IsDemWindow at p s result) →
@@ -124,22 +124,22 @@ refused_answer origin p i (OfInputs refusal) begins is = is
 refused_answer origin p i OutsideMosaic begins outside = λ placed. outside (record { begins = begins; placed = placed })
 
 -- the answer on a place, with the side and the tiles of the mosaic
-pub with_tiles_answer : (t : Tiling) (v : Verdict) (r : Report) (result : Result WindowReport WindowRefusal) → IsWithTiles t v r result → (p : Place) (i : Inputs) → t ≡ tiling_of i →
+pub with_tiles_answer : (t : Tiling) (v : UnionVerdict) (r : Report) (result : Result WindowReport WindowRefusal) → IsWithTiles t v r result → (p : Place) (i : Inputs) → t ≡ tiling_of i →
     AreReadable i → IsPlaceIn (input_grid i).extent p → IsAnswerOn (nodata_numbers i) (map_origin (tiling_of i)) p (input_grid i) (input_products i) v r → IsWindowAnswer p i result
 with_tiles_answer t v r (Ok a) (grid, tiles, verdict, report) p i is readable placed answer = (
   readable,
   placed,
   record { grid = grid ∙ ap (λ (x : Tiling). UnionGrid.Tiles x.side) is; tiles = tiles ∙ ap (λ (x : Tiling). x.corners) is },
   subst (λ (q : Report). IsAnswerOn (nodata_numbers i) (map_origin (tiling_of i)) p (input_grid i) (input_products i) a.verdict q) (sym report)
-      (subst (λ (w : Verdict). IsAnswerOn (nodata_numbers i) (map_origin (tiling_of i)) p (input_grid i) (input_products i) w r) (sym verdict) answer),
+      (subst (λ (w : UnionVerdict). IsAnswerOn (nodata_numbers i) (map_origin (tiling_of i)) p (input_grid i) (input_products i) w r) (sym verdict) answer),
 )
 with_tiles_answer t v r (Err refusal) same p i is readable placed answer = subst (λ (x : WindowRefusal). IsWindowAnswer p i (Err x)) (sym same) tt
 
 -- and it agrees with the report
-pub with_tiles_agree : (t : Tiling) (v : Verdict) (r : Report) (result : Result WindowReport WindowRefusal) → IsWithTiles t v r result → Agree v r →
+pub with_tiles_agree : (t : Tiling) (v : UnionVerdict) (r : Report) (result : Result WindowReport WindowRefusal) → IsWithTiles t v r result → Agree v r →
     IfOk result (λ a. Agree a.verdict a.report)
 with_tiles_agree t v r (Ok a) (grid, tiles, verdict, report) agree =
-    subst (λ (q : Report). Agree a.verdict q) (sym report) (subst (λ (w : Verdict). Agree w r) (sym verdict) agree)
+    subst (λ (q : Report). Agree a.verdict q) (sym report) (subst (λ (w : UnionVerdict). Agree w r) (sym verdict) agree)
 with_tiles_agree t v r (Err refusal) same agree = tt
 
 -- nor does a place outside the mosaic

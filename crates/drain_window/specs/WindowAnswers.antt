@@ -7,8 +7,6 @@ use Rattle.drain_grid.specs.declared.rule.Rule.{Rule}
 use Rattle.drain_grid.specs.Grid.{Grid, Products}
 use Rattle.drain_grid.specs.Values.{NoDataNumbers}
 use Rattle.drain_mosaic.specs.Tiling.{Tiling}
-use Rattle.drain_grid.specs.declared.verdict.Verdict.{Verdict}
-use Rattle.drain_grid.specs.declared.verdict.Verdict.TheVariants.{Accepted, Rejected}
 use Rattle.drain_verdict.specs.Answers.{AreReadable, IsRefusal}
 use Rattle.drain_header.specs.Header.{Fields}
 use Rattle.drain_header.specs.declared.header.Place.{Place as HeaderPlace}
@@ -23,6 +21,8 @@ use Rattle.drain_union.specs.declared.place.TheConstants.{SEAM_DEPTH}
 use Rattle.drain_union.specs.declared.union_grid.DemPart.{DemPart}
 use Rattle.drain_union.specs.declared.union_grid.UnionGrid.TheVariants.{Tiles, Dem}
 use Rattle.drain_union.specs.UnionGrids.{value_of}
+use Rattle.drain_union.specs.declared.verdict.UnionVerdict.{UnionVerdict}
+use Rattle.drain_union.specs.declared.verdict.UnionVerdict.TheVariants.{Accepted, Rejected}
 use Rattle.drain_union.specs.Windows.{window_at, Window, IsFirstInside, IsOrigin, IsPlaceIn, RulesHoldInside}
 use Rattle.drain_union.specs.JudgedCounts.{AreCountsInside}
 use Rattle.drain_union.specs.Reports.{audited, Report, IsReportOf}
@@ -35,12 +35,12 @@ abbrev pub window_of : Place → Inputs → Window
 window_of p i = window_at (map_origin (tiling_of i)) p (input_grid i) (input_products i)
 
 -- accepted where the rules hold at every judged cell, else rejected with the first fault, in the window's rows and columns
-abbrev pub IsJudgedVerdict : NoDataNumbers → Cell → Place → Grid → Products → Verdict → Type 0
+abbrev pub IsJudgedVerdict : NoDataNumbers → Cell → Place → Grid → Products → UnionVerdict → Type 0
 IsJudgedVerdict nodata origin p g ps (Accepted counts) = RulesHoldInside nodata (window_at origin p g ps) × AreCountsInside (window_at origin p g ps) counts
-IsJudgedVerdict nodata origin p g ps (Rejected rule row col) = IsFirstInside nodata (window_at origin p g ps) (record { row = row; col = col }) rule
+IsJudgedVerdict nodata origin p g ps (Rejected fault) = IsFirstInside nodata (window_at origin p g ps) fault.cell fault.rule
 
 -- the report and the verdict on the window at a place of a grid, which begins at this cell of the union
-pub record IsAnswerOn (nodata : NoDataNumbers) (origin : Cell) (p : Place) (g : Grid) (ps : Products) (v : Verdict) (r : Report) : Type 0 where
+pub record IsAnswerOn (nodata : NoDataNumbers) (origin : Cell) (p : Place) (g : Grid) (ps : Products) (v : UnionVerdict) (r : Report) : Type 0 where
   pub nodata_is : r.nodata ≡ audited nodata
   pub report : IsReportOf SEAM_DEPTH (window_at origin p g ps) r
   pub verdict : IsJudgedVerdict nodata origin p g ps v
@@ -51,7 +51,7 @@ pub record IsOfTiles (i : Inputs) (a : WindowReport) : Type 0 where
   pub tiles : a.tiles.items ≡ i.corners
 
 -- the verdict and the report are handed over with the side and the tiles of this mosaic, unless memory runs out
-abbrev pub IsWithTiles : Tiling → Verdict → Report → Result WindowReport WindowRefusal → Type 0
+abbrev pub IsWithTiles : Tiling → UnionVerdict → Report → Result WindowReport WindowRefusal → Type 0
 IsWithTiles t v r (Ok a) = (a.grid ≡ Tiles t.side) × (a.tiles.items ≡ t.corners) × (a.verdict ≡ v) × (a.report ≡ r)
 IsWithTiles t v r (Err refusal) = refusal ≡ OfInputs OutOfMemory
 
@@ -77,7 +77,7 @@ abbrev pub window_in : Cell → Place → GroundSet → Window
 window_in origin p s = window_at origin p (set_grid s) (set_products s)
 
 -- the answer once the place is known to lie in it
-abbrev pub IsPlacedAnswer : Cell → Place → GroundSet → Result (Verdict × Report) Refusal → Type 0
+abbrev pub IsPlacedAnswer : Cell → Place → GroundSet → Result (UnionVerdict × Report) Refusal → Type 0
 IsPlacedAnswer origin p s (Ok a) = IsReadable s × IsAnswerOn (set_numbers s) origin p (set_grid s) (set_products s) a.0 a.1
 IsPlacedAnswer origin p s (Err refusal) = IsRefusalIn s refusal
 
@@ -87,13 +87,13 @@ pub record IsWithin (origin : Cell) (p : Place) (s : GroundSet) : Type 0 where
   pub placed : IsPlaceIn (set_grid s).extent p
 
 -- no refusal applies, and the window is reported; else the place lies outside, or the refusal is the first that applies
-abbrev pub IsWindowIn : Cell → Place → GroundSet → Result (Verdict × Report) WindowRefusal → Type 0
+abbrev pub IsWindowIn : Cell → Place → GroundSet → Result (UnionVerdict × Report) WindowRefusal → Type 0
 IsWindowIn origin p s (Ok a) = IsWithin origin p s × IsPlacedAnswer origin p s (Ok a)
 IsWindowIn origin p s (Err (OfInputs refusal)) = IsRefusalIn s refusal
 IsWindowIn origin p s (Err OutsideMosaic) = ¬ IsWithin origin p s
 
 -- the same of what is handed over
-abbrev pub verdict_and_report : Result WindowReport WindowRefusal → Result (Verdict × Report) WindowRefusal
+abbrev pub verdict_and_report : Result WindowReport WindowRefusal → Result (UnionVerdict × Report) WindowRefusal
 verdict_and_report (Ok a) = Ok (a.verdict, a.report)
 verdict_and_report (Err refusal) = Err refusal
 
@@ -113,6 +113,6 @@ abbrev pub IsOfDem : {R : Type 0} → Cell → List (RasterInput R) → WindowRe
 IsOfDem at dem a = (h : Fields) × IsDemInput h dem × ((d : DemPart) × IsPartOf at h.place d × (a.grid ≡ Dem d)) × (a.tiles.items ≡ [])
 
 -- this holds of the first fault, where the verdict is a rejection
-abbrev pub IfRejected : Verdict → (Cell → Rule → Type 0) → Type 0
+abbrev pub IfRejected : UnionVerdict → (Cell → Rule → Type 0) → Type 0
 IfRejected (Accepted counts) P = Unit {0}
-IfRejected (Rejected rule row col) P = P (record { row = row; col = col }) rule
+IfRejected (Rejected fault) P = P fault.cell fault.rule

@@ -1,6 +1,7 @@
 -- The line for the answer to a window. Its words are this project's own.
 use Rattle.std.specs.Prelude.{ℕ, List, Result, Ok, Err, codes, ◌-◌, ◌*◌, pos, neg_ℤ, ◌-ℤ◌, nat_abs}
-use Rattle.drain_answer.specs.Lines.{verdict_line, refusal_line as inputs_line}
+use Rattle.drain_answer.specs.Lines.{refusal_line as inputs_line}
+use Rattle.drain_union.specs.VerdictLines.{verdict_line}
 use Rattle.drain_union.specs.declared.report.WindowReport.{WindowReport}
 use Rattle.drain_window.specs.declared.answered.WindowRefusal.{WindowRefusal}
 use Rattle.drain_window.specs.declared.answered.WindowRefusal.TheVariants.{Inputs, OutsideMosaic}

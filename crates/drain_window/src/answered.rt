@@ -18,12 +18,16 @@ use crate::laws::{walk_judges_window, walk_lists_seams};
 use crate::listed_outlets::ListedOutlets;
 use crate::seam_walk::SeamWalk;
 use drain_answer::Refusal;
-use drain_answer::lines::{self, Line, verdict_line, words};
-use drain_grid::{Cell, Counts, Spacing, Verdict};
+use drain_answer::lines::{self, Line, words};
+use drain_grid::{Cell, Spacing};
 use drain_rules::walk::{RowOutcome, Tally};
 use drain_rules::{Area, Walk};
 use drain_union::laws::four_numbers;
-use drain_union::{AuditNoData, Outlet, Place, Report, WindowReport, sort_by_label};
+use drain_union::verdict_line::verdict_line;
+use drain_union::{
+    AuditNoData, Fault, Outlet, Place, Report, UnionCounts, UnionVerdict, WindowReport,
+    sort_by_label,
+};
 use std::alloc::Global;
 use thiserror::Error;
 
@@ -68,7 +72,7 @@ pub(crate) fn answered(
     seams: SeamWalk,
     sinks: Vec<Cell>,
     spacings: Vec<Spacing>,
-) -> Option<(Verdict, Report)>
+) -> Option<(UnionVerdict, Report)>
     requires placed { EndsInRange place.now }
     requires moved { IsOrigin origin }
     ensures agree { IfSome result (λ a. Agree a.0 a.1) }
@@ -87,7 +91,7 @@ pub(crate) fn answered(
     let nodata = AuditNoData::of(seams.nodata);
     match walk.outcome {
         RowOutcome::Sound(total) => Some((
-            Verdict::Accepted(counts_of(place, &total)),
+            UnionVerdict::Accepted(counts_of(place, &total)),
             Report {
                 place: at,
                 spacings,
@@ -99,11 +103,13 @@ pub(crate) fn answered(
             },
         )),
         RowOutcome::Faulty(cell, rule) => Some((
-            Verdict::Rejected {
+            UnionVerdict::Rejected(Fault {
+                cell: Cell {
+                    row: cell.row.saturating_sub(place.top),
+                    col: cell.col.saturating_sub(place.left),
+                },
                 rule,
-                row: cell.row.saturating_sub(place.top),
-                col: cell.col.saturating_sub(place.left),
-            },
+            }),
             Report {
                 place: at,
                 spacings,
@@ -118,19 +124,19 @@ pub(crate) fn answered(
 }
 
 /// The size of the window, and the counts of its judged cells.
-fn counts_of(place: &Place, total: &Tally) -> Counts
+fn counts_of(place: &Place, total: &Tally) -> UnionCounts
     ensures rows { result.rows ≡ place.now.extent.rows }
     ensures cols { result.cols ≡ place.now.extent.cols }
     ensures data_cells { result.data_cells ≡ total.now.data_cells }
     ensures raised { result.raised ≡ total.now.raised }
     ensures outlets { result.outlets ≡ total.now.outlets }
 {
-    Counts {
+    UnionCounts {
         rows: place.extent.rows(),
         cols: place.extent.cols(),
-        data_cells: total.data_cells,
-        raised: total.raised,
-        outlets: total.outlets,
+        data_cells: u64::from(total.data_cells),
+        raised: u64::from(total.raised),
+        outlets: u64::from(total.outlets),
     }
 }
 

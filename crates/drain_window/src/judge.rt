@@ -18,12 +18,12 @@ use crate::answered::WindowRefusal;
 use crate::judge_ground::judge_ground;
 use drain_answer::Refusal;
 use drain_device::ByteSource;
-use drain_grid::{Cell, OutOfMemory, Verdict};
+use drain_grid::{Cell, OutOfMemory};
 use drain_hgt::laws::one_name;
 use drain_hgt::name::{HALF_TURN, POLE};
 use drain_hgt::{TileInput, TileName};
 use drain_mosaic::Layout;
-use drain_union::{Place, Report, UnionGrid, WindowReport};
+use drain_union::{Place, Report, UnionGrid, UnionVerdict, WindowReport};
 use drain_verdict::stages::layout_of;
 use drain_verdict::{AuditProducts, Given};
 use std::alloc::Global;
@@ -145,7 +145,7 @@ fn answer_in<R: ByteSource>(
 fn with_tiles(
     alloc: Global,
     layout: &Layout,
-    verdict: Verdict,
+    verdict: UnionVerdict,
     report: Report,
 ) -> Result<WindowReport, WindowRefusal>
     ensures { IsWithTiles layout.now verdict report result }

@@ -15,11 +15,11 @@ use crate::listed_outlets::ListedOutlets;
 use crate::seam_walk::SeamWalk;
 use drain_answer::Refusal;
 use drain_device::ByteSource;
-use drain_grid::{Cell, Judged, Verdict};
+use drain_grid::{Cell, Judged};
 use drain_rows::BothVisitors;
 use drain_rules::Walk;
 use drain_union::place::is_origin;
-use drain_union::{Place, Report};
+use drain_union::{Place, Report, UnionVerdict};
 use drain_verdict::ground::GroundInput;
 use drain_verdict::read_set::read_set;
 use drain_verdict::{AuditProducts, Given};
@@ -34,7 +34,7 @@ pub(crate) fn judge_ground<R: ByteSource, T: GroundInput<R>>(
     inputs: &mut [T],
     products: &mut AuditProducts<R>,
     place: &Place,
-) -> Result<(Verdict, Report), WindowRefusal>
+) -> Result<(UnionVerdict, Report), WindowRefusal>
     requires fit { T.fit frame.now inputs.old }
     ensures answer { ForSet T.terrain (T.means frame.now inputs.old) R.bytes_left given.now (as_five products.old) (λ s. IsWindowIn origin place.now s result) }
     ensures uses { UsesSet as_five (λ xs ps. set_devices T.devices xs (as_five ps)) (T.within frame.now) T.kept R.bytes_left R.counts (inputs.old, products.old) (inputs.new, products.new) (as_refused result) }
@@ -61,7 +61,7 @@ fn judge_placed<R: ByteSource, T: GroundInput<R>>(
     inputs: &mut [T],
     products: &mut AuditProducts<R>,
     place: &Place,
-) -> Result<(Verdict, Report), Refusal>
+) -> Result<(UnionVerdict, Report), Refusal>
     requires fit { T.fit frame.now inputs.old }
     requires moved { IsOrigin origin }
     requires placed { IsPlaceIn (T.extent frame.now) place.now }

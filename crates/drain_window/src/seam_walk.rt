@@ -10,7 +10,7 @@ ghost use Rattle.drain_rules.specs.Rows.{AreRowPatches};
 use drain_grid::{Cell, NoData, OutOfMemory, Rules};
 use drain_rows::{RowBuffer, RowVisitor};
 use drain_rules::{PatchRow, ThreeRows};
-use drain_union::{Place, SEAM_DEPTH, Shown};
+use drain_union::{Place, SEAM_DEPTH, SeamValues, Shown};
 use std::alloc::Global;
 
 /// The window's place in the grid, the union's cell of the grid's first, the no-data numbers of the rules, how many rows
@@ -92,7 +92,8 @@ fn note_row<R: PatchRow>(
     note_seams(patches, place, origin, row - top, seams)
 }
 
-/// Lists what is shown at the cells of seams in a row of the box.
+/// Lists what is shown at the cells of seams in a row of the box. A cell with values other than an audit's, which never
+/// comes, is out of memory here.
 fn note_seams<R: PatchRow>(
     patches: &R,
     place: &Place,
@@ -116,10 +117,10 @@ fn note_seams<R: PatchRow>(
                 row: origin.row + top + row,
                 col: origin.col + left + col,
             };
-            seams.push(Shown {
-                cell,
-                values: patch.here,
-            })?;
+            let Some(values) = SeamValues::of(&patch.here) else {
+                return Err(OutOfMemory);
+            };
+            seams.push(Shown { cell, values })?;
         }
     }
     Ok(())

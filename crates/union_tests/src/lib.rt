@@ -4,6 +4,12 @@
 #[cfg(test)]
 mod agree;
 #[cfg(test)]
+mod join_refusals;
+#[cfg(test)]
+mod joined_boxes;
+#[cfg(test)]
+mod joined_texts;
+#[cfg(test)]
 mod merge_answers;
 #[cfg(test)]
 mod merge_dems;
@@ -13,6 +19,12 @@ mod merge_lines;
 mod merge_maps;
 #[cfg(test)]
 mod merge_spacings;
+#[cfg(test)]
+mod merge_trees;
+#[cfg(test)]
+mod merged_box_refusals;
+#[cfg(test)]
+mod merged_boxes;
 #[cfg(test)]
 mod merged_windows;
 #[cfg(test)]

@@ -9,7 +9,7 @@ use drain_union::{Decimal, DemPart, UnionGrid};
 use std::test::Fail;
 
 /// The part that is the whole raster, of pixels 30 wide and 20 high.
-const PART: DemPart = DemPart {
+pub const PART: DemPart = DemPart {
     at: FIRST,
     ulx: Decimal {
         units: 500015,
@@ -30,7 +30,7 @@ const PART: DemPart = DemPart {
 };
 
 /// The part that begins in row 1 and column 2.
-const OTHER: DemPart = DemPart {
+pub const OTHER: DemPart = DemPart {
     at: Cell { row: 1, col: 2 },
     ulx: Decimal {
         units: 500075,

@@ -3,12 +3,13 @@
 use crate::agree::same_line;
 use crate::merge_answers::verdict_line;
 use drain_grid::{Cell, Rule};
-use drain_merge::{Clash, Fault, MergeRefusal, MergeVerdict, UnionCounts, merge_line};
+use drain_merge::{Clash, MergeRefusal, merge_line};
+use drain_union::{Fault, UnionCounts, UnionVerdict};
 
 /// Verdicts, each with its line.
-static VERDICTS: [(MergeVerdict, &str); 4] = [
+static VERDICTS: [(UnionVerdict, &str); 4] = [
     (
-        MergeVerdict::Accepted(UnionCounts {
+        UnionVerdict::Accepted(UnionCounts {
             rows: 1,
             cols: 2,
             data_cells: 0,
@@ -18,7 +19,7 @@ static VERDICTS: [(MergeVerdict, &str); 4] = [
         "accepted rows=1 cols=2 data=0 raised=10 outlets=4294967296",
     ),
     (
-        MergeVerdict::Accepted(UnionCounts {
+        UnionVerdict::Accepted(UnionCounts {
             rows: 4294967295,
             cols: 4294967294,
             data_cells: 18446744073709551615,
@@ -28,7 +29,7 @@ static VERDICTS: [(MergeVerdict, &str); 4] = [
         "accepted rows=4294967295 cols=4294967294 data=18446744073709551615 raised=18446744073709551614 outlets=10000000000000000000",
     ),
     (
-        MergeVerdict::Rejected(Fault {
+        UnionVerdict::Rejected(Fault {
             cell: Cell {
                 row: 0,
                 col: 4294967295,
@@ -38,7 +39,7 @@ static VERDICTS: [(MergeVerdict, &str); 4] = [
         "rejected rule=1 VoidCell row=0 col=4294967295",
     ),
     (
-        MergeVerdict::Rejected(Fault {
+        UnionVerdict::Rejected(Fault {
             cell: Cell {
                 row: 4294967295,
                 col: 7,

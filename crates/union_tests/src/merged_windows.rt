@@ -1,9 +1,9 @@
 //! The windows of a union of 4 rows and 4 columns: boxes of 3 rows and 3 columns that overlap by two, and narrow ones.
 
-use drain_grid::{Cell, CellValues, Counts, NoData, Rule, Shape, Spacing, Verdict};
-use drain_merge::UnionSize;
+use drain_grid::{Cell, NoData, Rule, Spacing};
 use drain_union::{
-    AuditNoData, InnerSides, Outlet, Place, Report, SEAM_DEPTH, Shown, UnionGrid, WindowReport,
+    AuditNoData, Fault, InnerSides, Outlet, Place, Report, SEAM_DEPTH, SeamValues, Shown,
+    UnionCounts, UnionGrid, UnionSize, UnionVerdict, WindowReport,
 };
 use std::alloc::{AllocError, Global};
 use std::test::Fail;
@@ -30,7 +30,7 @@ pub struct Window {
     /// The cell of the window at which the slope is wrong, if there is one.
     pub fault: Option<(u32, u32)>,
     /// Its data cells, raised cells and outlets.
-    pub counts: (u32, u32, u32),
+    pub counts: (u64, u64, u64),
     /// The label of its outlet, and the cell.
     pub label: i64,
     pub outlet: (u32, u32),
@@ -123,14 +123,14 @@ pub fn reports(alloc: Global, origin: Cell, windows: &[Window]) -> Result<Vec<Wi
 impl Window {
     /// The report on this window of a union that begins at this cell of a map.
     fn report(&self, alloc: Global, origin: Cell) -> Result<WindowReport, Fail> {
-        let Some(extent) = Shape::new(self.size.0, self.size.1) else {
-            return Err(Fail::new("a shape"));
-        };
         let first = at(origin, self.first);
         let place = Place {
             top: first.row,
             left: first.col,
-            extent,
+            extent: UnionSize {
+                rows: self.size.0,
+                cols: self.size.1,
+            },
             inner: self.inner(),
         };
         let report = match self.fault {
@@ -154,21 +154,20 @@ impl Window {
         }
     }
 
-    fn verdict(&self) -> Verdict {
+    fn verdict(&self) -> UnionVerdict {
         let (data_cells, raised, outlets) = self.counts;
         match self.fault {
-            None => Verdict::Accepted(Counts {
+            None => UnionVerdict::Accepted(UnionCounts {
                 rows: self.size.0,
                 cols: self.size.1,
                 data_cells,
                 raised,
                 outlets,
             }),
-            Some((row, col)) => Verdict::Rejected {
+            Some((row, col)) => UnionVerdict::Rejected(Fault {
+                cell: Cell { row, col },
                 rule: Rule::Slope,
-                row,
-                col,
-            },
+            }),
         }
     }
 
@@ -215,7 +214,7 @@ impl Window {
 
 /// What a window shows along its seams: this accumulation.
 fn seams(alloc: Global, place: &Place, acc: i64) -> Result<Vec<Shown>, Fail> {
-    let Some(values) = CellValues::new(Some(5), false, 5, 1, acc, 1, 0, 0) else {
+    let Some(values) = SeamValues::of_height(Some(5), false, 5, 1, acc, 1) else {
         return Err(Fail::new("values"));
     };
     let first = Cell {
@@ -235,7 +234,7 @@ fn seams(alloc: Global, place: &Place, acc: i64) -> Result<Vec<Shown>, Fail> {
 }
 
 /// These widths and heights as spacings.
-fn spacings(alloc: Global, sizes: &[(u32, u32)]) -> Result<Vec<Spacing>, Fail> {
+pub fn spacings(alloc: Global, sizes: &[(u32, u32)]) -> Result<Vec<Spacing>, Fail> {
     let mut spacings = Vec::new(alloc);
     for &(width, height) in sizes {
         let Some(spacing) = Spacing::new(width, height) else {

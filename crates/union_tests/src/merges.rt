@@ -4,7 +4,8 @@ use crate::agree::same_line;
 use crate::merge_answers::{FIRST, merged, merged_on_map};
 use crate::merged_windows::{COLUMN, NE, NW, REST, RINGS, SE, SIZE, SW, WHOLE, Window};
 use drain_grid::Cell;
-use drain_merge::{UnionSinks, UnionSize};
+use drain_merge::UnionSinks;
+use drain_union::UnionSize;
 use std::test::Fail;
 
 /// The windows in the order of the list, and the line.

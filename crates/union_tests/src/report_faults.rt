@@ -11,10 +11,10 @@ fn fault(alloc: Global, text: &[u8]) -> Option<ReportFault> {
 }
 
 /// What is replaced in the lines, and the fault.
-static FAULTS: [(usize, &str, ReportFault); 49] = [
-    (1, "drain-window-report 2", ReportFault::WrongVersion),
-    (1, "drain-window-report 4", ReportFault::WrongVersion),
-    (1, "drain-window-report 3 ", ReportFault::WrongVersion),
+static FAULTS: [(usize, &str, ReportFault); 52] = [
+    (1, "drain-window-report 3", ReportFault::WrongVersion),
+    (1, "drain-window-report 5", ReportFault::WrongVersion),
+    (1, "drain-window-report 4 ", ReportFault::WrongVersion),
     (2, "side", ReportFault::BadLine(2)),
     (2, "side 01201", ReportFault::BadLine(2)),
     (2, "side +1201", ReportFault::BadLine(2)),
@@ -39,7 +39,7 @@ static FAULTS: [(usize, &str, ReportFault); 49] = [
     ),
     (
         3,
-        "window 62400 90001 0 4 0 1 0 0",
+        "window 62400 90001 4294967296 4 0 1 0 0",
         ReportFault::OutOfRange(3),
     ),
     (4, "nodata 10000000001 255 0 0", ReportFault::OutOfRange(4)),
@@ -49,7 +49,13 @@ static FAULTS: [(usize, &str, ReportFault); 49] = [
         ReportFault::OutOfRange(4),
     ),
     (4, "nodata -32768 255 0 0 255 0", ReportFault::BadLine(4)),
-    (5, "accepted 3 4 8 1 4294967296", ReportFault::OutOfRange(5)),
+    (5, "accepted 4294967296 4 8 1 1", ReportFault::OutOfRange(5)),
+    (5, "accepted 3 4 8 1 -1", ReportFault::OutOfRange(5)),
+    (
+        5,
+        "accepted 3 4 8 1 9223372036854775808",
+        ReportFault::BadLine(5),
+    ),
     (5, "rejected 16 0 0", ReportFault::OutOfRange(5)),
     (5, "taken 3 4 8 1 1", ReportFault::BadLine(5)),
     (6, "spacings 0", ReportFault::BadLine(6)),
@@ -83,31 +89,36 @@ static FAULTS: [(usize, &str, ReportFault); 49] = [
     (13, "outlet 7 62400 4294967296", ReportFault::OutOfRange(13)),
     (
         15,
-        "seam 62401 90001 void 0 -2147483648 255 0 0 0 0",
+        "seam 62401 90001 void 0 -2147483648 255 0 0",
         ReportFault::BadLine(15),
     ),
     (
         15,
-        "seam 62401 90001 - - -2147483648 255 0 0 0 0",
+        "seam 62401 90001 - - -2147483648 255 0 0",
         ReportFault::BadLine(15),
     ),
     (15, "seam 62401 90001 -", ReportFault::BadLine(15)),
     (
+        15,
+        "seam 62401 90001 - 0 -2147483648 255 0 0 0 0",
+        ReportFault::BadLine(15),
+    ),
+    (
         16,
-        "seam 62401 90002 4294967296 1 -5 0 8 7 0 -5",
+        "seam 62401 90002 4294967296 1 -5 0 8 7",
         ReportFault::OutOfRange(16),
     ),
     (
         16,
-        "seam 62401 90002 -2147483649 1 -5 0 8 7 0 -5",
+        "seam 62401 90002 -2147483649 1 -5 0 8 7",
         ReportFault::OutOfRange(16),
     ),
     (
         16,
-        "seam 62401 90002 -5 1 -5 0 4294967296 7 0 -5",
+        "seam 62401 90002 -5 1 -5 0 4294967296 7",
         ReportFault::OutOfRange(16),
     ),
-    (18, "seam 0 0 0 0 0 0 0 0 0 0", ReportFault::BadLine(18)),
+    (18, "seam 0 0 0 0 0 0 0 0", ReportFault::BadLine(18)),
     (19, "more", ReportFault::AfterEnd),
 ];
 

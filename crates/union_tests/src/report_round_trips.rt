@@ -1,9 +1,9 @@
 //! Texts that are read and written again.
 
 use crate::report_texts::text;
-use drain_grid::{Cell, Rule, Verdict};
+use drain_grid::{Cell, Rule};
 use drain_report::{read_report, write_report};
-use drain_union::{Decimal, DemPart, UnionGrid, spacing_at};
+use drain_union::{Decimal, DemPart, Fault, UnionCounts, UnionGrid, UnionVerdict, spacing_at};
 use std::test::Fail;
 
 #[test]
@@ -32,7 +32,7 @@ fn an_accepted_window_is_read_and_written_again(rt: HostRuntime) -> Result<(), F
 }
 
 /// A rejected window: its lists are empty, as it is read to its first fault alone.
-const REJECTED: &[u8] = b"drain-window-report 3
+const REJECTED: &[u8] = b"drain-window-report 4
 side 3601
 window 0 0 1 28801 0 0 0 0
 nodata -32768 255 10000000000 -10000000000
@@ -47,11 +47,10 @@ end
 #[test]
 fn a_rejected_window_is_read_and_written_again(rt: HostRuntime) -> Result<(), Fail> {
     let window = read_report(rt.alloc(), REJECTED)?;
-    let expected = Verdict::Rejected {
+    let expected = UnionVerdict::Rejected(Fault {
+        cell: Cell { row: 0, col: 28800 },
         rule: Rule::SharedLabel,
-        row: 0,
-        col: 28800,
-    };
+    });
     assert_eq!(rt; window.verdict, expected);
     assert_eq!(rt; window.report.holds, false);
     assert_eq!(rt; window.report.sinks.len(), 0);
@@ -60,8 +59,43 @@ fn a_rejected_window_is_read_and_written_again(rt: HostRuntime) -> Result<(), Fa
     Ok(())
 }
 
+/// A box as large as any, with the greatest counts that a text has.
+const LARGE: &[u8] = b"drain-window-report 4
+side 3601
+window 0 0 4294967295 4294967295 0 0 0 0
+nodata -32768 255 0 0
+accepted 4294967295 4294967295 9223372036854775807 9223372036854775807 9223372036854775807
+tiles 0
+sinks 0
+outlets 0
+seams 0
+end
+";
+
+#[test]
+fn the_greatest_counts_are_read_and_written_again(rt: HostRuntime) -> Result<(), Fail> {
+    let mut window = read_report(rt.alloc(), LARGE)?;
+    let greatest = 9223372036854775807;
+    let counts = UnionCounts {
+        rows: 4294967295,
+        cols: 4294967295,
+        data_cells: greatest,
+        raised: greatest,
+        outlets: greatest,
+    };
+    assert_eq!(rt; window.verdict, UnionVerdict::Accepted(counts));
+    let again = write_report(rt.alloc(), &window)?;
+    assert_eq!(rt; again.as_slice(), LARGE);
+    window.verdict = UnionVerdict::Accepted(UnionCounts {
+        raised: greatest + 1,
+        ..counts
+    });
+    assert_eq!(rt; write_report(rt.alloc(), &window).is_err(), true);
+    Ok(())
+}
+
 /// A window whose rows are spaced otherwise, with the least and the greatest numbers.
-const SPACED: &[u8] = b"drain-window-report 3
+const SPACED: &[u8] = b"drain-window-report 4
 side 3601
 window 0 0 4 28801 0 0 0 0
 nodata -32768 255 0 0
@@ -92,7 +126,7 @@ fn spacings_are_read_and_written_again(rt: HostRuntime) -> Result<(), Fail> {
 }
 
 /// The same of a part of a raster of elevations, with the least and the greatest numbers.
-const OF_DEM: &[u8] = b"drain-window-report 3
+const OF_DEM: &[u8] = b"drain-window-report 4
 dem 4294967295 0 -9223372036854775808 9223372036854775807 500015 0 0 277777777777778 0 -1
 window 0 0 1 28801 0 0 0 0
 nodata -32768 255 10000000000 -10000000000

@@ -4,7 +4,7 @@ use std::alloc::{AllocError, Global};
 
 /// The lines of a window of 3 by 4 cells whose union goes on at the south; after the last one nothing follows.
 static LINES: [&str; 19] = [
-    "drain-window-report 3",
+    "drain-window-report 4",
     "side 1201",
     "window 62400 90001 3 4 0 1 0 0",
     "nodata -2147483648 255 0 0",
@@ -18,9 +18,9 @@ static LINES: [&str; 19] = [
     "outlets 1",
     "outlet 7 62400 90004",
     "seams 3",
-    "seam 62401 90001 - 0 -2147483648 255 0 0 0 0",
-    "seam 62401 90002 -5 1 -5 0 8 7 0 -5",
-    "seam 62402 90001 -32768 0 14 64 1 7 0 14",
+    "seam 62401 90001 - 0 -2147483648 255 0 0",
+    "seam 62401 90002 -5 1 -5 0 8 7",
+    "seam 62402 90001 -32768 0 14 64 1 7",
     "end",
     "",
 ];

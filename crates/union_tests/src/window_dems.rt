@@ -18,7 +18,7 @@ fn answer(
     window: Window,
     at: Cell,
 ) -> Result<Result<WindowReport, WindowRefusal>, Fail> {
-    let place = place(window)?;
+    let place = place(window);
     let mut dem = inputs.dem(alloc, header)?;
     let mut products = inputs.products(alloc)?;
     let given = inputs.given()?;
@@ -161,7 +161,7 @@ fn reports(rt: HostRuntime) -> Result<(), Fail> {
         window,
         AT,
     )??;
-    let mut expected = place(window)?;
+    let mut expected = place(window);
     expected.top = 40001;
     expected.left = 7;
     let sink = Cell { row: 40003, col: 7 };

@@ -1,8 +1,7 @@
 //! Where windows lie, and the answers to them.
 
 use crate::window_inputs::Inputs;
-use drain_grid::Shape;
-use drain_union::{InnerSides, Place, WindowReport};
+use drain_union::{InnerSides, Place, UnionSize, WindowReport};
 use drain_window::{WindowRefusal, judge_window};
 use std::alloc::Global;
 use std::test::Fail;
@@ -11,21 +10,18 @@ use std::test::Fail;
 pub type Window = (u32, u32, u32, u32, &'static str);
 
 /// The place of a window.
-pub fn place((top, left, rows, cols, inner): Window) -> Result<Place, Fail> {
-    let Some(extent) = Shape::new(rows, cols) else {
-        return Err(Fail::new("a shape"));
-    };
-    Ok(Place {
+pub fn place((top, left, rows, cols, inner): Window) -> Place {
+    Place {
         top,
         left,
-        extent,
+        extent: UnionSize { rows, cols },
         inner: InnerSides {
             north: inner.contains('n'),
             south: inner.contains('s'),
             west: inner.contains('w'),
             east: inner.contains('e'),
         },
-    })
+    }
 }
 
 /// The answer to a window of these inputs.
@@ -34,7 +30,7 @@ pub fn answer(
     inputs: &Inputs,
     window: Window,
 ) -> Result<Result<WindowReport, WindowRefusal>, Fail> {
-    let place = place(window)?;
+    let place = place(window);
     let mut tiles = inputs.tiles(alloc)?;
     let mut products = inputs.products(alloc)?;
     let given = inputs.given()?;

@@ -51,7 +51,7 @@ fn same_place(
     first: Cell,
     window: Window,
 ) -> Result<(), Fail> {
-    let mut expected = place(window)?;
+    let mut expected = place(window);
     expected.top = first.row.saturating_add(expected.top);
     expected.left = first.col.saturating_add(expected.left);
     same(rt, "place", given.report.place, expected);

@@ -1,23 +1,57 @@
-//! The last part of a run of `drain window`: the report is written and gets its name, and the verdict is printed.
+//! The last part of a run that makes a report: it is written and gets its name, and the verdict is printed.
 
-ghost use Rattle.std.specs.Prelude.{◌≡◌, Result};
+ghost use Rattle.std.specs.Prelude.{◌≡◌, IfOk, length, vec_len, Result};
 ghost use Rattle.drain_files.specs.Files.{IsNamed};
 ghost use Rattle.drain_maker.specs.ProductFiles.{WritesFile};
 ghost use Rattle.drain_maker.specs.declared.product_files.SetFault.{SetFault};
 ghost use Rattle.drain_answer.specs.Printing.{Prints};
 ghost use Rattle.drain_cli.specs.WindowRuns.{IsReadable, reported_line, reported_status, text_of, verdict_status};
 
-use drain_answer::lines::{Line, verdict_line, words};
+use drain_answer::lines::{Line, words};
 use drain_answer::outcome::Status;
 use drain_answer::print::print_line;
 use drain_device::ByteSink;
-use drain_files::open_failure::{Placing, place_written};
+use drain_files::file_id::FileId;
+use drain_files::open_failure::{Placing, place_written, print_open_fault};
+use drain_files::outputs::{Failure, Outputs};
 use drain_files::whole_input::write_bytes;
-use drain_grid::Verdict;
 use drain_maker::product_files::SetFault;
 use drain_report::write_report;
-use drain_union::WindowReport;
-use std::alloc::Global;
+use drain_union::verdict_line::verdict_line;
+use drain_union::{UnionVerdict, WindowReport};
+use std::alloc::{AllocError, Global};
+
+/// The path of the report, as the list of the paths of outputs.
+pub(crate) fn report_path(alloc: Global, path: &str) -> Result<Vec<String>, AllocError>
+    ensures { IfOk result (λ paths. vec_len paths ≡ 1) }
+{
+    let mut paths = Vec::new(alloc);
+    paths.push(String::from_str(alloc, path)?)?;
+    Ok(paths)
+}
+
+/// Creates the file at this path and writes the report, and returns the exit status.
+pub(crate) fn write_at(
+    rt: &HostRuntime,
+    path: &[String],
+    inputs: &[FileId],
+    window: &WindowReport,
+    out: &mut impl ByteSink,
+) -> u8
+    requires { length path.now ≡ 1 }
+{
+    let failure = Failure::none();
+    let mut outputs = Outputs::new(rt, &failure);
+    let status = match outputs.begin(path, inputs) {
+        Ok(mut files) => {
+            let file = &mut files.as_mut_slice()[0];
+            report_and_print(rt.alloc(), window, file, &mut outputs, out)
+        }
+        Err(fault) => print_open_fault(rt, fault, out),
+    };
+    outputs.end();
+    status
+}
 
 /// Writes the report of a window, gives the file its name, prints the line of the verdict and returns the exit status: 0
 /// accepted, 1 rejected.
@@ -62,7 +96,7 @@ fn write_text<F: ByteSink>(
 }
 
 /// The line for the result of writing a report with this verdict.
-fn line_of(verdict: &Verdict, told: &Result<(), SetFault>) -> Line
+fn line_of(verdict: &UnionVerdict, told: &Result<(), SetFault>) -> Line
     ensures { result.bytes ≡ reported_line verdict.now told.now }
 {
     match told {
@@ -73,7 +107,7 @@ fn line_of(verdict: &Verdict, told: &Result<(), SetFault>) -> Line
 }
 
 /// Its exit status.
-fn status_of(verdict: &Verdict, told: &Result<(), SetFault>) -> Status
+fn status_of(verdict: &UnionVerdict, told: &Result<(), SetFault>) -> Status
     ensures { result ≡ reported_status verdict.now told.now }
 {
     match told {
@@ -83,11 +117,11 @@ fn status_of(verdict: &Verdict, told: &Result<(), SetFault>) -> Status
 }
 
 /// The exit status of a verdict.
-fn verdict_status(verdict: &Verdict) -> Status
+pub(crate) fn verdict_status(verdict: &UnionVerdict) -> Status
     ensures { result ≡ verdict_status verdict.now }
 {
     match verdict {
-        Verdict::Accepted(_) => Status::Done,
-        Verdict::Rejected { .. } => Status::Rejected,
+        UnionVerdict::Accepted(_) => Status::Done,
+        UnionVerdict::Rejected(_) => Status::Rejected,
     }
 }

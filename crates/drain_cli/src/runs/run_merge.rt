@@ -9,9 +9,11 @@ ghost use Rattle.drain_merge.specs.declared.map_merge.MapVerdict.{MapVerdict};
 ghost use Rattle.drain_merge.specs.declared.merge_verdict.MergeRefusal.{MergeRefusal};
 ghost use Rattle.drain_merge.specs.declared.totals.UnionSinks.TheVariants.{Listed};
 ghost use Rattle.drain_answer.specs.Printing.{Prints};
-ghost use Rattle.drain_cli.specs.MergeRuns.{IsMergeOutcome, list_line, list_status, MakeUnion, merge_status, UnionIsCorrect, UnionIsNotCorrect};
+ghost use Rattle.drain_cli.specs.MergeRuns.{IsMergeOutcome, list_line, list_status, MakeUnion, merge_status, refused_status, UnionIsCorrect, UnionIsNotCorrect};
 
 use crate::runs::report_input::read_or_print;
+use crate::runs::report_output::verdict_status;
+use crate::runs::run_join::join_files;
 use drain_answer::Refusal;
 use drain_answer::lines::{Line, refusal_line, words};
 use drain_answer::outcome::Status;
@@ -21,13 +23,16 @@ use drain_device::{BodyFault, ByteSink};
 use drain_files::open_failure::print_open_fault;
 use drain_files::open_files::{Opener, text_at};
 use drain_grid::{SinkFault, parse_sinks};
-use drain_merge::{MapVerdict, MergeRefusal, MergeVerdict, UnionSinks, merge_line, merge_on_map};
+use drain_merge::{MapVerdict, MergeRefusal, UnionSinks, merge_line, merge_on_map};
 use drain_union::WindowReport;
 use std::alloc::Global;
 
 /// Reads the reports at these paths, one file open at a time, and the union's list of sinks, prints the line of the
-/// verdict and returns the exit status.
+/// verdict and returns the exit status; or writes the report of the windows' box, if one is asked for.
 pub fn merge_files(rt: &HostRuntime, args: &MergeArgs<'_>, out: &mut impl ByteSink) -> u8 {
+    if let Some(path) = args.report {
+        return join_files(rt, args.reports.as_slice(), path, out);
+    }
     let mut opener = Opener::new(rt);
     let windows = match reports_at(&mut opener, args.reports.as_slice(), out) {
         Ok(windows) => windows,
@@ -40,7 +45,7 @@ pub fn merge_files(rt: &HostRuntime, args: &MergeArgs<'_>, out: &mut impl ByteSi
 }
 
 /// The reports at these paths, in their order. The first that can't be read is printed, and its exit status returned.
-fn reports_at(
+pub(crate) fn reports_at(
     opener: &mut Opener<'_>,
     paths: &[&str],
     out: &mut impl ByteSink,
@@ -109,12 +114,18 @@ fn status_of(answer: &Result<MapVerdict, MergeRefusal>) -> Status
     ensures { result ≡ merge_status answer.now }
 {
     match answer {
-        Ok(union) => match union.verdict {
-            MergeVerdict::Accepted(_) => Status::Done,
-            MergeVerdict::Rejected(_) => Status::Rejected,
-        },
-        Err(MergeRefusal::OutOfMemory) => Status::Failed,
-        Err(_) => Status::Refused,
+        Ok(union) => verdict_status(&union.verdict),
+        Err(refusal) => refused_status(*refusal),
+    }
+}
+
+/// The exit status of a refusal.
+pub(crate) fn refused_status(refusal: MergeRefusal) -> Status
+    ensures { result ≡ refused_status refusal }
+{
+    match refusal {
+        MergeRefusal::OutOfMemory => Status::Failed,
+        _ => Status::Refused,
     }
 }
 

@@ -1,24 +1,22 @@
 //! The first part of a run of `drain window`: the window is judged.
 
-ghost use Rattle.std.specs.Prelude.{◌≡◌, ◌++◌, ◌⊎◌, IfOk, IfSome, length, vec_len, Result};
+ghost use Rattle.std.specs.Prelude.{◌≡◌, ◌++◌, ◌⊎◌, IfSome, Result};
 ghost use Rattle.drain_files.specs.FilePaths.{header_ending, raster_ending};
 ghost use Rattle.drain_cli.specs.WindowRuns.{IsDemWindowOutcome, IsWindowHandedOver, IsWindowOutcome, refusal_code};
 ghost use Rattle.drain_window.specs.declared.answered.WindowRefusal.{WindowRefusal};
 ghost use Rattle.drain_union.specs.declared.report.WindowReport.{WindowReport};
 
 use crate::runs::opened_given::given_of;
-use crate::runs::report_output::report_and_print;
+use crate::runs::report_output::{report_path, write_at};
 use drain_answer::outcome::Status;
 use drain_answer::print::{print_failure, print_line};
 use drain_args::requests::WindowArgs;
 use drain_device::{BodyFault, ByteSink, ByteSource, write_nothing};
-use drain_files::file_id::FileId;
 use drain_files::map_file::is_named_as_product;
 use drain_files::open_failure::print_open_fault;
 use drain_files::open_files::Opener;
 use drain_files::open_judged::{OpenElevations, OpenFiles, open_audited};
 use drain_files::output_paths::inputs_or_print;
-use drain_files::outputs::{Failure, Outputs};
 use drain_grid::Cell;
 use drain_hgt::TileInput;
 use drain_progress::progress::Progress;
@@ -26,7 +24,7 @@ use drain_union::{Place, WindowReport};
 use drain_verdict::{AuditProducts, Given, RasterInput};
 use drain_window::answered::refusal_line;
 use drain_window::{WindowRefusal, judge_window, judge_window_dem};
-use std::alloc::{AllocError, Global};
+use std::alloc::Global;
 
 /// Judges a window of the mosaic of these tiles, or of this part of a raster of elevations, writes its report, prints the line and returns the exit status. The
 /// report's file is created once nothing is left to refuse.
@@ -44,15 +42,6 @@ pub fn window_files(rt: &HostRuntime, args: &WindowArgs<'_>, out: &mut impl Byte
         Ok(window) => write_at(rt, path.as_slice(), opener.ids(), &window, out),
         Err(status) => status,
     }
-}
-
-/// The path of the report, as the list of the paths of outputs.
-fn report_path(alloc: Global, path: &str) -> Result<Vec<String>, AllocError>
-    ensures { IfOk result (λ paths. vec_len paths ≡ 1) }
-{
-    let mut paths = Vec::new(alloc);
-    paths.push(String::from_str(alloc, path)?)?;
-    Ok(paths)
 }
 
 /// What is to be reported of the window of these files, which are closed again; or it prints why there is nothing, and
@@ -121,29 +110,6 @@ fn product_stem(path: &str) -> Option<&str>
         return Some(stem);
     }
     path.strip_suffix(".hdr")
-}
-
-/// Creates the file at this path and writes the report, and returns the exit status.
-fn write_at(
-    rt: &HostRuntime,
-    path: &[String],
-    inputs: &[FileId],
-    window: &WindowReport,
-    out: &mut impl ByteSink,
-) -> u8
-    requires { length path.now ≡ 1 }
-{
-    let failure = Failure::none();
-    let mut outputs = Outputs::new(rt, &failure);
-    let status = match outputs.begin(path, inputs) {
-        Ok(mut files) => {
-            let file = &mut files.as_mut_slice()[0];
-            report_and_print(rt.alloc(), window, file, &mut outputs, out)
-        }
-        Err(fault) => print_open_fault(rt, fault, out),
-    };
-    outputs.end();
-    status
 }
 
 /// Judges the window that lies at this place of the mosaic of the tiles, and returns what is to be reported. If there is

@@ -1,6 +1,6 @@
 use Rattle.std.proofs.Common.{Option, List, subst, arith}
 use Rattle.std.proofs.lemmas.List.{take_all}
-use Rattle.drain_merge.specs.declared.merge_verdict.Fault.{Fault}
+use Rattle.drain_union.specs.declared.verdict.Fault.{Fault}
 use Rattle.drain_union.specs.declared.report.WindowReport.{WindowReport}
 use Rattle.drain_merge.specs.Seams.{IsEarlierFault, IsFirstOfFaults}
 use Rattle.drain_merge.proofs.FirstOfFaults.{fault_of_next}

@@ -1,7 +1,7 @@
 use Rattle.std.proofs.Common.{subst}
 use Rattle.std.proofs.lemmas.Result.{IfOk-weaker}
 use Rattle.drain_merge.specs.Merges.{IsMerged}
-use Rattle.drain_merge.specs.Places.{FitsNumbers}
+use Rattle.drain_union.specs.Sizes.{FitsNumbers}
 use Rattle.drain_merge.specs.UnionVerdicts.{IsUnionVerdict}
 use Rattle.drain_merge.proofs.MergeMeaning.{union_verdict}
 use Rattle.drain_merge.proofs.merger.merge.Goals as goal
@@ -9,6 +9,6 @@ use Rattle.drain_merge.proofs.merger.merge.Goals as goal
 pub returns-clause-means : goal.returns-clause-means
 returns-clause-means c =
     let size = c.args.size in
-    let windows = c.args.windows.now in
+    let windows = c.args.windows.items in
     IfOk-weaker c.merged.result (IsMerged size windows) (IsUnionVerdict size windows) (union_verdict size (subst FitsNumbers c.size.view_is c.size.invariant) windows)
     c.merged.ensures.lists

@@ -3,7 +3,7 @@ use Rattle.std.proofs.lemmas.List.{get_or_default}
 use Rattle.std.proofs.lemmas.List.Edits.{map_over_more}
 use Rattle.drain_grid.specs.declared.cell.Cell.{Cell}
 use Rattle.drain_grid.proofs.Neighbors.{place}
-use Rattle.drain_merge.specs.Places.{cell_from}
+use Rattle.drain_union.specs.Windows.{cell_from}
 use Rattle.drain_merge.proofs.places.move_sinks.Goals as goal
 
 pub loop-i-preserved : goal.loop-i-preserved

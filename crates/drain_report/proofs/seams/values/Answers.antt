@@ -1,6 +1,6 @@
 use Rattle.std.proofs.Common.{arith, get_or, pos, sym, ap, ◌∙◌}
 use Rattle.drain_report.specs.Facts.{other_numbers}
-use Rattle.drain_report.proofs.ListLemmas.{held, seven}
+use Rattle.drain_report.proofs.ListLemmas.{five_numbers, held}
 use Rattle.drain_report.proofs.FactLemmas.{if_some, some_of, same_values}
 use Rattle.drain_report.proofs.seams.values.Goals as goal
 use Rattle.drain_grid.proofs.Tallies.{none_some, same_some}
@@ -16,10 +16,8 @@ returns-clause-sound c =
     let at2 = held ns 2 c.at-2.result long (omega arith) c.at-2.ensures in
     let at3 = held ns 3 c.at-3.result long (omega arith) c.at-3.ensures in
     let at4 = held ns 4 c.at-4.result long (omega arith) c.at-4.ensures in
-    let at5 = held ns 5 c.at-5.result long (omega arith) c.at-5.ensures in
-    let at6 = held ns 6 c.at-6.result long (omega arith) c.at-6.ensures in
     if_some c.of_height.result
-    (λ v is. (ap (λ w. w.z) (sym is), seven ns _ _ _ _ _ _ _ c.requires.len c.in_ok-sink.ensures.sound at1 at2 at3 at4 at5 at6 ∙ ap other_numbers (sym is)))
+    (λ v is. (ap (λ w. w.z) (sym is), five_numbers ns _ _ _ _ _ c.requires.len c.in_ok-sink.ensures.sound at1 at2 at3 at4 ∙ ap other_numbers (sym is)))
     c.of_height.ensures.value
 
 pub returns-clause-back : goal.returns-clause-back
@@ -30,8 +28,6 @@ returns-clause-back c = λ v range z is.
     let at2 = sym (held ns 2 c.at-2.result long (omega arith) c.at-2.ensures) ∙ ap (λ l. get_or l 2 (pos 0)) is in
     let at3 = sym (held ns 3 c.at-3.result long (omega arith) c.at-3.ensures) ∙ ap (λ l. get_or l 3 (pos 0)) is in
     let at4 = sym (held ns 4 c.at-4.result long (omega arith) c.at-4.ensures) ∙ ap (λ l. get_or l 4 (pos 0)) is in
-    let at5 = sym (held ns 5 c.at-5.result long (omega arith) c.at-5.ensures) ∙ ap (λ l. get_or l 5 (pos 0)) is in
-    let at6 = sym (held ns 6 c.at-6.result long (omega arith) c.at-6.ensures) ∙ ap (λ l. get_or l 6 (pos 0)) is in
     let sink = same_some c.in_ok-sink.sink v.sink (c.in_ok-sink.ensures.back v.sink (ap (λ l. get_or l 0 (pos 0)) is)) in
-    let same = same_values v c.args.z c.in_ok-sink.sink _ _ _ _ _ _ z sink at1 at2 at3 at4 at5 at6 in
-    some_of c.of_height.result v _ (c.of_height.ensures.valid.1 (rw same range)) c.of_height.ensures.value same
+    let same = same_values v c.args.z c.in_ok-sink.sink _ _ _ _ range.of_seam z sink at1 at2 at3 at4 in
+    some_of c.of_height.result v _ (c.of_height.ensures.valid.1 (rw same range.in_range)) c.of_height.ensures.value same

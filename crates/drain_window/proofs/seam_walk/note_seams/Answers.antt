@@ -3,21 +3,21 @@ use Rattle.drain_grid.specs.declared.patch.Patch.{Patch}
 use Rattle.drain_window.specs.SeamRows.{AddsSeams}
 use Rattle.drain_window.proofs.SeamCells.{seams-more, seams-none, seams-past}
 use Rattle.drain_window.proofs.seam_walk.note_seams.Goals as goal
-use Rattle.drain_window.proofs.seam_walk.note_seams.Goals.{then-is_on_seam+in_ok-push, else-is_on_seam}
+use Rattle.drain_window.proofs.seam_walk.note_seams.Goals.{then-is_on_seam+in-Some+in_ok-push, else-is_on_seam}
 
 pub loop-col-init : goal.loop-col-init
 loop-col-init g c = λ grid ps are wide. seams-none c.args.origin c.args.place.now grid ps c.args.row c.args.seams.now.items
 
 pub loop-col-preserved : goal.loop-col-preserved
 loop-col-preserved g c = elim c.if-is_on_seam.branch [
-  | then-is_on_seam+in_ok-push w ↦ λ grid ps are wide.
+  | then-is_on_seam+in-Some+in_ok-push w ↦ λ grid ps are wide.
       let on = c.is_on_seam.ensures.0 w.if-is_on_seam.true in
       let less : c.args.place.now.left + c.loop-col.col < g.R.PatchRow.len c.args.patches.now =
       omega (arith, c.loop-col-test.true, c.min-end.ensures, c.saturating_sub.ensures, c.cols.ensures.count) in
       let same = w.patch-patch.ensures ∙ are.patches_are (c.args.place.now.left + c.loop-col.col) less in
       rw (w.seams-is, w.in_ok-push.ensures.items)
       (seams-more c.args.origin c.args.place.now grid ps c.args.row c.loop-col.col c.args.seams.now.items c.loop-col.seams.items _ on
-      (record { cell = refl; values = ap (λ (q : Patch). q.here) same }) (c.loop-col.invariant grid ps are wide))
+      (record { cell = refl; values = w.in-Some.ensures.value ∙ ap (λ (q : Patch). q.here) same }) (c.loop-col.invariant grid ps are wide))
   | else-is_on_seam w ↦ λ grid ps are wide.
       rw w.seams-is
       (seams-past c.args.origin c.args.place.now grid ps c.args.row c.loop-col.col c.args.seams.now.items c.loop-col.seams.items

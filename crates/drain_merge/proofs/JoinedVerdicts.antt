@@ -1,0 +1,81 @@
+-- The verdict that the verdicts on windows make of the box that they fill is that on what their union shows there.
+use Rattle.std.proofs.Common.{◌≡◌, ℕ, List, map, refl, sym, ap, subst, ◌∙◌, arith}
+use Rattle.std.specs.List.{Contains}
+use Rattle.drain_grid.specs.declared.cell.Cell.{Cell}
+use Rattle.drain_grid.specs.Extent.{IsCellOf}
+use Rattle.drain_grid.specs.Grid.{Grid, Products}
+use Rattle.drain_grid.specs.GridRules.{is_data, is_raised}
+use Rattle.drain_rules.specs.Verdicts.{has_outlet_code}
+use Rattle.drain_union.specs.declared.place.Place.{Place}
+use Rattle.drain_union.specs.declared.place.TheConstants.{SEAM_DEPTH}
+use Rattle.drain_union.specs.declared.report.WindowReport.{WindowReport}
+use Rattle.drain_union.specs.declared.verdict.UnionVerdict.{UnionVerdict}
+use Rattle.drain_union.specs.declared.verdict.UnionVerdict.TheVariants.{Accepted, Rejected}
+use Rattle.drain_union.specs.Joins.{FillPlace, shown_at}
+use Rattle.drain_union.specs.Reports.{Agree, Report}
+use Rattle.drain_union.specs.Windows.{AreWindowsFrom, in_union, IsFirstInside, IsFrom, Window}
+use Rattle.drain_union.proofs.JoinedCounts.{join_adds_up}
+use Rattle.drain_union.proofs.JoinedFaults.{join_tells_fault}
+use Rattle.drain_union.proofs.JudgedCounts.{judged_most, one_cell}
+use Rattle.drain_merge.specs.BoxReports.{IsJoin, IsJoinedVerdict, IsOfBox}
+use Rattle.drain_merge.specs.Seams.{cell_there}
+use Rattle.drain_merge.specs.Totals.{capped}
+use Rattle.drain_merge.specs.UnionVerdicts.{AreJudgedFrom, IsVerdictInside, windows_of}
+use Rattle.drain_merge.proofs.JoinedWindows.{filled, lies, placed, report, short_cols, short_rows}
+use Rattle.drain_merge.proofs.JudgedWindows.{apart, first_inside, sums_of_judged, there_is, window_places}
+use Rattle.drain_merge.proofs.MergedCounts.{fits}
+
+module _ (ws : List WindowReport) (j : WindowReport) (is : IsJoin ws j) (window_of : Report → Window) (judged : AreJudgedFrom window_of ws)
+    (origin : Cell) (u : Grid) (ps : Products) (from : IsFrom origin j.report.place) (are : AreWindowsFrom origin u ps (windows_of window_of ws)) where
+  abbrev box : Place
+  box = j.report.place
+
+  abbrev shown : Window
+  shown = shown_at origin box u ps
+
+  abbrev windows : List Window
+  windows = windows_of window_of ws
+
+  filled_by_windows : FillPlace SEAM_DEPTH box (map (λ (w : Window). w.place) windows)
+  filled_by_windows = subst (FillPlace SEAM_DEPTH box) (sym (window_places window_of ws (λ w has. (judged w has).report.place))) (filled ws j is)
+
+  -- a window's cell is the map's that its report tells
+  exact : (w : WindowReport) → Contains ws w → (c : Cell) → IsCellOf w.report.place.extent c → cell_there w.report.place c ≡ in_union w.report.place c
+  exact w has c inside =
+      let in_box = lies ws j is w has in
+      there_is w.report.place c (omega (arith, in_box.rows_to, short_rows ws j is)) (omega (arith, in_box.cols_to, short_cols ws j is)) inside
+
+  by_verdict : (v : UnionVerdict) → Agree v j.report → IsJoinedVerdict box ws v → IsVerdictInside j.report.nodata shown v
+  by_verdict (Accepted counts) holds told =
+      let all = sums_of_judged ws window_of judged told.0 in
+      let add_up = join_adds_up origin u ps box windows from (placed ws j is window_of judged origin u ps from are) are filled_by_windows (apart ws window_of judged is.fills.apart) in
+      let most = λ (n : ℕ). fits box.extent n (omega (arith, short_rows ws j is)) (omega (arith, short_cols ws j is)) in (
+        (report ws j is window_of judged origin u ps from are).holds.0 holds,
+        record {
+          rows = told.1.rows;
+          cols = told.1.cols;
+          data_cells = told.1.data_cells ∙ ap capped (all.0 ∙ add_up.0) ∙ most _ (judged_most box (is_data shown.grid));
+          raised = told.1.raised ∙ ap capped (all.1 ∙ add_up.1) ∙ most _ (judged_most box (is_raised shown.grid shown.products));
+          outlets = told.1.outlets ∙ ap capped (all.2 ∙ add_up.2) ∙ most _ (judged_most box (has_outlet_code shown.grid shown.products));
+        },
+      )
+  by_verdict (Rejected fault) holds told =
+      let first = first_inside j.report.nodata ws is.one_nodata window_of judged (record { cell = in_union box fault.cell; rule = fault.rule }) told exact in
+      let at = join_tells_fault origin u ps box j.report.nodata windows from (placed ws j is window_of judged origin u ps from are) are filled_by_windows
+      first.0 first.2.0 fault.rule first.1 first.2.1 first.2.3 in
+      subst (λ c. IsFirstInside j.report.nodata shown c fault.rule) (one_cell box at.0 fault.cell (at.1 ∙ first.2.2)) at.2
+
+-- the report that windows make of their box is, on each union of which they are windows, of what it shows there
+pub join_of_box : (ws : List WindowReport) (j : WindowReport) → IsJoin ws j → IsOfBox ws j
+join_of_box ws j is origin window_of judged u ps from are = (
+  record {
+    report = report ws j is window_of judged origin u ps from are;
+    verdict = by_verdict ws j is window_of judged origin u ps from are j.verdict is.holds is.verdict;
+  },
+  record {
+    placed = placed ws j is window_of judged origin u ps from are;
+    extent = refl;
+    values = λ c inside. refl;
+    spacings = λ c inside. refl;
+  },
+)

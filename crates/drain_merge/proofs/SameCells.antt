@@ -1,0 +1,12 @@
+-- Two cells are one where the test of their numbers passes.
+use Rattle.std.proofs.Common.{◌≡◌, ◌&&◌, true}
+use lib.Dec.{eqb}
+use Rattle.std.proofs.lemmas.Bool.{and_parts}
+use Rattle.std.proofs.lemmas.Bool.Decides.{Decides-eqb}
+use Rattle.drain_grid.specs.declared.cell.Cell.{Cell}
+use Rattle.drain_grid.proofs.Neighbors.{place}
+
+pub same_cells : (a b : Cell) → (eqb a.row b.row && eqb a.col b.col) ≡ true → a ≡ b
+same_cells a b passes =
+    let parts = and_parts _ _ passes in
+    λ i. place ((Decides-eqb a.row b.row).0 parts.0 i) ((Decides-eqb a.col b.col).0 parts.1 i)

@@ -1,0 +1,10 @@
+use Rattle.std.proofs.Common.{◌≡◌, ℕ, length}
+use Rattle.drain_union.specs.Reports.{spacing_at}
+use Rattle.drain_merge.proofs.joined_spacings.shortened.Given as goal
+
+-- each row is spaced as at first
+abbrev pub invariant-loop-listed : goal.invariant-loop-listed
+invariant-loop-listed l = (row : ℕ) → spacing_at l.listed.items row ≡ spacing_at l.initial.listed.items row
+
+abbrev pub decreases-loop-listed : goal.decreases-loop-listed
+decreases-loop-listed l = length l.listed.items

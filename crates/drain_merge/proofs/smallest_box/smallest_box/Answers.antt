@@ -1,0 +1,51 @@
+use Rattle.std.proofs.Common.{◌≡◌, ◌↔◌, ℕ, ◌+◌, ◌-◌, ◌^◌, min, IsTrue, Bool, true, false, not, List, refl, sym, subst, ◌∙◌, arith}
+use Rattle.std.specs.List.{Contains}
+use Rattle.std.proofs.lemmas.Bool.{false≢true}
+use Rattle.drain_union.specs.declared.report.WindowReport.{WindowReport}
+use Rattle.drain_merge.specs.BoxReports.{end_at, StopsAt, is_inner_at}
+use Rattle.drain_merge.specs.declared.smallest_box.Side.{Side}
+use Rattle.drain_merge.specs.declared.smallest_box.Side.TheVariants.{North, South, West, East}
+use Rattle.drain_merge.proofs.smallest_box.smallest_box.Goals as goal
+
+-- the union ends with some window here at this side
+abbrev SomeStops : Side → ℕ → List WindowReport → Type 0
+SomeStops s at ws = (w : WindowReport) × Contains ws w × StopsAt s at w
+
+-- so the side isn't inner
+turned : (b : Bool) {X : Type 0} → (IsTrue b ↔ X) → (not b ≡ false) ↔ X
+turned true tells = ((λ is. tells.0 refl), (λ x. refl))
+turned false tells = ((λ is. absurd (false≢true (sym is))), (λ x. absurd (false≢true (tells.1 x))))
+
+moved : (s : Side) (at to : ℕ) (ws : List WindowReport) (b : Bool) → at ≡ to → (IsTrue b ↔ SomeStops s at ws) → (not b ≡ false) ↔ SomeStops s to ws
+moved s at to ws b is tells = turned b (subst (λ n. IsTrue b ↔ SomeStops s n ws) is tells)
+
+-- what is said of each side
+by_side : (P : Side → Type 0) → P North → P South → P West → P East → (s : Side) → P s
+by_side P north south west east North = north
+by_side P north south west east South = south
+by_side P north south west east West = west
+by_side P north south west east East = east
+
+-- where it ends is so many after the first
+length_of : (first end last most : ℕ) → last ≡ first + (min end most - first) → last - first ≡ min end most - first
+length_of first end last most is = omega (arith, is)
+
+end_of : (first last end : ℕ) → last ≡ first + end → last ≡ first + (last - first)
+end_of first last end is = omega (arith, is)
+
+pub returns-clause-smallest : goal.returns-clause-smallest
+returns-clause-smallest c =
+    let ws = c.args.windows.now in
+    let top = c.edges-edges.ensures.top in
+    let left = c.edges-edges.ensures.left in
+    record {
+      top = top;
+      left = left;
+      rows = length_of _ _ _ (2 ^ 32 - 1) c.last_end-bottom.ensures ∙ (λ i. min (c.edges-edges.ensures.bottom i) (2 ^ 32 - 1) - top i);
+      cols = length_of _ _ _ (2 ^ 32 - 1) c.last_end-right.ensures ∙ (λ i. min (c.edges-edges.ensures.right i) (2 ^ 32 - 1) - left i);
+      sides = by_side (λ s. (is_inner_at s _ ≡ false) ↔ SomeStops s (end_at s _) ws)
+          (moved North _ _ ws c.some_stops.result c.from.ensures c.some_stops.ensures)
+          (moved South _ _ ws c.some_stops-2.result (c.from-2.ensures ∙ end_of _ _ _ c.last_end-bottom.ensures) c.some_stops-2.ensures)
+          (moved West _ _ ws c.some_stops-3.result c.from-3.ensures c.some_stops-3.ensures)
+          (moved East _ _ ws c.some_stops-4.result (c.from-4.ensures ∙ end_of _ _ _ c.last_end-right.ensures) c.some_stops-4.ensures);
+    }

@@ -1,0 +1,7 @@
+use Rattle.std.specs.List.{AllWithin}
+use Rattle.drain_merge.specs.BoxReports.{StopsAt}
+use Rattle.drain_merge.proofs.smallest_box.some_stops.Given as goal
+
+-- the union ends with none of the windows before
+abbrev pub invariant-loop-window : goal.invariant-loop-window
+invariant-loop-window l = AllWithin (λ w. ¬ StopsAt l.side l.at w) l.windows 0 l.window-index
