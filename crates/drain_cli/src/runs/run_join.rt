@@ -57,10 +57,6 @@ pub fn join_or_print<W: ByteSink>(
 {
     match join(alloc, windows) {
         Ok(joined) => Ok(joined),
-        Err(refusal) => Err(print_line(
-            out,
-            &refusal_line(refusal),
-            refused_status(refusal),
-        )),
+        Err(refusal) => Err(print_line(out, &refusal_line(refusal), refused_status(refusal))),
     }
 }
