@@ -1,5 +1,5 @@
 -- Sums of capped numbers: below the cap they are those of the numbers.
-use Rattle.std.proofs.Common.{◌≡◌, ℕ, ◌≤◌, ◌<◌, true, ◌&&◌, ◌||◌, nat_le, nat_lt, min, List, IsTrue, inl, inr, sym, subst, arith, ◌==◌, ◌∙◌, ap, ◌+◌, Bool, false, slice_index, refl, if◌then◌else◌}
+use Rattle.std.proofs.Common.{◌≡◌, ℕ, ◌≤◌, ◌<◌, true, ◌&&◌, ◌||◌, nat_lt, min, List, IsTrue, inl, inr, sym, subst, arith, ◌==◌, ◌∙◌, ap, ◌+◌, Bool, false, slice_index, refl, if◌then◌else◌}
 use Rattle.std.proofs.lemmas.Bool.{and_parts, leb-true, or_cases, or_left, or_right, cases_lt}
 use Rattle.std.proofs.lemmas.Bool.Decides.{Decides-ltb, Decides-eqb}
 use Rattle.drain_kernel.specs.Images.{EachHasImage, at_most, lower, upper}

@@ -14,3 +14,4 @@ pub mod Meaning
 pub mod SeenNumbers
 pub mod OnGround
 pub mod Fallen
+pub mod ConAlone

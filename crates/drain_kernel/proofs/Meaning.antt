@@ -128,7 +128,7 @@ pub no_outlet : (d : Direction) → code_of d ≢ 0
 no_outlet = of_each (λ d. code_of d ≢ 0) (λ e. cc) (λ e. cc) (λ e. cc) (λ e. cc) (λ e. cc) (λ e. cc) (λ e. cc) (λ e. cc)
 
 -- the test of voids, of the nine columns
-have_data_from : (rows : ThreeLanes) (k : ℕ) → IsInlandAt rows k → HaveDataAt rows.above rows.here rows.below k
+pub have_data_from : (rows : ThreeLanes) (k : ℕ) → IsInlandAt rows k → HaveDataAt rows.above rows.here rows.below k
 have_data_from rows k known = record {
   here_has = known.here_is.middle;
   beside_has = of_each (λ d. HasDataAt (row_beside rows.above rows.here rows.below d) (col_beside k d)) known.here_is.right known.below_is.right known.below_is.middle

@@ -11,3 +11,4 @@ pub mod Slopes
 pub mod Laws
 pub mod Falls
 pub mod Outlets
+pub mod ConAlone

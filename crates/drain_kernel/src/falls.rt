@@ -5,6 +5,7 @@ ghost use Rattle.std.specs.Prelude.{◌≡◌, ◌≤◌, ◌<◌, ◌==◌, IsT
 ghost use Rattle.drain_grid.specs.declared.patch.Patch.{Patch};
 ghost use Rattle.drain_grid.specs.Judged.{IfJudged, has_acc, has_rnk};
 ghost use Rattle.drain_kernel.specs.Columns.{HasCountsAt, HasRankAt, HasWayAt, IsKept, HaveRanks, IsInnerColumn, IsShownRoundIn};
+ghost use Rattle.drain_kernel.specs.ConAlone.{IsClearedAlone};
 ghost use Rattle.drain_kernel.specs.Eights.{eight};
 ghost use Rattle.drain_kernel.specs.Falls.{FallsAt, each_seen, keeps_fall, keeps_fall_at, seen_code, seen_con, seen_sum_at};
 ghost use Rattle.drain_grid.specs.RulesAbout.{tried};
@@ -14,6 +15,7 @@ use crate::around::{Eight, is_direction};
 use crate::cells::keeps_label;
 use crate::column_test::ColumnTest;
 use crate::columns::{CountsTest, WayTest};
+use crate::con_alone::lies_at;
 use crate::lane_height::LaneHeight;
 use crate::lane_row::LaneRow;
 use crate::lane_rows::{LaneRows, narrow_rows, wide_rows};
@@ -168,7 +170,20 @@ fn tests_pass<H: LaneHeight>(rows: &LaneRows<H>, rules: &Rules, k: usize) -> boo
         && keeps_rank(&rows.here, rules, k)
 }
 
-/// Whether the cell at a column lies on its ground and falls. Then its patch keeps the rules that are tried.
+/// Whether these tests pass, or where con alone is judged that it lies on its ground.
+fn judged_pass<H: LaneHeight>(rows: &LaneRows<H>, rules: &Rules, k: usize) -> bool
+    requires inner { IsInnerColumn rows.now k }
+    requires ranks { IfJudged (has_rnk rules.now.judged) (HaveRanks rows.now) }
+    ensures { IsTrue result → IsClearedAlone rules.now rows.now k }
+{
+    if rules.judged.has_dir() {
+        tests_pass(rows, rules, k)
+    } else {
+        lies_at(rows, &rules.nodata, k)
+    }
+}
+
+/// Whether the cell at a column lies on its ground, and falls if directions are judged. Then its patch keeps the rules that are tried.
 fn is_cleared_at<H: LaneHeight>(rows: &LaneRows<H>, rules: &Rules, k: usize) -> bool
     requires inside { k ≤ cols rows.now.here }
     ensures inner { IsTrue result → IsInnerColumn rows.now k }
@@ -180,10 +195,10 @@ fn is_cleared_at<H: LaneHeight>(rows: &LaneRows<H>, rules: &Rules, k: usize) -> 
     if k == 0 || k >= rows.here.cols() - 1 {
         return false;
     }
-    tests_pass(rows, rules, k)
+    judged_pass(rows, rules, k)
 }
 
-/// Whether the cell at a column lies on its ground and falls, by the slopes of its row. Then its patch in the three rows keeps
+/// Whether the cell at a column lies on its ground, and falls by the slopes of its row if directions are judged. Then its patch in the three rows keeps
 /// every rule that is tried, SharedLabel left out, whether it is a listed sink or not, and whether voids are beside it. False shows no fault. It is
 /// false at the first and the last column, if the rows have different lengths or heights of different widths, and if
 /// ranks are judged and one row has none.

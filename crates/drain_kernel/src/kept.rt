@@ -3,8 +3,9 @@
 ghost use Rattle.std.specs.Prelude.{◌≡◌, ◌≤◌, IsTrue};
 ghost use Rattle.drain_grid.specs.declared.patch.Patch.{Patch};
 ghost use Rattle.drain_grid.specs.Judged.{IfJudged, has_rnk};
-ghost use Rattle.drain_kernel.specs.Columns.{Along, PassesAt, IsKept, HaveRanks, IsInnerColumn, IsShownIn, IsStretch};
+ghost use Rattle.drain_kernel.specs.Columns.{Along, IsKept, HaveRanks, IsInnerColumn, IsShownIn, IsStretch};
 ghost use Rattle.drain_grid.specs.RulesAbout.{tried};
+ghost use Rattle.drain_kernel.specs.ConAlone.{IsClearedAt};
 ghost use Rattle.drain_kernel.specs.Shown.{cols, IsInner, IsShown};
 
 use crate::lane_height::LaneHeight;
@@ -43,7 +44,7 @@ fn passed_until<H: FirstTest>(rows: &LaneRows<H>, rules: &Rules, from: usize, en
     requires ranks { IfJudged (has_rnk rules.now.judged) (HaveRanks rows.now) }
     ensures forward { from ≤ result }
     ensures within { result ≤ end }
-    ensures passed { Along from result (PassesAt rules.now rows.now) }
+    ensures passed { Along from result (IsClearedAt rules.now rows.now) }
 {
     let by_blocks = passed_strides(rows, rules, from, end, BLOCK);
     let reach = by_blocks + BLOCK.min(end - by_blocks);
@@ -74,9 +75,9 @@ fn cleared_until<H: FirstTest>(
     if from == 0 || from == cols {
         return from;
     }
-    // A row of voids stops here.
+    // A row of voids stops here, and one of outlets.
     let end = until.min(cols - 1);
-    if from >= end || !is_inland(rows, from) {
+    if from >= end || rows.here.code(from) == 0 || !is_inland(rows, from) {
         return from;
     }
     passed_until(rows, rules, from, end)
@@ -85,7 +86,8 @@ fn cleared_until<H: FirstTest>(
 /// A column to which cells can be cleared from this one on, at most `until`. At each column before it the patch of the
 /// three rows, for a cell that isn't a listed sink, by the slopes of its row keeps every rule that is tried, SharedLabel left out. It may be any such column,
 /// even `from`, so it shows no fault. It is `from` at the first and the last column, if the rows have different lengths
-/// or heights of different widths, and if ranks are judged and one row has none.
+/// or heights of different widths, and if ranks are judged and one row has none. Where con alone is judged, it stops at a
+/// direction 0: such a cell counts as an outlet.
 pub fn kept_until(
     above: &Lanes,
     here: &Lanes,

@@ -5,6 +5,7 @@ mod around;
 mod cells;
 mod column_test;
 mod columns;
+mod con_alone;
 pub mod falls;
 mod height_lanes;
 pub mod kept;

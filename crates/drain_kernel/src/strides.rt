@@ -2,6 +2,7 @@
 
 ghost use Rattle.std.specs.Prelude.{◌≡◌, ◌≤◌, IsTrue, false, true};
 ghost use Rattle.drain_grid.specs.Judged.{IfJudged, has_acc, has_rnk};
+ghost use Rattle.drain_kernel.specs.ConAlone.{IsClearedAt};
 ghost use Rattle.drain_kernel.specs.Columns.{adds_up_at, Along, HasWayAt, IsInlandAt, KeepsCountsAt, KeepsRankedWayAt, KeepsWayAt, PassesAt, RanksPassAt, HaveRanks, IsStretch};
 ghost use Rattle.drain_kernel.specs.Slopes.{is_unit};
 
@@ -10,6 +11,7 @@ use crate::columns::{
     CappedSumTest, CountsTest, DirectionTest, FractionsTest, LabelTest, MiddleSumTest, SumTest,
     SurfaceTest, WayTest, WaysTest,
 };
+use crate::con_alone::surfaces_pass;
 use crate::lane_rows::LaneRows;
 use crate::near::FirstTest;
 use crate::ranked::{HasRankTest, RankedWaysTest, RanksTest};
@@ -152,6 +154,19 @@ fn all_pass<H: FirstTest>(rows: &LaneRows<H>, rules: &Rules, from: usize, end: u
     counts_pass(rows, rules, from, end)
 }
 
+/// Whether all tests of the judged rasters pass.
+fn judged_pass<H: FirstTest>(rows: &LaneRows<H>, rules: &Rules, from: usize, end: usize) -> bool
+    requires stretch { IsStretch rows.now from end }
+    requires ranks { IfJudged (has_rnk rules.now.judged) (HaveRanks rows.now) }
+    ensures { IsTrue result → Along from end (IsClearedAt rules.now rows.now) }
+{
+    if rules.judged.has_dir() {
+        all_pass(rows, rules, from, end)
+    } else {
+        surfaces_pass(rows, &rules.nodata, from, end)
+    }
+}
+
 /// Tries `stride` columns at a time from `from` on, the last time maybe fewer. Returns the start of the first stride
 /// where a test fails, or `end`.
 pub fn passed_strides<H: FirstTest>(
@@ -166,12 +181,12 @@ pub fn passed_strides<H: FirstTest>(
     requires ranks { IfJudged (has_rnk rules.now.judged) (HaveRanks rows.now) }
     ensures forward { from ≤ result }
     ensures within { result ≤ end }
-    ensures passed { Along from result (PassesAt rules.now rows.now) }
+    ensures passed { Along from result (IsClearedAt rules.now rows.now) }
 {
     let mut k = from;
     while k < end {
         let next = k + stride.min(end - k);
-        if !all_pass(rows, rules, k, next) {
+        if !judged_pass(rows, rules, k, next) {
             return k;
         }
         k = next;

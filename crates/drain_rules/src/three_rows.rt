@@ -2,7 +2,7 @@
 
 ghost use Rattle.std.specs.Prelude.{◌≡◌, ◌≤◌, ◌<◌, ℕ, IsTrue, length};
 ghost use Rattle.drain_rules.specs.Fill.{IsBlankVoid};
-ghost use Rattle.drain_rules.specs.Rows.{values_in, raised_between};
+ghost use Rattle.drain_rules.specs.Rows.{values_in};
 ghost use Rattle.drain_kernel.specs.Columns.{IsKept, AreLanesOf};
 ghost use Rattle.drain_grid.specs.RulesAbout.{tried};
 ghost use Rattle.drain_rules.specs.ThreeRows.{patch_in};
@@ -43,13 +43,23 @@ impl PatchRow for ThreeRows<'_> {
         }
     }
 
-    /// Those that the lanes of the three rows clear; none if a row has no lanes, and none of con alone, since lanes clear
-    /// no cell without a direction.
+    /// Those that the lanes of the three rows clear; none if a row has no lanes.
     fn kept_from(&self, rules: &Rules, from: u32, end: u32) -> Kept {
-        if rules.judged.has_dir() {
-            self.cleared_from(rules, from, end)
-        } else {
-            Kept::none(from)
+        let (Some(above), Some(here), Some(below)) = (
+            self.above.lanes(),
+            self.here.lanes(),
+            self.below.lanes(),
+        ) else {
+            return Kept::none(from);
+        };
+        // The laws on what lanes show, and how they count raised cells.
+        lanes_show_numbers();
+        raised_are_counted();
+        let first = from as usize;
+        let last = cleared_until(self, above, here, below, rules, first, end as usize);
+        Kept {
+            end: last as u32,
+            raised: here.raised_between(first, last),
         }
     }
 
@@ -113,37 +123,10 @@ impl ThreeRows<'_> {
         let col = col as usize;
         self.here.is_void(col) && is_blank_void(&self.here.values(col), rules)
     }
-
-    /// Those that the lanes clear.
-    fn cleared_from(&self, rules: &Rules, from: u32, end: u32) -> Kept
-        requires before { from ≤ end }
-        requires inside { end ≤ length self.now.here.numbers.z }
-        ensures forward { from ≤ result.end }
-        ensures within { result.end ≤ end }
-        ensures kept { (col : ℕ) → from ≤ col → col < result.end → IsKept (tried rules.now) (patch_in self.now col) }
-        ensures raised { result.raised ≡ raised_between (patch_in self.now) from result.end }
-    {
-        let (Some(above), Some(here), Some(below)) = (
-            self.above.lanes(),
-            self.here.lanes(),
-            self.below.lanes(),
-        ) else {
-            return Kept::none(from);
-        };
-        // The laws on what lanes show, and how they count raised cells.
-        lanes_show_numbers();
-        raised_are_counted();
-        let first = from as usize;
-        let last = cleared_until(self, above, here, below, rules, first, end as usize);
-        Kept {
-            end: last as u32,
-            raised: here.raised_between(first, last),
-        }
-    }
 }
 
 /// How far from a column on, up to another, the lanes of the three rows clear cells: many at once up to a marked cell or a void, and
-/// one by one those that lie on their ground and fall, whatever is beside them.
+/// one by one those that lie on their ground, and fall if directions are judged, whatever is beside them.
 fn cleared_until(
     rows: &ThreeRows<'_>,
     above: &Lanes,

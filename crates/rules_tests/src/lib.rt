@@ -2,6 +2,8 @@
 #![tactic(auto)]
 
 #[cfg(test)]
+mod con_alone;
+#[cfg(test)]
 mod every_fault;
 #[cfg(test)]
 mod examples;

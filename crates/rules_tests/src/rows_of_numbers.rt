@@ -244,54 +244,58 @@ pub fn kept_of_kinds(
     text: &[u8],
     numbers: &[i64],
     kinds: Kinds,
-    (row, from): (u8, u32),
+    place: (u8, u32),
 ) -> Result<Kept, Fail> {
-    let marks = marks_of(&parse_sinks(alloc, text)?);
     let given = Given {
         alloc,
         numbers,
-        marks: &marks,
+        marks: &marks_of(&parse_sinks(alloc, text)?),
         ground: OF_TILES,
         kinds,
         judged: Judged::AllWithRanks,
         is_laned: true,
     };
-    let numbers = numbers_round(given, row)?;
-    let slopes = Slopes::of(Spacing::unit());
-    let mut room = Room::new(alloc);
-    match kept_in_row(&three_rows(given, &numbers, &slopes, row, &mut room), from) {
-        Some(kept) => Ok(kept),
-        None => Err("a column".into()),
-    }
+    kept_in_row(given, Spacing::unit(), place)
 }
 
 /// The cells of the second row that lanes clear from its second column on, where cells are so far apart.
 pub fn kept_when_spaced(alloc: Global, numbers: &[i64], spacing: Spacing) -> Result<Kept, Fail> {
-    let marks = marks_of(&Sinks::none(alloc));
     let given = Given {
         alloc,
         numbers,
-        marks: &marks,
+        marks: &marks_of(&Sinks::none(alloc)),
         ground: OF_TILES,
         kinds: AS_NUMBERS,
         judged: Judged::AllWithRanks,
         is_laned: true,
     };
-    let numbers = numbers_round(given, 1)?;
-    let slopes = Slopes::of(spacing);
-    let mut room = Room::new(alloc);
-    match kept_in_row(&three_rows(given, &numbers, &slopes, 1, &mut room), 1) {
-        Some(kept) => Ok(kept),
-        None => Err("a column".into()),
-    }
+    kept_in_row(given, spacing, (1, 1))
 }
 
-/// The same of the row with those above and below it; none where there is no such column.
-fn kept_in_row(rows: &ThreeRows<'_>, from: u32) -> Option<Kept> {
+/// The cells of the second row that lanes clear from a column on, where con alone is judged.
+pub fn kept_by_con(alloc: Global, text: &[u8], numbers: &[i64], from: u32) -> Result<Kept, Fail> {
+    let given = Given {
+        alloc,
+        numbers,
+        marks: &marks_of(&parse_sinks(alloc, text)?),
+        ground: OF_TILES,
+        kinds: AS_NUMBERS,
+        judged: Judged::Con,
+        is_laned: true,
+    };
+    kept_in_row(given, Spacing::unit(), (1, from))
+}
+
+/// The cells of a row that lanes clear from a column on, where cells are so far apart.
+fn kept_in_row(given: Given<'_>, spacing: Spacing, (row, from): (u8, u32)) -> Result<Kept, Fail> {
+    let numbers = numbers_round(given, row)?;
+    let slopes = Slopes::of(spacing);
+    let mut room = Room::new(given.alloc);
+    let rows = three_rows(given, &numbers, &slopes, row, &mut room);
     if from > rows.cols() {
-        return None;
+        return Err("a column".into());
     }
-    Some(rows.kept_from(&rules_about(Judged::AllWithRanks), from, rows.cols()))
+    Ok(rows.kept_from(&rules_about(given.judged), from, rows.cols()))
 }
 
 /// Whether lanes find that a cell is an outlet that keeps the rules.

@@ -1,7 +1,7 @@
 use Rattle.std.proofs.Common.{refl}
-use Rattle.drain_kernel.proofs.Fallen.{is_kept_there}
+use Rattle.drain_kernel.proofs.ConAlone.{is_cleared_alone}
 use Rattle.drain_kernel.proofs.falls.is_cleared_at.Goals as goal
 
 pub returns-clause-kept : goal.returns-clause-kept
 returns-clause-kept g c = λ falls p spaced shown.
-    is_kept_there _ c.args.rules.now c.args.rows.now c.args.k p (c.if-not-are_alike.ensures.bias refl) c.if-not-are_alike.ensures.slopes spaced shown (c.if-not-are_alike.ensures.ranks refl) (c.tests_pass.ensures falls)
+    is_cleared_alone _ c.args.rules.now c.args.rows.now c.args.k p (c.if-not-are_alike.ensures.bias refl) c.if-not-are_alike.ensures.slopes spaced (c.if-not-are_alike.ensures.ranks refl) shown (c.judged_pass.ensures falls)

@@ -6,5 +6,5 @@ pub loop-k-preserved : goal.loop-k-preserved
 loop-k-preserved g c = record {
   forward = omega (arith, c.loop-k.invariant.forward);
   within = omega (arith, c.min.ensures, c.loop-k-test.true);
-  passed = along_both _ _ _ _ c.loop-k.invariant.passed (c.all_pass.ensures c.if-not-all_pass.false);
+  passed = along_both _ _ _ _ c.loop-k.invariant.passed (c.judged_pass.ensures c.if-not-judged_pass.false);
 }

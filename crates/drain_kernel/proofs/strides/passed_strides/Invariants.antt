@@ -1,5 +1,6 @@
 use Rattle.std.proofs.Common.{◌-◌, ◌≤◌}
-use Rattle.drain_kernel.specs.Columns.{Along, PassesAt}
+use Rattle.drain_kernel.specs.Columns.{Along}
+use Rattle.drain_kernel.specs.ConAlone.{IsClearedAt}
 use Rattle.drain_kernel.proofs.strides.passed_strides.Given as goal
 
 -- the columns that were passed pass all tests
@@ -7,7 +8,7 @@ abbrev pub invariant-loop-k : goal.invariant-loop-k
 invariant-loop-k g l = record {
   forward : l.from ≤ l.k;
   within : l.k ≤ l.end;
-  passed : Along l.from l.k (PassesAt l.rules l.rows);
+  passed : Along l.from l.k (IsClearedAt l.rules l.rows);
 }
 
 abbrev pub decreases-loop-k : goal.decreases-loop-k

@@ -1,7 +1,7 @@
 use Rattle.std.proofs.Common.{arith, ◌∙◌}
 use Rattle.drain_rules.specs.ThreeRows.{patch_in}
 use Rattle.drain_rules.proofs.LanedPatches.{raised_counts, row_shown}
-use Rattle.drain_rules.proofs.three_rows.ThreeRows.cleared_from.Goals as goal
+use Rattle.drain_rules.proofs.three_rows.ThreeRowsPatchRow.kept_from.Goals as goal
 
 pub overflow_cast-result : goal.overflow_cast-result
 overflow_cast-result c = omega (arith, c.cleared_until-last.ensures.within, c.requires.inside, c.in-Some-Some-Some.ensures'.narrow)
