@@ -1,5 +1,8 @@
 use Rattle.std.proofs.Common.{◌≡◌, ◌+◌, ◌<◌, ◌∙◌, refl, ap, subst, arith}
 use Rattle.drain_grid.specs.declared.patch.Patch.{Patch}
+use Rattle.drain_rules.specs.Rows.{place}
+use Rattle.drain_union.specs.declared.place.TheConstants.{SEAM_DEPTH}
+use Rattle.drain_union.specs.Reports.{IsOnSeam}
 use Rattle.drain_window.specs.SeamRows.{AddsSeams}
 use Rattle.drain_window.proofs.SeamCells.{seams-more, seams-none, seams-past}
 use Rattle.drain_window.proofs.seam_walk.note_seams.Goals as goal
@@ -9,20 +12,24 @@ pub loop-col-init : goal.loop-col-init
 loop-col-init g c = λ grid ps are wide. seams-none c.args.origin c.args.place.now grid ps c.args.row c.args.seams.now.items
 
 pub loop-col-preserved : goal.loop-col-preserved
-loop-col-preserved g c = elim c.if-is_on_seam.branch [
-  | then-is_on_seam+in-Some+in_ok-push w ↦ λ grid ps are wide.
-      let on = c.is_on_seam.ensures.0 w.if-is_on_seam.true in
-      let less : c.args.place.now.left + c.loop-col.col < g.R.PatchRow.len c.args.patches.now =
-      omega (arith, c.loop-col-test.true, c.min-end.ensures, c.saturating_sub.ensures, c.cols.ensures.count) in
-      let same = w.patch-patch.ensures ∙ are.patches_are (c.args.place.now.left + c.loop-col.col) less in
-      rw (w.seams-is, w.in_ok-push.ensures.items)
-      (seams-more c.args.origin c.args.place.now grid ps c.args.row c.loop-col.col c.args.seams.now.items c.loop-col.seams.items _ on
-      (record { cell = refl; values = w.in-Some.ensures.value ∙ ap (λ (q : Patch). q.here) same }) (c.loop-col.invariant grid ps are wide))
-  | else-is_on_seam w ↦ λ grid ps are wide.
-      rw w.seams-is
-      (seams-past c.args.origin c.args.place.now grid ps c.args.row c.loop-col.col c.args.seams.now.items c.loop-col.seams.items
-      (λ on. (let yes = c.is_on_seam.ensures.1 on in let no = w.if-is_on_seam.false in absurd (let differs : ⊥ = cc in differs))) (c.loop-col.invariant grid ps are wide))
-]
+loop-col-preserved g c = λ grid ps are wide.
+    seams-past c.args.origin c.args.place.now grid ps c.args.row (c.loop-col.col + 1) _ c.args.seams.now.items _ c.seam_from.ensures.forward c.seam_from.ensures.off
+    (elim c.if-is_on_seam.branch [
+      | then-is_on_seam+in-Some+in_ok-push w ↦
+          (let on = c.is_on_seam.ensures.0 w.if-is_on_seam.true in
+          let less : c.args.place.now.left + c.loop-col.col < g.R.PatchRow.len c.args.patches.now =
+          omega (arith, c.loop-col-test.true, c.min-end.ensures, c.saturating_sub.ensures, c.cols.ensures.count) in
+          let same = w.patch-patch.ensures ∙ are.patches_are (c.args.place.now.left + c.loop-col.col) less in
+          rw (w.seams-is, w.in_ok-push.ensures.items)
+          (seams-more c.args.origin c.args.place.now grid ps c.args.row c.loop-col.col c.args.seams.now.items c.loop-col.seams.items _ on
+          (record { cell = refl; values = w.in-Some.ensures.value ∙ ap (λ (q : Patch). q.here) same }) (c.loop-col.invariant grid ps are wide)))
+      | else-is_on_seam w ↦
+          (rw w.seams-is
+          (seams-past c.args.origin c.args.place.now grid ps c.args.row c.loop-col.col (c.loop-col.col + 1) c.args.seams.now.items c.loop-col.seams.items (omega arith)
+          (λ k from to on. (let here : k ≡ c.loop-col.col = omega (arith, from, to) in
+          let yes = c.is_on_seam.ensures.1 (subst (λ n. IsOnSeam SEAM_DEPTH c.args.place.now (place c.args.row n)) here on) in
+          let no = w.if-is_on_seam.false in absurd (let differs : ⊥ = cc in differs))) (c.loop-col.invariant grid ps are wide)))
+    ])
 
 pub returns : goal.returns
 returns g c = λ grid ps are wide.
