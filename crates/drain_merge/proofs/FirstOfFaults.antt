@@ -1,28 +1,17 @@
--- One window more, in a search for the first of the windows' faults.
+-- One window more, in a search for the first of the windows' faults; pairs of a list, and the first of them.
 use Rattle.std.proofs.Common.{◌≡◌, ℕ, ◌+◌, ◌<◌, List, length, slice_index_or, take, subst, ◌∙◌, below_more, arith, get_or-take, inl, inr, Option, Some, None, [], ◌∷◌, ◌++◌, refl, sym, ap}
-use Rattle.std.specs.List.{All, AllWithin, Contains, HoldsAt}
+use Rattle.std.specs.List.{All, Contains, HoldsAt}
 use Rattle.std.specs.List.Sorted.{IsPermutation}
-use Rattle.std.proofs.lemmas.List.{get_or_default, length-take-le, take_more}
+use Rattle.std.proofs.lemmas.List.{length-take-le, take_more}
 use Rattle.std.proofs.lemmas.List.Sorted.{Contains-permutation, IsPermutation-sym}
 use Rattle.std.proofs.lemmas.List.Elements.{Contains-append_left, Contains-push, Contains-push_cases}
 use Rattle.drain_union.proofs.FirstFaults.{pair_trans}
 use Rattle.drain_union.specs.declared.verdict.Fault.{Fault}
 use Rattle.drain_union.specs.declared.report.WindowReport.{WindowReport}
+use Rattle.drain_merge.proofs.Elements.{at_place}
 use Rattle.drain_merge.specs.Seams.{union_fault, ComesBefore, IsEarlierFault, IsFirstOfFaults}
 use Rattle.drain_grid.proofs.Alike.{earlier_differs}
 use Rattle.drain_grid.proofs.Tallies.{none_some, same_some}
-
--- One element more of a list, in a search for the first element without a property; and pairs of a list in another order.
-
--- an element that was read is the one at its place
-pub at_place : {X : Type 0} (P : X → Type 0) (xs : List X) (i : ℕ) (x : X) → i < length xs → x ≡ slice_index_or xs i x → P x →
-    (d : X) → P (slice_index_or xs i d)
-at_place P xs i x below is here d = subst P (is ∙ get_or_default xs i x d below) here
-
-pub within_more : {X : Type 0} (P : X → Type 0) (xs : List X) (i : ℕ) (x : X) → i < length xs → x ≡ slice_index_or xs i x →
-    AllWithin P xs 0 i → P x → AllWithin P xs 0 (i + 1)
-within_more P xs i x below is before here k d low high =
-    below_more (λ n. P (slice_index_or xs n d)) i (λ n less. before n d (omega arith) less) (at_place P xs i x below is here d) k high
 
 -- what holds of any two elements of a list holds of any two of one with the same elements
 pub both_permuted : {X : Type 0} (R : X → X → Type 0) (xs ys : List X) → IsPermutation xs ys → ((x y : X) → Contains ys x → Contains ys y → R x y) →

@@ -24,12 +24,12 @@ use drain_union::{Fault, Outlet, Place, Report, Shown, UnionVerdict, WindowRepor
 use std::alloc::Global;
 
 /// The report on the smallest box that holds these windows, which have to fill it: as `drain_window::judge_window` makes it
-/// of a window that is this box. So a merge of such reports is a merge of all their windows. On a side of
-/// the box the union goes on unless it ends with a window there. Of a rejected window seams aren't compared, and the report of the box is a
-/// rejected one. It names no tiles.
+/// of a window that is this box. So a merge of such reports is a merge of all their windows. On a side of the box the
+/// union goes on unless it ends with a window there. Of a rejected window seams aren't compared, and the report of the
+/// box is a rejected one. It names no tiles.
 ///
-/// Refusals are returned in the order of `MergeRefusal`. Labels that outlets share are left to the last merge. Memory: the
-/// lists of all windows, and the places.
+/// Refusals are returned in the order of `MergeRefusal`; a window with row or column 4,294,967,295 is `OutsideUnion`.
+/// Labels that outlets share are left to the last merge. Memory: the lists of all windows, and the places.
 pub fn join(alloc: Global, windows: Vec<WindowReport>) -> Result<WindowReport, MergeRefusal>
     // On each union of which these are the windows, it is the report of the window that the box is.
     ensures means { IfOk result (IsOfBox windows.items) }

@@ -31,7 +31,8 @@ pub fn joins_stand_for_all()
     ensures { JoinsStandForAll }
 {}
 
-/// A verdict on reports is the verdict on all that they stand for. So any tree of merges gives the verdict of one merge.
+/// A verdict on reports is the verdict on all that they stand for. So any tree of merges, none of which is refused, gives
+/// the verdict of one merge.
 pub fn merge_of_joins()
     ensures { MergeOfJoins }
 {}

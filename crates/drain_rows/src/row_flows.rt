@@ -11,7 +11,7 @@ ghost use Rattle.drain_rows.specs.GridRows.{AllRunsEnd};
 
 use crate::row_buffer::RowBuffer;
 use crate::row_visitor::RowVisitor;
-use drain_grid::laws::correct_by_rules_alone;
+use drain_grid::laws::runs_end_by_counts;
 use drain_grid::{Cell, Judged, OutOfMemory, Rules, Shape, Verdict};
 use drain_paths::CellFlows;
 use drain_rules::ThreeRows;
@@ -39,9 +39,9 @@ impl RowVisitor for CellFlows {
 }
 
 /// The first data cell whose path doesn't end, from the flows of all cells of a grid and this verdict of the rules about
-/// the judged rasters. Paths of all four rasters are followed only after a rejection: if every rule holds every path
-/// ends, since accumulation can't grow along a ring. None if flows and cells differ in number, which never happens if
-/// the sources' bytes are known.
+/// the judged rasters. If accumulation is among them, paths are followed only after a rejection: if every rule holds every
+/// path ends, since accumulation can't grow along a ring. None if flows and cells differ in number, which never happens
+/// if the sources' bytes are known.
 pub fn first_endless(
     flows: &mut CellFlows,
     shape: Shape,
@@ -52,10 +52,12 @@ pub fn first_endless(
     ensures known { (g : Grid) (ps : Products) → AreFlowsOf g ps shape flows.old → AreKnownFlows g ps shape flows.new }
     ensures counted { length flows.new ≡ length flows.old }
 {
-    // The law that products are correct if every rule holds without ranks.
-    correct_by_rules_alone();
-    if let (Judged::All, Verdict::Accepted(_)) = (judged, verdict) {
-        return None;
+    // The law that every path ends if the rules on directions and accumulation hold.
+    runs_end_by_counts();
+    if let Verdict::Accepted(_) = verdict {
+        if judged.has_acc() && !judged.has_rnk() {
+            return None;
+        }
     }
     if flows.len() == shape.cells() {
         flows.first_endless(shape)

@@ -25,24 +25,22 @@ seams-none origin p g ps row xs x = (
 wider : (origin : Cell) (p : Place) (g : Grid) (ps : Products) (row col : ℕ) (x : Shown) → IsSeamBefore origin p g ps row col x → IsSeamBefore origin p g ps row (col + 1) x
 wider origin p g ps row col x before = record { col = before.col; to = omega (arith, before.to); on_seam = before.on_seam; shown = before.shown }
 
--- a cell that is on no seam
-pub seams-past : (origin : Cell) (p : Place) (g : Grid) (ps : Products) (row col : ℕ) (old new : List Shown) → ¬ IsOnSeam SEAM_DEPTH p (place row col) →
-    AddsSeams origin p g ps row col old new → AddsSeams origin p g ps row (col + 1) old new
-seams-past origin p g ps row col old new off so_far x = (to, back)
+-- cells that are on no seam
+pub seams-past : (origin : Cell) (p : Place) (g : Grid) (ps : Products) (row col next : ℕ) (old new : List Shown) → col ≤ next →
+    ((k : ℕ) → col ≤ k → k < next → ¬ IsOnSeam SEAM_DEPTH p (place row k)) → AddsSeams origin p g ps row col old new → AddsSeams origin p g ps row next old new
+seams-past origin p g ps row col next old new forward off so_far x = (to, back)
   where
-    to : Contains new x → Contains old x ⊎ IsSeamBefore origin p g ps row (col + 1) x
+    to : Contains new x → Contains old x ⊎ IsSeamBefore origin p g ps row next x
     to has = elim ((so_far x).0 has) [
       | inl had ↦ inl had
-      | inr before ↦ inr (wider origin p g ps row col x before)
+      | inr before ↦ inr (record { col = before.col; to = omega (arith, before.to, forward); on_seam = before.on_seam; shown = before.shown })
     ]
 
-    back : Contains old x ⊎ IsSeamBefore origin p g ps row (col + 1) x → Contains new x
+    back : Contains old x ⊎ IsSeamBefore origin p g ps row next x → Contains new x
     back (inl had) = (so_far x).1 (inl had)
     back (inr before) = elim (cases_lt before.col col) [
       | inl earlier ↦ (so_far x).1 (inr (record { col = before.col; to = earlier; on_seam = before.on_seam; shown = before.shown }))
-      | inr behind ↦
-          (let last : before.col ≡ col = omega (arith, behind, before.to) in
-          absurd (off (subst (λ n. IsOnSeam SEAM_DEPTH p (place row n)) last before.on_seam)))
+      | inr behind ↦ absurd (off before.col (omega (arith, behind)) before.to before.on_seam)
     ]
 
 -- a cell of a seam

@@ -1,11 +1,12 @@
 //! What a window shows along its seams, noted row by row.
 
-ghost use Rattle.std.specs.Prelude.{◌≡◌, ◌<◌, ◌≤◌, ◌+◌, [], OnOk};
+ghost use Rattle.std.specs.Prelude.{◌≡◌, ◌<◌, ◌≤◌, ◌+◌, ℕ, [], OnOk};
 ghost use Rattle.drain_grid.specs.declared.cell.TheConstants.{MAX_LENGTH};
 ghost use Rattle.drain_window.specs.SeamRows.{AddsSeams, EndsInRange, ListsSeamsAbove, OfSeamRow};
 ghost use Rattle.drain_union.specs.Windows.{IsOrigin};
 ghost use Rattle.drain_grid.specs.Grid.{Grid, Products};
-ghost use Rattle.drain_rules.specs.Rows.{AreRowPatches};
+ghost use Rattle.drain_rules.specs.Rows.{AreRowPatches, place as cell_at};
+ghost use Rattle.drain_union.specs.Reports.{IsOnSeam};
 
 use drain_grid::{Cell, NoData, OutOfMemory, Rules};
 use drain_rows::{RowBuffer, RowVisitor};
@@ -110,7 +111,8 @@ fn note_seams<R: PatchRow>(
     let left = place.left;
     let width = place.extent.cols();
     let end = width.min(patches.cols().saturating_sub(left));
-    for col in 0..end {
+    let mut col = 0;
+    while col < end {
         if place.is_on_seam(SEAM_DEPTH, Cell { row, col }) {
             let patch = patches.patch(left + col);
             let cell = Cell {
@@ -122,8 +124,27 @@ fn note_seams<R: PatchRow>(
             };
             seams.push(Shown { cell, values })?;
         }
+        col = seam_from(place, row, col + 1, end);
     }
     Ok(())
+}
+
+/// A column from one on, at most `end`, before which no cell of the row lies on a seam from there on.
+fn seam_from(place: &Place, row: u32, col: u32, end: u32) -> u32
+    requires { col ≤ end }
+    ensures forward { col ≤ result }
+    ensures within { result ≤ end }
+    ensures off { (k : ℕ) → col ≤ k → k < result → ¬ IsOnSeam SEAM_DEPTH place.now (cell_at row k) }
+{
+    let rows = place.extent.rows();
+    let inner = place.inner;
+    let beside_rows = (inner.north && row < SEAM_DEPTH)
+        || (inner.south && rows <= row.saturating_add(SEAM_DEPTH));
+    if beside_rows || col < SEAM_DEPTH {
+        return col;
+    }
+    let east = place.extent.cols().saturating_sub(SEAM_DEPTH);
+    col.max(east).min(end)
 }
 
 impl RowVisitor for SeamWalk {

@@ -1,7 +1,7 @@
 use Rattle.std.proofs.Common.{sym, ◌∙◌, arith}
 use Rattle.std.proofs.lemmas.Bool.{false≢true}
 use Rattle.drain_union.specs.Windows.{BothJudgeOne}
-use Rattle.drain_merge.proofs.FirstOfFaults.{within_more}
+use Rattle.drain_merge.proofs.Elements.{within_more}
 use Rattle.drain_merge.proofs.places.first_clashing.Goals as goal
 
 pub loop-i-preserved : goal.loop-i-preserved

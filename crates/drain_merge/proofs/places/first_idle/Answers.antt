@@ -1,5 +1,5 @@
 use Rattle.drain_union.specs.Windows.{JudgesSome}
-use Rattle.drain_merge.proofs.FirstOfFaults.{within_more}
+use Rattle.drain_merge.proofs.Elements.{within_more}
 use Rattle.drain_merge.proofs.places.first_idle.Goals as goal
 
 pub loop-i-preserved : goal.loop-i-preserved
