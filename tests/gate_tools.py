@@ -26,6 +26,7 @@ tests/named_edits.py
 tests/gate_edits.py
 tests/gate_tools.py
 tools/check_docs.py
+tools/check_layout.sh
 rt ci
 tools/record_proof.sh build/drain SUM
 tools/try_named_edits.py --gate

@@ -1,7 +1,7 @@
 #!/usr/bin/env bash
-# The merge gate: what documents name is there; tests of the gate's scripts; every proof from nothing and the tests (rt ci); a part of the
-# wrong bodies (tools/gate_edits.py); then the program and its own tests, the documents' examples, a first run, releases, the companion,
-# windows, and tests with memory refused.
+# The merge gate: what documents name is there; tests of the gate's scripts; the layout of sources; every proof from nothing and the tests
+# (rt ci); a part of the wrong bodies (tools/gate_edits.py); then the program and its own tests, the documents' examples, a first run, releases,
+# the companion, windows, and tests with memory refused.
 # Each step from rt ci on ends with a line of its seconds: on the clock, and of processors.
 # Usage: tools/gate.sh
 set -euo pipefail
@@ -23,6 +23,7 @@ tests/named_edits.py
 tests/gate_edits.py
 tests/gate_tools.py
 tools/check_docs.py
+tools/check_layout.sh
 sources=$(tools/sources_sum.sh)
 time rt ci
 [ "$(tools/sources_sum.sh)" = "$sources" ] || {
