@@ -44,7 +44,7 @@ take_object() {
 take_object "$program" drain_main_v2
 take_object "$program-v3" drain_main_v3
 
-gcc -O2 -Wall -Wextra -Werror -c -o "$scratch/pick.o" "$here/pick_processor.c" ||
+gcc -O2 -Wall -Wextra -c -o "$scratch/pick.o" "$here/pick_processor.c" ||
     refuse "gcc does not compile $here/pick_processor.c: it needs glibc 2.33 or later"
 gcc -r -nostdlib -o "$scratch/target.o" "$scratch/pick.o" "$scratch/drain_main_v2.o" "$scratch/drain_main_v3.o" \
     -Wl,--start-group "${libraries[@]}" -Wl,--end-group
