@@ -33,9 +33,13 @@ build/drain.1: build/drain tools/man_page.py
 build/libdrain.a: FORCE
 	@tools/build_library.sh $@
 
-# What gcc links of the proved object and archive.
-build/drain-static: build/drain FORCE
-	@tools/static_program.sh build/drain build/drain.o $@
+# The program for x86-64-v3, of the same proved sources.
+build/drain-v3: build/drain
+	@tools/build_v3.sh $@
+
+# What gcc links of the proved objects and archive.
+build/drain-static: build/drain-v3
+	@tools/static_program.sh build/drain $@
 
 build/libdrain.so.0: build/libdrain.a
 	@tools/shared_library.sh $< $@

@@ -32,6 +32,7 @@ tools/record_proof.sh build/drain SUM
 tools/try_named_edits.py --gate
 tools/check_docs.py build/drain
 tools/build_library.sh build/libdrain.a .
+tools/build_v3.sh build/drain-v3 .
 tests/library.sh build/libdrain.a
 tests/first_run.sh build/drain
 tests/shipping.sh build
@@ -39,7 +40,7 @@ tools/shared_library.sh build/libdrain.a build/libdrain.so.0
 tests/companion.sh build/drain
 tests/continent.sh build/drain
 tests/program/run.sh build/drain
-tools/static_program.sh build/drain build/drain.o build/drain-static
+tools/static_program.sh build/drain build/drain-static
 tests/program/run.sh build/drain-static
 tests/refused_memory.sh""".splitlines()
 
@@ -122,7 +123,8 @@ class Gate(Copies):
         tests = {str(file.relative_to(ROOT)) for file in [*ROOT.glob("tests/*.sh"), *ROOT.glob("tests/*.py")]}
         steps = tests & {step.split()[0] for step in STEPS}
         texts = [(ROOT / step).read_text(encoding="utf-8") for step in steps if step.endswith(".sh")]
-        called = {test for test in tests for text in texts if re.search(rf"^add\w* {re.escape(test)} ", text, re.M)}
+        call = r"^add\w* {0} |^ *holds '[^']+' \"\$top/{0}\" "
+        called = {test for test in tests for text in texts if re.search(call.format(re.escape(test)), text, re.M)}
         self.assertEqual(tests - steps, called)
 
     def test_memory_is_refused_to_each_crate_of_tests(self) -> None:
@@ -237,9 +239,9 @@ class Record(Copies):
     def git(self, *words: str) -> str:
         return self.run_there("git", "-c", "user.name=a", "-c", "user.email=a@b", *words).stdout.strip()
 
-    def recorded(self, sources: str) -> list[str]:
-        """The lines of the record of these sources."""
-        self.assertEqual(self.run_there("tools/record_proof.sh", "build/drain", sources.strip()).returncode, 0)
+    def recorded(self, sources: str, *cpu: str) -> list[str]:
+        """The lines of the record of these sources, and of this processor."""
+        self.assertEqual(self.run_there("tools/record_proof.sh", "build/drain", sources.strip(), *cpu).returncode, 0)
         return (self.top / "build/drain.proved").read_text().splitlines()
 
     def test_the_sum_is_of_all_sources_and_no_more(self) -> None:
@@ -263,6 +265,7 @@ class Record(Copies):
         program = hashlib.sha256(b"the program\n").hexdigest()
         rest = [f"sources  {proved.strip()}", "kit      kit 1 logic 2", f"program  {program}"]
         self.assertEqual(self.recorded(proved), ["commit   -", *rest])
+        self.assertEqual(self.recorded(proved, "x86-64-v3"), ["commit   -", *rest, "cpu      x86-64-v3"])
         self.git("init", "-q")
         self.git("add", "crates", "crates.txt", "HANDLES")
         self.git("commit", "-q", "-m", "a")

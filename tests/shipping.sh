@@ -2,7 +2,8 @@
 # Tests what users without the toolchain get: the tarball, the package, the wheel, the plugin for QGIS, the static program and
 # the shared library. None of them may be made from a program that is not the proved one. Prints the tests that failed, and how many passed and failed. A test that this
 # machine can't run is left out, in a line that says so.
-# Usage: tests/shipping.sh BUILD_DIR    (drain and drain.proved; drain.o for the static program, libdrain.a for the shared library)
+# Usage: tests/shipping.sh BUILD_DIR    (drain and drain.proved; for the static program drain.o, and drain-v3, drain-v3.o and drain-v3.proved;
+#                                        libdrain.a for the shared library)
 set -uo pipefail
 [ $# -eq 1 ] || {
     echo 'usage: tests/shipping.sh BUILD_DIR' >&2
@@ -48,17 +49,30 @@ cp "$build/drain" "$build/drain.proved" "$scratch/build/"
 drain=$scratch/build/drain
 holds 'make of a program that is built needs no toolchain' \
     ends 0 'Unchanged since' env PATH=/usr/bin:/bin "$top/tools/build_program.py" drain "$drain"
+drain_v3=$drain-v3
 static=-
-if [ -f "$build/drain.o" ] && command -v gcc >/dev/null; then
+if [ -f "$build/drain.o" ] && [ -f "$build/drain-v3.o" ] && command -v gcc >/dev/null; then
+    cp "$build/drain.o" "$build"/drain-v3{,.o,.proved} "$scratch/build/"
     static=$scratch/build/drain-static
-    holds 'a static program is linked' "$top/tools/static_program.sh" "$drain" "$build/drain.o" "$static"
-    holds 'a static program is linked again' "$top/tools/static_program.sh" "$drain" "$build/drain.o" "$scratch/again"
+    holds 'a program for x86-64-v3 that is built needs no toolchain' \
+        ends 0 'Unchanged since' env PATH=/usr/bin:/bin "$top/tools/build_v3.sh" "$drain_v3"
+    holds 'its record has the processor' grep -qx 'cpu      x86-64-v3' "$drain_v3.proved"
+    holds 'it was proved of the same sources' cmp <(grep '^sources' "$drain.proved") <(grep '^sources' "$drain_v3.proved")
+    holds 'a static program is linked' "$top/tools/static_program.sh" "$drain" "$static"
+    holds 'a static program is linked again' "$top/tools/static_program.sh" "$drain" "$scratch/again"
     for part in '' .o .linked; do holds "the same bytes: drain-static$part" cmp "$static$part" "$scratch/again$part"; done
+    mkdir "$scratch/mixed"
+    mixed=$scratch/mixed/drain
+    cp "$scratch"/build/drain{,.o,-v3} "$scratch/mixed/"
+    cp "$drain.o" "$mixed-v3.o"
+    holds 'an object of another processor is refused' \
+        ends 1 "$mixed-v3.o is not the object of $mixed-v3:" "$top/tools/static_program.sh" "$mixed" "$scratch/other"
+    cp /bin/true "$mixed"
     holds 'an object of another program is refused' \
-        ends 1 'is not the object of' "$top/tools/static_program.sh" /bin/true "$build/drain.o" "$scratch/other"
+        ends 1 "$mixed.o is not the object of $mixed:" "$top/tools/static_program.sh" "$mixed" "$scratch/other"
     holds 'an object of another program: nothing is linked' test ! -e "$scratch/other"
 else
-    echo "the static program isn't tried: there is no drain.o or no gcc"
+    echo "the static program and the one for x86-64-v3 aren't tried: there is no drain.o, no drain-v3.o or no gcc"
 fi
 
 shared=-
@@ -115,8 +129,11 @@ for file in README.md LICENSE RELEASING.md samples/README.md samples/LICENSE-mat
     holds "tarball: it has $file" cmp "$top/$file" "$release/$file"
 done
 
-# The static program, in a root that holds only it and samples. Both programs get the same arguments, and have to answer the same.
+# The program for x86-64-v3, and the static program in a root that holds only it and samples: as it is, and with AVX2 hidden from it, so that its first
+# half runs. All get the same arguments, and have to answer the same.
 if [ "$static" != - ]; then
+    holds 'the tarball has the program for x86-64-v3' cmp "$drain_v3" "$release/bin/drain-v3"
+    holds "PROVED has the sum of the program for x86-64-v3" grep -qx "v3       $(sha256sum <"$drain_v3" | cut -d ' ' -f 1)" "$release/PROVED"
     holds 'the tarball has the static program' cmp "$static" "$release/bin/drain-static"
     holds 'tarball: its demo runs by the static program' sh -c "cd '$release' && tools/demo.sh bin/drain-static"
     holds "PROVED has the static program's sum" grep -qx "static   $(sha256sum <"$static" | cut -d ' ' -f 1)" "$release/PROVED"
@@ -127,21 +144,38 @@ if [ "$static" != - ]; then
     cp -r "$top/samples" "$root/"
     cp -r "$top/samples" "$scratch/plain/"
     cp "$static" "$root/drain"
+    # Runs the static program on a processor without some features, as -AVX2: the C library hides them from it.
+    # Usage: without FEATURES ARGUMENT...
     if [ "$(id -u)" = 0 ] && chroot "$root" /drain --version >/dev/null 2>&1; then
-        by_static() { env -i "$(command -v chroot)" "$root" /drain "$@"; }
+        without() { env -i ${1:+"GLIBC_TUNABLES=glibc.cpu.hwcaps=$1"} "$(command -v chroot)" "$root" /drain "${@:2}"; }
     else
         echo "the static program isn't run in an empty root, but beside the C library: only root changes the root"
-        by_static() { (cd "$root" && env -i ./drain "$@"); }
+        without() { (cd "$root" && env -i ${1:+"GLIBC_TUNABLES=glibc.cpu.hwcaps=$1"} ./drain "${@:2}"); }
     fi
+    by_static() { without '' "$@"; }
+    by_first_half() { without -AVX2 "$@"; }
+    by_v3() { (cd "$root" && "$drain_v3" "$@"); }
     by_plain() { (cd "$scratch/plain" && "$drain" "$@"); }
+    ways=(by_static by_first_half)
+    if by_v3 --version >/dev/null 2>&1; then
+        ways+=(by_v3)
+    else
+        echo "this processor isn't one of x86-64-v3: the program for it isn't run, nor the second half of the static one"
+    fi
     # Usage: answers_the_same INPUT ARGUMENT...
     answers_the_same() {
-        local input=$1 plain=0 other=0
+        local input=$1 plain=0 way other
         shift
+        rm -f "$scratch"/plain/made/*
         by_plain "$@" <"$input" >"$scratch/plain.out" 2>"$scratch/plain.err" || plain=$?
-        by_static "$@" <"$input" >"$scratch/static.out" 2>"$scratch/static.err" || other=$?
-        echo "status $plain, by the static program $other"
-        [ "$plain" = "$other" ] && diff "$scratch/plain.out" "$scratch/static.out" && diff "$scratch/plain.err" "$scratch/static.err"
+        for way in "${ways[@]}"; do
+            rm -f "$root"/made/*
+            other=0
+            $way "$@" <"$input" >"$scratch/other.out" 2>"$scratch/other.err" || other=$?
+            echo "status $plain, $way $other"
+            [ "$plain" = "$other" ] && diff "$scratch/plain.out" "$scratch/other.out" && diff "$scratch/plain.err" "$scratch/other.err" &&
+                diff -r "$scratch/plain/made" "$root/made" || return 1
+        done
     }
     tile=samples/other-tools/N36W085.hgt
     for set in "$top"/samples/other-tools/*/; do
@@ -156,7 +190,18 @@ if [ "$static" != - ]; then
         holds "static: header $(basename "$header")" answers_the_same /dev/null header "samples/headers/$(basename "$header")"
     done
     holds 'static: make' answers_the_same /dev/null make --side 344 --out made samples/N36W085.hgt
-    holds 'static: the files that it makes' diff -r "$root/made" "$scratch/plain/made"
+    holds 'static: make has made files' test -s "$root/made/con.bil"
+    # Without SSE4.2 each half refuses to start, in a line with its processor.
+    refuses() { ends 127 "lacks a feature of $1," without "$2" --version; }
+    holds 'static: the first half is picked without AVX2' refuses x86-64-v2 -SSE4_2,-AVX2
+    [ ${#ways[@]} = 2 ] || holds 'static: the second half is picked where all of x86-64-v3 is there' refuses x86-64-v3 -SSE4_2
+    for feature in AVX AVX2 BMI1 BMI2 F16C FMA LZCNT MOVBE; do
+        holds "static: it runs without $feature" ends 0 'drain ' without "-$feature" --version
+    done
+    # Each half, on random rasters with wide rows.
+    printf '#!/bin/sh\nGLIBC_TUNABLES=glibc.cpu.hwcaps=-AVX2 exec %q "$@"\n' "$static" >"$scratch/first-half"
+    chmod +x "$scratch/first-half"
+    holds 'static: random rasters' "$top/tests/same_answers.py" "$drain" "$scratch/first-half" "$static"
     holds 'static: version' answers_the_same /dev/null --version
     holds 'static: help' answers_the_same /dev/null --help
     holds 'static: no arguments' answers_the_same /dev/null
@@ -218,6 +263,7 @@ if [ "$shared" != - ] && has_companion; then
     holds 'wheel: it has the program' cmp "$([ "$static" = - ] && echo "$drain" || echo "$static")" "$inside/drain"
     holds 'wheel: it has the shared library' cmp "$shared" "$inside/libdrain.so"
     holds 'wheel: PROVED begins with the record of the proof' diff "$drain.proved" <(head -n "$(wc -l <"$drain.proved")" "$inside/PROVED")
+    [ "$static" = - ] || holds 'wheel: PROVED has the sum of the program for x86-64-v3' grep -q '^v3 ' "$inside/PROVED"
     holds "wheel: PROVED has the library's sum" grep -qx "shared   $(sha256sum <"$shared" | cut -d ' ' -f 1)" "$inside/PROVED"
     holds 'wheel: drain-gis judges samples' judges_samples "$scratch/venv/bin/drain-gis"
     holds 'wheel: its drain runs' cmp <("$scratch/venv/bin/drain" --version) <("$drain" --version)
@@ -252,6 +298,23 @@ rm "$scratch/changed/drain"
 refused 'no program' "$scratch/changed/drain"
 if [ "$static" != - ]; then
     for part in drain-static drain-static.o drain-static.linked; do cp "$scratch/build/$part" "$scratch/changed/"; done
+    cp "$drain" "$drain.proved" "$scratch/changed/"
+    other_v3=$scratch/changed/drain-v3
+    refused_static() {
+        holds "$1: no tarball" ends 1 "$2" "$top/tools/dist.sh" "$scratch/changed/drain" "$static" - "$scratch/refused"
+        holds "$1: no wheel" ends 1 "$2" "$top/companion/build_wheel.sh" "$scratch/changed/drain" "$static" - "$scratch/refused"
+        holds "$1: nothing is written" is_empty "$scratch/refused"
+    }
+    refused_static 'no program for x86-64-v3' "$other_v3 is not built"
+    cp "$drain_v3" "$scratch/changed/"
+    refused_static 'a program for x86-64-v3 without a record' "$other_v3 has no record of a proof"
+    cp "$drain" "$other_v3"
+    cp "$drain.proved" "$other_v3.proved"
+    refused_static 'a program for another processor' "$other_v3 was not built for x86-64-v3"
+    echo 'cpu      x86-64-v3' >>"$other_v3.proved"
+    refused_static 'another program than the static one has' "was not linked from the object of $other_v3:"
+    sed -i 's/^kit .*/kit      another/' "$other_v3.proved"
+    refused_static 'a program of another toolchain' "$other_v3 was built by another toolchain"
     echo >>"$scratch/changed/drain-static"
     holds 'a changed byte of the static program: no tarball' \
         ends 1 'is not what tools/static_program.sh linked' "$top/tools/dist.sh" "$drain" "$scratch/changed/drain-static" - "$scratch/refused"
@@ -268,8 +331,13 @@ cp -r "$top/tools" "$copy/"
 (cd "$top" && find crates.txt HANDLES crates/*/src crates/*/specs crates/*/proofs -type f -print0 | xargs -0 cp --parents -t "$copy")
 cat >"$copy/tools/build_program.py" <<PY
 #!/bin/sh
-# A stand-in: build_program.py --anew drain TARGET
-[ "\$1 \$2" = '--anew drain' ] && cp '$drain' "\$3" && cp '$drain.proved' "\$3.proved"
+# A stand-in: build_program.py --anew [--v3] drain TARGET
+put() { cp '$drain'\$1 "\$2\$1" && cp '$drain'\$1.proved "\$2\$1.proved"; }
+case \$* in
+    '--anew drain '*) put '' "\$3" ;;
+    '--anew --v3 drain '*) put '' "\$4" && put -v3 "\$4" ;;
+    *) exit 1 ;;
+esac
 PY
 program_line="program  $(printf '0%.0s' {1..64})"
 holds 'PROVED of this program' ends 0 'the same bytes: ' "$copy/tools/same.sh" "$release/PROVED"
@@ -277,6 +345,12 @@ sed "s/^program .*/$program_line/" "$drain.proved" >"$scratch/PROVED"
 holds 'PROVED of another program' ends 1 'not the same' "$copy/tools/same.sh" "$scratch/PROVED"
 holds 'PROVED of another program: its sum is shown' grep -q '0000000' "$scratch/printed"
 holds 'PROVED of another program: the built sum is shown' grep -q "$(sha256sum <"$drain" | cut -d ' ' -f 1)" "$scratch/printed"
+if [ "$static" != - ]; then
+    same_v3="the same bytes: $(sha256sum <"$drain_v3" | cut -d ' ' -f 1)"
+    holds 'PROVED of this program for x86-64-v3' ends 0 "$same_v3" "$copy/tools/same.sh" "$release/PROVED"
+    sed "s/^v3 .*/v3       $(printf '0%.0s' {1..64})/" "$release/PROVED" >"$scratch/PROVED"
+    holds 'PROVED of another program for x86-64-v3' ends 1 'not the same' "$copy/tools/same.sh" "$scratch/PROVED"
+fi
 echo '// a changed source' >>"$copy/crates/drain_grid/src/lib.rt"
 holds 'PROVED of other sources' ends 1 'other sources: ' "$copy/tools/same.sh" "$drain.proved"
 holds 'no PROVED' ends 2 'is not there' "$copy/tools/same.sh" "$scratch/nothing"

@@ -15,77 +15,16 @@ if "$top/tools/is_proved.sh" "$target" 2>/dev/null; then
     echo "Unchanged since it was proved and built: ${target#"$top/"}"
     exit 0
 fi
-command -v rt >/dev/null || {
-    echo "the library is built by the Rattle toolchain: put its command rt on the PATH" >&2
-    exit 1
-}
-kit=$(dirname "$(rt doc)")
-sources=$("$top/tools/sources_sum.sh")
-scratch=$(mktemp -d)
-trap 'rm -rf "$scratch"' EXIT
-log=$scratch/log
-started=$SECONDS
+. "$top/tools/compile_crate.sh"
 
-show_log() {
-    grep -E ': error|no proof|did not prove|not proved|NOT PROVED' "$log" | head -n 20 >&2 || tail -n 20 "$log" >&2
-    exit 1
-}
-
-# The crates below drain_c and the kit's libraries that it names, each as 'NAME here|kit direct|below', by the crates
-# after the colons of crates.txt.
-below() {
-    awk '{ sub(/#.*/, ""); colon = index($0, ":"); if (!colon) next
-            split(substr($0, 1, colon - 1), words, " "); list[words[1]] = substr($0, colon + 1); here[words[1]] }
-        END { names[1] = "drain_c"; count = 1; found["drain_c"]
-            for (at = 1; at <= count; at++) { many = split(list[names[at]], deps, " ")
-                for (i = 1; i <= many; i++) if (!(deps[i] in found)) {
-                    found[deps[i]]; is_here = deps[i] in here; if (is_here) names[++count] = deps[i]
-                    if (at == 1 || is_here) print deps[i], is_here ? "here" : "kit", at == 1 ? "direct" : "below" } } }' "$top/crates.txt"
-}
-
-# Copies drain_c and the crates below it, without edits and what was made before.
-copy_crates() {
-    local crates name
-    crates="drain_c $(below | awk '$2 == "here" { print $1 }')"
-    mkdir "$scratch/proving"
-    cp "$top/HANDLES" "$scratch/proving"
-    awk 'FNR == NR { wanted[$1]; next } { name = $1; sub(/:.*/, "", name) } name in wanted' <(printf '%s\n' $crates) "$top/crates.txt" >"$scratch/proving/crates.txt"
-    for name in $crates; do
-        mkdir -p "$scratch/proving/crates/$name"
-        tar -C "$top/crates/$name" --exclude=./out --exclude=./must-fail --exclude=./more-edits -cf - . | tar -C "$scratch/proving/crates/$name" -xf -
-    done
-}
-
-# Compiles drain_c, from a copy of its sources, over the libraries that rt ci left in the folder $proved.
-compile() {
-    local words name where how rlibs
-    words=(--crate-name drain_c src/lib.rt --extern "std=$kit/rlibs/std.rlib" --extern "core=$kit/rlibs/core.rlib" -L "dependency=$kit/rlibs")
-    while read -r name where how; do
-        rlibs=$kit/rlibs
-        [ "$where" = kit ] || rlibs=$proved/crates/$name/out/rlib
-        [ "$how" = below ] || words+=(--extern "$name=$rlibs/$name.rlib")
-        [ "$where" = kit ] || words+=(-L "dependency=$rlibs")
-    done < <(below)
-    words+=(--antt-project "$kit/rattle/logic/antt-project.json" --logic-built "$kit/logic_built" --links drain_c= --crate-type staticlib)
-    mkdir -p "$scratch/drain_c/out"
-    cp -r "$proved"/crates/drain_c/{src,specs,proofs} "$scratch/drain_c"
-    cd "$scratch/drain_c"
-    "$kit/bin/rattle" build "${words[@]}" --toolchain "$kit/toolchain" --backend llvm -o out/libdrain_c.a
-}
-
-made=$scratch/drain_c/out/libdrain_c.a
-if [ -n "$proved" ]; then
-    (compile) >"$log" 2>&1 </dev/null || show_log
-elif [ -d "$top/crates/drain_c/out/incremental" ]; then
+made=$scratch/libdrain_c.a
+if [ -z "$proved" ] && [ -d "$top/crates/drain_c/out/incremental" ]; then
     echo "Proving what changed since rt check worked here ..."
     (cd "$top/crates/drain_c" && rt lib) >"$log" 2>&1 </dev/null || show_log
     made=$top/crates/drain_c/out/libdrain_c.a
 else
-    copy_crates
-    proved=$scratch/proving
-    echo "Proving drain_c and the crates below it: some minutes, or up to three quarters of an hour where nothing of them was proved here before ..."
-    (cd "$proved" && rt ci) >"$log" 2>&1 </dev/null || show_log
-    (compile) >"$log" 2>&1 </dev/null || show_log
+    [ -n "$proved" ] || prove_copies drain_c $(below drain_c | awk '$2 == "here" { print $1 }')
+    compile drain_c src/lib.rt "$made" --crate-type staticlib
 fi
 
 mkdir -p "$(dirname "$target")"

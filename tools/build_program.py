@@ -1,11 +1,12 @@
 #!/usr/bin/env python3
-"""Proves a program and the crates below it, without tests and edits, and builds it; on request the library for C as well.
+"""Proves a program and the crates below it, without tests and edits, and builds it; on request the library for C and the program for
+x86-64-v3 as well.
 
 Crates are proved side by side, those with the longest chain of others above them first. Where this kit's `rt ci` takes names, each crate
 is one run of `rt ci NAME`, which keeps what it proved for later runs on this machine, the gate's too; a check gets a second job where a
 processor would be idle. Elsewhere one run of `rt ci` proves all from nothing, by the same order.
 
-Usage: tools/build_program.py [--anew] [--library TARGET] CRATE TARGET    (--anew: nothing that was proved before is taken)
+Usage: tools/build_program.py [--anew] [--v3] [--library TARGET] CRATE TARGET    (--anew: nothing that was proved before is taken)
 """
 
 from __future__ import annotations
@@ -224,8 +225,13 @@ def keep_program(folder: Path, crate: str, target: Path) -> None:
     new.replace(target)
 
 
-def build(crate: str, target: Path, anew: bool, library: Path | None) -> None:
-    """Proves and builds the program, and writes it and the record of its proof, where both are whole; then the library, where one is named."""
+def build_more(more: list[list[str | Path]], *proved: Path) -> bool:
+    """Runs the scripts that build something beside the program, over what was proved in a folder, where one is given."""
+    return all(subprocess.run([TOP / "tools" / words[0], *words[1:], *proved]).returncode == 0 for words in more)
+
+
+def build(crate: str, target: Path, anew: bool, library: Path | None, more: list[list[str | Path]]) -> None:
+    """Proves and builds the program, and writes it and the record of its proof, where both are whole; then what else is wanted."""
     uses = with_all_below([crate, *([LIBRARY] if library else [])], read_crates(TOP / "crates.txt"))
     progress = Progress(len(uses))
     print(f"Proving {len(uses)} crates: 15 to 25 minutes with 4 processors the first time ...", flush=True)
@@ -236,30 +242,30 @@ def build(crate: str, target: Path, anew: bool, library: Path | None) -> None:
         keep_program(folder, crate, target)
         subprocess.run([TOP / "tools/record_proof.sh", target, proved_sum], check=True)
         print(f"Proved and built in {progress.seconds()} seconds: {os.path.relpath(target, TOP)}", flush=True)
-        if library:
-            if sources_sum() != proved_sum:
-                raise NotProved("the sources changed while they were proved: run this again")
-            ran = subprocess.run([TOP / "tools/build_library.sh", library, folder])
-            if ran.returncode:
-                raise NotProved("the library was not built")
+        if more and sources_sum() != proved_sum:
+            raise NotProved("the sources changed while they were proved: run this again")
+        if not build_more(more, folder):
+            raise NotProved("not all was built")
 
 
 def main() -> int:
     parser = argparse.ArgumentParser(description=__doc__, formatter_class=argparse.RawDescriptionHelpFormatter)
     parser.add_argument("--anew", action="store_true", help="take nothing that was proved before")
+    parser.add_argument("--v3", action="store_true", help="build TARGET-v3 too, for x86-64-v3, over the same proofs")
     parser.add_argument("--library", type=Path, metavar="TARGET", help="build the library for C too, over the same proofs")
     parser.add_argument("crate")
     parser.add_argument("target", type=Path)
     words = parser.parse_args()
-    target = words.target.absolute()
+    target, library = words.target.absolute(), words.library and words.library.absolute()
+    more = [["build_library.sh", library]] * bool(library) + [["build_v3.sh", target.with_name(f"{target.name}-v3")]] * words.v3
     if not words.anew and subprocess.run([TOP / "tools/is_proved.sh", target], stderr=subprocess.DEVNULL).returncode == 0:
         print(f"Unchanged since it was proved and built: {os.path.relpath(target, TOP)}")
-        return subprocess.run([TOP / "tools/build_library.sh", words.library]).returncode if words.library else 0
+        return int(not build_more(more))
     if shutil.which("rt") is None:
         print(f"{words.crate} is built by the Rattle toolchain: put its command rt on the PATH", file=sys.stderr)
         return 1
     try:
-        build(words.crate, target, words.anew, words.library and words.library.absolute())
+        build(words.crate, target, words.anew, library, more)
     except NotProved as error:
         lines = str(error).splitlines()
         telling = [it for it in lines if re.search(r": error|no proof|did not prove|not proved|NOT PROVED", it)]

@@ -1,10 +1,11 @@
 #!/usr/bin/env bash
 # Packs a release for users without the toolchain: FOLDER/drain-VERSION-linux-x86_64.tar.xz, and its sum beside it.
-# It holds the program, the static program, the library and its header, drain-gis, man pages, documents, samples, the demo,
+# It holds the program, the same for x86-64-v3, the static program, the library and its header, drain-gis, man pages, documents, samples, the demo,
 # PROVED (what they were made from) and SHA256SUMS. Refuses a program that was not proved and built from these sources.
 # The same inputs give the same bytes.
 # Usage: tools/dist.sh PROGRAM STATIC SHARED FOLDER
-#     STATIC, SHARED       what tools/static_program.sh and tools/shared_library.sh linked, or - for a release without it
+#     STATIC               what tools/static_program.sh linked of PROGRAM and PROGRAM-v3, or - for a release with neither
+#     SHARED               what tools/shared_library.sh linked, or - for a release without it
 #     SOURCE_DATE_EPOCH    the time of the packed files, in seconds since 1970; else that of the last commit
 set -euo pipefail
 [ $# -eq 4 ] || {
@@ -30,7 +31,7 @@ install -d "$root/share/man/man1"
 
 if [ "$static" != - ]; then
     take_static "$static" "$1"
-    install -m 755 "$room/drain-static" "$root/bin/drain-static"
+    install -m 755 "$room/drain-v3" "$room/drain-static" "$root/bin/"
     install -D -m 644 "$static.o" "$root/share/relink/drain-static.o"
     cat >"$root/share/relink/README" <<'TEXT'
 bin/drain-static has parts of the GNU C library in it, whose licence is the LGPL, version 2.1 or later.

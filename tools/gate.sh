@@ -38,6 +38,10 @@ tools/record_proof.sh build/drain "$sources"
 time tools/try_named_edits.py --gate
 time tools/check_docs.py build/drain
 time tools/build_library.sh build/libdrain.a .
+# The program for x86-64-v3, where the other was compiled in this run: the static program is linked from the objects of both.
+if [ -f build/drain.o ]; then
+    time tools/build_v3.sh build/drain-v3 .
+fi
 time tests/library.sh build/libdrain.a
 time tests/first_run.sh build/drain
 time tests/shipping.sh build
@@ -45,9 +49,9 @@ tools/shared_library.sh build/libdrain.a build/libdrain.so.0
 time tests/companion.sh build/drain
 time tests/continent.sh build/drain
 time tests/program/run.sh build/drain
-# The static program, where the object that it is linked from was made in this run.
+# The static program, where the objects that it is linked from were made in this run.
 if [ -f build/drain.o ] && command -v gcc >/dev/null; then
-    tools/static_program.sh build/drain build/drain.o build/drain-static
+    tools/static_program.sh build/drain build/drain-static
     time tests/program/run.sh build/drain-static
 fi
 time tests/refused_memory.sh byte_tests cell_tests rules_tests page_tests verdict_tests union_tests maker_tests cli_tests

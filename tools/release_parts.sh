@@ -33,18 +33,34 @@ take_program() {
     esac
 }
 
-# Takes what tools/static_program.sh linked of the program named $2: $room/drain-static, with its lines in PROVED.
+# Takes the program for x86-64-v3, PROGRAM-v3, which was proved and built of the same sources by the same toolchain: $room/drain-v3, with its line in PROVED.
+# Usage: take_v3 PROGRAM
+take_v3() {
+    local program=$1-v3
+    "$top/tools/is_proved.sh" "$program" || exit 1
+    [ "$(value_of cpu "$program.proved")" = x86-64-v3 ] || refuse "$program was not built for x86-64-v3: run tools/build_v3.sh"
+    [ "$(value_of kit "$program.proved")" = "$(value_of kit "$room/PROVED")" ] || refuse "$program was built by another toolchain than $1"
+    install -m 755 "$program" "$room/drain-v3"
+    [ "$(sum_of "$room/drain-v3")" = "$(value_of program "$program.proved")" ] || refuse "$program changed while it was copied"
+    echo "v3       $(sum_of "$room/drain-v3")" >>"$room/PROVED"
+}
+
+# Takes what tools/static_program.sh linked of PROGRAM and PROGRAM-v3: $room/drain-static, and both as take_v3 does, with their lines in PROVED.
+# Usage: take_static STATIC PROGRAM
 take_static() {
     local file
+    take_v3 "$2"
     for file in "$1" "$1.linked" "$1.o"; do
         [ -f "$file" ] || refuse "$file is not there: tools/static_program.sh makes it"
     done
     install -m 755 "$1" "$room/drain-static"
     [ "$(value_of program "$1.linked")" = "$(sum_of "$room/drain")" ] ||
         refuse "$1 was not linked from the object of $2: run tools/static_program.sh"
+    [ "$(value_of v3 "$1.linked")" = "$(sum_of "$room/drain-v3")" ] ||
+        refuse "$1 was not linked from the object of $2-v3: run tools/static_program.sh"
     [ "$(value_of static "$1.linked")" = "$(sum_of "$room/drain-static")" ] ||
         refuse "$1 is not what tools/static_program.sh linked"
-    grep -v '^program ' "$1.linked" >>"$room/PROVED"
+    grep -vE '^(program|v3) ' "$1.linked" >>"$room/PROVED"
 }
 
 # Takes what tools/shared_library.sh linked: $room/libdrain.so.0, with its lines in PROVED. Its archive lies beside it, and was proved.

@@ -1,6 +1,6 @@
 #!/usr/bin/env bash
-# Proves and builds the program from nothing, and compares it with the one that a PROVED file names. Ends with 0 where it is the same, to the byte; with 1
-# where it isn't, or where the file is of other sources than those here.
+# Proves and builds the program from nothing, and compares it with the one that a PROVED file names, and so the program for x86-64-v3, where the file names
+# one. Ends with 0 where they are the same, to the byte; with 1 where one isn't, or where the file is of other sources than those here.
 # Usage: tools/same.sh PROVED    (of a release or package, or build/drain.proved)
 set -euo pipefail
 [ $# -eq 1 ] && [ -n "$1" ] || {
@@ -21,6 +21,7 @@ value_of() { awk -v key="$1" '$1 == key { sub(/^[^ ]+ +/, ""); print }' "$2"; }
 }
 sources=$(value_of sources "$proved")
 sum=$(value_of program "$proved")
+sum_v3=$(value_of v3 "$proved")
 [[ $sources =~ ^[0-9a-f]{64}$ && $sum =~ ^[0-9a-f]{64}$ ]] || {
     echo "$proved has no line 'sources' or no line 'program' with a sum" >&2
     exit 2
@@ -34,16 +35,25 @@ here=$("$top/tools/sources_sum.sh")
 [ "$here" = "$sources" ] || other_sources "$here"
 
 # Nothing is taken that an earlier proof kept on this machine.
-"$top/tools/build_program.py" --anew drain "$scratch/drain"
+"$top/tools/build_program.py" --anew ${sum_v3:+--v3} drain "$scratch/drain"
 here=$(value_of sources "$scratch/drain.proved")
 [ "$here" = "$sources" ] || other_sources "$here"
 
-built=$(sha256sum <"$scratch/drain" | cut -d ' ' -f 1)
-if [ "$built" = "$sum" ]; then
-    echo "the same bytes: $sum"
-    exit 0
-fi
-echo 'not the same'
-echo "$proved: $sum, by $(value_of kit "$proved")"
-echo "built here: $built, by $(value_of kit "$scratch/drain.proved")"
-exit 1
+# Compares a program with a sum of the file, and says so.
+# Usage: is_same PROGRAM SUM
+is_same() {
+    local built
+    built=$(sha256sum <"$1" | cut -d ' ' -f 1)
+    if [ "$built" = "$2" ]; then
+        echo "the same bytes: $2"
+        return
+    fi
+    echo 'not the same'
+    echo "$proved: $2, by $(value_of kit "$proved")"
+    echo "built here: $built, by $(value_of kit "$1.proved")"
+    return 1
+}
+status=0
+is_same "$scratch/drain" "$sum" || status=1
+[ -z "$sum_v3" ] || is_same "$scratch/drain-v3" "$sum_v3" || status=1
+exit $status

@@ -1,18 +1,19 @@
 #!/usr/bin/env bash
-# Links a second, static program from the object of the proved one, by the system's gcc and with the system's C library.
-# It runs where the C library is too old for the first program, or missing. The object has to be the proved program's:
-# the toolchain's linker makes the same bytes from it, or nothing is written.
+# Links a static program from the objects of two proved ones, PROGRAM and the same for x86-64-v3, PROGRAM-v3, by the system's
+# gcc and with the system's C library. At its start it picks one of them by the processor (tools/pick_processor.c). It runs
+# where the C library is too old for PROGRAM, or missing. Each object has to be its program's: the toolchain's linker makes
+# the same bytes from it, or nothing is written.
 # Writes TARGET, TARGET.o (the program without the C library, to be linked again) and TARGET.linked (what was linked by what).
-# Usage: tools/static_program.sh PROGRAM OBJECT TARGET
+# Usage: tools/static_program.sh PROGRAM TARGET    (PROGRAM.o, PROGRAM-v3 and PROGRAM-v3.o lie beside PROGRAM)
 set -euo pipefail
-[ $# -eq 3 ] || {
-    echo 'usage: tools/static_program.sh PROGRAM OBJECT TARGET' >&2
+[ $# -eq 2 ] || {
+    echo 'usage: tools/static_program.sh PROGRAM TARGET' >&2
     exit 2
 }
 program=$1
-object=$2
-target=$3
+target=$2
 export LC_ALL=C
+here=$(dirname "$0")
 scratch=$(mktemp -d)
 trap 'rm -rf "$scratch"' EXIT
 
@@ -20,27 +21,39 @@ refuse() {
     echo "$1" >&2
     exit 1
 }
+sum_of() { sha256sum <"$1" | cut -d ' ' -f 1; }
 
-for file in "$program" "$object"; do
-    [ -f "$file" ] || refuse "$file is not there: tools/build_program.py --anew drain build/drain makes both"
+for file in "$program" "$program.o" "$program-v3" "$program-v3.o"; do
+    [ -f "$file" ] || refuse "$file is not there: tools/build_program.py --anew --v3 drain build/drain makes all that the static program is linked from"
 done
-for tool in rt gcc; do
+for tool in rt gcc objcopy; do
     command -v "$tool" >/dev/null || refuse "a static program needs $tool on the PATH"
 done
 kit=$(dirname "$(dirname "$(readlink -f "$(command -v rt)")")")
 libraries=("$kit/c/libos_c.a" "$kit/c/liblibc_c.a")
 
-cp "$object" "$scratch/drain.o"
-"$kit/bin/rattle-link" --target x86_64-unknown-linux-gnu --toolchain "$kit/toolchain" -o "$scratch/again" \
-    "$scratch/drain.o" "${libraries[@]}" >"$scratch/said" 2>&1 || refuse "the toolchain does not link $object: $(tail -n 3 "$scratch/said")"
-cmp -s "$scratch/again" "$program" || refuse "$object is not the object of $program: linked by the toolchain it gives another program"
+# Gives the start of a program's object another name, in $scratch/NAME.o.
+# Usage: take_object PROGRAM NAME
+take_object() {
+    cp "$1.o" "$scratch/drain.o"
+    "$kit/bin/rattle-link" --target x86_64-unknown-linux-gnu --toolchain "$kit/toolchain" -o "$scratch/again" \
+        "$scratch/drain.o" "${libraries[@]}" >"$scratch/said" 2>&1 || refuse "the toolchain does not link $1.o: $(tail -n 3 "$scratch/said")"
+    cmp -s "$scratch/again" "$1" || refuse "$1.o is not the object of $1: linked by the toolchain it gives another program"
+    objcopy --redefine-sym "main=$2" "$scratch/drain.o" "$scratch/$2.o"
+}
+take_object "$program" drain_main_v2
+take_object "$program-v3" drain_main_v3
 
-gcc -r -nostdlib -o "$scratch/target.o" "$scratch/drain.o" -Wl,--start-group "${libraries[@]}" -Wl,--end-group
+gcc -O2 -Wall -Wextra -c -o "$scratch/pick.o" "$here/pick_processor.c" ||
+    refuse "gcc does not compile $here/pick_processor.c: it needs glibc 2.33 or later"
+gcc -r -nostdlib -o "$scratch/target.o" "$scratch/pick.o" "$scratch/drain_main_v2.o" "$scratch/drain_main_v3.o" \
+    -Wl,--start-group "${libraries[@]}" -Wl,--end-group
 gcc -static -o "$scratch/target" "$scratch/target.o" ||
     refuse 'gcc links no static program: it needs the static C library (libc6-dev, glibc-static)'
 {
-    echo "program  $(sha256sum <"$program" | cut -d ' ' -f 1)"
-    echo "static   $(sha256sum <"$scratch/target" | cut -d ' ' -f 1)"
+    echo "program  $(sum_of "$program")"
+    echo "v3       $(sum_of "$program-v3")"
+    echo "static   $(sum_of "$scratch/target")"
     echo "linker   $(gcc --version | head -n 1)"
     echo "libc     $(ldd --version | head -n 1 | sed 's/^ldd //')"
 } >"$scratch/target.linked"

@@ -98,7 +98,7 @@ add_runs() {
     fi
 }
 
-# A static program is linked from the same object: it is spared the large inputs.
+# A static program is of the same proved code: it is spared the large inputs.
 is_static() { command -v readelf >/dev/null && ! LC_ALL=C readelf -lW "$drain" | grep -qw INTERP; }
 is_static || {
     . "$here/large.sh"
