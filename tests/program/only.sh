@@ -375,7 +375,7 @@ while read -r rule file size row col bytes; do
     done
 done <<<"$changes"
 
-# Numbers of a header are read, and never taken as memory; the zeros in place of a missing raster take none either.
+# Numbers of a header are read, and never taken as memory; the ones in place of a missing raster take none either.
 for list in con con,dir; do
     make_bare
     echo 'TOTALROWBYTES 4294967295' >>"$check/out/con.hdr"

@@ -6,8 +6,8 @@ use Rattle.drain_answer.specs.Outcomes.{failure_text}
 use Rattle.drain_answer.specs.Printing.{line_feed}
 use Rattle.drain_device.specs.declared.counts.FaultCounts.{FaultCounts}
 use Rattle.drain_device.specs.Counts.{no_faults}
-use Rattle.drain_files.specs.declared.source_or_zeros.SourceOrZeros.{SourceOrZeros}
-use Rattle.drain_files.specs.declared.source_or_zeros.SourceOrZeros.TheVariants.{Source, Zeros}
+use Rattle.drain_files.specs.declared.source_or_ones.SourceOrOnes.{SourceOrOnes}
+use Rattle.drain_files.specs.declared.source_or_ones.SourceOrOnes.TheVariants.{Source, Ones}
 use Rattle.drain_header.specs.declared.header.ByteOrdering.TheVariants.{Least}
 use Rattle.drain_header.specs.Header.{Fields}
 use Rattle.std.specs.Io.KnownBytes.{Consumes}
@@ -42,17 +42,17 @@ open_failure_line path = codes "failed Open " ++ (path ++ line_feed ∷ [])
 abbrev pub IsOpenFailure : List ℕ → List ℕ → Type 0
 IsOpenFailure path text = (text ≡ open_failure_line path) ⊎ (text ≡ failure_text OutOfMemory)
 
--- What a source, or zeros in its place, gives.
+-- What a source, or ones in its place, gives.
 
--- the source's bytes, or the zeros
-abbrev pub bytes_of : {R : Type 0} → (R → Option (List ℕ)) → SourceOrZeros R → Option (List ℕ)
+-- the source's bytes, or the ones
+abbrev pub bytes_of : {R : Type 0} → (R → Option (List ℕ)) → SourceOrOnes R → Option (List ℕ)
 bytes_of bytes_left (Source source) = bytes_left source
-bytes_of bytes_left (Zeros n) = Some (replicate n 0)
+bytes_of bytes_left (Ones n) = Some (replicate n 1)
 
 -- the source's faults, or none
-abbrev pub source_counts : {R : Type 0} → (R → FaultCounts) → SourceOrZeros R → FaultCounts
+abbrev pub source_counts : {R : Type 0} → (R → FaultCounts) → SourceOrOnes R → FaultCounts
 source_counts counts (Source source) = counts source
-source_counts counts (Zeros n) = no_faults
+source_counts counts (Ones n) = no_faults
 
 -- The header of a map of faults.
 -- Source: the Esri description of BIL headers; sizes, byte order and the no-data number are this project's own

@@ -11,5 +11,5 @@ pub mod open_judged;
 pub mod open_spacing;
 pub mod output_paths;
 pub mod outputs;
-pub mod source_or_zeros;
+pub mod source_or_ones;
 pub mod whole_input;

@@ -10,7 +10,7 @@ use crate::file_id::FileId;
 use crate::file_paths::tile_name;
 use crate::open_failure::Reason;
 use crate::outputs::{OutputSink, Outputs};
-use crate::source_or_zeros::SourceOrZeros;
+use crate::source_or_ones::SourceOrOnes;
 use crate::whole_input::{MAX_TEXT_BYTES, MAX_WIDTHS_BYTES, read_text};
 use drain_device::{BodyFault, ByteList, Reader, Writer};
 use drain_header::Header;
@@ -24,8 +24,8 @@ use std::fs::File;
 use std::io;
 use std::io::ErrorKind;
 
-/// A file to read, or zeros in place of a missing raster, and a file to write; rows of each may be counted.
-pub type InputFile<'a> = CountedDevice<'a, SourceOrZeros<Reader<File>>>;
+/// A file to read, or ones in place of a missing raster, and a file to write; rows of each may be counted.
+pub type InputFile<'a> = CountedDevice<'a, SourceOrOnes<Reader<File>>>;
 
 pub type OutputFile<'g, 'a> = CountedDevice<'g, Writer<OutputSink<'a>>>;
 
@@ -139,7 +139,7 @@ fn open_tile<'a>(opener: &mut Opener<'_>, path: &str) -> Result<TileInput<InputF
     ensures { IfOk result (λ tile. IsLastPart path.now tile.name) }
 {
     let name = Vec::from_slice(opener.alloc(), tile_name(path.as_bytes()))?;
-    let body = CountedDevice::new(SourceOrZeros::Source(opener.open(path)?));
+    let body = CountedDevice::new(SourceOrOnes::Source(opener.open(path)?));
     Ok(TileInput {
         name: ByteList::new(name),
         body,

@@ -6,13 +6,14 @@ ghost use Rattle.drain_files.specs.Files.{AreElevationsOf, AreOf, AreTilesOf};
 ghost use Rattle.drain_files.specs.OpenSpacings.{IsSpacingOf};
 
 use crate::file_paths::{dem_path, header_path, raster_path};
+use crate::map_file::map_header;
 use crate::open_files::{InputFile, OpenFault, Opener, list_at, open_tiles};
 use crate::open_spacing::{OpenSpacing, open_spacing};
-use crate::source_or_zeros::SourceOrZeros;
+use crate::source_or_ones::SourceOrOnes;
 use drain_args::requests::{DemArgs, Elevations, ProductArgs, TileArgs};
 use drain_device::{ByteList, read_body};
 use drain_grid::{Judged, PerProduct, Product, SetProduct, Spacing};
-use drain_header::{MAX_HEADER_BYTES, parse_header};
+use drain_header::{MAX_HEADER_BYTES, header_text, parse_header};
 use drain_hgt::TileInput;
 use drain_maker::product_files::Part;
 use drain_progress::counted_device::CountedDevice;
@@ -138,8 +139,8 @@ pub fn open_audited<'a>(
     })
 }
 
-/// Opens the elevations, the directions and the list of sinks. Directions alone are given: their header and zeros take the
-/// place of the other rasters. Spacing makes no difference to what follows from directions.
+/// Opens the elevations, the directions and the list of sinks. Directions alone are given: ones take the place of the
+/// other rasters. Spacing makes no difference to what follows from directions.
 pub fn open_directions<'a>(
     opener: &mut Opener<'_>,
     args: &ProductArgs<'_, Elevations<'_>>,
@@ -178,8 +179,7 @@ fn open_products<'a>(
     }
 }
 
-/// Opens the products of an audit. Con's header and zeros take the place of those that aren't judged, which no rule
-/// looks at.
+/// Opens the products of an audit. Ones take the place of those that aren't judged, which no rule looks at.
 fn open_four<'a>(
     opener: &mut Opener<'_>,
     folder: &str,
@@ -192,7 +192,7 @@ fn open_four<'a>(
     Ok(AuditProducts { con, dir, acc, bas })
 }
 
-/// Opens a product if it is judged; else con's header and zeros take its place.
+/// Opens a product if it is judged; else ones that lie as con take its place.
 fn open_or<'a>(
     opener: &mut Opener<'_>,
     folder: &str,
@@ -206,14 +206,26 @@ fn open_or<'a>(
     missing_like(opener.alloc(), con)
 }
 
-/// A missing product, with the header of one that is there, and zeros.
+/// A missing product: ones, a byte for each cell, that lie as one that is there. Ones, since lanes clear no cell whose
+/// direction is 0, judged or not.
 fn missing_like<'a>(
     alloc: Global,
     there: &RasterInput<InputFile<'a>>,
 ) -> Result<RasterInput<InputFile<'a>>, OpenFault> {
-    let header = ByteList::new(Vec::from_slice(alloc, there.header.as_slice())?);
-    let body = CountedDevice::new(SourceOrZeros::missing());
+    let header = ByteList::new(missing_header(alloc, there.header.as_slice())?);
+    let body = CountedDevice::new(SourceOrOnes::missing());
     Ok(RasterInput { header, body })
+}
+
+/// The text of its header. One that has a fault is copied: then the raster that is there is refused, and no other.
+fn missing_header(alloc: Global, there: &[u8]) -> Result<Vec<u8>, OpenFault> {
+    match parse_header(there) {
+        Ok(header) => match header_text(alloc, &map_header(&header)) {
+            Ok(text) => Ok(text),
+            Err(_) => Err(OpenFault::no_memory()),
+        },
+        Err(_) => Ok(Vec::from_slice(alloc, there)?),
+    }
 }
 
 /// Has the rows of con counted.
@@ -271,7 +283,7 @@ fn open_raster<'a>(
     raster: &str,
 ) -> Result<RasterInput<InputFile<'a>>, OpenFault> {
     let header = read_header(opener, header)?;
-    let body = CountedDevice::new(SourceOrZeros::Source(opener.open(raster)?));
+    let body = CountedDevice::new(SourceOrOnes::Source(opener.open(raster)?));
     Ok(RasterInput { header, body })
 }
 
