@@ -16,8 +16,7 @@ use Rattle.drain_grid.proofs.Walks.{endless-stuck}
 use Rattle.drain_paths.specs.declared.flow.Flow.{Flow}
 use Rattle.drain_paths.specs.declared.flow.Flow.TheVariants.{Void, Lost, Ends, ToEast, ToSouthEast, ToSouth, ToSouthWest, ToWest, ToNorthWest, ToNorth, ToNorthEast}
 use Rattle.drain_paths.specs.Flows.{direction_of, flow_at, AllFlowsEnd, AreFlowsOf, OfFlows}
-use Rattle.drain_paths.specs.Inflows.{lane_of}
-use Rattle.drain_paths.specs.Places.{AreOffsets}
+use Rattle.drain_paths.specs.Places.{AreOffsets, IsOffset}
 use Rattle.drain_paths.proofs.CellPlaces.{cell_of_place}
 use Rattle.drain_paths.proofs.FlowCells.{data_at, flow_of_zero, leads_nowhere, leads_outside, leads_to_void, leads_to_data}
 use Rattle.drain_paths.proofs.GridFlows.{grid_of_flows, products_of_flows, are_flows}
@@ -88,8 +87,8 @@ step_place e c n d to_n =
     omega (arith, rows, lies.1)
 
 -- a place, and the one to which its flow leads on
-module _ (e : Extent) (flows : List Flow) (offsets : List ℕ) (are_offsets : AreOffsets e offsets) (place : ℕ) (inside : place < e.rows * e.cols)
-    (has_data : get_or flows place Void ≢ Void) (goes_on : get_or flows place Void ≢ Ends) (offset : ℕ) (is : offset ≡ get_or offsets (lane_of (get_or flows place Void)) 0) where
+module _ (e : Extent) (flows : List Flow) (place : ℕ) (inside : place < e.rows * e.cols)
+    (has_data : get_or flows place Void ≢ Void) (goes_on : get_or flows place Void ≢ Ends) (offset : ℕ) (is : IsOffset e (get_or flows place Void) offset) where
   at_place : flow_at e flows (cell_at e place) ≡ get_or flows place Void
   at_place = ap (λ k. get_or flows k Void) ((cell_of_place e place inside).1)
 
@@ -101,7 +100,7 @@ module _ (e : Extent) (flows : List Flow) (offsets : List ℕ) (are_offsets : Ar
         (λ stops. goes_on (sym at_place ∙ stops))
 
     offset_is : offset ≡ rows_down found.way * e.cols + cols_right found.way
-    offset_is = is ∙ are_offsets (get_or flows place Void) found.way (ap direction_of (sym at_place) ∙ found.names)
+    offset_is = is found.way (ap direction_of (sym at_place) ∙ found.names)
 
     there_is : index_of e found.cell + (e.cols + 1) ≡ place + offset
     there_is =

@@ -5,14 +5,13 @@ ghost use Rattle.drain_grid.specs.declared.cell.Cell.{Cell};
 ghost use Rattle.drain_grid.specs.Extent.{IsCellOf};
 ghost use Rattle.drain_paths.specs.declared.flow.Flow.TheVariants.{Void};
 ghost use Rattle.drain_paths.specs.Flows.{OfFlows, AllFlowsEnd, flow_at};
-ghost use Rattle.drain_paths.specs.Places.{AreOffsets};
 ghost use Rattle.drain_paths.specs.Inflows.{AreFlowLanes, AreInflows, IsInflowOf, inflow_at, lane_of, IsPassing, StaysAway, AreUpstreamCounts};
 ghost use Rattle.drain_paths.specs.CellNumbers.{cell_number, ones_of, one_of};
 
 use crate::cell_numbers::room_for;
 use crate::flow::Flow;
-use crate::places::{self, FLOWS, lane, offsets, place_ahead};
-use crate::ways::{ListedFlows, flow_of_place};
+use crate::places::{self, ListedOnward, lane, offsets, place_ahead};
+use crate::ways::flow_of_place;
 use drain_grid::{OutOfMemory, Shape};
 use std::alloc::Global;
 
@@ -190,33 +189,31 @@ fn put_inflows(above: &[u8], here: &[u8], below: &[u8], start: usize, waits: &mu
 
 /// Passes counts on from the data cell with this many cells before it, as far as no inflow is missing.
 pub(crate) fn pass_counts(
-    flows: &[Flow],
+    onward: &ListedOnward,
     shape: Shape,
-    offsets: &[usize; FLOWS],
     waits: &mut [u8],
     counts: &mut [u32],
     start: usize,
 )
-    requires counted { length flows.now ≡ shape.rows * shape.cols }
-    requires offsets { AreOffsets shape offsets.now }
+    requires counted { length onward.now.flows.now ≡ shape.rows * shape.cols }
+    requires shape { onward.now.shape ≡ shape }
     requires waits_counted { length waits.old ≡ shape.rows * shape.cols }
     requires counts_counted { length counts.old ≡ shape.rows * shape.cols }
     requires inside { start < shape.rows * shape.cols }
-    requires has_data { slice_index_or flows.now start Void ≢ Void }
-    requires passing { OfFlows shape flows.now (λ g ps. IsPassing g ps shape waits.old counts.old) }
-    ensures passing { OfFlows shape flows.now (λ g ps. IsPassing g ps shape waits.new counts.new) }
+    requires has_data { slice_index_or onward.now.flows.now start Void ≢ Void }
+    requires passing { OfFlows shape onward.now.flows.now (λ g ps. IsPassing g ps shape waits.old counts.old) }
+    ensures passing { OfFlows shape onward.now.flows.now (λ g ps. IsPassing g ps shape waits.new counts.new) }
     ensures start { slice_index_or waits.new start 0 ≢ 0 }
     ensures others { (c : Cell) → IsCellOf shape c → cell_number shape waits.old c ≢ 0 → cell_number shape waits.new c ≢ 0 }
 {
     let _cells = shape.cells();
-    let ways = ListedFlows { flows };
     let mut here = start;
     'walk: while waits[here] == 0 {
-        if flows[here] == Flow::Ends {
+        if onward.flows[here] == Flow::Ends {
             waits[here] = DONE;
             return;
         }
-        let ahead = place_ahead(&ways, shape, offsets, here);
+        let ahead = place_ahead(onward, shape, here);
         pass_on(waits, counts, here, ahead);
         here = ahead;
     }
@@ -253,9 +250,13 @@ pub fn accumulate(alloc: Global, flows: &[Flow], shape: Shape) -> Result<Vec<u32
 {
     let mut counts = ones(alloc, flows)?;
     let mut waits = inflows(alloc, flows, shape)?;
-    let offsets = offsets(shape);
+    let onward = ListedOnward {
+        flows,
+        shape,
+        offsets: offsets(shape),
+    };
     for place in 0..shape.cells() {
-        visit(flows, shape, &offsets, &mut waits, &mut counts, place);
+        visit(&onward, shape, &mut waits, &mut counts, place);
     }
     Ok(counts)
 }
@@ -279,25 +280,18 @@ fn one_of(flow: Flow) -> u32
 }
 
 /// Passes counts on from the cell with this many cells before it, if it has data and waits for no inflow.
-fn visit(
-    flows: &[Flow],
-    shape: Shape,
-    offsets: &[usize; FLOWS],
-    waits: &mut [u8],
-    counts: &mut [u32],
-    place: usize,
-)
-    requires counted { length flows.now ≡ shape.rows * shape.cols }
-    requires offsets { AreOffsets shape offsets.now }
+fn visit(onward: &ListedOnward, shape: Shape, waits: &mut [u8], counts: &mut [u32], place: usize)
+    requires counted { length onward.now.flows.now ≡ shape.rows * shape.cols }
+    requires shape { onward.now.shape ≡ shape }
     requires waits_counted { length waits.old ≡ shape.rows * shape.cols }
     requires counts_counted { length counts.old ≡ shape.rows * shape.cols }
     requires inside { place < shape.rows * shape.cols }
-    requires passing { OfFlows shape flows.now (λ g ps. IsPassing g ps shape waits.old counts.old) }
-    ensures passing { OfFlows shape flows.now (λ g ps. IsPassing g ps shape waits.new counts.new) }
-    ensures here { slice_index_or flows.now place Void ≢ Void → slice_index_or waits.new place 0 ≢ 0 }
+    requires passing { OfFlows shape onward.now.flows.now (λ g ps. IsPassing g ps shape waits.old counts.old) }
+    ensures passing { OfFlows shape onward.now.flows.now (λ g ps. IsPassing g ps shape waits.new counts.new) }
+    ensures here { slice_index_or onward.now.flows.now place Void ≢ Void → slice_index_or waits.new place 0 ≢ 0 }
     ensures others { (c : Cell) → IsCellOf shape c → cell_number shape waits.old c ≢ 0 → cell_number shape waits.new c ≢ 0 }
 {
-    if waits[place] == 0 && flow_of_place(flows, place) != Flow::Void {
-        pass_counts(flows, shape, offsets, waits, counts, place);
+    if waits[place] == 0 && flow_of_place(onward.flows, place) != Flow::Void {
+        pass_counts(onward, shape, waits, counts, place);
     }
 }

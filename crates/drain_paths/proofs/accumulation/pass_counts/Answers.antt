@@ -14,7 +14,7 @@ use Rattle.drain_paths.proofs.accumulation.pass_counts.Goals as goal
 pub returns-then-eq-clause-passing : goal.returns-then-eq-clause-passing
 returns-then-eq-clause-passing c = λ g ps are.
     (let e = c.args.shape in
-    let flows = c.args.flows.now in
+    let flows = c.args.onward.now.flows.now in
     let inv = c.walk.invariant in
     let at = cell_of_place e c.walk.here inv.inside in
     let flow : flow_at e flows (cell_at e c.walk.here) ≡ get_or flows c.walk.here Void = ap (λ k. get_or flows k Void) at.1 in
@@ -31,7 +31,7 @@ place_ahead-ahead-requires-clause-ends c = λ g ps are. (c.walk.invariant.passin
 pub pass_on-requires-clause-some : goal.pass_on-requires-clause-some
 pass_on-requires-clause-some c =
     let e = c.args.shape in
-    let flows = c.args.flows.now in
+    let flows = c.args.onward.now.flows.now in
     let inv = c.walk.invariant in
     let at = cell_of_place e c.walk.here inv.inside in
     let flow : flow_at e flows (cell_at e c.walk.here) ≡ get_or flows c.walk.here Void = ap (λ k. get_or flows k Void) at.1 in
@@ -45,7 +45,7 @@ pass_on-requires-clause-some c =
 pub pass_on-requires-clause-fits : goal.pass_on-requires-clause-fits
 pass_on-requires-clause-fits c =
     let e = c.args.shape in
-    let flows = c.args.flows.now in
+    let flows = c.args.onward.now.flows.now in
     let inv = c.walk.invariant in
     let at = cell_of_place e c.walk.here inv.inside in
     let flow : flow_at e flows (cell_at e c.walk.here) ≡ get_or flows c.walk.here Void = ap (λ k. get_or flows k Void) at.1 in
@@ -61,7 +61,7 @@ pass_on-requires-clause-fits c =
 pub walk-smaller : goal.walk-smaller
 walk-smaller c =
     let e = c.args.shape in
-    let flows = c.args.flows.now in
+    let flows = c.args.onward.now.flows.now in
     let inv = c.walk.invariant in
     let at = cell_of_place e c.walk.here inv.inside in
     let flow : flow_at e flows (cell_at e c.walk.here) ≡ get_or flows c.walk.here Void = ap (λ k. get_or flows k Void) at.1 in
@@ -72,7 +72,7 @@ walk-smaller c =
 pub walk-preserved : goal.walk-preserved
 walk-preserved c =
     let e = c.args.shape in
-    let flows = c.args.flows.now in
+    let flows = c.args.onward.now.flows.now in
     let inv = c.walk.invariant in
     let at = cell_of_place e c.walk.here inv.inside in
     let flow : flow_at e flows (cell_at e c.walk.here) ≡ get_or flows c.walk.here Void = ap (λ k. get_or flows k Void) at.1 in

@@ -11,9 +11,9 @@ use Rattle.drain_paths.proofs.ended_basins.label_ahead.Given as goal
 abbrev pub invariant-walk : goal.invariant-walk
 invariant-walk t l = record {
   inside : l.here < l.shape.rows * l.shape.cols;
-  has_data : get_or (t.W.Ways.flows l.ways) l.here Void ≢ Void;
-  same : OfFlows l.shape (t.W.Ways.flows l.ways) (λ g ps. basin_label g ps (cell_at l.shape l.here) ≡ basin_label g ps (cell_at l.shape l.start));
+  has_data : get_or (t.O.Onward.flows l.onward) l.here Void ≢ Void;
+  same : OfFlows l.shape (t.O.Onward.flows l.onward) (λ g ps. basin_label g ps (cell_at l.shape l.here) ≡ basin_label g ps (cell_at l.shape l.start));
 }
 
 abbrev pub decreases-walk : goal.decreases-walk
-decreases-walk t l = run_steps (grid_of_flows l.shape (t.W.Ways.flows l.ways)) (products_of_flows l.shape (t.W.Ways.flows l.ways)) (cell_at l.shape l.here)
+decreases-walk t l = run_steps (grid_of_flows l.shape (t.O.Onward.flows l.onward)) (products_of_flows l.shape (t.O.Onward.flows l.onward)) (cell_at l.shape l.here)

@@ -14,4 +14,4 @@ returns t c = λ g ps are.
     (let inside = in_grid g e d are.extent here.inside in
     let below = index_of-below e d inside in
     let cells = c.cells-place-end.ensures.product in
-    inv.passed d inside (omega (arith, below, cells)) (flow_of_data g ps e (t.W.Ways.flows c.args.ways.now) are d here))))
+    inv.passed d inside (omega (arith, below, cells)) (flow_of_data g ps e (t.O.Onward.flows c.args.onward.now) are d here))))

@@ -11,6 +11,6 @@ use Rattle.drain_paths.proofs.ended_basins.label_runs.Given as goal
 abbrev pub invariant-loop-place : goal.invariant-loop-place
 invariant-loop-place t l = record {
   counted : length l.labels ≡ l.shape.rows * l.shape.cols;
-  so_far : OfFlows l.shape (t.W.Ways.flows l.ways) (λ g ps. AreNumbersSoFar g ps l.shape 0 basin_label l.labels);
-  passed : (c : Cell) → IsCellOf l.shape c → index_of l.shape c < l.place → flow_at l.shape (t.W.Ways.flows l.ways) c ≢ Void → cell_number l.shape l.labels c ≢ 0;
+  so_far : OfFlows l.shape (t.O.Onward.flows l.onward) (λ g ps. AreNumbersSoFar g ps l.shape 0 basin_label l.labels);
+  passed : (c : Cell) → IsCellOf l.shape c → index_of l.shape c < l.place → flow_at l.shape (t.O.Onward.flows l.onward) c ≢ Void → cell_number l.shape l.labels c ≢ 0;
 }

@@ -10,17 +10,17 @@ use Rattle.drain_paths.proofs.ended_basins.put_label.Goals as goal
 pub place_ahead-here-requires-clause-goes_on : goal.place_ahead-here-requires-clause-goes_on
 place_ahead-here-requires-clause-goes_on t c =
     let inv = c.walk.invariant in
-    unlabelled_on c.args.shape (t.W.Ways.flows c.args.ways.now) c.walk.here inv.inside inv.has_data c.walk.labels inv.so_far c.walk-test.true
+    unlabelled_on c.args.shape (t.O.Onward.flows c.args.onward.now) c.walk.here inv.inside inv.has_data c.walk.labels inv.so_far c.walk-test.true
 
 pub walk-smaller : goal.walk-smaller
 walk-smaller t c =
     let inv = c.walk.invariant in
-    shorter_there c.args.shape (t.W.Ways.flows c.args.ways.now) c.walk.here inv.inside inv.has_data c.requires.ends c.place_ahead-here.result c.place_ahead-here.ensures.leads
+    shorter_there c.args.shape (t.O.Onward.flows c.args.onward.now) c.walk.here inv.inside inv.has_data c.requires.ends c.place_ahead-here.result c.place_ahead-here.ensures.leads
 
 pub walk-preserved : goal.walk-preserved
 walk-preserved t c =
     let e = c.args.shape in
-    let flows = t.W.Ways.flows c.args.ways.now in
+    let flows = t.O.Onward.flows c.args.onward.now in
     let inv = c.walk.invariant in
     let labels = c.walk.labels in
     let after = set labels c.walk.here c.args.label in

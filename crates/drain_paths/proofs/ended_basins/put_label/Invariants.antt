@@ -15,12 +15,12 @@ abbrev pub invariant-walk : goal.invariant-walk
 invariant-walk t l = record {
   counted : length l.labels ≡ l.shape.rows * l.shape.cols;
   inside : l.here < l.shape.rows * l.shape.cols;
-  has_data : get_or (t.W.Ways.flows l.ways) l.here Void ≢ Void;
-  label : OfFlows l.shape (t.W.Ways.flows l.ways) (λ g ps. l.label ≡ basin_label g ps (cell_at l.shape l.here));
-  so_far : OfFlows l.shape (t.W.Ways.flows l.ways) (λ g ps. AreNumbersSoFar g ps l.shape 0 basin_label l.labels);
+  has_data : get_or (t.O.Onward.flows l.onward) l.here Void ≢ Void;
+  label : OfFlows l.shape (t.O.Onward.flows l.onward) (λ g ps. l.label ≡ basin_label g ps (cell_at l.shape l.here));
+  so_far : OfFlows l.shape (t.O.Onward.flows l.onward) (λ g ps. AreNumbersSoFar g ps l.shape 0 basin_label l.labels);
   start : (l.here ≡ l.start) ⊎ (get_or l.labels l.start 0 ≢ 0);
   others : (c : Cell) → IsCellOf l.shape c → cell_number l.shape l.fn.labels c ≢ 0 → cell_number l.shape l.labels c ≢ 0;
 }
 
 abbrev pub decreases-walk : goal.decreases-walk
-decreases-walk t l = run_steps (grid_of_flows l.shape (t.W.Ways.flows l.ways)) (products_of_flows l.shape (t.W.Ways.flows l.ways)) (cell_at l.shape l.here)
+decreases-walk t l = run_steps (grid_of_flows l.shape (t.O.Onward.flows l.onward)) (products_of_flows l.shape (t.O.Onward.flows l.onward)) (cell_at l.shape l.here)
