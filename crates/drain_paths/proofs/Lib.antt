@@ -1,7 +1,9 @@
 pub mod ByteTable
 pub mod CellPlaces
+pub mod PlacesAhead
 pub mod Completing
 pub mod EndCounts
+pub mod EndedLabels
 pub mod EndlessSteps
 pub mod FlowCells
 mod FlowCodes

@@ -3,6 +3,7 @@ pub mod CellNumbers
 pub mod Flows
 pub mod EndlessPaths
 pub mod Inflows
+pub mod Places
 pub mod Walks
 pub mod Laws
 pub mod Ways

@@ -1,17 +1,18 @@
 //! How many cells drain through each cell.
 
-ghost use Rattle.std.specs.Prelude.{◌≡◌, ◌≤◌, ◌<◌, ◌+◌, ◌*◌, ◌==◌, ℕ, length, vec_len, slice_index, slice_index_or, IfOk, if◌then◌else◌, ◌≢◌, ◌^◌};
+ghost use Rattle.std.specs.Prelude.{◌≡◌, ◌≤◌, ◌<◌, ◌+◌, ◌-◌, ◌*◌, ◌==◌, ℕ, length, vec_len, slice_index, slice_index_or, slice_set, IfOk, if◌then◌else◌, ◌≢◌, ◌^◌};
 ghost use Rattle.drain_grid.specs.declared.cell.Cell.{Cell};
 ghost use Rattle.drain_grid.specs.Extent.{IsCellOf};
 ghost use Rattle.drain_paths.specs.declared.flow.Flow.TheVariants.{Void};
 ghost use Rattle.drain_paths.specs.Flows.{OfFlows, AllFlowsEnd, flow_at};
-ghost use Rattle.drain_paths.specs.Inflows.{AreFlowLanes, AreInflows, IsInflowOf, inflow_at, lane_of, IsPassing, IsPassedOn, StaysAway, AreUpstreamCounts};
-ghost use Rattle.drain_paths.specs.CellNumbers.{cell_number, IsPutAt, ones_of, one_of};
+ghost use Rattle.drain_paths.specs.Inflows.{AreFlowLanes, AreInflows, IsInflowOf, inflow_at, lane_of, IsPassing, StaysAway, AreUpstreamCounts};
+ghost use Rattle.drain_paths.specs.CellNumbers.{cell_number, ones_of, one_of};
 
 use crate::cell_numbers::room_for;
 use crate::flow::Flow;
-use crate::ways::{flow_of_place, next_cell};
-use drain_grid::{Cell, OutOfMemory, Shape};
+use crate::places::{self, ListedOnward, lane, offsets, place_ahead};
+use crate::ways::flow_of_place;
+use drain_grid::{OutOfMemory, Shape};
 use std::alloc::Global;
 
 /// The inflows of a cell that has passed its count on. No cell has this many.
@@ -142,21 +143,13 @@ fn lay_flows(flows: &[Flow], start: usize, lanes: &mut [u8])
     }
 }
 
-/// The number of a flow. That of a void is 0.
-#[inline(always)]
-fn lane(flow: Flow) -> u8
-    ensures { result ≡ lane_of flow }
-{
-    flow as u8
-}
-
 /// 1 if the flows have the same number, else 0.
 #[inline(always)]
 fn one_if(lane: u8, back: Flow) -> u8
     ensures is { result ≡ (if lane == lane_of back then 1 else 0) }
     ensures few { result ≤ 1 }
 {
-    u8::from(lane == self::lane(back))
+    u8::from(lane == places::lane(back))
 }
 
 /// How many of the eight neighbours of a column lead to it.
@@ -194,70 +187,53 @@ fn put_inflows(above: &[u8], here: &[u8], below: &[u8], start: usize, waits: &mu
     }
 }
 
-/// Passes counts on from a data cell, as far as no inflow is missing.
+/// Passes counts on from the data cell with this many cells before it, as far as no inflow is missing.
 pub(crate) fn pass_counts(
-    flows: &[Flow],
+    onward: &ListedOnward,
     shape: Shape,
     waits: &mut [u8],
     counts: &mut [u32],
-    start: Cell,
+    start: usize,
 )
-    requires counted { length flows.now ≡ shape.rows * shape.cols }
+    requires counted { length onward.now.flows.now ≡ shape.rows * shape.cols }
+    requires shape { onward.now.shape ≡ shape }
     requires waits_counted { length waits.old ≡ shape.rows * shape.cols }
     requires counts_counted { length counts.old ≡ shape.rows * shape.cols }
-    requires inside { IsCellOf shape start }
-    requires has_data { flow_at shape flows.now start ≢ Void }
-    requires passing { OfFlows shape flows.now (λ g ps. IsPassing g ps shape waits.old counts.old) }
-    ensures passing { OfFlows shape flows.now (λ g ps. IsPassing g ps shape waits.new counts.new) }
-    ensures start { cell_number shape waits.new start ≢ 0 }
+    requires inside { start < shape.rows * shape.cols }
+    requires has_data { slice_index_or onward.now.flows.now start Void ≢ Void }
+    requires passing { OfFlows shape onward.now.flows.now (λ g ps. IsPassing g ps shape waits.old counts.old) }
+    ensures passing { OfFlows shape onward.now.flows.now (λ g ps. IsPassing g ps shape waits.new counts.new) }
+    ensures start { slice_index_or waits.new start 0 ≢ 0 }
     ensures others { (c : Cell) → IsCellOf shape c → cell_number shape waits.old c ≢ 0 → cell_number shape waits.new c ≢ 0 }
 {
     let _cells = shape.cells();
     let mut here = start;
-    'walk: while waits_at(shape, waits, here) == 0 {
-        let Some(ahead) = next_cell(flows, shape, here) else {
-            mark(shape, waits, here);
+    'walk: while waits[here] == 0 {
+        if onward.flows[here] == Flow::Ends {
+            waits[here] = DONE;
             return;
-        };
-        pass_on(shape, waits, counts, here, ahead);
+        }
+        let ahead = place_ahead(onward, shape, here);
+        pass_on(waits, counts, here, ahead);
         here = ahead;
     }
 }
 
-/// How many inflows a cell waits for.
-fn waits_at(shape: Shape, waits: &[u8], cell: Cell) -> u8
-    requires waits_counted { length waits.now ≡ shape.rows * shape.cols }
-    requires inside { IsCellOf shape cell }
-    ensures { result ≡ cell_number shape waits.now cell }
+/// Passes the count of one place on to another, which then waits for one inflow less.
+#[inline(always)]
+fn pass_on(waits: &mut [u8], counts: &mut [u32], from: usize, to: usize)
+    requires from_waits { from < length waits.old }
+    requires to_waits { to < length waits.old }
+    requires from_counts { from < length counts.old }
+    requires to_counts { to < length counts.old }
+    requires some { 0 < slice_index_or waits.old to 0 }
+    requires fits { slice_index_or counts.old to 0 + slice_index_or counts.old from 0 < 2 ^ 32 }
+    ensures waits { waits.new ≡ slice_set (slice_set waits.old to (slice_index_or waits.old to 0 - 1)) from DONE }
+    ensures counts { counts.new ≡ slice_set counts.old to (slice_index_or counts.old to 0 + slice_index_or counts.old from 0) }
 {
-    waits[shape.index(cell)]
-}
-
-/// Records that a cell has passed its count on.
-fn mark(shape: Shape, waits: &mut [u8], cell: Cell)
-    requires waits_counted { length waits.old ≡ shape.rows * shape.cols }
-    requires inside { IsCellOf shape cell }
-    ensures { IsPutAt shape waits.old waits.new cell DONE }
-{
-    waits[shape.index(cell)] = DONE;
-}
-
-/// Passes the count of a cell on to the next one, which then waits for one inflow less.
-fn pass_on(shape: Shape, waits: &mut [u8], counts: &mut [u32], from: Cell, to: Cell)
-    requires waits_counted { length waits.old ≡ shape.rows * shape.cols }
-    requires counts_counted { length counts.old ≡ shape.rows * shape.cols }
-    requires from_inside { IsCellOf shape from }
-    requires to_inside { IsCellOf shape to }
-    requires apart { from ≢ to }
-    requires some { 0 < cell_number shape waits.old to }
-    requires fits { cell_number shape counts.old to + cell_number shape counts.old from < 2 ^ 32 }
-    ensures { IsPassedOn shape waits.old waits.new counts.old counts.new from to }
-{
-    let here = shape.index(from);
-    let there = shape.index(to);
-    counts[there] += counts[here];
-    waits[there] -= 1;
-    waits[here] = DONE;
+    counts[to] += counts[from];
+    waits[to] -= 1;
+    waits[from] = DONE;
 }
 
 /// The number of data cells that drain through each data cell, itself included, and 0 at voids, from the flows of all
@@ -274,8 +250,13 @@ pub fn accumulate(alloc: Global, flows: &[Flow], shape: Shape) -> Result<Vec<u32
 {
     let mut counts = ones(alloc, flows)?;
     let mut waits = inflows(alloc, flows, shape)?;
+    let onward = ListedOnward {
+        flows,
+        shape,
+        offsets: offsets(shape),
+    };
     for place in 0..shape.cells() {
-        visit(flows, shape, &mut waits, &mut counts, place);
+        visit(&onward, shape, &mut waits, &mut counts, place);
     }
     Ok(counts)
 }
@@ -299,17 +280,18 @@ fn one_of(flow: Flow) -> u32
 }
 
 /// Passes counts on from the cell with this many cells before it, if it has data and waits for no inflow.
-fn visit(flows: &[Flow], shape: Shape, waits: &mut [u8], counts: &mut [u32], place: usize)
-    requires counted { length flows.now ≡ shape.rows * shape.cols }
+fn visit(onward: &ListedOnward, shape: Shape, waits: &mut [u8], counts: &mut [u32], place: usize)
+    requires counted { length onward.now.flows.now ≡ shape.rows * shape.cols }
+    requires shape { onward.now.shape ≡ shape }
     requires waits_counted { length waits.old ≡ shape.rows * shape.cols }
     requires counts_counted { length counts.old ≡ shape.rows * shape.cols }
     requires inside { place < shape.rows * shape.cols }
-    requires passing { OfFlows shape flows.now (λ g ps. IsPassing g ps shape waits.old counts.old) }
-    ensures passing { OfFlows shape flows.now (λ g ps. IsPassing g ps shape waits.new counts.new) }
-    ensures here { slice_index_or flows.now place Void ≢ Void → slice_index_or waits.new place 0 ≢ 0 }
+    requires passing { OfFlows shape onward.now.flows.now (λ g ps. IsPassing g ps shape waits.old counts.old) }
+    ensures passing { OfFlows shape onward.now.flows.now (λ g ps. IsPassing g ps shape waits.new counts.new) }
+    ensures here { slice_index_or onward.now.flows.now place Void ≢ Void → slice_index_or waits.new place 0 ≢ 0 }
     ensures others { (c : Cell) → IsCellOf shape c → cell_number shape waits.old c ≢ 0 → cell_number shape waits.new c ≢ 0 }
 {
-    if waits[place] == 0 && flow_of_place(flows, place) != Flow::Void {
-        pass_counts(flows, shape, waits, counts, shape.cell(place));
+    if waits[place] == 0 && flow_of_place(onward.flows, place) != Flow::Void {
+        pass_counts(onward, shape, waits, counts, place);
     }
 }

@@ -9,3 +9,4 @@ pub mod RasterRowLemmas
 pub mod RowNumberLemmas
 pub mod RasterEnds
 pub mod KindLemmas
+pub mod KeptLemmas

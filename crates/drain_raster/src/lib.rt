@@ -5,6 +5,7 @@
 #![tactic(auto)]
 
 mod fault;
+mod kept;
 pub mod laws;
 mod number_rows;
 mod pixel;

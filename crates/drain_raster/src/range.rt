@@ -1,10 +1,10 @@
 //! The range of a header's pixels.
 
-ghost use Rattle.std.specs.Prelude.{◌≡◌, ◌<◌, ◌≤ℤ◌, ◌↔◌, IsTrue, MatchOption};
+ghost use Rattle.std.specs.Prelude.{◌≡◌, ◌<◌, ◌≤ℤ◌, ◌↔◌, IsTrue, MatchOption, All, map, pos, true, false};
 ghost use Rattle.drain_raster.specs.Pixels.{header_extent};
-ghost use Rattle.drain_raster.specs.Bytes.{least_number, greatest_number, CanSpellAll, CanSpellTo, IsFirstAlong, IsFirstOutOfRange};
+ghost use Rattle.drain_raster.specs.Bytes.{least_number, greatest_number, CanSpellAll, CanSpellIn, CanSpellTo, IsFirstAlong, IsFirstOutOfRange};
 
-use drain_grid::{Cell, Raster};
+use drain_grid::{Cell, KeptNumbers, Raster};
 use drain_header::Header;
 
 /// The least and the greatest number that pixels can encode.
@@ -72,11 +72,67 @@ fn first_in_row(header: &Header, spelled: Spelled, raster: &Raster, row: u32) ->
     None
 }
 
+/// Each byte is a number of 8 bits.
+fn look_at_bytes(numbers: &[u8])
+    ensures { All (CanSpellIn false 8) (map (λ n. pos n) numbers.now) }
+{
+    for k in 0..numbers.len() {
+        let _number = numbers[k];
+    }
+}
+
+/// Each height is a number of 16 bits with a sign.
+fn look_at_heights(numbers: &[i16])
+    ensures { All (CanSpellIn true 16) numbers.now }
+{
+    for k in 0..numbers.len() {
+        look_at(numbers[k]);
+    }
+}
+
+/// The same of one height.
+fn look_at(_height: i16)
+    ensures { CanSpellIn true 16 _height }
+{}
+
+/// Each count is a number of 32 bits.
+fn look_at_counts(numbers: &[u32])
+    ensures { All (CanSpellIn false 32) (map (λ n. pos n) numbers.now) }
+{
+    for k in 0..numbers.len() {
+        let _number = numbers[k];
+    }
+}
+
+/// Whether the numbers are kept in the bits of the pixels: then none has to be looked at.
+fn are_of_pixels(header: &Header, raster: &Raster) -> bool
+    ensures { IsTrue result → CanSpellAll header.now raster.now }
+{
+    match (raster.kept(), header.bits, header.signed) {
+        (KeptNumbers::Bytes(numbers), 8, false) => {
+            look_at_bytes(numbers);
+            true
+        }
+        (KeptNumbers::Heights(numbers), 16, true) => {
+            look_at_heights(numbers);
+            true
+        }
+        (KeptNumbers::Counts(numbers), 32, false) => {
+            look_at_counts(numbers);
+            true
+        }
+        _ => false,
+    }
+}
+
 /// The first cell with a number that a pixel can't encode.
 pub fn first_out_of_range(header: &Header, raster: &Raster) -> Option<Cell>
     requires shape { raster.now.extent ≡ header_extent header.now }
     ensures { MatchOption result (CanSpellAll header.now raster.now) (IsFirstOutOfRange header.now raster.now) }
 {
+    if are_of_pixels(header, raster) {
+        return None;
+    }
     let spelled = Spelled::by(header);
     for row in 0..header.rows {
         if let Some(col) = first_in_row(header, spelled, raster, row) {

@@ -1,6 +1,6 @@
 //! Writing a raster.
 
-ghost use Rattle.std.specs.Prelude.{◌≡◌, ◌↔◌, ◌≤◌, ◌<◌, ◌+◌, ◌-◌, ◌*◌, ◌++◌, ℕ, ℤ, List, length, take, map, replicate, Err, IsErrOf};
+ghost use Rattle.std.specs.Prelude.{◌≡◌, ◌↔◌, ◌≤◌, ◌<◌, ◌+◌, ◌-◌, ◌*◌, ◌++◌, ℕ, ℤ, List, All, length, take, map, replicate, Err, IsErrOf};
 ghost use Rattle.std.specs.List.{flat_map, range_with_len};
 ghost use Rattle.drain_device.specs.Failing.{full_patience, WriteFails};
 ghost use Rattle.drain_device.specs.Counts.{HandsOver};
@@ -8,18 +8,22 @@ ghost use Rattle.drain_grid.specs.declared.cell.Cell.{Cell};
 ghost use Rattle.drain_grid.specs.Extent.{row_cells};
 ghost use Rattle.drain_grid.specs.declared.cell.TheConstants.{MAX_LENGTH};
 ghost use Rattle.drain_grid.specs.Grid.{Pixels};
+ghost use Rattle.drain_grid.specs.Values.{IsPixel};
 ghost use Rattle.drain_raster.specs.Pixels.{header_extent};
 ghost use Rattle.drain_raster.specs.Bytes.{AreWritten, CanSpellAll, CanSpellAllIn, IsFirstOutOfRange, cells_bytes, cells_from, bytes_of_row, raster_bytes};
 ghost use Rattle.drain_raster.specs.RasterRows.{Hands};
 ghost use Rattle.drain_raster.specs.declared.write.TheConstants.{BUFFER_BYTES};
 
 use crate::fault::WriteFault;
+use crate::kept::{Bytes, Counts, Heights};
 use crate::pixel::Pixel;
 use crate::range::first_out_of_range;
 use byteorder::{BigEndian, ByteOrder, LittleEndian};
 use drain_device::{ByteSink, GaveUp, Patience, write_all};
-use drain_grid::{Cell, Raster};
+use drain_grid::{KeptNumbers, Raster};
 use drain_header::{ByteOrdering, Header};
+use drain_pixels::PixelNumbers;
+use drain_pixels::stored::AnyPixels;
 
 /// The most bytes in one call of the sink.
 const BUFFER_BYTES: usize = 16384;
@@ -69,9 +73,48 @@ fn put_pixels<P: Pixel, T: ByteOrder>(
     requires room { (end - first) * P.len ≤ length bytes.old }
     ensures { take ((end - first) * P.len) bytes.new ≡ cells_bytes (P.spells T.bytes_of) raster.now (cells_from row first (end - first)) }
 {
-    for col in first..end {
-        let at = (col - first) as usize * P::len();
-        P::put::<T>(&mut bytes[at..], raster.value(Cell { row, col }));
+    match raster.kept() {
+        KeptNumbers::Bytes(numbers) => {
+            put_kept::<Bytes, P, T>(bytes, raster, &Bytes { bytes: numbers }, row, first, end)
+        }
+        KeptNumbers::Heights(heights) => {
+            put_kept::<Heights, P, T>(bytes, raster, &Heights { heights }, row, first, end)
+        }
+        KeptNumbers::Counts(counts) => {
+            put_kept::<Counts, P, T>(bytes, raster, &Counts { counts }, row, first, end)
+        }
+        KeptNumbers::Wide(numbers) => {
+            put_kept::<AnyPixels, P, T>(bytes, raster, &AnyPixels { numbers }, row, first, end)
+        }
+    }
+}
+
+/// The same from the raster's numbers, in a loop without a branch: the compiler puts many at a time.
+#[inline(never)]
+fn put_kept<N: PixelNumbers + Copy, P: Pixel, T: ByteOrder>(
+    bytes: &mut [u8],
+    raster: &Raster,
+    numbers: &N,
+    row: u32,
+    first: u32,
+    end: u32,
+)
+    requires numbers { N.numbers numbers.now ≡ raster.now.numbers }
+    requires counted { length raster.now.numbers ≡ raster.now.extent.rows * raster.now.extent.cols }
+    requires pixels { All IsPixel raster.now.numbers }
+    requires spelled { CanSpellAllIn P.signed P.bits raster.now }
+    requires row { row < raster.now.extent.rows }
+    requires end { end ≤ raster.now.extent.cols }
+    requires first { first ≤ end }
+    requires room { (end - first) * P.len ≤ length bytes.old }
+    ensures { take ((end - first) * P.len) bytes.new ≡ cells_bytes (P.spells T.bytes_of) raster.now (cells_from row first (end - first)) }
+{
+    // A local copy: behind a reference its address would be loaded again at each number.
+    let numbers = *numbers;
+    let start = raster.shape().row_start(row) + first as usize;
+    for k in 0..(end - first) as usize {
+        let at = k * P::len();
+        P::put::<T>(&mut bytes[at..], numbers.at(start + k));
     }
 }
 

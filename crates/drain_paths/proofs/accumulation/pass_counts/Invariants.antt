@@ -1,10 +1,11 @@
 -- Counts are passed on, and only this cell may wait for no inflow without having passed on.
-use Rattle.std.proofs.Common.{◌≡◌, ◌≢◌, ◌*◌, length}
+use Rattle.std.proofs.Common.{◌≡◌, ◌≢◌, ◌*◌, ◌<◌, length, get_or}
 use Rattle.drain_grid.specs.declared.cell.Cell.{Cell}
 use Rattle.drain_grid.specs.Unranked.{run_steps}
 use Rattle.drain_grid.specs.Extent.{IsCellOf}
+use Rattle.drain_grid.proofs.Runs.{cell_at}
 use Rattle.drain_paths.specs.declared.flow.Flow.TheVariants.{Void}
-use Rattle.drain_paths.specs.Flows.{flow_at, OfFlows}
+use Rattle.drain_paths.specs.Flows.{OfFlows}
 use Rattle.drain_paths.specs.CellNumbers.{cell_number}
 use Rattle.drain_paths.specs.Inflows.{IsPassing, StaysAway}
 use Rattle.drain_paths.proofs.GridFlows.{grid_of_flows, products_of_flows}
@@ -14,12 +15,12 @@ abbrev pub invariant-walk : goal.invariant-walk
 invariant-walk l = record {
   waits_counted : length l.waits ≡ l.shape.rows * l.shape.cols;
   counts_counted : length l.counts ≡ l.shape.rows * l.shape.cols;
-  inside : IsCellOf l.shape l.here;
-  has_data : flow_at l.shape l.flows l.here ≢ Void;
-  passing : OfFlows l.shape l.flows (λ g ps. IsPassing g ps l.shape l.waits l.counts);
-  start : StaysAway l.shape l.waits l.here l.fn.start;
-  others : (c : Cell) → IsCellOf l.shape c → cell_number l.shape l.fn.waits c ≢ 0 → StaysAway l.shape l.waits l.here c;
+  inside : l.here < l.shape.rows * l.shape.cols;
+  has_data : get_or l.onward.flows.now l.here Void ≢ Void;
+  passing : OfFlows l.shape l.onward.flows.now (λ g ps. IsPassing g ps l.shape l.waits l.counts);
+  start : StaysAway l.shape l.waits (cell_at l.shape l.here) (cell_at l.shape l.fn.start);
+  others : (c : Cell) → IsCellOf l.shape c → cell_number l.shape l.fn.waits c ≢ 0 → StaysAway l.shape l.waits (cell_at l.shape l.here) c;
 }
 
 abbrev pub decreases-walk : goal.decreases-walk
-decreases-walk l = run_steps (grid_of_flows l.shape l.flows) (products_of_flows l.shape l.flows) l.here
+decreases-walk l = run_steps (grid_of_flows l.shape l.onward.flows.now) (products_of_flows l.shape l.onward.flows.now) (cell_at l.shape l.here)

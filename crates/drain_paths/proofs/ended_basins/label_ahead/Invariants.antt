@@ -1,0 +1,19 @@
+-- The cell that the walk reached has data and the label of the start.
+use Rattle.std.proofs.Common.{◌≡◌, ◌≢◌, ◌<◌, ◌*◌, get_or}
+use Rattle.drain_grid.specs.Unranked.{run_steps}
+use Rattle.drain_grid.proofs.Runs.{cell_at}
+use Rattle.drain_paths.specs.declared.flow.Flow.TheVariants.{Void}
+use Rattle.drain_paths.specs.Basins.{basin_label}
+use Rattle.drain_paths.specs.Flows.{OfFlows}
+use Rattle.drain_paths.proofs.GridFlows.{grid_of_flows, products_of_flows}
+use Rattle.drain_paths.proofs.ended_basins.label_ahead.Given as goal
+
+abbrev pub invariant-walk : goal.invariant-walk
+invariant-walk t l = record {
+  inside : l.here < l.shape.rows * l.shape.cols;
+  has_data : get_or (t.O.Onward.flows l.onward) l.here Void ≢ Void;
+  same : OfFlows l.shape (t.O.Onward.flows l.onward) (λ g ps. basin_label g ps (cell_at l.shape l.here) ≡ basin_label g ps (cell_at l.shape l.start));
+}
+
+abbrev pub decreases-walk : goal.decreases-walk
+decreases-walk t l = run_steps (grid_of_flows l.shape (t.O.Onward.flows l.onward)) (products_of_flows l.shape (t.O.Onward.flows l.onward)) (cell_at l.shape l.here)

@@ -1,0 +1,20 @@
+-- Places of cells in row order.
+use Rattle.std.specs.Prelude.{◌≡◌, ℕ, ◌+◌, ◌*◌, ◌<◌, List, Some, slice_index}
+use Rattle.drain_grid.specs.declared.direction.Direction.{Direction}
+use Rattle.drain_grid.specs.Direction.{rows_down, cols_right}
+use Rattle.drain_grid.specs.Extent.{Extent}
+use Rattle.drain_paths.specs.declared.flow.Flow.{Flow}
+use Rattle.drain_paths.specs.Flows.{byte_flow, direction_of}
+use Rattle.drain_paths.specs.Inflows.{lane_of}
+
+-- how much further the next place is if the flow leads on, and one row and one place more
+abbrev pub IsOffset : Extent → Flow → ℕ → Type 0
+IsOffset e f offset = (d : Direction) → direction_of f ≡ Some d → offset ≡ rows_down d * e.cols + cols_right d
+
+-- the same for each flow, at its number
+abbrev pub AreOffsets : Extent → List ℕ → Type 0
+AreOffsets e offsets = (f : Flow) → IsOffset e f (slice_index offsets (lane_of f))
+
+-- the same for each code, at its number
+abbrev pub AreCodeOffsets : Extent → List ℕ → Type 0
+AreCodeOffsets e offsets = (code : ℕ) → code < 256 → IsOffset e (byte_flow code) (slice_index offsets code)

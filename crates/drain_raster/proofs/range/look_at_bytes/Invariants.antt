@@ -1,0 +1,6 @@
+use Rattle.std.proofs.Common.{◌<◌, ℕ, get_or}
+use Rattle.drain_raster.proofs.range.look_at_bytes.Given as goal
+
+-- those that were passed are
+abbrev pub invariant-loop-k : goal.invariant-loop-k
+invariant-loop-k l = (i d : ℕ) → i < l.k → get_or l.fn.numbers i d < 256

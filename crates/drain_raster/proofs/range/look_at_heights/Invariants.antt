@@ -1,0 +1,8 @@
+use Rattle.std.proofs.Common.{take, true}
+use Rattle.std.specs.List.{All}
+use Rattle.drain_raster.specs.Bytes.{CanSpellIn}
+use Rattle.drain_raster.proofs.range.look_at_heights.Given as goal
+
+-- those that were passed are
+abbrev pub invariant-loop-k : goal.invariant-loop-k
+invariant-loop-k l = All (CanSpellIn true 16) (take l.k l.fn.numbers)

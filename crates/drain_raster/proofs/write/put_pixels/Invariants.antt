@@ -1,7 +1,0 @@
-use Rattle.std.proofs.Common.{◌≡◌, ◌-◌, ◌*◌, take}
-use Rattle.drain_raster.specs.Bytes.{cells_bytes, cells_from}
-use Rattle.drain_raster.proofs.write.put_pixels.Given as goal
-
--- the pixels that were passed are at the front
-abbrev pub invariant-loop-col : goal.invariant-loop-col
-invariant-loop-col g l = take ((l.col - l.first) * g.P.Pixel.len) l.bytes ≡ cells_bytes (g.P.Pixel.spells g.T.ByteOrder.bytes_of) l.raster (cells_from l.row l.first (l.col - l.first))
