@@ -22,11 +22,11 @@ use std::alloc::Global;
 /// Whether the judged rasters are right, or the first refusal: some are if they are part of a correct set.
 ///
 /// `side`, `tiles` and `given` are those of an audit, and so are the refusals, of the judged rasters in their order. Of
-/// a raster that isn't judged no number matters; it may be a source of zeros with con's header. If no refusal applies:
+/// a raster that isn't judged no number matters; it may be a source of ones, a byte for each cell. If no refusal applies:
 /// `NoEnd` with the first data cell in row order whose path reaches no code 0, if directions are judged; else `Rejected`
 /// with the first fault of the rules about the judged rasters; of con alone `NotFilled` with the first cell where it is
 /// below the filled surface; else an acceptance. Memory: a byte for each cell, the labels of outlets and three rows; of
-/// con alone the elevations, con and a flood.
+/// con alone the elevations, con and a flood. Of con alone lanes clear no cell where dir is 0, which costs time.
 pub fn audit_part<R: ByteSource>(
     alloc: Global,
     side: u32,
