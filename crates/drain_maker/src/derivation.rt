@@ -24,7 +24,7 @@ use drain_header::Header;
 use drain_hgt::TileInput;
 use drain_hgt::laws::one_name;
 use drain_mosaic::Layout;
-use drain_paths::{CellFlows, CertifyRefusal, Flow, accumulate, count_steps, label_basins};
+use drain_paths::{CellFlows, CertifyRefusal, Flow, accumulate, count_steps, label_ended};
 use drain_verdict::ground::GroundInput;
 use drain_verdict::read_set::read_set;
 use drain_verdict::stages::layout_of;
@@ -58,7 +58,9 @@ pub fn derive_from_flows(
     ensures err { IfErr result (λ why. OfFlows shape flows.now (λ g ps. IsRankRefusal g ps why)) }
 {
     let steps = count_steps(alloc, flows, shape)?;
-    let labels = label_basins(alloc, flows, shape)?;
+    let Ok(labels) = label_ended(alloc, flows, shape) else {
+        return Err(CertifyRefusal::OutOfMemory);
+    };
     let Ok(counts) = accumulate(alloc, flows, shape) else {
         return Err(CertifyRefusal::OutOfMemory);
     };

@@ -22,7 +22,7 @@ use drain_flood::laws::flood_shows_voids;
 use drain_flood::ways::directions;
 use drain_flood::{Flood, HeightList, Surface, fill, ways_on_flats};
 use drain_grid::{Elevation, OutOfMemory, Product, ProductSet, Raster, Shape, Sinks, Spacings};
-use drain_paths::{CertifyRefusal, accumulate, flows_of_codes, label_code_basins};
+use drain_paths::{accumulate, flows_of_codes, label_ended_codes};
 use std::alloc::Global;
 
 /// The raster of a product of heights.
@@ -180,11 +180,7 @@ fn label_ended(alloc: Global, codes: &[u8], shape: Shape) -> Result<Vec<u32>, Ou
     ensures counted { IfOk result (λ labels. vec_len labels ≡ shape.rows * shape.cols) }
     ensures labels { IfOk result (λ labels. OfFlows shape (bytes_flows codes.now) (λ g ps. AreBasinLabels g ps shape labels.items)) }
 {
-    match label_code_basins(alloc, codes, shape) {
-        Ok(labels) => Ok(labels),
-        Err(CertifyRefusal::OutOfMemory) => Err(OutOfMemory),
-        Err(CertifyRefusal::NoEnd(_)) => unreachable!(),
-    }
+    label_ended_codes(alloc, codes, shape)
 }
 
 /// The products of a grid's elevations with these sinks, whose rows are spaced so, with the default no-data numbers. The

@@ -1,17 +1,16 @@
--- Labels, cell by cell: those of outlets, and that a label is the same all along a path.
-use Rattle.std.proofs.Common.{◌≡◌, ◌≢◌, ◌∙◌, ℕ, zero, suc, ◌+◌, ◌*◌, inl, inr, pos, cond, List, sym, ap, subst, arith}
+-- Labels, cell by cell: those of outlets, and of all cells.
+use Rattle.std.proofs.Common.{◌≡◌, ◌≢◌, ◌∙◌, ℕ, ◌+◌, ◌*◌, inl, inr, pos, cond, List, sym, ap, subst, arith}
 use Rattle.std.proofs.lemmas.Bool.{cases_order}
 use Rattle.drain_grid.specs.declared.cell.Cell.{Cell}
 use Rattle.drain_grid.specs.Extent.{index_of, Extent}
 use Rattle.drain_grid.specs.Grid.{Grid, Products, IsInside, HasData}
-use Rattle.drain_grid.specs.Run.{run_end, RunEnds}
-use Rattle.drain_grid.proofs.Runs.{ended-run_end, index_of-below, run_end-zero}
+use Rattle.drain_grid.specs.Run.{run_end}
+use Rattle.drain_grid.proofs.Runs.{index_of-below, run_end-zero}
 use Rattle.drain_grid.proofs.Lowered.{same_or_not}
-use Rattle.drain_grid.proofs.Walks.{Leads, EndsAfter-zero}
+use Rattle.drain_grid.proofs.Walks.{EndsAfter-zero}
 use Rattle.drain_grid.proofs.Alike.{in_grid, same_index}
 use Rattle.drain_paths.proofs.SameRuns.{last_data}
-use Rattle.drain_paths.proofs.Shorter.{RunEnds-walk}
-use Rattle.drain_paths.specs.CellNumbers.{cell_number, IsPutAt, IsNumberBehind, AreNumbersSoFar, AreNumbers}
+use Rattle.drain_paths.specs.CellNumbers.{cell_number, IsPutAt, AreNumbersSoFar, AreNumbers}
 use Rattle.drain_paths.specs.Basins.{ends_before, end_number, basin_label, AreEndLabels, AreBasinLabels}
 use Rattle.drain_paths.proofs.EndCounts.{ends_before-none, ends_before-more, end_number-some, end_number-one, is_end_yes, is_end_no}
 
@@ -99,18 +98,6 @@ AreNumbersSoFar-ends g ps e ends labels are = record {
       let some = end_number-some g ps c here is_zero in
       absurd (omega (arith, number, some, none)));
 }
-
--- a run ends where that of each cell further on ends
-leads_end : (g : Grid) (ps : Products) (k : ℕ) (c d : Cell) → Leads g ps k c d → RunEnds g ps c → run_end g ps c ≡ run_end g ps d
-leads_end g ps zero c d same ends = ap (run_end g ps) same
-leads_end g ps (suc k) c d way ends =
-    let onward = ended-run_end g ps c way.0 ends way.1 in
-    onward ∙ leads_end g ps k way.0 d way.2 (sym (ap ps.dir onward) ∙ ends)
-
--- so its label is that of a cell further on
-pub label_behind : (label : ℕ) → label ≢ 0 → (steps : ℕ) → IsNumberBehind 0 basin_label label steps label
-label_behind label some steps g ps c d few walk here there =
-    (some, there.is ∙ ap (end_number g ps) (sym (leads_end g ps steps c d walk.leads (RunEnds-walk g ps steps c d walk there.ends))))
 
 -- labels of all data cells
 pub AreBasinLabels-all : (g : Grid) (ps : Products) (e : Extent) (labels : List ℕ) → AreNumbers g ps e 0 basin_label labels → AreBasinLabels g ps e labels

@@ -6,7 +6,6 @@ pub mod accumulation;
 pub mod basins;
 pub mod cell_flows;
 mod cell_numbers;
-pub mod ended_basins;
 pub mod endless_path;
 pub mod flow;
 pub mod laws;
@@ -15,9 +14,8 @@ pub mod walk;
 mod ways;
 
 pub use accumulation::accumulate;
-pub use basins::{label_basins, label_code_basins};
+pub use basins::{label_ended, label_ended_codes};
 pub use cell_flows::{CellFlows, flows_of_rasters};
-pub use ended_basins::{label_ended, label_ended_codes};
 pub use endless_path::{EndlessPath, LostBy, RING_TOLD};
 pub use flow::{CertifyRefusal, Flow, flows_of_codes};
 pub use walk::{UNKNOWN, count_steps};

@@ -41,17 +41,6 @@ impl Ways for ListedFlows<'_> {
 }
 
 /// The data cell to which the code of a data cell leads, none if it leads to none.
-pub fn next_cell(flows: &[Flow], shape: Shape, cell: Cell) -> Option<Cell>
-    requires counted { length flows.now ≡ shape.rows * shape.cols }
-    requires inside { IsCellOf shape cell }
-    ensures inside { IfSome result (IsCellOf shape) }
-    ensures has_data { IfSome result (λ n. flow_at shape flows.now n ≢ Void) }
-    ensures leads { OfFlows shape flows.now (λ g ps. HasData g cell → next g ps cell ≡ result) }
-{
-    next_of(&ListedFlows { flows }, shape, cell)
-}
-
-/// The same, whatever keeps the flows.
 #[inline(always)]
 pub(crate) fn next_of<W: Ways>(ways: &W, shape: Shape, cell: Cell) -> Option<Cell>
     requires counted { length (W.flows ways.now) ≡ shape.rows * shape.cols }

@@ -3,13 +3,16 @@ use Rattle.drain_grid.specs.Grid.{Pixels}
 use Rattle.drain_maker.proofs.DerivedRasters.{AreDerived-rasters}
 use Rattle.drain_maker.proofs.derivation.derive_from_flows.Goals as goal
 
+pub label_ended-requires-clause-ends : goal.label_ended-requires-clause-ends
+label_ended-requires-clause-ends c = λ g ps are. (c.in_ok-steps.ensures.steps g ps are).ends
+
 pub accumulate-requires-clause-ends : goal.accumulate-requires-clause-ends
-accumulate-requires-clause-ends c = λ g ps are. (c.in_ok-labels.ensures.labels g ps are).ends
+accumulate-requires-clause-ends c = λ g ps are. (c.in_ok-steps.ensures.steps g ps are).ends
 
 pub returns-clause-derived : goal.returns-clause-derived
 returns-clause-derived c = λ g ps are.
-    AreDerived-rasters g ps c.args.shape c.in-Ok.counts.items c.in_ok-labels.labels.items c.in_ok-steps.steps.items c.raster_of_counts.result c.raster_of_counts-2.result
-    c.raster_of_counts-3.result (c.in-Ok.ensures.counts g ps are) (c.in_ok-labels.ensures.labels g ps are) (c.in_ok-steps.ensures.steps g ps are)
+    AreDerived-rasters g ps c.args.shape c.in-Ok-2.counts.items c.in-Ok.labels.items c.in_ok-steps.steps.items c.raster_of_counts.result c.raster_of_counts-2.result
+    c.raster_of_counts-3.result (c.in-Ok-2.ensures.counts g ps are) (c.in-Ok.ensures.labels g ps are) (c.in_ok-steps.ensures.steps g ps are)
     c.raster_of_counts.ensures.is c.raster_of_counts-2.ensures.is c.raster_of_counts-3.ensures.is
 
 pub returns-clause-counts : goal.returns-clause-counts

@@ -1,6 +1,6 @@
 use Rattle.std.proofs.Common.{rules, true}
 use Rattle.drain_raster.specs.Bytes.{CanSpellIn}
-use Rattle.drain_maker.proofs.FileLemmas.{at_each_cell}
+use Rattle.drain_raster.proofs.KeptLemmas.{at_each_cell}
 use Rattle.drain_maker.proofs.products.raster_of_heights.Goals as goal
 
 pub returns-clause-spelled : goal.returns-clause-spelled

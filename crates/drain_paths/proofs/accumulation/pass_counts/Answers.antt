@@ -1,5 +1,4 @@
-use Rattle.std.proofs.Common.{◌≡◌, ◌≢◌, ◌<◌, ◌∙◌, ℕ, get_or, arith, rules, sym, ap, subst}
-use Rattle.drain_grid.specs.Grid.{Grid, Products}
+use Rattle.std.proofs.Common.{◌≡◌, ◌≢◌, ◌<◌, ◌∙◌, get_or, arith, rules, sym, ap, subst}
 use Rattle.drain_grid.proofs.Runs.{cell_at}
 use Rattle.drain_paths.specs.declared.accumulation.TheConstants.{DONE}
 use Rattle.drain_paths.specs.declared.flow.Flow.TheVariants.{Void, Ends}

@@ -1,4 +1,4 @@
-use Rattle.std.proofs.Common.{◌+◌, ◌-◌, ap, arith, get_or, sym}
+use Rattle.std.proofs.Common.{◌+◌, ◌-◌, ap, arith, get_or}
 use Rattle.drain_paths.specs.declared.flow.Flow.TheVariants.{Void}
 use Rattle.drain_paths.specs.Places.{IsOffset}
 use Rattle.drain_paths.proofs.PlacesAhead.{cols_few, few_on, goes_on_to, not_below}

@@ -1,6 +1,6 @@
 use Rattle.std.proofs.Common.{◌∙◌, sym}
 use Rattle.drain_paths.proofs.EndedLabels.{label_there, same_label, shorter_there, unlabelled_on}
-use Rattle.drain_paths.proofs.ended_basins.label_ahead.Goals as goal
+use Rattle.drain_paths.proofs.basins.label_ahead.Goals as goal
 
 pub place_ahead-here-requires-clause-goes_on : goal.place_ahead-here-requires-clause-goes_on
 place_ahead-here-requires-clause-goes_on t c =

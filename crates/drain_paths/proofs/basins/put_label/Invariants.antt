@@ -9,7 +9,7 @@ use Rattle.drain_paths.specs.Basins.{basin_label}
 use Rattle.drain_paths.specs.CellNumbers.{AreNumbersSoFar, cell_number}
 use Rattle.drain_paths.specs.Flows.{OfFlows}
 use Rattle.drain_paths.proofs.GridFlows.{grid_of_flows, products_of_flows}
-use Rattle.drain_paths.proofs.ended_basins.put_label.Given as goal
+use Rattle.drain_paths.proofs.basins.put_label.Given as goal
 
 abbrev pub invariant-walk : goal.invariant-walk
 invariant-walk t l = record {

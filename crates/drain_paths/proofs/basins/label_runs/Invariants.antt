@@ -6,7 +6,7 @@ use Rattle.drain_paths.specs.declared.flow.Flow.TheVariants.{Void}
 use Rattle.drain_paths.specs.Basins.{basin_label}
 use Rattle.drain_paths.specs.CellNumbers.{AreNumbersSoFar, cell_number}
 use Rattle.drain_paths.specs.Flows.{OfFlows, flow_at}
-use Rattle.drain_paths.proofs.ended_basins.label_runs.Given as goal
+use Rattle.drain_paths.proofs.basins.label_runs.Given as goal
 
 abbrev pub invariant-loop-place : goal.invariant-loop-place
 invariant-loop-place t l = record {

@@ -4,7 +4,7 @@ use Rattle.drain_paths.specs.Basins.{basin_label}
 use Rattle.drain_paths.specs.CellNumbers.{AreNumbers, AreNumbersSoFar}
 use Rattle.drain_paths.specs.Flows.{AreFlowsOf}
 use Rattle.drain_paths.proofs.LabelLemmas.{AreBasinLabels-all, AreNumbersSoFar-ends}
-use Rattle.drain_paths.proofs.ended_basins.label_all.Goals as goal
+use Rattle.drain_paths.proofs.basins.label_all.Goals as goal
 
 pub label_runs-requires-clause-so_far : goal.label_runs-requires-clause-so_far
 label_runs-requires-clause-so_far t c = λ g ps are.

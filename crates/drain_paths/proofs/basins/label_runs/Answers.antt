@@ -4,7 +4,7 @@ use Rattle.drain_grid.proofs.Runs.{index_of-below}
 use Rattle.drain_paths.specs.Basins.{basin_label}
 use Rattle.drain_paths.proofs.FlowCells.{flow_of_data}
 use Rattle.drain_paths.proofs.NumbersSoFar.{AreNumbers-all}
-use Rattle.drain_paths.proofs.ended_basins.label_runs.Goals as goal
+use Rattle.drain_paths.proofs.basins.label_runs.Goals as goal
 
 pub returns : goal.returns
 returns t c = λ g ps are.

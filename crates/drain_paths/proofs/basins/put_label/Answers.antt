@@ -5,7 +5,7 @@ use Rattle.drain_paths.specs.CellNumbers.{IsPutAt, cell_number}
 use Rattle.drain_paths.proofs.CellPlaces.{IsPutAt-set, cell_of_place}
 use Rattle.drain_paths.proofs.EndedLabels.{data_there, same_label, shorter_there, unlabelled_on}
 use Rattle.drain_paths.proofs.NumbersSoFar.{AreNumbersSoFar-put, known_put}
-use Rattle.drain_paths.proofs.ended_basins.put_label.Goals as goal
+use Rattle.drain_paths.proofs.basins.put_label.Goals as goal
 
 pub place_ahead-here-requires-clause-goes_on : goal.place_ahead-here-requires-clause-goes_on
 place_ahead-here-requires-clause-goes_on t c =
