@@ -45,7 +45,7 @@ class Elevations:
         (folder / "dem.hdr").write_text("".join(f"{it}\n" for it in lines))
         (folder / "dem.bil").write_bytes(struct.pack(f"{'<' if order == 'I' else '>'}{len(numbers)}{kind}", *numbers))
         self.words = ["--dem", "../in/dem.bil"]
-        self.words += ["--spacing", dice.choice(["30,30", "30.5,17.25", "0.001,9000"])] if dice.random() < 0.3 else []
+        self.spacing = ["--spacing", dice.choice(["30,30", "30.5,17.25", "0.001,9000"])] if dice.random() < 0.3 else []
         data = [cell for cell, number in enumerate(numbers) if number != nodata]
         if data and dice.random() < 0.3:
             listed = sorted(dice.sample(data, min(len(data), 3)))
@@ -89,11 +89,12 @@ def answer_of(program: str, folder: Path, words: list[str]) -> tuple[int, bytes,
     return ran.returncode, ran.stdout, ran.stderr, files
 
 
-def runs_of(dice: random.Random, given: list[str]) -> list[list[str]]:
+def runs_of(dice: random.Random, given: Elevations) -> list[list[str]]:
     """The runs on products."""
-    judged = [*given, "--products", "../in/products"]
-    whole = [["check", *judged], ["audit", *judged], ["explain", *judged, "--map", "map.bil"], ["derive", *judged, "--out", "."]]
-    return [*whole, ["audit", "--only", dice.choice(PARTS), *judged]]
+    products = [*given.words, "--products", "../in/products"]
+    judged = [*products, *given.spacing]
+    judging = [["check"], ["audit"], ["audit", "--only", dice.choice(PARTS)], ["explain", "--map", "map.bil"]]
+    return [*([*it, *judged] for it in judging), ["derive", *products, "--out", "."]]
 
 
 class Comparison:
@@ -118,8 +119,8 @@ class Comparison:
         """Has them make products of one raster, and answer to these and to changed ones."""
         products = scratch / "in/products"
         products.mkdir(parents=True)
-        given = Elevations(dice, scratch / "in").words
-        right = self.run(number, scratch, ["make", *given, "--out", "."])
+        given = Elevations(dice, scratch / "in")
+        right = self.run(number, scratch, ["make", *given.words, *given.spacing, "--out", "."])
         for version in range(1 + CHANGED if right else 0):
             for name, pixels in (changed(dice, right) if version else right).items():
                 (products / name).write_bytes(pixels)

@@ -4,14 +4,14 @@
  * and not for gcc's __builtin_cpu_supports. */
 #include <sys/platform/x86.h>
 
-int drain_main_v2(int, char **, char **);
-int drain_main_v3(int, char **, char **);
+int drain_main_v2(int, char **);
+int drain_main_v3(int, char **);
 
 static int has_v3(void) {
     return CPU_FEATURE_ACTIVE(AVX) && CPU_FEATURE_ACTIVE(AVX2) && CPU_FEATURE_ACTIVE(BMI1) && CPU_FEATURE_ACTIVE(BMI2) &&
            CPU_FEATURE_ACTIVE(F16C) && CPU_FEATURE_ACTIVE(FMA) && CPU_FEATURE_ACTIVE(LZCNT) && CPU_FEATURE_ACTIVE(MOVBE);
 }
 
-int main(int argc, char **argv, char **envp) {
-    return has_v3() ? drain_main_v3(argc, argv, envp) : drain_main_v2(argc, argv, envp);
+int main(int argc, char **argv) {
+    return has_v3() ? drain_main_v3(argc, argv) : drain_main_v2(argc, argv);
 }
