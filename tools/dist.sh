@@ -19,6 +19,7 @@ folder=$(realpath -m -- "$4")
 top=$(cd "$(dirname "$0")/.." && pwd)
 . "$top/tools/release_parts.sh"
 take_program "$program"
+[ "$static" = - ] || take_static "$static" "$1"
 
 name=drain-$version-linux-x86_64
 root=$room/$name
@@ -30,7 +31,6 @@ install -d "$root/share/man/man1"
 "$top/tools/man_page.py" "$top/companion/drain-gis" >"$root/share/man/man1/drain-gis.1"
 
 if [ "$static" != - ]; then
-    take_static "$static" "$1"
     install -m 755 "$room/drain-v3" "$room/drain-static" "$root/bin/"
     install -D -m 644 "$static.o" "$root/share/relink/drain-static.o"
     cat >"$root/share/relink/README" <<'TEXT'
