@@ -1,16 +1,11 @@
 -- From the writes of single files to those of a set.
-use Rattle.std.proofs.Common.{◌≡◌, ◌*◌, ◌^◌, ◌<◌, ℕ, ℤ, pos, List, true, false, map, length, get_or, arith, ◌↔◌, zero, suc, ◌+◌, ◌≤◌, inl, inr, [], ◌∷◌, ◌++◌, slice_index_or, Option, Some, None, Result, Ok, Err, IsErrOf, refl, sym, ap, ◌∙◌, length-append, append_assoc, append-nil}
-use Rattle.std.specs.List.{All}
-use Rattle.std.proofs.lemmas.Int.{ints}
-use Rattle.std.proofs.lemmas.List.Elements.{All-get_or, All-map}
+use Rattle.std.proofs.Common.{◌≡◌, ◌<◌, ℕ, List, true, false, map, length, arith, ◌↔◌, zero, suc, ◌+◌, ◌≤◌, inl, inr, [], ◌∷◌, ◌++◌, slice_index_or, Option, Some, None, Result, Ok, Err, IsErrOf, refl, sym, ap, ◌∙◌, length-append, append_assoc, append-nil}
 use Rattle.drain_grid.specs.declared.cell.Cell.{Cell}
-use Rattle.drain_grid.specs.Extent.{IsCellOf, index_of}
 use Rattle.drain_grid.specs.Grid.{Pixels}
-use Rattle.drain_grid.specs.WholeGrid.{number_at, raster_in}
-use Rattle.drain_grid.proofs.Runs.{index_of-below}
+use Rattle.drain_grid.specs.WholeGrid.{raster_in}
 use Rattle.drain_grid.specs.declared.product_set.ProductSet.{ProductSet}
 use Rattle.drain_grid.specs.declared.set_product.SetProduct.TheVariants.{Con, Dir, Acc, Bas, Rnk}
-use Rattle.drain_raster.specs.Bytes.{CanSpellAllIn, CanSpellIn, CanSpellAll, IsFirstOutOfRange, raster_bytes}
+use Rattle.drain_raster.specs.Bytes.{CanSpellAllIn, CanSpellAll, IsFirstOutOfRange, raster_bytes}
 use Rattle.drain_maker.specs.Made.{AreMadeSpelled, CanBeWritten}
 use Rattle.std.specs.Prelude.{slice_set}
 use Rattle.std.specs.Io.KnownBytes.{Appends}

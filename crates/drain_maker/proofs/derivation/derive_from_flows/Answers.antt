@@ -11,8 +11,8 @@ accumulate-requires-clause-ends c = λ g ps are. (c.in_ok-steps.ensures.steps g 
 
 pub returns-clause-derived : goal.returns-clause-derived
 returns-clause-derived c = λ g ps are.
-    AreDerived-rasters g ps c.args.shape c.in-Ok-2.counts.items c.in-Ok.labels.items c.in_ok-steps.steps.items c.raster_of_counts.result c.raster_of_counts-2.result
-    c.raster_of_counts-3.result (c.in-Ok-2.ensures.counts g ps are) (c.in-Ok.ensures.labels g ps are) (c.in_ok-steps.ensures.steps g ps are)
+    AreDerived-rasters g ps c.args.shape c.in-Ok-accumulate.counts.items c.in-Ok.labels.items c.in_ok-steps.steps.items c.raster_of_counts.result c.raster_of_counts-2.result
+    c.raster_of_counts-3.result (c.in-Ok-accumulate.ensures.counts g ps are) (c.in-Ok.ensures.labels g ps are) (c.in_ok-steps.ensures.steps g ps are)
     c.raster_of_counts.ensures.is c.raster_of_counts-2.ensures.is c.raster_of_counts-3.ensures.is
 
 pub returns-clause-counts : goal.returns-clause-counts
