@@ -1,6 +1,6 @@
 //! The flood of `twin_make`: whole slopes at once, and pools only for cells next to which a lower one was left (Zhou, Sun and Fu 2016).
 
-use crate::{Flood, UNREACHED, back};
+use crate::{Flood, REACHED, UNREACHED};
 use std::mem::take;
 
 /// The cells that wait at each level. A flood takes the levels one after the other.
@@ -53,11 +53,10 @@ fn trace(
         let cell = item as usize;
         let level = found.con[cell];
         let raises = flooded == Some(level);
-        let rank = found.rnk[cell] + 1;
         let mut leaves = false;
-        for (direction, step) in steps.iter().enumerate() {
+        for step in steps {
             let beside = cell.wrapping_add(*step);
-            if found.spl[beside] != UNREACHED {
+            if found.marks[beside] != UNREACHED {
                 continue;
             }
             if found.con[beside] < level {
@@ -67,8 +66,7 @@ fn trace(
                 }
                 found.con[beside] = level;
             }
-            found.spl[beside] = back(direction);
-            found.rnk[beside] = rank;
+            found.marks[beside] = REACHED;
             trail.push(beside as u32);
         }
         if leaves {

@@ -1,13 +1,14 @@
 //! The twin of `drain make`, as one writes it in plain Rust: reads one tile, makes its five products and writes them with their
 //! headers. It tests nothing.
 //!
-//! Its flood has the program's own shape, so both write the same bytes.
+//! Its flood and its ways along flats have the program's own shape, so both write the same bytes.
 //!
 //! Numbers are kept as wide as their pixels. A frame of voids is around the tile, so every cell has eight neighbours.
 //!
 //! Usage: make --side N --out FOLDER TILE
 
 mod headers;
+mod twin_flats;
 mod twin_flood;
 
 use headers::{ACC, BAS, CON, Corner, DIR, Pixels, RNK};
@@ -15,13 +16,15 @@ use std::fs::{File, read, write};
 use std::io::{self, BufWriter, Write};
 use std::path::{Path, PathBuf};
 use std::process::ExitCode;
+use twin_flats::ways_along_flats;
 use twin_flood::spread;
 
 const VOID: i16 = -32768;
 
-/// The code at voids, and that of a cell that the flood has still to reach.
+/// The code at voids, that of a cell that the flood has still to reach, and that of one that it has reached.
 const NO_CODE: u8 = 255;
 const UNREACHED: u8 = 254;
+const REACHED: u8 = 253;
 
 /// The elevations of a tile, with the frame of voids: one row and column more on each side.
 struct Terrain {
@@ -57,11 +60,10 @@ impl Terrain {
     }
 }
 
-/// What the flood finds: conditioned elevations, codes of spill parents, and the steps along these to an open cell.
+/// What the flood finds: conditioned elevations; and which cells it reached, 0 at open ones.
 struct Flood {
     con: Vec<i16>,
-    spl: Vec<u8>,
-    rnk: Vec<u32>,
+    marks: Vec<u8>,
 }
 
 /// Priority-Flood (Barnes, Lehman and Mulla 2014) from the open cells.
@@ -70,15 +72,13 @@ fn flood(terrain: &Terrain) -> Flood {
     let steps = terrain.steps();
     let mut found = Flood {
         con: z.clone(),
-        spl: vec![NO_CODE; z.len()],
-        rnk: vec![u32::MAX; z.len()],
+        marks: vec![NO_CODE; z.len()],
     };
     let mut open = Vec::new();
     for cell in terrain.data_cells() {
-        found.spl[cell] = UNREACHED;
+        found.marks[cell] = UNREACHED;
         if steps.iter().any(|step| z[cell.wrapping_add(*step)] == VOID) {
-            found.spl[cell] = 0;
-            found.rnk[cell] = 0;
+            found.marks[cell] = 0;
             open.push(cell as u32);
         }
     }
@@ -92,8 +92,8 @@ fn back(direction: usize) -> u8 {
     1 << ((direction + 4) % 8)
 }
 
-/// The first of the steepest ways down; on flats and at voids what `spl` says.
-fn directions(side: usize, con: &[i16], spl: &[u8]) -> Vec<u8> {
+/// The first of the steepest ways down; on flats, at open cells and at voids the mark.
+fn directions(side: usize, con: &[i16], marks: &[u8]) -> Vec<u8> {
     let width = side + 2;
     let mut dir = vec![NO_CODE; con.len()];
     for row in 1..=side {
@@ -113,7 +113,7 @@ fn directions(side: usize, con: &[i16], spl: &[u8]) -> Vec<u8> {
                 above[col - 1],
                 above[col + 1],
             ];
-            *code = steepest(here[col], straight, across).unwrap_or(spl[start + col]);
+            *code = steepest(here[col], straight, across).unwrap_or(marks[start + col]);
         }
     }
     dir
@@ -247,8 +247,9 @@ struct Products {
 /// Makes them. It isn't put into its caller, so that a profile separates making from reading and writing.
 #[inline(never)]
 fn products(terrain: &Terrain) -> Products {
-    let Flood { con, spl, rnk } = flood(terrain);
-    let dir = directions(terrain.side, &con, &spl);
+    let Flood { con, marks } = flood(terrain);
+    let mut dir = directions(terrain.side, &con, &marks);
+    let rnk = ways_along_flats(terrain, &con, &mut dir);
     Products {
         acc: accumulation(terrain, &dir),
         bas: labels(terrain, &dir),

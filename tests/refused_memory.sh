@@ -60,7 +60,7 @@ judge() {
         }
         /^(error| *left): .*(OutOfMemory|AllocError|AllocFailed)/ { told = 1 }
         # Without memory for lanes they clear no cell and find no outlet, which is what these tests check.
-        /^ *left: Kept / && test ~ /^(kept_runs|rows_of_bytes|spaced_rows)::/ { told = 1 }
+        /^ *left: Kept / && test ~ /^(con_alone|kept_runs|rows_of_bytes|spaced_rows)::/ { told = 1 }
         /^ *left: false$/ && test == "kept_runs::outlets_beside_a_void" { told = 1 }
         NF { text = text "    " $0 "\n" }
         END {
