@@ -49,7 +49,7 @@ abbrev pub IsDerivation : GroundSet → Result (Unit {0}) DeriveRefusal → Type
 IsDerivation s (Ok done) = IsReadable s × AllFlowsEnd (set_grid s) (set_products s)
 IsDerivation s (Err why) = IsDeriveRefusalIn s why
 
--- a refusal of con's raster, which is dir's, is told of dir
+-- a refusal of con's raster, which is dir's, names dir
 abbrev pub told_of_dir : Refusal → Refusal
 told_of_dir (BadHeader Con fault) = BadHeader Dir fault
 told_of_dir (WrongShape Con) = WrongShape Dir

@@ -79,7 +79,7 @@ fn outcome_for(why: &DeriveRefusal) -> Result<Outcome, Refusal>
     }
 }
 
-/// The refusal, told of dir where it is told of con.
+/// The refusal, which names dir where it named con.
 fn told_of_dir(refusal: Refusal) -> Refusal
     ensures { result ≡ told_of_dir refusal }
 {

@@ -34,7 +34,7 @@ use Rattle.drain_answer.specs.declared.outcome.Status.TheVariants.{Rejected}
 abbrev pub derived_line : Extent → Result (Unit {0}) SetFault → List ℕ
 derived_line = written_line (codes "derived rows=")
 
--- a refusal of con's header, which is dir's, is told of dir
+-- a refusal of con's header, which is dir's, names dir
 abbrev pub told_of_dir : Refusal → Refusal
 told_of_dir (BadHeader Con fault) = BadHeader Dir fault
 told_of_dir (WrongShape Con) = WrongShape Dir

@@ -30,7 +30,7 @@ use Rattle.drain_union.specs.declared.verdict.UnionVerdict.TheVariants as window
 
 -- The line and the status for a report that was written, or couldn't be. The words are this project's own.
 
--- the text of what is handed over of a window
+-- the text of what is reported of a window
 unfoldable pub text_of : WindowReport → List ℕ
 text_of w = report_text (contents_of w)
 

@@ -13,7 +13,7 @@ use Rattle.drain_flood.specs.Laid.{cell_from_1, IsGapFrom1, IsGapIn, IsGapAround
 plus_zero : (n : ℕ) → n + 0 ≡ n
 plus_zero n = omega arith
 
--- three tests that each tell their fact
+-- three tests that each show their fact
 pub one_of : {A B C : Type 0} (r a b c : Bool) → (IsTrue r ↔ (IsTrue a ⊎ (IsTrue b ⊎ IsTrue c))) → (IsTrue a ↔ A) → (IsTrue b ↔ B) → (IsTrue c ↔ C) →
     (IsTrue r ↔ (A ⊎ (B ⊎ C)))
 one_of r a b c told is_a is_b is_c = (

@@ -61,7 +61,7 @@ abbrev pub DemSucceeds : Pixels → List SinkLine → Result ProductSet MakeRefu
 DemSucceeds p sinks (Ok ps) = Unit {0}
 DemSucceeds p sinks (Err refusal) = AreOnDemData p sinks → refusal ≡ OutOfMemory
 
--- the mark of a cell tells whether it has an elevation
+-- the mark of a cell says whether it has an elevation
 pub record IsMarkedBy (p : Pixels) (c : Cell) (mark : ℕ) : Type 0 where
   pub some : (IsSome (dem_elevation p c)) → mark ≡ UNREACHED
   pub none : mark ≡ UNREACHED → IsSome (dem_elevation p c)

@@ -39,7 +39,7 @@ module _ (ws : List WindowReport) (j : WindowReport) (is : IsJoin ws j) (window_
   filled_by_windows : FillPlace SEAM_DEPTH box (map (λ (w : Window). w.place) windows)
   filled_by_windows = subst (FillPlace SEAM_DEPTH box) (sym (window_places window_of ws (λ w has. (judged w has).report.place))) (filled ws j is)
 
-  -- a window's cell is the map's that its report tells
+  -- a window's cell is the map's that its report names
   exact : (w : WindowReport) → Contains ws w → (c : Cell) → IsCellOf w.report.place.extent c → cell_there w.report.place c ≡ in_union w.report.place c
   exact w has c inside =
       let in_box = lies ws j is w has in

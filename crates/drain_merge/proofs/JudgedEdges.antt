@@ -1,4 +1,4 @@
--- The edges of judged rows and columns tell whether a place judges a cell, and whether two places judge one both.
+-- The edges of judged rows and columns show whether a place judges a cell, and whether two places judge one both.
 use Rattle.std.proofs.Common.{◌≡◌, ◌↔◌, ℕ, ◌<◌, max, min, IsTrue, refl, arith}
 use lib.Dec.{ltb}
 use borrow.Author.Tests.{ltb-true}

@@ -1,4 +1,4 @@
--- What is handed over of windows says where they lie, whether the rules hold in them, and what they count.
+-- What is reported of windows says where they lie, whether the rules hold in them, and what they count.
 use Rattle.std.proofs.Common.{◌≡◌, ℕ, ◌+◌, ◌-◌, ◌^◌, ◌<◌, min, zero, suc, ◌⊎◌, inl, inr, Option, Some, None, List, [], ◌∷◌, length, slice_index_or, map, IsTrue, refl, sym, ap, subst, ◌∙◌, arith}
 use Rattle.std.specs.List.{All, AllPairs, Contains, sum_by}
 use Rattle.std.proofs.lemmas.List.{get_or-map, length-map}
@@ -86,7 +86,7 @@ pub holds_inside : (n : NoDataNumbers) (w : Window) (p : Place) (v : UnionVerdic
 holds_inside n w p (Accepted counts) is inside = inside.0
 holds_inside n w p (Rejected fault) is inside = absurd (none_some _ (sym is))
 
--- the cell that a report tells is the union's, where its place ends at numbers of 32 bits
+-- the cell that a report names is the union's, where its place ends at numbers of 32 bits
 pub there_is : (p : Place) (c : Cell) → p.top + p.extent.rows < 2 ^ 32 → p.left + p.extent.cols < 2 ^ 32 → IsCellOf p.extent c → cell_there p c ≡ in_union p c
 there_is p c short_rows short_cols inside =
     let in_row : c.row < p.extent.rows = inside.row in
@@ -127,7 +127,7 @@ some_or_none (v ∷ ws) =
         all w (suc k, below, same) = none w (k, omega (arith, below), same)
     by_first (Rejected fault) is none = inl (v, first_one v ws, subst IsRejected (sym is) tt)
 
--- from what is handed over of windows to the windows, and back
+-- from what is reported of windows to the windows, and back
 pub to_window : (window_of : Report → Window) (ws : List WindowReport) (j : WindowReport) → Contains ws j → Contains (windows_of window_of ws) (window_of j.report)
 to_window window_of ws j has = to_map window_of (reports_of ws) j.report (to_map (λ (x : WindowReport). x.report) ws j has)
 
@@ -158,7 +158,7 @@ module _ (nodata : NoDataNumbers) (ws : List WindowReport) (one : HaveNoData nod
   says_so none j has = (from j has).report.holds.1
       (subst (λ (n : NoDataNumbers). RulesHoldInside n (window_of j.report)) (sym (nodata_is j has)) (hold none (window_of j.report) (to_window window_of ws j has)))
 
-  -- the first fault of windows whose cells are those that their reports tell is that of a window, and no other window has
+  -- the first fault of windows whose cells are those that their reports name is that of a window, and no other window has
   -- one before it
   pub first_inside : (fault : Fault) → IsFirstOfFaults ws (Some fault) →
       ((j : WindowReport) → Contains ws j → (c : Cell) → IsCellOf j.report.place.extent c → cell_there j.report.place c ≡ in_union j.report.place c) →
@@ -172,7 +172,7 @@ module _ (nodata : NoDataNumbers) (ws : List WindowReport) (one : HaveNoData nod
       let there = cell_of j has inside.0 inside.1.judged.inside ∙ inside.2 in
       (w, to_window window_of ws j has, (inside.0, inside.1, there, λ v at. others v at there))
     where
-      -- a cell of a window is the union's cell that its report tells
+      -- a cell of a window is the union's cell that its report names
       cell_of : (j : WindowReport) → Contains ws j → (c : Cell) → IsCellOf (window_of j.report).place.extent c →
           in_union (window_of j.report).place c ≡ cell_there j.report.place c
       cell_of j has c inside =

@@ -101,7 +101,7 @@ module _ (e : Extent) (short_rows : e.rows < 2 ^ 32) (short_cols : e.cols < 2 ^ 
     pub is_correct : IsFirstOfFaults ws None → ShareNoLabel (all_outlets ws) (all_outlets ws) → IsCorrect u ps nodata
     is_correct none none_shares = (correct_by_windows u ps nodata windows are judge_u).1 (hold nodata ws one window_of from none, unshared none none_shares)
 
-    -- a fault among rules of a patch, or among all, tells that products aren't correct
+    -- a fault among rules of a patch, or among all, shows that products aren't correct
     pub not_correct : (IsOwn : Rule → Type 0) (c : Cell) (r : Rule) → ((q : Rule) → IsOwn q → IsAnyRule q) → IsFirstFault (unranked nodata) IsOwn u ps c r → ¬ IsCorrect u ps nodata
     not_correct IsOwn c r any fault correct = fault.fails ((correct_by_rules_alone u ps nodata).0 correct c r fault.inside (any r fault.is_own))
 

@@ -1,4 +1,4 @@
--- What is handed over of a window of a map is so of the window that is counted from another cell.
+-- What is reported of a window of a map is so of the window that is counted from another cell.
 use Rattle.std.proofs.Common.{◌≡◌, inr, List, map, subst, ap, ◌∙◌, ℕ, zero, suc, ◌+◌, ◌-◌, ◌≤◌, ◌^◌, ◌≤ℤ◌, min, fold, [], ◌∷◌, length, slice_index_or, sym, arith}
 use Rattle.drain_union.specs.declared.report.WindowReport.{WindowReport}
 use Rattle.drain_merge.specs.declared.map_merge.UnionBox.{UnionBox}

@@ -106,7 +106,7 @@ IsMapRefusal sinks windows refusal =
 
 -- What the box on a map has to do with the windows there. The laws are this project's own.
 
--- what is handed over of a window of a map is, counted from a cell before it, so of the window counted from there
+-- what is reported of a window of a map is, counted from a cell before it, so of the window counted from there
 abbrev pub JudgedFromMap : Type 0
 JudgedFromMap =
     (origin : Cell) (w : Window) (j : WindowReport) → IsJudgedFrom w j → origin.row ≤ j.report.place.top → origin.col ≤ j.report.place.left →

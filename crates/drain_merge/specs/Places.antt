@@ -10,7 +10,7 @@ use Rattle.drain_union.specs.declared.report.WindowReport.{WindowReport}
 use Rattle.drain_union.specs.Windows.{BothJudgeOne, cell_from, place_from}
 use Rattle.drain_merge.specs.declared.places.Clash.{Clash}
 
--- What the windows of a union hand over. These definitions are this project's own.
+-- What the windows of a union report. These definitions are this project's own.
 
 -- the reports
 abbrev pub reports_of : List WindowReport → List Report
@@ -49,7 +49,7 @@ IsFirstClash places (Some clash) =
     (clash.earlier < clash.later) × (clash.later < length places)
     × ((d : Place) → BothJudgeOne (slice_index_or places clash.earlier d) (slice_index_or places clash.later d))
 
--- What a window hands over, with rows and columns counted from another cell. These definitions are this project's own.
+-- What a window reports, with rows and columns counted from another cell. These definitions are this project's own.
 
 abbrev pub outlet_from : Cell → Outlet → Outlet
 outlet_from origin x = record { label = x.label; cell = cell_from origin x.cell }

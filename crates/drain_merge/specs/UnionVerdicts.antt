@@ -64,12 +64,12 @@ abbrev pub IsVerdictInside : NoDataNumbers → Window → UnionVerdict → Type 
 IsVerdictInside nodata w (Accepted counts) = RulesHoldInside nodata w × AreCountsInside w counts
 IsVerdictInside nodata w (Rejected fault) = IsFirstInside nodata w fault.cell fault.rule
 
--- this is handed over of the window
+-- this is reported of the window
 pub record IsJudgedFrom (w : Window) (j : WindowReport) : Type 0 where
   pub report : IsReportOf SEAM_DEPTH w j.report
   pub verdict : IsVerdictInside j.report.nodata w j.verdict
 
--- what is handed over is so of these windows
+-- what is reported is so of these windows
 abbrev pub AreJudgedFrom : (Report → Window) → List WindowReport → Type 0
 AreJudgedFrom window_of judged = (j : WindowReport) → Contains judged j → IsJudgedFrom (window_of j.report) j
 
@@ -94,7 +94,7 @@ abbrev pub IsTriedWith : Rule → Rule → Type 0
 IsTriedWith SharedLabel = IsAnyRule
 IsTriedWith rule = IsPatchRule
 
--- a rejection tells the first fault of these products
+-- a rejection names the first fault of these products
 abbrev pub TellsFirstFault : NoDataNumbers → Grid → Products → UnionVerdict → Type 0
 TellsFirstFault nodata u ps (Accepted counts) = Unit {0}
 TellsFirstFault nodata u ps (Rejected fault) = IsFirstFault (unranked nodata) (IsTriedWith fault.rule) u ps fault.cell fault.rule
@@ -105,7 +105,7 @@ HasCounts u ps (Accepted counts) = AreUnionCounts u ps counts
 HasCounts u ps (Rejected fault) = Unit {0}
 
 -- unless a window is rejected these are the windows of one union; and of each union of which they are, the products are
--- correct exactly where the verdict accepts, the counts are those of its cells, and the fault that it tells is the first
+-- correct exactly where the verdict accepts, the counts are those of its cells, and the fault that it names is the first
 pub record IsVerdictOn (e : Extent) (nodata : NoDataNumbers) (judged : List WindowReport) (windows : List Window) (v : UnionVerdict) : Type 0 where
   pub one_union : SomeIsRejected judged
       ⊎ ((u : Grid) × (ps : Products) × (u.extent ≡ e) × AreWindowsOf u ps windows)
@@ -113,7 +113,7 @@ pub record IsVerdictOn (e : Extent) (nodata : NoDataNumbers) (judged : List Wind
   pub counts : (u : Grid) (ps : Products) → u.extent ≡ e → AreWindowsOf u ps windows → HasCounts u ps v
   pub first : (u : Grid) (ps : Products) → u.extent ≡ e → AreWindowsOf u ps windows → TellsFirstFault nodata u ps v
 
--- the verdict on what is handed over of windows: these have one set of no-data numbers, unless one is rejected their
+-- the verdict on what is reported of windows: these have one set of no-data numbers, unless one is rejected their
 -- reports can be merged, an acceptance is of accepted windows alone, and the verdict is right on whatever windows the
 -- reports are of
 pub record IsUnionVerdict (e : Extent) (judged : List WindowReport) (v : UnionVerdict) : Type 0 where

@@ -24,7 +24,7 @@ IsCornerRow box places row = (row ≡ judged_top box) ⊎ ((p : Place) × Contai
 abbrev pub IsCornerCol : Place → List Place → ℕ → Type 0
 IsCornerCol box places col = (col ≡ judged_left box) ⊎ ((p : Place) × Contains places p × (col ≡ judged_right p))
 
--- whether places judge each cell that a box judges is told by the cells at crossings of corner rows and corner columns
+-- whether places judge each cell that a box judges is shown by the cells at crossings of corner rows and corner columns
 abbrev pub CornersTellBox : Type 0
 CornersTellBox =
     (box : Place) (places : List Place) →

@@ -1,4 +1,4 @@
-//! Whether places fill a box, told fast where they do.
+//! Whether places fill a box, found fast where they do.
 //!
 //! The box's columns are parted where judged columns of a place end. Places are laid from north to south: each has to
 //! begin, in all parts that it takes, where the ones laid there before end.

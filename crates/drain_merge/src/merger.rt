@@ -145,7 +145,7 @@ pub(crate) fn check_places(
     check_box(alloc, bounds, &places)
 }
 
-/// Refuses places that don't fill the box. Where a fast look doesn't tell that they do, it is searched for what they lack.
+/// Refuses places that don't fill the box. Where a fast look doesn't show that they do, it is searched for what they lack.
 fn check_box(alloc: Global, bounds: &Place, places: &[Place]) -> Result<(), MergeRefusal>
     requires { HasCells bounds.now }
     ensures fill { OnOk result (FillBox bounds.now places.now) }

@@ -1,6 +1,6 @@
 //! Whether windows agree on how far apart the cells of their rows are.
 //!
-//! Windows side by side share rows and hardly a cell, so what they show along their seams doesn't tell. Reports on
+//! Windows side by side share rows and hardly a cell, so what they show along their seams isn't enough. Reports on
 //! different distances can't be merged: no one grid has them all.
 
 ghost use Rattle.std.specs.Prelude.{◌≡◌, ◌↔◌, ◌+◌, ◌<◌, ◌≤◌, ◌^◌, IsTrue, length, ℕ};
@@ -10,7 +10,7 @@ ghost use Rattle.drain_union.specs.Reports.{SpacedAlike, spacing_at};
 
 use drain_grid::Spacing;
 use drain_union::place::end_of;
-use drain_union::{Report, WindowReport, spacing_at};
+use drain_union::{Report, WindowReport, same_spacing, spacing_at};
 
 /// The first window that lists another spacing than an earlier one for a row that both have.
 pub(crate) fn first_other_spacing(windows: &[WindowReport]) -> Option<usize>
@@ -84,11 +84,4 @@ fn rows_to_compare(a: &[Spacing], b: &[Spacing], count: u32) -> u32
     } else {
         count
     }
-}
-
-/// Whether the two are the same.
-fn same_spacing(a: Spacing, b: Spacing) -> bool
-    ensures { IsTrue result ↔ (a ≡ b) }
-{
-    a.width == b.width && a.height == b.height
 }

@@ -66,7 +66,7 @@ pub trait Labels {
     ghost passed: { (g : Grid) (ps : Products) (p q : Cell) (labels : Self) → g.extent.cols ≤ MAX_LENGTH → p.row ≤ MAX_LENGTH → q.row ≤ MAX_LENGTH
         → ((c : Cell) → HasCell (judges labels) c → IsOutletCell g ps c → IsEarlier c p ↔ IsEarlier c q) → are_before g ps p labels → are_before g ps q labels };
 
-    /// Compared labels tell whether SharedLabel holds.
+    /// Compared labels show whether SharedLabel holds.
     ghost tells_shared: { (g : Grid) (ps : Products) (c : Cell) (labels : Self) → IsTrue compares → IsInside g c → are_before g ps c labels
         → is_new labels (values_at g ps c) ↔ SharedLabelHolds g ps c };
 

@@ -63,7 +63,7 @@ shows_row row w =
           ])
     ]
 
--- what is told of each window is told of the list
+-- what holds of each window holds of the list
 pub of_some : (P : Window → Type 0) → ((w : Window) → P w ⊎ ¬ P w) → (windows : List Window) → IsOfSome P windows ⊎ ¬ IsOfSome P windows
 of_some P told [] = inr (λ some. absurd (omega (arith, some.1.1)))
 of_some P told (w ∷ ws) =

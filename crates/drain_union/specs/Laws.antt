@@ -80,7 +80,7 @@ LeastFaultIsFirst =
     ((v : Window) → Contains windows v → RulesHoldInside nodata v ⊎ IsNotBefore nodata v (in_union w.place c) r) →
     IsFirstFault (unranked nodata) IsPatchRule u ps (in_union w.place c) r
 
--- whether places judge each cell of a union of this size is told by the cells at crossings of corner rows and corner
+-- whether places judge each cell of a union of this size is shown by the cells at crossings of corner rows and corner
 -- columns
 abbrev pub CornersTellWhole : Type 0
 CornersTellWhole =

@@ -1,5 +1,5 @@
--- What a run on one window hands over, and when reports can be put together.
--- Source: what each tile of a large raster hands over is its edge (Barnes 2016); these facts are this project's own.
+-- What a run on one window reports, and when reports can be put together.
+-- Source: what each tile of a large raster reports is its edge (Barnes 2016); these facts are this project's own.
 use Rattle.std.specs.Prelude.{pos, ◌≡◌, ◌≢◌, ℕ, ◌-◌, min, ◌<◌, ◌≤ℤ◌, ◌↔◌, Option, Some, None, List, length, slice_index_or, ◌+◌, ◌≤◌, ◌⊎◌, Bool, true, IsTrue, map, false}
 use Rattle.drain_grid.specs.Values.{NoDataNumbers}
 use Rattle.std.specs.List.{Contains, AllAdjacentBelow, AllPairs}

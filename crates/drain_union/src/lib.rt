@@ -12,7 +12,8 @@ pub mod verdict_line;
 
 pub use place::{InnerSides, Place, SEAM_DEPTH};
 pub use report::{
-    AuditNoData, Outlet, Report, Shown, WindowReport, first_shared, sort_by_label, spacing_at,
+    AuditNoData, Outlet, Report, Shown, WindowReport, first_shared, same_spacing, sort_by_label,
+    spacing_at,
 };
 pub use seam_values::SeamValues;
 pub use size::UnionSize;

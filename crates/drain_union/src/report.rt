@@ -2,7 +2,7 @@
 
 ghost use Rattle.std.specs.List.Sorted.{IsPermutation};
 ghost use Rattle.drain_union.specs.Reports.{IsFirstShared, IsSortedByLabel, audited, spacing_at};
-ghost use Rattle.std.specs.Prelude.{◌≡◌};
+ghost use Rattle.std.specs.Prelude.{◌≡◌, ◌↔◌, IsTrue};
 
 use crate::place::Place;
 use crate::seam_values::SeamValues;
@@ -101,6 +101,13 @@ pub fn spacing_at(listed: &[Spacing], row: u32) -> Spacing
         },
         None => Spacing::unit(),
     }
+}
+
+/// Whether two spacings are the same.
+pub fn same_spacing(a: Spacing, b: Spacing) -> bool
+    ensures { IsTrue result ↔ (a ≡ b) }
+{
+    a.width == b.width && a.height == b.height
 }
 
 /// A report on one window: where it lies, how far apart the cells of its rows are (`spacing_at`), the no-data numbers,

@@ -37,7 +37,7 @@ rows_are (Ok rows) spacings is = let same : Ok rows ≡ Ok spacings.listed = ap 
     listed_in (Err bad) = Err bad
 rows_are (Err bad) spacings is = absurd (let no = is in cc)
 
--- a text without a bad line is told by the number of its rows
+-- whether a text without a bad line is refused depends on the number of its rows
 pub text_told : (given : GivenSpacing) (spacings : RowSpacings) (rows : Option ℕ) → spacings_given given ≡ Ok spacings → AreRowsCounted given spacings rows → IsTextTold given None rows
 text_told (same s) spacings rows is counted = counted
 text_told (by_row text) spacings rows is counted =

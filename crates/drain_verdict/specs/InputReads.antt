@@ -59,7 +59,7 @@ pub record RastersHaveRead {R : Type 0} (bytes_left : R → Option (List ℕ)) (
   pub headers : (p : SetProduct) → (of_product lent_then p).header ≡ (of_product lent p).header
 
 -- calls for all of them, from one state to the other: a device that failed for good ended the last. What a ground's reader
--- has read is told by `has_read`
+-- has read is said by `has_read`
 pub record InputsHaveRead {M X R : Type 0} (has_read : M × List X → M × List X → Bool → Type 0) (bytes_left : R → Option (List ℕ)) (counts : R → FaultCounts) (start now : Reading M X R) (told : Option Refusal) : Type 0 where
   pub elevations_failed : Bool
   pub product_failed : SetProduct → Bool

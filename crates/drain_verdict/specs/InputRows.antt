@@ -22,7 +22,7 @@ pub record IsRasterBegun (h : Fields) (raster : RasterRows) : Type 0 where
   pub going : raster.progress ≡ Going
   pub patience_is : raster.patience ≡ full_patience
 
--- the first row of each is to come; of a ground's reader `Begun` tells it
+-- the first row of each is to come; of a ground's reader `Begun` says it
 pub record AreBegun {R M : Type 0} (Begun : M → Type 0) (hs : PerProduct Fields) (rows : InputRows R M) : Type 0 where
   pub elevations : Begun rows.elevations
   pub bounds : (p : SetProduct) → AreWithinBounds (of_product hs p)

@@ -44,7 +44,7 @@ pub record IsNextRow (raster : RasterRows) (known : Option (List ℕ)) (start : 
   pub after : IsAfterTold raster known start (n + 1)
   pub out_is : out ≡ nth_row n start
 
--- this number of rows of all was requested; of a ground's reader `after` tells it
+-- this number of rows of all was requested; of a ground's reader `after` says it
 pub record IsAfter {M X R : Type 0} (after : M → List X → GroundToGive → ℕ → Type 0) (bytes_left : R → Option (List ℕ)) (rows : InputRows R M) (inputs : List X) (ps : Products R) (t : ToGive) (n : ℕ) : Type 0 where
   pub elevations : after rows.elevations inputs t.elevations n
   pub product : (p : SetProduct) → IsAfterTold (of_product rows.rasters p) (bytes_left (of_product ps p).body) (t.product p) n

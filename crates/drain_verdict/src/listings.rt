@@ -1,6 +1,6 @@
 //! What is listed beside the rasters: sinks, and how far apart the cells of each row are; and why the lists are refused.
 //!
-//! A text with a bad line is refused only after the last row, so that earlier refusals are told first. During the walk it
+//! A text with a bad line is refused only after the last row, so that earlier refusals come first. During the walk it
 //! lists no sink, or unit spacing.
 
 ghost use Rattle.std.specs.Prelude.{◌≡◌, ◌≢◌, Err, IfOk, IfSome, Some};

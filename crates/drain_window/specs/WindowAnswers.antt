@@ -45,12 +45,12 @@ pub record IsAnswerOn (nodata : NoDataNumbers) (origin : Cell) (p : Place) (g : 
   pub report : IsReportOf SEAM_DEPTH (window_at origin p g ps) r
   pub verdict : IsJudgedVerdict nodata origin p g ps v
 
--- what is handed over names the tiles of the inputs
+-- what is reported names the tiles of the inputs
 pub record IsOfTiles (i : Inputs) (a : WindowReport) : Type 0 where
   pub grid : a.grid ≡ Tiles i.side
   pub tiles : a.tiles.items ≡ i.corners
 
--- the verdict and the report are handed over with the side and the tiles of this mosaic, unless memory runs out
+-- the verdict and the report come with the side and the tiles of this mosaic, unless memory runs out
 abbrev pub IsWithTiles : Tiling → UnionVerdict → Report → Result WindowReport WindowRefusal → Type 0
 IsWithTiles t v r (Ok a) = (a.grid ≡ Tiles t.side) × (a.tiles.items ≡ t.corners) × (a.verdict ≡ v) × (a.report ≡ r)
 IsWithTiles t v r (Err refusal) = refusal ≡ OfInputs OutOfMemory
@@ -92,7 +92,7 @@ IsWindowIn origin p s (Ok a) = IsWithin origin p s × IsPlacedAnswer origin p s 
 IsWindowIn origin p s (Err (OfInputs refusal)) = IsRefusalIn s refusal
 IsWindowIn origin p s (Err OutsideMosaic) = ¬ IsWithin origin p s
 
--- the same of what is handed over
+-- the same of what is reported
 abbrev pub verdict_and_report : Result WindowReport WindowRefusal → Result (UnionVerdict × Report) WindowRefusal
 verdict_and_report (Ok a) = Ok (a.verdict, a.report)
 verdict_and_report (Err refusal) = Err refusal
@@ -108,7 +108,7 @@ pub record IsPartOf (at : Cell) (place : HeaderPlace) (d : DemPart) : Type 0 whe
   pub xdim : value_of d.xdim ≡ place.xdim
   pub ydim : value_of d.ydim ≡ place.ydim
 
--- what is handed over names the part that is the input, and no tiles
+-- what is reported names the part that is the input, and no tiles
 abbrev pub IsOfDem : {R : Type 0} → Cell → List (RasterInput R) → WindowReport → Type 0
 IsOfDem at dem a = (h : Fields) × IsDemInput h dem × ((d : DemPart) × IsPartOf at h.place d × (a.grid ≡ Dem d)) × (a.tiles.items ≡ [])
 

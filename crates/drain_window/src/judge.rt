@@ -141,7 +141,7 @@ fn answer_in<R: ByteSource>(
     }
 }
 
-/// What is handed over of a window of this mosaic: the verdict and the report, with the side and the tiles.
+/// What is reported of a window of this mosaic: the verdict and the report, with the side and the tiles.
 fn with_tiles(
     alloc: Global,
     layout: &Layout,

@@ -1,13 +1,13 @@
 //! How far apart the cells of a window's rows are, as its report lists it.
 
-ghost use Rattle.std.specs.Prelude.{◌≡◌, ◌<◌, ◌≤◌, ◌↔◌, ℕ, IfOk, IsTrue};
+ghost use Rattle.std.specs.Prelude.{◌≡◌, ◌<◌, ◌≤◌, ℕ, IfOk};
 ghost use Rattle.drain_grid.specs.Spacing.{spacing_of};
 ghost use Rattle.drain_verdict.specs.Given.{row_spacing, spacing_from};
 ghost use Rattle.drain_window.specs.JudgedRows.{AreRowsOf, IsEnough};
 ghost use Rattle.drain_window.specs.SeamRows.{EndsInRange};
 
 use drain_grid::{OutOfMemory, Spacing, SpacingInput, Spacings, parse_spacings};
-use drain_union::Place;
+use drain_union::{Place, same_spacing};
 use std::alloc::Global;
 
 /// The spacing of the rows of the window at this place of a mosaic. A text by row that isn't one, which was refused
@@ -58,11 +58,4 @@ fn rows_to_list(spacings: &Spacings, place: &Place) -> u32
         }
     }
     rows
-}
-
-/// Whether the two are the same.
-fn same_spacing(a: Spacing, b: Spacing) -> bool
-    ensures { IsTrue result ↔ (a ≡ b) }
-{
-    a.width == b.width && a.height == b.height
 }

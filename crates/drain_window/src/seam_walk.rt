@@ -129,7 +129,7 @@ fn note_seams<R: PatchRow>(
     Ok(())
 }
 
-/// A column from one on, at most `end`, before which no cell of the row lies on a seam from there on.
+/// A column to go on from, at most `end`: the cells of the row from `col` up to it lie on no seam.
 fn seam_from(place: &Place, row: u32, col: u32, end: u32) -> u32
     requires { col ≤ end }
     ensures forward { col ≤ result }

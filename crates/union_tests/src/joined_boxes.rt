@@ -102,7 +102,7 @@ seam 3 2 5 0 5 1 7 1
 end
 ";
 
-/// Two windows whose outlets have one label, which the last merge tells. They are of parts of a raster.
+/// Two windows whose outlets have one label, which the last merge finds. They are of parts of a raster.
 const SHARED: &str = "drain-window-report 4
 dem 1 2 500075 0 -10010 0 30 0 20 0
 window 1 0 3 4 1 0 0 0

@@ -93,7 +93,7 @@ static REFUSALS: [Tree; 9] = [
     ),
 ];
 
-/// A join tells cells of the map: those of the union where it begins at the map's first one.
+/// A join names cells of the map: those of the union where it begins at the map's first one.
 #[test]
 fn trees_without_a_verdict(rt: HostRuntime) -> Result<(), Fail> {
     for tree in &REFUSALS {

@@ -14,7 +14,7 @@ pub const SIZE: UnionSize = UnionSize { rows: 4, cols: 4 };
 /// The line of its four windows as they are below.
 pub const WHOLE: &str = "accepted rows=4 cols=4 data=16 raised=4 outlets=4";
 
-/// What a window hands over, in rows and columns of the union.
+/// What a window reports, in rows and columns of the union.
 #[derive(Clone, Copy)]
 pub struct Window {
     /// The grid whose rows and columns count.

@@ -1,4 +1,4 @@
-//! What is handed over of a window. Its cells are those of a map that begins at 90 degrees north and 180 degrees west.
+//! What is reported of a window. Its cells are those of a map that begins at 90 degrees north and 180 degrees west.
 
 use crate::agree::same;
 use crate::window_inputs::{Inputs, LEVEL_TILES, WITH_NODATA, right_slope};

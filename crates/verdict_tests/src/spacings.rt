@@ -111,7 +111,7 @@ fn peak(southeast: bool) -> Example {
     }
 }
 
-/// Fails the test if a check or an audit tells another line.
+/// Fails the test if a check or an audit prints another line.
 fn both_tell(
     rt: &impl Abort,
     alloc: Global,

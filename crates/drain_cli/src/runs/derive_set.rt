@@ -131,7 +131,7 @@ fn write_at(
 /// prints why and returns the exit status: 1 for `rejected NoEnd`, 2 for a refusal, 3 for `failed OutOfMemory` and
 /// `failed ReadFailed`, and if the line can't be written.
 ///
-/// Of the products only dir matters; a refusal of con's header is told of dir's, since con is to have the same header.
+/// Of the products only dir matters; a refusal of con's header names dir's, since con is to have the same header.
 pub fn derive_set<R: ByteSource, W: ByteSink>(
     alloc: Global,
     side: u32,
@@ -197,7 +197,7 @@ fn no_end_line(row: u32, col: u32) -> Line
     audit_report(&answer)
 }
 
-/// The refusal, told of dir where it is told of con.
+/// The refusal, which names dir where it named con.
 fn told_of_dir(refusal: Refusal) -> Refusal
     ensures { result ≡ told_of_dir refusal }
 {

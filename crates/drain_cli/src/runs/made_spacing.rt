@@ -1,6 +1,6 @@
 //! How far apart cells are where products are made, from what is given; and why that is refused.
 //!
-//! As a check does, `make` tells of a bad text of widths after all else: until then cells are square.
+//! As a check does, `make` reports a bad text of widths after all else: until then cells are square.
 
 ghost use Rattle.std.specs.Prelude.{◌≡◌, IfOk, IfErr, IfSome, None};
 ghost use Rattle.drain_cli.specs.MadeSets.{IsNoSpacing, no_spacing_line, no_spacing_status};

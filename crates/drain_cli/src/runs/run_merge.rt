@@ -28,7 +28,7 @@ use drain_union::WindowReport;
 use std::alloc::Global;
 
 /// Reads the reports at these paths, one file open at a time, and the union's list of sinks, prints the line of the
-/// verdict and returns the exit status; or writes the report of the windows' box, if one is asked for.
+/// verdict and returns the exit status; or writes the report of the windows' box, if that is requested.
 pub fn merge_files(rt: &HostRuntime, args: &MergeArgs<'_>, out: &mut impl ByteSink) -> u8 {
     if let Some(path) = args.report {
         return join_files(rt, args.reports.as_slice(), path, out);
