@@ -1,77 +1,120 @@
-//! The flood of `twin_make`: whole slopes at once, and pools only for cells next to which a lower one was left (Zhou, Sun and Fu 2016).
+//! The flood of `twin_make`: whole slopes at once, and levels only for cells next to which a lower one was left (Zhou, Sun and
+//! Fu 2016). Heights alone don't depend on the order, so the cell reached last goes first: what is touched lies side by side.
 
-use crate::{Flood, REACHED, UNREACHED};
+use crate::twin_frame::{Frame, VOID};
 use std::mem::take;
 
-/// The cells that wait at each level. A flood takes the levels one after the other.
-struct LevelPools(Vec<Vec<u32>>);
+/// The marks of a cell that the flood has reached, one that it has still to reach, and a void.
+const REACHED: u8 = 0;
+const UNREACHED: u8 = 128;
+const GAP: u8 = 1;
 
-fn place_of(level: i16) -> usize {
-    (i32::from(level) - i32::from(i16::MIN)) as usize
+/// The heights, raised where the flood has reached them; the cells to look around, and those next to which it left a lower one;
+/// and at each level the cells that wait for it.
+struct Flood {
+    frame: Frame,
+    steps: [usize; 32],
+    heights: Vec<u16>,
+    marks: Vec<u8>,
+    trail: Vec<u32>,
+    left: Vec<u32>,
+    waiting: Vec<Vec<u32>>,
 }
 
-impl LevelPools {
-    fn new() -> LevelPools {
-        LevelPools(vec![Vec::new(); place_of(i16::MAX) + 1])
+/// Fills what doesn't drain. Returns the heights and the memory of the marks.
+pub fn flood(frame: Frame, heights: Vec<u16>) -> (Vec<u16>, Vec<u8>) {
+    let marks = marks(frame, &heights);
+    let is_open = |&(_, &mark): &(u32, &u8)| mark == REACHED;
+    let mut flood = Flood {
+        frame,
+        steps: steps(frame),
+        heights,
+        trail: (0..)
+            .zip(&marks)
+            .filter(is_open)
+            .map(|(cell, _)| cell)
+            .collect(),
+        marks,
+        left: Vec::new(),
+        waiting: vec![Vec::new(); usize::from(VOID)],
+    };
+    flood.trace(None);
+    for level in 0..VOID {
+        // Each cell left next to these is raised to the level, so none comes to wait for it any more.
+        flood.trail = take(&mut flood.waiting[usize::from(level)]);
+        flood.trace(Some(level));
     }
-
-    fn push(&mut self, level: i16, cell: u32) {
-        self.0[place_of(level)].push(cell);
-    }
-
-    /// The cells of a level, which has none then.
-    fn take(&mut self, level: i16) -> Vec<u32> {
-        take(&mut self.0[place_of(level)])
-    }
+    (flood.heights, flood.marks)
 }
 
-/// Reaches all cells, from the open ones on.
-pub fn spread(found: &mut Flood, open: Vec<u32>, steps: &[usize; 8]) {
-    let mut pools = LevelPools::new();
-    let mut trail = open;
-    trace(found, &mut pools, &mut trail, None, steps);
-    for level in i16::MIN..=i16::MAX {
-        // Each cell left next to these is raised to the level, so no cell is put into its pool any more.
-        for cell in pools.take(level) {
-            trail.push(cell);
-            trace(found, &mut pools, &mut trail, Some(level), steps);
+/// The marks before the flood, which has reached the open cells: those beside a void.
+fn marks(frame: Frame, heights: &[u16]) -> Vec<u8> {
+    let mut marks = vec![GAP; heights.len()];
+    for row in 1..=frame.side {
+        let (here, around) = frame.around(row, heights);
+        for (cell, mark) in marks[frame.cells(row)].iter_mut().enumerate() {
+            let highest = around
+                .iter()
+                .fold(0, |highest, beside| beside[cell].max(highest));
+            let mark_of_data = if highest == VOID { REACHED } else { UNREACHED };
+            *mark = if here[cell] == VOID {
+                GAP
+            } else {
+                mark_of_data
+            };
         }
     }
+    marks
 }
 
-/// Spreads over all that isn't lower, in rings. If the flood is at a cell's level, lower cells next to it are raised.
-fn trace(
-    found: &mut Flood,
-    pools: &mut LevelPools,
-    trail: &mut Vec<u32>,
-    flooded: Option<i16>,
-    steps: &[usize; 8],
-) {
-    let mut turn = 0;
-    while let Some(&item) = trail.get(turn) {
-        turn += 1;
-        let cell = item as usize;
-        let level = found.con[cell];
-        let raises = flooded == Some(level);
-        let mut leaves = false;
-        for step in steps {
-            let beside = cell.wrapping_add(*step);
-            if found.marks[beside] != UNREACHED {
-                continue;
-            }
-            if found.con[beside] < level {
-                if !raises {
-                    leaves = true;
-                    continue;
+/// How far a neighbour lies after a cell, by its bit in `Flood::around`.
+fn steps(frame: Frame) -> [usize; 32] {
+    std::array::from_fn(|bit| {
+        let (column, row) = (bit / 8, bit % 8);
+        (row * frame.width() + column).wrapping_sub(frame.width() + 1)
+    })
+}
+
+impl Flood {
+    /// A bit for each neighbour that the flood has still to reach: 8 for each column, of which the first 3 stand for the rows.
+    #[inline(always)]
+    fn around(&self, cell: usize) -> u32 {
+        let row = |start: usize| u32::from_le_bytes(*self.marks[start..].first_chunk().unwrap());
+        let width = self.frame.width();
+        (row(cell - width - 1) & 0x808080) >> 7
+            | (row(cell - 1) & 0x800080) >> 6
+            | (row(cell + width - 1) & 0x808080) >> 5
+    }
+
+    /// Spreads over all that isn't lower. If the flood is at a cell's level, lower cells next to it are raised.
+    #[inline(always)]
+    fn trace(&mut self, level: Option<u16>) {
+        while let Some(item) = self.trail.pop() {
+            let cell = item as usize;
+            let mut around = self.around(cell);
+            let height = self.heights[cell];
+            let mut leaves = false;
+            while around != 0 {
+                let beside = cell.wrapping_add(self.steps[around.trailing_zeros() as usize & 31]);
+                around &= around - 1;
+                if self.heights[beside] < height {
+                    if level != Some(height) {
+                        leaves = true;
+                        continue;
+                    }
+                    self.heights[beside] = height;
                 }
-                found.con[beside] = level;
+                self.marks[beside] = REACHED;
+                self.trail.push(beside as u32);
             }
-            found.marks[beside] = REACHED;
-            trail.push(beside as u32);
+            if leaves {
+                self.left.push(item);
+            }
         }
-        if leaves {
-            pools.push(level, item);
+        for cell in take(&mut self.left) {
+            if self.around(cell as usize) != 0 {
+                self.waiting[usize::from(self.heights[cell as usize])].push(cell);
+            }
         }
     }
-    trail.clear();
 }

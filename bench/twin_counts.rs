@@ -1,0 +1,85 @@
+//! Accumulation and labels of `twin_make`.
+
+use crate::twin_frame::Frame;
+use crate::twin_ways::{GAP, OUTLET};
+
+/// Where a count of inflows stands, above a way.
+const INFLOW: u8 = 16;
+const WAY: u8 = INFLOW - 1;
+/// In place of the count, where all is handed on.
+const DONE: u8 = 15 * INFLOW;
+
+/// How far each way leads; none at outlets and voids.
+fn steps(frame: Frame) -> [usize; 16] {
+    let steps = frame.steps();
+    std::array::from_fn(|way| steps.get(way).copied().unwrap_or(0))
+}
+
+/// Puts above each way how many neighbours lead to the cell.
+fn count_inflows(frame: Frame, ways: &mut [u8]) {
+    let mut line = vec![0; frame.side];
+    for row in 1..=frame.side {
+        let (here, around) = frame.around(row, ways);
+        for (cell, found) in line.iter_mut().enumerate() {
+            let leads_here = |direction: usize| {
+                (around[direction][cell] & WAY == (direction as u8 + 4) % 8) as u8
+            };
+            let inflows: u8 = (0..8).map(leads_here).sum();
+            *found = here[cell] + INFLOW * inflows;
+        }
+        ways[frame.cells(row)].copy_from_slice(&line);
+    }
+}
+
+/// How many cells drain through each cell: a cell passes its count on once all that flow into it have.
+pub fn accumulation(frame: Frame, ways: &mut [u8], mut acc: Vec<u32>) -> Vec<u32> {
+    count_inflows(frame, ways);
+    acc.fill(0);
+    let steps = steps(frame);
+    for from in 0..ways.len() {
+        let (mut cell, mut count) = (from, 1);
+        let mut way = ways[from];
+        while way <= OUTLET {
+            ways[cell] = way | DONE;
+            acc[cell] = count;
+            if way == OUTLET {
+                break;
+            }
+            cell = cell.wrapping_add(steps[usize::from(way)]);
+            count += acc[cell];
+            way = ways[cell] - INFLOW;
+            if way > OUTLET {
+                ways[cell] = way;
+                acc[cell] = count;
+            }
+            count += 1;
+        }
+    }
+    acc
+}
+
+/// The number of each cell's outlet, of which the first in row order has 1.
+pub fn labels(frame: Frame, ways: &[u8], mut bas: Vec<u32>) -> Vec<u32> {
+    let mut last = 0;
+    for (label, way) in bas.iter_mut().zip(ways) {
+        let is_outlet = way & WAY == OUTLET;
+        last += u32::from(is_outlet);
+        *label = if is_outlet { last } else { 0 };
+    }
+    let steps = steps(frame);
+    let mut path = Vec::new();
+    for mut cell in 0..ways.len() {
+        if ways[cell] & WAY == GAP {
+            continue;
+        }
+        while bas[cell] == 0 {
+            path.push(cell as u32);
+            cell = cell.wrapping_add(steps[usize::from(ways[cell] & WAY)]);
+        }
+        let label = bas[cell];
+        for cell in path.drain(..) {
+            bas[cell as usize] = label;
+        }
+    }
+    bas
+}

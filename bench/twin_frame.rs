@@ -1,0 +1,49 @@
+//! How the rasters of `twin_make` lie in memory: with a frame of voids, so that every cell has eight neighbours. One void stands
+//! between two rows, behind the one and before the other.
+
+use std::ops::Range;
+
+/// The height of voids, above all others.
+pub const VOID: u16 = u16::MAX;
+
+/// The frame around a tile. Rows and columns of cells begin at 1.
+#[derive(Clone, Copy)]
+pub struct Frame {
+    pub side: usize,
+}
+
+impl Frame {
+    pub fn width(self) -> usize {
+        self.side + 1
+    }
+
+    /// How many places a raster has: two more than its rows, so that four can be read beside the last cell.
+    pub fn places(self) -> usize {
+        self.width() * (self.side + 2) + 2
+    }
+
+    /// The places of the cells of a row.
+    pub fn cells(self, row: usize) -> Range<usize> {
+        let start = row * self.width() + 1;
+        start..start + self.side
+    }
+
+    /// How far the neighbours E SE S SW W NW N NE lie after a cell, the later four before it by wrapping.
+    pub fn steps(self) -> [usize; 8] {
+        let width = self.width();
+        let behind = [1, width + 1, width, width - 1];
+        std::array::from_fn(|direction| match direction {
+            0..4 => behind[direction],
+            _ => behind[direction - 4].wrapping_neg(),
+        })
+    }
+
+    /// The cells of a row, and the neighbours of these in each direction.
+    #[inline(always)]
+    pub fn around<T>(self, row: usize, raster: &[T]) -> (&[T], [&[T]; 8]) {
+        let start = self.cells(row).start;
+        let cells = |start: usize| &raster[start..][..self.side];
+        let around = self.steps().map(|step| cells(start.wrapping_add(step)));
+        (cells(start), around)
+    }
+}
