@@ -19,13 +19,11 @@ fn steps(frame: Frame) -> [usize; 16] {
 fn count_inflows(frame: Frame, ways: &mut [u8]) {
     let mut line = vec![0; frame.side];
     for row in 1..=frame.side {
-        let (here, around) = frame.around(row, ways);
-        for (cell, found) in line.iter_mut().enumerate() {
-            let leads_here = |direction: usize| {
-                (around[direction][cell] & WAY == (direction as u8 + 4) % 8) as u8
-            };
-            let inflows: u8 = (0..8).map(leads_here).sum();
-            *found = here[cell] + INFLOW * inflows;
+        line.copy_from_slice(&ways[frame.cells(row)]);
+        for (direction, step) in (0..8).zip(frame.steps()) {
+            for (way, beside) in line.iter_mut().zip(frame.beside(row, step, ways)) {
+                *way += INFLOW * u8::from(beside & WAY == (direction + 4) % 8);
+            }
         }
         ways[frame.cells(row)].copy_from_slice(&line);
     }

@@ -51,17 +51,18 @@ pub fn flood(frame: Frame, heights: Vec<u16>) -> (Vec<u16>, Vec<u8>) {
 fn marks(frame: Frame, heights: &[u16]) -> Vec<u8> {
     let mut marks = vec![GAP; heights.len()];
     for row in 1..=frame.side {
-        let (here, around) = frame.around(row, heights);
-        for (cell, mark) in marks[frame.cells(row)].iter_mut().enumerate() {
-            let highest = around
-                .iter()
-                .fold(0, |highest, beside| beside[cell].max(highest));
-            let mark_of_data = if highest == VOID { REACHED } else { UNREACHED };
-            *mark = if here[cell] == VOID {
-                GAP
-            } else {
-                mark_of_data
-            };
+        let line = &mut marks[frame.cells(row)];
+        for (mark, height) in line.iter_mut().zip(&heights[frame.cells(row)]) {
+            *mark = if *height == VOID { GAP } else { UNREACHED };
+        }
+        for step in frame.steps() {
+            for (mark, beside) in line.iter_mut().zip(frame.beside(row, step, heights)) {
+                *mark &= if *beside == VOID {
+                    GAP
+                } else {
+                    GAP | UNREACHED
+                };
+            }
         }
     }
     marks

@@ -38,12 +38,10 @@ impl Frame {
         })
     }
 
-    /// The cells of a row, and the neighbours of these in each direction.
+    /// The neighbours of the cells of a row, which lie this far after them.
     #[inline(always)]
-    pub fn around<T>(self, row: usize, raster: &[T]) -> (&[T], [&[T]; 8]) {
-        let start = self.cells(row).start;
-        let cells = |start: usize| &raster[start..][..self.side];
-        let around = self.steps().map(|step| cells(start.wrapping_add(step)));
-        (cells(start), around)
+    pub fn beside<T>(self, row: usize, step: usize, raster: &[T]) -> &[T] {
+        let start = self.cells(row).start.wrapping_add(step);
+        &raster[start..][..self.side]
     }
 }

@@ -23,7 +23,8 @@ pub fn code(way: u8) -> u8 {
 pub fn ways_down(frame: Frame, con: &[u16], mut ways: Vec<u8>) -> Vec<u8> {
     ways.fill(GAP);
     for row in 1..=frame.side {
-        let (here, around) = frame.around(row, con);
+        let here = &con[frame.cells(row)];
+        let around = frame.steps().map(|step| frame.beside(row, step, con));
         let [e, se, s, sw, w, nw, n, ne] = around;
         for (cell, way) in ways[frame.cells(row)].iter_mut().enumerate() {
             let straight = [e[cell], s[cell], w[cell], n[cell]];
@@ -116,25 +117,19 @@ pub fn ways_along_flats(frame: Frame, con: &[u16], ways: &mut [u8]) -> Vec<u32> 
 fn low_edges(frame: Frame, con: &[u16], ways: &mut [u8]) {
     let mut line = vec![0; frame.side];
     for row in 1..=frame.side {
-        let (height, heights) = frame.around(row, con);
-        let (way, ways_around) = frame.around(row, ways);
-        for (cell, found) in line.iter_mut().enumerate() {
-            let mut edge = u16::from(FLAT);
-            for direction in (0..8).rev() {
-                let is_edge = heights[direction][cell] == height[cell]
-                    && ways_around[direction][cell] <= OUTLET;
-                edge = if is_edge {
-                    direction as u16 | u16::from(EDGE)
-                } else {
-                    edge
-                };
+        line.fill(FLAT);
+        for (direction, step) in (0..8).zip(frame.steps()).rev() {
+            let heights = con[frame.cells(row)]
+                .iter()
+                .zip(frame.beside(row, step, con));
+            let ways = frame.beside(row, step, ways);
+            for ((edge, (height, height_beside)), way) in line.iter_mut().zip(heights).zip(ways) {
+                let is_edge = (height == height_beside) & (*way <= OUTLET);
+                *edge = if is_edge { direction | EDGE } else { *edge };
             }
-            *found = if way[cell] == FLAT {
-                edge as u8
-            } else {
-                way[cell]
-            };
         }
-        ways[frame.cells(row)].copy_from_slice(&line);
+        for (way, edge) in ways[frame.cells(row)].iter_mut().zip(&line) {
+            *way = if *way == FLAT { *edge } else { *way };
+        }
     }
 }
