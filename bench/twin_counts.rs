@@ -6,14 +6,8 @@ use crate::twin_ways::{GAP, OUTLET};
 /// Where a count of inflows stands, above a way.
 const INFLOW: u8 = 16;
 const WAY: u8 = INFLOW - 1;
-/// In place of the count, where all is handed on.
+/// In place of the count, where a cell has passed its own on.
 const DONE: u8 = 15 * INFLOW;
-
-/// How far each way leads; none at outlets and voids.
-fn steps(frame: Frame) -> [usize; 16] {
-    let steps = frame.steps();
-    std::array::from_fn(|way| steps.get(way).copied().unwrap_or(0))
-}
 
 /// Puts above each way how many neighbours lead to the cell.
 fn count_inflows(frame: Frame, ways: &mut [u8]) {
@@ -31,26 +25,18 @@ fn count_inflows(frame: Frame, ways: &mut [u8]) {
 
 /// How many cells drain through each cell: a cell passes its count on once all that flow into it have.
 pub fn accumulation(frame: Frame, ways: &mut [u8], mut acc: Vec<u32>) -> Vec<u32> {
+    for (count, way) in acc.iter_mut().zip(&*ways) {
+        *count = u32::from(*way != GAP);
+    }
     count_inflows(frame, ways);
-    acc.fill(0);
-    let steps = steps(frame);
-    for from in 0..ways.len() {
-        let (mut cell, mut count) = (from, 1);
-        let mut way = ways[from];
-        while way <= OUTLET {
-            ways[cell] = way | DONE;
-            acc[cell] = count;
-            if way == OUTLET {
-                break;
-            }
-            cell = cell.wrapping_add(steps[usize::from(way)]);
-            count += acc[cell];
-            way = ways[cell] - INFLOW;
-            if way > OUTLET {
-                ways[cell] = way;
-                acc[cell] = count;
-            }
-            count += 1;
+    let steps = frame.steps();
+    for mut cell in 0..ways.len() {
+        while let direction @ 0..OUTLET = ways[cell] {
+            ways[cell] |= DONE;
+            let next = cell.wrapping_add(steps[usize::from(direction)]);
+            acc[next] += acc[cell];
+            ways[next] -= INFLOW;
+            cell = next;
         }
     }
     acc
@@ -64,7 +50,7 @@ pub fn labels(frame: Frame, ways: &[u8], mut bas: Vec<u32>) -> Vec<u32> {
         last += u32::from(is_outlet);
         *label = if is_outlet { last } else { 0 };
     }
-    let steps = steps(frame);
+    let steps = frame.steps();
     let mut path = Vec::new();
     for mut cell in 0..ways.len() {
         if ways[cell] & WAY == GAP {
@@ -72,7 +58,7 @@ pub fn labels(frame: Frame, ways: &[u8], mut bas: Vec<u32>) -> Vec<u32> {
         }
         while bas[cell] == 0 {
             path.push(cell as u32);
-            cell = cell.wrapping_add(steps[usize::from(ways[cell] & WAY)]);
+            cell = cell.wrapping_add(steps[usize::from(ways[cell] & 7)]);
         }
         let label = bas[cell];
         for cell in path.drain(..) {

@@ -1,53 +1,43 @@
-//! The flood of `twin_make`: whole slopes at once, and levels only for cells next to which a lower one was left (Zhou, Sun and
-//! Fu 2016). Heights alone don't depend on the order, so the cell reached last goes first: what is touched lies side by side.
+//! The flood of `twin_make`: whole slopes at once, and levels only for cells next to which a lower one was left (Zhou,
+//! Sun and Fu 2016). Heights don't depend on the order, so the cell reached last goes first: it lies beside the next ones.
 
 use crate::twin_frame::{Frame, VOID};
 use std::mem::take;
 
-/// The marks of a cell that the flood has reached, one that it has still to reach, and a void.
+/// The marks of a cell that the flood has reached, of one that it has still to reach, and of a void.
 const REACHED: u8 = 0;
 const UNREACHED: u8 = 128;
 const GAP: u8 = 1;
 
-/// The heights, raised where the flood has reached them; the cells to look around, and those next to which it left a lower one;
-/// and at each level the cells that wait for it.
+/// The heights, raised where the flood has reached them, the marks, and the cells that wait at each level.
 struct Flood {
     frame: Frame,
-    steps: [usize; 32],
     heights: Vec<u16>,
     marks: Vec<u8>,
-    trail: Vec<u32>,
-    left: Vec<u32>,
     waiting: Vec<Vec<u32>>,
 }
 
 /// Fills what doesn't drain. Returns the heights and the memory of the marks.
 pub fn flood(frame: Frame, heights: Vec<u16>) -> (Vec<u16>, Vec<u8>) {
     let marks = marks(frame, &heights);
-    let is_open = |&(_, &mark): &(u32, &u8)| mark == REACHED;
+    let reached = (0..).zip(&marks).filter(|(_, mark)| **mark == REACHED);
+    let open = reached.map(|(cell, _)| cell).collect();
     let mut flood = Flood {
         frame,
-        steps: steps(frame),
         heights,
-        trail: (0..)
-            .zip(&marks)
-            .filter(is_open)
-            .map(|(cell, _)| cell)
-            .collect(),
         marks,
-        left: Vec::new(),
         waiting: vec![Vec::new(); usize::from(VOID)],
     };
-    flood.trace(None);
+    flood.trace(open, None);
     for level in 0..VOID {
         // Each cell left next to these is raised to the level, so none comes to wait for it any more.
-        flood.trail = take(&mut flood.waiting[usize::from(level)]);
-        flood.trace(Some(level));
+        let waiting = take(&mut flood.waiting[usize::from(level)]);
+        flood.trace(waiting, Some(level));
     }
     (flood.heights, flood.marks)
 }
 
-/// The marks before the flood, which has reached the open cells: those beside a void.
+/// The marks before the flood, which has reached the open cells alone: those beside a void.
 fn marks(frame: Frame, heights: &[u16]) -> Vec<u8> {
     let mut marks = vec![GAP; heights.len()];
     for row in 1..=frame.side {
@@ -57,64 +47,60 @@ fn marks(frame: Frame, heights: &[u16]) -> Vec<u8> {
         }
         for step in frame.steps() {
             for (mark, beside) in line.iter_mut().zip(frame.beside(row, step, heights)) {
-                *mark &= if *beside == VOID {
-                    GAP
-                } else {
-                    GAP | UNREACHED
-                };
+                *mark &= GAP | UNREACHED * u8::from(*beside != VOID);
             }
         }
     }
     marks
 }
 
-/// How far a neighbour lies after a cell, by its bit in `Flood::around`.
-fn steps(frame: Frame) -> [usize; 32] {
-    std::array::from_fn(|bit| {
-        let (column, row) = (bit / 8, bit % 8);
-        (row * frame.width() + column).wrapping_sub(frame.width() + 1)
-    })
+/// A bit for each unreached neighbour: eight for each column from the west, of which the first three stand for the rows.
+#[inline(always)]
+fn unreached(marks: &[u8], width: usize, cell: usize) -> u32 {
+    let row = |start: usize| u32::from_le_bytes(*marks[start..].first_chunk().unwrap());
+    (row(cell - width - 1) & 0x808080) >> 7
+        | (row(cell - 1) & 0x800080) >> 6
+        | (row(cell + width - 1) & 0x808080) >> 5
+}
+
+/// How far the neighbour of each bit lies after a cell, by wrapping.
+fn steps_of_bits(width: usize) -> [usize; 32] {
+    std::array::from_fn(|bit| (bit % 8 * width + bit / 8).wrapping_sub(width + 1))
 }
 
 impl Flood {
-    /// A bit for each neighbour that the flood has still to reach: 8 for each column, of which the first 3 stand for the rows.
-    #[inline(always)]
-    fn around(&self, cell: usize) -> u32 {
-        let row = |start: usize| u32::from_le_bytes(*self.marks[start..].first_chunk().unwrap());
+    /// Spreads from these cells over all that isn't lower. Where the flood is at a cell's level, lower cells next to it are
+    /// raised.
+    fn trace(&mut self, mut trail: Vec<u32>, level: Option<u16>) {
         let width = self.frame.width();
-        (row(cell - width - 1) & 0x808080) >> 7
-            | (row(cell - 1) & 0x800080) >> 6
-            | (row(cell + width - 1) & 0x808080) >> 5
-    }
-
-    /// Spreads over all that isn't lower. If the flood is at a cell's level, lower cells next to it are raised.
-    #[inline(always)]
-    fn trace(&mut self, level: Option<u16>) {
-        while let Some(item) = self.trail.pop() {
+        let steps = steps_of_bits(width);
+        let (marks, heights) = (&mut self.marks[..], &mut self.heights[..]);
+        let mut left = Vec::new();
+        while let Some(item) = trail.pop() {
             let cell = item as usize;
-            let mut around = self.around(cell);
-            let height = self.heights[cell];
+            let height = heights[cell];
+            let mut bits = unreached(marks, width, cell);
             let mut leaves = false;
-            while around != 0 {
-                let beside = cell.wrapping_add(self.steps[around.trailing_zeros() as usize & 31]);
-                around &= around - 1;
-                if self.heights[beside] < height {
+            while bits != 0 {
+                let beside = cell.wrapping_add(steps[bits.trailing_zeros() as usize % 32]);
+                bits &= bits - 1;
+                if heights[beside] < height {
                     if level != Some(height) {
                         leaves = true;
                         continue;
                     }
-                    self.heights[beside] = height;
+                    heights[beside] = height;
                 }
-                self.marks[beside] = REACHED;
-                self.trail.push(beside as u32);
+                marks[beside] = REACHED;
+                trail.push(beside as u32);
             }
             if leaves {
-                self.left.push(item);
+                left.push(item);
             }
         }
-        for cell in take(&mut self.left) {
-            if self.around(cell as usize) != 0 {
-                self.waiting[usize::from(self.heights[cell as usize])].push(cell);
+        for cell in left {
+            if unreached(marks, width, cell as usize) != 0 {
+                self.waiting[usize::from(heights[cell as usize])].push(cell);
             }
         }
     }
