@@ -1,4 +1,4 @@
-//! Accumulation and labels of `twin_make`.
+//! Accumulation and labels of `twin_make`. Both follow ways, of which each takes one byte.
 
 use crate::twin_frame::Frame;
 use crate::twin_ways::{GAP, OUTLET};
@@ -23,7 +23,7 @@ fn count_inflows(frame: Frame, ways: &mut [u8]) {
     }
 }
 
-/// How many cells drain through each cell: a cell passes its count on once all that flow into it have.
+/// How many cells drain through each cell. A cell passes its count on once all that flow into it have passed on theirs.
 pub fn accumulation(frame: Frame, ways: &mut [u8], mut acc: Vec<u32>) -> Vec<u32> {
     for (count, way) in acc.iter_mut().zip(&*ways) {
         *count = u32::from(*way != GAP);

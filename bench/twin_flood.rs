@@ -1,5 +1,5 @@
 //! The flood of `twin_make`: whole slopes at once, and levels only for cells next to which a lower one was left (Zhou,
-//! Sun and Fu 2016). Heights don't depend on the order, so the cell reached last goes first: it lies beside the next ones.
+//! Sun and Fu 2016). Heights don't depend on the order, so the cell reached last goes first: what it needs is near.
 
 use crate::twin_frame::{Frame, VOID};
 use std::mem::take;
@@ -54,7 +54,7 @@ fn marks(frame: Frame, heights: &[u16]) -> Vec<u8> {
     marks
 }
 
-/// A bit for each unreached neighbour: eight for each column from the west, of which the first three stand for the rows.
+/// A bit for each unreached neighbour. Each column has eight, of which three stand for the rows.
 #[inline(always)]
 fn unreached(marks: &[u8], width: usize, cell: usize) -> u32 {
     let row = |start: usize| u32::from_le_bytes(*marks[start..].first_chunk().unwrap());
@@ -69,8 +69,7 @@ fn steps_of_bits(width: usize) -> [usize; 32] {
 }
 
 impl Flood {
-    /// Spreads from these cells over all that isn't lower. Where the flood is at a cell's level, lower cells next to it are
-    /// raised.
+    /// Spreads from these cells over all that isn't lower. Beside cells at the flood's level it raises what is lower.
     fn trace(&mut self, mut trail: Vec<u32>, level: Option<u16>) {
         let width = self.frame.width();
         let steps = steps_of_bits(width);

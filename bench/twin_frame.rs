@@ -1,5 +1,5 @@
-//! How the rasters of `twin_make` lie in memory: with a frame of voids, so that every cell has eight neighbours. One void stands
-//! between two rows, behind the one and before the other.
+//! How the rasters of `twin_make` lie in memory: in a frame of voids, so that every cell has eight neighbours. The void
+//! behind a row is the one before the next row.
 
 use std::ops::Range;
 
@@ -17,7 +17,7 @@ impl Frame {
         self.side + 1
     }
 
-    /// How many places a raster has: two more than its rows, so that four can be read beside the last cell.
+    /// How many places a raster has: two behind its rows, so that four can be read at once beside the last cell.
     pub fn places(self) -> usize {
         self.width() * (self.side + 2) + 2
     }

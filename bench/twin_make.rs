@@ -1,7 +1,7 @@
-//! The twin of `drain make`, as quick as we can write it in plain Rust: reads one tile, makes its five products and writes them with
-//! their headers. It tests nothing. It gives the ways that the program gives, so both write the same bytes.
+//! The twin of `drain make`, as quick as we can write it in plain Rust: reads one tile, makes its five products and
+//! writes them with their headers. It tests nothing. It chooses ways as the program does, so both write the same bytes.
 //!
-//! A raster leaves for its file as soon as it is made, and the next one takes its memory.
+//! Numbers are as wide as their pixels. Each raster is written as soon as it is made, and the next takes its memory.
 //!
 //! Usage: make --side N --out FOLDER TILE
 
@@ -13,16 +13,15 @@ mod twin_ways;
 
 use headers::{ACC, BAS, CON, Corner, DIR, Pixels, RNK};
 use std::fs::{File, write};
-use std::io::{self, BufReader, Read, Write};
+use std::io::{self, BufReader, BufWriter, Read, Write};
 use std::path::{Path, PathBuf};
 use std::process::ExitCode;
 use twin_frame::{Frame, VOID};
 
-/// About how many bytes are read or written at once.
+/// How many bytes are read or written at once.
 const PART: usize = 1 << 18;
 
-/// A height for a number of metres, and the other way round: one above the lowest number is 0, and the lowest, at voids, is the
-/// greatest height.
+/// The elevation that has the height 0. The number of voids, one lower, becomes the greatest height.
 const LOWEST: u16 = i16::MIN as u16 + 1;
 
 /// Reads the heights of a tile.
@@ -32,12 +31,12 @@ fn heights_of(frame: Frame, tile: &str) -> io::Result<Vec<u16>> {
         return Err(io::Error::other("the tile has another length"));
     }
     let mut file = BufReader::with_capacity(PART, file);
-    let mut line = vec![0; 2 * frame.side];
+    let mut line = vec![[0; 2]; frame.side];
     let mut heights = vec![VOID; frame.places()];
     for row in 1..=frame.side {
-        file.read_exact(&mut line)?;
-        for (height, pair) in heights[frame.cells(row)].iter_mut().zip(line.as_chunks().0) {
-            *height = u16::from_be_bytes(*pair).wrapping_sub(LOWEST);
+        file.read_exact(line.as_flattened_mut())?;
+        for (height, sample) in heights[frame.cells(row)].iter_mut().zip(&line) {
+            *height = u16::from_be_bytes(*sample).wrapping_sub(LOWEST);
         }
     }
     Ok(heights)
@@ -61,21 +60,16 @@ impl Output {
         let side = self.frame.side;
         let path = self.folder.join(pixels.name);
         write(path.with_extension("hdr"), pixels.header(side, self.corner))?;
-        let mut file = File::create(path.with_extension("bil"))?;
-        let mut part = Vec::with_capacity(PART);
+        let file = File::create(path.with_extension("bil"))?;
+        let mut file = BufWriter::with_capacity(PART, file);
+        let mut line = vec![[0; SIZE]; side];
         for row in 1..=side {
-            let start = part.len();
-            part.resize(start + SIZE * side, 0);
-            let pixels = part[start..].as_chunks_mut().0;
-            for (pixel, &number) in pixels.iter_mut().zip(&numbers[self.frame.cells(row)]) {
+            for (pixel, &number) in line.iter_mut().zip(&numbers[self.frame.cells(row)]) {
                 *pixel = bytes_of(number);
             }
-            if row == side || part.len() + SIZE * side > PART {
-                file.write_all(&part)?;
-                part.clear();
-            }
+            file.write_all(line.as_flattened())?;
         }
-        Ok(())
+        file.flush()
     }
 }
 

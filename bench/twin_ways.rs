@@ -1,4 +1,5 @@
-//! The ways of `twin_make`. Loops over a row have no branch, so the compiler takes many cells at once.
+//! The ways of `twin_make`: the first of the steepest down, and along flats from their low edges inwards (Garbrecht and
+//! Martz 1997). Loops along a row have no branch, so the compiler takes many cells at once.
 
 use crate::twin_frame::{Frame, VOID};
 use std::mem::take;
@@ -20,7 +21,7 @@ pub fn code(way: u8) -> u8 {
     }
 }
 
-/// The first of the steepest ways down, where there is one.
+/// The first of the steepest ways down; where there is none, that of an outlet or a flat.
 pub fn ways_down(frame: Frame, con: &[u16], mut ways: Vec<u8>) -> Vec<u8> {
     ways.fill(GAP);
     for row in 1..=frame.side {
@@ -36,7 +37,7 @@ pub fn ways_down(frame: Frame, con: &[u16], mut ways: Vec<u8>) -> Vec<u8> {
     ways
 }
 
-/// The way of a cell of this height between four neighbours straight on and four across: down, or of a level.
+/// The way of a cell of this height between neighbours in the four straight directions and the four across.
 #[inline(always)]
 fn way_down(height: u16, straight: [u16; 4], across: [u16; 4]) -> u8 {
     let [
@@ -70,8 +71,8 @@ fn lowest(heights: [u16; 4]) -> (u16, u16) {
     })
 }
 
-/// Gives each cell of a flat the way to a cell of its height nearer to a low edge. Returns how many steps it is from one; 0
-/// off flats, `u32::MAX` at voids.
+/// Gives each cell of a flat the way to a cell of its height nearer to a low edge. Returns how many steps lead off the
+/// flat: 0 where a cell is on none, `u32::MAX` at voids.
 pub fn ways_along_flats(frame: Frame, con: &[u16], ways: &mut [u8]) -> Vec<u32> {
     low_edges(frame, con, ways);
     let mut rnk = vec![0; ways.len()];
@@ -102,7 +103,7 @@ pub fn ways_along_flats(frame: Frame, con: &[u16], ways: &mut [u8]) -> Vec<u32> 
     rnk
 }
 
-/// Finds the low edges of flats: their cells beside one of the same height that isn't on a flat. They get the first way there.
+/// Finds the low edges of flats, where a cell of the same height off the flat is beside. They get the first way there.
 fn low_edges(frame: Frame, con: &[u16], ways: &mut [u8]) {
     let mut line = vec![0; frame.side];
     for row in 1..=frame.side {
