@@ -40,33 +40,26 @@ pub fn ways_down(frame: Frame, con: &[u16], mut ways: Vec<u8>) -> Vec<u8> {
 /// The way of a cell of this height between neighbours in the four straight directions and the four across.
 #[inline(always)]
 fn way_down(height: u16, straight: [u16; 4], across: [u16; 4]) -> u8 {
-    let [
-        (lowest_straight, first_straight),
-        (lowest_across, first_across),
-    ] = [straight, across].map(lowest);
+    let is_open = straight.contains(&VOID) | across.contains(&VOID);
+    let level = u16::from(if is_open { OUTLET } else { FLAT });
+    let (lowest_straight, straight) = lowest(straight, 0);
+    let (lowest_across, across) = lowest(across, 1);
     let drop = |lowest| u32::from(height.saturating_sub(lowest));
     let (drop_straight, drop_across) = (drop(lowest_straight), drop(lowest_across));
     // Half the one square in place of twice the other, which can be too great for 32 bits.
     let is_straight = drop_straight * drop_straight > (drop_across * drop_across) >> 1;
-    let (straight_way, across_way) = (2 * first_straight, 2 * first_across + 1);
-    let down = if is_straight {
-        straight_way
-    } else {
-        across_way
-    };
-    let is_open = straight.contains(&VOID) | across.contains(&VOID);
-    let level = u16::from(if is_open { OUTLET } else { FLAT });
+    let down = if is_straight { straight } else { across };
     let is_level = lowest_straight.min(lowest_across) >= height;
     let way = if is_level { level } else { down };
     (if height == VOID { u16::from(GAP) } else { way }) as u8
 }
 
-/// The lowest of these heights, and the first place where it is.
+/// The lowest of the heights in each second direction from this one, and the first direction where it is.
 #[inline(always)]
-fn lowest(heights: [u16; 4]) -> (u16, u16) {
-    let places = (0..).zip(heights);
-    places.fold((VOID, 0), |(lowest, first), (place, height)| {
-        let first = if height < lowest { place } else { first };
+fn lowest(heights: [u16; 4], direction: u16) -> (u16, u16) {
+    let beside = (direction..).step_by(2).zip(heights);
+    beside.fold((VOID, direction), |(lowest, first), (direction, height)| {
+        let first = if height < lowest { direction } else { first };
         (lowest.min(height), first)
     })
 }
@@ -109,13 +102,11 @@ fn low_edges(frame: Frame, con: &[u16], ways: &mut [u8]) {
     for row in 1..=frame.side {
         line.fill(FLAT);
         for (direction, step) in (0..8).zip(frame.steps()).rev() {
-            let around = frame
-                .beside(row, step, con)
-                .iter()
-                .zip(frame.beside(row, step, ways));
+            let heights = frame.beside(row, step, con);
+            let beside = heights.iter().zip(frame.beside(row, step, ways));
             let here = line.iter_mut().zip(&con[frame.cells(row)]);
-            for ((edge, height), (other, way)) in here.zip(around) {
-                let is_edge = (height == other) & (*way <= OUTLET);
+            for ((edge, height), (height_beside, way)) in here.zip(beside) {
+                let is_edge = (height == height_beside) & (*way <= OUTLET);
                 *edge = if is_edge { direction + EDGE } else { *edge };
             }
         }
