@@ -35,8 +35,17 @@ fn fault_at(input: &FillInput<'_>, cell: Cell, is_inland: bool) -> Option<Rule>
     if is_inland && keeps_inland(input, cell) {
         None
     } else {
-        fault(&Patch::at(input, cell))
+        patch_fault(input, cell)
     }
+}
+
+/// The same by its patch. It is no part of the loop over cells, so that only a cell that needs a patch pays for one.
+#[inline(never)]
+fn patch_fault(input: &FillInput<'_>, cell: Cell) -> Option<Rule>
+    requires inside { IsInside (parts_grid input.now) cell }
+    ensures least { IsLeastFault IsFillRule (fill_rules (patch_at (parts_grid input.now) (parts_products input.now) cell)) result }
+{
+    fault(&Patch::at(input, cell))
 }
 
 /// Tests rules 4 to 9 at the cells of a row, from west to east.
