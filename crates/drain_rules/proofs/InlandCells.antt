@@ -1,5 +1,5 @@
 -- An inland cell is closed and has all eight neighbours, each at its place; and it keeps the rules if its numbers and theirs show it.
-use Rattle.std.proofs.Common.{◌≡◌, ◌≢◌, ◌∙◌, ◌⊎◌, inl, inr, ℕ, zero, suc, ◌+◌, ◌-◌, ◌*◌, ◌<◌, ◌≤◌, ℤ, pos, ◌≤ℤ◌, ◌<ℤ◌, List, [], ◌∷◌, Some, None, IsSome, IsNone, IsTrue, Option, unwrap_or, refl, sym, ap, subst, arith, is_some, Bool, ◌&&◌, true, false, option_map, if◌then◌else◌}
+use Rattle.std.proofs.Common.{◌≡◌, ◌∙◌, ◌⊎◌, inl, inr, ℕ, ◌+◌, ◌-◌, ◌*◌, ◌<◌, ◌≤◌, ℤ, pos, ◌≤ℤ◌, ◌<ℤ◌, List, Some, None, IsSome, IsNone, IsTrue, unwrap_or, refl, sym, ap, subst, arith, Bool, ◌&&◌, true, false, option_map, if◌then◌else◌}
 use Rattle.std.proofs.Math.Nat.{mul-le-mul_right}
 use Rattle.std.proofs.lemmas.Bool.{cases_order, false≢true}
 use Rattle.std.proofs.lemmas.Int.{ints, clamps}
@@ -9,12 +9,11 @@ use Rattle.drain_grid.specs.declared.cell.Cell.{Cell}
 use Rattle.drain_grid.specs.declared.direction.Direction.{Direction}
 use Rattle.drain_grid.specs.declared.direction.Direction.TheVariants.{East, SouthEast, South, SouthWest, West, NorthWest, North, NorthEast}
 use Rattle.drain_grid.specs.declared.patch.Patch.{Patch}
-use Rattle.drain_grid.specs.declared.rule.Rule.{Rule}
 use Rattle.drain_grid.specs.declared.rule.Rule.TheVariants.{BelowGround, OpenRaised, NoSpill, SpillHeight, SpillRank, NotLeast}
 use Rattle.drain_grid.specs.declared.tile.TheConstants.{VOID}
 use Rattle.drain_grid.specs.Direction.{Names, cols_right, rows_down}
 use Rattle.drain_grid.specs.Extent.{Extent, IsCellOf, index_of, step}
-use Rattle.drain_grid.specs.Grid.{Grid, Products, HasData, height_from, patch_at, values_at}
+use Rattle.drain_grid.specs.Grid.{Grid, Products, height_from, patch_at, values_at}
 use Rattle.drain_grid.specs.Patch.{IsDataNeighbor, IsOpen, height, neighbor}
 use Rattle.drain_grid.specs.PatchRules.{fill_rules}
 use Rattle.drain_grid.specs.Rule.{IsFillRule, IsLeastFault}
@@ -24,7 +23,7 @@ use Rattle.drain_grid.proofs.OpenCells.{IsAtGap, open_without_sinks}
 use Rattle.drain_grid.proofs.Patches.{IsOpen-patch_at, cell_shown, neighbor-patch_at}
 use Rattle.drain_fill.proofs.SpillParents.{of_named_neighbor}
 use Rattle.drain_rules.specs.Fill.{con_at, fill_grid, fill_products, rnk_at, sample_at, spl_at, square}
-use Rattle.drain_rules.specs.Places.{AreWays, HasDataAcross, HasPlacesRound, IsInland, IsNoneLower, place_beside}
+use Rattle.drain_rules.specs.Places.{HasDataAcross, HasPlacesRound, IsInland, IsNoneLower, place_beside}
 
 -- no neighbour is further on than the one in the south-east
 pub furthest : (side : ℕ) (d : Direction) → rows_down d * side + cols_right d ≤ 2 * side + 2

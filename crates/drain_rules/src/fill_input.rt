@@ -111,7 +111,7 @@ impl<'a> FillInput<'a> {
         ensures lies { result ≡ place_beside self.now.shape.rows place direction }
         ensures inside { result < self.now.shape.rows * self.now.shape.rows }
     {
-        let corner = place - self.shape.rows() as usize - 1;
+        let corner = place - self.side() as usize - 1;
         corner + self.way(direction)
     }
 

@@ -1,4 +1,4 @@
-use Rattle.std.proofs.Common.{◌≡◌, ◌≤◌, ◌<◌, ◌+◌, arith}
+use Rattle.std.proofs.Common.{arith}
 use Rattle.drain_rules.proofs.InlandCells.{both_true, data_across, rows_round}
 use Rattle.drain_rules.proofs.fill_inland.has_data_across.Goals as goal
 

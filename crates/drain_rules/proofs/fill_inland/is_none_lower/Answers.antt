@@ -1,6 +1,5 @@
 use Rattle.std.proofs.Common.{◌≡◌, ◌∙◌, ℤ, ◌≤ℤ◌, int_lt, false, w16, to_z, of_z, get_or, ap, arith, below_more}
 use Rattle.std.proofs.lemmas.Int.{ints, to_z-of_z}
-use Rattle.drain_grid.specs.declared.direction.Direction.{Direction}
 use Rattle.drain_grid.specs.declared.direction.Direction.TheVariants.{East}
 use Rattle.drain_grid.specs.Direction.{directions}
 use Rattle.drain_grid.proofs.Neighbors.{of_each}

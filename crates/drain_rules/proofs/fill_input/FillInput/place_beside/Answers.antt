@@ -5,9 +5,9 @@ use Rattle.drain_rules.proofs.fill_input.FillInput.place_beside.Goals as goal
 pub overflow_add-result : goal.overflow_add-result
 overflow_add-result c =
     let most = furthest c.args.self.now.shape.rows c.args.direction in
-    omega (arith, most, c.way.ensures, c.requires.after, c.rows.ensures)
+    omega (arith, most, c.way.ensures, c.requires.after, c.side.ensures)
 
 pub returns-clause-inside : goal.returns-clause-inside
 returns-clause-inside c =
     let most = furthest c.args.self.now.shape.rows c.args.direction in
-    omega (arith, most, c.way.ensures, c.requires.before, c.requires.after, c.rows.ensures)
+    omega (arith, most, c.way.ensures, c.requires.before, c.requires.after, c.side.ensures)
