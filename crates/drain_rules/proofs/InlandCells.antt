@@ -79,6 +79,7 @@ data_across side bytes row col place is above below inside north here south = re
       ];
 }
 
+-- what two tests say that both pass
 pub both_true : (a b : Bool) → IsTrue (a && b) → IsTrue a × IsTrue b
 both_true true true h = (refl, refl)
 both_true true false h = absurd (false≢true h)

@@ -67,7 +67,7 @@ fn ways(side: usize) -> [usize; 8]
 }
 
 impl<'a> FillInput<'a> {
-    ghost use Rattle.std.specs.Prelude.{◌+◌, IsSome};
+    ghost use Rattle.std.specs.Prelude.{◌+◌, ◌↔◌, IsSome};
     ghost use Rattle.drain_grid.specs.Direction.{cols_right, rows_down};
     ghost use Rattle.drain_grid.specs.Extent.{IsCellOf, index_of};
     ghost use Rattle.drain_grid.specs.Grid.{height_from};
@@ -125,7 +125,7 @@ impl<'a> FillInput<'a> {
     /// Whether the cell at a place has data.
     pub(crate) fn has_data(&self, place: usize) -> bool
         requires { place < self.now.shape.rows * self.now.shape.rows }
-        ensures { IsTrue result → IsSome (height_from (sample_at self.now.bytes.now place)) }
+        ensures { IsTrue result ↔ IsSome (height_from (sample_at self.now.bytes.now place)) }
     {
         height_from(self.sample(place)).is_some()
     }

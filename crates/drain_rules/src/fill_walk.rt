@@ -1,4 +1,5 @@
-//! The check of a fill input: rules 4 to 9 at each cell in row order, one patch at a time.
+//! The check of a fill input: rules 4 to 9 at each cell in row order. An inland cell is tested by its numbers in place,
+//! and any other by its patch, as is one that this test doesn't pass.
 
 ghost use Rattle.std.specs.Prelude.{◌<◌, IfOk, IfErr, IsTrue};
 ghost use Rattle.drain_grid.specs.Path.{IsLeastSurface, ShowsSpillLevels};
@@ -25,8 +26,8 @@ pub struct RowFault {
     pub col: u32,
 }
 
-/// The first of rules 4 to 9 that fails at a cell, none if they all hold. A patch is looked at only where the quick test
-/// of an inland cell doesn't show that they do.
+/// The first of rules 4 to 9 that fails at a cell, none if they all hold. A patch is looked at only at a data cell where
+/// the quick test of an inland one doesn't show that they do.
 fn fault_at(input: &FillInput<'_>, cell: Cell, is_inland: bool) -> Option<Rule>
     requires inside { IsInside (parts_grid input.now) cell }
     requires inland { IsTrue is_inland → IsInland (parts_grid input.now) cell }
@@ -34,8 +35,10 @@ fn fault_at(input: &FillInput<'_>, cell: Cell, is_inland: bool) -> Option<Rule>
 {
     if is_inland && keeps_inland(input, cell) {
         None
-    } else {
+    } else if input.has_data(input.place(cell)) {
         patch_fault(input, cell)
+    } else {
+        None
     }
 }
 

@@ -17,4 +17,4 @@ returns c = λ passed.
     data_across side c.args.input.now.bytes.now c.args.row c.args.col c.place-here.result c.place-here.ensures.place
     (omega (arith, c.if-row-eq0.false)) (omega (arith, c.requires, c.if-row-side.false, c.side-side.ensures))
     (omega (arith, c.if-side-col.false, c.side-side.ensures))
-    (rw c.side-side.ensures at (c.has_data.ensures one.0)) (c.has_data-2.ensures one.1) (rw c.side-side.ensures at (c.has_data-3.ensures two.1))
+    (rw c.side-side.ensures at (c.has_data.ensures.0 one.0)) (c.has_data-2.ensures.0 one.1) (rw c.side-side.ensures at (c.has_data-3.ensures.0 two.1))
