@@ -1,5 +1,5 @@
 -- Where all cells are judged, what is found of them is so of the grid.
-use Rattle.std.proofs.Common.{◌≡◌, ℕ, ◌-◌, ◌<◌, ◌≤◌, inl, inr, Bool, true, false, IsTrue, refl, sym, subst, arith}
+use Rattle.std.proofs.Common.{◌≡◌, ℕ, ◌<◌, ◌≤◌, inl, inr, Bool, true, false, IsTrue, refl, sym, subst, arith}
 use Rattle.drain_grid.specs.declared.cell.Cell.{Cell}
 use Rattle.drain_grid.specs.declared.cell.TheConstants.{MAX_LENGTH}
 use Rattle.drain_grid.specs.declared.judged.Rules.{Rules}

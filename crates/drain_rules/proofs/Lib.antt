@@ -4,6 +4,7 @@ pub mod AreaGrids
 pub mod CountBounds
 pub mod Faults
 pub mod GridLemmas
+pub mod InlandCells
 pub mod KeptCells
 pub mod LabelSteps
 pub mod LanedPatches

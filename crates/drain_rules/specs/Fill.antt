@@ -31,11 +31,24 @@ signed_at bytes start place = cast_signed w16 (fill_number_at bytes start 2 plac
 abbrev pub square : ℕ → Extent
 square side = record { rows = side; cols = side }
 
+-- the numbers of the four parts at a place: the sample, the conditioned elevation, the spill parent's code and the rank
+abbrev pub sample_at : List ℕ → ℕ → ℤ
+sample_at bytes place = signed_at bytes 0 place
+
+abbrev pub con_at : ℕ → List ℕ → ℕ → ℤ
+con_at side bytes place = signed_at bytes (2 * (side * side)) place
+
+abbrev pub spl_at : ℕ → List ℕ → ℕ → ℤ
+spl_at side bytes place = pos (fill_number_at bytes (4 * (side * side)) 1 place)
+
+abbrev pub rnk_at : ℕ → List ℕ → ℕ → ℤ
+rnk_at side bytes place = pos (fill_number_at bytes (5 * (side * side)) 4 place)
+
 -- the grid of the first part: two bytes for each cell, no sinks, and square cells
 abbrev pub fill_grid : ℕ → List ℕ → Grid
 fill_grid side bytes = record {
   extent = square side;
-  elevation = λ c. height_from (signed_at bytes 0 (index_of (square side) c));
+  elevation = λ c. height_from (sample_at bytes (index_of (square side) c));
   sink = no_sink;
   spacing = λ row. unit_spacing;
 }
@@ -43,12 +56,12 @@ fill_grid side bytes = record {
 -- the products of the other parts, of two, one and four bytes for each cell; those that are not there are 0
 abbrev pub fill_products : ℕ → List ℕ → Products
 fill_products side bytes = record {
-  con = λ c. signed_at bytes (2 * (side * side)) (index_of (square side) c);
+  con = λ c. con_at side bytes (index_of (square side) c);
   dir = λ c. pos 0;
   acc = λ c. pos 0;
   bas = λ c. pos 0;
-  spl = λ c. pos (fill_number_at bytes (4 * (side * side)) 1 (index_of (square side) c));
-  rnk = λ c. pos (fill_number_at bytes (5 * (side * side)) 4 (index_of (square side) c));
+  spl = λ c. spl_at side bytes (index_of (square side) c);
+  rnk = λ c. rnk_at side bytes (index_of (square side) c);
 }
 
 -- nine bytes for each cell

@@ -4,6 +4,7 @@ pub mod Compared
 pub mod Rows
 pub mod Laws
 pub mod Labels
+pub mod Places
 pub mod Verdicts
 pub mod Walks
 pub mod ThreeRows

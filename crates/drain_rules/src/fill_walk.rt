@@ -1,25 +1,54 @@
-//! The check of a fill input: rules 4 to 9 at each cell in row order, one patch at a time.
+//! The check of a fill input: rules 4 to 9 at each cell in row order. An inland cell is tested by its numbers in place,
+//! and any other by its patch, as is one that this test doesn't pass.
 
-ghost use Rattle.std.specs.Prelude.{◌<◌, IfOk, IfErr};
+ghost use Rattle.std.specs.Prelude.{◌<◌, IfOk, IfErr, IsTrue};
 ghost use Rattle.drain_grid.specs.Path.{IsLeastSurface, ShowsSpillLevels};
 ghost use Rattle.drain_grid.specs.PatchRules.{fill_rules};
-ghost use Rattle.drain_grid.specs.Rule.{IsFillRule};
+ghost use Rattle.drain_grid.specs.Grid.{IsInside, patch_at};
+ghost use Rattle.drain_grid.specs.Rule.{IsFillRule, IsLeastFault};
 ghost use Rattle.drain_rules.specs.Fill.{fill_grid, fill_products, IsFillAnswer, IsFillVerdict, OnAccepted};
 ghost use Rattle.drain_rules.specs.Verdicts.{parts_grid, parts_products};
+ghost use Rattle.drain_rules.specs.Places.{IsInland};
 ghost use Rattle.drain_rules.specs.Rows.{IsRowTally, IsRowFault};
 
+use crate::fill_inland::{has_data_across, keeps_inland};
 use crate::fill_input::{FillInput, fill_length};
 use crate::walk::Tally;
 use drain_fill::fault;
 use drain_grid::laws::least_from_rules;
 use drain_grid::tile::is_side;
-use drain_grid::{Cell, FillCounts, FillRefusal, FillVerdict, Patch, Rule};
+use drain_grid::{Cell, CellSource, FillCounts, FillRefusal, FillVerdict, Patch, Rule};
 
 /// The first of rules 4 to 9 that fails in a row, and where.
 #[derive(Clone, Copy)]
 pub struct RowFault {
     pub rule: Rule,
     pub col: u32,
+}
+
+/// The first of rules 4 to 9 that fails at a cell, none if they all hold. A patch is looked at only at a data cell where
+/// the quick test of an inland one doesn't show that they do.
+fn fault_at(input: &FillInput<'_>, cell: Cell, is_inland: bool) -> Option<Rule>
+    requires inside { IsInside (parts_grid input.now) cell }
+    requires inland { IsTrue is_inland → IsInland (parts_grid input.now) cell }
+    ensures least { IsLeastFault IsFillRule (fill_rules (patch_at (parts_grid input.now) (parts_products input.now) cell)) result }
+{
+    if is_inland && keeps_inland(input, cell) {
+        None
+    } else if input.has_data(input.place(cell)) {
+        patch_fault(input, cell)
+    } else {
+        None
+    }
+}
+
+/// The same by its patch. It is no part of the loop over cells, so that only a cell that needs a patch pays for one.
+#[inline(never)]
+fn patch_fault(input: &FillInput<'_>, cell: Cell) -> Option<Rule>
+    requires inside { IsInside (parts_grid input.now) cell }
+    ensures least { IsLeastFault IsFillRule (fill_rules (patch_at (parts_grid input.now) (parts_products input.now) cell)) result }
+{
+    fault(&Patch::at(input, cell))
 }
 
 /// Tests rules 4 to 9 at the cells of a row, from west to east.
@@ -29,12 +58,17 @@ fn check_fill_row(input: &FillInput<'_>, row: u32) -> Result<Tally, RowFault>
     ensures fault { IfErr result (λ fault. IsRowFault fill_rules IsFillRule (parts_grid input.now) (parts_products input.now) row fault.col fault.rule) }
 {
     let mut tally = Tally::new();
+    let mut west = false;
+    let mut here = has_data_across(input, row, 0);
     for col in 0..input.side() {
-        let patch = Patch::at(input, Cell { row, col });
-        if let Some(rule) = fault(&patch) {
+        let cell = Cell { row, col };
+        let east = has_data_across(input, row, col + 1);
+        if let Some(rule) = fault_at(input, cell, west & here & east) {
             return Err(RowFault { rule, col });
         }
-        tally.add(&patch.here);
+        tally.add(&input.values(cell));
+        west = here;
+        here = east;
     }
     Ok(tally)
 }

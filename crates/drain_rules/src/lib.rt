@@ -8,6 +8,7 @@
 //! to 9; that these make the filled surface is the law `least_from_rules`.
 #![tactic(auto)]
 
+pub mod fill_inland;
 pub mod fill_input;
 pub mod fill_walk;
 pub mod labels;

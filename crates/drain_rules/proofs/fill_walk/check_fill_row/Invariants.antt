@@ -1,11 +1,12 @@
-use Rattle.std.proofs.Common.{◌≤◌}
+use Rattle.std.proofs.Common.{◌≤◌, ◌+◌, ◌≡◌, ℕ, IsTrue}
 use Rattle.drain_grid.specs.Rule.{IsFillRule}
 use Rattle.drain_grid.specs.PatchRules.{fill_rules}
+use Rattle.drain_rules.specs.Places.{HasDataAcross}
 use Rattle.drain_rules.specs.Verdicts.{parts_grid, parts_products}
 use Rattle.drain_rules.specs.Rows.{HoldAlong, CountsAlong}
 use Rattle.drain_rules.proofs.fill_walk.check_fill_row.Given as goal
 
--- the cells that were passed keep the rules and are counted
+-- the cells that were passed keep the rules and are counted, and it is known of this column and the one before it where they have data
 abbrev pub invariant-loop-col : goal.invariant-loop-col
 invariant-loop-col l = record {
   holds : HoldAlong fill_rules IsFillRule (parts_grid l.input) (parts_products l.input) l.row l.col;
@@ -13,4 +14,6 @@ invariant-loop-col l = record {
   data_bound : l.tally.data_cells ≤ l.col;
   raised_bound : l.tally.raised ≤ l.tally.data_cells;
   outlets_bound : l.tally.outlets ≤ l.tally.data_cells;
+  west_data : IsTrue l.west → (before : ℕ) × (before + 1 ≡ l.col) × HasDataAcross (parts_grid l.input) l.row before;
+  here_data : IsTrue l.here → HasDataAcross (parts_grid l.input) l.row l.col;
 }
