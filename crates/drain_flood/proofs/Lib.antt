@@ -3,6 +3,7 @@ pub mod PairLemmas
 pub mod PopLemmas
 pub mod PushLemmas
 pub mod QueueLemmas
+pub mod StackLemmas
 pub mod Turning
 pub mod Cells
 pub mod Levels

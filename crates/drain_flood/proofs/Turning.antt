@@ -6,17 +6,19 @@ use Rattle.std.proofs.lemmas.List.{length-append}
 use Rattle.std.proofs.Math.ListN.{get_or-append}
 use Rattle.std.proofs.Math.Seq.{get_or-append_right}
 use Rattle.std.specs.List.{All}
+use Rattle.std.specs.List.Sorted.{IsPermutation}
+use Rattle.std.proofs.lemmas.List.Sorted.{All-permutation, Contains-permutation, length_permutation}
 use Rattle.drain_flood.specs.Turns.{Rises, with_lists, IsOut, IsNextTurn, IsLeftWaiting, IsLessWork, IsLookedAround, IsPopped}
 use Rattle.drain_flood.specs.Ways.{items_at, level_of, pairs_at, pairs_from, pairs_of}
 use Rattle.drain_flood.proofs.PairLemmas.{at_level, higher_from}
-use Rattle.std.proofs.lemmas.List.Elements.{All-head, All-contains}
+use Rattle.std.proofs.lemmas.List.Elements.{All-head, All-cons}
 use Rattle.drain_grid.specs.declared.cell.Cell.{Cell}
 use Rattle.drain_grid.specs.Extent.{IsCellOf, index_of, Extent}
 use Rattle.drain_grid.specs.Grid.{Grid, IsInside, height_at}
 use Rattle.drain_grid.proofs.Alike.{same_index}
 use Rattle.drain_flood.specs.Floods.{Flooding, con_at, unreached, IsReachedCell, IsWaiting, IsAhead, IsFloodOf}
 use Rattle.drain_flood.specs.Looks.{IsLookedBefore}
-use Rattle.drain_flood.proofs.Turns.{taken, deferred, recalled, left, risen, put_has, put_keeps, put_all}
+use Rattle.drain_flood.proofs.Turns.{taken, deferred, recalled, left, risen, head_in, tail_in}
 
 -- The pairs of all levels, level by level, rise.
 
@@ -95,32 +97,16 @@ module _ (g : Grid) (stand level : ℤ) (later : List ℕ) (c : Cell) (inside : 
       this_waits : IsWaiting g old stand (level, index_of old.extent c)
       this_waits = record { cell = c; reached = around.reached; place = at; con = around.con; not_below = low }
 
-      -- a pair that waits with this cell's place waits at its level
-      one_level : (l : ℤ) → Contains old.waiting (l, index_of old.extent c) → l ≡ level
-      one_level l held =
-          let is = All-contains (IsWaiting g old stand) old.waiting (l, index_of old.extent c) around.flood.waiting held in
-          let same : is.cell ≡ c = same_index g.extent is.cell c is.reached.here.inside inside (sym is.place ∙ at) in
-          sym is.con ∙ (ap (λ x. con_at g.extent old x) same ∙ around.con)
-
-      keeps : (p : ℤ × ℕ) → Contains old.waiting p → Contains new.waiting p
-      keeps p held = elim waiting.waits [
-        | inl put ↦ put_keeps level (index_of old.extent c) old.waiting new.waiting put p held
-        | inr was ↦ subst (λ xs. Contains xs p) (sym was.1) held
-      ]
-
       has : Contains new.waiting (level, index_of g.extent c)
       has = subst (λ k. Contains new.waiting (level, k)) at
-          (elim waiting.waits [
-            | inl put ↦ put_has level (index_of old.extent c) old.waiting new.waiting put
-            | inr was ↦ subst (λ xs. Contains xs (level, index_of old.extent c)) (sym was.1)
-                (subst (λ l. Contains old.waiting (l, index_of old.extent c)) (one_level was.0.0 was.0.1) was.0.1)
-          ])
+          (Contains-permutation ((level, index_of old.extent c) ∷ old.waiting) new.waiting _ waiting.put (head_in (level, index_of old.extent c) old.waiting))
+
+      keeps : (p : ℤ × ℕ) → Contains old.waiting p → Contains new.waiting p
+      keeps p held = Contains-permutation ((level, index_of old.extent c) ∷ old.waiting) new.waiting p waiting.put (tail_in (level, index_of old.extent c) p old.waiting held)
 
       all : All (IsWaiting g old stand) new.waiting
-      all = elim waiting.waits [
-        | inl put ↦ put_all level (index_of old.extent c) old.waiting new.waiting put (IsWaiting g old stand) around.flood.waiting this_waits
-        | inr was ↦ subst (All (IsWaiting g old stand)) (sym was.1) around.flood.waiting
-      ]
+      all = All-permutation (IsWaiting g old stand) ((level, index_of old.extent c) ∷ old.waiting) new.waiting waiting.put
+          (All-cons (IsWaiting g old stand) (level, index_of old.extent c) old.waiting this_waits around.flood.waiting)
 
 -- a busy cell, before its neighbours are looked at
 busy_before : (g : Grid) (s : Flooding) (stand level : ℤ) (later : List ℕ) (c : Cell) (raises : Bool) → IsInside g c →
@@ -207,16 +193,29 @@ turn_work s0 s1 s2 c next less =
     let same = less.same in
     (omega (arith, fewer, one, same), less.waiting ∙ ap (λ f. f.waiting) next.rest)
 
--- the first waiting cell, before its neighbours are looked at, at the level to which the flood rises
+pub wait_work : (s1 s2 s3 : Flooding) (level : ℤ) (c : Cell) → IsLessWork s1 s2 → IsLeftWaiting s2 s3 level c → length s3.waiting ≡ length s1.waiting + 1
+wait_work s1 s2 s3 level c less waiting =
+    let long = length_permutation ((level, index_of s2.extent c) ∷ s2.waiting) s3.waiting waiting.put in
+    let same : length s2.waiting ≡ length s1.waiting = ap (λ (xs : List (ℤ × ℕ)). length xs) less.waiting in
+    omega (arith, long, same)
+
+pub pop_work : (s0 s1 : Flooding) (level : ℤ) (c : Cell) → IsPopped s0 s1 level c →
+    (unreached s1 + length s1.ahead ≡ unreached s0 + length s0.ahead) × (length s1.waiting + 1 ≡ length s0.waiting)
+pop_work s0 s1 level c popped =
+    let long = length_permutation s0.waiting ((level, index_of s0.extent c) ∷ s1.waiting) popped.out in
+    (ap (λ (f : Flooding). unreached f + length f.ahead) popped.rest, omega (arith, long))
+
+-- a lowest waiting cell, before its neighbours are looked at, at the level to which the flood rises
 pub popped_before : (g : Grid) (old new : Flooding) (stand level : ℤ) (c : Cell) → g.extent ≡ old.extent → IsFloodOf g old stand [] → old.ahead ≡ [] →
     IsPopped old new level c → IsLookedBefore g new level (index_of g.extent c ∷ []) c level true
 popped_before g old new stand level c extent flood done popped =
-    let first : old.waiting ≡ (level, index_of g.extent c) ∷ new.waiting = subst (λ e. old.waiting ≡ (level, index_of e c) ∷ new.waiting) (sym extent) popped.first in
+    let out : IsPermutation old.waiting ((level, index_of g.extent c) ∷ new.waiting) =
+    subst (λ e. IsPermutation old.waiting ((level, index_of e c) ∷ new.waiting)) (sym extent) popped.out in
     let inside : IsInside g c = subst (λ e. IsCellOf e c) (sym extent) popped.inside in
     let is_new : with_lists old [] new.waiting ≡ new = ap (λ xs. with_lists old xs new.waiting) (sym done) ∙ sym popped.rest in
     let now : IsFloodOf g new level (index_of g.extent c ∷ []) = subst (λ f. IsFloodOf g f level (index_of g.extent c ∷ [])) is_new
-    (risen g old stand level (index_of g.extent c) new.waiting done first popped.rises flood) in
-    let was = All-head (IsWaiting g old stand) (level, index_of g.extent c) new.waiting (subst (All (IsWaiting g old stand)) first flood.waiting) in
+    (risen g old stand level (index_of g.extent c) new.waiting done out popped.lowest flood) in
+    let was = All-head (IsWaiting g old stand) (level, index_of g.extent c) new.waiting (All-permutation (IsWaiting g old stand) old.waiting _ out flood.waiting) in
     let same : was.cell ≡ c = same_index g.extent was.cell c was.reached.here.inside inside (sym was.place) in
     let con : con_at g.extent old c ≡ level = subst (λ x. con_at g.extent old x ≡ level) same was.con in
     record {
@@ -226,7 +225,7 @@ popped_before g old new stand level c extent flood done popped =
       at_level = λ h. refl;
     }
 
--- the flood rises to the level of the first waiting cell, and its unreached neighbours are raised
+-- the flood rises to the level of a lowest waiting cell, and its unreached neighbours are raised
 pub turn_rises : (g : Grid) (s0 s1 s2 : Flooding) (stand level : ℤ) (c : Cell) (seen : Bool) → g.extent ≡ s0.extent → g.extent ≡ s1.extent →
     IsPopped s0 s1 level c → s0.ahead ≡ [] → LooksAround s1.extent s1 s2 c level true seen → IsFloodOf g s0 stand [] → IsFloodOf g s2 level []
 turn_rises g s0 s1 s2 stand level c seen e0 e1 popped done looks flood =

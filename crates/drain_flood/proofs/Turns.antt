@@ -1,7 +1,9 @@
--- From one cell to the next: a cell whose neighbours were looked at is left, or waits, and the first waiting one is
+-- From one cell to the next: a cell whose neighbours were looked at is left, or waits, and a lowest waiting one is
 -- taken.
-use Rattle.std.proofs.Common.{◌≡◌, ℕ, zero, suc, ◌<◌, ◌∙◌, ◌⊎◌, inl, inr, ℤ, ◌≤ℤ◌, ◌<ℤ◌, List, [], ◌∷◌, ◌++◌, Some, Contains, length, get_or, refl, sym, ap, subst, arith}
+use Rattle.std.proofs.Common.{◌≡◌, ℕ, zero, suc, ◌<◌, ◌∙◌, ◌⊎◌, inl, inr, ℤ, ◌≤ℤ◌, ◌<ℤ◌, List, [], ◌∷◌, ◌++◌, Option, Some, None, Result, Ok, Err, MatchOption, OnOk, OnErr, Contains, get_or, refl, sym, ap, subst, arith}
 use Rattle.std.specs.List.{All}
+use Rattle.std.specs.List.Sorted.{IsPermutation}
+use Rattle.std.proofs.lemmas.List.Sorted.{All-permutation, Contains-permutation}
 use Rattle.std.proofs.lemmas.Int.{ints}
 use Rattle.std.proofs.lemmas.List.Elements.{All-nil, All-cons, All-head, All-tail, All-append, All-weaker, All-contains, Contains-append_left, Contains-append_right, Contains-append_cases, Contains-get_or}
 use Rattle.drain_grid.specs.declared.cell.Cell.{Cell}
@@ -9,7 +11,7 @@ use Rattle.drain_grid.specs.declared.direction.Direction.{Direction}
 use Rattle.drain_grid.specs.Extent.{index_of, step}
 use Rattle.drain_grid.specs.Grid.{Grid, IsInside, height_at}
 use Rattle.drain_grid.proofs.Alike.{same_index}
-use Rattle.drain_flood.specs.Turns.{Rises, IsPut, with_lists, IsOut}
+use Rattle.drain_flood.specs.Turns.{with_lists, IsOut}
 use Rattle.drain_flood.specs.Floods.{Flooding, con_at, IsReachedCell, IsUnreached, IsKeptCell, IsWaiting, IsAhead, IsFloodOf}
 use Rattle.drain_flood.proofs.AllReached.{none_in}
 use Rattle.drain_flood.proofs.Levels.{cap_rises}
@@ -24,10 +26,6 @@ head_in x xs = (0, omega arith, refl)
 
 pub tail_in : {X : Type 0} (x y : X) (xs : List X) → Contains xs y → Contains (x ∷ xs) y
 tail_in x y xs (k, less, is) = (suc k, omega (arith, less), is)
-
--- what comes after the first of a rising list is not below it
-pub rest_not_below : (level : ℤ) (item : ℕ) (rest : List (ℤ × ℕ)) → Rises ((level, item) ∷ rest) → All (λ p. level ≤ℤ p.0) rest
-rest_not_below level item rest rises k d less = rises 0 (suc k) d (omega arith) (omega (arith, less))
 
 -- if each reached cell with an unreached neighbour is kept, and what is kept is reached, the flood goes on with other
 -- lists and at another level
@@ -217,20 +215,19 @@ left g f level later place c waiting inside at flood more waits beside =
       not_below = is.not_below;
     }) (later ++ f.ahead) (All-tail (IsAhead g f level) place (later ++ f.ahead) flood.ahead))
 
--- if the trail is empty, the first waiting cell is taken, and the flood rises to its level
-pub risen : (g : Grid) (f : Flooding) (level higher : ℤ) (place : ℕ) (rest : List (ℤ × ℕ)) → f.ahead ≡ [] → f.waiting ≡ (higher, place) ∷ rest →
-    Rises f.waiting → IsFloodOf g f level [] → IsFloodOf g (with_lists f [] rest) higher (place ∷ [])
-risen g f level higher place rest no_ahead is rises flood =
-    let all : All (IsWaiting g f level) ((higher, place) ∷ rest) = subst (All (IsWaiting g f level)) is flood.waiting in
+-- if the trail is empty, a lowest waiting cell is taken, and the flood rises to its level
+pub risen : (g : Grid) (f : Flooding) (level higher : ℤ) (place : ℕ) (rest : List (ℤ × ℕ)) → f.ahead ≡ [] → IsPermutation f.waiting ((higher, place) ∷ rest) →
+    All (λ (p : ℤ × ℕ). higher ≤ℤ p.0) rest → IsFloodOf g f level [] → IsFloodOf g (with_lists f [] rest) higher (place ∷ [])
+risen g f level higher place rest no_ahead out behind flood =
+    let all : All (IsWaiting g f level) ((higher, place) ∷ rest) = All-permutation (IsWaiting g f level) f.waiting ((higher, place) ∷ rest) out flood.waiting in
     let first : IsWaiting g f level (higher, place) = All-head (IsWaiting g f level) (higher, place) rest all in
-    let behind : All (λ p. higher ≤ℤ p.0) rest = rest_not_below higher place rest (subst Rises is rises) in
     relisted g f level higher [] (place ∷ []) [] rest flood first.not_below
     (λ c n d at_c at_n leads.
     (let kept = flood.frontier c n d at_c at_n leads in
     elim kept.held [
       | inl looked ↦ absurd (none_in f.ahead _ no_ahead looked)
       | inr waits ↦
-          elim (cons_cases (higher, place) rest (con_at g.extent f c, index_of g.extent c) (subst (λ xs. Contains xs (con_at g.extent f c, index_of g.extent c)) is waits.0)) [
+          elim (cons_cases (higher, place) rest (con_at g.extent f c, index_of g.extent c) (Contains-permutation f.waiting ((higher, place) ∷ rest) _ out waits.0)) [
             | inl here ↦ record {
               not_below = subst (λ z. higher ≤ℤ z) (ap (λ (p : ℤ × ℕ). p.0) here) (omega (arith, ints));
               held = inl (subst (λ k. Contains (place ∷ []) k) (ap (λ (p : ℤ × ℕ). p.1) here) (head_in place []));
@@ -256,27 +253,21 @@ risen g f level higher place rest no_ahead is rises flood =
       not_below = subst (λ z. higher ≤ℤ z) (sym first.con) (omega (arith, ints));
     }) (All-nil (IsAhead g (with_lists f [] rest) higher)))
 
--- what was put into a list is in it, next to all that was
-module _ (level : ℤ) (item : ℕ) (old new : List (ℤ × ℕ)) (put : IsPut level item old new) where
-  pub put_has : Contains new (level, item)
-  put_has = subst (λ xs. Contains xs (level, item)) (sym put.new_are) (Contains-append_right put.before ((level, item) ∷ put.after) (level, item) (head_in (level, item) put.after))
+-- What waits are places of cells, whatever is put and taken out.
 
-  pub put_keeps : (p : ℤ × ℕ) → Contains old p → Contains new p
-  put_keeps p held =
-      subst (λ xs. Contains xs p) (sym put.new_are)
-      (elim (Contains-append_cases put.before put.after p (subst (λ xs. Contains xs p) put.old_are held)) [
-        | inl early ↦ Contains-append_left put.before ((level, item) ∷ put.after) p early
-        | inr late ↦ Contains-append_right put.before ((level, item) ∷ put.after) p (tail_in (level, item) p put.after late)
-      ])
+pub put_places : {E : Type 0} (r : Result (Unit {0}) E) (n : ℕ) (level : ℤ) (place : ℕ) (old new : List (ℤ × ℕ)) → place < n →
+    All (λ (pair : ℤ × ℕ). pair.1 < n) old → OnOk r (IsPermutation ((level, place) ∷ old) new) → OnErr r (new ≡ old) → All (λ (pair : ℤ × ℕ). pair.1 < n) new
+put_places (Ok x) n level place old new below all put kept =
+    All-permutation (λ (pair : ℤ × ℕ). pair.1 < n) ((level, place) ∷ old) new put (All-cons (λ (pair : ℤ × ℕ). pair.1 < n) (level, place) old below all)
+put_places (Err e) n level place old new below all put kept = subst (All (λ (pair : ℤ × ℕ). pair.1 < n)) (sym kept) all
 
-  pub put_all : (P : ℤ × ℕ → Type 0) → All P old → P (level, item) → All P new
-  put_all P each here =
-      let split : All P (put.before ++ put.after) = subst (All P) put.old_are each in
-      let early : All P put.before = λ k d less. All-contains P (put.before ++ put.after) (get_or put.before k d) split
-      (Contains-append_left put.before put.after (get_or put.before k d) (there put.before k d less)) in
-      let late : All P put.after = λ k d less. All-contains P (put.before ++ put.after) (get_or put.after k d) split
-      (Contains-append_right put.before put.after (get_or put.after k d) (there put.after k d less)) in
-      subst (All P) (sym put.new_are) (All-append P put.before ((level, item) ∷ put.after) early (All-cons P (level, item) put.after here late))
-    where
-      there : (xs : List (ℤ × ℕ)) (k : ℕ) (d : ℤ × ℕ) → k < length xs → Contains xs (get_or xs k d)
-      there xs k d less = Contains-get_or xs k d less
+pub out_place : (n : ℕ) (level : ℤ) (place : ℕ) (old new : List (ℤ × ℕ)) → All (λ (pair : ℤ × ℕ). pair.1 < n) old →
+    IsPermutation old ((level, place) ∷ new) → place < n
+out_place n level place old new all out =
+    All-head (λ (pair : ℤ × ℕ). pair.1 < n) (level, place) new (All-permutation (λ (pair : ℤ × ℕ). pair.1 < n) old ((level, place) ∷ new) out all)
+
+pub out_places : (r : Option (ℤ × ℕ)) (n : ℕ) (old new : List (ℤ × ℕ)) → All (λ (pair : ℤ × ℕ). pair.1 < n) old →
+    MatchOption r (old ≡ []) (λ pair. IsPermutation old (pair ∷ new)) → MatchOption r (new ≡ []) (λ pair. Unit {0}) → All (λ (pair : ℤ × ℕ). pair.1 < n) new
+out_places None n old new all was is = subst (All (λ (pair : ℤ × ℕ). pair.1 < n)) (was ∙ sym is) all
+out_places (Some pair) n old new all out is =
+    All-tail (λ (pair : ℤ × ℕ). pair.1 < n) pair new (All-permutation (λ (pair : ℤ × ℕ). pair.1 < n) old (pair ∷ new) out all)

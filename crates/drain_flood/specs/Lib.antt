@@ -1,4 +1,5 @@
 pub mod Ways
+pub mod Stacks
 pub mod Turns
 pub mod Floods
 pub mod Laid

@@ -1,6 +1,7 @@
 -- What each call does to a flood under way.
-use Rattle.std.specs.Prelude.{◌≡◌, ℕ, ◌≤◌, ◌<◌, ℤ, ◌≤ℤ◌, ◌<ℤ◌, List, ◌∷◌, ◌++◌, Contains, length, get_or, ◌*◌, ◌+◌, ◌⊎◌, Bool, true, false, [], Some}
+use Rattle.std.specs.Prelude.{◌≡◌, ℕ, ◌≤◌, ◌<◌, ℤ, ◌≤ℤ◌, ◌<ℤ◌, List, ◌∷◌, ◌++◌, Contains, length, get_or, ◌*◌, ◌+◌, Bool, true, false, [], Some}
 use Rattle.std.specs.List.{All}
+use Rattle.std.specs.List.Sorted.{IsPermutation}
 use Rattle.drain_grid.specs.Extent.{Extent, IsCellOf, index_of, step}
 use Rattle.drain_flood.specs.declared.level_queue.TheConstants.{MAX_CELLS}
 use Rattle.drain_grid.specs.declared.cell.Cell.{Cell}
@@ -34,14 +35,13 @@ pub record IsPut (level : ℤ) (item : ℕ) (old new : List (ℤ × ℕ)) : Type
 
 -- How the parts of a flood, or of a surface, fit together, whatever is flooded.
 
--- a number for each cell; the trail has places of cells; the queue has room for each cell, and its levels rise
-pub record AreTogether (e : Extent) (con : List ℤ) (mark trail : List ℕ) (queue : Waiting) : Type 0 where
+-- a number for each cell; the trail and what waits are places of cells
+pub record AreTogether (e : Extent) (con : List ℤ) (mark trail : List ℕ) (waiting : List (ℤ × ℕ)) : Type 0 where
   pub few : e.rows * e.cols ≤ MAX_CELLS
   pub con_long : length con ≡ e.rows * e.cols
   pub mark_long : length mark ≡ e.rows * e.cols
-  pub queue_long : queue.cells ≡ e.rows * e.cols
   pub places : All (λ place. place < e.rows * e.cols) trail
-  pub rises : Rises queue.pairs
+  pub waiting_places : All (λ (pair : ℤ × ℕ). pair.1 < e.rows * e.cols) waiting
 
 -- a height and a mark for each cell
 pub record AreCells (e : Extent) (con : List ℤ) (mark : List ℕ) : Type 0 where
@@ -81,21 +81,20 @@ pub record IsDone (old new : Flooding) : Type 0 where
   pub none : old.ahead ≡ []
   pub same : new ≡ old
 
--- the first waiting cell is taken from the queue
+-- a waiting cell is taken, below which none waits
 pub record IsPopped (old new : Flooding) (level : ℤ) (c : Cell) : Type 0 where
   pub inside : IsCellOf old.extent c
-  pub rises : Rises old.waiting
-  pub first : old.waiting ≡ (level, index_of old.extent c) ∷ new.waiting
+  pub out : IsPermutation old.waiting ((level, index_of old.extent c) ∷ new.waiting)
+  pub lowest : All (λ (p : ℤ × ℕ). level ≤ℤ p.0) new.waiting
   pub rest : new ≡ with_lists old old.ahead new.waiting
 
 pub record IsEmptied (old new : Flooding) : Type 0 where
   pub none : old.waiting ≡ []
   pub same : new ≡ old
 
--- the cell waits at this level, or waited before
+-- the cell waits at this level
 pub record IsLeftWaiting (old new : Flooding) (level : ℤ) (c : Cell) : Type 0 where
-  pub waits : IsPut level (index_of old.extent c) old.waiting new.waiting
-      ⊎ (((l : ℤ) × Contains old.waiting (l, index_of old.extent c)) × (new.waiting ≡ old.waiting))
+  pub put : IsPermutation ((level, index_of old.extent c) ∷ old.waiting) new.waiting
   pub rest : new ≡ with_lists old old.ahead new.waiting
 
 -- no more is left to do than before: each reached cell is on the trail once

@@ -1,10 +1,10 @@
 //! The filled surface: a flood from the open cells inwards, by traces.
 //!
 //! A trace reaches every cell that it can reach without going down, each at its own ground. The first starts at all
-//! open cells, so whole slopes are reached without a queue. A cell with an unreached lower neighbour waits in a queue
-//! at its level. Waiting cells are taken lowest first, and their unreached neighbours are raised to their level, which
-//! is the lowest way out. So a cell's level when it is reached is its conditioned elevation. The order of the cells of
-//! a trace doesn't matter. Time is linear in the cells.
+//! open cells, so on whole slopes no cell waits. A cell with an unreached lower neighbour waits at its level. Waiting
+//! cells are taken lowest first, in any order within a level, and their unreached neighbours are raised to their level,
+//! which is the lowest way out. So a cell's level when it is reached is its conditioned elevation. The order of the
+//! cells of a trace doesn't matter. Time is linear in the cells.
 //!
 //! Source: Priority-Flood (Barnes, Lehman and Mulla 2014), with traces as in Zhou, Sun and Fu (2016).
 
@@ -24,7 +24,7 @@ ghost use Rattle.drain_flood.specs.Turns.{with_lists, IsNextTurn, IsDone, IsPopp
 
 use crate::laws::flood_is_filled;
 use crate::layers::{NO_HEIGHT, OPEN, REACHED, UNREACHED, VOID, copied, heights, marks, no_places};
-use crate::level_queue::LevelQueue;
+use crate::level_stacks::LevelStacks;
 use crate::open_cells::{is_gap_in, is_one, is_open};
 use crate::places::{cell_at, columns_inverse};
 use crate::surface::Surface;
@@ -43,7 +43,7 @@ pub struct Flood {
     mark: Vec<u8>,
     /// Places of reached cells whose neighbours haven't been looked at yet: the one reached last comes first.
     trail: Vec<u32>,
-    queue: LevelQueue,
+    waiting: LevelStacks,
 }
 
 impl Model for Flood {
@@ -52,9 +52,9 @@ impl Model for Flood {
 
     ghost Value = { Flooding };
 
-    ghost view = { λ f. record { extent = f.shape; con = f.con.items; mark = f.mark.items; ahead = f.trail.items; waiting = f.queue.pairs } };
+    ghost view = { λ f. record { extent = f.shape; con = f.con.items; mark = f.mark.items; ahead = f.trail.items; waiting = f.waiting } };
 
-    ghost invariant = { λ f. AreTogether f.shape f.con.items f.mark.items f.trail.items f.queue };
+    ghost invariant = { λ f. AreTogether f.shape f.con.items f.mark.items f.trail.items f.waiting };
 }
 
 /// The filled surface: raises each data cell to the lowest level from which water can leave. How far apart cells are
@@ -117,7 +117,7 @@ impl Flood {
         let cells = shape.cells();
         let con = heights(alloc, NO_HEIGHT, cells)?;
         let mark = marks(alloc, VOID, cells)?;
-        let queue = LevelQueue::new(alloc, cells)?;
+        let waiting = LevelStacks::new(alloc)?;
         let trail = no_places(alloc)?;
         Ok(Flood {
             shape,
@@ -125,7 +125,7 @@ impl Flood {
             con,
             mark,
             trail,
-            queue,
+            waiting,
         })
     }
 
@@ -288,26 +288,25 @@ impl Flood {
         }
     }
 
-    /// Takes the first waiting cell, and its level.
+    /// Takes a waiting cell below which none waits, and its level.
     pub(crate) fn pop(&mut self) -> Option<(i16, Cell)>
         ensures extent { self.new.extent ≡ self.old.extent }
         ensures popped { MatchOption result (IsEmptied self.old self.new) (λ pair. IsPopped self.old self.new pair.0 pair.1) }
     {
-        match self.queue.pop() {
+        match self.waiting.pop() {
             Some((level, item)) => Some((level, cell_at(self.shape, self.inverse, item as usize))),
             None => None,
         }
     }
 
-    /// Makes a cell wait, if it doesn't yet.
-    pub(crate) fn wait(&mut self, cell: Cell, level: i16)
+    /// Makes a cell wait at its level.
+    pub(crate) fn wait(&mut self, cell: Cell, level: i16) -> Result<(), OutOfMemory>
         requires { IsCellOf self.old.extent cell }
-        ensures { IsLeftWaiting self.old self.new level cell }
+        ensures extent { self.new.extent ≡ self.old.extent }
+        ensures waits { OnOk result (IsLeftWaiting self.old self.new level cell) }
     {
         let item = self.shape.index(cell) as u32;
-        if !self.queue.holds(item) {
-            self.queue.push(level, item);
-        }
+        self.waiting.push(level, item)
     }
 }
 

@@ -12,7 +12,7 @@ use std::alloc::Global;
 use std::marker::Model;
 
 /// How many levels a number of 16 bits has.
-const LEVELS: usize = 65536;
+pub(crate) const LEVELS: usize = 65536;
 
 /// The most cells that a mosaic has.
 pub const MAX_CELLS: usize = 829_497_601;
@@ -147,7 +147,7 @@ fn first_held(firsts: &[u32], from: usize) -> usize
 }
 
 /// How many levels are lower.
-fn place_of(level: i16) -> usize
+pub(crate) fn place_of(level: i16) -> usize
     ensures within { result < LEVELS }
     ensures level { level_of result ≡ level }
 {
@@ -155,7 +155,7 @@ fn place_of(level: i16) -> usize
 }
 
 /// The level of a place.
-fn level_at(place: usize) -> i16
+pub(crate) fn level_at(place: usize) -> i16
     requires { place < LEVELS }
     ensures { result ≡ level_of place }
 {

@@ -13,6 +13,7 @@ pub mod heights;
 pub mod laws;
 pub mod layers;
 pub mod level_queue;
+mod level_stacks;
 mod open_cells;
 mod places;
 mod shores;

@@ -2,7 +2,7 @@
 //!
 //! When a cell of a trace is looked at, a lower neighbour may not be reached yet, though the same trace reaches it later
 //! from elsewhere. So the cell is looked at once more at the end of its trace, and waits only if such a neighbour is
-//! still left. Few of them are, and each cell that waits costs a cache miss.
+//! still left. Few of them are.
 
 ghost use Rattle.std.specs.Prelude.{◌≡◌, ◌+◌, ◌*◌, ◌<◌, ◌≤◌, ℕ, List, [], ◌∷◌, All, OnOk, length};
 ghost use Rattle.drain_grid.specs.Extent.{IsCellOf, index_of};
@@ -83,7 +83,7 @@ fn look_again(flood: &mut Flood, cell: Cell, stand: i16) -> Result<(), OutOfMemo
     let level = flood.height(cell);
     let raises = is_same(level, stand);
     if flood.look_around(cell, level, raises)? {
-        flood.wait(cell, level);
+        flood.wait(cell, level)?;
     }
     Ok(())
 }

@@ -1,11 +1,11 @@
-use Rattle.std.proofs.Common.{◌≡◌, ◌∙◌, sym, subst, rules}
+use Rattle.std.proofs.Common.{◌≡◌, ◌∙◌, ℤ, ℕ, List, length, sym, ap, subst, arith, rules}
 use mir.Syntax.{w16}
 use mir.Val.{SFits, to_z, of_z}
 use Rattle.std.proofs.lemmas.Int.{to_z-of_z}
 use Rattle.drain_flood.specs.Floods.{IsFlooded}
 use Rattle.drain_flood.specs.Turns.{IsPopped}
 use Rattle.drain_flood.proofs.Looking.{flood_is_done}
-use Rattle.drain_flood.proofs.Turning.{turn_rises}
+use Rattle.drain_flood.proofs.Turning.{pop_work, turn_rises}
 use Rattle.drain_flood.proofs.tracing.spread.Goals as goal
 
 pub loop-level-preserved : goal.loop-level-preserved
@@ -32,6 +32,13 @@ loop-level-preserved c =
                 c.in_ok-look_around.ensures.around stands.1),
           ));
     }
+
+pub loop-level-smaller : goal.loop-level-smaller
+loop-level-smaller c =
+    let taken = pop_work c.loop-level.flood c.pop.new.self _ c.in-Some.cell c.in-Some.ensures.popped in
+    let none : length c.loop-level.flood.ahead ≡ 0 = ap (λ xs. length xs) c.loop-level.invariant.done in
+    let same : length c.look_around.new.self.waiting ≡ length c.pop.new.self.waiting = ap (λ (xs : List (ℤ × ℕ)). length xs) c.in_ok-look_around.ensures.work.waiting in
+    omega (arith, taken.0, taken.1, none, same, c.in_ok-look_around.ensures.work.same, c.in_ok-trace-2.ensures.work)
 
 pub returns-clause-flooded : goal.returns-clause-flooded
 returns-clause-flooded c = λ g same before.

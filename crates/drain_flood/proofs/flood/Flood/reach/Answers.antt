@@ -10,7 +10,7 @@ returns-clause-reaches c =
     let together = c.self.invariant in
     elim c.match-push.branch [
       | in-Ok w ↦ rw w.result-is
-          (put_reaches_at c.args.self.now s.shape s.con.items s.mark.items s.trail.items _ s.queue.pairs c.self.view_is
+          (put_reaches_at c.args.self.now s.shape s.con.items s.mark.items s.trail.items _ s.waiting c.self.view_is
           c.args.place c.args.height _
           together.con_long together.mark_long c.requires.fresh
           (to_z-of_z w16 c.args.height c.ranges.height) w.in-Ok.ensures.items)
