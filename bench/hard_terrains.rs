@@ -1,6 +1,7 @@
 //! Writes a tile that is hard to drain, or whose labels are hard to keep.
 //!
-//! Usage: hard_terrains KIND SIDE TILE, KIND one of flat, noise, pits, spiral, stairs, bowl, needles, voids, ramp
+//! Usage: hard_terrains KIND SIDE TILE, KIND one of flat, noise, pits, spiral, stairs, bowl, needles, voids, thirds,
+//! twentieths, ramp
 
 const VOID: i16 = -32768;
 
@@ -37,6 +38,9 @@ fn height(kind: &str, side: usize, row: usize, col: usize) -> Option<i16> {
         "needles" => if mixed(row, col) % 16 == 0 { 5_000 } else { 0 },
         // Each second cell is a void, so that each other one is an outlet.
         "voids" => if (row + col) % 2 == 0 { return None } else { 7 },
+        // One cell in 3 is a void, or one in 20, without a pattern.
+        "thirds" => if mixed(row, col) % 3 == 0 { return None } else { 7 },
+        "twentieths" => if mixed(row, col) % 20 == 0 { return None } else { 7 },
         // Down to the west, inside a wall along all edges.
         _ => if depth == 0 { 32_767 } else { col.min(30_000) as i16 },
     })
