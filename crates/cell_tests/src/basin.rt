@@ -49,7 +49,7 @@ fn hands_a_label_on_along_a_direction(rt: HostRuntime) -> Result<(), Fail> {
 }
 
 /// Labels in the order in which they come, each with whether it is new.
-static LABELS: [(i64, bool); 31] = [
+static LABELS: [(i64, bool); 43] = [
     (7, true),
     (7, false),
     (8, true),
@@ -82,6 +82,19 @@ static LABELS: [(i64, bool); 31] = [
     (i64::MIN, false),
     (i64::MAX, false),
     (7, false),
+    // 7 in its lower 32 bits.
+    (4294967303, true),
+    (30064771079, true),
+    (-4294967289, true),
+    (i64::MIN + 7, true),
+    (31, true),
+    (32, true),
+    (4294967303, false),
+    (30064771079, false),
+    (-4294967289, false),
+    (i64::MIN + 7, false),
+    (31, false),
+    (-2147483648, false),
 ];
 
 #[test]
@@ -93,22 +106,49 @@ fn admits_each_label_once(rt: HostRuntime) -> Result<(), Fail> {
     Ok(())
 }
 
-/// Labels of which no two share a word.
-fn far_apart(number: u8) -> i64 {
-    i64::from(number) * 16
+/// Each number below 1024 once, in an order without a pattern.
+fn scattered(number: u16) -> i64 {
+    i64::from(number.wrapping_mul(389) % 1024)
 }
 
-/// Enough labels that the tree of words grows. A call that runs out of memory keeps the earlier labels, and is made
-/// again.
+/// The lowest labels get words of their own while labels come: in order, and in none, where blocks move into these
+/// words. A label is known afterwards, and none that didn't come.
+#[test]
+fn admits_many_labels_in_any_order(rt: HostRuntime) -> Result<(), Fail> {
+    let mut rising = OutletLabels::new(rt.alloc());
+    let mut mixed = OutletLabels::new(rt.alloc());
+    for number in 0..512u16 {
+        let label = i64::from(number);
+        same(&rt, (label, "rising"), rising.admit(label), Ok(true));
+        let label = scattered(number);
+        same(&rt, (label, "scattered"), mixed.admit(label), Ok(true));
+    }
+    for number in 0..1024u16 {
+        let label = i64::from(number);
+        let is_new = number >= 512;
+        same(&rt, (label, "after rising"), rising.admit(label), Ok(is_new));
+        let label = scattered(number);
+        same(&rt, (label, "after scattered"), mixed.admit(label), Ok(is_new));
+    }
+    Ok(())
+}
+
+/// Labels of which no two share a word: the first are too few for words of their own.
+fn far_apart(number: u8) -> i64 {
+    i64::from(number) * 64
+}
+
+/// Enough labels that the map grows, and then the lowest labels' words. A call that runs out of memory keeps the earlier
+/// labels, and is made again. A label for which the words can't grow goes into the map.
 #[test]
 fn holds_its_labels_after_refused_memory(rt: HostRuntime) -> Result<(), Fail> {
     let mut labels = OutletLabels::new(rt.alloc());
-    for number in 0..40u8 {
+    for number in (0..80u8).rev() {
         let label = far_apart(number);
         let answer = labels.admit(label);
         if answer != Ok(true) {
             same(&rt, (number, "refused"), answer, Err(OutOfMemory));
-            for earlier in 0..number {
+            for earlier in number + 1..80 {
                 let admitted = labels.admit(far_apart(earlier));
                 same(&rt, (earlier, "before"), admitted, Ok(false));
             }
@@ -116,7 +156,7 @@ fn holds_its_labels_after_refused_memory(rt: HostRuntime) -> Result<(), Fail> {
             same(&rt, (number, "again"), labels.admit(label), Ok(true));
         }
     }
-    for number in 0..40u8 {
+    for number in 0..80u8 {
         let admitted = labels.admit(far_apart(number));
         same(&rt, (number, "at the end"), admitted, Ok(false));
     }

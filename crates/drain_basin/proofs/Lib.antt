@@ -1,3 +1,3 @@
-pub mod BlockLabels
-pub mod TreeWords
-pub mod FoundWords
+pub mod Bits
+pub mod Labels
+pub mod Trees

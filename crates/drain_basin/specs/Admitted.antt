@@ -1,17 +1,29 @@
--- The labels that were admitted, as blocks of 16 labels.
-use Rattle.std.specs.Prelude.{◌≡◌, ℕ, ℤ, ◌/◌, ◌%◌, cond, List, nat_eq, unwrap_or, FitsSigned}
+-- The labels that were admitted: bits of the lowest in words of 64, and bits of others in words of blocks of 16.
+use Rattle.std.specs.Prelude.{◌≡◌, ℕ, ℤ, ◌/◌, ◌%◌, max, List, get_or, nat_eq, unwrap_or, FitsSigned}
 use Rattle.std.specs.Int.{bit_at, cast_unsigned, w64}
 use Rattle.std.specs.Map.{lookup}
 
+pub record LabelSet : Type 0 where
+  pub low : List ℕ
+  pub high : List (ℕ × ℕ)
+
 -- the word of a block, which has a bit for each of its labels; 0 if none of them was admitted
 abbrev pub word : List (ℕ × ℕ) → ℕ → ℕ
-word blocks block = unwrap_or (lookup (nat_eq block) blocks) 0
+word high block = unwrap_or (lookup (nat_eq block) high) 0
 
--- new has the words of old, but at one block this word
-abbrev pub PutsWord : List (ℕ × ℕ) → List (ℕ × ℕ) → ℕ → ℕ → Type 0
-PutsWord old new block value = (q : ℕ) → word new q ≡ cond (nat_eq block q) value (word old q)
+-- a place's bit in the words of 64; 0 past them
+abbrev pub low_bit : List ℕ → ℕ → ℕ
+low_bit low place = bit_at (get_or low (place / 64) 0) (place % 64)
+
+-- a place's bit in the words of blocks
+abbrev pub high_bit : List (ℕ × ℕ) → ℕ → ℕ
+high_bit high place = bit_at (word high (place / 16)) (place % 16)
+
+-- a place's bit, in whichever words it is set
+abbrev pub set_bit : LabelSet → ℕ → ℕ
+set_bit labels place = max (low_bit labels.low place) (high_bit labels.high place)
 
 -- the label was admitted, which only an i64 can be
-pub record IsAdmitted (blocks : List (ℕ × ℕ)) (label : ℤ) : Type 0 where
+pub record IsAdmitted (labels : LabelSet) (label : ℤ) : Type 0 where
   pub fits : FitsSigned w64 label
-  pub is_set : bit_at (word blocks (cast_unsigned w64 label / 16)) (cast_unsigned w64 label % 16) ≡ 1
+  pub is_set : set_bit labels (cast_unsigned w64 label) ≡ 1

@@ -1,4 +1,3 @@
 pub mod Admitted
 pub mod Ahead
-pub mod Words
-pub mod Beside
+pub mod Parts

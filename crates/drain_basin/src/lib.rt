@@ -7,9 +7,10 @@
 //! Source: basins of D8 directions (O'Callaghan and Mark 1984); the rules are this project's own.
 #![tactic(auto)]
 
+mod blocks;
 pub mod label;
+mod lowest;
 pub mod outlets;
-mod words;
 
 pub use label::{expected_label, fault};
 pub use outlets::OutletLabels;

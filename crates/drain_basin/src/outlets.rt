@@ -3,7 +3,8 @@
 ghost use Rattle.drain_basin.specs.Admitted.{IsAdmitted};
 ghost use Rattle.std.specs.Prelude.{◌≡◌, ◌↔◌, ◌⊎◌, ℤ, IsOk, IsTrue, IfOk, OnErr, OnOk};
 
-use crate::words::{is_clear, set_bit, write_word};
+use crate::blocks::set_high;
+use crate::lowest::{reach, set_low};
 use drain_grid::OutOfMemory;
 use std::alloc::Global;
 use std::collections::BTreeMap;
@@ -11,67 +12,29 @@ use std::marker::Model;
 
 /// A set of labels. In contracts `IsAdmitted` says whether a label was admitted.
 ///
-/// Labels go by blocks of 16, since makers number outlets one after the other, or by their cells. A map has a bitmap for
-/// each block, so a call takes logarithmic time for any labels. Bitmaps are short, since a node of the map can be half
-/// empty: with many labels, each takes at most 28 bytes. The last label's bitmap is also kept outside the map, so most
-/// calls needn't search it.
+/// Most makers number outlets from 1 on, or by their cells, so the lowest labels have a bit each, and a call for one of
+/// them takes constant time. There are at most half as many words of bits as labels, so each label costs at most 8 bytes
+/// there. Other labels go by blocks of 16: a map has a bitmap for each block, so a call takes logarithmic time, whatever
+/// labels a file chooses, and each label at most 28 bytes, since a node of the map can be half empty.
 #[derive(Drop)]
 pub struct OutletLabels {
-    /// For each block of 16 labels a bitmap: 1 for each label that was admitted. A block without admitted labels has no
-    /// entry.
-    blocks: BTreeMap<u64, u16>,
-    /// The block of the last label, and its bitmap.
-    last: u64,
-    word: u16,
-    beside: Beside,
-}
-
-/// Whether the map has the bitmap of the last label's block.
-#[derive(Clone, Copy)]
-enum Beside {
-    /// There was no label yet.
-    Unused,
-    /// The map has the same one.
-    Same,
-    /// The map has an entry for the block, maybe an older one.
-    Newer,
-}
-
-impl Beside {
-    ghost use Rattle.std.specs.Prelude.{◌≡◌, ◌≢◌, IsTrue, false};
-
-    /// Whether there is a last label.
-    fn is_used(self) -> bool
-        ensures used { IsTrue result → self ≢ Beside.Unused }
-        ensures unused { result ≡ false → self ≡ Beside.Unused }
-    {
-        match self {
-            Beside::Unused => false,
-            Beside::Same | Beside::Newer => true,
-        }
-    }
-
-    /// Whether the map may have an older bitmap.
-    fn is_newer(self) -> bool
-        ensures newer { IsTrue result → self ≡ Beside.Newer }
-        ensures other { result ≡ false → self ≢ Beside.Newer }
-    {
-        match self {
-            Beside::Unused | Beside::Same => false,
-            Beside::Newer => true,
-        }
-    }
+    /// A bit for each of the lowest labels, from 0 on: 1 if it was admitted.
+    low: Vec<u64>,
+    /// For each block of 16 other labels a bitmap. A block without admitted labels has no entry.
+    high: BTreeMap<u64, u16>,
+    /// How many labels were admitted, which decides how far `low` may reach.
+    count: u64,
 }
 
 impl Model for OutletLabels {
-    ghost use Rattle.std.specs.Prelude.{ℕ, List, ◌∷◌, ◌≡◌};
-    ghost use Rattle.drain_basin.specs.Beside.{IsBeside};
+    ghost use Rattle.drain_basin.specs.Admitted.{LabelSet};
+    ghost use Rattle.drain_basin.specs.Parts.{AreApart};
 
-    ghost Value = { List (ℕ × ℕ) };
+    ghost Value = { LabelSet };
 
-    ghost view = { λ s. (s.last, s.word) ∷ s.blocks.entries };
+    ghost view = { λ s. record { low = s.low.items; high = s.high.entries } };
 
-    ghost invariant = { λ s. IsBeside s.beside s.last s.word s.blocks.entries };
+    ghost invariant = { λ s. AreApart s.low.items s.high.entries };
 }
 
 impl OutletLabels {
@@ -80,10 +43,9 @@ impl OutletLabels {
         ensures { (label : ℤ) → ¬ IsAdmitted result label }
     {
         OutletLabels {
-            blocks: BTreeMap::new(alloc),
-            last: 0,
-            word: 0,
-            beside: Beside::Unused,
+            low: Vec::new(alloc),
+            high: BTreeMap::new(alloc),
+            count: 0,
         }
     }
 
@@ -99,21 +61,12 @@ impl OutletLabels {
         ensures err { OnErr result (self.new ≡ self.old) }
     {
         let place = label.cast_unsigned();
-        let block = place / 16;
-        let bit = place % 16;
-        if block == self.last && self.beside.is_used() {
-            let is_new = is_clear(self.word, bit);
-            self.word |= 1 << bit;
-            self.beside = Beside::Newer;
-            return Ok(is_new);
-        }
-        let (is_new, word) = set_bit(&mut self.blocks, block, bit)?;
-        if self.beside.is_newer() {
-            write_word(&mut self.blocks, self.last, self.word);
-        }
-        self.last = block;
-        self.word = word;
-        self.beside = Beside::Same;
+        let is_new = if reach(&mut self.low, &mut self.high, place, self.count) {
+            set_low(&mut self.low, place)
+        } else {
+            set_high(&mut self.high, place)?
+        };
+        self.count = self.count.saturating_add(u64::from(is_new));
         Ok(is_new)
     }
 }

@@ -1,5 +1,5 @@
 -- The rules that are tried: what they say of a patch with labels, and of a cell.
-use Rattle.std.proofs.Common.{◌≡◌, List, [], ◌∷◌, ◌++◌, Option, Some, None, sym, subst, ℕ, ℤ, ◌↔◌, ◌⊎◌, IsNone, IsSome, inl, inr, arith, Bool, false, IsTrue, refl}
+use Rattle.std.proofs.Common.{◌≡◌, List, [], ◌∷◌, ◌++◌, Option, Some, None, sym, subst, ℤ, ◌↔◌, ◌⊎◌, IsNone, IsSome, inl, inr, arith, Bool, false, IsTrue, refl}
 use Rattle.drain_grid.specs.declared.cell.Cell.{Cell}
 use Rattle.drain_grid.specs.declared.judged.Rules.{Rules}
 use Rattle.drain_grid.specs.declared.patch.Patch.{Patch}
@@ -9,7 +9,7 @@ use Rattle.drain_faults.specs.declared.patch_faults.FaultyPatch.{FaultyPatch}
 use Rattle.drain_faults.specs.CellFaults.{IsFirstNoted, AllHoldAt, IsLeastAt, TellsFault, HoldsIfTried}
 use Rattle.drain_faults.specs.Faults.{IsFirstPatch}
 use Rattle.drain_faults.proofs.NumbersWithout.{first_found, first_past, first_stays}
-use Rattle.drain_basin.specs.Admitted.{IsAdmitted}
+use Rattle.drain_basin.specs.Admitted.{IsAdmitted, LabelSet}
 use Rattle.drain_grid.specs.declared.rule.Rule.TheVariants.{SharedLabel}
 use Rattle.drain_grid.specs.GridRules.{HoldsAt}
 use Rattle.drain_grid.specs.PatchRules.{Profile}
@@ -76,7 +76,7 @@ sound_holds profile g ps c sound SharedLabel = λ here code. absurd (sound.no_ou
 sound_holds profile g ps c sound r = sound.holds r (omega arith, omega arith)
 
 -- and it has no label to admit
-pub no_label : (profile : Profile) (labels : List (ℕ × ℕ)) (p : Patch) → IsSound profile p → (label : ℤ) →
+pub no_label : (profile : Profile) (labels : LabelSet) (p : Patch) → IsSound profile p → (label : ℤ) →
     IsAdmitted labels label ↔ (IsLabelOf p.here label ⊎ IsAdmitted labels label)
 no_label profile labels p sound label = (
   (λ admitted. inr admitted),
@@ -118,38 +118,38 @@ tried_or_not judged SharedLabel = shared_or_not judged
 tried_or_not judged r = inl (patch_tried judged r (omega arith, omega arith))
 
 -- the labels play no part in the rules of a patch
-labelled-patch : (profile : Profile) (labels : List (ℕ × ℕ)) (p : Patch) (r : Rule) → IsPatchRule r → profile p r ↔ labelled_profile profile labels p r
+labelled-patch : (profile : Profile) (labels : LabelSet) (p : Patch) (r : Rule) → IsPatchRule r → profile p r ↔ labelled_profile profile labels p r
 labelled-patch profile labels p SharedLabel own = absurd (omega (arith, own.1))
 labelled-patch profile labels p r own = (λ h. h, λ h. h)
 
 module _ (rules : Rules) where
   -- a rule of a patch is tried, and labels play no part in it
-  patch_same : (labels : List (ℕ × ℕ)) (p : Patch) (r : Rule) → IsPatchRule r → tried rules p r ↔ HoldsIfTried rules labels p r
+  patch_same : (labels : LabelSet) (p : Patch) (r : Rule) → IsPatchRule r → tried rules p r ↔ HoldsIfTried rules labels p r
   patch_same labels p r own =
       let same = labelled-patch (tried rules) labels p r own in
       ((λ holds again. same.0 holds), λ f. same.1 (f (patch_tried rules.judged r own)))
 
   -- so a flag of it is one of it among those that are tried, and the other way round
-  pub told_patch : (labels : List (ℕ × ℕ)) (p : Patch) (b : Bool) (r : Rule) → IsPatchRule r → TellsFault b (tried rules p r) → TellsFault b (HoldsIfTried rules labels p r)
+  pub told_patch : (labels : LabelSet) (p : Patch) (b : Bool) (r : Rule) → IsPatchRule r → TellsFault b (tried rules p r) → TellsFault b (HoldsIfTried rules labels p r)
   told_patch labels p b r own told = tells_same b (tried rules p r) (HoldsIfTried rules labels p r) (patch_same labels p r own) told
 
-  pub told_here : (labels : List (ℕ × ℕ)) (p : Patch) (b : Bool) (r : Rule) → IsPatchRule r → TellsFault b (HoldsIfTried rules labels p r) → TellsFault b (tried rules p r)
+  pub told_here : (labels : LabelSet) (p : Patch) (b : Bool) (r : Rule) → IsPatchRule r → TellsFault b (HoldsIfTried rules labels p r) → TellsFault b (tried rules p r)
   told_here labels p b r own told =
       let same = patch_same labels p r own in
       tells_same b (HoldsIfTried rules labels p r) (tried rules p r) (same.1, same.0) told
 
   -- the flag of SharedLabel, where labels are judged
-  pub told_shared : (labels : List (ℕ × ℕ)) (p : Patch) (b : Bool) → IsTrue (has_bas rules.judged) → TellsFault b (labelled_profile (tried rules) labels p SharedLabel) →
+  pub told_shared : (labels : LabelSet) (p : Patch) (b : Bool) → IsTrue (has_bas rules.judged) → TellsFault b (labelled_profile (tried rules) labels p SharedLabel) →
       TellsFault b (HoldsIfTried rules labels p SharedLabel)
   told_shared labels p b own told =
       tells_same b (labelled_profile (tried rules) labels p SharedLabel) (HoldsIfTried rules labels p SharedLabel)
       ((λ holds again. holds), λ f. f (shared_tried rules.judged own)) told
 
   -- SharedLabel isn't counted where labels aren't judged
-  pub told_untried : (labels : List (ℕ × ℕ)) (p : Patch) → has_bas rules.judged ≡ false → HoldsIfTried rules labels p SharedLabel
+  pub told_untried : (labels : LabelSet) (p : Patch) → has_bas rules.judged ≡ false → HoldsIfTried rules labels p SharedLabel
   told_untried labels p is = λ own. absurd (shared_untried rules.judged is own)
 
-  module _ (g : Grid) (ps : Products) (labels : List (ℕ × ℕ)) (c : Cell) (inside : IsInside g c)
+  module _ (g : Grid) (ps : Products) (labels : LabelSet) (c : Cell) (inside : IsInside g c)
       (before : IsTrue (has_bas rules.judged) → AreLabelsBefore g ps c labels) where
     -- with the labels before the cell, if they are compared, a rule that is tried holds at the patch as it does at the cell
     pub tried_at : (r : Rule) → IsTried rules.judged r → HoldsIfTried rules labels (patch_at g ps c) r ↔ HoldsAt (tried rules) g ps c r

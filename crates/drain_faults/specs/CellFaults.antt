@@ -1,5 +1,6 @@
 -- What one cell more adds to what was found of one rule, and to the first fault.
-use Rattle.std.specs.Prelude.{Bool, true, false, ℕ, List, Option, ◌≡◌, ◌+◌, ◌^◌, ◌<◌, ◌⊎◌, Some, None, unwrap_or}
+use Rattle.std.specs.Prelude.{Bool, true, false, Option, ◌≡◌, ◌+◌, ◌^◌, ◌<◌, ◌⊎◌, Some, None, unwrap_or}
+use Rattle.drain_basin.specs.Admitted.{LabelSet}
 use Rattle.drain_grid.specs.declared.rule.Rule.{Rule}
 use Rattle.drain_grid.specs.declared.rule.Rule.TheVariants.{VoidCell, Missing, BadCode, BelowGround, OpenRaised, NoSpill, SpillHeight, SpillRank, NotLeast, Slope, OutletCode, FlatStep, Accumulation, Label, SharedLabel}
 use Rattle.drain_faults.specs.declared.per_rule.PerRule.{PerRule}
@@ -44,7 +45,7 @@ of_rule things SharedLabel = things.shared_label
 -- What the rules that are tried say of a cell. They are this project's own.
 
 -- the rule, if it is tried, holds at the patch: SharedLabel against these labels
-abbrev pub HoldsIfTried : Rules → List (ℕ × ℕ) → Patch → Rule → Type 0
+abbrev pub HoldsIfTried : Rules → LabelSet → Patch → Rule → Type 0
 HoldsIfTried rules labels p r = IsTried rules.judged r → labelled_profile (tried rules) labels p r
 
 -- each rule that is tried holds at the cell

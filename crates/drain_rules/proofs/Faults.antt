@@ -1,5 +1,6 @@
 -- The least fault of a cell: from its patch, and for every rule from the labels so far, to the grid.
-use Rattle.std.proofs.Common.{◌≡◌, ℕ, ◌↔◌, Bool, true, false, not, IsTrue, List, Option, Some, None, refl, subst, arith, ◌≢◌, ◌≤◌}
+use Rattle.std.proofs.Common.{◌≡◌, ◌↔◌, Bool, true, false, not, IsTrue, Option, Some, None, refl, subst, arith, ◌≢◌, ◌≤◌}
+use Rattle.drain_basin.specs.Admitted.{LabelSet}
 use Rattle.drain_grid.specs.declared.cell.Cell.{Cell}
 use Rattle.drain_grid.specs.declared.rule.Rule.{Rule}
 use Rattle.drain_grid.specs.declared.rule.Rule.TheVariants.{SharedLabel, VoidCell, BadCode, NotLeast, FlatStep, Label}
@@ -57,7 +58,7 @@ least-labelled profile IsOwn IsNew g ps c p o shared is least =
     (subst (λ p. IsLeastFault IsOwn (with_labels IsNew profile p) o) is least)
 
 -- with the labels of the outlets before the cell, every rule is that of the grid
-pub labelled-HoldsAt : (profile : Profile) (g : Grid) (ps : Products) (labels : List (ℕ × ℕ)) (c : Cell) (r : Rule) → IsInside g c →
+pub labelled-HoldsAt : (profile : Profile) (g : Grid) (ps : Products) (labels : LabelSet) (c : Cell) (r : Rule) → IsInside g c →
     AreLabelsBefore g ps c labels → labelled_profile profile labels (patch_at g ps c) r ↔ HoldsAt profile g ps c r
 labelled-HoldsAt profile g ps labels c SharedLabel inside before = labels-shared g ps labels c inside before
 labelled-HoldsAt profile g ps labels c r inside before = (λ h. h, λ h. h)

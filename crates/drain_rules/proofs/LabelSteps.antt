@@ -1,7 +1,7 @@
 -- What is kept of outlets, from place to place of a row.
-use Rattle.std.proofs.Common.{◌≡◌, ℕ, ℤ, ◌+◌, ◌↔◌, ◌⊎◌, inl, inr, List, arith, ◌<◌, ◌≤◌, min}
+use Rattle.std.proofs.Common.{◌≡◌, ℕ, ℤ, ◌+◌, ◌↔◌, ◌⊎◌, inl, inr, arith, ◌<◌, ◌≤◌, min}
 use Rattle.std.proofs.lemmas.Bool.{cases_lt}
-use Rattle.drain_basin.specs.Admitted.{IsAdmitted}
+use Rattle.drain_basin.specs.Admitted.{IsAdmitted, LabelSet}
 use Rattle.drain_grid.specs.declared.cell.Cell.{Cell}
 use Rattle.drain_grid.specs.Extent.{IsEarlier}
 use Rattle.drain_grid.specs.Values.{Values}
@@ -18,7 +18,7 @@ use Rattle.drain_rules.proofs.RowPasses.{begin-passes, end-passes, row-passes, r
 -- The labels of the outlets before a place, as the place goes on in row order.
 
 -- with the cell's own label, if it is an outlet, the labels are those before the next place
-pub AreLabelsBefore-more : (g : Grid) (ps : Products) (row col : ℕ) (here : Values) (old new : List (ℕ × ℕ)) → IsInside g (place row col) →
+pub AreLabelsBefore-more : (g : Grid) (ps : Products) (row col : ℕ) (here : Values) (old new : LabelSet) → IsInside g (place row col) →
     here ≡ values_at g ps (place row col) → AreLabelsBefore g ps (place row col) old →
     ((label : ℤ) → IsAdmitted new label ↔ (IsLabelOf here label ⊎ IsAdmitted old label)) →
     AreLabelsBefore g ps (place row (col + 1)) new
@@ -38,7 +38,7 @@ next_row_begins b row cols (inl above) = inl (omega (arith, above))
 next_row_begins b row cols (inr beside) = inl (omega (arith, beside.0))
 
 -- the labels before the end of a row are those before the next row
-pub AreLabelsBefore-row : (g : Grid) (ps : Products) (row : ℕ) (labels : List (ℕ × ℕ)) →
+pub AreLabelsBefore-row : (g : Grid) (ps : Products) (row : ℕ) (labels : LabelSet) →
     AreLabelsBefore g ps (place row g.extent.cols) labels → AreLabelsBefore g ps (place (row + 1) 0) labels
 AreLabelsBefore-row g ps row labels before label = (
   (λ admitted.

@@ -1,7 +1,7 @@
 -- The labels of outlets, as the rule SharedLabel compares them: no outlet has the label of an earlier one.
 -- Source: that each basin has a label of its own is this project's own.
-use Rattle.std.specs.Prelude.{◌≡◌, ℕ, ℤ, pos, ◌↔◌, IsSome, List}
-use Rattle.drain_basin.specs.Admitted.{IsAdmitted}
+use Rattle.std.specs.Prelude.{◌≡◌, ℤ, pos, ◌↔◌, IsSome}
+use Rattle.drain_basin.specs.Admitted.{IsAdmitted, LabelSet}
 use Rattle.drain_grid.specs.declared.cell.Cell.{Cell}
 use Rattle.drain_grid.specs.declared.rule.Rule.{Rule}
 use Rattle.drain_grid.specs.declared.judged.Rules.{Rules}
@@ -45,13 +45,13 @@ pub record IsLabelBefore (g : Grid) (ps : Products) (place : Cell) (label : ℤ)
   pub label_is : label ≡ ps.bas cell
 
 -- the labels that were admitted are exactly those of the cells before this place
-abbrev pub AreLabelsBefore : Grid → Products → Cell → List (ℕ × ℕ) → Type 0
+abbrev pub AreLabelsBefore : Grid → Products → Cell → LabelSet → Type 0
 AreLabelsBefore g ps place labels = (label : ℤ) → IsAdmitted labels label ↔ IsLabelBefore g ps place label
 
 -- an outlet with these values has none of the labels that were admitted
-abbrev pub HasNoLabel : List (ℕ × ℕ) → Values → Type 0
+abbrev pub HasNoLabel : LabelSet → Values → Type 0
 HasNoLabel labels v = IsOutletByCode v → ¬ IsAdmitted labels v.bas
 
 -- these rules of a patch, and SharedLabel against the labels that were admitted
-abbrev pub labelled_profile : Profile → List (ℕ × ℕ) → Profile
+abbrev pub labelled_profile : Profile → LabelSet → Profile
 labelled_profile profile labels = with_labels (HasNoLabel labels) profile

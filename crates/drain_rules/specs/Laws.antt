@@ -5,9 +5,9 @@ use Rattle.drain_grid.specs.Values.{NoDataNumbers, Values}
 use Rattle.drain_grid.specs.Grid.{Grid, Products, IsInside, values_at}
 use Rattle.drain_grid.specs.declared.verdict.Verdict.{Verdict}
 use Rattle.drain_rules.specs.Verdicts.{IsVerdict}
-use Rattle.std.proofs.Common.{ℕ, ℤ, ◌+◌, ◌≤◌, ◌↔◌, ◌⊎◌, inl, inr, List, refl, sym, ◌∙◌, ap, subst, arith}
+use Rattle.std.proofs.Common.{ℕ, ℤ, ◌+◌, ◌≤◌, ◌↔◌, ◌⊎◌, inl, inr, refl, sym, ◌∙◌, ap, subst, arith}
 use Rattle.std.proofs.lemmas.Bool.{cases_lt}
-use Rattle.drain_basin.specs.Admitted.{IsAdmitted}
+use Rattle.drain_basin.specs.Admitted.{IsAdmitted, LabelSet}
 use Rattle.drain_grid.specs.declared.cell.TheConstants.{MAX_LENGTH}
 use Rattle.drain_grid.specs.Extent.{IsEarlier}
 use Rattle.drain_grid.specs.GridRules.{SharedLabelHolds}
@@ -46,7 +46,7 @@ earlier-still b row col (inl above) = inl above
 earlier-still b row col (inr beside) = inr (beside.0, omega (arith, beside.1))
 
 -- with the cell's own label, if it is an outlet, the labels are those before the next place
-pub labels-more : (g : Grid) (ps : Products) (row col : ℕ) (here : Values) (old new : List (ℕ × ℕ)) → IsInside g (place row col) →
+pub labels-more : (g : Grid) (ps : Products) (row col : ℕ) (here : Values) (old new : LabelSet) → IsInside g (place row col) →
     here ≡ values_at g ps (place row col) → AreLabelsBefore g ps (place row col) old →
     ((label : ℤ) → IsAdmitted new label ↔ (IsLabelOf here label ⊎ IsAdmitted old label)) →
     AreLabelsBefore g ps (place row (col + 1)) new
@@ -83,7 +83,7 @@ all_cells g c p inside narrow few (inl above) = record { top = omega arith; bott
 all_cells g c p inside narrow few (inr beside) = record { top = omega arith; bottom = omega (arith, beside.0, few); left = omega arith; right = omega (arith, inside.col, narrow) }
 
 -- the labels before a place are those before another if no outlet lies between
-pub labels-passed : (g : Grid) (ps : Products) (p q : Cell) (labels : List (ℕ × ℕ)) → g.extent.cols ≤ MAX_LENGTH → p.row ≤ MAX_LENGTH → q.row ≤ MAX_LENGTH →
+pub labels-passed : (g : Grid) (ps : Products) (p q : Cell) (labels : LabelSet) → g.extent.cols ≤ MAX_LENGTH → p.row ≤ MAX_LENGTH → q.row ≤ MAX_LENGTH →
     ((c : Cell) → HasCell everywhere c → IsOutletCell g ps c → IsEarlier c p ↔ IsEarlier c q) → AreLabelsBefore g ps p labels → AreLabelsBefore g ps q labels
 labels-passed g ps p q labels narrow p_few q_few same before label = (
   (λ admitted.
@@ -96,7 +96,7 @@ labels-passed g ps p q labels narrow p_few q_few same before label = (
 )
 
 -- with the labels of the outlets before a cell, SharedLabel is that of the grid
-pub labels-shared : (g : Grid) (ps : Products) (labels : List (ℕ × ℕ)) (c : Cell) → IsInside g c → AreLabelsBefore g ps c labels →
+pub labels-shared : (g : Grid) (ps : Products) (labels : LabelSet) (c : Cell) → IsInside g c → AreLabelsBefore g ps c labels →
     HasNoLabel labels (values_at g ps c) ↔ SharedLabelHolds g ps c
 labels-shared g ps labels c inside before = (
   (λ fresh here code b at_b earlier code_b same.

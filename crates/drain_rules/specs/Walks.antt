@@ -1,6 +1,7 @@
 -- What the code's walk over the judged cells of a grid has found.
 use Rattle.std.specs.Prelude.{◌≡◌, ℕ, ◌*◌, List, Bool, true}
 use Rattle.std.specs.List.{count_by, flat_map, range_with_len}
+use Rattle.drain_basin.specs.Admitted.{LabelSet}
 use Rattle.drain_grid.specs.declared.cell.Cell.{Cell}
 use Rattle.drain_grid.specs.declared.cell.TheConstants.{MAX_LENGTH}
 use Rattle.drain_grid.specs.Extent.{row_cells}
@@ -50,5 +51,5 @@ abbrev pub OfNextRow : {L : Type 0} → (Grid → Products → ℕ → L → Row
 OfNextRow IsRight rows labels outcome cols shown P = (g : Grid) (ps : Products) → AreRowPatches g ps rows cols shown → IsRight g ps rows labels outcome → P g ps
 
 -- so of all cells, where labels are compared
-abbrev pub IsRightOfAll : Rules → Grid → Products → ℕ → List (ℕ × ℕ) → RowOutcome → Type 0
+abbrev pub IsRightOfAll : Rules → Grid → Products → ℕ → LabelSet → RowOutcome → Type 0
 IsRightOfAll = IsRightOf true (λ labels. everywhere) AreLabelsBefore

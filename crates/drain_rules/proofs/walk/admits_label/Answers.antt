@@ -1,7 +1,7 @@
-use Rattle.std.proofs.Common.{refl, ◌≡◌, ℕ, ℤ, List, Bool, Result, Ok, Err, IsTrue, to_z, of_z, w64, arith, sym, ap, ◌∙◌, subst, inl, inr}
+use Rattle.std.proofs.Common.{refl, ◌≡◌, ℤ, Bool, Result, Ok, Err, IsTrue, to_z, of_z, w64, arith, sym, ap, ◌∙◌, subst, inl, inr}
 use Rattle.std.specs.Prelude.{◌↔◌, ◌⊎◌, IfOk, OnOk, OnErr, IsOk}
 use Rattle.std.proofs.lemmas.Int.{ints, to_z-of_z}
-use Rattle.drain_basin.specs.Admitted.{IsAdmitted}
+use Rattle.drain_basin.specs.Admitted.{IsAdmitted, LabelSet}
 use Rattle.drain_grid.specs.Values.{IsPixel, Values}
 use Rattle.drain_rules.specs.Labels.{IsLabelOf, IsOutletByCode}
 use Rattle.drain_rules.proofs.walk.admits_label.Goals as goal
@@ -11,12 +11,12 @@ same_label : (n m : ℤ) → n ≡ m → IsPixel n → to_z w64 (of_z w64 n) ≡
 same_label n m is ok = to_z-of_z w64 n (grind (arith, ints, ok.low, ok.high)) ∙ is
 
 -- an outlet's label was admitted
-new-outlet : {E : Type 0} (r : Result Bool E) (old : List (ℕ × ℕ)) (v : Values) (label : ℤ) → label ≡ v.bas → IsOutletByCode v → IfOk r (λ is_new. IsTrue is_new ↔ ¬ IsAdmitted old label) →
+new-outlet : {E : Type 0} (r : Result Bool E) (old : LabelSet) (v : Values) (label : ℤ) → label ≡ v.bas → IsOutletByCode v → IfOk r (λ is_new. IsTrue is_new ↔ ¬ IsAdmitted old label) →
     IfOk r (λ is_new. IsTrue is_new ↔ (IsOutletByCode v → ¬ IsAdmitted old v.bas))
 new-outlet (Ok b) old v label is outlet h = (λ yes there at. h.0 yes (subst (IsAdmitted old) (sym is) at), λ none. h.1 (λ at. none outlet (subst (IsAdmitted old) is at)))
 new-outlet (Err e) old v label is outlet h = tt
 
-kept-outlet : {E : Type 0} (r : Result Bool E) (old new : List (ℕ × ℕ)) (v : Values) (label : ℤ) → label ≡ v.bas → IsOutletByCode v → OnOk r ((other : ℤ) → IsAdmitted new other ↔ ((other ≡ label) ⊎ IsAdmitted old other)) →
+kept-outlet : {E : Type 0} (r : Result Bool E) (old new : LabelSet) (v : Values) (label : ℤ) → label ≡ v.bas → IsOutletByCode v → OnOk r ((other : ℤ) → IsAdmitted new other ↔ ((other ≡ label) ⊎ IsAdmitted old other)) →
     OnOk r ((other : ℤ) → IsAdmitted new other ↔ (IsLabelOf v other ⊎ IsAdmitted old other))
 kept-outlet (Ok b) old new v label is outlet h = λ other. (λ at. there other ((h other).0 at), λ at. (h other).1 (here other at))
   where
@@ -29,7 +29,7 @@ kept-outlet (Ok b) old new v label is outlet h = λ other. (λ at. there other (
     here other (inr before) = inr before
 kept-outlet (Err e) old new v label is outlet h = tt
 
-err-outlet : {E : Type 0} (r : Result Bool E) (old : List (ℕ × ℕ)) (v : Values) (label : ℤ) → label ≡ v.bas → IsOutletByCode v → (IsAdmitted old label → IsOk r) → OnErr r (IsOutletByCode v × ¬ IsAdmitted old v.bas)
+err-outlet : {E : Type 0} (r : Result Bool E) (old : LabelSet) (v : Values) (label : ℤ) → label ≡ v.bas → IsOutletByCode v → (IsAdmitted old label → IsOk r) → OnErr r (IsOutletByCode v × ¬ IsAdmitted old v.bas)
 err-outlet (Ok b) old v label is outlet known = tt
 err-outlet (Err e) old v label is outlet known = (outlet, λ at. absurd (let ok = known (subst (IsAdmitted old) (sym is) at) in cc))
 

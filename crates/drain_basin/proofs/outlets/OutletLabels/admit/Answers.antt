@@ -1,47 +1,49 @@
-use Rattle.std.proofs.Common.{◌≡◌, ◌/◌, ◌%◌, ◌∷◌, refl, subst, sym, ◌∙◌}
-use Rattle.drain_basin.specs.Admitted.{PutsWord, word}
-use Rattle.drain_basin.specs.Words.{with_bit}
-use Rattle.drain_basin.specs.declared.outlets.Beside.TheVariants.{Unused}
-use Rattle.drain_basin.proofs.FoundWords.{admitted_after, finds}
-use Rattle.drain_basin.proofs.TreeWords.{newer_is_used, put_newer, put_same, put_through, word_beside, word_in_tree}
+use Rattle.std.proofs.Common.{◌≡◌, ◌↔◌, ◌∙◌, ℕ, IsTrue, ap, cond, max, nat_eq, subst, sym}
+use Rattle.drain_basin.specs.Admitted.{high_bit, low_bit, set_bit, IsAdmitted, LabelSet}
+use Rattle.drain_basin.proofs.Bits.{low_past, whole}
+use Rattle.drain_basin.proofs.Labels.{adds_high, adds_low, admitted_after, new_where_clear, only_high, only_low, place_of, Adds}
 use Rattle.drain_basin.proofs.outlets.OutletLabels.admit.Goals as goal
-use Rattle.drain_basin.proofs.outlets.OutletLabels.admit.Goals.{else-block-self-via-else-block-self, else-block-self-via-then-block-self+else-is_used, else-is_newer, then-is_newer}
+use Rattle.drain_basin.proofs.outlets.OutletLabels.admit.Goals.{then-reach, else-reach+in_ok-is_new}
 
--- the word beside the tree gets one more bit
-pub returns-then-is_used-clause-kept : goal.returns-then-is_used-clause-kept
-returns-then-is_used-clause-kept c =
-    let place = c.cast_unsigned-place.result in
-    let inside = c.self.inside in
-    admitted_after c.args.self.now _ c.args.label place inside.word
-    (finds c.args.self.now c.args.label place inside.word c.ranges.label c.cast_unsigned-place.ensures
-    (word_beside c.args.self.now inside.blocks.entries inside.last inside.word (place / 16) c.self.view_is c.if-block-self.true))
-    (put_same c.args.self.now inside.blocks.entries inside.last inside.word (place / 16) (with_bit inside.word (place % 16)) c.self.view_is c.if-block-self.true)
+pub returns-clause-new : goal.returns-clause-new
+returns-clause-new c =
+    let old : LabelSet = c.args.self.now in
+    let place : ℕ = c.cast_unsigned-place.result in
+    let low = c.reach.new.low.items in
+    let high = c.reach.new.high.entries in
+    let same : (p : ℕ) → max (low_bit low p) (high_bit high p) ≡ set_bit old p = λ p. c.reach.ensures.bits p ∙ ap (λ (s : LabelSet). set_bit s p) c.self.view_is in
+    let is_place = place_of c.args.label place c.ranges.label c.cast_unsigned-place.ensures in
+    elim c.if-reach.branch [
+      | then-reach w ↦
+          let clear = only_low old low high place (same place) (c.reach.ensures.apart place (c.reach.ensures.has_word w.if-reach.true)) in
+          let read = ap (λ xs. low_bit xs place) w.deref_mut.ensures.value ∙ clear in
+          subst (λ b. IsTrue b ↔ ¬ IsAdmitted old c.args.label) (sym w.is_new-is)
+          (new_where_clear old c.args.label place w.set_low-is_new.result c.ranges.label is_place
+          (subst (λ n. IsTrue w.set_low-is_new.result ↔ (n ≡ 0)) read w.set_low-is_new.ensures.is_new))
+      | else-reach+in_ok-is_new w ↦
+          let clear = only_high old low high place (same place) (low_past low place (c.reach.ensures.none w.if-reach.false)) in
+          subst (λ b. IsTrue b ↔ ¬ IsAdmitted old c.args.label) (sym w.is_new-is)
+          (new_where_clear old c.args.label place w.in_ok-is_new.is_new c.ranges.label is_place
+          (subst (λ n. IsTrue w.in_ok-is_new.is_new ↔ (n ≡ 0)) clear w.in_ok-is_new.ensures.is_new))
+    ]
 
--- a word of the tree does, and is beside it then
 pub returns-clause-kept : goal.returns-clause-kept
 returns-clause-kept c =
-    let place = c.cast_unsigned-place.result in
-    let inside = c.self.inside in
-    let block = place / 16 in
-    let found = word inside.blocks.entries block in
-    let value = c.in_ok-is_new.word in
-    let set = c.in_ok-is_new.ensures in
-    let apart : block ≡ inside.last → inside.beside ≡ Unused = λ is. elim c.else-block-self.branch [
-      | else-block-self-via-then-block-self+else-is_used w ↦ w.is_used.ensures.unused w.if-is_used.false
-      | else-block-self-via-else-block-self w ↦ absurd (w.if-block-self.false is)
+    let old : LabelSet = c.args.self.now in
+    let place : ℕ = c.cast_unsigned-place.result in
+    let low = c.reach.new.low.items in
+    let high = c.reach.new.high.entries in
+    let same : (p : ℕ) → max (low_bit low p) (high_bit high p) ≡ set_bit old p = λ p. c.reach.ensures.bits p ∙ ap (λ (s : LabelSet). set_bit s p) c.self.view_is in
+    let is_place = place_of c.args.label place c.ranges.label c.cast_unsigned-place.ensures in
+    let adds : Adds old (record { low = c.if-reach.self-inside.low.items; high = c.if-reach.self-inside.high.entries }) place =
+    elim c.if-reach.branch [
+      | then-reach w ↦
+          subst (λ it. Adds old (record { low = it.low.items; high = it.high.entries }) place) (sym w.self-inside-is)
+          (adds_low old low _ high place same
+          (λ p. ap (λ xs. low_bit xs p) (whole w.set_low-is_new.new.low _ c.reach.new.low.len (w.set_low-is_new.ensures.len ∙ w.deref_mut.ensures.len))
+          ∙ (w.set_low-is_new.ensures.set p ∙ ap (λ xs. cond (nat_eq place p) 1 (low_bit xs p)) w.deref_mut.ensures.value)))
+      | else-reach+in_ok-is_new w ↦
+          subst (λ it. Adds old (record { low = it.low.items; high = it.high.entries }) place) (sym w.self-inside-is)
+          (adds_high old low high _ place same w.in_ok-is_new.ensures.set)
     ] in
-    let put : PutsWord c.args.self.now ((block, value) ∷ c.if-is_newer.self-inside.blocks.entries) block value = elim c.if-is_newer.branch [
-      | then-is_newer w ↦
-          let newer = w.if-is_newer.ensures.newer refl in
-          subst (λ it. PutsWord c.args.self.now ((block, value) ∷ it.blocks.entries) block value) (sym w.self-inside-is)
-          (put_newer c.args.self.now inside.blocks.entries c.set_bit.new.blocks.entries w.write_word.new.blocks.entries inside.last inside.word block value c.self.view_is
-          (λ is. newer_is_used (sym newer ∙ apart is)) set.put w.write_word.ensures.put)
-      | else-is_newer w ↦
-          subst (λ it. PutsWord c.args.self.now ((block, value) ∷ it.blocks.entries) block value) (sym w.self-inside-is)
-          (put_through inside.beside c.args.self.now inside.blocks.entries c.set_bit.new.blocks.entries inside.last inside.word block value c.self.view_is c.self.invariant
-          (w.if-is_newer.ensures.other refl) set.put)
-    ] in
-    admitted_after c.args.self.now _ c.args.label place found
-    (finds c.args.self.now c.args.label place found c.ranges.label c.cast_unsigned-place.ensures
-    (word_in_tree inside.beside c.args.self.now inside.blocks.entries inside.last inside.word block c.self.view_is c.self.invariant apart))
-    (subst (λ n. PutsWord c.args.self.now ((block, value) ∷ c.if-is_newer.self-inside.blocks.entries) block n) set.word put)
+    admitted_after old _ c.args.label place c.ranges.label is_place adds
