@@ -126,9 +126,19 @@ fn admits_many_labels_in_any_order(rt: HostRuntime) -> Result<(), Fail> {
     for number in 0..1024u16 {
         let label = i64::from(number);
         let is_new = number >= 512;
-        same(&rt, (label, "after rising"), rising.admit(label), Ok(is_new));
+        same(
+            &rt,
+            (label, "after rising"),
+            rising.admit(label),
+            Ok(is_new),
+        );
         let label = scattered(number);
-        same(&rt, (label, "after scattered"), mixed.admit(label), Ok(is_new));
+        same(
+            &rt,
+            (label, "after scattered"),
+            mixed.admit(label),
+            Ok(is_new),
+        );
     }
     Ok(())
 }
