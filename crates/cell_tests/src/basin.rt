@@ -3,6 +3,8 @@
 use crate::agree::{same, same_rule};
 use drain_basin::{OutletLabels, fault};
 use drain_grid::{CellValues, OutOfMemory, Patch, Rule, Spacing};
+use std::alloc::Global;
+use std::process::Abort;
 use std::test::Fail;
 use worked::memory::gave_out;
 
@@ -97,11 +99,22 @@ static LABELS: [(i64, bool); 43] = [
     (-2147483648, false),
 ];
 
+/// Admits a label, again if memory was refused the first time, which only a new one can need.
+fn admits(rt: &impl Abort, alloc: Global, labels: &mut OutletLabels, label: i64, is_new: bool) {
+    let mut answer = labels.admit(label);
+    if answer == Err(OutOfMemory) {
+        same(rt, (label, "is new"), is_new, true);
+        same(rt, (label, "refused"), gave_out(alloc), true);
+        answer = labels.admit(label);
+    }
+    same(rt, label, answer, Ok(is_new));
+}
+
 #[test]
-fn admits_each_label_once(rt: HostRuntime) -> Result<(), Fail> {
+fn admits_each_label_once_after_refused_memory(rt: HostRuntime) -> Result<(), Fail> {
     let mut labels = OutletLabels::new(rt.alloc());
     for &(label, is_new) in &LABELS {
-        same(&rt, label, labels.admit(label), Ok(is_new));
+        admits(&rt, rt.alloc(), &mut labels, label, is_new);
     }
     Ok(())
 }
@@ -111,54 +124,51 @@ fn scattered(number: u16) -> i64 {
     i64::from(number.wrapping_mul(389) % 1024)
 }
 
-/// The lowest labels get words of their own while labels come: in order, and in none, where blocks move into these
-/// words. A label is known afterwards, and none that didn't come.
+/// The lowest labels get words of their own while labels come, in order or in none, and blocks move into these words. If
+/// memory for the words is refused the labels go into the map. A label is known afterwards, and none that didn't come.
 #[test]
-fn admits_many_labels_in_any_order(rt: HostRuntime) -> Result<(), Fail> {
+fn admits_labels_in_any_order_after_refused_memory(rt: HostRuntime) -> Result<(), Fail> {
     let mut rising = OutletLabels::new(rt.alloc());
     let mut mixed = OutletLabels::new(rt.alloc());
     for number in 0..512u16 {
-        let label = i64::from(number);
-        same(&rt, (label, "rising"), rising.admit(label), Ok(true));
-        let label = scattered(number);
-        same(&rt, (label, "scattered"), mixed.admit(label), Ok(true));
+        admits(&rt, rt.alloc(), &mut rising, i64::from(number), true);
+        admits(&rt, rt.alloc(), &mut mixed, scattered(number), true);
     }
     for number in 0..1024u16 {
-        let label = i64::from(number);
-        let is_new = number >= 512;
-        same(
+        admits(
             &rt,
-            (label, "after rising"),
-            rising.admit(label),
-            Ok(is_new),
+            rt.alloc(),
+            &mut rising,
+            i64::from(number),
+            number >= 512,
         );
-        let label = scattered(number);
-        same(
+        admits(
             &rt,
-            (label, "after scattered"),
-            mixed.admit(label),
-            Ok(is_new),
+            rt.alloc(),
+            &mut mixed,
+            scattered(number),
+            number >= 512,
         );
     }
     Ok(())
 }
 
-/// Labels of which no two share a word: the first are too few for words of their own.
+/// Labels of which no two share a word, too high for the words of the lowest.
 fn far_apart(number: u8) -> i64 {
-    i64::from(number) * 64
+    (i64::from(number) + 1) * 4096
 }
 
-/// Enough labels that the map grows, and then the lowest labels' words. A call that runs out of memory keeps the earlier
-/// labels, and is made again. A label for which the words can't grow goes into the map.
+/// Enough labels that the tree of words grows. A call that runs out of memory keeps the earlier labels, and is made
+/// again.
 #[test]
 fn holds_its_labels_after_refused_memory(rt: HostRuntime) -> Result<(), Fail> {
     let mut labels = OutletLabels::new(rt.alloc());
-    for number in (0..80u8).rev() {
+    for number in 0..40u8 {
         let label = far_apart(number);
         let answer = labels.admit(label);
         if answer != Ok(true) {
             same(&rt, (number, "refused"), answer, Err(OutOfMemory));
-            for earlier in number + 1..80 {
+            for earlier in 0..number {
                 let admitted = labels.admit(far_apart(earlier));
                 same(&rt, (earlier, "before"), admitted, Ok(false));
             }
@@ -166,7 +176,7 @@ fn holds_its_labels_after_refused_memory(rt: HostRuntime) -> Result<(), Fail> {
             same(&rt, (number, "again"), labels.admit(label), Ok(true));
         }
     }
-    for number in 0..80u8 {
+    for number in 0..40u8 {
         let admitted = labels.admit(far_apart(number));
         same(&rt, (number, "at the end"), admitted, Ok(false));
     }
