@@ -159,20 +159,23 @@ fn derive_on<R: ByteSource, T: GroundInput<R>>(
     ensures uses { UsesSet as_five (λ xs ps. set_devices T.devices xs (as_five ps)) (T.within frame.now) T.kept R.bytes_left R.counts (inputs.old, products.old) (inputs.new, products.new) (reading_in result) }
 {
     match flows_on::<R, T>(alloc, frame, sinks, inputs, products) {
-        Ok(flows) => derive_flows(alloc, flows.as_slice(), T::shape(frame)),
+        Ok(flows) => derive_flows(alloc, flows, T::shape(frame)),
         Err(refusal) => Err(DeriveRefusal::Refused(refusal)),
     }
 }
 
 /// What follows from flows, or why nothing does.
-fn derive_flows(alloc: Global, flows: &[Flow], shape: Shape) -> Result<Derived, DeriveRefusal>
-    requires counted { length flows.now ≡ shape.rows * shape.cols }
-    ensures derived { IfOk result (λ d. OfFlows shape flows.now (λ g ps. AreDerived g ps d.acc d.bas d.rnk)) }
+fn derive_flows(alloc: Global, flows: CellFlows, shape: Shape) -> Result<Derived, DeriveRefusal>
+    requires counted { length flows ≡ shape.rows * shape.cols }
+    ensures derived { IfOk result (λ d. OfFlows shape flows (λ g ps. AreDerived g ps d.acc d.bas d.rnk)) }
     ensures counts { IfOk result (AreCounts shape) }
-    ensures err { IfErr result (λ why. OfFlows shape flows.now (λ g ps. IsFlowsRefusal g ps why)) }
+    ensures err { IfErr result (λ why. OfFlows shape flows (λ g ps. IsFlowsRefusal g ps why)) }
     ensures reading { IfErr (reading_in result) (λ refusal. refusal ≡ Refusal.OutOfMemory) }
 {
-    match derive_from_flows(alloc, flows, shape) {
+    let Ok(listed) = flows.into_flows(alloc) else {
+        return Err(DeriveRefusal::Refused(Refusal::OutOfMemory));
+    };
+    match derive_from_flows(alloc, &listed, shape) {
         Ok(derived) => Ok(derived),
         Err(refusal) => Err(refusal_of(refusal)),
     }

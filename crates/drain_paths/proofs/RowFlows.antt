@@ -1,10 +1,10 @@
 -- The flows of a row, place by place.
 use Rattle.std.proofs.Common.{◌≡◌, ◌≢◌, ◌<◌, ◌+◌, ℕ, zero, suc, ◌∙◌, ℤ, pos, Option, None, List, [], ◌∷◌, length, get_or, set, get_or-set_other, get_or-set_same, below_more, refl, sym, ap, arith}
-use Rattle.std.proofs.lemmas.List.{ext_get_or, get_or-map}
+use Rattle.std.proofs.lemmas.List.{ext_get_or, get_or-map, length-map}
 use Rattle.drain_pixels.specs.Ground.{elevations, height_with}
 use Rattle.drain_paths.specs.declared.flow.Flow.{Flow}
 use Rattle.drain_paths.specs.declared.flow.Flow.TheVariants.{Void}
-use Rattle.drain_paths.specs.Flows.{cell_flow, flows_of}
+use Rattle.drain_paths.specs.Flows.{byte_flow, bytes_flows, cell_flow, flows_of}
 
 -- the flow at a place of a row
 abbrev pub place_flow : List (Option ℤ) → List ℤ → ℕ → Flow
@@ -26,18 +26,21 @@ get_or-flows_of (z ∷ zs) (n ∷ ns) (suc k) same less = get_or-flows_of zs ns 
 pub height-kept : (void : Option ℤ) (numbers : List ℤ) (k : ℕ) → k < length numbers → height_with void (get_or numbers k (pos 0)) ≡ get_or (elevations void numbers) k None
 height-kept void numbers k less = sym (get_or-map (height_with void) numbers k (pos 0) None less)
 
--- one place more
-pub flows_more : (zs : List (Option ℤ)) (ns : List ℤ) (out : List Flow) (k : ℕ) (f : Flow) → k < length out → f ≡ place_flow zs ns k →
-    ((i : ℕ) → i < k → get_or out i Void ≡ place_flow zs ns i) →
-    (i : ℕ) → i < k + 1 → get_or (set out k f) i Void ≡ place_flow zs ns i
-flows_more zs ns out k f inside here so_far =
-    below_more (λ i. get_or (set out k f) i Void ≡ place_flow zs ns i) k
-    (λ i h. let ne : i ≢ k = omega arith in get_or-set_other out k i f Void ne ∙ so_far i h)
-    (get_or-set_same out k f Void inside ∙ here)
+-- one place more, from the code put there
+pub flows_more : (zs : List (Option ℤ)) (ns : List ℤ) (out : List ℕ) (k code : ℕ) → k < length out → byte_flow code ≡ place_flow zs ns k →
+    ((i : ℕ) → i < k → byte_flow (get_or out i 0) ≡ place_flow zs ns i) →
+    (i : ℕ) → i < k + 1 → byte_flow (get_or (set out k code) i 0) ≡ place_flow zs ns i
+flows_more zs ns out k code inside here so_far =
+    below_more (λ i. byte_flow (get_or (set out k code) i 0) ≡ place_flow zs ns i) k
+    (λ i h. let ne : i ≢ k = omega arith in ap byte_flow (get_or-set_other out k i code 0 ne) ∙ so_far i h)
+    (ap byte_flow (get_or-set_same out k code 0 inside) ∙ here)
 
 -- all places
-pub flows_filled : (zs : List (Option ℤ)) (ns : List ℤ) (out : List Flow) → length out ≡ length zs → length zs ≡ length ns →
-    ((i : ℕ) → i < length zs → get_or out i Void ≡ place_flow zs ns i) → out ≡ flows_of zs ns
+pub flows_filled : (zs : List (Option ℤ)) (ns : List ℤ) (out : List ℕ) → length out ≡ length zs → length zs ≡ length ns →
+    ((i : ℕ) → i < length zs → byte_flow (get_or out i 0) ≡ place_flow zs ns i) → bytes_flows out ≡ flows_of zs ns
 flows_filled zs ns out long same each =
-    ext_get_or Void out (flows_of zs ns) (long ∙ sym (length-flows_of zs ns same))
-    (λ k less. let within : k < length zs = omega arith in each k within ∙ sym (get_or-flows_of zs ns k same within))
+    ext_get_or Void (bytes_flows out) (flows_of zs ns) (length-map out byte_flow ∙ long ∙ sym (length-flows_of zs ns same))
+    (λ k less.
+    (let within : k < length out = omega (arith, less, length-map out byte_flow) in
+    let inside : k < length zs = omega (arith, within, long) in
+    get_or-map byte_flow out k 0 Void within ∙ each k inside ∙ sym (get_or-flows_of zs ns k same inside)))

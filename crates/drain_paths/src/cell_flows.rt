@@ -1,14 +1,14 @@
 //! Which way each cell of a grid leads, a byte per cell, taken row by row.
 
-ghost use Rattle.std.specs.Prelude.{◌≡◌, ◌*◌, vec_len, IfOk, ◌≢◌, ◌<◌, ◌++◌, [], length, All, OnOk, OnErr, slice_index_or};
+ghost use Rattle.std.specs.Prelude.{◌≡◌, ◌*◌, vec_len, IfOk, ◌<◌, ◌++◌, [], length, All, OnOk, OnErr, slice_index_or};
 ghost use Rattle.drain_grid.specs.Extent.{IsCellOf};
 ghost use Rattle.drain_grid.specs.WholeGrid.{elevation_at, number_at};
-ghost use Rattle.drain_paths.specs.Flows.{IsByteTable, AreFlowsOf, cell_flow, flows_of};
+ghost use Rattle.drain_paths.specs.Flows.{AreFlowsOf, bytes_flows, cell_flow, flows_of};
 ghost use Rattle.drain_paths.specs.Ways.{ground_of, directions_of};
 ghost use Rattle.drain_grid.specs.Values.{IsPixel};
 ghost use Rattle.drain_pixels.specs.Ground.{elevations};
 
-use crate::flow::{Flow, byte_table, flow_of, flow_of_code};
+use crate::flow::{Flow, FlowTable, NO_CODE, cell_code, flows_of_codes};
 use crate::ways::Ways;
 use drain_grid::{Cell, Elevation, OutOfMemory, Raster};
 use drain_pixels::ground_row::height_with;
@@ -26,7 +26,7 @@ pub fn flows_of_rasters(
     ensures counted { IfOk result (λ flows. vec_len flows ≡ elevation.now.extent.rows * elevation.now.extent.cols) }
     ensures flows { IfOk result (λ flows. AreFlowsOf (ground_of elevation.now) (directions_of dir.now) elevation.now.extent flows.items) }
 {
-    let table = byte_table();
+    let table = FlowTable::new();
     let shape = elevation.shape();
     let mut flows = vec![in alloc; Flow::Void; shape.cells()]?;
     for place in 0..shape.cells() {
@@ -36,14 +36,13 @@ pub fn flows_of_rasters(
 }
 
 /// The flow of one cell.
-fn flow_of_cell(table: &[Flow; 256], elevation: &Elevation, dir: &Raster, cell: Cell) -> Flow
-    requires table { IsByteTable table.now }
+fn flow_of_cell(table: &FlowTable, elevation: &Elevation, dir: &Raster, cell: Cell) -> Flow
     requires same_shape { elevation.now.extent ≡ dir.now.extent }
     requires inside { IsCellOf elevation.now.extent cell }
     ensures { result ≡ cell_flow (elevation_at elevation.now cell) (number_at dir.now cell) }
 {
     match elevation.z(cell) {
-        Some(_) => flow_of_code(table, dir.value(cell)),
+        Some(_) => table.flow_of_number(dir.value(cell)),
         None => Flow::Void,
     }
 }
@@ -51,16 +50,18 @@ fn flow_of_cell(table: &[Flow; 256], elevation: &Elevation, dir: &Raster, cell: 
 /// The flows of the cells that were taken so far, in row order.
 #[derive(Drop)]
 pub struct CellFlows {
-    flows: Vec<Flow>,
+    codes: Vec<u8>,
+    table: FlowTable,
 }
 
 impl Model for CellFlows {
     ghost use Rattle.std.specs.Prelude.{List};
     ghost use Rattle.drain_paths.specs.declared.flow.Flow.{Flow};
+    ghost use Rattle.drain_paths.specs.Flows.{bytes_flows};
 
     ghost Value = { List Flow };
 
-    ghost view = { λ f. f.flows.items };
+    ghost view = { λ f. bytes_flows f.codes.items };
 }
 
 impl CellFlows {
@@ -72,7 +73,8 @@ impl CellFlows {
         ensures { result ≡ [] }
     {
         CellFlows {
-            flows: Vec::new(alloc),
+            codes: Vec::new(alloc),
+            table: FlowTable::new(),
         }
     }
 
@@ -87,15 +89,15 @@ impl CellFlows {
         let Some(end) = before.checked_add(samples.len()) else {
             return Err(OutOfMemory);
         };
-        self.flows.resize(end, Flow::Void)?;
-        let flows = &mut self.flows[before..];
+        self.codes.resize(end, NO_CODE)?;
+        let codes = &mut self.codes[before..];
         match dir.pixels() {
-            Pixels::U8(dir) => fill_by(flows, samples, &dir),
-            Pixels::I16(dir) => fill_by(flows, samples, &dir),
-            Pixels::U16(dir) => fill_by(flows, samples, &dir),
-            Pixels::I32(dir) => fill_by(flows, samples, &dir),
-            Pixels::U32(dir) => fill_by(flows, samples, &dir),
-            Pixels::Any(dir) => fill_by(flows, samples, &dir),
+            Pixels::U8(dir) => fill_by(codes, samples, &dir),
+            Pixels::I16(dir) => fill_by(codes, samples, &dir),
+            Pixels::U16(dir) => fill_by(codes, samples, &dir),
+            Pixels::I32(dir) => fill_by(codes, samples, &dir),
+            Pixels::U32(dir) => fill_by(codes, samples, &dir),
+            Pixels::Any(dir) => fill_by(codes, samples, &dir),
         }
         Ok(())
     }
@@ -104,14 +106,14 @@ impl CellFlows {
     pub fn len(&self) -> usize
         ensures { result ≡ length self.now }
     {
-        self.flows.len()
+        self.codes.len()
     }
 
-    /// The flows, in row order.
-    pub fn as_slice(&self) -> &[Flow]
-        ensures { result.now ≡ self.now }
+    /// The flows, in row order, with a byte per cell for them; the memory of those taken is given back.
+    pub fn into_flows(self, alloc: Global) -> Result<Vec<Flow>, OutOfMemory>
+        ensures { IfOk result (λ flows. flows.items ≡ self) }
     {
-        self.flows.as_slice()
+        flows_of_codes(alloc, &self.codes)
     }
 
     /// The flow of the cell with this many cells before it.
@@ -119,7 +121,7 @@ impl CellFlows {
         requires { index < length self.now }
         ensures { result ≡ slice_index_or self.now index Void }
     {
-        self.flows[index]
+        self.table.flow(self.codes[index])
     }
 
     /// Records that the run of the cell with this many cells before it is known to end.
@@ -127,7 +129,7 @@ impl CellFlows {
         requires { index < length self.old }
         ensures { self.new ≡ slice_set self.old index Flow.Ends }
     {
-        self.flows[index] = Flow::Ends;
+        self.codes[index] = 0;
     }
 }
 
@@ -140,12 +142,12 @@ impl Ways for CellFlows {
     }
 }
 
-/// The flows of a row, one to each place.
-fn fill_by<N: PixelNumbers + Copy>(out: &mut [Flow], samples: &GroundRow, dir: &N)
+/// The codes of a row, one to each place.
+fn fill_by<N: PixelNumbers + Copy>(out: &mut [u8], samples: &GroundRow, dir: &N)
     requires cells { length out.old ≡ length samples.now }
     requires numbers { length samples.now ≡ length (N.numbers dir.now) }
     requires pixels { All IsPixel (N.numbers dir.now) }
-    ensures { out.new ≡ flows_of samples.now (N.numbers dir.now) }
+    ensures { bytes_flows out.new ≡ flows_of samples.now (N.numbers dir.now) }
 {
     let (void, z) = samples.parts();
     match z {
@@ -160,7 +162,7 @@ fn fill_by<N: PixelNumbers + Copy>(out: &mut [Flow], samples: &GroundRow, dir: &
 
 /// The same, from the numbers of elevations, of which one may mean a void.
 fn fill<Z: PixelNumbers + Copy, N: PixelNumbers + Copy>(
-    out: &mut [Flow],
+    out: &mut [u8],
     void: Option<i64>,
     z: &Z,
     dir: &N,
@@ -168,13 +170,12 @@ fn fill<Z: PixelNumbers + Copy, N: PixelNumbers + Copy>(
     requires cells { length out.old ≡ length (Z.numbers z.now) }
     requires numbers { length (Z.numbers z.now) ≡ length (N.numbers dir.now) }
     requires pixels { All IsPixel (N.numbers dir.now) }
-    ensures { out.new ≡ flows_of (elevations void (Z.numbers z.now)) (N.numbers dir.now) }
+    ensures { bytes_flows out.new ≡ flows_of (elevations void (Z.numbers z.now)) (N.numbers dir.now) }
 {
-    let table = byte_table();
     // Local copies: behind references their addresses would be loaded again at each column.
     let heights = *z;
     let pixels = *dir;
     for k in 0..heights.len() {
-        out[k] = flow_of(&table, height_with(void, heights.at(k)), pixels.at(k));
+        out[k] = cell_code(height_with(void, heights.at(k)), pixels.at(k));
     }
 }

@@ -73,55 +73,75 @@ impl Flow {
 /// One byte: there are up to 829,497,601 of them.
 const _: () = prove!(size_of::<Flow>() == 1);
 
-/// The flow of a cell, from its elevation, none at a void, and its direction number, whatever that is. Which way a cell
-/// leads is unpredictable, so the flow is looked up in a table, without a branch.
+/// The code of a cell without data.
+pub const NO_CODE: u8 = u8::MAX;
+
+/// The byte that is kept of a cell: `NO_CODE` at a void, else its direction number, or 129 if it is no byte up to 128.
 #[inline(always)]
-pub(crate) fn flow_of(table: &[Flow; 256], z: Option<i64>, number: i64) -> Flow
-    requires { IsByteTable table.now }
-    ensures { result ≡ cell_flow z number }
+pub(crate) fn cell_code(z: Option<i64>, number: i64) -> u8
+    ensures { byte_flow result ≡ cell_flow z number }
 {
-    // looked up at a void too, so that the test makes no jump either
-    let with_data = flow_of_code(table, number);
-    match z {
-        Some(_) => with_data,
-        None => Flow::Void,
-    }
+    // The greater of two bytes makes no jump, so that the compiler takes many cells at once.
+    let least = match z {
+        Some(_) => 0,
+        None => NO_CODE,
+    };
+    code_of(number).max(least)
 }
 
-/// The flow of a data cell, from its direction number.
+/// The number, if it is from 0 to 128, else 129: that is no code, as no number past it or below 0 is.
 #[inline(always)]
-pub(crate) fn flow_of_code(table: &[Flow; 256], number: i64) -> Flow
-    requires { IsByteTable table.now }
-    ensures { result ≡ code_flow number }
-{
-    table[place_of(number)]
-}
-
-/// The place in the table for a number: 129 is no code, as no number past it or below 0 is.
-#[inline(always)]
-fn place_of(number: i64) -> usize
-    ensures place { result < 130 }
+fn code_of(number: i64) -> u8
+    ensures few { result < 130 }
     ensures flow { byte_flow result ≡ code_flow number }
 {
     if number < 0 || number > 128 {
         129
     } else {
-        number as usize
+        number as u8
     }
 }
 
-/// The code of a cell without data.
-pub const NO_CODE: u8 = u8::MAX;
+/// The flow of each code: which way a cell leads is unpredictable, so flows are looked up, without a branch.
+#[derive(Clone, Copy)]
+pub(crate) struct FlowTable {
+    flows: [Flow; 256],
+    ghost right: { IsByteTable flows },
+}
+
+impl FlowTable {
+    pub(crate) fn new() -> FlowTable {
+        FlowTable {
+            flows: byte_table(),
+        }
+    }
+
+    /// The flow of a code.
+    #[inline(always)]
+    pub(crate) fn flow(&self, code: u8) -> Flow
+        ensures { result ≡ byte_flow code }
+    {
+        self.flows[code as usize]
+    }
+
+    /// The flow of a data cell, from its direction number, whatever that is.
+    #[inline(always)]
+    pub(crate) fn flow_of_number(&self, number: i64) -> Flow
+        ensures { result ≡ code_flow number }
+    {
+        self.flow(code_of(number))
+    }
+}
 
 /// The flow of each code.
 pub fn flows_of_codes(alloc: Global, codes: &[u8]) -> Result<Vec<Flow>, OutOfMemory>
     ensures { IfOk result (λ flows. flows.items ≡ bytes_flows codes.now) }
 {
-    let table = byte_table();
+    let table = FlowTable::new();
     let mut flows = Vec::with_capacity(alloc, room_for(codes.len()))?;
     flows.resize(codes.len(), Flow::Void)?;
     for place in 0..codes.len() {
-        flows[place] = table[codes[place] as usize];
+        flows[place] = table.flow(codes[place]);
     }
     Ok(flows)
 }
@@ -130,8 +150,7 @@ pub fn flows_of_codes(alloc: Global, codes: &[u8]) -> Result<Vec<Flow>, OutOfMem
 #[derive(Clone, Copy)]
 pub(crate) struct CodedFlows<'a> {
     codes: &'a [u8],
-    table: [Flow; 256],
-    ghost right: { IsByteTable table },
+    table: FlowTable,
 }
 
 impl<'a> CodedFlows<'a> {
@@ -140,7 +159,7 @@ impl<'a> CodedFlows<'a> {
     {
         CodedFlows {
             codes,
-            table: byte_table(),
+            table: FlowTable::new(),
         }
     }
 }
@@ -150,7 +169,7 @@ impl Ways for CodedFlows<'_> {
 
     #[inline(always)]
     fn flow(&self, place: usize) -> Flow {
-        self.table[self.codes[place] as usize]
+        self.table.flow(self.codes[place])
     }
 }
 

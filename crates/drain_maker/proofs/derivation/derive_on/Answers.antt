@@ -13,8 +13,7 @@ returns-in-Ok-clause-derived g c =
     let flows = c.in-Ok.ensures.flows x t means tell in (
       flows.0,
       derived (set_grid s) (set_products s)
-          (subst (λ (e : Extent). AreFlowsOf (set_grid s) (set_products s) e c.as_slice.result.now) (sym c.shape.ensures)
-          (subst (AreFlowsOf (set_grid s) (set_products s) (g.T.GroundInput.extent c.args.frame.now)) (sym c.as_slice.ensures) flows.1)),
+          (subst (λ (e : Extent). AreFlowsOf (set_grid s) (set_products s) e c.in-Ok.flows) (sym c.shape.ensures) flows.1),
     ))) c.derive_flows.ensures.derived
 
 pub returns-in-Ok-clause-err : goal.returns-in-Ok-clause-err
@@ -23,5 +22,4 @@ returns-in-Ok-clause-err g c =
     (let s : GroundSet = record { terrain = g.T.GroundInput.terrain x; texts = t } in
     let flows = c.in-Ok.ensures.flows x t means tell in
     derive_refusal s why flows.0 (told (set_grid s) (set_products s)
-    (subst (λ (e : Extent). AreFlowsOf (set_grid s) (set_products s) e c.as_slice.result.now) (sym c.shape.ensures)
-    (subst (AreFlowsOf (set_grid s) (set_products s) (g.T.GroundInput.extent c.args.frame.now)) (sym c.as_slice.ensures) flows.1))))) c.derive_flows.ensures.err
+    (subst (λ (e : Extent). AreFlowsOf (set_grid s) (set_products s) e c.in-Ok.flows) (sym c.shape.ensures) flows.1)))) c.derive_flows.ensures.err

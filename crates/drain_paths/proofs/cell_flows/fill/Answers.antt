@@ -12,8 +12,8 @@ loop-k-preserved g c =
     let ns = g.N.PixelNumbers.numbers c.args.dir.now in
     let void = c.args.void in
     let less : c.loop-k.k < length zs = search rules in
-    flows_more (elevations void zs) ns c.loop-k.out c.loop-k.k c.flow_of.result (search rules)
-    (c.flow_of.ensures
+    flows_more (elevations void zs) ns c.loop-k.out c.loop-k.k c.cell_code.result (search rules)
+    (c.cell_code.ensures
     ∙ ap (λ z. cell_flow z (to_z w64 (of_z w64 c.at-in-loop-k.result))) (c.height_with.ensures
     ∙ ap (height_with void) (to_z-of_z w64 c.at.result (search rules) ∙ c.at.ensures) ∙ height-kept void zs c.loop-k.k less)
     ∙ ap (cell_flow (get_or (elevations void zs) c.loop-k.k None)) (to_z-of_z w64 c.at-in-loop-k.result (search rules) ∙ c.at-in-loop-k.ensures))

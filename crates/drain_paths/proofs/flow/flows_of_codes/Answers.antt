@@ -1,4 +1,4 @@
-use Rattle.std.proofs.Common.{◌≡◌, ◌≢◌, ◌<◌, ◌∙◌, length, get_or, set, get_or-set_other, get_or-set_same, below_more, sym, arith, rules}
+use Rattle.std.proofs.Common.{◌≡◌, ◌≢◌, ◌<◌, ◌∙◌, length, get_or, set, get_or-set_other, get_or-set_same, below_more, sym, arith}
 use Rattle.std.proofs.lemmas.List.{ext_get_or, get_or-map, length-map, length-set}
 use Rattle.drain_paths.specs.declared.flow.Flow.TheVariants.{Void}
 use Rattle.drain_paths.specs.Flows.{byte_flow, bytes_flows}
@@ -10,14 +10,13 @@ loop-place-preserved c =
     let flows = c.loop-place.flows.items in
     let codes = c.args.codes.now in
     let within : place < length codes = c.loop-place-test.true in
-    let byte : get_or codes place 0 < 256 = search rules in
-    let flow = get_or c.byte_table-table.result (get_or codes place 0) Void in
+    let flow = c.flow.result in
     record {
       counted = length-set flows place flow ∙ c.loop-place.invariant.counted;
       so_far =
           below_more (λ i. get_or (set flows place flow) i Void ≡ byte_flow (get_or codes i 0)) place
           (λ i less. (let other : i ≢ place = omega arith in get_or-set_other flows place i flow Void other ∙ c.loop-place.invariant.so_far i less))
-          (get_or-set_same flows place flow Void (omega (arith, within, c.loop-place.invariant.counted)) ∙ c.byte_table-table.ensures (get_or codes place 0) byte);
+          (get_or-set_same flows place flow Void (omega (arith, within, c.loop-place.invariant.counted)) ∙ c.flow.ensures);
     }
 
 pub returns : goal.returns
