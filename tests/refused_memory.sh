@@ -4,9 +4,9 @@
 # nothing else: by its error, or by the left side of an assertion. A test may pass only if an allocation is refused alone,
 # with two exceptions. Those of seams_without_memory.txt may if their last one is refused: it is room for a mosaic whose
 # tiles differ, and a seam is found without the room. Those of the crates that scan rows may, since rows can do without
-# lanes: only some of them have to report that memory ran out. A test .._after_refused_memory checks that its first call
-# reports it, and then calls again: it has to pass each time. The tests are those that `rt ci` or `rt test` left in out/;
-# tests/refuse_memory.c refuses.
+# lanes, and labels of outlets without words for the lowest: only some of them have to report that memory ran out. A test
+# .._after_refused_memory checks that its first call reports it, and then calls again: it has to pass each time. The tests
+# are those that `rt ci` or `rt test` left in out/; tests/refuse_memory.c refuses.
 # Usage: tests/refused_memory.sh CRATE...
 set -u
 [ $# -gt 0 ] || { echo "usage: $0 CRATE..." >&2; exit 2; }
