@@ -172,10 +172,21 @@ fn derive_flows(alloc: Global, flows: CellFlows, shape: Shape) -> Result<Derived
     ensures err { IfErr result (λ why. OfFlows shape flows (λ g ps. IsFlowsRefusal g ps why)) }
     ensures reading { IfErr (reading_in result) (λ refusal. refusal ≡ Refusal.OutOfMemory) }
 {
-    let Ok(listed) = flows.into_flows(alloc) else {
-        return Err(DeriveRefusal::Refused(Refusal::OutOfMemory));
-    };
-    match derive_from_flows(alloc, &listed, shape) {
+    match flows.into_flows(alloc) {
+        Ok(listed) => derive_listed(alloc, &listed, shape),
+        Err(OutOfMemory) => Err(DeriveRefusal::Refused(Refusal::OutOfMemory)),
+    }
+}
+
+/// The same of a list of them.
+fn derive_listed(alloc: Global, flows: &[Flow], shape: Shape) -> Result<Derived, DeriveRefusal>
+    requires counted { length flows.now ≡ shape.rows * shape.cols }
+    ensures derived { IfOk result (λ d. OfFlows shape flows.now (λ g ps. AreDerived g ps d.acc d.bas d.rnk)) }
+    ensures counts { IfOk result (AreCounts shape) }
+    ensures err { IfErr result (λ why. OfFlows shape flows.now (λ g ps. IsFlowsRefusal g ps why)) }
+    ensures reading { IfErr (reading_in result) (λ refusal. refusal ≡ Refusal.OutOfMemory) }
+{
+    match derive_from_flows(alloc, flows, shape) {
         Ok(derived) => Ok(derived),
         Err(refusal) => Err(refusal_of(refusal)),
     }
