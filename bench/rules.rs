@@ -1,4 +1,4 @@
-//! The rules that the twins test, by their numbers and names.
+//! The rules that the twins test, by their numbers and names, and where a cell's neighbours lie.
 
 /// The rules in their order.
 #[allow(dead_code)]
@@ -20,3 +20,15 @@ pub enum Rule {
     Label,
     SharedLabel,
 }
+
+/// One more than the rows down and the columns right to the neighbours, in the order of their codes.
+pub const STEPS: [(usize, usize); 8] = [
+    (1, 2),
+    (2, 2),
+    (2, 1),
+    (2, 0),
+    (1, 0),
+    (0, 0),
+    (0, 1),
+    (0, 2),
+];

@@ -9,23 +9,11 @@ mod twin_check_io;
 
 use check_rows::{BLOCK, Row, Source, VOID, block};
 use plain_runs::Flows;
-use rules::Rule;
+use rules::{Rule, STEPS};
 use std::collections::HashSet;
 use std::io;
 use std::process::ExitCode;
 use twin_check_io::{Counts, Files, RANKED, Verdict};
-
-/// One more than the rows down and the columns right to the neighbours, in the order of their codes.
-const STEPS: [(usize, usize); 8] = [
-    (1, 2),
-    (2, 2),
-    (2, 1),
-    (2, 0),
-    (1, 0),
-    (0, 0),
-    (0, 1),
-    (0, 2),
-];
 
 /// All bits where a fact holds, none elsewhere: a number is taken without a branch.
 fn mask(holds: bool) -> u32 {

@@ -5,23 +5,11 @@
 
 mod rules;
 
-use rules::Rule;
+use rules::{Rule, STEPS};
 use std::io::{self, Read};
 use std::process::ExitCode;
 
 const VOID: i16 = -32768;
-
-/// Rows down and columns right to the neighbours, one more than that, in the order of their codes.
-const STEPS: [(usize, usize); 8] = [
-    (1, 2),
-    (2, 2),
-    (2, 1),
-    (2, 0),
-    (1, 0),
-    (0, 0),
-    (0, 1),
-    (0, 2),
-];
 
 /// The parts of an input.
 struct Parts<'a> {
