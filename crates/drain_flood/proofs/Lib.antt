@@ -11,6 +11,7 @@ pub mod Reaching
 pub mod AllReached
 pub mod Turns
 pub mod Looking
+pub mod Insides
 pub mod Putting
 pub mod Laying
 pub mod GapColumns

@@ -1,5 +1,5 @@
 -- The neighbours of a cell, direction by direction.
-use Rattle.std.proofs.Common.{◌≡◌, ℕ, ◌+◌, ◌-◌, ◌*◌, ◌<◌, ◌≤◌, ap, arith, ℤ, pos, ◌≤ℤ◌, List, [], ◌∷◌, ◌≢◌, ◌∙◌, inl, inr, ◌<ℤ◌, Bool, true, false, ◌||◌, get_or, length, refl, sym, subst}
+use Rattle.std.proofs.Common.{◌≡◌, ℕ, ◌+◌, ◌-◌, ◌*◌, ◌<◌, ◌≤◌, ap, arith, ℤ, pos, ◌≤ℤ◌, List, [], ◌∷◌, ◌≢◌, ◌∙◌, ◌⊎◌, ◌↔◌, inl, inr, ◌<ℤ◌, Bool, true, false, IsTrue, ◌||◌, get_or, length, refl, sym, subst}
 use Rattle.drain_grid.specs.declared.cell.Cell.{Cell}
 use Rattle.drain_grid.specs.declared.direction.Direction.{Direction}
 use Rattle.drain_grid.specs.declared.direction.Direction.TheVariants.{East, SouthEast, South, SouthWest, West, NorthWest, North, NorthEast}
@@ -7,7 +7,8 @@ use Rattle.drain_grid.specs.Direction.{rows_down, cols_right, directions}
 use Rattle.drain_grid.specs.Extent.{IsCellOf, index_of, Extent}
 use Rattle.drain_grid.proofs.Neighbors.{place, reach, step_gives, step_lies, direction_between, of_each}
 use Rattle.drain_grid.proofs.Runs.{index_of-below}
-use Rattle.drain_flood.specs.Looks.{IsInnerPlace, IsPlaceBeside, IsLook, IsAround, IsLookedBefore, PassesLook}
+use Rattle.drain_flood.specs.declared.layers.TheConstants.{UNREACHED}
+use Rattle.drain_flood.specs.Looks.{IsInnerPlace, IsPlaceBeside, IsFreshAt, IsLook, IsAround, IsLookedBefore, PassesLook}
 use Rattle.std.specs.Int.{int_max}
 use Rattle.std.proofs.lemmas.Int.{ints, clamps}
 use Rattle.drain_grid.specs.Grid.{Grid, Products, height_at}
@@ -246,3 +247,65 @@ around_all g f stand busy c level raises left k last around = record {
   con = around.before.con;
   beside = λ n d. of_each (PassesLook g f c level raises left) k last around.passed d n;
 }
+
+-- the neighbour at a place is reached already
+pub look_passes : (e : Extent) (f : Flooding) (c : Cell) (d : Direction) (place : ℕ) (level : ℤ) (raises : Bool) → (get_or f.mark place 0 ≡ UNREACHED → ⊥) →
+    IsPlaceBeside e c d place → IsLook e f f c d level raises false
+look_passes e f c d place level raises stale (n, there, at) = inl (record {
+  none = λ m is. stale (ap (λ k. get_or f.mark k 0) (at ∙ ap (index_of e) (same_some n m (sym there ∙ is.there))) ∙ is.fresh);
+  same = refl;
+})
+
+-- no neighbour is unreached
+pub none_around : (g : Grid) (f : Flooding) (stand : ℤ) (busy : List ℕ) (c : Cell) (level : ℤ) (raises : Bool) → ((d : Direction) (n : Cell) → IsFreshAt g.extent f c d n → ⊥) →
+    IsLookedBefore g f stand busy c level raises → IsLookedAround g f stand busy c level raises false
+none_around g f stand busy c level raises none before = record {
+  flood = before.flood;
+  reached = before.reached;
+  con = before.con;
+  beside = λ n d fresh there. absurd (none d n (record { there = there; fresh = fresh.code }));
+}
+
+either : (a b : Bool) → IsTrue (a || b) → IsTrue a ⊎ IsTrue b
+either true b is = inl refl
+either false b is = inr is
+
+-- eight tests tell of each direction, and together of some
+pub some_of_eight : (P : Direction → Type 0) (a b c d e f g h : Bool) → (IsTrue a ↔ P East) → (IsTrue b ↔ P SouthEast) → (IsTrue c ↔ P South) → (IsTrue d ↔ P SouthWest) →
+    (IsTrue e ↔ P West) → (IsTrue f ↔ P NorthWest) → (IsTrue g ↔ P North) → (IsTrue h ↔ P NorthEast) →
+    (IsTrue (((((((a || b) || c) || d) || e) || f) || g) || h) ↔ ((way : Direction) × P way))
+some_of_eight P a b c d e f g h is_a is_b is_c is_d is_e is_f is_g is_h = (to, λ some. back some.0 some.1)
+  where
+    to : IsTrue (((((((a || b) || c) || d) || e) || f) || g) || h) → (way : Direction) × P way
+    to is = elim (either (((((((a || b) || c) || d) || e) || f) || g)) h is) [
+      | inr held ↦ (NorthEast, is_h.0 held)
+      | inl in_7 ↦ elim (either ((((((a || b) || c) || d) || e) || f)) g in_7) [
+        | inr held ↦ (North, is_g.0 held)
+        | inl in_6 ↦ elim (either (((((a || b) || c) || d) || e)) f in_6) [
+          | inr held ↦ (NorthWest, is_f.0 held)
+          | inl in_5 ↦ elim (either ((((a || b) || c) || d)) e in_5) [
+            | inr held ↦ (West, is_e.0 held)
+            | inl in_4 ↦ elim (either (((a || b) || c)) d in_4) [
+              | inr held ↦ (SouthWest, is_d.0 held)
+              | inl in_3 ↦ elim (either (a || b) c in_3) [
+                | inr held ↦ (South, is_c.0 held)
+                | inl in_2 ↦ elim (either a b in_2) [ inl held ↦ (East, is_a.0 held) | inr held ↦ (SouthEast, is_b.0 held) ]
+              ]
+            ]
+          ]
+        ]
+      ]
+    ]
+
+    up : (p q : Bool) → IsTrue p → IsTrue (p || q)
+    up p q is = or_left p q is
+
+    back : (way : Direction) → P way → IsTrue (((((((a || b) || c) || d) || e) || f) || g) || h)
+    back East held = up _ h (up _ g (up _ f (up _ e (up _ d (up _ c (up a b (is_a.1 held)))))))
+    back SouthEast held = up _ h (up _ g (up _ f (up _ e (up _ d (up _ c (or_right a b (is_b.1 held)))))))
+    back South held = up _ h (up _ g (up _ f (up _ e (up _ d (or_right _ c (is_c.1 held))))))
+    back SouthWest held = up _ h (up _ g (up _ f (up _ e (or_right _ d (is_d.1 held)))))
+    back West held = up _ h (up _ g (up _ f (or_right _ e (is_e.1 held))))
+    back NorthWest held = up _ h (up _ g (or_right _ f (is_f.1 held)))
+    back North held = up _ h (or_right _ g (is_g.1 held))
+    back NorthEast held = or_right _ h (is_h.1 held)

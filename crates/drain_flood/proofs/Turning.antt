@@ -1,23 +1,21 @@
 -- One turn of a trace: a cell is taken from the trail, its neighbours are looked at, and it is left.
-use Rattle.std.proofs.Common.{◌≡◌, ℕ, zero, suc, ◌+◌, ◌-◌, ◌<◌, ℤ, ◌<ℤ◌, List, ◌++◌, length, refl, inl, inr, arith, ◌∙◌, ◌≤ℤ◌, Bool, true, false, [], ◌∷◌, Contains, sym, ap, subst}
+use Rattle.std.proofs.Common.{◌≡◌, ℕ, zero, suc, ◌+◌, ◌-◌, ◌<◌, ℤ, ◌<ℤ◌, List, ◌++◌, length, get_or, pos, refl, inl, inr, arith, ◌∙◌, ◌≤ℤ◌, Bool, true, false, [], ◌∷◌, Contains, sym, ap, subst}
 use Rattle.std.proofs.lemmas.Bool.{cases_lt, false≢true}
 use Rattle.std.proofs.lemmas.Int.{ints}
 use Rattle.std.proofs.lemmas.List.{length-append}
 use Rattle.std.proofs.Math.ListN.{get_or-append}
 use Rattle.std.proofs.Math.Seq.{get_or-append_right}
 use Rattle.std.specs.List.{All}
-use Rattle.std.specs.List.Sorted.{IsPermutation}
 use Rattle.std.proofs.lemmas.List.Sorted.{All-permutation, Contains-permutation, length_permutation}
-use Rattle.drain_flood.specs.Turns.{Rises, with_lists, IsOut, IsNextTurn, IsLeftWaiting, IsLessWork, IsLookedAround, IsPopped}
+use Rattle.drain_flood.specs.Turns.{Rises, with_lists, IsOut, IsNextTurn, IsLeftWaiting, IsLessWork, IsLookedAround, IsPopped, LooksAround}
 use Rattle.drain_flood.specs.Ways.{items_at, level_of, pairs_at, pairs_from, pairs_of}
 use Rattle.drain_flood.proofs.PairLemmas.{at_level, higher_from}
 use Rattle.std.proofs.lemmas.List.Elements.{All-head, All-cons}
 use Rattle.drain_grid.specs.declared.cell.Cell.{Cell}
-use Rattle.drain_grid.specs.Extent.{IsCellOf, index_of, Extent}
+use Rattle.drain_grid.specs.Extent.{index_of}
 use Rattle.drain_grid.specs.Grid.{Grid, IsInside, height_at}
 use Rattle.drain_grid.proofs.Alike.{same_index}
-use Rattle.drain_flood.specs.Floods.{Flooding, con_at, unreached, IsReachedCell, IsWaiting, IsAhead, IsFloodOf}
-use Rattle.drain_flood.specs.Looks.{IsLookedBefore}
+use Rattle.drain_flood.specs.Floods.{Flooding, con_at, unreached, IsWaiting, IsAhead, IsFloodOf}
 use Rattle.drain_flood.proofs.Turns.{taken, deferred, recalled, left, risen, head_in, tail_in}
 
 -- The pairs of all levels, level by level, rise.
@@ -51,123 +49,81 @@ pub rising : (firsts behind : List ℕ) → Rises (pairs_of firsts behind)
 unfolding pairs_of
 rising firsts behind = rising_from (items_at firsts behind) (length firsts) 0
 
--- what a call returned for a cell
-abbrev pub LooksAround : Extent → Flooding → Flooding → Cell → ℤ → Bool → Bool → Type 0
-LooksAround e old new c level raises seen =
-    (g : Grid) (stand : ℤ) (busy : List ℕ) → g.extent ≡ e → IsLookedBefore g old stand busy c level raises →
-    IsLookedAround g new stand busy c level raises seen
-
--- a place on the trail is that of a reached cell
-ahead_reached : (g : Grid) (f : Flooding) (stand : ℤ) (c : Cell) (rest : List ℕ) → IsInside g c → All (IsAhead g f stand) (index_of g.extent c ∷ rest) → IsReachedCell g f c
-ahead_reached g f stand c rest inside all =
-    let first = All-head (IsAhead g f stand) (index_of g.extent c) rest all in
-    subst (IsReachedCell g f) (sym (same_index g.extent c first.cell inside first.reached.here.inside first.place_is)) first.reached
-
-module _ (g : Grid) (stand level : ℤ) (later : List ℕ) (c : Cell) (inside : IsInside g c) (raises : Bool) where
+module _ (g : Grid) (stand level : ℤ) (later : List ℕ) (place : ℕ) (c : Cell) (inside : IsInside g c) (at : place ≡ index_of g.extent c) (raises : Bool) where
   -- nothing was left
-  pub passed : (f : Flooding) → IsLookedAround g f stand (index_of g.extent c ∷ later) c level raises false → IsFloodOf g f stand later
+  pub passed : (f : Flooding) → IsLookedAround g f stand (place ∷ later) c level raises false → IsFloodOf g f stand later
   passed f around =
-      left g f stand later (index_of g.extent c) c f.waiting inside refl around.flood (λ p held. held) around.flood.waiting
+      left g f stand later place c f.waiting inside at around.flood (λ p held. held) around.flood.waiting
       (λ n d fresh there. absurd (false≢true (around.beside n d fresh there).0))
 
   -- nothing is left if the cell raised all
-  pub raised : (f : Flooding) (seen : Bool) → raises ≡ true → IsLookedAround g f stand (index_of g.extent c ∷ later) c level raises seen → IsFloodOf g f stand later
+  pub raised : (f : Flooding) (seen : Bool) → raises ≡ true → IsLookedAround g f stand (place ∷ later) c level raises seen → IsFloodOf g f stand later
   raised f seen raises_all around =
-      left g f stand later (index_of g.extent c) c f.waiting inside refl around.flood (λ p held. held) around.flood.waiting
+      left g f stand later place c f.waiting inside at around.flood (λ p held. held) around.flood.waiting
       (λ n d fresh there. absurd (false≢true (sym (around.beside n d fresh there).2 ∙ raises_all)))
 
   -- a lower cell was left, and the cell waits
-  pub waits : (old new : Flooding) (seen : Bool) → g.extent ≡ old.extent → IsLookedAround g old stand (index_of g.extent c ∷ later) c level raises seen →
-      IsLeftWaiting old new level c → IsFloodOf g new stand later
-  waits old new seen extent around waiting =
+  pub waits : (old new : Flooding) (seen : Bool) → IsLookedAround g old stand (place ∷ later) c level raises seen → IsLeftWaiting old new level place → IsFloodOf g new stand later
+  waits old new seen around waiting =
       subst (λ f. IsFloodOf g f stand later) (sym waiting.rest)
-      (left g old stand later (index_of g.extent c) c new.waiting inside refl around.flood keeps all
-      (λ n d fresh there. (subst (λ z. Contains new.waiting (z, index_of g.extent c)) (sym around.con) has, subst (λ z. height_at g n <ℤ z) (sym around.con) (around.beside n d fresh there).1)))
+      (left g old stand later place c new.waiting inside at around.flood keeps all
+      (λ n d fresh there. (subst (λ z. Contains new.waiting (z, place)) (sym around.con) has, subst (λ z. height_at g n <ℤ z) (sym around.con) (around.beside n d fresh there).1)))
     where
-      first : IsAhead g old stand (index_of g.extent c)
-      first = All-head (IsAhead g old stand) (index_of g.extent c) (later ++ old.ahead) around.flood.ahead
+      first : IsAhead g old stand place
+      first = All-head (IsAhead g old stand) place (later ++ old.ahead) around.flood.ahead
 
       low : stand ≤ℤ level
       low = subst (λ z. stand ≤ℤ z) around.con
-          (subst (λ x. stand ≤ℤ con_at g.extent old x) (sym (same_index g.extent c first.cell inside first.reached.here.inside first.place_is)) first.not_below)
+          (subst (λ x. stand ≤ℤ con_at g.extent old x) (sym (same_index g.extent c first.cell inside first.reached.here.inside (sym at ∙ first.place_is))) first.not_below)
 
-      at : index_of old.extent c ≡ index_of g.extent c
-      at = ap (λ e. index_of e c) (sym extent)
-
-      this_waits : IsWaiting g old stand (level, index_of old.extent c)
+      this_waits : IsWaiting g old stand (level, place)
       this_waits = record { cell = c; reached = around.reached; place = at; con = around.con; not_below = low }
 
-      has : Contains new.waiting (level, index_of g.extent c)
-      has = subst (λ k. Contains new.waiting (level, k)) at
-          (Contains-permutation ((level, index_of old.extent c) ∷ old.waiting) new.waiting _ waiting.put (head_in (level, index_of old.extent c) old.waiting))
+      has : Contains new.waiting (level, place)
+      has = Contains-permutation ((level, place) ∷ old.waiting) new.waiting _ waiting.put (head_in (level, place) old.waiting)
 
       keeps : (p : ℤ × ℕ) → Contains old.waiting p → Contains new.waiting p
-      keeps p held = Contains-permutation ((level, index_of old.extent c) ∷ old.waiting) new.waiting p waiting.put (tail_in (level, index_of old.extent c) p old.waiting held)
+      keeps p held = Contains-permutation ((level, place) ∷ old.waiting) new.waiting p waiting.put (tail_in (level, place) p old.waiting held)
 
       all : All (IsWaiting g old stand) new.waiting
-      all = All-permutation (IsWaiting g old stand) ((level, index_of old.extent c) ∷ old.waiting) new.waiting waiting.put
-          (All-cons (IsWaiting g old stand) (level, index_of old.extent c) old.waiting this_waits around.flood.waiting)
+      all = All-permutation (IsWaiting g old stand) ((level, place) ∷ old.waiting) new.waiting waiting.put
+          (All-cons (IsWaiting g old stand) (level, place) old.waiting this_waits around.flood.waiting)
 
--- a busy cell, before its neighbours are looked at
-busy_before : (g : Grid) (s : Flooding) (stand level : ℤ) (later : List ℕ) (c : Cell) (raises : Bool) → IsInside g c →
-    IsFloodOf g s stand (index_of g.extent c ∷ later) → level ≡ con_at g.extent s c → (raises ≡ true → level ≡ stand) →
-    IsLookedBefore g s stand (index_of g.extent c ∷ later) c level raises
-busy_before g s stand level later c raises inside flood is at_level = record {
-  flood = flood;
-  reached = ahead_reached g s stand c (later ++ s.ahead) inside flood.ahead;
-  con = sym is;
-  at_level = at_level;
-}
+-- the next place of the trail is busy
+pub next_busy : (g : Grid) (old new : Flooding) (stand : ℤ) (later : List ℕ) (place : ℕ) (c : Cell) → IsFloodOf g old stand later → IsNextTurn old new c →
+    place ≡ index_of old.extent c → IsFloodOf g new stand (place ∷ later)
+next_busy g old new stand later place c flood next at =
+    subst (λ f. IsFloodOf g f stand (place ∷ later)) (sym next.rest)
+    (taken g old stand later place new.ahead (subst (λ k. IsOut k old.ahead new.ahead) (sym at) next.out) flood)
 
--- the next cell of the trail is busy
-next_busy : (g : Grid) (old new : Flooding) (stand : ℤ) (later : List ℕ) (c : Cell) → g.extent ≡ old.extent → IsFloodOf g old stand later → IsNextTurn old new c →
-    IsFloodOf g new stand (index_of g.extent c ∷ later)
-next_busy g old new stand later c extent flood next =
-    let out : IsOut (index_of g.extent c) old.ahead new.ahead = subst (λ e. IsOut (index_of e c) old.ahead new.ahead) (sym extent) next.out in
-    subst (λ f. IsFloodOf g f stand (index_of g.extent c ∷ later)) (sym next.rest) (taken g old stand later (index_of g.extent c) new.ahead out flood)
+-- a busy place, around which a call looked
+module _ (g : Grid) (s1 s2 : Flooding) (stand level : ℤ) (later : List ℕ) (place : ℕ) (raises seen : Bool) (e1 : g.extent ≡ s1.extent)
+    (is : level ≡ get_or s1.con place (pos 0)) (at_level : raises ≡ true → level ≡ stand) (looks : LooksAround s1.extent s1 s2 place level raises seen)
+    (flood : IsFloodOf g s1 stand (place ∷ later)) where
+  busy : IsAhead g s1 stand place
+  busy = All-head (IsAhead g s1 stand) place (later ++ s1.ahead) flood.ahead
 
--- a busy cell whose neighbours are looked at: none was left
-pub busy_passed : (g : Grid) (s1 s2 : Flooding) (stand level : ℤ) (later : List ℕ) (c : Cell) (raises : Bool) → g.extent ≡ s1.extent → IsInside g c →
-    level ≡ con_at s1.extent s1 c → (raises ≡ true → level ≡ stand) → LooksAround s1.extent s1 s2 c level raises false →
-    IsFloodOf g s1 stand (index_of g.extent c ∷ later) → IsFloodOf g s2 stand later
-busy_passed g s1 s2 stand level later c raises e1 inside is at_level looks flood =
-    let level_is : level ≡ con_at g.extent s1 c = subst (λ e. level ≡ con_at e s1 c) (sym e1) is in
-    passed g stand level later c inside raises s2
-    (looks g stand (index_of g.extent c ∷ later) e1 (busy_before g s1 stand level later c raises inside flood level_is at_level))
+  looked : IsLookedAround g s2 stand (place ∷ later) busy.cell level raises seen
+  looked = looks g stand (place ∷ later) busy.cell e1 busy.place_is (record {
+    flood = flood;
+    reached = busy.reached;
+    con = sym (is ∙ ap (λ k. get_or s1.con k (pos 0)) busy.place_is);
+    at_level = at_level;
+  })
 
--- or a lower one was, and the cell waits
-pub busy_waits : (g : Grid) (s1 s2 s3 : Flooding) (stand level : ℤ) (later : List ℕ) (c : Cell) (raises seen : Bool) → g.extent ≡ s1.extent → g.extent ≡ s2.extent →
-    IsInside g c → level ≡ con_at s1.extent s1 c → (raises ≡ true → level ≡ stand) → LooksAround s1.extent s1 s2 c level raises seen →
-    IsLeftWaiting s2 s3 level c → IsFloodOf g s1 stand (index_of g.extent c ∷ later) → IsFloodOf g s3 stand later
-busy_waits g s1 s2 s3 stand level later c raises seen e1 e2 inside is at_level looks waiting flood =
-    let level_is : level ≡ con_at g.extent s1 c = subst (λ e. level ≡ con_at e s1 c) (sym e1) is in
-    waits g stand level later c inside raises s2 s3 seen e2
-    (looks g stand (index_of g.extent c ∷ later) e1 (busy_before g s1 stand level later c raises inside flood level_is at_level)) waiting
+  -- none of its neighbours was left
+  pub busy_passed : seen ≡ false → IsFloodOf g s2 stand later
+  busy_passed none =
+      passed g stand level later place busy.cell busy.reached.here.inside busy.place_is raises s2
+      (subst (IsLookedAround g s2 stand (place ∷ later) busy.cell level raises) none looked)
 
--- or it is for later
-busy_deferred : (g : Grid) (s1 s2 : Flooding) (stand level : ℤ) (later : List ℕ) (c : Cell) (raises seen : Bool) → g.extent ≡ s1.extent → IsInside g c →
-    level ≡ con_at s1.extent s1 c → (raises ≡ true → level ≡ stand) → LooksAround s1.extent s1 s2 c level raises seen →
-    IsFloodOf g s1 stand (index_of g.extent c ∷ later) → IsFloodOf g s2 stand (later ++ index_of g.extent c ∷ [])
-busy_deferred g s1 s2 stand level later c raises seen e1 inside is at_level looks flood =
-    let level_is : level ≡ con_at g.extent s1 c = subst (λ e. level ≡ con_at e s1 c) (sym e1) is in
-    let around = looks g stand (index_of g.extent c ∷ later) e1 (busy_before g s1 stand level later c raises inside flood level_is at_level) in
-    deferred g s2 stand later (index_of g.extent c) around.flood
+  -- or a lower one was, and it waits
+  pub busy_waits : (s3 : Flooding) → IsLeftWaiting s2 s3 level place → IsFloodOf g s3 stand later
+  busy_waits s3 waiting = waits g stand level later place busy.cell busy.reached.here.inside busy.place_is raises s2 s3 seen looked waiting
 
--- a cell of the trail: if it has an unreached neighbour it is for later, else nothing is left
-pub turn_passed : (g : Grid) (s0 s1 s2 : Flooding) (stand level : ℤ) (later : List ℕ) (c : Cell) (raises : Bool) → g.extent ≡ s0.extent → g.extent ≡ s1.extent → IsNextTurn s0 s1 c →
-    level ≡ con_at s1.extent s1 c → (raises ≡ true → level ≡ stand) → LooksAround s1.extent s1 s2 c level raises false →
-    IsFloodOf g s0 stand later → IsFloodOf g s2 stand later
-turn_passed g s0 s1 s2 stand level later c raises e0 e1 next is at_level looks flood =
-    busy_passed g s1 s2 stand level later c raises e1 (subst (λ e. IsCellOf e c) (sym e0) next.inside) is at_level looks
-    (next_busy g s0 s1 stand later c e0 flood next)
-
-pub turn_deferred : (g : Grid) (s0 s1 s2 : Flooding) (stand level : ℤ) (later after : List ℕ) (c : Cell) (raises seen : Bool) → g.extent ≡ s0.extent → g.extent ≡ s1.extent →
-    IsNextTurn s0 s1 c → level ≡ con_at s1.extent s1 c → (raises ≡ true → level ≡ stand) → LooksAround s1.extent s1 s2 c level raises seen →
-    after ≡ later ++ index_of g.extent c ∷ [] → IsFloodOf g s0 stand later → IsFloodOf g s2 stand after
-turn_deferred g s0 s1 s2 stand level later after c raises seen e0 e1 next is at_level looks grown flood =
-    subst (IsFloodOf g s2 stand) (sym grown)
-    (busy_deferred g s1 s2 stand level later c raises seen e1 (subst (λ e. IsCellOf e c) (sym e0) next.inside) is at_level looks
-    (next_busy g s0 s1 stand later c e0 flood next))
+  -- or it is for later
+  pub busy_deferred : (after : List ℕ) → after ≡ later ++ place ∷ [] → IsFloodOf g s2 stand after
+  busy_deferred after grown = subst (IsFloodOf g s2 stand) (sym grown) (deferred g s2 stand later place looked.flood)
 
 -- the last cell for later is busy
 pub last_busy : (g : Grid) (s : Flooding) (stand : ℤ) (later rest : List ℕ) (place : ℕ) → later ≡ rest ++ place ∷ [] → IsFloodOf g s stand later → IsFloodOf g s stand (place ∷ rest)
@@ -193,41 +149,28 @@ turn_work s0 s1 s2 c next less =
     let same = less.same in
     (omega (arith, fewer, one, same), less.waiting ∙ ap (λ f. f.waiting) next.rest)
 
-pub wait_work : (s1 s2 s3 : Flooding) (level : ℤ) (c : Cell) → IsLessWork s1 s2 → IsLeftWaiting s2 s3 level c → length s3.waiting ≡ length s1.waiting + 1
-wait_work s1 s2 s3 level c less waiting =
-    let long = length_permutation ((level, index_of s2.extent c) ∷ s2.waiting) s3.waiting waiting.put in
+pub wait_work : (s1 s2 s3 : Flooding) (level : ℤ) (place : ℕ) → IsLessWork s1 s2 → IsLeftWaiting s2 s3 level place → length s3.waiting ≡ length s1.waiting + 1
+wait_work s1 s2 s3 level place less waiting =
+    let long = length_permutation ((level, place) ∷ s2.waiting) s3.waiting waiting.put in
     let same : length s2.waiting ≡ length s1.waiting = ap (λ (xs : List (ℤ × ℕ)). length xs) less.waiting in
     omega (arith, long, same)
 
-pub pop_work : (s0 s1 : Flooding) (level : ℤ) (c : Cell) → IsPopped s0 s1 level c →
+pub pop_work : (s0 s1 : Flooding) (level : ℤ) (place : ℕ) → IsPopped s0 s1 level place →
     (unreached s1 + length s1.ahead ≡ unreached s0 + length s0.ahead) × (length s1.waiting + 1 ≡ length s0.waiting)
-pop_work s0 s1 level c popped =
-    let long = length_permutation s0.waiting ((level, index_of s0.extent c) ∷ s1.waiting) popped.out in
+pop_work s0 s1 level place popped =
+    let long = length_permutation s0.waiting ((level, place) ∷ s1.waiting) popped.out in
     (ap (λ (f : Flooding). unreached f + length f.ahead) popped.rest, omega (arith, long))
 
--- a lowest waiting cell, before its neighbours are looked at, at the level to which the flood rises
-pub popped_before : (g : Grid) (old new : Flooding) (stand level : ℤ) (c : Cell) → g.extent ≡ old.extent → IsFloodOf g old stand [] → old.ahead ≡ [] →
-    IsPopped old new level c → IsLookedBefore g new level (index_of g.extent c ∷ []) c level true
-popped_before g old new stand level c extent flood done popped =
-    let out : IsPermutation old.waiting ((level, index_of g.extent c) ∷ new.waiting) =
-    subst (λ e. IsPermutation old.waiting ((level, index_of e c) ∷ new.waiting)) (sym extent) popped.out in
-    let inside : IsInside g c = subst (λ e. IsCellOf e c) (sym extent) popped.inside in
-    let is_new : with_lists old [] new.waiting ≡ new = ap (λ xs. with_lists old xs new.waiting) (sym done) ∙ sym popped.rest in
-    let now : IsFloodOf g new level (index_of g.extent c ∷ []) = subst (λ f. IsFloodOf g f level (index_of g.extent c ∷ [])) is_new
-    (risen g old stand level (index_of g.extent c) new.waiting done out popped.lowest flood) in
-    let was = All-head (IsWaiting g old stand) (level, index_of g.extent c) new.waiting (All-permutation (IsWaiting g old stand) old.waiting _ out flood.waiting) in
-    let same : was.cell ≡ c = same_index g.extent was.cell c was.reached.here.inside inside (sym was.place) in
-    let con : con_at g.extent old c ≡ level = subst (λ x. con_at g.extent old x ≡ level) same was.con in
-    record {
-      flood = now;
-      reached = ahead_reached g new level c new.ahead inside now.ahead;
-      con = ap (λ f. con_at g.extent f c) (sym is_new) ∙ con;
-      at_level = λ h. refl;
-    }
-
 -- the flood rises to the level of a lowest waiting cell, and its unreached neighbours are raised
-pub turn_rises : (g : Grid) (s0 s1 s2 : Flooding) (stand level : ℤ) (c : Cell) (seen : Bool) → g.extent ≡ s0.extent → g.extent ≡ s1.extent →
-    IsPopped s0 s1 level c → s0.ahead ≡ [] → LooksAround s1.extent s1 s2 c level true seen → IsFloodOf g s0 stand [] → IsFloodOf g s2 level []
-turn_rises g s0 s1 s2 stand level c seen e0 e1 popped done looks flood =
-    let inside : IsInside g c = subst (λ e. IsCellOf e c) (sym e0) popped.inside in
-    raised g level level [] c inside true s2 seen refl (looks g level (index_of g.extent c ∷ []) e1 (popped_before g s0 s1 stand level c e0 flood done popped))
+pub turn_rises : (g : Grid) (s0 s1 s2 : Flooding) (stand level : ℤ) (place : ℕ) (seen : Bool) → g.extent ≡ s1.extent → IsPopped s0 s1 level place → s0.ahead ≡ [] →
+    LooksAround s1.extent s1 s2 place level true seen → IsFloodOf g s0 stand [] → IsFloodOf g s2 level []
+turn_rises g s0 s1 s2 stand level place seen e1 popped done looks flood =
+    let is_new : with_lists s0 [] s1.waiting ≡ s1 = ap (λ xs. with_lists s0 xs s1.waiting) (sym done) ∙ sym popped.rest in
+    let now : IsFloodOf g s1 level (place ∷ []) = subst (λ f. IsFloodOf g f level (place ∷ [])) is_new
+    (risen g s0 stand level place s1.waiting done popped.out popped.lowest flood) in
+    let was = All-head (IsWaiting g s0 stand) (level, place) s1.waiting (All-permutation (IsWaiting g s0 stand) s0.waiting _ popped.out flood.waiting) in
+    let con : get_or s0.con place (pos 0) ≡ level = ap (λ k. get_or s0.con k (pos 0)) was.place ∙ was.con in
+    let is : level ≡ get_or s1.con place (pos 0) = sym con ∙ ap (λ f. get_or f.con place (pos 0)) is_new in
+    let held = busy g s1 s2 level level [] place true seen e1 is (λ h. refl) looks now in
+    raised g level level [] place held.cell held.reached.here.inside held.place_is true s2 seen refl
+    (looked g s1 s2 level level [] place true seen e1 is (λ h. refl) looks now)

@@ -1,6 +1,6 @@
 -- From one cell to the next: a cell whose neighbours were looked at is left, or waits, and a lowest waiting one is
 -- taken.
-use Rattle.std.proofs.Common.{◌≡◌, ℕ, zero, suc, ◌<◌, ◌∙◌, ◌⊎◌, inl, inr, ℤ, ◌≤ℤ◌, ◌<ℤ◌, List, [], ◌∷◌, ◌++◌, Option, Some, None, Result, Ok, Err, MatchOption, OnOk, OnErr, Contains, get_or, refl, sym, ap, subst, arith}
+use Rattle.std.proofs.Common.{◌≡◌, ℕ, zero, suc, ◌<◌, ◌∙◌, ◌⊎◌, inl, inr, ℤ, ◌≤ℤ◌, ◌<ℤ◌, List, [], ◌∷◌, ◌++◌, Option, Some, None, Result, Ok, Err, MatchOption, IfSome, OnOk, OnErr, Contains, get_or, refl, sym, ap, subst, arith}
 use Rattle.std.specs.List.{All}
 use Rattle.std.specs.List.Sorted.{IsPermutation}
 use Rattle.std.proofs.lemmas.List.Sorted.{All-permutation, Contains-permutation}
@@ -261,10 +261,11 @@ put_places (Ok x) n level place old new below all put kept =
     All-permutation (λ (pair : ℤ × ℕ). pair.1 < n) ((level, place) ∷ old) new put (All-cons (λ (pair : ℤ × ℕ). pair.1 < n) (level, place) old below all)
 put_places (Err e) n level place old new below all put kept = subst (All (λ (pair : ℤ × ℕ). pair.1 < n)) (sym kept) all
 
-pub out_place : (n : ℕ) (level : ℤ) (place : ℕ) (old new : List (ℤ × ℕ)) → All (λ (pair : ℤ × ℕ). pair.1 < n) old →
-    IsPermutation old ((level, place) ∷ new) → place < n
-out_place n level place old new all out =
-    All-head (λ (pair : ℤ × ℕ). pair.1 < n) (level, place) new (All-permutation (λ (pair : ℤ × ℕ). pair.1 < n) old ((level, place) ∷ new) out all)
+pub out_below : (r : Option (ℤ × ℕ)) (n : ℕ) (old new : List (ℤ × ℕ)) → All (λ (pair : ℤ × ℕ). pair.1 < n) old →
+    MatchOption r (old ≡ []) (λ pair. IsPermutation old (pair ∷ new)) → IfSome r (λ pair. pair.1 < n)
+out_below None n old new all out = tt
+out_below (Some pair) n old new all out =
+    All-head (λ (pair : ℤ × ℕ). pair.1 < n) pair new (All-permutation (λ (pair : ℤ × ℕ). pair.1 < n) old (pair ∷ new) out all)
 
 pub out_places : (r : Option (ℤ × ℕ)) (n : ℕ) (old new : List (ℤ × ℕ)) → All (λ (pair : ℤ × ℕ). pair.1 < n) old →
     MatchOption r (old ≡ []) (λ pair. IsPermutation old (pair ∷ new)) → MatchOption r (new ≡ []) (λ pair. Unit {0}) → All (λ (pair : ℤ × ℕ). pair.1 < n) new

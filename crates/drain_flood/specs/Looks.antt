@@ -1,13 +1,13 @@
 -- The neighbours of a cell: what is done with each, and what holds before and after.
-use Rattle.std.specs.Prelude.{◌≡◌, ℕ, ◌+◌, ◌<◌, ◌⊎◌, ℤ, ◌≤ℤ◌, ◌<ℤ◌, Bool, true, false, List, Some, get_or}
+use Rattle.std.specs.Prelude.{◌≡◌, ℕ, ◌+◌, ◌*◌, ◌<◌, ◌⊎◌, ℤ, ◌≤ℤ◌, ◌<ℤ◌, Bool, true, false, List, Some, get_or, slice_index_or}
 use Rattle.std.specs.Int.{int_max}
 use Rattle.drain_grid.specs.declared.cell.Cell.{Cell}
 use Rattle.drain_grid.specs.declared.direction.Direction.{Direction}
 use Rattle.drain_grid.specs.declared.direction.Direction.TheVariants.{East}
 use Rattle.drain_grid.specs.Direction.{directions}
-use Rattle.drain_grid.specs.Extent.{IsCellOf, index_of, step, Extent}
+use Rattle.drain_grid.specs.Extent.{index_of, step, Extent}
 use Rattle.drain_grid.specs.Grid.{Grid, height_at}
-use Rattle.drain_flood.specs.declared.layers.TheConstants.{UNREACHED}
+use Rattle.drain_flood.specs.declared.layers.TheConstants.{REACHED, UNREACHED}
 use Rattle.drain_flood.specs.Floods.{Flooding, con_at, mark_at, IsReachedCell, IsUnreached, IsFloodOf, Reaches}
 
 -- n is the neighbour in this direction, and isn't reached
@@ -26,9 +26,17 @@ pub record IsInnerPlace (e : Extent) (c : Cell) : Type 0 where
 abbrev pub IsPlaceBeside : Extent → Cell → Direction → ℕ → Type 0
 IsPlaceBeside e c d place = (n : Cell) × (step e c d ≡ Some n) × (place ≡ index_of e n)
 
--- the place is that of an unreached cell in this direction
-abbrev pub IsFreshPlace : Extent → Flooding → Cell → Direction → ℕ → Type 0
-IsFreshPlace e f c d place = (n : Cell) × IsFreshAt e f c d n × IsCellOf e n × (place ≡ index_of e n)
+-- the place is that of a cell that isn't on the edge
+abbrev pub IsInnerAt : Extent → ℕ → Type 0
+IsInnerAt e place = (c : Cell) × IsInnerPlace e c × (place ≡ index_of e c)
+
+-- the mark of a data cell that isn't open
+abbrev pub IsClosed : ℕ → Type 0
+IsClosed mark = (mark ≡ REACHED) ⊎ (mark ≡ UNREACHED)
+
+-- no closed cell is on the edge
+abbrev pub AreInside : Extent → List ℕ → Type 0
+AreInside e mark = (place : ℕ) → place < e.rows * e.cols → IsClosed (slice_index_or mark place 0) → IsInnerAt e place
 
 -- there is nothing to reach in this direction, and nothing changed
 pub record Passes (e : Extent) (old new : Flooding) (c : Cell) (d : Direction) : Type 0 where

@@ -8,6 +8,7 @@ use Rattle.drain_grid.specs.declared.cell.Cell.{Cell}
 use Rattle.drain_grid.specs.declared.direction.Direction.{Direction}
 use Rattle.drain_grid.specs.Grid.{Grid, height_at}
 use Rattle.drain_flood.specs.Floods.{Flooding, con_at, unreached, IsUnreached, IsFloodOf, IsReachedCell}
+use Rattle.drain_flood.specs.Looks.{AreInside, IsLookedBefore}
 
 -- Pairs of a level and an item, by rising level: the contents of a queue of levels.
 
@@ -35,13 +36,14 @@ pub record IsPut (level : ℤ) (item : ℕ) (old new : List (ℤ × ℕ)) : Type
 
 -- How the parts of a flood, or of a surface, fit together, whatever is flooded.
 
--- a number for each cell; the trail and what waits are places of cells
+-- a number for each cell; the trail and what waits are places of cells; no closed cell is on the edge
 pub record AreTogether (e : Extent) (con : List ℤ) (mark trail : List ℕ) (waiting : List (ℤ × ℕ)) : Type 0 where
   pub few : e.rows * e.cols ≤ MAX_CELLS
   pub con_long : length con ≡ e.rows * e.cols
   pub mark_long : length mark ≡ e.rows * e.cols
   pub places : All (λ place. place < e.rows * e.cols) trail
   pub waiting_places : All (λ (pair : ℤ × ℕ). pair.1 < e.rows * e.cols) waiting
+  pub inside : AreInside e mark
 
 -- a height and a mark for each cell
 pub record AreCells (e : Extent) (con : List ℤ) (mark : List ℕ) : Type 0 where
@@ -60,16 +62,6 @@ pub record IsOut (place : ℕ) (old new : List ℕ) : Type 0 where
   pub old_are : old ≡ before ++ place ∷ after
   pub new_are : new ≡ before ++ after
 
--- the last place of a list is taken out, that of a cell
-pub record IsLast (e : Extent) (old new : List ℕ) (c : Cell) : Type 0 where
-  pub inside : IsCellOf e c
-  pub last : old ≡ new ++ index_of e c ∷ []
-
--- there is none to take out
-pub record AreNone (old new : List ℕ) : Type 0 where
-  pub none : old ≡ []
-  pub still : new ≡ []
-
 -- some cell is taken from the trail
 pub record IsNextTurn (old new : Flooding) (c : Cell) : Type 0 where
   pub inside : IsCellOf old.extent c
@@ -81,10 +73,9 @@ pub record IsDone (old new : Flooding) : Type 0 where
   pub none : old.ahead ≡ []
   pub same : new ≡ old
 
--- a waiting cell is taken, below which none waits
-pub record IsPopped (old new : Flooding) (level : ℤ) (c : Cell) : Type 0 where
-  pub inside : IsCellOf old.extent c
-  pub out : IsPermutation old.waiting ((level, index_of old.extent c) ∷ new.waiting)
+-- a waiting place is taken, below which none waits
+pub record IsPopped (old new : Flooding) (level : ℤ) (place : ℕ) : Type 0 where
+  pub out : IsPermutation old.waiting ((level, place) ∷ new.waiting)
   pub lowest : All (λ (p : ℤ × ℕ). level ≤ℤ p.0) new.waiting
   pub rest : new ≡ with_lists old old.ahead new.waiting
 
@@ -92,9 +83,9 @@ pub record IsEmptied (old new : Flooding) : Type 0 where
   pub none : old.waiting ≡ []
   pub same : new ≡ old
 
--- the cell waits at this level
-pub record IsLeftWaiting (old new : Flooding) (level : ℤ) (c : Cell) : Type 0 where
-  pub put : IsPermutation ((level, index_of old.extent c) ∷ old.waiting) new.waiting
+-- the place waits at this level
+pub record IsLeftWaiting (old new : Flooding) (level : ℤ) (place : ℕ) : Type 0 where
+  pub put : IsPermutation ((level, place) ∷ old.waiting) new.waiting
   pub rest : new ≡ with_lists old old.ahead new.waiting
 
 -- no more is left to do than before: each reached cell is on the trail once
@@ -109,3 +100,9 @@ pub record IsLookedAround (g : Grid) (f : Flooding) (stand : ℤ) (busy : List �
   pub reached : IsReachedCell g f c
   pub con : con_at g.extent f c ≡ level
   pub beside : (n : Cell) (d : Direction) → IsUnreached g f n → step g.extent c d ≡ Some n → (left ≡ true) × (height_at g n <ℤ level) × (raises ≡ false)
+
+-- what a look around the cell at a place comes to
+abbrev pub LooksAround : Extent → Flooding → Flooding → ℕ → ℤ → Bool → Bool → Type 0
+LooksAround e old new place level raises left =
+    (g : Grid) (stand : ℤ) (busy : List ℕ) (c : Cell) → g.extent ≡ e → place ≡ index_of g.extent c → IsLookedBefore g old stand busy c level raises →
+    IsLookedAround g new stand busy c level raises left

@@ -1,60 +1,105 @@
 //! Looking at the eight neighbours of a cell of a flood.
 //!
-//! Most of the time of a flood goes here. Away from the edge of the grid the eight directions are written out, so each
-//! neighbour's place is a sum of numbers that are known beforehand, and no side is tested.
+//! Most of the time of a flood goes here. Data cells on the edge of the grid are open, so the mark of any other reached
+//! cell tells that it isn't there. Around such a cell eight marks are compared first, without a jump: most often none of
+//! them is unreached. Else the eight directions are written out, so each neighbour's place is a sum of numbers that are
+//! known beforehand, and no side is tested.
 
-ghost use Rattle.std.specs.Prelude.{◌≡◌, ◌+◌, ◌*◌, ◌<◌, ℕ, ℤ, List, MatchOption, IfSome, IfOk, OnOk, IsTrue, get_or};
+ghost use Rattle.std.specs.Prelude.{◌≡◌, ◌↔◌, ◌+◌, ◌*◌, ◌<◌, ℕ, ℤ, List, IfOk, OnOk, IsTrue, get_or};
 ghost use Rattle.drain_grid.specs.declared.cell.Cell.{Cell};
+ghost use Rattle.drain_grid.specs.declared.direction.Direction.{Direction};
 ghost use Rattle.drain_grid.specs.declared.direction.Direction.TheVariants.{East};
 ghost use Rattle.drain_grid.specs.Direction.{directions};
-ghost use Rattle.drain_grid.specs.Extent.{IsCellOf};
+ghost use Rattle.drain_grid.specs.Extent.{IsCellOf, index_of};
 ghost use Rattle.drain_grid.specs.Grid.{Grid};
 ghost use Rattle.drain_flood.specs.Floods.{Flooding};
-ghost use Rattle.drain_flood.specs.Looks.{IsAround, IsFreshAt, IsFreshPlace, IsInnerPlace, IsLook, IsLookedBefore};
-ghost use Rattle.drain_flood.specs.Turns.{IsLessWork, IsLookedAround};
+ghost use Rattle.drain_flood.specs.Looks.{IsAround, IsFreshAt, IsInnerAt, IsLook, IsLookedBefore, IsPlaceBeside};
+ghost use Rattle.drain_flood.specs.Turns.{IsLessWork, IsLookedAround, LooksAround};
 
 use crate::flood::Flood;
-use crate::places::{beside, is_inner};
+use crate::places::{beside, beside_inner};
 use drain_grid::{Cell, Direction, OutOfMemory, Shape};
 
 impl Flood {
-    /// Reaches the unreached neighbours of a cell; lower ones only if it raises them. Returns whether a lower one was
-    /// left.
+    /// Reaches the unreached neighbours of the cell at a place; lower ones only if it raises them. Returns whether a lower
+    /// one was left.
     pub(crate) fn look_around(
         &mut self,
-        cell: Cell,
+        place: usize,
         level: i16,
         raises: bool,
     ) -> Result<bool, OutOfMemory>
-        requires inside { IsCellOf self.old.extent cell }
+        requires below { place < self.old.extent.rows * self.old.extent.cols }
         ensures extent { self.new.extent ≡ self.old.extent }
         ensures work { OnOk result (IsLessWork self.old self.new) }
-        ensures around { IfOk result (λ left. (g : Grid) (stand : ℤ) (busy : List ℕ) → g.extent ≡ self.old.extent → IsLookedBefore g self.old stand busy cell level raises → IsLookedAround g self.new stand busy cell level raises left) }
+        ensures around { IfOk result (LooksAround self.old.extent self.old self.new place level raises) }
     {
-        if is_inner(self.shape(), cell) {
-            self.look_inside(cell, level, raises)
+        if self.is_inner(place) {
+            self.look_inside(place, level, raises)
         } else {
-            self.look_at_edge(cell, level, raises)
+            self.look_at_edge(self.shape().cell(place), level, raises)
         }
     }
 
     /// The same for a cell that isn't on the edge of the grid.
-    fn look_inside(&mut self, cell: Cell, level: i16, raises: bool) -> Result<bool, OutOfMemory>
-        requires inside { IsCellOf self.old.extent cell }
-        requires inner { IsInnerPlace self.old.extent cell }
+    #[inline(always)]
+    fn look_inside(&mut self, place: usize, level: i16, raises: bool) -> Result<bool, OutOfMemory>
+        requires inner { IsInnerAt self.old.extent place }
         ensures extent { self.new.extent ≡ self.old.extent }
         ensures work { OnOk result (IsLessWork self.old self.new) }
-        ensures around { IfOk result (λ left. (g : Grid) (stand : ℤ) (busy : List ℕ) → g.extent ≡ self.old.extent → IsLookedBefore g self.old stand busy cell level raises → IsLookedAround g self.new stand busy cell level raises left) }
+        ensures around { IfOk result (LooksAround self.old.extent self.old self.new place level raises) }
+    {
+        if self.has_fresh_beside(place) {
+            self.look_each_way(place, level, raises)
+        } else {
+            Ok(false)
+        }
+    }
+
+    /// Whether a neighbour of such a cell isn't reached.
+    #[inline(always)]
+    fn has_fresh_beside(&self, place: usize) -> bool
+        requires { IsInnerAt self.now.extent place }
+        ensures { (c : Cell) → IsCellOf self.now.extent c → place ≡ index_of self.now.extent c → (IsTrue result ↔ ((d : Direction) × ((n : Cell) × IsFreshAt self.now.extent self.now c d n))) }
     {
         let shape = self.shape();
-        let east = self.turn(shape, cell, Direction::East, level, raises, false)?;
-        let south_east = self.turn(shape, cell, Direction::SouthEast, level, raises, east)?;
-        let south = self.turn(shape, cell, Direction::South, level, raises, south_east)?;
-        let south_west = self.turn(shape, cell, Direction::SouthWest, level, raises, south)?;
-        let west = self.turn(shape, cell, Direction::West, level, raises, south_west)?;
-        let north_west = self.turn(shape, cell, Direction::NorthWest, level, raises, west)?;
-        let north = self.turn(shape, cell, Direction::North, level, raises, north_west)?;
-        let north_east = self.turn(shape, cell, Direction::NorthEast, level, raises, north)?;
+        let east = self.is_fresh(shape, place, Direction::East);
+        let south_east = self.is_fresh(shape, place, Direction::SouthEast);
+        let south = self.is_fresh(shape, place, Direction::South);
+        let south_west = self.is_fresh(shape, place, Direction::SouthWest);
+        let west = self.is_fresh(shape, place, Direction::West);
+        let north_west = self.is_fresh(shape, place, Direction::NorthWest);
+        let north = self.is_fresh(shape, place, Direction::North);
+        let north_east = self.is_fresh(shape, place, Direction::NorthEast);
+        east | south_east | south | south_west | west | north_west | north | north_east
+    }
+
+    /// Whether the neighbour in one direction isn't reached.
+    #[inline(always)]
+    fn is_fresh(&self, shape: Shape, place: usize, direction: Direction) -> bool
+        requires same { shape ≡ self.now.extent }
+        requires inner { IsInnerAt self.now.extent place }
+        ensures { (c : Cell) → IsCellOf self.now.extent c → place ≡ index_of self.now.extent c → (IsTrue result ↔ ((n : Cell) × IsFreshAt self.now.extent self.now c direction n)) }
+    {
+        self.is_unreached(beside_inner(shape, place, direction))
+    }
+
+    /// Looks in all directions from such a cell, one after the other.
+    fn look_each_way(&mut self, place: usize, level: i16, raises: bool) -> Result<bool, OutOfMemory>
+        requires inner { IsInnerAt self.old.extent place }
+        ensures extent { self.new.extent ≡ self.old.extent }
+        ensures work { OnOk result (IsLessWork self.old self.new) }
+        ensures around { IfOk result (LooksAround self.old.extent self.old self.new place level raises) }
+    {
+        let shape = self.shape();
+        let east = self.turn(shape, place, Direction::East, level, raises, false)?;
+        let south_east = self.turn(shape, place, Direction::SouthEast, level, raises, east)?;
+        let south = self.turn(shape, place, Direction::South, level, raises, south_east)?;
+        let south_west = self.turn(shape, place, Direction::SouthWest, level, raises, south)?;
+        let west = self.turn(shape, place, Direction::West, level, raises, south_west)?;
+        let north_west = self.turn(shape, place, Direction::NorthWest, level, raises, west)?;
+        let north = self.turn(shape, place, Direction::North, level, raises, north_west)?;
+        let north_east = self.turn(shape, place, Direction::NorthEast, level, raises, north)?;
         Ok(north_east)
     }
 
@@ -63,20 +108,20 @@ impl Flood {
     fn turn(
         &mut self,
         shape: Shape,
-        cell: Cell,
+        place: usize,
         direction: Direction,
         level: i16,
         raises: bool,
         left: bool,
     ) -> Result<bool, OutOfMemory>
         requires same { shape ≡ self.old.extent }
-        requires inside { IsCellOf self.old.extent cell }
-        requires inner { IsInnerPlace self.old.extent cell }
+        requires inner { IsInnerAt self.old.extent place }
         ensures extent { self.new.extent ≡ self.old.extent }
         ensures work { OnOk result ((first : Flooding) → IsLessWork first self.old → IsLessWork first self.new) }
-        ensures around { IfOk result (λ after. (g : Grid) (stand : ℤ) (busy : List ℕ) (k : ℕ) → g.extent ≡ self.old.extent → direction ≡ get_or directions k East → IsAround g self.old stand busy cell level raises left k → IsAround g self.new stand busy cell level raises after (k + 1)) }
+        ensures around { IfOk result (λ after. (g : Grid) (stand : ℤ) (busy : List ℕ) (k : ℕ) (c : Cell) → g.extent ≡ self.old.extent → place ≡ index_of g.extent c → direction ≡ get_or directions k East → IsAround g self.old stand busy c level raises left k → IsAround g self.new stand busy c level raises after (k + 1)) }
     {
-        let more = self.look(shape, cell, true, direction, level, raises)?;
+        let next = beside_inner(shape, place, direction);
+        let more = self.look_at(next, level, raises)?;
         Ok(left || more)
     }
 
@@ -90,59 +135,46 @@ impl Flood {
     {
         let mut left = false;
         for direction in Direction::ALL {
-            let more = self.look(self.shape(), cell, false, direction, level, raises)?;
+            let more = self.look(cell, direction, level, raises)?;
             left = left || more;
         }
         Ok(left)
     }
 
-    /// Reaches the neighbour in one direction, if it isn't reached; a lower one only if the cell raises it. Returns
-    /// whether a lower one was left.
-    #[inline(always)]
+    /// Looks in one direction from such a cell.
     fn look(
         &mut self,
-        shape: Shape,
         cell: Cell,
-        inner: bool,
         direction: Direction,
         level: i16,
         raises: bool,
     ) -> Result<bool, OutOfMemory>
-        requires same { shape ≡ self.old.extent }
         requires inside { IsCellOf self.old.extent cell }
-        requires inner { IsTrue inner → IsInnerPlace self.old.extent cell }
         ensures extent { self.new.extent ≡ self.old.extent }
         ensures look { IfOk result (IsLook self.old.extent self.old self.new cell direction level raises) }
     {
-        let Some(next) = self.fresh(shape, cell, inner, direction) else {
+        match beside(self.shape(), cell, false, direction) {
+            Some(next) => self.look_at(next, level, raises),
+            None => Ok(false),
+        }
+    }
+
+    /// Reaches the neighbour at a place, if it isn't reached; a lower one only if the cell raises it. Returns whether a
+    /// lower one was left.
+    #[inline(always)]
+    fn look_at(&mut self, next: usize, level: i16, raises: bool) -> Result<bool, OutOfMemory>
+        requires below { next < self.old.extent.rows * self.old.extent.cols }
+        ensures extent { self.new.extent ≡ self.old.extent }
+        ensures look { IfOk result (λ left. (c : Cell) (d : Direction) → IsPlaceBeside self.old.extent c d next → IsLook self.old.extent self.old self.new c d level raises left) }
+    {
+        if !self.is_unreached(next) {
             return Ok(false);
-        };
+        }
         let ground = self.level_at(next);
         if ground < level && !raises {
             return Ok(true);
         }
         self.reach(next, ground.max(level))?;
         Ok(false)
-    }
-
-    /// The place of the neighbour in a direction, if it isn't reached.
-    #[inline(always)]
-    fn fresh(&self, shape: Shape, cell: Cell, inner: bool, direction: Direction) -> Option<usize>
-        requires same { shape ≡ self.now.extent }
-        requires inside { IsCellOf self.now.extent cell }
-        requires inner { IsTrue inner → IsInnerPlace self.now.extent cell }
-        ensures below { IfSome result (λ place. place < self.now.extent.rows * self.now.extent.cols) }
-        ensures fresh { MatchOption result ((n : Cell) → IsFreshAt self.now.extent self.now cell direction n → ⊥) (IsFreshPlace self.now.extent self.now cell direction) }
-    {
-        match beside(shape, cell, inner, direction) {
-            Some(next) => {
-                if self.is_unreached(next) {
-                    Some(next)
-                } else {
-                    None
-                }
-            }
-            None => None,
-        }
     }
 }

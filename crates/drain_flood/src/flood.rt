@@ -19,17 +19,16 @@ ghost use Rattle.drain_grid.specs.declared.cell.Cell.{Cell};
 ghost use Rattle.drain_grid.specs.Extent.{IsCellOf, index_of};
 ghost use Rattle.drain_grid.specs.Grid.{Grid};
 ghost use Rattle.drain_flood.specs.Floods.{Flooding, con_at, mark_at, unreached, IsFloodOf, IsFlooded, Reaches};
-ghost use Rattle.drain_flood.specs.Looks.{IsFreshAt, IsFreshPlace, IsInnerPlace, IsLook, IsLookedBefore};
-ghost use Rattle.drain_flood.specs.Turns.{with_lists, IsNextTurn, IsDone, IsPopped, IsEmptied, IsLeftWaiting, IsLessWork, IsLookedAround};
+ghost use Rattle.drain_flood.specs.Looks.{IsClosed, IsInnerAt, IsInnerPlace};
+ghost use Rattle.drain_flood.specs.Turns.{with_lists, IsNextTurn, IsDone, IsPopped, IsEmptied, IsLeftWaiting};
 
 use crate::laws::flood_is_filled;
 use crate::layers::{NO_HEIGHT, OPEN, REACHED, UNREACHED, VOID, copied, heights, marks, no_places};
 use crate::level_stacks::LevelStacks;
 use crate::open_cells::{is_gap_in, is_one, is_open};
-use crate::places::{cell_at, columns_inverse};
 use crate::surface::Surface;
 use crate::tracing::spread;
-use drain_grid::{Cell, Direction, Elevation, OutOfMemory, Shape, Sinks};
+use drain_grid::{Cell, Elevation, OutOfMemory, Shape, Sinks};
 use std::alloc::Global;
 use std::marker::Model;
 
@@ -37,8 +36,6 @@ use std::marker::Model;
 #[derive(Drop)]
 pub struct Flood {
     shape: Shape,
-    /// For the cells of places.
-    inverse: u64,
     con: Vec<i16>,
     mark: Vec<u8>,
     /// Places of reached cells whose neighbours haven't been looked at yet: the one reached last comes first.
@@ -121,7 +118,6 @@ impl Flood {
         let trail = no_places(alloc)?;
         Ok(Flood {
             shape,
-            inverse: columns_inverse(shape),
             con,
             mark,
             trail,
@@ -181,6 +177,7 @@ impl Flood {
     /// Starts a data cell.
     fn lay(&mut self, cell: Cell, ground: i16, opens: bool) -> Result<(), OutOfMemory>
         requires inside { IsCellOf self.old.extent cell }
+        requires inner { opens ≡ false → IsInnerPlace self.old.extent cell }
         ensures extent { self.new.extent ≡ self.old.extent }
         ensures lays { OnOk result (Lays self.old.extent self.old self.new cell ground opens) }
     {
@@ -194,6 +191,7 @@ impl Flood {
     /// Writes the numbers of a cell.
     fn put(&mut self, cell: Cell, height: i16, mark: u8)
         requires inside { IsCellOf self.old.extent cell }
+        requires inner { IsClosed mark → IsInnerPlace self.old.extent cell }
         ensures extent { self.new.extent ≡ self.old.extent }
         ensures ahead { self.new.ahead ≡ self.old.ahead }
         ensures waiting { self.new.waiting ≡ self.old.waiting }
@@ -238,11 +236,6 @@ impl Flood {
         self.shape
     }
 
-    /// The inverse of the number of columns.
-    pub(crate) fn inverse(&self) -> u64 {
-        self.inverse
-    }
-
     /// The mark of a cell.
     pub fn mark(&self, cell: Cell) -> u8
         requires { IsCellOf self.now.extent cell }
@@ -261,6 +254,15 @@ impl Flood {
         self.mark[place] == UNREACHED
     }
 
+    /// Whether the cell at a place is reached and isn't open: then it isn't on the edge of the grid.
+    #[inline(always)]
+    pub(crate) fn is_inner(&self, place: usize) -> bool
+        requires { place < self.now.extent.rows * self.now.extent.cols }
+        ensures { IsTrue result → IsInnerAt self.now.extent place }
+    {
+        self.mark[place] == REACHED
+    }
+
     /// Reaches the cell at a place, and puts it at the end of the trail.
     #[inline(always)]
     pub(crate) fn reach(&mut self, place: usize, height: i16) -> Result<(), OutOfMemory>
@@ -277,36 +279,32 @@ impl Flood {
         }
     }
 
-    /// Takes the next cell of the trail.
-    pub(crate) fn next(&mut self) -> Option<Cell>
+    /// Takes the place of the next cell of the trail.
+    pub(crate) fn next(&mut self) -> Option<u32>
         ensures extent { self.new.extent ≡ self.old.extent }
-        ensures next { MatchOption result (IsDone self.old self.new) (IsNextTurn self.old self.new) }
+        ensures below { IfSome result (λ place. place < self.old.extent.rows * self.old.extent.cols) }
+        ensures next { MatchOption result (IsDone self.old self.new) (λ place. (c : Cell) × IsNextTurn self.old self.new c × (place ≡ index_of self.old.extent c)) }
     {
-        match self.trail.pop() {
-            Some(place) => Some(cell_at(self.shape, self.inverse, place as usize)),
-            None => None,
-        }
+        let place = self.trail.pop()?;
+        Some(place)
     }
 
-    /// Takes a waiting cell below which none waits, and its level.
-    pub(crate) fn pop(&mut self) -> Option<(i16, Cell)>
+    /// Takes the place of a waiting cell below which none waits, and its level.
+    pub(crate) fn pop(&mut self) -> Option<(i16, u32)>
         ensures extent { self.new.extent ≡ self.old.extent }
+        ensures below { IfSome result (λ pair. pair.1 < self.old.extent.rows * self.old.extent.cols) }
         ensures popped { MatchOption result (IsEmptied self.old self.new) (λ pair. IsPopped self.old self.new pair.0 pair.1) }
     {
-        match self.waiting.pop() {
-            Some((level, item)) => Some((level, cell_at(self.shape, self.inverse, item as usize))),
-            None => None,
-        }
+        self.waiting.pop()
     }
 
-    /// Makes a cell wait at its level.
-    pub(crate) fn wait(&mut self, cell: Cell, level: i16) -> Result<(), OutOfMemory>
-        requires { IsCellOf self.old.extent cell }
+    /// Makes the cell at a place wait at its level.
+    pub(crate) fn wait(&mut self, place: u32, level: i16) -> Result<(), OutOfMemory>
+        requires { place < self.old.extent.rows * self.old.extent.cols }
         ensures extent { self.new.extent ≡ self.old.extent }
-        ensures waits { OnOk result (IsLeftWaiting self.old self.new level cell) }
+        ensures waits { OnOk result (IsLeftWaiting self.old self.new level place) }
     {
-        let item = self.shape.index(cell) as u32;
-        self.waiting.push(level, item)
+        self.waiting.push(level, place)
     }
 }
 

@@ -3,12 +3,9 @@
 //! Most are freed while products are made. glibc returns a block of more than 32 MiB to the system when it is freed, but
 //! may keep a smaller one. So these lists have room for more than 32 MiB; what isn't used of it costs no memory.
 
-ghost use Rattle.std.specs.Prelude.{◌≡◌, ◌<◌, ◌*◌, ◌++◌, [], ◌∷◌, All, MatchOption, OnOk, IfOk, length};
-ghost use Rattle.drain_grid.specs.Extent.{IsCellOf, index_of};
-ghost use Rattle.drain_flood.specs.Turns.{IsLast, AreNone};
+ghost use Rattle.std.specs.Prelude.{◌≡◌, [], All, IfOk, length};
 
-use crate::places::cell_at;
-use drain_grid::{Cell, OutOfMemory, Shape};
+use drain_grid::OutOfMemory;
 use std::alloc::Global;
 
 /// The mark of an open cell: an outlet's code.
@@ -28,26 +25,6 @@ pub const NO_HEIGHT: i16 = -32768;
 
 /// The rank of a cell without data.
 pub const NO_RANK: u32 = 4_294_967_295;
-
-/// Adds a cell.
-pub(crate) fn defer(later: &mut Vec<u32>, shape: Shape, cell: Cell) -> Result<(), OutOfMemory>
-    requires { IsCellOf shape cell }
-    ensures { OnOk result (later.new.items ≡ later.old.items ++ index_of shape cell ∷ []) }
-{
-    later.push(shape.index(cell) as u32)?;
-    Ok(())
-}
-
-/// Takes out the cell that was added last.
-pub(crate) fn take_last(later: &mut Vec<u32>, shape: Shape, inverse: u64) -> Option<Cell>
-    requires { All (λ place. place < shape.rows * shape.cols) later.old.items }
-    ensures { MatchOption result (AreNone later.old.items later.new.items) (IsLast shape later.old.items later.new.items) }
-{
-    match later.pop() {
-        Some(place) => Some(cell_at(shape, inverse, place as usize)),
-        None => None,
-    }
-}
 
 /// 32 MiB and a page, in bytes.
 const ROOM: usize = 33_558_528;

@@ -3,7 +3,7 @@
 ghost use Rattle.std.specs.Prelude.{◌≡◌, ◌+◌, ◌*◌, ◌^◌, ◌<◌, None, MatchOption, IfSome, IsTrue};
 ghost use Rattle.drain_grid.specs.Direction.{rows_down, cols_right};
 ghost use Rattle.drain_grid.specs.Extent.{IsCellOf, index_of, step};
-ghost use Rattle.drain_flood.specs.Looks.{IsInnerPlace, IsPlaceBeside};
+ghost use Rattle.drain_flood.specs.Looks.{IsInnerAt, IsInnerPlace, IsPlaceBeside};
 
 use drain_grid::{Cell, Direction, Shape};
 
@@ -58,13 +58,23 @@ pub(crate) fn beside(shape: Shape, cell: Cell, inner: bool, direction: Direction
     ensures beside { MatchOption result (step shape cell direction ≡ None) (IsPlaceBeside shape cell direction) }
 {
     if inner {
-        let cols = shape.cols() as usize;
-        return Some(shape.index(cell) + offset(cols, direction) - (cols + 1));
+        return Some(beside_inner(shape, shape.index(cell), direction));
     }
     match shape.step(cell, direction) {
         Some(next) => Some(shape.index(next)),
         None => None,
     }
+}
+
+/// The same for the cell at a place, which isn't on the edge of the grid.
+#[inline(always)]
+pub(crate) fn beside_inner(shape: Shape, place: usize, direction: Direction) -> usize
+    requires { IsInnerAt shape place }
+    ensures below { result < shape.rows * shape.cols }
+    ensures beside { (c : Cell) → IsCellOf shape c → place ≡ index_of shape c → IsPlaceBeside shape c direction result }
+{
+    let cols = shape.cols() as usize;
+    place + offset(cols, direction) - (cols + 1)
 }
 
 /// How many places the neighbour in a direction comes after the one to the north-west.

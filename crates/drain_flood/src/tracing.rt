@@ -5,14 +5,13 @@
 //! still left. Few of them are.
 
 ghost use Rattle.std.specs.Prelude.{◌≡◌, ◌+◌, ◌*◌, ◌<◌, ◌≤◌, ℕ, List, [], ◌∷◌, All, OnOk, length};
-ghost use Rattle.drain_grid.specs.Extent.{IsCellOf, index_of};
 ghost use Rattle.drain_grid.specs.Grid.{Grid};
 ghost use Rattle.drain_flood.specs.declared.layers.TheConstants.{NO_HEIGHT};
 ghost use Rattle.drain_flood.specs.Floods.{unreached, IsFloodOf, IsFlooded};
 
 use crate::flood::{Flood, is_same};
-use crate::layers::{NO_HEIGHT, defer, no_places, take_last};
-use drain_grid::{Cell, OutOfMemory};
+use crate::layers::{NO_HEIGHT, no_places};
+use drain_grid::OutOfMemory;
 use std::alloc::Global;
 
 /// Traces from the open cells; then, lowest first, raises the unreached neighbours of each waiting cell and traces from
@@ -23,8 +22,8 @@ pub(crate) fn spread(flood: &mut Flood, alloc: Global) -> Result<(), OutOfMemory
 {
     let mut later = no_places(alloc)?;
     trace(flood, &mut later, NO_HEIGHT)?;
-    while let Some((level, cell)) = flood.pop() {
-        flood.look_around(cell, level, true)?;
+    while let Some((level, place)) = flood.pop() {
+        flood.look_around(place as usize, level, true)?;
         trace(flood, &mut later, level)?;
     }
     Ok(())
@@ -40,11 +39,9 @@ fn trace(flood: &mut Flood, later: &mut Vec<u32>, stand: i16) -> Result<(), OutO
     ensures work { OnOk result (unreached flood.new + length flood.new.waiting ≤ unreached flood.old + length flood.old.ahead + length flood.old.waiting) }
     ensures flood { OnOk result ((g : Grid) → g.extent ≡ flood.old.extent → IsFloodOf g flood.old stand [] → IsFloodOf g flood.new stand []) }
 {
-    let shape = flood.shape();
-    let inverse = flood.inverse();
     sweep(flood, later, stand)?;
-    while let Some(cell) = take_last(later, shape, inverse) {
-        look_again(flood, cell, stand)?;
+    while let Some(place) = later.pop() {
+        look_again(flood, place, stand)?;
         sweep(flood, later, stand)?;
     }
     Ok(())
@@ -61,29 +58,28 @@ fn sweep(flood: &mut Flood, later: &mut Vec<u32>, stand: i16) -> Result<(), OutO
     ensures waiting { OnOk result (flood.new.waiting ≡ flood.old.waiting) }
     ensures flood { OnOk result ((g : Grid) → g.extent ≡ flood.old.extent → IsFloodOf g flood.old stand later.old.items → IsFloodOf g flood.new stand later.new.items) }
 {
-    let shape = flood.shape();
-    while let Some(cell) = flood.next() {
-        let level = flood.height(cell);
+    while let Some(place) = flood.next() {
+        let level = flood.level_at(place as usize);
         let raises = is_same(level, stand);
-        if flood.look_around(cell, level, raises)? {
-            defer(later, shape, cell)?;
+        if flood.look_around(place as usize, level, raises)? {
+            later.push(place)?;
         }
     }
     Ok(())
 }
 
-/// Looks at the neighbours of a cell once more: it waits if one is left.
-fn look_again(flood: &mut Flood, cell: Cell, stand: i16) -> Result<(), OutOfMemory>
-    requires inside { IsCellOf flood.old.extent cell }
+/// Looks at the neighbours of the cell at a place once more: it waits if one is left.
+fn look_again(flood: &mut Flood, place: u32, stand: i16) -> Result<(), OutOfMemory>
+    requires below { place < flood.old.extent.rows * flood.old.extent.cols }
     ensures extent { flood.new.extent ≡ flood.old.extent }
     ensures work { OnOk result (unreached flood.new + length flood.new.ahead ≡ unreached flood.old + length flood.old.ahead) }
     ensures waiting { OnOk result (length flood.new.waiting ≤ length flood.old.waiting + 1) }
-    ensures flood { OnOk result ((g : Grid) (later : List ℕ) → g.extent ≡ flood.old.extent → IsFloodOf g flood.old stand (index_of flood.old.extent cell ∷ later) → IsFloodOf g flood.new stand later) }
+    ensures flood { OnOk result ((g : Grid) (later : List ℕ) → g.extent ≡ flood.old.extent → IsFloodOf g flood.old stand (place ∷ later) → IsFloodOf g flood.new stand later) }
 {
-    let level = flood.height(cell);
+    let level = flood.level_at(place as usize);
     let raises = is_same(level, stand);
-    if flood.look_around(cell, level, raises)? {
-        flood.wait(cell, level)?;
+    if flood.look_around(place as usize, level, raises)? {
+        flood.wait(place, level)?;
     }
     Ok(())
 }

@@ -15,27 +15,25 @@ loop-level-preserved c =
     let s1 = c.pop.new.self in
     let level = to_z w16 (of_z w16 c.in-Some.level) in
     let fits : SFits w16 c.in-Some.level = search rules in
-    let popped : IsPopped s0 s1 level c.in-Some.cell =
-    subst (λ z. IsPopped s0 s1 z c.in-Some.cell) (sym (to_z-of_z w16 c.in-Some.level fits)) c.in-Some.ensures.popped in
+    let popped : IsPopped s0 s1 level c.in-Some.place =
+    subst (λ z. IsPopped s0 s1 z c.in-Some.place) (sym (to_z-of_z w16 c.in-Some.level fits)) c.in-Some.ensures.popped in
     record {
       extent = c.trace-in-Some.ensures.extent ∙ c.look_around.ensures.extent ∙ c.pop.ensures.extent ∙ l.extent;
       none = c.in_ok-trace-2.ensures.none;
       done = c.in_ok-trace-2.ensures.done;
       flood = λ g same before.
-          (let e0 : g.extent ≡ s0.extent = same ∙ sym l.extent in
-          let e1 : g.extent ≡ s1.extent = e0 ∙ sym c.pop.ensures.extent in
-          let e2 : g.extent ≡ c.look_around.new.self.extent = e1 ∙ sym c.look_around.ensures.extent in
+          (let e1 : g.extent ≡ s1.extent = same ∙ sym l.extent ∙ sym c.pop.ensures.extent in
           let stands = l.flood g same before in (
             level,
-            c.in_ok-trace-2.ensures.flood g e2
-                (turn_rises g s0 s1 c.look_around.new.self stands.0 level c.in-Some.cell c.in_ok-look_around.field-0 e0 e1 popped l.done
+            c.in_ok-trace-2.ensures.flood g (e1 ∙ sym c.look_around.ensures.extent)
+                (turn_rises g s0 s1 c.look_around.new.self stands.0 level c.in-Some.place c.in_ok-look_around.field-0 e1 popped l.done
                 c.in_ok-look_around.ensures.around stands.1),
           ));
     }
 
 pub loop-level-smaller : goal.loop-level-smaller
 loop-level-smaller c =
-    let taken = pop_work c.loop-level.flood c.pop.new.self _ c.in-Some.cell c.in-Some.ensures.popped in
+    let taken = pop_work c.loop-level.flood c.pop.new.self _ c.in-Some.place c.in-Some.ensures.popped in
     let none : length c.loop-level.flood.ahead ≡ 0 = ap (λ xs. length xs) c.loop-level.invariant.done in
     let same : length c.look_around.new.self.waiting ≡ length c.pop.new.self.waiting = ap (λ (xs : List (ℤ × ℕ)). length xs) c.in_ok-look_around.ensures.work.waiting in
     omega (arith, taken.0, taken.1, none, same, c.in_ok-look_around.ensures.work.same, c.in_ok-trace-2.ensures.work)

@@ -1,55 +1,52 @@
-use Rattle.std.proofs.Common.{◌≡◌, ◌+◌, ◌*◌, ◌<◌, ◌∙◌, [], ◌∷◌, ◌++◌, length, sym, ap, subst, arith, rules}
+use Rattle.std.proofs.Common.{◌≡◌, ◌+◌, ◌*◌, ◌<◌, ◌∙◌, [], ◌∷◌, ◌++◌, pos, get_or, length, sym, ap, subst, arith, rules}
 use mir.Syntax.{w16}
 use mir.Val.{SFits, to_z, of_z}
 use Rattle.std.specs.List.{All}
 use Rattle.std.proofs.lemmas.Int.{to_z-of_z}
 use Rattle.std.proofs.lemmas.List.{length_push}
 use Rattle.std.proofs.lemmas.List.Elements.{All-push}
-use Rattle.drain_grid.specs.Extent.{IsCellOf, index_of}
-use Rattle.drain_grid.proofs.Runs.{index_of-below}
-use Rattle.drain_flood.specs.Floods.{con_at}
-use Rattle.drain_flood.proofs.Turning.{turn_passed, turn_deferred, turn_work, LooksAround}
+use Rattle.drain_flood.proofs.Turning.{next_busy, busy_passed, busy_deferred, turn_work}
 use Rattle.drain_flood.proofs.tracing.sweep.Goals as goal
 
-pub loop-cell-preserved-in-Continue-branch-2 : goal.loop-cell-preserved-in-Continue-branch-2
-loop-cell-preserved-in-Continue-branch-2 c =
-    let l = c.loop-cell.invariant in
+pub loop-place-preserved-in-Continue-branch-2 : goal.loop-place-preserved-in-Continue-branch-2
+loop-place-preserved-in-Continue-branch-2 c =
+    let l = c.loop-place.invariant in
     let s1 = c.next.new.self in
     let e = c.args.flood.now.extent in
-    let later = c.loop-cell.later.items in
-    let fits : SFits w16 c.height-level.result = search rules in
-    let level_is : to_z w16 (of_z w16 c.height-level.result) ≡ con_at s1.extent s1 c.in-Some.cell =
-    to_z-of_z w16 c.height-level.result fits ∙ c.height-level.ensures in
-    let work = turn_work c.loop-cell.flood s1 c.look_around.new.self c.in-Some.cell c.in-Some.ensures.next c.in_ok-look_around.ensures.work in
-    let long : length c.defer.new.later.items ≡ length later + 1 =
-    ap (λ xs. length xs) c.in_ok-defer.ensures ∙ length_push later (index_of c.shape-shape.result c.in-Some.cell) in
+    let later = c.loop-place.later.items in
+    let level = to_z w16 (of_z w16 c.level_at-level.result) in
+    let fits : SFits w16 c.level_at-level.result = search rules in
+    let level_is : level ≡ get_or s1.con c.in-Some.place (pos 0) = to_z-of_z w16 c.level_at-level.result fits ∙ c.level_at-level.ensures in
+    let next = c.in-Some.ensures.next in
+    let work = turn_work c.loop-place.flood s1 c.look_around.new.self next.0 next.1 c.in_ok-look_around.ensures.work in
+    let grown : c.push.new.self.items ≡ later ++ c.in-Some.place ∷ [] = c.in_ok-push.ensures.items in
+    let long : length c.push.new.self.items ≡ length later + 1 = ap (λ xs. length xs) grown ∙ length_push later c.in-Some.place in
     let before = l.work in
-    let below : index_of c.shape-shape.result c.in-Some.cell < e.rows * e.cols =
-    subst (λ x. index_of x c.in-Some.cell < e.rows * e.cols) (sym c.shape-shape.ensures)
-    (index_of-below e c.in-Some.cell (subst (λ x. IsCellOf x c.in-Some.cell) l.extent c.in-Some.ensures.next.inside)) in
     record {
       extent = c.look_around.ensures.extent ∙ c.next.ensures.extent ∙ l.extent;
-      places = subst (All (λ place. place < e.rows * e.cols)) (sym c.in_ok-defer.ensures)
-          (All-push (λ place. place < e.rows * e.cols) later (index_of c.shape-shape.result c.in-Some.cell) l.places below);
+      places = subst (All (λ place. place < e.rows * e.cols)) (sym grown)
+          (All-push (λ place. place < e.rows * e.cols) later c.in-Some.place l.places
+          (subst (λ x. c.in-Some.place < x.rows * x.cols) l.extent c.in-Some.ensures.below));
       work = omega (arith, work.0, long, before);
       waiting = work.1 ∙ l.waiting;
       flood = λ g same laid.
-          (let e0 : g.extent ≡ c.loop-cell.flood.extent = same ∙ sym l.extent in
-          let e1 : g.extent ≡ s1.extent = e0 ∙ sym c.next.ensures.extent in
-          turn_deferred g c.loop-cell.flood s1 c.look_around.new.self (to_z w16 (of_z w16 c.args.stand)) (to_z w16 (of_z w16 c.height-level.result))
-          later c.defer.new.later.items c.in-Some.cell c.is_same-raises.result c.in_ok-look_around.field-0 e0 e1 c.in-Some.ensures.next level_is
-          c.is_same-raises.ensures.0 c.in_ok-look_around.ensures.around
-          (c.in_ok-defer.ensures ∙ ap (λ x. later ++ index_of x c.in-Some.cell ∷ []) (c.shape-shape.ensures ∙ sym same)) (l.flood g same laid));
+          (let e1 : g.extent ≡ s1.extent = same ∙ sym l.extent ∙ sym c.next.ensures.extent in
+          busy_deferred g s1 c.look_around.new.self (to_z w16 (of_z w16 c.args.stand)) level later c.in-Some.place c.is_same-raises.result c.in_ok-look_around.field-0
+          e1 level_is c.is_same-raises.ensures.0 c.in_ok-look_around.ensures.around
+          (next_busy g c.loop-place.flood s1 _ later c.in-Some.place next.0 (l.flood g same laid) next.1 next.2)
+          c.push.new.self.items grown);
     }
 
-pub loop-cell-preserved : goal.loop-cell-preserved
-loop-cell-preserved c =
-    let l = c.loop-cell.invariant in
+pub loop-place-preserved : goal.loop-place-preserved
+loop-place-preserved c =
+    let l = c.loop-place.invariant in
     let s1 = c.next.new.self in
-    let fits : SFits w16 c.height-level.result = search rules in
-    let level_is : to_z w16 (of_z w16 c.height-level.result) ≡ con_at s1.extent s1 c.in-Some.cell =
-    to_z-of_z w16 c.height-level.result fits ∙ c.height-level.ensures in
-    let work = turn_work c.loop-cell.flood s1 c.look_around.new.self c.in-Some.cell c.in-Some.ensures.next c.in_ok-look_around.ensures.work in
+    let later = c.loop-place.later.items in
+    let level = to_z w16 (of_z w16 c.level_at-level.result) in
+    let fits : SFits w16 c.level_at-level.result = search rules in
+    let level_is : level ≡ get_or s1.con c.in-Some.place (pos 0) = to_z-of_z w16 c.level_at-level.result fits ∙ c.level_at-level.ensures in
+    let next = c.in-Some.ensures.next in
+    let work = turn_work c.loop-place.flood s1 c.look_around.new.self next.0 next.1 c.in_ok-look_around.ensures.work in
     let before = l.work in
     record {
       extent = c.look_around.ensures.extent ∙ c.next.ensures.extent ∙ l.extent;
@@ -57,10 +54,9 @@ loop-cell-preserved c =
       work = omega (arith, work.0, before);
       waiting = work.1 ∙ l.waiting;
       flood = λ g same laid.
-          (let e0 : g.extent ≡ c.loop-cell.flood.extent = same ∙ sym l.extent in
-          let e1 : g.extent ≡ s1.extent = e0 ∙ sym c.next.ensures.extent in
-          turn_passed g c.loop-cell.flood s1 c.look_around.new.self (to_z w16 (of_z w16 c.args.stand)) (to_z w16 (of_z w16 c.height-level.result))
-          c.loop-cell.later.items c.in-Some.cell c.is_same-raises.result e0 e1 c.in-Some.ensures.next level_is c.is_same-raises.ensures.0
-          (subst (LooksAround s1.extent s1 c.look_around.new.self c.in-Some.cell (to_z w16 (of_z w16 c.height-level.result)) c.is_same-raises.result)
-          c.if-branch.false c.in_ok-look_around.ensures.around) (l.flood g same laid));
+          (let e1 : g.extent ≡ s1.extent = same ∙ sym l.extent ∙ sym c.next.ensures.extent in
+          busy_passed g s1 c.look_around.new.self (to_z w16 (of_z w16 c.args.stand)) level later c.in-Some.place c.is_same-raises.result c.in_ok-look_around.field-0
+          e1 level_is c.is_same-raises.ensures.0 c.in_ok-look_around.ensures.around
+          (next_busy g c.loop-place.flood s1 _ later c.in-Some.place next.0 (l.flood g same laid) next.1 next.2)
+          c.if-branch.false);
     }

@@ -5,8 +5,8 @@ use Rattle.drain_grid.specs.Grid.{Grid}
 use Rattle.drain_flood.specs.Floods.{unreached, IsFloodOf}
 use Rattle.drain_flood.proofs.tracing.sweep.Given as goal
 
-abbrev pub invariant-loop-cell : goal.invariant-loop-cell
-invariant-loop-cell l = record {
+abbrev pub invariant-loop-place : goal.invariant-loop-place
+invariant-loop-place l = record {
   extent : l.flood.extent ≡ l.fn.flood.extent;
   places : All (λ place. place < l.fn.flood.extent.rows * l.fn.flood.extent.cols) l.later.items;
   work : unreached l.flood + length l.flood.ahead + length l.later.items ≤ unreached l.fn.flood + length l.fn.flood.ahead + length l.fn.later.items;
@@ -14,5 +14,5 @@ invariant-loop-cell l = record {
   flood : (g : Grid) → g.extent ≡ l.fn.flood.extent → IsFloodOf g l.fn.flood l.stand l.fn.later.items → IsFloodOf g l.flood l.stand l.later.items;
 }
 
-abbrev pub decreases-loop-cell : goal.decreases-loop-cell
-decreases-loop-cell l = unreached l.flood + unreached l.flood + length l.flood.ahead
+abbrev pub decreases-loop-place : goal.decreases-loop-place
+decreases-loop-place l = unreached l.flood + unreached l.flood + length l.flood.ahead

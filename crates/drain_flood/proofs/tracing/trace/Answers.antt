@@ -1,10 +1,9 @@
-use Rattle.std.proofs.Common.{◌≡◌, ◌+◌, ◌*◌, ◌<◌, ◌∙◌, [], ◌∷◌, ◌++◌, length, sym, ap, subst, arith}
+use Rattle.std.proofs.Common.{◌≡◌, ◌+◌, ◌*◌, ◌<◌, ◌∙◌, [], ◌∷◌, ◌++◌, length, sym, ap, subst, arith, rules}
 use mir.Syntax.{w16}
 use mir.Val.{to_z, of_z}
 use Rattle.std.specs.List.{All}
 use Rattle.std.proofs.lemmas.Int.{to_z-of_z}
 use Rattle.std.proofs.lemmas.List.{length_push}
-use Rattle.drain_grid.specs.Extent.{index_of}
 use Rattle.drain_flood.specs.Floods.{IsFloodOf}
 use Rattle.drain_flood.proofs.Turns.{all_before}
 use Rattle.drain_flood.proofs.Turning.{last_busy}
@@ -14,18 +13,19 @@ pub sweep-requires-in-Some : goal.sweep-requires-in-Some
 sweep-requires-in-Some c =
     let e = c.args.flood.now.extent in
     record {
-      places = subst (λ x. All (λ place. place < x.rows * x.cols) c.take_last.new.later.items)
-          (sym (c.look_again.ensures.extent ∙ c.loop-cell.invariant.extent))
-          (all_before (λ place. place < e.rows * e.cols) c.loop-cell.later.items c.take_last.new.later.items _ c.in-Some.ensures.last c.loop-cell.invariant.places);
+      places = subst (λ x. All (λ place. place < x.rows * x.cols) c.pop.new.self.items)
+          (sym (c.look_again.ensures.extent ∙ c.loop-place.invariant.extent))
+          (all_before (λ place. place < e.rows * e.cols) c.loop-place.later.items c.pop.new.self.items _ c.in-Some.ensures.items c.loop-place.invariant.places);
     }
 
-pub loop-cell-preserved : goal.loop-cell-preserved
-loop-cell-preserved c =
-    let l = c.loop-cell.invariant in
-    let s = c.loop-cell.flood in
-    let later = c.take_last.new.later.items in
+pub loop-place-preserved : goal.loop-place-preserved
+loop-place-preserved c =
+    let l = c.loop-place.invariant in
+    let s = c.loop-place.flood in
+    let later = c.pop.new.self.items in
     let e = c.look_again.ensures.extent ∙ l.extent in
-    let long : length c.loop-cell.later.items ≡ length later + 1 = ap (λ xs. length xs) c.in-Some.ensures.last ∙ length_push later (index_of c.shape-shape.result c.in-Some.cell) in
+    let last : c.loop-place.later.items ≡ later ++ c.in-Some.place ∷ [] = c.in-Some.ensures.items in
+    let long : length c.loop-place.later.items ≡ length later + 1 = ap (λ xs. length xs) last ∙ length_push later c.in-Some.place in
     let empty : length s.ahead ≡ 0 = ap (λ xs. length xs) l.done in
     let waiting : length c.sweep-in-Some.new.flood.waiting ≡ length c.look_again.new.flood.waiting = ap (λ xs. length xs) c.in_ok-sweep-2.ensures.waiting in
     let swept = c.in_ok-sweep-2.ensures.work in
@@ -39,12 +39,8 @@ loop-cell-preserved c =
       work = omega (arith, long, empty, waiting, swept, again, more, before);
       flood = λ g same laid.
           (let e0 : g.extent ≡ s.extent = same ∙ sym l.extent in
-          let stand = to_z w16 (of_z w16 c.args.stand) in
-          let last : c.loop-cell.later.items ≡ later ++ index_of g.extent c.in-Some.cell ∷ [] =
-          c.in-Some.ensures.last ∙ ap (λ x. later ++ index_of x c.in-Some.cell ∷ []) (c.shape-shape.ensures ∙ sym same) in
-          let busy = last_busy g s stand c.loop-cell.later.items later (index_of g.extent c.in-Some.cell) last (l.flood g same laid) in
-          let looked = c.in_ok-look_again.ensures.flood g later e0 (subst (λ x. IsFloodOf g s stand (index_of x c.in-Some.cell ∷ later)) e0 busy) in
-          c.in_ok-sweep-2.ensures.flood g (e0 ∙ sym c.look_again.ensures.extent) looked);
+          let busy = last_busy g s (to_z w16 (of_z w16 c.args.stand)) c.loop-place.later.items later c.in-Some.place last (l.flood g same laid) in
+          c.in_ok-sweep-2.ensures.flood g (e0 ∙ sym c.look_again.ensures.extent) (c.in_ok-look_again.ensures.flood g later e0 busy));
     }
 
 pub returns-clause-flood : goal.returns-clause-flood
@@ -52,5 +48,6 @@ returns-clause-flood c = λ g same laid.
     (let stand = to_z w16 (of_z w16 c.args.stand) in
     let stand_is : stand ≡ c.args.stand = to_z-of_z w16 c.args.stand c.ranges.stand in
     let first = subst (λ z. IsFloodOf g c.args.flood.now z []) (sym stand_is) laid in
-    subst (λ z. IsFloodOf g c.loop-cell.flood z []) stand_is
-    (subst (IsFloodOf g c.loop-cell.flood stand) c.in_default.ensures.none (c.loop-cell.invariant.flood g same first)))
+    let none : c.loop-place.later.items ≡ [] = search rules in
+    subst (λ z. IsFloodOf g c.loop-place.flood z []) stand_is
+    (subst (IsFloodOf g c.loop-place.flood stand) none (c.loop-place.invariant.flood g same first)))

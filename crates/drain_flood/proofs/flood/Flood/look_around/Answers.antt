@@ -1,19 +1,19 @@
-use Rattle.std.proofs.Common.{◌≡◌, ℕ, ℤ, List, IfOk, subst}
+use Rattle.std.proofs.Common.{◌∙◌, IfOk, sym, ap, subst}
 use mir.Syntax.{w16}
 use Rattle.std.proofs.lemmas.Int.{to_z-of_z}
-use Rattle.drain_grid.specs.Grid.{Grid}
-use Rattle.drain_flood.specs.Looks.{IsLookedBefore}
-use Rattle.drain_flood.specs.Turns.{IsLookedAround}
+use Rattle.drain_grid.specs.Extent.{IsCellOf, index_of}
+use Rattle.drain_flood.specs.Turns.{LooksAround}
+use Rattle.drain_flood.proofs.Insides.{around_cell}
 use Rattle.drain_flood.proofs.flood.Flood.look_around.Goals as goal
 
 pub returns-then-is_inner-clause-around : goal.returns-then-is_inner-clause-around
 returns-then-is_inner-clause-around c =
-    subst (λ z. IfOk c.look_inside.result (λ left. (g : Grid) (stand : ℤ) (busy : List ℕ) → g.extent ≡ c.args.self.now.extent →
-    IsLookedBefore g c.args.self.now stand busy c.args.cell z c.args.raises → IsLookedAround g c.look_inside.new.self stand busy c.args.cell z c.args.raises left))
+    subst (λ z. IfOk c.look_inside.result (LooksAround c.args.self.now.extent c.args.self.now c.look_inside.new.self c.args.place z c.args.raises))
     (to_z-of_z w16 c.args.level c.ranges.level) c.look_inside.ensures.around
 
 pub returns-else-is_inner-clause-around : goal.returns-else-is_inner-clause-around
 returns-else-is_inner-clause-around c =
-    subst (λ z. IfOk c.look_at_edge.result (λ left. (g : Grid) (stand : ℤ) (busy : List ℕ) → g.extent ≡ c.args.self.now.extent →
-    IsLookedBefore g c.args.self.now stand busy c.args.cell z c.args.raises → IsLookedAround g c.look_at_edge.new.self stand busy c.args.cell z c.args.raises left))
-    (to_z-of_z w16 c.args.level c.ranges.level) c.look_at_edge.ensures.around
+    subst (λ z. IfOk c.look_at_edge.result (LooksAround c.args.self.now.extent c.args.self.now c.look_at_edge.new.self c.args.place z c.args.raises))
+    (to_z-of_z w16 c.args.level c.ranges.level)
+    (around_cell c.look_at_edge.result c.args.self.now.extent c.args.self.now c.look_at_edge.new.self c.args.place c.cell.result _ c.args.raises
+    (subst (λ x. IsCellOf x c.cell.result) c.shape.ensures c.cell.ensures.inside) (ap (λ x. index_of x c.cell.result) (sym c.shape.ensures) ∙ c.cell.ensures.place) c.look_at_edge.ensures.around)

@@ -1,35 +1,14 @@
-use Rattle.std.proofs.Common.{◌≡◌, ◌∙◌, refl, sym, subst, arith}
-use mir.Syntax.{w16}
-use Rattle.std.proofs.lemmas.Int.{to_z-of_z}
-use Rattle.drain_flood.specs.Looks.{IsLookedBefore}
-use Rattle.drain_flood.specs.Turns.{IsLookedAround}
-use Rattle.drain_flood.proofs.Looking.{around_none, around_all}
+use Rattle.std.proofs.Common.{◌≡◌, ◌∙◌, sym, subst, ap}
+use Rattle.std.proofs.lemmas.Bool.{false≢true}
+use Rattle.drain_grid.specs.Extent.{IsCellOf, index_of}
+use Rattle.drain_flood.specs.Looks.{IsFreshAt}
+use Rattle.drain_flood.proofs.Looking.{none_around}
 use Rattle.drain_flood.proofs.flood.Flood.look_inside.Goals as goal
 
--- the eight directions one after the other
-pub returns-clause-around : goal.returns-clause-around
-returns-clause-around c = λ g stand busy same before.
-    (let e1 : g.extent ≡ c.turn.new.self.extent = same ∙ sym c.turn.ensures.extent in
-    let e2 : g.extent ≡ c.turn-2.new.self.extent = e1 ∙ sym c.turn-2.ensures.extent in
-    let e3 : g.extent ≡ c.turn-3.new.self.extent = e2 ∙ sym c.turn-3.ensures.extent in
-    let e4 : g.extent ≡ c.turn-4.new.self.extent = e3 ∙ sym c.turn-4.ensures.extent in
-    let e5 : g.extent ≡ c.turn-5.new.self.extent = e4 ∙ sym c.turn-5.ensures.extent in
-    let e6 : g.extent ≡ c.turn-6.new.self.extent = e5 ∙ sym c.turn-6.ensures.extent in
-    let e7 : g.extent ≡ c.turn-7.new.self.extent = e6 ∙ sym c.turn-7.ensures.extent in
-    subst (λ z. IsLookedBefore g c.args.self.now stand busy c.args.cell z c.args.raises →
-    IsLookedAround g c.turn-8.new.self stand busy c.args.cell z c.args.raises c.in_ok-north_east.north_east) (to_z-of_z w16 c.args.level c.ranges.level)
-    (λ known.
-    (let a1 = c.in_ok-east.ensures.around g stand busy 0 same refl (around_none g c.args.self.now stand busy c.args.cell _ c.args.raises known) in
-    let a2 = c.in_ok-south_east.ensures.around g stand busy 1 e1 refl a1 in
-    let a3 = c.in_ok-south.ensures.around g stand busy 2 e2 refl a2 in
-    let a4 = c.in_ok-south_west.ensures.around g stand busy 3 e3 refl a3 in
-    let a5 = c.in_ok-west.ensures.around g stand busy 4 e4 refl a4 in
-    let a6 = c.in_ok-north_west.ensures.around g stand busy 5 e5 refl a5 in
-    let a7 = c.in_ok-north.ensures.around g stand busy 6 e6 refl a6 in
-    let a8 = c.in_ok-north_east.ensures.around g stand busy 7 e7 refl a7 in
-    around_all g c.turn-8.new.self stand busy c.args.cell _ c.args.raises c.in_ok-north_east.north_east 8 refl a8))
-    before)
-
-pub returns-clause-work : goal.returns-clause-work
-returns-clause-work c =
-    c.in_ok-north_east.ensures.work c.args.self.now (c.in_ok-north.ensures.work c.args.self.now (c.in_ok-north_west.ensures.work c.args.self.now (c.in_ok-west.ensures.work c.args.self.now (c.in_ok-south_west.ensures.work c.args.self.now (c.in_ok-south.ensures.work c.args.self.now (c.in_ok-south_east.ensures.work c.args.self.now (c.in_ok-east.ensures.work c.args.self.now record { fewer = omega arith; same = refl; waiting = refl })))))))
+pub returns-else-has_fresh_beside-clause-around : goal.returns-else-has_fresh_beside-clause-around
+returns-else-has_fresh_beside-clause-around c = λ g stand busy cell same at before.
+    (let s = c.args.self.now in
+    let inside : IsCellOf s.extent cell = subst (λ x. IsCellOf x cell) same before.reached.here.inside in
+    let place : c.args.place ≡ index_of s.extent cell = at ∙ ap (λ x. index_of x cell) same in
+    none_around g s stand busy cell _ c.args.raises
+    (λ d n fresh. false≢true (sym c.if-has_fresh_beside.false ∙ (c.has_fresh_beside.ensures cell inside place).1 (d, (n, subst (λ x. IsFreshAt x s cell d n) same fresh)))) before)

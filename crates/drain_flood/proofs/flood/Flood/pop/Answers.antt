@@ -1,11 +1,12 @@
-use Rattle.std.proofs.Common.{◌*◌}
-use Rattle.drain_flood.proofs.Turns.{out_place, out_places}
+use Rattle.std.proofs.Common.{◌*◌, ◌<◌, IfSome, subst}
+use Rattle.drain_flood.specs.Floods.{Flooding}
+use Rattle.drain_flood.proofs.Turns.{out_below, out_places}
 use Rattle.drain_flood.proofs.flood.Flood.pop.Goals as goal
 
-pub cell_at-requires : goal.cell_at-requires
-cell_at-requires c =
-    out_place (c.self.inside.shape.rows * c.self.inside.shape.cols) c.in-Some.level c.in-Some.item c.self.inside.waiting c.pop.new.self
-    c.self.invariant.waiting_places c.in-Some.ensures.taken
+pub returns-clause-below : goal.returns-clause-below
+returns-clause-below c =
+    subst (λ (f : Flooding). IfSome c.pop.result (λ pair. pair.1 < f.extent.rows * f.extent.cols)) c.self.view_is
+    (out_below c.pop.result (c.self.inside.shape.rows * c.self.inside.shape.cols) c.self.inside.waiting c.pop.new.self c.self.invariant.waiting_places c.pop.ensures.taken)
 
 pub invariant_of-self : goal.invariant_of-self
 invariant_of-self c =
@@ -17,4 +18,5 @@ invariant_of-self c =
       places = parts.places;
       waiting_places = out_places c.pop.result (c.self.inside.shape.rows * c.self.inside.shape.cols) c.self.inside.waiting c.pop.new.self parts.waiting_places
           c.pop.ensures.taken c.pop.ensures.none;
+      inside = parts.inside;
     }

@@ -1,3 +1,5 @@
+use Rattle.std.proofs.Common.{◌*◌, ◌<◌, sym, subst}
+use Rattle.drain_flood.specs.Floods.{Flooding}
 use Rattle.drain_flood.proofs.Turns.{put_places}
 use Rattle.drain_flood.proofs.flood.Flood.wait.Goals as goal
 
@@ -9,5 +11,7 @@ invariant_of-self c =
       con_long = parts.con_long;
       mark_long = parts.mark_long;
       places = parts.places;
-      waiting_places = put_places c.push.result _ _ c.index-item.result c.self.inside.waiting c.push.new.self c.index-item.ensures.below parts.waiting_places c.push.ensures.put c.push.ensures.kept;
+      waiting_places = put_places c.push.result (c.self.inside.shape.rows * c.self.inside.shape.cols) _ c.args.place c.self.inside.waiting c.push.new.self
+          (subst (λ (f : Flooding). c.args.place < f.extent.rows * f.extent.cols) (sym c.self.view_is) c.requires) parts.waiting_places c.push.ensures.put c.push.ensures.kept;
+      inside = parts.inside;
     }

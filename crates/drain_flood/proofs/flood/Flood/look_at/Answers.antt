@@ -3,20 +3,22 @@ use mir.Syntax.{w16}
 use mir.Val.{SFits, to_z, of_z}
 use Rattle.std.specs.Int.{int_max}
 use Rattle.std.proofs.lemmas.Int.{ints, to_z-of_z}
+use Rattle.drain_grid.proofs.Neighbors.{step_lies}
+use Rattle.drain_flood.specs.declared.layers.TheConstants.{UNREACHED}
 use Rattle.drain_flood.specs.Floods.{con_at, Reaches}
-use Rattle.drain_flood.proofs.flood.Flood.look.Goals as goal
-use Rattle.drain_flood.proofs.flood.Flood.look.Goals.{else-ground-level-via-then-ground-level+else-not-raises, else-ground-level-via-else-ground-level}
+use Rattle.drain_flood.proofs.flood.Flood.look_at.Goals as goal
+use Rattle.drain_flood.proofs.flood.Flood.look_at.Goals.{else-ground-level-via-then-ground-level+else-not-raises, else-ground-level-via-else-ground-level}
 
 pub returns-clause-look : goal.returns-clause-look
-returns-clause-look c =
-    let s = c.args.self.now in
-    let found = c.in-Some.ensures.fresh in
-    let n = found.0 in
-    let ground : c.level_at-ground.result ≡ con_at s.extent s n = c.level_at-ground.ensures ∙ ap (λ k. get_or s.con k (pos 0)) found.3 in
+returns-clause-look c = λ cell d beside.
+    (let s = c.args.self.now in
+    let n = beside.0 in
+    let fresh = c.is_unreached.ensures.yes c.if-not-is_unreached.false in
+    let ground : c.level_at-ground.result ≡ con_at s.extent s n = c.level_at-ground.ensures ∙ ap (λ k. get_or s.con k (pos 0)) beside.2 in
     inr (
       n,
       record {
-        is = found.1;
+        is = record { there = beside.1; fresh = subst (λ k. get_or s.mark k 0 ≡ UNREACHED) beside.2 fresh };
         may = elim c.else-ground-level.branch [
           | else-ground-level-via-then-ground-level+else-not-raises w ↦ inr (w.if-not-raises.false)
           | else-ground-level-via-else-ground-level w ↦ inl
@@ -31,6 +33,7 @@ returns-clause-look c =
             let fits_most : SFits w16 c.max.result = search rules in
             let height : to_z w16 (of_z w16 c.max.result) ≡ int_max (con_at s.extent s n) c.args.level =
             to_z-of_z w16 c.max.result fits_most ∙ subst (λ z. c.max.result ≡ int_max z c.args.level) ground most in
-            subst (λ z. Reaches s.extent s c.reach.new.self n z) height (c.in_ok-reach.ensures.reaches n found.2 found.3);
+            subst (λ z. Reaches s.extent s c.reach.new.self n z) height
+            (c.in_ok-reach.ensures.reaches n (step_lies s.extent cell n d beside.1).0 beside.2);
       },
-    )
+    ))
