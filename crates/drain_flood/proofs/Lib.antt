@@ -13,7 +13,7 @@ pub mod Turns
 pub mod Looking
 pub mod Putting
 pub mod Laying
-pub mod GapColumns
+pub mod GapMarks
 pub mod SteepestWays
 pub mod ExactWays
 pub mod ExactRows
