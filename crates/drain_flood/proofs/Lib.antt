@@ -14,7 +14,7 @@ pub mod Looking
 pub mod Insides
 pub mod Putting
 pub mod Laying
-pub mod GapColumns
+pub mod GapMarks
 pub mod SteepestWays
 pub mod ExactWays
 pub mod ExactRows

@@ -1,5 +1,5 @@
 -- The beginning of a flood: the open cells are reached, the others aren't, cell by cell in row order.
-use Rattle.std.specs.Prelude.{◌≡◌, ℕ, ◌+◌, ◌<◌, ◌-◌, ◌*◌, ◌/◌, ℤ, pos, ◌+ℤ◌, ◌<ℤ◌, Bool, ◌==◌, nat_lt, min, List, [], ◌∷◌, slice_index, if◌then◌else◌, ◌≢◌, ◌⊎◌, ◌&&◌, Option, Some, None, ◌++◌, Contains, length, IsNone, option_map}
+use Rattle.std.specs.Prelude.{◌≡◌, ℕ, ◌+◌, ◌<◌, ◌-◌, ◌*◌, ◌/◌, ℤ, pos, ◌+ℤ◌, ◌<ℤ◌, Bool, ◌==◌, nat_lt, min, List, [], ◌∷◌, slice_index, if◌then◌else◌, ◌≢◌, ◌↔◌, ◌++◌, Contains, length, IsNone, option_map}
 use Rattle.drain_grid.specs.declared.cell.Cell.{Cell}
 use Rattle.drain_grid.specs.Extent.{IsCellOf, index_of, step, Extent}
 use Rattle.drain_flood.specs.Floods.{Flooding, con_at, mark_at, IsBlankIn, IsOpenIn, IsAhead, IsCounted}
@@ -101,24 +101,16 @@ pub record IsBlankFlood (f : Flooding) : Type 0 where
   pub no_ahead : f.ahead ≡ []
   pub no_waiting : f.waiting ≡ []
 
--- the cell at a row and a column counted from 1
-abbrev pub cell_from_1 : Extent → ℕ → ℕ → Option Cell
-cell_from_1 e row col =
-    if nat_lt 0 row && (nat_lt (row - 1) e.rows && (nat_lt 0 col && nat_lt (col - 1) e.cols))
-    then Some (record { row = row - 1; col = col - 1 })
-    else None
+-- marks of a row's cells, counted from 1, between two gaps: 0 at a gap; rows outside the grid are gaps
+pub record AreDataMarks (h : Heights) (down : ℕ) (marks : List ℕ) : Type 0 where
+  pub counted : length marks ≡ h.extent.cols + 2
+  pub cells : (n : Cell) → IsCellOf h.extent n → n.row + 1 ≡ down → (slice_index marks (n.col + 1) ≡ 0 ↔ IsNone (elevation_at h n))
+  pub gaps : (right : ℕ) → right < h.extent.cols + 2 →
+      ((n : Cell) → IsCellOf h.extent n → n.row + 1 ≡ down → n.col + 1 ≡ right → ⊥) → slice_index marks right ≡ 0
 
--- there is no elevation at such a place: around the grid, or at a void
-abbrev pub IsGapFrom1 : Heights → ℕ → ℕ → Type 0
-IsGapFrom1 h row col = IsGap (option_map (elevation_at h) (cell_from_1 h.extent row col))
-
--- a gap in a column counted from 1: in the row above a row, in it or in the row below
-abbrev pub IsGapIn : Heights → ℕ → ℕ → Type 0
-IsGapIn h row col = IsGapFrom1 h (row + 0) col ⊎ (IsGapFrom1 h (row + 1) col ⊎ IsGapFrom1 h (row + 2) col)
-
--- a gap in the three columns around a cell
-abbrev pub IsGapAround : Heights → Cell → Type 0
-IsGapAround h c = IsGapIn h c.row (c.col + 0) ⊎ (IsGapIn h c.row (c.col + 1) ⊎ IsGapIn h c.row (c.col + 2))
+-- the least of the eight marks around one
+abbrev pub least_around : List ℕ → List ℕ → List ℕ → ℕ → ℕ
+least_around above here below k = min (least_along (around_in above here below k)) (least_across (around_in above here below k))
 
 -- the cell is next to a gap: it lies on the edge, or next to a void
 abbrev pub IsBesideGap : Heights → Cell → Type 0

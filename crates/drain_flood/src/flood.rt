@@ -14,7 +14,7 @@ ghost use Rattle.drain_grid.specs.SinkTexts.{is_listed};
 ghost use Rattle.drain_grid.specs.Spacing.{Distances};
 ghost use Rattle.drain_grid.specs.WholeGrid.{spaced_grid};
 ghost use Rattle.drain_grid.specs.Path.{IsFilled};
-ghost use Rattle.drain_flood.specs.Laid.{Puts, Lays, IsLaid, IsBlankFlood, IsGapAround};
+ghost use Rattle.drain_flood.specs.Laid.{Puts, Lays, IsLaid, IsBlankFlood, IsBesideGap};
 ghost use Rattle.drain_grid.specs.declared.cell.Cell.{Cell};
 ghost use Rattle.drain_grid.specs.Extent.{IsCellOf, index_of};
 ghost use Rattle.drain_grid.specs.Grid.{Grid};
@@ -25,7 +25,7 @@ ghost use Rattle.drain_flood.specs.Turns.{with_lists, IsNextTurn, IsDone, IsPopp
 use crate::laws::flood_is_filled;
 use crate::layers::{NO_HEIGHT, OPEN, REACHED, UNREACHED, VOID, copied, heights, marks, no_places};
 use crate::level_stacks::LevelStacks;
-use crate::open_cells::{is_gap_in, is_one, is_open};
+use crate::open_cells::{RowMarks, is_open};
 use crate::surface::Surface;
 use crate::tracing::spread;
 use drain_grid::{Cell, Elevation, OutOfMemory, Shape, Sinks};
@@ -97,11 +97,14 @@ impl Flood {
     {
         let shape = elevation.shape();
         let mut flood = Flood::blank(alloc, shape)?;
-        let mut listed = Vec::new(alloc);
-        listed.resize(shape.cols() as usize, false)?;
+        let cols = shape.cols() as usize;
+        let mut listed = vec![in alloc; false; cols]?;
+        let mut beside = vec![in alloc; false; cols]?;
+        let mut rows = RowMarks::new(alloc, elevation)?;
         for row in 0..shape.rows() {
             sinks.mark_row(row, listed.as_mut_slice());
-            flood.lay_row(elevation, row, listed.as_slice())?;
+            rows.step(elevation, row, beside.as_mut_slice())?;
+            flood.lay_row(elevation, row, listed.as_slice(), beside.as_slice())?;
         }
         Ok(flood)
     }
@@ -131,21 +134,19 @@ impl Flood {
         elevation: &Elevation,
         row: u32,
         listed: &[bool],
+        beside: &[bool],
     ) -> Result<(), OutOfMemory>
         requires same { self.old.extent ≡ elevation.now.extent }
         requires inside { row < elevation.now.extent.rows }
         requires counted { length listed.now ≡ elevation.now.extent.cols }
+        requires found { length beside.now ≡ elevation.now.extent.cols }
+        requires beside { (col : ℕ) → col < length beside.now → (IsTrue (slice_index_or beside.now col false) ↔ IsBesideGap elevation.now (record { row = row; col = col })) }
         ensures extent { self.new.extent ≡ self.old.extent }
         ensures laid { OnOk result ((spacing : ℕ → Distances) (sinks : List SinkLine) → ((col : ℕ) → col < length listed.now → slice_index_or listed.now col false ≡ is_listed sinks (record { row = row; col = col })) → IsLaid (spaced_grid spacing elevation.now sinks) self.old (row * elevation.now.extent.cols) → IsLaid (spaced_grid spacing elevation.now sinks) self.new ((row + 1) * elevation.now.extent.cols)) }
     {
-        let mut west = is_gap_in(elevation, row, 0);
-        let mut here = is_gap_in(elevation, row, 1);
         for col in 0..elevation.shape().cols() {
-            let east = is_gap_in(elevation, row, col as u64 + 2);
-            let beside = is_one(west, here, east);
-            self.lay_cell(elevation, Cell { row, col }, listed[col as usize], beside)?;
-            west = here;
-            here = east;
+            let place = col as usize;
+            self.lay_cell(elevation, Cell { row, col }, listed[place], beside[place])?;
         }
         Ok(())
     }
@@ -160,7 +161,7 @@ impl Flood {
     ) -> Result<(), OutOfMemory>
         requires same { self.old.extent ≡ elevation.now.extent }
         requires inside { IsCellOf elevation.now.extent cell }
-        requires beside { IsTrue beside ↔ IsGapAround elevation.now cell }
+        requires beside { IsTrue beside ↔ IsBesideGap elevation.now cell }
         ensures extent { self.new.extent ≡ self.old.extent }
         ensures laid { OnOk result ((spacing : ℕ → Distances) (sinks : List SinkLine) → listed ≡ is_listed sinks cell → IsLaid (spaced_grid spacing elevation.now sinks) self.old (index_of elevation.now.extent cell) → IsLaid (spaced_grid spacing elevation.now sinks) self.new (index_of elevation.now.extent cell + 1)) }
     {

@@ -4,7 +4,7 @@ use mir.Val.{SFits, to_z, of_z}
 use Rattle.std.proofs.lemmas.Int.{to_z-of_z}
 use Rattle.drain_flood.specs.declared.layers.TheConstants.{NO_HEIGHT}
 use Rattle.drain_flood.specs.Laid.{Lays}
-use Rattle.drain_flood.proofs.GapColumns.{or_of, beside_gap}
+use Rattle.drain_flood.proofs.GapMarks.{or_of}
 use Rattle.drain_flood.proofs.Laying.{laid_data, laid_gap, above_void}
 use Rattle.drain_flood.proofs.flood.Flood.lay_cell.Goals as goal
 
@@ -20,8 +20,7 @@ returns-in_ok-lay-in-Some-clause-laid c = λ spacing sinks same laid.
     (subst (λ e. Lays e c.args.self.now c.lay.new.self c.args.cell (to_z w16 (of_z w16 c.in-Some.ground)) c.is_open-opens.result) c.requires.same c.in_ok-lay-in-Some.ensures.lays) in
     laid_data spacing h sinks c.args.self.now c.lay.new.self c.args.cell c.in-Some.ground c.args.listed c.is_open-opens.result c.requires.inside
     (sym c.in-Some.ensures.height) above same
-    (or_of c.is_open-opens.result c.args.listed c.args.beside c.is_open-opens.ensures
-    (beside_gap h c.args.cell c.in-Some.ground c.requires.inside (sym c.in-Some.ensures.height) c.args.beside c.requires.beside)) lays laid)
+    (or_of c.is_open-opens.result c.args.listed c.args.beside c.is_open-opens.ensures c.requires.beside) lays laid)
 
 pub returns-in-None-clause-laid : goal.returns-in-None-clause-laid
 returns-in-None-clause-laid c = λ spacing sinks same laid.

@@ -1,16 +1,14 @@
 -- The cells of the row so far are started.
-use Rattle.std.proofs.Common.{◌≡◌, ◌↔◌, IsTrue, ℕ, ◌+◌, ◌*◌, ◌<◌, false, List, length, slice_index_or}
+use Rattle.std.proofs.Common.{◌≡◌, ℕ, ◌+◌, ◌*◌, ◌<◌, false, List, length, slice_index_or}
 use Rattle.drain_grid.specs.declared.sink_line.SinkLine.{SinkLine}
 use Rattle.drain_grid.specs.SinkTexts.{is_listed}
 use Rattle.drain_grid.specs.Spacing.{Distances}
 use Rattle.drain_grid.specs.WholeGrid.{spaced_grid}
-use Rattle.drain_flood.specs.Laid.{IsLaid, IsGapIn}
+use Rattle.drain_flood.specs.Laid.{IsLaid}
 use Rattle.drain_flood.proofs.flood.Flood.lay_row.Given as goal
 
 abbrev pub invariant-loop-col : goal.invariant-loop-col
 invariant-loop-col l = record {
-  west : IsTrue l.west ↔ IsGapIn l.elevation l.row (l.col + 0);
-  here : IsTrue l.here ↔ IsGapIn l.elevation l.row (l.col + 1);
   extent : l.self.extent ≡ l.fn.self.extent;
   laid : (spacing : ℕ → Distances) (sinks : List SinkLine) → ((col : ℕ) → col < length l.listed → slice_index_or l.listed col false ≡ is_listed sinks (record { row = l.row; col = col })) →
       IsLaid (spaced_grid spacing l.elevation sinks) l.fn.self (l.row * l.elevation.extent.cols) →
