@@ -99,7 +99,7 @@ module _ (g h : Grid) (same : HasCellsOf g h) where
       map_same g.elevation h.elevation (step g.extent c d) (λ n is. same.elevation n (step_lies g.extent c n d is).0)
       ∙ ap (λ (e : Extent). option_map h.elevation (step e c d)) same.extent
 
-  open_there : (c : Cell) → IsOpenCell g c → IsOpenCell h c
+  pub open_there : (c : Cell) → IsOpenCell g c → IsOpenCell h c
   open_there c is_open = (
     subst (λ (e : Extent). IsCellOf e c) same.extent is_open.0,
     subst (λ (z : Option ℤ). IsOpenAmong z (h.sink c) (λ d. option_map h.elevation (step h.extent c d))) (same.elevation c is_open.0)
@@ -111,7 +111,7 @@ module _ (g h : Grid) (same : HasCellsOf g h) where
   path_there c [] path = open_there c path
   path_there c (n ∷ rest) path = (data_there c path.0, path.1, path_there n rest path.2)
 
-  height_there : (c : Cell) → HasData g c → height_at g c ≡ height_at h c
+  pub height_there : (c : Cell) → HasData g c → height_at g c ≡ height_at h c
   height_there c here = ap (λ (z : Option ℤ). unwrap_or z (pos 0)) (same.elevation c here.inside)
 
 -- a surface that covers the ground and drains in h does so in g, and so does each with its numbers

@@ -31,8 +31,18 @@ pub fn first_unfilled(
     ensures first { IfOk result (λ found. (g : Grid) (s : Surface) → HasCellsOf g (listed_grid ground.now elevation.now sinks.now) → HasHeights g s con.now → MatchOption found (IsLeastSurface g s) (IsFirstUnfilled g s)) }
     ensures between { IfOk result (λ found. (g : Grid) (s : Surface) → HasDataCells g ground.now sinks.now → IsBetween g (λ c. listed_at ground.now.extent elevation.now c) → HasHeights g s con.now → MatchOption found (IsLeastSurface g s) (IsFirstUnfilled g s)) }
 {
-    let least = fill(alloc, ground, elevation, sinks)?;
+    let heights = copied(alloc, elevation)?;
+    let least = fill(alloc, ground, heights, sinks)?;
     Ok(first_other(ground, con, &least))
+}
+
+/// The same heights in memory of just their size.
+fn copied(alloc: Global, heights: &[i64]) -> Result<Vec<i64>, OutOfMemory>
+    ensures { IfOk result (λ copy. copy.items ≡ heights.now) }
+{
+    let mut copy = Vec::with_capacity(alloc, heights.len())?;
+    copy.extend_from_slice(heights)?;
+    Ok(copy)
 }
 
 /// The first data cell where two lists of heights in row order differ.

@@ -19,19 +19,19 @@ use std::alloc::Global;
 
 /// The filled surface of a ground, with this number at each void.
 ///
-/// Elevations are in row order, one for each cell, and play no part where the ground has no data. `OutOfMemory` if memory
-/// was refused.
+/// Elevations are in row order, one for each cell, and play no part where the ground has no data. The surface takes their
+/// memory. `OutOfMemory` if memory was refused.
 pub fn filled_surface(
     alloc: Global,
     ground: &Ground,
-    elevation: &[i64],
+    elevation: Vec<i64>,
     sinks: &Sinks,
     void: i64,
 ) -> Result<Surface<WideHeights>, OutOfMemory>
-    requires elevation_counted { length elevation.now ≡ ground.now.extent.rows * ground.now.extent.cols }
+    requires elevation_counted { length elevation.items ≡ ground.now.extent.rows * ground.now.extent.cols }
     requires void { IsPixel void }
     ensures extent { IfOk result (λ surface. surface.extent ≡ ground.now.extent) }
-    ensures surface { IfOk result (λ surface. (g : Grid) → HasDataCells g ground.now sinks.now → HasHeights g (height_at g) elevation.now → ArePixelHeights g → IsSurfaceOf g surface) }
+    ensures surface { IfOk result (λ surface. (g : Grid) → HasDataCells g ground.now sinks.now → HasHeights g (height_at g) elevation.items → ArePixelHeights g → IsSurfaceOf g surface) }
     ensures voids { IfOk result (λ surface. (g : Grid) → HasDataCells g ground.now sinks.now → (c : Cell) → IsInside g c → IsNone (g.elevation c) → con_at g.extent surface c ≡ void) }
 {
     let shape = ground.shape();

@@ -25,12 +25,12 @@ use std::alloc::Global;
 pub(crate) fn fill(
     alloc: Global,
     ground: &Ground,
-    heights: &[i64],
+    heights: Vec<i64>,
     sinks: &Sinks,
 ) -> Result<Vec<i64>, OutOfMemory>
-    requires counted { length heights.now ≡ ground.now.extent.rows * ground.now.extent.cols }
+    requires counted { length heights.items ≡ ground.now.extent.rows * ground.now.extent.cols }
     ensures counted { IfOk result (λ least. length least.items ≡ ground.now.extent.rows * ground.now.extent.cols) }
-    ensures least { IfOk result (λ least. (g : Grid) → HasDataCells g ground.now sinks.now → IsBetween g (λ c. slice_index_or heights.now (index_of ground.now.extent c) (pos 0)) → IsLeastSurface g (λ c. slice_index_or least.items (index_of ground.now.extent c) (pos 0))) }
+    ensures least { IfOk result (λ least. (g : Grid) → HasDataCells g ground.now sinks.now → IsBetween g (λ c. slice_index_or heights.items (index_of ground.now.extent c) (pos 0)) → IsLeastSurface g (λ c. slice_index_or least.items (index_of ground.now.extent c) (pos 0))) }
 {
     let mut sweep = Sweep::start(alloc, ground, heights, sinks)?;
     spread(&mut sweep, alloc)?;

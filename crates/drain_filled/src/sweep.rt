@@ -44,12 +44,12 @@ impl Sweep {
     pub(crate) fn start(
         alloc: Global,
         ground: &Ground,
-        heights: &[i64],
+        heights: Vec<i64>,
         sinks: &Sinks,
     ) -> Result<Sweep, OutOfMemory>
-        requires counted { length heights.now ≡ ground.now.extent.rows * ground.now.extent.cols }
+        requires counted { length heights.items ≡ ground.now.extent.rows * ground.now.extent.cols }
         ensures extent { IfOk result (λ sweep. sweep.extent ≡ ground.now.extent) }
-        ensures begun { IfOk result (λ sweep. (g : Grid) → HasDataCells g ground.now sinks.now → IsBetween g (λ c. slice_index_or heights.now (index_of ground.now.extent c) (pos 0)) → IsSweepOf g sweep []) }
+        ensures begun { IfOk result (λ sweep. (g : Grid) → HasDataCells g ground.now sinks.now → IsBetween g (λ c. slice_index_or heights.items (index_of ground.now.extent c) (pos 0)) → IsSweepOf g sweep []) }
     {
         let mut sweep = Sweep::blank(alloc, ground, heights)?;
         for place in 0..ground.shape().cells() {
@@ -59,14 +59,15 @@ impl Sweep {
     }
 
     /// No cell is reached.
-    fn blank(alloc: Global, ground: &Ground, heights: &[i64]) -> Result<Sweep, OutOfMemory>
-        requires counted { length heights.now ≡ ground.now.extent.rows * ground.now.extent.cols }
-        ensures { IfOk result (λ sweep. sweep ≡ record { extent = ground.now.extent; con = heights.now; mark = ground.now.marks; ahead = []; waiting = [] }) }
+    fn blank(alloc: Global, ground: &Ground, heights: Vec<i64>) -> Result<Sweep, OutOfMemory>
+        requires counted { length heights.items ≡ ground.now.extent.rows * ground.now.extent.cols }
+        ensures { IfOk result (λ sweep. sweep ≡ record { extent = ground.now.extent; con = heights.items; mark = ground.now.marks; ahead = []; waiting = [] }) }
     {
         let shape = ground.shape();
+        let _cells = shape.cells();
         Ok(Sweep {
             shape,
-            heights: copied_heights(alloc, heights, shape.cells())?,
+            heights,
             marks: copied_marks(alloc, ground.marks())?,
             trail: Vec::new(alloc),
             queue: HeightQueue::new(alloc),
@@ -176,15 +177,6 @@ impl Sweep {
         let place = self.shape.index(cell) as u32;
         self.queue.push(height, place)
     }
-}
-
-/// The same heights in memory for so many.
-fn copied_heights(alloc: Global, heights: &[i64], cells: usize) -> Result<Vec<i64>, OutOfMemory>
-    ensures { IfOk result (λ copy. copy.items ≡ heights.now) }
-{
-    let mut copy = Vec::with_capacity(alloc, cells)?;
-    copy.extend_from_slice(heights)?;
-    Ok(copy)
 }
 
 /// The same marks in memory of just their size.

@@ -11,3 +11,4 @@ pub mod TileLists
 pub mod UnitSpacing
 pub mod DemLemmas
 pub mod DemReading
+pub mod NarrowDems

@@ -4,3 +4,4 @@ pub mod Accepted
 pub mod Mosaics
 pub mod Derived
 pub mod Dems
+pub mod Narrow

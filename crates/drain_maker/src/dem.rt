@@ -1,6 +1,6 @@
 //! Making products of one raster of elevations of any shape: correct by proof.
 
-ghost use Rattle.std.specs.Prelude.{◌≡◌, ℕ, ◌*◌, IfOk, length, pos, slice_index_or};
+ghost use Rattle.std.specs.Prelude.{◌≡◌, ℕ, ◌*◌, IfOk, length, pos, slice_index_or, vec_len};
 ghost use Rattle.drain_grid.specs.Correct.{IsCorrect, RunsAreSound};
 ghost use Rattle.drain_grid.specs.declared.cell.Cell.{Cell};
 ghost use Rattle.drain_grid.specs.Extent.{IsCellOf, index_of};
@@ -8,18 +8,22 @@ ghost use Rattle.drain_grid.specs.GridRules.{RulesHold};
 ghost use Rattle.drain_grid.specs.PatchRules.{check_rules};
 ghost use Rattle.drain_grid.specs.Rule.{IsAnyRule};
 ghost use Rattle.drain_grid.specs.Values.{IsNoData, IsPixel};
-ghost use Rattle.drain_grid.specs.Grid.{ArePixels};
+ghost use Rattle.drain_grid.specs.Grid.{ArePixels, Pixels};
 ghost use Rattle.drain_grid.specs.Spacing.{Distances, spacing_of};
 ghost use Rattle.drain_grid.specs.WholeGrid.{nodata_of, number_at, products_of};
 ghost use Rattle.drain_flood.specs.Floods.{IsSurfaceOf, ShowsVoids};
 ghost use Rattle.drain_header.specs.Header.{Fields};
 ghost use Rattle.drain_maker.specs.Dems.{AreOfGround, DemSucceeds, IsDemSinkAnswer, IsHeightAt, IsMarkedBy, MarksDem, dem_elevation, spaced_dem_grid};
-ghost use Rattle.drain_maker.specs.Made.{AreRasters, AreRightProducts, made_numbers};
+ghost use Rattle.drain_maker.specs.Made.{AreRasters, AreRightProducts, AreRoutes, made_numbers};
+ghost use Rattle.drain_maker.specs.Narrow.{IsNarrowed};
 ghost use Rattle.drain_maker.specs.ProductFiles.{FitsHeader, SetFits};
 
 use crate::follow::{Follow, Part};
 use crate::maker::MakeRefusal;
-use crate::products::{count_and_label, raster_of_codes, raster_of_counts, route};
+use crate::narrow::{narrow_elevation, narrow_raster};
+use crate::products::{
+    Routes, count_and_label, flooded, raster_of_codes, raster_of_counts, route, route_flooded,
+};
 use drain_filled::{Ground, filled_surface};
 use drain_flood::exact_ways::exact_directions;
 use drain_flood::layers::{UNREACHED, VOID};
@@ -27,10 +31,36 @@ use drain_flood::{Surface, WideHeights};
 use drain_grid::laws::found_off_data_is_right;
 use drain_grid::values::{GREATEST_PIXEL, LEAST_PIXEL};
 use drain_grid::{
-    Cell, OutOfMemory, Product, ProductSet, Raster, Shape, SinkData, Sinks, Spacings,
+    Cell, Elevation, OutOfMemory, Product, ProductSet, Raster, Shape, SinkData, Sinks, Spacings,
     first_off_data,
 };
 use std::alloc::Global;
+
+/// A raster that is lent, or given away: a given one is freed when it is dropped.
+pub trait AsRaster {
+    /// The numbers.
+    ghost raster: { Self → Pixels };
+
+    /// The raster.
+    fn as_raster(&self) -> &Raster
+        ensures { result.now ≡ raster self.now };
+}
+
+impl AsRaster for Raster {
+    ghost raster = { λ r. r };
+
+    fn as_raster(&self) -> &Raster {
+        self
+    }
+}
+
+impl AsRaster for &Raster {
+    ghost raster = { λ r. r.now };
+
+    fn as_raster(&self) -> &Raster {
+        self
+    }
+}
 
 /// A raster of elevations as what says whether a listed sink has data.
 #[derive(Drop)]
@@ -63,41 +93,42 @@ fn elevation(dem: &Raster, cell: Cell) -> Option<i64>
 }
 
 /// The products of a raster of elevations with these sinks, whose rows are spaced so. Their no-data numbers are the
-/// default ones, but that of con, which is the raster's.
+/// default ones, but that of con, which is the raster's. A raster that is given away is freed as soon as it isn't needed
+/// any more.
 ///
 /// A cell's elevation is its number, a whole number in any unit; it is void where that is the raster's no-data number. So
 /// where no cell is to be void, that number is one that no pixel encodes. `SinkNotData` has the least line that lists a
 /// cell without data, and comes before all else. `OutOfMemory` comes if memory was refused. There is no other refusal.
-pub fn make_dem(
+pub fn make_dem<D: AsRaster + Drop>(
     alloc: Global,
-    dem: &Raster,
+    dem: D,
     sinks: &Sinks,
     spacings: &Spacings,
     follow: &mut impl Follow,
 ) -> Result<ProductSet, MakeRefusal>
-    ensures shape { IfOk result (λ products. products.con.extent ≡ dem.now.extent) }
-    ensures nodata { IfOk result (λ products. nodata_of products ≡ made_numbers dem.now.nodata) }
-    ensures rules { IfOk result (λ products. RulesHold (check_rules (made_numbers dem.now.nodata)) IsAnyRule (spaced_dem_grid (spacing_of spacings.now) dem.now sinks.now) (products_of products)) }
+    ensures shape { IfOk result (λ products. products.con.extent ≡ (D.raster dem).extent) }
+    ensures nodata { IfOk result (λ products. nodata_of products ≡ made_numbers (D.raster dem).nodata) }
+    ensures rules { IfOk result (λ products. RulesHold (check_rules (made_numbers (D.raster dem).nodata)) IsAnyRule (spaced_dem_grid (spacing_of spacings.now) (D.raster dem) sinks.now) (products_of products)) }
     ensures rasters { IfOk result AreRasters }
 
     // Each conditioned elevation is the elevation of some cell: so con's no-data number is at voids alone, and whatever
     // encodes the elevations encodes con.
-    ensures ground { IfOk result (λ products. AreOfGround (spaced_dem_grid (spacing_of spacings.now) dem.now sinks.now) (number_at products.con)) }
-    ensures written { IfOk result (λ products. (h : Fields) → FitsHeader h dem.now → SetFits h products) }
+    ensures ground { IfOk result (λ products. AreOfGround (spaced_dem_grid (spacing_of spacings.now) (D.raster dem) sinks.now) (number_at products.con)) }
+    ensures written { IfOk result (λ products. (h : Fields) → FitsHeader h (D.raster dem) → SetFits h products) }
 
     // Every listed cell has data, or the first line whose cell has none is reported.
-    ensures sinks { IsDemSinkAnswer dem.now sinks.now result }
+    ensures sinks { IsDemSinkAnswer (D.raster dem) sinks.now result }
 
     // Where every listed cell has data, there are products, unless memory runs out.
-    ensures succeeds { DemSucceeds dem.now sinks.now result }
+    ensures succeeds { DemSucceeds (D.raster dem) sinks.now result }
 
     // What every rule at every cell means: the products are correct, and every run is sound.
-    ensures correct { IfOk result (λ products. IsCorrect (spaced_dem_grid (spacing_of spacings.now) dem.now sinks.now) (products_of products) (made_numbers dem.now.nodata)) }
-    ensures runs { IfOk result (λ products. RunsAreSound (spaced_dem_grid (spacing_of spacings.now) dem.now sinks.now) (products_of products)) }
+    ensures correct { IfOk result (λ products. IsCorrect (spaced_dem_grid (spacing_of spacings.now) (D.raster dem) sinks.now) (products_of products) (made_numbers (D.raster dem).nodata)) }
+    ensures runs { IfOk result (λ products. RunsAreSound (spaced_dem_grid (spacing_of spacings.now) (D.raster dem) sinks.now) (products_of products)) }
 {
     // The law that the first listed cell without data is the grid's.
     found_off_data_is_right();
-    if let Some(line) = first_off_data(sinks, &DemCells { dem }) {
+    if let Some(line) = first_off_data(sinks, &DemCells { dem: dem.as_raster() }) {
         return Err(MakeRefusal::SinkNotData(line));
     }
     match build_dem(alloc, dem, sinks, spacings, follow) {
@@ -107,35 +138,112 @@ pub fn make_dem(
 }
 
 /// The products.
-fn build_dem(
+fn build_dem<D: AsRaster + Drop>(
     alloc: Global,
-    dem: &Raster,
+    dem: D,
     sinks: &Sinks,
     spacings: &Spacings,
     follow: &mut impl Follow,
 ) -> Result<ProductSet, OutOfMemory>
-    ensures shape { IfOk result (λ products. products.con.extent ≡ dem.now.extent) }
-    ensures nodata { IfOk result (λ products. nodata_of products ≡ made_numbers dem.now.nodata) }
-    ensures right { IfOk result (λ products. AreRightProducts (spaced_dem_grid (spacing_of spacings.now) dem.now sinks.now) (made_numbers dem.now.nodata) (products_of products)) }
+    ensures shape { IfOk result (λ products. products.con.extent ≡ (D.raster dem).extent) }
+    ensures nodata { IfOk result (λ products. nodata_of products ≡ made_numbers (D.raster dem).nodata) }
+    ensures right { IfOk result (λ products. AreRightProducts (spaced_dem_grid (spacing_of spacings.now) (D.raster dem) sinks.now) (made_numbers (D.raster dem).nodata) (products_of products)) }
     ensures rasters { IfOk result AreRasters }
-    ensures ground { IfOk result (λ products. AreOfGround (spaced_dem_grid (spacing_of spacings.now) dem.now sinks.now) (number_at products.con)) }
-    ensures written { IfOk result (λ products. (h : Fields) → FitsHeader h dem.now → SetFits h products) }
+    ensures ground { IfOk result (λ products. AreOfGround (spaced_dem_grid (spacing_of spacings.now) (D.raster dem) sinks.now) (number_at products.con)) }
+    ensures written { IfOk result (λ products. (h : Fields) → FitsHeader h (D.raster dem) → SetFits h products) }
 {
-    follow.begin(Part::Surface);
-    let shape = dem.shape();
-    let nodata = dem.nodata();
+    let shape = dem.as_raster().shape();
     let _cells = shape.cells();
-    let surface = surface_of(alloc, dem, sinks)?;
-    follow.begin(Part::Directions);
-    let codes = exact_directions(alloc, &surface, spacings)?;
-    let routes = route(alloc, surface, codes)?;
+    let routes = route_dem(alloc, dem, sinks, spacings, follow)?;
     let both = count_and_label(alloc, &routes.dir, shape, follow)?;
     Ok(ProductSet {
-        con: raster_of_numbers(shape, nodata, routes.con),
+        con: routes.con,
         dir: raster_of_codes(shape, Product::Dir, routes.dir),
         acc: raster_of_counts(shape, Product::Acc, both.counts),
         bas: raster_of_counts(shape, Product::Bas, both.labels),
         rnk: raster_of_counts(shape, Product::Rnk, routes.rnk),
+    })
+}
+
+/// The raster of conditioned elevations, and the rank and the code of each cell: in 16 bits where all elevations fit.
+fn route_dem<D: AsRaster + Drop>(
+    alloc: Global,
+    dem: D,
+    sinks: &Sinks,
+    spacings: &Spacings,
+    follow: &mut impl Follow,
+) -> Result<Routes<Raster>, OutOfMemory>
+    ensures extent { IfOk result (λ routes. routes.con.extent ≡ (D.raster dem).extent) }
+    ensures nodata { IfOk result (λ routes. routes.con.nodata ≡ (D.raster dem).nodata) }
+    ensures pixels { IfOk result (λ routes. ArePixels routes.con) }
+    ensures rnk { IfOk result (λ routes. vec_len routes.rnk ≡ (D.raster dem).extent.rows * (D.raster dem).extent.cols) }
+    ensures dir { IfOk result (λ routes. vec_len routes.dir ≡ (D.raster dem).extent.rows * (D.raster dem).extent.cols) }
+    ensures routes { IfOk result (λ routes. AreRoutes (spaced_dem_grid (spacing_of spacings.now) (D.raster dem) sinks.now) (D.raster dem).nodata routes.con.numbers routes.rnk.items routes.dir.items) }
+{
+    match narrow_elevation(alloc, dem.as_raster())? {
+        Some(elevation) => {
+            let nodata = dem.as_raster().nodata();
+            drop(dem);
+            route_narrow(alloc, elevation, nodata, sinks, spacings, follow)
+        }
+        None => route_wide(alloc, dem, sinks, spacings, follow),
+    }
+}
+
+/// The same of elevations in 16 bits, for a raster with this no-data number.
+fn route_narrow(
+    alloc: Global,
+    elevation: Elevation,
+    nodata: i64,
+    sinks: &Sinks,
+    spacings: &Spacings,
+    follow: &mut impl Follow,
+) -> Result<Routes<Raster>, OutOfMemory>
+    requires nodata { IsNoData nodata }
+    ensures extent { IfOk result (λ routes. routes.con.extent ≡ elevation.extent) }
+    ensures nodata { IfOk result (λ routes. routes.con.nodata ≡ nodata) }
+    ensures pixels { IfOk result (λ routes. ArePixels routes.con) }
+    ensures rnk { IfOk result (λ routes. vec_len routes.rnk ≡ elevation.extent.rows * elevation.extent.cols) }
+    ensures dir { IfOk result (λ routes. vec_len routes.dir ≡ elevation.extent.rows * elevation.extent.cols) }
+    ensures routes { IfOk result (λ routes. (p : Pixels) → IsNarrowed p elevation → p.nodata ≡ nodata → AreRoutes (spaced_dem_grid (spacing_of spacings.now) p sinks.now) p.nodata routes.con.numbers routes.rnk.items routes.dir.items) }
+{
+    let shape = elevation.shape();
+    let flood = flooded(alloc, &elevation, sinks, follow)?;
+    drop(elevation);
+    let routes = route_flooded(alloc, flood, spacings, follow)?;
+    Ok(Routes {
+        con: narrow_raster(shape, nodata, routes.con),
+        rnk: routes.rnk,
+        dir: routes.dir,
+    })
+}
+
+/// The same of elevations of up to 33 bits.
+fn route_wide<D: AsRaster + Drop>(
+    alloc: Global,
+    dem: D,
+    sinks: &Sinks,
+    spacings: &Spacings,
+    follow: &mut impl Follow,
+) -> Result<Routes<Raster>, OutOfMemory>
+    ensures extent { IfOk result (λ routes. routes.con.extent ≡ (D.raster dem).extent) }
+    ensures nodata { IfOk result (λ routes. routes.con.nodata ≡ (D.raster dem).nodata) }
+    ensures pixels { IfOk result (λ routes. ArePixels routes.con) }
+    ensures rnk { IfOk result (λ routes. vec_len routes.rnk ≡ (D.raster dem).extent.rows * (D.raster dem).extent.cols) }
+    ensures dir { IfOk result (λ routes. vec_len routes.dir ≡ (D.raster dem).extent.rows * (D.raster dem).extent.cols) }
+    ensures routes { IfOk result (λ routes. AreRoutes (spaced_dem_grid (spacing_of spacings.now) (D.raster dem) sinks.now) (D.raster dem).nodata routes.con.numbers routes.rnk.items routes.dir.items) }
+{
+    follow.begin(Part::Surface);
+    let shape = dem.as_raster().shape();
+    let nodata = dem.as_raster().nodata();
+    let surface = surface_of(alloc, dem, sinks)?;
+    follow.begin(Part::Directions);
+    let codes = exact_directions(alloc, &surface, spacings)?;
+    let routes = route(alloc, surface, codes)?;
+    Ok(Routes {
+        con: raster_of_numbers(shape, nodata, routes.con),
+        rnk: routes.rnk,
+        dir: routes.dir,
     })
 }
 
@@ -150,24 +258,20 @@ fn raster_of_numbers(shape: Shape, nodata: i64, numbers: WideHeights) -> Raster
 }
 
 /// The filled surface of a raster of elevations, with its no-data number at voids.
-fn surface_of(
+fn surface_of<D: AsRaster + Drop>(
     alloc: Global,
-    dem: &Raster,
+    dem: D,
     sinks: &Sinks,
 ) -> Result<Surface<WideHeights>, OutOfMemory>
-    ensures extent { IfOk result (λ surface. surface.extent ≡ dem.now.extent) }
-    ensures surface { IfOk result (λ surface. (spacing : ℕ → Distances) → IsSurfaceOf (spaced_dem_grid spacing dem.now sinks.now) surface) }
-    ensures voids { IfOk result (λ surface. (spacing : ℕ → Distances) → ShowsVoids (spaced_dem_grid spacing dem.now sinks.now) surface dem.now.nodata) }
+    ensures extent { IfOk result (λ surface. surface.extent ≡ (D.raster dem).extent) }
+    ensures surface { IfOk result (λ surface. (spacing : ℕ → Distances) → IsSurfaceOf (spaced_dem_grid spacing (D.raster dem) sinks.now) surface) }
+    ensures voids { IfOk result (λ surface. (spacing : ℕ → Distances) → ShowsVoids (spaced_dem_grid spacing (D.raster dem) sinks.now) surface (D.raster dem).nodata) }
 {
-    let ground = ground_of(alloc, dem)?;
-    let heights = heights_of(alloc, dem)?;
-    filled_surface(
-        alloc,
-        &ground,
-        heights.as_slice(),
-        sinks,
-        void_number(dem.nodata()),
-    )
+    let ground = ground_of(alloc, dem.as_raster())?;
+    let heights = heights_of(alloc, dem.as_raster())?;
+    let void = void_number(dem.as_raster().nodata());
+    drop(dem);
+    filled_surface(alloc, &ground, heights, sinks, void)
 }
 
 /// Which cells of a raster of elevations have data.

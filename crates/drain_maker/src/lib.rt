@@ -10,11 +10,12 @@ pub mod follow;
 pub mod laws;
 mod maker;
 pub mod mosaic;
+mod narrow;
 pub mod product_files;
 mod products;
 pub mod whole_dem;
 
-pub use dem::make_dem;
+pub use dem::{AsRaster, make_dem};
 pub use derivation::{DeriveRefusal, Derived, derive, derive_dem, derive_from_flows};
 pub use drain_flood::LevelQueue;
 pub use drain_verdict::{CertifyRefusal, certify};

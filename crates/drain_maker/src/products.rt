@@ -18,6 +18,7 @@ ghost use Rattle.drain_grid.specs.declared.sink_line.SinkLine.{SinkLine};
 use crate::follow::{Follow, Part};
 use crate::laws::routes_keep_rules;
 use crate::mosaic::AsElevation;
+use crate::narrow::narrow_raster;
 use drain_flood::laws::flood_shows_voids;
 use drain_flood::ways::directions;
 use drain_flood::{Flood, HeightList, Surface, fill, ways_on_flats};
@@ -32,8 +33,7 @@ pub(crate) fn raster_of_heights(shape: Shape, product: Product, heights: Vec<i16
     ensures pixels { ArePixels result }
     ensures spelled { CanSpellAllIn true 16 result }
 {
-    look_at_each(&heights);
-    Raster::of_heights(shape, product.default_no_data(), heights)
+    narrow_raster(shape, product.default_no_data(), heights)
 }
 
 /// The raster of a product of codes.
@@ -57,7 +57,7 @@ pub(crate) fn raster_of_counts(shape: Shape, product: Product, counts: Vec<u32>)
 }
 
 /// Each height is a number of 16 bits. The body only shows this to the prover, height by height.
-fn look_at_each(heights: &[i16])
+pub(crate) fn look_at_each(heights: &[i16])
     ensures { All (CanSpellIn true 16) heights.now }
 {
     for place in 0..heights.len() {
@@ -93,7 +93,7 @@ pub(crate) fn flooded(
 }
 
 /// Gives each cell of a flooded grid its way. What only the flood needs is freed first.
-fn route_flooded(
+pub(crate) fn route_flooded(
     alloc: Global,
     flood: Flood,
     spacings: &Spacings,

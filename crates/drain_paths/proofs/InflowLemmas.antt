@@ -1,6 +1,6 @@
 -- How many cells flow into one, from three rows of flows; whole rows.
-use Rattle.std.proofs.Common.{◌≡◌, ◌≢◌, ◌∙◌, ℕ, ◌+◌, inl, inr, cond, Some, sym, ap, subst, arith, ◌-◌, ◌*◌, ◌<◌, ◌≤◌, ◌==◌, pos, List, [], ◌∷◌, Option, None, slice_index, slice_index_or, if◌then◌else◌, refl}
-use Rattle.std.proofs.lemmas.Bool.{false_from_ne_true, cases_lt, eq-eqb, ne_eqb}
+use Rattle.std.proofs.Common.{◌≡◌, ◌≢◌, ◌∙◌, ℕ, ◌+◌, inl, inr, cond, Some, sym, ap, subst, arith, ◌-◌, ◌*◌, ◌<◌, ◌≤◌, ◌==◌, pos, Bool, List, [], ◌∷◌, None, slice_index, slice_index_or, if◌then◌else◌, refl}
+use Rattle.std.proofs.lemmas.Bool.{false_from_ne_true, cases_Bool, cases_lt, eq-eqb, ne_eqb}
 use Rattle.drain_grid.specs.declared.cell.Cell.{Cell}
 use Rattle.drain_grid.specs.Extent.{same_cell, IsCellOf, index_of, step, Extent}
 use Rattle.drain_grid.specs.Grid.{Grid, Products, HasData}
@@ -22,12 +22,14 @@ use Rattle.drain_grid.proofs.ThreeRows.{row_beside, number_beside, number_in_row
 use Rattle.drain_grid.proofs.Alike.{before_row}
 use Rattle.drain_paths.specs.declared.flow.Flow.{Flow}
 use Rattle.drain_paths.specs.declared.flow.Flow.TheVariants.{Void}
-use Rattle.drain_paths.specs.Flows.{AreFlowsOf, code_flow, direction_of, flow_at, flow_to}
+use Rattle.drain_paths.specs.declared.flow.TheConstants.{NO_CODE}
+use Rattle.drain_paths.specs.Flows.{AreFlowsOf, byte_flow, code_flow, direction_of, flow_at, flow_to}
 use Rattle.drain_paths.specs.Walks.{AreKnownFlows}
 use Rattle.drain_paths.proofs.KnownWays.{AreKnownFlows-grid}
 use Rattle.drain_paths.specs.CellNumbers.{cell_number}
-use Rattle.drain_paths.specs.Inflows.{AreFlowLanes, AreInflows, IsInflowOf, inflow_at, lane_of, one_if}
+use Rattle.drain_paths.specs.Inflows.{AreRowCodes, AreInflows, IsInflowOf, inflow_at, one_if}
 use Rattle.drain_paths.proofs.FlowCells.{with_height}
+use Rattle.drain_paths.proofs.FlowCodes.{code_flow-says}
 
 -- The sum that the inflows of a cell pass on, when the number of one cell changes: it changes at one cell at most, the
 -- one to which the code leads.
@@ -73,41 +75,49 @@ inflows_few g ps e waits c is here =
     let most = passed_most g ps c (λ m. 1) (λ m. omega arith) in
     omega (arith, most, is here)
 
--- the direction of a flow's number
-abbrev direction_in : List (Option Direction) → ℕ → Option Direction
-direction_in [] n = None
-direction_in (o ∷ os) n = if n == 0 then o else direction_in os (n - 1)
-
-abbrev direction_at : ℕ → Option Direction
-direction_at = direction_in (None ∷ None ∷ None ∷ Some East ∷ Some SouthEast ∷ Some South ∷ Some SouthWest ∷ Some West ∷ Some NorthWest ∷ Some North ∷ Some NorthEast ∷ [])
-
-direction_is : (f : Flow) → direction_at (lane_of f) ≡ direction_of f
-direction_is Void = refl
-direction_is f = refl
+-- the flow of a direction's code
+flow_named : (d : Direction) → byte_flow (code_of d) ≡ flow_to d
+flow_named East = refl
+flow_named d = refl
 
 direction_to : (d : Direction) → direction_of (flow_to d) ≡ Some d
 direction_to East = refl
 direction_to d = refl
 
--- so a number names one direction
-leads_by_lane : (f : Flow) (d : Direction) → lane_of f ≡ lane_of (flow_to d) → direction_of f ≡ Some d
-leads_by_lane f d same = sym (direction_is f) ∙ (ap direction_at same ∙ (direction_is (flow_to d) ∙ direction_to d))
-
 no_void : (f : Flow) (d : Direction) → direction_of f ≡ Some d → f ≢ Void
 no_void f d leads void = none_some d (sym (ap direction_of void) ∙ leads)
 
-lane_some : (d : Direction) → lane_of (flow_to d) ≡ 0 → ⊥
-lane_some d none = none_some d (sym (ap direction_at none) ∙ (direction_is (flow_to d) ∙ direction_to d))
+-- the same of numbers
+flow_coded : (d : Direction) → code_flow (pos (code_of d)) ≡ flow_to d
+flow_coded East = refl
+flow_coded d = refl
 
-flow_named : (d : Direction) → code_flow (pos (code_of d)) ≡ flow_to d
-flow_named East = refl
-flow_named d = refl
+leads_by_code : (d : Direction) → direction_of (byte_flow (code_of d)) ≡ Some d
+leads_by_code d = ap direction_of (flow_named d) ∙ direction_to d
 
-one_same : (x : ℕ) (f : Flow) → x ≡ lane_of f → one_if x f ≡ 1
-one_same x f same = ap (λ b. if b then 1 else 0) (eq-eqb x (lane_of f) same)
+-- so no direction has that of a void
+code_some : (d : Direction) → code_of d ≡ NO_CODE → ⊥
+code_some d none = no_void (byte_flow (code_of d)) d (leads_by_code d) (ap byte_flow none)
 
-one_other : (x : ℕ) (f : Flow) → (x ≡ lane_of f → ⊥) → one_if x f ≡ 0
-one_other x f other = ap (λ b. if b then 1 else 0) (ne_eqb x (lane_of f) other)
+-- a direction has one code
+code_is : (code : ℕ) (d : Direction) → byte_flow code ≡ flow_to d → code ≡ code_of d
+code_is code d flow =
+    elim (cases_Bool (code == NO_CODE)) [
+      | inl void ↦ absurd (none_some d (sym (ap (λ (b : Bool). direction_of (if b then Void else code_flow (pos code))) void) ∙ leads))
+      | inr some ↦ same_pos ((code_flow-says (pos code)).leads d (sym (ap (λ (b : Bool). direction_of (if b then Void else code_flow (pos code))) some) ∙ leads))
+    ]
+  where
+    leads : direction_of (byte_flow code) ≡ Some d
+    leads = ap direction_of flow ∙ direction_to d
+
+    same_pos : pos code ≡ pos (code_of d) → code ≡ code_of d
+    same_pos h = cc
+
+one_same : (x : ℕ) (d : Direction) → x ≡ code_of d → one_if x d ≡ 1
+one_same x d same = ap (λ b. if b then 1 else 0) (eq-eqb x (code_of d) same)
+
+one_other : (x : ℕ) (d : Direction) → (x ≡ code_of d → ⊥) → one_if x d ≡ 0
+one_other x d other = ap (λ b. if b then 1 else 0) (ne_eqb x (code_of d) other)
 
 sum_of_eight : (n : Direction → ℕ) → sum_by n directions ≡ (n East + n SouthEast + n South + n SouthWest) + (n West + n NorthWest + n North + n NorthEast)
 sum_of_eight n = omega (
@@ -123,23 +133,23 @@ sum_of_eight n = omega (
 )
 
 module _ (g : Grid) (ps : Products) (e : Extent) (flows : List Flow) (are : AreFlowsOf g ps e flows) (c : Cell) (inside : IsCellOf e c) (a h b : List ℕ)
-    (rows : (d : Direction) → AreFlowLanes e flows (c.row + rows_down d) (row_beside a h b d)) where
-  abbrev lane_at : Direction → ℕ
-  lane_at d = number_beside a h b c.col d
+    (rows : (d : Direction) → AreRowCodes e flows (c.row + rows_down d) (row_beside a h b d)) where
+  abbrev code_at : Direction → ℕ
+  code_at d = number_beside a h b c.col d
 
   abbrev one_from : Direction → ℕ
-  one_from d = one_if (lane_at d) (flow_to (opposite d))
+  one_from d = one_if (code_at d) (opposite d)
 
   known : AreKnownFlows g ps e flows
   known = AreKnownFlows-grid g ps e flows are
 
-  lane_there : (d : Direction) (m : Cell) → step e c d ≡ Some m → lane_at d ≡ lane_of (flow_at e flows m)
-  lane_there d m there =
+  code_there : (d : Direction) (m : Cell) → step e c d ≡ Some m → byte_flow (code_at d) ≡ flow_at e flows m
+  code_there d m there =
       let lies = step_lies e c m d there in
-      number_in_row a h b c.col d ∙ (ap (slice_index (row_beside a h b d)) (sym lies.1.1) ∙ (rows d).flows_are m lies.0 lies.1.0)
+      ap byte_flow (number_in_row a h b c.col d ∙ ap (slice_index (row_beside a h b d)) (sym lies.1.1)) ∙ (rows d).codes_are m lies.0 lies.1.0
 
-  lane_none : (d : Direction) → step e c d ≡ None → lane_at d ≡ 0
-  lane_none d none =
+  code_none : (d : Direction) → step e c d ≡ None → code_at d ≡ NO_CODE
+  code_none d none =
       number_in_row a h b c.col d ∙
       (rows d).voids (c.col + cols_right d) (col_beside c.col e.cols d inside.col)
       (λ n in_n row col. none_some n (sym none ∙ step_gives e c n d in_n (row, col)))
@@ -154,16 +164,16 @@ module _ (g : Grid) (ps : Products) (e : Extent) (flows : List Flow) (are : AreF
       let data_m = HasData-flow g ps c d m from_m in
       let named = (names_fact (ps.dir m) (opposite d)).0 from_m.names_back in
       let flow : flow_at e flows m ≡ flow_to (opposite d) =
-      are.each m data_m.inside ∙ (with_height (g.elevation m) (ps.dir m) data_m.is_data ∙ (ap code_flow named ∙ flow_named (opposite d))) in
-      one_same (lane_at d) (flow_to (opposite d)) (lane_there d m there ∙ ap lane_of flow)
+      are.each m data_m.inside ∙ (with_height (g.elevation m) (ps.dir m) data_m.is_data ∙ (ap code_flow named ∙ flow_coded (opposite d))) in
+      one_same (code_at d) (opposite d) (code_is (code_at d) (opposite d) (code_there d m there ∙ flow))
 
   -- where none flows in it is 0
   none_flows : (d : Direction) → ((m : Cell) → FlowsFrom g ps c d m → ⊥) → one_from d ≡ 0
-  none_flows d none = one_other (lane_at d) (flow_to (opposite d)) (λ same.
+  none_flows d none = one_other (code_at d) (opposite d) (λ same.
       elim (some_or_none (step e c d)) [
-        | inl outside ↦ lane_some (opposite d) (sym same ∙ lane_none d outside)
+        | inl outside ↦ code_some (opposite d) (sym same ∙ code_none d outside)
         | inr (m, there) ↦
-            (let leads = leads_by_lane (flow_at e flows m) (opposite d) (sym (lane_there d m there) ∙ same) in
+            (let leads = ap direction_of (sym (code_there d m there) ∙ ap byte_flow same) ∙ leads_by_code (opposite d) in
             let in_m = subst (λ (x : Extent). IsCellOf x m) (sym are.extent) (step_lies e c m d there).0 in
             none m (record {
               lies = in_extent d ∙ there;
@@ -176,23 +186,23 @@ module _ (g : Grid) (ps : Products) (e : Extent) (flows : List Flow) (are : AreF
   inflow_is = sym (passed_sum g ps c (λ m. 1) (λ m. omega arith) one_from one_flows none_flows ∙ sum_of_eight one_from)
 
 -- what was laid between two voids is the row
-pub laid_row : (e : Extent) (flows : List Flow) (down start len : ℕ) (lanes : List ℕ) → 0 < down → down ≤ e.rows → start ≡ (down - 1) * e.cols → len ≡ e.cols + 2 →
-    slice_index lanes 0 ≡ 0 → ((k : ℕ) → k + 1 ≡ len → slice_index lanes k ≡ 0) →
-    ((k : ℕ) → k + 2 < len → slice_index lanes (k + 1) ≡ lane_of (slice_index_or flows (start + k) Void)) → AreFlowLanes e flows down lanes
-laid_row e flows down start len lanes some most start_is long first last each = record {
-  flows_are = λ n inside row.
+pub laid_row : (e : Extent) (flows : List Flow) (down start len : ℕ) (codes : List ℕ) → 0 < down → down ≤ e.rows → start ≡ (down - 1) * e.cols → len ≡ e.cols + 2 →
+    slice_index codes 0 ≡ NO_CODE → ((k : ℕ) → k + 1 ≡ len → slice_index codes k ≡ NO_CODE) →
+    ((k : ℕ) → k + 2 < len → byte_flow (slice_index codes (k + 1)) ≡ slice_index_or flows (start + k) Void) → AreRowCodes e flows down codes
+laid_row e flows down start len codes some most start_is long first last each = record {
+  codes_are = λ n inside row.
       (let col = inside.col in
-      each n.col (omega (arith, col, long)) ∙ ap (λ i. lane_of (slice_index_or flows i Void)) (place_in_row n.row n.col down start e.cols row start_is));
-  voids = λ right. at_ends e down len 0 right lanes some most long first last;
+      each n.col (omega (arith, col, long)) ∙ ap (λ i. slice_index_or flows i Void) (place_in_row n.row n.col down start e.cols row start_is));
+  voids = λ right. at_ends e down len NO_CODE right codes some most long first last;
 }
 
 -- the inflow of a cell of the row
 pub row_inflow : (g : Grid) (ps : Products) (e : Extent) (flows : List Flow) (are : AreFlowsOf g ps e flows) (c : Cell) (row start : ℕ) (a h b waits : List ℕ) →
-    IsCellOf e c → c.row ≡ row → AreFlowLanes e flows row a → AreFlowLanes e flows (row + 1) h → AreFlowLanes e flows (row + 2) b → start ≡ row * e.cols →
+    IsCellOf e c → c.row ≡ row → AreRowCodes e flows row a → AreRowCodes e flows (row + 1) h → AreRowCodes e flows (row + 2) b → start ≡ row * e.cols →
     slice_index waits (start + c.col) ≡ inflow_at a h b c.col → IsInflowOf g ps e waits c
 row_inflow g ps e flows are c row start a h b waits inside at in_a in_h in_b start_is put = λ here.
     ap (slice_index waits) (sym (place_in_own_row c.row c.col row start e.cols at start_is)) ∙
-    (put ∙ inflow_is g ps e flows are c inside a h b (three_rows (AreFlowLanes e flows) row c.row a h b at in_a in_h in_b))
+    (put ∙ inflow_is g ps e flows are c inside a h b (three_rows (AreRowCodes e flows) row c.row a h b at in_a in_h in_b))
 
 -- the inflows of the rows before this one
 abbrev pub AreRowInflows : Grid → Products → Extent → ℕ → List ℕ → Type 0

@@ -4,8 +4,22 @@ use Rattle.drain_grid.specs.declared.direction.Direction.{Direction}
 use Rattle.drain_grid.specs.Direction.{rows_down, cols_right}
 use Rattle.drain_grid.specs.Extent.{Extent}
 use Rattle.drain_paths.specs.declared.flow.Flow.{Flow}
+use Rattle.drain_paths.specs.declared.flow.Flow.TheVariants.{Void, Lost, Ends, ToEast, ToSouthEast, ToSouth, ToSouthWest, ToWest, ToNorthWest, ToNorth, ToNorthEast}
 use Rattle.drain_paths.specs.Flows.{byte_flow, direction_of}
-use Rattle.drain_paths.specs.Inflows.{lane_of}
+
+-- a flow's number
+abbrev pub lane_of : Flow → ℕ
+lane_of Void = 0
+lane_of Lost = 1
+lane_of Ends = 2
+lane_of ToEast = 3
+lane_of ToSouthEast = 4
+lane_of ToSouth = 5
+lane_of ToSouthWest = 6
+lane_of ToWest = 7
+lane_of ToNorthWest = 8
+lane_of ToNorth = 9
+lane_of ToNorthEast = 10
 
 -- how much further the next place is if the flow leads on, and one row and one place more
 abbrev pub IsOffset : Extent → Flow → ℕ → Type 0

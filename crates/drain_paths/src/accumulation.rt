@@ -2,27 +2,28 @@
 
 ghost use Rattle.std.specs.Prelude.{◌≡◌, ◌≤◌, ◌<◌, ◌+◌, ◌-◌, ◌*◌, ◌==◌, ℕ, length, vec_len, slice_index, slice_index_or, slice_set, IfOk, if◌then◌else◌, ◌≢◌, ◌^◌};
 ghost use Rattle.drain_grid.specs.declared.cell.Cell.{Cell};
+ghost use Rattle.drain_grid.specs.Direction.{code_of};
 ghost use Rattle.drain_grid.specs.Extent.{IsCellOf};
 ghost use Rattle.drain_paths.specs.declared.flow.Flow.TheVariants.{Void};
-ghost use Rattle.drain_paths.specs.Flows.{OfFlows, AllFlowsEnd, flow_at};
-ghost use Rattle.drain_paths.specs.Inflows.{AreFlowLanes, AreInflows, IsInflowOf, inflow_at, lane_of, IsPassing, StaysAway, AreUpstreamCounts};
-ghost use Rattle.drain_paths.specs.CellNumbers.{cell_number, ones_of, one_of};
+ghost use Rattle.drain_paths.specs.declared.flow.TheConstants.{NO_CODE};
+ghost use Rattle.drain_paths.specs.Flows.{OfFlows, AllFlowsEnd, byte_flow, bytes_flows};
+ghost use Rattle.drain_paths.specs.Inflows.{AreRowCodes, AreInflows, IsInflowOf, inflow_at, IsPassing, AreUpstreamCounts};
+ghost use Rattle.drain_paths.specs.CellNumbers.{cell_number, ones_of};
 
 use crate::cell_numbers::room_for;
-use crate::flow::Flow;
-use crate::places::{self, ListedOnward, lane, offsets, place_ahead};
-use crate::ways::flow_of_place;
-use drain_grid::{OutOfMemory, Shape};
+use crate::flow::{Flow, NO_CODE};
+use crate::places::{CodedOnward, ListedOnward, Onward, code_offsets, offsets, place_ahead};
+use drain_grid::{Direction, OutOfMemory, Shape};
 use std::alloc::Global;
 
 /// The inflows of a cell that has passed its count on. No cell has this many.
 pub const DONE: u8 = u8::MAX;
 
 /// How many cells flow into each cell.
-pub(crate) fn inflows(alloc: Global, flows: &[Flow], shape: Shape) -> Result<Vec<u8>, OutOfMemory>
-    requires counted { length flows.now ≡ shape.rows * shape.cols }
+fn inflows<O: Onward>(alloc: Global, onward: &O, shape: Shape) -> Result<Vec<u8>, OutOfMemory>
+    requires counted { length (O.flows onward.now) ≡ shape.rows * shape.cols }
     ensures counted { IfOk result (λ waits. vec_len waits ≡ shape.rows * shape.cols) }
-    ensures inflows { IfOk result (λ waits. OfFlows shape flows.now (λ g ps. AreInflows g ps shape waits.items)) }
+    ensures inflows { IfOk result (λ waits. OfFlows shape (O.flows onward.now) (λ g ps. AreInflows g ps shape waits.items)) }
 {
     let cols = shape.cols() as usize;
     let mut waits = zeros(alloc, shape.cells())?;
@@ -30,7 +31,7 @@ pub(crate) fn inflows(alloc: Global, flows: &[Flow], shape: Shape) -> Result<Vec
     let mut here = zeros(alloc, cols + 2)?;
     let mut below = zeros(alloc, cols + 2)?;
     count_rows(
-        flows,
+        onward,
         shape,
         above.as_mut_slice(),
         here.as_mut_slice(),
@@ -49,31 +50,31 @@ fn zeros(alloc: Global, len: usize) -> Result<Vec<u8>, OutOfMemory>
     Ok(zeros)
 }
 
-/// The same, with room for three rows of flows.
-fn count_rows(
-    flows: &[Flow],
+/// The same, with room for three rows of codes.
+fn count_rows<O: Onward>(
+    onward: &O,
     shape: Shape,
     above: &mut [u8],
     here: &mut [u8],
     below: &mut [u8],
     waits: &mut [u8],
 )
-    requires counted { length flows.now ≡ shape.rows * shape.cols }
+    requires counted { length (O.flows onward.now) ≡ shape.rows * shape.cols }
     requires above_len { length above.old ≡ shape.cols + 2 }
     requires here_len { length here.old ≡ shape.cols + 2 }
     requires below_len { length below.old ≡ shape.cols + 2 }
     requires waits_counted { length waits.old ≡ shape.rows * shape.cols }
     ensures waits_counted { length waits.new ≡ length waits.old }
-    ensures inflows { OfFlows shape flows.now (λ g ps. AreInflows g ps shape waits.new) }
+    ensures inflows { OfFlows shape (O.flows onward.now) (λ g ps. AreInflows g ps shape waits.new) }
 {
     for row in 0..shape.rows() {
-        count_row(flows, shape, row, above, here, below, waits);
+        count_row(onward, shape, row, above, here, below, waits);
     }
 }
 
 /// Counts what flows into the cells of a row.
-fn count_row(
-    flows: &[Flow],
+fn count_row<O: Onward>(
+    onward: &O,
     shape: Shape,
     row: u32,
     above: &mut [u8],
@@ -81,7 +82,7 @@ fn count_row(
     below: &mut [u8],
     waits: &mut [u8],
 )
-    requires counted { length flows.now ≡ shape.rows * shape.cols }
+    requires counted { length (O.flows onward.now) ≡ shape.rows * shape.cols }
     requires inside { row < shape.rows }
     requires above_len { length above.old ≡ shape.cols + 2 }
     requires here_len { length here.old ≡ shape.cols + 2 }
@@ -91,65 +92,67 @@ fn count_row(
     ensures here_len { length here.new ≡ length here.old }
     ensures below_len { length below.new ≡ length below.old }
     ensures waits_counted { length waits.new ≡ length waits.old }
-    ensures row { OfFlows shape flows.now (λ g ps. (c : Cell) → IsCellOf shape c → c.row ≡ row → IsInflowOf g ps shape waits.new c) }
+    ensures row { OfFlows shape (O.flows onward.now) (λ g ps. (c : Cell) → IsCellOf shape c → c.row ≡ row → IsInflowOf g ps shape waits.new c) }
     ensures others { (i : ℕ) → i < row * shape.cols → slice_index waits.new i ≡ slice_index waits.old i }
 {
-    lay_row(flows, shape, row as usize, above);
-    lay_row(flows, shape, row as usize + 1, here);
-    lay_row(flows, shape, row as usize + 2, below);
+    lay_row(onward, shape, row as usize, above);
+    lay_row(onward, shape, row as usize + 1, here);
+    lay_row(onward, shape, row as usize + 2, below);
     put_inflows(above, here, below, shape.row_start(row), waits);
 }
 
-/// Lays a row of the grid, between two voids. Rows are counted from 1; those next to the grid are voids.
-fn lay_row(flows: &[Flow], shape: Shape, down: usize, lanes: &mut [u8])
-    requires counted { length flows.now ≡ shape.rows * shape.cols }
-    requires lanes_len { length lanes.old ≡ shape.cols + 2 }
-    ensures len { length lanes.new ≡ length lanes.old }
-    ensures lanes { AreFlowLanes shape flows.now down lanes.new }
+/// Lays the codes of a row of the grid, between two voids. Rows are counted from 1; those next to the grid are voids.
+fn lay_row<O: Onward>(onward: &O, shape: Shape, down: usize, codes: &mut [u8])
+    requires counted { length (O.flows onward.now) ≡ shape.rows * shape.cols }
+    requires codes_len { length codes.old ≡ shape.cols + 2 }
+    ensures len { length codes.new ≡ length codes.old }
+    ensures codes { AreRowCodes shape (O.flows onward.now) down codes.new }
 {
     if 0 < down && down <= shape.rows() as usize {
-        lay_flows(flows, shape.row_start((down - 1) as u32), lanes);
+        lay_codes(onward, shape, shape.row_start((down - 1) as u32), codes);
     } else {
-        lay_voids(lanes);
+        lay_voids(codes);
     }
 }
 
 /// Lays a row of voids.
 #[inline(never)]
-fn lay_voids(lanes: &mut [u8])
-    ensures len { length lanes.new ≡ length lanes.old }
-    ensures voids { (k : ℕ) → k < length lanes.old → slice_index lanes.new k ≡ 0 }
+fn lay_voids(codes: &mut [u8])
+    ensures len { length codes.new ≡ length codes.old }
+    ensures voids { (k : ℕ) → k < length codes.old → slice_index codes.new k ≡ NO_CODE }
 {
-    for k in 0..lanes.len() {
-        lanes[k] = 0;
+    for k in 0..codes.len() {
+        codes[k] = NO_CODE;
     }
 }
 
-/// Lays the flows from this place on, between two voids.
+/// Lays the codes from this place on, between two voids.
 #[inline(never)]
-fn lay_flows(flows: &[Flow], start: usize, lanes: &mut [u8])
-    requires room { 2 ≤ length lanes.old }
-    requires inside { start + length lanes.old ≤ length flows.now + 2 }
-    ensures len { length lanes.new ≡ length lanes.old }
-    ensures first { slice_index lanes.new 0 ≡ 0 }
-    ensures last { (k : ℕ) → k + 1 ≡ length lanes.old → slice_index lanes.new k ≡ 0 }
-    ensures lanes { (k : ℕ) → k + 2 < length lanes.old → slice_index lanes.new (k + 1) ≡ lane_of (slice_index_or flows.now (start + k) Void) }
+fn lay_codes<O: Onward>(onward: &O, shape: Shape, start: usize, codes: &mut [u8])
+    requires counted { length (O.flows onward.now) ≡ shape.rows * shape.cols }
+    requires room { 2 ≤ length codes.old }
+    requires inside { start + length codes.old ≤ length (O.flows onward.now) + 2 }
+    ensures len { length codes.new ≡ length codes.old }
+    ensures first { slice_index codes.new 0 ≡ NO_CODE }
+    ensures last { (k : ℕ) → k + 1 ≡ length codes.old → slice_index codes.new k ≡ NO_CODE }
+    ensures codes { (k : ℕ) → k + 2 < length codes.old → byte_flow (slice_index codes.new (k + 1)) ≡ slice_index_or (O.flows onward.now) (start + k) Void }
 {
-    let cols = lanes.len() - 2;
-    lanes[0] = 0;
-    lanes[cols + 1] = 0;
+    let _cells = shape.cells();
+    let cols = codes.len() - 2;
+    codes[0] = NO_CODE;
+    codes[cols + 1] = NO_CODE;
     for k in 0..cols {
-        lanes[k + 1] = lane(flows[start + k]);
+        codes[k + 1] = onward.code(start + k);
     }
 }
 
-/// 1 if the flows have the same number, else 0.
+/// 1 if the code is that of the direction, else 0.
 #[inline(always)]
-fn one_if(lane: u8, back: Flow) -> u8
-    ensures is { result ≡ (if lane == lane_of back then 1 else 0) }
+fn one_if(code: u8, back: Direction) -> u8
+    ensures is { result ≡ (if code == code_of back then 1 else 0) }
     ensures few { result ≤ 1 }
 {
-    u8::from(lane == places::lane(back))
+    u8::from(code as i64 == back.code())
 }
 
 /// How many of the eight neighbours of a column lead to it.
@@ -160,14 +163,14 @@ fn inflow(above: &[u8], here: &[u8], below: &[u8], k: usize) -> u8
     requires below_len { k + 2 < length below.now }
     ensures { result ≡ inflow_at above.now here.now below.now k }
 {
-    let first = one_if(here[k + 2], Flow::ToWest)
-        + one_if(below[k + 2], Flow::ToNorthWest)
-        + one_if(below[k + 1], Flow::ToNorth)
-        + one_if(below[k], Flow::ToNorthEast);
-    let second = one_if(here[k], Flow::ToEast)
-        + one_if(above[k], Flow::ToSouthEast)
-        + one_if(above[k + 1], Flow::ToSouth)
-        + one_if(above[k + 2], Flow::ToSouthWest);
+    let first = one_if(here[k + 2], Direction::West)
+        + one_if(below[k + 2], Direction::NorthWest)
+        + one_if(below[k + 1], Direction::North)
+        + one_if(below[k], Direction::NorthEast);
+    let second = one_if(here[k], Direction::East)
+        + one_if(above[k], Direction::SouthEast)
+        + one_if(above[k + 1], Direction::South)
+        + one_if(above[k + 2], Direction::SouthWest);
     first + second
 }
 
@@ -188,28 +191,28 @@ fn put_inflows(above: &[u8], here: &[u8], below: &[u8], start: usize, waits: &mu
 }
 
 /// Passes counts on from the data cell with this many cells before it, as far as no inflow is missing.
-pub(crate) fn pass_counts(
-    onward: &ListedOnward,
+fn pass_counts<O: Onward>(
+    onward: &O,
     shape: Shape,
     waits: &mut [u8],
     counts: &mut [u32],
     start: usize,
 )
-    requires counted { length onward.now.flows.now ≡ shape.rows * shape.cols }
-    requires shape { onward.now.shape ≡ shape }
+    requires counted { length (O.flows onward.now) ≡ shape.rows * shape.cols }
+    requires extent { O.extent onward.now ≡ shape }
     requires waits_counted { length waits.old ≡ shape.rows * shape.cols }
     requires counts_counted { length counts.old ≡ shape.rows * shape.cols }
     requires inside { start < shape.rows * shape.cols }
-    requires has_data { slice_index_or onward.now.flows.now start Void ≢ Void }
-    requires passing { OfFlows shape onward.now.flows.now (λ g ps. IsPassing g ps shape waits.old counts.old) }
-    ensures passing { OfFlows shape onward.now.flows.now (λ g ps. IsPassing g ps shape waits.new counts.new) }
+    requires has_data { slice_index_or (O.flows onward.now) start Void ≢ Void }
+    requires passing { OfFlows shape (O.flows onward.now) (λ g ps. IsPassing g ps shape waits.old counts.old) }
+    ensures passing { OfFlows shape (O.flows onward.now) (λ g ps. IsPassing g ps shape waits.new counts.new) }
     ensures start { slice_index_or waits.new start 0 ≢ 0 }
     ensures others { (c : Cell) → IsCellOf shape c → cell_number shape waits.old c ≢ 0 → cell_number shape waits.new c ≢ 0 }
 {
     let _cells = shape.cells();
     let mut here = start;
     'walk: while waits[here] == 0 {
-        if onward.flows[here] == Flow::Ends {
+        if onward.ends(here) {
             waits[here] = DONE;
             return;
         }
@@ -248,50 +251,73 @@ pub fn accumulate(alloc: Global, flows: &[Flow], shape: Shape) -> Result<Vec<u32
     ensures counted { IfOk result (λ counts. vec_len counts ≡ shape.rows * shape.cols) }
     ensures counts { IfOk result (λ counts. OfFlows shape flows.now (λ g ps. AreUpstreamCounts g ps shape counts.items)) }
 {
-    let mut counts = ones(alloc, flows)?;
-    let mut waits = inflows(alloc, flows, shape)?;
     let onward = ListedOnward {
         flows,
         shape,
         offsets: offsets(shape),
     };
+    count_all(alloc, &onward, shape)
+}
+
+/// The same from the codes of all cells, a byte per cell: `NO_CODE` at voids.
+#[inline(never)]
+pub fn accumulate_codes(alloc: Global, codes: &[u8], shape: Shape) -> Result<Vec<u32>, OutOfMemory>
+    requires counted { length codes.now ≡ shape.rows * shape.cols }
+    requires ends { OfFlows shape (bytes_flows codes.now) AllFlowsEnd }
+    ensures counted { IfOk result (λ counts. vec_len counts ≡ shape.rows * shape.cols) }
+    ensures counts { IfOk result (λ counts. OfFlows shape (bytes_flows codes.now) (λ g ps. AreUpstreamCounts g ps shape counts.items)) }
+{
+    let onward = CodedOnward {
+        codes,
+        shape,
+        offsets: code_offsets(shape),
+    };
+    count_all(alloc, &onward, shape)
+}
+
+/// The counts, whatever keeps the flows.
+#[inline(always)]
+fn count_all<O: Onward>(alloc: Global, onward: &O, shape: Shape) -> Result<Vec<u32>, OutOfMemory>
+    requires counted { length (O.flows onward.now) ≡ shape.rows * shape.cols }
+    requires extent { O.extent onward.now ≡ shape }
+    requires ends { OfFlows shape (O.flows onward.now) AllFlowsEnd }
+    ensures counted { IfOk result (λ counts. vec_len counts ≡ shape.rows * shape.cols) }
+    ensures counts { IfOk result (λ counts. OfFlows shape (O.flows onward.now) (λ g ps. AreUpstreamCounts g ps shape counts.items)) }
+{
+    let mut counts = ones(alloc, onward, shape)?;
+    let mut waits = inflows(alloc, onward, shape)?;
     for place in 0..shape.cells() {
-        visit(&onward, shape, &mut waits, &mut counts, place);
+        visit(onward, shape, &mut waits, &mut counts, place);
     }
     Ok(counts)
 }
 
 /// 1 for each data cell, and 0 for each void.
-fn ones(alloc: Global, flows: &[Flow]) -> Result<Vec<u32>, OutOfMemory>
-    ensures { IfOk result (λ counts. counts.items ≡ ones_of flows.now) }
+fn ones<O: Onward>(alloc: Global, onward: &O, shape: Shape) -> Result<Vec<u32>, OutOfMemory>
+    requires { length (O.flows onward.now) ≡ shape.rows * shape.cols }
+    ensures { IfOk result (λ counts. counts.items ≡ ones_of (O.flows onward.now)) }
 {
-    let mut counts = vec![in alloc; 0u32; flows.len()]?;
-    for place in 0..flows.len() {
-        counts[place] = one_of(flow_of_place(flows, place));
+    let cells = shape.cells();
+    let mut counts = vec![in alloc; 0u32; cells]?;
+    for place in 0..cells {
+        counts[place] = u32::from(onward.has_data(place));
     }
     Ok(counts)
 }
 
-/// 1 for a data cell.
-fn one_of(flow: Flow) -> u32
-    ensures { result ≡ one_of flow }
-{
-    u32::from(flow != Flow::Void)
-}
-
 /// Passes counts on from the cell with this many cells before it, if it has data and waits for no inflow.
-fn visit(onward: &ListedOnward, shape: Shape, waits: &mut [u8], counts: &mut [u32], place: usize)
-    requires counted { length onward.now.flows.now ≡ shape.rows * shape.cols }
-    requires shape { onward.now.shape ≡ shape }
+fn visit<O: Onward>(onward: &O, shape: Shape, waits: &mut [u8], counts: &mut [u32], place: usize)
+    requires counted { length (O.flows onward.now) ≡ shape.rows * shape.cols }
+    requires extent { O.extent onward.now ≡ shape }
     requires waits_counted { length waits.old ≡ shape.rows * shape.cols }
     requires counts_counted { length counts.old ≡ shape.rows * shape.cols }
     requires inside { place < shape.rows * shape.cols }
-    requires passing { OfFlows shape onward.now.flows.now (λ g ps. IsPassing g ps shape waits.old counts.old) }
-    ensures passing { OfFlows shape onward.now.flows.now (λ g ps. IsPassing g ps shape waits.new counts.new) }
-    ensures here { slice_index_or onward.now.flows.now place Void ≢ Void → slice_index_or waits.new place 0 ≢ 0 }
+    requires passing { OfFlows shape (O.flows onward.now) (λ g ps. IsPassing g ps shape waits.old counts.old) }
+    ensures passing { OfFlows shape (O.flows onward.now) (λ g ps. IsPassing g ps shape waits.new counts.new) }
+    ensures here { slice_index_or (O.flows onward.now) place Void ≢ Void → slice_index_or waits.new place 0 ≢ 0 }
     ensures others { (c : Cell) → IsCellOf shape c → cell_number shape waits.old c ≢ 0 → cell_number shape waits.new c ≢ 0 }
 {
-    if waits[place] == 0 && flow_of_place(onward.flows, place) != Flow::Void {
+    if waits[place] == 0 && onward.has_data(place) {
         pass_counts(onward, shape, waits, counts, place);
     }
 }

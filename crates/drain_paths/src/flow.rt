@@ -134,7 +134,7 @@ impl FlowTable {
 }
 
 /// The flow of each code.
-pub fn flows_of_codes(alloc: Global, codes: &[u8]) -> Result<Vec<Flow>, OutOfMemory>
+pub(crate) fn flows_of_codes(alloc: Global, codes: &[u8]) -> Result<Vec<Flow>, OutOfMemory>
     ensures { IfOk result (λ flows. flows.items ≡ bytes_flows codes.now) }
 {
     let table = FlowTable::new();

@@ -13,9 +13,9 @@ mod places;
 pub mod walk;
 mod ways;
 
-pub use accumulation::accumulate;
+pub use accumulation::{accumulate, accumulate_codes};
 pub use basins::{label_ended, label_ended_codes};
 pub use cell_flows::{CellFlows, flows_of_rasters};
 pub use endless_path::{EndlessPath, LostBy, RING_TOLD};
-pub use flow::{CertifyRefusal, Flow, flows_of_codes};
+pub use flow::{CertifyRefusal, Flow};
 pub use walk::{UNKNOWN, count_steps};

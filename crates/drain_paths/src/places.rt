@@ -7,9 +7,8 @@ ghost use Rattle.drain_grid.specs.Extent.{Extent};
 ghost use Rattle.drain_grid.specs.Run.{next};
 ghost use Rattle.drain_paths.specs.declared.flow.Flow.{Flow};
 ghost use Rattle.drain_paths.specs.declared.flow.Flow.TheVariants.{Ends, Void};
-ghost use Rattle.drain_paths.specs.Flows.{AllFlowsEnd, OfFlows};
-ghost use Rattle.drain_paths.specs.Inflows.{lane_of};
-ghost use Rattle.drain_paths.specs.Places.{AreCodeOffsets, AreOffsets, IsOffset};
+ghost use Rattle.drain_paths.specs.Flows.{AllFlowsEnd, OfFlows, byte_flow};
+ghost use Rattle.drain_paths.specs.Places.{AreCodeOffsets, AreOffsets, IsOffset, lane_of};
 
 use crate::flow::{Flow, NO_CODE, byte_table};
 use drain_grid::Shape;
@@ -61,6 +60,15 @@ pub(crate) fn lane(flow: Flow) -> u8
     flow as u8
 }
 
+/// A code with this flow.
+#[inline(always)]
+fn code_of_flow(flow: Flow) -> u8
+    ensures { byte_flow result ≡ flow }
+{
+    const CODES_OF_FLOWS: [u8; FLOWS] = [NO_CODE, 129, 0, 1, 2, 4, 8, 16, 32, 64, 128];
+    CODES_OF_FLOWS[lane(flow) as usize]
+}
+
 /// The flows of a grid, and how far each leads on.
 pub(crate) trait Onward {
     /// The flows.
@@ -73,6 +81,16 @@ pub(crate) trait Onward {
     fn has_data(&self, place: usize) -> bool
         requires { place < length (flows self.now) }
         ensures { IsTrue result ↔ (slice_index_or (flows self.now) place Void ≢ Void) };
+
+    /// Whether the run of the cell with this many cells before it ends there.
+    fn ends(&self, place: usize) -> bool
+        requires { place < length (flows self.now) }
+        ensures { IsTrue result ↔ (slice_index_or (flows self.now) place Void ≡ Ends) };
+
+    /// The code of the cell with this many cells before it: `NO_CODE` at a void.
+    fn code(&self, place: usize) -> u8
+        requires { place < length (flows self.now) }
+        ensures { byte_flow result ≡ slice_index_or (flows self.now) place Void };
 
     /// How much further the place is to which its flow leads, and one row and one place more.
     fn offset(&self, place: usize) -> usize
@@ -97,6 +115,16 @@ impl Onward for ListedOnward<'_> {
     #[inline(always)]
     fn has_data(&self, place: usize) -> bool {
         self.flows[place] != Flow::Void
+    }
+
+    #[inline(always)]
+    fn ends(&self, place: usize) -> bool {
+        self.flows[place] == Flow::Ends
+    }
+
+    #[inline(always)]
+    fn code(&self, place: usize) -> u8 {
+        code_of_flow(self.flows[place])
     }
 
     #[inline(always)]
@@ -125,6 +153,16 @@ impl Onward for CodedOnward<'_> {
     #[inline(always)]
     fn has_data(&self, place: usize) -> bool {
         self.codes[place] != NO_CODE
+    }
+
+    #[inline(always)]
+    fn ends(&self, place: usize) -> bool {
+        self.codes[place] == 0
+    }
+
+    #[inline(always)]
+    fn code(&self, place: usize) -> u8 {
+        self.codes[place]
     }
 
     #[inline(always)]

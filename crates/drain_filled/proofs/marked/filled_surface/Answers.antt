@@ -26,7 +26,7 @@ returns-clause-surface c = λ g cells heights pixels.
     let cells_g : w.extent.rows * w.extent.cols ≡ g.extent.rows * g.extent.cols = ap (λ (x : Extent). x.rows * x.cols) (sym e) in
     let first : IsLeastSurface g (λ b. get_or old (index_of g.extent b) (pos 0)) =
     subst (λ (x : Extent). IsLeastSurface g (λ b. get_or old (index_of x b) (pos 0))) (sym e)
-    (c.in_ok-con.ensures.least g cells (ground_between g w.extent c.args.elevation.now e heights)) in
+    (c.in_ok-con.ensures.least g cells (ground_between g w.extent c.args.elevation.items e heights)) in
     let least : IsLeastSurface g (con_at g.extent f) =
     least_still g w old new c.args.void e c.in_ok-con.ensures.counted each cells.has_data first pixels in
     subst (IsSurfaceOf g) (sym is)

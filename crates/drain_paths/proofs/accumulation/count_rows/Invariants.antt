@@ -4,4 +4,4 @@ use Rattle.drain_paths.proofs.InflowLemmas.{AreRowInflows}
 use Rattle.drain_paths.proofs.accumulation.count_rows.Given as goal
 
 abbrev pub invariant-loop-row : goal.invariant-loop-row
-invariant-loop-row l = OfFlows l.shape l.flows (λ g ps. AreRowInflows g ps l.shape l.row l.waits)
+invariant-loop-row t l = OfFlows l.shape (t.O.Onward.flows l.onward) (λ g ps. AreRowInflows g ps l.shape l.row l.waits)

@@ -1,9 +1,10 @@
 -- The voids so far.
 use Rattle.std.proofs.Common.{◌≡◌, ℕ, ◌<◌, length, slice_index}
+use Rattle.drain_paths.specs.declared.flow.TheConstants.{NO_CODE}
 use Rattle.drain_paths.proofs.accumulation.lay_voids.Given as goal
 
 abbrev pub invariant-loop-k : goal.invariant-loop-k
 invariant-loop-k l = record {
-  len : length l.lanes ≡ length l.fn.lanes;
-  voids : (k : ℕ) → k < l.k → slice_index l.lanes k ≡ 0;
+  len : length l.codes ≡ length l.fn.codes;
+  voids : (k : ℕ) → k < l.k → slice_index l.codes k ≡ NO_CODE;
 }

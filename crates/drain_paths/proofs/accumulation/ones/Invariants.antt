@@ -1,11 +1,11 @@
 -- The cells so far have theirs.
-use Rattle.std.proofs.Common.{◌≡◌, ◌<◌, ℕ, length, get_or}
+use Rattle.std.proofs.Common.{◌≡◌, ◌<◌, ◌*◌, ℕ, length, get_or}
 use Rattle.drain_paths.specs.declared.flow.Flow.TheVariants.{Void}
 use Rattle.drain_paths.specs.CellNumbers.{one_of}
 use Rattle.drain_paths.proofs.accumulation.ones.Given as goal
 
 abbrev pub invariant-loop-place : goal.invariant-loop-place
-invariant-loop-place l = record {
-  counted : length l.counts.items ≡ length l.flows;
-  so_far : (i : ℕ) → i < l.place → get_or l.counts.items i 0 ≡ one_of (get_or l.flows i Void);
+invariant-loop-place t l = record {
+  counted : length l.counts.items ≡ l.fn.shape.rows * l.fn.shape.cols;
+  so_far : (i : ℕ) → i < l.place → get_or l.counts.items i 0 ≡ one_of (get_or (t.O.Onward.flows l.onward) i Void);
 }

@@ -10,10 +10,10 @@ use Rattle.drain_paths.proofs.FlowCells.{data_at, leads_nowhere}
 use Rattle.drain_paths.proofs.PassingLemmas.{IsPassing-last, IsPassing-on, flow_apart, flow_fits, flow_shorter, flow_some, stays_ahead}
 use Rattle.drain_paths.proofs.accumulation.pass_counts.Goals as goal
 
-pub returns-then-eq-clause-passing : goal.returns-then-eq-clause-passing
-returns-then-eq-clause-passing c = λ g ps are.
+pub returns-then-ends-clause-passing : goal.returns-then-ends-clause-passing
+returns-then-ends-clause-passing t c = λ g ps are.
     (let e = c.args.shape in
-    let flows = c.args.onward.now.flows.now in
+    let flows = (t.O.Onward.flows c.args.onward.now) in
     let inv = c.walk.invariant in
     let at = cell_of_place e c.walk.here inv.inside in
     let flow : flow_at e flows (cell_at e c.walk.here) ≡ get_or flows c.walk.here Void = ap (λ k. get_or flows k Void) at.1 in
@@ -25,12 +25,12 @@ returns-then-eq-clause-passing c = λ g ps are.
     (IsPutAt-set e c.walk.waits (cell_at e c.walk.here) c.walk.here DONE at.0 (sym at.1) inv.waits_counted))
 
 pub place_ahead-ahead-requires-clause-ends : goal.place_ahead-ahead-requires-clause-ends
-place_ahead-ahead-requires-clause-ends c = λ g ps are. (c.walk.invariant.passing g ps are).ends
+place_ahead-ahead-requires-clause-ends t c = λ g ps are. (c.walk.invariant.passing g ps are).ends
 
 pub pass_on-requires-clause-some : goal.pass_on-requires-clause-some
-pass_on-requires-clause-some c =
+pass_on-requires-clause-some t c =
     let e = c.args.shape in
-    let flows = c.args.onward.now.flows.now in
+    let flows = (t.O.Onward.flows c.args.onward.now) in
     let inv = c.walk.invariant in
     let at = cell_of_place e c.walk.here inv.inside in
     let flow : flow_at e flows (cell_at e c.walk.here) ≡ get_or flows c.walk.here Void = ap (λ k. get_or flows k Void) at.1 in
@@ -42,9 +42,9 @@ pass_on-requires-clause-some c =
     (λ g ps are here. c.place_ahead-ahead.ensures.leads g ps are))
 
 pub pass_on-requires-clause-fits : goal.pass_on-requires-clause-fits
-pass_on-requires-clause-fits c =
+pass_on-requires-clause-fits t c =
     let e = c.args.shape in
-    let flows = c.args.onward.now.flows.now in
+    let flows = (t.O.Onward.flows c.args.onward.now) in
     let inv = c.walk.invariant in
     let at = cell_of_place e c.walk.here inv.inside in
     let flow : flow_at e flows (cell_at e c.walk.here) ≡ get_or flows c.walk.here Void = ap (λ k. get_or flows k Void) at.1 in
@@ -58,9 +58,9 @@ pass_on-requires-clause-fits c =
     omega (arith, fits, from, to, c.cells-cells.ensures.product, c.cells-cells.ensures.few)
 
 pub walk-smaller : goal.walk-smaller
-walk-smaller c =
+walk-smaller t c =
     let e = c.args.shape in
-    let flows = c.args.onward.now.flows.now in
+    let flows = (t.O.Onward.flows c.args.onward.now) in
     let inv = c.walk.invariant in
     let at = cell_of_place e c.walk.here inv.inside in
     let flow : flow_at e flows (cell_at e c.walk.here) ≡ get_or flows c.walk.here Void = ap (λ k. get_or flows k Void) at.1 in
@@ -69,9 +69,9 @@ walk-smaller c =
     (λ g ps are here. c.place_ahead-ahead.ensures.leads g ps are)
 
 pub walk-preserved : goal.walk-preserved
-walk-preserved c =
+walk-preserved t c =
     let e = c.args.shape in
-    let flows = c.args.onward.now.flows.now in
+    let flows = (t.O.Onward.flows c.args.onward.now) in
     let inv = c.walk.invariant in
     let at = cell_of_place e c.walk.here inv.inside in
     let flow : flow_at e flows (cell_at e c.walk.here) ≡ get_or flows c.walk.here Void = ap (λ k. get_or flows k Void) at.1 in

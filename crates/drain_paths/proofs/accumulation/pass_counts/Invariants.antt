@@ -12,15 +12,15 @@ use Rattle.drain_paths.proofs.GridFlows.{grid_of_flows, products_of_flows}
 use Rattle.drain_paths.proofs.accumulation.pass_counts.Given as goal
 
 abbrev pub invariant-walk : goal.invariant-walk
-invariant-walk l = record {
+invariant-walk t l = record {
   waits_counted : length l.waits ≡ l.shape.rows * l.shape.cols;
   counts_counted : length l.counts ≡ l.shape.rows * l.shape.cols;
   inside : l.here < l.shape.rows * l.shape.cols;
-  has_data : get_or l.onward.flows.now l.here Void ≢ Void;
-  passing : OfFlows l.shape l.onward.flows.now (λ g ps. IsPassing g ps l.shape l.waits l.counts);
+  has_data : get_or (t.O.Onward.flows l.onward) l.here Void ≢ Void;
+  passing : OfFlows l.shape (t.O.Onward.flows l.onward) (λ g ps. IsPassing g ps l.shape l.waits l.counts);
   start : StaysAway l.shape l.waits (cell_at l.shape l.here) (cell_at l.shape l.fn.start);
   others : (c : Cell) → IsCellOf l.shape c → cell_number l.shape l.fn.waits c ≢ 0 → StaysAway l.shape l.waits (cell_at l.shape l.here) c;
 }
 
 abbrev pub decreases-walk : goal.decreases-walk
-decreases-walk l = run_steps (grid_of_flows l.shape l.onward.flows.now) (products_of_flows l.shape l.onward.flows.now) (cell_at l.shape l.here)
+decreases-walk t l = run_steps (grid_of_flows l.shape (t.O.Onward.flows l.onward)) (products_of_flows l.shape (t.O.Onward.flows l.onward)) (cell_at l.shape l.here)

@@ -10,7 +10,7 @@ invariant_of-result c =
     let long : c.args.ground.now.extent.rows * c.args.ground.now.extent.cols ≡ e.rows * e.cols = ap (λ (x : Extent). x.rows * x.cols) (sym c.shape-shape.ensures) in
     record {
       few = omega (arith, c.cells.ensures.product, c.cells.ensures.few);
-      con_long = ap length c.in_ok-copied_heights.ensures ∙ c.requires.counted ∙ long;
+      con_long = c.requires.counted ∙ long;
       mark_long = ap length c.in_ok-copied_marks.ensures ∙ c.marks.ensures.counted ∙ long;
       trail_places = subst (All (λ place. place < e.rows * e.cols)) (sym c.new.ensures.items) (All-nil (λ place. place < e.rows * e.cols));
       waiting_places = subst (All (λ (pair : ℤ × ℕ). pair.1 < e.rows * e.cols)) (sym c.new-2.ensures) (All-nil (λ (pair : ℤ × ℕ). pair.1 < e.rows * e.cols));

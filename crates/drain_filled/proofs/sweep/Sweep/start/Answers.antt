@@ -12,7 +12,7 @@ loop-place-init c = record {
   begun = λ g cells between.
       begun_none g c.args.ground.now c.args.sinks.now c.in_ok-sweep.sweep cells
       (ap (λ (f : Flooding). f.mark) c.in_ok-sweep.ensures) (ap (λ (f : Flooding). f.ahead) c.in_ok-sweep.ensures) (ap (λ (f : Flooding). f.waiting) c.in_ok-sweep.ensures)
-      (between_there g c.args.ground.now.extent c.args.heights.now c.in_ok-sweep.sweep cells.extent (ap (λ (f : Flooding). f.con) c.in_ok-sweep.ensures) between);
+      (between_there g c.args.ground.now.extent c.args.heights.items c.in_ok-sweep.sweep cells.extent (ap (λ (f : Flooding). f.con) c.in_ok-sweep.ensures) between);
 }
 
 pub loop-place-preserved : goal.loop-place-preserved

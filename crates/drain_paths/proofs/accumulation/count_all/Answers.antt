@@ -10,28 +10,28 @@ use Rattle.drain_paths.specs.CellNumbers.{cell_number, one_of}
 use Rattle.drain_paths.specs.Inflows.{IsPassing}
 use Rattle.drain_paths.proofs.FlowCells.{flow_of_data}
 use Rattle.drain_paths.proofs.PassingLemmas.{IsPassing-start, counts_whole}
-use Rattle.drain_paths.proofs.accumulation.accumulate.Goals as goal
+use Rattle.drain_paths.proofs.accumulation.count_all.Goals as goal
 
 pub loop-place-init : goal.loop-place-init
-loop-place-init c = record {
+loop-place-init t c = record {
   waits_counted = search rules;
-  counts_counted = ap length c.in_ok-counts.ensures ∙ (length-map c.args.flows.now one_of ∙ c.requires.counted);
+  counts_counted = ap length c.in_ok-counts.ensures ∙ (length-map (t.O.Onward.flows c.args.onward.now) one_of ∙ c.requires.counted);
   passing = λ g ps are.
       subst (IsPassing g ps c.args.shape c.in_ok-waits.waits.items) (sym c.in_ok-counts.ensures)
-      (IsPassing-start g ps c.args.shape c.args.flows.now c.in_ok-waits.waits.items are c.requires.counted (c.requires.ends g ps are)
+      (IsPassing-start g ps c.args.shape (t.O.Onward.flows c.args.onward.now) c.in_ok-waits.waits.items are c.requires.counted (c.requires.ends g ps are)
       (c.in_ok-waits.ensures.inflows g ps are));
   passed = λ d inside less some none. absurd (omega (arith, less));
 }
 
 pub visit-requires-clause-passing : goal.visit-requires-clause-passing
-visit-requires-clause-passing c = λ g ps are.
+visit-requires-clause-passing t c = λ g ps are.
     subst (λ ws. IsPassing g ps c.args.shape ws c.deref_mut-in-loop-place.result.now) (sym c.deref_mut.ensures.value)
     (subst (λ ns. IsPassing g ps c.args.shape c.loop-place.waits.items ns) (sym c.deref_mut-in-loop-place.ensures.value) (c.loop-place.invariant.passing g ps are))
 
 pub loop-place-preserved : goal.loop-place-preserved
-loop-place-preserved c =
+loop-place-preserved t c =
     let e = c.args.shape in
-    let flows = c.args.flows.now in
+    let flows = (t.O.Onward.flows c.args.onward.now) in
     let inv = c.loop-place.invariant in
     let waits = c.visit.new.waits in
     let waits_back = lent_back c.deref_mut.ensures.value c.deref_mut.ensures.len c.visit.auto.waits in
@@ -52,11 +52,11 @@ loop-place-preserved c =
     }
 
 pub returns-clause-counts : goal.returns-clause-counts
-returns-clause-counts c = λ g ps are.
+returns-clause-counts t c = λ g ps are.
     (let e = c.args.shape in
     let inv = c.loop-place.invariant in
     counts_whole g ps e c.loop-place.waits.items c.loop-place.counts.items (inv.passing g ps are) (λ d here.
     (let inside = in_grid g e d are.extent here.inside in
     let below = index_of-below e d inside in
     let cells = c.cells-place-end.ensures.product in
-    inv.passed d inside (omega (arith, below, cells)) (flow_of_data g ps e c.args.flows.now are d here))))
+    inv.passed d inside (omega (arith, below, cells)) (flow_of_data g ps e (t.O.Onward.flows c.args.onward.now) are d here))))

@@ -6,13 +6,13 @@ use Rattle.drain_paths.specs.declared.flow.Flow.TheVariants.{Void}
 use Rattle.drain_paths.specs.Flows.{flow_at, OfFlows}
 use Rattle.drain_paths.specs.CellNumbers.{cell_number}
 use Rattle.drain_paths.specs.Inflows.{IsPassing}
-use Rattle.drain_paths.proofs.accumulation.accumulate.Given as goal
+use Rattle.drain_paths.proofs.accumulation.count_all.Given as goal
 
 abbrev pub invariant-loop-place : goal.invariant-loop-place
-invariant-loop-place l = record {
+invariant-loop-place t l = record {
   waits_counted : length l.waits.items ≡ l.shape.rows * l.shape.cols;
   counts_counted : length l.counts.items ≡ l.shape.rows * l.shape.cols;
-  passing : OfFlows l.shape l.flows (λ g ps. IsPassing g ps l.shape l.waits.items l.counts.items);
-  passed : (c : Cell) → IsCellOf l.shape c → index_of l.shape c < l.place → flow_at l.shape l.flows c ≢ Void →
+  passing : OfFlows l.shape (t.O.Onward.flows l.onward) (λ g ps. IsPassing g ps l.shape l.waits.items l.counts.items);
+  passed : (c : Cell) → IsCellOf l.shape c → index_of l.shape c < l.place → flow_at l.shape (t.O.Onward.flows l.onward) c ≢ Void →
       cell_number l.shape l.waits.items c ≢ 0;
 }
