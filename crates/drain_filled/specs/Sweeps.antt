@@ -5,7 +5,7 @@
 -- lower. So once all cells are reached it is the least of these.
 -- Source: Priority-Flood (Barnes, Lehman and Mulla 2014), with traces as in Zhou, Sun and Fu (2016); that it may begin at
 -- any surface between the ground and the filled one is this project's own.
-use Rattle.std.specs.Prelude.{◌≡◌, ◌≢◌, ℕ, ◌<◌, ◌+◌, ◌*◌, ◌⊎◌, ℤ, ◌≤ℤ◌, List, [], ◌∷◌, Contains, Bool, true, false, Some, IsSome, length, get_or, ◌≤◌}
+use Rattle.std.specs.Prelude.{◌≡◌, ◌≢◌, ℕ, ◌<◌, ◌+◌, ◌*◌, ◌⊎◌, ℤ, ◌≤ℤ◌, List, [], ◌∷◌, ◌++◌, Contains, Bool, true, false, Some, IsSome, length, get_or, ◌≤◌}
 use Rattle.std.specs.List.{All}
 use Rattle.std.specs.List.Sorted.{IsPermutation}
 use Rattle.drain_grid.specs.declared.cell.Cell.{Cell}
@@ -18,6 +18,7 @@ use Rattle.drain_grid.specs.Path.{CoversGround, Drains, Surface}
 use Rattle.drain_flood.specs.declared.layers.TheConstants.{UNREACHED}
 use Rattle.drain_flood.specs.declared.level_queue.TheConstants.{MAX_CELLS}
 use Rattle.drain_flood.specs.Floods.{Flooding, con_at, mark_at, unreached, HasDescent, IsReachedCell, IsUnreached}
+use Rattle.drain_flood.specs.Looks.{IsFreshAt}
 use Rattle.drain_flood.specs.Turns.{with_lists}
 
 -- the surface covers the ground, and none that covers the ground and drains is lower at a data cell
@@ -112,6 +113,20 @@ pub record IsLowest (old new : Flooding) (height : ℤ) (c : Cell) : Type 0 wher
 pub record Waits (old new : Flooding) (height : ℤ) (c : Cell) : Type 0 where
   pub put : IsPermutation ((height, index_of old.extent c) ∷ old.waiting) new.waiting
   pub rest : new ≡ with_lists old old.ahead new.waiting
+
+-- the place is that of an unreached cell in this direction
+abbrev pub IsFreshPlace : Extent → Flooding → Cell → Direction → ℕ → Type 0
+IsFreshPlace e f c d place = (n : Cell) × IsFreshAt e f c d n × IsCellOf e n × (place ≡ index_of e n)
+
+-- the last place of a list is taken out, that of a cell
+pub record IsLast (e : Extent) (old new : List ℕ) (c : Cell) : Type 0 where
+  pub inside : IsCellOf e c
+  pub last : old ≡ new ++ index_of e c ∷ []
+
+-- there is none to take out
+pub record AreNone (old new : List ℕ) : Type 0 where
+  pub none : old ≡ []
+  pub still : new ≡ []
 
 -- How much is left to do.
 

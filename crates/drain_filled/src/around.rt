@@ -4,9 +4,9 @@ ghost use Rattle.std.specs.Prelude.{◌≡◌, ◌*◌, ◌<◌, ℕ, List, Matc
 ghost use Rattle.drain_grid.specs.declared.cell.Cell.{Cell};
 ghost use Rattle.drain_grid.specs.Extent.{IsCellOf};
 ghost use Rattle.drain_grid.specs.Grid.{Grid};
-ghost use Rattle.drain_flood.specs.Looks.{IsFreshAt, IsFreshPlace, IsLook};
+ghost use Rattle.drain_flood.specs.Looks.{IsFreshAt, IsLook};
 ghost use Rattle.drain_flood.specs.Turns.{IsLessWork};
-ghost use Rattle.drain_filled.specs.Sweeps.{IsBusyCell, IsLookedRound};
+ghost use Rattle.drain_filled.specs.Sweeps.{IsBusyCell, IsFreshPlace, IsLookedRound};
 
 use crate::sweep::Sweep;
 use drain_grid::{Cell, Direction, OutOfMemory};

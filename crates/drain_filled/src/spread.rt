@@ -11,9 +11,9 @@ ghost use Rattle.drain_grid.specs.Extent.{IsCellOf, index_of};
 ghost use Rattle.drain_grid.specs.Grid.{Grid};
 ghost use Rattle.drain_grid.specs.Path.{IsLeastSurface};
 ghost use Rattle.drain_flood.specs.Floods.{con_at};
-ghost use Rattle.drain_flood.specs.Turns.{AreNone, IsEmptied, IsLast};
+ghost use Rattle.drain_flood.specs.Turns.{IsEmptied};
 ghost use Rattle.drain_filled.specs.Grounds.{HasDataCells};
-ghost use Rattle.drain_filled.specs.Sweeps.{AreNoneLeft, IsBetween, IsSweepOf, left_to_do};
+ghost use Rattle.drain_filled.specs.Sweeps.{AreNone, AreNoneLeft, IsBetween, IsLast, IsSweepOf, left_to_do};
 
 use crate::ground::Ground;
 use crate::sweep::Sweep;
