@@ -50,9 +50,6 @@ inner_beside e c d index off width inner at behind wide =
       by_numbers c.row c.col (rows_down d) (cols_right d) e.cols r k index off width (ap (λ n. n * e.cols) row) col at behind wide,
     )
 
-pub place_below : (e : Extent) (c : Cell) (d : Direction) (p : ℕ) → IsPlaceBeside e c d p → p < e.rows * e.cols
-place_below e c d p (n, there, at) = let below = index_of-below e n (step_lies e c n d there).0 in omega (arith, below, at)
-
 -- what holds in some direction, and not in the first seven, holds in the last
 pub last_direction : (P : Direction → Type 0) → (P East → ⊥) → (P SouthEast → ⊥) → (P South → ⊥) → (P SouthWest → ⊥) → (P West → ⊥) → (P NorthWest → ⊥) → (P North → ⊥) →
     (way : Direction) → P way → P NorthEast
@@ -247,14 +244,6 @@ around_all g f stand busy c level raises left k last around = record {
   con = around.before.con;
   beside = λ n d. of_each (PassesLook g f c level raises left) k last around.passed d n;
 }
-
--- the neighbour at a place is reached already
-pub look_passes : (e : Extent) (f : Flooding) (c : Cell) (d : Direction) (place : ℕ) (level : ℤ) (raises : Bool) → (get_or f.mark place 0 ≡ UNREACHED → ⊥) →
-    IsPlaceBeside e c d place → IsLook e f f c d level raises false
-look_passes e f c d place level raises stale (n, there, at) = inl (record {
-  none = λ m is. stale (ap (λ k. get_or f.mark k 0) (at ∙ ap (index_of e) (same_some n m (sym there ∙ is.there))) ∙ is.fresh);
-  same = refl;
-})
 
 -- no neighbour is unreached
 pub none_around : (g : Grid) (f : Flooding) (stand : ℤ) (busy : List ℕ) (c : Cell) (level : ℤ) (raises : Bool) → ((d : Direction) (n : Cell) → IsFreshAt g.extent f c d n → ⊥) →
