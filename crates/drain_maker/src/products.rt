@@ -23,7 +23,7 @@ use drain_flood::laws::flood_shows_voids;
 use drain_flood::ways::directions;
 use drain_flood::{Flood, HeightList, Surface, fill, ways_on_flats};
 use drain_grid::{Elevation, OutOfMemory, Product, ProductSet, Raster, Shape, Sinks, Spacings};
-use drain_paths::{accumulate, flows_of_codes, label_ended_codes};
+use drain_paths::{accumulate_codes, label_ended_codes};
 use std::alloc::Global;
 
 /// The raster of a product of heights.
@@ -162,15 +162,14 @@ pub(crate) fn count_and_label(
     Ok(CountsAndLabels { counts, labels })
 }
 
-/// The counts alone. Their flows are freed.
+/// The counts alone.
 fn count_ended(alloc: Global, codes: &[u8], shape: Shape) -> Result<Vec<u32>, OutOfMemory>
     requires counted { length codes.now ≡ shape.rows * shape.cols }
     requires ends { SomeRunsEnd shape (bytes_flows codes.now) }
     ensures counted { IfOk result (λ counts. vec_len counts ≡ shape.rows * shape.cols) }
     ensures counts { IfOk result (λ counts. OfFlows shape (bytes_flows codes.now) (λ g ps. AreUpstreamCounts g ps shape counts.items)) }
 {
-    let flows = flows_of_codes(alloc, codes)?;
-    accumulate(alloc, &flows, shape)
+    accumulate_codes(alloc, codes, shape)
 }
 
 /// The labels alone.

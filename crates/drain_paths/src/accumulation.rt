@@ -137,12 +137,14 @@ fn lay_codes<O: Onward>(onward: &O, shape: Shape, start: usize, codes: &mut [u8]
     ensures last { (k : ℕ) → k + 1 ≡ length codes.old → slice_index codes.new k ≡ NO_CODE }
     ensures codes { (k : ℕ) → k + 2 < length codes.old → byte_flow (slice_index codes.new (k + 1)) ≡ slice_index_or (O.flows onward.now) (start + k) Void }
 {
+    // A local copy: behind a reference the address of the cells would be loaded again for each.
+    let cells = *onward;
     let _cells = shape.cells();
     let cols = codes.len() - 2;
     codes[0] = NO_CODE;
     codes[cols + 1] = NO_CODE;
     for k in 0..cols {
-        codes[k + 1] = onward.code(start + k);
+        codes[k + 1] = cells.code(start + k);
     }
 }
 

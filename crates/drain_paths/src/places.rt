@@ -70,7 +70,7 @@ fn code_of_flow(flow: Flow) -> u8
 }
 
 /// The flows of a grid, and how far each leads on.
-pub(crate) trait Onward {
+pub(crate) trait Onward: Copy {
     /// The flows.
     ghost flows: { Self → List Flow };
 
