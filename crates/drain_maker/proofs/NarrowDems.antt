@@ -116,8 +116,8 @@ narrowed p h extent long are = record {
         let below : index_of p.extent c < length p.numbers = subst (λ n. index_of p.extent c < n) (sym long) (index_of-below p.extent c inside) in
         let place : index_of p.extent c ≡ index_of h.extent c = ap (λ (e : Extent). index_of e c) (sym extent) in
         subst (IsSampleOf p.nodata (number_at p c))
-            (get_or_default h.samples (index_of p.extent c) (pos 0) VOID (subst (λ n. index_of p.extent c < n) (sym are.counted) below) ∙ ap (λ k. get_or h.samples k VOID) place)
-            (are.each (index_of p.extent c) below)
+        (get_or_default h.samples (index_of p.extent c) (pos 0) VOID (subst (λ n. index_of p.extent c < n) (sym are.counted) below) ∙ ap (λ k. get_or h.samples k VOID) place)
+        (are.each (index_of p.extent c) below)
 
     void : (c : Cell) → IsCellOf p.extent c → int_eq (sample c) VOID ≡ int_eq (number_at p c) p.nodata
     void c inside = (at c inside).void

@@ -128,7 +128,12 @@ pub fn make_dem<D: AsRaster + Drop>(
 {
     // The law that the first listed cell without data is the grid's.
     found_off_data_is_right();
-    if let Some(line) = first_off_data(sinks, &DemCells { dem: dem.as_raster() }) {
+    if let Some(line) = first_off_data(
+        sinks,
+        &DemCells {
+            dem: dem.as_raster(),
+        },
+    ) {
         return Err(MakeRefusal::SinkNotData(line));
     }
     match build_dem(alloc, dem, sinks, spacings, follow) {

@@ -14,8 +14,8 @@ loop-place-preserved c =
     record {
       long = ap length c.in_ok-push-in-Some.ensures.items ∙ length-append xs _ ∙ ap (λ n. n + 1) long;
       each = subst (λ ys. (k : ℕ) → k < c.loop-place.place + 1 → IsSampleOf (to_z w64 (of_z w64 c.args.nodata)) (get_or c.args.numbers.now k (pos 0)) (get_or ys k (pos 0)))
-      (sym c.in_ok-push-in-Some.ensures.items)
-      (below_more (λ k. IsSampleOf (to_z w64 (of_z w64 c.args.nodata)) (get_or c.args.numbers.now k (pos 0)) (get_or (xs ++ _ ∷ []) k (pos 0))) c.loop-place.place
-      (λ k less. subst (IsSampleOf (to_z w64 (of_z w64 c.args.nodata)) (get_or c.args.numbers.now k (pos 0))) (sym (get_or_append_left xs _ (pos 0) k (subst (λ n. k < n) (sym long) less))) (c.loop-place.invariant.each k less))
-      (subst (IsSampleOf (to_z w64 (of_z w64 c.args.nodata)) (get_or c.args.numbers.now c.loop-place.place (pos 0))) (sym (get_or_push xs _ (pos 0) c.loop-place.place long ∙ to_z-of_z w16 c.in-Some.sample fits)) c.in-Some.ensures));
+          (sym c.in_ok-push-in-Some.ensures.items)
+          (below_more (λ k. IsSampleOf (to_z w64 (of_z w64 c.args.nodata)) (get_or c.args.numbers.now k (pos 0)) (get_or (xs ++ _ ∷ []) k (pos 0))) c.loop-place.place
+          (λ k less. subst (IsSampleOf (to_z w64 (of_z w64 c.args.nodata)) (get_or c.args.numbers.now k (pos 0))) (sym (get_or_append_left xs _ (pos 0) k (subst (λ n. k < n) (sym long) less))) (c.loop-place.invariant.each k less))
+          (subst (IsSampleOf (to_z w64 (of_z w64 c.args.nodata)) (get_or c.args.numbers.now c.loop-place.place (pos 0))) (sym (get_or_push xs _ (pos 0) c.loop-place.place long ∙ to_z-of_z w16 c.in-Some.sample fits)) c.in-Some.ensures));
     }
