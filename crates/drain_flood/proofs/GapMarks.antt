@@ -19,6 +19,7 @@ use Rattle.drain_grid.proofs.Tallies.{none_some, some_or_none}
 use Rattle.drain_grid.proofs.ThreeRows.{at_ends, col_beside, number_beside, number_in_row, row_beside, three_rows}
 use Rattle.drain_flood.specs.declared.layers.TheConstants.{NO_HEIGHT}
 use Rattle.drain_flood.specs.Laid.{AreDataMarks, IsBesideGap, least_around}
+use Rattle.drain_flood.specs.Looks.{IsInnerPlace}
 
 -- The least of eight numbers is 0 if one of them is.
 
@@ -133,6 +134,28 @@ pub beside_gap : (h : Heights) (row col : ℕ) (above here below : List ℕ) (fo
 beside_gap h row col above here below found inside in_above in_here in_below told =
     let is = is_beside h (place row col) inside above here below (three_rows (AreDataMarks h) row row above here below refl in_above in_here in_below) in
     (λ yes. is.0 (told.0 yes), λ beside. told.1 (is.1 beside))
+
+-- a cell that is beside no gap isn't on the edge of the grid
+pub no_gap_inner : (h : Heights) (c : Cell) → (IsBesideGap h c → ⊥) → IsInnerPlace h.extent c
+no_gap_inner h c away =
+    let north_west = there NorthWest in
+    let south_east = there SouthEast in
+    let before = step_lies h.extent c north_west.0 NorthWest north_west.1 in
+    let after = step_lies h.extent c south_east.0 SouthEast south_east.1 in
+    let up = before.1.0 in
+    let left = before.1.1 in
+    let down = after.1.0 in
+    let right = after.1.1 in
+    let row = after.0.row in
+    let col = after.0.col in
+    record { north = omega (arith, up); west = omega (arith, left); south = omega (arith, down, row); east = omega (arith, right, col) }
+  where
+    there : (d : Direction) → (n : Cell) × (step h.extent c d ≡ Some n)
+    there d =
+        elim (some_or_none (step h.extent c d)) [
+          | inl none ↦ absurd (away (d, subst (λ o. IsGap (option_map (elevation_at h) o)) (sym none) tt))
+          | inr found ↦ found
+        ]
 
 -- one of two tests, of which the second shows its fact
 pub or_of : {B : Type 0} (r a b : Bool) → (IsTrue r ↔ (IsTrue a ⊎ IsTrue b)) → (IsTrue b ↔ B) → (IsTrue r ↔ (IsTrue a ⊎ B))

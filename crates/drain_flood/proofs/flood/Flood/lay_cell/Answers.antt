@@ -1,12 +1,19 @@
-use Rattle.std.proofs.Common.{◌≤ℤ◌, ◌<ℤ◌, sym, subst, rules}
+use Rattle.std.proofs.Common.{◌≤ℤ◌, ◌<ℤ◌, IsTrue, inr, sym, subst, rules}
 use mir.Syntax.{w16}
 use mir.Val.{SFits, to_z, of_z}
+use Rattle.std.proofs.lemmas.Bool.{false≢true}
 use Rattle.std.proofs.lemmas.Int.{to_z-of_z}
 use Rattle.drain_flood.specs.declared.layers.TheConstants.{NO_HEIGHT}
 use Rattle.drain_flood.specs.Laid.{Lays}
-use Rattle.drain_flood.proofs.GapMarks.{or_of}
+use Rattle.drain_flood.specs.Looks.{IsInnerPlace}
+use Rattle.drain_flood.proofs.GapMarks.{no_gap_inner, or_of}
 use Rattle.drain_flood.proofs.Laying.{laid_data, laid_gap, above_void}
 use Rattle.drain_flood.proofs.flood.Flood.lay_cell.Goals as goal
+
+pub lay-requires-clause-inner : goal.lay-requires-clause-inner
+lay-requires-clause-inner c = λ shut.
+    subst (λ e. IsInnerPlace e c.args.cell) (sym c.requires.same)
+    (no_gap_inner c.args.elevation.now c.args.cell (λ gap. false≢true (subst IsTrue shut (c.is_open-opens.ensures.1 (inr (c.requires.beside.1 gap))))))
 
 pub returns-in_ok-lay-in-Some-clause-laid : goal.returns-in_ok-lay-in-Some-clause-laid
 returns-in_ok-lay-in-Some-clause-laid c = λ spacing sinks same laid.
