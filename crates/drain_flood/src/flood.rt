@@ -8,7 +8,7 @@
 //!
 //! Source: Priority-Flood (Barnes, Lehman and Mulla 2014), with traces as in Zhou, Sun and Fu (2016).
 
-ghost use Rattle.std.specs.Prelude.{◌≡◌, ◌↔◌, ◌+◌, ◌*◌, ◌<◌, ℕ, ℤ, pos, false, List, [], ◌∷◌, ◌++◌, None, MatchOption, IfSome, IfOk, OnOk, IsTrue, length, slice_index_or, vec_len, if◌then◌else◌};
+ghost use Rattle.std.specs.Prelude.{◌≡◌, ◌↔◌, ◌+◌, ◌*◌, ◌<◌, ℕ, ℤ, pos, List, [], None, MatchOption, IfSome, IfOk, OnOk, IsTrue, length, slice_index_or, vec_len};
 ghost use Rattle.drain_grid.specs.Spacing.{Distances};
 ghost use Rattle.drain_grid.specs.WholeGrid.{spaced_grid};
 ghost use Rattle.drain_grid.specs.Path.{IsFilled};
@@ -17,7 +17,7 @@ ghost use Rattle.drain_grid.specs.Extent.{IsCellOf, index_of};
 ghost use Rattle.drain_grid.specs.Grid.{Grid};
 ghost use Rattle.drain_flood.specs.Floods.{Flooding, con_at, mark_at, unreached, IsFloodOf, IsFlooded, Reaches};
 ghost use Rattle.drain_flood.specs.Looks.{IsFreshAt, IsFreshPlace, IsInnerPlace, IsLook, IsLookedBefore};
-ghost use Rattle.drain_flood.specs.Turns.{with_lists, IsNextTurn, IsDone, IsPopped, IsEmptied, IsLeftWaiting, IsLessWork, IsLookedAround};
+ghost use Rattle.drain_flood.specs.Turns.{IsNextTurn, IsDone, IsPopped, IsEmptied, IsLeftWaiting, IsLessWork, IsLookedAround};
 
 use crate::laws::flood_is_filled;
 use crate::layers::{NO_HEIGHT, REACHED, UNREACHED, copied};

@@ -5,7 +5,7 @@
 //! the eight around a cell is 0 if the cell is beside a gap. So a row's cells are looked at many at a time, by loops
 //! without a branch.
 
-ghost use Rattle.std.specs.Prelude.{◌≡◌, ◌↔◌, ◌⊎◌, ◌≤◌, ◌<◌, ◌+◌, ◌*◌, ℕ, pos, min, false, List, All, Contains, IfOk, OnOk, IsTrue, length, slice_index, slice_index_or};
+ghost use Rattle.std.specs.Prelude.{◌≡◌, ◌↔◌, ◌≤◌, ◌<◌, ◌+◌, ◌*◌, ℕ, pos, min, false, List, All, Contains, IfOk, OnOk, length, slice_index, slice_index_or};
 ghost use Rattle.drain_grid.specs.declared.cell.Cell.{Cell};
 ghost use Rattle.drain_grid.specs.declared.sink_line.SinkLine.{SinkLine};
 ghost use Rattle.drain_grid.specs.Extent.{IsCellOf, index_of};
