@@ -1,5 +1,5 @@
--- Places of rows; what an option holds; a list that gets a number for each cell in row order.
-use Rattle.std.proofs.Common.{◌≡◌, ℕ, ◌+◌, ◌*◌, ◌<◌, ◌≤◌, ◌⊎◌, ◌∙◌, ◌++◌, ◌∷◌, [], List, inl, inr, ℤ, Option, Some, None, IsNone, IsSome, length, get_or, refl, sym, ap, subst, arith}
+-- What an option holds; a list that gets a number for each cell in row order.
+use Rattle.std.proofs.Common.{◌≡◌, ℕ, ◌+◌, ◌<◌, ◌≤◌, ◌⊎◌, ◌∙◌, ◌++◌, ◌∷◌, [], List, inl, inr, ℤ, Option, Some, None, IsNone, IsSome, length, get_or, refl, sym, ap, subst, arith}
 use Rattle.std.proofs.lemmas.Bool.{cases_lt}
 use Rattle.std.proofs.lemmas.List.{get_or_append_left, get_or_push, length-append}
 use Rattle.drain_grid.specs.declared.cell.Cell.{Cell}
@@ -11,13 +11,6 @@ use Rattle.drain_grid.proofs.Alike.{same_index}
 pub none_or_some : (o : Option ℤ) → IsNone o ⊎ IsSome o
 none_or_some None = inl refl
 none_or_some (Some z) = inr refl
-
--- at the end of a row the next begins
-pub row_done : (row cols col : ℕ) → col ≡ cols → row * cols + col ≡ (row + 1) * cols
-row_done row cols col last = omega (arith, last)
-
-pub no_rows : (cols : ℕ) → 0 * cols ≡ 0
-no_rows cols = omega arith
 
 -- a number for each cell, one after the other
 

@@ -1,8 +1,8 @@
--- Marks around a cell: the least of them is 0 where the cell is beside a gap.
-use Rattle.std.proofs.Common.{◌≡◌, ◌∙◌, ◌↔◌, ◌⊎◌, ◌+◌, ◌-◌, ◌<◌, ◌≤◌, ℕ, ℤ, pos, min, inl, inr, List, length, slice_index, slice_index_or, Bool, true, false, if◌then◌else◌, IsTrue, Option, Some, None, IsNone, option_map, refl, sym, ap, subst, arith}
+-- Bytes around a cell: the least of them is 0 where the cell is beside a gap.
+use Rattle.std.proofs.Common.{◌≡◌, ◌∙◌, ◌↔◌, ◌⊎◌, ◌+◌, ◌-◌, ◌*◌, ◌<◌, ◌≤◌, ℕ, ℤ, pos, min, inl, inr, List, length, slice_index, slice_index_or, Bool, true, false, if◌then◌else◌, IsTrue, Option, Some, None, get_or, set, get_or-set_other, get_or-set_same, IsNone, option_map, refl, sym, ap, subst, arith}
 use Rattle.std.specs.List.{All}
 use Rattle.std.specs.Ordering.{int_eq}
-use Rattle.std.proofs.lemmas.Bool.{cases_eq, false≢true}
+use Rattle.std.proofs.lemmas.Bool.{cases_eq, cases_lt, false≢true}
 use Rattle.std.proofs.lemmas.Bool.Decides.{Decides-int_eq}
 use Rattle.std.proofs.lemmas.List.Elements.{All-get_or}
 use Rattle.std.proofs.lemmas.List.FromFn.{get_or-map-range_with_len, length-map-range_with_len}
@@ -10,16 +10,23 @@ use Rattle.drain_grid.specs.declared.cell.Cell.{Cell}
 use Rattle.drain_grid.specs.declared.direction.Direction.{Direction}
 use Rattle.drain_grid.specs.declared.direction.Direction.TheVariants.{East, SouthEast, South, SouthWest, West, NorthWest, North, NorthEast}
 use Rattle.drain_grid.specs.Direction.{cols_right, rows_down}
-use Rattle.drain_grid.specs.Extent.{IsCellOf, step}
-use Rattle.drain_grid.specs.Grid.{Heights, height_from}
+use Rattle.drain_grid.specs.Extent.{IsCellOf, index_of, step}
+use Rattle.drain_grid.specs.Grid.{Grid, Heights, IsInside, IsSample, height_from}
 use Rattle.drain_grid.specs.Open.{IsGap}
-use Rattle.drain_grid.specs.WholeGrid.{elevation_at, sample_at, sample_row}
-use Rattle.drain_grid.proofs.Neighbors.{place, same_place, step_gives, step_lies}
-use Rattle.drain_grid.proofs.Tallies.{none_some, some_or_none}
-use Rattle.drain_grid.proofs.ThreeRows.{at_ends, col_beside, number_beside, number_in_row, row_beside, three_rows}
-use Rattle.drain_flood.specs.declared.layers.TheConstants.{NO_HEIGHT}
-use Rattle.drain_flood.specs.Laid.{AreDataMarks, IsBesideGap, least_around}
-use Rattle.drain_flood.specs.Looks.{IsInnerPlace}
+use Rattle.drain_grid.specs.SinkTexts.{is_listed}
+use Rattle.drain_grid.specs.Spacing.{Distances}
+use Rattle.drain_grid.specs.declared.sink_line.SinkLine.{SinkLine}
+use Rattle.drain_grid.proofs.Runs.{index_of-below}
+use Rattle.drain_grid.specs.WholeGrid.{elevation_at, sample_at, sample_row, spaced_grid}
+use Rattle.drain_grid.proofs.Alike.{before_row}
+use Rattle.drain_grid.proofs.Neighbors.{place, step_gives, step_lies}
+use Rattle.drain_grid.proofs.Tallies.{none_some, some_or_none, void_data}
+use Rattle.drain_grid.proofs.ThreeRows.{at_ends, place_in_row, col_beside, number_beside, number_in_row, row_beside, three_rows}
+use Rattle.drain_flood.specs.declared.layers.TheConstants.{NO_HEIGHT, OPEN, VOID}
+use Rattle.drain_flood.specs.Laid.{AreDataMarks, AreFirstMarks, AreGrounds, IsFirstMark, IsGround, IsMarkOf, least_around}
+use Rattle.drain_flood.specs.Looks.{AreInside, IsClosed, IsInnerPlace}
+use Rattle.drain_flood.proofs.Cells.{none_or_some}
+use Rattle.drain_flood.proofs.Insides.{cell_there}
 
 -- The least of eight numbers is 0 if one of them is.
 
@@ -97,7 +104,7 @@ none_of_gap : (o : Option ℤ) → IsGap (Some o) → IsNone o
 none_of_gap None gap = refl
 none_of_gap (Some z) gap = absurd gap
 
--- a mark beside a cell is 0 where there is a gap
+-- a byte beside a cell is 0 where there is a gap
 module _ (h : Heights) (c : Cell) (inside : IsCellOf h.extent c) (above here below : List ℕ)
     (rows : (d : Direction) → AreDataMarks h (c.row + rows_down d) (row_beside above here below d)) where
   abbrev mark : Direction → ℕ
@@ -121,22 +128,40 @@ module _ (h : Heights) (c : Cell) (inside : IsCellOf h.extent c) (above here bel
             ))
       ]
 
-  is_beside : least_around above here below c.col ≡ 0 ↔ IsBesideGap h c
+  is_beside : (least_around above here below c.col ≡ 0 ↔ ((d : Direction) × IsGap (option_map (elevation_at h) (step h.extent c d))))
   is_beside = (
     (λ least. let found = one_of_eight mark least in (found.0, (is_gap_at found.0).0 found.1)),
     (λ gap. from_one mark gap.0 ((is_gap_at gap.0).1 gap.1)),
   )
 
--- what was found from the least mark
-pub beside_gap : (h : Heights) (row col : ℕ) (above here below : List ℕ) (found : Bool) → IsCellOf h.extent (place row col) →
-    AreDataMarks h row above → AreDataMarks h (row + 1) here → AreDataMarks h (row + 2) below →
-    (IsTrue found ↔ least_around above here below col ≡ 0) → (IsTrue found ↔ IsBesideGap h (place row col))
-beside_gap h row col above here below found inside in_above in_here in_below told =
-    let is = is_beside h (place row col) inside above here below (three_rows (AreDataMarks h) row row above here below refl in_above in_here in_below) in
-    (λ yes. is.0 (told.0 yes), λ beside. told.1 (is.1 beside))
+-- so a mark from these bytes is the cell's first one
+pub first_mark_is : (spacing : ℕ → Distances) (h : Heights) (sinks : List SinkLine) (c : Cell) (above here below : List ℕ) (listed : Bool) (put : ℕ) → IsCellOf h.extent c →
+    AreDataMarks h c.row above → AreDataMarks h (c.row + 1) here → AreDataMarks h (c.row + 2) below → listed ≡ is_listed sinks c →
+    IsMarkOf (slice_index here (c.col + 1)) listed (least_around above here below c.col) put → IsFirstMark (spaced_grid spacing h sinks) c put
+first_mark_is spacing h sinks c above here below listed put inside in_above in_here in_below same is =
+    let void = in_here.cells c inside refl in
+    let beside = is_beside h c inside above here below (three_rows (AreDataMarks h) c.row c.row above here below refl in_above in_here in_below) in
+    record {
+      void = λ none. is.void (void.1 none);
+      opened = λ is_open. is.opened (λ zero. void_data (elevation_at h c) (void.0 zero) is_open.1.0) (elim is_open.1.1 [
+        | inl sink ↦ inl (subst IsTrue (sym same) sink)
+        | inr gap ↦ inr (beside.1 gap)
+      ]);
+      closed = λ has shut. is.closed (λ zero. void_data (elevation_at h c) (void.0 zero) has.is_data) (λ one. shut (
+        inside,
+        (
+          has.is_data,
+          elim one [
+            | inl sink ↦ inl (subst IsTrue same sink)
+            | inr zero ↦ inr (beside.0 zero)
+          ],
+        ),
+      ));
+    }
 
--- a cell that is beside no gap isn't on the edge of the grid
-pub no_gap_inner : (h : Heights) (c : Cell) → (IsBesideGap h c → ⊥) → IsInnerPlace h.extent c
+-- Closed cells, which are beside no gap, aren't on the edge of the grid.
+
+no_gap_inner : (h : Heights) (c : Cell) → (((d : Direction) × IsGap (option_map (elevation_at h) (step h.extent c d))) → ⊥) → IsInnerPlace h.extent c
 no_gap_inner h c away =
     let north_west = there NorthWest in
     let south_east = there SouthEast in
@@ -157,22 +182,44 @@ no_gap_inner h c away =
           | inr found ↦ found
         ]
 
--- one of two tests, of which the second shows its fact
-pub or_of : {B : Type 0} (r a b : Bool) → (IsTrue r ↔ (IsTrue a ⊎ IsTrue b)) → (IsTrue b ↔ B) → (IsTrue r ↔ (IsTrue a ⊎ B))
-or_of r a b told is_b = (
-  λ yes. elim (told.0 yes) [
-    | inl h ↦ inl h
-    | inr h ↦ inr (is_b.0 h)
-  ],
-  λ one. elim one [
-    | inl h ↦ told.1 (inl h)
-    | inr h ↦ told.1 (inr (is_b.1 h))
-  ],
-)
+no_void : (mark : ℕ) → IsClosed mark → mark ≡ VOID → ⊥
+no_void mark (inl reached) void = omega (arith, reached, void)
+no_void mark (inr fresh) void = omega (arith, fresh, void)
 
--- Rows of marks as they are laid.
+no_open : (mark : ℕ) → IsClosed mark → mark ≡ OPEN → ⊥
+no_open mark (inl reached) is_open = omega (arith, reached, is_open)
+no_open mark (inr fresh) is_open = omega (arith, fresh, is_open)
 
-void_is_none : (z : ℤ) → (z ≡ NO_HEIGHT ↔ IsNone (height_from z))
+pub marks_inside : (spacing : ℕ → Distances) (h : Heights) (sinks : List SinkLine) (marks : List ℕ) → AreFirstMarks (spaced_grid spacing h sinks) h.extent.rows marks → AreInside h.extent marks
+marks_inside spacing h sinks marks are place less closed =
+    let at = cell_there h.extent place less in
+    let first = are at.0 at.1 at.1.row in
+    let code : IsClosed (slice_index_or marks (index_of h.extent at.0) 0) = subst (λ k. IsClosed (slice_index_or marks k 0)) at.2 closed in (
+      at.0,
+      elim (none_or_some (elevation_at h at.0)) [
+        | inl none ↦ absurd (no_void _ code (first.void none))
+        | inr some ↦ no_gap_inner h at.0 (λ gap. no_open _ code (first.opened (at.1, (some, inr gap))))
+      ],
+      at.2,
+    )
+
+-- Rows of bytes as they are laid.
+
+-- one number more was put, from a place on
+pub put_more : {X : Type 0} (P : ℕ → X → Type 0) (xs : List X) (start k : ℕ) (x d : X) → start + k < length xs → P k x →
+    ((i : ℕ) → i < k → P i (get_or xs (start + i) d)) → (i : ℕ) → i < k + 1 → P i (get_or (set xs (start + k) x) (start + i) d)
+put_more P xs start k x d within here before i less =
+    elim (cases_eq i k) [
+      | inl same ↦ subst (λ j. P j (get_or (set xs (start + k) x) (start + j) d)) (sym same) (subst (P k) (sym (get_or-set_same xs (start + k) x d within)) here)
+      | inr other ↦ subst (P i) (sym (get_or-set_other xs (start + k) (start + i) x d (λ same. other (omega (arith, same))))) (before i (omega (arith, less, other)))
+    ]
+
+-- and the numbers before that place stay
+pub put_before : {X : Type 0} (old xs : List X) (start k : ℕ) (x d : X) → ((i : ℕ) → i < start → get_or xs i d ≡ get_or old i d) →
+    (i : ℕ) → i < start → get_or (set xs (start + k) x) i d ≡ get_or old i d
+put_before old xs start k x d same i less = get_or-set_other xs (start + k) i x d (λ at. absurd (omega (arith, at, less))) ∙ same i less
+
+pub void_is_none : (z : ℤ) → (z ≡ NO_HEIGHT ↔ IsNone (height_from z))
 void_is_none z = by_test (int_eq z NO_HEIGHT) (Decides-int_eq z NO_HEIGHT)
   where
     by_test : (r : Bool) → ((r ≡ true → z ≡ NO_HEIGHT) × (z ≡ NO_HEIGHT → r ≡ true)) → (z ≡ NO_HEIGHT ↔ IsNone (if r then None else Some z))
@@ -181,31 +228,61 @@ void_is_none z = by_test (int_eq z NO_HEIGHT) (Decides-int_eq z NO_HEIGHT)
 
 -- a row has as many samples as columns
 pub row_long : (h : Heights) (row : ℕ) (samples : List ℤ) → samples ≡ sample_row h row → length samples ≡ h.extent.cols
-row_long h row samples samples_are =
-    ap (λ xs. length xs) samples_are ∙ length-map-range_with_len (λ col. sample_at h (record { row = row; col = col })) 0 h.extent.cols
+row_long h row samples samples_are = ap (λ xs. length xs) samples_are ∙ length-map-range_with_len (λ col. sample_at h (place row col)) 0 h.extent.cols
 
--- the marks of a row's samples
-pub marks_of_samples : (h : Heights) (down : ℕ) (samples : List ℤ) (marks : List ℕ) → 0 < down → down ≤ h.extent.rows → samples ≡ sample_row h (down - 1) →
-    length marks ≡ h.extent.cols + 2 → slice_index marks 0 ≡ 0 → slice_index marks (length samples + 1) ≡ 0 →
-    ((k : ℕ) → k < length samples → (slice_index marks (k + 1) ≡ 0 ↔ slice_index_or samples k (pos 0) ≡ NO_HEIGHT)) → AreDataMarks h down marks
-marks_of_samples h down samples marks some most samples_are counted first last each = record {
-  counted = counted;
+-- the grounds of one row more
+pub grounds_more : (h : Heights) (row start : ℕ) (samples old new : List ℤ) → start ≡ row * h.extent.cols → samples ≡ sample_row h row → All IsSample samples →
+    ((k : ℕ) → k < length samples → slice_index_or new (start + k) (pos 0) ≡ slice_index_or samples k (pos 0)) →
+    ((i : ℕ) → i < start → slice_index_or new i (pos 0) ≡ slice_index_or old i (pos 0)) →
+    ((at : ℕ) → at < row * h.extent.cols → IsGround h at (slice_index_or old at (pos 0))) →
+    (at : ℕ) → at < (row + 1) * h.extent.cols → IsGround h at (slice_index_or new at (pos 0))
+grounds_more h row start samples old new start_is samples_are all here others earlier at less =
+    elim (cases_lt at start) [
+      | inl before ↦ subst (IsGround h at) (sym (others at before)) (earlier at (subst (λ n. at < n) start_is before))
+      | inr most ↦
+          (let long = row_long h row samples samples_are in
+          let col : at - start < h.extent.cols = omega (arith, less, most, start_is) in
+          let within : at - start < length samples = omega (arith, col, long) in
+          let same : start + (at - start) ≡ at = omega (arith, most) in
+          let place_is : row * h.extent.cols + (at - start) ≡ at = omega (arith, most, start_is) in
+          let put : slice_index_or new at (pos 0) ≡ slice_index_or samples (at - start) (pos 0) =
+          ap (λ i. slice_index_or new i (pos 0)) (sym same) ∙ here (at - start) within in
+          let sample : slice_index_or samples (at - start) (pos 0) ≡ sample_at h (place row (at - start)) =
+          ap (λ xs. slice_index_or xs (at - start) (pos 0)) samples_are
+          ∙ get_or-map-range_with_len (λ k. sample_at h (place row k)) 0 h.extent.cols (at - start) (at - start) (pos 0) col (omega arith) in
+          record {
+            value = put ∙ (sample ∙ ap (λ i. slice_index_or h.samples i NO_HEIGHT) place_is);
+            in_range = subst IsSample (sym put) (All-get_or IsSample samples (at - start) (pos 0) within all);
+          })
+    ]
+
+-- the first marks of one row more
+pub rows_more : (g : Grid) (row : ℕ) (old new : List ℕ) → AreFirstMarks g row old →
+    ((c : Cell) → IsInside g c → c.row ≡ row → IsFirstMark g c (slice_index new (index_of g.extent c))) →
+    ((i : ℕ) → i < row * g.extent.cols → slice_index new i ≡ slice_index old i) → AreFirstMarks g (row + 1) new
+rows_more g row old new earlier here others c inside less =
+    elim (cases_lt c.row row) [
+      | inl before ↦
+          subst (IsFirstMark g c) (sym (others (index_of g.extent c) (before_row c.row c.col row g.extent.cols before inside.col))) (earlier c inside before)
+      | inr most ↦ here c inside (omega (arith, less, most))
+    ]
+
+-- the bytes of a row whose grounds are there from a place on
+pub marks_of_grounds : (h : Heights) (con : List ℤ) (down start len : ℕ) (marks : List ℕ) → AreGrounds h con → 0 < down → down ≤ h.extent.rows →
+    start ≡ (down - 1) * h.extent.cols → len ≡ h.extent.cols + 2 → length marks ≡ len → slice_index marks 0 ≡ 0 → ((k : ℕ) → k + 1 ≡ len → slice_index marks k ≡ 0) →
+    ((k : ℕ) → k + 2 < len → (slice_index marks (k + 1) ≡ 0 ↔ slice_index_or con (start + k) (pos 0) ≡ NO_HEIGHT)) → AreDataMarks h down marks
+marks_of_grounds h con down start len marks grounds some most start_is long counted first last each = record {
+  counted = counted ∙ long;
   cells = λ n inside row.
-      (let there : slice_index_or samples n.col (pos 0) ≡ sample_at h n =
-      ap (λ xs. slice_index_or xs n.col (pos 0)) samples_are ∙ (get_or-map-range_with_len (sample_in (down - 1)) 0 h.extent.cols n.col n.col (pos 0) inside.col (omega arith)
-      ∙ ap (sample_at h) (same_place (place (down - 1) n.col) n (omega (arith, row)) refl)) in
-      let told = each n.col (omega (arith, long, inside.col)) in
+      (let at : start + n.col ≡ index_of h.extent n = place_in_row n.row n.col down start h.extent.cols row start_is in
+      let there : slice_index_or con (start + n.col) (pos 0) ≡ sample_at h n =
+      ap (λ i. slice_index_or con i (pos 0)) at ∙ (grounds.each (index_of h.extent n) (index_of-below h.extent n inside)).value in
+      let col = inside.col in
+      let told = each n.col (omega (arith, long, col)) in
       let void = void_is_none (sample_at h n) in
       (λ zero. void.0 (sym there ∙ told.0 zero), λ none. told.1 (there ∙ void.1 none)));
-  gaps = λ right. at_ends h.extent down (h.extent.cols + 2) 0 right marks some most refl first
-      (λ k at_end. subst (λ i. slice_index marks i ≡ 0) (omega (arith, long, at_end)) last);
+  gaps = λ right. at_ends h.extent down len 0 right marks some most long first last;
 }
-  where
-    sample_in : ℕ → ℕ → ℤ
-    sample_in row col = sample_at h (record { row = row; col = col })
-
-    long : length samples ≡ h.extent.cols
-    long = row_long h (down - 1) samples samples_are
 
 no_row : (row down rows : ℕ) → (0 < down → down ≤ rows → ⊥) → row + 1 ≡ down → row < rows → ⊥
 no_row row down rows outside next less = outside (omega (arith, next)) (omega (arith, next, less))

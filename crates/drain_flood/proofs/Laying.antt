@@ -1,30 +1,33 @@
--- The start of a flood: cell by cell in row order the open cells are reached.
-use Rattle.std.proofs.Common.{[], List, ℕ, ℤ, ◌≡◌, ◌∙◌, ◌+◌, ◌-◌, ◌*◌, ◌<◌, ◌≤◌, ◌==◌, inl, inr, pos, length, slice_index, slice_index_or, if◌then◌else◌, sym, ap, subst, arith, ◌≢◌, ◌⊎◌, ◌≤ℤ◌, ◌<ℤ◌, Bool, true, false, ◌∷◌, IsNone, IsSome, IsTrue, ◌↔◌, unwrap_or, Some, None, Contains, get_or, refl}
-use Rattle.drain_grid.specs.Grid.{Grid, IsInside, HasData, IsOpenCell, height_at, Heights}
-use Rattle.drain_grid.specs.Extent.{Extent, index_of, IsCellOf}
-use Rattle.drain_flood.specs.Floods.{Flooding, IsFlooded, con_at, mark_at, IsReachedCell, IsUnreached, IsBlankIn, IsOpenIn, HasDescent, IsWaiting, IsAhead, IsCounted, IsFloodOf}
-use Rattle.std.proofs.lemmas.Bool.{cases_lt, cases_eq, false≢true}
-use Rattle.drain_grid.specs.declared.cell.Cell.{Cell}
-use Rattle.drain_grid.proofs.ThreeRows.{three_rows, at_ends, place_in_row, place_in_own_row}
-use Rattle.drain_grid.proofs.Alike.{before_row, same_index}
-use Rattle.drain_flood.specs.declared.falls.TheConstants.{GAP}
-use Rattle.drain_flood.specs.Laid.{AreRowLanes, IsLane, fall_at, Puts, Lays, IsLaid, IsBlankFlood, IsBesideGap}
-use Rattle.drain_flood.specs.Ways.{AreFirstCodes, IsCodeAt}
-use Rattle.drain_flood.proofs.SteepestWays.{code_from_lanes, fall_small}
+-- The start of a flood: the open cells are reached, each at its ground.
+use Rattle.std.proofs.Common.{[], List, ℕ, ℤ, ◌≡◌, ◌∙◌, ◌+◌, ◌-◌, ◌*◌, ◌<◌, ◌≤◌, ◌==◌, inl, inr, pos, length, slice_index, slice_index_or, if◌then◌else◌, sym, ap, subst, arith, ◌≤ℤ◌, ◌<ℤ◌, Bool, true, false, IsSome, unwrap_or, Some, None, Contains, refl}
+use Rattle.std.proofs.Math.Nat.{div-lt_iff_lt-mul, mod-lt}
+use Rattle.std.proofs.lemmas.Nat.{div-add-mod'}
 use Rattle.std.specs.List.{All}
 use Rattle.std.specs.Int.{int_max}
+use Rattle.std.specs.Ordering.{int_eq}
+use Rattle.std.proofs.lemmas.Bool.{cases_lt, cases_eq, false≢true}
+use Rattle.std.proofs.lemmas.Bool.Decides.{Decides-int_eq}
 use Rattle.std.proofs.lemmas.Int.{ints, clamps, by_lt_z}
-use Rattle.std.proofs.lemmas.List.Elements.{All-nil, All-push, All-get_or, Contains-append_left, Contains-push}
+use Rattle.std.proofs.lemmas.List.Elements.{All-nil, All-weaker}
+use Rattle.drain_grid.specs.declared.cell.Cell.{Cell}
 use Rattle.drain_grid.specs.declared.sink_line.SinkLine.{SinkLine}
-use Rattle.drain_grid.specs.SinkTexts.{is_listed}
+use Rattle.drain_grid.specs.Extent.{Extent, index_of, IsCellOf}
+use Rattle.drain_grid.specs.Grid.{Grid, HasData, Heights, IsInside, IsOpenCell, IsSample, height_at, height_from}
 use Rattle.drain_grid.specs.Spacing.{Distances, unit_spacing}
-use Rattle.drain_grid.specs.WholeGrid.{elevation_at, spaced_grid}
+use Rattle.drain_grid.specs.WholeGrid.{sample_at, spaced_grid}
+use Rattle.drain_grid.proofs.Alike.{before_row}
 use Rattle.drain_grid.proofs.Decisions.{cases}
 use Rattle.drain_grid.proofs.PatchDecisions.{open_cell}
-use Rattle.drain_grid.proofs.Runs.{index_of-below}
-use Rattle.drain_grid.proofs.Tallies.{void_data}
-use Rattle.drain_grid.proofs.Lowered.{same_or_not}
-use Rattle.drain_flood.specs.declared.layers.TheConstants.{OPEN, UNREACHED, VOID, NO_HEIGHT}
+use Rattle.drain_grid.proofs.Runs.{cell_at, index_of-below}
+use Rattle.drain_grid.proofs.ThreeRows.{three_rows, at_ends, place_in_row, place_in_own_row}
+use Rattle.drain_flood.specs.declared.falls.TheConstants.{GAP}
+use Rattle.drain_flood.specs.declared.layers.TheConstants.{NO_HEIGHT, OPEN, UNREACHED, VOID}
+use Rattle.drain_flood.specs.Floods.{Flooding, con_at, mark_at, IsAhead, IsFlooded, IsFloodOf, IsOpenIn, IsReachedCell, IsWaiting}
+use Rattle.drain_flood.specs.Laid.{AreFirstMarks, AreGrounds, AreRowLanes, IsFirstMark, IsGround, IsLane, IsOpenPlace, fall_at}
+use Rattle.drain_flood.specs.Ways.{AreFirstCodes, IsCodeAt}
+use Rattle.drain_flood.proofs.Cells.{none_or_some}
+use Rattle.drain_flood.proofs.GapMarks.{void_is_none}
+use Rattle.drain_flood.proofs.SteepestWays.{code_from_lanes, fall_small}
 
 -- A flooded grid stays flooded without the trail and the waiting cells.
 
@@ -99,258 +102,129 @@ all_rows g f row dirs counted most each = record {
     within : (own rows row : ℕ) → own < rows → rows ≤ row → own < row
     within own rows row less most = omega (arith, less, most)
 
+open_differs : (code : ℕ) → code ≡ OPEN → code ≡ VOID → ⊥
+open_differs code is void = absurd (omega arith)
+
 outlet_reached : (code : ℕ) → code ≡ OPEN → code ≡ UNREACHED → ⊥
 outlet_reached code outlet fresh = absurd (omega arith)
 
-apart : (a b : ℕ) → a < b → a ≡ b → ⊥
-apart a b less same = absurd (omega arith)
-
--- what is earlier than a place is earlier than the next
-earlier_still : (k : ℕ) (xs : List ℕ) → All (λ place. place < k) xs → All (λ place. place < k + 1) xs
-earlier_still k xs early i d less = one_more (get_or xs i d) (early i d less)
-  where
-    one_more : (place : ℕ) → place < k → place < k + 1
-    one_more place h = omega (arith, h)
-
-pub at_most : (z : ℤ) → NO_HEIGHT <ℤ z → NO_HEIGHT ≤ℤ z
+at_most : (z : ℤ) → NO_HEIGHT <ℤ z → NO_HEIGHT ≤ℤ z
 at_most z above = omega (arith, ints)
 
--- before a first cell
-pub laid_none : (g : Grid) (f : Flooding) → IsCounted g f → ((c : Cell) → IsInside g c → IsBlankIn g f c) → f.ahead ≡ [] → f.waiting ≡ [] → IsLaid g f 0
-laid_none g f counted blank no_ahead no_waiting = record {
-  counted = counted;
-  voids = λ c inside void. blank c inside;
-  opened = λ c is_open less. absurd (omega (arith, less));
-  closed = λ c here closed less. absurd (omega (arith, less));
-  heights = λ c here less. absurd (omega (arith, less));
-  ahead = subst (All (IsAhead g f NO_HEIGHT)) (sym no_ahead) (All-nil (IsAhead g f NO_HEIGHT));
-  early = subst (All (λ place. place < 0)) (sym no_ahead) (All-nil (λ place. place < 0));
-  waiting = no_waiting;
-}
+under_max : (con z other : ℤ) → con ≡ z → con ≤ℤ int_max z other
+under_max con z other is = omega (arith, ints, clamps)
 
--- earlier, or the cell itself
-module _ (g : Grid) (n : Cell) (inside_n : IsInside g n) where
-  here_or_earlier : (c : Cell) → IsInside g c → index_of g.extent c < index_of g.extent n + 1 → (c ≡ n) ⊎ ((c ≢ n) × (index_of g.extent c < index_of g.extent n))
-  here_or_earlier c inside less =
-      elim (same_or_not c n) [
-        | inl same ↦ inl same
-        | inr differ ↦
-            elim (cases_eq (index_of g.extent c) (index_of g.extent n)) [
-              | inl place ↦ absurd (differ (same_index g.extent c n inside inside_n place))
-              | inr other ↦ inr (differ, omega (arith, less, other))
-            ]
-      ]
+over : (con z : ℤ) → con ≡ z → z ≤ℤ con
+over con z is = omega (arith, ints)
 
-  -- a void leaves all as it is
-  pub laid_void : (f : Flooding) → IsNone (g.elevation n) → IsLaid g f (index_of g.extent n) → IsLaid g f (index_of g.extent n + 1)
-  laid_void f void laid = record {
-    counted = laid.counted;
-    voids = laid.voids;
-    opened = λ c is_open less. elim (here_or_earlier c is_open.0 less) [
-      | inl same ↦ absurd (void_data (g.elevation n) void (subst (λ x. IsSome (g.elevation x)) same is_open.1.0))
-      | inr earlier ↦ laid.opened c is_open earlier.1
-    ];
-    closed = λ c here closed less. elim (here_or_earlier c here.inside less) [
-      | inl same ↦ absurd (void_data (g.elevation n) void (subst (λ x. IsSome (g.elevation x)) same here.is_data))
-      | inr earlier ↦ laid.closed c here closed earlier.1
-    ];
-    heights = λ c here less. elim (here_or_earlier c here.inside less) [
-      | inl same ↦ absurd (void_data (g.elevation n) void (subst (λ x. IsSome (g.elevation x)) same here.is_data))
-      | inr earlier ↦ laid.heights c here earlier.1
-    ];
-    ahead = laid.ahead;
-    early = earlier_still (index_of g.extent n) f.ahead laid.early;
-    waiting = laid.waiting;
-  }
+-- the height of a sample that isn't a void's is the sample, which is above a void's
+height_of : (z : ℤ) → IsSample z → IsSome (height_from z) → (unwrap_or (height_from z) (pos 0) ≡ z) × (NO_HEIGHT <ℤ z)
+height_of z sample some = by_test (int_eq z NO_HEIGHT) (Decides-int_eq z NO_HEIGHT) some
+  where
+    above : (z : ℤ) → NO_HEIGHT ≤ℤ z → (z ≡ NO_HEIGHT → ⊥) → NO_HEIGHT <ℤ z
+    above z low differ = by_lt_z NO_HEIGHT z (λ less. less) (λ most. absurd (differ (same z low most)))
+      where
+        same : (z : ℤ) → NO_HEIGHT ≤ℤ z → z ≤ℤ NO_HEIGHT → z ≡ NO_HEIGHT
+        same z low most = omega (arith, ints)
 
-  -- a data cell is started
-  module _ (old new : Flooding) (ground : ℤ) (here_n : HasData g n) (ground_is : height_at g n ≡ ground) (above : NO_HEIGHT <ℤ ground)
-      (laid : IsLaid g old (index_of g.extent n)) where
-    low : NO_HEIGHT ≤ℤ ground
-    low = at_most ground above
+    by_test : (r : Bool) → ((r ≡ true → z ≡ NO_HEIGHT) × (z ≡ NO_HEIGHT → r ≡ true)) → IsSome (if r then None else Some z) →
+        (unwrap_or (if r then None else Some z) (pos 0) ≡ z) × (NO_HEIGHT <ℤ z)
+    by_test true decides some = absurd (false≢true some)
+    by_test false decides some = (refl, above z sample.low (λ void. false≢true (decides.1 void)))
 
-    -- other cells stay as they were: voids, those that aren't open, and those ahead
-    voids_stay : (mark : ℕ) → Puts g.extent old new n ground mark → (c : Cell) → IsInside g c → IsNone (g.elevation c) → IsBlankIn g new c
-    voids_stay mark puts c inside void =
-        let differ : c ≢ n = λ same. void_data (g.elevation c) void (subst (λ x. IsSome (g.elevation x)) (sym same) here_n.is_data) in
-        let blank = laid.voids c inside void in
-        record { con = puts.con_same c inside differ ∙ blank.con; mark = puts.mark_same c inside differ ∙ blank.mark }
-
-    heights_stay : (c : Cell) → HasData g c → index_of g.extent c < index_of g.extent n + 1 → NO_HEIGHT <ℤ height_at g c
-    heights_stay c here less = elim (here_or_earlier c here.inside less) [
-      | inl same ↦ subst (λ x. NO_HEIGHT <ℤ height_at g x) (sym same) (subst (λ z. NO_HEIGHT <ℤ z) (sym ground_is) above)
-      | inr earlier ↦ laid.heights c here earlier.1
+-- a place below the number of cells is that of one
+cell_of_place : (e : Extent) (k : ℕ) → k < e.rows * e.cols → IsCellOf e (cell_at e k) × (k ≡ index_of e (cell_at e k))
+cell_of_place e k less =
+    elim (cases_eq e.cols 0) [
+      | inl none ↦ absurd (no_cols e.rows e.cols k none less)
+      | inr some ↦
+          (let columns : 0 < e.cols = omega (arith, some) in (
+            record { row = (div-lt_iff_lt-mul columns).1 less; col = mod-lt k columns },
+            sym (div-add-mod' k e.cols),
+          ))
     ]
+  where
+    no_cols : (rows cols k : ℕ) → cols ≡ 0 → k < rows * cols → ⊥
+    no_cols rows cols k none less = let zero : k < rows * 0 = subst (λ n. k < rows * n) none less in absurd (omega (arith, zero))
 
-    ahead_stays : (mark : ℕ) → Puts g.extent old new n ground mark → (place : ℕ) → IsAhead g old NO_HEIGHT place → place < index_of g.extent n → IsAhead g new NO_HEIGHT place
-    ahead_stays mark puts place is less =
-        let differ : is.cell ≢ n = λ same. apart place (index_of g.extent n) less (is.place_is ∙ ap (index_of g.extent) same) in
-        record {
-          cell = is.cell;
-          reached = record {
-            here = is.reached.here;
-            code = λ h. is.reached.code (sym (puts.mark_same is.cell is.reached.here.inside differ) ∙ h);
-          };
-          place_is = is.place_is;
-          not_below = subst (λ z. NO_HEIGHT ≤ℤ z) (sym (puts.con_same is.cell is.reached.here.inside differ)) is.not_below;
-        }
+-- with its grounds and first marks, and with all open cells on the trail, a flood is at a level below all ground
+module _ (spacing : ℕ → Distances) (h : Heights) (sinks : List SinkLine) (f : Flooding) (grounds : AreGrounds h f.con) (mark_long : length f.mark ≡ h.extent.rows * h.extent.cols)
+    (marks : AreFirstMarks (spaced_grid spacing h sinks) h.extent.rows f.mark) where
+  abbrev g : Grid
+  g = spaced_grid spacing h sinks
 
-    pub laid_open : IsOpenCell g n → Lays g.extent old new n ground true → IsLaid g new (index_of g.extent n + 1)
-    laid_open open_n lays =
-        let puts = lays.puts in record {
-          counted = record { con = puts.con_long ∙ laid.counted.con; mark = puts.mark_long ∙ laid.counted.mark };
-          voids = voids_stay OPEN puts;
-          opened = λ c is_open less. elim (here_or_earlier c is_open.0 less) [
-            | inl same ↦ subst (λ x. IsOpenIn g new x × Contains new.ahead (index_of g.extent x)) (sym same) (
-              record { con = puts.con_there ∙ sym ground_is; mark = puts.mark_there },
-              subst (λ xs. Contains xs (index_of g.extent n)) (sym lays.ahead) (Contains-push old.ahead (index_of g.extent n)),
-            )
-            | inr earlier ↦ (let was = laid.opened c is_open earlier.1 in (
-              record {
-                con = puts.con_same c is_open.0 earlier.0 ∙ was.0.con;
-                mark = puts.mark_same c is_open.0 earlier.0 ∙ was.0.mark;
-              },
-              subst (λ xs. Contains xs (index_of g.extent c)) (sym lays.ahead) (Contains-append_left old.ahead (index_of g.extent n ∷ []) (index_of g.extent c) was.1),
-            ))
-          ];
-          closed = λ c here closed less. elim (here_or_earlier c here.inside less) [
-            | inl same ↦ absurd (closed (subst (IsOpenCell g) (sym same) open_n))
-            | inr earlier ↦ (let was = laid.closed c here closed earlier.1 in
-                (puts.mark_same c here.inside earlier.0 ∙ was.0, puts.con_same c here.inside earlier.0 ∙ was.1))
-          ];
-          heights = heights_stay;
-          ahead = subst (All (IsAhead g new NO_HEIGHT)) (sym lays.ahead)
-              (All-push (IsAhead g new NO_HEIGHT) old.ahead (index_of g.extent n)
-              (λ k d less. ahead_stays OPEN puts (get_or old.ahead k d) (laid.ahead k d less) (laid.early k d less))
-              (record {
-                cell = n;
-                reached = record { here = here_n; code = outlet_reached (mark_at g.extent new n) puts.mark_there };
-                place_is = refl;
-                not_below = subst (λ z. NO_HEIGHT ≤ℤ z) (sym puts.con_there) low;
-              }));
-          early = subst (All (λ place. place < index_of g.extent n + 1)) (sym lays.ahead)
-              (All-push (λ place. place < index_of g.extent n + 1) old.ahead (index_of g.extent n) (earlier_still (index_of g.extent n) old.ahead laid.early) (omega arith));
-          waiting = lays.waiting ∙ laid.waiting;
-        }
-
-    pub laid_closed : ¬ IsOpenCell g n → Lays g.extent old new n ground false → IsLaid g new (index_of g.extent n + 1)
-    laid_closed closed_n lays =
-        let puts = lays.puts in record {
-          counted = record { con = puts.con_long ∙ laid.counted.con; mark = puts.mark_long ∙ laid.counted.mark };
-          voids = voids_stay UNREACHED puts;
-          opened = λ c is_open less. elim (here_or_earlier c is_open.0 less) [
-            | inl same ↦ absurd (closed_n (subst (IsOpenCell g) same is_open))
-            | inr earlier ↦ (let was = laid.opened c is_open earlier.1 in (
-              record {
-                con = puts.con_same c is_open.0 earlier.0 ∙ was.0.con;
-                mark = puts.mark_same c is_open.0 earlier.0 ∙ was.0.mark;
-              },
-              subst (λ xs. Contains xs (index_of g.extent c)) (sym lays.ahead) was.1,
-            ))
-          ];
-          closed = λ c here closed less. elim (here_or_earlier c here.inside less) [
-            | inl same ↦ subst (λ x. (mark_at g.extent new x ≡ UNREACHED) × (con_at g.extent new x ≡ height_at g x)) (sym same)
-                (puts.mark_there, puts.con_there ∙ sym ground_is)
-            | inr earlier ↦ (let was = laid.closed c here closed earlier.1 in
-                (puts.mark_same c here.inside earlier.0 ∙ was.0, puts.con_same c here.inside earlier.0 ∙ was.1))
-          ];
-          heights = heights_stay;
-          ahead = subst (All (IsAhead g new NO_HEIGHT)) (sym lays.ahead) (λ k d less. ahead_stays UNREACHED puts (get_or old.ahead k d) (laid.ahead k d less) (laid.early k d less));
-          early = subst (All (λ place. place < index_of g.extent n + 1)) (sym lays.ahead) (earlier_still (index_of g.extent n) old.ahead laid.early);
-          waiting = lays.waiting ∙ laid.waiting;
-        }
-
--- once all cells are started, the flood's level is below all ground
-module _ (g : Grid) (f : Flooding) (laid : IsLaid g f (g.extent.rows * g.extent.cols)) where
   below : (c : Cell) → IsInside g c → index_of g.extent c < g.extent.rows * g.extent.cols
   below c inside = index_of-below g.extent c inside
+
+  ground_at : (c : Cell) → IsInside g c → IsGround h (index_of g.extent c) (con_at g.extent f c)
+  ground_at c inside = grounds.each (index_of g.extent c) (below c inside)
+
+  mark_of : (c : Cell) → IsInside g c → IsFirstMark g c (mark_at g.extent f c)
+  mark_of c inside = marks c inside inside.row
+
+  height_is : (c : Cell) → HasData g c → (height_at g c ≡ sample_at h c) × (NO_HEIGHT <ℤ sample_at h c)
+  height_is c here =
+      let ground = ground_at c here.inside in
+      height_of (sample_at h c) (subst IsSample ground.value ground.in_range) here.is_data
+
+  at_ground : (c : Cell) → HasData g c → con_at g.extent f c ≡ height_at g c
+  at_ground c here = (ground_at c here.inside).value ∙ sym (height_is c here).0
+
+  heights : (c : Cell) → HasData g c → NO_HEIGHT <ℤ height_at g c
+  heights c here = let is = height_is c here in subst (λ z. NO_HEIGHT <ℤ z) (sym is.0) is.1
+
+  not_below : (c : Cell) → HasData g c → NO_HEIGHT ≤ℤ con_at g.extent f c
+  not_below c here = subst (λ z. NO_HEIGHT ≤ℤ z) (sym (at_ground c here)) (at_most (height_at g c) (heights c here))
+
+  opened : (c : Cell) → IsOpenCell g c → IsOpenIn g f c
+  opened c is_open = record {
+    con = at_ground c (record { inside = is_open.0; is_data = is_open.1.0 });
+    mark = (mark_of c is_open.0).opened is_open;
+  }
 
   reached_open : (c : Cell) → IsReachedCell g f c → IsOpenCell g c
   reached_open c reached =
       elim (cases (open_cell g c)) [
         | inl is_open ↦ is_open
-        | inr closed ↦ absurd (reached.code (laid.closed c reached.here closed (below c reached.here.inside)).0)
+        | inr closed ↦ absurd (reached.code ((mark_of c reached.here.inside).closed reached.here closed))
       ]
 
-  at_ground : (c : Cell) → IsReachedCell g f c → con_at g.extent f c ≡ height_at g c
-  at_ground c reached = (laid.opened c (reached_open c reached) (below c reached.here.inside)).0.con
+  ahead : (place : ℕ) → IsOpenPlace f.mark place → IsAhead g f NO_HEIGHT place
+  ahead place is =
+      let there = cell_of_place g.extent place (subst (λ n. place < n) mark_long is.within) in
+      let c : Cell = cell_at g.extent place in
+      let code : mark_at g.extent f c ≡ OPEN = ap (λ k. slice_index f.mark k) (sym there.1) ∙ is.code in
+      let here : HasData g c = record {
+        inside = there.0;
+        is_data = elim (none_or_some (g.elevation c)) [
+          | inl void ↦ absurd (open_differs (mark_at g.extent f c) code ((mark_of c there.0).void void))
+          | inr some ↦ some
+        ];
+      } in
+      record {
+        cell = c;
+        reached = record { here = here; code = outlet_reached (mark_at g.extent f c) code };
+        place_is = there.1;
+        not_below = not_below c here;
+      }
 
-  under_max : (con z other : ℤ) → con ≡ z → con ≤ℤ int_max z other
-  under_max con z other is = omega (arith, ints, clamps)
-
-  -- an open cell drains by itself
-  by_itself : (c : Cell) → IsOpenCell g c → HasDescent g f c
-  by_itself c is_open = record { rest = []; path = is_open; falls = tt; reached = tt }
-
-  over : (con z : ℤ) → con ≡ z → z ≤ℤ con
-  over con z is = omega (arith, ints)
-
-  fresh_closed : (c : Cell) → IsUnreached g f c → ¬ IsOpenCell g c
-  fresh_closed c fresh is_open = outlet_reached (mark_at g.extent f c) (laid.opened c is_open (below c is_open.0)).0.mark fresh.code
-
-  pub flood_begins : IsFloodOf g f NO_HEIGHT []
-  flood_begins = record {
-    counted = laid.counted;
-    voids = laid.voids;
-    heights = λ c here. laid.heights c here (below c here.inside);
-    ground = λ c fresh. (laid.closed c fresh.here (fresh_closed c fresh) (below c fresh.here.inside)).1;
-    opened = λ c is_open. (laid.opened c is_open (below c is_open.0)).0;
+  pub flood_begins : ((place : ℕ) → place < length f.mark → slice_index f.mark place ≡ OPEN → Contains f.ahead place) → All (IsOpenPlace f.mark) f.ahead → f.waiting ≡ [] →
+      IsFloodOf g f NO_HEIGHT []
+  flood_begins all open_alone no_waiting = record {
+    counted = record { con = grounds.counted; mark = mark_long };
+    voids = λ c inside void. record { con = (ground_at c inside).value ∙ (void_is_none (sample_at h c)).1 void; mark = (mark_of c inside).void void };
+    heights = heights;
+    ground = λ c fresh. at_ground c fresh.here;
+    opened = opened;
     closed = λ c reached shut. absurd (shut (reached_open c reached));
-    covers = λ c reached. over (con_at g.extent f c) (height_at g c) (at_ground c reached);
-    drains = λ c reached. by_itself c (reached_open c reached);
-    least = λ c n d at_c at_n leads. under_max (con_at g.extent f c) (height_at g c) (con_at g.extent f n) (at_ground c at_c);
-    capped = λ c reached. under_max (con_at g.extent f c) (height_at g c) NO_HEIGHT (at_ground c reached);
+    covers = λ c reached. over (con_at g.extent f c) (height_at g c) (at_ground c reached.here);
+    drains = λ c reached. record { rest = []; path = reached_open c reached; falls = tt; reached = tt };
+    least = λ c n d at_c at_n leads. under_max (con_at g.extent f c) (height_at g c) (con_at g.extent f n) (at_ground c at_c.here);
+    capped = λ c reached. under_max (con_at g.extent f c) (height_at g c) NO_HEIGHT (at_ground c reached.here);
     frontier = λ c n d at_c at_n leads. record {
-      not_below = subst (λ z. NO_HEIGHT ≤ℤ z) (sym (at_ground c at_c)) (at_most (height_at g c) (laid.heights c at_c.here (below c at_c.here.inside)));
-      held = inl (laid.opened c (reached_open c at_c) (below c at_c.here.inside)).1;
+      not_below = not_below c at_c.here;
+      held = inl (all (index_of g.extent c) (subst (λ n. index_of g.extent c < n) (sym mark_long) (below c at_c.here.inside)) (opened c (reached_open c at_c)).mark);
     };
-    waiting = subst (All (IsWaiting g f NO_HEIGHT)) (sym laid.waiting) (All-nil (IsWaiting g f NO_HEIGHT));
-    ahead = laid.ahead;
+    waiting = subst (All (IsWaiting g f NO_HEIGHT)) (sym no_waiting) (All-nil (IsWaiting g f NO_HEIGHT));
+    ahead = All-weaker (IsOpenPlace f.mark) (IsAhead g f NO_HEIGHT) ahead f.ahead open_alone;
   }
-
--- an open cell of a grid of elevations is one that is listed, or next to a gap
-pub open_found : (spacing : ℕ → Distances) (h : Heights) (sinks : List SinkLine) (c : Cell) (listed found : Bool) → IsCellOf h.extent c → IsSome (elevation_at h c) → listed ≡ is_listed sinks c →
-    (IsTrue found ↔ (IsTrue listed ⊎ IsBesideGap h c)) → (IsTrue found ↔ IsOpenCell (spaced_grid spacing h sinks) c)
-open_found spacing h sinks c listed found inside some same told = (
-  (λ is. (inside, (some, subst (λ b. IsTrue b ⊎ IsBesideGap h c) same (told.0 is)))),
-  (λ is. told.1 (subst (λ b. IsTrue b ⊎ IsBesideGap h c) (sym same) is.1.1)),
-)
-
--- a data cell that the code started
-pub laid_data : (spacing : ℕ → Distances) (h : Heights) (sinks : List SinkLine) (old new : Flooding) (c : Cell) (ground : ℤ) (listed opens_it : Bool) → IsCellOf h.extent c →
-    elevation_at h c ≡ Some ground → NO_HEIGHT <ℤ ground → listed ≡ is_listed sinks c → (IsTrue opens_it ↔ (IsTrue listed ⊎ IsBesideGap h c)) →
-    Lays h.extent old new c ground opens_it → IsLaid (spaced_grid spacing h sinks) old (index_of h.extent c) → IsLaid (spaced_grid spacing h sinks) new (index_of h.extent c + 1)
-laid_data spacing h sinks old new c ground listed true inside z low same told lays laid =
-    let some : IsSome (elevation_at h c) = subst IsSome (sym z) refl in
-    let height : height_at (spaced_grid spacing h sinks) c ≡ ground = ap (λ o. unwrap_or o (pos 0)) z in
-    laid_open (spaced_grid spacing h sinks) c inside old new ground (record { inside = inside; is_data = some }) height low laid
-    ((open_found spacing h sinks c listed true inside some same told).0 refl) lays
-laid_data spacing h sinks old new c ground listed false inside z low same told lays laid =
-    let some : IsSome (elevation_at h c) = subst IsSome (sym z) refl in
-    let height : height_at (spaced_grid spacing h sinks) c ≡ ground = ap (λ o. unwrap_or o (pos 0)) z in
-    laid_closed (spaced_grid spacing h sinks) c inside old new ground (record { inside = inside; is_data = some }) height low laid
-    (λ open_n. false≢true ((open_found spacing h sinks c listed false inside some same told).1 open_n)) lays
-
--- a void that was passed
-pub laid_gap : (spacing : ℕ → Distances) (h : Heights) (sinks : List SinkLine) (f : Flooding) (c : Cell) → IsCellOf h.extent c → elevation_at h c ≡ None →
-    IsLaid (spaced_grid spacing h sinks) f (index_of h.extent c) → IsLaid (spaced_grid spacing h sinks) f (index_of h.extent c + 1)
-laid_gap spacing h sinks f c inside z laid = laid_void (spaced_grid spacing h sinks) c inside f (subst IsNone (sym z) refl) laid
-
--- in a blank flood no cell is started
-pub laid_blank : (g : Grid) (f : Flooding) → g.extent ≡ f.extent → IsBlankFlood f → IsLaid g f 0
-laid_blank g f extent blank =
-    let cells : g.extent.rows * g.extent.cols ≡ f.extent.rows * f.extent.cols = ap (λ (e : Extent). e.rows * e.cols) extent in
-    laid_none g f (record { con = blank.con_long ∙ sym cells; mark = blank.mark_long ∙ sym cells })
-    (λ c inside.
-    (let below = index_of-below g.extent c inside in record {
-      con = All-get_or (λ x. x ≡ NO_HEIGHT) f.con (index_of g.extent c) (pos 0) (subst (λ n. index_of g.extent c < n) (cells ∙ sym blank.con_long) below) blank.con;
-      mark = All-get_or (λ x. x ≡ VOID) f.mark (index_of g.extent c) 0 (subst (λ n. index_of g.extent c < n) (cells ∙ sym blank.mark_long) below) blank.mark;
-    }))
-    blank.no_ahead blank.no_waiting
-
--- what isn't the sample of a void is above it
-pub above_void : (z : ℤ) → NO_HEIGHT ≤ℤ z → Some z ≢ Some NO_HEIGHT → NO_HEIGHT <ℤ z
-above_void z low differ = by_lt_z NO_HEIGHT z (λ less. less) (λ most. absurd (differ (ap (λ x. Some x) (same z low most))))
-  where
-    same : (z : ℤ) → NO_HEIGHT ≤ℤ z → z ≤ℤ NO_HEIGHT → z ≡ NO_HEIGHT
-    same z low most = omega (arith, ints)

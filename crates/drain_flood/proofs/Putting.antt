@@ -9,7 +9,6 @@ use Rattle.drain_grid.proofs.Runs.{index_of-below}
 use Rattle.drain_grid.proofs.Alike.{same_index}
 use Rattle.drain_flood.specs.declared.layers.TheConstants.{REACHED, UNREACHED}
 use Rattle.drain_flood.specs.Floods.{Flooding, mark_at, Reaches}
-use Rattle.drain_flood.specs.Laid.{Puts}
 
 -- a number written at a cell's place is there
 pub put_there : {X : Type 0} (e : Extent) (xs : List X) (place : ℕ) (n : Cell) (x d : X) → IsCellOf e n → length xs ≡ e.rows * e.cols →
@@ -75,30 +74,6 @@ put_reaches_seen now e cons marks trail more waiting view place n con put inside
     (λ inside_e fresh_e. put_reaches e old new place n con inside_e at con_long mark_long fresh_e
     (ap (λ z. set cons place z) put_is) refl pushed refl)
     inside fresh
-
--- numbers that were written changed one cell alone
-pub puts_numbers : (e : Extent) (old new : Flooding) (place : ℕ) (n : Cell) (con : ℤ) (mark : ℕ) → IsCellOf e n → place ≡ index_of e n →
-    length old.con ≡ e.rows * e.cols → length old.mark ≡ e.rows * e.cols →
-    new.con ≡ set old.con place con → new.mark ≡ set old.mark place mark → Puts e old new n con mark
-puts_numbers e old new place n con mark inside at con_long mark_long con_is mark_is = record {
-  con_there = ap (λ xs. get_or xs (index_of e n) (pos 0)) con_is ∙ put_there e old.con place n con (pos 0) inside con_long at;
-  mark_there = ap (λ xs. get_or xs (index_of e n) 0) mark_is ∙ put_there e old.mark place n mark 0 inside mark_long at;
-  con_same = λ c inside_c differ. ap (λ xs. get_or xs (index_of e c) (pos 0)) con_is ∙ put_elsewhere e old.con place n c con (pos 0) inside inside_c at differ;
-  mark_same = λ c inside_c differ. ap (λ xs. get_or xs (index_of e c) 0) mark_is ∙ put_elsewhere e old.mark place n c mark 0 inside inside_c at differ;
-  con_long = ap (λ xs. length xs) con_is ∙ length-set old.con place con;
-  mark_long = ap (λ xs. length xs) mark_is ∙ length-set old.mark place mark;
-}
-
-pub puts_seen : (now : Flooding) (e : Extent) (cons : List ℤ) (marks ahead : List ℕ) (waiting : List (ℤ × ℕ)) →
-    record { extent = e; con = cons; mark = marks; ahead = ahead; waiting = waiting } ≡ now →
-    (place : ℕ) (n : Cell) (con put : ℤ) (mark : ℕ) → IsCellOf now.extent n → place ≡ index_of e n →
-    length cons ≡ e.rows * e.cols → length marks ≡ e.rows * e.cols → put ≡ con →
-    Puts now.extent now (record { extent = e; con = set cons place put; mark = set marks place mark; ahead = ahead; waiting = waiting }) n con mark
-puts_seen now e cons marks ahead waiting view place n con put mark inside at con_long mark_long put_is =
-    let old : Flooding = record { extent = e; con = cons; mark = marks; ahead = ahead; waiting = waiting } in
-    let new : Flooding = record { extent = e; con = set cons place put; mark = set marks place mark; ahead = ahead; waiting = waiting } in
-    subst (λ s. IsCellOf s.extent n → Puts s.extent s new n con mark) view
-    (λ inside_e. puts_numbers e old new place n con mark inside_e at con_long mark_long (ap (λ z. set cons place z) put_is) refl) inside
 
 -- the same at a place, whichever cell is there
 pub put_reaches_at : (now : Flooding) (e : Extent) (cons : List ℤ) (marks trail more : List ℕ) (waiting : List (ℤ × ℕ)) →

@@ -1,14 +1,11 @@
--- The beginning of a flood: the open cells are reached, the others aren't, cell by cell in row order.
-use Rattle.std.specs.Prelude.{◌≡◌, ℕ, ◌+◌, ◌<◌, ◌-◌, ◌*◌, ◌/◌, ℤ, pos, ◌+ℤ◌, ◌<ℤ◌, Bool, ◌==◌, nat_lt, min, List, [], ◌∷◌, slice_index, if◌then◌else◌, ◌≢◌, ◌↔◌, ◌++◌, Contains, length, IsNone, option_map}
+-- Lanes of heights for the first ways down, and the beginning of a flood: the ground and the first mark of each cell.
+use Rattle.std.specs.Prelude.{◌≡◌, ℕ, ◌+◌, ◌<◌, ◌-◌, ◌*◌, ◌/◌, ℤ, pos, ◌+ℤ◌, ◌<ℤ◌, Bool, ◌==◌, nat_lt, min, List, [], ◌∷◌, slice_index, if◌then◌else◌, slice_index_or, ◌≢◌, ◌↔◌, ◌⊎◌, length, IsNone, IsTrue}
 use Rattle.drain_grid.specs.declared.cell.Cell.{Cell}
-use Rattle.drain_grid.specs.Extent.{IsCellOf, index_of, step, Extent}
-use Rattle.drain_flood.specs.Floods.{Flooding, con_at, mark_at, IsBlankIn, IsOpenIn, IsAhead, IsCounted}
+use Rattle.drain_grid.specs.Extent.{IsCellOf, index_of, Extent}
+use Rattle.drain_flood.specs.Floods.{Flooding, con_at}
 use Rattle.drain_flood.specs.declared.layers.TheConstants.{NO_HEIGHT, OPEN, UNREACHED, VOID}
 use Rattle.drain_flood.specs.declared.falls.TheConstants.{GAP}
-use Rattle.std.specs.List.{All}
-use Rattle.drain_grid.specs.declared.direction.Direction.{Direction}
-use Rattle.drain_grid.specs.Grid.{Grid, HasData, IsInside, IsOpenCell, height_at, Heights}
-use Rattle.drain_grid.specs.Open.{IsGap}
+use Rattle.drain_grid.specs.Grid.{Grid, HasData, Heights, IsInside, IsOpenCell, IsSample}
 use Rattle.drain_grid.specs.WholeGrid.{elevation_at}
 
 -- Lanes of heights, and the first steepest way down among eight of them.
@@ -66,52 +63,44 @@ fall_in lane xs =
 abbrev pub fall_at : List ℕ → List ℕ → List ℕ → ℕ → ℕ
 fall_at above here below k = fall_in (slice_index here (k + 1)) (around_in above here below k)
 
--- these numbers were written at a cell, and nothing else changed
-pub record Puts (e : Extent) (old new : Flooding) (n : Cell) (con : ℤ) (mark : ℕ) : Type 0 where
-  pub con_there : con_at e new n ≡ con
-  pub mark_there : mark_at e new n ≡ mark
-  pub con_same : (c : Cell) → IsCellOf e c → c ≢ n → con_at e new c ≡ con_at e old c
-  pub mark_same : (c : Cell) → IsCellOf e c → c ≢ n → mark_at e new c ≡ mark_at e old c
-  pub con_long : length new.con ≡ length old.con
-  pub mark_long : length new.mark ≡ length old.mark
+-- the sample of the cell at a place
+pub record IsGround (h : Heights) (place : ℕ) (ground : ℤ) : Type 0 where
+  pub value : ground ≡ slice_index_or h.samples place NO_HEIGHT
+  pub in_range : IsSample ground
 
--- an open cell was reached, and is on the trail; any other data cell has its ground, and isn't reached
-pub record Lays (e : Extent) (old new : Flooding) (n : Cell) (ground : ℤ) (is_open : Bool) : Type 0 where
-  pub puts : Puts e old new n ground (if is_open then OPEN else UNREACHED)
-  pub ahead : new.ahead ≡ (if is_open then old.ahead ++ index_of e n ∷ [] else old.ahead)
-  pub waiting : new.waiting ≡ old.waiting
+-- the sample of each cell, in row order
+pub record AreGrounds (h : Heights) (con : List ℤ) : Type 0 where
+  pub counted : length con ≡ h.extent.rows * h.extent.cols
+  pub each : (place : ℕ) → place < h.extent.rows * h.extent.cols → IsGround h place (slice_index_or con place (pos 0))
 
--- the first k cells in row order were started
-pub record IsLaid (g : Grid) (f : Flooding) (k : ℕ) : Type 0 where
-  pub counted : IsCounted g f
-  pub voids : (c : Cell) → IsInside g c → IsNone (g.elevation c) → IsBlankIn g f c
-  pub opened : (c : Cell) → IsOpenCell g c → index_of g.extent c < k → IsOpenIn g f c × Contains f.ahead (index_of g.extent c)
-  pub closed : (c : Cell) → HasData g c → ¬ IsOpenCell g c → index_of g.extent c < k → (mark_at g.extent f c ≡ UNREACHED) × (con_at g.extent f c ≡ height_at g c)
-  pub heights : (c : Cell) → HasData g c → index_of g.extent c < k → NO_HEIGHT <ℤ height_at g c
-  pub ahead : All (IsAhead g f NO_HEIGHT) f.ahead
-  pub early : All (λ place. place < k) f.ahead
-  pub waiting : f.waiting ≡ []
-
--- every cell has the no-data numbers, the trail is empty, and no cell waits
-pub record IsBlankFlood (f : Flooding) : Type 0 where
-  pub con : All (λ x. x ≡ NO_HEIGHT) f.con
-  pub mark : All (λ x. x ≡ VOID) f.mark
-  pub con_long : length f.con ≡ f.extent.rows * f.extent.cols
-  pub mark_long : length f.mark ≡ f.extent.rows * f.extent.cols
-  pub no_ahead : f.ahead ≡ []
-  pub no_waiting : f.waiting ≡ []
-
--- marks of a row's cells, counted from 1, between two gaps: 0 at a gap; rows outside the grid are gaps
+-- bytes of a row's cells, counted from 1, between two gaps: 0 at a gap; rows outside the grid are gaps
 pub record AreDataMarks (h : Heights) (down : ℕ) (marks : List ℕ) : Type 0 where
   pub counted : length marks ≡ h.extent.cols + 2
   pub cells : (n : Cell) → IsCellOf h.extent n → n.row + 1 ≡ down → (slice_index marks (n.col + 1) ≡ 0 ↔ IsNone (elevation_at h n))
   pub gaps : (right : ℕ) → right < h.extent.cols + 2 →
       ((n : Cell) → IsCellOf h.extent n → n.row + 1 ≡ down → n.col + 1 ≡ right → ⊥) → slice_index marks right ≡ 0
 
--- the least of the eight marks around one
+-- the least of the eight around one
 abbrev pub least_around : List ℕ → List ℕ → List ℕ → ℕ → ℕ
 least_around above here below k = min (least_along (around_in above here below k)) (least_across (around_in above here below k))
 
--- the cell is next to a gap: it lies on the edge, or next to a void
-abbrev pub IsBesideGap : Heights → Cell → Type 0
-IsBesideGap h c = (d : Direction) × IsGap (option_map (elevation_at h) (step h.extent c d))
+-- the first mark by a cell's byte, whether it is listed, and the least byte around it
+pub record IsMarkOf (own : ℕ) (listed : Bool) (least mark : ℕ) : Type 0 where
+  pub void : own ≡ 0 → mark ≡ VOID
+  pub opened : own ≢ 0 → IsTrue listed ⊎ (least ≡ 0) → mark ≡ OPEN
+  pub closed : own ≢ 0 → ¬ (IsTrue listed ⊎ (least ≡ 0)) → mark ≡ UNREACHED
+
+-- the first mark of a cell: only an open cell is reached
+pub record IsFirstMark (g : Grid) (c : Cell) (mark : ℕ) : Type 0 where
+  pub void : IsNone (g.elevation c) → mark ≡ VOID
+  pub opened : IsOpenCell g c → mark ≡ OPEN
+  pub closed : HasData g c → ¬ IsOpenCell g c → mark ≡ UNREACHED
+
+-- those of the cells of the first rows
+abbrev pub AreFirstMarks : Grid → ℕ → List ℕ → Type 0
+AreFirstMarks g rows marks = (c : Cell) → IsInside g c → c.row < rows → IsFirstMark g c (slice_index marks (index_of g.extent c))
+
+-- the mark at a place is that of an open cell
+pub record IsOpenPlace (marks : List ℕ) (place : ℕ) : Type 0 where
+  pub within : place < length marks
+  pub code : slice_index marks place ≡ OPEN

@@ -8,24 +8,21 @@
 //!
 //! Source: Priority-Flood (Barnes, Lehman and Mulla 2014), with traces as in Zhou, Sun and Fu (2016).
 
-ghost use Rattle.std.specs.Prelude.{◌≡◌, ◌↔◌, ◌+◌, ◌*◌, ◌<◌, ℕ, ℤ, pos, false, List, [], ◌∷◌, ◌++◌, None, MatchOption, IfSome, IfOk, OnOk, IsTrue, length, slice_index_or, vec_len, if◌then◌else◌};
-ghost use Rattle.drain_grid.specs.declared.sink_line.SinkLine.{SinkLine};
-ghost use Rattle.drain_grid.specs.SinkTexts.{is_listed};
+ghost use Rattle.std.specs.Prelude.{◌≡◌, ◌↔◌, ◌+◌, ◌*◌, ◌<◌, ℕ, ℤ, pos, List, [], None, MatchOption, IfSome, IfOk, OnOk, IsTrue, length, slice_index_or, vec_len};
 ghost use Rattle.drain_grid.specs.Spacing.{Distances};
 ghost use Rattle.drain_grid.specs.WholeGrid.{spaced_grid};
 ghost use Rattle.drain_grid.specs.Path.{IsFilled};
-ghost use Rattle.drain_flood.specs.Laid.{Puts, Lays, IsLaid, IsBlankFlood, IsBesideGap};
 ghost use Rattle.drain_grid.specs.declared.cell.Cell.{Cell};
 ghost use Rattle.drain_grid.specs.Extent.{IsCellOf, index_of};
 ghost use Rattle.drain_grid.specs.Grid.{Grid};
 ghost use Rattle.drain_flood.specs.Floods.{Flooding, con_at, mark_at, unreached, IsFloodOf, IsFlooded, Reaches};
 ghost use Rattle.drain_flood.specs.Looks.{IsClosed, IsInnerAt, IsInnerPlace};
-ghost use Rattle.drain_flood.specs.Turns.{with_lists, IsNextTurn, IsDone, IsPopped, IsEmptied, IsLeftWaiting};
+ghost use Rattle.drain_flood.specs.Turns.{IsNextTurn, IsDone, IsPopped, IsEmptied, IsLeftWaiting};
 
 use crate::laws::flood_is_filled;
-use crate::layers::{NO_HEIGHT, OPEN, REACHED, UNREACHED, VOID, copied, heights, marks, no_places};
+use crate::layers::{NO_HEIGHT, REACHED, UNREACHED, copied};
 use crate::level_stacks::LevelStacks;
-use crate::open_cells::{RowMarks, is_open};
+use crate::open_cells::{first_marks, grounds, open_places};
 use crate::surface::Surface;
 use crate::tracing::spread;
 use drain_grid::{Cell, Elevation, OutOfMemory, Shape, Sinks};
@@ -96,29 +93,11 @@ impl Flood {
         ensures laid { IfOk result (λ flood. (spacing : ℕ → Distances) → IsFloodOf (spaced_grid spacing elevation.now sinks.now) flood NO_HEIGHT []) }
     {
         let shape = elevation.shape();
-        let mut flood = Flood::blank(alloc, shape)?;
-        let cols = shape.cols() as usize;
-        let mut listed = vec![in alloc; false; cols]?;
-        let mut beside = vec![in alloc; false; cols]?;
-        let mut rows = RowMarks::new(alloc, elevation)?;
-        for row in 0..shape.rows() {
-            sinks.mark_row(row, listed.as_mut_slice());
-            rows.step(elevation, row, beside.as_mut_slice())?;
-            flood.lay_row(elevation, row, listed.as_slice(), beside.as_slice())?;
-        }
-        Ok(flood)
-    }
-
-    /// A grid of voids.
-    fn blank(alloc: Global, shape: Shape) -> Result<Flood, OutOfMemory>
-        ensures extent { IfOk result (λ flood. flood.extent ≡ shape) }
-        ensures blank { IfOk result IsBlankFlood }
-    {
-        let cells = shape.cells();
-        let con = heights(alloc, NO_HEIGHT, cells)?;
-        let mark = marks(alloc, VOID, cells)?;
+        let con = grounds(alloc, elevation)?;
+        let mark = first_marks(alloc, elevation, con.as_slice(), sinks)?;
+        let _cells = shape.cells();
         let waiting = LevelStacks::new(alloc)?;
-        let trail = no_places(alloc)?;
+        let trail = open_places(alloc, mark.as_slice())?;
         Ok(Flood {
             shape,
             con,
@@ -126,92 +105,6 @@ impl Flood {
             trail,
             waiting,
         })
-    }
-
-    /// Starts the cells of a row.
-    fn lay_row(
-        &mut self,
-        elevation: &Elevation,
-        row: u32,
-        listed: &[bool],
-        beside: &[bool],
-    ) -> Result<(), OutOfMemory>
-        requires same { self.old.extent ≡ elevation.now.extent }
-        requires inside { row < elevation.now.extent.rows }
-        requires counted { length listed.now ≡ elevation.now.extent.cols }
-        requires found { length beside.now ≡ elevation.now.extent.cols }
-        requires beside { (col : ℕ) → col < length beside.now → (IsTrue (slice_index_or beside.now col false) ↔ IsBesideGap elevation.now (record { row = row; col = col })) }
-        ensures extent { self.new.extent ≡ self.old.extent }
-        ensures laid { OnOk result ((spacing : ℕ → Distances) (sinks : List SinkLine) → ((col : ℕ) → col < length listed.now → slice_index_or listed.now col false ≡ is_listed sinks (record { row = row; col = col })) → IsLaid (spaced_grid spacing elevation.now sinks) self.old (row * elevation.now.extent.cols) → IsLaid (spaced_grid spacing elevation.now sinks) self.new ((row + 1) * elevation.now.extent.cols)) }
-    {
-        for col in 0..elevation.shape().cols() {
-            let place = col as usize;
-            self.lay_cell(elevation, Cell { row, col }, listed[place], beside[place])?;
-        }
-        Ok(())
-    }
-
-    /// Starts a cell: reaches it if it is open, and puts any other data cell at its ground.
-    fn lay_cell(
-        &mut self,
-        elevation: &Elevation,
-        cell: Cell,
-        listed: bool,
-        beside: bool,
-    ) -> Result<(), OutOfMemory>
-        requires same { self.old.extent ≡ elevation.now.extent }
-        requires inside { IsCellOf elevation.now.extent cell }
-        requires beside { IsTrue beside ↔ IsBesideGap elevation.now cell }
-        ensures extent { self.new.extent ≡ self.old.extent }
-        ensures laid { OnOk result ((spacing : ℕ → Distances) (sinks : List SinkLine) → listed ≡ is_listed sinks cell → IsLaid (spaced_grid spacing elevation.now sinks) self.old (index_of elevation.now.extent cell) → IsLaid (spaced_grid spacing elevation.now sinks) self.new (index_of elevation.now.extent cell + 1)) }
-    {
-        match elevation.z(cell) {
-            Some(ground) => {
-                let opens = is_open(listed, beside);
-                self.lay(cell, ground, opens)?;
-                Ok(())
-            }
-            None => Ok(()),
-        }
-    }
-
-    /// Starts a data cell.
-    fn lay(&mut self, cell: Cell, ground: i16, opens: bool) -> Result<(), OutOfMemory>
-        requires inside { IsCellOf self.old.extent cell }
-        requires inner { opens ≡ false → IsInnerPlace self.old.extent cell }
-        ensures extent { self.new.extent ≡ self.old.extent }
-        ensures lays { OnOk result (Lays self.old.extent self.old self.new cell ground opens) }
-    {
-        self.put(cell, ground, first_mark(opens));
-        if opens {
-            return self.push(cell);
-        }
-        Ok(())
-    }
-
-    /// Writes the numbers of a cell.
-    fn put(&mut self, cell: Cell, height: i16, mark: u8)
-        requires inside { IsCellOf self.old.extent cell }
-        requires inner { IsClosed mark → IsInnerPlace self.old.extent cell }
-        ensures extent { self.new.extent ≡ self.old.extent }
-        ensures ahead { self.new.ahead ≡ self.old.ahead }
-        ensures waiting { self.new.waiting ≡ self.old.waiting }
-        ensures puts { Puts self.old.extent self.old self.new cell height mark }
-    {
-        let place = self.shape.index(cell);
-        self.con[place] = height;
-        self.mark[place] = mark;
-    }
-
-    /// Puts a cell at the end of the trail.
-    fn push(&mut self, cell: Cell) -> Result<(), OutOfMemory>
-        requires inside { IsCellOf self.old.extent cell }
-        ensures extent { self.new.extent ≡ self.old.extent }
-        ensures pushed { OnOk result (self.new ≡ with_lists self.old (self.old.ahead ++ index_of self.old.extent cell ∷ []) self.old.waiting) }
-    {
-        let place = self.shape.index(cell) as u32;
-        self.trail.push(place)?;
-        Ok(())
     }
 
     /// The conditioned elevation of a reached cell, the ground of any other.
@@ -307,13 +200,6 @@ impl Flood {
     {
         self.waiting.push(level, place)
     }
-}
-
-/// The first mark of a data cell.
-fn first_mark(opens: bool) -> u8
-    ensures { result ≡ (if opens then OPEN else UNREACHED) }
-{
-    if opens { OPEN } else { UNREACHED }
 }
 
 /// Whether two levels are equal.

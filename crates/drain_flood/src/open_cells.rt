@@ -1,78 +1,188 @@
-//! Which data cells are open when a flood starts: those that are listed, and those beside a gap.
+//! The start of a flood: the ground of each cell, its first mark, and the places of the open cells.
 //!
-//! A place around the grid is a gap, as a void is. A row of marks has one for each cell of a row of the grid, between
-//! two for the places beside it: 0 at a gap, 1 at data. The least of the eight marks around a cell is 0 if the cell is
-//! beside a gap. So a row's cells are looked at many at a time, by loops without a branch, and each row is read once.
+//! A data cell is open if it is listed or beside a gap. A place around the grid is a gap, as a void is. A row of bytes
+//! has one for each cell of a row of the grid, between two for the places beside it: 0 at a gap, 1 at data. The least of
+//! the eight around a cell is 0 if the cell is beside a gap. So a row's cells are looked at many at a time, by loops
+//! without a branch.
 
-ghost use Rattle.std.specs.Prelude.{◌≡◌, ◌↔◌, ◌⊎◌, ◌+◌, ◌<◌, ℕ, ℤ, pos, min, false, All, IfOk, OnOk, IsTrue, length, slice_index, slice_index_or};
+ghost use Rattle.std.specs.Prelude.{◌≡◌, ◌↔◌, ◌≤◌, ◌<◌, ◌+◌, ◌*◌, ℕ, pos, min, false, List, All, Contains, IfOk, OnOk, length, slice_index, slice_index_or};
 ghost use Rattle.drain_grid.specs.declared.cell.Cell.{Cell};
-ghost use Rattle.drain_flood.specs.Laid.{AreDataMarks, IsBesideGap, around_in, least_across, least_along, least_around};
+ghost use Rattle.drain_grid.specs.declared.sink_line.SinkLine.{SinkLine};
+ghost use Rattle.drain_grid.specs.Extent.{IsCellOf, index_of};
+ghost use Rattle.drain_grid.specs.Grid.{IsSample};
+ghost use Rattle.drain_grid.specs.SinkTexts.{is_listed};
+ghost use Rattle.drain_grid.specs.Spacing.{Distances};
+ghost use Rattle.drain_grid.specs.WholeGrid.{spaced_grid};
+ghost use Rattle.drain_flood.specs.declared.level_queue.TheConstants.{MAX_CELLS};
+ghost use Rattle.drain_flood.specs.Laid.{AreDataMarks, AreFirstMarks, AreGrounds, IsFirstMark, IsMarkOf, IsOpenPlace, around_in, least_across, least_along, least_around};
 
-use crate::layers::NO_HEIGHT;
-use drain_grid::{Elevation, OutOfMemory};
+use crate::layers::{NO_HEIGHT, OPEN, UNREACHED, VOID, heights, marks, no_places};
+use drain_grid::{Elevation, OutOfMemory, Sinks};
 use std::alloc::Global;
 use std::mem::swap;
 
-/// Marks of a row and of the rows above and below it, and room for a row's samples. Rows are counted from 1.
+/// The ground of each cell; at a void, the sample of a void.
+pub(crate) fn grounds(alloc: Global, elevation: &Elevation) -> Result<Vec<i16>, OutOfMemory>
+    ensures { IfOk result (λ con. AreGrounds elevation.now con.items) }
+{
+    let mut con = heights(alloc, NO_HEIGHT, elevation.shape().cells())?;
+    let mut samples = Vec::new(alloc);
+    put_rows(elevation, &mut samples, con.as_mut_slice())?;
+    Ok(con)
+}
+
+/// Puts the samples of all rows at their places, with room for those of a row.
+fn put_rows(
+    elevation: &Elevation,
+    samples: &mut Vec<i64>,
+    con: &mut [i16],
+) -> Result<(), OutOfMemory>
+    requires { length con.old ≡ elevation.now.extent.rows * elevation.now.extent.cols }
+    ensures len { length con.new ≡ length con.old }
+    ensures grounds { OnOk result (AreGrounds elevation.now con.new) }
+{
+    let shape = elevation.shape();
+    for row in 0..shape.rows() {
+        elevation.read_row(row, samples)?;
+        put_samples(samples.as_slice(), shape.row_start(row), con);
+    }
+    Ok(())
+}
+
+/// Puts a row's samples at their places.
+#[inline(never)]
+fn put_samples(samples: &[i64], start: usize, con: &mut [i16])
+    requires inside { start + length samples.now ≤ length con.old }
+    requires samples { All IsSample samples.now }
+    ensures len { length con.new ≡ length con.old }
+    ensures row { (k : ℕ) → k < length samples.now → slice_index_or con.new (start + k) (pos 0) ≡ slice_index_or samples.now k (pos 0) }
+    ensures others { (i : ℕ) → i < start → slice_index_or con.new i (pos 0) ≡ slice_index_or con.old i (pos 0) }
+{
+    for k in 0..samples.len() {
+        con[start + k] = narrow(samples[k]);
+    }
+}
+
+/// A sample in 16 bits.
+#[inline(always)]
+fn narrow(sample: i64) -> i16
+    requires { IsSample sample }
+    ensures value { result ≡ sample }
+    ensures sample { IsSample result }
+{
+    sample as i16
+}
+
+/// The first mark of each cell, from its ground: that of a void, of an open cell, or of a cell that isn't reached.
+pub(crate) fn first_marks(
+    alloc: Global,
+    elevation: &Elevation,
+    con: &[i16],
+    sinks: &Sinks,
+) -> Result<Vec<u8>, OutOfMemory>
+    requires { AreGrounds elevation.now con.now }
+    ensures counted { IfOk result (λ marks. length marks.items ≡ elevation.now.extent.rows * elevation.now.extent.cols) }
+    ensures marks { IfOk result (λ marks. (spacing : ℕ → Distances) → AreFirstMarks (spaced_grid spacing elevation.now sinks.now) elevation.now.extent.rows marks.items) }
+{
+    let shape = elevation.shape();
+    let mut first = marks(alloc, VOID, shape.cells())?;
+    let mut listed = vec![in alloc; false; shape.cols() as usize]?;
+    let mut rows = RowMarks::new(alloc, elevation, con)?;
+    mark_rows(
+        elevation,
+        con,
+        sinks,
+        listed.as_mut_slice(),
+        &mut rows,
+        first.as_mut_slice(),
+    );
+    Ok(first)
+}
+
+/// Puts the first marks of all rows at their places, with room for the listed columns of a row.
+fn mark_rows(
+    elevation: &Elevation,
+    con: &[i16],
+    sinks: &Sinks,
+    listed: &mut [bool],
+    rows: &mut RowMarks,
+    marks: &mut [u8],
+)
+    requires grounds { AreGrounds elevation.now con.now }
+    requires listed { length listed.old ≡ elevation.now.extent.cols }
+    requires above { AreDataMarks elevation.now 0 rows.old.here.items }
+    requires here { AreDataMarks elevation.now 1 rows.old.below.items }
+    requires room { length rows.old.above.items ≡ elevation.now.extent.cols + 2 }
+    requires counted { length marks.old ≡ elevation.now.extent.rows * elevation.now.extent.cols }
+    ensures counted { length marks.new ≡ length marks.old }
+    ensures marks { (spacing : ℕ → Distances) → AreFirstMarks (spaced_grid spacing elevation.now sinks.now) elevation.now.extent.rows marks.new }
+{
+    for row in 0..elevation.shape().rows() {
+        sinks.mark_row(row, listed);
+        rows.put_row(elevation, con, row, listed, marks);
+    }
+}
+
+/// Which cells of a row and of the rows above and below it are data.
 #[derive(Drop)]
-pub(crate) struct RowMarks {
-    samples: Vec<i64>,
+struct RowMarks {
     above: Vec<u8>,
     here: Vec<u8>,
     below: Vec<u8>,
 }
 
 impl RowMarks {
-    /// Those of the row above the grid and of the first row, for the step to the first row.
-    pub(crate) fn new(alloc: Global, elevation: &Elevation) -> Result<RowMarks, OutOfMemory>
+    /// Those for the row above the grid: the row below it is the first. Rows are counted from 1.
+    fn new(alloc: Global, elevation: &Elevation, con: &[i16]) -> Result<RowMarks, OutOfMemory>
+        requires { AreGrounds elevation.now con.now }
         ensures above { IfOk result (λ rows. AreDataMarks elevation.now 0 rows.here.items) }
         ensures here { IfOk result (λ rows. AreDataMarks elevation.now 1 rows.below.items) }
         ensures room { IfOk result (λ rows. length rows.above.items ≡ elevation.now.extent.cols + 2) }
     {
         let places = elevation.shape().cols() as usize + 2;
         let mut rows = RowMarks {
-            samples: Vec::new(alloc),
             above: gaps(alloc, places)?,
             here: gaps(alloc, places)?,
             below: gaps(alloc, places)?,
         };
-        lay_marks(elevation, 1, &mut rows.samples, rows.below.as_mut_slice())?;
+        lay_marks(elevation, con, 1, rows.below.as_mut_slice());
         Ok(rows)
     }
 
-    /// Steps to a row of the grid, and finds the cells of the row that are beside a gap.
-    pub(crate) fn step(
+    /// Goes one row down, and puts the first marks of its cells at their places.
+    fn put_row(
         &mut self,
         elevation: &Elevation,
+        con: &[i16],
         row: u32,
-        beside: &mut [bool],
-    ) -> Result<(), OutOfMemory>
+        listed: &[bool],
+        marks: &mut [u8],
+    )
+        requires grounds { AreGrounds elevation.now con.now }
         requires inside { row < elevation.now.extent.rows }
         requires above { AreDataMarks elevation.now row self.old.here.items }
         requires here { AreDataMarks elevation.now (row + 1) self.old.below.items }
         requires room { length self.old.above.items ≡ elevation.now.extent.cols + 2 }
-        requires counted { length beside.old ≡ elevation.now.extent.cols }
-        ensures above { OnOk result (AreDataMarks elevation.now (row + 1) self.new.here.items) }
-        ensures here { OnOk result (AreDataMarks elevation.now (row + 2) self.new.below.items) }
-        ensures room { OnOk result (length self.new.above.items ≡ elevation.now.extent.cols + 2) }
-        ensures counted { length beside.new ≡ length beside.old }
-        ensures beside { OnOk result ((col : ℕ) → col < length beside.old → (IsTrue (slice_index_or beside.new col false) ↔ IsBesideGap elevation.now (record { row = row; col = col }))) }
+        requires listed { length listed.now ≡ elevation.now.extent.cols }
+        requires counted { length marks.old ≡ elevation.now.extent.rows * elevation.now.extent.cols }
+        ensures above { AreDataMarks elevation.now (row + 1) self.new.here.items }
+        ensures here { AreDataMarks elevation.now (row + 2) self.new.below.items }
+        ensures room { length self.new.above.items ≡ elevation.now.extent.cols + 2 }
+        ensures counted { length marks.new ≡ length marks.old }
+        ensures row { (spacing : ℕ → Distances) (sinks : List SinkLine) → ((col : ℕ) → col < length listed.now → slice_index_or listed.now col false ≡ is_listed sinks (record { row = row; col = col })) → (c : Cell) → IsCellOf elevation.now.extent c → c.row ≡ row → IsFirstMark (spaced_grid spacing elevation.now sinks) c (slice_index marks.new (index_of elevation.now.extent c)) }
+        ensures others { (i : ℕ) → i < row * elevation.now.extent.cols → slice_index marks.new i ≡ slice_index marks.old i }
     {
         swap(&mut self.above, &mut self.here);
         swap(&mut self.here, &mut self.below);
-        lay_marks(
-            elevation,
-            row as usize + 2,
-            &mut self.samples,
-            self.below.as_mut_slice(),
-        )?;
-        find_beside(
+        lay_marks(elevation, con, row as usize + 2, self.below.as_mut_slice());
+        put_marks(
             self.above.as_slice(),
             self.here.as_slice(),
             self.below.as_slice(),
-            beside,
+            listed,
+            elevation.shape().row_start(row),
+            marks,
         );
-        Ok(())
     }
 }
 
@@ -84,24 +194,18 @@ fn gaps(alloc: Global, places: usize) -> Result<Vec<u8>, OutOfMemory>
     Ok(vec![in alloc; 0u8; places]?)
 }
 
-/// Lays the marks of a row of the grid, which is counted from 1; those next to the grid are gaps.
-fn lay_marks(
-    elevation: &Elevation,
-    down: usize,
-    samples: &mut Vec<i64>,
-    marks: &mut [u8],
-) -> Result<(), OutOfMemory>
-    requires { length marks.old ≡ elevation.now.extent.cols + 2 }
-    ensures len { length marks.new ≡ length marks.old }
-    ensures marks { OnOk result (AreDataMarks elevation.now down marks.new) }
+/// Lays a row of the grid, which is counted from 1; those next to the grid are gaps.
+fn lay_marks(elevation: &Elevation, con: &[i16], down: usize, marks: &mut [u8])
+    requires grounds { AreGrounds elevation.now con.now }
+    requires len { length marks.old ≡ elevation.now.extent.cols + 2 }
+    ensures { AreDataMarks elevation.now down marks.new }
 {
-    if 0 < down && down <= elevation.shape().rows() as usize {
-        elevation.read_row((down - 1) as u32, samples)?;
-        mark_data(samples.as_slice(), marks);
+    let shape = elevation.shape();
+    if 0 < down && down <= shape.rows() as usize {
+        mark_data(con, shape.row_start((down - 1) as u32), marks);
     } else {
         mark_gaps(marks);
     }
-    Ok(())
 }
 
 /// Lays a row of gaps.
@@ -114,32 +218,33 @@ fn mark_gaps(marks: &mut [u8])
     }
 }
 
-/// Lays the marks of a row's samples, between two gaps.
+/// Lays a row whose grounds are there from this place on, between two gaps.
 #[inline(never)]
-fn mark_data(samples: &[i64], marks: &mut [u8])
-    requires { length marks.old ≡ length samples.now + 2 }
+fn mark_data(con: &[i16], start: usize, marks: &mut [u8])
+    requires room { 2 ≤ length marks.old }
+    requires inside { start + length marks.old ≤ length con.now + 2 }
     ensures len { length marks.new ≡ length marks.old }
     ensures first { slice_index marks.new 0 ≡ 0 }
-    ensures last { slice_index marks.new (length samples.now + 1) ≡ 0 }
-    ensures marks { (k : ℕ) → k < length samples.now → (slice_index marks.new (k + 1) ≡ 0 ↔ slice_index_or samples.now k (pos 0) ≡ NO_HEIGHT) }
+    ensures last { (k : ℕ) → k + 1 ≡ length marks.old → slice_index marks.new k ≡ 0 }
+    ensures marks { (k : ℕ) → k + 2 < length marks.old → (slice_index marks.new (k + 1) ≡ 0 ↔ slice_index_or con.now (start + k) (pos 0) ≡ NO_HEIGHT) }
 {
-    let cols = samples.len();
+    let cols = marks.len() - 2;
     marks[0] = 0;
     marks[cols + 1] = 0;
     for k in 0..cols {
-        marks[k + 1] = data_mark(samples[k]);
+        marks[k + 1] = data_mark(con[start + k]);
     }
 }
 
-/// The mark of a sample.
+/// 0 if the ground is that of a void, else 1.
 #[inline(always)]
-fn data_mark(sample: i64) -> u8
-    ensures { result ≡ 0 ↔ sample ≡ NO_HEIGHT }
+fn data_mark(ground: i16) -> u8
+    ensures { result ≡ 0 ↔ ground ≡ NO_HEIGHT }
 {
-    u8::from(sample != i64::from(NO_HEIGHT))
+    u8::from(ground != NO_HEIGHT)
 }
 
-/// The least of the eight marks around the one in the middle of three columns.
+/// The least of the eight around the one in the middle of three columns.
 #[inline(always)]
 fn least_around(above: &[u8], here: &[u8], below: &[u8], k: usize) -> u8
     requires above_len { k + 2 < length above.now }
@@ -152,23 +257,51 @@ fn least_around(above: &[u8], here: &[u8], below: &[u8], k: usize) -> u8
     along.min(across)
 }
 
-/// Finds the places of the middle row that are beside a gap.
-#[inline(never)]
-fn find_beside(above: &[u8], here: &[u8], below: &[u8], beside: &mut [bool])
-    requires above_len { length above.now ≡ length beside.old + 2 }
-    requires here_len { length here.now ≡ length beside.old + 2 }
-    requires below_len { length below.now ≡ length beside.old + 2 }
-    ensures len { length beside.new ≡ length beside.old }
-    ensures beside { (k : ℕ) → k < length beside.old → (IsTrue (slice_index_or beside.new k false) ↔ least_around above.now here.now below.now k ≡ 0) }
+/// The first mark of a cell: whether it has data, is listed, or is beside a gap.
+#[inline(always)]
+fn first_mark(own: u8, listed: bool, least: u8) -> u8
+    ensures { IsMarkOf own listed least result }
 {
-    for k in 0..beside.len() {
-        beside[k] = least_around(above, here, below, k) == 0;
+    let unlisted = if listed { OPEN } else { UNREACHED };
+    let opened = if least == 0 { OPEN } else { unlisted };
+    if own == 0 { VOID } else { opened }
+}
+
+/// Puts the first marks of the cells of the middle row, from this place on.
+#[inline(never)]
+fn put_marks(
+    above: &[u8],
+    here: &[u8],
+    below: &[u8],
+    listed: &[bool],
+    start: usize,
+    marks: &mut [u8],
+)
+    requires above_len { length above.now ≡ length listed.now + 2 }
+    requires here_len { length here.now ≡ length listed.now + 2 }
+    requires below_len { length below.now ≡ length listed.now + 2 }
+    requires inside { start + length listed.now ≤ length marks.old }
+    ensures len { length marks.new ≡ length marks.old }
+    ensures row { (k : ℕ) → k < length listed.now → IsMarkOf (slice_index here.now (k + 1)) (slice_index_or listed.now k false) (least_around above.now here.now below.now k) (slice_index marks.new (start + k)) }
+    ensures others { (i : ℕ) → i < start → slice_index marks.new i ≡ slice_index marks.old i }
+{
+    for k in 0..listed.len() {
+        let least = least_around(above, here, below, k);
+        marks[start + k] = first_mark(here[k + 1], listed[k], least);
     }
 }
 
-/// Whether a data cell is open: listed, or beside a gap.
-pub(crate) fn is_open(listed: bool, beside: bool) -> bool
-    ensures { IsTrue result ↔ (IsTrue listed ⊎ IsTrue beside) }
+/// The places of the open cells, in row order.
+pub(crate) fn open_places(alloc: Global, marks: &[u8]) -> Result<Vec<u32>, OutOfMemory>
+    requires few { length marks.now ≤ MAX_CELLS }
+    ensures all { IfOk result (λ places. (place : ℕ) → place < length marks.now → slice_index marks.now place ≡ OPEN → Contains places.items place) }
+    ensures open { IfOk result (λ places. All (IsOpenPlace marks.now) places.items) }
 {
-    listed || beside
+    let mut places = no_places(alloc)?;
+    for place in 0..marks.len() {
+        if marks[place] == OPEN {
+            places.push(place as u32)?;
+        }
+    }
+    Ok(places)
 }

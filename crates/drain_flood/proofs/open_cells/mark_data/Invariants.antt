@@ -1,4 +1,4 @@
--- The marks so far, between two gaps.
+-- The bytes so far, between two gaps.
 use Rattle.std.proofs.Common.{◌≡◌, ◌↔◌, ℕ, ◌<◌, ◌+◌, pos, length, slice_index, slice_index_or}
 use Rattle.drain_flood.specs.declared.layers.TheConstants.{NO_HEIGHT}
 use Rattle.drain_flood.proofs.open_cells.mark_data.Given as goal
@@ -8,5 +8,5 @@ invariant-loop-k l = record {
   len : length l.marks ≡ l.cols + 2;
   first : slice_index l.marks 0 ≡ 0;
   last : slice_index l.marks (l.cols + 1) ≡ 0;
-  marks : (k : ℕ) → k < l.k → (slice_index l.marks (k + 1) ≡ 0 ↔ slice_index_or l.samples k (pos 0) ≡ NO_HEIGHT);
+  marks : (k : ℕ) → k < l.k → (slice_index l.marks (k + 1) ≡ 0 ↔ slice_index_or l.con (l.start + k) (pos 0) ≡ NO_HEIGHT);
 }
