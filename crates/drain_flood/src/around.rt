@@ -84,7 +84,8 @@ impl Flood {
         self.is_unreached(beside_inner(shape, place, direction))
     }
 
-    /// Looks in all directions from such a cell, one after the other.
+    /// Looks in all directions from such a cell, one after the other. Apart, so that the test before it is short.
+    #[inline(never)]
     fn look_each_way(&mut self, place: usize, level: i16, raises: bool) -> Result<bool, OutOfMemory>
         requires inner { IsInnerAt self.old.extent place }
         ensures extent { self.new.extent ≡ self.old.extent }

@@ -8,7 +8,7 @@
 //!
 //! Source: Priority-Flood (Barnes, Lehman and Mulla 2014), with traces as in Zhou, Sun and Fu (2016).
 
-ghost use Rattle.std.specs.Prelude.{◌≡◌, ◌↔◌, ◌+◌, ◌*◌, ◌<◌, ℕ, ℤ, pos, false, List, [], ◌∷◌, ◌++◌, None, MatchOption, IfSome, IfOk, OnOk, IsTrue, length, slice_index_or, vec_len, if◌then◌else◌};
+ghost use Rattle.std.specs.Prelude.{◌≡◌, ◌↔◌, ◌+◌, ◌*◌, ◌<◌, ℕ, pos, false, List, [], ◌∷◌, ◌++◌, None, MatchOption, IfSome, IfOk, OnOk, IsTrue, length, slice_index_or, vec_len, if◌then◌else◌};
 ghost use Rattle.drain_grid.specs.declared.sink_line.SinkLine.{SinkLine};
 ghost use Rattle.drain_grid.specs.SinkTexts.{is_listed};
 ghost use Rattle.drain_grid.specs.Spacing.{Distances};
