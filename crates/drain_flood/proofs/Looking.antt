@@ -5,9 +5,7 @@ use Rattle.drain_grid.specs.declared.direction.Direction.{Direction}
 use Rattle.drain_grid.specs.declared.direction.Direction.TheVariants.{East, SouthEast, South, SouthWest, West, NorthWest, North, NorthEast}
 use Rattle.drain_grid.specs.Direction.{rows_down, cols_right, directions}
 use Rattle.drain_grid.specs.Extent.{IsCellOf, index_of, Extent}
-use Rattle.drain_grid.proofs.Neighbors.{place, reach, step_gives, step_lies, direction_between, of_each}
-use Rattle.drain_grid.proofs.Runs.{index_of-below}
-use Rattle.drain_flood.specs.declared.layers.TheConstants.{UNREACHED}
+use Rattle.drain_grid.proofs.Neighbors.{place, reach, step_gives, direction_between, of_each}
 use Rattle.drain_flood.specs.Looks.{IsInnerPlace, IsPlaceBeside, IsFreshAt, IsLook, IsAround, IsLookedBefore, PassesLook}
 use Rattle.std.specs.Int.{int_max}
 use Rattle.std.proofs.lemmas.Int.{ints, clamps}
