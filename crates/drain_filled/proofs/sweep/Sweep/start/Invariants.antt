@@ -9,5 +9,5 @@ use Rattle.drain_filled.proofs.sweep.Sweep.start.Given as goal
 abbrev pub invariant-loop-place : goal.invariant-loop-place
 invariant-loop-place l = record {
   extent : l.sweep.extent ≡ l.ground.extent;
-  begun : (g : Grid) → HasDataCells g l.ground l.sinks → IsBetween g (λ c. slice_index_or l.heights (index_of l.ground.extent c) (pos 0)) → IsBegun g l.sweep l.place;
+  begun : (g : Grid) → HasDataCells g l.ground l.sinks → IsBetween g (λ c. slice_index_or l.fn.heights.items (index_of l.ground.extent c) (pos 0)) → IsBegun g l.sweep l.place;
 }
