@@ -223,7 +223,7 @@ fn route_narrow(
     })
 }
 
-/// The same of elevations of up to 33 bits.
+/// The same of any elevations.
 fn route_wide<D: AsRaster + Drop>(
     alloc: Global,
     dem: D,
@@ -239,8 +239,9 @@ fn route_wide<D: AsRaster + Drop>(
     ensures routes { IfOk result (λ routes. AreRoutes (spaced_dem_grid (spacing_of spacings.now) (D.raster dem) sinks.now) (D.raster dem).nodata routes.con.numbers routes.rnk.items routes.dir.items) }
 {
     follow.begin(Part::Surface);
-    let shape = dem.as_raster().shape();
-    let nodata = dem.as_raster().nodata();
+    let raster = dem.as_raster();
+    let shape = raster.shape();
+    let nodata = raster.nodata();
     let surface = surface_of(alloc, dem, sinks)?;
     follow.begin(Part::Directions);
     let codes = exact_directions(alloc, &surface, spacings)?;
@@ -272,9 +273,10 @@ fn surface_of<D: AsRaster + Drop>(
     ensures surface { IfOk result (λ surface. (spacing : ℕ → Distances) → IsSurfaceOf (spaced_dem_grid spacing (D.raster dem) sinks.now) surface) }
     ensures voids { IfOk result (λ surface. (spacing : ℕ → Distances) → ShowsVoids (spaced_dem_grid spacing (D.raster dem) sinks.now) surface (D.raster dem).nodata) }
 {
-    let ground = ground_of(alloc, dem.as_raster())?;
-    let heights = heights_of(alloc, dem.as_raster())?;
-    let void = void_number(dem.as_raster().nodata());
+    let raster = dem.as_raster();
+    let ground = ground_of(alloc, raster)?;
+    let heights = heights_of(alloc, raster)?;
+    let void = void_number(raster.nodata());
     drop(dem);
     filled_surface(alloc, &ground, heights, sinks, void)
 }

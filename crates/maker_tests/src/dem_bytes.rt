@@ -75,6 +75,19 @@ fn a_void_is_the_header_s_number(rt: HostRuntime) -> Result<(), Fail> {
 }
 
 #[test]
+fn a_void_is_that_of_a_tile(rt: HostRuntime) -> Result<(), Fail> {
+    let products = made_with(rt.alloc(), b"NODATA -32768\n")?;
+    same(&rt, "nodata", products.con.nodata(), -32768);
+    let con = Numbers::of(&products.con);
+    same_numbers(&rt, "con", con.as_slice(), &[7, -32768, 5, 6, -2, 5]);
+    let dir = Numbers::of(&products.dir);
+    same_numbers(&rt, "dir", dir.as_slice(), &[2, 255, 8, 1, 0, 16]);
+    let acc = Numbers::of(&products.acc);
+    same_numbers(&rt, "acc", acc.as_slice(), &[1, 0, 1, 1, 5, 1]);
+    Ok(())
+}
+
+#[test]
 fn a_byte_that_is_needed_is_missing(rt: HostRuntime) -> Result<(), Fail> {
     let short = BODY.get(..14).unwrap_or(&[]);
     let refused = refusal(rt.alloc(), b"", short)?;

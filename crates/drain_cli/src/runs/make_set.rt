@@ -337,7 +337,7 @@ fn read_and_make_dem<R: ByteSource>(
     };
     let Dem { header, raster } = read;
     let MadeSpacing { spacings, fault } = spacing_to_make(alloc, given, raster.shape());
-    match make_dem(alloc, &raster, &listed, &spacings, follow) {
+    match make_dem(alloc, raster, &listed, &spacings, follow) {
         Ok(products) => match fault {
             None => Ok((header, products)),
             Some(why) => Err(NoSet::Spacing(why)),
