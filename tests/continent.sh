@@ -5,7 +5,7 @@
 # Usage: tests/continent.sh DRAIN
 set -u
 DRAIN=$(realpath "$1")
-export DRAIN PYTHONDONTWRITEBYTECODE=1
+export DRAIN PYTHONDONTWRITEBYTECODE=1 PYTHONUNBUFFERED=1
 tests=$(cd "$(dirname "$0")" && pwd)/continent
 python=/usr/bin/python3
 
@@ -19,26 +19,31 @@ else
     exit 1
 fi
 
-# Modules run side by side. A report ends with OK or FAILED, and how many failed.
+# Modules run side by side, as many as JOBS says, or as there are processors. A report ends with how many tests ran, and how many failed; one
+# that has no test fails.
+at_once=${JOBS:-$(nproc)}
 scratch=$(mktemp -d)
 trap 'rm -rf "$scratch"' EXIT
 for module in "${modules[@]}"; do
-    (cd "$tests" && "$python" -m unittest "$module") >"$scratch/$module" 2>&1 &
+    while [ "$(jobs -rp | wc -l)" -ge "$at_once" ]; do wait -n; done
+    {
+        (cd "$tests" && "$python" -m unittest "$module") >"$scratch/$module" 2>&1
+        echo $? >"$scratch/$module.status"
+    } &
 done
 wait
 
 passed=0
 failed=0
 for module in "${modules[@]}"; do
-    report=$(cat "$scratch/$module")
-    bad=0
-    if ! [[ $report =~ Ran\ ([0-9]+)\ tests? ]]; then
-        ran=0 bad=1
-    elif ran=${BASH_REMATCH[1]} && [[ $report != *$'\nOK'* ]]; then
-        bad=$(grep -oE '(failures|errors)=[0-9]+' <<<"$report" | awk -F= '{ n += $2 } END { print n + 0 }')
+    ran=$(sed -nE 's/^Ran ([0-9]+) tests? in .*/\1/p' "$scratch/$module" | tail -n 1)
+    ran=${ran:-0} bad=0
+    if [ "$(cat "$scratch/$module.status")" != 0 ] || [ "$ran" = 0 ]; then
+        bad=$(sed -n '/^FAILED (/h; $ { x; p }' "$scratch/$module" | grep -oE '(failures|errors)=[0-9]+' | awk -F= '{ n += $2 } END { print n + 0 }')
         [ "$bad" -gt 0 ] || bad=1
+        echo "FAILED $module"
+        cat "$scratch/$module"
     fi
-    [ "$bad" = 0 ] || printf '%s\n' "$report"
     passed=$((passed + (ran > bad ? ran - bad : 0)))
     failed=$((failed + bad))
 done

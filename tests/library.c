@@ -127,6 +127,9 @@ static void test_refusals(void) {
     drain_tile twice[] = {tile, tile};
     drain_audit_rasters others;
     judge(none.at && !none.length && !none.missing, "no bytes have an address");
+    drain_bytes five = drain_bytes_of(NULL, 5), two = drain_bytes_of(no_sinks, 2);
+    judge(five.at && !five.length && five.missing == 5, "missing bytes: %zu, and %zu missing", five.length, five.missing);
+    judge(two.at == no_sinks && two.length == 2 && !two.missing, "two bytes: %zu, and %zu missing", two.length, two.missing);
     judge_refused("side 0", 0, &tile, 1, "", &rasters, "refused BadSide");
     judge_refused("side 1", 1, &tile, 1, "", &rasters, "refused BadSide");
     judge_refused("the greatest side", UINT32_MAX, &tile, 1, "", &rasters, "refused BadSide");
@@ -311,6 +314,27 @@ static void test_long_headers(void) {
     munmap(start, readable + five_gb);
 }
 
+/* Headers of the most rows and columns, and 18 bytes of elevations: these are too short, and no call asks for much memory. */
+static void test_large_headers(void) {
+    static const char text[] = "NROWS 28801\nNCOLS 28801\nNBITS 16\nULXMAP 0\nULYMAP 0\nXDIM 1\nYDIM 1\n";
+    drain_raster dem = {drain_bytes_of(text, strlen(text)), drain_bytes_of(text, 18)}, none = {dem.header, drain_bytes_of(NULL, 0)};
+    drain_audit_rasters four = {none, none, none, none};
+    drain_check_rasters five = {none, none, none, none, none};
+    drain_faults faults;
+    uint8_t map[1];
+    uint32_t numbers[3];
+    for (int i = 0; i < 5; i++) {
+        drain_answer answer = unwritten();
+        largest = 0;
+        uint32_t status = i == 0   ? drain_audit_dem(&dem, no_sinks, 0, &four, &answer)
+                          : i == 1 ? drain_audit_only_dem(&dem, no_sinks, 0, &four, DRAIN_CON, &answer)
+                          : i == 2 ? drain_check_dem(&dem, no_sinks, 0, &five, &answer)
+                          : i == 3 ? drain_explain_dem(&dem, no_sinks, 0, &four, DRAIN_ALL, map, 1, &faults, &answer)
+                                   : drain_derive_dem(&dem, &none, numbers, 1, numbers + 1, 1, numbers + 2, 1, &answer);
+        judge(status == 2 && says(&answer, 2, "refused RasterShort dem") && largest < 1 << 20, "large headers, call %d: a block of %zu bytes, status %u: %.164s", i, largest, status, answer.line);
+    }
+}
+
 /* Refuses each request for memory of a call: alone, and with every later one. The answer is out of memory, or, where the
  * library does without, the same as with it. Nothing is left allocated. */
 static void test_memory(int which) {
@@ -385,14 +409,19 @@ int main(int argc, char **argv) {
     test_rejection();
     test_choices(argv[5]);
     test_spacings(argv[5]);
+    test_calls();
+    test_refused_spacings();
     test_explanation(argv[5]);
     test_derivation(argv[5]);
     test_version();
     test_arrays(argv[5]);
+    test_kinds();
+    test_headers();
     test_dem(argv[5]);
     test_refusals();
     test_null();
     test_long_headers();
+    test_large_headers();
     for (int i = 0; i < CALLS; i++)
         test_memory(i);
     test_threads();

@@ -29,10 +29,14 @@ uint32_t derive_samples(drain_answer *answer);
 
 void test_choices(const char *line);
 void test_spacings(const char *line);
+void test_calls(void);
+void test_refused_spacings(void);
 void test_explanation(const char *line);
 void test_derivation(const char *line);
 void test_version(void);
 void test_arrays(const char *line);
+void test_kinds(void);
+void test_headers(void);
 void test_dem(const char *line);
 
 #endif

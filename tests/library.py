@@ -9,6 +9,7 @@ It prints a line for each test that failed, and in its last line 'N passed, M fa
 from __future__ import annotations
 
 import ctypes
+import itertools
 import sys
 from pathlib import Path
 
@@ -138,6 +139,72 @@ def is_dem_right(drain: judge.Drain) -> bool:
     )
 
 
+# Nine cells whose ways all lead to the middle one, a listed sink: so on cells of 1 by 2. On cells of 2 by 1 the corners
+# in the east fall more steeply along their column. Without the sink the middle cell has no way out.
+WELL_HEADER = b"NROWS 3\nNCOLS 3\nNBITS 8\nULXMAP 0\nULYMAP 1\nXDIM 0.5\nYDIM 0.5\n"
+WELL_Z = [9, 9, 9, 9, 1, 5, 9, 9, 9]
+WELL = {name: (WELL_HEADER, bytes(z)) for name, z in (("con", WELL_Z), ("dir", [2, 4, 8, 1, 0, 16, 128, 64, 32]))}
+
+
+def are_spacings_right(drain: judge.Drain) -> bool:
+    """What is said of the well on each spacing, over a tile and over one raster, and which cells are wrong."""
+    tile, dem = ("N00E000.hgt", bytes(byte for z in WELL_Z for byte in (0, z))), WELL["con"]
+    accepted, flat = "accepted rows=3 cols=3 data=9 raised=0 outlets=1", "rejected rule=12 FlatStep row=1 col=1"
+    steep = "rejected rule=10 Slope row=0 col=2"
+    cases = [
+        (None, b"1 1", accepted, {}),
+        (judge.Spacing(1, 2), b"1 1", accepted, {}),
+        (judge.Spacing(widths=b"1 2\n" * 3), b"1 1", accepted, {}),
+        (judge.Spacing(1, 2), b"", flat, {12: (1, 1, 1)}),
+        (judge.Spacing(2, 1), b"1 1", steep, {10: (2, 0, 2)}),
+        (judge.Spacing(widths=b"2 1\n" * 3), b"1 1", steep, {10: (2, 0, 2)}),
+        (judge.Spacing(widths=b"1 2\n1 2\n2 1"), b"1 1", "rejected rule=10 Slope row=2 col=2", {10: (1, 2, 2)}),
+    ]
+    for spacing, sinks, line, faults in cases:
+        audited = [drain.audit_only(3, [tile], WELL, sinks, spacing), drain.audit_only_dem(dem, WELL, sinks, spacing)]
+        explained = [
+            drain.explain(3, [tile], WELL, bytearray(9), sinks, spacing),
+            drain.explain_dem(dem, WELL, bytearray(9), sinks, spacing),
+        ]
+        lines = {it.line for it in [*audited, *(answer for answer, _ in explained)]}
+        found = [
+            {rule: (it.cells, it.row, it.col) for rule, it in enumerate(all_.rules, 1) if it.cells}
+            for _, all_ in explained
+        ]
+        if lines != {line} or found != [faults] * 2:
+            return False
+    return True
+
+
+# Of each kind of number the first, the no-data number and the last.
+KINDS = {
+    "ubyte": (200, 255, 3),
+    "byte": (-2, -128, 3),
+    "uint16": (65534, 65535, 258),
+    "int16": (-2, -9999, 258),
+    "uint32": (4294967294, 4294967295, 16909060),
+    "int32": (-2, -2147483648, 16909060),
+}
+
+
+def are_kinds_right(drain: judge.Drain) -> bool:
+    """Arrays of three numbers in a row or in a column, the middle one a void, are con of the same elevations."""
+    for name, (first, nodata, last) in KINDS.items():
+        for order, (rows, cols) in itertools.product(("le", "be"), ((1, 3), (3, 1))):
+            number = getattr(getattr(ctypes, f"c_{name}"), f"__ctype_{order}__")
+            array = ((number * cols) * rows)()
+            for place, value in enumerate((first, nodata, last)):
+                array[place // cols][place % cols] = value
+            heights = b"".join((it % 2**32).to_bytes(4, "little") for it in (first, 7, last))
+            kind = "UNSIGNEDINT" if name.startswith("u") else "SIGNEDINT"
+            header = f"NROWS {rows}\nNCOLS {cols}\nNBITS 32\nPIXELTYPE {kind}\nNODATA 7\n"
+            dem = f"{header}ULXMAP 0\nULYMAP 1\nXDIM 1\nYDIM 1\n".encode(), heights
+            con = judge.raster_of(array, nodata, 2, ["N00E000.hgt"])
+            if drain.audit_only_dem(dem, {"con": con}).line != f"accepted rows={rows} cols={cols} data=2 raised=0":
+                return False
+    return True
+
+
 def is_version_right(drain: judge.Drain) -> bool:
     """Whether the library has the version that the program prints."""
     return f"drain {drain.version()}\n" == (ROOT / "tests/program/expected/version.txt").read_text()
@@ -163,6 +230,8 @@ def main(path: str) -> int:
         "a derivation": is_derivation_right(drain),
         "arrays": are_arrays_right(drain),
         "one raster of elevations": is_dem_right(drain),
+        "spacings": are_spacings_right(drain),
+        "arrays of each kind": are_kinds_right(drain),
         "the version": is_version_right(drain),
         "NULL for no bytes": line_with(drain, judge.Bytes(None)) == "refused RasterShort bas",
         "NULL for 5 bytes": line_with(drain, judge.Bytes(None, 5)) == "refused NullBytes",

@@ -82,22 +82,25 @@ if command -v c++ >/dev/null; then
     add 'the header in C++' $?
 fi
 
-# Runs a program of tests, whose last line counts them.
+# Runs a program of tests, whose last line counts them. One that fails without a failure in this line, or that runs
+# nothing, is a failure.
 add_all() {
     "$@" >"$scratch/out" 2>&1
+    local status=$? last
+    last=$(tail -n 1 "$scratch/out")
     sed '$d' "$scratch/out"
-    if [[ "$(tail -n 1 "$scratch/out")" =~ ^([0-9]+)\ passed,\ ([0-9]+)\ failed$ ]]; then
+    if [[ $last =~ ([0-9]+)\ passed,\ ([0-9]+)\ failed$ ]]; then
         passed=$((passed + BASH_REMATCH[1]))
         failed=$((failed + BASH_REMATCH[2]))
-    else
-        tail -n 1 "$scratch/out"
-        echo "FAILED $1: no count"
-        failed=$((failed + 1))
+        [ "${BASH_REMATCH[2]}" != 0 ] || { [ $status = 0 ] && [ "${BASH_REMATCH[1]}" != 0 ]; } && return
     fi
+    echo "FAILED $1: status $status, $last"
+    failed=$((failed + 1))
 }
 
 add_all "$scratch/library" 51 $sets/saga-counted $tile N36W085.hgt "$accepted"
 add_all tests/library.py "$scratch/libdrain.so"
+add_all tests/program/random_floats.py --library "$scratch/libdrain.so"
 
 echo "$passed passed, $failed failed"
 [ "$failed" -eq 0 ]

@@ -14,6 +14,7 @@ import sys
 import tempfile
 import types
 import unittest
+from collections.abc import Sequence
 
 ROOT = pathlib.Path(__file__).resolve().parent.parent
 sys.dont_write_bytecode = True
@@ -89,6 +90,18 @@ OUTPUTS = [
     ("an invariant's goal", INVARIANTS + WRONG + NOT_PROVED + DONE, "refused by returns-clause-row"),
 ]
 
+LEMMA = "./proofs/Lemmas.antt:3:9: error: "
+OF_TYPE = "`gap`: expected type `IsGap None`, but this has type `Unit {0}`\n"
+LAW = "fn made::laws::law: not proved\n"
+UNCHECKED = "./proofs/laws/law/Answers.antt:5:5: error: 1 declaration that depends on `gap` was not checked: returns\n"
+
+# The same of an edit of specs/ on the law.
+OUTPUTS_OF_DEFINITIONS = [
+    ("a lemma", LEMMA + OF_TYPE + UNCHECKED + LAW + DONE, "refused by gap"),
+    ("a lemma's name alone", LEMMA + NO_NAME + UNCHECKED + LAW + DONE, "NOT REFUSED: only a name in its proof"),
+    ("proved", "fn made::laws::law: proved\n" + DONE, "NOT REFUSED"),
+    ("a definition that is none", "./specs/Open.antt:9:9: error: " + OF_TYPE + LAW + DONE, "NOT REFUSED"),
+]
 
 # Texts of a file, and the function that each is in.
 PLACES = """//! A file.
@@ -183,12 +196,31 @@ class Edits(unittest.TestCase):
                 self.assertEqual(found, expected)
         self.assertEqual(try_named_edits.function_at("src/a/b.rt", "fn f() {}", 3), "a::b::f")
 
-    def test_verdicts(self) -> None:
-        edit = try_named_edits.Edit(self.edit("file: src/rows.rt\nold: a()\nnew: c()\nonly: rows::Rows::next\n"))
-        for name, said, expected in OUTPUTS:
+    def compare_verdicts(self, edit: str, outputs: Sequence[tuple[str, str, str]]) -> None:
+        """Compares what is found of each output of the prover."""
+        wrong = try_named_edits.Edit(self.edit(edit))
+        for name, said, expected in outputs:
             with self.subTest(name):
-                found = try_named_edits.verdict("made", edit, said)
+                found = try_named_edits.verdict("made", wrong, said)
                 self.assertEqual(found, (expected, expected.startswith("refused")))
+
+    def test_verdicts(self) -> None:
+        self.compare_verdicts("file: src/rows.rt\nold: a()\nnew: c()\nonly: rows::Rows::next\n", OUTPUTS)
+
+    def test_verdicts_on_definitions(self) -> None:
+        (self.crate / "specs").mkdir()
+        (self.crate / "specs/Open.antt").write_text("open = a", encoding="utf-8")
+        self.compare_verdicts("file: specs/Open.antt\nold: a\nnew: b\nonly: laws::law\n", OUTPUTS_OF_DEFINITIONS)
+
+    def test_a_definition_is_tried_alone(self) -> None:
+        (self.crate / "specs").mkdir()
+        (self.crate / "specs/Open.antt").write_text("open = a", encoding="utf-8")
+        self.edit("file: specs/Open.antt\nold: a\nnew: b\nonly: laws::law\n", "first")
+        self.edit("file: src/lib.rt\nold: a()\nnew: c()\nonly: one\n", "second")
+        self.edit("file: src/rows.rt\nold: a()\nnew: c()\nonly: one\n", "third")
+        rounds = try_named_edits.rounds_of(self.crate, try_named_edits.edits_of(self.crate))
+        names = [[edit.name for edit in found.edits] for found in rounds]
+        self.assertEqual(names, [["made/first"], ["made/second", "made/third"]])
 
 
 class Script(unittest.TestCase):

@@ -93,14 +93,16 @@ refuse() {
     done 2>/dev/null | judge "$crate"
 }
 
-running=()
+# Crates run side by side, as many as JOBS says, or as there are processors.
+at_once=${JOBS:-$(nproc)}
 for each in "$@"; do
-    refuse "$each" &
-    running+=($!)
+    while [ "$(jobs -rp | wc -l)" -ge "$at_once" ]; do wait -n; done
+    { refuse "$each" && : >"$scratch/$each.passed"; } &
 done
+wait
 failed=0
-for each in "${running[@]}"; do
-    wait "$each" || failed=1
+for each in "$@"; do
+    [ -e "$scratch/$each.passed" ] || failed=1
 done
 [ "$failed" != 0 ] || echo "ok: no test hides that memory ran out"
 exit "$failed"

@@ -328,7 +328,7 @@ fi
 copy=$scratch/copy
 mkdir -p "$copy"
 cp -r "$top/tools" "$copy/"
-(cd "$top" && find crates.txt HANDLES crates/*/src crates/*/specs crates/*/proofs -type f -print0 | xargs -0 cp --parents -t "$copy")
+(cd "$top" && find crates.txt HANDLES crates/*/src crates/*/specs crates/*/proofs crates/*/include -type f -print0 | xargs -0 cp --parents -t "$copy")
 cat >"$copy/tools/build_program.py" <<PY
 #!/bin/sh
 # A stand-in: build_program.py --anew [--v3] drain TARGET

@@ -15,7 +15,8 @@ from scripts import EXAMPLE, SHELL_LOOP
 SIDE = 5
 PROGRAM = """#!/bin/sh
 # Stands in for `drain`: notes its words in $OUT/words, writes a report, and does what $OUT/answer says.
-# A merge does what $OUT/merged says, that of a group what $OUT/joined says. While a window is judged, the file $grows grows.
+# --version prints what $0.version has. A merge does what $OUT/merged says, that of a group what $OUT/joined says. While a window is judged, the file $grows grows.
+[ "$1" != --version ] || exec cat "$0.version"
 echo "$*" >>"$OUT/words"
 if [ "$1" = merge ]; then
     said=merged
@@ -78,6 +79,7 @@ class JobCase(unittest.TestCase):
         self.program = self.folder / "drain"
         self.program.write_text(PROGRAM)
         self.program.chmod(0o755)
+        self.program.with_suffix(".version").write_text("drain 9\nlogic 1\n")
         command = [sys.executable, "-B", EXAMPLE / "windows.py", "--side", str(SIDE), "--width", "1"]
         subprocess.run([*command, *self.PLAN, self.folder / "tiles", self.out], check=True, stdout=subprocess.DEVNULL)
         self.lines = (self.out / "windows.txt").read_text().splitlines()
@@ -128,9 +130,12 @@ class JobCase(unittest.TestCase):
         path.unlink(missing_ok=True)
         return found
 
+    def window_calls(self) -> dict[str, str]:
+        """The words for each window that was judged since the last time."""
+        return {found[1]: words for words in self.calls() if (found := re.search(r"/work/(\w+)\.\w+/report ", words))}
+
     def judged(self) -> list[str]:
-        """The windows that were judged since the last time."""
-        return sorted({found[1] for words in self.calls() if (found := re.search(r"/work/(\w+)\.\w+/report ", words))})
+        return sorted(self.window_calls())
 
     def kept(self) -> dict[str, str]:
         """What is there of answers, and of folders for work."""

@@ -15,5 +15,15 @@ while read -r words; do "$HERE/job.sh" $words || echo "failed: $words"; done <"$
 """
 
 
+SLOPES = "slopes: square cells\n"
+"""What a merge of a union says on standard error where no spacing is given."""
+
+
+def beside_slopes(said: str, slopes: str = SLOPES) -> str:
+    """What it says besides, which has to name these slopes once."""
+    assert said.count("slopes: ") == said.count(slopes) == 1, said
+    return said.replace(slopes, "")
+
+
 def void_tile(side: int) -> bytes:
     return b"\x80\x00" * side**2

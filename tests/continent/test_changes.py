@@ -1,17 +1,20 @@
 """What makes an answer void, and the windows that are judged again, with a stand-in for `drain`."""
 
 import os
+import re
 import shlex
 import shutil
 import string
 import subprocess
 import tempfile
+import time
 import unittest
 from collections.abc import Callable
 from pathlib import Path
+from unittest import mock
 
 from job_case import JobCase
-from scripts import EXAMPLE
+from scripts import EXAMPLE, SLOPES
 from snakefile import rules_of
 
 from answers import Answers
@@ -39,7 +42,16 @@ def replace(path: Path) -> None:
     os.replace(copy, path)
 
 
-CHANGES: list[Callable[[Path], None]] = [grow, date_back, replace]
+def rewrite(path: Path) -> None:
+    """Bytes written in place, and the time put back, as `touch -r` does."""
+    before = path.stat()
+    time.sleep(0.02)  # The clock of files may stand still for a hundredth of a second.
+    with open(path, "r+b") as file:
+        file.write(path.read_bytes()[:1])
+    os.utime(path, ns=(before.st_atime_ns, before.st_mtime_ns))
+
+
+CHANGES: list[Callable[[Path], None]] = [grow, date_back, replace, rewrite]
 
 
 class Changes(JobCase):
@@ -49,17 +61,20 @@ class Changes(JobCase):
         super().setUp()
         self.sinks = self.folder / "sinks.txt"
         self.sinks.write_text("1 1\n")
-        self.env["SINKS"] = str(self.sinks)
+        self.widths = self.folder / "widths.txt"
+        self.widths.write_text("2 1\n" * 13)
+        self.version = self.folder / "drain.version"
+        self.env |= {"SINKS": str(self.sinks), "WIDTHS": str(self.widths)}
         self.con = self.folder / "rasters/con.bil"
 
     def inputs(self) -> list[Path]:
         """The files that the middle window, r1c1, is judged of."""
         rasters = [self.folder / f"rasters/{name}" for name in ("con.bil", "con.hdr", "acc.bil", "bas.hdr")]
         tiles = [self.folder / f"tiles/{name}.hgt" for name in ("N01E001", "N01E002", "N00E001", "N00E002")]
-        return [*rasters, *tiles, self.sinks]
+        return [*rasters, *tiles, self.sinks, self.widths, self.program]
 
     def answers(self) -> Answers:
-        return Answers(self.env["OUT"], self.env["RASTERS"], self.env["SINKS"])
+        return Answers(self.env)
 
     def refused_by(self, said: str) -> None:
         """The merge says why an answer doesn't count, and nothing else."""
@@ -68,7 +83,7 @@ class Changes(JobCase):
         self.assertIn(f"r1c1: {said}", run.stderr)
 
     def test_each_file(self) -> None:
-        """An answer names the first file that isn't the same, by size, time or inode."""
+        """An answer names the first file that isn't the same, by size, times or inode."""
         window = Window.of(self.lines[4].split())
         for path in [*self.inputs(), self.out / "lines/r1c1.txt", self.out / "reports/r1c1.txt"]:
             for change in CHANGES:
@@ -89,7 +104,10 @@ class Changes(JobCase):
         for path, change in [
             (self.con, date_back),
             (self.folder / "tiles/N00E002.hgt", replace),
+            (self.con, rewrite),
             (self.sinks, grow),
+            (self.widths, rewrite),
+            (self.program, replace),
             (self.out / "reports/r1c1.txt", replace),
         ]:
             with self.subTest(path.name):
@@ -112,10 +130,18 @@ class Changes(JobCase):
                 (self.folder / "gone").rename(path)
 
     def test_other_files(self) -> None:
-        """Another list of sinks, none, and other rasters."""
+        """Another list of sinks, none, other rasters, other distances, and another program."""
         shutil.copytree(self.folder / "rasters", self.folder / "other")
         (self.folder / "other.txt").write_text("1 1\n")
+        self.sinks.write_text("1 1\n" * 13)
+        program = self.folder / "program"
+        shutil.copy2(self.program, program)
+        shutil.copy2(self.version, self.folder / "program.version")
         for env, name in [
+            ({"WIDTHS": ""}, self.widths),
+            ({"WIDTHS": "", "SPACING": "2,1"}, "SPACING"),
+            ({"SINKS": str(self.widths), "WIDTHS": str(self.sinks)}, "SINKS"),
+            ({"DRAIN": str(program)}, program),
             ({"SINKS": str(self.folder / "other.txt")}, self.folder / "other.txt"),
             ({"SINKS": ""}, self.sinks),
             ({"RASTERS": str(self.folder / "other")}, self.folder / "other/con.bil"),
@@ -127,6 +153,21 @@ class Changes(JobCase):
                 self.assertEqual((run.returncode, run.stdout, self.calls()), (3, "", []))
                 self.assertIn(f"r1c1: {name} changed", run.stderr)
                 self.assertEqual((self.job(**env), self.judged()), (0, ["r1c1"]))
+
+    def test_another_version(self) -> None:
+        """Of a program whose file is the same, and one that has none."""
+        self.job()
+        self.calls()
+        self.version.write_text("drain 10\nlogic 1\n")
+        self.refused_by(f"{self.program} --version changed after the window was judged\n")
+        self.assertEqual((self.job(), self.judged()), (0, ["r1c1"]))
+        path = f"{self.folder}:{os.environ['PATH']}"
+        self.assertEqual((self.job(DRAIN="drain", PATH=path), self.judged()), (0, []))
+        self.version.unlink()
+        for program in (str(self.program), str(self.version)):
+            run = self.run_script("job.sh", *self.lines[4].split(), DRAIN=program)
+            self.assertEqual((run.returncode, self.calls()), (3, []))
+            self.assertIn(f"r1c1: {program}", run.stderr)
 
     def test_another_line_of_the_plan(self) -> None:
         self.job()
@@ -149,19 +190,39 @@ class Changes(JobCase):
                 self.assertEqual(run.stderr, f"r1c1: {path} changed while the window was judged\n")
 
     def test_engines(self) -> None:
-        """All windows that read a changed file are judged again, and only these."""
+        """All windows that read a changed file are judged again, and only these; each over the distances of its rows."""
         names = self.shorten_plan()
         for engine in self.engines():
-            for path, windows in [
-                (self.con, names),
-                (self.folder / "rasters/acc.hdr", names),
-                (self.folder / "tiles/N02E000.hgt", ["r0c0"]),
-                (self.out / "reports/r1c1.txt", ["r1c1"]),
+            for path, change, windows in [
+                (self.con, rewrite, names),
+                (self.folder / "rasters/acc.hdr", date_back, names),
+                (self.program, rewrite, names),
+                (self.widths, date_back, names),
+                (self.folder / "tiles/N02E000.hgt", date_back, ["r0c0"]),
+                (self.out / "reports/r1c1.txt", date_back, ["r1c1"]),
             ]:
                 with self.subTest(engine=engine, path=path.name):
-                    date_back(path)
+                    change(path)
                     verdict, said = self.run_engine(engine)
                     self.assertEqual((verdict, self.judged()), ("accepted of all\n", windows), said)
+
+    def test_distances_by_each_engine(self) -> None:
+        """Widths by row, cut for each window, one spacing, and none."""
+        names = self.shorten_plan()
+        for engine in self.engines():
+            for env, words, slopes in [
+                ({}, "--widths /widths.txt", f"widths by row, {self.widths}"),
+                ({"SPACING": "2,1", "WIDTHS": ""}, "--spacing 2,1", "spacing 2,1"),
+                ({"WIDTHS": ""}, "", "square cells"),
+            ]:
+                with self.subTest(engine=engine, slopes=slopes), mock.patch.dict(self.env, env):
+                    verdict, said = self.run_engine(engine)
+                    self.assertEqual((verdict, f"slopes: {slopes}\n" in said), ("accepted of all\n", True), said)
+                    calls = self.window_calls()
+                    self.assertEqual(sorted(calls), names)
+                    for call in calls.values():
+                        found = " ".join(re.findall(r"--(?:widths|spacing) \S+", call))
+                        self.assertEqual(re.sub(r"\S+/work/\w+\.cut\.\w+", "", found), words)
 
 
 class Refusals(JobCase):
@@ -214,7 +275,7 @@ class Refusals(JobCase):
         run = self.run_script("merge.sh")
         self.assertEqual((run.returncode, run.stdout), (3, ""))
         self.assertIn(f"r1c1: {report} changed after the window was judged\n", run.stderr)
-        self.assertEqual((self.run_engine("loop"), self.judged()), (("accepted of all\n", ""), ["r1c1"]))
+        self.assertEqual((self.run_engine("loop"), self.judged()), (("accepted of all\n", SLOPES), ["r1c1"]))
         self.assertEqual(report.read_text(), "report\n")
 
     def test_a_report_that_a_merge_cannot_read(self) -> None:
@@ -264,16 +325,19 @@ class Snakefile(JobCase):
         self.assertEqual(sorted(self.folder.iterdir()), before)
 
     def test_inputs(self) -> None:
-        """Tiles, rasters with their headers, the list and the scripts."""
+        """Tiles, rasters with their headers, the lists and the scripts."""
         sinks = self.folder / "sinks.txt"
         sinks.write_text("1 1\n")
-        rules = rules_of(EXAMPLE / "Snakefile", EXAMPLE, {**self.env, "SINKS": str(sinks)})
+        widths = self.folder / "widths.txt"
+        widths.write_text("2 1\n" * 13)
+        lists = {"SINKS": str(sinks), "WIDTHS": str(widths)}
+        rules = rules_of(EXAMPLE / "Snakefile", EXAMPLE, {**self.env, **lists})
         tiles = [f"{self.folder}/tiles/{name}.hgt" for name in ("N01E001", "N01E002", "N00E001", "N00E002")]
         rasters = [
             f"{self.folder}/rasters/{name}.{kind}" for name in ("con", "dir", "acc", "bas") for kind in ("bil", "hdr")
         ]
         scripts = [f"{EXAMPLE}/{name}" for name in ("job.sh", "cut.py", "windows.py")]
-        self.assertLessEqual({*tiles, *rasters, *scripts, str(sinks)}, set(rules["window"].of("r1c1").input))
+        self.assertLessEqual({*tiles, *rasters, *scripts, *lists.values()}, set(rules["window"].of("r1c1").input))
         self.assertIn(f"{EXAMPLE}/merge.sh", rules["verdict"].of("").input)
 
     def test_answers_that_do_not_count(self) -> None:

@@ -5,7 +5,8 @@ import subprocess
 import sys
 import tempfile
 import unittest
-from collections.abc import Sequence
+from collections.abc import Callable, Sequence
+from dataclasses import replace
 from pathlib import Path
 
 import numpy as np
@@ -13,7 +14,8 @@ from osgeo import gdal
 from scripts import EXAMPLE
 
 from answers import Answers
-from cut import NO_DATA, cut_sinks, opened
+from cut import NO_DATA, cut_sinks, cut_widths, opened
+from rasters import CannotCut
 from windows import Box, Window
 
 gdal.UseExceptions()
@@ -35,6 +37,7 @@ MIDDLE = Window(
     "r1c1", Box(1, 1, 12, 12), "nesw", Box(10, 10, 21, 21), ["x/N00W002.hgt", "x/N00W001.hgt", "x/S01W001.hgt"]
 )
 CORNER = Window("r2c3", Box(1, 1, 10, 10), "nw", Box(20, 30, 11, 11), ["x/S01E000.hgt"])
+ONE_ROW = Window("w", Box(0, 0, 1, 9), "", Box(0, 0, 1, 9), ["x.bil"])
 
 
 def numbers(kind: np.dtype, seed: int) -> np.ndarray:
@@ -132,6 +135,19 @@ class Cuts(unittest.TestCase):
         self.assertEqual(self.run_script(MIDDLE), "")
         self.judge(MIDDLE, self.arrays)
 
+    def test_headers_with_other_words(self) -> None:
+        """BANDROWBYTES in place of TOTALROWBYTES; no PIXELTYPE, which is signed for 16 bits alone."""
+        self.arrays = {
+            name: numbers(np.dtype(kind), 9) for name, kind in [("con", "i2"), ("dir", "u1"), ("acc", "u4"), ("bas", "i2")]
+        }
+        for padding, (name, array) in enumerate(self.arrays.items()):
+            write_bil(self.rasters / f"{name}.bil", array, padding=padding)
+            header = self.rasters / f"{name}.hdr"
+            text = header.read_text().replace("TOTALROWBYTES", "BANDROWBYTES")
+            header.write_text(re.sub(r"PIXELTYPE .*\n", "", text))
+        self.assertEqual(self.run_script(MIDDLE), "")
+        self.judge(MIDDLE, self.arrays)
+
     def test_no_data_numbers(self) -> None:
         write_bil(self.rasters / "con.bil", self.arrays["con"], more="NODATA -9999.0\n")
         self.assertEqual(self.run_script(MIDDLE), "")
@@ -173,9 +189,10 @@ class Cuts(unittest.TestCase):
         ]:
             found = opened(self.rasters, name).files
             self.assertEqual((found[0], sorted(found)), (files[0], sorted(files)))
-        before = Answers("out", str(self.rasters), "").states
+        env = {"OUT": "out", "RASTERS": str(self.rasters), "DRAIN": "/bin/true"}
+        before = Answers(env).states
         parts[1].touch()
-        self.assertNotEqual(Answers("out", str(self.rasters), "").states, before)
+        self.assertNotEqual(Answers(env).states, before)
 
     def test_cells_that_a_raster_lacks(self) -> None:
         """Rasters of 15 by 12 cells from the union's cell (12, 14) on, in a mosaic of 21 by 21 from (10, 10) on."""
@@ -233,6 +250,8 @@ class Cuts(unittest.TestCase):
             ("pixels too wide", "YDIM 0.1", "YDIM 0.05", "aren't square"),
             ("a key twice", "NBITS 16", "NBITS 16\nNBITS 8", "NBITS stands twice"),
             ("part of a number", "NBITS 16", "NBITS 16\nNODATA -9999.5", "isn't whole"),
+            ("not a number", "NBITS 16", "NBITS 16\nNODATA nan", "isn't whole"),
+            ("a long number", "NBITS 16", "NBITS 16\nNODATA 1e999999999", "isn't whole, or has more than 32 bits"),
             ("no place", "ULYMAP 2\n", "", "no header of a raster: 'ULYMAP'"),
             ("floating point", "SIGNEDINT", "FLOAT", "not one band of whole numbers"),
             ("64 bits", "NBITS 16", "NBITS 64", "not one band of whole numbers"),
@@ -256,6 +275,49 @@ class Cuts(unittest.TestCase):
         self.assertIn("1 bands of Float32; one of whole numbers is needed", self.run_script(MIDDLE))
         (self.rasters / "con.tif").write_bytes(b"none")
         self.assertIn("con.tif", self.run_script(MIDDLE))
+
+    def test_tifs_that_are_refused(self) -> None:
+        """Pixels are cut as they are: what says that they mean other numbers, or none, is refused, of a DEM too."""
+        changes: list[tuple[str, Callable[[gdal.Dataset, gdal.Band], object], str]] = [
+            ("a scale", lambda _, band: band.SetScale(10), "a scale or an offset"),
+            ("an offset", lambda _, band: band.SetOffset(-5), "a scale or an offset"),
+            ("a mask", lambda _, band: band.CreateMaskBand(gdal.GMF_PER_DATASET), "a mask"),
+            ("part of a number", lambda _, band: band.SetNoDataValue(-9999.5), "isn't whole"),
+            ("not a number", lambda _, band: band.SetNoDataValue(float("nan")), "isn't whole"),
+            ("no bound", lambda _, band: band.SetNoDataValue(float("-inf")), "isn't whole"),
+            ("south above", lambda file, _: file.SetGeoTransform([-3.05, 0.1, 0, -1.05, 0, 0.1]), "north above"),
+            ("turned", lambda file, _: file.SetGeoTransform([-3.05, 0.1, 0.01, 2.05, 0.01, -0.1]), "north above"),
+            ("sheared", lambda file, _: file.SetGeoTransform([-3.05, 0.1, 0, 2.05, 0.01, -0.1]), "north above"),
+            ("neither", lambda _, band: (band.SetScale(1), band.SetOffset(0), band.SetNoDataValue(-9999)), ""),
+        ]
+        for number, (name, change, said) in enumerate(changes):
+            with self.subTest(name):
+                dem = self.folder / f"{number}.tif"
+                write_tif(dem, self.arrays["con"])
+                file = gdal.Open(str(dem), gdal.GA_Update)
+                change(file, file.GetRasterBand(1))
+                file = None
+                for bil in self.rasters.glob("con.*"):
+                    bil.unlink()
+                for beside in self.folder.glob(f"{number}.tif*"):
+                    (self.rasters / beside.name.replace(str(number), "con", 1)).write_bytes(beside.read_bytes())
+                self.assertIn(said, found := self.run_script(MIDDLE))
+                self.assertEqual(bool(found), bool(said), found)
+                write_bil(self.rasters / "con.bil", self.arrays["con"])
+                window = Window("w", Box(0, 0, 9, 9), "", Box(0, 0, 9, 9), [str(dem)])
+                self.assertIn(said, found := self.run_script(window))
+                self.assertEqual(bool(found), bool(said), found)
+
+    def test_tifs_off_a_dem(self) -> None:
+        """By this share of a pixel along each axis."""
+        write_bil(self.folder / "dem.bil", self.arrays["con"])
+        (self.rasters / "con.bil").unlink()
+        window = Window("w", Box(0, 0, 9, 9), "", Box(0, 0, 9, 9), [str(self.folder / "dem.bil")])
+        for key, place in (("west", WEST), ("north", NORTH)):
+            for shift in (-10, -1, -0.4, 0, 0.4, 1, 10):
+                with self.subTest(key=key, shift=shift):
+                    write_tif(self.rasters / "con.tif", self.arrays["con"], **{key: place + shift / STEPS})
+                    self.assertEqual("con.tif: it doesn't lie where" in self.run_script(window), shift != 0)
 
     def test_parts_of_a_dem(self) -> None:
         """Boxes of pixels of any size, with and without a no-data number, out of BIL files and what GDAL reads."""
@@ -301,9 +363,35 @@ class Sinks(unittest.TestCase):
             (b"11\n", b"11\n"),
             (b"11 11 11\n", b"11 11 11\n"),
             (b"x", b"x"),
+            (b"9" * 5_000 + b" 11\n", b"9" * 5_000 + b" 11\n"),
+            (b"0" * 5_000 + b"11 11\n", b"1 1\n"),
         ]:
             with self.subTest(line):
                 self.assertEqual(list(cut_sinks(iter([line]), MIDDLE)), [expected])
+
+
+class Widths(unittest.TestCase):
+    """Texts by row, in a mosaic of rows 10 to 30, beyond which the union goes on, or ends."""
+
+    ROWS = [b"%d 2000\n" % (1_000 + row) for row in range(40)]
+    SOUTH = replace(MIDDLE, inner="new")
+
+    def test_rows(self) -> None:
+        """Those of the mosaic, however their lines are written; empty lines are no rows."""
+        text = [b"\n", *self.ROWS[:10], b" \t\r\n", b" 01010\t2000\r\n", b"\n", *self.ROWS[11:30], b"1030 2000"]
+        for window, more in ((MIDDLE, []), (self.SOUTH, []), (MIDDLE, [b"\n", *self.ROWS[31:]])):
+            self.assertEqual(list(cut_widths([*text, *more], window)), self.ROWS[10:31])
+
+    def test_texts_that_are_refused(self) -> None:
+        first, ends = self.ROWS[:3], (b"1 0\n", b"0 1\n", b"1073741825 1\n", b"1 1073741825", b"x", b"1", b"1 2 3\n")
+        texts = [([*first, end, *self.ROWS[4:31]], MIDDLE, "line 4 isn't a width") for end in ends]
+        texts += [([*first, end], MIDDLE, "line 4 isn't") for end in (b"-1 2\n", b"1.5 2\n", b"9" * 5_000 + b" 1\n")]
+        texts += [(self.ROWS[:30], MIDDLE, "it has 30 rows, and the union at least 31$")]
+        texts += [(self.ROWS[:count], self.SOUTH, f"it has {count} rows, and the union 31$") for count in (0, 30, 32)]
+        for text, window, said in texts:
+            with self.subTest(said=said, text=text[-1:]), self.assertRaisesRegex(CannotCut, f"^{said}"):
+                list(cut_widths(text, window))
+        self.assertEqual(list(cut_widths([b"1073741824 01\n"], ONE_ROW)), [b"1073741824 1\n"])
 
 
 if __name__ == "__main__":

@@ -1,4 +1,5 @@
-"""Windows of one DEM in boxes of pixels, beside an audit of it whole. DRAIN in the environment names the program."""
+"""Windows of one DEM in boxes of pixels, beside an audit of it whole, and distances by row, of tiles too. DRAIN in the
+environment names the program."""
 
 import os
 import re
@@ -7,10 +8,15 @@ import subprocess
 import sys
 import tempfile
 import unittest
+from decimal import Decimal
 from pathlib import Path
 
-from scripts import EXAMPLE, SHELL_LOOP
-from unions import FORMS, ground, run
+from scripts import EXAMPLE, SHELL_LOOP, SLOPES, beside_slopes
+from unions import FORMS, SIDE, Union, Windows, ground, run, write_tiles
+
+from cut import cut_window
+from rasters import NO_DATA, CannotCut
+from windows import Box, Window
 
 ROWS, COLS, PIXELS = 41, 67, 20
 BOTTOM = 2**15
@@ -55,12 +61,13 @@ class Dem(unittest.TestCase):
         command = [sys.executable, "-B", EXAMPLE / "windows.py", "--dem", self.dem, *words, self.out]
         return subprocess.run(list(map(str, command)), capture_output=True, text=True, check=False)
 
-    def judge(self) -> tuple[str, str]:
-        done = subprocess.run(["sh", "-c", SHELL_LOOP], env=self.env, capture_output=True, text=True, check=False)
-        return done.stdout.rstrip("\n"), done.stderr
+    def judge(self, slopes: str = SLOPES, **env: object) -> tuple[str, str]:
+        given = {**self.env, **{name: str(value) for name, value in env.items()}}
+        done = subprocess.run(["sh", "-c", SHELL_LOOP], env=given, capture_output=True, text=True, check=False)
+        return done.stdout.rstrip("\n"), beside_slopes(done.stderr, slopes)
 
-    def whole(self) -> str:
-        return run("audit", "--dem", self.dem, "--products", self.rasters, "--sinks", self.sinks)
+    def whole(self, *words: object) -> str:
+        return run("audit", "--dem", self.dem, "--products", self.rasters, "--sinks", self.sinks, *words)
 
     def test_plan(self) -> None:
         run_ = self.plan("--pixels", str(PIXELS))
@@ -90,6 +97,26 @@ class Dem(unittest.TestCase):
         self.assertTrue(self.whole().startswith("rejected "))
         self.assertEqual(self.judge(), (self.whole(), ""))
 
+    def test_distances(self) -> None:
+        """Those of all cells, those of the header, and those of each row: without them another slope is the steepest."""
+        self.assertEqual(self.plan("--pixels", "30").returncode, 0)
+        widths = self.folder / "widths.txt"
+        widths.write_text("".join(f"{20 + row} 30\n" for row in range(ROWS)))
+        for words, said, *given in [
+            (("--spacing", "25,30"), "spacing 25,30", {"SPACING": "25,30"}),
+            (("--spacing", "header"), "spacing header", {"SPACING": "header"}),
+            (("--widths", widths), f"widths by row, {widths}", {"WIDTHS": widths}),
+        ]:
+            with self.subTest(said):
+                self.made("--sinks", self.sinks, *words)
+                self.assertTrue(self.whole(*words).startswith("accepted "))
+                self.assertEqual(self.judge(f"slopes: {said}\n", **given[0]), (self.whole(*words), ""))
+                self.assertTrue(self.whole().startswith("rejected rule=10 "))
+        self.assertEqual(self.judge(), (self.whole(), ""))
+        widths.write_text("".join(f"{20 + row} 30\n" for row in range(ROWS + 1)))
+        _, said = self.judge(f"slopes: widths by row, {widths}\n", WIDTHS=widths)
+        self.assertIn(f"r1c0: {widths}: it has {ROWS + 1} rows, and the union {ROWS}\n", said)
+
     def test_a_dem_that_changes(self) -> None:
         """Its windows are judged again, also after a change of its header alone."""
         self.plan("--pixels", str(PIXELS))
@@ -109,7 +136,14 @@ class Dem(unittest.TestCase):
         self.plan("--pixels", str(PIXELS))
         header = self.rasters / "bas.hdr"
         text = header.read_text()
-        for key, number in [("NROWS", ROWS - 1), ("ULXMAP", 431013.5), ("YDIM", 30.1)]:
+        for key, number in [
+            ("NROWS", ROWS - 1),
+            ("ULXMAP", 431013.5),
+            ("ULXMAP", 431012.5 - 10 * 25),
+            ("ULYMAP", 5271987.5 - 10 * 30),
+            ("YDIM", 30.1),
+            ("YDIM", 5 * 30),
+        ]:
             header.write_text(re.sub(rf"^{key} .*$", f"{key} {number}", text, flags=re.MULTILINE))
             self.assertNotEqual(header.read_text(), text)
             line = (self.out / "windows.txt").read_text().splitlines()[0]
@@ -132,6 +166,80 @@ class Dem(unittest.TestCase):
             self.assertFalse((self.out / "windows.txt").exists())
         self.dem.with_suffix(".hdr").unlink()
         self.assertIn("dem.hdr", self.plan().stderr)
+
+
+class Tiles(unittest.TestCase):
+    """A union of tiles, whose rows have other widths."""
+
+    def test_widths(self) -> None:
+        with tempfile.TemporaryDirectory() as scratch:
+            union = Union(Path(scratch))
+            write_tiles(union.folder / "tiles")
+            union.rasters.mkdir()
+            widths = union.folder / "widths.txt"
+            widths.write_text("".join(f"{100 + 3 * row} 200\n" for row in range(51)))
+            words = ["--side", SIDE, "--widths", widths, *union.tiles]
+            run("make", "--out", union.rasters, *words)
+            whole = run("audit", "--products", union.rasters, *words)
+            self.assertTrue(whole.startswith("accepted "))
+            self.assertTrue(union.audit().startswith("rejected rule=10 "))
+            env = Windows(union, union.folder / "out", 3).env(HERE=EXAMPLE, WIDTHS=widths)
+            done = subprocess.run(["sh", "-c", SHELL_LOOP], env=env, capture_output=True, text=True, check=False)
+            self.assertEqual((done.stdout, done.stderr), (f"{whole}\n", f"slopes: widths by row, {widths}\n"))
+
+
+class Places(unittest.TestCase):
+    """Rasters that lie on a DEM, and such that don't, in degrees and in metres."""
+
+    PLACES = [
+        ("degrees", "-84.5", "36.25", "0.001", "0.0025"),
+        ("metres", "431012.5", "5271987.5", "25", "30"),
+    ]
+
+    def setUp(self) -> None:
+        scratch = tempfile.TemporaryDirectory()
+        self.addCleanup(scratch.cleanup)
+        self.folder, self.cut = Path(scratch.name), Path(scratch.name, "cut")
+        self.cut.mkdir()
+        for name in ("dem", *NO_DATA):
+            (self.folder / f"{name}.bil").write_bytes(bytes(ROWS * COLS))
+
+    def write(self, name: str, place: list[Decimal]) -> None:
+        lines = [f"{key} {number}\n" for key, number in zip(("ULXMAP", "ULYMAP", "XDIM", "YDIM"), place)]
+        header = f"NROWS {ROWS}\nNCOLS {COLS}\nNBITS 8\nNODATA 0\n{''.join(lines)}"
+        (self.folder / f"{name}.hdr").write_text(header)
+
+    def lies_there(self, place: list[Decimal]) -> bool:
+        """Whether windows are cut out of a raster of this place."""
+        self.write("acc", place)
+        box = Box(18, 36, 20, 20)
+        window = Window("w", Box(0, 0, 20, 20), "nesw", box, [str(self.folder / "dem.bil")])
+        try:
+            cut_window(window, 0, self.folder, self.cut)
+        except CannotCut as error:
+            self.assertIn("acc.bil: it doesn't lie where", str(error))
+            return False
+        return True
+
+    def test_each_axis(self) -> None:
+        """A hundredth of a pixel at the first one, and another over all rows or columns, to both sides."""
+        for unit, *numbers in self.PLACES:
+            place = [Decimal(number) for number in numbers]
+            for name in ("dem", *NO_DATA):
+                self.write(name, place)
+            for axis, cells in ((0, COLS), (1, ROWS)):
+                for share in ("-10", "-1", "-0.4", "-0.011", "-0.009", "0", "0.009", "0.011", "0.4", "1", "10"):
+                    lies = abs(Decimal(share)) < Decimal("0.01")
+                    shifted, sized = list(place), list(place)
+                    shifted[axis] += Decimal(share) * place[axis + 2]
+                    sized[axis + 2] *= 1 + Decimal(share) / cells
+                    with self.subTest(unit=unit, axis=axis, share=share):
+                        self.assertEqual((self.lies_there(shifted), self.lies_there(sized)), (lies, lies))
+                for factor in ("0.001", "0.2", "0.999", "1.001", "5"):
+                    sized = list(place)
+                    sized[axis + 2] *= Decimal(factor)
+                    with self.subTest(unit=unit, axis=axis, factor=factor):
+                        self.assertFalse(self.lies_there(sized))
 
 
 if __name__ == "__main__":

@@ -10,7 +10,7 @@ import time
 import unittest
 
 from job_case import ENGINES, JobCase, plain, reports_of
-from scripts import EXAMPLE
+from scripts import EXAMPLE, SLOPES
 
 
 def heed_interrupts() -> None:
@@ -176,11 +176,15 @@ class Jobs(JobCase):
         named = {line.split(": ")[0]: line.split(": ")[1] for line in run.stderr.splitlines()}
         self.assertEqual(
             named,
-            {**dict.fromkeys(("r0c1", "r1c0", "r1c2", "r2c0", "r2c2"), "no answer yet"), "r2c1": "refused BadSide"},
+            {
+                **dict.fromkeys(("r0c1", "r1c0", "r1c2", "r2c0", "r2c2"), "no answer yet"),
+                "r2c1": "refused BadSide",
+                "slopes": "square cells",
+            },
         )
 
-    def judge_all(self, run: subprocess.CompletedProcess[str]) -> None:
-        self.assertEqual((run.returncode, run.stderr), (0, ""))
+    def judge_all(self, run: subprocess.CompletedProcess[str], said: str = SLOPES) -> None:
+        self.assertEqual((run.returncode, run.stderr), (0, said))
         self.assertEqual(reports_of(self.out), [f"r{i}c{j}.txt" for i in range(3) for j in range(3)])
 
     def test_a_loop_of_the_shell(self) -> None:
@@ -204,7 +208,7 @@ class Jobs(JobCase):
             run = self.run_script("slurm.sh", **tasks, SLURM_ARRAY_TASK_ID=str(task))
             self.assertEqual((run.returncode, run.stderr), (0, ""))
             self.assertEqual(len(self.calls()), 3 if task == 1 else 2)
-        self.judge_all(run)
+        self.judge_all(run, "")
         (self.out / "lines/r0c0.txt").unlink()
         self.answer("3 failed OutOfMemory")
         self.assertEqual(self.run_script("slurm.sh", **tasks, SLURM_ARRAY_TASK_ID="1").returncode, 3)

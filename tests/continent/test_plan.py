@@ -11,7 +11,7 @@ from collections import Counter
 from pathlib import Path
 
 from scripts import EXAMPLE, void_tile
-from windows import MOST_TILES, Box, Corner, Tiles, Window, corner_of, plain, plan, spans
+from windows import MOST_TILES, Box, Corner, Tiles, Window, corner_of, plain, plan, raster_plan, spans
 
 
 def judged(first: int, cells: int, before: bool, behind: bool) -> range:
@@ -53,6 +53,25 @@ class Spans(unittest.TestCase):
                 self.assertTrue(
                     span.behind or span.first + span.cells - 1 == (span.tile + span.tiles) * steps == tiles * steps
                 )
+
+
+class Parts(unittest.TestCase):
+    """Windows of a DEM."""
+
+    def test_cells_are_judged_once(self) -> None:
+        """Of each number of rows and columns; none is larger than it may be, and neighbours share two rows or columns."""
+        for rows, pixels in itertools.product(range(1, 61), range(4, 21)):
+            cols = 61 - rows
+            windows = raster_plan("/dem.bil", rows, cols, pixels)
+            cells = [
+                (row, col)
+                for window in windows
+                for row in judged(window.place.row, window.place.rows, "n" in window.inner, "s" in window.inner)
+                for col in judged(window.place.col, window.place.cols, "w" in window.inner, "e" in window.inner)
+            ]
+            self.assertEqual(sorted(cells), list(itertools.product(range(rows), range(cols))), (rows, pixels))
+            self.assertLessEqual({window.box for window in windows}, {window.mosaic._replace(row=0, col=0) for window in windows})
+            self.assertLessEqual(max(max(window.place[2:]) for window in windows), pixels)
 
 
 class Plans(unittest.TestCase):

@@ -5,7 +5,7 @@ import unittest
 from pathlib import Path
 
 from judged_union import UnionCase, right
-from scripts import EXAMPLE
+from scripts import EXAMPLE, beside_slopes
 from unions import COLS, Union, Windows, make_union, run
 
 from answers import state
@@ -19,7 +19,7 @@ def merged(windows: Windows, *words: object) -> tuple[str, str]:
     done = subprocess.run(
         [EXAMPLE / "merge.sh", *words], env=windows.env(), capture_output=True, text=True, check=False
     )
-    return done.stdout.rstrip("\n"), done.stderr
+    return done.stdout.rstrip("\n"), beside_slopes(done.stderr)
 
 
 def by_tree(windows: Windows, reports: dict[str, Path], folder: Path, group: int) -> str:

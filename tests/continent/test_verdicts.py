@@ -11,7 +11,7 @@ import unittest
 
 from job_case import ENGINES
 from judged_union import UnionCase, judged, right
-from scripts import EXAMPLE, SHELL_LOOP
+from scripts import EXAMPLE, SHELL_LOOP, SLOPES, beside_slopes
 from unions import ACROSS, COLS, DOWN, FORMS, MISSING, ROWS, SIDE, STEPS, Cell, Windows, corner, run
 
 import audit
@@ -66,7 +66,7 @@ class Right(UnionCase):
         done = subprocess.run(
             ["sh", "-c", SHELL_LOOP], env=windows.env(HERE=EXAMPLE), capture_output=True, text=True, check=False
         )
-        self.assertEqual((done.returncode, done.stdout, done.stderr), (0, f"{right.audit()}\n", ""))
+        self.assertEqual((done.returncode, done.stdout, done.stderr), (0, f"{right.audit()}\n", SLOPES))
         self.same_reports(windows)
 
     @unittest.skipUnless(shutil.which("parallel"), "GNU parallel isn't installed")
@@ -74,7 +74,7 @@ class Right(UnionCase):
         windows = Windows(right, self.folder / "out")
         words = [EXAMPLE / "parallel.sh", "4"]
         done = subprocess.run(words, env=windows.env(), capture_output=True, text=True, check=False)
-        self.assertEqual((done.returncode, done.stdout, done.stderr), (0, f"{right.audit()}\n", ""))
+        self.assertEqual((done.returncode, done.stdout, done.stderr), (0, f"{right.audit()}\n", SLOPES))
         self.same_reports(windows)
 
     def same_reports(self, windows: Windows) -> None:
@@ -85,7 +85,8 @@ class Right(UnionCase):
         """A job whose program is killed leaves no answer; the next run gives that of a run without an interruption."""
         windows = Windows(right, self.folder / "out")
         killed = self.folder / "drain"
-        killed.write_text(f'#!/bin/sh\n"{os.environ["DRAIN"]}" "$@" >/dev/null\nkill -9 $$\n')
+        drain = os.environ["DRAIN"]
+        killed.write_text(f'#!/bin/sh\n[ "$1" != --version ] || exec "{drain}" "$@"\n"{drain}" "$@" >/dev/null\nkill -9 $$\n')
         killed.chmod(0o755)
         words = [EXAMPLE / "job.sh", *str(windows.windows["r2c2"]).split()]
         done = subprocess.run(words, env=windows.env(DRAIN=killed), capture_output=True, text=True, check=False)
@@ -109,7 +110,7 @@ class Again(UnionCase):
         """The verdict, and what stands on standard error."""
         env = self.windows.env(HERE=EXAMPLE)
         done = subprocess.run(ENGINES[engine], env=env, capture_output=True, text=True, check=False)
-        return done.stdout.rstrip("\n"), done.stderr
+        return done.stdout.rstrip("\n"), beside_slopes(done.stderr)
 
     def test_a_cell_and_a_tile(self) -> None:
         """Another count at a cell; a tile cut short; and each time all as before."""

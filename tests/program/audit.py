@@ -105,7 +105,7 @@ def headers_of(ground, texts):
     headers = {}
     for name, text in texts.items():
         try:
-            headers[name] = header = Header(text)
+            headers[name] = header = Header(text, name == "con" and ground.has_floats)
         except Refused as fault:
             raise Refused(f"BadHeader {name} {fault}") from None
         if (header.rows, header.cols) != (ground.rows, ground.cols):
@@ -131,7 +131,7 @@ def audited(ground, body, texts, bodies, sinks, spacing=None):
             raise Refused(f"SinkNotData {number}")
     spacings = spacings_of(spacing, ground.rows)
     terrain = Terrain(ground.rows, ground.cols, z, [(row, col) for _, row, col in listed], spacings)
-    nodata = {name: NO_DATA[name] if header.nodata is None else header.nodata for name, header in headers.items()}
+    nodata = {name: header.nodata_or(NO_DATA[name]) for name, header in headers.items()}
     return line_of(terrain, products, nodata)
 
 

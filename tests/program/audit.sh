@@ -1,21 +1,10 @@
-# Runs of `drain audit`: the pit of check.sh without ranks, runs of directions that don't end, refusals in their order, and sets of other tools.
-# Read by run.sh after sinks.sh; audit.py is the other program.
+# Runs of `drain audit`: the pit without ranks, runs of directions that don't end, refusals in their order, and sets of other tools.
+# Read by part.sh; audit.py is the other program.
 
-auditor=$here/audit.py
-tile=$check/N00E000.hgt
+make_terrain
+make_wide
 
-# The pit without ranks.
-make_bare() {
-    make_pit
-    rm "$check"/out/rnk.*
-}
-
-# Compares one run with these arguments: its name, the expected status and line.
-judge_audit() {
-    judge_words "$1" "$2" "$3" audit "${@:4}"
-}
-
-# The same on the tile of side 3 and its products.
+# Compares an audit of the tile of side 3 and its products: its name, the expected status and line.
 judge_bare() {
     judge_audit "$1" "$2" "$3" --side 3 --products "$check/out" "$tile"
 }
@@ -32,19 +21,9 @@ make_bare
 judge_twice 'a pit without ranks' 0 "$pit_checked"
 judge_audit 'options of an audit behind the tiles' 0 "$pit_checked" "$tile" --products="$check/out/" --side=3
 judge_audit 'tiles of an audit behind two dashes' 0 "$pit_checked" --side 3 --products "$check/out" -- "$tile"
-(cd "$check" && timeout 20 "$drain" audit --side 3 --products out N00E000.hgt >"$scratch/out" 2>"$scratch/err")
+(cd "$check" && timeout "$patience" "$drain" audit --side 3 --products out N00E000.hgt >"$scratch/out" 2>"$scratch/err")
 judge 'an audit of paths from the folder that it runs in' 0 "$scratch/want" $?
 
-# Ranks may lie in the folder, right or not: their files aren't opened.
-put_ranks() {
-    local hdr=$check/out/rnk.hdr bil=$check/out/rnk.bil
-    case $1 in
-        'as they should be') header_of 32 '' >"$hdr" && numbers 4 0 0 0 0 1 0 0 0 0 >"$bil" ;;
-        'that are all 0') header_of 32 '' >"$hdr" && numbers 4 0 0 0 0 0 0 0 0 0 >"$bil" ;;
-        'that are all no data') header_of 32 '' >"$hdr" && head -c 36 /dev/zero | tr '\0' '\377' >"$bil" ;;
-        *) spoil "$check/out/rnk" "$1" ;;
-    esac
-}
 for what in 'as they should be' 'that are all 0' 'that are all no data' "${spoiled[@]}"; do
     make_bare
     put_ranks "$what"
@@ -116,7 +95,7 @@ judge_twice 'a direction into a void with a code' 1 'rejected NoEnd row=0 col=2'
 
 # The pit with its centre listed is an outlet; without its list no way leads out of it.
 make_bare
-cp -r "$scratch/listed/." "$check/out"
+put_listed "$check/out"
 rm "$check"/out/rnk.*
 printf '\r\n1 1' >"$check/sinks.txt"
 judge_audit 'an audit with a list of sinks' 0 "$sunk_checked" --side 3 --products "$check/out" --sinks "$check/sinks.txt" "$tile"
@@ -245,8 +224,8 @@ judge 'the sets of other tools that the README tells of' 0 "$scratch/want" 0
 
 # What a check accepts an audit accepts, with the same line.
 while read -r name words; do
-    timeout 60 "$drain" check $words </dev/null >"$scratch/want" 2>"$scratch/err"
-    timeout 60 "$drain" audit $words </dev/null >"$scratch/out" 2>>"$scratch/err"
+    timeout "$patience" "$drain" check $words </dev/null >"$scratch/want" 2>"$scratch/err"
+    timeout "$patience" "$drain" audit $words </dev/null >"$scratch/out" 2>>"$scratch/err"
     judge "an accepted check is an accepted audit: $name" 0 "$scratch/want" $?
 done <<END
 pit-3 --side 3 --products samples/pit-3 samples/pit-3/N00E000.hgt
@@ -254,7 +233,7 @@ jacksboro --side 121 --products samples/jacksboro samples/jacksboro/N36W085.hgt
 wide --side 344 --products $scratch/wide samples/N36W085.hgt
 END
 
-# The changes of terrain.sh: of one number each, by the other program. Ranks play no part.
+# Real terrain with one number changed, by the other program. Ranks play no part.
 while read -r rule file size row col bytes; do
     [ -n "$rule" ] || continue
     changed=$scratch/changed
@@ -275,6 +254,6 @@ for line in 'SKIPBYTES 4294967295' 'BANDROWBYTES 4294967295' 'TOTALROWBYTES 4294
     make_bare
     echo "$line" >>"$check/out/con.hdr"
     want 'refused RasterShort con'
-    (ulimit -v 200000 && exec timeout 20 "$drain" audit --side 3 --products "$check/out" "$tile") >"$scratch/out" 2>"$scratch/err"
+    (ulimit -v 200000 && exec timeout "$patience" "$drain" audit --side 3 --products "$check/out" "$tile") >"$scratch/out" 2>"$scratch/err"
     judge "$line over a short body of an audit" 2 "$scratch/want" $?
 done

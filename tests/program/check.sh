@@ -1,59 +1,13 @@
-# Runs of `drain check`: a pit of height 1 in a border of height 5, conditioned to 5, and changes of its files. Read by run.sh.
-
-check=$scratch/check
-tile=$check/N00E000.hgt
-pit_checked='accepted rows=3 cols=3 data=9 raised=1 outlets=8'
-
-# The bytes of these numbers below 256, each in this many bytes, the least first.
-numbers() {
-    local width=$1 number
-    shift
-    for number; do
-        printf "\\x$(printf %02x "$number")"
-        head -c $((width - 1)) /dev/zero
-    done
-}
-
-# A header of the tile with this many bits, the line of its pixel type if one is needed, and these places.
-header_of() {
-    printf 'BYTEORDER I\nNROWS 3\nNCOLS 3\nNBITS %s\n' "$1"
-    [ -z "$2" ] || printf 'PIXELTYPE %s\n' "$2"
-    printf 'ULXMAP %s\nULYMAP 1\nXDIM 0.5\nYDIM 0.5\n' "${3:-0}"
-}
-
-# The files as they should be, in a new folder.
-make_pit() {
-    rm -rf "$check"
-    mkdir -p "$check/out"
-    printf '\0\5\0\5\0\5\0\5\0\1\0\5\0\5\0\5\0\5' >"$tile"
-    header_of 16 SIGNEDINT >"$check/out/con.hdr"
-    numbers 2 5 5 5 5 5 5 5 5 5 >"$check/out/con.bil"
-    header_of 8 '' >"$check/out/dir.hdr"
-    numbers 1 0 0 0 0 1 0 0 0 0 >"$check/out/dir.bil"
-    header_of 32 '' | tee "$check/out/acc.hdr" "$check/out/bas.hdr" >"$check/out/rnk.hdr"
-    numbers 4 1 1 1 1 1 2 1 1 1 >"$check/out/acc.bil"
-    numbers 4 1 2 3 4 5 5 6 7 8 >"$check/out/bas.bil"
-    numbers 4 0 0 0 0 1 0 0 0 0 >"$check/out/rnk.bil"
-}
-
-# Compares one run with these arguments: its name, the expected status and line.
-judge_check() {
-    judge_words "$1" "$2" "$3" check "${@:4}"
-}
-
-# The same on the tile of side 3 and its products.
-judge_pit() {
-    judge_check "$1" "$2" "$3" --side 3 --products "$check/out" "$tile"
-}
+# Runs of `drain check`: the pit of fixtures.sh, and changes of its files. Read by part.sh.
 
 # The words in any order, and names in any letter case.
 make_pit
 judge_pit 'the products of a pit' 0 "$pit_checked"
 judge_check 'options behind the tiles' 0 "$pit_checked" "$tile" --products="$check/out/" --side=3
 judge_check 'tiles behind two dashes' 0 "$pit_checked" --side 3 --products "$check/out" -- "$tile"
-(cd "$check" && timeout 20 "$drain" check --side 3 --products out N00E000.hgt >"$scratch/out" 2>"$scratch/err")
+(cd "$check" && timeout "$patience" "$drain" check --side 3 --products out N00E000.hgt >"$scratch/out" 2>"$scratch/err")
 judge 'paths from the folder that it runs in' 0 "$scratch/want" $?
-(cd "$check/out" && timeout 20 "$drain" check --side 3 --products . ../N00E000.hgt >"$scratch/out" 2>"$scratch/err")
+(cd "$check/out" && timeout "$patience" "$drain" check --side 3 --products . ../N00E000.hgt >"$scratch/out" 2>"$scratch/err")
 judge 'the folder of the products is the one that it runs in' 0 "$scratch/want" $?
 : >"$check/out/con.bil.aux.xml"
 judge_pit 'a file of another program beside the rasters' 0 "$pit_checked"
@@ -80,24 +34,6 @@ numbers 4 1 1 1 1 1 1 1 2 2 >"$check/out/acc.bil"
 numbers 4 1 2 3 4 6 7 5 6 7 >"$check/out/bas.bil"
 numbers 4 0 0 0 0 0 0 0 0 0 >"$check/out/rnk.bil"
 judge_pit 'a pit raised too high' 1 'rejected rule=9 NotLeast row=1 col=1'
-
-# Files that are no right raster, in the place of a product's: its path without an ending, and what they are.
-spoil() {
-    local hdr=$1.hdr bil=$1.bil
-    case $2 in
-        'without a raster') header_of 32 '' >"$hdr" ;;
-        'without a header') numbers 4 0 0 0 0 1 0 0 0 0 >"$bil" ;;
-        'in a short raster') header_of 32 '' >"$hdr" && numbers 4 0 0 0 0 >"$bil" ;;
-        'of another place') header_of 32 '' 9 >"$hdr" && numbers 4 0 0 0 0 1 0 0 0 0 >"$bil" ;;
-        'in empty files') : >"$hdr" && : >"$bil" ;;
-        'in words that are no header') echo 'NROWS none' >"$hdr" && echo none >"$bil" ;;
-        'in folders') mkdir "$hdr" "$bil" ;;
-        'in links to nothing') ln -s none "$hdr" && ln -s none "$bil" ;;
-        'in pipes that nobody writes') mkfifo "$hdr" "$bil" ;;
-    esac
-}
-spoiled=('without a raster' 'without a header' 'in a short raster' 'of another place' 'in empty files'
-    'in words that are no header' 'in folders' 'in links to nothing' 'in pipes that nobody writes')
 
 # Spill parents, which only `drain fill` needs, may be in the folder: they aren't opened.
 put_spill_parents() {
@@ -242,7 +178,7 @@ for line in 'SKIPBYTES 4294967295' 'BANDROWBYTES 4294967295' 'TOTALROWBYTES 4294
     make_pit
     echo "$line" >>"$check/out/con.hdr"
     want 'refused RasterShort con'
-    (ulimit -v 200000 && exec timeout 20 "$drain" check --side 3 --products "$check/out" "$tile") >"$scratch/out" 2>"$scratch/err"
+    (ulimit -v 200000 && exec timeout "$patience" "$drain" check --side 3 --products "$check/out" "$tile") >"$scratch/out" 2>"$scratch/err"
     judge "$line over a short body" 2 "$scratch/want" $?
 done
 make_pit

@@ -1,43 +1,60 @@
-# Runs over the bundled raster of elevations: its files made anew, and each set's line as its README has it, by the
-# program and by audit.py. Read by run.sh after audit.sh.
+# Runs over the bundled rasters of elevations, of whole heights and of floats: their files made anew, and each set's line as
+# its README has it, by the program and by audit.py. Read by part.sh.
+
+make_wide
+
+# Usage: judge_bundled NAME WORDS..    the files of samples/NAME are those that its script makes, and each set has the line of
+# the README with these words, the last of which takes its folder; leaves these lines in $told
+judge_bundled() {
+    local it=$1 words=("${@:2}") bundled=samples/$1 made=$scratch/$1 file name line status list of_list
+    mkdir "$made"
+    "$bundled/make_$it.py" "$made" >"$scratch/out" 2>"$scratch/err"
+    : >"$scratch/want"
+    judge "the $it is made anew" 0 "$scratch/want" $?
+    (cd "$made" && find . -type f | LC_ALL=C sort) >"$scratch/want"
+    (cd "$bundled" && find . -type f ! -name README.md ! -name "make_$it.py" | LC_ALL=C sort) >"$scratch/out"
+    judge "the files of the $it" 0 "$scratch/want" 0
+    while read -r file; do
+        cp "$made/$file" "$scratch/out"
+        judge "the bundled $file of the $it" 0 "$bundled/$file" 0
+    done < <(cd "$made" && find . -type f)
+    told=$(sed -nE 's/^\| `([a-z-]+)` \| `(accepted|rejected) ([^`]*)` \|.*/\1 \2 \3/p' "$bundled/README.md")
+    while read -r name line; do
+        case $line in accepted*) status=0 ;; *) status=1 ;; esac
+        judge_audit "the $it, $name" "$status" "$line" "${words[@]}" "$bundled/$name"
+        for list in con con,dir con,dir,acc con,dir,bas con,dir,acc,bas; do
+            of_list=$line
+            [ "$status $list" != '0 con' ] || of_list=${line% outlets=*}
+            judge_audit "the $it, $name, $list" "$status" "$of_list" "${words[@]}" "$bundled/$name" --only "$list"
+            "$auditor" "${words[@]}" "$bundled/$name" --only "$list" >"$scratch/out" 2>"$scratch/err"
+            judge "the $it, $name, $list, by the other program" "$status" "$scratch/want" $?
+        done
+    done <<<"$told"
+    judge_words "the $it, right, by ranks" 0 "$(sed -n 's/^right //p' <<<"$told")" check "${words[@]}" "$bundled/right"
+    printf '%s\n' "$bundled"/*/ | sed 's,/$,,; s,.*/,,' | LC_ALL=C sort >"$scratch/out"
+    sed 's/ .*//' <<<"$told" | LC_ALL=C sort >"$scratch/want"
+    : >"$scratch/err"
+    judge "the sets of the $it that its README tells of" 0 "$scratch/want" 0
+}
+
+# Products of the shore: con is the bundled one, pixel for pixel.
+judge_bundled shore --dem samples/shore/dem.bil --products
+mkdir "$scratch/shore/made"
+judge_words 'products of the shore' 0 'made rows=40 cols=30' make --dem samples/shore/dem.bil --out "$scratch/shore/made"
+judge_file 'products of the shore' "$scratch/shore/made/con.bil" <samples/shore/right/con.bil
+for command in audit check; do
+    judge_words "products of the shore, $command" 0 "$(sed -n 's/^right //p' <<<"$told")" \
+        "$command" --dem samples/shore/dem.bil --products "$scratch/shore/made"
+done
 
 valley=samples/valley
 valley_words=(--dem "$valley/dem.bil" --sinks "$valley/sinks.txt" --products)
-
-mkdir "$scratch/valley"
-"$valley/make_valley.py" "$scratch/valley" >"$scratch/out" 2>"$scratch/err"
-: >"$scratch/want"
-judge 'the valley is made anew' 0 "$scratch/want" $?
-(cd "$scratch/valley" && find . -type f | LC_ALL=C sort) >"$scratch/want"
-(cd "$valley" && find . -type f ! -name README.md ! -name make_valley.py | LC_ALL=C sort) >"$scratch/out"
-judge 'the files of the valley' 0 "$scratch/want" 0
-while read -r file; do
-    cp "$scratch/valley/$file" "$scratch/out"
-    judge "the bundled $file of the valley" 0 "$valley/$file" 0
-done < <(cd "$scratch/valley" && find . -type f)
+judge_bundled valley "${valley_words[@]}"
 for file in "$valley"/*.hdr "$valley"/*/*.hdr; do
     "$drain" header "$file" </dev/null >"$scratch/out" 2>"$scratch/err"
     judge "the header $file" 0 "$file" $?
 done
-
-told=$(sed -nE 's/^\| `([a-z-]+)` \| `(accepted|rejected) ([^`]*)` \|.*/\1 \2 \3/p' "$valley/README.md")
-while read -r name line; do
-    case $line in accepted*) status=0 ;; *) status=1 ;; esac
-    judge_audit "the valley, $name" "$status" "$line" "${valley_words[@]}" "$valley/$name"
-    for list in con con,dir con,dir,acc con,dir,bas con,dir,acc,bas; do
-        of_list=$line
-        [ "$status $list" != '0 con' ] || of_list=${line% outlets=*}
-        judge_audit "the valley, $name, $list" "$status" "$of_list" "${valley_words[@]}" "$valley/$name" --only "$list"
-        "$auditor" "${valley_words[@]}" "$valley/$name" --only "$list" >"$scratch/out" 2>"$scratch/err"
-        judge "the valley, $name, $list, by the other program" "$status" "$scratch/want" $?
-    done
-done <<<"$told"
-judge_words 'the valley, right, by ranks' 0 "$(sed -n 's/^right //p' <<<"$told")" check "${valley_words[@]}" "$valley/right"
 judge_audit 'the valley without its sink' 1 'rejected rule=12 FlatStep row=30 col=13' --dem "$valley/dem.bil" --products "$valley/right"
-printf '%s\n' "$valley"/*/ | sed 's,/$,,; s,.*/,,' | LC_ALL=C sort >"$scratch/out"
-sed 's/ .*//' <<<"$told" | LC_ALL=C sort >"$scratch/want"
-: >"$scratch/err"
-judge 'the sets of the valley that its README tells of' 0 "$scratch/want" 0
 
 # Progress reports its rows; a pipe stands for the raster; and standard output that can't be written ends with status 3.
 words=("${valley_words[@]}" "$valley/right")
@@ -175,7 +192,7 @@ exec 3<&-
 judge_valley 'products of the valley from a pipe' "$again"
 mkfifo "$again/pipe"
 rm "$again/acc.bil" && mv "$again/pipe" "$again/acc.bil"
-timeout 20 cat "$again/acc.bil" >"$scratch/valley/acc.bil" &
+timeout "$patience" cat "$again/acc.bil" >"$scratch/valley/acc.bil" &
 judge_words 'a product of the valley into a pipe' 0 "$made_line" make "${lake[@]}" --out "$again"
 wait $!
 judge_file 'a product of the valley into a pipe' "$scratch/valley/acc.bil" <"$whole/acc.bil"
@@ -194,11 +211,26 @@ judge_words 'products in a folder that is not there' 3 "failed Open $again/none/
 printf '0 0\n99 0\n' >"$scratch/valley/far.txt"
 judge_words 'products with a sink outside' 2 'refused SinkNotData 2' make "${lake[@]:0:2}" --sinks "$scratch/valley/far.txt" --out "$again"
 judge_empty 'nothing is made of the valley' "$again"
+
+# Memory grows with what was read, and not with what headers say; and it may end.
+large=$scratch/valley/large
+mkdir "$large"
+for name in dem right/{con,dir,acc,bas}; do
+    sed -e 's/^NROWS .*/NROWS 28801/' -e 's/^NCOLS .*/NCOLS 28801/' -e '/ROWBYTES/d' "$valley/$name.hdr" >"$large/${name#right/}.hdr"
+    cp "$valley/$name.bil" "$large"
+done
+want 'refused RasterShort dem'
+(ulimit -v 200000 && exec "$drain" make --dem "$large/dem.bil" --out "$again") >"$scratch/out" 2>"$scratch/err"
+judge 'a header of the greatest size over a short raster to make products of' 2 "$scratch/want" $?
+printf 'refused RasterShort dem\n\nexpected: dem of 3317990404 bytes\nfound: dem of 8960 bytes\n' >"$scratch/want"
+(ulimit -v 200000 && exec "$drain" explain --map "$large/faults.bil" --products "$large" --dem "$large/dem.bil") >"$scratch/out" 2>"$scratch/err"
+judge 'a map of the greatest size over a short raster' 2 "$scratch/want" $?
 want 'failed OutOfMemory'
-sed -e 's/^NROWS .*/NROWS 28801/' -e 's/^NCOLS .*/NCOLS 28801/' -e '/ROWBYTES/d' "$valley/dem.hdr" >"$scratch/valley/large.hdr"
-cp "$valley/dem.bil" "$scratch/valley/large.bil"
-(ulimit -v 200000 && exec "$drain" make --dem "$scratch/valley/large.bil" --out "$again") >"$scratch/out" 2>"$scratch/err"
+truncate -s 3317990404 "$large/dem.bil"
+(ulimit -v 200000 && exec "$drain" make --dem "$large/dem.bil" --out "$again") >"$scratch/out" 2>"$scratch/err"
 judge 'no memory for a raster to make products of' 3 "$scratch/want" $?
+rm -r "$large"
+
 : >"$scratch/want"
 : >"$scratch/out"
 "$drain" make "${lake[@]}" --out "$again" >/dev/full 2>"$scratch/err"
@@ -206,6 +238,34 @@ judge 'a full standard output: make of the valley' 3 "$scratch/want" $?
 "$drain" make "${lake[@]}" --out "$again" >&- 2>"$scratch/err"
 judge 'a closed standard output: make of the valley' 3 "$scratch/want" $?
 judge_empty 'a closed standard output: make of the valley' "$again"
+
+# Derived with a list of sinks: a right one changes nothing, and a wrong one is refused.
+derived=("${valley_words[@]:0:2}" --products "$valley/right" --out "$again")
+printf '37 13\n1 x\n' >"$scratch/valley/bad.txt"
+judge_words 'derived over the valley with a sink outside' 2 'refused SinkNotData 2' derive --sinks "$scratch/valley/far.txt" "${derived[@]}"
+judge_words 'derived over the valley with a bad line' 2 'refused BadSinkLine 2' derive --sinks "$scratch/valley/bad.txt" "${derived[@]}"
+judge_empty 'nothing is derived with a bad list' "$again"
+judge_words 'derived over the valley without its sink' 0 'derived rows=40 cols=56' derive "${derived[@]}"
+cp -r "$again" "$scratch/valley/unlisted"
+judge_words 'derived over the valley with its sink' 0 'derived rows=40 cols=56' derive --sinks "$valley/sinks.txt" "${derived[@]}"
+for file in "$again"/*; do
+    judge_file 'derived over the valley with its sink' "$file" <"$scratch/valley/unlisted/${file##*/}"
+done
+rm "$again"/*
+
+# A raster that is a byte short, explained: 40 rows of 56 numbers of 32 bits are 8,960 bytes.
+cp "$valley/dem.hdr" "$scratch/valley/short.hdr"
+head -c 8959 "$valley/dem.bil" >"$scratch/valley/short.bil"
+for form in '' --json; do
+    "$drain" explain --dem "$scratch/valley/short.bil" --products "$valley/right" $form </dev/null >"$scratch/page" 2>"$scratch/err"
+    came=$?
+    case $form in
+        '') cp "$scratch/page" "$scratch/out" && printf '%s\n' 'refused RasterShort dem' '' 'expected: dem of 8960 bytes' 'found: dem of 8959 bytes' >"$scratch/want" ;;
+        *) python3 -c 'import json, sys; it = json.load(sys.stdin); print(it["answer"], it["refusal"])' <"$scratch/page" >"$scratch/out" 2>>"$scratch/err"
+            want "refused RasterShort dem {'about': 'dem_length', 'expected': 8960, 'found': 8959}" ;;
+    esac
+    judge "a short raster of elevations, explained $form" 2 "$scratch/want" "$came"
+done
 
 # Nothing is written over the raster of elevations: a usage error, and it stays.
 mkdir "$scratch/valley/over"

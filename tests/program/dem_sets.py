@@ -2,7 +2,9 @@
 
 import struct
 import sys
+from collections.abc import Sequence
 from dataclasses import replace
+from math import inf, nan
 
 sys.dont_write_bytecode = True
 from small_sets import NO_RANK, PIXELS, VOID, DemSet, grid, put_line
@@ -19,6 +21,8 @@ KINDS = {
     "i": "NBITS 32\nPIXELTYPE SIGNEDINT\n",
     "I": "NBITS 32\nPIXELTYPE UNSIGNEDINT\n",
 }
+FLOATS = {"f": "NBITS 32\nPIXELTYPE FLOAT\n"}
+LINES_ON_PIXELS = {**KINDS, **FLOATS}
 # A no-data number that no pixel spells.
 UNSPELLED = 4294967296
 
@@ -27,8 +31,8 @@ def one_dem(
     rows: int,
     cols: int,
     kind: str,
-    z: list[int],
-    *products: list[int],
+    z: Sequence[float],
+    *products: Sequence[float],
     con: str = "",
     nodata: object = None,
     con_nodata: object = None,
@@ -37,12 +41,13 @@ def one_dem(
     """A raster of elevations with its products: con, of this kind or of the same, then dir, acc, bas and rnk."""
     place = grid(rows, cols, 500000, 4000000, 30)
     con = con or kind
-    con_lines = KINDS[con] + ("" if con_nodata is None else f"NODATA {con_nodata}\n")
+    lines = f"{LINES_ON_PIXELS[kind]}BYTEORDER {order}\n"
+    con_lines = LINES_ON_PIXELS[con] + ("" if con_nodata is None else f"NODATA {con_nodata}\n")
     return DemSet(
         numbers=dict(zip(PIXELS, products, strict=True)),
         grid=place,
         pixels={**PIXELS, "con": (con, con_lines)},
-        dem_header=place + KINDS[kind] + f"BYTEORDER {order}\n" + ("" if nodata is None else f"NODATA {nodata}\n"),
+        dem_header=place + lines + ("" if nodata is None else f"NODATA {nodata}\n"),
         dem=struct.pack(f"{'<' if order == 'I' else '>'}{len(z)}{kind}", *z),
     )
 
@@ -75,15 +80,15 @@ CLIFF = replace(
 )
 
 
-def slope(aslant: int, straight: int, code: int, inflow: int) -> DemSet:
-    """A cell from which the south-east is `aslant` lower and the east `straight`, with the code of the middle cell and how
-    many cells drain through the eastern one."""
-    z = [aslant] * 5 + [aslant - straight] + [aslant] * 2 + [0]
+def slope(aslant: int, straight: int, code: int, inflow: int, kind: str = "i", unit: float = 1) -> DemSet:
+    """A cell from which the south-east is `aslant` lower and the east `straight`, in such units, with the code of the
+    middle cell and how many cells drain through the eastern one."""
+    z = [unit * it for it in [aslant] * 5 + [aslant - straight] + [aslant] * 2 + [0]]
     codes, counts = [0, 2, 4, 0, code, 4, 0, 1, 0], [1, 1, 1, 1, 1, inflow, 1, 1, 6]
-    return one_dem(3, 3, "i", z, z, codes, counts, [1, 4, 4, 2, 4, 4, 3, 4, 4], [0] * 9)
+    return one_dem(3, 3, kind, z, z, codes, counts, [1, 4, 4, 2, 4, 4, 3, 4, 4], [0] * 9)
 
 
-def pit_of(border: int, centre: int, con: int, kind: str) -> DemSet:
+def pit_of(border: float, centre: float, con: float, kind: str) -> DemSet:
     """The pit with these heights, filled to con, and a no-data number that no cell has."""
     z, surface = [border] * 4 + [centre] + [border] * 4, [border] * 4 + [con] + [border] * 4
     return one_dem(3, 3, kind, z, surface, *list(PIT_TILE.numbers.values())[1:], con_nodata=UNSPELLED)
@@ -188,7 +193,7 @@ HEADERS = [
     (PIT.with_line("dem", "NCOLS 2"), "refused WrongShape con"),
     (PIT.with_line("dem", "NBITS 24"), "refused BadHeader dem BadBits"),
     (PIT.with_line("dem", "NBANDS 3"), "refused BadHeader dem NotOneBand"),
-    (PIT.with_line("dem", "PIXELTYPE FLOAT"), "refused BadHeader dem BadPixelType"),
+    (PIT.with_line("dem", "PIXELTYPE DOUBLE"), "refused BadHeader dem BadPixelType"),
     (PIT.with_line("dem", "NODATA -3.4028234663852886e+38"), "refused BadHeader dem BadValue 10"),
     (PIT.with_line("dem", "TOTALROWBYTES 2"), "refused BadHeader dem RowTooShort"),
     (replace(PIT, dem_header=PIT.dem_header + "nrows 3\n"), "refused BadHeader dem RepeatedKey 10"),
@@ -255,4 +260,126 @@ PLACES = [
     (pixels_of(FALL, LEAST, LEAST).with_line("con", "XDIM 0.000000000000002"), "refused Misplaced con"),
     (pixels_of(FALL, "1e10", "1e10").with_line("con", "ULXMAP 100500000"), FALL_LINE),
 ]
-SETS = [*ELEVATIONS, *ENDS, *VOIDS, *HEADERS, *PLACES]
+
+
+# Floats. Decimals are taken as the floats nearest to them.
+def float_at(pattern: int) -> float:
+    """The float with these 32 bits."""
+    number: float = struct.unpack("<f", struct.pack("<I", pattern))[0]
+    return number
+
+
+GREATEST, LEAST_FLOAT = float_at(0x7F7FFFFF), float_at(1)
+# 0.2 is the float 3e4ccccd.
+LESS, MORE = float_at(0x3E4CCCCC), float_at(0x3E4CCCCE)
+PIT_OF_TENTHS = pit_of(0.2, 0.1, 0.2, "f")
+FALL_OF_FLOATS = one_dem(2, 3, "f", FALL.numbers["con"], *FALL.numbers.values())
+# How GDAL spells the least float, which is -3.40282346638528859812e+38.
+GDAL_LEAST = "-3.4028235e+38"
+
+
+def between(west: float, east: float, code: int) -> DemSet:
+    """A cell of 3000 between two others, with this code."""
+    z, to_east = [west, 3000, east], code == 1
+    return one_dem(1, 3, "f", z, z, [0, code, 0], [2 - to_east, 1, 1 + to_east], [1, 1 + to_east, 2], [0, 0, 0])
+
+
+def split_by(void: float, con: float, nodata: object = None, con_nodata: object = None, order: str = "I") -> DemSet:
+    """Two cells and this float between them."""
+    z, surface = [0.5, void, 0.25], [0.5, con, 0.25]
+    return one_dem(1, 3, "f", z, surface, *SPLIT_PRODUCTS[1:], nodata=nodata, con_nodata=con_nodata, order=order)
+
+
+BETWEEN_LINE, BETWEEN_FAULT = "accepted rows=1 cols=3 data=3 raised=0 outlets=2", "rejected rule=10 Slope row=0 col=1"
+VOID_FAULT = "rejected rule=1 VoidCell row=0 col=1"
+# Of floats of 24 bits 2 * 6625109^2 is one more than 9369319^2, and 2 * 2744210^2 one less than 3880899^2.
+FLOAT_HEIGHTS = [
+    (PIT_OF_TENTHS, PIT_LINE),
+    (pit_of(0.2, 0.1, MORE, "f"), "rejected rule=9 NotLeast row=1 col=1"),
+    (pit_of(0.2, 0.1, LESS, "f"), "rejected rule=10 Slope row=0 col=0"),
+    (pit_of(0.2, MORE, MORE, "f"), PEAK_LINE),
+    (pit_of(0.2, LESS, 0.2, "f"), PIT_LINE),
+    (pit_of(-0.0, 0, -0.0, "f"), "accepted rows=3 cols=3 data=9 raised=0 outlets=8"),
+    (pit_of(0, -LEAST_FLOAT, -0.0, "f"), PIT_LINE),
+    (pit_of(GREATEST, -GREATEST, GREATEST, "f"), PIT_LINE),
+    (FALL_OF_FLOATS, FALL_LINE),
+    # Drops of 3000 that differ by 1e-45, or not at all.
+    (between(1e-45, 0, 1), BETWEEN_LINE),
+    (between(1e-45, 0, 16), BETWEEN_FAULT),
+    (between(-1e-45, 0, 16), BETWEEN_LINE),
+    (between(-1e-45, 0, 1), BETWEEN_FAULT),
+    *((between(0, -0.0, code), BETWEEN_LINE) for code in (1, 16)),
+    *(
+        it
+        for unit in (1, 2.0**-149, 2.0**104)
+        for it in (
+            (slope(9369319, 6625109, 1, 4, "f", unit), SLOPE_LINE),
+            (slope(9369319, 6625109, 2, 3, "f", unit), "rejected rule=10 Slope row=1 col=1"),
+            (slope(3880899, 2744210, 2, 3, "f", unit), SLOPE_LINE),
+            (slope(3880899, 2744210, 1, 4, "f", unit), "rejected rule=10 Slope row=1 col=1"),
+        )
+    ),
+    *(
+        (one_dem(1, 2, "f", *[[-GREATEST, GREATEST]] * 2, [0, 16], [2, 1], [1, 1], [0, 0], order=order), ENDS_LINE)
+        for order in "IM"
+    ),
+]
+# A void is the float nearest to the header's word, and what is no number or infinite. Without a word con has NaN there.
+FLOAT_VOIDS = [
+    *((split_by(-GREATEST, -GREATEST, GDAL_LEAST, GDAL_LEAST, order), SPLIT_LINE) for order in "IM"),
+    (split_by(-GREATEST, -9999, GDAL_LEAST, -9999), SPLIT_LINE),
+    (split_by(-GREATEST, nan, GDAL_LEAST), SPLIT_LINE),
+    (split_by(-GREATEST, -GREATEST, GDAL_LEAST), VOID_FAULT),
+    (split_by(-32767.1, -32767.1, "-32767.1", "-32767.1"), SPLIT_LINE),
+    *(
+        (split_by(void, nan, nodata), SPLIT_LINE)
+        for void in (nan, inf, -inf)
+        for nodata in (None, -9999, "nan", "inf", GDAL_LEAST)
+    ),
+    *(
+        (split_by(void, void, con_nodata=word), SPLIT_LINE)
+        for void, word in ((nan, "nan"), (inf, "inf"), (-inf, "-inf"), (inf, "1e39"))
+    ),
+    *((split_by(void, -void), VOID_FAULT) for void in (inf, -inf)),
+    (split_by(-0.0, 0, 0, "-0.0"), SPLIT_LINE),
+    (split_by(0, -9999, "1e-46", -9999), SPLIT_LINE),
+    (split_by(0.1, -9999, "0.1000000014901161", -9999), SPLIT_LINE),
+    (split_by(nan, nan).changed(con={0: nan}), "rejected rule=2 Missing row=0 col=0"),
+    (split_by(nan, 7, con_nodata=7).changed(con={0: nan}), "rejected rule=5 OpenRaised row=0 col=0"),
+    (split_by(nan, 7, con_nodata=7).changed(con={0: inf}), "rejected rule=5 OpenRaised row=0 col=0"),
+    (split_by(nan, 7, con_nodata=7).changed(con={0: -inf}), "rejected rule=4 BelowGround row=0 col=0"),
+    (split_by(nan, nan).listing("0 0\n\n0 1"), "refused SinkNotData 3"),
+]
+
+
+OF_TENTHS = PIT_OF_TENTHS.dem_header
+WHOLE_CON = {**PIXELS, "con": ("i", "NBITS 32\n")}
+FLOAT_HEADERS = [
+    (replace(PIT_OF_TENTHS, dem_header=OF_TENTHS.replace("PIXELTYPE FLOAT", "PixelType float")), PIT_LINE),
+    (replace(PIT_OF_TENTHS, dem_header=f"NODATA nan\n{OF_TENTHS}"), PIT_LINE),
+    (
+        replace(PIT_OF_TENTHS, dem_header=f"{OF_TENTHS}PIXELTYPE SIGNEDINT\n"),
+        "refused BadHeader dem RepeatedKey 10",
+    ),
+    *((PIT_OF_TENTHS.with_line("dem", f"NBITS {bits}"), "refused BadHeader dem BadBits") for bits in (8, 16, 64)),
+    (replace(PIT_OF_TENTHS, dem_header=without_line(OF_TENTHS, "NBITS")), "refused BadHeader dem BadBits"),
+    (PIT.with_line("dem", "PIXELTYPE FLOAT"), "refused BadHeader dem BadBits"),
+    *(
+        (PIT_OF_TENTHS.with_line("dem", f"NODATA {word}"), "refused BadHeader dem BadValue 10")
+        for word in ("none", "1e", "-", ".", "1,5")
+    ),
+    *((PIT_OF_TENTHS.with_line("con", f"NBITS {bits}"), "refused BadHeader con BadBits") for bits in (16, 64)),
+    # Both are of one kind, and the others are whole numbers.
+    (PIT_OF_TENTHS.with_line("con", "PIXELTYPE SIGNEDINT"), "refused BadHeader con BadPixelType"),
+    (
+        replace(PIT_OF_TENTHS, pixels=WHOLE_CON, numbers={**PIT_OF_TENTHS.numbers, "con": [1] * 9}),
+        "refused BadHeader con BadPixelType",
+    ),
+    (LISTED.with_line("con", "PIXELTYPE FLOAT"), "refused BadHeader con BadPixelType"),
+    *(
+        (it.with_line(name, "NBITS 32").with_line(name, "PIXELTYPE FLOAT"), f"refused BadHeader {name} BadPixelType")
+        for it in (PIT, PIT_OF_TENTHS)
+        for name in ("dir", "acc", "bas")
+    ),
+]
+SETS = [*ELEVATIONS, *ENDS, *VOIDS, *HEADERS, *PLACES, *FLOAT_HEIGHTS, *FLOAT_VOIDS, *FLOAT_HEADERS]

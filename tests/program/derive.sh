@@ -1,6 +1,5 @@
 # Runs of `drain derive`: accumulation, labels and ranks of directions, beside those that make_products.py makes and
-# that derive.py, the other program, finds by following each path; refusals; files that are there. Read by run.sh after
-# only.sh; it uses the functions of make.sh.
+# that derive.py, the other program, finds by following each path; refusals; files that are there. Read by part.sh.
 
 deriver=$here/derive.py
 derive=$scratch/derive
@@ -81,7 +80,7 @@ judge_derive 'derived, the tile behind two dashes' 0 "$pit_derived" --side 3 --o
 judge_derived_pit 'derived, the tile behind two dashes' "$out"
 make_given
 want "$pit_derived"
-(cd "$given" && timeout 20 "$drain" derive --side 3 --products . --out . ../N00E000.hgt >"$scratch/out" 2>"$scratch/err")
+(cd "$given" && timeout "$patience" "$drain" derive --side 3 --products . --out . ../N00E000.hgt >"$scratch/out" 2>"$scratch/err")
 judge 'derived in the folder that it runs in' 0 "$scratch/want" $?
 judge_derived_pit 'derived in the folder that it runs in' "$given"
 
@@ -283,7 +282,7 @@ for input in N00E000.hgt given/dir.hdr given/dir.bil sinks.txt; do
             cp "$derive/$input" "$scratch/before"
             $how "$derive/$input" "$out/$name"
             want -
-            timeout 20 "$drain" derive --side 3 --products "$given" --out "$out" --sinks "$derive/sinks.txt" "$ground" >"$scratch/out" 2>"$scratch/err"
+            timeout "$patience" "$drain" derive --side 3 --products "$given" --out "$out" --sinks "$derive/sinks.txt" "$ground" >"$scratch/out" 2>"$scratch/err"
             judge "$how: derived over $input as $name" 2 "$scratch/want" $? words
             judge_left "$how: derived over $input as $name" "$name"
             judge_file "$how: derived over $input as $name" "$derive/$input" <"$scratch/before"
@@ -303,7 +302,7 @@ mv "$out/bas.bil" "$derive/bas.bil"
 ln -s ../bas.bil "$out/bas.bil"
 rm "$out/rnk.bil"
 mkfifo "$out/rnk.bil"
-timeout 20 cat "$out/rnk.bil" >"$derive/rnk.bil" &
+timeout "$patience" cat "$out/rnk.bil" >"$derive/rnk.bil" &
 judge_given 'derived over files, a link and a pipe' 0 "$pit_derived"
 wait $!
 { stat -c %a "$out/acc.bil"; readlink "$out/bas.bil"; } >"$scratch/out"
@@ -355,6 +354,7 @@ for set in saga-counted:acc.bil saga-counted:bas.bil saga-linear:bas.bil watersh
 done
 
 # What was made from a tile follows from its directions, and with derived ranks a check accepts it too.
+make_terrain
 make_given
 judge_derive 'derived from bundled directions' 0 'derived rows=121 cols=121' --side 121 --products "$terrain" --out "$out" samples/jacksboro/N36W085.hgt
 judge_file 'derived from bundled directions' "$out/acc.bil" <"$terrain/acc.bil"

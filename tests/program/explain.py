@@ -1,6 +1,6 @@
 #!/usr/bin/env python3
-"""Explains sets of other tools, real terrain and small random sets, whole and by each list of rasters, and compares each
-page, object and map with plain ones.
+"""Explains sets of other tools, real terrain and small random sets, also of floats, whole and by each list of rasters,
+and compares each page, object and map with plain ones.
 
 explain.py DRAIN     prints how many explanations passed
 
@@ -20,17 +20,19 @@ sys.dont_write_bytecode = True
 from audit import LISTS, DemFile, TileFiles
 from make_products import PRODUCTS, header_at
 from plain_faults import ALL_NO_DATA, Explained, ground_of
-from plain_page import ON_RASTER, Page
+from plain_page import ON_RASTER, PARTS, Page
 from random_audits import RandomTiles
 from random_dems import RandomDem
+from random_floats import ALL_CHANGES, case_of, take_next_way
 from random_sets import Case
 from random_spacings import random_spacing
 from worked_sets import WORKED
 
 SAMPLES = Path(__file__).resolve().parents[2] / "samples"
 RANDOM_SETS = 240
+FLOAT_SETS = 300
 CHANGED_SETS = 12
-MEMBERS = ["answer", "refusal", "rows", "cols", "elevation", "slopes", "ranks", "rules", "products", "patch", "expected", "run"]
+MEMBERS = ["answer", "refusal", "rows", "cols", "elevation", "slopes", "ranks", "rules", "products", "patch", "expected", "run"] + PARTS
 
 
 class Wrong(Exception):
@@ -62,7 +64,7 @@ class Explanation:
         status, object_text = self.output("explain", "--json", "--map", self.map)
         same("the status with JSON", status, self.plain.status())
         page = json.loads(object_text)
-        wanted = Page(self.plain, self.ring_start(page))
+        wanted = Page(self.plain, self.ring_start(page), self.shares(page))
         missing = [] if wanted.words == ON_RASTER else ["elevation"]
         missing += [] if wanted.slopes_object() else ["slopes"]
         same("the members", list(page), [it for it in MEMBERS if it not in missing])
@@ -77,6 +79,22 @@ class Explanation:
         """The cell that the program takes for the first of a ring, which is its choice."""
         ring = page["run"] and page["run"]["ring"]
         return ring["cells"][0] if ring else None
+
+    def shares(self, page):
+        """By which shares the program says that ways between floats are less steep, by code."""
+        ways = page["expected"]["ways"] if page["expected"] else []
+        return {way["code"]: way.get("less_steep") for way in ways}
+
+
+def case_over(ground_of):
+    """The random cases over such grounds with any spacing or none, by number and folder."""
+
+    def case_of(number, folder):
+        dice, other_dice = random.Random(number), random.Random(f"spacing {number}")
+        ground = ground_of(dice)
+        return Case(dice, folder, ground, other_dice.choice([None, random_spacing(other_dice, ground.rows)]))
+
+    return case_of
 
 
 class Sets:
@@ -144,22 +162,21 @@ class Sets:
             ranks = (folder / "rnk.bil").exists()
             self.judge(f"valley, {folder.name}", DemFile(dem), ["--dem", dem], folder, valley / "sinks.txt", ranks)
 
-    def random(self, ground_of):
-        """Small sets over grounds of this kind."""
-        for number in range(RANDOM_SETS):
-            dice, other_dice = random.Random(number), random.Random(f"spacing {number}")
-            folder = self.scratch / f"random{number}"
+    def random(self, name, sets, case_of, changes):
+        """So many small sets of a kind, most of them after some of these changes."""
+        for number in range(sets):
+            folder = self.scratch / f"{name}{number}"
             folder.mkdir()
-            ground = ground_of(dice)
-            case = Case(dice, folder, ground, other_dice.choice([None, random_spacing(other_dice, ground.rows)]))
-            for _ in range(dice.choice([0, 1, 1, 3, 10])):
-                dice.choice([case.change, case.change, case.turn])()
+            case = case_of(number, folder)
+            for _ in range(case.dice.choice([0, 1, 1, 3, 10])):
+                case.dice.choice(changes)(case)
             case.write()
             ranks = number % 2 == 0
             if ranks:
                 self.write_ranks(case)
             words = [*case.spacing_words(), *case.ground.words(folder)]
-            self.judge(f"random set {number}", ground.files(folder), words, folder, folder / "sinks.txt", ranks, case.spacing)
+            files, sinks = case.ground.files(folder), folder / "sinks.txt"
+            self.judge(f"random {name} {number}", files, words, folder, sinks, ranks, case.spacing)
             shutil.rmtree(folder)
 
     def write_ranks(self, case):
@@ -181,8 +198,11 @@ def main():
         sets.changed()
         sets.worked()
         sets.valley()
-        sets.random(RandomTiles)
-        sets.random(RandomDem)
+        changes = [Case.change, Case.change, Case.turn]
+        sets.random("tiles", RANDOM_SETS, case_over(RandomTiles), changes)
+        sets.random("elevations", RANDOM_SETS, case_over(RandomDem), changes)
+        # Half of the changes take ways that may be hardly less steep.
+        sets.random("floats", FLOAT_SETS, case_of, [*ALL_CHANGES, *[take_next_way] * len(ALL_CHANGES)])
     print(f"explanations: {sets.passed} passed, {sets.failed} failed")
     return 1 if sets.failed else 0
 

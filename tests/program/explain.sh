@@ -1,44 +1,14 @@
 # Runs of `drain explain`: with ranks and without, pages of refusals, maps, and files and outputs that fail.
-# Read by run.sh after audit.sh; explain.py compares pages and maps with a plain count.
+# Read by part.sh; explain.py compares pages and maps with a plain count.
 
-faults=$check/faults.bil
-faults_header=$check/faults.hdr
-
-# Compares one run with these arguments: its name, the expected status, and the expected page on standard input.
-judge_page() {
-    local name=$1 status=$2
-    shift 2
-    cat >"$scratch/want"
-    timeout 60 "$drain" explain "$@" </dev/null >"$scratch/out" 2>"$scratch/err"
-    judge "$name" "$status" "$scratch/want" $?
-}
-
-# Only the first line: its name, the expected status and line.
-judge_first_line() {
-    local name=$1 status=$2 line=$3 came
-    shift 3
-    timeout "$patience" "$drain" explain "$@" </dev/null >"$scratch/page" 2>"$scratch/err"
-    came=$?
-    head -n 1 "$scratch/page" >"$scratch/out"
-    want "$line"
-    judge "$name" "$status" "$scratch/want" $came
-}
-
-# The same on the tile of side 3 and its products.
+# The same on the tile of side 3 and its products, of the first line alone.
 judge_explained() {
     judge_first_line "$1" "$2" "$3" --side 3 --products "$check/out" "${@:4}" "$tile"
 }
 
 # The object of a failure with this answer.
 object() {
-    printf '{"answer":"%s","refusal":null,"rows":null,"cols":null,"ranks":null,"rules":[],"products":[],"patch":null,"expected":null,"run":null}' "$1"
-}
-
-# The files in a folder, by name.
-judge_folder() {
-    ls -A "$2" >"$scratch/out" 2>"$scratch/err"
-    printf '%s\n' "${@:3}" | LC_ALL=C sort | sed '/^$/d' >"$scratch/want"
-    judge "$1" 0 "$scratch/want" 0
+    printf '{"answer":"%s","refusal":null,"rows":null,"cols":null,"ranks":null,"rules":[],"products":[],"patch":null,"expected":null,"run":null,"schema":1,"status":3,"rule":null,"name":null,"row":null,"col":null}' "$1"
 }
 
 # Ranks are checked if their files are there.
@@ -73,9 +43,9 @@ make_bare
 
 # Arguments in any order; a map with another ending, or none, is a usage error.
 judge_first_line 'options of an explanation behind the tile' 0 "$pit_checked" "$tile" --products="$check/out/" --side=3
-for words in '--map=' '--map faults' '--map faults.hdr' '--map faults.BIL' '--map' '--map a.bil --map b.bil' '--json --json' '--out a'; do
+for words in '--map=' '--map faults' '--map faults.hdr' '--map faults.BIL' '--map' '--map a.bil --map b.bil' '--out a'; do
     want -
-    timeout 20 "$drain" explain $words --products "$check/out" "$tile" >"$scratch/out" 2>"$scratch/err"
+    timeout "$patience" "$drain" explain $words --products "$check/out" "$tile" >"$scratch/out" 2>"$scratch/err"
     judge "an explanation with $words" 2 "$scratch/want" $? words
 done
 
@@ -94,13 +64,6 @@ judge_first_line 'a tile that is not there, as JSON' 3 "$(object 'failed Open a\
 judge_explained 'a map in a folder that is not there, as JSON' 3 "$(object "failed Open $check/none/faults.hdr")" --json --map "$check/none/faults.bil"
 
 # Refusals, each with what was expected and found, and no map of them.
-refused() {
-    judge_page "explained: $1" 2 --side "${of_side:-3}" --products "$check/out" --map "$faults" ${listed:+--sinks "$check/sinks.txt"} "${tiles[@]}"
-    [ ! -e "$faults" ] && [ ! -e "$faults_header" ]
-    printf '' >"$scratch/want"
-    : >"$scratch/out"
-    judge "no map where it is refused: $1" 0 "$scratch/want" $?
-}
 make_bare
 tiles=("$tile")
 of_side=1 refused 'a side' <<'END'
@@ -363,7 +326,7 @@ for over in out/{con,dir,acc,bas,rnk}.bil out/../out/con.bil out_linked/bas.bil 
     for sinks in '' list.hdr list.bil; do
         [ "$over" != list.bil ] || [ -n "$sinks" ] || continue
         want -
-        timeout 20 "$drain" explain --side 3 --products "$check/out" --map "$check/$over" ${sinks:+--sinks "$check/$sinks"} "$tile" >"$scratch/out" 2>"$scratch/err"
+        timeout "$patience" "$drain" explain --side 3 --products "$check/out" --map "$check/$over" ${sinks:+--sinks "$check/$sinks"} "$tile" >"$scratch/out" 2>"$scratch/err"
         judge "a map over $over, sinks ${sinks:-none}" 2 "$scratch/want" $? words
     done
 done
@@ -378,7 +341,7 @@ name=$(printf 'd%.0s' {1..200})
     cd "$check" || exit
     for _ in {1..25}; do mkdir "$name" && cd "$name" || exit; done
     cp -r "$check/out" . && cp "$tile" . || exit
-    timeout 20 "$drain" explain --side 3 --products out --map out/con.bil N00E000.hgt >"$scratch/out" 2>"$scratch/err"
+    timeout "$patience" "$drain" explain --side 3 --products out --map out/con.bil N00E000.hgt >"$scratch/out" 2>"$scratch/err"
     echo $? >"$scratch/status"
     cmp out/con.bil "$check/out/con.bil" && cmp out/con.hdr "$check/out/con.hdr"
 ) >"$scratch/compared" 2>&1 </dev/null
@@ -411,7 +374,7 @@ make_bare
 echo 'of before' >"$faults_header"
 ln -s faults.hdr "$faults"
 want -
-timeout 20 "$drain" explain --side 3 --products "$check/out" --map "$faults" "$tile" >"$scratch/out" 2>"$scratch/err"
+timeout "$patience" "$drain" explain --side 3 --products "$check/out" --map "$faults" "$tile" >"$scratch/out" 2>"$scratch/err"
 judge 'a map that is a link to its header' 2 "$scratch/want" $? words
 want 'of before'
 cat "$faults_header" >"$scratch/out" 2>"$scratch/err"
@@ -426,10 +389,10 @@ rm "$faults"
 ln -s out "$check/out_linked"
 for map in out/rnk.bil ./out/../out/rnk.bil out_linked/rnk.bil out//rnk.bil; do
     want -
-    timeout 20 "$drain" explain --side 3 --products "$check/out" --map "$check/$map" "$tile" >"$scratch/out" 2>"$scratch/err"
+    timeout "$patience" "$drain" explain --side 3 --products "$check/out" --map "$check/$map" "$tile" >"$scratch/out" 2>"$scratch/err"
     judge "a map named as ranks: $map" 2 "$scratch/want" $? words
 done
-(cd "$check/out" && timeout 20 "$drain" explain --side 3 --products . --map rnk.bil "$tile") >"$scratch/out" 2>"$scratch/err"
+(cd "$check/out" && timeout "$patience" "$drain" explain --side 3 --products . --map rnk.bil "$tile") >"$scratch/out" 2>"$scratch/err"
 judge 'a map named as ranks in the folder that it runs in' 2 "$scratch/want" $? words
 : >"$scratch/err"
 judge_folder 'no ranks by way of a map' "$check/out" {con,dir,acc,bas}.{hdr,bil}

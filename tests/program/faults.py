@@ -32,8 +32,12 @@ IO_ERROR = "5"
 PART = re.compile(r"drain-[0-9]+\.part")
 REASON = re.compile(r"error: .+: .+ \(os error [0-9]+\)\n")
 
+# What standard error has beside the line of a failed read: nothing, or that it was a list or a text of widths.
+NO_TEXT = re.compile(r"|error: .+: it can't be read, or has more than [0-9]+ bytes\n")
+
 # What `explain` prints below the line of right products.
 RIGHT_PAGE = """
+slopes: square cells
 hold: 1 VoidCell, 2 Missing, 3 BadCode, 4 BelowGround, 5 OpenRaised, 9 NotLeast, 10 Slope, 11 OutletCode, 12 FlatStep, \
 13 Accumulation, 14 Label, 15 SharedLabel
 not tried: 6 NoSpill, 7 SpillHeight, 8 SpillRank
@@ -51,6 +55,7 @@ TELLS = {
 
 # The members of an object of an explanation.
 MEMBERS = ["answer", "refusal", "rows", "cols", "ranks", "rules", "products", "patch", "expected", "run"]
+MEMBERS += ["schema", "status", "rule", "name", "row", "col"]
 
 
 def answer_in(output):
@@ -103,7 +108,7 @@ class Run:
         if line is None:
             return False
         names_file = line.startswith(("failed Open ", "failed WriteFailed"))
-        has_reason = REASON.fullmatch(ended.errors) if names_file else ended.errors == ""
+        has_reason = (REASON if names_file else NO_TEXT).fullmatch(ended.errors)
         return ended.status == FAILED and TELLS[call](line) and bool(has_reason or how == "later")
 
 

@@ -1,4 +1,4 @@
-# Runs of `drain header`. Read by run.sh.
+# Runs of `drain header`. Read by part.sh.
 
 # Headers as tools write them, each with what is printed of it.
 for file in samples/headers/*.hdr; do
@@ -31,7 +31,7 @@ mkfifo "$scratch/open.hdr"
 exec 3<>"$scratch/open.hdr"
 { cat "$scratch/longest.hdr"; echo; } >&3 &
 want 'refused TooLong'
-timeout 20 "$drain" header "$scratch/open.hdr" >"$scratch/out" 2>"$scratch/err"
+timeout "$patience" "$drain" header "$scratch/open.hdr" >"$scratch/out" 2>"$scratch/err"
 judge 'a longer header in an open pipe' 2 "$scratch/want" $?
 wait $!
 exec 3<&-

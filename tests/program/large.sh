@@ -1,4 +1,4 @@
-# Runs on large inputs, whose lines follow from their form (large_sets.py). Read by run.sh after progress.sh.
+# Runs on large inputs, whose lines follow from their form (large_sets.py). Read by part.sh.
 
 large=$scratch/large
 patience=600
@@ -87,4 +87,3 @@ for kind in checkers scattered; do
     judge_both "the first label at the last of 151,425 outlets, $kind" 1 'rejected rule=15 SharedLabel row=448 col=448' --side 449
 done
 rm -rf "$large"
-patience=60

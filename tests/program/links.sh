@@ -1,6 +1,5 @@
-# Outputs of each command behind links, on the pit of check.sh: the file that a link leads to gets the new bytes and no
-# others, whether it was longer, or wasn't there; and it stays if another output can't be opened. Read by run.sh after
-# window.sh; it calls the functions of those before.
+# Outputs of each command behind links, on the pit: the file that a link leads to gets the new bytes and no others, whether
+# it was longer, or wasn't there; and it stays if another output can't be opened. Read by part.sh.
 
 behind=$check/behind
 judged=(--side 3 --products "$check/out")
@@ -74,6 +73,7 @@ judge_links 'derived rows=3 cols=3' derive "${judged[@]}" --out "$check/new" -- 
 judge_links "$pit_checked" "${window[@]}" "$check/new/report.txt" -- report.txt
 page="$pit_checked
 
+slopes: square cells
 hold: 1 VoidCell, 2 Missing, 3 BadCode, 4 BelowGround, 5 OpenRaised, 9 NotLeast, 10 Slope, 11 OutletCode, 12 FlatStep, \
 13 Accumulation, 14 Label, 15 SharedLabel
 not tried: 6 NoSpill, 7 SpillHeight, 8 SpillRank"

@@ -10,9 +10,10 @@ Prints the cases that failed and, in its last line, how many passed.
 import struct
 import sys
 import tempfile
-from collections.abc import Iterator
+from collections.abc import Iterator, Sequence
 from dataclasses import dataclass, replace
 from itertools import combinations
+from math import inf, nan
 from pathlib import Path
 
 sys.dont_write_bytecode = True
@@ -21,11 +22,16 @@ from dem_sets import (
     CLIFF,
     CLIFF_PEAK,
     FALL,
+    FALL_OF_FLOATS,
+    GDAL_LEAST,
+    GREATEST,
     KINDS,
+    LEAST_FLOAT,
     LISTED,
     PEAK,
     PEAK_Z,
     PIT,
+    PIT_OF_TENTHS,
     SPACED,
     SPLIT,
     UNSPELLED,
@@ -35,6 +41,7 @@ from dem_sets import (
     pit_of,
     pixels_of,
     slope,
+    split_by,
     without_line,
 )
 from small_sets import NO_RANK, VOID, DemSet, Lines
@@ -53,8 +60,8 @@ class Made:
     rows: int
     cols: int
     kind: str
-    nodata: int
-    numbers: tuple[list[int], ...]
+    nodata: int | str
+    numbers: tuple[Sequence[float], ...]
 
 
 FALLS = ([100002, 100001, 100000] * 2, [1, 1, 0] * 2, [1, 2, 3] * 2, [1] * 3 + [2] * 3, [0] * 6)
@@ -68,6 +75,20 @@ OVER_FLAT, DOWN = [0] * 4 + [1] + [0] * 4, [0] * 9
 PIT_Z = [5] * 4 + [1] + [5] * 4
 INTO_SINK = ([2, 4, 8, 1, 0, 16, 128, 64, 32], [1] * 4 + [9] + [1] * 4, [1] * 9, [0] * 9)
 BETWEEN_VOID = ([0, 255, 0], [1, 0, 1], [1, 0, 2], [0, NO_RANK, 0])
+# A float between two cells, the header's no-data number, the same as it is written, and what is written there.
+FLOAT_VOIDS = [
+    (nan, None, "nan", nan),
+    (inf, None, "nan", nan),
+    (-inf, "NaN", "nan", nan),
+    (inf, "inf", "inf", inf),
+    (nan, "-inf", "-inf", -inf),
+    (-9999, "-9999", "-9999.0", -9999),
+    (nan, -9999, "-9999.0", -9999),
+    (-GREATEST, GDAL_LEAST, "-3.4028235e38", -GREATEST),
+    (0.1, "0.1000000014901161", "0.1", 0.1),
+    (-0.0, "-0", "0.0", 0),
+    (LEAST_FLOAT, "1.4e-45", "1e-45", LEAST_FLOAT),
+]
 MADE = [
     Made(PIT, 3, 3, "B", UNSPELLED, ([5] * 9, *EAST, OVER_FLAT)),
     Made(PIT.with_line("dem", "NODATA 256"), 3, 3, "B", 256, ([5] * 9, *EAST, OVER_FLAT)),
@@ -103,6 +124,27 @@ MADE = [
     *(
         Made(it, 3, 3, "i", UNSPELLED, (list(struct.unpack("<9i", it.dem)), *(it.numbers[name] for name in PRODUCTS[1:])))
         for it in (slope(1855077841, 1311738121, 1, 4), slope(768398401, 543339720, 2, 3))
+    ),
+    # Floats are written as they are, but 0 without a sign, and voids as the no-data number.
+    Made(PIT_OF_TENTHS, 3, 3, "f", "nan", ([0.2] * 9, *EAST, OVER_FLAT)),
+    Made(pit_of(0, -LEAST_FLOAT, 0, "f"), 3, 3, "f", "nan", ([0] * 9, *EAST, OVER_FLAT)),
+    Made(pit_of(GREATEST, -GREATEST, 0, "f"), 3, 3, "f", "nan", ([GREATEST] * 9, *EAST, OVER_FLAT)),
+    Made(FALL_OF_FLOATS, 2, 3, "f", "nan", FALLS),
+    *(
+        Made(
+            one_dem(1, 2, "f", [-0.0, 1], *[[0, 0]] * 5, order=order), 1, 2, "f", "nan",
+            ([0, 1], [0, 16], [2, 1], [1, 1], [0, 0]),
+        )
+        for order in "IM"
+    ),
+    *(
+        Made(split_by(void, 0, word), 1, 3, "f", written, ([0.5, con, 0.25], *BETWEEN_VOID))
+        for void, word, written, con in FLOAT_VOIDS
+    ),
+    *(
+        Made(it, 3, 3, "f", "nan", (it.numbers["con"], *(it.numbers[name] for name in PRODUCTS[1:])))
+        for unit in (1, 2.0**-149, 2.0**104)
+        for it in (slope(9369319, 6625109, 1, 4, "f", unit), slope(3880899, 2744210, 2, 3, "f", unit))
     ),
 ]  # fmt: skip
 
@@ -147,13 +189,13 @@ PLACES_READ = [
 KEYS = ("ULXMAP", "ULYMAP", "XDIM", "YDIM")
 
 
-def header(rows: int, cols: int, kind: str, nodata: int, place: tuple[str, ...] = PLACES_READ[0]) -> str:
+def header(rows: int, cols: int, kind: str, nodata: int | str, place: tuple[str, ...] = PLACES_READ[0]) -> str:
     """The header of a raster with pixels of this kind, as it is written."""
     size = struct.calcsize(kind)
     return (
         f"BYTEORDER I\nLAYOUT BIL\nNROWS {rows}\nNCOLS {cols}\nNBANDS 1\nNBITS {8 * size}\n"
         f"BANDROWBYTES {cols * size}\nTOTALROWBYTES {cols * size}\nSKIPBYTES 0\n"
-        f"PIXELTYPE {'UNSIGNEDINT' if kind.isupper() else 'SIGNEDINT'}\n"
+        f"PIXELTYPE {'FLOAT' if kind == 'f' else 'UNSIGNEDINT' if kind.isupper() else 'SIGNEDINT'}\n"
         + "".join(f"{key} {number}\n" for key, number in zip(KEYS, place, strict=True))
         + f"NODATA {nodata}\n"
     )

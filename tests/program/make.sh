@@ -1,72 +1,5 @@
-# Runs of `drain make`, and `drain check` on its output. Read by run.sh after terrain.sh and check.sh; it calls their
-# functions.
+# Runs of `drain make`, and `drain check` on its output. Read by part.sh.
 
-work=$scratch/make
-made=$work/out
-ground=$work/N00E000.hgt
-files=$(echo {con,dir,acc,bas,rnk}.{hdr,bil})
-
-# A tile's bytes of these heights from 0 to 255, each - a void.
-heights() {
-    local height
-    for height; do
-        case $height in -) printf '\x80\0' ;; *) printf "\\0\\x$(printf %02x "$height")" ;; esac
-    done
-}
-
-# The bytes of these numbers in 32 bits each, the least first.
-numbers_of_32_bits() {
-    python3 -c 'import struct, sys; sys.stdout.buffer.write(struct.pack(f"<{len(sys.argv) - 1}I", *map(int, sys.argv[1:])))' "$@"
-}
-
-# An empty folder for products, and only the tile of the pit.
-make_ground() {
-    rm -rf "$work"
-    mkdir -p "$made"
-    heights 5 5 5 5 1 5 5 5 5 >"$ground"
-}
-
-# Compares one run with these arguments: its name, the expected status and line.
-judge_make() {
-    judge_words "$1" "$2" "$3" make "${@:4}"
-}
-
-# The same on the pit, with a line without products, and then the folder is still empty.
-judge_nothing_made() {
-    judge_make "$@"
-    want -
-    ls -A "$made" >"$scratch/out" 2>"$scratch/err"
-    judge "$1: what is in the folder" 0 "$scratch/want" $?
-}
-
-# Compares a file with the bytes of standard input.
-judge_file() {
-    cat >"$scratch/want"
-    cat "$2" >"$scratch/out" 2>"$scratch/err"
-    judge "$1: ${2##*/}" 0 "$scratch/want" $?
-}
-
-# The bytes of a file of the pit's products. Its water leaves by the first of eight equal ways, to the east: two cells
-# drain through the cell there, whose label the pit has. Headers and con are those of another program.
-pit_file() {
-    case $1 in
-        dir.bil) numbers 1 0 0 0 0 1 0 0 0 0 ;;
-        acc.bil) numbers 4 1 1 1 1 1 2 1 1 1 ;;
-        bas.bil) numbers 4 1 2 3 4 5 5 6 7 8 ;;
-        rnk.bil) numbers 4 0 0 0 0 1 0 0 0 0 ;;
-        *) cat "samples/pit-3/$1" ;;
-    esac
-}
-
-# The products of the pit in a folder.
-judge_pit_files() {
-    local file
-    for file in $files; do
-        pit_file "$file" | judge_file "$1" "$2/$file"
-    done
-}
-
-pit_made='made rows=3 cols=3'
 make_ground
 judge_make 'a pit' 0 "$pit_made" --side 3 --out "$made" "$ground"
 judge_pit_files 'a pit' "$made"
@@ -85,7 +18,7 @@ judge_make 'tiles behind two dashes' 0 "$pit_made" --side 3 --out "$made" -- "$g
 judge_pit_files 'tiles behind two dashes' "$made"
 make_ground
 want "$pit_made"
-(cd "$made" && timeout 20 "$drain" make --side 3 --out . ../N00E000.hgt >"$scratch/out" 2>"$scratch/err")
+(cd "$made" && timeout "$patience" "$drain" make --side 3 --out . ../N00E000.hgt >"$scratch/out" 2>"$scratch/err")
 judge 'made in the folder that it runs in' 0 "$scratch/want" $?
 judge_pit_files 'made in the folder that it runs in' "$made"
 make_ground
@@ -287,12 +220,6 @@ for folder in "$work/none" "$work/none/" "$ground"; do
     judge_nothing_made "a bad tile, and no folder at $folder" 2 'refused BadTileLength N00E000.hgt' --side 2 --out "$folder" "$ground"
 done
 
-# The names in the folder of products: no others are left.
-judge_names() {
-    printf '%s\n' "${@:2}" | LC_ALL=C sort >"$scratch/want"
-    ls -A "$made" >"$scratch/out" 2>"$scratch/err"
-    judge "$1: names" 0 "$scratch/want" $?
-}
 for name in $files; do
     make_ground
     mkdir "$made/$name"
@@ -347,7 +274,7 @@ mkfifo "$made/rnk.bil"
 exec 3<>"$made/rnk.bil"
 "$drain" make --side 344 --out "$made" "$real" >"$scratch/out" 2>"$scratch/err" 3<&- &
 maker_run=$!
-timeout 60 head -c 1 <&3 >"$scratch/byte" && kill -9 $maker_run
+timeout "$patience" head -c 1 <&3 >"$scratch/byte" && kill -9 $maker_run
 wait $maker_run 2>/dev/null
 came=$?
 exec 3<&-
@@ -397,7 +324,7 @@ for how in 'ln -s ../N00E000.hgt' "ln $ground" "ln $work/list" 'ln -s ../list'; 
         cat "$ground" "$work/list" >"$work/before"
         $how "$made/$name"
         want -
-        timeout 20 "$drain" make --side 3 --out "$made" --sinks "$work/list" "$ground" >"$scratch/out" 2>"$scratch/err"
+        timeout "$patience" "$drain" make --side 3 --out "$made" --sinks "$work/list" "$ground" >"$scratch/out" 2>"$scratch/err"
         judge "$how: made over an input as $name" 2 "$scratch/want" $? words
         judge_names "$how: made over an input as $name" "$name"
         cat "$ground" "$work/list" | judge_file "$how: made over an input as $name" "$work/before"
@@ -429,11 +356,11 @@ judge_nothing_made 'made of an open pipe with a byte too many' 2 'refused BadTil
 exec 3<&-
 make_ground
 mkfifo "$made/acc.bil"
-timeout 20 cat "$made/acc.bil" >"$work/acc.bil" &
+timeout "$patience" cat "$made/acc.bil" >"$work/acc.bil" &
 judge_make 'made into a pipe' 0 "$pit_made" --side 3 --out "$made" "$ground"
 wait $!
 pit_file acc.bil | judge_file 'made into a pipe' "$work/acc.bil"
-timeout 20 head -c 1 "$made/acc.bil" >"$work/acc.bil" &
+timeout "$patience" head -c 1 "$made/acc.bil" >"$work/acc.bil" &
 judge_make 'made into a pipe that nobody reads on' 3 'failed WriteFailed' --side 344 --out "$made" "$real"
 wait $!
 

@@ -150,6 +150,10 @@ def fixed(units):
     return f"{sign}{units // 10**15}.{units % 10**15:015d}"
 
 
+# By whether pixels have a sign; None is of floats.
+PIXEL_TYPES = {True: "SIGNEDINT", False: "UNSIGNEDINT", None: "FLOAT"}
+
+
 def header_at(rows, cols, place, bits, signed, nodata):
     """The header of a raster at a place (ULXMAP, ULYMAP, XDIM, YDIM, in units of 10^-15), as `drain header` prints it."""
     row_bytes = cols * bits // 8
@@ -163,7 +167,7 @@ def header_at(rows, cols, place, bits, signed, nodata):
         f"BANDROWBYTES {row_bytes}",
         f"TOTALROWBYTES {row_bytes}",
         "SKIPBYTES 0",
-        f"PIXELTYPE {'SIGNEDINT' if signed else 'UNSIGNEDINT'}",
+        f"PIXELTYPE {PIXEL_TYPES[signed]}",
         *(f"{key} {fixed(units)}" for key, units in zip(("ULXMAP", "ULYMAP", "XDIM", "YDIM"), place)),
         f"NODATA {nodata}",
     ]

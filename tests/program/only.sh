@@ -1,15 +1,13 @@
 # Runs of `drain audit --only`: each list of rasters on small sets, right ones and ones with one number changed, beside
-# rasters that aren't listed and can't be read; refusals in their order; sets of other tools. Read by run.sh after
-# audit.sh, whose functions it uses; audit.py is the other program.
+# rasters that aren't listed and can't be read; refusals in their order; sets of other tools. Read by part.sh; audit.py is
+# the other program.
 
 lists='con con,dir con,dir,acc con,dir,bas con,dir,acc,bas'
-tile=$check/N00E000.hgt
+make_terrain
+make_wide
 
 # Whether a list has a raster.
 has() { [[ ,$1, == *,$2,* ]]; }
-
-# The line of an acceptance as it is for a list: con alone has no outlets.
-accepted_as() { if [ "$1" = con ]; then echo "${2% outlets=*}"; else echo "$2"; fi; }
 
 # The status of a line.
 status_of() {
@@ -160,7 +158,7 @@ END
 # With its centre listed the pit is an outlet. Without the list, of con alone, it isn't filled.
 for list in $lists; do
     make_bare
-    cp -r "$scratch/listed/." "$check/out"
+    put_listed "$check/out"
     spoil_others "$list" 'that are missing'
     printf '\r\n1 1' >"$check/sinks.txt"
     judge_only 'a listed pit' "$list" "$(accepted_as "$list" "$sunk_checked")" --sinks "$check/sinks.txt"
@@ -261,7 +259,7 @@ done
 # Lists that are no list: nothing is opened, and standard error has the lists that there are.
 while IFS= read -r list; do
     want -
-    timeout 20 "$drain" audit --only "$list" --side 3 --products "$check/none" "$tile" </dev/null >"$scratch/out" 2>"$scratch/err"
+    timeout "$patience" "$drain" audit --only "$list" --side 3 --products "$check/none" "$tile" </dev/null >"$scratch/out" 2>"$scratch/err"
     judge "the list '$list'" 2 "$scratch/want" $? words
     grep -q 'the list must be con, or con,dir, or con,dir,acc, or con,dir,bas, or con,dir,acc,bas' "$scratch/err"
     judge "the list '$list': what there is" 0 "$scratch/want" $? words
@@ -288,7 +286,7 @@ all
 END
 want -
 for words in 'audit --only' 'audit --only= x' 'audit --only con --only con x' 'check --only con x' 'explain --onli con x' 'make --only con x'; do
-    timeout 20 "$drain" $words --products "$check/out" </dev/null >"$scratch/out" 2>"$scratch/err"
+    timeout "$patience" "$drain" $words --products "$check/out" </dev/null >"$scratch/out" 2>"$scratch/err"
     judge "refused words: $words" 2 "$scratch/want" $? words
 done
 
@@ -338,9 +336,9 @@ judge 'the sets of other tools in the table by list' 0 "$scratch/want" 0
 # An explanation by list begins with the line of the audit, and ends with its status: its name, and the arguments.
 judge_explained() {
     local status came
-    timeout 60 "$drain" audit "${@:2}" </dev/null >"$scratch/want" 2>"$scratch/err"
+    timeout "$patience" "$drain" audit "${@:2}" </dev/null >"$scratch/want" 2>"$scratch/err"
     status=$?
-    timeout 60 "$drain" explain "${@:2}" </dev/null >"$scratch/page" 2>>"$scratch/err"
+    timeout "$patience" "$drain" explain "${@:2}" </dev/null >"$scratch/page" 2>>"$scratch/err"
     came=$?
     head -n 1 "$scratch/page" >"$scratch/out"
     judge "an explanation of $1" "$status" "$scratch/want" "$came"
@@ -356,7 +354,7 @@ for list in $lists; do
     judge_explained "a pit, of $list alone, beside ranks that are none" --only "$list" --side 3 --products "$check/out" "$tile"
 done
 
-# The whole terrain, with the counts of another maker's products; and the changes of terrain.sh, of one number each.
+# The whole terrain, with the counts of another maker's products; and changes of one number.
 for list in $lists; do
     judge_audit "real terrain of side 344, of $list alone" 0 \
         "$(accepted_as "$list" 'accepted rows=344 cols=344 data=118336 raised=5200 outlets=115')" \
@@ -380,6 +378,6 @@ for list in con con,dir; do
     make_bare
     echo 'TOTALROWBYTES 4294967295' >>"$check/out/con.hdr"
     want 'refused RasterShort con'
-    (ulimit -v 200000 && exec timeout 20 "$drain" audit --only "$list" --side 3 --products "$check/out" "$tile") >"$scratch/out" 2>"$scratch/err"
+    (ulimit -v 200000 && exec timeout "$patience" "$drain" audit --only "$list" --side 3 --products "$check/out" "$tile") >"$scratch/out" 2>"$scratch/err"
     judge "a long row over a short body, of $list alone" 2 "$scratch/want" $?
 done

@@ -36,9 +36,10 @@ class Explained:
     def __init__(self, ground, terrain, folder, given, spacing=None):
         self.ground, self.terrain, self.spacing = ground, terrain, spacing
         self.ranks = "rnk" in given
-        headers = {name: Header(contents(folder / f"{name}.hdr")) for name in given}
+        has_floats = ground is not None and ground.has_floats
+        headers = {name: Header(contents(folder / f"{name}.hdr"), name == "con" and has_floats) for name in given}
         products = {name: headers[name].pixels(contents(folder / f"{name}.bil")) for name in given}
-        blank = {name: ALL_NO_DATA[name] if headers[name].nodata is None else headers[name].nodata for name in given}
+        blank = {name: headers[name].nodata_or(ALL_NO_DATA[name]) for name in given}
         self.rules = (CheckRules if self.ranks else AuditRules)(terrain, products, blank)
         about = set().union(*(RULES_ABOUT.get(name, set()) for name in given))
         self.tried = [rule for rule in RULES if rule[0] in about]

@@ -1,14 +1,17 @@
-"""Reads tiles, headers, rasters and lists of sinks in the forms of docs/FORMATS.md: slow and plain.
+"""Reads tiles, headers, rasters and lists of sinks in the forms of docs/FORMATS.md: slow and plain. Floats are fractions.
 
 What can't be read is raised as Refused, with the words that stand behind `refused`. Elevations come from a ground: a
-Mosaic of tiles, or a Dem, one raster. Each has rows and cols, the place that made rasters get, says which headers lie on it
-(holds), refuses bytes that are too few (judge_lengths), and has the elevation of each cell (elevations).
+Mosaic of tiles, or a Dem, one raster. Each has rows and cols, the place that made rasters get, says whether elevations
+are floats (has_floats) and which headers lie on it (holds), refuses bytes that are too few (judge_lengths), and has the
+elevation of each cell (elevations).
 """
 
+import math
 import re
 import struct
 import sys
 from fractions import Fraction
+from functools import lru_cache
 
 VOID = -32768
 MOST_SIDE = 3601
@@ -57,6 +60,8 @@ def name_of(corner):
 
 class Mosaic:
     """The box of the tiles with these names, and its elevations once their bytes are put in."""
+
+    has_floats = False
 
     def __init__(self, side, names):
         self.side, self.corners, self.z = side, [], {}
@@ -113,6 +118,55 @@ class Mosaic:
         return z
 
 
+# Floats of 32 bits
+
+# What they count as where they are no voids: above and below any height, as the floats behind the greatest would.
+INFINITY, NAN = Fraction(2**128), Fraction(3 * 2**127)
+
+
+def fraction_of(number):
+    """The fraction that a float is: 0 for both zeros, one for every NaN."""
+    if math.isnan(number):
+        return NAN
+    return Fraction(number) if math.isfinite(number) else INFINITY if number > 0 else -INFINITY
+
+
+def float_at(pattern):
+    """The fraction of the float with these 32 bits."""
+    return fraction_of(struct.unpack("<f", struct.pack("<I", pattern))[0])
+
+
+def pattern_of(number):
+    """The 32 bits of the float that is this fraction, without a sign where it is 0 or NaN."""
+    if abs(number) >= INFINITY:
+        return 0x7FC00000 if number == NAN else 0x7F800000 if number > 0 else 0xFF800000
+    return struct.unpack("<I", struct.pack("<f", float(number)))[0]
+
+
+def nearest_float(number):
+    """The float nearest to a fraction, of two the one with an even pattern."""
+    size = abs(number)
+    # Roundings on the way come to a float next to it at most, and the infinity is next to the greatest.
+    near = pattern_of(min(size, float_at(0x7F7FFFFF)))
+    _, _, found = min((abs(float_at(it) - size), it % 2, float_at(it)) for it in range(max(near - 1, 0), near + 2))
+    return found if number >= 0 else -found
+
+
+@lru_cache
+def float_of(word):
+    """The float nearest to a decimal; None if the word is no number."""
+    found = re.fullmatch(r"([+-]?)(?:(inf|infinity|nan)|(([0-9]*)\.?([0-9]*))(?:e([+-]?[0-9]+))?)", word.lower())
+    if not found or found[3] in ("", "."):
+        return None
+    sign = -1 if found[1] == "-" else 1
+    if found[2]:
+        return NAN if found[2] == "nan" else sign * INFINITY
+    digits, power = int(found[4] + found[5]), int(found[6] or 0) - len(found[5])
+    # Past these powers it is 0 or an infinity, whatever the digits are.
+    power = max(min(power, 100), -100 - len(found[3])) if digits else 0
+    return nearest_float(sign * digits * Fraction(10) ** power)
+
+
 # Headers
 
 
@@ -131,10 +185,12 @@ def kept(number):
     return Fraction(units if number > 0 else -units, 10**15)
 
 
-def value_of(key, word):
+def value_of(key, word, has_floats):
     """What a keyword's value means, None where the keyword has no such value."""
     if key == "PIXELTYPE":
         return word.upper()
+    if key == "NODATA" and has_floats:
+        return float_of(word)
     if key in WORD_KEYS:
         return word.upper() if word.upper() in WORD_KEYS[key] else None
     if key in WHOLE_KEYS:
@@ -147,49 +203,65 @@ def value_of(key, word):
     return kept(number)
 
 
-def header_fields(text):
+def header_words(text):
+    """Of each line with a keyword its number, the keyword, and the word behind it, None if there is none."""
+    for number, line in enumerate(text.decode("latin-1").split("\n"), 1):
+        words = [word for word in re.split("[ \t]+", line[:-1] if line.endswith("\r") else line) if word]
+        key = re.sub("[a-z]", lambda letter: letter[0].upper(), words[0]) if words else None
+        if key in ["PIXELTYPE", "NODATA", *WORD_KEYS, *WHOLE_KEYS, *PLACE_KEYS]:
+            yield number, key, words[1] if len(words) > 1 else None
+
+
+def says_floats(text):
+    """Whether the first line on the pixel type says floats."""
+    types = (word for _, key, word in header_words(text) if key == "PIXELTYPE")
+    return (next(types, None) or "").upper() == "FLOAT"
+
+
+def header_fields(text, has_floats):
     """What each line of a header says, by its keyword."""
     if len(text) > MOST_HEADER_BYTES:
         raise Refused("TooLong")
     fields = {}
-    for number, line in enumerate(text.decode("latin-1").split("\n"), 1):
-        words = [word for word in re.split("[ \t]+", line[:-1] if line.endswith("\r") else line) if word]
-        key = re.sub("[a-z]", lambda letter: letter[0].upper(), words[0]) if words else None
-        if key not in ["PIXELTYPE", "NODATA", *WORD_KEYS, *WHOLE_KEYS, *PLACE_KEYS]:
-            continue
+    for number, key, word in header_words(text):
         if key in fields:
             raise Refused(f"RepeatedKey {number}")
-        fields[key] = value_of(key, words[1]) if len(words) > 1 else None
+        fields[key] = value_of(key, word, has_floats) if word is not None else None
         if fields[key] is None:
             raise Refused(f"BadValue {number}")
     return fields
 
 
 class Header:
-    """What a header says, with the values that hold where a keyword is absent."""
+    """What a header says, of floats or of whole numbers, with the values that hold where a keyword is absent."""
 
-    def __init__(self, text):
-        fields = header_fields(text)
+    def __init__(self, text, has_floats=False):
+        fields = header_fields(text, has_floats)
         for key in NEEDED_KEYS:
             if key not in fields:
                 raise Refused(f"MissingKey {key}")
         self.rows, self.cols, self.ulx, self.uly, self.xdim, self.ydim = (fields[key] for key in NEEDED_KEYS)
         if fields.get("NBANDS", 1) != 1:
             raise Refused("NotOneBand")
-        self.bits = fields.get("NBITS", 8)
-        if self.bits not in (8, 16, 32):
+        self.bits, self.has_floats = fields.get("NBITS", 8), has_floats
+        if self.bits not in ((32,) if has_floats else (8, 16, 32)):
             raise Refused("BadBits")
         signed = fields.get("PIXELTYPE", "SIGNEDINT" if self.bits == 16 else "UNSIGNEDINT")
-        if signed not in ("SIGNEDINT", "UNSIGNEDINT"):
+        if signed not in (("FLOAT",) if has_floats else ("SIGNEDINT", "UNSIGNEDINT")):
             raise Refused("BadPixelType")
         least = self.cols * self.bits // 8
         self.skip = fields.get("SKIPBYTES", 0)
         self.stride = fields.get("TOTALROWBYTES", fields.get("BANDROWBYTES", least))
         if self.stride < least:
             raise Refused("RowTooShort")
-        form = {8: "b", 16: "h", 32: "i"}[self.bits]
-        self.form = ("<" if fields.get("BYTEORDER", "I") == "I" else ">") + (form if signed == "SIGNEDINT" else form.upper())
+        form = "f" if has_floats else {8: "b", 16: "h", 32: "i"}[self.bits]
+        order = "<" if fields.get("BYTEORDER", "I") == "I" else ">"
+        self.form = order + (form.upper() if signed == "UNSIGNEDINT" else form)
         self.nodata = fields.get("NODATA")
+
+    def nodata_or(self, default):
+        """The no-data number of a product, which has this default where its pixels are whole numbers."""
+        return self.nodata if self.nodata is not None else NAN if self.has_floats else default
 
     def pixels(self, body):
         """The numbers of a raster in row order, None where a byte of some pixel is missing."""
@@ -197,7 +269,9 @@ class Header:
         if len(body) < self.skip + (self.rows - 1) * self.stride + self.cols * size:
             return None
         starts = (self.skip + row * self.stride for row in range(self.rows))
-        return [number for start in starts for (number,) in struct.iter_unpack(self.form, body[start:start + self.cols * size])]
+        rows = (body[start : start + self.cols * size] for start in starts)
+        numbers = [number for row in rows for (number,) in struct.iter_unpack(self.form, row)]
+        return [fraction_of(number) for number in numbers] if self.has_floats else numbers
 
 
 # One raster of elevations
@@ -207,8 +281,9 @@ class Dem:
     """The raster of elevations with this header."""
 
     def __init__(self, text):
+        self.has_floats = says_floats(text)
         try:
-            self.header = Header(text)
+            self.header = Header(text, self.has_floats)
         except Refused as fault:
             raise Refused(f"BadHeader dem {fault}") from None
         if self.header.xdim <= 0 or self.header.ydim <= 0:
@@ -228,8 +303,10 @@ class Dem:
             raise Refused("RasterShort dem")
 
     def elevations(self, body):
-        """The elevation of each cell in row order, None where the pixel is the header's no-data number, if it has one."""
-        return [None if number == self.header.nodata else number for number in self.header.pixels(body)]
+        """The elevation of each cell in row order, None where the pixel is the header's no-data number, if it has one, or
+        a float that is no height."""
+        numbers = self.header.pixels(body)
+        return [None if it == self.header.nodata or (self.has_floats and abs(it) >= INFINITY) else it for it in numbers]
 
 
 # Lists of sinks, and spacings

@@ -1,17 +1,21 @@
 """Writes the page and the JSON object of an explanation that isn't a refusal, as docs/FORMATS.md describes them.
 
 The order of the page's parts is that of docs/FORMATS.md. Its words and columns are those of the page in docs/GUIDE.md,
-of docs/CAUSES.md, and of the pages written by hand in crates/page_tests.
+of docs/CAUSES.md, and of the pages written by hand in crates/page_tests. Heights of floats are fractions.
 """
 
+import math
+import re
 import sys
 from dataclasses import dataclass
+from decimal import Decimal
 from fractions import Fraction
+from functools import lru_cache
 
 sys.dont_write_bytecode = True
 from make_products import PRODUCTS, RULES, STEPS, fixed
 from plain_faults import Explained
-from plain_inputs import UNIT, Dem
+from plain_inputs import INFINITY, NAN, UNIT, Dem, float_of, nearest_float
 
 PLACES = 10**7
 RING_TOLD = 20
@@ -51,22 +55,102 @@ def code_text(number: int) -> str:
     return f"{'outlet' if number == 0 else LETTERS.get(number, '?')} {number}"
 
 
+# Decimals of floats, and of doubles, have an exponent below the first of these powers of 10, and from the second on. No
+# document says so.
+SINGLE_POWERS, DOUBLE_POWERS = (-6, 13), (-5, 16)
+# The program computes shares in double precision, by some 8 roundings of at most 2^-53.
+SHARE_ERROR = Fraction(1, 10**15)
+ROUNDING = Fraction(1, 10**6)
+ROUNDING_LINE = "such a difference is rounding of a tool in single precision"
+
+
+def laid_out(word: str, powers: tuple[int, int]) -> str:
+    """A decimal without needless zeros, but with a digit behind a point or an exponent."""
+    number = Decimal(word).normalize()
+    if number == 0 or powers[0] <= number.adjusted() < powers[1]:
+        return f"{number:f}" if number.as_tuple().exponent < 0 else f"{number:f}.0"
+    return f"{number:e}".replace("+", "")
+
+
+@lru_cache(None)
+def shortest(number: Fraction) -> str:
+    """The shortest decimal that reads as this float; of several the nearest."""
+    size, power = abs(number), Decimal(float(number)).adjusted() + 1
+    while True:
+        unit = Fraction(10) ** power
+        near = [it for it in (size // unit, size // unit + 1) if float_of(f"{it}e{power}") == size]
+        if near:
+            digits = min(near, key=lambda it: (abs(it * unit - size), it % 2))
+            return f"{'-' if number < 0 else ''}{digits}e{power}"
+        power -= 1
+
+
+def number_text(number: int | Fraction) -> str:
+    """A whole number, or a float."""
+    if isinstance(number, int):
+        return str(number)
+    if abs(number) >= INFINITY:
+        return "nan" if number == NAN else "inf" if number > 0 else "-inf"
+    return laid_out(shortest(number), SINGLE_POWERS)
+
+
+def json_number(number: int | Fraction | None) -> int | float | str | None:
+    """A number as Python reads it in JSON."""
+    if not isinstance(number, Fraction):
+        return number
+    return float(number_text(number)) if abs(number) < INFINITY else number_text(number)
+
+
+def drop_text(drop: Fraction) -> str:
+    """A drop as the nearest float; as a double beyond the greatest float, of which no document says what stands there."""
+    single = nearest_float(drop)
+    return number_text(single) if single < INFINITY else laid_out(repr(float(drop)), DOUBLE_POWERS)
+
+
+def share_below(ratio: Fraction) -> Fraction:
+    """By which share a slope is less than another, from the ratio of their squares; 0 only if they are equal."""
+    return (1 - ratio) / (1 + Fraction(math.sqrt(ratio)))
+
+
+def two_digits(share: Fraction, told: float | None) -> float:
+    """A share with two digits: those that the program tells, if double precision can make them of it."""
+    if told is not None and told > 0:
+        word = Decimal(repr(told)).normalize()
+        error = Fraction(10) ** (word.adjusted() - 1) / 2 + SHARE_ERROR
+        if len(word.as_tuple().digits) <= 2 and abs(Fraction(told) - share) <= error:
+            return told
+    return float(f"{float(share):.1e}")
+
+
+PARTS = ["schema", "status", "rule", "name", "row", "col"]
+
+
+def parts_of(line: str, status: int) -> dict:
+    """The parts of an answer with this line: a rejection's rule, its name and its cell."""
+    found = re.fullmatch(r"rejected (?:rule=(\d+) )?(\w+) row=(\d+) col=(\d+)", line)
+    rule, name, row, col = found.groups() if found else (None, None, None, None)
+    numbers = [number and int(number) for number in (rule, row, col)]
+    return dict(zip(PARTS, (1, status, numbers[0], name, *numbers[1:])))
+
+
 def words_of(plain: Explained) -> Words:
     return ON_RASTER if isinstance(plain.ground, Dem) else ON_TILES
 
 
 class Expected:
-    """What the first rule that fails at a cell requires there."""
+    """What the first rule that fails at a cell requires there. Shares are as the program tells them, by code, if these are
+    near enough."""
 
-    def __init__(self, plain: Explained, cell: int) -> None:
-        self.plain, self.cell, self.rules = plain, cell, plain.rules
+    def __init__(self, plain: Explained, cell: int, told_shares: dict[int, float | None]) -> None:
+        self.plain, self.cell, self.rules, self.told_shares = plain, cell, plain.rules, told_shares
         self.rule, self.name, holds = next(rule for rule in plain.tried if not getattr(self.rules, rule[2])(cell))
         self.product: str | None = None
-        self.number: int | None = None
+        self.number: int | Fraction | None = None
         self.at_fault: list[str] = []
         self.codes: list[int] = []
-        self.ways: list[tuple[int, int, int]] = []
-        self.is_square = True
+        self.ways: list[dict] = []
+        self.way_texts: list[str] = []
+        self.is_rounding = False
         self.open: str | None = None
         getattr(self, holds)()
         self.found = self.rules.products[self.product][cell] if self.product else None
@@ -86,30 +170,48 @@ class Expected:
 
     def below_ground(self) -> None:
         self.product, self.number = "con", self.rules.z[self.cell]
-        self.words = f"con at least the ground, {self.number}"
+        self.words = f"con at least the ground, {number_text(self.number)}"
 
     def open_raised(self) -> None:
         self.product, self.number, self.open = "con", self.rules.z[self.cell], self.opening()
-        self.words = f"con equal to the ground, {self.number}, {self.opening_text()}"
+        self.words = f"con equal to the ground, {number_text(self.number)}, {self.opening_text()}"
 
     def not_least(self) -> None:
         around = self.plain.terrain.data_neighbors(self.cell)
         self.product = "con"
         self.number = min(max(self.rules.z[self.cell], self.rules.con[other]) for _, other in around)
-        self.words = f"con at most {self.number}"
+        self.words = f"con at most {number_text(self.number)}"
 
     def slope(self) -> None:
-        terrain, found = self.plain.terrain, []
-        for code, other in self.rules.lower(self.cell):
-            drop = self.rules.con[self.cell] - self.rules.con[other]
-            found.append((terrain.slope_square(self.cell, code, drop), code, drop))
-        self.product = "dir"
-        self.codes = [code for slope, code, _ in found if slope == max(found)[0]]
+        lower = self.rules.lower(self.cell)
+        drops = {code: self.rules.con[self.cell] - self.rules.con[other] for code, other in lower}
+        slopes = {code: self.plain.terrain.slope_square(self.cell, code, drop) for code, drop in drops.items()}
+        self.product, self.words = "dir", "dir of a steepest descent"
+        self.codes = [code for code, slope in slopes.items() if slope == max(slopes.values())]
+        if self.plain.ground.has_floats:
+            self.ways_between_floats(drops, slopes)
+        else:
+            self.whole_ways(drops, slopes)
+
+    def whole_ways(self, drops: dict[int, int], slopes: dict[int, Fraction]) -> None:
+        terrain = self.plain.terrain
         # On square cells a way has a key, twice the square of the slope.
-        self.is_square = terrain.spacings[self.cell // terrain.cols] == (1, 1)
-        for slope, code, drop in found:
-            self.ways.append((code, drop, int(2 * slope) if self.is_square else terrain.distance_square(self.cell, code)))
-        self.words = "dir of a steepest descent"
+        is_square = terrain.spacings[self.cell // terrain.cols] == (1, 1)
+        for code, drop in drops.items():
+            by = int(2 * slopes[code]) if is_square else terrain.distance_square(self.cell, code)
+            self.ways.append({"code": code, "drop": drop, "key" if is_square else "distance_squared": by})
+            steepest = ", steepest" if code in self.codes else ""
+            self.way_texts.append(f"drop {drop}, {'key' if is_square else 'distance squared'} {by}{steepest}")
+
+    def ways_between_floats(self, drops: dict[int, Fraction], slopes: dict[int, Fraction]) -> None:
+        shares = {code: share_below(slope / max(slopes.values())) for code, slope in slopes.items()}
+        for code, drop in drops.items():
+            con, drop_word = self.rules.con[self.cell] - drop, drop_text(drop)
+            less = two_digits(shares[code], self.told_shares.get(code)) if shares[code] else None
+            self.ways.append({"code": code, "con": json_number(con), "drop": float(drop_word), "less_steep": less})
+            less_text = f"less steep by {laid_out(repr(less), DOUBLE_POWERS)}" if less else "steepest"
+            self.way_texts.append(f"con {number_text(con)}, drop {drop_word}, {less_text}")
+        self.is_rounding = 0 < shares.get(self.rules.dir[self.cell], 0) < ROUNDING
 
     def outlet_code(self) -> None:
         self.product, self.number, self.codes, self.open = "dir", 0, [0], self.opening()
@@ -159,31 +261,29 @@ class Expected:
             "rule": self.rule,
             "name": self.name,
             "product": self.product,
-            "found": self.found,
-            "number": self.number,
+            "found": json_number(self.found),
+            "number": json_number(self.number),
             "products": self.at_fault,
             "codes": self.codes,
-            "ways": [{"code": code, "drop": drop, "key" if self.is_square else "distance_squared": by} for code, drop, by in self.ways],
+            "ways": self.ways,
             "open": self.open,
         }
 
     def lines(self) -> list[str]:
         lines = [f"rule {self.rule} {self.name}", f"expected: {self.words}"]
-        for code, drop, by in self.ways:
-            by_text = f"{'key' if self.is_square else 'distance squared'} {by}{', steepest' if code in self.codes else ''}"
-            lines.append(f"  {code_text(code)}: drop {drop}, {by_text}")
+        lines += [f"  {code_text(way['code'])}: {text}" for way, text in zip(self.ways, self.way_texts)]
         if self.product:
-            found = code_text(self.found) if self.product == "dir" else str(self.found)
+            found = code_text(self.found) if self.product == "dir" else number_text(self.found)
             lines.append(f"found: {self.product} {found}")
-        return lines
+        return [*lines, ROUNDING_LINE] if self.is_rounding else lines
 
 
 class Page:
-    """The page of products that aren't refused. Which cell of a ring is the first is the program's choice."""
+    """The page of products that aren't refused. The program chooses the first cell of a ring, and rounds shares."""
 
-    def __init__(self, plain: Explained, ring_start: dict | None) -> None:
+    def __init__(self, plain: Explained, ring_start: dict | None, told_shares: dict[int, float | None]) -> None:
         self.plain, self.rules, self.words = plain, plain.rules, words_of(plain)
-        self.expected = None if plain.first is None else Expected(plain, plain.first)
+        self.expected = None if plain.first is None else Expected(plain, plain.first, told_shares)
         self.ring: list[int] | None = None
         self.lost: int | None = None
         if not plain.ranks and plain.endless is not None:
@@ -212,13 +312,13 @@ class Page:
 
     # As JSON
 
-    def elevations(self) -> list[int]:
+    def elevations(self) -> list[int | Fraction]:
         """The elevations of data cells of a raster of elevations; none of tiles, whose pages don't have them."""
         return [z for z in self.rules.z if z is not None] if self.words == ON_RASTER else []
 
     def as_object(self) -> dict:
         found = self.elevations()
-        elevation = {"least": min(found), "greatest": max(found)} if found else None
+        elevation = {"least": json_number(min(found)), "greatest": json_number(max(found))} if found else None
         return {
             "answer": self.plain.line,
             "refusal": None,
@@ -239,13 +339,15 @@ class Page:
             "patch": self.patch_object(),
             "expected": self.expected and self.expected.as_object(),
             "run": self.run_object(),
+            **parts_of(self.plain.line, self.plain.status()),
         }
 
     def slopes_object(self) -> dict:
-        """The spacing, where it isn't that of square cells."""
+        """The spacing, where it isn't that of square cells; and of an acceptance of directions on tiles, where it is."""
         spacing = self.plain.spacing
         if spacing in (None, (1, 1)):
-            return {}
+            is_named = self.words != ON_RASTER and "dir" in self.rules.nodata and self.plain.status() == 0
+            return {"slopes": "square cells"} if is_named else {}
         return {"slopes": "widths by row" if isinstance(spacing, bytes) else dict(zip(("width", "height"), spacing))}
 
     def cell_object(self, place: dict) -> dict:
@@ -265,9 +367,9 @@ class Page:
         numbers = {name: self.rules.products[name][cell] for name in self.rules.nodata}
         shown = {name: None if number == self.rules.nodata[name] else number for name, number in numbers.items()}
         return {
-            "ground": self.rules.z[cell],
+            "ground": json_number(self.rules.z[cell]),
             "sink": cell in self.plain.terrain.sinks,
-            **{name: shown.get(name) for name, *_ in PRODUCTS},
+            **{name: json_number(shown.get(name)) for name, *_ in PRODUCTS},
         }
 
     def patch_object(self) -> dict | None:
@@ -291,7 +393,7 @@ class Page:
 
     def as_text(self) -> str:
         found = self.elevations()
-        range_lines = [f"elevation from {min(found)} to {max(found)}"] if found else []
+        range_lines = [f"elevation from {number_text(min(found))} to {number_text(max(found))}"] if found else []
         for slopes in self.slopes_object().values():
             range_lines.append(f"slopes: {slopes if isinstance(slopes, str) else 'cells {width} by {height}'.format(**slopes)}")
         parts = [[self.plain.line], range_lines + self.rule_lines()]
@@ -303,7 +405,7 @@ class Page:
 
     def fault_columns(self, faults: dict) -> str:
         first = faults["first"]
-        shown = "".join(self.words.text(it).rjust(self.words.columns) for it in self.coordinates(first))
+        shown = "".join(f" {self.words.text(it):>{self.words.columns - 1}}" for it in self.coordinates(first))
         return f"{faults['cells']:10}{first['row']:7}{first['col']:7}{shown}"
 
     def rule_lines(self) -> list[str]:
@@ -330,13 +432,13 @@ class Page:
 
     def ground_text(self, cell: int) -> str:
         ground = self.rules.z[cell]
-        return f"{'*' if cell in self.plain.terrain.sinks else ''}{'void' if ground is None else ground}"
+        return f"{'*' if cell in self.plain.terrain.sinks else ''}{'void' if ground is None else number_text(ground)}"
 
-    def number_text(self, product: str, cell: int) -> str:
+    def product_text(self, product: str, cell: int) -> str:
         number = self.rules.products[product][cell]
         if number == self.rules.nodata[product]:
             return "no data"
-        return code_text(number) if product == "dir" else str(number)
+        return code_text(number) if product == "dir" else number_text(number)
 
     def patch_lines(self) -> list[str]:
         east, north = map(self.words.text, self.coordinates(self.plain.place(self.plain.first)))
@@ -350,10 +452,10 @@ class Page:
                     if cell is None
                     else self.ground_text(cell)
                     if name == "ground"
-                    else self.number_text(name, cell)
+                    else self.product_text(name, cell)
                     for cell in row
                 )
-                lines.append("".join(text.rjust(13) for text in shown))
+                lines.append("".join(text.rjust(18 if self.plain.ground.has_floats else 13) for text in shown))
         return lines
 
     def run_lines(self) -> list[str]:

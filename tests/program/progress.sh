@@ -1,5 +1,5 @@
 # Runs with --progress: standard output and the status are the same, and standard error reports rows to the last, at
-# most two lines in any one second. Read by run.sh after audit.sh.
+# most two lines in any one second. It looks at the clock, so run.sh runs it when no other part runs. Read by part.sh.
 
 told=$scratch/told
 mkdir "$told" "$told/out" "$told/other"
@@ -11,7 +11,7 @@ made=(make --side 344 --out "$told/out" "$told/N36W085.hgt")
 # Compares a run: its name, status and line, the lines on standard error, and its words.
 judge_told() {
     want "$3"
-    timeout 60 "$drain" "${@:5}" </dev/null >"$scratch/out" 2>"$told/err"
+    timeout "$patience" "$drain" "${@:5}" </dev/null >"$scratch/out" 2>"$told/err"
     local came=$?
     : >"$scratch/err"
     judge "$1" "$2" "$scratch/want" "$came"
@@ -34,7 +34,7 @@ mkdir "$told/bare"
 cp samples/jacksboro/{con,dir,acc,bas}.{hdr,bil} "$told/bare"
 holding='hold: 1 VoidCell, 2 Missing, 3 BadCode, 4 BelowGround, 5 OpenRaised, 9 NotLeast, 10 Slope, 11 OutletCode, 12 FlatStep, 13 Accumulation, 14 Label, 15 SharedLabel'
 untried='not tried: 6 NoSpill, 7 SpillHeight, 8 SpillRank'
-page=$(printf '%s\n\n%s\n%s' "$jacksboro_line" "$holding" "$untried")
+page=$(printf '%s\n\nslopes: square cells\n%s\n%s' "$jacksboro_line" "$holding" "$untried")
 bare=(--side 121 --products "$told/bare" samples/jacksboro/N36W085.hgt)
 bare_page=$(printf '%s\nranks: not checked' "$page")
 judge_told 'an explanation without progress' 0 "$page" '' explain "${jacksboro[@]}"
@@ -72,7 +72,7 @@ rm "$told/slow/con.bil" && mkfifo "$told/slow/con.bil"
 (exec 4>"$told/slow/con.bil"
     for part in 0 1 2 3 4 5 6 7 8 9 10; do dd if=samples/jacksboro/con.bil bs=2662 skip=$part count=1 status=none >&4; sleep 0.3; done) &
 want "$jacksboro_line"
-timeout 60 "$drain" audit --progress --side 121 --products "$told/slow" samples/jacksboro/N36W085.hgt 2>&1 >"$scratch/out" |
+timeout "$patience" "$drain" audit --progress --side 121 --products "$told/slow" samples/jacksboro/N36W085.hgt 2>&1 >"$scratch/out" |
     while IFS= read -r line; do echo "$(date +%s%3N) $line"; done >"$told/times"
 : >"$scratch/err"
 judge 'an audit with progress of a raster that comes slowly' 0 "$scratch/want" 0
@@ -88,7 +88,7 @@ rm "$told/out/rnk.bil" && mkfifo "$told/out/rnk.bil"
 (exec 5<"$told/out/rnk.bil"
     for part in 0 1 2 3 4 5 6 7 8 9; do dd bs=50000 count=1 iflag=fullblock status=none <&5; sleep 0.3; done) >"$told/taken" &
 want 'made rows=344 cols=344'
-timeout 60 "$drain" "${made[@]}" --progress 2>"$told/lines" >"$scratch/out"
+timeout "$patience" "$drain" "${made[@]}" --progress 2>"$told/lines" >"$scratch/out"
 judge 'a maker with progress of a raster that is taken slowly' 0 "$scratch/want" $?
 wait $!
 cmp "$told/taken" "$told/other/rnk.bil" >"$scratch/out" 2>&1
@@ -112,11 +112,25 @@ wait $!
 judge_told 'a maker of three tiles whose last row comes late' 0 'made rows=3 cols=7' 'drain: making\n' make --progress "${row[@]}"
 wait $!
 
+# One raster of elevations that comes slowly: a line is due at its second row.
+printf '%s\n' 'NROWS 3' 'NCOLS 2' 'NBITS 8' 'ULXMAP 0' 'ULYMAP 0' 'XDIM 30' 'YDIM 30' >"$told/dem.hdr"
+mkfifo "$told/dem.bil"
+(exec 4>"$told/dem.bil"; printf 'aa' >&4; sleep 1.2; printf 'bb' >&4; sleep 0.2; printf 'cc' >&4) &
+want 'made rows=3 cols=2'
+timeout "$patience" "$drain" make --progress --dem "$told/dem.bil" --out "$told/pair" 2>"$told/lines" >"$scratch/out"
+came=$?
+: >"$scratch/err"
+judge 'a maker of a raster of elevations that comes slowly' 0 "$scratch/want" "$came"
+wait $!
+grep -v making "$told/lines" >"$scratch/out"
+want 'drain: reading row 2 of 3'
+judge 'lines of a raster of elevations that comes slowly' 0 "$scratch/want" 0
+
 # A closed standard error in a run in which lines are due while files are written: they go into none of them.
 mkfifo "$told/taken_slowly/rnk.bil"
 (exec 5<"$told/taken_slowly/rnk.bil"; head -c 50000 <&5; sleep 1.2; cat <&5) >"$told/taken" &
 want 'made rows=344 cols=344'
-timeout 60 "$drain" make --progress --side 344 --out "$told/taken_slowly" "$told/N36W085.hgt" 2>&- >"$scratch/out"
+timeout "$patience" "$drain" make --progress --side 344 --out "$told/taken_slowly" "$told/N36W085.hgt" 2>&- >"$scratch/out"
 judge 'a slow maker with progress and a closed standard error' 0 "$scratch/want" $?
 wait $!
 for name in $files; do

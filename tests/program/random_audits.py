@@ -14,7 +14,7 @@ sys.dont_write_bytecode = True
 from audit import NO_DATA, TileFiles
 from make_products import VOID, header_at
 from plain_inputs import Mosaic
-from random_sets import judge_random
+from random_sets import CHANGES, case_over, given_program, judge_random
 
 # A tile, two beside each other or at a corner, four in a square, and eight in a row or a column.
 TILES = [
@@ -59,7 +59,7 @@ class RandomTiles:
         nodata = {name: self.dice.choice([number, number, 7, 99]) for name, number in NO_DATA.items()}
         return dict(NO_DATA) if any(nodata[name] in products[name] for name in NO_DATA) else nodata
 
-    def can_spell(self, _):
+    def can_spell(self, *_):
         return True
 
     def raster(self, name, nodata, numbers):
@@ -84,4 +84,4 @@ class RandomTiles:
 
 
 if __name__ == "__main__":
-    sys.exit(judge_random("audits", RandomTiles))
+    sys.exit(judge_random(given_program(), "audits", case_over(RandomTiles), CHANGES))

@@ -1,8 +1,8 @@
 #!/usr/bin/env python3
-"""Cuts small random sets on a raster of elevations, right ones and ones with one number changed, into windows as a user does:
-each lies in a part of the raster with a header of its own. Judges the windows by the program, merges their reports, at once and
-by a random tree of merges, and compares the line with the rules on the whole (audit.py). Reports of a part at another place, with other pixels, or with another spacing of
-a row that another one has, must be refused.
+"""Cuts small random sets, right ones and ones with one number changed, into windows as a user does: on a raster of elevations
+each lies in a part of it with a header of its own, on tiles in the whole mosaic. Judges the windows by the program, merges their
+reports, at once and by a random tree of merges, and compares the line with the rules on the whole (audit.py). Reports of a part
+at another place, with other pixels, or with another spacing of a row that another one has, must be refused.
 
 random_dem_windows.py DRAIN
 
@@ -20,12 +20,13 @@ sys.dont_write_bytecode = True
 from audit import NO_DATA, AuditRules
 from make_products import RULES, verdict
 from plain_inputs import MOST_SIZE
+from random_audits import RandomTiles
 from random_dems import RandomDem, rename_blank
 from random_sets import Case, kind_of
 from random_spacings import random_spacing
 from window_trees import Leaf, Tree
 
-CASES = 400
+CASES, TILE_CASES = 400, 200
 SHARED_LABEL = 15
 # The greatest coordinate of a header.
 GREATEST = 10**25
@@ -61,17 +62,26 @@ class Part:
         self.case, self.folder = case, folder
         (self.rows, self.window_rows, (north, south)), (self.cols, self.window_cols, (west, east)) = rows, cols
         self.inner = "".join(letter for letter, is_inner in zip("nesw", (north, east, south, west)) if is_inner)
-        whole = case.ground
-        self.ground = copy.copy(whole)
-        self.ground.rows, self.ground.cols = self.rows[1] - self.rows[0], self.cols[1] - self.cols[0]
-        self.ground.numbers, self.ground.z = self.cut(whole.numbers), self.cut(whole.z)
-        ulx, uly, xdim, ydim = whole.place
-        # Each part may be a two hundredth of a pixel off, so that two differ by a hundredth.
-        shift = [case.dice.choice([0, size // 200, -(size // 200)]) for size in (xdim, ydim)]
-        self.ground.place = [ulx + self.cols[0] * xdim + shift[0], uly - self.rows[0] * ydim + shift[1], xdim, ydim]
+        self.ground = self.ground_of(case)
         self.at = [self.rows[0], self.cols[0]]
         self.spacings = case.terrain.spacings[slice(*self.rows)]
         self.report = folder / "report.txt"
+
+    def ground_of(self, case):
+        """The part of the raster of elevations."""
+        whole = case.ground
+        ground = copy.copy(whole)
+        ground.rows, ground.cols = self.rows[1] - self.rows[0], self.cols[1] - self.cols[0]
+        ground.numbers, ground.z = self.cut(whole.numbers), self.cut(whole.z)
+        ulx, uly, xdim, ydim = whole.place
+        # Each part may be a two hundredth of a pixel off, so that two differ by a hundredth.
+        shift = [case.dice.choice([0, size // 200, -(size // 200)]) for size in (xdim, ydim)]
+        ground.place = [ulx + self.cols[0] * xdim + shift[0], uly - self.rows[0] * ydim + shift[1], xdim, ydim]
+        return ground
+
+    def place_words(self):
+        """The option that gives its place in the raster."""
+        return ["--at", ",".join(map(str, self.at))]
 
     def cut(self, numbers):
         cols = self.case.ground.cols
@@ -104,9 +114,22 @@ class Part:
         """What the program ends with and prints."""
         (top, bottom), (left, right) = self.window_rows, self.window_cols
         box = [top - self.rows[0], left - self.cols[0], bottom - top, right - left]
-        words = ["window", *self.ground.words(self.folder), "--at", ",".join(map(str, self.at)), "--box", ",".join(map(str, box))]
+        words = ["window", *self.ground.words(self.folder), *self.place_words(), "--box", ",".join(map(str, box))]
         words += [*(["--inner", self.inner] if self.inner else []), *self.spacing_words()]
         return run(drain, *words, "--products", self.folder, "--sinks", self.folder / "sinks.txt", "--report", self.report)
+
+
+class TilePart(Part):
+    """A window in the mosaic of a case's tiles, which its spacing and its products cover."""
+
+    def __init__(self, case, folder, rows, cols):
+        super().__init__(case, folder, ((0, case.ground.rows), *rows[1:]), ((0, case.ground.cols), *cols[1:]))
+
+    def ground_of(self, case):
+        return case.ground
+
+    def place_words(self):
+        return []
 
 
 def run(drain, *words):
@@ -185,29 +208,36 @@ def wrong_refusal(drain, case, parts):
     return None if answer == (2, refused) else f"{change} of report {other}: {answer}, not {refused!r}"
 
 
+def wrong_windows(drain, case, part=Part):
+    """What is wrong with the answers about random windows of a case that is written, None where nothing is, and the kind
+    of the line."""
+    dice, ground = case.dice, case.ground
+    places = [(rows, cols) for rows in spans(dice, ground.rows) for cols in spans(dice, ground.cols)]
+    parts = [part(case, case.folder / str(place), rows, cols) for place, (rows, cols) in enumerate(places)]
+    wrong, kind = wrong_verdict(drain, case, parts)
+    if not wrong and len(parts) > 1:
+        wrong = wrong_spacing(drain, case, parts) or (None if part is TilePart else wrong_refusal(drain, case, parts))
+    return wrong, kind
+
+
 def judge(number, folder, drain):
     """What is wrong with the answers to a case, None where nothing is, and the kind of the line."""
-    dice = random.Random(number)
-    ground = RandomDem(dice)
-    if any(place + size * 80 > GREATEST for place, size in zip(map(abs, ground.place), ground.place[2:])):
+    dice, is_of_tiles = random.Random(number), number >= CASES
+    ground = (RandomTiles if is_of_tiles else RandomDem)(dice)
+    if not is_of_tiles and any(place + size * 80 > GREATEST for place, size in zip(map(abs, ground.place), ground.place[2:])):
         ground.place[2:] = [10**15, 10**15 // 1200]
     spacing_dice = random.Random(f"spacing {number}")
     case = Case(dice, folder, ground, spacing_dice.choice([None, random_spacing(spacing_dice, ground.rows)]))
     [lambda _: None, Case.change, Case.change, Case.turn, Case.lower, rename_blank][number % 6](case)
     case.write()
-    places = [(rows, cols) for rows in spans(dice, ground.rows) for cols in spans(dice, ground.cols)]
-    parts = [Part(case, folder / str(place), rows, cols) for place, (rows, cols) in enumerate(places)]
-    wrong, kind = wrong_verdict(drain, case, parts)
-    if not wrong and len(parts) > 1:
-        wrong = wrong_spacing(drain, case, parts) or wrong_refusal(drain, case, parts)
-    return wrong, kind
+    return wrong_windows(drain, case, TilePart if is_of_tiles else Part)
 
 
 def main():
     drain = Path(sys.argv[1]).resolve()
     failed, kinds = 0, set()
     with tempfile.TemporaryDirectory() as scratch:
-        for number in range(CASES):
+        for number in range(CASES + TILE_CASES):
             folder = Path(scratch) / str(number)
             folder.mkdir()
             wrong, kind = judge(number, folder, drain)
@@ -219,7 +249,7 @@ def main():
         if kind not in kinds:
             failed += 1
             print(f"FAILED windows of random sets: none is {kind}")
-    print(f"windows of random elevations: {CASES - failed} passed, {failed} failed")
+    print(f"windows of random elevations: {CASES + TILE_CASES - failed} passed, {failed} failed")
     return 1 if failed else 0
 
 

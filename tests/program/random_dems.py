@@ -13,11 +13,12 @@ import subprocess
 import sys
 
 sys.dont_write_bytecode = True
-from audit import NO_DATA, STATUSES, DemFile, audit
-from dem_sets import KINDS, UNSPELLED, ends_of
+from audit import NO_DATA, STATUSES, DemFile
+from dem_sets import KINDS, LINES_ON_PIXELS, UNSPELLED, ends_of
 from make_products import PRODUCTS, fixed, header_at, verdict
 from plain_faults import ALL_NO_DATA, CheckRules
-from random_sets import Meaning, judge_random
+from plain_inputs import Header, pattern_of
+from random_sets import CHANGES, Meaning, case_over, given_program, judge_random
 
 # Widths and heights of pixels, in units of 10^-15.
 PIXEL_SIZES = [30 * 10**15, 10**15 // 1200, 1, 25_500_000_000_000_000, 10**24]
@@ -36,9 +37,9 @@ def spells(kind, numbers):
 
 
 class RandomDem:
-    """One raster of elevations."""
+    """One raster of elevations. Where it has no no-data number, con that is made of it has `unsaid`."""
 
-    lowest = -(2**31)
+    lowest, unsaid = -(2**31), UNSPELLED
 
     def __init__(self, dice):
         self.dice = dice
@@ -70,17 +71,23 @@ class RandomDem:
         unspelled = self.dice.choice([least - 1, most + 1, UNSPELLED, -(2**31) - 1])
         return self.dice.choice([None, None, unspelled, self.dice.choice(numbers), least, most, -9999, -32768, 0])
 
-    def can_spell(self, numbers):
+    def can_spell(self, _, numbers):
         return any(spells(kind, numbers) for kind in KINDS)
+
+    def blanks_of(self, _):
+        """No-data numbers that a product may share with the elevations."""
+        return [] if self.nodata is None else [self.nodata]
 
     def no_data_of(self, products):
         """A no-data number for each product that none of its cells has and, if there are voids, pixels can have beside them."""
         chosen = {}
         for name, default in NO_DATA.items():
             numbers = [number for number in products[name] if number is not None]
-            others = [default, default, 7, 99, -1, UNSPELLED, *([] if self.nodata is None else [self.nodata])]
+            others = [default, default, 7, 99, -1, UNSPELLED, *self.blanks_of(name)]
             has_voids = None in self.z
-            fitting = [it for it in others if it not in numbers and (not has_voids or self.can_spell([*numbers, it]))]
+            fitting = [
+                it for it in others if it not in numbers and (not has_voids or self.can_spell(name, [*numbers, it]))
+            ]
             chosen[name] = self.dice.choice(fitting)
         return chosen
 
@@ -90,22 +97,30 @@ class RandomDem:
         most = [xdim // 100, ydim // 100, xdim // (100 * self.cols), ydim // (100 * self.rows)]
         return [it + self.dice.choice([0, far, -far, self.dice.randint(-far, far)]) for it, far in zip(self.place, most)]
 
+    def word_of(self, _, nodata):
+        """A no-data number as a header has it."""
+        return nodata
+
+    def packed(self, order, kind, numbers):
+        """The bytes of pixels, in an order for struct."""
+        return struct.pack(f"{order}{len(numbers)}{kind}", *numbers)
+
     def spelled(self, kind, place, nodata, numbers):
         """A header and the bytes of a raster, with bytes that don't matter before, between and behind the pixels."""
         order, size = self.dice.choice("IM"), struct.calcsize(kind)
         skip, more = self.dice.choice([0, 0, 1, 5]), self.dice.choice([0, 0, 2, 3])
         stride = self.dice.choice(["TOTALROWBYTES", "BANDROWBYTES"])
-        lines = [f"NROWS {self.rows}", f"NCOLS {self.cols}", *KINDS[kind].splitlines(), f"BYTEORDER {order}"]
+        lines = [f"NROWS {self.rows}", f"NCOLS {self.cols}", *LINES_ON_PIXELS[kind].splitlines(), f"BYTEORDER {order}"]
         lines += [f"SKIPBYTES {skip}", f"{stride} {self.cols * size + more}"]
         lines += [f"{key} {fixed(units)}" for key, units in zip(("ULXMAP", "ULYMAP", "XDIM", "YDIM"), place)]
-        lines += [] if nodata is None else [f"NODATA {nodata}"]
+        lines += [] if nodata is None else [f"NODATA {self.word_of(kind, nodata)}"]
         needless = ["BYTEORDER I", "SKIPBYTES 0", *DEFAULT_LINES.get(kind, [])]
         lines = [line for line in lines if line not in needless or self.dice.random() < 0.5]
         self.dice.shuffle(lines)
         body = self.dice.randbytes(skip)
         for row in range(self.rows):
             pixels = numbers[row * self.cols : (row + 1) * self.cols]
-            body += struct.pack(f"{'<' if order == 'I' else '>'}{self.cols}{kind}", *pixels) + self.dice.randbytes(more)
+            body += self.packed("<" if order == "I" else ">", kind, pixels) + self.dice.randbytes(more)
         return "".join(f"{line}\n" for line in lines), self.dice.choice([body, body[: len(body) - more], body + b"\x01\x00"])
 
     def raster(self, name, nodata, numbers):
@@ -155,16 +170,22 @@ def wrong_check(case, drain):
 def made_products(ground, out):
     """The products in a folder and their no-data numbers, and what is wrong with the files: con has the pixels and the
     no-data number of the elevations, and every header their place."""
-    con_blank = UNSPELLED if ground.nodata is None else ground.nodata
+    con_blank = ground.unsaid if ground.nodata is None else ground.nodata
     kinds = {name: (form, nodata) for name, _, _, form, nodata in PRODUCTS} | {"con": (ground.kind, con_blank)}
     products, wrong = {}, sorted(path.name for path in out.iterdir()) != sorted(f"{name}.{end}" for name in kinds for end in ("hdr", "bil"))
     for name, (form, nodata) in kinds.items():
-        size = struct.calcsize(form)
-        header = header_at(ground.rows, ground.cols, ground.place, 8 * size, form.islower(), nodata)
-        body = (out / f"{name}.bil").read_bytes()
-        if wrong or (out / f"{name}.hdr").read_text() != header or len(body) != size * len(ground.z):
+        size, has_floats = struct.calcsize(form), form == "f"
+        told, body = (out / f"{name}.hdr").read_text(), (out / f"{name}.bil").read_bytes()
+        # Of floats any word will do that reads as the number.
+        word = told.split()[-1] if has_floats else nodata
+        signed = None if has_floats else form.islower()
+        wanted = header_at(ground.rows, ground.cols, ground.place, 8 * size, signed, word)
+        header = Header(told.encode(), has_floats)
+        if wrong or (told, header.nodata) != (wanted, nodata) or len(body) != size * len(ground.z):
             return None, None, f"other files of {name}"
-        products[name] = list(struct.unpack(f"<{len(ground.z)}{form}", body))
+        products[name] = header.pixels(body)
+        if has_floats and body != struct.pack(f"<{len(ground.z)}I", *map(pattern_of, products[name])):
+            return None, None, f"other patterns of {name}"
     return products, {name: nodata for name, (_, nodata) in kinds.items()}, None
 
 
@@ -174,7 +195,7 @@ def wrong_make(case, drain):
         return None
     ground, out, sinks = case.ground, case.folder / "made", case.folder / "sinks.txt"
     out.mkdir()
-    command = [drain, "make", "--out", out, "--sinks", sinks, *ground.words(case.folder)]
+    command = [drain, "make", "--out", out, "--sinks", sinks, *case.spacing_words(), *ground.words(case.folder)]
     ended = subprocess.run(command, capture_output=True, timeout=120, check=False)
     line = f"made rows={ground.rows} cols={ground.cols}\n"
     if (ended.returncode, ended.stdout.decode(), ended.stderr) != (0, line, b""):
@@ -188,12 +209,13 @@ def wrong_make(case, drain):
     if labels != list(range(1, len(labels) + 1)):
         return f"make: labels {labels}"
     line = verdict(CheckRules(case.terrain, products, nodata))
-    lines = [line, audit(ground.files(case.folder), out, sinks, list(NO_DATA))]
-    judged = ["--products", out, "--sinks", sinks, *ground.words(case.folder)]
+    lines = [line, case.line(list(NO_DATA), out)]
+    judged = ["--products", out, "--sinks", sinks, *case.spacing_words(), *ground.words(case.folder)]
     answers = (subprocess.run([drain, it, *judged], capture_output=True, timeout=120, check=False) for it in ("audit", "check"))
     lines += [answer.stdout.decode().rstrip("\n") for answer in answers]
     return None if line.startswith("accepted") and lines == [line] * 4 else f"make: {lines}"
 
 
 if __name__ == "__main__":
-    sys.exit(judge_random("elevations", RandomDem, [rename_blank], [wrong_check, wrong_make]))
+    changes, more = [*CHANGES, rename_blank], [wrong_check, wrong_make]
+    sys.exit(judge_random(given_program(), "elevations", case_over(RandomDem), changes, more))

@@ -4,8 +4,9 @@ What products mean is judged here by paths, runs and sets (docs/DEFINITIONS.md),
 are part of a correct set.
 
 A ground, as RandomTiles and RandomDem, has rows, cols, z (None at voids) and lowest, the least number that a change of a
-raster lowers another to; it chooses no-data numbers (no_data_of), writes itself (write) and spells rasters (raster), names
-its files to the program (words) and to the others (files).
+raster lowers another to; it says which numbers pixels of a product can have (can_spell), chooses no-data numbers
+(no_data_of), writes itself (write) and spells rasters (raster), names its files to the program (words) and to the others
+(files).
 """
 
 import random
@@ -103,17 +104,21 @@ class Case:
 
     def change(self):
         """Changes one number of a product, as one near it, one of another cell, or any."""
-        numbers = self.products[self.dice.choice(list(NO_DATA))]
+        name = self.dice.choice(list(NO_DATA))
+        numbers = self.products[name]
         cell = self.dice.randrange(len(numbers))
         near = [numbers[cell] + 1, max(numbers[cell] - 1, self.ground.lowest)]
         number = self.dice.choice([*near, self.dice.choice(numbers), self.dice.choice([0, 3, *STEPS])])
-        if self.ground.can_spell([*numbers, number]):
+        if self.ground.can_spell(name, [*numbers, number]):
             numbers[cell] = number
 
     def turn(self):
-        """Turns one direction, and counts acc and bas anew where runs still end: rings and needless ways come of it."""
-        cell = self.dice.randrange(len(self.z))
-        self.products["dir"][cell] = self.dice.choice([0, *STEPS])
+        """Turns one direction: rings and needless ways come of it."""
+        self.put_code(self.dice.randrange(len(self.z)), self.dice.choice([0, *STEPS]))
+
+    def put_code(self, cell, code):
+        """Puts one direction, and counts acc and bas anew where runs still end."""
+        self.products["dir"][cell] = code
         meaning = Meaning(self.terrain, self.products)
         runs = [meaning.run(start) for start in meaning.cells]
         if self.z[cell] is not None and None not in runs:
@@ -135,10 +140,10 @@ class Case:
         if isinstance(self.spacing, bytes):
             (self.folder / "widths.txt").write_bytes(self.spacing)
 
-    def line(self, given):
-        """The line by audit.py, of these products."""
+    def line(self, given, products=None):
+        """The line by audit.py, of these products or of those in another folder."""
         spacing = self.folder / "widths.txt" if isinstance(self.spacing, bytes) else self.spacing
-        return audit(self.ground.files(self.folder), self.folder, self.folder / "sinks.txt", given, spacing)
+        return audit(self.ground.files(self.folder), products or self.folder, self.folder / "sinks.txt", given, spacing)
 
     def spacing_words(self):
         """The option that gives the spacing, if there is one."""
@@ -171,10 +176,21 @@ class Case:
         return {"acc": {cell: through.count(cell) for cell in runs}, "bas": {cell: run[-1] for cell, run in runs.items()}}
 
     def answer(self, drain, *words):
-        """What the program ends with and prints."""
-        command = [drain, *words, "--products", self.folder, "--sinks", self.folder / "sinks.txt", *self.spacing_words(), *self.ground.words(self.folder)]
+        """What the program ends with and prints. What follows from directions has no spacing."""
+        spacing = [] if words[0] == "derive" else self.spacing_words()
+        command = [drain, *words, "--products", self.folder, "--sinks", self.folder / "sinks.txt", *spacing, *self.ground.words(self.folder)]
         ended = subprocess.run(command, stdout=subprocess.PIPE, stderr=subprocess.PIPE, timeout=120, check=False)
         return ended.returncode, ended.stdout.decode()
+
+
+def case_over(ground_of):
+    """The random cases over such grounds, by number and folder."""
+
+    def case_of(number, folder):
+        dice = random.Random(number)
+        return Case(dice, folder, ground_of(dice))
+
+    return case_of
 
 
 def kind_of(line):
@@ -252,32 +268,37 @@ def wrong_counts(case, folder, counted):
     return None
 
 
-def judge_random(name, ground_of, more_changes=(), more=()):
-    """Judges random cases over such grounds, after one change each or none, by the program if it is named; prints how many
-    are right, and returns the status. There are further changes, functions of a case, and further judgements, which say what
-    is wrong with a case and the program's answers."""
-    drain = Path(sys.argv[1]).resolve() if sys.argv[1:] else None
+def given_program():
+    """The path of the program, None if it isn't named."""
+    return Path(sys.argv[1]).resolve() if sys.argv[1:] else None
+
+
+# Functions of a case; the first leaves it right.
+CHANGES = [lambda _: None, Case.change, Case.change, Case.turn, Case.lower]
+
+
+def judge_random(drain, name, case_of, changes, more=(), cases=CASES):
+    """Judges random cases, which number and folder make, after one of the changes each, by the program if there is one;
+    prints how many are right, and returns the status. Further judgements say what is wrong with a case and the program's
+    answers."""
 
     def judge_case(number, folder):
-        dice = random.Random(number)
-        case = Case(dice, folder, ground_of(dice))
-        changes = [lambda _: None, Case.change, Case.change, Case.turn, Case.lower, *more_changes]
-        place = number % len(changes)
+        case, place = case_of(number, folder), number % len(changes)
         wrong, kinds = judge(case, lambda: changes[place](case), place == 0, drain)
         others = [wrong_of(case, drain) for wrong_of in (wrong_derivation, *more)]
         return [*wrong, *(it for it in others if it)], kinds
 
-    passed, failed = judge_cases(judge_case)
+    passed, failed = judge_cases(judge_case, cases)
     print(f"random {name}: {passed} passed, {failed} failed")
     return 1 if failed else 0
 
 
-def judge_cases(judge_case):
+def judge_cases(judge_case, cases=CASES):
     """Judges the cases by a function of number and folder, and prints what is wrong: how many are right, and wrong."""
     passed, failed = 0, 0
     found = {list_: set() for list_ in LISTS}
     with tempfile.TemporaryDirectory() as scratch:
-        for number in range(CASES):
+        for number in range(cases):
             folder = Path(scratch) / str(number)
             folder.mkdir()
             wrong, kinds = judge_case(number, folder)

@@ -1,12 +1,13 @@
 # More refusals explained: as JSON, of mosaics that aren't square, of a seam where four tiles meet, of a long list of
-# sinks. Read by run.sh after explain.sh; it uses its functions and files.
+# sinks. Read by part.sh.
 
 # The object of a refusal: its name, and the answer and the member on two lines of standard input.
 refused_object() {
-    local answer refusal
+    local answer refusal row=null col=null
     { read -r answer && read -r refusal; } || true
-    want "{\"answer\":\"$answer\",\"refusal\":$refusal,\"rows\":null,\"cols\":null,\"ranks\":null,\"rules\":[],\"products\":[],\"patch\":null,\"expected\":null,\"run\":null}"
-    timeout 20 "$drain" explain --json --side 3 --products "$check/out" ${listed:+--sinks "$check/sinks.txt"} "${tiles[@]}" </dev/null >"$scratch/out" 2>"$scratch/err"
+    [[ $answer =~ row=([0-9]+)\ col=([0-9]+)$ ]] && row=${BASH_REMATCH[1]} col=${BASH_REMATCH[2]}
+    want "{\"answer\":\"$answer\",\"refusal\":$refusal,\"rows\":null,\"cols\":null,\"ranks\":null,\"rules\":[],\"products\":[],\"patch\":null,\"expected\":null,\"run\":null,\"schema\":1,\"status\":2,\"rule\":null,\"name\":null,\"row\":$row,\"col\":$col}"
+    timeout "$patience" "$drain" explain --json --side 3 --products "$check/out" ${listed:+--sinks "$check/sinks.txt"} "${tiles[@]}" </dev/null >"$scratch/out" 2>"$scratch/err"
     judge "explained as JSON: $1" 2 "$scratch/want" $?
 }
 

@@ -1,8 +1,6 @@
-# Runs of `drain make` and `drain check` with a list of sinks. Read by run.sh after make.sh; it uses its functions and
-# files.
+# Runs of `drain make` and `drain check` with a list of sinks. Read by part.sh.
 
 list=$work/sinks.txt
-sunk_checked='accepted rows=3 cols=3 data=9 raised=0 outlets=1'
 
 # The pit with an empty folder, and a list of these lines.
 make_listed() {

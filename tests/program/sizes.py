@@ -1,7 +1,7 @@
 #!/usr/bin/env python3
-"""Runs each command on 64 tiles, 10,000 reports, and lists of sinks of 361,201 lines and more than 2 MiB. The lines
-follow from the form of the inputs (large_sets.py): a command that fails by size, or leaves something out, doesn't
-print them.
+"""Runs each command on 64 tiles, 10,000 reports, lists of sinks of 361,201 lines and more than 2 MiB, texts of widths
+of 28,801 lines and of 2^21 bytes, and a raster of 20 million cells. The lines follow from the form of the inputs
+(large_sets.py): a command that fails by size, or leaves something out, doesn't print them.
 
 sizes.py DRAIN              the tiles have a side of 13
 sizes.py DRAIN --largest    64 tiles of side 1251 alone, 100 million cells: 4 GB of disk, 2 GB of memory, some minutes
@@ -16,14 +16,17 @@ import subprocess
 import sys
 import tempfile
 import time
+from array import array
+from collections.abc import Callable, Iterable, Iterator
 from pathlib import Path
 
 sys.dont_write_bytecode = True
 from audit import LISTS
-from large_sets import TILE, funnel, listed, reports
+from large_sets import NORTH, TILE, WEST, funnel, listed, reports
 
 SIDE, LARGEST_SIDE = 13, 1251
 LIST_SIDE = 601
+MOST_ROWS, MOST_WIDTHS = 28801, 1 << 21
 MOST_SECONDS = 3600
 STATUSES = {"accepted": 0, "made": 0, "derived": 0, "rejected": 1, "refused": 2, "failed": 3}
 MADE = [f"{name}.{part}" for name in ("con", "dir", "acc", "bas", "rnk") for part in ("hdr", "bil")]
@@ -42,12 +45,14 @@ class Runs:
         if not is_right:
             print(f"FAILED {name}: {came}")
 
+    def run(self, *words: object) -> "subprocess.CompletedProcess[str]":
+        command = [self.drain, *map(str, words)]
+        return subprocess.run(command, capture_output=True, text=True, timeout=MOST_SECONDS, check=False)
+
     def judge(self, name: str, line: str, *words: object) -> None:
         """Compares the first line of a run and its status."""
         began = time.monotonic()
-        ended = subprocess.run(
-            [self.drain, *map(str, words)], capture_output=True, text=True, timeout=MOST_SECONDS, check=False
-        )
+        ended = self.run(*words)
         came = ended.returncode, ended.stdout.partition("\n")[0], ended.stderr
         self.count(f"{name}, {words[0]}", came == (STATUSES[line.split()[0]], line, ""), came)
         if self.prints_times:
@@ -222,6 +227,99 @@ def judge_reports(runs: Runs, folder: Path) -> None:
         runs.judge(name, line, "merge", *paths)
 
 
+class Slope:
+    """One raster whose heights are row and column together, on cells of 8 by 1 and of 9 by 1, row after row: each cell
+    leads north, and those of the first row west, to the first of all."""
+
+    def __init__(self, runs: Runs, folder: Path, rows: int, cols: int) -> None:
+        self.runs, self.folder, self.rows, self.cols = runs, folder, rows, cols
+        self.out, self.widths = folder / "out", folder / "widths.txt"
+        self.out.mkdir(parents=True)
+        self.text = "".join(f"{8 + row % 2} 1\n" for row in range(rows))
+        self.widths.write_text(self.text)
+        grid = f"NROWS {rows}\nNCOLS {cols}\nULXMAP 500000\nULYMAP 4000000\nXDIM 30\nYDIM 30\n"
+        (folder / "dem.hdr").write_text(f"{grid}NBITS 16\nPIXELTYPE SIGNEDINT\n")
+        with open(folder / "dem.bil", "wb") as dem:
+            dem.writelines(self.heights())
+        self.dem = ["--dem", folder / "dem.bil"]
+        self.words = ["--products", self.out, *self.dem, "--widths", self.widths]
+        self.shape = f"rows={rows} cols={cols}"
+        self.accepted = f"accepted {self.shape} data={rows * cols} raised=0 outlets=1"
+
+    def heights(self) -> Iterator[bytes]:
+        return (array("h", range(row, row + self.cols)).tobytes() for row in range(self.rows))
+
+    def numbers(self, form: str, first: Iterable[int], others: Callable[[int], int]) -> Iterator[bytes]:
+        """The rows of a product: the first one, and others of one number each."""
+        yield array(form, first).tobytes()
+        for row in range(1, self.rows):
+            yield array(form, [others(row)]).tobytes() * self.cols
+
+    def judge(self, name: str, line: str, *words: object) -> None:
+        self.runs.judge(f"a slope of {self.shape}, {name}", line, *words)
+
+    def is_raster(self, path: Path, rows: Iterable[bytes]) -> None:
+        with open(path, "rb") as file:
+            is_right = all(file.read(len(row)) == row for row in rows) and not file.read(1)
+        self.runs.count(f"a slope of {self.shape}: {path.parent.name}/{path.name}", is_right)
+
+    def are_counts(self, folder: Path) -> None:
+        """Compares accumulation and labels."""
+        first = range(self.rows * self.cols, 0, -self.rows)
+        self.is_raster(folder / "acc.bil", self.numbers("I", first, lambda row: self.rows - row))
+        self.is_raster(folder / "bas.bil", self.numbers("I", [1] * self.cols, lambda _: 1))
+
+    def made(self) -> None:
+        """What is made, derived and said of it; and what is said where the last row is of cells of 1 by 9, which lead
+        west."""
+        self.judge("made", f"made {self.shape}", "make", *self.dem, "--widths", self.widths, "--out", self.out)
+        self.is_raster(self.out / "con.bil", self.heights())
+        self.is_raster(self.out / "dir.bil", self.numbers("B", [0] + [WEST] * (self.cols - 1), lambda _: NORTH))
+        self.are_counts(self.out)
+        derived = self.folder / "derived"
+        derived.mkdir()
+        self.judge("made", f"derived {self.shape}", "derive", "--products", self.out, *self.dem, "--out", derived)
+        self.are_counts(derived)
+        shutil.rmtree(derived)
+        self.judge("made", self.accepted, "audit", *self.words)
+        self.widths.write_text(self.text[: -len("9 1\n")] + "1 9\n")
+        self.judge("a last row", f"rejected rule=10 Slope row={self.rows - 1} col=1", "audit", *self.words)
+        self.widths.write_text(self.text)
+
+    def judged(self) -> None:
+        """By ranks, with a page, and by two windows, north and south, merged at once and by the report of their box."""
+        self.judge("made", self.accepted, "check", *self.words)
+        self.judge("made", self.accepted, "explain", *self.words)
+        half, reports = self.rows // 2, [self.folder / "north.txt", self.folder / "south.txt"]
+        for report, inner, top, height, outlets in (
+            (reports[0], "s", 0, half + 1, 1),
+            (reports[1], "n", half - 1, self.rows - half + 1, 0),
+        ):
+            line = f"accepted rows={height} cols={self.cols} data={(height - 1) * self.cols} raised=0 outlets={outlets}"
+            box = ["--at", "0,0", "--box", f"{top},0,{height},{self.cols}", "--inner", inner]
+            self.judge(report.stem, line, "window", *self.words, *box, "--report", report)
+        both = self.folder / "both.txt"
+        self.judge("two windows", self.accepted, "merge", *reports)
+        self.judge("two windows", self.accepted, "merge", "--report", both, *reports)
+        self.judge("their box", self.accepted, "merge", both)
+
+    def texts(self) -> None:
+        """A text of widths of 2^21 bytes is read, and one of a byte more is a failure with words."""
+        out, report = self.folder / "again", self.folder / "whole.txt"
+        out.mkdir()
+        box = ["--at", "0,0", "--box", f"0,0,{self.rows},{self.cols}", "--report", report]
+        commands = [["audit", *self.words], ["check", *self.words], ["explain", *self.words]]
+        commands += [["window", *self.words, *box], ["make", *self.words[2:], "--out", out]]
+        for words in commands:
+            self.widths.write_text(self.text.ljust(MOST_WIDTHS, "\n"))
+            self.judge("2^21 bytes", f"made {self.shape}" if words[0] == "make" else self.accepted, *words)
+            self.widths.write_text(self.text.ljust(MOST_WIDTHS + 1, "\n"))
+            ended = self.runs.run(*words)
+            is_failure = (ended.returncode, ended.stdout[:7]) == (3, "failed ") and ended.stderr != ""
+            self.runs.count(f"a byte more than 2^21, {words[0]}", is_failure, ended)
+        self.runs.count("a byte more than 2^21: files", len(list(out.iterdir())) == len(MADE))
+
+
 def main() -> int:
     words = argparse.ArgumentParser(description=__doc__, formatter_class=argparse.RawDescriptionHelpFormatter)
     words.add_argument("drain", type=Path)
@@ -238,6 +336,11 @@ def main() -> int:
         if not given.largest:
             Lists(runs, folders[1]).all()
             judge_reports(runs, folders[2])
+            tall = Slope(runs, Path(scratch) / "tall", MOST_ROWS, 3)
+            tall.made()
+            tall.judged()
+            tall.texts()
+            Slope(runs, Path(scratch) / "wide", 701, MOST_ROWS).made()
     print(f"sizes: {runs.passed} passed, {runs.failed} failed")
     return 1 if runs.failed else 0
 

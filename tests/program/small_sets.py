@@ -3,7 +3,7 @@
 import re
 import struct
 import subprocess
-from collections.abc import Mapping
+from collections.abc import Mapping, Sequence
 from dataclasses import dataclass, field, replace
 from pathlib import Path
 from typing import Self
@@ -46,14 +46,14 @@ def put_line(header: str, line: str) -> str:
 class Products:
     """The numbers of the products, and what a run is given besides the elevations."""
 
-    numbers: dict[str, list[int]]
+    numbers: Mapping[str, Sequence[float]]
     grid: str
     sinks: str = ""
     headers: dict[str, str] = field(default_factory=dict)
     lengths: dict[str, int] = field(default_factory=dict)
     pixels: Pixels = field(default_factory=lambda: PIXELS)
 
-    def changed(self, **changes: dict[int, int]) -> Self:
+    def changed(self, **changes: dict[int, float]) -> Self:
         """The same with other numbers at some places of products."""
         numbers = {
             product: [changes.get(product, {}).get(place, it) for place, it in enumerate(its)]
@@ -163,9 +163,12 @@ class Lines:
         return subprocess.run([self.drain, *arguments], input=text, capture_output=True, timeout=60)
 
     def expect(self, name: str, line: str, arguments: list[str], text: bytes = b"") -> None:
-        """Expects this line. Of a file that can't be opened, standard error has the reason in one line."""
+        """Expects this line. Of a file that can't be opened, and in an audit or a check of another shape and of a con of the
+        other kind of heights, standard error has the reason in one line."""
         run = self.run(arguments, text)
-        silent = REASON.fullmatch(run.stderr) if line.startswith("failed Open ") else not run.stderr
+        is_told = line.startswith("refused WrongShape ") or line == "refused BadHeader con BadPixelType" and "--dem" in arguments
+        has_reason = line.startswith("failed Open ") or is_told and arguments[0] in ("audit", "check")
+        silent = REASON.fullmatch(run.stderr) if has_reason else not run.stderr
         is_right = bool(silent) and (run.stdout, run.returncode) == (f"{line}\n".encode(), STATUSES[line.split()[0]])
         self.count(name, is_right, f"{run.stdout!r}{run.stderr!r} with status {run.returncode}, expected {line}")
 

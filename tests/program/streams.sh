@@ -1,4 +1,4 @@
-# Standard streams that a file can't stand for. Read by run.sh.
+# Standard streams that a file can't stand for. Read by part.sh.
 
 pit=samples/pit-3.fill
 pit_line='accepted rows=3 cols=3 data=9 raised=1'
@@ -8,17 +8,17 @@ mkfifo "$scratch/pipe"
 exec 3<>"$scratch/pipe"
 { cat "$pit"; printf 'x'; } >&3
 want 'refused BadLength'
-timeout 20 "$drain" fill --side 3 <&3 >"$scratch/out" 2>"$scratch/err"
+timeout "$patience" "$drain" fill --side 3 <&3 >"$scratch/out" 2>"$scratch/err"
 judge 'an open pipe with a byte too many' 2 "$scratch/want" $?
 
 want 'refused BadSide'
-timeout 20 "$drain" fill --side 1 <&3 >"$scratch/out" 2>"$scratch/err"
+timeout "$patience" "$drain" fill --side 1 <&3 >"$scratch/out" 2>"$scratch/err"
 judge 'an open pipe without a byte, side out of range' 2 "$scratch/want" $?
 exec 3<&-
 
 # An input that comes a byte at a time.
 want "$pit_line"
-dd if="$pit" bs=1 status=none | timeout 20 "$drain" fill --side 3 >"$scratch/out" 2>"$scratch/err"
+dd if="$pit" bs=1 status=none | timeout "$patience" "$drain" fill --side 3 >"$scratch/out" 2>"$scratch/err"
 judge 'an input that comes in single bytes' 0 "$scratch/want" $?
 
 # Nothing is read from the descriptor after the one byte more.
@@ -46,6 +46,35 @@ for words in 'fill --side 3' 'fill --side 4' '--help' 'fill --help' '--version';
 done
 "$drain" fill --side 3 </ >/dev/full 2>"$scratch/err"
 judge 'a full standard output after a failed read' 3 "$scratch/want" $?
+
+# Of commands that write files too: on a closed standard output they begin none.
+on_valley=(--dem samples/valley/dem.bil --sinks samples/valley/sinks.txt --products samples/valley/right)
+valley_line='accepted rows=40 cols=56 data=2189 raised=70 outlets=3'
+valley_box=(--at 0,0 --box 0,0,40,56)
+judge_words 'a window of the valley' 0 "$valley_line" window "${on_valley[@]}" "${valley_box[@]}" --report "$scratch/valley.txt"
+mkdir "$scratch/closed"
+while read -r name words; do
+    read -r -a words <<<"$words"
+    : >"$scratch/want"
+    : >"$scratch/out"
+    timeout "$patience" "$drain" "${words[@]}" </dev/null >&- 2>"$scratch/err"
+    judge "a closed standard output: $name" 3 "$scratch/want" $?
+    ls -A "$scratch/closed" >"$scratch/out" 2>"$scratch/err"
+    judge "files over a closed standard output: $name" 0 "$scratch/want" 0
+    : >"$scratch/out"
+    timeout "$patience" "$drain" "${words[@]}" </dev/null >/dev/full 2>"$scratch/err"
+    judge "a full standard output: $name" 3 "$scratch/want" $?
+    grep -r 'rows=' "$scratch/closed" >"$scratch/out" 2>"$scratch/err"
+    judge "lines in files over a full standard output: $name" 0 "$scratch/want" 0
+    rm -rf "$scratch/closed" && mkdir "$scratch/closed"
+done <<EOF
+window window ${on_valley[*]} ${valley_box[*]} --report $scratch/closed/report.txt
+merge merge $scratch/valley.txt
+merge-report merge --report $scratch/closed/report.txt $scratch/valley.txt
+make make ${on_valley[*]:0:4} --out $scratch/closed
+derive derive ${on_valley[*]} --out $scratch/closed
+map explain ${on_valley[*]} --map $scratch/closed/faults.bil
+EOF
 
 mkfifo "$scratch/broken"
 { sleep 0.3; "$drain" fill --side 3 <"$pit" 2>"$scratch/err"; echo $? >"$scratch/status"; } >"$scratch/broken" &

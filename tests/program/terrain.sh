@@ -1,18 +1,16 @@
-# `drain check` on real terrain; make_products.py makes products and checks them by the rules. Read by run.sh.
+# `drain check` on real terrain; make_products.py makes products and checks them by the rules. Read by part.sh.
 
-maker=$here/make_products.py
-terrain=$scratch/terrain
 tile=samples/jacksboro/N36W085.hgt
 
 # Runs `drain check` on a tile of side 121 and products in a folder, and compares with the line in $scratch/want.
 # Usage: check_terrain NAME STATUS TILE FOLDER
 check_terrain() {
-    timeout 20 "$drain" check --side 121 --products "$4" "$3" </dev/null >"$scratch/out" 2>"$scratch/err"
+    timeout "$patience" "$drain" check --side 121 --products "$4" "$3" </dev/null >"$scratch/out" 2>"$scratch/err"
     judge "$1" "$2" "$scratch/want" $?
 }
 
 # Products made anew are the bundled ones, and their headers are as this program prints them.
-"$maker" 121 "$tile" "$terrain"
+make_terrain
 for file in "$terrain"/*; do
     cp "$file" "$scratch/out"
     : >"$scratch/err"
@@ -35,45 +33,21 @@ for name in n36w085.hgt N36w085.HGT; do
 done
 
 # All of the terrain that the bundled tile was cut from, with the counts that another maker's products of it have.
-"$maker" 344 samples/N36W085.hgt "$scratch/wide"
+make_wide
 want 'accepted rows=344 cols=344 data=118336 raised=5200 outlets=115'
-timeout 60 "$drain" check --side 344 --products "$scratch/wide" samples/N36W085.hgt </dev/null >"$scratch/out" 2>"$scratch/err"
+timeout "$patience" "$drain" check --side 344 --products "$scratch/wide" samples/N36W085.hgt </dev/null >"$scratch/out" 2>"$scratch/err"
 judge 'real terrain of side 344' 0 "$scratch/want" $?
 
 # Directions give spill parents and ranks: con is accepted with them alone, and a metre higher at one cell it isn't.
 tools/fill_input.py 121 "$tile" "$terrain" >"$scratch/input" 2>"$scratch/err"
 want 'accepted rows=121 cols=121 data=14641 raised=690'
-timeout 20 "$drain" fill --side 121 <"$scratch/input" >"$scratch/out" 2>>"$scratch/err"
+timeout "$patience" "$drain" fill --side 121 <"$scratch/input" >"$scratch/out" 2>>"$scratch/err"
 judge 'a fill input made of directions' 0 "$scratch/want" $?
 printf '\x02\x7b' | dd of="$scratch/input" bs=1 seek=$((2 * (121 * 121 + 121 * 94 + 63))) conv=notrunc status=none
 want 'rejected rule=7 SpillHeight row=94 col=63'
-timeout 20 "$drain" fill --side 121 <"$scratch/input" >"$scratch/out" 2>"$scratch/err"
+timeout "$patience" "$drain" fill --side 121 <"$scratch/input" >"$scratch/out" 2>"$scratch/err"
 judge 'a fill input made of directions, a metre too high' 1 "$scratch/want" $?
 
-# One number changed: the rule that is to fail first, the file, its bytes a number, the cell, and the bytes put there.
-changes='
-1  N36W085.hgt 2   0   0 \x80\x00
-2  dir.bil     1  55  84 \xff
-2  acc.bil     4  55  84 \x00\x00\x00\x00
-2  bas.bil     4  94  63 \x00\x00\x00\x00
-2  rnk.bil     4  94  63 \xff\xff\xff\xff
-3  dir.bil     1  55  84 \x03
-4  con.bil     2  94  63 \x79\x02
-5  con.bil     2   0  73 \x1c\x02
-9  con.bil     2  94  63 \x7b\x02
-9  con.bil     2  74  89 \x43\x01
-10 con.bil     2  55  84 \x47\x01
-10 dir.bil     1  55  84 \x00
-11 dir.bil     1   0  80 \x01
-11 con.bil     2   0 116 \xce\x01
-12 dir.bil     1  62  93 \x00
-12 dir.bil     1  62  93 \x08
-12 rnk.bil     4  62  93 \x00\x00\x00\x00
-13 acc.bil     4  94  63 \x05\x00\x00\x00
-13 dir.bil     1  94  63 \x00
-14 bas.bil     4  94  63 \x11\x00\x00\x00
-15 bas.bil     4   0  98 \x01\x00\x00\x00
-'
 while read -r rule file size row col bytes; do
     [ -n "$rule" ] || continue
     changed=$scratch/changed

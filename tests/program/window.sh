@@ -1,6 +1,5 @@
-# Runs of `drain window` and `drain merge` on the pit of check.sh and a list of sinks: a report over an input, by any way to
-# it, and inputs that stay; and on the bundled raster of elevations. Read by run.sh after explain.sh; it calls the functions of
-# those before.
+# Runs of `drain window` and `drain merge` on the pit and a list of sinks: a report over an input, by any way to it, and
+# inputs that stay; and on the bundled raster of elevations. Read by part.sh.
 
 window=(window --side 3 --box 0,0,3,3 --products "$check/out" --sinks "$check/sinks.txt")
 inputs="N00E000.hgt $(echo out/{con,dir,acc,bas}.{hdr,bil}) sinks.txt"
@@ -27,7 +26,7 @@ for input in $inputs; do
         report=$check/report.txt
         case $how in path) report=$check/out/../$input ;; *) $how "$check/$input" "$report" ;; esac
         want -
-        timeout 20 "$drain" "${window[@]}" --report "$report" "$tile" </dev/null >"$scratch/out" 2>"$scratch/err"
+        timeout "$patience" "$drain" "${window[@]}" --report "$report" "$tile" </dev/null >"$scratch/out" 2>"$scratch/err"
         judge "$how: a report over $input" 2 "$scratch/want" $? words
         judge_inputs "$how: a report over $input"
         judge_folder "$how: names after a report over $input" "$check" N00E000.hgt out sinks.txt $([ "$how" = path ] || echo report.txt)
@@ -99,18 +98,31 @@ want -
 ls "$scratch" | grep -x out.txt >"$scratch/out" 2>"$scratch/err"
 judge 'no report of a refused box' 0 "$scratch/want" 0
 judge_words 'a box over no room' 3 'failed WriteFailed' merge --report /dev/full "${merged[@]}"
+
+# With a closed standard output no report is begun: the line would go into it.
+for name in merge window; do
+    : >"$scratch/want"
+    words=(merge "${merged[@]}")
+    [ $name = merge ] || words=("${window[@]}" "$tile")
+    echo 'as before' >"$scratch/report.txt"
+    "$drain" "${words[@]}" --report "$scratch/report.txt" </dev/null >&- 2>"$scratch/err"
+    status=$?
+    : >"$scratch/out"
+    judge "a closed standard output: $name" 3 "$scratch/want" $status
+    echo 'as before' | judge_file "a closed standard output: the report of $name" "$scratch/report.txt"
+done
 for how in 'ln -s' ln path; do
     cp "$scratch/west.txt" "$scratch/input.txt"
     rm -f "$scratch/over.txt"
     report=$scratch/over.txt
     case $how in path) report=$scratch/../${scratch##*/}/input.txt ;; *) $how "$scratch/input.txt" "$report" ;; esac
     want -
-    timeout 20 "$drain" merge --report "$report" "$scratch/input.txt" "$scratch/east.txt" </dev/null >"$scratch/out" 2>"$scratch/err"
+    timeout "$patience" "$drain" merge --report "$report" "$scratch/input.txt" "$scratch/east.txt" </dev/null >"$scratch/out" 2>"$scratch/err"
     judge "$how: the report of a box over a report" 2 "$scratch/want" $? words
     judge_file "$how: the report of a box over a report" "$scratch/input.txt" <"$scratch/west.txt"
 done
 want -
-timeout 20 "$drain" merge --sinks "$valley/sinks.txt" --report "$scratch/out.txt" "${merged[@]}" </dev/null >"$scratch/out" 2>"$scratch/err"
+timeout "$patience" "$drain" merge --sinks "$valley/sinks.txt" --report "$scratch/out.txt" "${merged[@]}" </dev/null >"$scratch/out" 2>"$scratch/err"
 judge 'the report of a box with a list' 2 "$scratch/want" $? words
 
 # Places that don't fit the header: a column and a row beside, and row and column exchanged; and tiles beside the raster.
@@ -130,9 +142,38 @@ for input in dem.bil dem.hdr; do
         report=$scratch/over
         case $how in path) report=$scratch/part/../part/$input ;; *) $how "$scratch/part/$input" "$report" ;; esac
         want -
-        timeout 20 "$drain" window --dem "$scratch/part/dem.bil" --at 0,0 --products "$valley/right" --box 0,0,40,56 \
+        timeout "$patience" "$drain" window --dem "$scratch/part/dem.bil" --at 0,0 --products "$valley/right" --box 0,0,40,56 \
             --report "$report" </dev/null >"$scratch/out" 2>"$scratch/err"
         judge "$how: a report over $input" 2 "$scratch/want" $? words
         judge_file "$how: a report over $input" "$scratch/part/$input" <"$valley/$input"
     done
 done
+
+# Nor is it written beside the products with the name of one: a later run would take it for that.
+rm -rf "$scratch/part"
+cp -r "$valley/right" "$scratch/part"
+rm "$scratch"/part/rnk.*
+ln -s part "$scratch/part_linked"
+for report in part/rnk.hdr part/rnk.bil part/../part/rnk.hdr part_linked/rnk.hdr; do
+    want -
+    timeout "$patience" "$drain" window --dem "$valley/dem.bil" --at 0,0 --products "$scratch/part" --sinks "$valley/sinks.txt" --box 0,0,40,56 \
+        --report "$scratch/$report" </dev/null >"$scratch/out" 2>"$scratch/err"
+    judge "a report of the valley named as ranks: $report" 2 "$scratch/want" $? words
+done
+judge_folder 'no ranks by way of a report' "$scratch/part" {con,dir,acc,bas}.{hdr,bil}
+rm -r "$scratch"/part*
+
+# A window on tiles whose cells aren't square: real terrain, whose first wrong way on cells of 2 by 1 is that of an audit.
+jacksboro=(--side 121 --products samples/jacksboro samples/jacksboro/N36W085.hgt)
+yes '2 1' | head -n 121 >"$scratch/widths.txt"
+"$auditor" --spacing 2,1 "${jacksboro[@]}" >"$scratch/out" 2>"$scratch/err"
+line=$(cat "$scratch/out")
+case $line in 'rejected rule=10 Slope '*) true ;; *) false ;; esac
+: >"$scratch/out" && : >"$scratch/want"
+judge 'real terrain on cells of 2 by 1, by the other program' 0 "$scratch/want" $?
+for spacing in '--spacing 2,1' "--widths $scratch/widths.txt"; do
+    judge_words "a window on cells of 2 by 1: ${spacing%% *}" 1 "$line" window $spacing --box 0,0,121,121 --report "$scratch/report.txt" "${jacksboro[@]}"
+    judge_words "a merge of it: ${spacing%% *}" 1 "$line" merge "$scratch/report.txt"
+done
+judge_words 'a window on square cells' 0 'accepted rows=121 cols=121 data=14641 raised=690 outlets=32' \
+    window --box 0,0,121,121 --report "$scratch/report.txt" "${jacksboro[@]}"

@@ -13,11 +13,11 @@ import sys
 import tempfile
 from collections.abc import Callable, Iterator
 from dataclasses import replace
-from itertools import combinations
+from itertools import combinations, product
 from pathlib import Path
 
 sys.dont_write_bytecode = True
-from dem_sets import FALL, FALL_LINE, KINDS, NO_VOIDS, NO_VOIDS_LINES, PIT, SETS
+from dem_sets import FALL, FALL_LINE, FALL_OF_FLOATS, KINDS, NO_VOIDS, NO_VOIDS_LINES, PIT, SETS
 from small_sets import VOID, DemSet, Lines, Set
 from worked_lines import CHECKED, PIT_LINE
 
@@ -64,6 +64,12 @@ ABOUT_TILES = (
 )  # fmt: skip
 
 
+# Two windows of two rows and three columns, each with the side on which the other is.
+BOXES = [(("0,0,2,2", "e"), ("0,0,2,3", "w")), (("0,0,2,3", "s"), ("0,0,2,3", "n"))]
+# Of whole heights and of floats, con with a no-data number that is one in both.
+OF_BOTH_KINDS = [it.with_line("con", "NODATA 0") for it in (FALL, FALL_OF_FLOATS)]
+
+
 class Runs(Lines):
     """Runs over sets that are written into folders of their own."""
 
@@ -84,6 +90,21 @@ class Runs(Lines):
             lines = [it for it in (line, later_line) if not it.endswith(ABOUT_RANKS)]
             audit_line = lines[0] if lines else PIT_LINE
             self.judge(f"{line}, {later_line}", change(later(PIT)), audit_line, line)
+
+    def unions(self) -> None:
+        """Two windows of one raster, beside or above each other. If one is of floats and one of whole heights, they aren't
+        merged."""
+        for boxes in BOXES:
+            for kinds in product(OF_BOTH_KINDS, repeat=2):
+                with tempfile.TemporaryDirectory() as folder:
+                    reports = []
+                    for it, (box, inner) in zip(kinds, boxes, strict=True):
+                        reports.append(f"{folder}/{inner}.txt")
+                        words = ["--at", "0,0", "--box", box, "--inner", inner, "--report", reports[-1]]
+                        ended = self.run(["window", *words, *it.write(Path(folder))])
+                        self.count(f"window {box}", ended.returncode == 0, f"{ended.stdout!r}{ended.stderr!r}")
+                    line = FALL_LINE if kinds[0] is kinds[1] else "refused OtherSpacing 1"
+                    self.expect(f"a merge of {boxes}", line, ["merge", *reports])
 
     def tiles(self) -> None:
         """The line of one tile, where it is one raster. What an audit says of the tile it says of the raster."""
@@ -185,6 +206,7 @@ def main() -> None:
     runs = Runs(Path(sys.argv[1]).resolve())
     runs.sets()
     runs.order()
+    runs.unions()
     runs.tiles()
     judge_files(runs)
     judge_words(runs)

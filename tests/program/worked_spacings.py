@@ -17,7 +17,7 @@ from pathlib import Path
 sys.dont_write_bytecode = True
 import made_dems
 import worked_dems
-from dem_sets import FALL, FALL_LINE, PIT, one_dem, pixels_of
+from dem_sets import FALL, FALL_LINE, LEAST_FLOAT, PIT, one_dem, pixels_of
 from small_sets import DemSet, Lines, Set, one_tile
 from worked_lines import PIT as PIT_TILE
 from worked_lines import PIT_LINE
@@ -43,10 +43,13 @@ class Corner:
         return [[south_east, south_east - east, south_east - south, 0], [code, 4, 1, 0], counts, [1] * 4, [0] * 4]
 
     def sets(self, code: int) -> list[Set | DemSet]:
-        """A raster of elevations, and a tile where 16 bits hold them."""
+        """A raster of elevations, and a tile where 16 bits hold them, and a raster of floats where these are exact."""
         con, *others = self.products(code)
-        dem = one_dem(2, 2, "I", con, con, *others)
-        return [dem, one_tile(2, con, con, *others)] if max(con) < 2**15 else [dem]
+        sets: list[Set | DemSet] = [one_dem(2, 2, "I", con, con, *others)]
+        if max(con) < 2**24:
+            floats = [it * LEAST_FLOAT for it in con]
+            sets.append(one_dem(2, 2, "f", floats, floats, *others))
+        return [*sets, one_tile(2, con, con, *others)] if max(con) < 2**15 else sets
 
     def words(self, folder: Path) -> list[str]:
         """`W,H`, or two lines of a text."""
@@ -87,7 +90,7 @@ CORNERS = [
 ]
 
 # Widths and heights of pixels in a header, and the right codes for drops of 3, 5 and 4; none where no two whole numbers up to
-# 2^30 have their ratio. Of a decimal 15 places count.
+# 2^30 have their ratio, nor that of two sizes which are rounded to these. Of a decimal 15 places count.
 HEADERS = [
     ("3", "4", {EAST, SOUTH_EAST, SOUTH}),
     ("30", "40", {EAST, SOUTH_EAST, SOUTH}),
@@ -96,8 +99,10 @@ HEADERS = [
     ("3221225469", "4294967292", {EAST, SOUTH_EAST, SOUTH}),
     ("0.000833333333333", "0.000833333333333", {SOUTH}),
     ("4", "3", {SOUTH}),
-    ("1", "1.000000000000001", set()),
-    ("0.000000000000001", "0.000001073741825", set()),
+    ("1", "1.000000000000001", {SOUTH}),
+    ("0.000000000000001", "0.000001073741825", {EAST}),
+    ("1", "1073741825", set()),
+    ("1073741825", "1", set()),
     ("0.000000000000001", "0.000001073741824", {EAST}),
 ]
 

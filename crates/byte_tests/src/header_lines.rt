@@ -1,6 +1,7 @@
 //! Decimals and lines of the format's tables, each with the value that the table gives; texts of faults.
 
 use crate::agree::same;
+use drain_grid::HeightKind;
 use drain_header::decimal::{coordinate, nodata};
 use drain_header::lines::read_lines;
 use drain_header::{ByteOrdering, Header, HeaderFault, Key, Place, header_text};
@@ -108,7 +109,12 @@ static LINES: [(&str, Option<HeaderFault>); 9] = [
 #[test]
 fn first_faults_of_lines(rt: HostRuntime) -> Result<(), Fail> {
     for &(text, expected) in &LINES {
-        same(&rt, text, read_lines(text.as_bytes()).err(), expected);
+        same(
+            &rt,
+            text,
+            read_lines(text.as_bytes(), HeightKind::Whole).err(),
+            expected,
+        );
     }
     Ok(())
 }
@@ -146,6 +152,7 @@ pub const CONDITIONED: Header = Header {
         ydim: 500_000_000_000_000,
     },
     nodata: Some(-32768),
+    kind: HeightKind::Whole,
 };
 
 /// A header without a no-data number that lies west of Greenwich.
@@ -164,6 +171,7 @@ const WESTERN: Header = Header {
         ydim: 10_000_000_000_000_000_000_000_000,
     },
     nodata: None,
+    kind: HeightKind::Whole,
 };
 
 /// Its text.

@@ -6,6 +6,8 @@ mod agree;
 #[cfg(test)]
 mod devices;
 #[cfg(test)]
+mod float_headers;
+#[cfg(test)]
 mod header_lines;
 #[cfg(test)]
 mod headers;

@@ -22,7 +22,7 @@ type Numbers = (usize, [i64; 5]);
 const NO_NUMBERS: Numbers = (0, [0; 5]);
 
 /// Rows with their numbers. Of some the last pixel isn't whole.
-static ROWS: [(Given, Numbers); 11] = [
+static ROWS: [(Given, Numbers); 12] = [
     (
         Given {
             kind: PixelKind::U8,
@@ -86,6 +86,17 @@ static ROWS: [(Given, Numbers); 11] = [
             numbers: &[],
         },
         NO_NUMBERS,
+    ),
+    (
+        Given {
+            kind: PixelKind::F32,
+            bytes: &[
+                0, 0, 0x80, 0x3f, 0, 0, 0x80, 0xbf, 0, 0, 0, 0x80, 1, 0, 0xc0, 0xff, 0, 0, 0x80,
+                0xff,
+            ],
+            numbers: &[],
+        },
+        (5, [1065353216, -1065353216, 0, 2143289344, -2139095040]),
     ),
     (
         Given {

@@ -8,6 +8,7 @@ use crate::row_sources::{
 };
 use drain_device::faults::ScriptSource;
 use drain_device::{ByteSource, RowSource, RowStep};
+use drain_grid::HeightKind;
 use drain_header::ByteOrdering::{Least, Most};
 use drain_header::{ByteOrdering, Header};
 use drain_pixels::{PixelNumbers, PixelRow, Pixels};
@@ -30,6 +31,7 @@ fn header(bits: u8, signed: bool, order: ByteOrdering, (skip, after): (u8, u8)) 
         row_bytes: 12 + after,
         place: NOWHERE,
         nodata: None,
+        kind: HeightKind::Whole,
     };
     match bits {
         8 => Header {
@@ -164,6 +166,7 @@ fn push_kept(out: &mut Vec<i64>, row: &PixelRow) -> Result<(), AllocError> {
         Pixels::U16(pixels) => push_each(out, &pixels),
         Pixels::I32(pixels) => push_each(out, &pixels),
         Pixels::U32(pixels) => push_each(out, &pixels),
+        Pixels::F32(pixels) => push_each(out, &pixels),
         Pixels::Any(pixels) => push_each(out, &pixels),
     }
 }

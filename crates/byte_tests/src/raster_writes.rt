@@ -8,7 +8,7 @@ use crate::agree::same;
 use crate::rasters::{NOWHERE, PADDED, numbers_in, numbers_of, padded, raster_of, written};
 use drain_device::ByteSink;
 use drain_device::faults::{ScriptSink, Scripted, SinkAnswer};
-use drain_grid::{Cell, Product, Raster};
+use drain_grid::{Cell, HeightKind, Product, Raster};
 use drain_header::{ByteOrdering, Header};
 use drain_raster::laws::bytes_read_back;
 use drain_raster::{WriteFault, read_raster, write_raster};
@@ -169,6 +169,7 @@ fn long() -> Header
         row_bytes: 17000,
         place: NOWHERE,
         nodata: None,
+        kind: HeightKind::Whole,
     }
 }
 

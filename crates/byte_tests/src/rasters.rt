@@ -6,7 +6,7 @@ ghost use Rattle.drain_raster.specs.Pixels.{header_extent};
 use crate::agree::{same, same_text};
 use drain_device::VecSink;
 use drain_grid::values::{GREATEST_PIXEL, LEAST_PIXEL};
-use drain_grid::{Cell, Product, Raster, Shape};
+use drain_grid::{Cell, HeightKind, Product, Raster, Shape};
 use drain_header::{ByteOrdering, Header, Place};
 use drain_raster::{RasterFault, WriteFault, read_raster, write_raster};
 use std::alloc::{AllocError, Global};
@@ -35,6 +35,7 @@ pub fn padded(order: ByteOrdering) -> Header
         row_bytes: 5,
         place: NOWHERE,
         nodata: None,
+        kind: HeightKind::Whole,
     }
 }
 
@@ -52,6 +53,7 @@ fn alone(bits: u8, signed: bool, order: ByteOrdering) -> Header
         row_bytes: 4,
         place: NOWHERE,
         nodata: None,
+        kind: HeightKind::Whole,
     };
     match bits {
         8 => Header { bits: 8, ..header },

@@ -4,7 +4,7 @@ ghost use Rattle.std.specs.Prelude.{◌≡◌, ◌<◌, IfOk};
 
 use drain_grid::{Cell, Elevation, OutOfMemory, Raster, Shape, VOID};
 use drain_paths::{CellFlows, CertifyRefusal, EndlessPath, count_steps, flows_of_rasters};
-use drain_pixels::{GroundRow, PixelRow};
+use drain_pixels::{GroundRow, PixelRow, Voids};
 use std::alloc::Global;
 use std::test::Fail;
 
@@ -165,7 +165,7 @@ fn take_row(
 {
     let mut heights = samples.take_numbers();
     grid.elevation.read_row(row, &mut heights)?;
-    samples.put_numbers(Some(VOID.into()), heights);
+    samples.put_numbers(Voids::of(Some(VOID.into())), heights);
     let mut numbers = dir.take_numbers();
     grid.dir.read_row(row, &mut numbers)?;
     dir.put_numbers(numbers);

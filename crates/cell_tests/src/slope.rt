@@ -1,6 +1,9 @@
 //! A cell with given heights in the east, the southeast and the south: its first steepest way down, its drop, and
 //! the rule that fails. Only what these rules read is given.
 
+ghost use Rattle.std.specs.Prelude.{◌≡◌};
+ghost use Rattle.drain_grid.specs.declared.height_kind.HeightKind.{HeightKind};
+
 use crate::agree::{same, same_rule};
 use drain_grid::{CellValues, Direction, Patch, Rule, Spacing};
 use drain_slope::{drop, fault, steepest};
@@ -25,7 +28,9 @@ fn on_ten(dir: i64) -> Result<CellValues, Fail> {
 }
 
 /// A cell with neighbours in the east, the southeast and the south, and another in each of the other directions.
-fn patch(here: CellValues, east: i64, southeast: i64, south: i64, other: i64) -> Patch {
+fn patch(here: CellValues, east: i64, southeast: i64, south: i64, other: i64) -> Patch
+    ensures { result.spacing.kind ≡ HeightKind.Whole }
+{
     let mut around = [at(other); 8];
     around[0] = at(east);
     around[1] = at(southeast);

@@ -49,7 +49,7 @@ impl<'a> FileLookup for InMemory<'a> {
 }
 
 impl<'a> ExplainOutput for InMemory<'a> {
-    ghost has_saved = { λ old new result. Unit {0} };
+    ghost has_saved = { λ like pixels old new result. Unit {0} };
 
     fn save_map(&mut self, like: &Header, pixels: &[u8]) -> Result<(), MapFault> {
         match write_map(self.alloc, like, pixels, &mut self.header, &mut self.raster) {

@@ -41,12 +41,46 @@ fn of_a_text(rt: HostRuntime) {
     }
 }
 
-/// A header's pixel sizes, and the spacing that they are; 0 and 0 if they are none.
-static SIZES: [(&str, u32, u32); 5] = [
+/// A header's pixel sizes, and the spacing that they are; 0 and 0 if they are none. Six with many places are cells of one
+/// second of arc, 1.5, 2, 3, 5 and 10 times as wide, and of 10 / 3 by 10, as GDAL 3.6.2 writes them; three more have
+/// fifteen places.
+static SIZES: [(&str, u32, u32); 17] = [
     ("XDIM 30\nYDIM 20\n", 3, 2),
     ("XDIM 0.000833333333333\nYDIM 0.000833333333333\n", 1, 1),
-    ("XDIM 0.000833333333333\nYDIM 0.000416666666667\n", 0, 0),
+    ("XDIM 0.000833333333333\nYDIM 0.000416666666667\n", 2, 1),
+    (
+        "XDIM 0.000416666666666667\nYDIM 0.000277777777777778\n",
+        3,
+        2,
+    ),
+    (
+        "XDIM 0.000555555555555556\nYDIM 0.000277777777777778\n",
+        2,
+        1,
+    ),
+    (
+        "XDIM 0.000833333333333333\nYDIM 0.000277777777777778\n",
+        3,
+        1,
+    ),
+    (
+        "XDIM 0.00138888888888889\nYDIM 0.000277777777777778\n",
+        5,
+        1,
+    ),
+    (
+        "XDIM 0.00277777777777778\nYDIM 0.000277777777777778\n",
+        10,
+        1,
+    ),
+    ("XDIM 3.33333333333333\nYDIM 10\n", 1, 3),
+    ("XDIM 0.000416666666667\nYDIM 0.000277777777778\n", 3, 2),
+    ("XDIM 0.001388888888889\nYDIM 0.000277777777778\n", 5, 1),
+    ("XDIM 3.333333333333333\nYDIM 10.000000000000000\n", 1, 3),
+    ("XDIM 0.000277778\nYDIM 0.000416666\n", 138889, 208333),
     ("XDIM 1\nYDIM 1073741824\n", 1, 1073741824),
+    ("XDIM 1\nYDIM 1073741825\n", 0, 0),
+    ("XDIM 0.000000000000001\nYDIM 1000\n", 0, 0),
     ("XDIM -1\nYDIM 2\n", 1, 1),
 ];
 

@@ -14,6 +14,7 @@ use Rattle.std.proofs.Math.Nat.{mul-div_cancel, one-le-pow, pow-suc}
 use Rattle.std.proofs.lemmas.Str.Parse.{IsNumeralModel, digit_from_value, not_in_digits, numerals_by_value, tells_digits}
 use Rattle.std.proofs.lemmas.Str.Pattern.{IsSplitOnceResult, split_after, split_parts}
 use Rattle.drain_grid.specs.Spacing.{Distances, IsSpacing}
+use Rattle.drain_grid.specs.declared.height_kind.HeightKind.TheVariants.{Whole}
 use Rattle.drain_text.proofs.Digits.{both, digit_worth, last_digits}
 use Rattle.drain_args.specs.SpacingTexts.{ArePartsOf, IsDecimal, IsFewDigits, IsLeastUnit, IsSpacingText, IsUnits, IsWritten, comma, point}
 
@@ -204,7 +205,7 @@ units_matched text whole fraction (Some units) parts are = units_of_parts text w
 
 -- of two decimals, divided as often as both stay whole
 pub spacing_text : (text w h : List ℕ) (a b width height : ℕ) → text ≡ w ++ comma ∷ h → IsUnits w a → IsUnits h b → IsLeastUnit a b width height
-    → IsSpacingText text (record { width = width; height = height })
+    → IsSpacingText text (record { width = width; height = height; kind = Whole })
 spacing_text text w h a b width height written first second l =
     let left = whole_of a first.digits first.places l.times width 18 (first.value first.digits first.places first.decimal) l.width_is l.most in
     let right = whole_of b second.digits second.places l.times height 18 (second.value second.digits second.places second.decimal) l.height_is l.most in
@@ -221,6 +222,7 @@ spacing_text text w h a b width height written first second l =
       power = 18 - l.times;
       width = left;
       height = right;
+      kind = refl;
       least = least_power width first.places first.digits height second.places second.digits 18 l.times left right l.least;
     }
 
@@ -243,12 +245,12 @@ only_spacing text w h a b width height s named first_text second_text first seco
 -- both cases at once
 pub spacing_matched : (text : List ℕ) (split : Option (Bor (List ℕ) × Bor (List ℕ))) (x : Bor (List ℕ) × Bor (List ℕ)) (a b width height : ℕ) (r : Option Distances)
     → IsSplitOnceResult 44 text split → split ≡ Some x → IsUnits x.0.now a → IsUnits x.1.now b → IsLeastUnit a b width height
-    → MatchOption r (IsSpacing (record { width = width; height = height }) → ⊥) (λ s. s ≡ record { width = width; height = height })
+    → MatchOption r (IsSpacing (record { width = width; height = height; kind = Whole }) → ⊥) (λ s. s ≡ record { width = width; height = height; kind = Whole })
     → MatchOption r ((s : Distances) → IsSpacing s → IsSpacingText text s → ⊥) (IsSpacingText text)
 spacing_matched text split x a b width height None h is first second least none = λ s fits named. (
     let texts = rw is at (texts_at_comma text named.width_text named.height_text split h named.written named.width_digits named.width_places named.width_is) in
     let same = only_spacing text x.0.now x.1.now a b width height s named (sym texts.0) (sym texts.1) first second least in
-    let all : s ≡ record { width = width; height = height } = λ i. record { width = same.0 i; height = same.1 i } in
+    let all : s ≡ record { width = width; height = height; kind = Whole } = λ i. record { width = same.0 i; height = same.1 i; kind = named.kind i } in
     none (subst IsSpacing all fits))
 spacing_matched text split x a b width height (Some s) h is first second least same =
     let parts = rw is at (split_parts 44 text split h (omega arith)) in

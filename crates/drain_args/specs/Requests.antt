@@ -134,8 +134,9 @@ IsJudgedOption f judged = IsListOption f (Some judged) ⊎ (IsListOption f None 
 
 -- the name of a command, and the values of its arguments, make this request
 abbrev pub IsRequestOf : Text → Found → Request → Type 0
-IsRequestOf name f (Audit args) = (name ≡ codes "audit") × (AreInputs f args.inputs × IsJudgedOption f args.judged)
-IsRequestOf name f (Check args) = (name ≡ codes "check") × AreInputs f args
+IsRequestOf name f (Audit args) =
+    (name ≡ codes "audit") × (AreInputs f args.inputs × (IsJudgedOption f args.judged × IsFlag (codes "json") f args.json))
+IsRequestOf name f (Check args) = (name ≡ codes "check") × (AreInputs f args.inputs × IsFlag (codes "json") f args.json)
 IsRequestOf name f (Explain args) =
     (name ≡ codes "explain") × (AreInputs f args.inputs × (IsListOption f args.only × (IsMap f args.map × IsFlag (codes "json") f args.json)))
 IsRequestOf name f (Window args) = (name ≡ codes "window") × IsWindowArgs f args

@@ -2,6 +2,7 @@
 use Rattle.std.specs.Prelude.{◌≡◌, ◌⊎◌, ℕ, ◌+◌, ◌*◌, ◌^◌, ◌<◌, ◌≤◌, List, [], ◌∷◌, ◌++◌, length}
 use Rattle.std.specs.Str.Parse.{AllDigits, digits_value}
 use Rattle.drain_grid.specs.Spacing.{Distances}
+use Rattle.drain_grid.specs.declared.height_kind.HeightKind.TheVariants.{Whole}
 
 -- a comma, and a point
 abbrev pub comma : ℕ
@@ -36,7 +37,7 @@ abbrev pub IsWhole : ℕ → ℕ → ℕ → ℕ → Type 0
 IsWhole digits places power number = number * 10 ^ places ≡ digits * 10 ^ power
 
 -- the text is two decimals with a comma between. Width and height are these decimals, multiplied by the least power of ten
--- that makes both whole
+-- that makes both whole; heights are whole numbers
 pub record IsSpacingText (text : List ℕ) (s : Distances) : Type 0 where
   pub width_text : List ℕ
   pub height_text : List ℕ
@@ -50,6 +51,7 @@ pub record IsSpacingText (text : List ℕ) (s : Distances) : Type 0 where
   pub power : ℕ
   pub width : IsWhole width_digits width_places power s.width
   pub height : IsWhole height_digits height_places power s.height
+  pub kind : s.kind ≡ Whole
   pub least : (p w h : ℕ) → IsWhole width_digits width_places p w → IsWhole height_digits height_places p h → power ≤ p
 
 -- How the code finds them.

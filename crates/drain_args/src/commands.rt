@@ -58,6 +58,7 @@ pub(crate) const AUDIT: CommandSpec = CommandSpec {
         ArgSpec::Spacing,
         ArgSpec::Widths,
         ArgSpec::Progress,
+        ArgSpec::Json,
         ArgSpec::Tiles,
     ],
 };
@@ -75,6 +76,7 @@ pub(crate) const CHECK: CommandSpec = CommandSpec {
         ArgSpec::Spacing,
         ArgSpec::Widths,
         ArgSpec::Progress,
+        ArgSpec::Json,
         ArgSpec::Tiles,
     ],
 };
@@ -204,6 +206,7 @@ fn without_commands<'a>(alloc: Global) -> Result<Command<'a>, AllocError> {
     Command::new(alloc, "drain")
         .version(VERSION)
         .about(help_texts::ABOUT)
+        .after_help(help_texts::AFTER)
         .subcommand_required(true)
         .arg_required_else_help(true)
         .bin_name("drain")
@@ -242,7 +245,7 @@ fn argument<'a>(alloc: Global, spec: ArgSpec) -> Result<Arg<'a>, AllocError> {
         ArgSpec::Widths => file(alloc, "widths", help_texts::WIDTHS_HELP),
         ArgSpec::Progress => flag(alloc, "progress", help_texts::PROGRESS_HELP),
         ArgSpec::Map => file(alloc, "map", explain_texts::MAP_HELP),
-        ArgSpec::Json => flag(alloc, "json", explain_texts::JSON_HELP),
+        ArgSpec::Json => flag(alloc, "json", help_texts::JSON_HELP),
         ArgSpec::At => at(alloc),
         ArgSpec::WindowBox => window_box(alloc),
         ArgSpec::Inner => inner(alloc),

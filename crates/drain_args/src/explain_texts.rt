@@ -30,6 +30,4 @@ Examples:
 
 pub const MAP_HELP: &str = "Write a map of the faults: a name that ends in .bil";
 
-pub const JSON_HELP: &str = "Print one JSON object instead of the page";
-
 pub const BAD_MAP: &str = "the name of a map must end in .bil";

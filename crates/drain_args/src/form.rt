@@ -13,9 +13,9 @@ pub enum Form {
     Json,
 }
 
-/// JSON, if the command is `explain` and a later argument before `--` is `--json`; else a text.
+/// JSON, if the command is `audit`, `check` or `explain`, and a later argument before `--` is `--json`; else a text.
 pub fn requested_form(env: &impl Env) -> Form {
-    if !is_word(env, 1, b"explain") {
+    if !is_word(env, 1, b"audit") && !is_word(env, 1, b"check") && !is_word(env, 1, b"explain") {
         return Form::Text;
     }
     for place in 2..usize::MAX {

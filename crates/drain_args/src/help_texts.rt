@@ -19,7 +19,8 @@ is its row and its column, counted from 0 at the north-west corner of the mosaic
 Slopes are compared over square cells, or over the width and height of cells that --spacing gives, in any one
 unit, or --widths, in a unit for each row: a line for each row from the north, two whole numbers up to
 1073741824. The width in a row is that for water that leaves one of its cells. --spacing header takes the
-ratio of XDIM and YDIM in the header of --dem.
+ratio of XDIM and YDIM in the header of --dem: the least whole numbers in it; if these are greater, those in the
+ratio of two sizes that a header rounds to these. FILE of --widths has at most 2097152 bytes.
 
 A raster of elevations may have any shape up to 28801 by 28801, pixels of 8, 16 or 32 bits and any unit. A
 cell is void where its pixel is the header's NODATA. The other rasters lie on it: the same rows and columns,
@@ -51,16 +52,28 @@ pub const ABOUT: &str =
     "Checks drainage rasters computed from SRTM tiles or any other DEM, and makes them. What an acceptance \
     means is proved, whichever tool made the rasters.";
 
+pub const AFTER: &str = "Exit statuses:
+  0  accepted, made or derived; or printed
+  1  rejected: the rasters break a rule
+  2  refused: the input can't be used; or a usage error
+  3  failed: a file can't be read or written, or memory ran out
+
+Examples:
+  drain audit --dem dem.bil --products rasters
+  drain explain --dem dem.bil --products rasters --map faults.bil
+  drain make --dem dem.bil --out rasters";
+
 pub const AUDIT_ABOUT: &str = "Audit the four rasters of elevations, whichever tool made them";
 
 pub const AUDIT_LONG_ABOUT: &str = judged_about!(
     "four",
     "
-Accepts the rasters if and only if they are correct: con is the lowest surface above the tiles from which
-water reaches an edge, a void or a listed sink, no direction climbs, every path of directions ends at an
-outlet, acc is the number of cells upstream, and two cells have the same label exactly if they drain to the
-same outlet. What is rejected is not correct. Ranks, which drain check needs, are not opened. One byte is
-held for each cell, of con alone up to twenty. All files are opened first. Prints one line.
+Accepts the rasters if and only if they are correct: con is the lowest surface above the ground from which
+water reaches an edge, a void or a listed sink, each direction is a steepest way down or, where no neighbour is
+lower, climbs nowhere, every path of directions ends at an outlet, acc is the number of cells upstream, and two
+cells have the same label exactly if they drain to the same outlet. What is rejected is not correct. Ranks,
+which drain check needs, are not opened. One byte is held for each cell, of con alone up to twenty. All files
+are opened first. Prints one line.
 
 With --only LIST it judges the rasters of the list alone, and opens no others. It accepts them if and only
 if they are part of a correct set: if values of the other rasters exist that make it correct. Of con alone an
@@ -80,11 +93,12 @@ pub const CHECK_LONG_ABOUT: &str = judged_about!(
     "five",
     "  rnk    ranks, a certificate: they fall along directions that cross a flat
 
-What it accepts is correct: con is the lowest surface above the tiles from which water reaches an edge, a
-void or a listed sink, no direction climbs, every path of directions ends at an outlet, acc is the number
-of cells upstream, and two cells have the same label exactly if they drain to the same outlet. Poor ranks
-are rejected too: for rasters without ranks use drain audit. Three rows are held in memory, whatever the
-size of the mosaic. All files are opened first. Prints one line."
+What it accepts is correct: con is the lowest surface above the ground from which water reaches an edge, a
+void or a listed sink, each direction is a steepest way down or, where no neighbour is lower, climbs nowhere,
+every path of directions ends at an outlet, acc is the number of cells upstream, and two cells have the same
+label exactly if they drain to the same outlet. Poor ranks are rejected too: for rasters without ranks use
+drain audit. Three rows are held in memory, whatever the size of the mosaic. All files are opened first. Prints
+one line."
 );
 
 pub const CHECK_AFTER: &str = judged_after!(
@@ -204,7 +218,8 @@ pub const PRODUCTS_HELP: &str = "The folder of the rasters";
 pub const DEM_HELP: &str =
     "One raster of elevations in place of tiles: a name that ends in .bil, its header .hdr beside it";
 
-pub const BAD_DEM: &str = "the name of a raster of elevations must end in .bil";
+pub const BAD_DEM: &str =
+    "the name of a raster of elevations must end in .bil; for GeoTIFFs: drain-gis judge";
 
 pub const TILES_HELP: &str = "The tile files, each named after its south-west corner";
 
@@ -220,6 +235,8 @@ pub const WIDTHS_HELP: &str =
     "Width and height of the cells of each row, a line each from the north: two whole numbers";
 
 pub const PROGRESS_HELP: &str = "Report progress on standard error, in at most two lines a second";
+
+pub const JSON_HELP: &str = "Print one JSON object instead of text";
 
 pub const FILE_HELP: &str = "The header file";
 

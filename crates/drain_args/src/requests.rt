@@ -2,7 +2,7 @@
 
 ghost use Rattle.std.specs.Prelude.{◌≡◌, ◌++◌, IfOk, IfSome, codes};
 ghost use Rattle.clap.specs.Matches.{found_of};
-ghost use Rattle.drain_args.specs.Requests.{IsListOption, IsMap, IsMergeArgs, IsProductArgs, IsRequestOf, IsStart, map_ending};
+ghost use Rattle.drain_args.specs.Requests.{IsFlag, IsListOption, IsMap, IsMergeArgs, IsProductArgs, IsRequestOf, IsStart, map_ending};
 
 use crate::clusters::first_cluster;
 use crate::commands::{AUDIT, CHECK, CommandSpec, DERIVE, EXPLAIN, MAKE, WINDOW, command, program};
@@ -23,7 +23,7 @@ pub enum Request<'a> {
     /// `drain audit`: check the four products in this folder, or some of them alone, without ranks.
     Audit(AuditArgs<'a>),
     /// `drain check`: check the five products in this folder.
-    Check(ProductArgs<'a, Elevations<'a>>),
+    Check(CheckArgs<'a>),
     /// `drain explain`: report what is wrong with the products in this folder, where, and how much of it.
     Explain(ExplainArgs<'a>),
     /// `drain window`: judge one window of a union, and write its report.
@@ -82,11 +82,20 @@ pub enum Elevations<'a> {
     Dem(DemArgs<'a>),
 }
 
-/// The inputs to be audited, and which rasters are judged: all four if no list is given.
+/// The inputs to be audited, and which rasters are judged: all four if no list is given; and whether the answer is a
+/// JSON object.
 #[derive(Drop)]
 pub struct AuditArgs<'a> {
     pub inputs: ProductArgs<'a, Elevations<'a>>,
     pub judged: Judged,
+    pub json: bool,
+}
+
+/// The inputs to be checked, and whether the answer is a JSON object.
+#[derive(Drop)]
+pub struct CheckArgs<'a> {
+    pub inputs: ProductArgs<'a, Elevations<'a>>,
+    pub json: bool,
 }
 
 /// The elevations and the products in this folder, the cell of the whole at which a raster of elevations begins, where the
@@ -168,7 +177,7 @@ pub fn request_of<'a>(
 {
     match name {
         "audit" => audit_request(alloc, given),
-        "check" => Ok(Request::Check(inputs_given(alloc, &CHECK, given, "products")?)),
+        "check" => check_request(alloc, given),
         "explain" => explain_request(alloc, given),
         "window" => window_request(alloc, given),
         "merge" => Ok(Request::Merge(merge_args(alloc, given)?)),
@@ -218,7 +227,27 @@ fn audit_request<'a>(alloc: Global, given: &ArgMatches<'a>) -> Result<Request<'a
         Some(judged) => judged,
         None => Judged::All,
     };
-    Ok(Request::Audit(AuditArgs { inputs, judged }))
+    Ok(Request::Audit(AuditArgs {
+        inputs,
+        judged,
+        json: json_given(given),
+    }))
+}
+
+/// What is to be checked.
+fn check_request<'a>(alloc: Global, given: &ArgMatches<'a>) -> Result<Request<'a>, Error>
+    ensures { IfOk result (IsRequestOf (codes "check") (found_of given.now)) }
+{
+    let inputs = inputs_given(alloc, &CHECK, given, "products")?;
+    let json = json_given(given);
+    Ok(Request::Check(CheckArgs { inputs, json }))
+}
+
+/// Whether the answer is to be a JSON object.
+fn json_given(given: &ArgMatches<'_>) -> bool
+    ensures { IsFlag (codes "json") (found_of given.now) result }
+{
+    flag_given(given, "json")
 }
 
 /// The list of rasters is another one.
@@ -268,7 +297,7 @@ fn explain_request<'a>(alloc: Global, given: &ArgMatches<'a>) -> Result<Request<
         inputs,
         only,
         map,
-        json: flag_given(given, "json"),
+        json: json_given(given),
     }))
 }
 

@@ -8,6 +8,7 @@ ghost use Rattle.std.specs.Char.{is_ascii_digit};
 ghost use Rattle.std.specs.List.{list_all};
 ghost use Rattle.std.specs.Str.Parse.{digits_value};
 ghost use Rattle.drain_grid.specs.Spacing.{Distances, IsSpacing};
+ghost use Rattle.drain_grid.specs.declared.height_kind.HeightKind.{HeightKind};
 ghost use Rattle.drain_args.specs.SpacingTexts.{ArePartsOf, IsDecimal, IsFewDigits, IsLeastUnit, IsSpacingText, IsUnits};
 
 use drain_grid::Spacing;
@@ -110,9 +111,9 @@ fn in_least_unit(width: u128, height: u128) -> (u128, u128)
     (width_left, height_left)
 }
 
-/// The spacing of a width and a height, if each is from 1 to 2^30.
+/// The spacing of a width and a height, of whole heights, if each is from 1 to 2^30.
 pub fn spacing_of(width: u128, height: u128) -> Option<Spacing>
-    ensures { MatchOption result (IsSpacing (record { width = width; height = height }) → ⊥) (λ s. s ≡ record { width = width; height = height }) }
+    ensures { MatchOption result (IsSpacing (record { width = width; height = height; kind = HeightKind.Whole }) → ⊥) (λ s. s ≡ record { width = width; height = height; kind = HeightKind.Whole }) }
 {
     if width > u32::MAX as u128 || height > u32::MAX as u128 {
         return None;

@@ -77,10 +77,11 @@ pub const MERGE_LONG_ABOUT: &str =
     "Reads the reports that drain window wrote on all windows of one raster, the union, and prints the verdict on
 the union. Reports are read one at a time; no tile and no raster is read again.
 
-What it accepts is correct in the sense of drain audit, whatever the size of the union, if drain window wrote
-each report: con is the lowest surface above the tiles from which water reaches an edge of the union, a void
-or a listed sink, no direction climbs, every path of directions ends at an outlet, acc is the number of cells
-upstream, and two cells have the same label exactly if they drain to the same outlet.
+What it accepts is correct in the sense of drain audit, whatever the size of the union, if drain window or
+drain merge wrote each report: con is the lowest surface above the ground from which water reaches an edge of
+the union, a void or a listed sink, each direction is a steepest way down or, where no neighbour is lower,
+climbs nowhere, every path of directions ends at an outlet, acc is the number of cells upstream, and two cells
+have the same label exactly if they drain to the same outlet.
 
 The union is the smallest box around all windows, and each of its cells has to be judged by a window. Two
 windows that meet have to overlap by exactly two rows or columns, and to show the same numbers there. Each

@@ -37,6 +37,15 @@ class Pair(ctypes.Structure):
         super().__init__(Bytes(text), Bytes(data))
 
 
+class Spacing(ctypes.Structure):
+    """drain_spacing: the width and the height of all cells, or a text of lines `WIDTH HEIGHT`, one for each row."""
+
+    _fields_ = [("width", ctypes.c_uint32), ("height", ctypes.c_uint32), ("widths", Bytes)]
+
+    def __init__(self, width: int = 0, height: int = 0, widths: bytes = b"") -> None:
+        super().__init__(width, height, Bytes(widths))
+
+
 class RawAnswer(ctypes.Structure):
     """drain_answer."""
 
@@ -80,6 +89,9 @@ class Drain:
         self._library.drain_audit_only.argtypes = [*given, ctypes.c_uint32, answer]
         explained = [ctypes.c_uint32, ctypes.c_void_p, ctypes.c_size_t, ctypes.POINTER(Faults), answer]
         self._library.drain_explain.argtypes = [*given, *explained]
+        spaced = [*given[:5], ctypes.POINTER(Spacing), given[5]]
+        self._library.drain_audit_only_spaced.argtypes = [*spaced, ctypes.c_uint32, answer]
+        self._library.drain_explain_spaced.argtypes = [*spaced, *explained]
         rasters = [ctypes.c_void_p, ctypes.c_size_t] * 3
         self._library.drain_derive.argtypes = [*given[:3], ctypes.POINTER(Pair), *rasters, answer]
         over_dem = [ctypes.POINTER(Pair), *given[3:]]
@@ -87,9 +99,11 @@ class Drain:
         self._library.drain_check_dem.argtypes = [*over_dem, answer]
         self._library.drain_audit_only_dem.argtypes = [*over_dem, ctypes.c_uint32, answer]
         self._library.drain_explain_dem.argtypes = [*over_dem, *explained]
+        self._library.drain_audit_only_dem_spaced.argtypes = [over_dem[0], *spaced[3:], ctypes.c_uint32, answer]
+        self._library.drain_explain_dem_spaced.argtypes = [over_dem[0], *spaced[3:], *explained]
         self._library.drain_derive_dem.argtypes = [ctypes.POINTER(Pair), ctypes.POINTER(Pair), *rasters, answer]
         for name in ("audit", "check", "audit_only", "explain", "derive"):
-            for end in ("", "_dem"):
+            for end in ("", "_dem", *(("_spaced", "_dem_spaced") if name in ("audit_only", "explain") else ())):
                 getattr(self._library, f"drain_{name}{end}").restype = ctypes.c_uint32
         self._library.drain_version.argtypes = [ctypes.c_char_p, ctypes.c_size_t]
         self._library.drain_version.restype = ctypes.c_size_t
@@ -106,15 +120,15 @@ class Drain:
         return self._call(self._library.drain_audit, len(AUDITED), ground_of(side, tiles), rasters, sinks)
 
     def audit_only(self, side: int, tiles: Sequence[tuple[str, bytes]], rasters: Mapping[str, tuple[bytes, bytes]],
-                   sinks: bytes = b"") -> Answer:
-        """Audits some rasters, by name: con, con and dir, these with acc or with bas, or all four."""
-        ground, choice = ground_of(side, tiles), choice_of(rasters, sinks)
-        return self._call(self._library.drain_audit_only, len(AUDITED), ground, *choice)
+                   sinks: bytes = b"", spacing: Spacing | None = None) -> Answer:
+        """Audits some rasters, by name: con, con and dir, these with acc or with bas, or all four. Without a spacing
+        cells are square."""
+        return self._judge("audit_only", ground_of(side, tiles), rasters, sinks, spacing)
 
     def explain(self, side: int, tiles: Sequence[tuple[str, bytes]], rasters: Mapping[str, tuple[bytes, bytes]],
-                fault_map, sinks: bytes = b"") -> tuple[Answer, Faults]:
+                fault_map, sinks: bytes = b"", spacing: Spacing | None = None) -> tuple[Answer, Faults]:
         """The same with what explains it. fault_map: a bytearray or an array of a byte for each cell, to be written."""
-        return self._explain(self._library.drain_explain, ground_of(side, tiles), choice_of(rasters, sinks), fault_map)
+        return self._explain("explain", ground_of(side, tiles), rasters, fault_map, sinks, spacing)
 
     def derive(self, side: int, tiles: Sequence[tuple[str, bytes]], directions: tuple[bytes, bytes],
                *rasters) -> Answer:
@@ -131,15 +145,14 @@ class Drain:
         return self._call(self._library.drain_audit_dem, len(AUDITED), (Pair(*dem),), rasters, sinks)
 
     def audit_only_dem(self, dem: tuple[bytes, bytes], rasters: Mapping[str, tuple[bytes, bytes]],
-                       sinks: bytes = b"") -> Answer:
+                       sinks: bytes = b"", spacing: Spacing | None = None) -> Answer:
         """Audits some rasters for one raster of elevations, by name, as audit_only does for tiles."""
-        choice = choice_of(rasters, sinks)
-        return self._call(self._library.drain_audit_only_dem, len(AUDITED), (Pair(*dem),), *choice)
+        return self._judge("audit_only_dem", (Pair(*dem),), rasters, sinks, spacing)
 
     def explain_dem(self, dem: tuple[bytes, bytes], rasters: Mapping[str, tuple[bytes, bytes]], fault_map,
-                    sinks: bytes = b"") -> tuple[Answer, Faults]:
+                    sinks: bytes = b"", spacing: Spacing | None = None) -> tuple[Answer, Faults]:
         """The same with what explains it, as explain does for tiles."""
-        return self._explain(self._library.drain_explain_dem, (Pair(*dem),), choice_of(rasters, sinks), fault_map)
+        return self._explain("explain_dem", (Pair(*dem),), rasters, fault_map, sinks, spacing)
 
     def derive_dem(self, dem: tuple[bytes, bytes], directions: tuple[bytes, bytes], *rasters) -> Answer:
         """Writes acc, bas and rnk of directions on one raster of elevations, as derive does for tiles."""
@@ -149,12 +162,22 @@ class Drain:
         """Checks con, dir, acc, bas and rnk for one raster of elevations."""
         return self._call(self._library.drain_check_dem, len(CHECKED), (Pair(*dem),), rasters, sinks)
 
-    def _explain(self, function, ground: tuple, choice: tuple, fault_map) -> tuple[Answer, Faults]:
+    def _explain(self, name: str, ground: tuple, rasters: Mapping[str, tuple[bytes, bytes]], fault_map, sinks: bytes,
+                 spacing: Spacing | None) -> tuple[Answer, Faults]:
         cells = memoryview(fault_map).nbytes
         place = (ctypes.c_uint8 * cells).from_buffer(fault_map)
         faults = Faults()
-        answer = self._call(function, len(AUDITED), ground, *choice, place, cells, ctypes.byref(faults))
-        return answer, faults
+        return self._judge(name, ground, rasters, sinks, spacing, place, cells, ctypes.byref(faults)), faults
+
+    def _judge(self, name: str, ground: tuple, rasters: Mapping[str, tuple[bytes, bytes]], sinks: bytes,
+               spacing: Spacing | None, *more) -> Answer:
+        """The answer about some rasters of the call with this name, or of its twin that takes a spacing."""
+        if spacing is not None:
+            name += "_spaced"
+        judged = sum(1 << AUDITED.index(raster) for raster in rasters)
+        four = [rasters.get(raster, (b"", b"")) for raster in AUDITED]
+        function = getattr(self._library, f"drain_{name}")
+        return self._call(function, len(AUDITED), ground, four, sinks, judged, *more, spacing=spacing)
 
     @staticmethod
     def _derive(function, ground: tuple, directions: tuple[bytes, bytes], rasters: Sequence) -> Answer:
@@ -168,12 +191,12 @@ class Drain:
 
     @staticmethod
     def _call(function, count: int, ground: tuple, rasters: Sequence[tuple[bytes, bytes]], sinks: bytes,
-              *more) -> Answer:
+              *more, spacing: Spacing | None = None) -> Answer:
         if len(rasters) != count:
             raise ValueError(f"{count} rasters are needed")
         products = (Pair * count)(*(Pair(header, pixels) for header, pixels in rasters))
         raw = RawAnswer()
-        function(*ground, sinks, len(sinks), products, *more, raw)
+        function(*ground, sinks, len(sinks), *([] if spacing is None else [spacing]), products, *more, raw)
         return answer_of(raw)
 
 
@@ -190,12 +213,6 @@ def tiles_of(tiles: Sequence[tuple[str, bytes]]) -> ctypes.Array:
 def answer_of(raw: RawAnswer) -> Answer:
     """The answer that C wrote."""
     return Answer(raw.status, raw.rule, raw.row, raw.col, raw.line.decode("ascii"))
-
-
-def choice_of(rasters: Mapping[str, tuple[bytes, bytes]], sinks: bytes) -> tuple[list[tuple[bytes, bytes]], bytes, int]:
-    """The four rasters, with none for those that aren't judged, the sinks, and the number of the choice."""
-    judged = sum(1 << AUDITED.index(name) for name in rasters)
-    return [rasters.get(name, (b"", b"")) for name in AUDITED], sinks, judged
 
 
 def raster_of(array, nodata: int, side: int, tiles: Sequence[str]) -> tuple[bytes, bytes]:

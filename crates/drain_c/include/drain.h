@@ -48,7 +48,8 @@ typedef struct drain_tile {
 } drain_tile;
 
 /* A raster. header: the text of an Esri BIL header (.hdr, docs/FORMATS.md). pixels: the bytes that it describes (.bil);
- * 8, 16 or 32 bits each, signed or not. Over tiles the header is in degrees, and rows and columns are those of the
+ * 8, 16 or 32 bits each, signed or not; of one raster of elevations, and then of con on it, also floats of single
+ * precision (PIXELTYPE FLOAT, NBITS 32). Over tiles the header is in degrees, and rows and columns are those of the
  * mosaic: with a tiles from north to south and b from west to east, a * (side - 1) + 1 and b * (side - 1) + 1. Over one
  * raster of elevations the header is in its unit, and has its rows and columns. */
 typedef struct drain_raster {
@@ -105,11 +106,12 @@ uint32_t drain_audit(uint32_t side, const drain_tile *tiles, size_t tile_count, 
 
 /* The same over one raster of elevations.
  *
- * dem: its header, in any unit, and its pixels: heights, whole numbers in any unit, con's in the same. A cell is void
- * where the pixel is the header's NODATA; without NODATA no cell is. XDIM and YDIM are above 0, rows and columns at
- * most 28,801 each. A raster lies on it within a hundredth of a pixel at the corner, and drifts by no more than another
- * over all rows and columns. sinks: as for drain_audit, cells of dem. Where dem itself is refused, the answer is
- * `refused BadHeader dem ..`, `refused BadPixelSize dem` or `refused RasterShort dem`.
+ * dem: its header, in any unit, and its pixels: heights, whole numbers or floats in any unit, con's in the same and of
+ * the same kind. A cell is void where the pixel is the header's NODATA, or a float that isn't finite; of whole numbers
+ * without NODATA no cell is. XDIM and YDIM are above 0, rows and columns at most 28,801 each. A raster lies on it
+ * within a hundredth of a pixel at the corner, and drifts by no more than another over all rows and columns. sinks: as
+ * for drain_audit, cells of dem. Where dem itself is refused, the answer is `refused BadHeader dem ..`,
+ * `refused BadPixelSize dem` or `refused RasterShort dem`.
  * Returns answer->status. */
 uint32_t drain_audit_dem(const drain_raster *dem, const uint8_t *sinks, size_t sinks_length,
                          const drain_audit_rasters *rasters, drain_answer *answer);
@@ -133,14 +135,15 @@ uint32_t drain_audit_only(uint32_t side, const drain_tile *tiles, size_t tile_co
                           drain_answer *answer);
 
 /* The same over one raster of elevations: dem is that of drain_audit_dem, the other arguments are those of
- * drain_audit_only.
+ * drain_audit_only. Over floats all four have to be judged: con is read in the place of each raster that isn't, whose
+ * header is then refused (BadHeader).
  * Returns answer->status. */
 uint32_t drain_audit_only_dem(const drain_raster *dem, const uint8_t *sinks, size_t sinks_length,
                               const drain_audit_rasters *rasters, uint32_t judged, drain_answer *answer);
 
 /* How far apart cells are, for slopes. width, height: those of all cells, 1 to 2^30 each, in one unit; widths: no bytes.
- * Or both numbers are 0, and widths is a text of lines `WIDTH HEIGHT`, one for each row from the north. Make one by
- * drain_cells(width, height) or drain_widths(text, length). */
+ * Or both numbers are 0, and widths is a text of lines `WIDTH HEIGHT`, one for each row from the north, of at most 2^21
+ * bytes. Make one by drain_cells(width, height) or drain_widths(text, length). */
 typedef struct drain_spacing {
     uint32_t width;
     uint32_t height;
@@ -148,8 +151,9 @@ typedef struct drain_spacing {
 } drain_spacing;
 
 /* As drain_audit_only and drain_audit_only_dem, over these distances; those judge over square cells, as drain_cells(1, 1)
- * does. spacing is never NULL; where it is none of the above, the answer is `refused BadChoice`; of a text it may be
- * `refused BadSpacingLine L` or `refused SpacingRows N`.
+ * does. spacing is never NULL; where it is none of the above (numbers beside a text, a longer text), the answer is
+ * `refused BadChoice`, which comes before `refused NullBytes`. Of a text it may be `refused BadSpacingLine L` or
+ * `refused SpacingRows N`.
  * Each returns answer->status. */
 uint32_t drain_audit_only_spaced(uint32_t side, const drain_tile *tiles, size_t tile_count, const uint8_t *sinks,
                                  size_t sinks_length, const drain_spacing *spacing,
@@ -261,8 +265,8 @@ static inline drain_spacing drain_widths(const void *text, size_t length) {
     return spacing;
 }
 
-/* Pixels in memory without a header: rows by columns, row by row from the north, without gaps between rows. bits: 8, 16
- * or 32. */
+/* Pixels in memory without a header: whole numbers, rows by columns, row by row from the north, without gaps between
+ * rows. bits: 8, 16 or 32. */
 typedef struct drain_array {
     const void *pixels;
     uint32_t rows;

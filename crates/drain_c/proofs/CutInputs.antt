@@ -5,7 +5,7 @@ use Rattle.std.specs.Prelude.{slice_get, Some, Result, Ok, Err}
 use Rattle.drain_answer.specs.declared.refusal.Refusal.{Refusal}
 use Rattle.drain_answer.specs.declared.refusal.Refusal.TheVariants.{BadSide, BadTileLength, BadDemHeader, OutOfMemory, ReadFailed}
 use Rattle.drain_c.specs.GivenDem.{DemInputs, dem_set}
-use Rattle.drain_c.proofs.LongHeaders.{IsLong, SameRefusals, cut_texts, own, refusal_kept, same_fault, same_texts, set_on, short_or_long, too_long}
+use Rattle.drain_c.proofs.LongHeaders.{IsLong, SameRefusals, cut_texts, own, long_fault, refusal_kept, same_texts, set_on, short_or_long, too_long}
 use Rattle.drain_explain.specs.Explanations.{answer_in}
 use Rattle.drain_grid.specs.declared.judged.Judged.{Judged}
 use Rattle.drain_header.specs.declared.fault.HeaderFault.TheVariants.{TooLong}
@@ -13,7 +13,7 @@ use Rattle.drain_hgt.specs.Corner.{Corner}
 use Rattle.drain_hgt.specs.Samples.{IsTile}
 use Rattle.drain_text.specs.First.{IsFirst}
 use Rattle.drain_verdict.specs.Answers.{IsAnswerIn, IsAuditIn}
-use Rattle.drain_verdict.specs.DemGround.{DemTexts, dem_ground}
+use Rattle.drain_verdict.specs.DemGround.{DemTexts, dem_ground, kind_of}
 use Rattle.drain_verdict.specs.GroundSets.{GroundSet, IsReadable, IsRefusalIn, StandsIn, order_in}
 use Rattle.drain_verdict.specs.Inputs.{Inputs}
 use Rattle.drain_verdict.specs.Meaning.{texts_of}
@@ -113,11 +113,11 @@ cut_dem i = record { dem = with_header i (take 65537 i.dem.header); texts = cut_
 
 -- a header that is too long is the first refusal, and the only one
 long_refused : (i : DemInputs) → IsLong i.dem.header → StandsIn (dem_set (cut_dem i)) (BadDemHeader TooLong)
-long_refused i long = too_long (take 65537 i.dem.header) long.first_bytes
+long_refused i long = too_long (kind_of (take 65537 i.dem.header)) (take 65537 i.dem.header) long.first_bytes
 
 of_long : (i : DemInputs) → IsLong i.dem.header → (refusal : Refusal) → IsFirst (order_in (dem_set (cut_dem i))) (StandsIn (dem_set (cut_dem i))) refusal →
     IsRefusalIn (dem_set i) refusal
-of_long i long (BadDemHeader fault) is = header_answer i.dem i.texts (BadDemHeader fault) (same_fault i.dem.header fault is.holds)
+of_long i long (BadDemHeader fault) is = header_answer i.dem i.texts (BadDemHeader fault) (long_fault (kind_of (take 65537 i.dem.header)) (kind_of i.dem.header) i.dem.header fault long is.holds)
 of_long i long BadSide is = absurd is.holds
 of_long i long refusal is = absurd (is.first (BadDemHeader TooLong) (inl (omega arith)) (long_refused i long))
 

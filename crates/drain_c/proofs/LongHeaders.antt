@@ -7,6 +7,7 @@ use Rattle.std.proofs.lemmas.Bool.{leb-true, leb-false}
 use Rattle.std.proofs.lemmas.List.{take_all, length-take-le}
 use Rattle.drain_answer.specs.declared.refusal.Refusal.{Refusal}
 use Rattle.drain_answer.specs.declared.refusal.Refusal.TheVariants.{BadHeader, WrongShape, Misplaced, RasterShort, BadSinkLine, SinkNotData, BadSpacingLine, SpacingRows, OutOfMemory, ReadFailed}
+use Rattle.drain_grid.specs.declared.height_kind.HeightKind.{HeightKind}
 use Rattle.drain_grid.specs.declared.product.Product.{Product}
 use Rattle.drain_grid.specs.declared.product.Product.TheVariants as product
 use Rattle.drain_grid.specs.declared.set_product.SetProduct.{SetProduct}
@@ -16,12 +17,12 @@ use Rattle.drain_text.specs.First.{IsBefore, IsFirst}
 use Rattle.drain_text.specs.Text.{lines_of}
 use Rattle.drain_header.specs.declared.fault.HeaderFault.{HeaderFault}
 use Rattle.drain_header.specs.declared.fault.HeaderFault.TheVariants.{TooLong}
-use Rattle.drain_header.specs.Header.{header_of}
-use Rattle.drain_header.specs.Faults.{fault_order, HasFault, Answers}
+use Rattle.drain_header.specs.Header.{fields_of}
+use Rattle.drain_header.specs.Faults.{fault_order, HasFaultOf, AnswersOf}
 use Rattle.drain_raster.specs.Pixels.{header_extent, IsShort}
 use Rattle.drain_verdict.specs.Ground.{Ground, refusal_kind}
 use Rattle.drain_verdict.specs.GroundSets.{GroundSet, IsReadable, IsRefusalIn, StandsIn, order_in}
-use Rattle.drain_verdict.specs.Texts.{SetTexts}
+use Rattle.drain_verdict.specs.Texts.{SetTexts, kind_in}
 
 -- Texts.
 
@@ -30,13 +31,13 @@ none_earlier : (b : HeaderFault) → IsBefore (fault_order b) (1, 0) → ⊥
 none_earlier TooLong before = elim before [ inl lower ↦ omega (arith, lower) | inr same ↦ omega (arith, same.1) ]
 none_earlier b before = elim before [ inl lower ↦ omega (arith, lower) | inr same ↦ omega (arith, same.1) ]
 
-pub too_long : (text : List ℕ) → 65536 < length text → IsFirst fault_order (HasFault text) TooLong
-too_long text long = record { holds = long; first = λ b before has. none_earlier b before }
+pub too_long : (kind : HeightKind) (text : List ℕ) → 65536 < length text → IsFirst fault_order (HasFaultOf kind text) TooLong
+too_long kind text long = record { holds = long; first = λ b before has. none_earlier b before }
 
 -- of a text that is too long that is the one fault
-only_too_long : (text : List ℕ) (fault : HeaderFault) → 65536 < length text → IsFirst fault_order (HasFault text) fault → fault ≡ TooLong
-only_too_long text TooLong long is = refl
-only_too_long text fault long is = absurd (is.first TooLong (inl (omega arith)) long)
+only_too_long : (kind : HeightKind) (text : List ℕ) (fault : HeaderFault) → 65536 < length text → IsFirst fault_order (HasFaultOf kind text) fault → fault ≡ TooLong
+only_too_long kind text TooLong long is = refl
+only_too_long kind text fault long is = absurd (is.first TooLong (inl (omega arith)) long)
 
 -- a text is its first bytes, or both are too long
 pub record IsLong (text : List ℕ) : Type 0 where
@@ -51,11 +52,16 @@ short_or_long text = elim (nat_le (length text) 65537) as (λ b. nat_le (length 
       inr (record { whole = whole; first_bytes = omega (arith, length-take-le 65537 text (omega (arith, whole)), whole) }))
 ] refl
 
--- the fault of the first bytes is the text's
-pub same_fault : (text : List ℕ) (fault : HeaderFault) → Answers (take 65537 text) (Err fault) → Answers text (Err fault)
-same_fault text fault is = elim (short_or_long text) [
-  | inl kept ↦ subst (λ t. Answers t (Err fault)) kept is
-  | inr long ↦ subst (λ f. Answers text (Err f)) (sym (only_too_long (take 65537 text) fault long.first_bytes is)) (too_long text long.whole)
+-- the fault of the first bytes of a text that is too long is the text's, for heights of any kind
+pub long_fault : (kind other : HeightKind) (text : List ℕ) (fault : HeaderFault) → IsLong text → AnswersOf kind (take 65537 text) (Err fault) → AnswersOf other text (Err fault)
+long_fault kind other text fault long is =
+    subst (λ f. AnswersOf other text (Err f)) (sym (only_too_long kind (take 65537 text) fault long.first_bytes is)) (too_long other text long.whole)
+
+-- that of the first bytes is the text's
+same_fault : (kind : HeightKind) (text : List ℕ) (fault : HeaderFault) → AnswersOf kind (take 65537 text) (Err fault) → AnswersOf kind text (Err fault)
+same_fault kind text fault is = elim (short_or_long text) [
+  | inl kept ↦ subst (λ t. AnswersOf kind t (Err fault)) kept is
+  | inr long ↦ long_fault kind kind text fault long is
 ]
 
 -- Sets.
@@ -80,17 +86,17 @@ set_on g t = record { terrain = g; texts = t }
 
 -- the set by these words, with the first bytes of each header
 abbrev pub cut_on : (g : Ground) → SameRefusals g → SetTexts → GroundSet
-cut_on g o t = set_on (record { extent = g.extent; elevation = g.elevation; Holds = g.Holds; Refuses = o.Refuses; among = o.among }) (cut_texts t)
+cut_on g o t = set_on (record { extent = g.extent; elevation = g.elevation; kind = g.kind; Holds = g.Holds; Refuses = o.Refuses; among = o.among }) (cut_texts t)
 
 -- what a refusal says of a header's text
 abbrev HasOtherShape : Ground → SetProduct → List ℕ → Type 0
-HasOtherShape g h text = ¬ (header_extent (header_of (lines_of text)) ≡ g.extent)
+HasOtherShape g h text = ¬ (header_extent (fields_of (kind_in g.kind h) (lines_of text)) ≡ g.extent)
 
 abbrev LiesElsewhere : Ground → SetProduct → List ℕ → Type 0
-LiesElsewhere g h text = ¬ g.Holds (header_of (lines_of text)).place
+LiesElsewhere g h text = ¬ g.Holds (fields_of (kind_in g.kind h) (lines_of text)).place
 
-abbrev IsRasterShort : SetTexts → SetProduct → List ℕ → Type 0
-IsRasterShort t h text = IsShort (header_of (lines_of text)) (t.raster h)
+abbrev IsRasterShort : Ground → SetTexts → SetProduct → List ℕ → Type 0
+IsRasterShort g t h text = IsShort (fields_of (kind_in g.kind h) (lines_of text)) (t.raster h)
 
 same_order : (g : Ground) (o : SameRefusals g) (t : SetTexts) (refusal : Refusal) → order_in (cut_on g o t) refusal ≡ order_in (set_on g t) refusal
 same_order g o t (BadHeader p fault) = refl
@@ -130,7 +136,7 @@ of_held : (P : SetProduct → Type 0) (p : Product) → Held P p → OfSetProduc
 of_held P p h = subst (OfSetProduct P) (sym h.is) (of_product P h.held h.holds)
 
 pub too_long_at : (g : Ground) (o : SameRefusals g) (t : SetTexts) (p : SetProduct) → IsLong (t.header p) → StandsIn (cut_on g o t) (BadHeader (product_of p) TooLong)
-too_long_at g o t p long = of_product (λ h. Answers (take 65537 (t.header h)) (Err TooLong)) p (too_long (take 65537 (t.header p)) long.first_bytes)
+too_long_at g o t p long = of_product (λ h. AnswersOf (kind_in g.kind h) (take 65537 (t.header h)) (Err TooLong)) p (too_long (kind_in g.kind p) (take 65537 (t.header p)) long.first_bytes)
 
 -- in the order of refusals
 abbrev NoLater : ℕ × ℕ → ℕ × ℕ → Type 0
@@ -167,10 +173,10 @@ of_header g o t refusal p Q stands no_later fact =
     ]
 
 earlier : (g : Ground) (o : SameRefusals g) (t : SetTexts) (refusal : Refusal) → StandsIn (set_on g t) refusal → Earlier g o t refusal
-earlier g o t (BadHeader p fault) stands = of_header g o t (BadHeader p fault) p (λ h text. Answers text (Err fault)) (λ s. s) (inr (refl, omega arith)) stands
+earlier g o t (BadHeader p fault) stands = of_header g o t (BadHeader p fault) p (λ h text. AnswersOf (kind_in g.kind h) text (Err fault)) (λ s. s) (inr (refl, omega arith)) stands
 earlier g o t (WrongShape p) stands = of_header g o t (WrongShape p) p (HasOtherShape g) (λ s. s) (inr (refl, omega arith)) stands
 earlier g o t (Misplaced p) stands = of_header g o t (Misplaced p) p (LiesElsewhere g) (λ s. s) (inr (refl, omega arith)) stands
-earlier g o t (RasterShort p) stands = of_header g o t (RasterShort p) p (IsRasterShort t) (λ s. s) (inl (omega arith)) stands
+earlier g o t (RasterShort p) stands = of_header g o t (RasterShort p) p (IsRasterShort g t) (λ s. s) (inl (omega arith)) stands
 earlier g o t (BadSinkLine n) stands = itself g o t (BadSinkLine n) stands
 earlier g o t (SinkNotData n) stands = itself g o t (SinkNotData n) stands
 earlier g o t (BadSpacingLine n) stands = itself g o t (BadSpacingLine n) stands
@@ -196,11 +202,11 @@ of_first_bytes g o t p Q fits fact =
 first_applies : (g : Ground) (o : SameRefusals g) (t : SetTexts) (refusal : Refusal) → StandsIn (cut_on g o t) refusal →
     ((b : Refusal) → IsBefore (order_in (set_on g t) b) (order_in (set_on g t) refusal) → StandsIn (cut_on g o t) b → ⊥) → StandsIn (set_on g t) refusal
 first_applies g o t (BadHeader p fault) stands first =
-    let h = held_of (λ h. Answers (take 65537 (t.header h)) (Err fault)) p stands in
-    of_held (λ h. Answers (t.header h) (Err fault)) p (record { held = h.held; is = h.is; holds = same_fault (t.header h.held) fault h.holds })
+    let h = held_of (λ h. AnswersOf (kind_in g.kind h) (take 65537 (t.header h)) (Err fault)) p stands in
+    of_held (λ h. AnswersOf (kind_in g.kind h) (t.header h) (Err fault)) p (record { held = h.held; is = h.is; holds = same_fault (kind_in g.kind h.held) (t.header h.held) fault h.holds })
 first_applies g o t (WrongShape p) stands first = of_first_bytes g o t p (HasOtherShape g) (first (BadHeader p TooLong) (inr (refl, omega arith))) stands
 first_applies g o t (Misplaced p) stands first = of_first_bytes g o t p (LiesElsewhere g) (first (BadHeader p TooLong) (inr (refl, omega arith))) stands
-first_applies g o t (RasterShort p) stands first = of_first_bytes g o t p (IsRasterShort t) (first (BadHeader p TooLong) (inl (omega arith))) stands
+first_applies g o t (RasterShort p) stands first = of_first_bytes g o t p (IsRasterShort g t) (first (BadHeader p TooLong) (inl (omega arith))) stands
 first_applies g o t (BadSinkLine n) stands first = stands
 first_applies g o t (SinkNotData n) stands first = stands
 first_applies g o t (BadSpacingLine n) stands first = stands

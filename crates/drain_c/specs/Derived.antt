@@ -22,9 +22,9 @@ use Rattle.drain_maker.specs.declared.derivation.DeriveRefusal.TheVariants.{Refu
 use Rattle.drain_paths.specs.Flows.{AllFlowsEnd}
 use Rattle.drain_verdict.specs.GroundSets.{GroundSet, IsReadable, set_grid, set_products}
 
--- the directions, also in the place of the other rasters
-abbrev pub directions_alone : RasterBytes → AuditBytes
-directions_alone dir = record { con = dir; dir = dir; acc = dir; bas = dir }
+-- the directions, also in the place of acc and bas, and a raster in the place of con
+abbrev pub directions_beside : RasterBytes → RasterBytes → AuditBytes
+directions_beside con dir = record { con = con; dir = dir; acc = dir; bas = dir }
 
 -- these numbers in row order, as a raster of the set's grid
 abbrev pub raster_of : GroundSet → ℤ → List ℕ → Pixels

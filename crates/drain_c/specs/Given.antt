@@ -11,13 +11,13 @@ use Rattle.drain_hgt.specs.Name.{IsNameOf}
 use Rattle.drain_verdict.specs.Given.{Given}
 use Rattle.drain_verdict.specs.Inputs.{Inputs, AreNames}
 
--- the raster of a product; con stands in the place of ranks, which an audit doesn't read
+-- the raster of a product; dir stands in the place of ranks, which an audit doesn't read
 abbrev pub audit_raster : AuditBytes → SetProduct → RasterBytes
 audit_raster ps Con = ps.con
 audit_raster ps Dir = ps.dir
 audit_raster ps Acc = ps.acc
 audit_raster ps Bas = ps.bas
-audit_raster ps Rnk = ps.con
+audit_raster ps Rnk = ps.dir
 
 abbrev pub check_raster : CheckBytes → SetProduct → RasterBytes
 check_raster ps Con = ps.con

@@ -5,6 +5,7 @@ use Rattle.drain_c.specs.declared.given.TileBytes.{TileBytes}
 use Rattle.drain_c.specs.declared.given.RasterBytes.{RasterBytes}
 use Rattle.drain_c.specs.declared.given.AuditBytes.{AuditBytes}
 use Rattle.drain_c.specs.declared.given.CheckBytes.{CheckBytes}
+use Rattle.drain_c.specs.declared.given.SpacingBytes.{SpacingBytes}
 
 -- a tile has its name and its samples, a raster its header and its pixels
 abbrev pub is_tile_whole : TileBytes → Bool
@@ -15,6 +16,10 @@ is_raster_whole raster = raster.header.missing == 0 && raster.pixels.missing == 
 
 abbrev pub are_tiles_whole : List TileBytes → Bool
 are_tiles_whole tiles = list_all is_tile_whole tiles
+
+-- a spacing has its text
+abbrev pub is_spacing_whole : SpacingBytes → Bool
+is_spacing_whole spacing = spacing.widths.missing == 0
 
 -- each raster of an audit is whole, and of a check
 abbrev pub are_four_whole : AuditBytes → Bool

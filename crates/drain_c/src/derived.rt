@@ -1,7 +1,7 @@
 //! What follows from the directions of a call, and its numbers as C reads them.
 
 ghost use Rattle.std.specs.Prelude.{◌≡◌, ◌*◌, ◌<◌, [], false, length, map, pos, slice_index_or, IfErr, IfOk};
-ghost use Rattle.drain_c.specs.Derived.{directions_alone};
+ghost use Rattle.drain_c.specs.Derived.{directions_beside};
 ghost use Rattle.drain_c.specs.Given.{OfBytes, audit_raster};
 ghost use Rattle.drain_c.specs.GivenDem.{OfDemBytes, dem_set};
 ghost use Rattle.drain_maker.specs.Derived.{AreDerivedIn, AreDerivedOf, IsDeriveRefusal, IsDeriveRefusalIn, AreCounts, IsCounts};
@@ -16,12 +16,12 @@ use drain_maker::{DeriveRefusal, Derived, derive, derive_dem};
 use drain_raster::shape;
 use std::alloc::Global;
 
-/// The directions, also in the place of the other rasters, of which no number matters.
-pub fn directions_alone<'a>(dir: &RasterBytes<'a>) -> AuditBytes<'a>
-    ensures { result ≡ directions_alone dir.now }
+/// The directions, also in the place of acc and bas, and a raster in the place of con: of these no number matters.
+pub fn directions_beside<'a>(con: &RasterBytes<'a>, dir: &RasterBytes<'a>) -> AuditBytes<'a>
+    ensures { result ≡ directions_beside con.now dir.now }
 {
     AuditBytes {
-        con: *dir,
+        con: *con,
         dir: *dir,
         acc: *dir,
         bas: *dir,

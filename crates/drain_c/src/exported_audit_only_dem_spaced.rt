@@ -8,16 +8,17 @@ ghost use Rattle.drain_c.specs.GivenDem.{OfDemBytes, dem_set};
 ghost use Rattle.drain_c.specs.Judged.{OfJudgedDem, judged_bytes, judged_of};
 ghost use Rattle.drain_c.specs.Spacings.{spacing_passed};
 ghost use Rattle.drain_c.specs.Shown.{Reports, ShowsBadChoice, ShowsMissing};
-ghost use Rattle.drain_c.specs.Whole.{is_dem_audit_whole};
+ghost use Rattle.drain_c.specs.Whole.{is_dem_audit_whole, is_spacing_whole};
 ghost use Rattle.drain_grid.specs.Judged.{has_rnk};
 ghost use Rattle.drain_verdict.specs.DemGround.{ElevationIsItsPixels};
 ghost use Rattle.drain_verdict.specs.Outcomes.{AreRightIn, IsOutcomeIn};
 
-use crate::answer::{Answer, show_bad_choice};
+use crate::answer::{Answer, show_bad_choice, show_missing};
 use crate::exported_audit_only_dem::audit_judged_dem;
 use crate::given::{AuditBytes, RasterBytes, SpacingBytes};
 use crate::judged::{judged_bytes, judged_of};
 use crate::spacing::spacing_passed;
+use crate::whole::is_spacing_whole;
 use drain_verdict::Given;
 use std::alloc::Global;
 
@@ -35,7 +36,7 @@ pub extern "C" fn drain_audit_only_dem_spaced<'a>(
     // Where the number names no rasters that can be judged, it says so.
     ensures unknown { IsNone (judged_of judged) → ShowsBadChoice answer.new }
 
-    // Where the numbers are no spacing, it says the same.
+    // Where what is passed is no spacing, it says the same.
     ensures no_spacing { IsNone (spacing_passed spacing.now) → ShowsBadChoice answer.new }
 
     // Where it gives a verdict, it is 0 exactly where the judged rasters are right.
@@ -44,14 +45,19 @@ pub extern "C" fn drain_audit_only_dem_spaced<'a>(
     // And then each cell's elevation is the pixel that the bytes mean.
     ensures elevation { IfSome (judged_of judged) (λ some. IfSome (spacing_passed spacing.now) (λ cells. result < 2 → OfJudgedDem dem.now (record { sinks = sinks.now; spacing = cells }) some rasters.now (λ inputs. ElevationIsItsPixels inputs.dem))) }
 
-    // Where bytes of a judged raster or of the elevations are missing, for which C had NULL, it says so.
+    // Where bytes of a judged raster, of the elevations or of a text by row are missing, for which C had NULL, it says so.
     ensures missing { IfSome (judged_of judged) (λ some. IfSome (spacing_passed spacing.now) (λ cells. IsFalse (is_dem_audit_whole dem.now (judged_bytes some rasters.now)) → ShowsMissing answer.new)) }
+    ensures missing_text { IfSome (judged_of judged) (λ some. IfSome (spacing_passed spacing.now) (λ cells. IsFalse (is_spacing_whole spacing.now) → ShowsMissing answer.new)) }
 
     // Else what it writes is the answer of an audit of these rasters: the numbers, and the line that the program prints.
-    ensures answer { IfSome (judged_of judged) (λ some. IfSome (spacing_passed spacing.now) (λ cells. IsTrue (is_dem_audit_whole dem.now (judged_bytes some rasters.now)) → OfJudgedDem dem.now (record { sinks = sinks.now; spacing = cells }) some rasters.now (λ inputs. Reports (IsOutcomeIn some (dem_set inputs)) outcome_found outcome_report_line answer.new))) }
+    ensures answer { IfSome (judged_of judged) (λ some. IfSome (spacing_passed spacing.now) (λ cells. IsTrue (is_spacing_whole spacing.now) → IsTrue (is_dem_audit_whole dem.now (judged_bytes some rasters.now)) → OfJudgedDem dem.now (record { sinks = sinks.now; spacing = cells }) some rasters.now (λ inputs. Reports (IsOutcomeIn some (dem_set inputs)) outcome_found outcome_report_line answer.new))) }
     ensures status { answer.new.status ≡ result }
 {
     match (judged_of(judged), spacing_passed(spacing)) {
+        (Some(_), Some(_)) if !is_spacing_whole(spacing) => {
+            show_missing(answer);
+            answer.status
+        }
         (Some(judged), Some(spacing)) => {
             let rasters = judged_bytes(judged, rasters);
             let given = Given { sinks, spacing };

@@ -1,7 +1,7 @@
 //! What follows from directions, as C calls it. `include/drain.h` declares it.
 
 ghost use Rattle.std.specs.Prelude.{◌≡◌, ◌≢◌, [], IsFalse, IsTrue};
-ghost use Rattle.drain_c.specs.Derived.{AreDerivedNumbers, ReportsDerivation, directions_alone};
+ghost use Rattle.drain_c.specs.Derived.{AreDerivedNumbers, ReportsDerivation, directions_beside};
 ghost use Rattle.drain_c.specs.Given.{OfBytes, audit_raster};
 ghost use Rattle.drain_c.specs.Shown.{ShowsMissing};
 ghost use Rattle.drain_c.specs.Whole.{is_audit_whole};
@@ -9,7 +9,7 @@ ghost use Rattle.drain_verdict.specs.Given.{plain};
 ghost use Rattle.drain_verdict.specs.TileGround.{set_of};
 
 use crate::answer::{Answer, show_missing};
-use crate::derived::{derive_rasters, directions_alone};
+use crate::derived::{derive_rasters, directions_beside};
 use crate::given::{RasterBytes, TileBytes};
 use crate::show_derived::show_derivation;
 use crate::whole::is_audit_whole;
@@ -30,17 +30,17 @@ pub extern "C" fn drain_derive<'a>(
     answer: &mut Answer,
 ) -> u32
     // Where bytes are missing, for which C had NULL, it says so.
-    ensures missing { IsFalse (is_audit_whole tiles.now (directions_alone dir.now)) → ShowsMissing answer.new }
+    ensures missing { IsFalse (is_audit_whole tiles.now (directions_beside dir.now dir.now)) → ShowsMissing answer.new }
 
     // Else what it writes is the first reason why nothing follows, or that it does; or that memory has another length.
-    ensures answer { IsTrue (is_audit_whole tiles.now (directions_alone dir.now)) → OfBytes side tiles.now (plain []) (audit_raster (directions_alone dir.now)) (λ inputs. ReportsDerivation (set_of inputs) acc.old bas.old rnk.old answer.new) }
+    ensures answer { IsTrue (is_audit_whole tiles.now (directions_beside dir.now dir.now)) → OfBytes side tiles.now (plain []) (audit_raster (directions_beside dir.now dir.now)) (λ inputs. ReportsDerivation (set_of inputs) acc.old bas.old rnk.old answer.new) }
     ensures status { answer.new.status ≡ result }
 
     // With status 0 the rasters are written, else nothing.
-    ensures derived { result ≡ 0 → OfBytes side tiles.now (plain []) (audit_raster (directions_alone dir.now)) (λ inputs. AreDerivedNumbers (set_of inputs) acc.new bas.new rnk.new) }
+    ensures derived { result ≡ 0 → OfBytes side tiles.now (plain []) (audit_raster (directions_beside dir.now dir.now)) (λ inputs. AreDerivedNumbers (set_of inputs) acc.new bas.new rnk.new) }
     ensures unwritten { result ≢ 0 → (acc.new ≡ acc.old) × (bas.new ≡ bas.old) × (rnk.new ≡ rnk.old) }
 {
-    let rasters = directions_alone(dir);
+    let rasters = directions_beside(dir, dir);
     if !is_audit_whole(tiles, &rasters) {
         show_missing(answer);
         return answer.status;

@@ -1,7 +1,7 @@
 //! What follows from directions on one raster of elevations, as C calls it. `include/drain.h` declares it.
 
 ghost use Rattle.std.specs.Prelude.{◌≡◌, ◌≢◌, [], IsFalse, IsTrue};
-ghost use Rattle.drain_c.specs.Derived.{AreDerivedNumbers, ReportsDerivation, directions_alone};
+ghost use Rattle.drain_c.specs.Derived.{AreDerivedNumbers, ReportsDerivation, directions_beside};
 ghost use Rattle.drain_c.specs.Given.{audit_raster};
 ghost use Rattle.drain_c.specs.GivenDem.{OfDemBytes, dem_set};
 ghost use Rattle.drain_c.specs.Shown.{ShowsMissing};
@@ -10,7 +10,7 @@ ghost use Rattle.drain_verdict.specs.Given.{plain};
 ghost use Rattle.drain_verdict.specs.DemGround.{ElevationIsItsPixels};
 
 use crate::answer::{Answer, show_missing};
-use crate::derived::{derive_dem_rasters, directions_alone};
+use crate::derived::{derive_dem_rasters, directions_beside};
 use crate::given::RasterBytes;
 use crate::show_derived::show_derivation;
 use crate::whole::is_dem_audit_whole;
@@ -31,20 +31,20 @@ pub extern "C" fn drain_derive_dem<'a>(
     answer: &mut Answer,
 ) -> u32
     // Where bytes are missing, for which C had NULL, it says so.
-    ensures missing { IsFalse (is_dem_audit_whole dem.now (directions_alone dir.now)) → ShowsMissing answer.new }
+    ensures missing { IsFalse (is_dem_audit_whole dem.now (directions_beside dem.now dir.now)) → ShowsMissing answer.new }
 
     // Else what it writes is the first reason why nothing follows, or that it does; or that memory has another length.
-    ensures answer { IsTrue (is_dem_audit_whole dem.now (directions_alone dir.now)) → OfDemBytes dem.now (plain []) (audit_raster (directions_alone dir.now)) (λ inputs. ReportsDerivation (dem_set inputs) acc.old bas.old rnk.old answer.new) }
+    ensures answer { IsTrue (is_dem_audit_whole dem.now (directions_beside dem.now dir.now)) → OfDemBytes dem.now (plain []) (audit_raster (directions_beside dem.now dir.now)) (λ inputs. ReportsDerivation (dem_set inputs) acc.old bas.old rnk.old answer.new) }
     ensures status { answer.new.status ≡ result }
 
     // With status 0 the rasters are written, else nothing.
-    ensures derived { result ≡ 0 → OfDemBytes dem.now (plain []) (audit_raster (directions_alone dir.now)) (λ inputs. AreDerivedNumbers (dem_set inputs) acc.new bas.new rnk.new) }
+    ensures derived { result ≡ 0 → OfDemBytes dem.now (plain []) (audit_raster (directions_beside dem.now dir.now)) (λ inputs. AreDerivedNumbers (dem_set inputs) acc.new bas.new rnk.new) }
     ensures unwritten { result ≢ 0 → (acc.new ≡ acc.old) × (bas.new ≡ bas.old) × (rnk.new ≡ rnk.old) }
 
     // And with status 0 each cell's elevation is the pixel that the bytes mean.
-    ensures elevation { result ≡ 0 → OfDemBytes dem.now (plain []) (audit_raster (directions_alone dir.now)) (λ inputs. ElevationIsItsPixels inputs.dem) }
+    ensures elevation { result ≡ 0 → OfDemBytes dem.now (plain []) (audit_raster (directions_beside dem.now dir.now)) (λ inputs. ElevationIsItsPixels inputs.dem) }
 {
-    let rasters = directions_alone(dir);
+    let rasters = directions_beside(dem, dir);
     if !is_dem_audit_whole(dem, &rasters) {
         show_missing(answer);
         return answer.status;

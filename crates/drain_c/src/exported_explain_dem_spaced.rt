@@ -7,15 +7,16 @@ ghost use Rattle.drain_c.specs.GivenDem.{OfDemBytes, dem_set};
 ghost use Rattle.drain_c.specs.Judged.{OfJudgedDem, judged_bytes, judged_of};
 ghost use Rattle.drain_c.specs.Spacings.{spacing_passed};
 ghost use Rattle.drain_c.specs.Shown.{ShowsBadChoice, ShowsMissing};
-ghost use Rattle.drain_c.specs.Whole.{is_dem_audit_whole};
+ghost use Rattle.drain_c.specs.Whole.{is_dem_audit_whole, is_spacing_whole};
 ghost use Rattle.drain_verdict.specs.DemGround.{ElevationIsItsPixels};
 
-use crate::answer::{Answer, show_bad_choice};
+use crate::answer::{Answer, show_bad_choice, show_missing};
 use crate::exported_explain_dem::explain_judged_dem;
 use crate::faults::Faults;
 use crate::given::{AuditBytes, RasterBytes, SpacingBytes};
 use crate::judged::{judged_bytes, judged_of};
 use crate::spacing::spacing_passed;
+use crate::whole::is_spacing_whole;
 use drain_verdict::Given;
 use std::alloc::Global;
 
@@ -34,13 +35,14 @@ pub extern "C" fn drain_explain_dem_spaced<'a>(
 ) -> u32
     ensures unknown { IsNone (judged_of judged) → ShowsBadChoice answer.new }
 
-    // Where the numbers are no spacing, it says the same.
+    // Where what is passed is no spacing, it says the same.
     ensures no_spacing { IsNone (spacing_passed spacing.now) → ShowsBadChoice answer.new }
     ensures missing { IfSome (judged_of judged) (λ some. IfSome (spacing_passed spacing.now) (λ cells. IsFalse (is_dem_audit_whole dem.now (judged_bytes some rasters.now)) → ShowsMissing answer.new)) }
+    ensures missing_text { IfSome (judged_of judged) (λ some. IfSome (spacing_passed spacing.now) (λ cells. IsFalse (is_spacing_whole spacing.now) → ShowsMissing answer.new)) }
 
     // Else what it writes is the answer of an audit of these rasters; or, if this is no refusal and the map's memory has
     // another length, that refusal.
-    ensures answer { IfSome (judged_of judged) (λ some. IfSome (spacing_passed spacing.now) (λ cells. IsTrue (is_dem_audit_whole dem.now (judged_bytes some rasters.now)) → OfJudgedDem dem.now (record { sinks = sinks.now; spacing = cells }) some rasters.now (λ inputs. ReportsMapped some (dem_set inputs) map.old answer.new))) }
+    ensures answer { IfSome (judged_of judged) (λ some. IfSome (spacing_passed spacing.now) (λ cells. IsTrue (is_spacing_whole spacing.now) → IsTrue (is_dem_audit_whole dem.now (judged_bytes some rasters.now)) → OfJudgedDem dem.now (record { sinks = sinks.now; spacing = cells }) some rasters.now (λ inputs. ReportsMapped some (dem_set inputs) map.old answer.new))) }
     ensures status { answer.new.status ≡ result }
 
     // With a verdict what explains it is written, else nothing.
@@ -51,6 +53,10 @@ pub extern "C" fn drain_explain_dem_spaced<'a>(
     ensures elevation { IfSome (judged_of judged) (λ some. IfSome (spacing_passed spacing.now) (λ cells. result < 2 → OfJudgedDem dem.now (record { sinks = sinks.now; spacing = cells }) some rasters.now (λ inputs. ElevationIsItsPixels inputs.dem))) }
 {
     match (judged_of(judged), spacing_passed(spacing)) {
+        (Some(_), Some(_)) if !is_spacing_whole(spacing) => {
+            show_missing(answer);
+            answer.status
+        }
         (Some(judged), Some(spacing)) => {
             let rasters = judged_bytes(judged, rasters);
             let given = Given { sinks, spacing };

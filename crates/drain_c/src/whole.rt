@@ -1,9 +1,9 @@
 //! Whether the bytes of a call are whole: none are missing, for which C had NULL.
 
 ghost use Rattle.std.specs.Prelude.{◌≡◌};
-ghost use Rattle.drain_c.specs.Whole.{are_five_whole, are_four_whole, are_tiles_whole, is_audit_whole, is_check_whole, is_dem_audit_whole, is_dem_check_whole, is_raster_whole, is_tile_whole};
+ghost use Rattle.drain_c.specs.Whole.{are_five_whole, are_four_whole, are_tiles_whole, is_audit_whole, is_check_whole, is_dem_audit_whole, is_dem_check_whole, is_raster_whole, is_spacing_whole, is_tile_whole};
 
-use crate::given::{AuditBytes, CheckBytes, RasterBytes, TileBytes};
+use crate::given::{AuditBytes, CheckBytes, RasterBytes, SpacingBytes, TileBytes};
 
 /// Whether the bytes of an audit are whole.
 pub fn is_audit_whole(tiles: &[TileBytes], given: &AuditBytes) -> bool
@@ -31,6 +31,13 @@ pub fn is_dem_check_whole(dem: &RasterBytes, given: &CheckBytes) -> bool
     ensures { result ≡ is_dem_check_whole dem.now given.now }
 {
     is_raster_whole(dem) && are_five_whole(given)
+}
+
+/// Whether the bytes of a spacing are whole.
+pub fn is_spacing_whole(spacing: &SpacingBytes) -> bool
+    ensures { result ≡ is_spacing_whole spacing.now }
+{
+    spacing.widths.missing == 0
 }
 
 fn are_four_whole(given: &AuditBytes) -> bool

@@ -1,8 +1,11 @@
 -- What the status of a check or of an audit says of its answer.
-use Rattle.std.proofs.Common.{ℕ, List, Result, Ok, Err, inl, inr, refl, ◌≡◌, ◌↔◌, IfOk, arith}
-use Rattle.drain_args.specs.declared.form.Form.{Form}
-use Rattle.drain_device.specs.Failing.{Sink, Source}
-use Rattle.drain_explain.specs.Explanations.{answer_in}
+use Rattle.std.proofs.Common.{ℕ, List, Result, Ok, Err, refl, ◌≡◌, ◌↔◌, IfOk, IfSome, IsSome, arith}
+use Rattle.drain_device.specs.Failing.{Source}
+use Rattle.drain_cli.specs.ExplainRuns.{AreFound}
+use Rattle.drain_explain.specs.Explanations.{AreFindingsIn, IsEndlessIn, answer_in, findings_in}
+use Rattle.drain_explain.specs.Slopes.{slopes_of}
+use Rattle.drain_explain.specs.declared.fault_visitor.Mapping.{Mapping}
+use Rattle.drain_explain.specs.declared.fault_visitor.Mapping.TheVariants.{Drawn}
 use Rattle.drain_explain.specs.declared.findings.Explanation.{Explanation}
 use Rattle.drain_hgt.specs.declared.input.TileInput.{TileInput}
 use Rattle.drain_answer.specs.declared.outcome.Outcome.{Outcome}
@@ -16,15 +19,15 @@ use Rattle.drain_verdict.specs.Inputs.{Inputs, Encode, Products}
 use Rattle.drain_verdict.specs.Uses.{UsesInputs}
 use Rattle.drain_verdict.proofs.AuditDevices.{failed_alike}
 use Rattle.drain_verdict.proofs.InputLemmas.{set_uses_alike, uses_alike}
-use Rattle.drain_cli.specs.ExplainRuns.{Explains}
 use Rattle.drain_cli.specs.JudgedRuns.{IsDemJudgement, IsJudgement, answer_status, outcome_status}
-use Rattle.drain_cli.specs.declared.runs.run_explain.MapFault.{MapFault}
 use Rattle.drain_grid.specs.declared.verdict.Verdict.{Verdict}
 use Rattle.drain_rules.specs.Verdicts.{IfAccepted}
 use Rattle.drain_answer.specs.declared.outcome.AuditVerdict.{AuditVerdict}
 use Rattle.drain_answer.specs.Outcomes.{IsAcceptedOutcome}
 use Rattle.drain_cli.specs.declared.answer.Answer.TheVariants.{Check, Audit}
-use Rattle.drain_verdict.specs.Answers.{IfAccepts, IsAcceptance}
+use Rattle.drain_verdict.specs.Answers.{AreCorrectIn, IfAccepts, IsAcceptance}
+use Rattle.drain_verdict.specs.GroundSets.{GroundSet}
+use Rattle.drain_verdict.specs.Headline.{ProductsAreRight}
 use Rattle.drain_answer.specs.Statuses.{status_code}
 use Rattle.drain_answer.proofs.PrintLemmas.{refused_above_1}
 use Rattle.drain_grid.specs.declared.verdict.Verdict.TheVariants as check
@@ -69,18 +72,13 @@ explained_on_dem inputs_of devices judged source dem_old dem_new given ps_old ps
   uses = dem_uses_as_told inputs_of devices source (dem_old, ps_old) (dem_new, ps_new) explained uses;
 }
 
--- a page without a map is explained whatever befalls maps
-pub whatever_befalls_maps : {W : Type 0} (sink : Sink W) (old new : W) (MapFails : MapFault → Type 0) (form : Form) (answer : Result Outcome Refusal) (code : ℕ) →
-    Explains sink old new (λ fault. ⊥) form answer code → Explains sink old new MapFails form answer code
-whatever_befalls_maps sink old new MapFails form answer code e = record {
-  text = e.text;
-  status = e.status;
-  explained = elim e.explained [
-    | inl page ↦ inl page
-    | inr none ↦ inr (none.0, elim none.1 [ inl memory ↦ inl memory | inr lost ↦ absurd lost.1 ], none.2, none.3)
-  ];
-  printed = e.printed;
-}
+-- what every cell showed is found for the answer that is explained
+pub found_of : {F : Type 0} (For : (GroundSet → Type 0) → Type 0) (judged : Judged) (given : Given) (mapping : Mapping) (explained : Result (Explanation F) Refusal) →
+    IfOk explained (λ e. For (λ s. AreFindingsIn judged s e.findings)) → IfOk explained (λ e. For (λ s. IfSome e.findings.endless (IsEndlessIn s e.outcome))) →
+    IfOk explained (λ e. IsSome e.findings.map ↔ (mapping ≡ Drawn)) → IfOk explained (λ e. e.findings.slopes ≡ slopes_of given.spacing) →
+    AreFound For judged given mapping (answer_in explained) (findings_in explained)
+found_of For judged given mapping (Ok e) found endless drawn slopes = record { found = found; endless = endless; drawn = drawn; slopes = slopes }
+found_of For judged given mapping (Err refusal) found endless drawn slopes = tt
 
 -- what holds of a check's acceptance holds where the status of its answer is 0
 pub of_checked : (answer : Result Verdict Refusal) → status_code (answer_status (Check answer)) ≡ 0 → (Fact : Type 0) → IfAccepted answer Fact → Fact
@@ -103,22 +101,34 @@ not_of_rejected (Ok (audit.Rejected rule row col)) one Told Fact exactly i told 
 not_of_rejected (Ok (audit.NoEnd row col)) one Told Fact exactly i told = (exactly i told).1
 not_of_rejected (Err refusal) one Told Fact exactly i told = absurd (omega (arith, one, refused_above_1 refusal))
 
--- of judged rasters: if it is 0, what comes exactly with an acceptance holds of any inputs of the call
-pub of_accepted : (answer : Result Outcome Refusal) → status_code (outcome_status answer) ≡ 0 → (Told Fact : Inputs → Type 0) →
-    IfOk answer (λ verdict. (i : Inputs) → Told i → IsAcceptedOutcome verdict ↔ Fact i) → (i : Inputs) → Told i → Fact i
-of_accepted (Ok (outcome.Accepted counts)) zero Told Fact exactly i told = (exactly i told).0 tt
-of_accepted (Ok (outcome.AcceptedSurface counts)) zero Told Fact exactly i told = (exactly i told).0 tt
-of_accepted (Ok (outcome.Rejected rule row col)) zero Told Fact exactly i told = absurd (omega (arith, zero))
-of_accepted (Ok (outcome.NoEnd row col)) zero Told Fact exactly i told = absurd (omega (arith, zero))
-of_accepted (Ok (outcome.NotFilled row col)) zero Told Fact exactly i told = absurd (omega (arith, zero))
-of_accepted (Err refusal) zero Told Fact exactly i told = absurd (omega (arith, zero, refused_above_1 refusal))
+-- of judged rasters: if the status is 0, the answer is an outcome that accepts
+pub accepted_by_0 : (answer : Result Outcome Refusal) → status_code (outcome_status answer) ≡ 0 → (P : Outcome → Type 0) → IfOk answer P → (outcome : Outcome) × IsAcceptedOutcome outcome × P outcome
+accepted_by_0 (Ok (outcome.Accepted counts)) zero P holds = (outcome.Accepted counts, tt, holds)
+accepted_by_0 (Ok (outcome.AcceptedSurface counts)) zero P holds = (outcome.AcceptedSurface counts, tt, holds)
+accepted_by_0 (Ok (outcome.Rejected rule row col)) zero P holds = absurd (omega (arith, zero))
+accepted_by_0 (Ok (outcome.NoEnd row col)) zero P holds = absurd (omega (arith, zero))
+accepted_by_0 (Ok (outcome.NotFilled row col)) zero P holds = absurd (omega (arith, zero))
+accepted_by_0 (Err refusal) zero P holds = absurd (omega (arith, zero, refused_above_1 refusal))
 
--- if it is 1, it doesn't
-pub not_of_refused_outcome : (answer : Result Outcome Refusal) → status_code (outcome_status answer) ≡ 1 → (Told Fact : Inputs → Type 0) →
-    IfOk answer (λ verdict. (i : Inputs) → Told i → IsAcceptedOutcome verdict ↔ Fact i) → (i : Inputs) → Told i → ¬ Fact i
-not_of_refused_outcome (Ok (outcome.Accepted counts)) one Told Fact exactly i told = absurd (omega (arith, one))
-not_of_refused_outcome (Ok (outcome.AcceptedSurface counts)) one Told Fact exactly i told = absurd (omega (arith, one))
-not_of_refused_outcome (Ok (outcome.Rejected rule row col)) one Told Fact exactly i told = (exactly i told).1
-not_of_refused_outcome (Ok (outcome.NoEnd row col)) one Told Fact exactly i told = (exactly i told).1
-not_of_refused_outcome (Ok (outcome.NotFilled row col)) one Told Fact exactly i told = (exactly i told).1
-not_of_refused_outcome (Err refusal) one Told Fact exactly i told = absurd (omega (arith, one, refused_above_1 refusal))
+-- if it is 1, one that doesn't
+pub rejected_by_1 : (answer : Result Outcome Refusal) → status_code (outcome_status answer) ≡ 1 → (P : Outcome → Type 0) → IfOk answer P → (outcome : Outcome) × ¬ IsAcceptedOutcome outcome × P outcome
+rejected_by_1 (Ok (outcome.Accepted counts)) one P holds = absurd (omega (arith, one))
+rejected_by_1 (Ok (outcome.AcceptedSurface counts)) one P holds = absurd (omega (arith, one))
+rejected_by_1 (Ok (outcome.Rejected rule row col)) one P holds = (outcome.Rejected rule row col, (λ accepts. accepts), holds)
+rejected_by_1 (Ok (outcome.NoEnd row col)) one P holds = (outcome.NoEnd row col, (λ accepts. accepts), holds)
+rejected_by_1 (Ok (outcome.NotFilled row col)) one P holds = (outcome.NotFilled row col, (λ accepts. accepts), holds)
+rejected_by_1 (Err refusal) one P holds = absurd (omega (arith, one, refused_above_1 refusal))
+
+-- Products that are right are correct.
+pub right_is_correct : (s : GroundSet) → ProductsAreRight s → AreCorrectIn s
+right_is_correct s right = record {
+  voids = right.voids;
+  complete = right.complete;
+  least = right.least_surface;
+  never_climbs = right.never_climbs;
+  steepest = right.steepest;
+  outlets = right.outlets;
+  runs_end = right.runs_end;
+  counts = right.accumulation;
+  labels = right.labels;
+}

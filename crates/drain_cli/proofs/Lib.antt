@@ -2,3 +2,4 @@ pub mod AnswerLemmas
 pub mod RoundTrips
 pub mod ReadReports
 pub mod UnionStatuses
+pub mod RankedOutcomes

@@ -1,5 +1,5 @@
 -- A check reads what was written into empty files, and so accepts it.
-use Rattle.std.proofs.Common.{◌≡◌, ℕ, ◌<◌, ◌++◌, List, [], length, true, false, arith, refl, sym, ap, ◌∙◌, take, inl, inr, suc, ◌∷◌, map, slice_index_or, subst}
+use Rattle.std.proofs.Common.{IfOk, ◌≡◌, ℕ, ◌<◌, ◌++◌, List, [], length, true, false, arith, refl, sym, ap, ◌∙◌, take, inl, inr, suc, ◌∷◌, map, slice_index_or, subst}
 use Rattle.std.specs.Prelude.{◌↔◌, nat_le, Option, Some, None, Result, Ok, Err, IsErrOf}
 use Rattle.std.proofs.lemmas.Bool.{leb-true, leb-false}
 use Rattle.std.proofs.lemmas.List.{take_all, take-append-drop, length-take-le, length-take}
@@ -14,19 +14,20 @@ use Rattle.drain_header.specs.Faults.{fault_order, HasFault, Answers}
 use Rattle.drain_cli.specs.FillRuns.{HeaderOutcome, IsAnswerToldAs, IsToldAs, AnswersHeaderTold}
 use Rattle.std.specs.Io.KnownBytes.{Appends}
 use Rattle.drain_device.specs.Failing.{Sink}
+use Rattle.drain_grid.specs.declared.height_kind.HeightKind.TheVariants.{Whole}
 use Rattle.drain_grid.specs.declared.set_product.SetProduct.{SetProduct}
 use Rattle.drain_grid.specs.SinkTexts.{sinks_of}
 use Rattle.drain_grid.specs.declared.set_product.SetProduct.TheVariants.{Con, Dir, Acc, Bas, Rnk}
 use Rattle.drain_grid.specs.SetProduct.{product_of}
 use Rattle.drain_grid.specs.declared.product_set.ProductSet.{ProductSet}
 use Rattle.drain_grid.specs.WholeGrid.{raster_in}
-use Rattle.drain_header.specs.Text.{text_of}
+use Rattle.drain_header.specs.Text.{IsTextOf}
 use Rattle.drain_mosaic.specs.Tiling.{Tiling}
 use Rattle.drain_raster.specs.Bytes.{raster_bytes}
 use Rattle.drain_verdict.specs.Meaning.{texts_of}
 use Rattle.drain_verdict.specs.Texts.{SetTexts}
 use Rattle.drain_maker.specs.Mosaics.{IsMosaicOf}
-use Rattle.drain_maker.specs.ProductFiles.{WritesFiles, header_on, made_header, set_bytes}
+use Rattle.drain_maker.specs.ProductFiles.{WritesFiles, header_bytes, header_on, made_header, set_bytes}
 use Rattle.drain_maker.specs.Made.{AreMade}
 use Rattle.drain_grid.specs.declared.product.Product.TheVariants as product
 use Rattle.drain_maker.specs.Accepted.{AreFilesOf, AreGivenSpacings, MadeIsAccepted, MadeOnDemIsAccepted}
@@ -76,6 +77,11 @@ pub answer_told : (old new : Option (List ℕ)) (items body : List ℕ) (answer 
 answer_told None new items body answer same reads is = _
 answer_told (Some xs) None items body answer same reads is = absurd reads
 answer_told (Some xs) (Some ys) items body answer same reads is = first_bytes_answer xs answer (rw (same ∙ reads.0) at is)
+
+-- a header that is described is of whole heights
+pub whole_answer : (text : List ℕ) (answer : Result Fields HeaderFault) → Answers text answer → IfOk answer (λ h. h.kind ≡ Whole)
+whole_answer text (Ok h) is = ap (λ (f : Fields). f.kind) is.fields
+whole_answer text (Err fault) is = tt
 
 -- what was read is no failure to read
 pub read_told : {T U : Type 0} (read : Result T BodyFault) (body : T) (answer : U) (Fails : Type 0) → read ≡ Ok body → (IsErrOf read ReadFailed ↔ Fails) → IsErrOf {T = U} (Ok answer) ReadFailed ↔ Fails
@@ -139,26 +145,34 @@ texts-same (x ∷ xs) (y ∷ ys) same =
     rw (one, texts-same xs ys rest) refl
 
 -- file by file
-headers-same : (h : Fields) (ps : ProductSet) (t : SetTexts) → set_bytes h ps ≡ files_given t → (p : SetProduct) → t.header p ≡ text_of (header_on h (product_of p))
+headers-same : (con : List ℕ) (h : Fields) (ps : ProductSet) (t : SetTexts) → set_bytes con h ps ≡ files_given t → (p : SetProduct) → t.header p ≡ header_bytes con h p
 unfolding set_bytes files_given
-headers-same h ps t same Con = sym (ap (λ l. slice_index_or l 0 []) same)
-headers-same h ps t same Dir = sym (ap (λ l. slice_index_or l 2 []) same)
-headers-same h ps t same Acc = sym (ap (λ l. slice_index_or l 4 []) same)
-headers-same h ps t same Bas = sym (ap (λ l. slice_index_or l 6 []) same)
-headers-same h ps t same Rnk = sym (ap (λ l. slice_index_or l 8 []) same)
+headers-same con h ps t same Con = sym (ap (λ l. slice_index_or l 0 []) same)
+headers-same con h ps t same Dir = sym (ap (λ l. slice_index_or l 2 []) same)
+headers-same con h ps t same Acc = sym (ap (λ l. slice_index_or l 4 []) same)
+headers-same con h ps t same Bas = sym (ap (λ l. slice_index_or l 6 []) same)
+headers-same con h ps t same Rnk = sym (ap (λ l. slice_index_or l 8 []) same)
 
-rasters-same : (h : Fields) (ps : ProductSet) (t : SetTexts) → set_bytes h ps ≡ files_given t → (p : SetProduct) → t.raster p ≡ raster_bytes (header_on h (product_of p)) (raster_in ps p)
+rasters-same : (con : List ℕ) (h : Fields) (ps : ProductSet) (t : SetTexts) → set_bytes con h ps ≡ files_given t → (p : SetProduct) → t.raster p ≡ raster_bytes (header_on h (product_of p)) (raster_in ps p)
 unfolding set_bytes files_given
-rasters-same h ps t same Con = sym (ap (λ l. slice_index_or l 1 []) same)
-rasters-same h ps t same Dir = sym (ap (λ l. slice_index_or l 3 []) same)
-rasters-same h ps t same Acc = sym (ap (λ l. slice_index_or l 5 []) same)
-rasters-same h ps t same Bas = sym (ap (λ l. slice_index_or l 7 []) same)
-rasters-same h ps t same Rnk = sym (ap (λ l. slice_index_or l 9 []) same)
+rasters-same con h ps t same Con = sym (ap (λ l. slice_index_or l 1 []) same)
+rasters-same con h ps t same Dir = sym (ap (λ l. slice_index_or l 3 []) same)
+rasters-same con h ps t same Acc = sym (ap (λ l. slice_index_or l 5 []) same)
+rasters-same con h ps t same Bas = sym (ap (λ l. slice_index_or l 7 []) same)
+rasters-same con h ps t same Rnk = sym (ap (λ l. slice_index_or l 9 []) same)
 
 files-same : {F : Type 0} (sink : Sink F) (h : Fields) (ps : ProductSet) (empty written : List F) (t : SetTexts) → AreWrittenAndGiven sink h ps empty written t → AreFilesOf h t ps
 files-same sink h ps empty written t all =
-    let same = texts-same (set_bytes h ps) (files_given t) (sym (holds-what-was-written sink empty written (set_bytes h ps) all.empty_are all.written_are) ∙ all.given_are) in
-    record { headers_are = headers-same h ps t same; rasters_are = rasters-same h ps t same }
+    let con = all.written_are.0 in
+    let same = texts-same (set_bytes con h ps) (files_given t) (sym (holds-what-was-written sink empty written (set_bytes con h ps) all.empty_are all.written_are.2) ∙ all.given_are) in
+    record { headers_are = are_texts con all.written_are.1 (headers-same con h ps t same); rasters_are = rasters-same con h ps t same }
+  where
+    are_texts : (con : List ℕ) → IsTextOf (header_on h product.Con) con → ((p : SetProduct) → t.header p ≡ header_bytes con h p) → (p : SetProduct) → IsTextOf (header_on h (product_of p)) (t.header p)
+    are_texts con is same Con = subst (IsTextOf (header_on h product.Con)) (sym (same Con)) is
+    are_texts con is same Dir = same Dir
+    are_texts con is same Acc = same Acc
+    are_texts con is same Bas = same Bas
+    are_texts con is same Rnk = same Rnk
 
 pub accepted : {R F : Type 0} (bytes_left : R → Option (List ℕ)) (sink : Sink F) →
     MadeIsAccepted → WhatIsWrittenIsAccepted bytes_left sink
@@ -167,7 +181,7 @@ accepted bytes_left sink law side tiles given t ps empty written i made tell giv
     let tiling = mosaic.tiling_is in
     law i made.elevation made.listed made.spacings ps tell.corners_are (subst (λ u. IsMosaicOf i u made.elevation) tiling mosaic)
     (ap (λ (g : Given). sinks_of g.sinks) given_are ∙ made.listed_are)
-    (subst (λ (g : Given). AreGivenSpacings g.spacing made.elevation.extent made.spacings) (sym given_are) made.spacings_are)
+    (subst (λ (g : Given). AreGivenSpacings Whole g.spacing made.elevation.extent made.spacings) (sym given_are) made.spacings_are)
     (subst (λ u. AreMade u made.elevation made.listed (spacing_of made.spacings) ps) tiling made.made)
     (subst (λ (u : Tiling). AreFilesOf (made_header u product.Con) (texts_of i) ps) tiling (files-same sink (made_header t product.Con) ps empty written (texts_of i) all)) answer is
 
@@ -175,4 +189,4 @@ pub accepted_on_dem : {R F : Type 0} (bytes_left : R → Option (List ℕ)) (sin
     MadeOnDemIsAccepted → WhatIsWrittenOnDemIsAccepted bytes_left sink
 accepted_on_dem bytes_left sink law dem given h ps empty written d t made tell given_are all answer is =
     law d t h made.elevation made.listed made.spacings ps (made.dem_is d tell) (ap (λ (g : Given). sinks_of g.sinks) given_are ∙ made.listed_are)
-    (subst (λ (g : Given). AreGivenSpacings g.spacing made.elevation.extent made.spacings) (sym given_are) made.spacings_are) made.made (files-same sink h ps empty written t all) answer is
+    (subst (λ (g : Given). AreGivenSpacings h.kind g.spacing made.elevation.extent made.spacings) (sym given_are) made.spacings_are) made.made (files-same sink h ps empty written t all) answer is

@@ -10,6 +10,9 @@ use Rattle.drain_maker.specs.declared.derivation.DeriveRefusal.{DeriveRefusal}
 use Rattle.drain_maker.specs.declared.derivation.DeriveRefusal.TheVariants.{Refused, NoEnd}
 use Rattle.drain_device.specs.Failing.{Sink, Source}
 use Rattle.drain_grid.specs.declared.product.Product.TheVariants.{Con, Dir}
+use Rattle.drain_files.specs.declared.open_judged.OpenElevations.{OpenElevations}
+use Rattle.drain_files.specs.declared.open_judged.OpenElevations.TheVariants.{Tiles, Dem}
+use Rattle.drain_maker.specs.ProductFiles.{made_header}
 use Rattle.drain_grid.specs.Extent.{Extent}
 use Rattle.drain_header.specs.Header.{Fields}
 use Rattle.drain_hgt.specs.Inputs.{names_of}
@@ -71,3 +74,20 @@ pub record IsDemDerivation {R : Type 0} (source : Source R) (dem_old dem_new : L
 abbrev pub IsSetHandedOver : {F W : Type 0} → Sink W → W → W → Result (F × Derived) DeriveRefusal → Result (F × Derived) ℕ → Type 0
 IsSetHandedOver sink old new (Ok set) result = (result ≡ Ok set) × (new ≡ old)
 IsSetHandedOver sink old new (Err why) result = (code : ℕ) × (result ≡ Err code) × Prints sink old new (none_line why) (none_status why) code
+
+-- what was derived on a mosaic, with con's header on it
+abbrev pub with_header : Result (Tiling × Derived) ℕ → Result (Fields × Derived) ℕ
+with_header (Ok set) = Ok (made_header set.0 Con, set.1)
+with_header (Err code) = Err code
+
+-- a run on the tiles or the raster that were opened: what was derived is returned with the elevations' header, con's on a
+-- mosaic, and nothing printed; or the reason is printed, and its status returned
+abbrev pub IsDerivedRun : {R W : Type 0} → Source R → Sink W → OpenElevations R → OpenElevations R → List ℕ → AuditProducts R → AuditProducts R → W → W → Result (Fields × Derived) ℕ → Type 0
+IsDerivedRun source sink (Tiles old) (Tiles new) sinks products_old products_new out_old out_new result = (outcome : Result (Tiling × Derived) DeriveRefusal) × (set : Result (Tiling × Derived) ℕ)
+    × IsDerivation source old.side old.tiles.items new.tiles.items sinks products_old products_new outcome
+    × IsSetHandedOver sink out_old out_new outcome set × (result ≡ with_header set)
+IsDerivedRun source sink (Dem old) (Dem new) sinks products_old products_new out_old out_new result = (outcome : Result (Fields × Derived) DeriveRefusal)
+    × IsDemDerivation source old new sinks products_old products_new outcome
+    × IsSetHandedOver sink out_old out_new outcome result
+IsDerivedRun source sink (Tiles old) (Dem new) sinks products_old products_new out_old out_new result = ⊥
+IsDerivedRun source sink (Dem old) (Tiles new) sinks products_old products_new out_old out_new result = ⊥

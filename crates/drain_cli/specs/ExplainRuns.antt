@@ -1,5 +1,18 @@
 -- How a run of `drain explain` ends, what it prints, and its status.
-use Rattle.std.specs.Prelude.{◌≡◌, ◌⊎◌, ℕ, ◌++◌, List, [], ◌∷◌, Result, Err, codes, string_bytes}
+use Rattle.std.specs.Prelude.{◌≡◌, ◌⊎◌, ◌↔◌, ℕ, ◌++◌, List, [], ◌∷◌, Result, Ok, Err, Option, None, Some, IfSome, IsSome, codes, string_bytes}
+use Rattle.drain_cli.specs.OpenedInputs.{ForTiles}
+use Rattle.drain_explain.specs.Explanations.{AreFindingsIn, IsEndlessIn}
+use Rattle.drain_explain.specs.Slopes.{slopes_of}
+use Rattle.drain_explain.specs.declared.fault_visitor.Mapping.{Mapping}
+use Rattle.drain_explain.specs.declared.fault_visitor.Mapping.TheVariants.{Drawn}
+use Rattle.drain_explain.specs.declared.findings.Findings.{Findings}
+use Rattle.drain_faults.specs.declared.fault_map.FaultMap.{FaultMap}
+use Rattle.drain_grid.specs.declared.judged.Judged.{Judged}
+use Rattle.drain_grid.specs.declared.product.Product.TheVariants as product
+use Rattle.drain_header.specs.Header.{Fields}
+use Rattle.drain_maker.specs.ProductFiles.{made_header}
+use Rattle.drain_mosaic.specs.Tiling.{Tiling}
+use Rattle.drain_verdict.specs.GroundSets.{GroundSet}
 use Rattle.drain_device.specs.Failing.{Sink, Source}
 use Rattle.drain_device.specs.declared.read.BodyFault.TheVariants as body
 use Rattle.drain_hgt.specs.declared.input.TileInput.{TileInput}
@@ -7,9 +20,9 @@ use Rattle.drain_answer.specs.declared.outcome.Outcome.{Outcome}
 use Rattle.drain_answer.specs.declared.refusal.Refusal.{Refusal}
 use Rattle.drain_answer.specs.OutcomeLines.{outcome_report_line}
 use Rattle.drain_grid.specs.declared.judged.Judged.TheVariants.{AllWithRanks}
-use Rattle.drain_verdict.specs.DemGround.{dem_audit_devices, dem_check_devices}
+use Rattle.drain_verdict.specs.DemGround.{ForDem, dem_audit_devices, dem_check_devices}
 use Rattle.drain_verdict.specs.Given.{Given}
-use Rattle.drain_verdict.specs.Inputs.{as_five}
+use Rattle.drain_verdict.specs.Inputs.{Products, as_five}
 use Rattle.drain_verdict.specs.Uses.{devices_of}
 use Rattle.drain_verdict.specs.Outcomes.{IsOutcomeAnswer, IsOutcomeIn}
 use Rattle.drain_verdict.specs.declared.next_rows.RasterInput.{RasterInput}
@@ -91,23 +104,90 @@ no_page_of (map.Open path) = Open path
 no_page_of map.WriteFailed = no_page.WriteFailed
 no_page_of map.OutOfMemory = no_page.OutOfMemory
 
--- memory ran out for the page, or its map can't be saved
-abbrev pub IsCause : (MapFault → Type 0) → PageFailure → Type 0
-IsCause MapFails why = (why ≡ no_page.OutOfMemory) ⊎ ((fault : MapFault) × MapFails fault × (why ≡ no_page_of fault))
+-- What was found, and its map.
 
--- the page of the answer with its status; or why there is none, with the status of a failure
-abbrev pub IsExplained : (MapFault → Type 0) → Form → Result Outcome Refusal → List ℕ → Status → Type 0
-IsExplained MapFails form answer text status =
-    (BeginsWith form (outcome_report_line answer) text × (status ≡ outcome_status answer))
-    ⊎ ((why : PageFailure) × IsCause MapFails why × IsNoPage form why text × (status ≡ Failed))
+-- what every cell of the set showed, and where the path leads that the outcome names; with a map if one is required, and
+-- over the distances that are given
+pub record AreFindingsFor {F : Type 0} (For : (GroundSet → Type 0) → Type 0) (judged : Judged) (given : Given) (mapping : Mapping) (outcome : Outcome) (f : Findings F) : Type 0 where
+  pub found : For (λ s. AreFindingsIn judged s f)
+  pub endless : For (λ s. IfSome f.endless (IsEndlessIn s outcome))
+  pub drawn : IsSome f.map ↔ (mapping ≡ Drawn)
+  pub slopes : f.slopes ≡ slopes_of given.spacing
+
+-- there are findings exactly with an outcome
+abbrev pub AreFound : {F : Type 0} → ((GroundSet → Type 0) → Type 0) → Judged → Given → Mapping → Result Outcome Refusal → Option (Findings F) → Type 0
+AreFound For judged given mapping (Ok outcome) (Some f) = AreFindingsFor For judged given mapping outcome f
+AreFound For judged given mapping (Err refusal) None = Unit {0}
+AreFound For judged given mapping answer found = ⊥
+
+-- of the products that were opened
+abbrev pub AreFoundOf : {F R : Type 0} → (Products R → (GroundSet → Type 0) → Type 0) → JudgedProducts R → Given → Mapping → Result Outcome Refusal → Option (Findings F) → Type 0
+AreFoundOf For (products.Five ps) = AreFound (For ps) AllWithRanks
+AreFoundOf For (products.Four ps judged) = AreFound (For (as_five ps)) judged
+
+-- the map, if there is one, was saved with this result as a raster that lies as this header says; else nothing was done
+abbrev pub IsMapSaved : {B : Type 0} → (Fields → List ℕ → B → B → Result (Unit {0}) MapFault → Type 0) → Fields → Option FaultMap → B → B → Result (Unit {0}) MapFault → Type 0
+IsMapSaved has_saved like None old new result = (result ≡ Ok tt) × (new ≡ old)
+IsMapSaved has_saved like (Some drawn) old new result = has_saved like drawn.pixels.items old new result
+
+-- that of the findings, if there are any
+abbrev pub IsSaved : {F B : Type 0} → (Fields → List ℕ → B → B → Result (Unit {0}) MapFault → Type 0) → (F → Fields) → Option (Findings F) → B → B → Result (Unit {0}) MapFault → Type 0
+IsSaved has_saved place None old new result = (result ≡ Ok tt) × (new ≡ old)
+IsSaved has_saved place (Some f) old new result = IsMapSaved has_saved (place f.layout) f.map old new result
+
+-- What is printed.
+
+-- memory ran out for the page, or its map wasn't saved
+abbrev pub IsCause : Result (Unit {0}) MapFault → PageFailure → Type 0
+IsCause saved why = (why ≡ no_page.OutOfMemory) ⊎ ((fault : MapFault) × (saved ≡ Err fault) × (why ≡ no_page_of fault))
+
+-- the page of the answer with its status, if the map was saved; or why there is none, with the status of a failure
+abbrev pub IsExplained : Result (Unit {0}) MapFault → Form → Result Outcome Refusal → List ℕ → Status → Type 0
+IsExplained saved form answer text status =
+    ((saved ≡ Ok tt) × BeginsWith form (outcome_report_line answer) text × (status ≡ outcome_status answer))
+    ⊎ ((why : PageFailure) × IsCause saved why × IsNoPage form why text × (status ≡ Failed))
 
 -- that was printed, and the run ends with this number
-pub record Explains {W : Type 0} (sink : Sink W) (old new : W) (MapFails : MapFault → Type 0) (form : Form) (answer : Result Outcome Refusal) (code : ℕ) : Type 0 where
+pub record Explains {W : Type 0} (sink : Sink W) (old new : W) (saved : Result (Unit {0}) MapFault) (form : Form) (answer : Result Outcome Refusal) (code : ℕ) : Type 0 where
   pub text : List ℕ
   pub status : Status
-  pub explained : IsExplained MapFails form answer text status
+  pub explained : IsExplained saved form answer text status
   pub printed : PrintsText sink old new text status code
 
--- a call to save a map failed for this reason
-abbrev pub FailsToSave : {B : Type 0} → (B → B → Result (Unit {0}) MapFault → Type 0) → MapFault → Type 0
-FailsToSave {B} has_saved fault = (old : B) × (new : B) × has_saved old new (Err fault)
+-- how a run ends: the answer, what was found, whether its map was saved, and what was printed
+pub record IsExplainedRun {F B W : Type 0} (IsAnswer : Result Outcome Refusal → Type 0) (IsFound : Result Outcome Refusal → Option (Findings F) → Type 0)
+    (place : F → Fields) (has_saved : Fields → List ℕ → B → B → Result (Unit {0}) MapFault → Type 0) (beside : B)
+    (sink : Sink W) (out_old out_new : W) (form : Form) (code : ℕ) : Type 0 where
+  pub answer : Result Outcome Refusal
+  pub findings : Option (Findings F)
+  pub before : B
+  pub saved : Result (Unit {0}) MapFault
+  pub answer_is : IsAnswer answer
+  pub found : IsFound answer findings
+  pub map : IsSaved has_saved place findings before beside saved
+  pub explained : Explains sink out_old out_new saved form answer code
+
+-- a map of a mosaic lies as its directions do
+abbrev pub place_on_tiles : Tiling → Fields
+place_on_tiles t = made_header t product.Dir
+
+-- on tiles
+abbrev pub IsTileExplained : {R B W : Type 0} → Source R → Sink W → (Fields → List ℕ → B → B → Result (Unit {0}) MapFault → Type 0) → ℕ → List (TileInput R) → List (TileInput R) → Given → JudgedProducts R → JudgedProducts R → Mapping → Form → B → W → W → ℕ → Type 0
+IsTileExplained source sink has_saved side tiles_old tiles_new given old new mapping form beside out_old out_new code =
+    IsExplainedRun (IsOutcome source side tiles_old tiles_new given old new)
+    (AreFoundOf (ForTiles source.bytes_left side tiles_old given) old given mapping) place_on_tiles has_saved beside sink out_old out_new form code
+
+-- on one raster of elevations, as which its map lies
+abbrev pub IsDemExplained : {R B W : Type 0} → Source R → Sink W → (Fields → List ℕ → B → B → Result (Unit {0}) MapFault → Type 0) → List (RasterInput R) → List (RasterInput R) → Given → JudgedProducts R → JudgedProducts R → Mapping → Form → B → W → W → ℕ → Type 0
+IsDemExplained source sink has_saved dem_old dem_new given old new mapping form beside out_old out_new code =
+    IsExplainedRun (IsDemOutcome source dem_old dem_new given old new)
+    (AreFoundOf (ForDem source.bytes_left dem_old given) old given mapping) (λ h. h) has_saved beside sink out_old out_new form code
+
+-- beside the elevations that were opened
+abbrev pub IsExplainedOn : {R B W : Type 0} → Source R → Sink W → (Fields → List ℕ → B → B → Result (Unit {0}) MapFault → Type 0) → OpenElevations R → OpenElevations R → Given → JudgedProducts R → JudgedProducts R → Mapping → Form → B → W → W → ℕ → Type 0
+IsExplainedOn source sink has_saved (Tiles old) (Tiles new) given products_old products_new mapping form beside out_old out_new code =
+    IsTileExplained source sink has_saved old.side old.tiles.items new.tiles.items given products_old products_new mapping form beside out_old out_new code
+IsExplainedOn source sink has_saved (Dem old) (Dem new) given products_old products_new mapping form beside out_old out_new code =
+    IsDemExplained source sink has_saved old new given products_old products_new mapping form beside out_old out_new code
+IsExplainedOn source sink has_saved (Tiles old) (Dem new) given products_old products_new mapping form beside out_old out_new code = ⊥
+IsExplainedOn source sink has_saved (Dem old) (Tiles new) given products_old products_new mapping form beside out_old out_new code = ⊥

@@ -1,5 +1,5 @@
 -- How a run of `drain fill` ends: with the answer to its bytes, or without one as memory ran out or the source failed.
-use Rattle.std.specs.Prelude.{◌≡◌, ◌⊎◌, ℕ, ◌++◌, List, [], ◌∷◌, Option, Some, None, Result, Ok, Err, IsErrOf, codes}
+use Rattle.std.specs.Prelude.{◌≡◌, ◌⊎◌, ℕ, ◌++◌, List, [], ◌∷◌, Option, Some, None, Result, Ok, Err, IfOk, IsErrOf, codes}
 use Rattle.drain_device.specs.Failing.{Source, ReadFails}
 use Rattle.drain_device.specs.declared.read.BodyFault.{BodyFault}
 use Rattle.drain_device.specs.declared.read.BodyFault.TheVariants.{ReadFailed, OutOfMemory}
@@ -10,6 +10,7 @@ use Rattle.drain_header.specs.Text.{text_of}
 use Rattle.drain_answer.specs.declared.outcome.Status.{Status}
 use Rattle.drain_answer.specs.Outcomes.{failure_text}
 use Rattle.drain_answer.specs.Printing.{line_feed}
+use Rattle.drain_grid.specs.declared.height_kind.HeightKind.TheVariants.{Whole}
 use Rattle.drain_grid.specs.Path.{IsFilled}
 use Rattle.drain_rules.specs.Fill.{fill_grid, fill_products, IsFillAnswer}
 use Rattle.drain_grid.specs.declared.fill_verdict.FillVerdict.{FillVerdict}
@@ -24,6 +25,10 @@ use Rattle.drain_answer.specs.declared.outcome.Status.TheVariants as status
 -- an answer, or why there is none
 abbrev pub HeaderOutcome : Type 0
 HeaderOutcome = Result (Result Fields HeaderFault) BodyFault
+
+-- a header, if there is one, is of whole heights
+abbrev pub IsWholeOutcome : HeaderOutcome → Type 0
+IsWholeOutcome outcome = IfOk outcome (λ answer. IfOk answer (λ h. h.kind ≡ Whole))
 
 -- what is printed: the lines of the header, or one line
 abbrev pub header_printed : HeaderOutcome → List ℕ

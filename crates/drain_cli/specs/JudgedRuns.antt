@@ -123,14 +123,22 @@ pub record IsDemJudgement {R P V : Type 0} (inputs_of : P → Products R) (devic
   pub answer : ForDem source.bytes_left dem_old given (inputs_of products_old) (λ s. IsAnswerTo s outcome)
   pub uses : DemUses inputs_of devices source.bytes_left source.counts (dem_old, products_old) (dem_new, products_new) outcome
 
--- a run on the products that were opened: a check of five, or an audit of those of four that are judged
-abbrev pub IsDemRun : {R W : Type 0} → Source R → Sink W → List (RasterInput R) → List (RasterInput R) → Given → JudgedProducts R → JudgedProducts R → W → W → ℕ → Type 0
-IsDemRun source sink dem_old dem_new given (Five old) (Five new) out_old out_new code = (verdict : Result Verdict Refusal)
+-- a check of five products
+abbrev pub IsDemCheckRun : {R W : Type 0} → Source R → Sink W → List (RasterInput R) → List (RasterInput R) → Given → Products R → Products R → W → W → ℕ → Type 0
+IsDemCheckRun source sink dem_old dem_new given old new out_old out_new code = (verdict : Result Verdict Refusal)
     × IsDemJudgement (λ ps. ps) dem_check_devices IsAnswerIn source dem_old dem_new given old new verdict
     × Prints sink out_old out_new (answer_line (answer.Check verdict)) (answer_status (answer.Check verdict)) code
-IsDemRun source sink dem_old dem_new given (Four old judged) (Four new then) out_old out_new code = (outcome : Result Outcome Refusal)
+
+-- an audit of those of four that are judged
+abbrev pub IsDemPartRun : {R W : Type 0} → Source R → Sink W → Judged → List (RasterInput R) → List (RasterInput R) → Given → AuditProducts R → AuditProducts R → W → W → ℕ → Type 0
+IsDemPartRun source sink judged dem_old dem_new given old new out_old out_new code = (outcome : Result Outcome Refusal)
     × IsDemJudgement as_five dem_audit_devices (IsOutcomeIn judged) source dem_old dem_new given old new outcome
     × Prints sink out_old out_new (answer_line (answer.Part outcome)) (answer_status (answer.Part outcome)) code
+
+-- a run on the products that were opened
+abbrev pub IsDemRun : {R W : Type 0} → Source R → Sink W → List (RasterInput R) → List (RasterInput R) → Given → JudgedProducts R → JudgedProducts R → W → W → ℕ → Type 0
+IsDemRun source sink dem_old dem_new given (Five old) (Five new) out_old out_new code = IsDemCheckRun source sink dem_old dem_new given old new out_old out_new code
+IsDemRun source sink dem_old dem_new given (Four old judged) (Four new then) out_old out_new code = IsDemPartRun source sink judged dem_old dem_new given old new out_old out_new code
 IsDemRun source sink dem_old dem_new given old new out_old out_new code = ⊥
 
 -- a run beside the elevations that were opened

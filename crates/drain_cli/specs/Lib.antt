@@ -8,3 +8,6 @@ pub mod ReportInputs
 pub mod WindowRuns
 pub mod RoundTrip
 pub mod JoinRuns
+pub mod OpenedInputs
+pub mod RunMeanings
+pub mod JsonRuns

@@ -14,6 +14,11 @@ use Rattle.drain_cli.specs.declared.runs.make_set.NoSet.TheVariants.{Ground, Sin
 use Rattle.drain_cli.specs.declared.runs.made_spacing.NoSpacing.{NoSpacing}
 use Rattle.drain_cli.specs.declared.runs.made_spacing.NoSpacing.TheVariants as spacing
 use Rattle.drain_device.specs.Failing.{Source}
+use Rattle.drain_files.specs.declared.open_judged.OpenElevations.{OpenElevations}
+use Rattle.drain_files.specs.declared.open_judged.OpenElevations.TheVariants.{Tiles, Dem}
+use Rattle.drain_grid.specs.declared.height_kind.HeightKind.TheVariants.{Whole}
+use Rattle.drain_grid.specs.declared.product.Product.TheVariants.{Con}
+use Rattle.drain_maker.specs.ProductFiles.{made_header}
 use Rattle.drain_grid.specs.declared.product_set.ProductSet.{ProductSet}
 use Rattle.drain_grid.specs.declared.sink_line.SinkLine.{SinkLine}
 use Rattle.drain_grid.specs.Spacing.{RowSpacings, spacing_of}
@@ -25,7 +30,7 @@ use Rattle.drain_hgt.specs.declared.input.TileInput.{TileInput}
 use Rattle.drain_hgt.specs.Inputs.{tile_devices}
 use Rattle.drain_answer.specs.declared.refusal.Refusal.TheVariants.{ReadFailed}
 use Rattle.drain_device.specs.FaultLists.{SomeReadFails}
-use Rattle.drain_verdict.specs.Given.{Given, GivenSpacing, HasBadSpacing, HasOtherRows}
+use Rattle.drain_verdict.specs.Given.{Given, GivenSpacing, HasBadSpacing, HasOtherRows, spacings_given}
 use Rattle.drain_verdict.specs.Inputs.{Inputs}
 use Rattle.drain_verdict.specs.Refusals.{IsOfBodies}
 use Rattle.drain_maker.specs.Mosaics.{IsMosaicOf, IsMosaicRefusal}
@@ -92,6 +97,11 @@ no_set_status (Maker maker.OutOfMemory) = Failed
 no_set_status (Maker (maker.SinkNotData n)) = Refused
 no_set_status (Maker maker.MakerFault) = Refused
 
+-- these are the spacings that are said, and a text that lists them lists each row of the grid
+pub record AreSaidSpacings (given : GivenSpacing) (e : Extent) (spacings : RowSpacings) : Type 0 where
+  pub are : spacings_given given ≡ Ok spacings
+  pub rows : (count : ℕ) → ¬ HasOtherRows given e count
+
 -- products that were made for the mosaic of the tiles in the devices' bytes, for the sinks that the text lists, and the spacing
 -- that is given
 pub record IsSetOf {R : Type 0} (bytes_left : R → Option (List ℕ)) (side : ℕ) (tiles : List (TileInput R)) (given : Given) (t : Tiling) (ps : ProductSet) : Type 0 where
@@ -101,7 +111,7 @@ pub record IsSetOf {R : Type 0} (bytes_left : R → Option (List ℕ)) (side : �
   pub listed : List SinkLine
   pub listed_are : sinks_of given.sinks ≡ Ok listed
   pub spacings : RowSpacings
-  pub spacings_are : AreGivenSpacings given.spacing elevation.extent spacings
+  pub spacings_are : AreGivenSpacings Whole given.spacing elevation.extent spacings
   pub made : AreMade t elevation listed (spacing_of spacings) ps
 
 -- the maker made none for that mosaic and those sinks: a sink without data is reported exactly if there is one
@@ -148,7 +158,7 @@ pub record IsDemSetOf {R : Type 0} (bytes_left : R → Option (List ℕ)) (dem :
   pub listed : List SinkLine
   pub listed_are : sinks_of given.sinks ≡ Ok listed
   pub spacings : RowSpacings
-  pub spacings_are : AreGivenSpacings given.spacing elevation.extent spacings
+  pub spacings_are : AreGivenSpacings h.kind given.spacing elevation.extent spacings
   pub made : AreMadeOn h elevation listed (spacing_of spacings) ps
 
 -- the maker made none for those elevations and those sinks: a sink without data is reported exactly if there is one
@@ -184,3 +194,8 @@ IsNoDemSet source old new given (Ground refusal) =
 IsNoDemSet source old new given (Sinks fault) = IsSinkFault given.sinks fault × NoDemFails source old new
 IsNoDemSet source old new given (Spacing why) = HasNoDemSpacing source.bytes_left old given why × NoDemFails source old new
 IsNoDemSet source old new given (Maker refusal) = IsDemRefusalOf source.bytes_left old given refusal × NoDemFails source old new
+
+-- made of the tiles or the raster that were opened, with the elevations' header: con's on a mosaic
+abbrev pub IsSetOn : {R : Type 0} → (R → Option (List ℕ)) → OpenElevations R → Given → Fields → ProductSet → Type 0
+IsSetOn bytes_left (Tiles opened) given h ps = (t : Tiling) × (h ≡ made_header t Con) × IsSetOf bytes_left opened.side opened.tiles.items given t ps
+IsSetOn bytes_left (Dem dem) given h ps = IsDemSetOf bytes_left dem given h ps

@@ -1,5 +1,5 @@
 -- How a run of `drain merge` ends, and what its status means. The words are this project's own.
-use Rattle.std.specs.Prelude.{◌≡◌, ℕ, List, Result, Ok, Err, codes}
+use Rattle.std.specs.Prelude.{◌≡◌, ℕ, List, Option, None, Some, Result, Ok, Err, codes}
 use Rattle.drain_answer.specs.Lines.{refusal_line}
 use Rattle.drain_cli.specs.WindowRuns.{verdict_status}
 use Rattle.drain_answer.specs.declared.refusal.Refusal.TheVariants as inputs
@@ -14,7 +14,9 @@ use Rattle.drain_merge.specs.UnionVerdicts.{AreJudgedFrom, windows_of}
 use Rattle.drain_merge.specs.declared.map_merge.MapVerdict.{MapVerdict}
 use Rattle.drain_merge.specs.declared.merge_verdict.MergeRefusal.{MergeRefusal}
 use Rattle.drain_merge.specs.declared.merge_verdict.MergeRefusal.TheVariants.{OutOfMemory}
+use Rattle.drain_grid.specs.declared.sink_line.SinkLine.{SinkLine}
 use Rattle.drain_merge.specs.declared.totals.UnionSinks.{UnionSinks}
+use Rattle.drain_merge.specs.declared.totals.UnionSinks.TheVariants.{AsTaken, Listed}
 use Rattle.drain_answer.specs.declared.outcome.Status.{Status}
 use Rattle.drain_answer.specs.declared.outcome.Status.TheVariants as status
 use Rattle.drain_union.specs.Reports.{Report}
@@ -66,3 +68,8 @@ list_line list.OutOfMemory = codes "failed OutOfMemory"
 abbrev pub list_status : SinkFault → Status
 list_status (list.BadSinkLine n) = status.Refused
 list_status list.OutOfMemory = status.Failed
+
+-- the sinks of the union are those that a list has if its path is given, and else as the windows took them
+abbrev pub AreSinksAt : {P : Type 0} → Option P → UnionSinks → Type 0
+AreSinksAt None sinks = sinks ≡ AsTaken
+AreSinksAt (Some path) sinks = (lines : List SinkLine) × (sinks ≡ Listed lines)

@@ -28,7 +28,7 @@ use Rattle.drain_grid.specs.declared.product.Product.TheVariants.{Con}
 use Rattle.drain_header.specs.Header.{Fields}
 use Rattle.drain_maker.specs.Dems.{spaced_dem_grid}
 use Rattle.drain_maker.specs.Accepted.{IsMadeAcceptance}
-use Rattle.drain_maker.specs.ProductFiles.{WritesFiles, made_header, set_bytes}
+use Rattle.drain_maker.specs.ProductFiles.{WritesSet, made_header}
 use Rattle.drain_cli.specs.MadeSets.{IsDemSetOf, IsSetOf}
 
 -- How a run of `drain window` and a run of `drain merge` go together. The law is this project's own.
@@ -52,7 +52,7 @@ files_given t = flat_map (λ p. t.header p ∷ t.raster p ∷ []) products
 -- files that were empty hold what was written on elevations with this header, and a check is given that
 pub record AreWrittenAndGiven {F : Type 0} (sink : Sink F) (h : Fields) (ps : ProductSet) (empty written : List F) (t : SetTexts) : Type 0 where
   pub empty_are : All (λ file. sink.bytes_taken file ≡ Some []) empty
-  pub written_are : WritesFiles sink empty written (set_bytes h ps) (Ok tt)
+  pub written_are : WritesSet sink h ps empty written (Ok tt)
   pub given_are : map sink.bytes_taken written ≡ map Some (files_given t)
 
 -- products that were made of tiles, a list of sinks and a spacing and written into empty files are accepted when checked with the

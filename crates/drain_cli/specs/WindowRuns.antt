@@ -10,6 +10,8 @@ use Rattle.drain_union.specs.declared.verdict.UnionVerdict.{UnionVerdict}
 use Rattle.drain_union.specs.Reports.{Agree}
 use Rattle.drain_union.specs.declared.report.WindowReport.{WindowReport}
 use Rattle.drain_device.specs.Failing.{Sink, Source}
+use Rattle.drain_files.specs.declared.open_judged.OpenElevations.{OpenElevations}
+use Rattle.drain_files.specs.declared.open_judged.OpenElevations.TheVariants as elevations
 use Rattle.drain_grid.specs.declared.cell.Cell.{Cell}
 use Rattle.drain_hgt.specs.declared.input.TileInput.{TileInput}
 use Rattle.drain_answer.specs.Printing.{Prints}
@@ -77,3 +79,14 @@ refusal_code OutsideMosaic = Refused
 abbrev pub IsWindowHandedOver : {W : Type 0} → Sink W → W → W → Result WindowReport WindowRefusal → Result WindowReport ℕ → Type 0
 IsWindowHandedOver sink old new (Ok window) result = (result ≡ Ok window) × (new ≡ old)
 IsWindowHandedOver sink old new (Err refusal) result = (code : ℕ) × (result ≡ Err code) × Prints sink old new (refusal_line refusal) (refusal_code refusal) code
+
+-- a run on the tiles or the raster that were opened
+abbrev pub IsWindowRun : {R W : Type 0} → Source R → Sink W → Place → Cell → OpenElevations R → OpenElevations R → Given → AuditProducts R → AuditProducts R → W → W → Result WindowReport ℕ → Type 0
+IsWindowRun source sink p at (elevations.Tiles old) (elevations.Tiles new) given products_old products_new out_old out_new result = (outcome : Result WindowReport WindowRefusal)
+    × IsWindowOutcome source p old.side old.tiles.items new.tiles.items given products_old products_new outcome
+    × IsWindowHandedOver sink out_old out_new outcome result
+IsWindowRun source sink p at (elevations.Dem old) (elevations.Dem new) given products_old products_new out_old out_new result = (outcome : Result WindowReport WindowRefusal)
+    × IsDemWindowOutcome source p at old new given products_old products_new outcome
+    × IsWindowHandedOver sink out_old out_new outcome result
+IsWindowRun source sink p at (elevations.Tiles old) (elevations.Dem new) given products_old products_new out_old out_new result = ⊥
+IsWindowRun source sink p at (elevations.Dem old) (elevations.Tiles new) given products_old products_new out_old out_new result = ⊥

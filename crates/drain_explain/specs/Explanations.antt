@@ -80,6 +80,11 @@ abbrev pub answer_in : {F : Type 0} → Result (Explanation F) Refusal → Resul
 answer_in (Ok explanation) = Ok explanation.outcome
 answer_in (Err refusal) = Err refusal
 
+-- what every cell showed, if it is an outcome
+abbrev pub findings_in : {F : Type 0} → Result (Explanation F) Refusal → Option (Findings F)
+findings_in (Ok explanation) = Some explanation.findings
+findings_in (Err refusal) = None
+
 -- of a grid and its products, and rules about judged rasters: these rules; for each rule and each product the
 -- number of cells at which it fails, and the first; the first cell at which any rule fails, and its patch; where
 -- there is a map, the number of each cell; and the least and the greatest elevation

@@ -3,23 +3,25 @@ use Rattle.std.specs.Prelude.{◌≡◌, ◌&&◌, ◌-◌, ◌∷◌, ℕ, List
 use Rattle.drain_mosaic.specs.Tiling.{Tiling, extent_of, left_of, top_of, north_edge, spacing_of, west_edge}
 use Rattle.drain_explain.specs.declared.refusal_detail.NotData.TheVariants.{Void, Outside}
 use Rattle.drain_explain.specs.declared.refusal_detail.RefusalDetail.{RefusalDetail}
-use Rattle.drain_explain.specs.declared.refusal_detail.RefusalDetail.TheVariants.{SinkLine, SinkCell, SpacingLine, SpacingRows, Seam, Side, Name, Shape, Position, TileLength, RasterLength, PixelSize, DemLength}
+use Rattle.drain_explain.specs.declared.refusal_detail.RefusalDetail.TheVariants.{SinkLine, SinkCell, SpacingLine, SpacingRows, Seam, Side, Name, Shape, Position, TileLength, RasterLength, PixelSize, DemLength, Kind}
 use Rattle.drain_explain.specs.declared.refusal_detail.TheConstants.{SHOWN_BYTES}
 use Rattle.drain_text.specs.Text.{lines_of, words_of, whole_number}
 use Rattle.drain_grid.specs.declared.cell.Cell.{Cell}
 use Rattle.drain_grid.specs.declared.tile.TheConstants.{VOID}
 use Rattle.drain_explain.specs.declared.refusal_detail.TileValue.{TileValue}
 use Rattle.drain_answer.specs.declared.refusal.Refusal.{Refusal}
+use Rattle.drain_grid.specs.declared.height_kind.HeightKind.{HeightKind}
+use Rattle.drain_grid.specs.declared.height_kind.HeightKind.TheVariants.{Whole}
 use Rattle.drain_grid.specs.declared.product.Product.{Product}
 use Rattle.drain_grid.specs.declared.set_product.SetProduct.{SetProduct}
-use Rattle.drain_header.specs.Faults.{Answers}
+use Rattle.drain_header.specs.Faults.{AnswersOf}
 use Rattle.drain_header.specs.Header.{Fields}
 use Rattle.drain_header.specs.declared.header.Place.{Place}
 use Rattle.drain_hgt.specs.Corner.{Corner}
 use Rattle.drain_hgt.specs.Samples.{tile_length}
 use Rattle.drain_grid.specs.Extent.{Extent}
 use Rattle.drain_raster.specs.Pixels.{header_extent, needed_len}
-use Rattle.drain_verdict.specs.DemGround.{IsDemHeader}
+use Rattle.drain_verdict.specs.DemGround.{IsDemHeader, kind_of}
 use Rattle.drain_verdict.specs.Given.{Given, GivenSpacing, by_row}
 use Rattle.drain_verdict.specs.Stages.{IsLayoutOf}
 use Rattle.drain_answer.specs.declared.refusal.Refusal.TheVariants as refusal
@@ -99,36 +101,45 @@ abbrev pub IsNameDetail : List (List ℕ) → ℕ → RefusalDetail → Type 0
 IsNameDetail names place (Name name) = slice_get names place ≡ Some name.items
 IsNameDetail names place other = ⊥
 
+-- the kind of a product's numbers on heights of this kind: con's are heights, all others whole numbers
+abbrev pub kind_given : HeightKind → Product → HeightKind
+kind_given kind product.Con = kind
+kind_given kind product.Dir = Whole
+kind_given kind product.Acc = Whole
+kind_given kind product.Bas = Whole
+kind_given kind product.Rnk = Whole
+kind_given kind product.Spl = Whole
+
 -- these rows and columns, and those of the product's header
-abbrev pub IsShapeDetail : Extent → Product → List ℕ → RefusalDetail → Type 0
-IsShapeDetail e product text (Shape of expected found) =
+abbrev pub IsShapeDetail : HeightKind → Extent → Product → List ℕ → RefusalDetail → Type 0
+IsShapeDetail kind e product text (Shape of expected found) =
     (of ≡ product) × (expected.rows ≡ e.rows) × (expected.cols ≡ e.cols)
-    × ((h : Fields) × Answers text (Ok h) × (found.rows ≡ h.rows) × (found.cols ≡ h.cols))
-IsShapeDetail e product text other = ⊥
+    × ((h : Fields) × AnswersOf (kind_given kind product) text (Ok h) × (found.rows ≡ h.rows) × (found.cols ≡ h.cols))
+IsShapeDetail kind e product text other = ⊥
 
 -- the place that a raster of the mosaic has
 abbrev pub place_for : Tiling → Place
 place_for t = record { ulx = west_edge t; uly = north_edge t; xdim = spacing_of t; ydim = spacing_of t }
 
 -- this place, and that of the product's header
-abbrev pub IsPositionDetail : Place → Product → List ℕ → RefusalDetail → Type 0
-IsPositionDetail place product text (Position of expected found) =
-    (of ≡ product) × (expected ≡ place) × ((h : Fields) × Answers text (Ok h) × (found ≡ h.place))
-IsPositionDetail place product text other = ⊥
+abbrev pub IsPositionDetail : HeightKind → Place → Product → List ℕ → RefusalDetail → Type 0
+IsPositionDetail kind place product text (Position of expected found) =
+    (of ≡ product) × (expected ≡ place) × ((h : Fields) × AnswersOf (kind_given kind product) text (Ok h) × (found ≡ h.place))
+IsPositionDetail kind place product text other = ⊥
 
 -- the length of a tile
 abbrev pub IsTileLengthDetail : Tiling → Corner → RefusalDetail → Type 0
 IsTileLengthDetail t tile (TileLength of expected found) = (of ≡ tile) × (expected ≡ tile_length t.side)
 IsTileLengthDetail t tile other = ⊥
 
--- this many bytes a raster needs by its header
-abbrev pub AreNeededBytes : List ℕ → ℕ → Type 0
-AreNeededBytes text bytes = (h : Fields) × Answers text (Ok h) × (bytes ≡ needed_len h)
+-- this many bytes a raster of numbers of this kind needs by its header
+abbrev pub AreNeededBytes : HeightKind → List ℕ → ℕ → Type 0
+AreNeededBytes kind text bytes = (h : Fields) × AnswersOf kind text (Ok h) × (bytes ≡ needed_len h)
 
 -- the length that a raster needs by its header
-abbrev pub IsRasterLengthDetail : Product → List ℕ → RefusalDetail → Type 0
-IsRasterLengthDetail product text (RasterLength of expected found) = (of ≡ product) × AreNeededBytes text expected
-IsRasterLengthDetail product text other = ⊥
+abbrev pub IsRasterLengthDetail : HeightKind → Product → List ℕ → RefusalDetail → Type 0
+IsRasterLengthDetail kind product text (RasterLength of expected found) = (of ≡ product) × AreNeededBytes (kind_given kind product) text expected
+IsRasterLengthDetail kind product text other = ⊥
 
 -- the header that was handed in of a product, empty for one that no set has
 abbrev pub text_given : (SetProduct → List ℕ) → Product → List ℕ
@@ -139,18 +150,18 @@ text_given texts product.Bas = texts held.Bas
 text_given texts product.Rnk = texts held.Rnk
 text_given texts product.Spl = []
 
--- the details of each refusal of products and of what is given, which lie on a grid of this size and place
-abbrev pub IsSetDetail : Extent → Place → (SetProduct → List ℕ) → Given → Refusal → RefusalDetail → Type 0
-IsSetDetail e place texts given (refusal.WrongShape p) detail = IsShapeDetail e p (text_given texts p) detail
-IsSetDetail e place texts given (refusal.Misplaced p) detail = IsPositionDetail place p (text_given texts p) detail
-IsSetDetail e place texts given (refusal.RasterShort p) detail = IsRasterLengthDetail p (text_given texts p) detail
-IsSetDetail e place texts given (refusal.BadSinkLine number) detail = IsLineDetail given.sinks number detail
-IsSetDetail e place texts given (refusal.SinkNotData number) detail = IsCellDetail e given.sinks number detail
-IsSetDetail e place texts given (refusal.BadSpacingLine number) detail = IsSpacingLineDetail given.spacing number detail
-IsSetDetail e place texts given (refusal.SpacingRows rows) detail = IsSpacingRowsDetail e rows detail
-IsSetDetail e place texts given other detail = ⊥
+-- the details of each refusal of products and of what is given, on a grid of heights of this kind, of this size and place
+abbrev pub IsSetDetail : HeightKind → Extent → Place → (SetProduct → List ℕ) → Given → Refusal → RefusalDetail → Type 0
+IsSetDetail kind e place texts given (refusal.WrongShape p) detail = IsShapeDetail kind e p (text_given texts p) detail
+IsSetDetail kind e place texts given (refusal.Misplaced p) detail = IsPositionDetail kind place p (text_given texts p) detail
+IsSetDetail kind e place texts given (refusal.RasterShort p) detail = IsRasterLengthDetail kind p (text_given texts p) detail
+IsSetDetail kind e place texts given (refusal.BadSinkLine number) detail = IsLineDetail given.sinks number detail
+IsSetDetail kind e place texts given (refusal.SinkNotData number) detail = IsCellDetail e given.sinks number detail
+IsSetDetail kind e place texts given (refusal.BadSpacingLine number) detail = IsSpacingLineDetail given.spacing number detail
+IsSetDetail kind e place texts given (refusal.SpacingRows rows) detail = IsSpacingRowsDetail e rows detail
+IsSetDetail kind e place texts given other detail = ⊥
 
--- of the mosaic of tiles with these names
+-- of the mosaic of tiles with these names, whose heights are whole numbers
 abbrev pub OfMosaic : ℕ → List (List ℕ) → (Tiling → Type 0) → Type 0
 OfMosaic side names P = (t : Tiling) × IsLayoutOf side names t × P t
 
@@ -160,19 +171,24 @@ IsDetailOf shows side names texts given refusal.BadSide detail = IsSideDetail si
 IsDetailOf shows side names texts given (refusal.BadName place) detail = IsNameDetail names place detail
 IsDetailOf shows side names texts given (refusal.BadTileLength tile) detail = OfMosaic side names (λ t. IsTileLengthDetail t tile detail)
 IsDetailOf shows side names texts given (refusal.SeamMismatch cell) detail = OfMosaic side names (λ t. IsSeamDetail shows t cell detail)
-IsDetailOf shows side names texts given other detail = OfMosaic side names (λ t. IsSetDetail (extent_of t) (place_for t) texts given other detail)
+IsDetailOf shows side names texts given other detail = OfMosaic side names (λ t. IsSetDetail Whole (extent_of t) (place_for t) texts given other detail)
 
 -- What an explanation reports of a refused raster of elevations.
 
--- the sizes of a pixel by the raster's header
+-- the sizes of a pixel by the raster's header, of the kind of heights that it says
 abbrev pub IsPixelSizeDetail : List ℕ → RefusalDetail → Type 0
-IsPixelSizeDetail text (PixelSize xdim ydim) = (h : Fields) × Answers text (Ok h) × (xdim ≡ h.place.xdim) × (ydim ≡ h.place.ydim)
+IsPixelSizeDetail text (PixelSize xdim ydim) = (h : Fields) × AnswersOf (kind_of text) text (Ok h) × (xdim ≡ h.place.xdim) × (ydim ≡ h.place.ydim)
 IsPixelSizeDetail text other = ⊥
 
 -- the length that the raster needs by its header
 abbrev pub IsDemLengthDetail : List ℕ → RefusalDetail → Type 0
-IsDemLengthDetail text (DemLength expected found) = AreNeededBytes text expected
+IsDemLengthDetail text (DemLength expected found) = AreNeededBytes (kind_of text) text expected
 IsDemLengthDetail text other = ⊥
+
+-- con's header says another kind of numbers than these heights are
+abbrev pub IsKindDetail : HeightKind → Product → List ℕ → RefusalDetail → Type 0
+IsKindDetail kind p text (Kind expected found) = (p ≡ product.Con) × (expected ≡ kind) × (found ≡ kind_of text) × (found ≢ kind)
+IsKindDetail kind p text other = ⊥
 
 -- of the raster with this header
 abbrev pub OfDem : List ℕ → (Fields → Type 0) → Type 0
@@ -182,4 +198,5 @@ OfDem text P = (h : Fields) × IsDemHeader h text × P h
 abbrev pub IsDemDetailOf : List ℕ → (SetProduct → List ℕ) → Given → Refusal → RefusalDetail → Type 0
 IsDemDetailOf text texts given refusal.BadPixelSize detail = IsPixelSizeDetail text detail
 IsDemDetailOf text texts given refusal.DemShort detail = IsDemLengthDetail text detail
-IsDemDetailOf text texts given other detail = OfDem text (λ h. IsSetDetail (header_extent h) h.place texts given other detail)
+IsDemDetailOf text texts given (refusal.BadHeader p fault) detail = OfDem text (λ h. IsKindDetail h.kind p (text_given texts p) detail)
+IsDemDetailOf text texts given other detail = OfDem text (λ h. IsSetDetail h.kind (header_extent h) h.place texts given other detail)

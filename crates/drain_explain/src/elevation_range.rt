@@ -5,7 +5,8 @@ ghost use Rattle.drain_explain.specs.ElevationRanges.{IsOfRow, IsRange, joined};
 
 use drain_pixels::GroundRow;
 
-/// The least and the greatest elevation of some data cells, whole numbers in the unit of the elevations.
+/// The least and the greatest elevation of some data cells, by their numbers: whole numbers in the unit of the elevations,
+/// or the places of floats among the floats, which are ordered as they are.
 #[derive(Clone, Copy, PartialEq, Eq, Debug)]
 pub struct ElevationRange {
     pub least: i64,

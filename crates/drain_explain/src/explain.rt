@@ -43,8 +43,10 @@ pub fn explain_check<R: ByteSource>(
     // The answer is a check's.
     ensures answer { (inputs : Inputs) → Encode R.bytes_left side tiles.old given.now products.old inputs → IsOutcomeAnswer AllWithRanks inputs (answer_in result) }
 
-    // For an outcome, what every cell showed, with a map if one is required.
+    // For an outcome, what every cell showed, with a map if one is required; and where a path without an end leads, of which
+    // a check names none.
     ensures explained { IfOk result (λ e. (inputs : Inputs) → Encode R.bytes_left side tiles.old given.now products.old inputs → AreFindingsOf AllWithRanks inputs e.findings) }
+    ensures endless { IfOk result (λ e. (inputs : Inputs) → Encode R.bytes_left side tiles.old given.now products.old inputs → IfSome e.findings.endless (IsEndlessOf inputs e.outcome)) }
     ensures drawn { IfOk result (λ e. IsSome e.findings.map ↔ (mapping ≡ Drawn)) }
     ensures layout { IfOk result (λ e. IsLayoutOf side (names_of tiles.old) e.findings.layout) }
     ensures slopes { IfOk result (λ e. e.findings.slopes ≡ slopes_of given.now.spacing) }

@@ -35,8 +35,10 @@ pub fn explain_check_dem<R: ByteSource>(
     // The answer is a check's.
     ensures answer { ForDem R.bytes_left dem.old given.now products.old (λ s. IsOutcomeIn AllWithRanks s (answer_in result)) }
 
-    // For an outcome, what every cell showed, with a map if one is required; and the header that the raster's text describes.
+    // For an outcome, what every cell showed, with a map if one is required; where a path without an end leads, of which a
+    // check names none; and the header that the raster's text describes.
     ensures explained { IfOk result (λ e. ForDem R.bytes_left dem.old given.now products.old (λ s. AreFindingsIn AllWithRanks s e.findings)) }
+    ensures endless { IfOk result (λ e. ForDem R.bytes_left dem.old given.now products.old (λ s. IfSome e.findings.endless (IsEndlessIn s e.outcome))) }
     ensures drawn { IfOk result (λ e. IsSome e.findings.map ↔ (mapping ≡ Drawn)) }
     ensures header { IfOk result (λ e. IsDemInput e.findings.layout dem.old) }
     ensures slopes { IfOk result (λ e. e.findings.slopes ≡ slopes_of given.now.spacing) }

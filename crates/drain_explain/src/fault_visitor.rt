@@ -30,7 +30,7 @@ pub struct FaultVisitor {
 }
 
 impl FaultVisitor {
-    /// No row. It takes a byte for each cell of the shape for a map, else no memory.
+    /// No row. For a map it takes memory, which grows with the rows; else none.
     pub fn new(
         alloc: Global,
         shape: Shape,

@@ -1,7 +1,7 @@
 //! What the rules say of every cell of a grid, and which rules and products were looked at.
 
 ghost use Rattle.std.specs.Prelude.{◌≡◌, ◌<◌, IfOk, IfSome, ◌≢◌, IsTrue, ◌↔◌, IsSome};
-ghost use Rattle.drain_explain.specs.Explanations.{IsNamed, LeadsAt, AreFindingsOn, answer_in, judged, looks_at, rules_of, AreFaultNotes};
+ghost use Rattle.drain_explain.specs.Explanations.{IsNamed, LeadsAt, AreFindingsOn, answer_in, findings_in, judged, looks_at, rules_of, AreFaultNotes};
 ghost use Rattle.drain_grid.specs.Grid.{Grid, Products};
 ghost use Rattle.drain_paths.specs.Walks.{AreKnownFlows};
 ghost use Rattle.drain_grid.specs.declared.patch.Patch.{Patch};
@@ -122,7 +122,8 @@ pub struct Explanation<F> {
 pub fn answer_and_findings<F>(
     explained: Result<Explanation<F>, Refusal>,
 ) -> (Result<Outcome, Refusal>, Option<Findings<F>>)
-    ensures { result.0 ≡ answer_in explained }
+    ensures answer { result.0 ≡ answer_in explained }
+    ensures findings { result.1 ≡ findings_in explained }
 {
     match explained {
         Ok(Explanation { outcome, findings }) => (Ok(outcome), Some(findings)),

@@ -6,7 +6,7 @@ ghost use Rattle.drain_text.specs.Text.{lines_of};
 ghost use Rattle.drain_verdict.specs.Given.{spacing_from};
 
 use crate::refused::FileLookup;
-use drain_grid::{Cell, Product, Shape, VOID};
+use drain_grid::{Cell, HeightKind, Product, Shape, VOID};
 use drain_header::Place;
 use drain_hgt::TileName;
 use drain_mosaic::Layout;
@@ -240,6 +240,12 @@ pub enum RefusalDetail {
     DemLength {
         expected: u64,
         found: u64,
+    },
+    /// `BadHeader` of con on a raster of elevations: the kind of the elevations, and the other one, which con's header
+    /// says.
+    Kind {
+        expected: HeightKind,
+        found: HeightKind,
     },
 }
 

@@ -2,7 +2,7 @@
 //! their lengths and the heights at a seam.
 
 ghost use Rattle.std.specs.Prelude.{IfSome, ℕ, ℤ, ◌≡◌};
-ghost use Rattle.drain_explain.specs.RefusalDetails.{AreNeededBytes, IsDemDetailOf, IsDemLengthDetail, IsDetailOf, IsNameDetail, IsPixelSizeDetail, IsPositionDetail, IsRasterLengthDetail, IsSetDetail, IsShapeDetail, IsTileLengthDetail, place_for, text_given};
+ghost use Rattle.drain_explain.specs.RefusalDetails.{AreNeededBytes, IsDemDetailOf, IsDemLengthDetail, IsDetailOf, IsKindDetail, IsNameDetail, IsPixelSizeDetail, IsPositionDetail, IsRasterLengthDetail, IsSetDetail, IsShapeDetail, IsTileLengthDetail, kind_given, place_for, text_given};
 ghost use Rattle.drain_grid.specs.PerProduct.{of_product};
 ghost use Rattle.drain_hgt.specs.Inputs.{names_of};
 ghost use Rattle.drain_verdict.specs.Stages.{IsLayoutOf};
@@ -12,8 +12,8 @@ use crate::refusal_detail::{
     spacing_rows_detail,
 };
 use drain_answer::Refusal;
-use drain_grid::{PerProduct, Product, Shape};
-use drain_header::{Place, parse_header};
+use drain_grid::{HeightKind, PerProduct, Product, Shape};
+use drain_header::{HeaderFault, Place, kind_said, parse_header_of};
 use drain_hgt::tile::tile_length;
 use drain_hgt::{TileInput, TileName};
 use drain_mosaic::Layout;
@@ -63,8 +63,10 @@ pub fn detail_of<R, L: FileLookup>(
         Refusal::SeamMismatch(cell) => seam_detail(&mosaic(alloc, side, tiles)?, cell, look),
         _ => {
             let layout = mosaic(alloc, side, tiles)?;
+            let kind = HeightKind::Whole;
+            let shape = layout.shape();
             let place = place_for(&layout);
-            set_detail(alloc, refusal, layout.shape(), place, headers, given, look)
+            set_detail(alloc, refusal, kind, shape, place, headers, given, look)
         }
     }
 }
@@ -83,11 +85,16 @@ pub fn detail_of_dem<R, L: FileLookup>(
     match refusal {
         Refusal::BadPixelSize => pixel_size_detail(dem.header.as_slice()),
         Refusal::DemShort => dem_length_detail(dem.header.as_slice(), look),
+        Refusal::BadHeader(product, fault) => {
+            let header = dem_header(dem).ok()?;
+            kind_detail(header.kind, product, fault, text_of(headers, product))
+        }
         _ => {
             let header = dem_header(dem).ok()?;
             set_detail(
                 alloc,
                 refusal,
+                header.kind,
                 shape(&header),
                 header.place,
                 headers,
@@ -98,23 +105,29 @@ pub fn detail_of_dem<R, L: FileLookup>(
     }
 }
 
-/// The details of a refusal of products, of the list of sinks or of a spacing by row, on a grid of this shape and place.
+/// The details of a refusal of products, of the list of sinks or of a spacing by row, on a grid of heights of this kind,
+/// of this shape and place.
 fn set_detail<L: FileLookup>(
     alloc: Global,
     refusal: Refusal,
+    kind: HeightKind,
     shape: Shape,
     place: Place,
     headers: &PerProduct<&[u8]>,
     given: &Given,
     look: &mut L,
 ) -> Option<RefusalDetail>
-    ensures { IfSome result (IsSetDetail shape place (λ p. (of_product headers.now p).now) given.now refusal) }
+    ensures { IfSome result (IsSetDetail kind shape place (λ p. (of_product headers.now p).now) given.now refusal) }
 {
     match refusal {
-        Refusal::WrongShape(product) => shape_detail(shape, product, text_of(headers, product)),
-        Refusal::Misplaced(product) => position_detail(place, product, text_of(headers, product)),
+        Refusal::WrongShape(product) => {
+            shape_detail(kind, shape, product, text_of(headers, product))
+        }
+        Refusal::Misplaced(product) => {
+            position_detail(kind, place, product, text_of(headers, product))
+        }
         Refusal::RasterShort(product) => {
-            raster_length_detail(product, text_of(headers, product), look)
+            raster_length_detail(kind, product, text_of(headers, product), look)
         }
         Refusal::BadSinkLine(number) => sink_line_detail(alloc, given.sinks, number),
         Refusal::SinkNotData(number) => sink_cell_detail(shape, given.sinks, number),
@@ -132,7 +145,7 @@ fn mosaic<R>(alloc: Global, side: u32, tiles: &[TileInput<R>]) -> Option<Layout>
 }
 
 /// The product's header as it was handed in, empty for one that no set has.
-fn text_of<'a>(headers: &PerProduct<&'a [u8]>, product: Product) -> &'a [u8]
+pub fn text_of<'a>(headers: &PerProduct<&'a [u8]>, product: Product) -> &'a [u8]
     ensures { result.now ≡ text_given (λ p. (of_product headers.now p).now) product }
 {
     match product {
@@ -145,6 +158,18 @@ fn text_of<'a>(headers: &PerProduct<&'a [u8]>, product: Product) -> &'a [u8]
     }
 }
 
+/// The kind of the product's numbers on heights of this kind: con's are heights, all others whole numbers.
+fn kind_given(kind: HeightKind, product: Product) -> HeightKind
+    ensures { result ≡ kind_given kind product }
+{
+    match product {
+        Product::Con => kind,
+        Product::Dir | Product::Acc | Product::Bas | Product::Rnk | Product::Spl => {
+            HeightKind::Whole
+        }
+    }
+}
+
 /// The name in this place, as it was given.
 fn name_detail<R>(alloc: Global, tiles: &[TileInput<R>], place: usize) -> Option<RefusalDetail>
     ensures { IfSome result (IsNameDetail (names_of tiles.now) place) }
@@ -154,11 +179,16 @@ fn name_detail<R>(alloc: Global, tiles: &[TileInput<R>], place: usize) -> Option
     Some(RefusalDetail::Name(name))
 }
 
-/// These rows and columns, and those of the product's header.
-fn shape_detail(shape: Shape, product: Product, text: &[u8]) -> Option<RefusalDetail>
-    ensures { IfSome result (IsShapeDetail shape product text.now) }
+/// These rows and columns, and those of the product's header, on heights of this kind.
+pub fn shape_detail(
+    kind: HeightKind,
+    shape: Shape,
+    product: Product,
+    text: &[u8],
+) -> Option<RefusalDetail>
+    ensures { IfSome result (IsShapeDetail kind shape product text.now) }
 {
-    let header = parse_header(text).ok()?;
+    let header = parse_header_of(text, kind_given(kind, product)).ok()?;
     Some(RefusalDetail::Shape {
         product,
         expected: Extent {
@@ -172,16 +202,57 @@ fn shape_detail(shape: Shape, product: Product, text: &[u8]) -> Option<RefusalDe
     })
 }
 
-/// This place, and that of the product's header.
-fn position_detail(place: Place, product: Product, text: &[u8]) -> Option<RefusalDetail>
-    ensures { IfSome result (IsPositionDetail place product text.now) }
+/// This place, and that of the product's header, on heights of this kind.
+fn position_detail(
+    kind: HeightKind,
+    place: Place,
+    product: Product,
+    text: &[u8],
+) -> Option<RefusalDetail>
+    ensures { IfSome result (IsPositionDetail kind place product text.now) }
 {
-    let header = parse_header(text).ok()?;
+    let header = parse_header_of(text, kind_given(kind, product)).ok()?;
     Some(RefusalDetail::Position {
         product,
         expected: place,
         found: header.place,
     })
+}
+
+/// The kind of these heights and that of con's numbers, if con's header says the other and may be refused for that.
+pub fn kind_detail(
+    kind: HeightKind,
+    product: Product,
+    fault: HeaderFault,
+    text: &[u8],
+) -> Option<RefusalDetail>
+    ensures { IfSome result (IsKindDetail kind product text.now) }
+{
+    let Product::Con = product else {
+        return None;
+    };
+    if !may_be_for_its_kind(fault) {
+        return None;
+    }
+    match (kind, kind_said(text)) {
+        (HeightKind::Whole, HeightKind::Single) => Some(RefusalDetail::Kind {
+            expected: HeightKind::Whole,
+            found: HeightKind::Single,
+        }),
+        (HeightKind::Single, HeightKind::Whole) => Some(RefusalDetail::Kind {
+            expected: HeightKind::Single,
+            found: HeightKind::Whole,
+        }),
+        _ => None,
+    }
+}
+
+/// Whether a header of another kind of numbers may have this fault for that alone.
+fn may_be_for_its_kind(fault: HeaderFault) -> bool {
+    matches!(
+        fault,
+        HeaderFault::BadValue(_) | HeaderFault::BadBits | HeaderFault::BadPixelType
+    )
 }
 
 /// The place that a raster of the mosaic has.
@@ -217,17 +288,18 @@ fn tile_length_detail<L: FileLookup>(
     None
 }
 
-/// The bytes that a raster needs by its header, and those of the file.
+/// The bytes that a raster needs by its header, on heights of this kind, and those of the file.
 fn raster_length_detail<L: FileLookup>(
+    kind: HeightKind,
     product: Product,
     text: &[u8],
     look: &mut L,
 ) -> Option<RefusalDetail>
-    ensures { IfSome result (IsRasterLengthDetail product text.now) }
+    ensures { IfSome result (IsRasterLengthDetail kind product text.now) }
 {
     Some(RefusalDetail::RasterLength {
         product,
-        expected: bytes_needed(text)?,
+        expected: bytes_needed(kind_given(kind, product), text)?,
         found: look.raster_length(product)?,
     })
 }
@@ -236,7 +308,7 @@ fn raster_length_detail<L: FileLookup>(
 fn pixel_size_detail(text: &[u8]) -> Option<RefusalDetail>
     ensures { IfSome result (IsPixelSizeDetail text.now) }
 {
-    let header = parse_header(text).ok()?;
+    let header = parse_header_of(text, kind_said(text)).ok()?;
     Some(RefusalDetail::PixelSize {
         xdim: header.place.xdim,
         ydim: header.place.ydim,
@@ -248,15 +320,15 @@ fn dem_length_detail<L: FileLookup>(text: &[u8], look: &mut L) -> Option<Refusal
     ensures { IfSome result (IsDemLengthDetail text.now) }
 {
     Some(RefusalDetail::DemLength {
-        expected: bytes_needed(text)?,
+        expected: bytes_needed(kind_said(text), text)?,
         found: look.dem_length()?,
     })
 }
 
-/// The bytes that a raster needs by its header.
-fn bytes_needed(text: &[u8]) -> Option<u64>
-    ensures { IfSome result (AreNeededBytes text.now) }
+/// The bytes that a raster of numbers of this kind needs by its header.
+fn bytes_needed(kind: HeightKind, text: &[u8]) -> Option<u64>
+    ensures { IfSome result (AreNeededBytes kind text.now) }
 {
-    let header = parse_header(text).ok()?;
+    let header = parse_header_of(text, kind).ok()?;
     Some(needed_len(&header) as u64)
 }

@@ -1,6 +1,7 @@
 //! A map of the faults as far as it is drawn: a number for each cell, for the least rule that fails there.
 //!
-//! A walk draws it on demand (`FaultWalk::drawing`): it takes a byte per cell, and is seldom needed.
+//! A walk draws it on demand (`FaultWalk::drawing`), row by row: it takes a byte per cell that was passed, and up to two
+//! more while it grows. It is seldom needed.
 
 ghost use Rattle.std.specs.Prelude.{◌≡◌, ◌∷◌, [], IfOk, IsSome, OnErr, OnOk, is_some, replicate};
 ghost use Rattle.drain_faults.specs.FaultMaps.{AreDrawn, HasMore, fault_pixel};
@@ -21,11 +22,11 @@ pub struct FaultMap {
 }
 
 impl FaultMap {
-    /// No cell was passed. There is room for a byte for each cell of a grid of this shape.
+    /// No cell was passed. There is room for the first row of a grid of this shape; more comes with the rows.
     pub fn new(alloc: Global, shape: Shape) -> Result<FaultMap, OutOfMemory>
         ensures { IfOk result (λ map. map.pixels.items ≡ []) }
     {
-        let pixels = Vec::with_capacity(alloc, shape.cells())?;
+        let pixels = Vec::with_capacity(alloc, shape.cols() as usize)?;
         Ok(FaultMap { pixels })
     }
 

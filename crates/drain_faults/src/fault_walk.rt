@@ -58,7 +58,7 @@ impl FaultWalk {
         }
     }
 
-    /// No row was scanned. A map is drawn, with room for a byte per cell of a grid of this shape.
+    /// No row was scanned. A map of a grid of this shape is drawn, which grows with the rows.
     pub fn drawing(alloc: Global, shape: Shape) -> Result<FaultWalk, OutOfMemory>
         ensures rows { IfOk result (λ walk. walk.rows ≡ 0) }
         ensures drawn { IfOk result (λ walk. IsSome walk.map) }

@@ -1,2 +1,3 @@
+pub mod Fractions
 mod LowestTerms
 pub mod PathLemmas

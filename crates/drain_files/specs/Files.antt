@@ -22,6 +22,7 @@ use Rattle.drain_files.specs.declared.open_judged.OpenTiles.{OpenTiles}
 use Rattle.drain_hgt.specs.Inputs.{names_of}
 use Rattle.drain_files.specs.declared.open_judged.JudgedProducts.{JudgedProducts}
 use Rattle.drain_files.specs.declared.open_judged.JudgedProducts.TheVariants.{Five, Four}
+use Rattle.drain_grid.specs.declared.height_kind.HeightKind.TheVariants.{Whole}
 use Rattle.drain_grid.specs.declared.judged.Judged.{Judged}
 use Rattle.drain_grid.specs.declared.judged.Judged.TheVariants.{AllWithRanks}
 
@@ -70,6 +71,7 @@ map_header h = record {
   row_bytes = h.cols;
   place = h.place;
   nodata = Some (pos 255);
+  kind = Whole;
 }
 
 -- When a text is too long.

@@ -2,3 +2,4 @@ pub mod FileIds
 pub mod FilePaths
 pub mod Files
 pub mod OpenSpacings
+pub mod Simplest

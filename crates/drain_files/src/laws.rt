@@ -4,12 +4,11 @@
 
 ghost use Rattle.std.specs.Prelude.{◌≡◌};
 
-use crate::whole_input::{CHUNK_BYTES, MAX_TEXT_BYTES, MAX_WIDTHS_BYTES};
+use crate::whole_input::{MAX_TEXT_BYTES, MAX_WIDTHS_BYTES};
 
-/// The numerals of the constants in definitions: a text has at most 2^32 bytes, one of widths 2^21, and is read by 16,384
-/// of them. This project's own.
+/// The numerals of the constants in definitions: a text has at most 2^32 bytes, and one of widths 2^21. This project's
+/// own.
 pub fn constants()
     ensures max_text_bytes { MAX_TEXT_BYTES ≡ 4294967296 }
     ensures max_widths_bytes { MAX_WIDTHS_BYTES ≡ 2097152 }
-    ensures chunk_bytes { CHUNK_BYTES ≡ 16384 }
 {}

@@ -11,5 +11,6 @@ pub mod open_judged;
 pub mod open_spacing;
 pub mod output_paths;
 pub mod outputs;
+pub mod simplest;
 pub mod source_or_ones;
 pub mod whole_input;

@@ -12,6 +12,7 @@ use crate::open_files::OpenFault;
 use crate::outputs::{look, target_at};
 use crate::whole_input::write_bytes;
 use drain_device::ByteSink;
+use drain_grid::HeightKind;
 use drain_header::{ByteOrdering, Header, header_text};
 use drain_maker::product_files::{Part, SetFault};
 use std::alloc::{AllocError, Global};
@@ -104,6 +105,7 @@ pub fn map_header(raster: &Header) -> Header
         row_bytes: raster.cols,
         place: raster.place,
         nodata: Some(255),
+        kind: HeightKind::Whole,
     }
 }
 

@@ -23,6 +23,8 @@ pub enum Reason {
     Other(ErrorKind),
     /// The file is an input or another output.
     Taken,
+    /// The file can't be read, or is no text of at most this many bytes.
+    NoText(usize),
 }
 
 impl Reason {
@@ -42,6 +44,9 @@ pub fn print_reason(rt: &HostRuntime, path: &str, reason: Reason) {
         Reason::Other(kind) => print_error(rt, path, &io::Error::from(kind)),
         Reason::Taken => {
             let _ = eprintln!(rt; "error: {path}: it is an input or another output");
+        }
+        Reason::NoText(most) => {
+            let _ = eprintln!(rt; "error: {path}: it can't be read, or has more than {most} bytes");
         }
     }
 }
@@ -97,7 +102,7 @@ fn line_of(alloc: Global, path: &str) -> Result<Vec<u8>, AllocError>
 /// Prints the usage error for a header whose pixel sizes give no spacing, and returns the exit status.
 pub fn print_no_spacing(rt: &HostRuntime) -> u8 {
     let _ = eprintln!(rt;
-        "error: XDIM and YDIM of the header aren't in the ratio of two whole numbers up to 1073741824: write --spacing W,H"
+        "error: XDIM and YDIM of the header aren't in the ratio of two whole numbers up to 1073741824, not even as rounded to fifteen places: write --spacing W,H"
     );
     Status::Refused.code()
 }

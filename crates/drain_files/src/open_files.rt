@@ -8,7 +8,7 @@ ghost use Rattle.drain_maker.specs.declared.product_files.TheConstants.{FILE_COU
 
 use crate::file_id::FileId;
 use crate::file_paths::tile_name;
-use crate::open_failure::Reason;
+use crate::open_failure::{Reason, print_reason};
 use crate::outputs::{OutputSink, Outputs};
 use crate::source_or_ones::SourceOrOnes;
 use crate::whole_input::{MAX_TEXT_BYTES, MAX_WIDTHS_BYTES, read_text};
@@ -167,14 +167,20 @@ pub fn widths_at(opener: &mut Opener<'_>, path: &str) -> Result<Vec<u8>, OpenFau
     text_of_at_most(opener, path, MAX_WIDTHS_BYTES)
 }
 
-/// The bytes of the text at this path, which may have no more than these. The file is closed again.
+/// The bytes of the text at this path, which may have no more than these. The file is closed again. A line on standard
+/// error says why it can't be read.
 fn text_of_at_most(opener: &mut Opener<'_>, path: &str, most: usize) -> Result<Vec<u8>, OpenFault>
     requires { most ≤ MAX_TEXT_BYTES }
 {
     let mut file = opener.open(path)?;
     match read_text(opener.alloc(), &mut file, most) {
         Ok(text) => Ok(text),
-        Err(fault) => Err(OpenFault::Body(fault)),
+        Err(fault) => {
+            if fault == BodyFault::ReadFailed {
+                print_reason(opener.rt(), path, Reason::NoText(most));
+            }
+            Err(OpenFault::Body(fault))
+        }
     }
 }
 

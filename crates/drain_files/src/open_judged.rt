@@ -13,7 +13,7 @@ use crate::source_or_ones::SourceOrOnes;
 use drain_args::requests::{DemArgs, Elevations, ProductArgs, TileArgs};
 use drain_device::{ByteList, read_body};
 use drain_grid::{Judged, PerProduct, Product, SetProduct, Spacing};
-use drain_header::{MAX_HEADER_BYTES, header_text, parse_header};
+use drain_header::{MAX_HEADER_BYTES, header_text, kind_said, parse_header_of};
 use drain_hgt::TileInput;
 use drain_maker::product_files::Part;
 use drain_progress::counted_device::CountedDevice;
@@ -124,6 +124,7 @@ pub fn open_audited<'a>(
     progress: &'a Progress<'a>,
 ) -> Result<OpenFiles<OpenElevations<InputFile<'a>>, AuditProducts<InputFile<'a>>>, OpenFault>
     ensures elevations { IfOk result (λ files. AreElevationsOf args.now.elevations files.elevations) }
+    ensures sinks { args.now.sinks ≡ None → IfOk result (λ files. files.sinks.items ≡ []) }
     ensures spacing { IfOk result (λ files. IsSpacingOf args.now.spacing files.elevations files.spacing) }
 {
     let elevations = open_elevations(opener, &args.elevations)?;
@@ -146,10 +147,11 @@ pub fn open_directions<'a>(
     args: &ProductArgs<'_, Elevations<'_>>,
 ) -> Result<OpenFiles<OpenElevations<InputFile<'a>>, AuditProducts<InputFile<'a>>>, OpenFault>
     ensures elevations { IfOk result (λ files. AreElevationsOf args.now.elevations files.elevations) }
+    ensures sinks { args.now.sinks ≡ None → IfOk result (λ files. files.sinks.items ≡ []) }
 {
     let elevations = open_elevations(opener, &args.elevations)?;
     let dir = open_product(opener, args.folder, Product::Dir)?;
-    let con = missing_like(opener.alloc(), &dir)?;
+    let con = missing_con(opener.alloc(), &elevations, &dir)?;
     let acc = missing_like(opener.alloc(), &dir)?;
     let bas = missing_like(opener.alloc(), &dir)?;
     let sinks = list_at(opener, args.sinks)?;
@@ -217,9 +219,27 @@ fn missing_like<'a>(
     Ok(RasterInput { header, body })
 }
 
+/// A missing con, of the heights that there are: on a raster of elevations ones with its header.
+fn missing_con<'a>(
+    alloc: Global,
+    elevations: &OpenElevations<InputFile<'a>>,
+    dir: &RasterInput<InputFile<'a>>,
+) -> Result<RasterInput<InputFile<'a>>, OpenFault> {
+    match elevations {
+        OpenElevations::Tiles(_) => missing_like(alloc, dir),
+        OpenElevations::Dem(dem) => {
+            let text = Vec::from_slice(alloc, dem[0].header.as_slice())?;
+            Ok(RasterInput {
+                header: ByteList::new(text),
+                body: CountedDevice::new(SourceOrOnes::missing()),
+            })
+        }
+    }
+}
+
 /// The text of its header. One that has a fault is copied: then the raster that is there is refused, and no other.
 fn missing_header(alloc: Global, there: &[u8]) -> Result<Vec<u8>, OpenFault> {
-    match parse_header(there) {
+    match parse_header_of(there, kind_said(there)) {
         Ok(header) => match header_text(alloc, &map_header(&header)) {
             Ok(text) => Ok(text),
             Err(_) => Err(OpenFault::no_memory()),
@@ -242,7 +262,8 @@ pub fn count_rows<'a>(
     if !progress.is_on() {
         return;
     }
-    if let Ok(header) = parse_header(raster.header.as_slice()) {
+    let text = raster.header.as_slice();
+    if let Ok(header) = parse_header_of(text, kind_said(text)) {
         raster
             .body
             .count_by(progress.counter(read_rows(phase, &header)));

@@ -1,6 +1,6 @@
 //! The paths of the files that a run writes into a folder, and whether one leads to an input.
 
-ghost use Rattle.std.specs.Prelude.{◌≡◌, IfOk, length, string_bytes, vec_len};
+ghost use Rattle.std.specs.Prelude.{◌≡◌, IfOk, Ok, length, string_bytes, vec_len};
 ghost use Rattle.std.specs.List.{AllZip};
 ghost use Rattle.drain_files.specs.FilePaths.{IsPathOf};
 
@@ -68,7 +68,9 @@ pub fn inputs_or_print<T: Drop>(
     outputs: &str,
     paths: &[String],
     out: &mut impl ByteSink,
-) -> Result<T, u8> {
+) -> Result<T, u8>
+    ensures { IfOk result (λ inputs. opened ≡ Ok inputs) }
+{
     match opened {
         Ok(inputs) => match print_overwriting(opener, outputs, paths) {
             Some(status) => Err(status),

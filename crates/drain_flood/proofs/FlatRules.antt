@@ -10,6 +10,7 @@ use Rattle.drain_grid.specs.GridRules.{HoldsAt}
 use Rattle.drain_grid.specs.Patch.{IsLower, HasLower}
 use Rattle.drain_grid.specs.PatchRules.{flow_rules, BadCodeWithoutSpill, SlopeHolds, OutletCodeHolds, FlatStepHolds}
 use Rattle.drain_grid.specs.Rule.{IsWayRule}
+use Rattle.drain_grid.specs.HeightKinds.{height_of}
 use Rattle.drain_grid.specs.Slope.{slope_key, key_to}
 use Rattle.drain_grid.specs.Spacing.{weight_of}
 use Rattle.drain_grid.specs.Values.{Values}
@@ -54,7 +55,9 @@ module _ (g : Grid) (f : Flooding) (w : Laying) (ps : Products) (are : AreWaysOn
   same_key : (d : Direction) (n : Cell) → key_to (patch_at g ps c) d (values_at g ps n) ≡ key_down g f c d n
   same_key d n =
       let weight = weight_of (g.spacing c.row) d in
-      ap (λ z. slope_key weight (z -ℤ ps.con n)) (shows.con c) ∙ ap (λ z. slope_key weight (con_at g.extent f c -ℤ z)) (shows.con n)
+      let kind = (g.spacing c.row).kind in
+      ap (λ z. slope_key weight (height_of kind z -ℤ height_of kind (ps.con n))) (shows.con c)
+      ∙ ap (λ z. slope_key weight (height_of kind (con_at g.extent f c) -ℤ height_of kind z)) (shows.con n)
 
   slope_down : (d : Direction) (n : Cell) → IsDown g f w c d n → SlopeHolds (patch_at g ps c)
   slope_down d n down low = (

@@ -8,6 +8,7 @@ use Rattle.drain_grid.specs.declared.direction.Direction.TheVariants.{East, Sout
 use Rattle.drain_grid.specs.Direction.{code_of, cols_right, is_straight, rows_down}
 use Rattle.drain_grid.specs.Extent.{step}
 use Rattle.drain_grid.specs.Grid.{Grid, HasData, IsInside}
+use Rattle.drain_grid.specs.HeightKinds.{height_of}
 use Rattle.drain_grid.specs.Slope.{slope_key}
 use Rattle.drain_grid.specs.Spacing.{Distances, unit_spacing, weight_of}
 use Rattle.drain_grid.proofs.Decisions.{cases}
@@ -66,9 +67,9 @@ unit_key NorthEast drop = once (drop * drop)
 
 -- the drop of the heights is that of the lanes
 key_is : (spacing : Distances) (d : Direction) (x y : ℤ) (level lane : ℕ) → spacing ≡ unit_spacing → pos level ≡ x +ℤ pos 32767 → pos lane ≡ y +ℤ pos 32767 → lane ≤ level →
-    slope_key (weight_of spacing d) (x -ℤ y) ≡ pos (weight (is_straight d) ((level - lane) * (level - lane)))
+    slope_key (weight_of spacing d) (height_of spacing.kind x -ℤ height_of spacing.kind y) ≡ pos (weight (is_straight d) ((level - lane) * (level - lane)))
 key_is spacing d x y level lane unit level_is lane_is most =
-    ap (λ s. slope_key (weight_of s d) (x -ℤ y)) unit ∙ (ap (slope_key (weight_of unit_spacing d)) drop_is ∙ unit_key d (level - lane))
+    ap (λ (s : Distances). slope_key (weight_of s d) (height_of s.kind x -ℤ height_of s.kind y)) unit ∙ (ap (slope_key (weight_of unit_spacing d)) drop_is ∙ unit_key d (level - lane))
   where
     drop_is : x -ℤ y ≡ pos (level - lane)
     drop_is = omega (arith, ints)

@@ -6,6 +6,7 @@ use Rattle.drain_grid.specs.declared.direction.Direction.{Direction}
 use Rattle.drain_grid.specs.Direction.{code_of, order_of}
 use Rattle.drain_grid.specs.Extent.{Extent, index_of, step}
 use Rattle.drain_grid.specs.Grid.{Grid, HasData, IsInside, Products, no_sink}
+use Rattle.drain_grid.specs.HeightKinds.{height_of}
 use Rattle.drain_grid.specs.Slope.{slope_key}
 use Rattle.drain_grid.specs.Spacing.{Distances, weight_of}
 use Rattle.drain_flood.specs.declared.layers.TheConstants.{VOID}
@@ -25,7 +26,8 @@ IsSpaced g spacing = (row : ℕ) → row < g.extent.rows → g.spacing row ≡ s
 
 -- the key of the slope down to it, on the spacing of the row that the water leaves
 abbrev pub key_down : Grid → Flooding → Cell → Direction → Cell → ℤ
-key_down g f c d n = slope_key (weight_of (g.spacing c.row) d) (con_at g.extent f c -ℤ con_at g.extent f n)
+key_down g f c d n =
+    slope_key (weight_of (g.spacing c.row) d) (height_of (g.spacing c.row).kind (con_at g.extent f c) -ℤ height_of (g.spacing c.row).kind (con_at g.extent f n))
 
 -- no lower cell has a greater key, and none in an earlier direction as great a one
 pub record IsSteepestNeighbor (g : Grid) (f : Flooding) (c : Cell) (d : Direction) (n : Cell) : Type 0 where

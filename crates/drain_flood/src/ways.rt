@@ -1,8 +1,8 @@
 //! The code of each data cell of a filled surface that has a lower neighbour: the first steepest way down. Any other
 //! cell keeps its mark.
 //!
-//! Source: D8 (O'Callaghan and Mark 1984). In rows of square cells slopes are compared by the squares of their drops,
-//! halved across corners, many cells at a time; in any other row cell by cell.
+//! Source: D8 (O'Callaghan and Mark 1984). In rows of square cells with whole heights slopes are compared by the squares of
+//! their drops, halved across corners, many cells at a time; in any other row cell by cell.
 
 ghost use Rattle.std.specs.Prelude.{◌≡◌, ◌↔◌, ◌+◌, ◌*◌, IfOk, IsTrue, OnOk, length};
 ghost use Rattle.drain_grid.specs.Direction.{code_of};
@@ -15,7 +15,7 @@ use crate::exact_ways::put_exact_row;
 use crate::falls::put_row;
 use crate::layers::{VOID, lanes, marks};
 use crate::surface::Surface;
-use drain_grid::{Direction, OutOfMemory, Spacing, Spacings};
+use drain_grid::{Direction, HeightKind, OutOfMemory, Spacing, Spacings};
 use std::alloc::Global;
 
 /// The codes in row order: VOID at voids, OPEN at outlets, REACHED at closed cells without a lower neighbour.
@@ -90,11 +90,14 @@ fn put_rows(
     }
 }
 
-/// Whether cells are square, with sides of 1.
+/// Whether cells are square, with sides of 1 and whole heights.
 fn is_unit(spacing: Spacing) -> bool
     ensures { IsTrue result ↔ (spacing ≡ unit_spacing) }
 {
-    spacing.width == 1 && spacing.height == 1
+    match spacing.kind {
+        HeightKind::Whole => spacing.width == 1 && spacing.height == 1,
+        HeightKind::Single => false,
+    }
 }
 
 /// The code of a direction, in a byte.

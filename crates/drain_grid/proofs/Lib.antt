@@ -31,6 +31,8 @@ pub mod WorkedGrids
 pub mod Ranks
 pub mod RuleDecisions
 pub mod RunsByCounts
+pub mod SingleHeights
+pub mod HeightSurfaces
 pub mod Slopes
 pub mod SpillPaths
 pub mod SinkMarks

@@ -1,5 +1,6 @@
 -- The definitions worked on small grids: slopes and the first steepest, runs, what drains through a cell, open cells.
 use Rattle.std.proofs.Common.{◌≡◌, ℤ, pos, negsuc, ◌-ℤ◌, false, [], ◌∷◌, Some, refl}
+use Rattle.drain_grid.specs.declared.height_kind.HeightKind.TheVariants.{Whole}
 use Rattle.drain_grid.specs.declared.direction.Direction.{Direction}
 use Rattle.drain_grid.specs.declared.direction.Direction.TheVariants.{East, SouthEast, South}
 use Rattle.drain_grid.specs.declared.patch.Patch.{Patch}
@@ -68,7 +69,7 @@ tie_first = (first_steepest (hollow (pos 10) (pos 8) (pos 10) (pos 8)) East).sou
 
 -- over cells 3 wide and 4 high drops of 3, 5 and 4 tie, and east is the first
 abbrev narrow : Patch
-narrow = hollow_on (record { width = 3; height = 4 }) (pos 10) (pos 7) (pos 5) (pos 6)
+narrow = hollow_on (record { width = 3; height = 4; kind = Whole }) (pos 10) (pos 7) (pos 5) (pos 6)
 
 narrow_south : IsSteepest narrow South
 narrow_south = (is_steepest narrow South).sound refl
@@ -77,8 +78,8 @@ narrow_first : IsFirstSteepest narrow (Some East)
 narrow_first = (first_steepest narrow East).sound refl
 
 -- over cells 4 wide and 3 high the same drops make the way south the steepest
-low_south : IsFirstSteepest (hollow_on (record { width = 4; height = 3 }) (pos 10) (pos 7) (pos 5) (pos 6)) (Some South)
-low_south = (first_steepest (hollow_on (record { width = 4; height = 3 }) (pos 10) (pos 7) (pos 5) (pos 6)) South).sound refl
+low_south : IsFirstSteepest (hollow_on (record { width = 4; height = 3; kind = Whole }) (pos 10) (pos 7) (pos 5) (pos 6)) (Some South)
+low_south = (first_steepest (hollow_on (record { width = 4; height = 3; kind = Whole }) (pos 10) (pos 7) (pos 5) (pos 6)) South).sound refl
 
 -- on the slope runs go east, and four cells drain through the last of a row
 slope_run : run slope_grid slope_products (cell 1 0) ≡ cell 1 0 ∷ cell 1 1 ∷ cell 1 2 ∷ cell 1 3 ∷ []

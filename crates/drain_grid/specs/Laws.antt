@@ -1,16 +1,18 @@
 -- What the local rules say of the whole grid.
-use Rattle.std.specs.Prelude.{◌≡◌, ℕ, ◌*◌, ◌<◌, ℤ, pos, ◌*ℤ◌, ◌<ℤ◌, ◌↔◌, IsTrue, option_map, if◌then◌else◌}
+use Rattle.std.specs.Prelude.{◌≡◌, ℕ, ◌*◌, ◌<◌, ℤ, pos, ◌*ℤ◌, ◌<ℤ◌, ◌≤ℤ◌, ◌↔◌, IsTrue, option_map, if◌then◌else◌}
 use Rattle.drain_grid.specs.declared.cell.Cell.{Cell}
 use Rattle.drain_grid.specs.Values.{NoDataNumbers}
 use Rattle.drain_grid.specs.declared.direction.Direction.{Direction}
 use Rattle.drain_grid.specs.declared.rule.Rule.{Rule}
 use Rattle.drain_grid.specs.Direction.{is_straight}
 use Rattle.drain_grid.specs.Slope.{slope_key}
+use Rattle.drain_grid.specs.declared.height_kind.HeightKind.{HeightKind}
+use Rattle.drain_grid.specs.HeightKinds.{height_of}
 use Rattle.drain_grid.specs.Spacing.{Distances, IsSpacing, distance_square, unit_spacing, weight_of}
 use Rattle.drain_grid.specs.Extent.{step}
 use Rattle.drain_grid.specs.Open.{IsGap}
-use Rattle.drain_grid.specs.Grid.{Grid, Products, IsInside, HasData, IsOpenCell}
-use Rattle.drain_grid.specs.Path.{IsFilled}
+use Rattle.drain_grid.specs.Grid.{Grid, Products, IsInside, HasData, IsOpenCell, height_at}
+use Rattle.drain_grid.specs.Path.{Drains, IsFilled, IsLeastSurface, Surface}
 use Rattle.drain_grid.specs.Run.{RunEnds, upstream_count, ShareBasin}
 use Rattle.drain_grid.specs.Rule.{IsAnyRule, IsFillRule, IsWayRule, IsCountRule, IsLabelRule}
 use Rattle.drain_grid.specs.Unranked.{level_rules, unranked, RanksAreSteps, with_ranks, with_rank_nodata}
@@ -112,6 +114,17 @@ KeysCompareSlopes =
     (s : Distances) (d e : Direction) (x y : ℕ) → IsSpacing s →
     ((y * y) * distance_square s d < (x * x) * distance_square s e) ↔
     (slope_key (weight_of s e) (pos y) <ℤ slope_key (weight_of s d) (pos x))
+
+-- numbers of heights are ordered as the heights that they stand for
+abbrev pub NumbersOrderHeights : Type 0
+NumbersOrderHeights = (kind : HeightKind) (a b : ℤ) → (a <ℤ b) ↔ (height_of kind a <ℤ height_of kind b)
+
+-- the heights of a least surface are the least among all heights that cover the ground and drain, not only among those that have
+-- numbers: of floats in units of 2^-149
+abbrev pub LeastAmongHeights : Type 0
+LeastAmongHeights =
+    (g : Grid) (s : Surface) (kind : HeightKind) → IsLeastSurface g s → (t : Surface) →
+    ((c : Cell) → HasData g c → height_of kind (height_at g c) ≤ℤ t c) → Drains g t → (c : Cell) → HasData g c → height_of kind (s c) ≤ℤ t c
 
 -- on unit spacing a key is twice the square of the drop along a row or a column, and its square across a corner
 abbrev pub KeysOnUnitSpacing : Type 0

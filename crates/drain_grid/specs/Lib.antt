@@ -22,6 +22,7 @@ pub mod RulesAbout
 pub mod Run
 pub mod SinkTexts
 pub mod Slope
+pub mod HeightKinds
 pub mod Spacing
 pub mod SpacingTexts
 pub mod Values

@@ -3,18 +3,22 @@
 use Rattle.std.specs.Prelude.{ℕ, ◌+◌, ◌*◌, ◌<◌, ◌≤◌, ◌==◌, if◌then◌else◌, List, slice_index_or}
 use Rattle.drain_grid.specs.declared.cell.Cell.{Cell}
 use Rattle.drain_grid.specs.declared.direction.Direction.{Direction}
+use Rattle.drain_grid.specs.declared.height_kind.HeightKind.{HeightKind}
+use Rattle.drain_grid.specs.declared.height_kind.HeightKind.TheVariants.{Whole}
 use Rattle.drain_grid.specs.declared.direction.Direction.TheVariants.{East, SouthEast, South, SouthWest, West, NorthWest, North, NorthEast}
 use Rattle.drain_grid.specs.declared.spacing.TheConstants.{GREATEST_SPACING}
 
--- how far apart two cells of a row are, and two cells of a column: whole numbers in one unit
+-- how far apart two cells of a row are, and two cells of a column: whole numbers in one unit; and what numbers of heights
+-- stand for
 pub record Distances : Type 0 where
   pub width : ℕ
   pub height : ℕ
+  pub kind : HeightKind
 
--- square cells.
+-- square cells with whole heights.
 -- Source: D8 (O'Callaghan and Mark 1984) is on unit spacing
 abbrev pub unit_spacing : Distances
-unit_spacing = record { width = 1; height = 1 }
+unit_spacing = record { width = 1; height = 1; kind = Whole }
 
 -- above 0, and so small that slopes compare in 128 bits
 pub record IsDistance (n : ℕ) : Type 0 where
@@ -33,6 +37,10 @@ pub record RowSpacings : Type 0 where
 
 abbrev pub spacing_of : RowSpacings → ℕ → Distances
 spacing_of s row = slice_index_or s.listed row s.otherwise
+
+-- the same distances, for heights of this kind
+abbrev pub of_kind : HeightKind → Distances → Distances
+of_kind kind s = record { width = s.width; height = s.height; kind = kind }
 
 -- the square of the distance along a row, along a column, and across a corner
 abbrev pub row_square : Distances → ℕ

@@ -7,6 +7,7 @@ use Rattle.drain_grid.specs.declared.spacing_text.SpacingFault.TheVariants.{BadS
 use Rattle.drain_grid.specs.declared.spacing_text.SpacingInput.{SpacingInput}
 use Rattle.drain_grid.specs.declared.spacing_text.SpacingInput.TheVariants.{Same, ByRow}
 use Rattle.drain_grid.specs.Listings.{listing}
+use Rattle.drain_grid.specs.declared.height_kind.HeightKind.TheVariants.{Whole}
 use Rattle.drain_grid.specs.Spacing.{Distances, RowSpacings, spacing_of, unit_spacing}
 use Rattle.drain_text.specs.Text.{lines_of}
 
@@ -17,7 +18,7 @@ is_distance n = nat_lt 0 n && nat_le n GREATEST_SPACING
 -- two whole numbers are a width and a height
 abbrev pub spacing_item : ℕ → ℕ → ℕ → Option Distances
 spacing_item number width height =
-    if is_distance width && is_distance height then Some (record { width = width; height = height }) else None
+    if is_distance width && is_distance height then Some (record { width = width; height = height; kind = Whole }) else None
 
 -- the rows that a text lists, or the number of its first bad line; lines are numbered from 1
 abbrev pub spacings_of : List ℕ → Result (List Distances) ℕ

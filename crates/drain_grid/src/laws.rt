@@ -4,7 +4,7 @@
 
 ghost use Rattle.std.specs.Prelude.{◌≡◌, pos, neg_ℤ};
 ghost use Rattle.drain_grid.specs.OffData.{FoundOffDataIsRight};
-ghost use Rattle.drain_grid.specs.Laws.{CorrectByRulesAlone, CorrectFromRules, CorrectIsLocal, CountsUpstream, KeysCompareSlopes, KeysOnUnitSpacing, LabelsAreBasins, LeastFromRules, LeastFromRulesProfile2, OpenWithoutSinks, Profile2FromProfile1, RanksPlayNoPart, RulesAreCorrect, RulesFromCorrect, RunsEnd, RunsEndByCounts, SoundFromCorrect};
+ghost use Rattle.drain_grid.specs.Laws.{CorrectByRulesAlone, CorrectFromRules, CorrectIsLocal, CountsUpstream, KeysCompareSlopes, KeysOnUnitSpacing, NumbersOrderHeights, LabelsAreBasins, LeastAmongHeights, LeastFromRules, LeastFromRulesProfile2, OpenWithoutSinks, Profile2FromProfile1, RanksPlayNoPart, RulesAreCorrect, RulesFromCorrect, RunsEnd, RunsEndByCounts, SoundFromCorrect};
 
 use crate::cell::MAX_LENGTH;
 use crate::degree::UNITS_PER_DEGREE;
@@ -122,6 +122,16 @@ pub fn open_without_sinks()
 /// Keys compare as slopes do: drop over distance.
 pub fn keys_compare_slopes()
     ensures { KeysCompareSlopes }
+{}
+
+/// Numbers of heights are ordered as the heights that they stand for.
+pub fn numbers_order_heights()
+    ensures { NumbersOrderHeights }
+{}
+
+/// The heights of a least surface are the least among all heights, not only among those that have numbers.
+pub fn least_among_heights()
+    ensures { LeastAmongHeights }
 {}
 
 /// On unit spacing a key is twice the square of the drop along a row or a column, and its square across a corner.

@@ -2,9 +2,10 @@
 //!
 //! Rows are listed from the north. All others have one spacing, so that of square cells needs no list.
 
-ghost use Rattle.std.specs.Prelude.{◌≡◌, [], length};
-ghost use Rattle.drain_grid.specs.Spacing.{spacing_of, unit_spacing};
+ghost use Rattle.std.specs.Prelude.{◌≡◌, ℕ, [], length};
+ghost use Rattle.drain_grid.specs.Spacing.{of_kind, spacing_of, unit_spacing};
 
+use crate::height_kind::HeightKind;
 use crate::spacing::Spacing;
 use std::alloc::Global;
 use std::marker::Model;
@@ -42,6 +43,21 @@ impl Spacings {
         Spacings {
             listed: rows,
             otherwise: Spacing::unit(),
+        }
+    }
+
+    /// The same for heights of this kind.
+    pub fn of_kind(self, kind: HeightKind) -> Spacings
+        ensures rows { (row : ℕ) → spacing_of result row ≡ of_kind kind (spacing_of self row) }
+        ensures listed { length result.listed ≡ length self.listed }
+    {
+        let mut listed = self.listed;
+        for k in 0..listed.len() {
+            listed[k] = listed[k].of_kind(kind);
+        }
+        Spacings {
+            listed,
+            otherwise: self.otherwise.of_kind(kind),
         }
     }
 

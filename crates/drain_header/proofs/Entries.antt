@@ -3,12 +3,13 @@ use Rattle.std.proofs.Common.{◌≡◌, ◌/◌, ◌^◌, List, [], ◌∷◌, 
 use Rattle.std.specs.Prelude.{decimal, unsigned_abs, codes, Option, Some, None, ◌⊎◌, ◌||◌, cond, find, nat_eq, nat_lt, slice_get, option_and_then}
 use Rattle.std.specs.Fmt.{sign_text}
 use Rattle.std.specs.Int.{is_negative}
+use Rattle.drain_grid.specs.declared.height_kind.HeightKind.{HeightKind}
 use Rattle.drain_header.specs.declared.header.Place.{Place}
 use Rattle.drain_header.specs.declared.key.Key.{Key}
 use Rattle.drain_header.specs.declared.key.Key.TheVariants.{Nrows, Ncols, Nbands, Nbits, ByteOrder, Layout, PixelType, SkipBytes, BandRowBytes, TotalRowBytes, Ulxmap, Ulymap, Xdim, Ydim, Nodata}
 use Rattle.drain_header.specs.Header.{Fields}
 use Rattle.drain_header.specs.Lines.{key_name, key_order, named_key, line_key, line_value, value_at, is_some_key, takes, takes_some}
-use Rattle.drain_header.specs.Text.{line, fraction_text, places_text, ordering_text, signedness_text, shape_lines, pixel_lines, place_lines}
+use Rattle.drain_header.specs.Text.{line, fraction_text, places_text, ordering_text, type_text, shape_lines, pixel_lines, place_lines}
 use Rattle.std.specs.Option.{option_or}
 use Rattle.std.specs.List.{list_all}
 use Rattle.drain_text.specs.Text.{lines_of, words_of}
@@ -35,12 +36,12 @@ shape_joined h word t0 t1 t2 t3 t4 says order layout rows cols =
     ∙ simp append_assoc
 
 -- the lines of the pixels
-pub pixels_joined : (h : Fields) (word : List ℕ) (t0 t1 t2 t3 t4 : List ℕ) → word ≡ signedness_text h.signed → t1 ≡ t0 ++ line Nbits (decimal h.bits) → t2 ≡ t1 ++ line BandRowBytes (decimal h.row_bytes)
+pub pixels_joined : (h : Fields) (word : List ℕ) (t0 t1 t2 t3 t4 : List ℕ) → word ≡ type_text h.kind h.signed → t1 ≡ t0 ++ line Nbits (decimal h.bits) → t2 ≡ t1 ++ line BandRowBytes (decimal h.row_bytes)
     → t3 ≡ t2 ++ line TotalRowBytes (decimal h.row_bytes) → t4 ≡ t3 ++ line SkipBytes (decimal h.skip) → t4 ++ line PixelType word ≡ t0 ++ pixel_lines h
 unfolding pixel_lines
 pixels_joined h word t0 t1 t2 t3 t4 says bits band total skip =
     ap (λ w. t4 ++ line PixelType w) says
-    ∙ ap (λ t. t ++ line PixelType (signedness_text h.signed)) (more t3 t4 _ (line SkipBytes (decimal h.skip)) skip (more t2 t3 _ (line TotalRowBytes (decimal h.row_bytes)) total (more t1 t2 _ (line BandRowBytes (decimal h.row_bytes)) band bits)))
+    ∙ ap (λ t. t ++ line PixelType (type_text h.kind h.signed)) (more t3 t4 _ (line SkipBytes (decimal h.skip)) skip (more t2 t3 _ (line TotalRowBytes (decimal h.row_bytes)) total (more t1 t2 _ (line BandRowBytes (decimal h.row_bytes)) band bits)))
     ∙ simp append_assoc
 
 -- the lines of the place
@@ -188,25 +189,25 @@ named Ydim = refl
 named Nodata = refl
 
 -- an entry that its keyword takes, where the header's text has it
-pub record IsGood (n : ℕ) (e : Key × List ℕ) : Type 0 where
+pub record IsGood (kind : HeightKind) (n : ℕ) (e : Key × List ℕ) : Type 0 where
   pub word : IsWord e.1
   pub short : length e.1 ≤ 60
-  pub taken : takes e.0 e.1 ≡ true
+  pub taken : takes kind e.0 e.1 ≡ true
   pub number : line_number e.0 ≡ n
 
-abbrev pub AllGood : ℕ → List (Key × List ℕ) → Type 0
-AllGood n [] = Unit {0}
-AllGood n (e ∷ es) = IsGood n e × AllGood (suc n) es
+abbrev pub AllGood : HeightKind → ℕ → List (Key × List ℕ) → Type 0
+AllGood kind n [] = Unit {0}
+AllGood kind n (e ∷ es) = IsGood kind n e × AllGood kind (suc n) es
 
 -- the lines of the text
-pub lines_entries : (n : ℕ) (es : List (Key × List ℕ)) → AllGood n es → lines_of (entries_text es) ≡ entries_lines es
+pub lines_entries : (kind : HeightKind) (n : ℕ) (es : List (Key × List ℕ)) → AllGood kind n es → lines_of (entries_text es) ≡ entries_lines es
 unfolding line
-lines_entries n [] good = refl
-lines_entries n (e ∷ es) good =
+lines_entries kind n [] good = refl
+lines_entries kind n (e ∷ es) good =
     let regrouped : line e.0 e.1 ++ entries_text es ≡ bare e.0 e.1 ++ 10 ∷ entries_text es = simp append_assoc in
     ap lines_of regrouped
     ∙ line_first (key_name e.0) e.1 (entries_text es) (ink_told (key_name e.0) (name_ink e.0)) good.0.word.ink
-    ∙ ap (λ ls. bare e.0 e.1 ∷ ls) (lines_entries (suc n) es good.1)
+    ∙ ap (λ ls. bare e.0 e.1 ∷ ls) (lines_entries kind (suc n) es good.1)
 
 -- the words of a line
 words_bare : (key : Key) (value : List ℕ) → IsWord value → words_of (bare key value) ≡ key_name key ∷ value ∷ []
@@ -228,31 +229,31 @@ picked : (b : Bool) (line : List ℕ) (rest : Option (List ℕ)) (value : List �
 picked true line rest value known p q = p
 picked false line rest value known p q = q
 
-pub value_entries : (key : Key) (n : ℕ) (es : List (Key × List ℕ)) → AllGood n es → value_at key (entries_lines es) ≡ value_in key es
-value_entries key n [] good = refl
-value_entries key n (e ∷ es) good =
+pub value_entries : (kind : HeightKind) (key : Key) (n : ℕ) (es : List (Key × List ℕ)) → AllGood kind n es → value_at key (entries_lines es) ≡ value_in key es
+value_entries kind key n [] good = refl
+value_entries kind key n (e ∷ es) good =
     let rest = find (λ line. is_some_key key (line_key line)) (entries_lines es) in
     ap (λ o. option_and_then line_value (cond (is_some_key key o) (Some (bare e.0 e.1)) rest)) (key_bare e.0 e.1 good.0.word)
-    ∙ picked (nat_eq (key_order key) (key_order e.0)) (bare e.0 e.1) rest e.1 (value_in key es) (value_bare e.0 e.1 good.0.word) (value_entries key (suc n) es good.1)
+    ∙ picked (nat_eq (key_order key) (key_order e.0)) (bare e.0 e.1) rest e.1 (value_in key es) (value_bare e.0 e.1 good.0.word) (value_entries kind key (suc n) es good.1)
 
 -- what a line with a keyword says of it
-pub record IsToldAt (number : ℕ) (key : Key) (value : Option (List ℕ)) : Type 0 where
+pub record IsToldAt (kind : HeightKind) (number : ℕ) (key : Key) (value : Option (List ℕ)) : Type 0 where
   pub place : line_number key ≡ number
-  pub taken : takes_some key value ≡ true
+  pub taken : takes_some kind key value ≡ true
 
-pub told_at : (n : ℕ) (es : List (Key × List ℕ)) → AllGood n es → (i : ℕ) (key : Key) → option_and_then line_key (slice_get (entries_lines es) i) ≡ Some key
-    → IsToldAt (n + i) key (option_and_then line_value (slice_get (entries_lines es) i))
-told_at n [] good zero key is = cc
-told_at n [] good (suc i) key is = cc
-told_at n (e ∷ es) good zero key is =
+pub told_at : (kind : HeightKind) (n : ℕ) (es : List (Key × List ℕ)) → AllGood kind n es → (i : ℕ) (key : Key) → option_and_then line_key (slice_get (entries_lines es) i) ≡ Some key
+    → IsToldAt kind (n + i) key (option_and_then line_value (slice_get (entries_lines es) i))
+told_at kind n [] good zero key is = cc
+told_at kind n [] good (suc i) key is = cc
+told_at kind n (e ∷ es) good zero key is =
     let first = key_bare e.0 e.1 good.0.word in
     let same : e.0 ≡ key = cc in
     record {
       place = ap line_number (sym same) ∙ good.0.number ∙ omega arith;
-      taken = ap (takes_some key) (value_bare e.0 e.1 good.0.word) ∙ ap (λ k. takes k e.1) (sym same) ∙ good.0.taken;
+      taken = ap (takes_some kind key) (value_bare e.0 e.1 good.0.word) ∙ ap (λ k. takes kind k e.1) (sym same) ∙ good.0.taken;
     }
-told_at n (e ∷ es) good (suc i) key is =
-    let rest = told_at (suc n) es good.1 i key is in
+told_at kind n (e ∷ es) good (suc i) key is =
+    let rest = told_at kind (suc n) es good.1 i key is in
     record { place = rest.place ∙ omega arith; taken = rest.taken }
 
 -- the text is not long
@@ -262,9 +263,9 @@ line_short key value short =
     let name = (name_some key).1 in
     omega (arith, length-append (key_name key ++ (32 ∷ []) ++ value) (10 ∷ []), length-append (key_name key ++ (32 ∷ [])) value, length-append (key_name key) (32 ∷ []))
 
-pub entries_short : (n : ℕ) (es : List (Key × List ℕ)) → AllGood n es → length (entries_text es) ≤ 75 * length es
-entries_short n [] good = omega arith
-entries_short n (e ∷ es) good =
+pub entries_short : (kind : HeightKind) (n : ℕ) (es : List (Key × List ℕ)) → AllGood kind n es → length (entries_text es) ≤ 75 * length es
+entries_short kind n [] good = omega arith
+entries_short kind n (e ∷ es) good =
     let first = line_short e.0 e.1 good.0.short in
-    let rest = entries_short (suc n) es good.1 in
+    let rest = entries_short kind (suc n) es good.1 in
     omega (arith, length-append (line e.0 e.1) (entries_text es))

@@ -7,6 +7,7 @@ use Rattle.std.specs.Prelude.{◌||◌, not, cond, find, Option, Some, None, is_
 use Rattle.std.specs.Option.{option_or}
 use Rattle.std.proofs.lemmas.Bool.{eqb-true, eqb-false}
 use Rattle.std.proofs.lemmas.List.{append_assoc, append-nil, get_or-replicate, get_or-set_same, get_or-set_other, length-set, length-append}
+use Rattle.drain_grid.specs.declared.height_kind.HeightKind.{HeightKind}
 use Rattle.drain_header.specs.declared.key.Key.{Key}
 use Rattle.drain_header.specs.declared.key.Key.TheVariants.{Nrows, Ncols, Nbands, Nbits, ByteOrder, Layout, PixelType, SkipBytes, BandRowBytes, TotalRowBytes, Ulxmap, Ulymap, Xdim, Ydim, Nodata}
 use Rattle.drain_header.specs.declared.value.Value.{Value}
@@ -35,26 +36,26 @@ some_if true x = refl
 some_if false x = refl
 
 -- a keyword takes the words that say something as its value
-taken : (key : Key) (word : List ℕ) → takes key word ≡ is_some (value_read key word)
-taken Nrows word = sym (some_mapped _ _)
-taken Ncols word = sym (some_mapped _ _)
-taken Nbands word = sym (some_mapped _ _)
-taken Nbits word = sym (some_mapped _ _)
-taken ByteOrder word = sym (some_mapped _ _)
-taken Layout word = sym (some_if _ _)
-taken PixelType word = refl
-taken SkipBytes word = sym (some_mapped _ _)
-taken BandRowBytes word = sym (some_mapped _ _)
-taken TotalRowBytes word = sym (some_mapped _ _)
-taken Ulxmap word = sym (some_mapped _ _)
-taken Ulymap word = sym (some_mapped _ _)
-taken Xdim word = sym (some_mapped _ _)
-taken Ydim word = sym (some_mapped _ _)
-taken Nodata word = sym (some_mapped _ _)
+taken : (kind : HeightKind) (key : Key) (word : List ℕ) → takes kind key word ≡ is_some (value_read kind key word)
+taken kind Nrows word = sym (some_mapped _ _)
+taken kind Ncols word = sym (some_mapped _ _)
+taken kind Nbands word = sym (some_mapped _ _)
+taken kind Nbits word = sym (some_mapped _ _)
+taken kind ByteOrder word = sym (some_mapped _ _)
+taken kind Layout word = sym (some_if _ _)
+taken kind PixelType word = refl
+taken kind SkipBytes word = sym (some_mapped _ _)
+taken kind BandRowBytes word = sym (some_mapped _ _)
+taken kind TotalRowBytes word = sym (some_mapped _ _)
+taken kind Ulxmap word = sym (some_mapped _ _)
+taken kind Ulymap word = sym (some_mapped _ _)
+taken kind Xdim word = sym (some_mapped _ _)
+taken kind Ydim word = sym (some_mapped _ _)
+taken kind Nodata word = sym (some_mapped _ _)
 
-taken_some : (key : Key) (word : Option (List ℕ)) → takes_some key word ≡ is_some (option_and_then (value_read key) word)
-taken_some key None = refl
-taken_some key (Some word) = taken key word
+taken_some : (kind : HeightKind) (key : Key) (word : Option (List ℕ)) → takes_some kind key word ≡ is_some (option_and_then (value_read kind key) word)
+taken_some kind key None = refl
+taken_some kind key (Some word) = taken kind key word
 
 -- the line after the front
 line_behind : (front : List (List ℕ)) (line : List ℕ) (rest : List (List ℕ)) → slice_get (front ++ line ∷ rest) (length front) ≡ Some line
@@ -86,14 +87,14 @@ first_found f n (suc k) a none here h = elim (nat_eq n k) as (λ b. nat_eq n k �
 ] refl
 
 -- what is kept of the lines in front of line n
-pub record IsSeen (lines front : List (List ℕ)) (n : ℕ) (seen : Seen) : Type 0 where
+pub record IsSeen (kind : HeightKind) (lines front : List (List ℕ)) (n : ℕ) (seen : Seen) : Type 0 where
   pub long : length seen ≡ 15
   pub there : (key : Key) → any_below (λ m. is_some_key key (key_on lines m)) n ≡ is_some (at key seen)
   pub found : (key : Key) → is_some (find (has key) front) ≡ is_some (at key seen)
-  pub value : (key : Key) → at key seen ≡ option_and_then (value_read key) (option_and_then line_value (find (has key) front))
+  pub value : (key : Key) → at key seen ≡ option_and_then (value_read kind key) (option_and_then line_value (find (has key) front))
 
-pub start : (lines : List (List ℕ)) → IsSeen lines [] 1 nothing
-start lines =
+pub start : (kind : HeightKind) (lines : List (List ℕ)) → IsSeen kind lines [] 1 nothing
+start kind lines =
     let none : (key : Key) → at key nothing ≡ None = λ key. get_or-replicate 15 (key_order key) None None (place_below key) in
     record {
       long = refl;
@@ -103,25 +104,25 @@ start lines =
     }
 
 -- line n, and what it does
-module _ (lines front rest : List (List ℕ)) (line : List ℕ) (n : ℕ) (seen : Seen) (is : lines ≡ front ++ line ∷ rest) (count : n ≡ suc (length front)) (s : IsSeen lines front n seen) where
+module _ (kind : HeightKind) (lines front rest : List (List ℕ)) (line : List ℕ) (n : ℕ) (seen : Seen) (is : lines ≡ front ++ line ∷ rest) (count : n ≡ suc (length front)) (s : IsSeen kind lines front n seen) where
   here : line_at lines n ≡ Some line
   here = ap (λ (m : ℕ). line_at lines m) count ∙ ap (λ ls. slice_get ls (length front)) is ∙ line_behind front line rest
 
   key_here : key_on lines n ≡ line_key line
   key_here = ap (option_and_then line_key) here
 
-  keyless : line_key line ≡ None → IsSeen lines (front ++ line ∷ []) (suc n) seen
+  keyless : line_key line ≡ None → IsSeen kind lines (front ++ line ∷ []) (suc n) seen
   keyless none = record {
     long = s.long;
     there = λ key. ap (λ o. is_some_key key o || any_below (λ m. is_some_key key (key_on lines m)) n) (key_here ∙ none) ∙ s.there key;
     found = λ key. ap is_some (same key) ∙ s.found key;
-    value = λ key. s.value key ∙ ap (λ o. option_and_then (value_read key) (option_and_then line_value o)) (sym (same key));
+    value = λ key. s.value key ∙ ap (λ o. option_and_then (value_read kind key) (option_and_then line_value o)) (sym (same key));
   }
     where
       same : (key : Key) → find (has key) (front ++ line ∷ []) ≡ find (has key) front
       same key = find_more (has key) front line ∙ ap (λ o. option_or (find (has key) front) (cond (is_some_key key o) (Some line) None)) none ∙ or_none _
 
-  keyed : (k : Key) (x : Value) → line_key line ≡ Some k → is_some (at k seen) ≡ false → option_and_then (value_read k) (line_value line) ≡ Some x → IsSeen lines (front ++ line ∷ []) (suc n) (slice_set seen (key_order k) (Some x))
+  keyed : (k : Key) (x : Value) → line_key line ≡ Some k → is_some (at k seen) ≡ false → option_and_then (value_read kind k) (line_value line) ≡ Some x → IsSeen kind lines (front ++ line ∷ []) (suc n) (slice_set seen (key_order k) (Some x))
   keyed k x key_is new read = record {
     long = length-set seen (key_order k) (Some x) ∙ s.long;
     there = λ key. (each key).0;
@@ -137,10 +138,10 @@ module _ (lines front rest : List (List ℕ)) (line : List ℕ) (n : ℕ) (seen 
 
       each : (key : Key) → (any_below (λ m. is_some_key key (key_on lines m)) (suc n) ≡ is_some (get_or (slice_set seen (key_order k) (Some x)) (key_order key) None))
           × (is_some (find (has key) (front ++ line ∷ [])) ≡ is_some (get_or (slice_set seen (key_order k) (Some x)) (key_order key) None))
-          × (get_or (slice_set seen (key_order k) (Some x)) (key_order key) None ≡ option_and_then (value_read key) (option_and_then line_value (find (has key) (front ++ line ∷ []))))
+          × (get_or (slice_set seen (key_order k) (Some x)) (key_order key) None ≡ option_and_then (value_read kind key) (option_and_then line_value (find (has key) (front ++ line ∷ []))))
       each key = elim (nat_eq (key_order key) (key_order k)) as (λ b. nat_eq (key_order key) (key_order k) ≡ b → (any_below (λ m. is_some_key key (key_on lines m)) (suc n) ≡ is_some (get_or (slice_set seen (key_order k) (Some x)) (key_order key) None))
           × (is_some (find (has key) (front ++ line ∷ [])) ≡ is_some (get_or (slice_set seen (key_order k) (Some x)) (key_order key) None))
-          × (get_or (slice_set seen (key_order k) (Some x)) (key_order key) None ≡ option_and_then (value_read key) (option_and_then line_value (find (has key) (front ++ line ∷ []))))) [
+          × (get_or (slice_set seen (key_order k) (Some x)) (key_order key) None ≡ option_and_then (value_read kind key) (option_and_then line_value (find (has key) (front ++ line ∷ []))))) [
             | true ↦ λ e. (
                 let place = eqb-true (key_order key) (key_order k) e in
                 let keys = is_some_key-true key (Some k) e in
@@ -151,7 +152,7 @@ module _ (lines front rest : List (List ℕ)) (line : List ℕ) (n : ℕ) (seen 
                 let found_here = more key ∙ ap (λ b. option_or (find (has key) front) (cond b (Some line) None)) e ∙ none_or (find (has key) front) (Some line) before in (
                   ap (λ o. is_some_key key o || any_below (λ m. is_some_key key (key_on lines m)) n) (key_here ∙ key_is) ∙ ap (λ b. b || any_below (λ m. is_some_key key (key_on lines m)) n) e ∙ sym (ap is_some here_key),
                   ap is_some found_here ∙ sym (ap is_some here_key),
-                  here_key ∙ sym read ∙ ap (λ (kk : Key). option_and_then (value_read kk) (line_value line)) same ∙ ap (λ o. option_and_then (value_read key) (option_and_then line_value o)) (sym found_here),
+                  here_key ∙ sym read ∙ ap (λ (kk : Key). option_and_then (value_read kind kk) (line_value line)) same ∙ ap (λ o. option_and_then (value_read kind key) (option_and_then line_value o)) (sym found_here),
                 ))
             | false ↦ λ e. (
                 let other = eqb-false (key_order key) (key_order k) e in
@@ -159,62 +160,62 @@ module _ (lines front rest : List (List ℕ)) (line : List ℕ) (n : ℕ) (seen 
                 let found_same = more key ∙ ap (λ b. option_or (find (has key) front) (cond b (Some line) None)) e ∙ or_none (find (has key) front) in (
                   ap (λ o. is_some_key key o || any_below (λ m. is_some_key key (key_on lines m)) n) (key_here ∙ key_is) ∙ ap (λ b. b || any_below (λ m. is_some_key key (key_on lines m)) n) e ∙ s.there key ∙ ap is_some (sym same_at),
                   ap is_some found_same ∙ s.found key ∙ ap is_some (sym same_at),
-                  same_at ∙ s.value key ∙ ap (λ o. option_and_then (value_read key) (option_and_then line_value o)) (sym found_same),
+                  same_at ∙ s.value key ∙ ap (λ o. option_and_then (value_read kind key) (option_and_then line_value o)) (sym found_same),
                 ))
           ] refl
 
   -- what line n's keyword and value decide
   abbrev judge : Option Key → Option (List ℕ) → Option HeaderFault
-  judge o word = cond (is_repeated lines n o) (Some (RepeatedKey n)) (cond (is_bad o word) (Some (BadValue n)) None)
+  judge o word = cond (is_repeated lines n o) (Some (RepeatedKey n)) (cond (is_bad kind o word) (Some (BadValue n)) None)
 
-  judged : (o : Option Key) → line_key line ≡ o → line_fault lines n ≡ judge o (line_value line)
+  judged : (o : Option Key) → line_key line ≡ o → line_fault kind lines n ≡ judge o (line_value line)
   judged o e = ap (λ k. judge k (option_and_then line_value (line_at lines n))) (key_here ∙ e) ∙ ap (λ w. judge o (option_and_then line_value w)) here
 
-  repeated : (k : Key) → line_key line ≡ Some k → is_some (at k seen) ≡ true → line_fault lines n ≡ Some (RepeatedKey n)
-  repeated k key_is old = judged (Some k) key_is ∙ ap (λ b. cond b (Some (RepeatedKey n)) (cond (is_bad (Some k) (line_value line)) (Some (BadValue n)) None)) (s.there k ∙ old)
+  repeated : (k : Key) → line_key line ≡ Some k → is_some (at k seen) ≡ true → line_fault kind lines n ≡ Some (RepeatedKey n)
+  repeated k key_is old = judged (Some k) key_is ∙ ap (λ b. cond b (Some (RepeatedKey n)) (cond (is_bad kind (Some k) (line_value line)) (Some (BadValue n)) None)) (s.there k ∙ old)
 
-  bad : (k : Key) → line_key line ≡ Some k → is_some (at k seen) ≡ false → option_and_then (value_read k) (line_value line) ≡ None → line_fault lines n ≡ Some (BadValue n)
+  bad : (k : Key) → line_key line ≡ Some k → is_some (at k seen) ≡ false → option_and_then (value_read kind k) (line_value line) ≡ None → line_fault kind lines n ≡ Some (BadValue n)
   bad k key_is new none =
       judged (Some k) key_is
-      ∙ ap (λ b. cond b (Some (RepeatedKey n)) (cond (is_bad (Some k) (line_value line)) (Some (BadValue n)) None)) (s.there k ∙ new)
-      ∙ ap (λ b. cond (not b) (Some (BadValue n)) None) (taken_some k (line_value line) ∙ ap is_some none)
+      ∙ ap (λ b. cond b (Some (RepeatedKey n)) (cond (is_bad kind (Some k) (line_value line)) (Some (BadValue n)) None)) (s.there k ∙ new)
+      ∙ ap (λ b. cond (not b) (Some (BadValue n)) None) (taken_some kind k (line_value line) ∙ ap is_some none)
 
-  sound_keyless : line_key line ≡ None → line_fault lines n ≡ None
+  sound_keyless : line_key line ≡ None → line_fault kind lines n ≡ None
   sound_keyless none = judged None none
 
-  sound_keyed : (k : Key) (x : Value) → line_key line ≡ Some k → is_some (at k seen) ≡ false → option_and_then (value_read k) (line_value line) ≡ Some x → line_fault lines n ≡ None
+  sound_keyed : (k : Key) (x : Value) → line_key line ≡ Some k → is_some (at k seen) ≡ false → option_and_then (value_read kind k) (line_value line) ≡ Some x → line_fault kind lines n ≡ None
   sound_keyed k x key_is new read =
       judged (Some k) key_is
-      ∙ ap (λ b. cond b (Some (RepeatedKey n)) (cond (is_bad (Some k) (line_value line)) (Some (BadValue n)) None)) (s.there k ∙ new)
-      ∙ ap (λ b. cond (not b) (Some (BadValue n)) None) (taken_some k (line_value line) ∙ ap is_some read)
+      ∙ ap (λ b. cond b (Some (RepeatedKey n)) (cond (is_bad kind (Some k) (line_value line)) (Some (BadValue n)) None)) (s.there k ∙ new)
+      ∙ ap (λ b. cond (not b) (Some (BadValue n)) None) (taken_some kind k (line_value line) ∙ ap is_some read)
 
 -- what the lines give when none is left
-abbrev pub Outcome : List (List ℕ) → Result Seen HeaderFault → Type 0
-Outcome lines (Ok seen) = IsSeen lines lines (suc (length lines)) seen × (first_below (line_fault lines) (suc (length lines)) ≡ None)
-Outcome lines (Err fault) = first_below (line_fault lines) (suc (length lines)) ≡ Some fault
+abbrev pub Outcome : HeightKind → List (List ℕ) → Result Seen HeaderFault → Type 0
+Outcome kind lines (Ok seen) = IsSeen kind lines lines (suc (length lines)) seen × (first_below (line_fault kind lines) (suc (length lines)) ≡ None)
+Outcome kind lines (Err fault) = first_below (line_fault kind lines) (suc (length lines)) ≡ Some fault
 
-pub fold : (lines front rest : List (List ℕ)) (n : ℕ) (seen : Seen) → lines ≡ front ++ rest → n ≡ suc (length front) → IsSeen lines front n seen → first_below (line_fault lines) n ≡ None → Outcome lines (with_lines seen n rest)
-fold lines front [] n seen is count s none =
+pub fold : (kind : HeightKind) (lines front rest : List (List ℕ)) (n : ℕ) (seen : Seen) → lines ≡ front ++ rest → n ≡ suc (length front) → IsSeen kind lines front n seen → first_below (line_fault kind lines) n ≡ None → Outcome kind lines (with_lines kind seen n rest)
+fold kind lines front [] n seen is count s none =
     let all : front ≡ lines = sym (is ∙ append-nil front) in
     let last : n ≡ suc (length lines) = count ∙ ap (λ (ls : List (List ℕ)). suc (length ls)) all in
     (rw (all, last) at s, rw last at none)
-fold lines front (line ∷ rest) n seen is count s none =
+fold kind lines front (line ∷ rest) n seen is count s none =
     let inside : n < suc (length lines) = omega (arith, ap (λ (ls : List (List ℕ)). length ls) is, length-append front (line ∷ rest), count) in
     let plus : suc n ≡ n + 1 = omega arith in
-    let go = λ (next : Seen) (s' : IsSeen lines (front ++ line ∷ []) (suc n) next) (fine : line_fault lines n ≡ None). (
-    let none' : first_below (line_fault lines) (suc n) ≡ None = ap (λ o. option_or o (line_fault lines n)) none ∙ fine in
-    fold lines (front ++ line ∷ []) rest (n + 1) next (is ∙ sym (append_assoc front (line ∷ []) rest)) (omega (arith, length-append front (line ∷ []))) (rw plus at s') (ap (first_below (line_fault lines)) (sym plus) ∙ none')) in
-    elim (line_key line) as (λ o. line_key line ≡ o → Outcome lines (follow (with_key seen n o (line_value line)) (λ next. with_lines next (n + 1) rest))) [
-      | None ↦ λ e. go seen (keyless lines front rest line n seen is count s e) (sound_keyless lines front rest line n seen is count s e)
-      | Some k ↦ λ e. elim (is_some (at k seen)) as (λ b. is_some (at k seen) ≡ b → Outcome lines (follow (cond b (Err (RepeatedKey n)) (with_value seen n k (option_and_then (value_read k) (line_value line)))) (λ next. with_lines next (n + 1) rest))) [
-        | true ↦ λ old. first_found (line_fault lines) n (suc (length lines)) (RepeatedKey n) none (repeated lines front rest line n seen is count s k e old) inside
-        | false ↦ λ new. elim (option_and_then (value_read k) (line_value line)) as (λ o. option_and_then (value_read k) (line_value line) ≡ o → Outcome lines (follow (with_value seen n k o) (λ next. with_lines next (n + 1) rest))) [
-          | None ↦ λ no. first_found (line_fault lines) n (suc (length lines)) (BadValue n) none (bad lines front rest line n seen is count s k e new no) inside
-          | Some x ↦ λ read. go (slice_set seen (key_order k) (Some x)) (keyed lines front rest line n seen is count s k x e new read) (sound_keyed lines front rest line n seen is count s k x e new read)
+    let go = λ (next : Seen) (s' : IsSeen kind lines (front ++ line ∷ []) (suc n) next) (fine : line_fault kind lines n ≡ None). (
+    let none' : first_below (line_fault kind lines) (suc n) ≡ None = ap (λ o. option_or o (line_fault kind lines n)) none ∙ fine in
+    fold kind lines (front ++ line ∷ []) rest (n + 1) next (is ∙ sym (append_assoc front (line ∷ []) rest)) (omega (arith, length-append front (line ∷ []))) (rw plus at s') (ap (first_below (line_fault kind lines)) (sym plus) ∙ none')) in
+    elim (line_key line) as (λ o. line_key line ≡ o → Outcome kind lines (follow (with_key kind seen n o (line_value line)) (λ next. with_lines kind next (n + 1) rest))) [
+      | None ↦ λ e. go seen (keyless kind lines front rest line n seen is count s e) (sound_keyless kind lines front rest line n seen is count s e)
+      | Some k ↦ λ e. elim (is_some (at k seen)) as (λ b. is_some (at k seen) ≡ b → Outcome kind lines (follow (cond b (Err (RepeatedKey n)) (with_value seen n k (option_and_then (value_read kind k) (line_value line)))) (λ next. with_lines kind next (n + 1) rest))) [
+        | true ↦ λ old. first_found (line_fault kind lines) n (suc (length lines)) (RepeatedKey n) none (repeated kind lines front rest line n seen is count s k e old) inside
+        | false ↦ λ new. elim (option_and_then (value_read kind k) (line_value line)) as (λ o. option_and_then (value_read kind k) (line_value line) ≡ o → Outcome kind lines (follow (with_value seen n k o) (λ next. with_lines kind next (n + 1) rest))) [
+          | None ↦ λ no. first_found (line_fault kind lines) n (suc (length lines)) (BadValue n) none (bad kind lines front rest line n seen is count s k e new no) inside
+          | Some x ↦ λ read. go (slice_set seen (key_order k) (Some x)) (keyed kind lines front rest line n seen is count s k x e new read) (sound_keyed kind lines front rest line n seen is count s k x e new read)
         ] refl
       ] refl
     ] refl
 
 -- so a text's lines give the first fault of a line, or the values that its keywords have
-pub lines_read : (lines : List (List ℕ)) → Outcome lines (with_lines nothing 1 lines)
-lines_read lines = fold lines [] lines 1 nothing refl refl (start lines) refl
+pub lines_read : (kind : HeightKind) (lines : List (List ℕ)) → Outcome kind lines (with_lines kind nothing 1 lines)
+lines_read kind lines = fold kind lines [] lines 1 nothing refl refl (start kind lines) refl

@@ -3,11 +3,13 @@ use Rattle.std.proofs.Common.{◌≡◌, ℕ, ◌+◌, ◌*◌, ◌/◌, ◌%◌
 use Rattle.std.specs.Prelude.{cond, ◌==◌, slice_get, Option, Some, None, option_and_then, option_map, Result, Ok, Err}
 use Rattle.std.proofs.lemmas.Bool.{eq-eqb, ne_eqb}
 use Rattle.drain_text.specs.First.{IsFirst}
+use Rattle.drain_grid.specs.declared.height_kind.HeightKind.{HeightKind}
+use Rattle.drain_grid.specs.declared.height_kind.HeightKind.TheVariants.{Whole}
 use Rattle.drain_header.specs.declared.fault.HeaderFault.{HeaderFault}
 use Rattle.drain_header.specs.declared.fault.HeaderFault.TheVariants.{TooLong, RepeatedKey, BadValue, MissingKey, NotOneBand, BadBits, BadPixelType, RowTooShort}
 use Rattle.drain_header.specs.Header.{Fields}
 use Rattle.drain_header.specs.Lines.{keys}
-use Rattle.drain_header.specs.Faults.{fault_order, HasFault, Answers}
+use Rattle.drain_header.specs.Faults.{fault_order, HasFaultOf, AnswersOf, Answers}
 use Rattle.drain_header.proofs.AnswerTests.{key_place}
 
 -- the fault of a line that has this second number
@@ -37,15 +39,19 @@ fault_there RowTooShort = refl
 same_number : (a b : ℕ) → (a < b → ⊥) → (b < a → ⊥) → a ≡ b
 same_number a b above below = omega arith
 
-one_fault : (text : List ℕ) (f g : HeaderFault) → IsFirst fault_order (HasFault text) f → IsFirst fault_order (HasFault text) g → f ≡ g
-one_fault text f g p q =
+one_fault : (kind : HeightKind) (text : List ℕ) (f g : HeaderFault) → IsFirst fault_order (HasFaultOf kind text) f → IsFirst fault_order (HasFaultOf kind text) g → f ≡ g
+one_fault kind text f g p q =
     let kind = same_number (fault_order f).0 (fault_order g).0 (λ h. q.first f (inl h) p.holds) (λ h. p.first g (inl h) q.holds) in
     let within = same_number (fault_order f).1 (fault_order g).1 (λ h. q.first f (inr (kind, h)) p.holds) (λ h. p.first g (inr (sym kind, h)) q.holds) in
     let there = sym (fault_there f) ∙ ap (λ (k : ℕ). fault_at k (fault_order f).1) kind ∙ ap (fault_at (fault_order g).0) within ∙ fault_there g in
     cc
 
+pub one_answer_of : (kind : HeightKind) (text : List ℕ) (a b : Result Fields HeaderFault) → AnswersOf kind text a → AnswersOf kind text b → a ≡ b
+one_answer_of kind text (Ok g) (Ok h) p q = ap (λ x. Ok x) (p.fields ∙ sym q.fields)
+one_answer_of kind text (Ok g) (Err f) p q = absurd (p.sound f q.holds)
+one_answer_of kind text (Err f) (Ok h) p q = absurd (q.sound f p.holds)
+one_answer_of kind text (Err f) (Err g) p q = ap (λ x. Err x) (one_fault kind text f g p q)
+
+-- of whole heights
 pub one_answer : (text : List ℕ) (a b : Result Fields HeaderFault) → Answers text a → Answers text b → a ≡ b
-one_answer text (Ok g) (Ok h) p q = ap (λ x. Ok x) (p.fields ∙ sym q.fields)
-one_answer text (Ok g) (Err f) p q = absurd (p.sound f q.holds)
-one_answer text (Err f) (Ok h) p q = absurd (q.sound f p.holds)
-one_answer text (Err f) (Err g) p q = ap (λ x. Err x) (one_fault text f g p q)
+one_answer text a b p q = one_answer_of Whole text a b p q

@@ -2,12 +2,13 @@
 use Rattle.std.proofs.Common.{◌≡◌, ℕ, List, suc, length, refl, ap, ◌∙◌}
 use Rattle.std.specs.Prelude.{Option, Some, None, option_and_then, option_map}
 use Rattle.drain_text.specs.Text.{whole_number}
+use Rattle.drain_grid.specs.declared.height_kind.HeightKind.{HeightKind}
 use Rattle.drain_header.specs.declared.key.Key.TheVariants.{Nrows, Ncols, Nbands, Nbits, ByteOrder, PixelType, SkipBytes, BandRowBytes, TotalRowBytes, Ulxmap, Ulymap, Xdim, Ydim}
 use Rattle.drain_header.specs.declared.key.Key.TheVariants as keys
 use Rattle.drain_header.specs.declared.value.Value.{Value}
 use Rattle.drain_header.specs.declared.value.Value.TheVariants.{Number, Ordering, Signed, Coordinate, Nodata}
-use Rattle.drain_header.specs.Decimals.{coordinate_of, decimal_nodata}
-use Rattle.drain_header.specs.Lines.{value_at, size_of, ordering_of, signedness_of}
+use Rattle.drain_header.specs.Decimals.{coordinate_of}
+use Rattle.drain_header.specs.Lines.{value_at, size_of, ordering_of, sign_of, nodata_of}
 use Rattle.drain_header.specs.Reading.{Seen}
 use Rattle.drain_header.specs.Said.{said_by, said_number, ordering_in, sign_in, coordinate_in, said_nodata}
 use Rattle.drain_header.proofs.Folding.{IsSeen}
@@ -22,11 +23,11 @@ through {A} kind make back read (Some w) = inner (read w)
     inner None = refl
     inner (Some a) = back a
 
-signs : (word : Option (List ℕ)) → option_and_then sign_in (option_and_then (λ w. Some (Signed (signedness_of w))) word) ≡ option_and_then signedness_of word
-signs None = refl
-signs (Some w) = refl
+signs : (kind : HeightKind) (word : Option (List ℕ)) → option_and_then sign_in (option_and_then (λ w. Some (Signed (sign_of kind w))) word) ≡ option_and_then (sign_of kind) word
+signs kind None = refl
+signs kind (Some w) = refl
 
-module _ (lines : List (List ℕ)) (seen : Seen) (s : IsSeen lines lines (suc (length lines)) seen) where
+module _ (kind : HeightKind) (lines : List (List ℕ)) (seen : Seen) (s : IsSeen kind lines lines (suc (length lines)) seen) where
   pub rows_said : said_by said_number Nrows seen ≡ option_and_then size_of (value_at Nrows lines)
   rows_said = ap (option_and_then said_number) (s.value Nrows) ∙ through said_number (λ n. Number n) (λ n. refl) size_of (value_at Nrows lines)
 
@@ -51,8 +52,8 @@ module _ (lines : List (List ℕ)) (seen : Seen) (s : IsSeen lines lines (suc (l
   pub order_said : said_by ordering_in ByteOrder seen ≡ option_and_then ordering_of (value_at ByteOrder lines)
   order_said = ap (option_and_then ordering_in) (s.value ByteOrder) ∙ through ordering_in (λ o. Ordering o) (λ o. refl) ordering_of (value_at ByteOrder lines)
 
-  pub sign_said : said_by sign_in PixelType seen ≡ option_and_then signedness_of (value_at PixelType lines)
-  sign_said = ap (option_and_then sign_in) (s.value PixelType) ∙ signs (value_at PixelType lines)
+  pub sign_said : said_by sign_in PixelType seen ≡ option_and_then (sign_of kind) (value_at PixelType lines)
+  sign_said = ap (option_and_then sign_in) (s.value PixelType) ∙ signs kind (value_at PixelType lines)
 
   pub ulx_said : said_by coordinate_in Ulxmap seen ≡ option_and_then coordinate_of (value_at Ulxmap lines)
   ulx_said = ap (option_and_then coordinate_in) (s.value Ulxmap) ∙ through coordinate_in (λ z. Coordinate z) (λ z. refl) coordinate_of (value_at Ulxmap lines)
@@ -66,5 +67,5 @@ module _ (lines : List (List ℕ)) (seen : Seen) (s : IsSeen lines lines (suc (l
   pub ydim_said : said_by coordinate_in Ydim seen ≡ option_and_then coordinate_of (value_at Ydim lines)
   ydim_said = ap (option_and_then coordinate_in) (s.value Ydim) ∙ through coordinate_in (λ z. Coordinate z) (λ z. refl) coordinate_of (value_at Ydim lines)
 
-  pub nodata_said : said_by said_nodata keys.Nodata seen ≡ option_and_then decimal_nodata (value_at keys.Nodata lines)
-  nodata_said = ap (option_and_then said_nodata) (s.value keys.Nodata) ∙ through said_nodata (λ z. Nodata z) (λ z. refl) decimal_nodata (value_at keys.Nodata lines)
+  pub nodata_said : said_by said_nodata keys.Nodata seen ≡ option_and_then (nodata_of kind) (value_at keys.Nodata lines)
+  nodata_said = ap (option_and_then said_nodata) (s.value keys.Nodata) ∙ through said_nodata (λ z. Nodata z) (λ z. refl) (nodata_of kind) (value_at keys.Nodata lines)

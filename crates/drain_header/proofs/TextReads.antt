@@ -1,152 +1,49 @@
--- Words that are compared in capitals, letter by letter.
-use Rattle.std.proofs.Common.{◌≡◌, ℕ, ◌<◌, true, false, List, length, map, get_or, arith, refl, sym, ◌∙◌, suc, Bool, ap, ◌+◌, ◌≤◌, [], drop, inl, inr, zero, ◌*◌, ◌/◌, ◌∷◌, ◌++◌, append-nil, append_assoc}
-use Rattle.std.specs.Prelude.{bytes_eq, not, cond, Option, Some, None, is_some, is_none, slice_range, slice_index, ◌==◌, if◌then◌else◌, ℤ, pos, unsigned_abs, IfSome, option_and_then, slice_get, unwrap_or, decimal, codes}
-use Rattle.std.specs.Char.{to_ascii_uppercase}
-use Rattle.std.proofs.lemmas.List.{same_lists, get_or-map, get_or_default, length-map}
-use Rattle.std.proofs.lemmas.Slice.Eq.{bytes_eq-Decides}
-use Rattle.drain_header.specs.Lines.{reads, line_key, line_value, value_at, takes, takes_some, ordering_of, signedness_of}
-use Rattle.std.specs.Option.{option_or}
+-- The text of a header within its bounds describes the header.
+--
+-- The text is that of a list of entries, each of which its keyword takes. So its lines are known, each keyword is on
+-- one line alone, and the value at each keyword is the one that was printed.
+use Rattle.std.proofs.Common.{◌≡◌, ℕ, true, false, List, length, arith, refl, sym, ◌∙◌, suc, Bool, ap, ◌+◌, ◌≤◌, [], inl, inr, zero, ◌*◌, ◌/◌, ◌∷◌, ◌++◌, append-nil, append_assoc, true≢false}
+use Rattle.std.specs.Prelude.{Option, Some, None, is_some, ◌==◌, ℤ, pos, unsigned_abs, IfSome, option_and_then, option_map, slice_get, unwrap_or, decimal, codes}
+use Rattle.drain_header.specs.Lines.{reads, line_key, line_value, value_at, takes, takes_some, ordering_of, signedness_of, nodata_of, says_float}
 use Rattle.drain_header.specs.declared.key.Key.{Key}
 use Rattle.drain_header.specs.declared.key.Key.TheVariants.{Nrows, Ncols, Ulxmap, Ulymap, Xdim, Ydim, Nbands, Nbits, ByteOrder, Layout, PixelType, SkipBytes, BandRowBytes, TotalRowBytes, Nodata}
-use Rattle.drain_header.specs.declared.value.Value.{Value}
-use Rattle.drain_header.specs.Reading.{Seen}
-use Rattle.drain_header.specs.Faults.{lacking, is_unseen, line_at, HasKey, HasFault, IsRequired, Describes}
-use Rattle.drain_header.proofs.AnswerFunction.{is_absent, first_missing}
-use Rattle.drain_header.proofs.Folding.{IsSeen, at}
-use Rattle.std.specs.Str.Parse.{AllDigits}
-use Rattle.std.specs.Float.Numeral.{Parts, scan_numeral, digits_end, exponent_start, has_exponent, dot}
-use Rattle.drain_header.specs.declared.numeral.Numeral.{Numeral}
-use Rattle.drain_header.specs.Decimals.{parts_of, IsOfDigits, coordinate_of, decimal_nodata}
-use Rattle.drain_text.proofs.Digits.{counted_digits, append_digits}
+use Rattle.drain_header.specs.Faults.{line_at, HasKey, HasFaultOf, IsRequired, DescribesOf, HasBadPixelType}
+use Rattle.drain_header.specs.Decimals.{coordinate_of}
 use Rattle.std.specs.Fmt.{signed_decimal}
 use Rattle.std.proofs.Math.Logic.{∥∥₁_elim}
 use Rattle.std.proofs.Math.Bridge.{le_prop}
 use Rattle.drain_text.specs.Text.{lines_of, whole_number}
 use Rattle.drain_grid.specs.Values.{IsNoData}
+use Rattle.drain_grid.specs.declared.height_kind.HeightKind.{HeightKind}
+use Rattle.drain_grid.specs.declared.height_kind.HeightKind.TheVariants.{Whole, Single}
+use Rattle.drain_floats.specs.Words.{IsFloatWord, AreAboveSpace}
 use Rattle.drain_header.specs.declared.header.ByteOrdering.{ByteOrdering}
 use Rattle.drain_header.specs.declared.header.ByteOrdering.TheVariants.{Least, Most}
 use Rattle.drain_header.specs.declared.header.Place.{Place}
 use Rattle.drain_header.specs.declared.fault.HeaderFault.{HeaderFault}
 use Rattle.drain_header.specs.declared.fault.HeaderFault.TheVariants.{TooLong, RepeatedKey, BadValue, MissingKey, NotOneBand, BadBits, BadPixelType, RowTooShort}
-use Rattle.drain_header.specs.Header.{Fields, IsCoordinate, IsPixelSize, AreWithinBounds, said, packed_row, row_bytes_of, header_of}
-use Rattle.drain_header.specs.Text.{line, nodata_line, ordering_text, signedness_text, places_text, shape_lines, pixel_lines, place_lines, text_of}
-use Rattle.drain_text.proofs.Joining.{IsWord, ink_told}
+use Rattle.drain_header.specs.Header.{Fields, IsCoordinate, IsPixelSize, IsPixelSizeOf, AreWithinBounds, said, packed_row, row_bytes_of, signed_of, fields_of}
+use Rattle.drain_header.specs.Text.{line, nodata_line, ordering_text, signedness_text, type_text, places_text, shape_lines, pixel_lines, place_lines, IsFloatLine, IsTextOfKind, IsTextOf}
+use Rattle.drain_text.proofs.Joining.{AllInk, IsWord, ink_told}
 use Rattle.drain_header.proofs.Entries.{line_number, entries_text, entries_lines, AllGood, IsGood, value_in, lines_entries, value_entries, told_at, entries_short, key_bare}
 use Rattle.drain_text.proofs.Printed.{decimal_word, decimal_short, whole_read}
 use Rattle.drain_header.proofs.ReadBack.{size_read, coordinate_read, nodata_read, nodata_small, places_word, places_short, nodata_word, nodata_short}
 
-pub reads_same : (text word : List ℕ) → length word ≡ length text → ((k : ℕ) → k < length word → to_ascii_uppercase (get_or word k 0) ≡ get_or text k 0) → true ≡ reads text word
-reads_same text word long same =
-    let capitals = map to_ascii_uppercase word in
-    let count = length-map word to_ascii_uppercase in
-    let each : (k d : ℕ) → k < length capitals → get_or capitals k d ≡ get_or text k d = λ k d h. (
-    let inside : k < length word = omega arith in
-    get_or-map to_ascii_uppercase word k 0 d inside ∙ same k inside ∙ get_or_default text k 0 d (omega arith)) in
-    sym ((bytes_eq-Decides capitals text).1 (same_lists capitals text (omega arith) each))
-
-pub reads_other : (text word : List ℕ) → (map to_ascii_uppercase word ≡ text → ⊥) → false ≡ reads text word
-reads_other text word other =
-    elim (bytes_eq (map to_ascii_uppercase word) text) as (λ b. bytes_eq (map to_ascii_uppercase word) text ≡ b → false ≡ b) [
-      | true ↦ λ e. absurd (other ((bytes_eq-Decides (map to_ascii_uppercase word) text).0 e))
-      | false ↦ λ e. refl
-    ] refl
-
--- The first keyword that the lines lack is the first that their values lack.
-
-abbrev either : Bool → Key → Option Key
-either b key = cond b (Some key) None
-
--- the first six of the keywords in the order of the table, with those between that may be absent
-chain : (a b c d e f : Bool) → option_or (option_or (option_or (option_or (option_or (option_or (option_or (option_or (option_or (option_or (option_or (option_or (option_or (option_or (option_or None (either a Nrows)) (either b Ncols)) None) None) None) None) None) None) None) None) (either c Ulxmap)) (either d Ulymap)) (either e Xdim)) (either f Ydim)) None
-    ≡ cond a (Some Nrows) (cond b (Some Ncols) (cond c (Some Ulxmap) (cond d (Some Ulymap) (cond e (Some Xdim) (cond f (Some Ydim) None)))))
-chain true b c d e f = refl
-chain false true c d e f = refl
-chain false false true d e f = refl
-chain false false false true e f = refl
-chain false false false false true f = refl
-chain false false false false false true = refl
-chain false false false false false false = refl
-
-unseen : (o : Option Value) → not (is_some o) ≡ is_none o
-unseen None = refl
-unseen (Some v) = refl
-
-absent : (lines : List (List ℕ)) (seen : Seen) → IsSeen lines lines (suc (length lines)) seen → (key : Key) → is_absent lines key ≡ is_unseen seen key
-absent lines seen s key = ap not (s.there key) ∙ unseen (at key seen)
-
-pub missing_is : (lines : List (List ℕ)) (seen : Seen) → IsSeen lines lines (suc (length lines)) seen → first_missing lines ≡ lacking seen
-missing_is lines seen s =
-    chain (is_absent lines Nrows) (is_absent lines Ncols) (is_absent lines Ulxmap) (is_absent lines Ulymap) (is_absent lines Xdim) (is_absent lines Ydim)
-    ∙ ap (λ b. cond b (Some Nrows) (cond (is_absent lines Ncols) (Some Ncols) (cond (is_absent lines Ulxmap) (Some Ulxmap) (cond (is_absent lines Ulymap) (Some Ulymap) (cond (is_absent lines Xdim) (Some Xdim) (cond (is_absent lines Ydim) (Some Ydim) None)))))) (absent lines seen s Nrows)
-    ∙ ap (λ b. cond (is_unseen seen Nrows) (Some Nrows) (cond b (Some Ncols) (cond (is_absent lines Ulxmap) (Some Ulxmap) (cond (is_absent lines Ulymap) (Some Ulymap) (cond (is_absent lines Xdim) (Some Xdim) (cond (is_absent lines Ydim) (Some Ydim) None)))))) (absent lines seen s Ncols)
-    ∙ ap (λ b. cond (is_unseen seen Nrows) (Some Nrows) (cond (is_unseen seen Ncols) (Some Ncols) (cond b (Some Ulxmap) (cond (is_absent lines Ulymap) (Some Ulymap) (cond (is_absent lines Xdim) (Some Xdim) (cond (is_absent lines Ydim) (Some Ydim) None)))))) (absent lines seen s Ulxmap)
-    ∙ ap (λ b. cond (is_unseen seen Nrows) (Some Nrows) (cond (is_unseen seen Ncols) (Some Ncols) (cond (is_unseen seen Ulxmap) (Some Ulxmap) (cond b (Some Ulymap) (cond (is_absent lines Xdim) (Some Xdim) (cond (is_absent lines Ydim) (Some Ydim) None)))))) (absent lines seen s Ulymap)
-    ∙ ap (λ b. cond (is_unseen seen Nrows) (Some Nrows) (cond (is_unseen seen Ncols) (Some Ncols) (cond (is_unseen seen Ulxmap) (Some Ulxmap) (cond (is_unseen seen Ulymap) (Some Ulymap) (cond b (Some Xdim) (cond (is_absent lines Ydim) (Some Ydim) None)))))) (absent lines seen s Xdim)
-    ∙ ap (λ b. cond (is_unseen seen Nrows) (Some Nrows) (cond (is_unseen seen Ncols) (Some Ncols) (cond (is_unseen seen Ulxmap) (Some Ulxmap) (cond (is_unseen seen Ulymap) (Some Ulymap) (cond (is_unseen seen Xdim) (Some Xdim) (cond b (Some Ydim) None)))))) (absent lines seen s Ydim)
-
--- The parts of a scanned decimal are of digits.
-
-run : (bs : List ℕ) (i : ℕ) → AllDigits 10 (slice_range bs i (digits_end bs i))
-run bs i = counted_digits (drop i bs) _ (omega arith)
-
--- where an exponent would begin
-abbrev mantissa_end : List ℕ → ℕ
-mantissa_end bs = if slice_index bs (digits_end bs 0) == dot then digits_end bs (digits_end bs 0 + 1) else digits_end bs 0
-
-maybe : (b : Bool) (xs : List ℕ) → AllDigits 10 xs → AllDigits 10 (cond b xs [])
-maybe true xs h = h
-maybe false xs h = tt
-
-fraction_run : (bs : List ℕ) (a : ℕ) (b : Bool) → AllDigits 10 (cond b (slice_range bs (a + 1) (cond b (digits_end bs (a + 1)) a)) [])
-fraction_run bs a true = run bs (a + 1)
-fraction_run bs a false = tt
-
-whole_digits : (bs : List ℕ) → AllDigits 10 (scan_numeral bs).whole
-unfolding scan_numeral
-whole_digits bs = run bs 0
-
-fraction_digits : (bs : List ℕ) → AllDigits 10 (scan_numeral bs).fraction
-unfolding scan_numeral
-fraction_digits bs = fraction_run bs (digits_end bs 0) (slice_index bs (digits_end bs 0) == dot)
-
-exponent_digits : (bs : List ℕ) → AllDigits 10 (scan_numeral bs).exponent
-unfolding scan_numeral
-exponent_digits bs =
-    let c = exponent_start bs (mantissa_end bs) in
-    maybe (has_exponent bs (mantissa_end bs)) (slice_range bs c (digits_end bs c)) (run bs c)
-
-pub scanned_digits : (n : Numeral) (bs : List ℕ) → parts_of n ≡ scan_numeral bs → length n.exponent.now ≤ 3 → IsOfDigits n
-scanned_digits n bs is short = record {
-  mantissa = append_digits _ _ (rw (sym (ap (λ (p : Parts). p.whole) is)) at (whole_digits bs)) (rw (sym (ap (λ (p : Parts). p.fraction) is)) at (fraction_digits bs));
-  exponent = rw (sym (ap (λ (p : Parts). p.exponent) is)) at (exponent_digits bs);
-  short = short;
-}
-
--- The text of a header within its bounds describes the header.
---
--- The text is that of a list of entries, each of which its keyword takes. So its lines are known, each keyword is on
--- one line alone, and the value at each keyword is the one that was printed.
-
-abbrev nodata_entries : Option ℤ → List (Key × List ℕ)
+-- the entry of the no-data number, by its word
+abbrev nodata_entries : Option (List ℕ) → List (Key × List ℕ)
 nodata_entries None = []
-nodata_entries (Some z) = (Nodata, signed_decimal z) ∷ []
+nodata_entries (Some word) = (Nodata, word) ∷ []
 
 -- the keywords of a header's text and their values
-abbrev entries_of : Fields → List (Key × List ℕ)
-entries_of h =
+abbrev entries_of : Fields → Option (List ℕ) → List (Key × List ℕ)
+entries_of h last =
     (ByteOrder, ordering_text h.order) ∷ (Layout, codes "BIL") ∷ (Nrows, decimal h.rows) ∷ (Ncols, decimal h.cols) ∷ (Nbands, decimal 1)
-    ∷ (Nbits, decimal h.bits) ∷ (BandRowBytes, decimal h.row_bytes) ∷ (TotalRowBytes, decimal h.row_bytes) ∷ (SkipBytes, decimal h.skip) ∷ (PixelType, signedness_text h.signed)
-    ∷ (Ulxmap, places_text h.place.ulx) ∷ (Ulymap, places_text h.place.uly) ∷ (Xdim, places_text h.place.xdim) ∷ (Ydim, places_text h.place.ydim) ∷ nodata_entries h.nodata
+    ∷ (Nbits, decimal h.bits) ∷ (BandRowBytes, decimal h.row_bytes) ∷ (TotalRowBytes, decimal h.row_bytes) ∷ (SkipBytes, decimal h.skip) ∷ (PixelType, type_text h.kind h.signed)
+    ∷ (Ulxmap, places_text h.place.ulx) ∷ (Ulymap, places_text h.place.uly) ∷ (Xdim, places_text h.place.xdim) ∷ (Ydim, places_text h.place.ydim) ∷ nodata_entries last
 
-nodata_text : (o : Option ℤ) → nodata_line o ≡ entries_text (nodata_entries o)
-nodata_text None = refl
-nodata_text (Some z) = sym (append-nil (line Nodata (signed_decimal z)))
-
-text_is : (h : Fields) → text_of h ≡ entries_text (entries_of h)
+text_is : (h : Fields) (last : Option (List ℕ)) → shape_lines h ++ pixel_lines h ++ place_lines h.place ++ entries_text (nodata_entries last) ≡ entries_text (entries_of h last)
 unfolding shape_lines pixel_lines place_lines
-text_is h =
-    ap (λ t. shape_lines h ++ pixel_lines h ++ place_lines h.place ++ t) (nodata_text h.nodata)
-    ∙ simp append_assoc
+text_is h last = simp append_assoc
 
 -- the words
 order_word : (order : ByteOrdering) → IsWord (ordering_text order)
@@ -161,21 +58,23 @@ order_read : (order : ByteOrdering) → ordering_of (ordering_text order) ≡ So
 order_read Least = refl
 order_read Most = refl
 
-signed_word : (signed : Bool) → IsWord (signedness_text signed)
-signed_word true = record { some = omega arith; ink = ink_told (codes "SIGNEDINT") refl }
-signed_word false = record { some = omega arith; ink = ink_told (codes "UNSIGNEDINT") refl }
+type_word : (kind : HeightKind) (signed : Bool) → IsWord (type_text kind signed)
+type_word Whole true = record { some = omega arith; ink = ink_told (codes "SIGNEDINT") refl }
+type_word Whole false = record { some = omega arith; ink = ink_told (codes "UNSIGNEDINT") refl }
+type_word Single signed = record { some = omega arith; ink = ink_told (codes "FLOAT") refl }
 
-signed_short : (signed : Bool) → length (signedness_text signed) ≤ 60
-signed_short true = omega arith
-signed_short false = omega arith
+type_short : (kind : HeightKind) (signed : Bool) → length (type_text kind signed) ≤ 60
+type_short Whole true = omega arith
+type_short Whole false = omega arith
+type_short Single signed = omega arith
 
 signed_read : (signed : Bool) → signedness_of (signedness_text signed) ≡ Some signed
 signed_read true = refl
 signed_read false = refl
 
 -- an entry whose value is a whole number
-number_good : (at : ℕ) (key : Key) (n : ℕ) → n ≤ 4294967295 → takes key (decimal n) ≡ true → line_number key ≡ at → IsGood at (key, decimal n)
-number_good at key n fits taken place = record {
+number_good : (kind : HeightKind) (at : ℕ) (key : Key) (n : ℕ) → n ≤ 4294967295 → takes kind key (decimal n) ≡ true → line_number key ≡ at → IsGood kind at (key, decimal n)
+number_good kind at key n fits taken place = record {
   word = decimal_word n (omega arith);
   short = (let short = decimal_short n (omega arith) in omega arith);
   taken = taken;
@@ -186,8 +85,8 @@ whole_taken : (n : ℕ) → n ≤ 4294967295 → is_some (whole_number (decimal 
 whole_taken n fits = ap is_some (whole_read n fits)
 
 -- an entry whose value is a coordinate
-place_good : (at : ℕ) (key : Key) (z : ℤ) → IsCoordinate z → takes key (places_text z) ≡ true → line_number key ≡ at → IsGood at (key, places_text z)
-place_good at key z is taken place = record {
+place_good : (kind : HeightKind) (at : ℕ) (key : Key) (z : ℤ) → IsCoordinate z → takes kind key (places_text z) ≡ true → line_number key ≡ at → IsGood kind at (key, places_text z)
+place_good kind at key z is taken place = record {
   word = places_word z is;
   short = places_short z is;
   taken = taken;
@@ -205,17 +104,75 @@ small_nodata : (o : Option ℤ) → ∥ IfSome o IsNoData ∥₁ → SmallNoData
 small_nodata None t = tt
 small_nodata (Some z) t = ∥∥₁_elim t le_prop (nodata_small z)
 
-nodata_good : (o : Option ℤ) → SmallNoData o → AllGood 14 (nodata_entries o)
-nodata_good None small = tt
-nodata_good (Some z) small = (
-  record {
-    word = nodata_word z small;
-    short = nodata_short z small;
-    taken = ap is_some (nodata_read z small);
-    number = refl;
-  },
-  tt,
-)
+-- the word of a no-data number, where there is one: its entry is taken, and it reads back
+record AreNodata (kind : HeightKind) (o : Option ℤ) (last : Option (List ℕ)) : Type 0 where
+  good : AllGood kind 14 (nodata_entries last)
+  reads : option_and_then (nodata_of kind) last ≡ o
+
+whole_nodata : (o : Option ℤ) → SmallNoData o → AreNodata Whole o (option_map signed_decimal o)
+whole_nodata None small = record { good = tt; reads = refl }
+whole_nodata (Some z) small = record {
+  good = (
+    record {
+      word = nodata_word z small;
+      short = nodata_short z small;
+      taken = ap is_some (nodata_read z small);
+      number = refl;
+    },
+    tt,
+  );
+  reads = nodata_read z small;
+}
+
+float_ink : (word : List ℕ) → AreAboveSpace word → AllInk word
+float_ink [] h = tt
+float_ink (x ∷ xs) h = (h.0, float_ink xs h.1)
+
+float_nodata_word : (z : ℤ) (word : List ℕ) → IsFloatWord z word → AreNodata Single (Some z) (Some word)
+float_nodata_word z word is = record {
+  good = (
+    record {
+      word = record { some = is.some; ink = float_ink word is.ink };
+      short = (let short = is.short in omega arith);
+      taken = ap is_some is.reads;
+      number = refl;
+    },
+    tt,
+  );
+  reads = is.reads;
+}
+
+-- a header's text is that of its entries
+record AsEntries (h : Fields) (kind : HeightKind) (text : List ℕ) : Type 0 where
+  last : Option (List ℕ)
+  nodata : AreNodata kind h.nodata last
+  same : text ≡ entries_text (entries_of h last)
+
+nodata_text : (o : Option ℤ) → nodata_line o ≡ entries_text (nodata_entries (option_map signed_decimal o))
+nodata_text None = refl
+nodata_text (Some z) = sym (append-nil (line Nodata (signed_decimal z)))
+
+-- what is before the last entry
+abbrev front : Fields → List ℕ
+front h = shape_lines h ++ pixel_lines h ++ place_lines h.place
+
+float_end : (h : Fields) (o : Option ℤ) (end : List ℕ) → IsFloatLine o end → (last : Option (List ℕ)) × AreNodata Single o last × (end ≡ entries_text (nodata_entries last))
+float_end h None end is = (None, record { good = tt; reads = refl }, is)
+float_end h (Some z) end is = (Some is.0, float_nodata_word z is.0 is.1, is.2 ∙ sym (append-nil (line Nodata is.0)))
+
+as_entries : (h : Fields) (kind : HeightKind) (text : List ℕ) → SmallNoData h.nodata → IsTextOfKind kind h text → AsEntries h kind text
+as_entries h Whole text small is = record {
+  last = option_map signed_decimal h.nodata;
+  nodata = whole_nodata h.nodata small;
+  same = is ∙ ap (λ t. front h ++ t) (nodata_text h.nodata) ∙ text_is h (option_map signed_decimal h.nodata);
+}
+as_entries h Single text small is =
+    let found = float_end h h.nodata is.0 is.1 in
+    record {
+      last = found.0;
+      nodata = found.1;
+      same = is.2 ∙ ap (λ t. front h ++ t) found.2 ∙ text_is h found.0;
+    }
 
 bits_small : (bits : ℕ) → IsPixelSize bits → bits ≤ 32
 bits_small bits (inl a) = omega (arith, a)
@@ -225,8 +182,8 @@ bits_small bits (inr (inr c)) = omega (arith, c)
 few_bits : (h : Fields) → AreWithinBounds h → h.bits ≤ 32
 few_bits h within = ∥∥₁_elim within.bits_ok le_prop (bits_small h.bits)
 
-entries_good : (h : Fields) → AreWithinBounds h → AllGood 0 (entries_of h)
-entries_good h within =
+entries_good : (h : Fields) → AreWithinBounds h → (last : Option (List ℕ)) → AreNodata h.kind h.nodata last → AllGood h.kind 0 (entries_of h last)
+entries_good h within last nodata =
     let some_row = within.some_row in
     let rows_fit = within.rows_fit in
     let some_col = within.some_col in
@@ -236,30 +193,30 @@ entries_good h within =
       (
         record { word = record { some = omega arith; ink = ink_told (codes "BIL") refl }; short = omega arith; taken = refl; number = refl },
         (
-          number_good 2 Nrows h.rows (omega arith) (ap is_some (size_read h.rows some_row rows_fit)) refl,
+          number_good h.kind 2 Nrows h.rows (omega arith) (ap is_some (size_read h.rows some_row rows_fit)) refl,
           (
-            number_good 3 Ncols h.cols (omega arith) (ap is_some (size_read h.cols some_col cols_fit)) refl,
+            number_good h.kind 3 Ncols h.cols (omega arith) (ap is_some (size_read h.cols some_col cols_fit)) refl,
             (
-              number_good 4 Nbands 1 (omega arith) (whole_taken 1 (omega arith)) refl,
+              number_good h.kind 4 Nbands 1 (omega arith) (whole_taken 1 (omega arith)) refl,
               (
-                number_good 5 Nbits h.bits (omega arith) (whole_taken h.bits (omega arith)) refl,
+                number_good h.kind 5 Nbits h.bits (omega arith) (whole_taken h.bits (omega arith)) refl,
                 (
-                  number_good 6 BandRowBytes h.row_bytes within.row_bytes_fit (whole_taken h.row_bytes within.row_bytes_fit) refl,
+                  number_good h.kind 6 BandRowBytes h.row_bytes within.row_bytes_fit (whole_taken h.row_bytes within.row_bytes_fit) refl,
                   (
-                    number_good 7 TotalRowBytes h.row_bytes within.row_bytes_fit (whole_taken h.row_bytes within.row_bytes_fit) refl,
+                    number_good h.kind 7 TotalRowBytes h.row_bytes within.row_bytes_fit (whole_taken h.row_bytes within.row_bytes_fit) refl,
                     (
-                      number_good 8 SkipBytes h.skip within.skip_fits (whole_taken h.skip within.skip_fits) refl,
+                      number_good h.kind 8 SkipBytes h.skip within.skip_fits (whole_taken h.skip within.skip_fits) refl,
                       (
-                        record { word = signed_word h.signed; short = signed_short h.signed; taken = refl; number = refl },
+                        record { word = type_word h.kind h.signed; short = type_short h.kind h.signed; taken = refl; number = refl },
                         (
-                          place_good 10 Ulxmap h.place.ulx within.ulx_ok (place_taken h.place.ulx within.ulx_ok) refl,
+                          place_good h.kind 10 Ulxmap h.place.ulx within.ulx_ok (place_taken h.place.ulx within.ulx_ok) refl,
                           (
-                            place_good 11 Ulymap h.place.uly within.uly_ok (place_taken h.place.uly within.uly_ok) refl,
+                            place_good h.kind 11 Ulymap h.place.uly within.uly_ok (place_taken h.place.uly within.uly_ok) refl,
                             (
-                              place_good 12 Xdim h.place.xdim within.xdim_ok (place_taken h.place.xdim within.xdim_ok) refl,
+                              place_good h.kind 12 Xdim h.place.xdim within.xdim_ok (place_taken h.place.xdim within.xdim_ok) refl,
                               (
-                                place_good 13 Ydim h.place.ydim within.ydim_ok (place_taken h.place.ydim within.ydim_ok) refl,
-                                nodata_good h.nodata (small_nodata h.nodata within.nodata_ok),
+                                place_good h.kind 13 Ydim h.place.ydim within.ydim_ok (place_taken h.place.ydim within.ydim_ok) refl,
+                                nodata.good,
                               ),
                             ),
                           ),
@@ -281,28 +238,49 @@ said_is read key default lines word a is reads = ap (λ o. unwrap_or (option_and
 
 -- the lines of a header's text
 record AreLinesOf (h : Fields) (lines : List (List ℕ)) : Type 0 where
-  good : AllGood 0 (entries_of h)
-  same : lines ≡ entries_lines (entries_of h)
+  last : Option (List ℕ)
+  nodata : AreNodata h.kind h.nodata last
+  good : AllGood h.kind 0 (entries_of h last)
+  same : lines ≡ entries_lines (entries_of h last)
 
 -- the value at a keyword
-value_is : (h : Fields) (lines : List (List ℕ)) → AreLinesOf h lines → (key : Key) → value_at key lines ≡ value_in key (entries_of h)
-value_is h lines of key = ap (value_at key) of.same ∙ value_entries key 0 (entries_of h) of.good
+value_is : (h : Fields) (lines : List (List ℕ)) (of : AreLinesOf h lines) (key : Key) → value_at key lines ≡ value_in key (entries_of h of.last)
+value_is h lines of key = ap (value_at key) of.same ∙ value_entries h.kind key 0 (entries_of h of.last) of.good
 
-nodata_said : (o : Option ℤ) → SmallNoData o → (word : Option (List ℕ)) → word ≡ value_in Nodata (nodata_entries o) → option_and_then decimal_nodata word ≡ o
-nodata_said None small word is = ap (option_and_then decimal_nodata) is
-nodata_said (Some z) small word is = ap (option_and_then decimal_nodata) is ∙ nodata_read z small
+last_value : (last : Option (List ℕ)) → value_in Nodata (nodata_entries last) ≡ last
+last_value None = refl
+last_value (Some word) = refl
+
+-- floats are signed, and the pixel type says whether whole heights are
+signed_are : (kind : HeightKind) (signed : Bool) (lines : List (List ℕ)) → value_at PixelType lines ≡ Some (type_text kind signed) → (kind ≡ Single → signed ≡ true) → signed_of kind lines ≡ signed
+signed_are Whole signed lines is float = said_is signedness_of PixelType (said whole_number Nbits 8 lines == 16) lines (signedness_text signed) signed is (signed_read signed)
+signed_are Single signed lines is float = sym (float refl)
+
+type_known : (kind : HeightKind) (signed : Bool) (lines : List (List ℕ)) → value_at PixelType lines ≡ Some (type_text kind signed) → HasBadPixelType kind lines → ⊥
+type_known Whole signed lines here has =
+    let there = has.1 in
+    let same : has.0 ≡ signedness_text signed = cc in
+    let known = signed_read signed in
+    let unknown = has.2 in
+    let none : signedness_of (signedness_text signed) ≡ None = ap signedness_of (sym same) ∙ unknown in
+    cc
+type_known Single signed lines here has = true≢false (sym (ap says_float here) ∙ has)
+
+bits_known : (kind : HeightKind) (bits : ℕ) → IsPixelSize bits → (kind ≡ Single → bits ≡ 32) → IsPixelSizeOf kind bits
+bits_known Whole bits is float = is
+bits_known Single bits is float = float refl
 
 same_place : (p q : Place) → p.ulx ≡ q.ulx → p.uly ≡ q.uly → p.xdim ≡ q.xdim → p.ydim ≡ q.ydim → p ≡ q
 same_place p q ulx uly xdim ydim = λ i. record { ulx = ulx i; uly = uly i; xdim = xdim i; ydim = ydim i }
 
-same_fields : (g h : Fields) → g.rows ≡ h.rows → g.cols ≡ h.cols → g.bits ≡ h.bits → g.order ≡ h.order → g.signed ≡ h.signed → g.skip ≡ h.skip → g.row_bytes ≡ h.row_bytes → g.place ≡ h.place → g.nodata ≡ h.nodata → g ≡ h
-same_fields g h rows cols bits order signed skip row_bytes place nodata = λ i. record { rows = rows i; cols = cols i; bits = bits i; order = order i; signed = signed i; skip = skip i; row_bytes = row_bytes i; place = place i; nodata = nodata i }
+same_fields : (g h : Fields) → g.rows ≡ h.rows → g.cols ≡ h.cols → g.bits ≡ h.bits → g.order ≡ h.order → g.signed ≡ h.signed → g.skip ≡ h.skip → g.row_bytes ≡ h.row_bytes → g.place ≡ h.place → g.nodata ≡ h.nodata → g.kind ≡ h.kind → g ≡ h
+same_fields g h rows cols bits order signed skip row_bytes place nodata kind = λ i. record { rows = rows i; cols = cols i; bits = bits i; order = order i; signed = signed i; skip = skip i; row_bytes = row_bytes i; place = place i; nodata = nodata i; kind = kind i }
 
 row_bytes_are : (h : Fields) (lines : List (List ℕ)) → AreWithinBounds h → AreLinesOf h lines → row_bytes_of lines ≡ h.row_bytes
 row_bytes_are h lines within of =
     said_is whole_number TotalRowBytes (said whole_number BandRowBytes (packed_row lines) lines) lines (decimal h.row_bytes) h.row_bytes (value_is h lines of TotalRowBytes) (whole_read h.row_bytes within.row_bytes_fit)
 
-fields_are : (h : Fields) (lines : List (List ℕ)) → AreWithinBounds h → AreLinesOf h lines → h ≡ header_of lines
+fields_are : (h : Fields) (lines : List (List ℕ)) → AreWithinBounds h → AreLinesOf h lines → h ≡ fields_of h.kind lines
 fields_are h lines within of =
     let at = value_is h lines of in
     let few = few_bits h within in
@@ -312,28 +290,28 @@ fields_are h lines within of =
     let cols : said whole_number Ncols 0 lines ≡ h.cols = said_is whole_number Ncols 0 lines (decimal h.cols) h.cols (at Ncols) (whole_read h.cols (omega arith)) in
     let bits : said whole_number Nbits 8 lines ≡ h.bits = said_is whole_number Nbits 8 lines (decimal h.bits) h.bits (at Nbits) (whole_read h.bits (omega arith)) in
     let order : said ordering_of ByteOrder Least lines ≡ h.order = said_is ordering_of ByteOrder Least lines (ordering_text h.order) h.order (at ByteOrder) (order_read h.order) in
-    let signed : said signedness_of PixelType (said whole_number Nbits 8 lines == 16) lines ≡ h.signed = said_is signedness_of PixelType (said whole_number Nbits 8 lines == 16) lines (signedness_text h.signed) h.signed (at PixelType) (signed_read h.signed) in
+    let signed : signed_of h.kind lines ≡ h.signed = signed_are h.kind h.signed lines (at PixelType) within.float_signed in
     let skip : said whole_number SkipBytes 0 lines ≡ h.skip = said_is whole_number SkipBytes 0 lines (decimal h.skip) h.skip (at SkipBytes) (whole_read h.skip within.skip_fits) in
     let row_bytes : row_bytes_of lines ≡ h.row_bytes = row_bytes_are h lines within of in
     let ulx : said coordinate_of Ulxmap (pos 0) lines ≡ h.place.ulx = said_is coordinate_of Ulxmap (pos 0) lines (places_text h.place.ulx) h.place.ulx (at Ulxmap) (coordinate_read h.place.ulx within.ulx_ok) in
     let uly : said coordinate_of Ulymap (pos 0) lines ≡ h.place.uly = said_is coordinate_of Ulymap (pos 0) lines (places_text h.place.uly) h.place.uly (at Ulymap) (coordinate_read h.place.uly within.uly_ok) in
     let xdim : said coordinate_of Xdim (pos 0) lines ≡ h.place.xdim = said_is coordinate_of Xdim (pos 0) lines (places_text h.place.xdim) h.place.xdim (at Xdim) (coordinate_read h.place.xdim within.xdim_ok) in
     let ydim : said coordinate_of Ydim (pos 0) lines ≡ h.place.ydim = said_is coordinate_of Ydim (pos 0) lines (places_text h.place.ydim) h.place.ydim (at Ydim) (coordinate_read h.place.ydim within.ydim_ok) in
-    let nodata : option_and_then decimal_nodata (value_at Nodata lines) ≡ h.nodata = nodata_said h.nodata (small_nodata h.nodata within.nodata_ok) (value_at Nodata lines) (at Nodata) in
-    sym (same_fields (header_of lines) h rows cols bits order signed skip row_bytes (same_place (header_of lines).place h.place ulx uly xdim ydim) nodata)
+    let nodata : option_and_then (nodata_of h.kind) (value_at Nodata lines) ≡ h.nodata = ap (option_and_then (nodata_of h.kind)) (at Nodata ∙ last_value of.last) ∙ of.nodata.reads in
+    sym (same_fields (fields_of h.kind lines) h rows cols bits order signed skip row_bytes (same_place (fields_of h.kind lines).place h.place ulx uly xdim ydim) nodata refl)
 
 -- a line with a keyword is the keyword's, and its value is taken
-record IsKeyLine (lines : List (List ℕ)) (n : ℕ) (key : Key) : Type 0 where
+record IsKeyLine (kind : HeightKind) (lines : List (List ℕ)) (n : ℕ) (key : Key) : Type 0 where
   place : n ≡ suc (line_number key)
-  taken : takes_some key (option_and_then line_value (line_at lines n)) ≡ true
+  taken : takes_some kind key (option_and_then line_value (line_at lines n)) ≡ true
 
-key_line : (h : Fields) (lines : List (List ℕ)) → AreLinesOf h lines → (n : ℕ) (key : Key) → HasKey lines n key → IsKeyLine lines n key
+key_line : (h : Fields) (lines : List (List ℕ)) → AreLinesOf h lines → (n : ℕ) (key : Key) → HasKey lines n key → IsKeyLine h.kind lines n key
 key_line h lines of zero key has = cc
 key_line h lines of (suc i) key has =
-    let told = told_at 0 (entries_of h) of.good i key (ap (λ ls. option_and_then line_key (slice_get ls i)) (sym of.same) ∙ has) in
+    let told = told_at h.kind 0 (entries_of h of.last) of.good i key (ap (λ ls. option_and_then line_key (slice_get ls i)) (sym of.same) ∙ has) in
     record {
       place = omega (arith, told.place);
-      taken = ap (λ ls. takes_some key (option_and_then line_value (slice_get ls i))) of.same ∙ told.taken;
+      taken = ap (λ ls. takes_some h.kind key (option_and_then line_value (slice_get ls i))) of.same ∙ told.taken;
     }
 
 -- a keyword that must be there is
@@ -354,18 +332,18 @@ required_stands h lines within of BandRowBytes needed = absurd needed
 required_stands h lines within of TotalRowBytes needed = absurd needed
 required_stands h lines within of Nodata needed = absurd needed
 
-few_nodata : (o : Option ℤ) → length (nodata_entries o) ≤ 1
+few_nodata : (last : Option (List ℕ)) → length (nodata_entries last) ≤ 1
 few_nodata None = omega arith
-few_nodata (Some z) = omega arith
+few_nodata (Some word) = omega arith
 
-short_text : (h : Fields) (text : List ℕ) → AllGood 0 (entries_of h) → text ≡ entries_text (entries_of h) → length text ≤ 65536
-short_text h text good is =
-    let few = few_nodata h.nodata in
-    let all = entries_short 0 (entries_of h) good in
+short_text : (h : Fields) (last : Option (List ℕ)) (text : List ℕ) → AllGood h.kind 0 (entries_of h last) → text ≡ entries_text (entries_of h last) → length text ≤ 65536
+short_text h last text good is =
+    let few = few_nodata last in
+    let all = entries_short h.kind 0 (entries_of h last) good in
     omega (arith, ap length is)
 
 -- no fault holds
-no_fault : (h : Fields) (text : List ℕ) → AreWithinBounds h → length text ≤ 65536 → AreLinesOf h (lines_of text) → (fault : HeaderFault) → HasFault text fault → ⊥
+no_fault : (h : Fields) (text : List ℕ) → AreWithinBounds h → length text ≤ 65536 → AreLinesOf h (lines_of text) → (fault : HeaderFault) → HasFaultOf h.kind text fault → ⊥
 no_fault h text within short of TooLong has = absurd (omega arith)
 no_fault h text within short of (RepeatedKey n) has =
     let earlier = key_line h (lines_of text) of has.2.0 has.0 has.2.2 in
@@ -377,7 +355,7 @@ no_fault h text within short of (RepeatedKey n) has =
 no_fault h text within short of (BadValue n) has =
     let here = key_line h (lines_of text) of n has.0 has.1 in
     let taken = here.taken in
-    let wrong : takes_some has.0 (option_and_then line_value (line_at (lines_of text) n)) ≡ false = has.2 in
+    let wrong : takes_some h.kind has.0 (option_and_then line_value (line_at (lines_of text) n)) ≡ false = has.2 in
     cc
 no_fault h text within short of (MissingKey key) has = has.1 (suc (line_number key)) (required_stands h (lines_of text) within of key has.0)
 no_fault h text within short of NotOneBand has =
@@ -385,15 +363,8 @@ no_fault h text within short of NotOneBand has =
 no_fault h text within short of BadBits has =
     let few = few_bits h within in
     let bits : said whole_number Nbits 8 (lines_of text) ≡ h.bits = said_is whole_number Nbits 8 (lines_of text) (decimal h.bits) h.bits (value_is h (lines_of text) of Nbits) (whole_read h.bits (omega arith)) in
-    ∥∥₁_elim within.bits_ok (hlevel) (λ is. has (rw bits is))
-no_fault h text within short of BadPixelType has =
-    let here = value_is h (lines_of text) of PixelType in
-    let there = has.1 in
-    let same : has.0 ≡ signedness_text h.signed = cc in
-    let known = signed_read h.signed in
-    let unknown = has.2 in
-    let none : signedness_of (signedness_text h.signed) ≡ None = ap signedness_of (sym same) ∙ unknown in
-    cc
+    ∥∥₁_elim within.bits_ok (hlevel) (λ is. has (rw bits (bits_known h.kind h.bits is within.float_bits)))
+no_fault h text within short of BadPixelType has = type_known h.kind h.signed (lines_of text) (value_is h (lines_of text) of PixelType) has
 no_fault h text within short of RowTooShort has =
     let few = few_bits h within in
     let cols_fit = within.cols_fit in
@@ -404,18 +375,17 @@ no_fault h text within short of RowTooShort has =
     let packed : packed_row (lines_of text) ≡ h.cols * h.bits / 8 = ap (λ (c : ℕ). c * said whole_number Nbits 8 (lines_of text) / 8) cols ∙ ap (λ (b : ℕ). h.cols * b / 8) bits in
     absurd (omega (arith, has, row, packed, holds))
 
-lines_are : (h : Fields) (text : List ℕ) → AllGood 0 (entries_of h) → text ≡ entries_text (entries_of h) → AreLinesOf h (lines_of text)
-lines_are h text good is = record {
-  good = good;
-  same = ap lines_of is ∙ lines_entries 0 (entries_of h) good;
-}
-
-pub text_reads_back : (h : Fields) → AreWithinBounds h → Describes (text_of h) h
-text_reads_back h within =
-    let good = entries_good h within in
-    let is = text_is h in
-    let of = lines_are h (text_of h) good is in
+pub text_reads_back : (h : Fields) → AreWithinBounds h → (text : List ℕ) → IsTextOf h text → DescribesOf h.kind text h
+text_reads_back h within text is =
+    let entries = as_entries h h.kind text (small_nodata h.nodata within.nodata_ok) is in
+    let good = entries_good h within entries.last entries.nodata in
+    let of : AreLinesOf h (lines_of text) = record {
+      last = entries.last;
+      nodata = entries.nodata;
+      good = good;
+      same = ap lines_of entries.same ∙ lines_entries h.kind 0 (entries_of h entries.last) good;
+    } in
     record {
-      sound = no_fault h (text_of h) within (short_text h (text_of h) good is) of;
-      fields = fields_are h (lines_of (text_of h)) within of;
+      sound = no_fault h text within (short_text h entries.last text good entries.same) of;
+      fields = fields_are h (lines_of text) within of;
     }

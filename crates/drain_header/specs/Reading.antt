@@ -1,5 +1,6 @@
 -- Reading a header's lines one after another: the values of the keywords so far, or the first fault of a line.
 use Rattle.std.specs.Prelude.{ℕ, ◌+◌, List, [], ◌∷◌, Option, Some, None, is_some, option_and_then, Result, Ok, Err, if◌then◌else◌, slice_index_or, slice_set, replicate}
+use Rattle.drain_grid.specs.declared.height_kind.HeightKind.{HeightKind}
 use Rattle.drain_header.specs.declared.key.Key.{Key}
 use Rattle.drain_header.specs.declared.value.Value.{Value}
 use Rattle.drain_header.specs.declared.fault.HeaderFault.{HeaderFault}
@@ -21,15 +22,15 @@ with_value seen n key None = Err (BadValue n)
 with_value seen n key (Some value) = Ok (slice_set seen (key_order key) (Some value))
 
 -- line n has this keyword, if any, and this second word, if any
-abbrev pub with_key : Seen → ℕ → Option Key → Option (List ℕ) → Result Seen HeaderFault
-with_key seen n None word = Ok seen
-with_key seen n (Some key) word =
+abbrev pub with_key : HeightKind → Seen → ℕ → Option Key → Option (List ℕ) → Result Seen HeaderFault
+with_key kind seen n None word = Ok seen
+with_key kind seen n (Some key) word =
     if is_some (slice_index_or seen (key_order key) None) then Err (RepeatedKey n)
-    else with_value seen n key (option_and_then (value_read key) word)
+    else with_value seen n key (option_and_then (value_read kind key) word)
 
 -- what line n adds
-abbrev pub with_header_line : Seen → ℕ → List ℕ → Result Seen HeaderFault
-with_header_line seen n line = with_key seen n (line_key line) (line_value line)
+abbrev pub with_header_line : HeightKind → Seen → ℕ → List ℕ → Result Seen HeaderFault
+with_header_line kind seen n line = with_key kind seen n (line_key line) (line_value line)
 
 -- what comes next, unless a line had a fault
 abbrev pub follow : Result Seen HeaderFault → (Seen → Result Seen HeaderFault) → Result Seen HeaderFault
@@ -37,6 +38,6 @@ follow (Ok seen) next = next seen
 follow (Err fault) next = Err fault
 
 -- what lines add, of which the first is line n
-abbrev pub with_lines : Seen → ℕ → List (List ℕ) → Result Seen HeaderFault
-with_lines seen n [] = Ok seen
-with_lines seen n (line ∷ lines) = follow (with_header_line seen n line) (λ next. with_lines next (n + 1) lines)
+abbrev pub with_lines : HeightKind → Seen → ℕ → List (List ℕ) → Result Seen HeaderFault
+with_lines kind seen n [] = Ok seen
+with_lines kind seen n (line ∷ lines) = follow (with_header_line kind seen n line) (λ next. with_lines kind next (n + 1) lines)

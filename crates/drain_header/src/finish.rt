@@ -3,7 +3,7 @@
 ghost use Rattle.std.specs.Prelude.{◌≡◌, ◌≤◌, ◌*◌, ◌/◌, ℕ, unwrap_or, ◌==◌, slice_index_or, None as none, Some as some, if◌then◌else◌};
 ghost use Rattle.drain_header.specs.Lines.{key_order};
 ghost use Rattle.drain_header.specs.Said.{said_by, sign_in};
-ghost use Rattle.drain_header.specs.Finished.{AreTaken, number_or as number_told, coordinate_or_zero as coordinate_told, is_other_type_in, is_pixel_size, finished};
+ghost use Rattle.drain_header.specs.Finished.{AreTaken, number_or as number_told, coordinate_or_zero as coordinate_told, is_other_type_in, is_pixel_size_of, signed_in, is_pixel_size, finished};
 
 use crate::fault::HeaderFault;
 use crate::header::{ByteOrdering, Header, Place};
@@ -11,19 +11,20 @@ use crate::key::Key;
 use crate::lines::Seen;
 use crate::said::{coordinate, nodata, number, ordering, sign};
 use crate::value::Value;
+use drain_grid::HeightKind;
 
-/// The header of the values, or the first of the faults that belong to no line.
-pub fn finish(seen: &Seen) -> Result<Header, HeaderFault>
-    requires { AreTaken seen.now }
-    ensures { result ≡ finished seen.now }
+/// The header of heights of a kind from the values, or the first of the faults that belong to no line.
+pub fn finish(seen: &Seen, kind: HeightKind) -> Result<Header, HeaderFault>
+    requires { AreTaken kind seen.now }
+    ensures { result ≡ finished kind seen.now }
 {
     if number_or(seen, Key::Nbands, 1) != 1 {
         return Err(HeaderFault::NotOneBand);
     }
-    let Some(bits) = pixel_size(number_or(seen, Key::Nbits, 8)) else {
+    let Some(bits) = pixel_size(kind, number_or(seen, Key::Nbits, 8)) else {
         return Err(HeaderFault::BadBits);
     };
-    if has_other_type(seen) {
+    if has_other_type(seen, kind) {
         return Err(HeaderFault::BadPixelType);
     }
     let cols = number_or(seen, Key::Ncols, 0);
@@ -37,11 +38,12 @@ pub fn finish(seen: &Seen) -> Result<Header, HeaderFault>
         cols,
         bits,
         order: ordering(seen, Key::ByteOrder).unwrap_or(ByteOrdering::Least),
-        signed: is_signed(seen, bits),
+        signed: is_signed(seen, kind, bits),
         skip: number_or(seen, Key::SkipBytes, 0),
         row_bytes,
         place: place(seen),
         nodata: nodata(seen, Key::Nodata),
+        kind,
     })
 }
 
@@ -68,8 +70,17 @@ fn place(seen: &Seen) -> Place
     }
 }
 
-/// The bits of a pixel, if that is a valid size.
-fn pixel_size(bits: u32) -> Option<u8>
+/// The bits of a pixel, if that is a valid size for heights of the kind.
+fn pixel_size(kind: HeightKind, bits: u32) -> Option<u8>
+    ensures { result ≡ if is_pixel_size_of kind bits then some bits else none }
+{
+    match kind {
+        HeightKind::Whole => whole_size(bits),
+        HeightKind::Single => { if bits == 32 { Some(32) } else { None } }
+    }
+}
+
+fn whole_size(bits: u32) -> Option<u8>
     ensures { result ≡ if is_pixel_size bits then some bits else none }
 {
     match bits {
@@ -80,13 +91,15 @@ fn pixel_size(bits: u32) -> Option<u8>
     }
 }
 
-fn has_other_type(seen: &Seen) -> bool
-    ensures { result ≡ is_other_type_in (slice_index_or seen.now (key_order Key.PixelType) none) }
+/// Whether the pixel type is none of the kind's; floats must have one.
+fn has_other_type(seen: &Seen, kind: HeightKind) -> bool
+    ensures { result ≡ is_other_type_in kind (slice_index_or seen.now (key_order Key.PixelType) none) }
 {
     let value = seen[Key::PixelType as usize];
     match value {
         Some(Value::Signed(signed)) => signed.is_none(),
-        _ => false,
+        Some(_) => false,
+        None => matches!(kind, HeightKind::Single),
     }
 }
 
@@ -105,9 +118,13 @@ fn row_bytes(seen: &Seen, packed: u32) -> u32
     number_or(seen, Key::TotalRowBytes, band_row_bytes)
 }
 
-/// Whether pixels are signed: by default, those of 16 bits are.
-fn is_signed(seen: &Seen, bits: u8) -> bool
-    ensures { result ≡ unwrap_or (said_by sign_in Key.PixelType seen.now) (bits == 16) }
+/// Whether pixels are signed: floats are, and by default numbers of 16 bits.
+fn is_signed(seen: &Seen, kind: HeightKind, bits: u8) -> bool
+    requires { number_told Key.Nbits 8 seen.now ≡ bits }
+    ensures { result ≡ signed_in kind seen.now }
 {
-    sign(seen, Key::PixelType).unwrap_or(bits == 16)
+    match kind {
+        HeightKind::Whole => sign(seen, Key::PixelType).unwrap_or(bits == 16),
+        HeightKind::Single => true,
+    }
 }

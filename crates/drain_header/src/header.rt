@@ -1,5 +1,6 @@
 //! The content of a header. The type keeps each number within its bounds.
 
+use drain_grid::HeightKind;
 use std::marker::Model;
 
 /// Which byte of a number comes first.
@@ -30,6 +31,8 @@ pub struct Header {
     pub row_bytes: u32,
     pub place: Place,
     pub nodata: Option<i64>,
+    /// How the numbers of pixels, and the no-data number, stand for heights.
+    pub kind: HeightKind,
 }
 
 impl Model for Header {
@@ -37,9 +40,9 @@ impl Model for Header {
 
     ghost Value = { Fields };
 
-    ghost view = { λ h. record { rows = h.rows; cols = h.cols; bits = h.bits; order = h.order; signed = h.signed; skip = h.skip; row_bytes = h.row_bytes; place = h.place; nodata = h.nodata } };
+    ghost view = { λ h. record { rows = h.rows; cols = h.cols; bits = h.bits; order = h.order; signed = h.signed; skip = h.skip; row_bytes = h.row_bytes; place = h.place; nodata = h.nodata; kind = h.kind } };
 
-    ghost invariant = { λ h. AreWithinBounds (record { rows = h.rows; cols = h.cols; bits = h.bits; order = h.order; signed = h.signed; skip = h.skip; row_bytes = h.row_bytes; place = h.place; nodata = h.nodata }) };
+    ghost invariant = { λ h. AreWithinBounds (record { rows = h.rows; cols = h.cols; bits = h.bits; order = h.order; signed = h.signed; skip = h.skip; row_bytes = h.row_bytes; place = h.place; nodata = h.nodata; kind = h.kind }) };
 
-    ghost inverse = { λ h. record { rows = h.rows; cols = h.cols; bits = h.bits; order = h.order; signed = h.signed; skip = h.skip; row_bytes = h.row_bytes; place = h.place; nodata = h.nodata } };
+    ghost inverse = { λ h. record { rows = h.rows; cols = h.cols; bits = h.bits; order = h.order; signed = h.signed; skip = h.skip; row_bytes = h.row_bytes; place = h.place; nodata = h.nodata; kind = h.kind } };
 }

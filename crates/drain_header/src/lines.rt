@@ -10,22 +10,23 @@ use crate::fault::HeaderFault;
 use crate::key::Key;
 use crate::line::key_and_value;
 use crate::value::{Value, read_value};
+use drain_grid::HeightKind;
 use drain_text::first_line;
 
 /// A keyword's value is at its place in the table, none if no line so far has the keyword.
 pub type Seen = [Option<Value>; 15];
 
-/// The values in the lines of a text, or the fault of the first line that has one.
-pub fn read_lines(text: &[u8]) -> Result<Seen, HeaderFault>
+/// The values in the lines of a header of heights of a kind, or the fault of the first line that has one.
+pub fn read_lines(text: &[u8], kind: HeightKind) -> Result<Seen, HeaderFault>
     requires { length text.now ≤ 65536 }
-    ensures { result ≡ lines_added nothing 1 (lines_of text.now) }
+    ensures { result ≡ lines_added kind nothing 1 (lines_of text.now) }
 {
     let mut seen: Seen = [None; 15];
     let mut number = 1u32;
     let mut rest = text;
     loop {
         let (line, after) = first_line(rest);
-        seen = with_line(seen, number, line)?;
+        seen = with_line(kind, seen, number, line)?;
         let Some(next) = after else {
             return Ok(seen);
         };
@@ -35,8 +36,8 @@ pub fn read_lines(text: &[u8]) -> Result<Seen, HeaderFault>
 }
 
 /// The values with that of one more line.
-fn with_line(seen: Seen, number: u32, line: &[u8]) -> Result<Seen, HeaderFault>
-    ensures { result ≡ line_added seen number line.now }
+fn with_line(kind: HeightKind, seen: Seen, number: u32, line: &[u8]) -> Result<Seen, HeaderFault>
+    ensures { result ≡ line_added kind seen number line.now }
 {
     let (keyword, word) = key_and_value(line);
     let Some(key) = keyword else {
@@ -48,7 +49,7 @@ fn with_line(seen: Seen, number: u32, line: &[u8]) -> Result<Seen, HeaderFault>
     let Some(word) = word else {
         return Err(HeaderFault::BadValue(number));
     };
-    let Some(value) = read_value(key, word) else {
+    let Some(value) = read_value(kind, key, word) else {
         return Err(HeaderFault::BadValue(number));
     };
     let mut next = seen;

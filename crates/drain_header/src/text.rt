@@ -1,32 +1,38 @@
 //! The text of a header: one line for each keyword, always in the same order.
 
-ghost use Rattle.std.specs.Prelude.{◌≡◌, ◌++◌, IfOk, OnOk, decimal};
+ghost use Rattle.std.specs.Prelude.{◌≡◌, ◌++◌, List, ℕ, IfOk, IfSome, OnOk, decimal};
 ghost use Rattle.std.specs.Int.{is_negative};
 ghost use Rattle.std.specs.Fmt.{sign_text};
-ghost use Rattle.drain_header.specs.Text.{text_of, shape_lines, pixel_lines, place_lines, line, nodata_line, fraction_text, places_text, ordering_text, signedness_text};
+ghost use Rattle.drain_floats.specs.Patterns.{IsFloatNumber};
+ghost use Rattle.drain_header.specs.Text.{IsTextOf, shape_lines, pixel_lines, place_lines, line, nodata_line, IsFloatLine, fraction_text, places_text, ordering_text, signedness_text, type_text};
 
 use crate::header::{ByteOrdering, Header, Place};
 use crate::key::Key;
-use drain_grid::{OutOfMemory, UNITS_PER_DEGREE};
+use drain_floats::word_of;
+use drain_grid::{HeightKind, OutOfMemory, UNITS_PER_DEGREE};
 use itoa::Buffer;
 use std::alloc::Global;
 
 /// The text of a header, in ASCII. Each keyword has one line: the keyword, a space, its value and a line feed.
 ///
 /// LAYOUT is BIL and NBANDS 1; BANDROWBYTES and TOTALROWBYTES are both the bytes from one row to the next. ULXMAP,
-/// ULYMAP, XDIM and YDIM are degrees with 15 digits after the point. NODATA has a line if there is a no-data number.
+/// ULYMAP, XDIM and YDIM are degrees with 15 digits after the point. NODATA has a line if there is a no-data number; of
+/// floats it is the shortest decimal that reads as the same float, or `inf`, `-inf` or `nan`.
 ///
 /// Only the returned text takes memory; if it can't grow, `OutOfMemory` is returned.
 ///
 /// Source: the Esri BIL header description; the order of the lines and the 15 digits are this project's own.
 pub fn header_text(alloc: Global, header: &Header) -> Result<Vec<u8>, OutOfMemory>
-    ensures { IfOk result (λ text. text.items ≡ text_of header.now) }
+    ensures { IfOk result (λ text. IsTextOf header.now text.items) }
 {
     let mut text = Vec::new(alloc);
     push_shape(&mut text, header)?;
     push_pixels(&mut text, header)?;
     push_place(&mut text, &header.place)?;
-    push_nodata(&mut text, header.nodata)?;
+    match header.kind {
+        HeightKind::Whole => push_nodata(&mut text, header.nodata)?,
+        HeightKind::Single => push_float(&mut text, header.nodata)?,
+    }
     Ok(text)
 }
 
@@ -49,7 +55,7 @@ fn push_pixels(text: &mut Vec<u8>, header: &Header) -> Result<(), OutOfMemory>
     push_number(text, Key::BandRowBytes, header.row_bytes)?;
     push_number(text, Key::TotalRowBytes, header.row_bytes)?;
     push_number(text, Key::SkipBytes, header.skip)?;
-    push_line(text, Key::PixelType, signedness_word(header.signed))
+    push_line(text, Key::PixelType, type_word(header.kind, header.signed))
 }
 
 /// Appends the lines of the place.
@@ -68,6 +74,15 @@ fn ordering_word(order: ByteOrdering) -> &'static str
     match order {
         ByteOrdering::Least => "I",
         ByteOrdering::Most => "M",
+    }
+}
+
+fn type_word(kind: HeightKind, signed: bool) -> &'static str
+    ensures { result.now ≡ type_text kind signed }
+{
+    match kind {
+        HeightKind::Whole => signedness_word(signed),
+        HeightKind::Single => "FLOAT",
     }
 }
 
@@ -105,6 +120,18 @@ fn push_nodata(text: &mut Vec<u8>, nodata: Option<i64>) -> Result<(), OutOfMemor
     };
     let mut digits = Buffer::new();
     push_line(text, Key::Nodata, digits.format(number))
+}
+
+/// Appends the line of a float's no-data number, if there is one.
+fn push_float(text: &mut Vec<u8>, nodata: Option<i64>) -> Result<(), OutOfMemory>
+    requires { IfSome nodata IsFloatNumber }
+    ensures { OnOk result ((end : List ℕ) × IsFloatLine nodata end × (text.new.items ≡ text.old.items ++ end)) }
+{
+    let Some(number) = nodata else {
+        return Ok(());
+    };
+    let mut digits = ryu::Buffer::new();
+    push_line(text, Key::Nodata, word_of(number, &mut digits))
 }
 
 /// Appends the line of a keyword whose value is in units of 10^-15 degree.

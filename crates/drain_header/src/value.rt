@@ -1,13 +1,15 @@
 //! The valid values of keywords.
 
 ghost use Rattle.std.specs.Prelude.{◌≡◌};
-ghost use Rattle.drain_header.specs.Lines.{size_of as size_that, ordering_of as ordering_that, is_layout as layout_that, signedness_of as signedness_that};
+ghost use Rattle.drain_header.specs.Lines.{size_of as size_that, ordering_of as ordering_that, is_layout as layout_that, signedness_of as signedness_that, sign_of as sign_that, nodata_of as nodata_that};
 ghost use Rattle.drain_header.specs.Header.{value_read};
 
 use crate::decimal::{coordinate, nodata};
 use crate::header::ByteOrdering;
 use crate::key::Key;
 use crate::line::reads;
+use drain_floats::nodata as float_nodata;
+use drain_grid::HeightKind;
 use drain_text::whole_number;
 
 /// The most rows, and the most columns.
@@ -19,15 +21,15 @@ pub enum Value {
     Number(u32),
     Ordering(ByteOrdering),
     Layout,
-    /// Whether pixels are signed, none if the word is neither of the two known.
+    /// Whether pixels are signed, none if the word is no pixel type of the header's heights.
     Signed(Option<bool>),
     Coordinate(i128),
     Nodata(i64),
 }
 
-/// The meaning of a word as the value of a keyword, none if it is not valid for the keyword.
-pub fn read_value(key: Key, word: &[u8]) -> Option<Value>
-    ensures { result ≡ value_read key word.now }
+/// The meaning of a word as the value of a keyword in a header of heights of a kind, none if it is not valid.
+pub fn read_value(kind: HeightKind, key: Key, word: &[u8]) -> Option<Value>
+    ensures { result ≡ value_read kind key word.now }
 {
     match key {
         Key::Nrows | Key::Ncols => Some(Value::Number(size(word)?)),
@@ -42,11 +44,11 @@ pub fn read_value(key: Key, word: &[u8]) -> Option<Value>
                 None
             }
         }
-        Key::PixelType => Some(Value::Signed(signedness(word))),
+        Key::PixelType => Some(Value::Signed(sign(kind, word))),
         Key::Ulxmap | Key::Ulymap | Key::Xdim | Key::Ydim => Some(Value::Coordinate(coordinate(
             word,
         )?)),
-        Key::Nodata => Some(Value::Nodata(nodata(word)?)),
+        Key::Nodata => Some(Value::Nodata(nodata_number(kind, word)?)),
     }
 }
 
@@ -77,6 +79,30 @@ fn is_layout(word: &[u8]) -> bool
     ensures { result ≡ layout_that word.now }
 {
     reads("BIL", word) || reads("BIP", word) || reads("BSQ", word)
+}
+
+fn sign(kind: HeightKind, word: &[u8]) -> Option<bool>
+    ensures { result ≡ sign_that kind word.now }
+{
+    match kind {
+        HeightKind::Whole => signedness(word),
+        HeightKind::Single => {
+            if reads("FLOAT", word) {
+                Some(true)
+            } else {
+                None
+            }
+        }
+    }
+}
+
+fn nodata_number(kind: HeightKind, word: &[u8]) -> Option<i64>
+    ensures { result ≡ nodata_that kind word.now }
+{
+    match kind {
+        HeightKind::Whole => nodata(word),
+        HeightKind::Single => float_nodata(word),
+    }
 }
 
 fn signedness(word: &[u8]) -> Option<bool>

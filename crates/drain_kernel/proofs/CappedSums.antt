@@ -5,7 +5,8 @@ use Rattle.std.proofs.lemmas.Bool.Decides.{Decides-ltb, Decides-eqb}
 use Rattle.drain_kernel.specs.Images.{EachHasImage, at_most, lower, upper}
 use Rattle.drain_kernel.specs.Around.{is_direction_code, least_across_in, least_straight_in, named_in}
 use Rattle.drain_kernel.specs.declared.slopes.Slopes.{Slopes}
-use Rattle.drain_kernel.specs.Slopes.{falls_by_fractions, falls_down, is_unit, keeps_way_down}
+use Rattle.drain_kernel.specs.Slopes.{falls_by, falls_by_fractions, falls_by_heights, falls_down, is_no_steeper_by_fraction, is_no_steeper_by_key, is_unit, is_whole, keeps_way_down}
+use Rattle.drain_grid.specs.declared.direction.Direction.{Direction}
 use Rattle.drain_kernel.specs.Tests.{falls_steepest, is_ranked, steps_along, is_ranked_by_halves, adds_up, passed_on}
 use Rattle.drain_kernel.proofs.VouchedNumbers.{named_image}
 use Rattle.std.specs.Cmp.Derive.{both_true}
@@ -27,28 +28,35 @@ capped_rank con code rank own cons numbers capped is each h = elim (or_cases _ _
   | inr lower ↦ or_right _ _ ((Decides-ltb _ _).1 (lower_rank _ _ _ _ (named_image at_most code numbers capped each) is ((Decides-ltb _ _).0 lower)))
 ]
 
-falls_by : (s : Slopes) (con code : ℕ) (cons : List ℕ) (squares : Bool) →
-    (if squares then falls_steepest con code cons else falls_by_fractions s con code cons) ≡ true → nat_lt (named_in code cons) con ≡ true
-unfolding falls_steepest falls_by_fractions
-falls_by s con code cons true h = (and_parts _ _ h).0
-falls_by s con code cons false h = (and_parts _ _ h).0
+falls_lower : (is_no_steeper : Direction → ℕ → Direction → ℕ → Bool) (con code : ℕ) (cons : List ℕ) → falls_by is_no_steeper con code cons ≡ true →
+    nat_lt (named_in code cons) con ≡ true
+unfolding falls_by
+falls_lower is_no_steeper con code cons h = (and_parts _ _ h).0
 
-next_falls : (s : Slopes) (con code : ℕ) (cons : List ℕ) → falls_down s con code cons ≡ true → nat_lt (named_in code cons) con ≡ true
-next_falls s con code cons h = falls_by s con code cons (is_unit s.spacing) h
+next_falls : (bias : ℕ) (s : Slopes) (con code : ℕ) (cons : List ℕ) → falls_down bias s con code cons ≡ true → nat_lt (named_in code cons) con ≡ true
+unfolding falls_steepest
+next_falls bias s con code cons h = by_tests (is_unit s.spacing) (is_whole s.spacing.kind) h
+  where
+    by_tests : (unit whole : Bool) →
+        (if unit then falls_steepest con code cons else if whole then falls_by_fractions s con code cons else falls_by_heights bias s.spacing con code cons) ≡ true →
+        nat_lt (named_in code cons) con ≡ true
+    by_tests true whole h = (and_parts _ _ h).0
+    by_tests false true h = falls_lower (is_no_steeper_by_fraction s con) con code cons h
+    by_tests false false h = falls_lower (is_no_steeper_by_key bias s.spacing con) con code cons h
 
 none_lower : (con code : ℕ) (cons : List ℕ) → steps_along con code cons ≡ true → con ≤ min (least_straight_in cons) (least_across_in cons)
 unfolding steps_along
 none_lower con code cons h = leb-true _ _ (and_parts _ _ h).1
 
 -- where the rules of the direction hold, a code leads to a lower neighbour if there is one
-pub falls_or_ranked : (s : Slopes) (con code rank least next : ℕ) (cons ranks : List ℕ) → least ≡ min (least_straight_in cons) (least_across_in cons) →
-    next ≡ named_in code ranks → (nat_lt least con || nat_lt next rank) ≡ true → IsTrue (keeps_way_down s con code cons) →
+pub falls_or_ranked : (bias : ℕ) (s : Slopes) (con code rank least next : ℕ) (cons ranks : List ℕ) → least ≡ min (least_straight_in cons) (least_across_in cons) →
+    next ≡ named_in code ranks → (nat_lt least con || nat_lt next rank) ≡ true → IsTrue (keeps_way_down bias s con code cons) →
     IsTrue (is_ranked con code cons rank ranks)
 unfolding is_ranked
-falls_or_ranked s con code rank least next cons ranks least_is next_is h keeps =
-    let goes = (and_parts (is_direction_code code) (falls_down s con code cons || steps_along con code cons) keeps).1 in
-    elim (or_cases (falls_down s con code cons) (steps_along con code cons) goes) [
-      | inl falls ↦ or_left (nat_lt (named_in code cons) con) (nat_lt (named_in code ranks) rank) (next_falls s con code cons falls)
+falls_or_ranked bias s con code rank least next cons ranks least_is next_is h keeps =
+    let goes = (and_parts (is_direction_code code) (falls_down bias s con code cons || steps_along con code cons) keeps).1 in
+    elim (or_cases (falls_down bias s con code cons) (steps_along con code cons) goes) [
+      | inl falls ↦ or_left (nat_lt (named_in code cons) con) (nat_lt (named_in code ranks) rank) (next_falls bias s con code cons falls)
       | inr along ↦ (elim (or_cases (nat_lt least con) (nat_lt next rank) h) [
         | inl lower ↦ absurd (not_lower con least _ least_is ((Decides-ltb least con).0 lower) (none_lower con code cons along))
         | inr less ↦ or_right (nat_lt (named_in code cons) con) (nat_lt (named_in code ranks) rank) (subst (λ n. nat_lt n rank ≡ true) next_is less)
@@ -59,13 +67,13 @@ falls_or_ranked s con code rank least next cons ranks least_is next_is h keeps =
     not_lower con least most is lower h = omega (arith, is, lower, h)
 
 -- so of numbers that are these
-pub ranked_by_capped : (s : Slopes) (con code own con2 code2 rank : ℕ) (cons cons2 numbers capped : List ℕ) → con2 ≡ con → code2 ≡ code → cons2 ≡ cons →
+pub ranked_by_capped : (bias : ℕ) (s : Slopes) (con code own con2 code2 rank : ℕ) (cons cons2 numbers capped : List ℕ) → con2 ≡ con → code2 ≡ code → cons2 ≡ cons →
     own ≡ at_most rank → EachHasImage at_most numbers capped →
-    (IsTrue (keeps_way_down s con2 code2 cons2) → IsTrue (is_ranked con2 code2 cons2 own capped)) → IsTrue (keeps_way_down s con code cons) →
+    (IsTrue (keeps_way_down bias s con2 code2 cons2) → IsTrue (is_ranked con2 code2 cons2 own capped)) → IsTrue (keeps_way_down bias s con code cons) →
     IsTrue (is_ranked con code cons rank numbers)
-ranked_by_capped s con code own con2 code2 rank cons cons2 numbers capped con_is code_is cons_is own_is each gives keeps =
-    let kept = subst (λ x. IsTrue (keeps_way_down s x code2 cons2)) (sym con_is) (subst (λ x. IsTrue (keeps_way_down s con x cons2)) (sym code_is)
-    (subst (λ x. IsTrue (keeps_way_down s con code x)) (sym cons_is) keeps)) in
+ranked_by_capped bias s con code own con2 code2 rank cons cons2 numbers capped con_is code_is cons_is own_is each gives keeps =
+    let kept = subst (λ x. IsTrue (keeps_way_down bias s x code2 cons2)) (sym con_is) (subst (λ x. IsTrue (keeps_way_down bias s con x cons2)) (sym code_is)
+    (subst (λ x. IsTrue (keeps_way_down bias s con code x)) (sym cons_is) keeps)) in
     capped_rank con code rank own cons numbers capped own_is each (subst (λ x. IsTrue (is_ranked con code x own capped)) cons_is
     (subst (λ x. IsTrue (is_ranked con x cons2 own capped)) code_is (subst (λ x. IsTrue (is_ranked x code2 cons2 own capped)) con_is (gives kept))))
 

@@ -8,7 +8,9 @@ pub mod Counting
 pub mod ClearedRules
 pub mod Numbers
 pub mod Inland
+pub mod ClassWays
 pub mod FractionWays
+pub mod FloatWays
 pub mod Ways
 pub mod Meaning
 pub mod SeenNumbers

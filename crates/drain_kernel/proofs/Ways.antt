@@ -1,5 +1,5 @@
 -- What the tests of the direction and of ranks give at an inland cell.
-use Rattle.std.proofs.Common.{◌≡◌, ◌⊎◌, ℕ, ◌-◌, ◌*◌, ◌≤◌, ◌<◌, ℤ, pos, ◌-ℤ◌, ◌≤ℤ◌, ◌<ℤ◌, Bool, true, false, not, ◌==◌, map, List, Option, inl, inr, refl, sym, ◌∙◌, ap, subst, arith, if◌then◌else◌}
+use Rattle.std.proofs.Common.{◌≡◌, ◌⊎◌, ℕ, ◌-◌, ◌*◌, ◌≤◌, ◌<◌, ℤ, pos, ◌-ℤ◌, ◌≤ℤ◌, ◌<ℤ◌, Bool, true, false, not, ◌&&◌, ◌==◌, map, List, Option, inl, inr, refl, sym, ◌∙◌, ap, subst, arith, if◌then◌else◌}
 use Rattle.std.proofs.lemmas.Bool.{false≢true, and_parts, or_cases}
 use Rattle.std.proofs.lemmas.Bool.Decides.{Decides-eqb, Decides-ltb}
 use Rattle.std.proofs.lemmas.Int.{ints}
@@ -7,7 +7,10 @@ use Rattle.drain_grid.specs.declared.direction.Direction.{Direction}
 use Rattle.drain_grid.specs.Direction.{directions, Names, NamesSome, is_straight}
 use Rattle.drain_grid.specs.Values.{Values}
 use Rattle.drain_grid.specs.Patch.{IsDataNeighbor, IsLower, HasLower}
-use Rattle.drain_grid.specs.Slope.{slope_key, IsSteepest}
+use Rattle.drain_grid.specs.declared.height_kind.HeightKind.{HeightKind}
+use Rattle.drain_grid.specs.declared.height_kind.HeightKind.TheVariants.{Whole, Single}
+use Rattle.drain_grid.specs.HeightKinds.{height_of}
+use Rattle.drain_grid.specs.Slope.{slope_key, key_to, IsSteepest}
 use Rattle.drain_grid.specs.Spacing.{Distances, unit_spacing, weight_of}
 use Rattle.drain_grid.specs.PatchRules.{SlopeHolds, FlatStepHolds, LabelHolds}
 use Rattle.drain_grid.specs.Unranked.{IsLevelStep, LevelStepHolds}
@@ -15,9 +18,10 @@ use Rattle.drain_grid.proofs.Tallies.{same_some}
 use Rattle.drain_kernel.specs.Around.{least_straight_in, least_across_in}
 use Rattle.drain_kernel.specs.Shown.{lowered}
 use Rattle.drain_kernel.specs.declared.slopes.Slopes.{Slopes}
-use Rattle.drain_kernel.specs.Slopes.{AreSound, falls_by_fractions, falls_down, is_unit, keeps_way_down}
+use Rattle.drain_kernel.specs.Slopes.{AreSound, falls_by_fractions, falls_by_heights, falls_down, is_unit, keeps_way_down, is_whole}
 use Rattle.drain_kernel.specs.Tests.{keeps_label, falls_steepest, steps_along, is_ranked}
 use Rattle.drain_kernel.proofs.Inland.{IsInland, is_beside, of_beside, le_from}
+use Rattle.drain_kernel.proofs.FloatWays.{HasNoGreaterKey, float_at, steepest_by_keys}
 use Rattle.drain_kernel.proofs.FractionWays.{counted, steepest_by_fractions}
 use Rattle.drain_kernel.proofs.Keys.{weight, key_is, unit_weight, straight_is_greatest, across_is_greatest}
 use Rattle.drain_kernel.proofs.NamedNumbers.{named_is, names_some, straight_is, least_straight_bound, least_across_bound, least_bound}
@@ -56,27 +60,51 @@ pub number_of_lower : (highest : ℕ) (here : Numbers) (n : Direction → Number
 number_of_lower highest here n around seen d m lower =
     lt_from_lowered here.bias (n d).bias (n d).con here.con (seen.bias_is d) (subst (λ (v : Values). v.con <ℤ lowered here.bias here.con) (sym (seen.data_is d m lower.beside)) lower.below)
 
--- the keys of lower neighbours, and that of a steepest
+-- a lower neighbour is a steepest, if the key of no lower one is greater
 is_steepest : (highest : ℕ) (here : Numbers) (n : Direction → Numbers) (around : List (Option Values)) → AreSeen highest here n around → here.con ≤ highest → (d : Direction) →
-    (n d).con < here.con → ((e : Direction) → counted here.spacing here.con e (n e).con ≤ counted here.spacing here.con d (n d).con) →
+    (n d).con < here.con →
+    ((e : Direction) → (n e).con < here.con → key_to (patch_of here around) e (values_of (n e)) ≤ℤ key_to (patch_of here around) d (values_of (n d))) →
     IsSteepest (patch_of here around) d
 is_steepest highest here n around seen fits d less most = (
   values_of (n d),
   record {
     lower = lower_beside highest here n around seen fits d less;
     greatest = λ e m lower.
-        let below = number_of_lower highest here n around seen e m lower in
-        let there : (n e).con ≤ here.con = omega arith in
-        let own : (n d).con ≤ here.con = omega arith in
-        subst (λ (v : Values). slope_key (weight_of here.spacing e) (lowered here.bias here.con -ℤ v.con) ≤ℤ slope_key (weight_of here.spacing d) (lowered here.bias here.con -ℤ lowered (n d).bias (n d).con))
-        (seen.data_is e m lower.beside)
-        (le_of_keys _ _ _ _ (key_is (weight_of here.spacing e) here.bias (n e).bias here.con (n e).con (seen.bias_is e) there)
-        (key_is (weight_of here.spacing d) here.bias (n d).bias here.con (n d).con (seen.bias_is d) own) (most e));
+        subst (λ (v : Values). key_to (patch_of here around) e v ≤ℤ key_to (patch_of here around) d (values_of (n d))) (seen.data_is e m lower.beside)
+        (most e (number_of_lower highest here n around seen e m lower));
   },
 )
+
+-- so of whole heights, by what counts of them
+steepest_whole : (highest : ℕ) (here : Numbers) (n : Direction → Numbers) (around : List (Option Values)) → AreSeen highest here n around → here.con ≤ highest → (d : Direction) →
+    here.spacing.kind ≡ Whole → ((n d).con < here.con) × ((e : Direction) → counted here.spacing here.con e (n e).con ≤ counted here.spacing here.con d (n d).con) →
+    IsSteepest (patch_of here around) d
+steepest_whole highest here n around seen fits d whole falls =
+    is_steepest highest here n around seen fits d falls.0
+    (λ e below.
+    let there : (n e).con ≤ here.con = omega (arith, below) in
+    let own : (n d).con ≤ here.con = omega (arith, falls.0) in
+    subst (λ (kind : HeightKind). slope_key (weight_of here.spacing e) (height_of kind (lowered here.bias here.con) -ℤ height_of kind (lowered (n e).bias (n e).con)) ≤ℤ slope_key (weight_of here.spacing d) (height_of kind (lowered here.bias here.con) -ℤ height_of kind (lowered (n d).bias (n d).con)))
+    (sym whole)
+    (le_of_keys _ _ _ _ (key_is (weight_of here.spacing e) here.bias (n e).bias here.con (n e).con (seen.bias_is e) there)
+    (key_is (weight_of here.spacing d) here.bias (n d).bias here.con (n d).con (seen.bias_is d) own) (falls.1 e)))
   where
     le_of_keys : (a b : ℤ) (x y : ℕ) → a ≡ pos x → b ≡ pos y → x ≤ y → a ≤ℤ b
-    le_of_keys a b x y is_x is_y h = omega (arith, ints)
+    le_of_keys a b x y is_x is_y h = omega (arith, ints, is_x, is_y, h)
+
+-- and of floats, by their keys
+steepest_float : (highest : ℕ) (here : Numbers) (n : Direction → Numbers) (around : List (Option Values)) → AreSeen highest here n around → here.con ≤ highest → (d : Direction) →
+    here.spacing.kind ≡ Single →
+    ((n d).con < here.con) × ((e : Direction) → HasNoGreaterKey here.bias here.con (weight_of here.spacing e) (n e).con (weight_of here.spacing d) (n d).con) →
+    IsSteepest (patch_of here around) d
+steepest_float highest here n around seen fits d single falls =
+    is_steepest highest here n around seen fits d falls.0
+    (λ e below.
+    subst (λ (kind : HeightKind). slope_key (weight_of here.spacing e) (height_of kind (lowered here.bias here.con) -ℤ height_of kind (lowered (n e).bias (n e).con)) ≤ℤ slope_key (weight_of here.spacing d) (height_of kind (lowered here.bias here.con) -ℤ height_of kind (lowered (n d).bias (n d).con)))
+    (sym single)
+    (subst (λ b. slope_key (weight_of here.spacing e) (float_at here.bias here.con -ℤ float_at b (n e).con) ≤ℤ slope_key (weight_of here.spacing d) (float_at here.bias here.con -ℤ float_at (n d).bias (n d).con)) (sym (seen.bias_is e))
+    (subst (λ b. slope_key (weight_of here.spacing e) (float_at here.bias here.con -ℤ float_at here.bias (n e).con) ≤ℤ slope_key (weight_of here.spacing d) (float_at here.bias here.con -ℤ float_at b (n d).con)) (sym (seen.bias_is d))
+    (falls.1 e below))))
 
 -- the code leads down the steepest way between square cells
 steepest_by_squares : (con code : ℕ) (cons : Direction → ℕ) (d : Direction) → Names (pos code) d → falls_steepest con code (map cons directions) ≡ true →
@@ -115,31 +143,57 @@ steepest_by_squares con code cons d named h =
         subst (λ x. x ≤ counted unit_spacing con d (cons d)) (unit_weight e ((con - cons e) * (con - cons e)))
         (subst (λ x. weight (is_straight e) ((con - cons e) * (con - cons e)) ≤ x) (unit_weight d ((con - cons d) * (con - cons d))) most)
 
+-- heights are whole where the test says so
+pub whole_from : (kind : HeightKind) → is_whole kind ≡ true → kind ≡ Whole
+whole_from Whole h = refl
+whole_from Single h = absurd (false≢true h)
+
 -- the spacing is that of unit cells where the test says so
 unit_from : (s : Distances) → is_unit s ≡ true → unit_spacing ≡ s
 unit_from s h =
-    let parts = and_parts (s.width == 1) (s.height == 1) h in
+    let both = and_parts (is_whole s.kind) ((s.width == 1) && (s.height == 1)) h in
+    let parts = and_parts (s.width == 1) (s.height == 1) both.1 in
     let width : 1 ≡ s.width = sym ((Decides-eqb s.width 1).0 parts.0) in
     let height : 1 ≡ s.height = sym ((Decides-eqb s.height 1).0 parts.1) in
-    λ i. record { width = width i; height = height i }
+    let kind : Whole ≡ s.kind = sym (whole_from s.kind both.0) in
+    λ i. record { width = width i; height = height i; kind = kind i }
+
+-- and floats where it says not
+single_from : (kind : HeightKind) → is_whole kind ≡ false → kind ≡ Single
+single_from Whole h = absurd (false≢true (sym h))
+single_from Single h = refl
 
 -- the code leads down the steepest way, by the slopes of its row
 pub steepest_down : (s : Slopes) (highest : ℕ) (here : Numbers) (n : Direction → Numbers) (around : List (Option Values)) → AreSound s → here.spacing ≡ s.spacing →
     AreSeen highest here n around → (d : Direction) → Names (pos here.dir) d → here.con ≤ highest →
-    falls_down s here.con here.dir (map (λ d. (n d).con) directions) ≡ true → IsSteepest (patch_of here around) d
-steepest_down s highest here n around sound spaced seen d named fits h =
-    let cons = λ (e : Direction). (n e).con in
-    let falls = by_test (is_unit s.spacing) refl h in
-    is_steepest highest here n around seen fits d falls.0
-    (subst (λ t. (e : Direction) → counted t here.con e (cons e) ≤ counted t here.con d (cons d)) (sym spaced) falls.1)
+    falls_down here.bias s here.con here.dir (map (λ d. (n d).con) directions) ≡ true → IsSteepest (patch_of here around) d
+steepest_down s highest here n around sound spaced seen d named fits h = by_tests (is_unit s.spacing) (is_whole s.spacing.kind) refl refl h
   where
-    by_test : (b : Bool) → is_unit s.spacing ≡ b →
-        (if b then falls_steepest here.con here.dir (map (λ d. (n d).con) directions) else falls_by_fractions s here.con here.dir (map (λ d. (n d).con) directions)) ≡ true →
-        ((n d).con < here.con) × ((e : Direction) → counted s.spacing here.con e (n e).con ≤ counted s.spacing here.con d (n d).con)
-    by_test true unit passes =
-        let falls = steepest_by_squares here.con here.dir (λ e. (n e).con) d named passes in
-        (falls.0, subst (λ t. (e : Direction) → counted t here.con e (n e).con ≤ counted t here.con d (n d).con) (unit_from s.spacing unit) falls.1)
-    by_test false other passes = steepest_by_fractions s here.con here.dir (λ e. (n e).con) d sound named passes
+    cons : Direction → ℕ
+    cons e = (n e).con
+
+    kind_is : here.spacing.kind ≡ s.spacing.kind
+    kind_is = ap (λ (t : Distances). t.kind) spaced
+
+    by_counts : s.spacing.kind ≡ Whole → ((cons d < here.con) × ((e : Direction) → counted s.spacing here.con e (cons e) ≤ counted s.spacing here.con d (cons d))) →
+        IsSteepest (patch_of here around) d
+    by_counts whole falls =
+        steepest_whole highest here n around seen fits d (kind_is ∙ whole)
+        (falls.0, subst (λ t. (e : Direction) → counted t here.con e (cons e) ≤ counted t here.con d (cons d)) (sym spaced) falls.1)
+
+    by_tests : (unit whole : Bool) → is_unit s.spacing ≡ unit → is_whole s.spacing.kind ≡ whole →
+        (if unit then falls_steepest here.con here.dir (map cons directions) else
+        if whole then falls_by_fractions s here.con here.dir (map cons directions) else falls_by_heights here.bias s.spacing here.con here.dir (map cons directions)) ≡ true →
+        IsSteepest (patch_of here around) d
+    by_tests true whole unit kind passes =
+        let falls = steepest_by_squares here.con here.dir cons d named passes in
+        by_counts (whole_from s.spacing.kind (and_parts (is_whole s.spacing.kind) ((s.spacing.width == 1) && (s.spacing.height == 1)) unit).0)
+        (falls.0, subst (λ t. (e : Direction) → counted t here.con e (cons e) ≤ counted t here.con d (cons d)) (unit_from s.spacing unit) falls.1)
+    by_tests false true other kind passes = by_counts (whole_from s.spacing.kind kind) (steepest_by_fractions s here.con here.dir cons d sound named passes)
+    by_tests false false other kind passes =
+        let falls = steepest_by_keys here.bias s.spacing here.con here.dir cons d named passes in
+        steepest_float highest here n around seen fits d (kind_is ∙ single_from s.spacing.kind kind)
+        (falls.0, subst (λ t. (e : Direction) → HasNoGreaterKey here.bias here.con (weight_of t e) (cons e) (weight_of t d) (cons d)) (sym spaced) falls.1)
 
 -- a step along the flat, at a cell with no lower neighbour
 step_from : (here : Numbers) (n : Direction → Numbers) (around : List (Option Values)) → IsInland here n around → (d : Direction) → Names (pos here.dir) d →
@@ -170,7 +224,7 @@ pub record OfDirection (here : Numbers) (around : List (Option Values)) : Type 0
   pub level_step : LevelStepHolds (patch_of here around)
 
 pub of_direction : (s : Slopes) (here : Numbers) (n : Direction → Numbers) (around : List (Option Values)) → AreSound s → here.spacing ≡ s.spacing →
-    IsInland here n around → keeps_way_down s here.con here.dir (map (λ d. (n d).con) directions) ≡ true → OfDirection here around
+    IsInland here n around → keeps_way_down here.bias s here.con here.dir (map (λ d. (n d).con) directions) ≡ true → OfDirection here around
 of_direction s here n around sound spaced known h =
     let goes = and_parts _ _ h in
     let code = names_some here.dir goes.0 in

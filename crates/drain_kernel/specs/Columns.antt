@@ -142,7 +142,7 @@ keeps_surface_at rows k = keeps_surface (slice_index rows.here.z k) (slice_index
 
 -- the rules of the direction hold, without ranks
 abbrev pub keeps_direction_at : ThreeLanes → ℕ → Bool
-keeps_direction_at rows k = keeps_way_down rows.slopes (slice_index rows.here.con k) (slice_index rows.here.dir k) (cons_round rows k)
+keeps_direction_at rows k = keeps_way_down rows.here.bias rows.slopes (slice_index rows.here.con k) (slice_index rows.here.dir k) (cons_round rows k)
 
 -- both hold
 pub record KeepsWayAt (rows : ThreeLanes) (k : ℕ) : Type 0 where

@@ -35,7 +35,7 @@ each_seen seen zs xs =
 -- the cell has data and is not raised, and its code leads down the steepest way, to a cell of its label
 unfoldable pub keeps_fall : Slopes → ℕ → ℕ → ℕ → ℕ → List ℕ → ℕ → List ℕ → Bool
 keeps_fall slopes bias height con code cons label labels =
-    ((((not (height == 0) && con == height) && nat_le con (highest bias)) && is_direction_code code) && falls_down slopes con code cons) &&
+    ((((not (height == 0) && con == height) && nat_le con (highest bias)) && is_direction_code code) && falls_down bias slopes con code cons) &&
     named_in code labels == label
 
 -- so at a column

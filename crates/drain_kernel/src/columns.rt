@@ -3,7 +3,7 @@
 ghost use Rattle.std.specs.Prelude.{◌≡◌, ◌<◌, ◌+◌, IsTrue, false, slice_index, true};
 ghost use Rattle.drain_kernel.specs.Columns.{adds_up_at, AreDataAt, HasCountsAt, HaveLabelAt, HasWayAt, KeepsWayAt, keeps_direction_at, keeps_label_at, keeps_surface_at, IsInnerColumn, IsInRows};
 ghost use Rattle.drain_kernel.specs.Shown.{cols};
-ghost use Rattle.drain_kernel.specs.Slopes.{is_unit};
+ghost use Rattle.drain_kernel.specs.Slopes.{is_unit, is_whole};
 
 use crate::cells::{
     acc_differs, bas_differs, dir_differs, keeps_direction, keeps_label, keeps_surface,
@@ -14,7 +14,7 @@ use crate::lane_row::LaneRow;
 use crate::lane_rows::LaneRows;
 use crate::near::FirstTest;
 use crate::sums::{adds_up, adds_up_by_capped, adds_up_by_middle};
-use crate::ways_down::keeps_by_fractions;
+use crate::ways_down::{keeps_by_fractions, keeps_by_heights};
 use drain_grid::NoData;
 use drain_pixels::row_lanes::HeightLane;
 
@@ -117,12 +117,12 @@ impl<H: LaneHeight> ColumnTest for DirectionTest<'_, H> {
     }
 }
 
-/// The rules of the direction hold, without ranks, by fractions; of cells that aren't square.
+/// The rules of the direction hold, without ranks, by fractions; of whole heights of cells that aren't square.
 #[derive(Drop)]
 pub struct FractionsTest<'a, H: HeightLane>(pub &'a LaneRows<'a, H>);
 
 impl<H: LaneHeight> ColumnTest for FractionsTest<'_, H> {
-    ghost CanTest = { λ test k. IsInnerColumn test.0.now k × is_unit test.0.now.slopes.spacing ≡ false };
+    ghost CanTest = { λ test k. IsInnerColumn test.0.now k × is_unit test.0.now.slopes.spacing ≡ false × is_whole test.0.now.slopes.spacing.kind ≡ true };
 
     ghost Passed = { λ test k. IsTrue (keeps_direction_at test.0.now k) };
 
@@ -132,6 +132,30 @@ impl<H: LaneHeight> ColumnTest for FractionsTest<'_, H> {
     fn passes(&self, k: usize) -> bool {
         let rows = self.0;
         keeps_by_fractions(
+            rows.slopes,
+            rows.here.con(k),
+            rows.here.code(k),
+            rows.cons_round(k),
+        )
+    }
+}
+
+/// The rules of the direction hold, without ranks, exactly; of floats.
+#[derive(Drop)]
+pub struct HeightsTest<'a, H: HeightLane>(pub &'a LaneRows<'a, H>);
+
+impl<H: LaneHeight> ColumnTest for HeightsTest<'_, H> {
+    ghost CanTest = { λ test k. IsInnerColumn test.0.now k × is_whole test.0.now.slopes.spacing.kind ≡ false };
+
+    ghost Passed = { λ test k. IsTrue (keeps_direction_at test.0.now k) };
+
+    ghost Failed = { λ test k. keeps_direction_at test.0.now k ≡ false };
+
+    #[inline(always)]
+    fn passes(&self, k: usize) -> bool {
+        let rows = self.0;
+        rows.here.tell_bias();
+        keeps_by_heights(
             rows.slopes,
             rows.here.con(k),
             rows.here.code(k),

@@ -9,6 +9,7 @@ use drain_slope::fraction::Fraction;
 pub trait LaneHeight: HeightLane {
     ghost use Rattle.std.specs.Prelude.{◌≡◌, ◌≢◌, ◌-◌, ◌*◌, ◌==◌, IsTrue, min, max, nat_lt, nat_le, neg_ℤ, pos};
     ghost use Rattle.drain_kernel.specs.Falls.{highest};
+    ghost use Rattle.drain_slope.specs.Singles.{IsNumber};
     ghost use Rattle.drain_kernel.specs.Shown.{lowered};
     ghost use Rattle.drain_kernel.specs.Tests.{is_as_steep, is_as_steep_across};
 
@@ -19,6 +20,11 @@ pub trait LaneHeight: HeightLane {
     /// The height whose lane would be that of a void.
     fn lowest() -> i64
         ensures { result ≡ neg_ℤ (pos Self.bias) };
+
+    /// The height that it holds.
+    fn height(self) -> i64
+        ensures is { result ≡ lowered Self.bias (Self.number self) }
+        ensures number { IsNumber result };
 
     /// A code with as many bits as the lane, so that a loop takes as many of both at a time.
     fn of_code(code: u16) -> Self
@@ -74,6 +80,11 @@ impl LaneHeight for u16 {
     #[inline(always)]
     fn lowest() -> i64 {
         -32768
+    }
+
+    #[inline(always)]
+    fn height(self) -> i64 {
+        i64::from(self) - 32768
     }
 
     #[inline(always)]
@@ -145,6 +156,11 @@ impl LaneHeight for u32 {
     #[inline(always)]
     fn lowest() -> i64 {
         -2147483648
+    }
+
+    #[inline(always)]
+    fn height(self) -> i64 {
+        i64::from(self) - 2147483648
     }
 
     #[inline(always)]

@@ -1,6 +1,6 @@
 //! The tests of ranks at a column.
 
-ghost use Rattle.std.specs.Prelude.{◌≡◌, ◌≢◌, ◌<◌, IsTrue, false, length, pos, true};
+ghost use Rattle.std.specs.Prelude.{◌≡◌, ◌≢◌, ◌<◌, ℕ, IsTrue, false, length, pos, true};
 ghost use Rattle.drain_kernel.specs.Columns.{HasRankAt, KeepsRankedWayAt, is_ranked_at, keeps_direction_at, HaveRanks, IsInnerColumn};
 ghost use Rattle.drain_kernel.specs.Eights.{eight};
 ghost use Rattle.drain_kernel.specs.Slopes.{is_unit, keeps_way_down};
@@ -28,7 +28,7 @@ fn falls_or_is_ranked<H: LaneHeight>(
     capped_rank: u16,
     capped_ranks: [u16; 8],
 ) -> bool
-    ensures { (slopes : Slopes) → IsTrue result → IsTrue (keeps_way_down slopes (H.number con) code (eight H.number cons)) → IsTrue (is_ranked (H.number con) code (eight H.number cons) capped_rank capped_ranks) }
+    ensures { (bias : ℕ) (slopes : Slopes) → IsTrue result → IsTrue (keeps_way_down bias slopes (H.number con) code (eight H.number cons)) → IsTrue (is_ranked (H.number con) code (eight H.number cons) capped_rank capped_ranks) }
 {
     let least = least_straight(cons).lesser(least_across(cons));
     least.is_below(con) | (named(code, capped_ranks) < capped_rank)

@@ -4,12 +4,12 @@ ghost use Rattle.std.specs.Prelude.{◌≡◌, ◌≤◌, IsTrue, false, true};
 ghost use Rattle.drain_grid.specs.Judged.{IfJudged, has_acc, has_rnk};
 ghost use Rattle.drain_kernel.specs.ConAlone.{IsClearedAt};
 ghost use Rattle.drain_kernel.specs.Columns.{adds_up_at, Along, HasWayAt, IsInlandAt, KeepsCountsAt, KeepsRankedWayAt, KeepsWayAt, PassesAt, RanksPassAt, HaveRanks, IsStretch};
-ghost use Rattle.drain_kernel.specs.Slopes.{is_unit};
+ghost use Rattle.drain_kernel.specs.Slopes.{is_unit, is_whole};
 
 use crate::column_test::passes_along;
 use crate::columns::{
-    CappedSumTest, CountsTest, DirectionTest, FractionsTest, LabelTest, MiddleSumTest, SumTest,
-    SurfaceTest, WayTest, WaysTest,
+    CappedSumTest, CountsTest, DirectionTest, FractionsTest, HeightsTest, LabelTest, MiddleSumTest,
+    SumTest, SurfaceTest, WayTest, WaysTest,
 };
 use crate::con_alone::surfaces_pass;
 use crate::lane_rows::LaneRows;
@@ -43,26 +43,38 @@ fn keep_ways<H: FirstTest>(rows: &LaneRows<H>, from: usize, end: usize) -> bool
     passes_along(&SurfaceTest(&*rows), from, end) && passes_along(&DirectionTest(&*rows), from, end)
 }
 
-/// Whether these rules hold, by fractions; of cells that aren't square.
+/// Whether these rules hold, by fractions; of whole heights of cells that aren't square.
 fn keep_ways_by_fractions<H: FirstTest>(rows: &LaneRows<H>, from: usize, end: usize) -> bool
     requires stretch { IsStretch rows.now from end }
     requires not_unit { is_unit rows.now.slopes.spacing ≡ false }
+    requires whole { is_whole rows.now.slopes.spacing.kind ≡ true }
     ensures { IsTrue result → Along from end (KeepsWayAt rows.now) }
 {
     passes_along(&SurfaceTest(&*rows), from, end) && passes_along(&FractionsTest(&*rows), from, end)
 }
 
+/// Whether these rules hold, of floats.
+fn keep_ways_by_heights<H: FirstTest>(rows: &LaneRows<H>, from: usize, end: usize) -> bool
+    requires stretch { IsStretch rows.now from end }
+    requires floats { is_whole rows.now.slopes.spacing.kind ≡ false }
+    ensures { IsTrue result → Along from end (KeepsWayAt rows.now) }
+{
+    passes_along(&SurfaceTest(&*rows), from, end) && passes_along(&HeightsTest(&*rows), from, end)
+}
+
 /// Whether the rules of the conditioned elevation and of the direction, without ranks, hold: of square cells by the test
 /// that is tried first, of heights of 16 bits by squares of 16 bits; else by squares that hold any drop's. Of other cells
-/// by fractions.
+/// by fractions, and of floats exactly.
 fn ways_pass<H: FirstTest>(rows: &LaneRows<H>, from: usize, end: usize) -> bool
     requires { IsStretch rows.now from end }
     ensures { IsTrue result → Along from end (KeepsWayAt rows.now) }
 {
     if rows.slopes.are_unit() {
         passes_along(&WaysTest(&*rows), from, end) || keep_ways(rows, from, end)
-    } else {
+    } else if rows.slopes.are_whole() {
         keep_ways_by_fractions(rows, from, end)
+    } else {
+        keep_ways_by_heights(rows, from, end)
     }
 }
 

@@ -14,6 +14,7 @@ use Rattle.drain_grid.specs.Direction.{IsCode, Names, names, opposite, direction
 use Rattle.drain_grid.specs.Values.{Values, NoDataNumbers, value_of}
 use Rattle.drain_grid.specs.Open.{IsGap}
 use Rattle.drain_grid.specs.Patch.{neighbor, height, IsDataNeighbor, IsOpen, IsClosed, IsLower, HasLower}
+use Rattle.drain_grid.specs.HeightKinds.{height_of}
 use Rattle.drain_grid.specs.Slope.{slope_key, key_to, IsSteepest}
 use Rattle.drain_grid.specs.Spacing.{Distances, weight_of}
 use Rattle.drain_grid.specs.PatchRules.{BelowGroundHolds, NotLeastHolds, SlopeHolds, OutletCodeHolds, FlatStepHolds, AccumulationHolds, LabelHolds, VoidCellWithoutSpill, MissingWithoutSpill, BadCodeWithoutSpill, OpenRaisedWithoutSpill, inflow, check_rules}
@@ -140,9 +141,9 @@ lower_there {p} {q} alike d v lower =
       w,
       (
         record { beside = there.1.0; below = below },
-        ap (λ x. slope_key (weight_of p.spacing d) (x -ℤ v.con)) alike.here.con
-            ∙ ap (λ x. slope_key (weight_of p.spacing d) (q.here.con -ℤ x)) there.1.1.con
-            ∙ ap (λ (s : Distances). slope_key (weight_of s d) (q.here.con -ℤ w.con)) alike.spacing,
+        ap (λ x. slope_key (weight_of p.spacing d) (height_of p.spacing.kind x -ℤ height_of p.spacing.kind v.con)) alike.here.con
+            ∙ ap (λ x. slope_key (weight_of p.spacing d) (height_of p.spacing.kind q.here.con -ℤ height_of p.spacing.kind x)) there.1.1.con
+            ∙ ap (λ (s : Distances). slope_key (weight_of s d) (height_of s.kind q.here.con -ℤ height_of s.kind w.con)) alike.spacing,
       ),
     )
 

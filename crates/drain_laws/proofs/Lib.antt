@@ -6,6 +6,7 @@ mod PaddedRuns
 pub mod ChosenWays
 pub mod CorrectByWays
 pub mod SameWays
+pub mod FloatBits
 pub mod NearEdges
 pub mod OwnRasters
 pub mod PartLocal

@@ -1,3 +1,4 @@
+pub mod Floats
 pub mod Laws
 pub mod Padding
 pub mod PartOf

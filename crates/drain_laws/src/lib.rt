@@ -1,9 +1,11 @@
-//! A grid padded with voids: its rules, runs, counts and verdict, and what correct products mean.
+//! A grid padded with voids: its rules, runs, counts and verdict, and what correct products mean. Also parts of a
+//! correct set, and heights of floats.
 //!
-//! So a raster of any shape can be laid into a larger grid, such as one of whole tiles, and be checked there. A law is
-//! a function with an empty body: its contract is the law, and code that calls it can use the law.
+//! By padding, a raster of any shape can be laid into a larger grid, such as one of whole tiles, and be checked there.
+//! A law is a function with an empty body: its contract is the law, and code that calls it can use the law.
 #![tactic(auto)]
 
+pub mod floats;
 pub mod parts;
 
 ghost use Rattle.drain_laws.specs.Laws.{EveryGridCanBePadded, PaddingBreaksNoRule, PaddingKeepsAccumulation, PaddingKeepsBasins, PaddingKeepsChecks, PaddingKeepsCorrect, PaddingKeepsCounts, PaddingKeepsData, PaddingKeepsFirstEndless, PaddingKeepsFirstFault, PaddingKeepsOpen, PaddingKeepsRules, PaddingKeepsRuns, PaddingKeepsSteps, PaddingKeepsTallies, PaddingKeepsVerdict};

@@ -1,6 +1,7 @@
 -- The files of products that were made: no refusal of them applies, and they are accepted.
-use Rattle.std.proofs.Common.{◌≡◌, ℕ, ◌*◌, ◌<◌, ◌≤◌, ℤ, ◌-ℤ◌, nat_abs, pos, get_or, slice_get, inl, inr, List, Option, Some, IsSome, Result, Ok, Err, unwrap_or, refl, sym, ap, subst, ◌∙◌, arith}
+use Rattle.std.proofs.Common.{◌≡◌, ℕ, ◌*◌, ◌<◌, ◌≤◌, ℤ, ◌-ℤ◌, nat_abs, pos, get_or, slice_get, inl, inr, List, Option, Some, IsSome, Result, Ok, Err, refl, sym, ap, subst, ◌∙◌, arith}
 use Rattle.drain_grid.specs.declared.cell.Cell.{Cell}
+use Rattle.drain_grid.specs.declared.height_kind.HeightKind.{HeightKind}
 use Rattle.drain_grid.specs.declared.product.Product.TheVariants as product
 use Rattle.drain_grid.specs.declared.set_product.SetProduct.{SetProduct}
 use Rattle.drain_grid.specs.declared.set_product.SetProduct.TheVariants.{Con, Dir, Acc, Bas, Rnk}
@@ -17,10 +18,9 @@ use Rattle.drain_grid.specs.Product.{default_no_data}
 use Rattle.drain_grid.specs.Grid.{Grid, Heights, Pixels}
 use Rattle.drain_grid.specs.Values.{NoDataNumbers}
 use Rattle.drain_grid.specs.Spacing.{Distances, RowSpacings, spacing_of, unit_spacing}
-use Rattle.drain_grid.specs.SpacingTexts.{spacing_in}
 use Rattle.drain_grid.specs.WholeGrid.{grid_of, number_at, products_of, raster_in}
 use Rattle.drain_header.specs.declared.fault.HeaderFault.{HeaderFault}
-use Rattle.drain_header.specs.Faults.{Answers, Describes}
+use Rattle.drain_header.specs.Faults.{AnswersOf, DescribesOf}
 use Rattle.drain_header.specs.Header.{AreWithinBounds, Fields}
 use Rattle.drain_header.specs.Laws.{TextReadsBack}
 use Rattle.drain_raster.specs.Bytes.{raster_bytes}
@@ -38,7 +38,7 @@ use Rattle.drain_verdict.specs.DemGround.{dem_ground}
 use Rattle.drain_verdict.specs.GroundSets.{GroundSet, HasShapeIn, IsReadable, set_grid, set_numbers, set_products}
 use Rattle.drain_verdict.specs.Given.{HasOtherRows}
 use Rattle.drain_verdict.specs.Inputs.{Inputs}
-use Rattle.drain_verdict.specs.Texts.{lines_in, set_fields, set_listed, set_number}
+use Rattle.drain_verdict.specs.Texts.{kind_in, lines_in, nodata_number, set_fields, set_listed, set_number}
 use Rattle.drain_verdict.specs.Meaning.{tiling_of}
 use Rattle.drain_verdict.specs.TileGround.{TilesRefuse, set_of}
 use Rattle.drain_maker.specs.Mosaics.{IsMosaicOf}
@@ -67,6 +67,14 @@ one_place h Acc = refl
 one_place h Bas = refl
 one_place h Rnk = refl
 
+-- con's has their kind of heights, the others whole numbers
+one_kind : (h : Fields) (p : SetProduct) → (header_on h (product_of p)).kind ≡ kind_in h.kind p
+one_kind h Con = refl
+one_kind h Dir = refl
+one_kind h Acc = refl
+one_kind h Bas = refl
+one_kind h Rnk = refl
+
 -- the number of a raster that is read back is that of its bytes
 number_in_bytes : NumbersArePixels → (h : Fields) (p : Pixels) (c : Cell) → p.extent ≡ header_extent h → ReadBack h p →
     IsCellOf (header_extent h) c → number_at p c ≡ pixel_at h (raster_bytes h p) c
@@ -87,12 +95,13 @@ square_with e elevation sinks = grid_with e elevation sinks (λ row. unit_spacin
 record AreMadeFor (s : GroundSet) (h : Fields) (e : Extent) (elevation : Cell → Option ℤ) (sinks : List SinkLine) (spacings : RowSpacings) (ps : ProductSet) : Type 0 where
   bounds : (p : SetProduct) → AreWithinBounds (header_on h (product_of p))
   readable : (refusal : Refusal) → ¬ s.terrain.Refuses refusal
+  kind : h.kind ≡ s.terrain.kind
   size : header_extent h ≡ s.terrain.extent
   shape : e ≡ s.terrain.extent
   elevation_is : (c : Cell) → IsCellOf e c → elevation c ≡ s.terrain.elevation c
   holds : s.terrain.Holds h.place
   listed : sinks_of s.texts.given.sinks ≡ Ok sinks
-  given : AreGivenSpacings s.texts.given.spacing e spacings
+  given : AreGivenSpacings s.terrain.kind s.texts.given.spacing e spacings
   on_data : (line : ℕ) → ¬ IsOffData (square_with e elevation sinks) sinks line
   fits : SetFits h ps
   pixels : AreRasters ps
@@ -105,10 +114,12 @@ module _ (text : TextReadsBack) (bytes : BytesReadBack) (s : GroundSet) (h : Fie
   at p = header_on h (product_of p)
 
   -- each header is read back as what was to be written, and each raster as its numbers
-  described : (p : SetProduct) → Describes (s.texts.header p) (at p)
-  described p = subst (λ (t : List ℕ). Describes t (at p)) (sym (made.files.headers_are p)) (text (at p) (made.bounds p))
+  described : (p : SetProduct) → DescribesOf (kind_in s.terrain.kind p) (s.texts.header p) (at p)
+  described p =
+      subst (λ (kind : HeightKind). DescribesOf kind (s.texts.header p) (at p)) (one_kind h p ∙ ap (λ (kind : HeightKind). kind_in kind p) made.kind)
+      (text (at p) (made.bounds p) (s.texts.header p) (made.files.headers_are p))
 
-  says : (p : SetProduct) → at p ≡ set_fields s.texts p
+  says : (p : SetProduct) → at p ≡ set_fields s.terrain.kind s.texts p
   says p = (described p).fields
 
   back : (p : SetProduct) → ReadBack (at p) (raster_in ps p)
@@ -119,26 +130,26 @@ module _ (text : TextReadsBack) (bytes : BytesReadBack) (s : GroundSet) (h : Fie
   lines_are = ap lines_in made.listed
 
   -- no refusal of a header or a raster
-  no_fault : (p : SetProduct) (fault : HeaderFault) → ¬ Answers (s.texts.header p) (Err fault)
+  no_fault : (p : SetProduct) (fault : HeaderFault) → ¬ AnswersOf (kind_in s.terrain.kind p) (s.texts.header p) (Err fault)
   no_fault p fault stands = (described p).sound fault stands.holds
 
   shaped : (p : SetProduct) → ¬ ¬ HasShapeIn s p
   shaped p stands = stands (ap (λ (k : Fields). header_extent k) (sym (says p)) ∙ (one_size h p ∙ made.size))
 
-  placed_there : (p : SetProduct) → ¬ ¬ s.terrain.Holds (set_fields s.texts p).place
+  placed_there : (p : SetProduct) → ¬ ¬ s.terrain.Holds (set_fields s.terrain.kind s.texts p).place
   placed_there p stands = stands (subst s.terrain.Holds (sym (one_place h p) ∙ ap (λ (k : Fields). k.place) (says p)) made.holds)
 
-  long : (p : SetProduct) → ¬ IsShort (set_fields s.texts p) (s.texts.raster p)
+  long : (p : SetProduct) → ¬ IsShort (set_fields s.terrain.kind s.texts p) (s.texts.raster p)
   long p stands =
       (back p).long (subst (λ (k : Fields). IsShort k (raster_bytes (at p) (raster_in ps p))) (sym (says p))
-      (subst (λ (body : List ℕ). IsShort (set_fields s.texts p) body) (made.files.rasters_are p) stands))
+      (subst (λ (body : List ℕ). IsShort (set_fields s.terrain.kind s.texts p) body) (made.files.rasters_are p) stands))
 
   -- no refusal applies
   none_stands : IsReadable s
-  none_stands (BadHeader p fault) stands = none_of_held (λ q. Answers (s.texts.header q) (Err fault)) (λ q. no_fault q fault) p stands
+  none_stands (BadHeader p fault) stands = none_of_held (λ q. AnswersOf (kind_in s.terrain.kind q) (s.texts.header q) (Err fault)) (λ q. no_fault q fault) p stands
   none_stands (WrongShape p) stands = none_of_held (λ q. ¬ HasShapeIn s q) shaped p stands
-  none_stands (Misplaced p) stands = none_of_held (λ q. ¬ s.terrain.Holds (set_fields s.texts q).place) placed_there p stands
-  none_stands (RasterShort p) stands = none_of_held (λ q. IsShort (set_fields s.texts q) (s.texts.raster q)) long p stands
+  none_stands (Misplaced p) stands = none_of_held (λ q. ¬ s.terrain.Holds (set_fields s.terrain.kind s.texts q).place) placed_there p stands
+  none_stands (RasterShort p) stands = none_of_held (λ q. IsShort (set_fields s.terrain.kind s.texts q) (s.texts.raster q)) long p stands
   none_stands (BadSinkLine n) stands = let no : Ok sinks ≡ Err n = sym made.listed ∙ stands in cc
   none_stands (SinkNotData n) stands =
       made.on_data n (record {
@@ -151,7 +162,7 @@ module _ (text : TextReadsBack) (bytes : BytesReadBack) (s : GroundSet) (h : Fie
           is_data = subst (λ (z : Option ℤ). IsSome z) (made.elevation_is stands.listed.cell has.inside) has.is_data;
         });
       })
-  none_stands (BadSpacingLine n) stands = let no : Ok spacings ≡ Err n = sym made.given.are ∙ stands in cc
+  none_stands (BadSpacingLine n) stands = made.given.good n stands
   none_stands (SpacingRows n) stands =
       made.given.rows n (subst (λ (x : Extent). HasOtherRows s.texts.given.spacing x n) (sym made.shape) stands)
   none_stands OutOfMemory stands = stands
@@ -159,12 +170,12 @@ module _ (text : TextReadsBack) (bytes : BytesReadBack) (s : GroundSet) (h : Fie
   none_stands refusal stands = made.readable refusal stands
 
   -- the number of a product at a cell is that of its file
-  number_kept : NumbersArePixels → (p : SetProduct) (c : Cell) → IsCellOf e c → number_at (raster_in ps p) c ≡ set_number s.texts p c
+  number_kept : NumbersArePixels → (p : SetProduct) (c : Cell) → IsCellOf e c → number_at (raster_in ps p) c ≡ set_number s.terrain.kind s.texts p c
   number_kept numbers p c inside =
       number_in_bytes numbers (at p) (raster_in ps p) c (made.fits p tt).extent (back p)
       (subst (λ (x : Extent). IsCellOf x c) (made.shape ∙ (sym made.size ∙ sym (one_size h p))) inside)
       ∙ ap (λ (k : Fields). pixel_at k (raster_bytes (at p) (raster_in ps p)) c) (says p)
-      ∙ ap (λ (body : List ℕ). pixel_at (set_fields s.texts p) body c) (sym (made.files.rasters_are p))
+      ∙ ap (λ (body : List ℕ). pixel_at (set_fields s.terrain.kind s.texts p) body c) (sym (made.files.rasters_are p))
 
   -- the grid and the products are those of the files
   grids_equal : NumbersArePixels → AreEqual (grid_with e elevation sinks (spacing_of spacings)) (set_grid s) (products_of ps) (set_products s)
@@ -180,18 +191,18 @@ module _ (text : TextReadsBack) (bytes : BytesReadBack) (s : GroundSet) (h : Fie
       spl = pos 0;
       rnk = number_kept numbers Rnk c inside k;
     };
-    spacing = λ row less. sym (ap (λ (r : Result RowSpacings ℕ). spacing_in r row) made.given.are);
+    spacing = λ row less. made.given.are row;
   }
 
   -- the no-data numbers are those of the headers
   numbers_said : made_numbers (con_no_data h) ≡ set_numbers s
   numbers_said = λ k. record {
-    con = ap (λ (f : Fields). unwrap_or f.nodata (default_no_data product.Con)) (says Con) k;
-    dir = ap (λ (f : Fields). unwrap_or f.nodata (default_no_data product.Dir)) (says Dir) k;
-    acc = ap (λ (f : Fields). unwrap_or f.nodata (default_no_data product.Acc)) (says Acc) k;
-    bas = ap (λ (f : Fields). unwrap_or f.nodata (default_no_data product.Bas)) (says Bas) k;
+    con = ap (λ (f : Fields). nodata_number f Con) (says Con) k;
+    dir = ap (λ (f : Fields). nodata_number f Dir) (says Dir) k;
+    acc = ap (λ (f : Fields). nodata_number f Acc) (says Acc) k;
+    bas = ap (λ (f : Fields). nodata_number f Bas) (says Bas) k;
     spl = default_no_data product.Spl;
-    rnk = ap (λ (f : Fields). unwrap_or f.nodata (default_no_data product.Rnk)) (says Rnk) k;
+    rnk = ap (λ (f : Fields). nodata_number f Rnk) (says Rnk) k;
   }
 
   module _ (numbers : NumbersArePixels) (one_verdict : EqualGridsHaveOneVerdict) where
@@ -250,6 +261,7 @@ made_is_accepted text bytes numbers one_verdict i e sinks spacings ps named mosa
     answer_is text bytes (set_of i) (made_header (tiling_of i) product.Con) e.extent (grid_of e sinks).elevation sinks spacings ps (record {
       bounds = tile_bounds (tiling_of i) fits;
       readable = tiles_readable i e mosaic;
+      kind = refl;
       size = refl;
       shape = mosaic.extent_is;
       elevation_is = mosaic.elevation_is;
@@ -282,15 +294,17 @@ lies_there h = record {
 pub made_on_dem_is_accepted : TextReadsBack → BytesReadBack → NumbersArePixels → EqualGridsHaveOneVerdict → MadeOnDemIsAccepted
 made_on_dem_is_accepted text bytes numbers one_verdict d t h p sinks spacings ps dem listed given made files =
     let same = dem.header.described.fields in
+    let kind : h.kind ≡ (dem_ground d).kind = ap (λ (k : Fields). k.kind) same in
     answer_is text bytes (record { terrain = dem_ground d; texts = t }) h p.extent (dem_elevation p) sinks spacings ps (record {
       bounds = λ q. bounds_on h (product_of q) dem.header.bounds;
       readable = dem.readable;
+      kind = kind;
       size = ap header_extent same;
       shape = dem.extent_is;
       elevation_is = dem.elevation_is;
       holds = subst (λ (k : Fields). LiesOn k h.place) same (lies_there h);
       listed = listed;
-      given = given;
+      given = subst (λ (k : HeightKind). AreGivenSpacings k t.given.spacing p.extent spacings) kind given;
       on_data = made.on_data;
       fits = made.written;
       pixels = made.rasters;

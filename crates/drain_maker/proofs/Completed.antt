@@ -9,6 +9,7 @@ use Rattle.drain_grid.specs.Extent.{step}
 use Rattle.drain_grid.specs.Grid.{Grid, Products, Pixels}
 use Rattle.drain_grid.specs.Path.{IsLeastSurface}
 use Rattle.drain_grid.specs.Run.{IsLowerCell, IsSteepestCell, IsFlatCell, IsOutlet, only_data, next}
+use Rattle.drain_grid.specs.HeightKinds.{height_of}
 use Rattle.drain_grid.specs.Slope.{slope_key}
 use Rattle.drain_grid.specs.Spacing.{weight_between}
 use Rattle.drain_grid.specs.Values.{NoDataNumbers}
@@ -39,7 +40,8 @@ steepest g ps qs con c n h = record {
 }
   where
     key : (Cell → ℤ) → Cell → ℤ
-    key f m = slope_key (weight_between (g.spacing c.row) c m) (f c -ℤ f m)
+    key f m =
+        slope_key (weight_between (g.spacing c.row) c m) (height_of (g.spacing c.row).kind (f c) -ℤ height_of (g.spacing c.row).kind (f m))
 
 code : (ps qs : Products) → ps.dir ≡ qs.dir → (c : Cell) → ps.dir c ≡ qs.dir c
 code ps qs dir c = ap (λ (f : Cell → ℤ). f c) dir

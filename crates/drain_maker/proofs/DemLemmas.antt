@@ -7,6 +7,7 @@ use Rattle.std.proofs.lemmas.Bool.Decides.{Decides-int_eq}
 use Rattle.std.proofs.lemmas.Int.{ints, clamps, by_lt_z}
 use Rattle.std.proofs.lemmas.List.{get_or_append_left, get_or_push}
 use Rattle.drain_grid.specs.declared.cell.Cell.{Cell}
+use Rattle.drain_grid.specs.declared.height_kind.HeightKind.{HeightKind}
 use Rattle.drain_grid.specs.declared.sink_line.SinkLine.{SinkLine}
 use Rattle.drain_grid.specs.Extent.{IsCellOf, index_of}
 use Rattle.drain_grid.specs.Grid.{Grid, HasData, IsInside, Pixels, height_at}
@@ -20,7 +21,7 @@ use Rattle.drain_grid.proofs.Lowered.{HasData-path}
 use Rattle.drain_grid.proofs.Neighbors.{direction_between, step_gives}
 use Rattle.drain_grid.proofs.Tallies.{void_data}
 use Rattle.drain_flood.proofs.Cells.{none_or_some}
-use Rattle.drain_raster.specs.Bytes.{CanSpellAllIn, CanSpellIn}
+use Rattle.drain_raster.specs.Bytes.{CanSpellAllAs, CanSpellAs}
 use Rattle.drain_flood.specs.Floods.{Flooding, IsSurfaceOf, ShowsVoids, con_at}
 use Rattle.drain_filled.specs.Compared.{HasHeights}
 use Rattle.drain_filled.specs.Grounds.{ArePixelHeights, DataCells, HasDataCells}
@@ -132,29 +133,29 @@ shows_voids spacing p sinks f void surface voids same = record {
 }
 
 -- whatever encodes the numbers of the raster encodes con's: each is one of them
-pub con_spelled : (spacing : ℕ → Distances) (p : Pixels) (sinks : List SinkLine) (con : Pixels) (signed : Bool) (bits : ℕ) → con.extent ≡ p.extent → AreOfGround (spaced_dem_grid spacing p sinks) (number_at con) →
-    ((c : Cell) → IsCellOf p.extent c → IsNone (dem_elevation p c) → number_at con c ≡ p.nodata) → CanSpellAllIn signed bits p → CanSpellAllIn signed bits con
-con_spelled spacing p sinks con signed bits shape ground voids spelled c inside =
+pub con_spelled : (spacing : ℕ → Distances) (p : Pixels) (sinks : List SinkLine) (con : Pixels) (kind : HeightKind) (signed : Bool) (bits : ℕ) → con.extent ≡ p.extent → AreOfGround (spaced_dem_grid spacing p sinks) (number_at con) →
+    ((c : Cell) → IsCellOf p.extent c → IsNone (dem_elevation p c) → number_at con c ≡ p.nodata) → CanSpellAllAs kind signed bits p → CanSpellAllAs kind signed bits con
+con_spelled spacing p sinks con kind signed bits shape ground voids spelled c inside =
     let there : IsCellOf p.extent c = subst (λ e. IsCellOf e c) shape inside in
     elim (none_or_some (dem_elevation p c)) [
-      | inl none ↦ subst (CanSpellIn signed bits) (void_is spacing p sinks c none ∙ sym (voids c there none)) (spelled c there)
+      | inl none ↦ subst (CanSpellAs kind signed bits) (void_is spacing p sinks c none ∙ sym (voids c there none)) (spelled c there)
       | inr some ↦
           (let up = ground c (record { inside = there; is_data = some }) in
-          subst (CanSpellIn signed bits) (sym (up.2 ∙ height_is spacing p sinks up.0 up.1)) (spelled up.0 up.1.inside))
+          subst (CanSpellAs kind signed bits) (sym (up.2 ∙ height_is spacing p sinks up.0 up.1)) (spelled up.0 up.1.inside))
     ]
 
 -- one more number, as `with_next` of drain_flood
-pub with_height : (p : Pixels) (xs : List ℤ) (x : ℤ) (place : ℕ) (n : Cell) → IsCellOf p.extent n → index_of p.extent n ≡ place → length xs ≡ place →
-    IsHeightAt p n x → ((c : Cell) → IsCellOf p.extent c → index_of p.extent c < place → IsHeightAt p c (get_or xs (index_of p.extent c) (pos 0))) →
-    (c : Cell) → IsCellOf p.extent c → index_of p.extent c < place + 1 → IsHeightAt p c (get_or (xs ++ x ∷ []) (index_of p.extent c) (pos 0))
-with_height p xs x place n at place_is long right before c inside less =
+pub with_height : (p : Pixels) (Is : Cell → ℤ → Type 0) (xs : List ℤ) (x : ℤ) (place : ℕ) (n : Cell) → IsCellOf p.extent n → index_of p.extent n ≡ place → length xs ≡ place →
+    Is n x → ((c : Cell) → IsCellOf p.extent c → index_of p.extent c < place → Is c (get_or xs (index_of p.extent c) (pos 0))) →
+    (c : Cell) → IsCellOf p.extent c → index_of p.extent c < place + 1 → Is c (get_or (xs ++ x ∷ []) (index_of p.extent c) (pos 0))
+with_height p Is xs x place n at place_is long right before c inside less =
     elim (cases_lt (index_of p.extent c) place) [
-      | inl early ↦ subst (IsHeightAt p c) (sym (get_or_append_left xs (x ∷ []) (pos 0) (index_of p.extent c) (subst (λ m. index_of p.extent c < m) (sym long) early)))
+      | inl early ↦ subst (Is c) (sym (get_or_append_left xs (x ∷ []) (pos 0) (index_of p.extent c) (subst (λ m. index_of p.extent c < m) (sym long) early)))
           (before c inside early)
       | inr late ↦
           (let here : index_of p.extent c ≡ place = last (index_of p.extent c) place less late in
           let one : n ≡ c = same_index p.extent n c at inside (place_is ∙ sym here) in
-          subst (IsHeightAt p c) (sym (get_or_push xs x (pos 0) (index_of p.extent c) (long ∙ sym here))) (subst (λ a. IsHeightAt p a x) one right))
+          subst (Is c) (sym (get_or_push xs x (pos 0) (index_of p.extent c) (long ∙ sym here))) (subst (λ a. Is a x) one right))
     ]
   where
     last : (k place : ℕ) → k < place + 1 → place ≤ k → k ≡ place

@@ -1,13 +1,11 @@
 -- A raster of elevations read into memory: its pixels and their range, the elevations that they mean, and its first
 -- refusal.
-use Rattle.std.proofs.Common.{◌≡◌, ◌≢◌, ◌∙◌, ℕ, ◌+◌, ◌-◌, ◌*◌, ◌/◌, ◌^◌, ◌<◌, ◌≤◌, ℤ, pos, Bool, true, false, List, [], ◌∷◌, Option, Some, None, Err, inl, inr, length, map, slice_index_or, slice_set, take, drop, unwrap_or, refl, sym, ap, subst, arith}
+use Rattle.std.proofs.Common.{◌≡◌, ◌≢◌, ◌∙◌, ℕ, ◌+◌, ◌-◌, ◌*◌, ◌/◌, ◌^◌, ◌<◌, ◌≤◌, ℤ, pos, Bool, true, false, List, [], ◌∷◌, Option, Some, Err, inl, inr, length, map, slice_index_or, slice_set, take, drop, refl, sym, ap, subst, arith}
 use Rattle.std.specs.Prelude.{slice_index}
-use Rattle.std.specs.Ordering.{int_eq}
 use Rattle.std.proofs.Props.{props}
 use Rattle.std.proofs.Math.Logic.{∥∥₁_elim}
 use Rattle.std.proofs.Math.Nat.{mul-le-mul_right}
 use Rattle.std.proofs.lemmas.Bool.{cases_lt, le-ltb, lt-ltb}
-use Rattle.std.proofs.lemmas.Bool.Decides.{Decides-int_eq}
 use Rattle.std.proofs.lemmas.Int.{ints}
 use Rattle.std.proofs.lemmas.List.{drop-take, get_or-drop, length-take}
 use Rattle.byteorder.specs.Endian.{twos_complement}
@@ -19,28 +17,32 @@ use Rattle.drain_device.specs.FaultLists.{SomeReadFails}
 use Rattle.drain_device.specs.Reads.{ReadsUpTo}
 use Rattle.drain_device.specs.declared.counts.FaultCounts.{FaultCounts}
 use Rattle.drain_device.proofs.FaultLists.{SomeReadFails-one}
+use Rattle.drain_floats.specs.Patterns.{IsFloatNumber, number_of}
 use Rattle.drain_grid.specs.declared.cell.Cell.{Cell}
+use Rattle.drain_grid.specs.declared.height_kind.HeightKind.{HeightKind}
+use Rattle.drain_grid.specs.declared.height_kind.HeightKind.TheVariants.{Whole, Single}
 use Rattle.drain_grid.specs.Extent.{IsCellOf}
 use Rattle.drain_grid.specs.Grid.{Pixels}
 use Rattle.drain_grid.specs.WholeGrid.{number_at}
 use Rattle.drain_header.specs.declared.header.ByteOrdering.{ByteOrdering}
 use Rattle.drain_header.specs.declared.header.ByteOrdering.TheVariants.{Least, Most}
 use Rattle.drain_header.specs.declared.fault.HeaderFault.{HeaderFault}
-use Rattle.drain_header.specs.Faults.{Answers}
+use Rattle.drain_header.specs.Faults.{AnswersOf}
 use Rattle.drain_header.specs.Header.{Fields, IsPixelSize}
-use Rattle.drain_pixels.specs.Ground.{height_with}
-use Rattle.drain_raster.specs.Bytes.{CanSpell, CanSpellIn}
+use Rattle.drain_pixels.specs.Ground.{height_with, whole_voids}
+use Rattle.drain_raster.specs.Bytes.{CanSpell, CanSpellAs, CanSpellIn}
 use Rattle.drain_raster.specs.Elevations.{elevation_in}
 use Rattle.drain_raster.specs.Laws.{NumbersArePixels}
-use Rattle.drain_raster.specs.Pixels.{IsShort, header_extent, needed_len, number_in, pixel_at, pixel_len, pixel_of, pixel_place, raster_of, spelled_by}
+use Rattle.drain_raster.specs.Pixels.{IsShort, header_extent, needed_len, number_in, pixel_at, pixel_len, pixel_of, pixel_place, raster_of, spelled_as, spelled_by}
 use Rattle.drain_raster.specs.Placing.{HasPixelSize}
-use Rattle.drain_raster.proofs.PixelLemmas.{spelled_by-take}
+use Rattle.drain_raster.proofs.PixelLemmas.{spelled_as-take}
 use Rattle.drain_text.specs.First.{IsBefore}
-use Rattle.drain_verdict.specs.DemGround.{DemRefuses, DemTexts, EncodesDem, IsDemHeader, IsDemHeaderRefusal, dem_devices, dem_fields, dem_ground}
+use Rattle.drain_verdict.specs.DemGround.{DemRefuses, DemTexts, EncodesDem, IsDemHeader, IsDemHeaderRefusal, dem_devices, dem_fields, dem_ground, kind_of}
 use Rattle.drain_verdict.specs.Ground.{refusal_kind}
 use Rattle.drain_verdict.specs.declared.next_rows.RasterInput.{RasterInput}
-use Rattle.drain_maker.specs.Dems.{IsBodyRefusal, IsDemOf, IsGroundRefusal, IsRasterOf}
+use Rattle.drain_maker.specs.Dems.{IsBodyRefusal, IsDemOf, IsGroundRefusal, IsKept, IsRasterOf, kept_number}
 use Rattle.drain_maker.specs.ProductFiles.{FitsHeader, con_no_data}
+use Rattle.drain_maker.proofs.KeptNumbers.{kept_height, pattern_number}
 use Rattle.drain_maker.proofs.MosaicAnswers.{reads-front}
 
 -- The range of a pixel.
@@ -79,11 +81,18 @@ spelled_in false order bits bytes (inl is) low = rw is (let fits = number_fits o
 spelled_in false order bits bytes (inr (inl is)) low = rw is (let fits = number_fits order 2 bytes low in record { low = omega (arith, ints); high = omega (arith, ints, fits) })
 spelled_in false order bits bytes (inr (inr is)) low = rw is (let fits = number_fits order 4 bytes low in record { low = omega (arith, ints); high = omega (arith, ints, fits) })
 
--- a header's pixels can encode the number of a pixel
-pixel_spelled : (h : Fields) (bytes : List ℕ) → ∥ IsPixelSize h.bits ∥₁ → AreBytes bytes → CanSpell h (pixel_of h bytes)
-pixel_spelled h bytes size low = ∥∥₁_elim size (hlevel props) (λ is. spelled_in h.signed h.order h.bits bytes is low)
+-- so of pixels of a kind
+spelled_of : (kind : HeightKind) (signed : Bool) (order : ByteOrdering) (bits : ℕ) (bytes : List ℕ) → ∥ IsPixelSize bits ∥₁ → (kind ≡ Single → bits ≡ 32) → AreBytes bytes →
+    CanSpellAs kind signed bits (spelled_as kind signed order (bits / 8) bytes)
+spelled_of Whole signed order bits bytes size wide low = ∥∥₁_elim size (hlevel props) (λ is. spelled_in signed order bits bytes is low)
+spelled_of Single signed order bits bytes size wide low =
+    subst (λ b. IsFloatNumber (number_of (number_in order (b / 8) bytes))) (sym (wide refl)) (pattern_number (number_in order 4 bytes) (number_fits order 4 bytes low))
 
--- which is no number of 33 bits
+-- a header's pixels can encode the number of a pixel
+pixel_spelled : (h : Fields) (bytes : List ℕ) → ∥ IsPixelSize h.bits ∥₁ → (h.kind ≡ Single → h.bits ≡ 32) → AreBytes bytes → CanSpell h (pixel_of h bytes)
+pixel_spelled h bytes size wide low = spelled_of h.kind h.signed h.order h.bits bytes size wide low
+
+-- and of whole heights that is no number of 33 bits
 beyond : (signed : Bool) (bits : ℕ) → IsPixelSize bits → ¬ CanSpellIn signed bits (pos 4294967296)
 beyond true bits (inl is) ok = let most = rw is at ok.high in omega (arith, ints, most)
 beyond true bits (inr (inl is)) ok = let most = rw is at ok.high in omega (arith, ints, most)
@@ -92,8 +101,9 @@ beyond false bits (inl is) ok = let most = rw is at ok.high in omega (arith, int
 beyond false bits (inr (inl is)) ok = let most = rw is at ok.high in omega (arith, ints, most)
 beyond false bits (inr (inr is)) ok = let most = rw is at ok.high in omega (arith, ints, most)
 
-not_beyond : (h : Fields) (z : ℤ) → ∥ IsPixelSize h.bits ∥₁ → CanSpell h z → z ≢ pos 4294967296
-not_beyond h z size ok same = ∥∥₁_elim size (hlevel props) (λ is. beyond h.signed h.bits is (subst (CanSpell h) same ok))
+not_beyond : (kind : HeightKind) (signed : Bool) (bits : ℕ) (z : ℤ) → ∥ IsPixelSize bits ∥₁ → CanSpellAs kind signed bits z → kind ≡ Whole → z ≢ pos 4294967296
+not_beyond Whole signed bits z size ok whole same = ∥∥₁_elim size (hlevel props) (λ is. beyond signed bits is (subst (CanSpellIn signed bits) same ok))
+not_beyond Single signed bits z size ok whole same = cc
 
 -- The pixels of a body that was read up to the last needed byte.
 
@@ -114,32 +124,44 @@ front_pixel h bytes c inside =
     let within = pixel_within h c inside in
     let split : needed_len h ≡ place + rest = omega (arith, within) in
     ap (λ n. pixel_of h (drop place (take n bytes))) split ∙ ap (pixel_of h) (drop-take place rest bytes)
-    ∙ spelled_by-take h.signed h.order (pixel_len h) rest (drop place bytes) (omega (arith, within))
+    ∙ spelled_as-take h.kind h.signed h.order (pixel_len h) rest (drop place bytes) (omega (arith, within))
 
 -- the bytes of a part are bytes
 bytes_behind : (n : ℕ) (bytes : List ℕ) → AreBytes bytes → AreBytes (drop n bytes)
 bytes_behind n bytes low k = subst (λ b. b < 256) (sym (get_or-drop n bytes k 0)) (low (n + k))
 
 -- a raster of these bytes has pixels that its header can encode
-pub fits_header : NumbersArePixels → (h : Fields) (default : ℤ) (bytes : List ℕ) (p : Pixels) → ∥ IsPixelSize h.bits ∥₁ → ((k : ℕ) → slice_index bytes k < 256) →
-    p ≡ raster_of h default bytes → FitsHeader h p
-fits_header numbers h default bytes p size low is = record {
+pub fits_header : NumbersArePixels → (h : Fields) (default : ℤ) (bytes : List ℕ) (p : Pixels) → ∥ IsPixelSize h.bits ∥₁ → (h.kind ≡ Single → h.bits ≡ 32) →
+    ((k : ℕ) → slice_index bytes k < 256) → p ≡ raster_of h default bytes → FitsHeader h p
+fits_header numbers h default bytes p size wide low is = record {
   extent = ap (λ (r : Pixels). r.extent) is;
   spelled = λ c inside.
       let there : IsCellOf (header_extent h) c = subst (λ (r : Pixels). IsCellOf r.extent c) is inside in
       subst (CanSpell h) (sym (ap (λ (r : Pixels). number_at r c) is ∙ numbers h default bytes c there))
-      (pixel_spelled h (drop (pixel_place h c.row c.col) bytes) size (bytes_behind (pixel_place h c.row c.col) bytes low));
+      (pixel_spelled h (drop (pixel_place h c.row c.col) bytes) size wide (bytes_behind (pixel_place h c.row c.col) bytes low));
 }
 
--- it is the raster of all bytes
-pub raster_whole : NumbersArePixels → (h : Fields) (default : ℤ) (old new : Option (List ℕ)) (came : List ℕ) (p : Pixels) → ReadsUpTo (needed_len h) old new came →
-    ¬ IsShort h came → p ≡ raster_of h default came → (bytes : List ℕ) → old ≡ Some bytes → IsRasterOf h bytes p
-raster_whole numbers h default old new came p reads whole is bytes known =
+-- what is kept of such a raster is what is kept of its pixels
+pub raster_kept : NumbersArePixels → (h : Fields) (default : ℤ) (bytes : List ℕ) (p kept : Pixels) → ¬ IsShort h bytes → p ≡ raster_of h default bytes → p.nodata ≡ con_no_data h →
+    IsKept h.kind p kept → IsRasterOf h bytes kept
+raster_kept numbers h default bytes p kept whole is nodata same = record {
+  whole = whole;
+  extent = same.extent ∙ ap (λ (r : Pixels). r.extent) is;
+  pixels = λ c inside.
+      (let there : IsCellOf p.extent c = subst (λ (r : Pixels). IsCellOf r.extent c) (sym is) inside in
+      same.numbers c there ∙ ap (λ void. kept_number h.kind void (number_at p c)) nodata
+      ∙ ap (kept_number h.kind (con_no_data h)) (ap (λ (r : Pixels). number_at r c) is ∙ numbers h default bytes c inside));
+}
+
+-- the raster of what was read is that of all bytes
+pub raster_whole : (h : Fields) (old new : Option (List ℕ)) (came : List ℕ) (p : Pixels) → ReadsUpTo (needed_len h) old new came → IsRasterOf h came p →
+    (bytes : List ℕ) → old ≡ Some bytes → IsRasterOf h bytes p
+raster_whole h old new came p reads is bytes known =
     let front = reads-front (needed_len h) old new came reads bytes known in
     record {
-      whole = λ short. whole (let n = ap length front in omega (arith, short, n, length-take (needed_len h) bytes));
-      extent = ap (λ (r : Pixels). r.extent) is;
-      pixels = λ c inside. ap (λ (r : Pixels). number_at r c) is ∙ (numbers h default came c inside ∙ (ap (λ b. pixel_at h b c) front ∙ front_pixel h bytes c inside));
+      whole = λ short. is.whole (let n = ap length front in omega (arith, short, n, length-take (needed_len h) bytes));
+      extent = is.extent;
+      pixels = λ c inside. is.pixels c inside ∙ ap (kept_number h.kind (con_no_data h)) (ap (λ b. pixel_at h b c) front ∙ front_pixel h bytes c inside);
     }
 
 -- and what was read is short only if all is
@@ -151,15 +173,6 @@ raster_short h old new came reads short bytes known =
 
 -- Its elevations.
 
-is_false : (b : Bool) → ¬ (b ≡ true) → b ≡ false
-is_false true never = absurd (never refl)
-is_false false never = refl
-
--- where no number means a void, none is the number that stands for it
-height_marked : (void : Option ℤ) (n : ℤ) → n ≢ pos 4294967296 → height_with (Some (unwrap_or void (pos 4294967296))) n ≡ height_with void n
-height_marked (Some v) n other = refl
-height_marked None n other = rw (is_false (int_eq n (pos 4294967296)) (λ same. other ((Decides-int_eq n (pos 4294967296)).0 same))) refl
-
 pub dem_read : (d : DemTexts) (h : Fields) (p : Pixels) → IsDemHeader h d.header → FitsHeader h p → p.nodata ≡ con_no_data h → IsRasterOf h d.body p → IsDemOf d h p
 dem_read d h p header fits nodata raster =
     let same : h ≡ dem_fields d = header.described.fields in
@@ -169,9 +182,12 @@ dem_read d h p header fits nodata raster =
       extent_is = raster.extent ∙ ap header_extent same;
       elevation_is = λ c inside.
           (let there : IsCellOf (header_extent h) c = subst (λ e. IsCellOf e c) raster.extent inside in
-          ap (λ void. height_with (Some void) (number_at p c)) nodata
-          ∙ (height_marked h.nodata (number_at p c) (not_beyond h (number_at p c) header.bounds.bits_ok (fits.spelled c inside))
-          ∙ (ap (height_with h.nodata) (raster.pixels c there) ∙ ap (λ (k : Fields). elevation_in k d.body c) same)));
+          let number = raster.pixels c there in
+          ap (λ void. height_with (whole_voids (Some void)) (number_at p c)) nodata
+          ∙ (ap (height_with (whole_voids (Some (con_no_data h)))) number
+          ∙ (kept_height h.kind h.nodata (pixel_at h d.body c)
+          (λ whole. subst (λ z. z ≢ pos 4294967296) number (not_beyond h.kind h.signed h.bits (number_at p c) header.bounds.bits_ok (fits.spelled c inside) whole))
+          ∙ ap (λ (k : Fields). elevation_in k d.body c) same)));
     }
   where
     refuses : (refusal : Refusal) → ¬ DemRefuses d refusal
@@ -183,7 +199,7 @@ dem_read d h p header fits nodata raster =
 -- Why it is refused.
 
 -- no refusal of an earlier kind applies, where none of the header does
-none_before : (d : DemTexts) (n : ℕ) → n ≤ 5 → ((fault : HeaderFault) → 1 < n → ¬ Answers d.header (Err fault)) → (2 < n → HasPixelSize (dem_fields d).place) →
+none_before : (d : DemTexts) (n : ℕ) → n ≤ 5 → ((fault : HeaderFault) → 1 < n → ¬ AnswersOf (kind_of d.header) d.header (Err fault)) → (2 < n → HasPixelSize (dem_fields d).place) →
     (b : Refusal) → IsBefore (refusal_kind b, 0) (n, 0) → ¬ DemRefuses d b
 none_before d n most sound sized b (inr (same, less)) = absurd (omega (arith, less))
 none_before d n most sound sized (BadDemHeader fault) (inl less) = sound fault less

@@ -1,11 +1,13 @@
 -- From the writes of single files to those of a set.
-use Rattle.std.proofs.Common.{◌≡◌, ◌<◌, ℕ, List, true, false, map, length, arith, ◌↔◌, zero, suc, ◌+◌, ◌≤◌, inl, inr, [], ◌∷◌, ◌++◌, slice_index_or, Option, Some, None, Result, Ok, Err, IsErrOf, refl, sym, ap, ◌∙◌, length-append, append_assoc, append-nil}
+use Rattle.std.proofs.Common.{◌≡◌, ◌<◌, ℕ, ℤ, List, true, false, map, length, arith, ◌↔◌, zero, suc, ◌+◌, ◌≤◌, inl, inr, [], ◌∷◌, ◌++◌, slice_index_or, Option, Some, None, Result, Ok, Err, IsErrOf, refl, sym, ap, subst, ◌∙◌, length-append, append_assoc, append-nil}
 use Rattle.drain_grid.specs.declared.cell.Cell.{Cell}
 use Rattle.drain_grid.specs.Grid.{Pixels}
 use Rattle.drain_grid.specs.WholeGrid.{raster_in}
 use Rattle.drain_grid.specs.declared.product_set.ProductSet.{ProductSet}
 use Rattle.drain_grid.specs.declared.set_product.SetProduct.TheVariants.{Con, Dir, Acc, Bas, Rnk}
-use Rattle.drain_raster.specs.Bytes.{CanSpellAllIn, CanSpellAll, IsFirstOutOfRange, raster_bytes}
+use Rattle.drain_grid.specs.declared.height_kind.HeightKind.{HeightKind}
+use Rattle.drain_grid.specs.declared.height_kind.HeightKind.TheVariants.{Whole, Single}
+use Rattle.drain_raster.specs.Bytes.{CanSpellAll, IsFirstOutOfRange, raster_bytes}
 use Rattle.drain_maker.specs.Made.{AreMadeSpelled, CanBeWritten}
 use Rattle.std.specs.Prelude.{slice_set}
 use Rattle.std.specs.Io.KnownBytes.{Appends}
@@ -14,8 +16,10 @@ use Rattle.drain_device.specs.Counts.{HandsOver}
 use Rattle.std.proofs.lemmas.List.{get_or-map}
 use Rattle.drain_grid.specs.declared.product.Product.TheVariants as product
 use Rattle.drain_grid.specs.declared.set_product.SetProduct.{SetProduct}
+use Rattle.drain_floats.specs.Words.{IsFloatWord}
+use Rattle.drain_header.specs.declared.key.Key.TheVariants.{Nodata}
 use Rattle.drain_header.specs.Header.{Fields}
-use Rattle.drain_header.specs.Text.{text_of, shape_lines, pixel_lines, place_lines, nodata_line, line}
+use Rattle.drain_header.specs.Text.{IsFloatLine, IsTextOf, IsTextOfKind, text_of, shape_lines, pixel_lines, place_lines, nodata_line, line}
 use Rattle.drain_mosaic.specs.Tiling.{Tiling, extent_of}
 use Rattle.drain_raster.specs.declared.fault.WriteFault.{WriteFault}
 use Rattle.drain_raster.specs.Pixels.{header_extent}
@@ -25,7 +29,7 @@ use Rattle.drain_maker.specs.declared.product_files.SetFile.{SetFile}
 use Rattle.drain_maker.specs.declared.product_files.TheConstants.{SET_FILES, DERIVED_COUNT, DERIVED_FILES}
 use Rattle.drain_maker.specs.declared.derivation.Derived.{Derived}
 use Rattle.drain_maker.specs.Derived.{AreCounts}
-use Rattle.drain_maker.specs.ProductFiles.{DerivedFit, FitHeaders, IsDerived, SetFits, WritesFile, WritesFiles, derived_bytes, derived_raster, file_bytes, made_header, set_bytes}
+use Rattle.drain_maker.specs.ProductFiles.{CanSpellAllIn, DerivedFit, FitHeaders, IsDerived, SetFits, WritesFile, WritesFiles, WritesSet, derived_bytes, derived_raster, file_bytes, header_on, made_header, set_bytes}
 use Rattle.drain_maker.proofs.TileLists.{get-seam, set-seam}
 use Rattle.drain_raster.specs.declared.fault.WriteFault.TheVariants as write
 
@@ -72,10 +76,33 @@ shape-some h = omega arith
 some-more : (xs ys : List ℕ) → 0 < length xs → 0 < length (xs ++ ys)
 some-more xs ys some = omega (arith, some, length-append xs ys)
 
-pub text-some : (h : Fields) → 0 < length (text_of h)
-text-some h =
-    some-more (shape_lines h ++ pixel_lines h ++ place_lines h.place) (nodata_line h.nodata)
+ended-some : (h : Fields) (end : List ℕ) → 0 < length (shape_lines h ++ pixel_lines h ++ place_lines h.place ++ end)
+ended-some h end =
+    some-more (shape_lines h ++ pixel_lines h ++ place_lines h.place) end
     (some-more (shape_lines h ++ pixel_lines h) (place_lines h.place) (some-more (shape_lines h) (pixel_lines h) (shape-some h)))
+
+pub text-some : (h : Fields) → 0 < length (text_of h)
+text-some h = ended-some h (nodata_line h.nodata)
+
+kind-some : (kind : HeightKind) (h : Fields) (text : List ℕ) → IsTextOfKind kind h text → 0 < length text
+kind-some Whole h text is = subst (λ (t : List ℕ). 0 < length t) (sym is) (text-some h)
+kind-some Single h text is = subst (λ (t : List ℕ). 0 < length t) (sym is.2) (ended-some h is.0)
+
+pub any_text-some : (h : Fields) (text : List ℕ) → IsTextOf h text → 0 < length text
+any_text-some h text is = kind-some h.kind h text is
+
+-- a no-data number with a word has a line
+pub some_line : (o : Option ℤ) (n m : ℤ) (word : List ℕ) → o ≡ Some n → m ≡ n → IsFloatWord m word → (end : List ℕ) × IsFloatLine o end
+some_line o n m word is same read =
+    subst (λ (k : Option ℤ). (end : List ℕ) × IsFloatLine k end) (sym is) (line Nodata word, (word, subst (λ z. IsFloatWord z word) same read, refl))
+
+-- and there is a text, where a no-data number of floats has a line
+by_kind : (kind : HeightKind) (h : Fields) → (kind ≡ Single → (end : List ℕ) × IsFloatLine h.nodata end) → (text : List ℕ) × IsTextOfKind kind h text
+by_kind Whole h lined = (text_of h, refl)
+by_kind Single h lined = let line = lined refl in (shape_lines h ++ pixel_lines h ++ place_lines h.place ++ line.0, (line.0, line.1, refl))
+
+pub some_text : (h : Fields) → (h.kind ≡ Single → (end : List ℕ) × IsFloatLine h.nodata end) → (text : List ℕ) × IsTextOf h text
+some_text h lined = by_kind h.kind h lined
 
 -- after n files: those before took their bytes, and the rest is untouched
 pub record WritesSoFar {F : Type 0} (sink : Sink F) (start now : List F) (texts : List (List ℕ)) (k : ℕ) : Type 0 where
@@ -207,9 +234,20 @@ FitHeaders-set t ps shape written Acc held = record { extent = one_shape ps Acc 
 FitHeaders-set t ps shape written Bas held = record { extent = one_shape ps Bas ∙ shape; spelled = written Bas }
 FitHeaders-set t ps shape written Rnk held = record { extent = one_shape ps Rnk ∙ shape; spelled = written Rnk }
 
-pub set_bytes-listed : (h : Fields) (ps : ProductSet) → set_bytes h ps ≡ map (file_bytes h (raster_in ps)) SET_FILES
+pub set_bytes-listed : (con : List ℕ) (h : Fields) (ps : ProductSet) → set_bytes con h ps ≡ map (file_bytes con h (raster_in ps)) SET_FILES
 unfolding set_bytes
-set_bytes-listed h ps = refl
+set_bytes-listed con h ps = refl
+
+-- no memory for the first of them, con's header
+first-stops : {F : Type 0} (sink : Sink F) (files : List F) (first : List ℕ) (more : List (List ℕ)) → 0 < length files → 0 < length first →
+    WritesFiles sink files files (first ∷ more) (Err OutOfMemory)
+first-stops sink [] first more some bytes = absurd (omega arith)
+first-stops sink (file ∷ files) first more some bytes = inr (refl, (no_memory sink file first bytes, refl))
+
+pub set_stops : {F : Type 0} (sink : Sink F) (h : Fields) (ps : ProductSet) (files : List F) → 0 < length files → (text : List ℕ) × IsTextOf (header_on h product.Con) text →
+    WritesSet sink h ps files files (Err OutOfMemory)
+unfolding set_bytes
+set_stops sink h ps files some text = (text.0, text.1, first-stops sink files text.0 _ some (any_text-some (header_on h product.Con) text.0 text.1))
 
 -- the files of derived rasters
 pub FitHeaders-derived : (h : Fields) (d : Derived) → DerivedFit h d → FitHeaders h IsDerived (derived_raster d)
@@ -228,9 +266,9 @@ IsDerived-at (suc (suc (suc (suc zero)))) d below = tt
 IsDerived-at (suc (suc (suc (suc (suc zero))))) d below = tt
 IsDerived-at (suc (suc (suc (suc (suc (suc k)))))) d below = absurd (omega arith)
 
-pub derived_bytes-listed : (h : Fields) (d : Derived) → derived_bytes h d ≡ map (file_bytes h (derived_raster d)) DERIVED_FILES
+pub derived_bytes-listed : (con : List ℕ) (h : Fields) (d : Derived) → derived_bytes h d ≡ map (file_bytes con h (derived_raster d)) DERIVED_FILES
 unfolding derived_bytes
-derived_bytes-listed h d = refl
+derived_bytes-listed con h d = refl
 
 -- pixels of 32 bits without a sign are those of the three headers
 pub DerivedFit-counts : (h : Fields) (d : Derived) → AreCounts (header_extent h) d → DerivedFit h d

@@ -1,20 +1,25 @@
 -- The header of a product is within the bounds of a header, and has the mosaic's place.
-use Rattle.std.proofs.Common.{ℕ, ◌+◌, ◌-◌, ◌*◌, ◌/◌, ◌^◌, ◌≤◌, inl, inr, ℤ, pos, negsuc, nat_abs, ◌-ℤ◌, ◌*ℤ◌, refl, sym, subst, arith, rules}
+use Rattle.std.proofs.Common.{◌≡◌, ℕ, ◌+◌, ◌-◌, ◌*◌, ◌/◌, ◌^◌, ◌≤◌, inl, inr, ℤ, pos, negsuc, nat_abs, ◌-ℤ◌, ◌*ℤ◌, Bool, false, refl, sym, subst, arith, rules}
 use Rattle.std.specs.Prelude.{Option, Some, None, IfSome, unwrap_or}
 use Rattle.std.proofs.Math.Bridge.{le_prop}
 use Rattle.std.proofs.Math.Logic.{∥∥₁_elim}
 use Rattle.std.proofs.lemmas.Int.{ints}
 use Rattle.std.proofs.Math.Nat.{mul-le-mul_right}
 use Rattle.drain_grid.specs.declared.degree.TheConstants.{UNITS_PER_DEGREE}
+use Rattle.drain_grid.specs.declared.height_kind.HeightKind.{HeightKind}
+use Rattle.drain_grid.specs.declared.height_kind.HeightKind.TheVariants.{Whole, Single}
 use Rattle.drain_grid.specs.declared.product.Product.{Product}
 use Rattle.drain_grid.specs.declared.product.Product.TheVariants.{Con, Dir, Acc, Bas, Spl, Rnk}
 use Rattle.drain_grid.specs.Product.{default_no_data}
 use Rattle.drain_grid.specs.Grid.{IsSide}
 use Rattle.drain_grid.specs.Values.{IsNoData}
+use Rattle.drain_header.specs.declared.header.ByteOrdering.TheVariants.{Least}
+use Rattle.drain_header.specs.declared.header.Place.{Place}
 use Rattle.drain_header.specs.Header.{Fields, IsPixelSize, IsCoordinate, AreWithinBounds}
 use Rattle.drain_mosaic.specs.Tiling.{Tiling, west_of, north_of, west_edge, north_edge, tiles_down, tiles_across}
 use Rattle.drain_verdict.specs.TileGround.{IsPlaced}
-use Rattle.drain_maker.specs.ProductFiles.{bits_of, header_beside, header_on, made_header, mosaic_place}
+use Rattle.drain_maker.specs.ProductFiles.{bits_of, header_beside, header_on, is_signed, made_header, mosaic_place, no_height}
+use Rattle.drain_maker.proofs.KeptNumbers.{con_float}
 use Rattle.drain_maker.proofs.Placing.{IsNear, spacing, no_way}
 
 -- a tiling of at most 8 by 8 tiles of a lawful side, whose edges are degrees
@@ -82,10 +87,15 @@ packed_fits bits cols size few = ∥∥₁_elim size le_prop (λ is. elim is [
   ]
 ])
 
--- the number of a header, or one that no pixel spells, can be a header's
-pub con_number : (o : Option ℤ) → ∥ IfSome o IsNoData ∥₁ → ∥ IsNoData (unwrap_or o (pos 4294967296)) ∥₁
-con_number None ok = ∣ record { low = search rules; high = search rules } ∣₁
-con_number (Some z) ok = ok
+-- the number of a header, or one that no height is, can be a header's
+pub con_number : (kind : HeightKind) (o : Option ℤ) → ∥ IfSome o IsNoData ∥₁ → ∥ IsNoData (unwrap_or o (no_height kind)) ∥₁
+con_number Whole None ok = ∣ record { low = search rules; high = search rules } ∣₁
+con_number Single None ok = ∣ record { low = search rules; high = search rules } ∣₁
+con_number kind (Some z) ok = ok
+
+-- whole heights are no floats
+pub no_float : {X : Type 0} → Whole ≡ Single → X
+no_float is = absurd (let no : ⊥ = cc in no)
 
 -- degrees are coordinates, and so is a spacing
 degrees_ok : (z : ℤ) → nat_abs z ≤ 180 → IsCoordinate (z *ℤ pos UNITS_PER_DEGREE)
@@ -95,43 +105,44 @@ degrees_ok (negsuc n) near = record { low = omega (arith, ints); high = omega (a
 spacing_ok : (n : ℕ) → 1 ≤ n → IsCoordinate (pos (UNITS_PER_DEGREE / n))
 spacing_ok n some = record { low = omega (arith, ints); high = omega (arith, ints) }
 
+-- a header of whole numbers, with the pixels of a product and rows without padding
+pub product_bounds : (p : Product) (rows cols bits row_bytes : ℕ) (signed : Bool) (place : Place) (nodata : ℤ) →
+    bits ≡ bits_of p → row_bytes ≡ cols * (bits_of p / 8) → nodata ≡ default_no_data p → 1 ≤ rows → rows ≤ 28801 → 1 ≤ cols → cols ≤ 28801 →
+    IsCoordinate place.ulx → IsCoordinate place.uly → IsCoordinate place.xdim → IsCoordinate place.ydim →
+    AreWithinBounds (record { rows = rows; cols = cols; bits = bits; order = Least; signed = signed; skip = 0; row_bytes = row_bytes; place = place; nodata = Some nodata; kind = Whole })
+product_bounds p rows cols bits row_bytes signed place nodata is_bits is_row is_nodata some_row rows_fit some_col cols_fit ulx uly xdim ydim = record {
+  some_row = some_row;
+  rows_fit = rows_fit;
+  some_col = some_col;
+  cols_fit = cols_fit;
+  bits_ok = ∣ subst IsPixelSize (sym is_bits) (size_ok p) ∣₁;
+  skip_fits = omega arith;
+  row_bytes_fit = subst (λ n. n ≤ 4294967295) (sym is_row) (row_fits p cols cols_fit);
+  row_holds = subst (λ n. cols * bits / 8 ≤ n) (sym is_row) (subst (λ b. cols * b / 8 ≤ cols * (bits_of p / 8)) (sym is_bits) (row_holds p cols));
+  ulx_ok = ulx;
+  uly_ok = uly;
+  xdim_ok = xdim;
+  ydim_ok = ydim;
+  nodata_ok = ∣ subst IsNoData (sym is_nodata) (nodata_ok p) ∣₁;
+  float_bits = no_float;
+  float_signed = no_float;
+  float_nodata = no_float;
+}
+
 pub within_bounds : (t : Tiling) (p : Product) → IsSmall t → AreWithinBounds (made_header t p)
 within_bounds t p small =
     let side : IsSide t.side = small.side in
     let wide : tiles_across t * (t.side - 1) + 1 ≤ 28801 = length_fits (tiles_across t) t.side small.across side.most in
-    record {
-      some_row = omega arith;
-      rows_fit = length_fits (tiles_down t) t.side small.down side.most;
-      some_col = omega arith;
-      cols_fit = wide;
-      bits_ok = ∣ size_ok p ∣₁;
-      skip_fits = omega arith;
-      row_bytes_fit = row_fits p (tiles_across t * (t.side - 1) + 1) wide;
-      row_holds = row_holds p (tiles_across t * (t.side - 1) + 1);
-      ulx_ok = degrees_ok (west_of t) small.near.west;
-      uly_ok = degrees_ok (north_of t) (omega (arith, small.near.north));
-      xdim_ok = spacing_ok (t.side - 1) (omega (arith, side.least));
-      ydim_ok = spacing_ok (t.side - 1) (omega (arith, side.least));
-      nodata_ok = ∣ nodata_ok p ∣₁;
-    }
+    product_bounds p (tiles_down t * (t.side - 1) + 1) (tiles_across t * (t.side - 1) + 1) (bits_of p) ((tiles_across t * (t.side - 1) + 1) * (bits_of p / 8)) (is_signed p)
+    (mosaic_place t) (default_no_data p) refl refl refl (omega arith) (length_fits (tiles_down t) t.side small.down side.most) (omega arith) wide
+    (degrees_ok (west_of t) small.near.west) (degrees_ok (north_of t) (omega (arith, small.near.north)))
+    (spacing_ok (t.side - 1) (omega (arith, side.least))) (spacing_ok (t.side - 1) (omega (arith, side.least)))
 
 -- the header of a product on elevations within the bounds of a header is within them too
 beside_bounds : (h : Fields) (p : Product) → AreWithinBounds h → AreWithinBounds (header_beside h p)
-beside_bounds h p ok = record {
-  some_row = ok.some_row;
-  rows_fit = ok.rows_fit;
-  some_col = ok.some_col;
-  cols_fit = ok.cols_fit;
-  bits_ok = ∣ size_ok p ∣₁;
-  skip_fits = omega arith;
-  row_bytes_fit = row_fits p h.cols ok.cols_fit;
-  row_holds = row_holds p h.cols;
-  ulx_ok = ok.ulx_ok;
-  uly_ok = ok.uly_ok;
-  xdim_ok = ok.xdim_ok;
-  ydim_ok = ok.ydim_ok;
-  nodata_ok = ∣ nodata_ok p ∣₁;
-}
+beside_bounds h p ok =
+    product_bounds p h.rows h.cols (bits_of p) (h.cols * (bits_of p / 8)) false h.place (default_no_data p) refl refl refl ok.some_row ok.rows_fit ok.some_col ok.cols_fit
+    ok.ulx_ok ok.uly_ok ok.xdim_ok ok.ydim_ok
 
 pub bounds_on : (h : Fields) (p : Product) → AreWithinBounds h → AreWithinBounds (header_on h p)
 bounds_on h Con ok = record {
@@ -147,7 +158,10 @@ bounds_on h Con ok = record {
   uly_ok = ok.uly_ok;
   xdim_ok = ok.xdim_ok;
   ydim_ok = ok.ydim_ok;
-  nodata_ok = con_number h.nodata ok.nodata_ok;
+  nodata_ok = con_number h.kind h.nodata ok.nodata_ok;
+  float_bits = ok.float_bits;
+  float_signed = ok.float_signed;
+  float_nodata = λ single. ∣ con_float h.kind h.nodata ok.float_nodata single ∣₁;
 }
 bounds_on h Dir ok = beside_bounds h Dir ok
 bounds_on h Acc ok = beside_bounds h Acc ok

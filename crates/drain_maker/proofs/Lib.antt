@@ -11,4 +11,5 @@ pub mod TileLists
 pub mod UnitSpacing
 pub mod DemLemmas
 pub mod DemReading
+pub mod KeptNumbers
 pub mod NarrowDems

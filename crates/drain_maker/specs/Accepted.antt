@@ -1,6 +1,8 @@
 -- Products that were made and written are accepted: what the files are, and the answer to them.
 use Rattle.std.specs.Prelude.{◌≡◌, ℕ, List, Result, Ok, Err}
 use Rattle.std.specs.List.{AllZip}
+use Rattle.drain_grid.specs.declared.height_kind.HeightKind.{HeightKind}
+use Rattle.drain_grid.specs.declared.height_kind.HeightKind.TheVariants.{Whole}
 use Rattle.drain_grid.specs.declared.product.Product.TheVariants.{Con}
 use Rattle.drain_grid.specs.declared.set_product.SetProduct.{SetProduct}
 use Rattle.drain_grid.specs.SetProduct.{product_of}
@@ -13,7 +15,7 @@ use Rattle.drain_grid.specs.Spacing.{RowSpacings, spacing_of}
 use Rattle.drain_grid.specs.WholeGrid.{products_of, raster_in, spaced_grid}
 use Rattle.drain_hgt.specs.Name.{IsNameOf}
 use Rattle.drain_header.specs.Header.{Fields}
-use Rattle.drain_header.specs.Text.{text_of}
+use Rattle.drain_header.specs.Text.{IsTextOf}
 use Rattle.drain_raster.specs.Bytes.{raster_bytes}
 use Rattle.drain_grid.specs.declared.verdict.Verdict.{Verdict}
 use Rattle.drain_grid.specs.declared.verdict.Verdict.TheVariants.{Accepted, Rejected}
@@ -21,7 +23,7 @@ use Rattle.drain_rules.specs.Verdicts.{counts_of}
 use Rattle.drain_answer.specs.declared.refusal.Refusal.{Refusal}
 use Rattle.drain_answer.specs.declared.refusal.Refusal.TheVariants.{OutOfMemory, ReadFailed}
 use Rattle.drain_verdict.specs.DemGround.{DemTexts, dem_ground}
-use Rattle.drain_verdict.specs.Given.{GivenSpacing, HasOtherRows, spacings_given}
+use Rattle.drain_verdict.specs.Given.{GivenSpacing, HasBadSpacing, HasOtherRows, row_spacing}
 use Rattle.drain_verdict.specs.Inputs.{Inputs, AreNames}
 use Rattle.drain_verdict.specs.Meaning.{texts_of, tiling_of}
 use Rattle.drain_verdict.specs.Texts.{SetTexts}
@@ -35,10 +37,10 @@ use Rattle.drain_maker.specs.Made.{AreMade}
 abbrev pub AreNamed : Inputs → Type 0
 AreNamed i = AreNames i.names → AllZip IsNameOf i.names i.corners
 
--- the texts are the files of these rasters on elevations with this header: the text of each product's header, and the bytes
+-- the texts are the files of these rasters on elevations with this header: a text of each product's header, and the bytes
 -- of its raster
 pub record AreFilesOf (h : Fields) (t : SetTexts) (ps : ProductSet) : Type 0 where
-  pub headers_are : (p : SetProduct) → t.header p ≡ text_of (header_on h (product_of p))
+  pub headers_are : (p : SetProduct) → IsTextOf (header_on h (product_of p)) (t.header p)
   pub rasters_are : (p : SetProduct) → t.raster p ≡ raster_bytes (header_on h (product_of p)) (raster_in ps p)
 
 -- accepted with the counts of these products, unless memory runs out or a read fails
@@ -49,16 +51,18 @@ IsMadeAcceptance g ps (Err OutOfMemory) = Unit {0}
 IsMadeAcceptance g ps (Err ReadFailed) = Unit {0}
 IsMadeAcceptance g ps (Err refusal) = ⊥
 
--- these are the spacings that are given, and a text that lists them lists each row of the grid
-pub record AreGivenSpacings (given : GivenSpacing) (e : Extent) (spacings : RowSpacings) : Type 0 where
-  pub are : spacings_given given ≡ Ok spacings
+-- these are the spacings that are given, for heights of this kind, and a text that lists them has no bad line and lists
+-- each row of the grid
+pub record AreGivenSpacings (kind : HeightKind) (given : GivenSpacing) (e : Extent) (spacings : RowSpacings) : Type 0 where
+  pub are : (row : ℕ) → spacing_of spacings row ≡ row_spacing kind given row
+  pub good : (line : ℕ) → ¬ HasBadSpacing given line
   pub rows : (count : ℕ) → ¬ HasOtherRows given e count
 
 -- products made for a mosaic, listed sinks and a spacing are accepted with its tiles, that list and that spacing
 abbrev pub MadeIsAccepted : Type 0
 MadeIsAccepted =
     (i : Inputs) (e : Heights) (sinks : List SinkLine) (spacings : RowSpacings) (ps : ProductSet) → AreNamed i → IsMosaicOf i (tiling_of i) e →
-    sinks_of i.given.sinks ≡ Ok sinks → AreGivenSpacings i.given.spacing e.extent spacings →
+    sinks_of i.given.sinks ≡ Ok sinks → AreGivenSpacings Whole i.given.spacing e.extent spacings →
     AreMade (tiling_of i) e sinks (spacing_of spacings) ps → AreFilesOf (made_header (tiling_of i) Con) (texts_of i) ps →
     (answer : Result Verdict Refusal) → IsAnswer i answer → IsMadeAcceptance (spaced_grid (spacing_of spacings) e sinks) (products_of ps) answer
 
@@ -66,6 +70,6 @@ MadeIsAccepted =
 abbrev pub MadeOnDemIsAccepted : Type 0
 MadeOnDemIsAccepted =
     (d : DemTexts) (t : SetTexts) (h : Fields) (p : Pixels) (sinks : List SinkLine) (spacings : RowSpacings) (ps : ProductSet) → IsDemOf d h p →
-    sinks_of t.given.sinks ≡ Ok sinks → AreGivenSpacings t.given.spacing p.extent spacings → AreMadeOn h p sinks (spacing_of spacings) ps → AreFilesOf h t ps →
+    sinks_of t.given.sinks ≡ Ok sinks → AreGivenSpacings h.kind t.given.spacing p.extent spacings → AreMadeOn h p sinks (spacing_of spacings) ps → AreFilesOf h t ps →
     (answer : Result Verdict Refusal) → IsAnswerIn (record { terrain = dem_ground d; texts = t }) answer →
     IsMadeAcceptance (spaced_dem_grid (spacing_of spacings) p sinks) (products_of ps) answer

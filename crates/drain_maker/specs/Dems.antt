@@ -1,8 +1,11 @@
 -- A raster of elevations in memory: the grid that it means, and what is said of listed sinks; and how it is read.
-use Rattle.std.specs.Prelude.{◌≡◌, ℕ, ℤ, ◌&&◌, nat_lt, is_some, Bool, List, Option, Some, IsSome, Result, Ok, Err}
+use Rattle.std.specs.Prelude.{◌≡◌, ℕ, ℤ, ◌&&◌, nat_lt, is_some, if◌then◌else◌, Bool, List, Option, Some, IsSome, Result, Ok, Err}
 use Rattle.drain_answer.specs.declared.refusal.Refusal.{Refusal}
 use Rattle.drain_answer.specs.declared.refusal.Refusal.TheVariants as refused
+use Rattle.drain_floats.specs.Patterns.{is_finite}
 use Rattle.drain_grid.specs.declared.cell.Cell.{Cell}
+use Rattle.drain_grid.specs.declared.height_kind.HeightKind.{HeightKind}
+use Rattle.drain_grid.specs.declared.height_kind.HeightKind.TheVariants.{Whole, Single}
 use Rattle.drain_grid.specs.declared.product_set.ProductSet.{ProductSet}
 use Rattle.drain_grid.specs.declared.sink_line.SinkLine.{SinkLine}
 use Rattle.drain_grid.specs.Extent.{IsCellOf}
@@ -18,7 +21,7 @@ use Rattle.drain_grid.specs.WholeGrid.{nodata_of, number_at, products_of}
 use Rattle.drain_flood.specs.declared.layers.TheConstants.{UNREACHED}
 use Rattle.drain_filled.specs.Grounds.{DataCells, data_mark}
 use Rattle.drain_header.specs.Header.{Fields}
-use Rattle.drain_pixels.specs.Ground.{height_with}
+use Rattle.drain_pixels.specs.Ground.{height_with, whole_voids}
 use Rattle.drain_raster.specs.Pixels.{IsShort, header_extent, pixel_at}
 use Rattle.drain_text.specs.First.{IsFirst}
 use Rattle.drain_verdict.specs.DemGround.{DemTexts, IsDemHeader, dem_ground}
@@ -30,7 +33,7 @@ use Rattle.drain_maker.specs.declared.maker.MakeRefusal.TheVariants.{MakerFault,
 
 -- the elevation of a cell: its number, none where that is the raster's no-data number
 abbrev pub dem_elevation : Pixels → Cell → Option ℤ
-dem_elevation p c = height_with (Some p.nodata) (number_at p c)
+dem_elevation p c = height_with (whole_voids (Some p.nodata)) (number_at p c)
 
 -- the grid of these elevations, whose sinks the lines list, and whose rows are spaced so
 abbrev pub spaced_dem_grid : (ℕ → Distances) → Pixels → List SinkLine → Grid
@@ -91,11 +94,27 @@ pub record AreMadeOn (h : Fields) (p : Pixels) (sinks : List SinkLine) (spacing 
 
 -- Reading it.
 
--- the bytes are long enough, and the raster's number at each cell is the pixel
+-- the number that is kept of a pixel: of a float that is not finite, that of voids
+abbrev pub kept_number : HeightKind → ℤ → ℤ → ℤ
+kept_number Whole void number = number
+kept_number Single void number = if is_finite number then number else void
+
+-- so at a cell of floats, as a number that some pixel encodes
+pub record IsKeptAt (p : Pixels) (c : Cell) (number : ℤ) : Type 0 where
+  pub is : number ≡ kept_number Single p.nodata (number_at p c)
+  pub pixel : IsPixel number
+
+-- the raster with the numbers that are kept of another
+pub record IsKept (kind : HeightKind) (p kept : Pixels) : Type 0 where
+  pub extent : kept.extent ≡ p.extent
+  pub nodata : kept.nodata ≡ p.nodata
+  pub numbers : (c : Cell) → IsCellOf p.extent c → number_at kept c ≡ kept_number kind p.nodata (number_at p c)
+
+-- the bytes are long enough, and the raster's number at each cell is what is kept of the pixel
 pub record IsRasterOf (h : Fields) (body : List ℕ) (p : Pixels) : Type 0 where
   pub whole : ¬ IsShort h body
   pub extent : p.extent ≡ header_extent h
-  pub pixels : (c : Cell) → IsCellOf (header_extent h) c → number_at p c ≡ pixel_at h body c
+  pub pixels : (c : Cell) → IsCellOf (header_extent h) c → number_at p c ≡ kept_number h.kind (con_no_data h) (pixel_at h body c)
 
 -- why the body of a raster is refused
 abbrev pub IsBodyRefusal : Fields → List ℕ → Refusal → Type 0

@@ -7,7 +7,7 @@ use Rattle.drain_grid.specs.Product.{default_numbers}
 use Rattle.drain_grid.specs.Run.{run_end, upstream_count, ShareBasin}
 use Rattle.drain_grid.specs.Extent.{Extent}
 use Rattle.drain_grid.specs.WholeGrid.{number_at}
-use Rattle.drain_raster.specs.Bytes.{CanSpellAllIn}
+use Rattle.drain_maker.specs.ProductFiles.{CanSpellAllIn}
 use Rattle.drain_paths.specs.Basins.{end_number}
 use Rattle.drain_paths.specs.Flows.{AllFlowsEnd, AreFlowsOf}
 use Rattle.drain_maker.specs.declared.derivation.Derived.{Derived}

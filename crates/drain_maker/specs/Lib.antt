@@ -5,3 +5,4 @@ pub mod Mosaics
 pub mod Derived
 pub mod Dems
 pub mod Narrow
+pub mod OneFact

@@ -1,6 +1,9 @@
 -- The files of a product set or of derived rasters: their bytes, what has to hold so that they can be written, and the
 -- result of writing them one after the other.
 use Rattle.std.specs.Prelude.{ℕ, ℤ, pos, ◌*◌, ◌/◌, Bool, true, false, Some, unwrap_or, ◌≡◌, ◌⊎◌, List, [], ◌∷◌, Result, Ok, Err, IsErr}
+use Rattle.drain_grid.specs.declared.cell.Cell.{Cell}
+use Rattle.drain_grid.specs.declared.height_kind.HeightKind.{HeightKind}
+use Rattle.drain_grid.specs.declared.height_kind.HeightKind.TheVariants.{Whole, Single}
 use Rattle.drain_grid.specs.declared.product.Product.{Product}
 use Rattle.drain_grid.specs.declared.product.Product.TheVariants.{Con, Dir, Acc, Bas, Spl, Rnk}
 use Rattle.drain_grid.specs.Product.{default_no_data}
@@ -13,11 +16,12 @@ use Rattle.drain_device.specs.Failing.{Sink, WriteFails}
 use Rattle.drain_device.specs.Counts.{HandsOver}
 use Rattle.drain_grid.specs.declared.product_set.ProductSet.{ProductSet}
 use Rattle.drain_grid.specs.declared.set_product.SetProduct.{SetProduct}
+use Rattle.drain_grid.specs.Extent.{IsCellOf}
 use Rattle.drain_grid.specs.Grid.{Pixels}
-use Rattle.drain_grid.specs.WholeGrid.{raster_in}
+use Rattle.drain_grid.specs.WholeGrid.{number_at, raster_in}
 use Rattle.drain_grid.specs.SetProduct.{product_of, products}
-use Rattle.drain_header.specs.Text.{text_of}
-use Rattle.drain_raster.specs.Bytes.{CanSpellAll, raster_bytes}
+use Rattle.drain_header.specs.Text.{IsTextOf, text_of}
+use Rattle.drain_raster.specs.Bytes.{CanSpellAll, CanSpellIn, raster_bytes}
 use Rattle.drain_raster.specs.Pixels.{header_extent}
 use Rattle.drain_maker.specs.declared.derivation.Derived.{Derived}
 use Rattle.drain_maker.specs.declared.product_files.Part.{Part}
@@ -65,11 +69,17 @@ made_header t p = record {
   row_bytes = (extent_of t).cols * (bits_of p / 8);
   place = mosaic_place t;
   nodata = Some (default_no_data p);
+  kind = Whole;
 }
 
--- the no-data number of con on a raster of elevations: the raster's own, or one that no pixel spells
+-- a number that no height is: one that no pixel spells, and of floats that of NaN
+abbrev pub no_height : HeightKind → ℤ
+no_height Whole = pos 4294967296
+no_height Single = pos 2143289344
+
+-- the no-data number of con on a raster of elevations: the raster's own, or one that no height is
 abbrev pub con_no_data : Fields → ℤ
-con_no_data h = unwrap_or h.nodata (pos 4294967296)
+con_no_data h = unwrap_or h.nodata (no_height h.kind)
 
 -- the raster's header with that number
 abbrev pub marked_header : Fields → Fields
@@ -83,6 +93,7 @@ marked_header h = record {
   row_bytes = h.row_bytes;
   place = h.place;
   nodata = Some (con_no_data h);
+  kind = h.kind;
 }
 
 -- the header of a product that isn't con on a raster of elevations with this header: of its size, at its place
@@ -97,9 +108,10 @@ header_beside h p = record {
   row_bytes = h.cols * (bits_of p / 8);
   place = h.place;
   nodata = Some (default_no_data p);
+  kind = Whole;
 }
 
--- that of any product: con has the raster's pixels
+-- that of any product: con has the raster's pixels, floats where these are
 abbrev pub header_on : Fields → Product → Fields
 header_on h Con = record {
   rows = h.rows;
@@ -111,17 +123,27 @@ header_on h Con = record {
   row_bytes = h.cols * (h.bits / 8);
   place = h.place;
   nodata = Some (con_no_data h);
+  kind = h.kind;
 }
 header_on h p = header_beside h p
 
--- the bytes of a file: a header's text, or a raster's bytes
-abbrev pub part_bytes : Part → Fields → Pixels → List ℕ
-part_bytes Header h p = text_of h
-part_bytes Raster h p = raster_bytes h p
+-- the text of a product's header on a raster of elevations with this header, where con's is this one
+abbrev pub header_bytes : List ℕ → Fields → SetProduct → List ℕ
+header_bytes con h held.Con = con
+header_bytes con h p = text_of (header_on h (product_of p))
 
--- the bytes of a product's file on a raster of elevations with this header, where these are the rasters
-abbrev pub file_bytes : Fields → (SetProduct → Pixels) → SetFile → List ℕ
-file_bytes h rasters file = part_bytes file.part (header_on h (product_of file.product)) (rasters file.product)
+-- the bytes of a file of a product: its header's text, or its raster's bytes
+abbrev pub part_bytes : List ℕ → Fields → SetProduct → Pixels → Part → List ℕ
+part_bytes con h p r Header = header_bytes con h p
+part_bytes con h p r Raster = raster_bytes (header_on h (product_of p)) r
+
+-- so of a file, where these are the rasters
+abbrev pub file_bytes : List ℕ → Fields → (SetProduct → Pixels) → SetFile → List ℕ
+file_bytes con h rasters file = part_bytes con h file.product (rasters file.product) file.part
+
+-- whole numbers of n bits can encode each number
+abbrev pub CanSpellAllIn : Bool → ℕ → Pixels → Type 0
+CanSpellAllIn signed bits p = (c : Cell) → IsCellOf p.extent c → CanSpellIn signed bits (number_at p c)
 
 -- the raster has the rows and columns of the header, whose pixels can encode each of its numbers
 pub record FitsHeader (h : Fields) (r : Pixels) : Type 0 where
@@ -136,9 +158,10 @@ FitHeaders h holds rasters = (p : SetProduct) → holds p → FitsHeader (header
 abbrev pub SetFits : Fields → ProductSet → Type 0
 SetFits h ps = FitHeaders h (λ p. Unit {0}) (raster_in ps)
 
--- the bytes of all files on a raster of elevations: of each product its header, and then its raster
-unfoldable pub set_bytes : Fields → ProductSet → List (List ℕ)
-set_bytes h ps = flat_map (λ p. text_of (header_on h (product_of p)) ∷ raster_bytes (header_on h (product_of p)) (raster_in ps p) ∷ []) products
+-- the bytes of all files on a raster of elevations, where this is the text of con's header: of each product its header, and
+-- then its raster
+unfoldable pub set_bytes : List ℕ → Fields → ProductSet → List (List ℕ)
+set_bytes con h ps = flat_map (λ p. header_bytes con h p ∷ raster_bytes (header_on h (product_of p)) (raster_in ps p) ∷ []) products
 
 -- the file took its bytes, or a proper first part of them; the write failed exactly if the file failed for good
 pub record WritesFile {F : Type 0} (sink : Sink F) (old new : F) (bytes : List ℕ) (done : Result (Unit {0}) SetFault) : Type 0 where
@@ -152,6 +175,14 @@ WritesFiles sink (old ∷ olds) (new ∷ news) (bytes ∷ more) done =
     (WritesFile sink old new bytes (Ok tt) × WritesFiles sink olds news more done)
     ⊎ (IsErr done × (WritesFile sink old new bytes done × (news ≡ olds)))
 WritesFiles sink olds news texts done = ⊥
+
+-- the file took a text of the header, of which there is one for whole heights
+abbrev pub WritesHeader : {F : Type 0} → Sink F → Fields → F → F → Result (Unit {0}) SetFault → Type 0
+WritesHeader sink h old new done = (text : List ℕ) × IsTextOf h text × WritesFile sink old new text done
+
+-- the files took those of all products on a raster of elevations, con's header as some text of it
+abbrev pub WritesSet : {F : Type 0} → Sink F → Fields → ProductSet → List F → List F → Result (Unit {0}) SetFault → Type 0
+WritesSet sink h ps olds news done = (con : List ℕ) × IsTextOf (header_on h Con) con × WritesFiles sink olds news (set_bytes con h ps) done
 
 -- the three derived rasters fit their headers on a raster of elevations
 pub record DerivedFit (h : Fields) (d : Derived) : Type 0 where

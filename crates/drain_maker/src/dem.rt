@@ -96,9 +96,10 @@ fn elevation(dem: &Raster, cell: Cell) -> Option<i64>
 /// default ones, but that of con, which is the raster's. A raster that is given away is freed as soon as it isn't needed
 /// any more.
 ///
-/// A cell's elevation is its number, a whole number in any unit; it is void where that is the raster's no-data number. So
-/// where no cell is to be void, that number is one that no pixel encodes. `SinkNotData` has the least line that lists a
-/// cell without data, and comes before all else. `OutOfMemory` comes if memory was refused. There is no other refusal.
+/// A cell's elevation is its number, a whole number in any unit, or on spacings for floats the number of a float; it is void
+/// where that is the raster's no-data number. So where no cell is to be void, that number is one that no pixel encodes.
+/// `SinkNotData` has the least line that lists a cell without data, and comes before all else. `OutOfMemory` comes if memory
+/// was refused. There is no other refusal.
 pub fn make_dem<D: AsRaster + Drop>(
     alloc: Global,
     dem: D,

@@ -7,6 +7,7 @@
 pub mod dem;
 pub mod derivation;
 pub mod follow;
+mod header_texts;
 pub mod laws;
 mod maker;
 pub mod mosaic;

@@ -5,7 +5,7 @@ ghost use Rattle.std.specs.Prelude.{◌≡◌, ◌<◌, ◌*◌, pos, length, sl
 ghost use Rattle.drain_grid.specs.Grid.{ArePixels};
 ghost use Rattle.drain_grid.specs.Values.{IsNoData};
 ghost use Rattle.drain_maker.specs.Narrow.{AreNarrowed, IsNarrowed, IsSampleOf};
-ghost use Rattle.drain_raster.specs.Bytes.{CanSpellAllIn};
+ghost use Rattle.drain_maker.specs.ProductFiles.{CanSpellAllIn};
 
 use crate::products::look_at_each;
 use drain_grid::{Elevation, KeptNumbers, OutOfMemory, Raster, Shape, VOID};

@@ -2,7 +2,7 @@
 
 ghost use Rattle.std.specs.Prelude.{◌≡◌, length, map};
 ghost use Rattle.drain_header.specs.Header.{IsCoordinate};
-ghost use Rattle.drain_maker.specs.ProductFiles.{con_no_data, header_beside, header_on, made_header, mosaic_place, bits_of, is_signed, DerivedFit, FitHeaders, IsDerived, SetFits, WritesFile, WritesFiles, derived_bytes, derived_raster, file_bytes, set_bytes};
+ghost use Rattle.drain_maker.specs.ProductFiles.{con_no_data, header_beside, header_bytes, header_on, made_header, mosaic_place, no_height, bits_of, is_signed, DerivedFit, FitHeaders, IsDerived, SetFits, WritesFile, WritesFiles, WritesHeader, WritesSet, derived_bytes, derived_raster, file_bytes};
 ghost use Rattle.std.specs.List.{All};
 ghost use Rattle.drain_grid.specs.Grid.{Pixels};
 ghost use Rattle.drain_grid.specs.WholeGrid.{raster_in};
@@ -12,8 +12,9 @@ ghost use Rattle.drain_raster.specs.Pixels as pixels;
 ghost use Rattle.drain_raster.specs.Bytes.{CanSpellAll, raster_bytes};
 
 use crate::derivation::Derived;
+use crate::header_texts::has_text;
 use drain_device::{ByteSink, GaveUp, Patience, write_all};
-use drain_grid::{Product, ProductSet, Raster, SetProduct};
+use drain_grid::{HeightKind, Product, ProductSet, Raster, SetProduct};
 use drain_header::{ByteOrdering, Header, Place, header_text};
 use drain_mosaic::Layout;
 use drain_raster::write_raster;
@@ -39,13 +40,14 @@ pub fn product_header(layout: &Layout, product: Product) -> Header
         row_bytes: shape.cols() * u32::from(bits / 8),
         place: mosaic_place(layout),
         nodata: Some(product.default_no_data()),
+        kind: HeightKind::Whole,
     }
 }
 
 /// The header of a product on a raster of elevations with this header; on a mosaic that of con stands for it.
 ///
-/// It has the raster's rows, columns and place. Con has pixels of its size and sign and its no-data number, or 4294967296,
-/// which no pixel is, if it has none. All else is as `product_header` has it.
+/// It has the raster's rows, columns and place. Con has pixels of its size and sign, floats where these are, and its no-data
+/// number, or if it has none 4294967296, which no pixel is, and of floats NaN's. All else is as `product_header` has it.
 pub fn header_on(elevations: &Header, product: Product) -> Header
     ensures { result ≡ header_on elevations.now product }
 {
@@ -71,6 +73,7 @@ fn con_header_on(elevations: &Header) -> Header
         row_bytes: elevations.cols * u32::from(elevations.bits / 8),
         place: elevations.place,
         nodata: Some(con_no_data(elevations)),
+        kind: elevations.kind,
     }
 }
 
@@ -89,21 +92,35 @@ fn header_beside(elevations: &Header, product: Product) -> Header
         row_bytes: elevations.cols * u32::from(bits / 8),
         place: elevations.place,
         nodata: Some(product.default_no_data()),
+        kind: HeightKind::Whole,
     }
 }
 
-/// The no-data number of con: the elevations' own, or one that no pixel is.
+/// The no-data number of con: the elevations' own, or one that no height is.
 pub(crate) fn con_no_data(elevations: &Header) -> i64
     ensures { result ≡ con_no_data elevations.now }
 {
     match elevations.nodata {
         Some(number) => number,
-        None => NO_PIXEL,
+        None => no_height(elevations.kind),
     }
 }
 
-/// A number that no pixel is.
+/// A number that no height of the kind has.
+fn no_height(kind: HeightKind) -> i64
+    ensures { result ≡ no_height kind }
+{
+    match kind {
+        HeightKind::Whole => NO_PIXEL,
+        HeightKind::Single => NAN,
+    }
+}
+
+/// A number that no pixel of whole heights is.
 const NO_PIXEL: i64 = 4_294_967_296;
+
+/// The number of NaN.
+const NAN: i64 = 2_143_289_344;
 
 /// How many bits a pixel of the product has.
 fn bits_of(product: Product) -> u8
@@ -237,9 +254,14 @@ pub fn write_files<F: ByteSink>(
 ) -> Result<(), SetFault>
     requires counted { length files.old ≡ FILE_COUNT }
     requires written { SetFits elevations.now products.now }
-    ensures { WritesFiles F.ByteSink files.old files.new (set_bytes elevations.now products.now) result }
+    ensures { WritesSet F.ByteSink elevations.now products.now files.old files.new result }
 {
-    write_listed(alloc, elevations, products, &SET_FILES, files)
+    let header = con_header_on(elevations);
+    let Ok(con) = header_text(alloc, &header) else {
+        has_text(&header);
+        return Err(SetFault::OutOfMemory);
+    };
+    write_listed(alloc, elevations, &con, products, &SET_FILES, files)
 }
 
 /// Writes the files of derived rasters, one after the other. The first that can't be written ends it.
@@ -256,13 +278,16 @@ pub fn write_derived<F: ByteSink>(
     requires written { DerivedFit elevations.now derived.now }
     ensures { WritesFiles F.ByteSink files.old files.new (derived_bytes elevations.now derived.now) result }
 {
-    write_listed(alloc, elevations, derived, &DERIVED_FILES, files)
+    // None of them is con's header.
+    write_listed(alloc, elevations, &[], derived, &DERIVED_FILES, files)
 }
 
-/// Writes the listed files of a set, one after the other. The first that can't be written ends it.
+/// Writes the listed files of a set, one after the other, where con's header has this text. The first that can't be
+/// written ends it.
 fn write_listed<S: FileSet, F: ByteSink>(
     alloc: Global,
     elevations: &Header,
+    con: &[u8],
     set: &S,
     list: &[SetFile],
     files: &mut [F],
@@ -270,10 +295,10 @@ fn write_listed<S: FileSet, F: ByteSink>(
     requires counted { length files.old ≡ length list.now }
     requires held { All (λ file. S.holds file.product) list.now }
     requires written { FitHeaders elevations.now S.holds (S.rasters set.now) }
-    ensures { WritesFiles F.ByteSink files.old files.new (map (file_bytes elevations.now (S.rasters set.now)) list.now) result }
+    ensures { WritesFiles F.ByteSink files.old files.new (map (file_bytes con.now elevations.now (S.rasters set.now)) list.now) result }
 {
     for (k, file) in files.iter_mut().enumerate() {
-        write_file(alloc, elevations, set, list[k], file)?;
+        write_file(alloc, elevations, con, set, list[k], file)?;
     }
     Ok(())
 }
@@ -282,29 +307,70 @@ fn write_listed<S: FileSet, F: ByteSink>(
 fn write_file<S: FileSet, F: ByteSink>(
     alloc: Global,
     elevations: &Header,
+    con: &[u8],
     set: &S,
     file: SetFile,
     to: &mut F,
 ) -> Result<(), SetFault>
     requires held { S.holds file.product }
     requires written { FitHeaders elevations.now S.holds (S.rasters set.now) }
-    ensures { WritesFile F.ByteSink to.old to.new (file_bytes elevations.now (S.rasters set.now) file) result }
+    ensures { WritesFile F.ByteSink to.old to.new (file_bytes con.now elevations.now (S.rasters set.now) file) result }
 {
-    let header = header_on(elevations, file.product.product());
     match file.part {
-        Part::Header => write_header(alloc, &header, to),
-        Part::Raster => write_numbers(&header, set.raster_of(file.product), to),
+        Part::Header => write_header_on(alloc, elevations, con, file.product, to),
+        Part::Raster => {
+            let header = header_on(elevations, file.product.product());
+            write_numbers(&header, set.raster_of(file.product), to)
+        }
     }
+}
+
+/// Writes the text of a product's header, which for con is this one.
+fn write_header_on<F: ByteSink>(
+    alloc: Global,
+    elevations: &Header,
+    con: &[u8],
+    product: SetProduct,
+    to: &mut F,
+) -> Result<(), SetFault>
+    ensures { WritesFile F.ByteSink to.old to.new (header_bytes con.now elevations.now product) result }
+{
+    match product {
+        SetProduct::Con => write_text(con, to),
+        SetProduct::Dir | SetProduct::Acc | SetProduct::Bas | SetProduct::Rnk => {
+            write_header_beside(alloc, elevations, product.product(), to)
+        }
+    }
+}
+
+/// Writes the text of the header of a product that isn't con.
+fn write_header_beside<F: ByteSink>(
+    alloc: Global,
+    elevations: &Header,
+    product: Product,
+    to: &mut F,
+) -> Result<(), SetFault>
+    ensures { WritesFile F.ByteSink to.old to.new (text_of (header_beside elevations.now product)) result }
+{
+    write_header(alloc, &header_beside(elevations, product), to)
 }
 
 /// Writes the text of a header.
 pub fn write_header<F: ByteSink>(alloc: Global, header: &Header, to: &mut F) -> Result<(), SetFault>
-    ensures { WritesFile F.ByteSink to.old to.new (text_of header.now) result }
+    ensures { WritesHeader F.ByteSink header.now to.old to.new result }
 {
     let Ok(text) = header_text(alloc, header) else {
+        has_text(header);
         return Err(SetFault::OutOfMemory);
     };
-    match write_all(to, &text, &mut Patience::new()) {
+    write_text(&text, to)
+}
+
+/// Writes a text.
+fn write_text<F: ByteSink>(text: &[u8], to: &mut F) -> Result<(), SetFault>
+    ensures { WritesFile F.ByteSink to.old to.new text.now result }
+{
+    match write_all(to, text, &mut Patience::new()) {
         Ok(()) => Ok(()),
         Err(GaveUp) => Err(SetFault::WriteFailed),
     }

@@ -3,7 +3,8 @@
 ghost use Rattle.std.specs.Prelude.{◌≡◌, ◌*◌, ℕ, ℤ, pos, map, true, false, All, vec_len, IfOk, length, List};
 ghost use Rattle.drain_grid.specs.Product.{default_no_data, default_numbers};
 ghost use Rattle.drain_grid.specs.Grid.{ArePixels, Heights, Grid};
-ghost use Rattle.drain_raster.specs.Bytes.{CanSpellIn, CanSpellAllIn};
+ghost use Rattle.drain_maker.specs.ProductFiles.{CanSpellAllIn};
+ghost use Rattle.drain_raster.specs.Bytes.{CanSpellIn};
 ghost use Rattle.drain_grid.specs.Spacing.{Distances, spacing_of};
 ghost use Rattle.drain_grid.specs.WholeGrid.{products_of, nodata_of, spaced_grid};
 ghost use Rattle.drain_flood.specs.Floods.{IsFlooded, IsSurfaceOf, ShowsVoids};

@@ -1,36 +1,43 @@
 //! One raster of elevations, read whole into memory.
 
-ghost use Rattle.std.specs.Prelude.{◌≡◌, ◌↔◌, pos, map, List, ℕ, Some, IfOk, IfErr, OnOk, IsErrOf};
+ghost use Rattle.std.specs.Prelude.{◌≡◌, ◌↔◌, ◌*◌, All, pos, map, length, slice_index_or, List, ℕ, Some, IfOk, IfErr, OnOk, IsErrOf};
 ghost use Rattle.drain_device.specs.Failing.{ReadFails};
 ghost use Rattle.drain_device.specs.FaultLists.{SomeReadFails};
 ghost use Rattle.drain_device.specs.Reads.{TakesAtMost};
+ghost use Rattle.drain_grid.specs.declared.cell.Cell.{Cell};
+ghost use Rattle.drain_grid.specs.Extent.{IsCellOf, index_of};
+ghost use Rattle.drain_grid.specs.Values.{IsPixel};
 ghost use Rattle.drain_raster.specs.Pixels.{IsShort, needed_len, raster_of};
 ghost use Rattle.drain_verdict.specs.DemGround.{AreHeadersKept, DemTakesAtMost, DemTexts, EncodesDem, dem_devices, dem_ground};
 ghost use Rattle.drain_verdict.specs.Refusals.{IsOfBodies};
-ghost use Rattle.drain_maker.specs.Dems.{IsBodyRefusal, IsDemOf, IsGroundRefusal, IsRasterOf};
-ghost use Rattle.drain_maker.specs.ProductFiles.{FitsHeader, con_no_data, marked_header};
+ghost use Rattle.drain_maker.specs.Dems.{IsBodyRefusal, IsDemOf, IsGroundRefusal, IsKept, IsKeptAt, IsRasterOf, kept_number};
+ghost use Rattle.drain_maker.specs.OneFact.{fits_prop};
+ghost use Rattle.drain_maker.specs.ProductFiles.{FitsHeader, con_no_data, marked_header, no_height};
 
 use crate::product_files::con_no_data;
 use drain_answer::Refusal;
-use drain_device::{BodyFault, ByteSource, read_body};
-use drain_grid::{Product, Raster};
+use drain_device::{BodyFault, ByteSource, read_whole};
+use drain_floats::is_finite;
+use drain_grid::{Cell, HeightKind, OutOfMemory, Product, Raster};
 use drain_header::Header;
 use drain_raster::laws::numbers_are_pixels;
 use drain_raster::{RasterFault, needed_len, read_raster};
 use drain_verdict::{RasterInput, dem_header};
 use std::alloc::Global;
 
-/// One raster of elevations in memory, and its header. Its no-data number is that of con's header on it.
+/// One raster of elevations in memory, and its header. Its no-data number is that of con's header on it; a float that is not
+/// finite has it too.
 #[derive(Drop)]
 pub struct Dem {
     pub header: Header,
     pub raster: Raster,
-    ghost fits: { FitsHeader header raster },
+    ghost fits: { FitsHeader header raster } by { fits_prop header raster },
     ghost nodata: { raster.nodata ≡ con_no_data header },
 }
 
 /// The raster of elevations, or the first refusal of `check_dem` that is about it: `BadDemHeader`, `BadPixelSize`;
-/// `DemShort`. `OutOfMemory` and `ReadFailed` come as with `check_dem`. Nothing past the last needed byte is read.
+/// `DemShort`. `OutOfMemory` and `ReadFailed` come as with `check_dem`. Nothing past the last needed byte is read. Memory
+/// grows with the bytes that came; that of the numbers is taken once all did.
 ///
 /// The contract is about the bytes that the source had left, for sources whose bytes are known.
 pub fn read_dem<R: ByteSource>(alloc: Global, dem: &mut [RasterInput<R>; 1]) -> Result<Dem, Refusal>
@@ -66,21 +73,42 @@ fn read_pixels<R: ByteSource>(
 {
     // The law that the numbers of a body's raster are its pixels.
     numbers_are_pixels();
-    let bytes = match read_body(alloc, body, needed_len(header)) {
+    let bytes = match read_whole(alloc, body, needed_len(header)) {
         Ok(bytes) => bytes,
         Err(BodyFault::ReadFailed) => return Err(Refusal::ReadFailed),
         Err(BodyFault::OutOfMemory) => return Err(Refusal::OutOfMemory),
     };
-    match raster_of(alloc, header, &bytes) {
+    match marked_raster(alloc, header, bytes) {
         Ok(raster) => Ok(raster),
         Err(RasterFault::Short) => Err(Refusal::DemShort),
         Err(RasterFault::OutOfMemory) => Err(Refusal::OutOfMemory),
     }
 }
 
-/// The raster of these bytes, with the no-data number of con's header on it.
+/// The raster of these bytes, with the no-data number of con's header on it, which each float has that is not finite. The
+/// bytes are freed as soon as they aren't needed any more.
+fn marked_raster(alloc: Global, header: &Header, bytes: Vec<u8>) -> Result<Raster, RasterFault>
+    ensures raster { IfOk result (IsRasterOf header.now bytes.items) }
+    ensures fits { IfOk result (FitsHeader header.now) }
+    ensures nodata { IfOk result (λ raster. raster.nodata ≡ con_no_data header.now) }
+    ensures short { IsErrOf result RasterFault.Short ↔ IsShort header.now bytes.items }
+{
+    // The law that the numbers of a body's raster are its pixels.
+    numbers_are_pixels();
+    let pixels = match raster_of(alloc, header, &bytes) {
+        Ok(pixels) => pixels,
+        Err(fault) => return Err(fault),
+    };
+    drop(bytes);
+    match kept_raster(alloc, header.kind, pixels) {
+        Ok(raster) => Ok(raster),
+        Err(OutOfMemory) => Err(RasterFault::OutOfMemory),
+    }
+}
+
+/// The raster of the pixels of these bytes, with that number.
 fn raster_of(alloc: Global, header: &Header, bytes: &[u8]) -> Result<Raster, RasterFault>
-    ensures raster { IfOk result (λ raster. raster ≡ raster_of header.now (pos 4294967296) bytes.now) }
+    ensures raster { IfOk result (λ raster. raster ≡ raster_of header.now (no_height header.now.kind) bytes.now) }
     ensures fits { IfOk result (FitsHeader header.now) }
     ensures long { OnOk result (¬ IsShort header.now bytes.now) }
     ensures short { IsErrOf result RasterFault.Short ↔ IsShort header.now bytes.now }
@@ -107,5 +135,57 @@ fn marked_header(header: &Header) -> Header
         row_bytes: header.row_bytes,
         place: header.place,
         nodata: Some(con_no_data(header)),
+        kind: header.kind,
     }
+}
+
+/// The raster with the numbers that are kept of heights of this kind: of floats it is another one.
+fn kept_raster(alloc: Global, kind: HeightKind, raster: Raster) -> Result<Raster, OutOfMemory>
+    requires { kind ≡ HeightKind.Single → IsPixel raster.nodata }
+    ensures { IfOk result (IsKept kind raster) }
+{
+    match kind {
+        HeightKind::Whole => Ok(raster),
+        HeightKind::Single => finite_raster(alloc, &raster),
+    }
+}
+
+/// That of floats.
+fn finite_raster(alloc: Global, raster: &Raster) -> Result<Raster, OutOfMemory>
+    requires { IsPixel raster.now.nodata }
+    ensures { IfOk result (IsKept HeightKind.Single raster.now) }
+{
+    let numbers = finite_numbers(alloc, raster)?;
+    Ok(Raster::new(raster.shape(), raster.nodata(), numbers))
+}
+
+/// The numbers that are kept of all cells of floats, in row order.
+fn finite_numbers(alloc: Global, raster: &Raster) -> Result<Vec<i64>, OutOfMemory>
+    requires { IsPixel raster.now.nodata }
+    ensures counted { IfOk result (λ numbers. length numbers.items ≡ raster.now.extent.rows * raster.now.extent.cols) }
+    ensures pixels { IfOk result (λ numbers. All IsPixel numbers.items) }
+    ensures numbers { IfOk result (λ numbers. (c : Cell) → IsCellOf raster.now.extent c → IsKeptAt raster.now c (slice_index_or numbers.items (index_of raster.now.extent c) (pos 0))) }
+{
+    let shape = raster.shape();
+    let mut numbers = Vec::with_capacity(alloc, shape.cells())?;
+    for place in 0..shape.cells() {
+        numbers.push(kept_at(raster, shape.cell(place)))?;
+    }
+    Ok(numbers)
+}
+
+/// The number that is kept of a cell of floats.
+fn kept_at(raster: &Raster, cell: Cell) -> i64
+    requires inside { IsCellOf raster.now.extent cell }
+    requires nodata { IsPixel raster.now.nodata }
+    ensures { IsKeptAt raster.now cell result }
+{
+    kept_number(raster.value(cell), raster.nodata())
+}
+
+/// The number that is kept of a float: that of voids where it is not finite.
+fn kept_number(number: i64, void: i64) -> i64
+    ensures { result ≡ kept_number HeightKind.Single void number }
+{
+    if is_finite(number) { number } else { void }
 }

@@ -15,7 +15,7 @@ pub(crate) struct Lists {
     pub sinks: Vec<Cell>,
 }
 
-/// The lists of all windows. Those of a window are freed once they are copied, so all are held once.
+/// The lists of all windows. Room for all is taken first; those of a window are freed once they are copied.
 pub(crate) fn all_lists(alloc: Global, windows: Vec<WindowReport>) -> Result<Lists, OutOfMemory>
     ensures outlets { IfOk result (λ lists. lists.outlets.items ≡ all_outlets windows.items) }
     ensures seams { IfOk result (λ lists. lists.seams.items ≡ all_seams windows.items) }

@@ -121,5 +121,5 @@ fn last_repeats(listed: &[Spacing]) -> bool
     } else {
         listed[count - 2]
     };
-    last.width == before.width && last.height == before.height
+    last.width == before.width && last.height == before.height && last.kind == before.kind
 }

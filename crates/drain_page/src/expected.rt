@@ -2,16 +2,18 @@
 
 ghost use Rattle.std.specs.Prelude.{◌≡◌};
 
+use crate::float_ways::push_rounding;
 use crate::frame::Frame;
 use crate::json_text::{JsonText, JsonValue};
-use crate::names::{shown_code, shown_number, shown_rule};
-use crate::slopes::{WayDown, is_steepest, push_ways, ways_down};
+use crate::names::{Shown, shown_code, shown_number, shown_rule, shown_word};
+use crate::numerals::{Numeral, kind_of, numeral_if_any, shown_numeral};
+use crate::slopes::{Ways, is_steepest, push_ways, ways_down, write_ways};
 use drain_explain::{Findings, judged_product};
 use drain_faults::FaultyPatch;
 use drain_faults::product_faults::{nodata_of, number_at};
 use drain_fill::{Opening, greatest_allowed, opening_of};
 use drain_flat::{is_flat_way, is_flat_way_without_ranks};
-use drain_grid::{CellValues, Code, Judged, Patch, Rule, SetProduct};
+use drain_grid::{CellValues, Code, HeightKind, Judged, Patch, Rule, SetProduct};
 use std::alloc::{AllocError, Global};
 
 /// The nine codes.
@@ -22,6 +24,8 @@ const CODES: [i64; 9] = [0, 1, 2, 4, 8, 16, 32, 64, 128];
 pub struct Expected {
     /// The product whose number is wrong, of rules 3 to 15.
     pub product: Option<SetProduct>,
+    /// The kind of its numbers.
+    pub kind: HeightKind,
     /// The number that it should have; of rule BelowGround the least, of rule NotLeast the greatest.
     pub number: Option<i64>,
     /// The products at fault, of rules VoidCell and Missing.
@@ -29,7 +33,7 @@ pub struct Expected {
     /// The codes that dir may have.
     pub codes: Vec<i64>,
     /// The ways down, of rule Slope.
-    pub ways: Vec<WayDown>,
+    pub ways: Ways,
     /// Why the cell is open, if the rule is about open cells.
     pub open: Option<Opening>,
 }
@@ -41,14 +45,24 @@ pub(crate) fn expected_at<F>(
     findings: &Findings<F>,
 ) -> Result<Expected, AllocError> {
     let FaultyPatch { rule, patch, .. } = first;
+    let product = judged_product(*rule);
     Ok(Expected {
-        product: judged_product(*rule),
+        product,
+        kind: kind_judged(patch, product),
         number: expected_number(*rule, patch),
         products: products_at_fault(alloc, *rule, &patch.here, findings)?,
         codes: allowed_codes(alloc, *rule, patch, findings.rules.judged)?,
         ways: ways_down(alloc, *rule, patch)?,
         open: opening(*rule, patch),
     })
+}
+
+/// The kind of the numbers of a product that is judged on this patch.
+fn kind_judged(patch: &Patch, product: Option<SetProduct>) -> HeightKind {
+    match product {
+        Some(product) => kind_of(patch.spacing.kind, product),
+        None => HeightKind::Whole,
+    }
 }
 
 /// The number that the product should have.
@@ -153,10 +167,32 @@ pub(crate) fn push_expected<F: Frame>(
     push_ways(text, &first.patch, &expected.ways)?;
     match expected.product {
         Some(product) => {
-            let number = shown_number(&first.patch.here, product, &findings.rules.nodata);
-            writeln!(text, "found: {} {number}", product.product().name())
+            let kind = first.patch.spacing.kind;
+            let number = shown_number(kind, &first.patch.here, product, &findings.rules.nodata);
+            writeln!(text, "found: {} {number}", product.product().name())?;
+            push_note(text, first, expected)
         }
         None => Ok(()),
+    }
+}
+
+/// A line on a difference of slopes that rounding makes, of ways between floats.
+fn push_note(
+    text: &mut String,
+    first: &FaultyPatch,
+    expected: &Expected,
+) -> Result<(), AllocError> {
+    match expected.ways {
+        Ways::Whole(_) => Ok(()),
+        Ways::Floats(_) => push_rounding(text, &first.patch),
+    }
+}
+
+/// The number that was expected, in words; empty if there is none.
+fn shown_expected(expected: &Expected) -> Shown {
+    match numeral_if_any(expected.kind, expected.number) {
+        Some(numeral) => shown_numeral("", numeral),
+        None => shown_word(""),
     }
 }
 
@@ -169,26 +205,25 @@ fn push_expectation(
     whole: &'static str,
 ) -> Result<(), AllocError> {
     let (opened, edge) = at_opening(expected.open, whole);
+    let number = shown_expected(expected);
     match (rule, expected.number) {
         (Rule::VoidCell, _) => push_products(text, "no data at a void, in ", &expected.products),
         (Rule::Missing, _) => {
             push_products(text, "a number at a data cell, in ", &expected.products)
         }
         (Rule::BadCode, _) => text.push_str("dir 0, 1, 2, 4, 8, 16, 32, 64 or 128"),
-        (Rule::BelowGround, Some(ground)) => write!(text, "con at least the ground, {ground}"),
-        (Rule::OpenRaised, Some(ground)) => write!(
+        (Rule::BelowGround, Some(_)) => write!(text, "con at least the ground, {number}"),
+        (Rule::OpenRaised, Some(_)) => write!(
             text,
-            "con equal to the ground, {ground}{opened}{edge}"
+            "con equal to the ground, {number}{opened}{edge}"
         ),
-        (Rule::NotLeast, Some(most)) => write!(text, "con at most {most}"),
+        (Rule::NotLeast, Some(_)) => write!(text, "con at most {number}"),
         (Rule::NotLeast, None) => text.push_str("any con"),
         (Rule::Slope, _) => text.push_str("dir of a steepest descent"),
         (Rule::OutletCode, _) => write!(text, "dir 0, with no lower neighbour{opened}{edge}"),
         (Rule::FlatStep, _) => push_along(text, &expected.codes, judged),
-        (Rule::Accumulation, Some(sum)) => write!(text, "acc {sum}"),
-        (Rule::Label, Some(label)) => {
-            write!(text, "bas of the cell that dir points to, {label}")
-        }
+        (Rule::Accumulation, Some(_)) => write!(text, "acc {number}"),
+        (Rule::Label, Some(_)) => { write!(text, "bas of the cell that dir points to, {number}") }
         (Rule::Label, None) => text.push_str("any bas"),
         (Rule::SharedLabel, _) => text.push_str("bas that no earlier outlet has"),
         _ => text.push_str("nothing"),
@@ -248,7 +283,10 @@ pub(crate) fn write_expected<F>(
     };
     let expected = expected_at(alloc, first, findings)?;
     let found = match expected.product {
-        Some(product) => Some(number_at(&first.patch.here, product)),
+        Some(product) => {
+            let number = number_at(&first.patch.here, product);
+            Some(Numeral::new(expected.kind, number))
+        }
         None => None,
     };
     json.begin_object("expected")?;
@@ -256,17 +294,17 @@ pub(crate) fn write_expected<F>(
     json.member("name", first.rule.name())?;
     json.member("product", expected.product)?;
     json.member("found", found)?;
-    write_members(json, &expected)
+    write_members(json, &first.patch, &expected)
 }
 
 /// The other members, and the end of the object.
-fn write_members(json: &mut JsonText, expected: &Expected) -> Result<(), AllocError>
+fn write_members(json: &mut JsonText, patch: &Patch, expected: &Expected) -> Result<(), AllocError>
     ensures { json.new ≡ json.old }
 {
-    json.member("number", expected.number)?;
+    json.member("number", numeral_if_any(expected.kind, expected.number))?;
     json.list("products", &expected.products)?;
     json.list("codes", &expected.codes)?;
-    json.list("ways", &expected.ways)?;
+    write_ways(json, patch, &expected.ways)?;
     json.member("open", expected.open)?;
     json.end_object()
 }

@@ -6,7 +6,7 @@ ghost use Rattle.std.specs.Prelude.{◌≡◌, ◌+ℤ◌, ◌-ℤ◌, ◌*ℤ�
 use crate::degrees::{Degrees, latitude, longitude};
 use crate::names::{DECIMAL_LENGTH, units_text};
 use arrayvec::ArrayString;
-use drain_grid::Shape;
+use drain_grid::{HeightKind, Shape};
 use drain_header::Header;
 use drain_mosaic::Layout;
 use drain_raster::shape;
@@ -41,8 +41,10 @@ pub struct Words {
     pub north: &'static str,
     /// The line of headings above the rules that fail, as wide as the lines below it.
     pub headings: &'static str,
-    /// Whether coordinates have fifteen places, and take 26 columns.
+    /// Whether coordinates have fifteen places, and take 26 columns or more.
     pub is_wide: bool,
+    /// Whether the grid lies in degrees, so that its cells aren't square on the ground.
+    pub is_in_degrees: bool,
     /// Whether the least and the greatest elevation are printed.
     pub has_elevations: bool,
 }
@@ -50,13 +52,21 @@ pub struct Words {
 /// Where a grid lies, for its page.
 pub trait Frame {
     ghost use Rattle.std.specs.Prelude.{ℕ};
+    ghost use Rattle.drain_grid.specs.declared.height_kind.HeightKind.{HeightKind};
     ghost use Rattle.drain_page.specs.declared.frame.Coordinate.{Coordinate};
+
+    /// What numbers of its heights stand for.
+    ghost heights: { Self → HeightKind };
 
     /// The cells of this column lie so far east.
     ghost lies_east: { Self → ℕ → Coordinate → Type 0 };
 
     /// The cells of this row lie so far north.
     ghost lies_north: { Self → ℕ → Coordinate → Type 0 };
+
+    /// What numbers of its heights stand for.
+    fn height_kind(&self) -> HeightKind
+        ensures { result ≡ heights self.now };
 
     /// Its rows and columns.
     fn shape(&self) -> Shape;
@@ -74,11 +84,18 @@ pub trait Frame {
 }
 
 impl Frame for Layout {
+    ghost use Rattle.drain_grid.specs.declared.height_kind.HeightKind.{HeightKind};
     ghost use Rattle.drain_page.specs.Places.{IsLatitude, IsLongitude};
+
+    ghost heights = { λ layout. HeightKind.Whole };
 
     ghost lies_east = { IsLongitude };
 
     ghost lies_north = { IsLatitude };
+
+    fn height_kind(&self) -> HeightKind {
+        HeightKind::Whole
+    }
 
     fn shape(&self) -> Shape {
         self.shape()
@@ -99,6 +116,7 @@ impl Frame for Layout {
             north: "latitude",
             headings: "rule                cells    row column     longitude      latitude\n",
             is_wide: false,
+            is_in_degrees: true,
             has_elevations: false,
         }
     }
@@ -107,9 +125,15 @@ impl Frame for Layout {
 impl Frame for Header {
     ghost use Rattle.drain_page.specs.Places.{IsX, IsY};
 
+    ghost heights = { λ header. header.kind };
+
     ghost lies_east = { IsX };
 
     ghost lies_north = { IsY };
+
+    fn height_kind(&self) -> HeightKind {
+        self.kind
+    }
 
     fn shape(&self) -> Shape {
         shape(self)
@@ -130,6 +154,7 @@ impl Frame for Header {
             north: "y",
             headings: "rule                cells    row column                         x                         y\n",
             is_wide: true,
+            is_in_degrees: false,
             has_elevations: true,
         }
     }

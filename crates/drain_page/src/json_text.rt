@@ -77,6 +77,14 @@ impl JsonText {
         self.token(Token::Null)
     }
 
+    /// A member that is this word: a number if it is one, else a string.
+    pub(crate) fn word(&mut self, name: &str, word: &str) -> Result<(), AllocError>
+        ensures { self.new ≡ self.old }
+    {
+        self.token(Token::Key(name))?;
+        append_word(self, word)
+    }
+
     /// A member that is a list of these.
     pub(crate) fn list<V: JsonValue>(&mut self, name: &str, items: &[V]) -> Result<(), AllocError>
         ensures { self.new ≡ self.old }
@@ -217,6 +225,17 @@ fn append_digits(json: &mut JsonText, digits: &str) -> Result<(), AllocError>
         json.token(Token::Number(digits))
     } else {
         json.token(Token::Null)
+    }
+}
+
+/// Appends a word: a number if it is one, else a string.
+pub(crate) fn append_word(json: &mut JsonText, word: &str) -> Result<(), AllocError>
+    ensures { json.new ≡ json.old }
+{
+    if is_number(word) {
+        json.token(Token::Number(word))
+    } else {
+        json.token(Token::String(word))
     }
 }
 

@@ -1,13 +1,16 @@
 //! Words for directions, numbers of a raster and rules, for coordinates of a header, and for bytes that may be no ASCII.
 
+use crate::numerals::{Numeral, kind_of, shown_numeral};
 use arrayvec::ArrayString;
 use drain_faults::product_faults::{nodata_of, number_at};
-use drain_grid::{CellValues, Code, Direction, NoData, Rule, SetProduct, UNITS_PER_DEGREE};
+use drain_grid::{
+    CellValues, Code, Direction, HeightKind, NoData, Rule, SetProduct, UNITS_PER_DEGREE,
+};
 use std::alloc::{AllocError, Global};
 use std::fmt::Write;
 
-/// How many bytes the words for one number have at most.
-pub(crate) const SHOWN_LENGTH: usize = 24;
+/// How many bytes the words for one number have at most: a float's word has 25 and may stand behind a star.
+pub(crate) const SHOWN_LENGTH: usize = 26;
 
 /// The words for one number.
 pub(crate) type Shown = ArrayString<SHOWN_LENGTH>;
@@ -38,23 +41,28 @@ pub(crate) fn shown_code(code: i64) -> Shown {
     shown
 }
 
-/// The number of a product at a cell; `no data` for its no-data number.
-pub(crate) fn shown_number(values: &CellValues, product: SetProduct, nodata: &NoData) -> Shown {
+/// The number of a product at a cell, on heights of this kind; `no data` for its no-data number.
+pub(crate) fn shown_number(
+    heights: HeightKind,
+    values: &CellValues,
+    product: SetProduct,
+    nodata: &NoData,
+) -> Shown {
     let number = number_at(values, product);
     if number == nodata_of(nodata, product) {
         shown_word("no data")
     } else if product == SetProduct::Dir {
         shown_code(number)
     } else {
-        shown_signed("", number)
+        shown_numeral("", Numeral::new(kind_of(heights, product), number))
     }
 }
 
 /// The ground at a cell, with a star if it is listed as a sink; `void` if there is none.
-pub(crate) fn shown_ground(values: &CellValues) -> Shown {
+pub(crate) fn shown_ground(kind: HeightKind, values: &CellValues) -> Shown {
     let star = if values.sink { "*" } else { "" };
     match values.z {
-        Some(ground) => shown_signed(star, ground),
+        Some(number) => shown_numeral(star, Numeral::new(kind, number)),
         None => shown_word(if values.sink { "*void" } else { "void" }),
     }
 }
@@ -77,13 +85,6 @@ pub(crate) fn shown_word(word: &str) -> Shown {
 pub(crate) fn shown_indented(word: &str) -> Shown {
     let mut shown = Shown::new();
     let _ = write!(shown, "  {word}");
-    shown
-}
-
-/// A mark and a whole number.
-fn shown_signed(mark: &str, number: i64) -> Shown {
-    let mut shown = Shown::new();
-    let _ = write!(shown, "{mark}{number}");
     shown
 }
 

@@ -5,7 +5,7 @@ use crate::frame::{Frame, Words};
 use crate::names::{Shown, shown_ground, shown_number, shown_word};
 use drain_explain::Findings;
 use drain_faults::FaultyPatch;
-use drain_grid::{Cell, CellValues, Direction, NoData, Patch, SetProduct};
+use drain_grid::{Cell, CellValues, Direction, HeightKind, NoData, Patch, SetProduct};
 use std::alloc::{AllocError, Global};
 
 /// Appends all of it: where the cell lies, the values, and what the rule expected.
@@ -35,14 +35,15 @@ fn push_patch<F: Frame>(
     patch: &Patch,
 ) -> Result<(), AllocError> {
     let rows = rows_of(patch);
+    let kind = patch.spacing.kind;
     let nodata = &findings.rules.nodata;
     let whole = F::words().whole;
     write!(text, "- outside the {whole}, * listed as a sink\nground\n")?;
-    push_layer(text, nodata, &rows, None)?;
+    push_layer(text, kind, nodata, &rows, None)?;
     for product in SetProduct::ALL {
         if findings.looks_at(product) {
             writeln!(text, "{}", product.product().name())?;
-            push_layer(text, nodata, &rows, Some(product))?;
+            push_layer(text, kind, nodata, &rows, Some(product))?;
         }
     }
     Ok(())
@@ -72,33 +73,47 @@ pub(crate) fn rows_of(patch: &Patch) -> Rows {
     ]
 }
 
-/// One product, or the ground, three numbers by three.
+/// One product, or the ground, three numbers by three, on heights of this kind.
 fn push_layer(
     text: &mut String,
+    kind: HeightKind,
     nodata: &NoData,
     rows: &Rows,
     layer: Option<SetProduct>,
 ) -> Result<(), AllocError> {
     for [west, middle, east] in rows {
-        let west = shown_at(nodata, west, layer);
-        let middle = shown_at(nodata, middle, layer);
-        let east = shown_at(nodata, east, layer);
-        writeln!(
-            text,
-            "{:>13}{:>13}{:>13}",
-            west.as_str(),
-            middle.as_str(),
-            east.as_str()
-        )?;
+        let west = shown_at(kind, nodata, west, layer);
+        let middle = shown_at(kind, nodata, middle, layer);
+        let east = shown_at(kind, nodata, east, layer);
+        push_columns(text, kind, west.as_str(), middle.as_str(), east.as_str())?;
     }
     Ok(())
 }
 
+/// Three numbers in columns, which are wider on floats.
+fn push_columns(
+    text: &mut String,
+    kind: HeightKind,
+    west: &str,
+    middle: &str,
+    east: &str,
+) -> Result<(), AllocError> {
+    match kind {
+        HeightKind::Whole => writeln!(text, "{west:>13}{middle:>13}{east:>13}"),
+        HeightKind::Single => writeln!(text, "{west:>18}{middle:>18}{east:>18}"),
+    }
+}
+
 /// A product's number there, or the ground; a dash outside the grid.
-fn shown_at(nodata: &NoData, cell: &Option<CellValues>, layer: Option<SetProduct>) -> Shown {
+fn shown_at(
+    kind: HeightKind,
+    nodata: &NoData,
+    cell: &Option<CellValues>,
+    layer: Option<SetProduct>,
+) -> Shown {
     match (cell, layer) {
-        (Some(values), Some(product)) => shown_number(values, product, nodata),
-        (Some(values), None) => shown_ground(values),
+        (Some(values), Some(product)) => shown_number(kind, values, product, nodata),
+        (Some(values), None) => shown_ground(kind, values),
         (None, _) => shown_word("-"),
     }
 }

@@ -3,6 +3,7 @@
 ghost use Rattle.std.specs.Prelude.{◌≡◌};
 
 use crate::json_text::{JsonText, JsonValue};
+use crate::kind_words::{push_kinds, write_kinds};
 use crate::names::{shown_bytes, units_text};
 use drain_explain::{Extent, NotData, RefusalDetail, TileValue};
 use drain_grid::{MAX_SIDE, MIN_SIDE, Product};
@@ -126,6 +127,7 @@ pub(crate) fn push_refusal(
             text,
             "expected: dem of {expected} bytes\nfound: dem of {found} bytes"
         ),
+        RefusalDetail::Kind { expected, found } => push_kinds(text, *expected, *found),
     }
 }
 
@@ -209,6 +211,7 @@ fn kind(detail: &RefusalDetail) -> &'static str {
         RefusalDetail::SpacingRows { .. } => "spacing_rows",
         RefusalDetail::PixelSize { .. } => "pixel_size",
         RefusalDetail::DemLength { .. } => "dem_length",
+        RefusalDetail::Kind { .. } => "kind",
     }
 }
 
@@ -280,6 +283,7 @@ fn write_members(
             json.member("expected", *expected)?;
             json.member("found", *found)
         }
+        RefusalDetail::Kind { expected, found } => write_kinds(json, *expected, *found),
     }
 }
 

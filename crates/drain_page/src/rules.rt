@@ -106,14 +106,14 @@ fn push_faults<F: Frame>(
     text.push_str("\n")
 }
 
-/// A cell's row and column, and where it lies, in columns.
+/// A cell's row and column, and where it lies, in columns. A long coordinate too has a space before it.
 fn push_place<F: Frame>(text: &mut String, layout: &F, cell: Cell) -> Result<(), AllocError> {
     let Cell { row, col } = cell;
     let east = layout.east(col).text();
     let north = layout.north(row).text();
     let (east, north) = (east.as_str(), north.as_str());
     if F::words().is_wide {
-        write!(text, "{row:>7}{col:>7}{east:>26}{north:>26}")
+        write!(text, "{row:>7}{col:>7} {east:>25} {north:>25}")
     } else {
         write!(text, "{row:>7}{col:>7}{east:>14}{north:>14}")
     }

@@ -5,6 +5,7 @@ ghost use Rattle.drain_answer.specs.OutcomeLines.{outcome_report_line};
 
 use crate::facts::Facts;
 use crate::frame::Frame;
+use crate::numerals::{Numeral, shown_numeral};
 use crate::patch_text::push_first;
 use crate::refusal::push_refusal;
 use crate::rules::push_rules;
@@ -12,7 +13,7 @@ use crate::run::push_run;
 use crate::slopes::push_slopes;
 use drain_answer::outcome_report;
 use drain_explain::{ElevationRange, Findings};
-use drain_grid::OutOfMemory;
+use drain_grid::{HeightKind, OutOfMemory};
 use std::alloc::{AllocError, Global};
 
 /// The page: the answer's line, and then its explanation, part after part with an empty line between. Each line ends
@@ -50,7 +51,7 @@ fn push_findings<F: Frame>(
     let words = F::words();
     text.push_str("\n")?;
     if words.has_elevations {
-        push_elevations(text, findings.elevations)?;
+        push_elevations(text, findings.layout.height_kind(), findings.elevations)?;
     }
     push_slopes(text, findings)?;
     push_rules(text, findings)?;
@@ -68,10 +69,13 @@ fn push_findings<F: Frame>(
 /// The least and the greatest elevation; nothing without a data cell.
 fn push_elevations(
     text: &mut String,
+    kind: HeightKind,
     elevations: Option<ElevationRange>,
 ) -> Result<(), AllocError> {
-    match elevations {
-        Some(range) => writeln!(text, "elevation from {} to {}", range.least, range.greatest),
-        None => Ok(()),
-    }
+    let Some(range) = elevations else {
+        return Ok(());
+    };
+    let least = shown_numeral("", Numeral::new(kind, range.least));
+    let greatest = shown_numeral("", Numeral::new(kind, range.greatest));
+    writeln!(text, "elevation from {least} to {greatest}")
 }

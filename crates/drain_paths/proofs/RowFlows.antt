@@ -1,6 +1,7 @@
 -- The flows of a row, place by place.
 use Rattle.std.proofs.Common.{◌≡◌, ◌≢◌, ◌<◌, ◌+◌, ℕ, zero, suc, ◌∙◌, ℤ, pos, Option, None, List, [], ◌∷◌, length, get_or, set, get_or-set_other, get_or-set_same, below_more, refl, sym, ap, arith}
 use Rattle.std.proofs.lemmas.List.{ext_get_or, get_or-map, length-map}
+use Rattle.drain_pixels.specs.declared.voids.Voids.{Voids}
 use Rattle.drain_pixels.specs.Ground.{elevations, height_with}
 use Rattle.drain_paths.specs.declared.flow.Flow.{Flow}
 use Rattle.drain_paths.specs.declared.flow.Flow.TheVariants.{Void}
@@ -23,8 +24,8 @@ get_or-flows_of (z ∷ zs) (n ∷ ns) zero same less = refl
 get_or-flows_of (z ∷ zs) (n ∷ ns) (suc k) same less = get_or-flows_of zs ns k (omega arith) (omega arith)
 
 -- an elevation of a row of numbers
-pub height-kept : (void : Option ℤ) (numbers : List ℤ) (k : ℕ) → k < length numbers → height_with void (get_or numbers k (pos 0)) ≡ get_or (elevations void numbers) k None
-height-kept void numbers k less = sym (get_or-map (height_with void) numbers k (pos 0) None less)
+pub height-kept : (voids : Voids) (numbers : List ℤ) (k : ℕ) → k < length numbers → height_with voids (get_or numbers k (pos 0)) ≡ get_or (elevations voids numbers) k None
+height-kept voids numbers k less = sym (get_or-map (height_with voids) numbers k (pos 0) None less)
 
 -- one place more, from the code put there
 pub flows_more : (zs : List (Option ℤ)) (ns : List ℤ) (out : List ℕ) (k code : ℕ) → k < length out → byte_flow code ≡ place_flow zs ns k →

@@ -10,9 +10,9 @@ ghost use Rattle.drain_pixels.specs.Ground.{elevations};
 
 use crate::flow::{Flow, FlowTable, NO_CODE, cell_code, flows_of_codes};
 use crate::ways::Ways;
-use drain_grid::{Cell, Elevation, OutOfMemory, Raster};
-use drain_pixels::ground_row::height_with;
-use drain_pixels::{GroundRow, PixelNumbers, PixelRow, Pixels};
+use drain_grid::{Cell, Elevation, HeightKind, OutOfMemory, Raster};
+use drain_pixels::voids::height_with;
+use drain_pixels::{GroundRow, PixelNumbers, PixelRow, Pixels, Voids};
 use std::alloc::Global;
 use std::marker::Model;
 
@@ -97,6 +97,7 @@ impl CellFlows {
             Pixels::U16(dir) => fill_by(codes, samples, &dir),
             Pixels::I32(dir) => fill_by(codes, samples, &dir),
             Pixels::U32(dir) => fill_by(codes, samples, &dir),
+            Pixels::F32(dir) => fill_by(codes, samples, &dir),
             Pixels::Any(dir) => fill_by(codes, samples, &dir),
         }
         Ok(())
@@ -149,33 +150,59 @@ fn fill_by<N: PixelNumbers + Copy>(out: &mut [u8], samples: &GroundRow, dir: &N)
     requires pixels { All IsPixel (N.numbers dir.now) }
     ensures { bytes_flows out.new ≡ flows_of samples.now (N.numbers dir.now) }
 {
-    let (void, z) = samples.parts();
+    let (voids, z) = samples.parts();
     match z {
-        Pixels::U8(z) => fill(out, void, &z, dir),
-        Pixels::I16(z) => fill(out, void, &z, dir),
-        Pixels::U16(z) => fill(out, void, &z, dir),
-        Pixels::I32(z) => fill(out, void, &z, dir),
-        Pixels::U32(z) => fill(out, void, &z, dir),
-        Pixels::Any(z) => fill(out, void, &z, dir),
+        Pixels::U8(z) => fill(out, voids, &z, dir),
+        Pixels::I16(z) => fill(out, voids, &z, dir),
+        Pixels::U16(z) => fill(out, voids, &z, dir),
+        Pixels::I32(z) => fill(out, voids, &z, dir),
+        Pixels::U32(z) => fill(out, voids, &z, dir),
+        Pixels::F32(z) => fill(out, voids, &z, dir),
+        Pixels::Any(z) => fill(out, voids, &z, dir),
     }
 }
 
-/// The same, from the numbers of elevations, of which one may mean a void.
+/// The same, from the numbers of elevations, of which these mean a void. Each kind of them has a loop of its own.
 fn fill<Z: PixelNumbers + Copy, N: PixelNumbers + Copy>(
     out: &mut [u8],
-    void: Option<i64>,
+    voids: Voids,
     z: &Z,
     dir: &N,
 )
     requires cells { length out.old ≡ length (Z.numbers z.now) }
     requires numbers { length (Z.numbers z.now) ≡ length (N.numbers dir.now) }
     requires pixels { All IsPixel (N.numbers dir.now) }
-    ensures { bytes_flows out.new ≡ flows_of (elevations void (Z.numbers z.now)) (N.numbers dir.now) }
+    ensures { bytes_flows out.new ≡ flows_of (elevations voids (Z.numbers z.now)) (N.numbers dir.now) }
+{
+    match voids.kind {
+        HeightKind::Whole => fill_each(out, Voids::of(voids.number), z, dir),
+        HeightKind::Single => {
+            let single = Voids {
+                number: voids.number,
+                kind: HeightKind::Single,
+            };
+            fill_each(out, single, z, dir)
+        }
+    }
+}
+
+/// The same, in one loop. It is inlined where the kind of voids is known, so the loop has no test of it.
+#[inline(always)]
+fn fill_each<Z: PixelNumbers + Copy, N: PixelNumbers + Copy>(
+    out: &mut [u8],
+    voids: Voids,
+    z: &Z,
+    dir: &N,
+)
+    requires cells { length out.old ≡ length (Z.numbers z.now) }
+    requires numbers { length (Z.numbers z.now) ≡ length (N.numbers dir.now) }
+    requires pixels { All IsPixel (N.numbers dir.now) }
+    ensures { bytes_flows out.new ≡ flows_of (elevations voids (Z.numbers z.now)) (N.numbers dir.now) }
 {
     // Local copies: behind references their addresses would be loaded again at each column.
     let heights = *z;
     let pixels = *dir;
     for k in 0..heights.len() {
-        out[k] = cell_code(height_with(void, heights.at(k)), pixels.at(k));
+        out[k] = cell_code(height_with(voids, heights.at(k)), pixels.at(k));
     }
 }

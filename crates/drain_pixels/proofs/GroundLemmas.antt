@@ -3,13 +3,14 @@ use Rattle.std.proofs.Common.{ℤ, Bool, true, false, Option, Some, None, IfSome
 use Rattle.std.proofs.lemmas.List.Elements.{All-map}
 use Rattle.drain_grid.specs.Values.{IsPixel}
 use Rattle.drain_pixels.specs.Ground.{elevations, height_with, is_void}
+use Rattle.drain_pixels.specs.declared.voids.Voids.{Voids}
 
 -- the number, or none
 number_or_none : (number : ℤ) (void : Bool) → IsPixel number → IfSome (if void then None else Some number) IsPixel
 number_or_none number true is = tt
 number_or_none number false is = is
 
-pub each_pixel : (void : Option ℤ) (numbers : List ℤ) → All IsPixel numbers → All (λ (z : Option ℤ). IfSome z IsPixel) (elevations void numbers)
-each_pixel void numbers all =
-    All-map (λ (z : Option ℤ). IfSome z IsPixel) (height_with void) numbers
-    (λ k d within. number_or_none (get_or numbers k d) (is_void void (get_or numbers k d)) (all k d within))
+pub each_pixel : (voids : Voids) (numbers : List ℤ) → All IsPixel numbers → All (λ (z : Option ℤ). IfSome z IsPixel) (elevations voids numbers)
+each_pixel voids numbers all =
+    All-map (λ (z : Option ℤ). IfSome z IsPixel) (height_with voids) numbers
+    (λ k d within. number_or_none (get_or numbers k d) (is_void voids (get_or numbers k d)) (all k d within))

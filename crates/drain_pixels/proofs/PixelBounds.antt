@@ -2,15 +2,17 @@
 use Rattle.std.proofs.Common.{inl, inr, ℕ, ◌+◌, ◌*◌, ◌<◌, ℤ, pos, List, [], drop, All, arith, subst, sym}
 use Rattle.std.specs.Prelude.{slice_index}
 use Rattle.std.proofs.lemmas.Bool.{cases_lt, lt-ltb, le-ltb}
+use Rattle.std.proofs.lemmas.Bool.Decides.{nat_tests}
 use Rattle.std.proofs.lemmas.Int.{ints}
 use Rattle.std.proofs.lemmas.List.{get_or-drop}
 use Rattle.std.proofs.lemmas.List.Elements.{All-from_get_or}
 use Rattle.byteorder.specs.Endian.{little_number, twos_complement}
 use Rattle.byteorder.specs.Numbers.{little_from-lt}
+use Rattle.drain_floats.specs.Patterns.{number_of}
 use Rattle.drain_grid.specs.Values.{IsPixel}
 use Rattle.drain_pixels.specs.declared.pixel_row.PixelKind.{PixelKind}
-use Rattle.drain_pixels.specs.declared.pixel_row.PixelKind.TheVariants.{U8, I16, U16, I32, U32, Any}
-use Rattle.drain_pixels.specs.Stored.{i16_number, i32_number, numbers_as, numbers_of, u16_number, u32_number, u8_number}
+use Rattle.drain_pixels.specs.declared.pixel_row.PixelKind.TheVariants.{U8, I16, U16, I32, U32, F32, Any}
+use Rattle.drain_pixels.specs.Stored.{f32_number, i16_number, i32_number, numbers_as, numbers_of, u16_number, u32_number, u8_number}
 use Rattle.drain_pixels.proofs.StoredLemmas.{number_at}
 
 -- whole numbers below 256
@@ -38,6 +40,10 @@ signed_32 x small = elim (cases_lt x 2147483648) [
   | inr above ↦ rw (le-ltb x 2147483648 above) (record { low = omega (arith, ints, above); high = omega (arith, ints, small) })
 ]
 
+-- that of a pattern
+float : (x : ℕ) → x < 4294967296 → IsPixel (number_of x)
+float x small = record { low = grind (arith, ints, nat_tests); high = grind (arith, ints, nat_tests) }
+
 each_all : (n : ℕ) (number : List ℕ → ℤ) (bytes : List ℕ) → ((xs : List ℕ) → AreBytes xs → IsPixel (number xs)) → AreBytes bytes → All IsPixel (numbers_of n number bytes)
 each_all n number bytes each are =
     All-from_get_or IsPixel (numbers_of n number bytes) (pos 0)
@@ -50,4 +56,5 @@ all_pixels I16 bytes are = each_all 2 i16_number bytes (λ xs small. let below =
 all_pixels U16 bytes are = each_all 2 u16_number bytes (λ xs small. let below = little_from-lt 0 2 xs small in whole (little_number 2 xs) (omega (arith, below))) are
 all_pixels I32 bytes are = each_all 4 i32_number bytes (λ xs small. let below = little_from-lt 0 4 xs small in signed_32 (little_number 4 xs) (omega (arith, below))) are
 all_pixels U32 bytes are = each_all 4 u32_number bytes (λ xs small. let below = little_from-lt 0 4 xs small in whole (little_number 4 xs) (omega (arith, below))) are
+all_pixels F32 bytes are = each_all 4 f32_number bytes (λ xs small. let below = little_from-lt 0 4 xs small in float (little_number 4 xs) (omega (arith, below))) are
 all_pixels Any bytes are = λ k d inside. absurd (omega (arith, inside))

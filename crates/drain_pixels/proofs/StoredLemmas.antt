@@ -2,7 +2,7 @@
 use Rattle.std.proofs.Common.{◌≡◌, ℕ, ◌+◌, ◌*◌, ◌/◌, ◌<◌, ◌≤◌, ℤ, pos, List, length, drop, arith}
 use Rattle.std.specs.Prelude.{slice_index_or}
 use Rattle.std.proofs.lemmas.List.FromFn.{get_or-map-range_with_len, length-map-range_with_len}
-use Rattle.drain_pixels.specs.Stored.{i16_number, i16_numbers, i32_number, i32_numbers, numbers_of, u16_number, u16_numbers, u32_number, u32_numbers, u8_number, u8_numbers}
+use Rattle.drain_pixels.specs.Stored.{f32_number, f32_numbers, i16_number, i16_numbers, i32_number, i32_numbers, numbers_of, u16_number, u16_numbers, u32_number, u32_numbers, u8_number, u8_numbers}
 
 -- as many as there is room for
 pub numbers_len : (n : ℕ) (number : List ℕ → ℤ) (bytes : List ℕ) → length (numbers_of n number bytes) ≡ length bytes / n
@@ -30,6 +30,9 @@ i32_len bytes = numbers_len 4 i32_number bytes
 pub u32_len : (bytes : List ℕ) → length (u32_numbers bytes) ≡ length bytes / 4
 u32_len bytes = numbers_len 4 u32_number bytes
 
+pub f32_len : (bytes : List ℕ) → length (f32_numbers bytes) ≡ length bytes / 4
+f32_len bytes = numbers_len 4 f32_number bytes
+
 -- the bytes of a pixel lie within
 pub u8_inside : (bytes : List ℕ) (k : ℕ) → k < length (u8_numbers bytes) → k < length bytes
 u8_inside bytes k inside = omega (arith, u8_len bytes, inside)
@@ -45,3 +48,6 @@ i32_inside bytes k inside = omega (arith, i32_len bytes, inside)
 
 pub u32_inside : (bytes : List ℕ) (k : ℕ) → k < length (u32_numbers bytes) → 4 * k + 4 ≤ length bytes
 u32_inside bytes k inside = omega (arith, u32_len bytes, inside)
+
+pub f32_inside : (bytes : List ℕ) (k : ℕ) → k < length (f32_numbers bytes) → 4 * k + 4 ≤ length bytes
+f32_inside bytes k inside = omega (arith, f32_len bytes, inside)

@@ -1,6 +1,7 @@
 -- Lanes of a row: unsigned numbers of 16 or 32 bits, converted from whole numbers. At a void, where the lane of the elevation is 0, nothing is known of a product.
 use Rattle.std.specs.Prelude.{◌≡◌, ◌≢◌, ℕ, ◌/◌, ◌%◌, ◌<◌, ℤ, pos, negsuc, neg_ℤ, ◌+ℤ◌, Bool, IsTrue, true, false, not, ◌&&◌, nat_le, int_le, int_lt, min, List, Option, Some, None, slice_index, slice_index_or}
 use Rattle.std.specs.Ordering.{int_eq}
+use Rattle.drain_pixels.specs.declared.voids.Voids.{Voids}
 use Rattle.drain_pixels.specs.Ground.{height_with}
 
 -- 32 bits hold the number
@@ -74,10 +75,10 @@ IsElevationLane bias (Some height) lane = (lane ≢ 0) × (pos lane ≡ lifted b
 abbrev pub AreElevationLanes : ℕ → List (Option ℤ) → List ℕ → ℕ → Type 0
 AreElevationLanes bias z lanes count = (k : ℕ) → k < count → IsElevationLane bias (slice_index_or z k None) (slice_index lanes k)
 
--- the first lanes are those of the elevations of these numbers, of which one may mean a void
-abbrev pub AreGroundLanes : ℕ → Option ℤ → List ℤ → List ℕ → ℕ → Type 0
-AreGroundLanes bias void numbers lanes count =
-    (k : ℕ) → k < count → IsElevationLane bias (height_with void (slice_index_or numbers k (pos 0))) (slice_index lanes k)
+-- the first lanes are those of the elevations of these numbers, of which some may mean a void
+abbrev pub AreGroundLanes : ℕ → Voids → List ℤ → List ℕ → ℕ → Type 0
+AreGroundLanes bias voids numbers lanes count =
+    (k : ℕ) → k < count → IsElevationLane bias (height_with voids (slice_index_or numbers k (pos 0))) (slice_index lanes k)
 
 -- the first heights are these, each with the bias added, except at voids
 abbrev pub AreHeightLanes : ℕ → List ℕ → List ℤ → List ℕ → ℕ → Type 0

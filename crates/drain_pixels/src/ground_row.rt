@@ -2,20 +2,21 @@
 
 ghost use Rattle.std.specs.Prelude.{◌≡◌, ◌<◌, All, IfSome, None, [], length, slice_index_or};
 ghost use Rattle.drain_grid.specs.Values.{IsPixel};
-ghost use Rattle.drain_pixels.specs.Ground.{elevations, height_with};
+ghost use Rattle.drain_pixels.specs.Ground.{elevations};
 ghost use Rattle.drain_pixels.specs.Stored.{numbers_in};
 
 use crate::pixel_row::{PixelKind, PixelRow};
 use crate::stored::Pixels;
+use crate::voids::{Voids, height_with};
 use std::alloc::Global;
 use std::marker::Model;
 use std::mem::replace;
 
-/// A row of elevations: numbers, one of which may mean a void. Its model is the list of elevations, none at a void.
+/// A row of elevations: numbers, some of which may mean a void. Its model is the list of elevations, none at a void.
 #[derive(Drop)]
 pub struct GroundRow {
     numbers: PixelRow,
-    void: Option<i64>,
+    voids: Voids,
 }
 
 impl Model for GroundRow {
@@ -24,7 +25,7 @@ impl Model for GroundRow {
 
     ghost Value = { List (Option ℤ) };
 
-    ghost view = { λ row. elevations row.void row.numbers };
+    ghost view = { λ row. elevations row.voids row.numbers };
 }
 
 impl GroundRow {
@@ -34,7 +35,7 @@ impl GroundRow {
     {
         GroundRow {
             numbers: PixelRow::new(alloc),
-            void: None,
+            voids: Voids::of(None),
         }
     }
 
@@ -51,15 +52,15 @@ impl GroundRow {
         requires { k < length self.now }
         ensures { result ≡ slice_index_or self.now k None }
     {
-        height_with(self.void, self.numbers.number_soonest(PixelKind::Any, k))
+        height_with(self.voids, self.numbers.number_soonest(PixelKind::Any, k))
     }
 
-    /// The number that means a void, if any does, and the numbers, for a loop over all of them.
+    /// Which numbers mean a void, and the numbers, for a loop over all of them.
     #[inline(always)]
-    pub fn parts(&self) -> (Option<i64>, Pixels<'_>)
+    pub fn parts(&self) -> (Voids, Pixels<'_>)
         ensures { elevations result.0 (numbers_in result.1) ≡ self.now }
     {
-        (self.void, self.numbers.pixels())
+        (self.voids, self.numbers.pixels())
     }
 
     /// Forgets the elevations, and keeps the memory.
@@ -76,12 +77,12 @@ impl GroundRow {
         self.numbers.take_numbers()
     }
 
-    /// Replaces the elevations by those of these numbers, of which this one, if any, means a void.
-    pub fn put_numbers(&mut self, void: Option<i64>, numbers: Vec<i64>)
-        ensures elevations { self.new ≡ elevations void numbers.items }
+    /// Replaces the elevations by those of these numbers, of which these mean a void.
+    pub fn put_numbers(&mut self, voids: Voids, numbers: Vec<i64>)
+        ensures elevations { self.new ≡ elevations voids numbers.items }
         ensures pixels { All IsPixel numbers.items → All (λ z. IfSome z IsPixel) self.new }
     {
-        self.void = void;
+        self.voids = voids;
         self.numbers.put_numbers(numbers);
     }
 
@@ -93,23 +94,12 @@ impl GroundRow {
         replace(&mut self.numbers, PixelRow::new(alloc))
     }
 
-    /// Replaces the elevations by those of these pixels, of which this number, if any, means a void.
-    pub fn put_pixels(&mut self, void: Option<i64>, pixels: PixelRow)
-        ensures elevations { self.new ≡ elevations void pixels }
+    /// Replaces the elevations by those of these pixels, of which these numbers mean a void.
+    pub fn put_pixels(&mut self, voids: Voids, pixels: PixelRow)
+        ensures elevations { self.new ≡ elevations voids pixels }
         ensures pixels { All IsPixel pixels → All (λ z. IfSome z IsPixel) self.new }
     {
-        self.void = void;
+        self.voids = voids;
         self.numbers = pixels;
-    }
-}
-
-/// The elevation of a number, none for that of a void.
-#[inline(always)]
-pub fn height_with(void: Option<i64>, number: i64) -> Option<i64>
-    ensures { result ≡ height_with void number }
-{
-    match void {
-        Some(void) if number == void => None,
-        _ => Some(number),
     }
 }

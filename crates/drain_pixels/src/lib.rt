@@ -7,7 +7,9 @@ mod narrowing;
 pub mod pixel_row;
 pub mod row_lanes;
 pub mod stored;
+pub mod voids;
 
 pub use ground_row::GroundRow;
 pub use pixel_row::{PixelKind, PixelRow};
 pub use stored::{PixelNumbers, Pixels};
+pub use voids::Voids;

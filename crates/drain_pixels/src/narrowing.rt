@@ -2,14 +2,15 @@
 //! product's number need not fit.
 
 ghost use Rattle.std.specs.Prelude.{◌≡◌, IsTrue, length, map};
+ghost use Rattle.drain_pixels.specs.Ground.{single_voids, whole_voids};
 ghost use Rattle.drain_pixels.specs.Lanes.{AllFit, AllFitAt, AreCapped, AreGroundLanes, AreLower, AreUpper, HoldFitting};
 
-use crate::ground_row::height_with;
 use crate::lane::{
     ElevationLane, Fits, Narrow, Wide, capped, elevation_lane, is_elevation, is_wide_elevation,
     lower_half, upper_half, wide_elevation_lane,
 };
 use crate::stored::PixelNumbers;
+use crate::voids::{of_single, of_whole};
 
 /// Puts the numbers into lanes of 32 bits, and returns whether all fit, at voids too.
 #[inline(never)]
@@ -49,19 +50,19 @@ pub fn put_narrow<W: Narrow, N: PixelNumbers + Copy>(numbers: &N, out: &mut [u16
     all
 }
 
-/// Puts the elevations of numbers, of which this one, if any, means a void, into lanes of 16 bits, and returns whether
-/// all fit.
+/// Puts the elevations of whole heights, of which this one, if any, means a void, into lanes of 16 bits, and returns
+/// whether all fit.
 #[inline(never)]
 pub fn put_ground<N: PixelNumbers + Copy>(void: Option<i64>, numbers: &N, out: &mut [u16]) -> bool
     requires { length out.old ≡ length (N.numbers numbers.now) }
     ensures len { length out.new ≡ length out.old }
-    ensures lanes { IsTrue result → AreGroundLanes 32768 void (N.numbers numbers.now) out.new (length (N.numbers numbers.now)) }
+    ensures lanes { IsTrue result → AreGroundLanes 32768 (whole_voids void) (N.numbers numbers.now) out.new (length (N.numbers numbers.now)) }
 {
     // A local copy: behind a reference its address would be loaded again at each column.
     let pixels = *numbers;
     let mut all = true;
     for k in 0..pixels.len() {
-        let z = height_with(void, pixels.at(k));
+        let z = of_whole(void, pixels.at(k));
         all &= is_elevation(z);
         out[k] = elevation_lane(z);
     }
@@ -77,17 +78,31 @@ pub fn put_wide_ground<N: PixelNumbers + Copy>(
 ) -> bool
     requires { length out.old ≡ length (N.numbers numbers.now) }
     ensures len { length out.new ≡ length out.old }
-    ensures lanes { IsTrue result → AreGroundLanes 2147483648 void (N.numbers numbers.now) out.new (length (N.numbers numbers.now)) }
+    ensures lanes { IsTrue result → AreGroundLanes 2147483648 (whole_voids void) (N.numbers numbers.now) out.new (length (N.numbers numbers.now)) }
 {
     // A local copy: behind a reference its address would be loaded again at each column.
     let pixels = *numbers;
     let mut all = true;
     for k in 0..pixels.len() {
-        let z = height_with(void, pixels.at(k));
+        let z = of_whole(void, pixels.at(k));
         all &= is_wide_elevation(z);
         out[k] = wide_elevation_lane(z);
     }
     all
+}
+
+/// The same of floats, whose finite ones all fit.
+#[inline(never)]
+pub fn put_single_ground<N: PixelNumbers + Copy>(void: Option<i64>, numbers: &N, out: &mut [u32])
+    requires { length out.old ≡ length (N.numbers numbers.now) }
+    ensures len { length out.new ≡ length out.old }
+    ensures lanes { AreGroundLanes 2147483648 (single_voids void) (N.numbers numbers.now) out.new (length (N.numbers numbers.now)) }
+{
+    // A local copy: behind a reference its address would be loaded again at each column.
+    let pixels = *numbers;
+    for k in 0..pixels.len() {
+        out[k] = wide_elevation_lane(of_single(void, pixels.at(k)));
+    }
 }
 
 /// Whether all numbers fit that aren't at a void.

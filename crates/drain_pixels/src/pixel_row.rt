@@ -5,7 +5,8 @@ ghost use Rattle.drain_grid.specs.Values.{IsPixel};
 ghost use Rattle.drain_pixels.specs.Stored.{numbers_as, numbers_in};
 
 use crate::stored::{
-    AnyPixels, I16Pixels, I32Pixels, PixelNumbers, Pixels, U8Pixels, U16Pixels, U32Pixels,
+    AnyPixels, F32Pixels, I16Pixels, I32Pixels, PixelNumbers, Pixels, U8Pixels, U16Pixels,
+    U32Pixels,
 };
 use drain_grid::OutOfMemory;
 use std::alloc::Global;
@@ -25,6 +26,8 @@ pub enum PixelKind {
     I32,
     /// 32 bits without a sign, least byte first.
     U32,
+    /// Floats of 32 bits, least byte first.
+    F32,
     /// Any other pixels, kept as numbers of 64 bits.
     Any,
 }
@@ -72,6 +75,7 @@ impl PixelRow {
             PixelKind::U16 => Pixels::U16(U16Pixels { bytes: &self.bytes }),
             PixelKind::I32 => Pixels::I32(I32Pixels { bytes: &self.bytes }),
             PixelKind::U32 => Pixels::U32(U32Pixels { bytes: &self.bytes }),
+            PixelKind::F32 => Pixels::F32(F32Pixels { bytes: &self.bytes }),
             PixelKind::Any => Pixels::Any(AnyPixels {
                 numbers: &self.numbers,
             }),
@@ -88,6 +92,7 @@ impl PixelRow {
             Pixels::U16(pixels) => pixels.len(),
             Pixels::I32(pixels) => pixels.len(),
             Pixels::U32(pixels) => pixels.len(),
+            Pixels::F32(pixels) => pixels.len(),
             Pixels::Any(pixels) => pixels.len(),
         }
     }
@@ -104,6 +109,7 @@ impl PixelRow {
             Pixels::U16(pixels) => pixels.at(k),
             Pixels::I32(pixels) => pixels.at(k),
             Pixels::U32(pixels) => pixels.at(k),
+            Pixels::F32(pixels) => pixels.at(k),
             Pixels::Any(pixels) => pixels.at(k),
         }
     }

@@ -6,12 +6,16 @@ ghost use Rattle.drain_pixels.specs.Lanes.{AreCapped, AreGroundLanes, AreLanes, 
 use crate::ground_row::GroundRow;
 use crate::lane::{ElevationLane, Height, Long, Narrow, Short, Wide, WideHeight};
 use crate::narrowing::{
-    all_fit, put_capped, put_ground, put_halves, put_narrow, put_wide, put_wide_ground,
+    all_fit, put_capped, put_ground, put_halves, put_narrow, put_single_ground, put_wide,
+    put_wide_ground,
 };
 use crate::pixel_row::PixelRow;
 use crate::stored::{
-    AnyPixels, I16Pixels, I32Pixels, PixelNumbers, Pixels, U8Pixels, U16Pixels, U32Pixels,
+    AnyPixels, F32Pixels, I16Pixels, I32Pixels, PixelNumbers, Pixels, U8Pixels, U16Pixels,
+    U32Pixels,
 };
+use crate::voids::Voids;
+use drain_grid::HeightKind;
 
 /// Lanes of elevations, and of con's heights, that are taken of a row.
 pub trait HeightLane: ElevationLane {
@@ -36,14 +40,15 @@ impl HeightLane for u16 {
         if out.resize(numbers.len(), 0).is_err() {
             return false;
         }
-        let (void, pixels) = numbers.parts();
+        let (voids, pixels) = numbers.parts();
         match pixels {
-            Pixels::U8(pixels) => hold_ground(void, &pixels, out),
-            Pixels::I16(pixels) => hold_ground(void, &pixels, out),
-            Pixels::U16(pixels) => hold_ground(void, &pixels, out),
-            Pixels::I32(pixels) => hold_ground(void, &pixels, out),
-            Pixels::U32(pixels) => hold_ground(void, &pixels, out),
-            Pixels::Any(pixels) => hold_ground(void, &pixels, out),
+            Pixels::U8(pixels) => hold_ground(voids, &pixels, out),
+            Pixels::I16(pixels) => hold_ground(voids, &pixels, out),
+            Pixels::U16(pixels) => hold_ground(voids, &pixels, out),
+            Pixels::I32(pixels) => hold_ground(voids, &pixels, out),
+            Pixels::U32(pixels) => hold_ground(voids, &pixels, out),
+            Pixels::F32(pixels) => hold_ground(voids, &pixels, out),
+            Pixels::Any(pixels) => hold_ground(voids, &pixels, out),
         }
     }
 
@@ -57,14 +62,15 @@ impl HeightLane for u32 {
         if out.resize(numbers.len(), 0).is_err() {
             return false;
         }
-        let (void, pixels) = numbers.parts();
+        let (voids, pixels) = numbers.parts();
         match pixels {
-            Pixels::U8(pixels) => put_wide_ground(void, &pixels, out),
-            Pixels::I16(pixels) => put_wide_ground(void, &pixels, out),
-            Pixels::U16(pixels) => put_wide_ground(void, &pixels, out),
-            Pixels::I32(pixels) => put_wide_ground(void, &pixels, out),
-            Pixels::U32(pixels) => put_wide_ground(void, &pixels, out),
-            Pixels::Any(pixels) => put_wide_ground(void, &pixels, out),
+            Pixels::U8(pixels) => hold_wide_ground(voids, &pixels, out),
+            Pixels::I16(pixels) => hold_wide_ground(voids, &pixels, out),
+            Pixels::U16(pixels) => hold_wide_ground(voids, &pixels, out),
+            Pixels::I32(pixels) => hold_wide_ground(voids, &pixels, out),
+            Pixels::U32(pixels) => hold_wide_ground(voids, &pixels, out),
+            Pixels::F32(pixels) => hold_wide_ground(voids, &pixels, out),
+            Pixels::Any(pixels) => hold_wide_ground(voids, &pixels, out),
         }
     }
 
@@ -132,6 +138,7 @@ fn take_narrow<W: Narrow, Z: ElevationLane>(z: &[Z], numbers: &PixelRow, out: &m
         Pixels::U16(pixels) => hold_narrow::<W, U16Pixels<'_>, Z>(z, &pixels, out),
         Pixels::I32(pixels) => hold_narrow::<W, I32Pixels<'_>, Z>(z, &pixels, out),
         Pixels::U32(pixels) => hold_narrow::<W, U32Pixels<'_>, Z>(z, &pixels, out),
+        Pixels::F32(pixels) => hold_narrow::<W, F32Pixels<'_>, Z>(z, &pixels, out),
         Pixels::Any(pixels) => hold_narrow::<W, AnyPixels<'_>, Z>(z, &pixels, out),
     }
 }
@@ -150,21 +157,38 @@ fn take_wide<W: Wide, Z: ElevationLane>(z: &[Z], numbers: &PixelRow, out: &mut V
         Pixels::U16(pixels) => hold_wide::<W, U16Pixels<'_>, Z>(z, &pixels, out),
         Pixels::I32(pixels) => hold_wide::<W, I32Pixels<'_>, Z>(z, &pixels, out),
         Pixels::U32(pixels) => hold_wide::<W, U32Pixels<'_>, Z>(z, &pixels, out),
+        Pixels::F32(pixels) => hold_wide::<W, F32Pixels<'_>, Z>(z, &pixels, out),
         Pixels::Any(pixels) => hold_wide::<W, AnyPixels<'_>, Z>(z, &pixels, out),
     }
 }
 
-/// Puts the elevations of numbers, of which this one, if any, means a void, into lanes of 16 bits, and returns whether
-/// all fit.
-fn hold_ground<N: PixelNumbers + Copy>(void: Option<i64>, numbers: &N, out: &mut [u16]) -> bool
+/// Puts the elevations of numbers, of which these mean a void, into lanes of 16 bits, and returns whether all fit. None
+/// are taken of floats: their numbers have 32 bits.
+fn hold_ground<N: PixelNumbers + Copy>(voids: Voids, numbers: &N, out: &mut [u16]) -> bool
     requires room { length out.old ≡ length (N.numbers numbers.now) }
     ensures len { length out.new ≡ length out.old }
-    ensures lanes { IsTrue result → AreGroundLanes 32768 void (N.numbers numbers.now) out.new (length (N.numbers numbers.now)) }
+    ensures lanes { IsTrue result → AreGroundLanes 32768 voids (N.numbers numbers.now) out.new (length (N.numbers numbers.now)) }
 {
     // The lane of -32768 is 0, as that of a void: where it means one, as in a tile, no number is compared with it.
-    match void {
-        Some(-32768) => put_narrow::<Height, N>(numbers, out),
-        _ => put_ground(void, numbers, out),
+    match (voids.kind, voids.number) {
+        (HeightKind::Single, _) => false,
+        (HeightKind::Whole, Some(-32768)) => put_narrow::<Height, N>(numbers, out),
+        (HeightKind::Whole, void) => put_ground(void, numbers, out),
+    }
+}
+
+/// Puts the elevations of numbers, of which these mean a void, into lanes of 32 bits, and returns whether all fit.
+fn hold_wide_ground<N: PixelNumbers + Copy>(voids: Voids, numbers: &N, out: &mut [u32]) -> bool
+    requires room { length out.old ≡ length (N.numbers numbers.now) }
+    ensures len { length out.new ≡ length out.old }
+    ensures lanes { IsTrue result → AreGroundLanes 2147483648 voids (N.numbers numbers.now) out.new (length (N.numbers numbers.now)) }
+{
+    match voids.kind {
+        HeightKind::Single => {
+            put_single_ground(voids.number, numbers, out);
+            true
+        }
+        HeightKind::Whole => put_wide_ground(voids.number, numbers, out),
     }
 }
 

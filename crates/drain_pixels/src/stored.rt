@@ -1,9 +1,10 @@
 //! Pixels as they are stored: the number of each, straight from its bytes.
 
 ghost use Rattle.std.specs.Prelude.{◌≡◌, ◌<◌, ◌≤◌, ◌+◌, ◌*◌, ◌/◌, ℤ, List, drop, length, pos, slice_index_or};
-ghost use Rattle.drain_pixels.specs.Stored.{i16_number, i32_number, u16_number, u32_number, u8_number};
+ghost use Rattle.drain_pixels.specs.Stored.{f32_number, i16_number, i32_number, u16_number, u32_number, u8_number};
 
 use byteorder::{ByteOrder, LittleEndian};
+use drain_floats::number;
 
 /// Numbers of a row that are looked at one by one.
 pub trait PixelNumbers {
@@ -140,6 +141,30 @@ impl PixelNumbers for U32Pixels<'_> {
     }
 }
 
+/// Pixels that are floats of 32 bits, least byte first. Their numbers are ordered as they are.
+#[derive(Clone, Copy)]
+pub struct F32Pixels<'a> {
+    pub bytes: &'a [u8],
+}
+
+impl PixelNumbers for F32Pixels<'_> {
+    ghost use Rattle.drain_pixels.specs.Stored.{f32_numbers};
+
+    ghost numbers = { λ pixels. f32_numbers pixels.bytes.now };
+
+    #[inline(always)]
+    #[tactic(auto, using(crate::proofs::StoredLemmas::f32_len))]
+    fn len(&self) -> usize {
+        fours(self.bytes)
+    }
+
+    #[inline(always)]
+    #[tactic(auto, using(crate::proofs::StoredLemmas::number_at))]
+    fn at(&self, k: usize) -> i64 {
+        f32_at(self.bytes, k)
+    }
+}
+
 /// Numbers of 64 bits, whatever their pixels are.
 #[derive(Clone, Copy)]
 pub struct AnyPixels<'a> {
@@ -169,6 +194,7 @@ pub enum Pixels<'a> {
     U16(U16Pixels<'a>),
     I32(I32Pixels<'a>),
     U32(U32Pixels<'a>),
+    F32(F32Pixels<'a>),
     Any(AnyPixels<'a>),
 }
 
@@ -231,4 +257,13 @@ fn i32_at(bytes: &[u8], k: usize) -> i64
     ensures { result ≡ i32_number (drop (4 * k) bytes.now) }
 {
     i64::from(LittleEndian::read_i32(&bytes[4 * k..]))
+}
+
+/// The number at a column of pixels that are floats of 32 bits.
+#[inline(always)]
+fn f32_at(bytes: &[u8], k: usize) -> i64
+    requires { 4 * k + 4 ≤ length bytes.now }
+    ensures { result ≡ f32_number (drop (4 * k) bytes.now) }
+{
+    number(LittleEndian::read_u32(&bytes[4 * k..]))
 }

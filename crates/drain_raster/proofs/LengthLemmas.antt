@@ -5,6 +5,8 @@ use Rattle.drain_header.specs.declared.header.ByteOrdering.{ByteOrdering}
 use Rattle.drain_header.specs.declared.header.ByteOrdering.TheVariants.{Least, Most}
 use Rattle.drain_header.specs.Header.{Fields, AreWithinBounds}
 use Rattle.drain_raster.specs.Pixels.{needed_len, header_extent, raster_of, pixel_len}
+use Rattle.drain_grid.specs.declared.height_kind.HeightKind.{HeightKind}
+use Rattle.drain_grid.specs.declared.height_kind.HeightKind.TheVariants.{Whole}
 use Rattle.drain_raster.specs.Bytes.{raster_bytes, bytes_in, pixel_bytes, cells_bytes, padding_len, bytes_of_row, AreWritten}
 use Rattle.std.specs.List.{flat_map, range_with_len}
 use Rattle.std.proofs.lemmas.List.{length-replicate}
@@ -30,6 +32,7 @@ header order = record {
   row_bytes = 5;
   place = record { ulx = pos 0; uly = pos 0; xdim = pos 0; ydim = pos 0 };
   nodata = None;
+  kind = Whole;
 }
 
 abbrev body : List ℕ
@@ -114,9 +117,9 @@ raster-some h p ok =
     omega (arith, length-raster h p ok, mul-le-mul {n₁ = 1} {m₁ = 1} {n₂ = h.rows} {m₂ = h.row_bytes} ok.some_row (row-some h ok))
 
 -- the pixels of a row and the zeros after them
-pub row-bytes : (h inside : Fields) (len l bits : ℕ) (signed : Bool) (bytes : ℤ → List ℕ) (p : Pixels) (r : ℕ) → AreWritten h len bits signed bytes → inside ≡ h → l ≡ len →
+pub row-bytes : (h inside : Fields) (kind : HeightKind) (len l bits : ℕ) (signed : Bool) (bytes : ℤ → List ℕ) (p : Pixels) (r : ℕ) → AreWritten h kind len bits signed bytes → inside ≡ h → l ≡ len →
     cells_bytes bytes p (row_cells inside.cols r) ++ replicate (inside.row_bytes - inside.cols * l) 0 ≡ bytes_of_row h p r
-row-bytes h inside len l bits signed bytes p r written view same =
+row-bytes h inside kind len l bits signed bytes p r written view same =
     rw (view, same, written.len_is) (ap (λ xs. xs ++ replicate (padding_len h) 0) (cells_bytes-same bytes (pixel_bytes h) p (row_cells h.cols r) written.bytes_are))
 
 -- the padding of a row is no less than none

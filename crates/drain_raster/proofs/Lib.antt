@@ -10,3 +10,4 @@ pub mod RowNumberLemmas
 pub mod RasterEnds
 pub mod KindLemmas
 pub mod KeptLemmas
+pub mod PlacingLemmas

@@ -8,14 +8,17 @@ use Rattle.std.proofs.Math.Nat.{mul-le-mul_left, mul-le-mul_right, div-mul-le_se
 use Rattle.std.proofs.Props.{props}
 use Rattle.byteorder.specs.Endian.{little_number, twos_complement}
 use Rattle.byteorder.specs.Numbers.{big_from-take, little_from-take}
+use Rattle.drain_floats.specs.Patterns.{number_of, pattern_of}
 use mathlib.Core.Logic.{∥∥₁_elim}
 use mir.Syntax.{w64}
 use mir.Val.{to_z, of_z}
+use Rattle.drain_grid.specs.declared.height_kind.HeightKind.{HeightKind}
+use Rattle.drain_grid.specs.declared.height_kind.HeightKind.TheVariants.{Whole, Single}
 use Rattle.drain_grid.specs.Values.{IsPixel, IsNoData}
 use Rattle.drain_header.specs.declared.header.ByteOrdering.{ByteOrdering}
 use Rattle.drain_header.specs.declared.header.ByteOrdering.TheVariants.{Least, Most}
 use Rattle.drain_header.specs.Header.{Fields, IsPixelSize}
-use Rattle.drain_raster.specs.Pixels.{pixel_len, needed_len, number_in, spelled_by, pixel_of, pixel_at, AreSpelled}
+use Rattle.drain_raster.specs.Pixels.{pixel_len, needed_len, number_in, spelled_as, spelled_by, pixel_of, pixel_at, AreSpelled}
 use Rattle.drain_raster.specs.Bytes.{least_number, greatest_number, complement_of, bytes_in, AreWritten}
 use Rattle.drain_raster.proofs.CellPlaces.{cell_of}
 
@@ -57,12 +60,24 @@ pixel-stored n ok = to_z-of_z w64 n (grind (arith, ints, ok.low, ok.high))
 pub nodata-stored : (n : ℤ) → IsNoData n → IsNoData (to_z w64 (of_z w64 n))
 nodata-stored n ok = rw (to_z-of_z w64 n (grind (arith, ints, ok.low, ok.high))) ok
 
+-- what is read of a header is of its kind
+pub kind-so : (h inside : Fields) (kind : HeightKind) → inside ≡ h → h.kind ≡ kind → inside.kind ≡ kind
+kind-so h inside kind view is = ap (λ (f : Fields). f.kind) view ∙ is
+
 -- a header's pixels are those of its bits, sign and order
-pub spelled-so : (h inside : Fields) (bits : ℕ) (signed : Bool) (order : ByteOrdering) → inside ≡ h → inside.bits ≡ bits → inside.signed ≡ signed →
+pub spelled-so : (h inside : Fields) (bits : ℕ) (signed : Bool) (order : ByteOrdering) → inside ≡ h → inside.kind ≡ Whole → inside.bits ≡ bits → inside.signed ≡ signed →
     inside.order ≡ order → AreSpelled h (bits / 8) (spelled_by signed order (bits / 8))
-spelled-so h inside bits signed order view is_bits is_signed is_order = rw (← view) (record {
+spelled-so h inside bits signed order view is_kind is_bits is_signed is_order = rw (← view) (record {
   len_is = ap (λ b. b / 8) (sym is_bits);
-  number_is = λ bytes. rw (is_bits, is_signed, is_order) refl;
+  number_is = λ bytes. rw (is_kind, is_bits, is_signed, is_order) refl;
+})
+
+-- those of floats are their patterns
+pub float-so : (h inside : Fields) (order : ByteOrdering) → inside ≡ h → inside.kind ≡ Single → inside.bits ≡ 32 → inside.order ≡ order →
+    AreSpelled h 4 (λ bytes. number_of (number_in order 4 bytes))
+float-so h inside order view is_kind is_bits is_order = rw (← view) (record {
+  len_is = ap (λ b. b / 8) (sym is_bits);
+  number_is = λ bytes. rw (is_kind, is_bits, is_order) refl;
 })
 
 -- one byte is the same number in either order
@@ -75,10 +90,10 @@ byte_by true order bytes = ap (twos_complement 1) (sym (one_byte order bytes))
 byte_by false order bytes = ap pos (sym (one_byte order bytes))
 
 -- pixels of 8 bits have no order
-pub spelled-byte : (h inside : Fields) (signed : Bool) → inside ≡ h → inside.bits ≡ 8 → inside.signed ≡ signed → AreSpelled h 1 (spelled_by signed Least 1)
-spelled-byte h inside signed view is_bits is_signed = rw (← view) (record {
+pub spelled-byte : (h inside : Fields) (signed : Bool) → inside ≡ h → inside.kind ≡ Whole → inside.bits ≡ 8 → inside.signed ≡ signed → AreSpelled h 1 (spelled_by signed Least 1)
+spelled-byte h inside signed view is_kind is_bits is_signed = rw (← view) (record {
   len_is = ap (λ b. b / 8) (sym is_bits);
-  number_is = λ bytes. rw (is_bits, is_signed) (byte_by signed inside.order bytes);
+  number_is = λ bytes. rw (is_kind, is_bits, is_signed) (byte_by signed inside.order bytes);
 })
 
 -- the bounds of a header's pixels are those of its bits and sign
@@ -124,13 +139,25 @@ packed-fits h holds =
     omega (arith, (le-div_iff_mul-le {k = 8} {x = h.cols * (h.bits / 8)} {y = h.cols * h.bits} (omega arith)).1 (omega (arith, whole)))
 
 -- the numbers are those of pixels of these bits, sign and order
-pub written-so : (h inside : Fields) (bits : ℕ) (signed : Bool) (order : ByteOrdering) → inside ≡ h → inside.bits ≡ bits → inside.signed ≡ signed →
-    inside.order ≡ order → AreWritten h (bits / 8) bits signed (λ z. bytes_in order (bits / 8) (complement_of bits z))
-written-so h inside bits signed order view is_bits is_signed is_order = rw (← view) (record {
+pub written-so : (h inside : Fields) (bits : ℕ) (signed : Bool) (order : ByteOrdering) → inside ≡ h → inside.kind ≡ Whole → inside.bits ≡ bits → inside.signed ≡ signed →
+    inside.order ≡ order → AreWritten h Whole (bits / 8) bits signed (λ z. bytes_in order (bits / 8) (complement_of bits z))
+written-so h inside bits signed order view is_kind is_bits is_signed is_order = rw (← view) (record {
+  kind_is = sym is_kind;
   len_is = ap (λ b. b / 8) (sym is_bits);
   bits_are = sym is_bits;
   sign_is = sym is_signed;
-  bytes_are = λ z. rw (is_bits, is_order) refl;
+  bytes_are = λ z. rw (is_kind, is_bits, is_order) refl;
+})
+
+-- and of floats
+pub written-float : (h inside : Fields) (order : ByteOrdering) → inside ≡ h → inside.kind ≡ Single → inside.bits ≡ 32 → inside.signed ≡ true →
+    inside.order ≡ order → AreWritten h Single 4 32 true (λ z. bytes_in order 4 (pattern_of z))
+written-float h inside order view is_kind is_bits is_signed is_order = rw (← view) (record {
+  kind_is = sym is_kind;
+  len_is = ap (λ b. b / 8) (sym is_bits);
+  bits_are = sym is_bits;
+  sign_is = sym is_signed;
+  bytes_are = λ z. rw (is_kind, is_bits, is_order) refl;
 })
 
 -- one byte is the same in either order
@@ -139,13 +166,14 @@ one_byte_of Least n = refl
 one_byte_of Most n = search rules
 
 -- and so are numbers of pixels of 8 bits
-pub written-byte : (h inside : Fields) (signed : Bool) → inside ≡ h → inside.bits ≡ 8 → inside.signed ≡ signed →
-    AreWritten h 1 8 signed (λ z. bytes_in Least 1 (complement_of 8 z))
-written-byte h inside signed view is_bits is_signed = rw (← view) (record {
+pub written-byte : (h inside : Fields) (signed : Bool) → inside ≡ h → inside.kind ≡ Whole → inside.bits ≡ 8 → inside.signed ≡ signed →
+    AreWritten h Whole 1 8 signed (λ z. bytes_in Least 1 (complement_of 8 z))
+written-byte h inside signed view is_kind is_bits is_signed = rw (← view) (record {
+  kind_is = sym is_kind;
   len_is = ap (λ b. b / 8) (sym is_bits);
   bits_are = sym is_bits;
   sign_is = sym is_signed;
-  bytes_are = λ z. rw is_bits (one_byte_of inside.order (complement_of 8 z));
+  bytes_are = λ z. rw (is_kind, is_bits) (one_byte_of inside.order (complement_of 8 z));
 })
 
 -- a number is that of its own bytes
@@ -153,6 +181,10 @@ number_in-take : (order : ByteOrdering) (n m : ℕ) (bytes : List ℕ) → n ≤
 number_in-take Least n m bytes fits = little_from-take 0 n m bytes (omega (arith, fits))
 number_in-take Most n m bytes fits = big_from-take 0 n m bytes (omega (arith, fits))
 
-pub spelled_by-take : (signed : Bool) (order : ByteOrdering) (n m : ℕ) (bytes : List ℕ) → n ≤ m → spelled_by signed order n (take m bytes) ≡ spelled_by signed order n bytes
+spelled_by-take : (signed : Bool) (order : ByteOrdering) (n m : ℕ) (bytes : List ℕ) → n ≤ m → spelled_by signed order n (take m bytes) ≡ spelled_by signed order n bytes
 spelled_by-take true order n m bytes fits = ap (twos_complement n) (number_in-take order n m bytes fits)
 spelled_by-take false order n m bytes fits = ap pos (number_in-take order n m bytes fits)
+
+pub spelled_as-take : (kind : HeightKind) (signed : Bool) (order : ByteOrdering) (n m : ℕ) (bytes : List ℕ) → n ≤ m → spelled_as kind signed order n (take m bytes) ≡ spelled_as kind signed order n bytes
+spelled_as-take Whole signed order n m bytes fits = spelled_by-take signed order n m bytes fits
+spelled_as-take Single signed order n m bytes fits = ap number_of (number_in-take order n m bytes fits)

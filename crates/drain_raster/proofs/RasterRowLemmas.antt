@@ -9,7 +9,7 @@ use Rattle.drain_header.specs.Header.{Fields}
 use Rattle.drain_raster.specs.Pixels.{IsShort, needed_len, pixel_len, pixel_of}
 use Rattle.drain_raster.specs.RasterRows.{bytes_of_rows, raster_numbers_of, packed_len, raster_rows, pixels_of, pixels_behind}
 use Rattle.drain_raster.specs.Laws.{RasterRowsArePixels}
-use Rattle.drain_raster.proofs.PixelLemmas.{packed-fits, spelled_by-take}
+use Rattle.drain_raster.proofs.PixelLemmas.{packed-fits, spelled_as-take}
 use Rattle.drain_raster.proofs.RasterEnds.{raster_rows_take_what_is_needed}
 use Rattle.std.specs.Io.KnownBytes.{Consumes}
 use Rattle.drain_device.specs.declared.row_source.RowStep.TheVariants.{Row}
@@ -37,11 +37,11 @@ here h gap col body inside =
     let within : (col + 1) * len ≤ h.cols * len = mul-le-mul_right len (omega (arith, inside)) in
     let rest = packed_len h - col * len in
     let split : packed_len h ≡ col * len + rest = omega (arith, next, within) in
-    spelled_by-take h.signed h.order len len (drop (col * len) (drop gap (take (gap + packed_len h) body))) (omega arith)
+    spelled_as-take h.kind h.signed h.order len len (drop (col * len) (drop gap (take (gap + packed_len h) body))) (omega arith)
     ∙ ap (λ (ys : List ℕ). pixel_of h (drop (col * len) ys)) (drop-take gap (packed_len h) body)
     ∙ ap (λ n. pixel_of h (drop (col * len) (take n (drop gap body)))) split
     ∙ ap (pixel_of h) (drop-take (col * len) rest (drop gap body))
-    ∙ spelled_by-take h.signed h.order len rest (drop (col * len) (drop gap body)) (omega (arith, next, within))
+    ∙ spelled_as-take h.kind h.signed h.order len rest (drop (col * len) (drop gap body)) (omega (arith, next, within))
     ∙ ap (pixel_of h) (drop-drop (col * len) gap body)
 
 at : (h : Fields) (left gap k col : ℕ) (body : List ℕ) → packed_len h ≤ h.row_bytes → k < left → col < h.cols → bytes_of_rows h left gap ≤ length body →

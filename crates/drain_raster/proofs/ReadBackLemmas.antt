@@ -93,7 +93,7 @@ cell-back : (h : Fields) (p : Pixels) (r k : ℕ) → AreWithinBounds h → p.ex
 cell-back h p r k ok shape spelled above inside =
     let from = raster-from h p r k ok above inside in
     let is_cell : IsCellOf p.extent (cell_of r k) = rw shape (record { row = above; col = inside }) in
-    ap (pixel_of h) from.1 ∙ pixel_of-pixel_bytes h (number_at p (cell_of r k)) from.0 ok.bits_ok (spelled (cell_of r k) is_cell)
+    ap (pixel_of h) from.1 ∙ pixel_of-pixel_bytes h (number_at p (cell_of r k)) from.0 ok.bits_ok ok.float_bits (spelled (cell_of r k) is_cell)
     ∙ ap (λ (e : Extent). get_or p.numbers (r * e.cols + k) (pos 0)) shape
 
 -- no needed byte is missing

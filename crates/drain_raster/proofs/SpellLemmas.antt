@@ -1,16 +1,20 @@
 -- A pixel's bytes encode the number that they were made of.
-use Rattle.std.proofs.Common.{◌≡◌, ℕ, ◌-◌, ◌*◌, ◌/◌, ◌^◌, ◌<◌, ◌≤◌, inl, inr, ℤ, pos, negsuc, ◌-ℤ◌, Bool, true, false, List, ◌++◌, refl, arith, ap, ◌∙◌}
+use Rattle.std.proofs.Common.{◌≡◌, ℕ, ◌-◌, ◌*◌, ◌/◌, ◌^◌, ◌<◌, ◌≤◌, inl, inr, ℤ, pos, negsuc, ◌-ℤ◌, Bool, true, false, List, ◌++◌, refl, arith, lit<, ap, ◌∙◌}
 use Rattle.std.proofs.lemmas.Bool.{lt-ltb, le-ltb}
 use Rattle.std.proofs.lemmas.Int.{ints}
 use Rattle.std.proofs.Props.{props}
 use mathlib.Core.Logic.{∥∥₁_elim}
 use Rattle.byteorder.specs.Endian.{twos_complement}
 use Rattle.byteorder.specs.Numbers.{big_number-reads_back, little_number-reads_back}
+use Rattle.drain_floats.specs.Patterns.{IsFloatNumber, IsSingle, number_of, pattern_of}
+use Rattle.drain_floats.proofs.ReadBack.{read_back}
+use Rattle.drain_grid.specs.declared.height_kind.HeightKind.{HeightKind}
+use Rattle.drain_grid.specs.declared.height_kind.HeightKind.TheVariants.{Whole, Single}
 use Rattle.drain_header.specs.declared.header.ByteOrdering.{ByteOrdering}
 use Rattle.drain_header.specs.declared.header.ByteOrdering.TheVariants.{Least, Most}
 use Rattle.drain_header.specs.Header.{Fields, IsPixelSize}
-use Rattle.drain_raster.specs.Pixels.{number_in, spelled_by, pixel_of}
-use Rattle.drain_raster.specs.Bytes.{CanSpell, CanSpellIn, complement_of, bytes_in, pixel_bytes}
+use Rattle.drain_raster.specs.Pixels.{number_in, spelled_as, spelled_by, pixel_of}
+use Rattle.drain_raster.specs.Bytes.{CanSpell, CanSpellAs, CanSpellIn, complement_of, word_as, bytes_in, pixel_bytes}
 
 -- the number that a whole number encodes
 abbrev spelled_by_number : Bool → ℕ → ℕ → ℤ
@@ -76,8 +80,25 @@ back-by false bits z (inl is) ok = rw is (same-8 z (rw is at ok))
 back-by false bits z (inr (inl is)) ok = rw is (same-16 z (rw is at ok))
 back-by false bits z (inr (inr is)) ok = rw is (same-32 z (rw is at ok))
 
+-- a float's pattern is its number's, also NaN's
+float-back : (z : ℤ) → IsFloatNumber z → (pattern_of z < 256 ^ 4) × (number_of (pattern_of z) ≡ z)
+float-back z (inl single) = (few z single, read_back z single)
+  where
+    few : (z : ℤ) → IsSingle z → pattern_of z < 256 ^ 4
+    few (pos n) ok = let high = ok.high in omega (arith, ints, high)
+    few (negsuc n) ok = let low = ok.low in omega (arith, ints, low)
+float-back z (inr is) = rw is (lit< tt, refl)
+
+-- bytes of a number that a pixel of a kind can encode, and more bytes after them
+back-as : (kind : HeightKind) (signed : Bool) (order : ByteOrdering) (bits : ℕ) (z : ℤ) (rest : List ℕ) → IsPixelSize bits → (kind ≡ Single → bits ≡ 32) → CanSpellAs kind signed bits z →
+    spelled_as kind signed order (bits / 8) (bytes_in order (bits / 8) (word_as kind bits z) ++ rest) ≡ z
+back-as Whole signed order bits z rest is wide ok =
+    let back = back-by signed bits z is ok in
+    spelled-back signed order (bits / 8) bits z rest back.0 ∙ back.1
+back-as Single signed order bits z rest is wide ok =
+    let back = float-back z ok in
+    rw (wide refl) (ap number_of (number_in-bytes_in order 4 (pattern_of z) rest back.0) ∙ back.1)
+
 -- a pixel's bytes encode its number, whatever follows them
-pub pixel_of-pixel_bytes : (h : Fields) (z : ℤ) (rest : List ℕ) → ∥ IsPixelSize h.bits ∥₁ → CanSpell h z → pixel_of h (pixel_bytes h z ++ rest) ≡ z
-pixel_of-pixel_bytes h z rest size ok = ∥∥₁_elim size (hlevel props) (λ is.
-    let back = back-by h.signed h.bits z is ok in
-    spelled-back h.signed h.order (h.bits / 8) h.bits z rest back.0 ∙ back.1)
+pub pixel_of-pixel_bytes : (h : Fields) (z : ℤ) (rest : List ℕ) → ∥ IsPixelSize h.bits ∥₁ → (h.kind ≡ Single → h.bits ≡ 32) → CanSpell h z → pixel_of h (pixel_bytes h z ++ rest) ≡ z
+pixel_of-pixel_bytes h z rest size wide ok = ∥∥₁_elim size (hlevel props) (λ is. back-as h.kind h.signed h.order h.bits z rest is wide ok)

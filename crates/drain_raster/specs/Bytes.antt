@@ -1,10 +1,13 @@
 -- The bytes of a raster, and the range of its pixels.
 -- Source: the Esri description of BIL files and their headers (NBITS, PIXELTYPE, BYTEORDER, SKIPBYTES, TOTALROWBYTES),
--- of one band; that bytes without a pixel are zeros is this project's own
+-- of one band; IEEE 754 binary32; that bytes without a pixel are zeros is this project's own
 use Rattle.std.specs.Prelude.{◌≡◌, ℕ, ◌-◌, ◌*◌, ◌^◌, ◌<◌, ℤ, pos, negsuc, neg_ℤ, ◌≤ℤ◌, Bool, true, false, List, ◌++◌, map, replicate}
 use Rattle.std.specs.List.{flat_map, range_with_len}
 use Rattle.byteorder.specs.Endian.{big_bytes, little_bytes}
+use Rattle.drain_floats.specs.Patterns.{IsFloatNumber, pattern_of}
 use Rattle.drain_grid.specs.declared.cell.Cell.{Cell}
+use Rattle.drain_grid.specs.declared.height_kind.HeightKind.{HeightKind}
+use Rattle.drain_grid.specs.declared.height_kind.HeightKind.TheVariants.{Whole, Single}
 use Rattle.drain_grid.specs.Extent.{IsCellOf, IsEarlier, row_cells}
 use Rattle.drain_grid.specs.Grid.{Pixels}
 use Rattle.drain_grid.specs.WholeGrid.{number_at}
@@ -28,14 +31,24 @@ pub record CanSpellIn (signed : Bool) (bits : ℕ) (z : ℤ) : Type 0 where
   pub low : least_number signed bits ≤ℤ z
   pub high : z ≤ℤ greatest_number signed bits
 
+-- n bits of pixels of a kind can: those of floats only the numbers of floats
+abbrev pub CanSpellAs : HeightKind → Bool → ℕ → ℤ → Type 0
+CanSpellAs Whole signed bits z = CanSpellIn signed bits z
+CanSpellAs Single signed bits z = IsFloatNumber z
+
 -- a pixel can
 abbrev pub CanSpell : Fields → ℤ → Type 0
-CanSpell h z = CanSpellIn h.signed h.bits z
+CanSpell h z = CanSpellAs h.kind h.signed h.bits z
 
 -- the whole number with the bits of z in two's complement
 abbrev pub complement_of : ℕ → ℤ → ℕ
 complement_of bits (pos n) = n
 complement_of bits (negsuc n) = 2 ^ bits - 1 - n
+
+-- the whole number with the bits of a pixel of a kind: of a float its pattern
+abbrev pub word_as : HeightKind → ℕ → ℤ → ℕ
+word_as Whole bits z = complement_of bits z
+word_as Single bits z = pattern_of z
 
 -- the lowest n bytes of a whole number in this order
 abbrev pub bytes_in : ByteOrdering → ℕ → ℕ → List ℕ
@@ -44,7 +57,7 @@ bytes_in Most n number = big_bytes n number
 
 -- the bytes of a pixel
 abbrev pub pixel_bytes : Fields → ℤ → List ℕ
-pixel_bytes h z = bytes_in h.order (pixel_len h) (complement_of h.bits z)
+pixel_bytes h z = bytes_in h.order (pixel_len h) (word_as h.kind h.bits z)
 
 -- the bytes of the numbers at these cells, where a number has such bytes
 abbrev pub cells_bytes : (ℤ → List ℕ) → Pixels → List Cell → List ℕ
@@ -66,13 +79,13 @@ bytes_of_row h p r = cells_bytes (pixel_bytes h) p (row_cells h.cols r) ++ repli
 abbrev pub raster_bytes : Fields → Pixels → List ℕ
 raster_bytes h p = replicate h.skip 0 ++ flat_map (bytes_of_row h p) (range_with_len 0 h.rows)
 
--- n bits can encode each number
-abbrev pub CanSpellAllIn : Bool → ℕ → Pixels → Type 0
-CanSpellAllIn signed bits p = (c : Cell) → IsCellOf p.extent c → CanSpellIn signed bits (number_at p c)
+-- n bits of pixels of a kind can encode each number
+abbrev pub CanSpellAllAs : HeightKind → Bool → ℕ → Pixels → Type 0
+CanSpellAllAs kind signed bits p = (c : Cell) → IsCellOf p.extent c → CanSpellAs kind signed bits (number_at p c)
 
 -- a pixel can
 abbrev pub CanSpellAll : Fields → Pixels → Type 0
-CanSpellAll h p = CanSpellAllIn h.signed h.bits p
+CanSpellAll h p = CanSpellAllAs h.kind h.signed h.bits p
 
 -- a pixel can encode each number of a row up to a column
 abbrev pub CanSpellTo : Fields → Pixels → ℕ → ℕ → Type 0
@@ -90,8 +103,9 @@ pub record IsFirstOutOfRange (h : Fields) (p : Pixels) (c : Cell) : Type 0 where
   pub unspelled : ¬ CanSpell h (number_at p c)
   pub first : (b : Cell) → IsCellOf p.extent b → IsEarlier b c → CanSpell h (number_at p b)
 
--- pixels of n bytes and some bits, signed or not, whose numbers have these bytes, are those of the header
-pub record AreWritten (h : Fields) (len bits : ℕ) (signed : Bool) (bytes : ℤ → List ℕ) : Type 0 where
+-- pixels of a kind, of n bytes and some bits, signed or not, whose numbers have these bytes, are those of the header
+pub record AreWritten (h : Fields) (kind : HeightKind) (len bits : ℕ) (signed : Bool) (bytes : ℤ → List ℕ) : Type 0 where
+  pub kind_is : kind ≡ h.kind
   pub len_is : len ≡ pixel_len h
   pub bits_are : bits ≡ h.bits
   pub sign_is : signed ≡ h.signed

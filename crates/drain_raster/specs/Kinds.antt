@@ -2,7 +2,7 @@
 use Rattle.std.specs.Prelude.{◌≡◌, ℕ, List, [], length}
 use Rattle.drain_header.specs.Header.{Fields}
 use Rattle.drain_pixels.specs.declared.pixel_row.PixelKind.{PixelKind}
-use Rattle.drain_pixels.specs.declared.pixel_row.PixelKind.TheVariants.{U8, I16, U16, I32, U32, Any}
+use Rattle.drain_pixels.specs.declared.pixel_row.PixelKind.TheVariants.{U8, I16, U16, I32, U32, F32, Any}
 use Rattle.drain_pixels.specs.Stored.{numbers_as}
 use Rattle.drain_raster.specs.RasterRows.{packed_len, pixels_of}
 
@@ -17,4 +17,5 @@ IsKindOf h I16 = HoldRows h I16
 IsKindOf h U16 = HoldRows h U16
 IsKindOf h I32 = HoldRows h I32
 IsKindOf h U32 = HoldRows h U32
+IsKindOf h F32 = HoldRows h F32
 IsKindOf h Any = Unit {0}

@@ -1,11 +1,16 @@
 -- The pixels of a raster's bytes: where they are, and their numbers.
 -- Source: the Esri description of BIL files and their headers (NROWS, NCOLS, NBITS, PIXELTYPE, BYTEORDER, SKIPBYTES,
--- TOTALROWBYTES), of one band
+-- TOTALROWBYTES), of one band; IEEE 754 binary32
 use Rattle.std.specs.Prelude.{◌≡◌, ℕ, ◌+◌, ◌-◌, ◌*◌, ◌/◌, ◌<◌, ℤ, pos, Bool, true, false, List, length, drop, map, unwrap_or}
 use Rattle.byteorder.specs.Endian.{big_number, little_number, twos_complement}
+use Rattle.drain_floats.specs.Patterns.{number_of}
 use Rattle.drain_grid.specs.declared.cell.Cell.{Cell}
+use Rattle.drain_grid.specs.declared.height_kind.HeightKind.{HeightKind}
+use Rattle.drain_grid.specs.declared.height_kind.HeightKind.TheVariants.{Whole, Single}
+use Rattle.drain_grid.specs.declared.product.Product.{Product}
 use Rattle.drain_grid.specs.Extent.{Extent, cells}
 use Rattle.drain_grid.specs.Grid.{Pixels}
+use Rattle.drain_grid.specs.Product.{default_no_data}
 use Rattle.drain_header.specs.declared.header.ByteOrdering.{ByteOrdering}
 use Rattle.drain_header.specs.declared.header.ByteOrdering.TheVariants.{Least, Most}
 use Rattle.drain_header.specs.Header.{Fields}
@@ -36,9 +41,14 @@ abbrev pub spelled_by : Bool → ByteOrdering → ℕ → List ℕ → ℤ
 spelled_by true order n bytes = twos_complement n (number_in order n bytes)
 spelled_by false order n bytes = pos (number_in order n bytes)
 
+-- the number of the first n bytes of pixels of a kind: of floats that of their pattern
+abbrev pub spelled_as : HeightKind → Bool → ByteOrdering → ℕ → List ℕ → ℤ
+spelled_as Whole signed order n bytes = spelled_by signed order n bytes
+spelled_as Single signed order n bytes = number_of (number_in order n bytes)
+
 -- the number of the pixel at the front of the bytes
 abbrev pub pixel_of : Fields → List ℕ → ℤ
-pixel_of h bytes = spelled_by h.signed h.order (pixel_len h) bytes
+pixel_of h bytes = spelled_as h.kind h.signed h.order (pixel_len h) bytes
 
 -- the number of the pixel at a cell
 abbrev pub pixel_at : Fields → List ℕ → Cell → ℤ
@@ -52,6 +62,11 @@ pub record AreSpelled (h : Fields) (len : ℕ) (number : List ℕ → ℤ) : Typ
 -- the rows and columns of a header
 abbrev pub header_extent : Fields → Extent
 header_extent h = record { rows = h.rows; cols = h.cols }
+
+-- the no-data number of a product whose header has none: the product's default, and of floats the number of NaN
+abbrev pub default_number : HeightKind → Product → ℤ
+default_number Whole p = default_no_data p
+default_number Single p = pos 2143289344
 
 -- the raster of a body: its pixels in row order, with the header's no-data number or else this one
 abbrev pub raster_of : Fields → ℤ → List ℕ → Pixels

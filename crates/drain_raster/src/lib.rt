@@ -20,5 +20,5 @@ mod write;
 pub use fault::{RasterFault, WriteFault};
 pub use placing::{has_pixel_size, lies_on};
 pub use raster_rows::RasterRows;
-pub use read::{needed_len, nodata, read_raster, shape};
+pub use read::{needed_len, nodata, read_raster, shape, voids};
 pub use write::write_raster;

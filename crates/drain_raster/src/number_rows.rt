@@ -12,6 +12,7 @@ use crate::pixel::Pixel;
 use crate::row_memory::skip;
 use byteorder::{BigEndian, ByteOrder, LittleEndian};
 use drain_device::{ByteSource, Patience, ReadFault, read_part};
+use drain_grid::HeightKind;
 use drain_header::ByteOrdering::{Least, Most};
 use drain_header::Header;
 use std::alloc::Global;
@@ -75,6 +76,32 @@ fn read_pixels<R: ByteSource>(
     chunk: &mut [u8],
     out: &mut [i64],
 ) -> Result<(), ReadFault>
+    requires room { CHUNK_BYTES ≤ length chunk.old }
+    requires cols { length out.old ≡ header.now.cols }
+    ensures bytes { (bytes : List ℕ) × PartComes (packed_len header.now) (R.bytes_left from.old) (R.bytes_left from.new) result bytes × OnOk result (out.new ≡ pixels_of header.now bytes) }
+    ensures faults { PartFails (R.counts from.old) (R.counts from.new) patience.old patience.new (IsErrOf result ReadFault.ReadFailed) }
+    ensures pixels { OnOk result (All IsPixel out.new) }
+{
+    match (header.kind, header.order) {
+        (HeightKind::Whole, _) => read_whole(from, header, patience, chunk, out),
+        (HeightKind::Single, Least) => read_numbers::<f32, LittleEndian, R>(
+            from, header, patience, chunk, out,
+        ),
+        (HeightKind::Single, Most) => read_numbers::<f32, BigEndian, R>(
+            from, header, patience, chunk, out,
+        ),
+    }
+}
+
+/// The same of whole heights.
+fn read_whole<R: ByteSource>(
+    from: &mut R,
+    header: &Header,
+    patience: &mut Patience,
+    chunk: &mut [u8],
+    out: &mut [i64],
+) -> Result<(), ReadFault>
+    requires kind { header.now.kind ≡ HeightKind.Whole }
     requires room { CHUNK_BYTES ≤ length chunk.old }
     requires cols { length out.old ≡ header.now.cols }
     ensures bytes { (bytes : List ℕ) × PartComes (packed_len header.now) (R.bytes_left from.old) (R.bytes_left from.new) result bytes × OnOk result (out.new ≡ pixels_of header.now bytes) }

@@ -11,7 +11,8 @@ ghost use Rattle.drain_raster.specs.RasterRows.{packed_len, pixels_behind};
 use crate::number_rows::read_row;
 use crate::row_memory::skip;
 use drain_device::{ByteSource, Patience, ReadFault, read_part};
-use drain_header::ByteOrdering::Least;
+use drain_grid::HeightKind;
+use drain_header::ByteOrdering::{Least, Most};
 use drain_header::Header;
 use drain_pixels::{PixelKind, PixelRow};
 
@@ -82,6 +83,18 @@ fn packed_len(header: &Header) -> usize
 
 /// The kind of a header's pixels.
 fn kind_of(header: &Header) -> PixelKind
+    ensures { IsKindOf header.now result }
+{
+    match (header.kind, header.order) {
+        (HeightKind::Whole, _) => whole_kind_of(header),
+        (HeightKind::Single, Least) => PixelKind::F32,
+        (HeightKind::Single, Most) => PixelKind::Any,
+    }
+}
+
+/// That of whole heights.
+fn whole_kind_of(header: &Header) -> PixelKind
+    requires { header.now.kind ≡ HeightKind.Whole }
     ensures { IsKindOf header.now result }
 {
     match (header.bits, header.signed, header.order) {

@@ -1,13 +1,14 @@
 //! The range of a header's pixels.
 
 ghost use Rattle.std.specs.Prelude.{◌≡◌, ◌<◌, ◌≤ℤ◌, ◌↔◌, IsTrue, MatchOption, All, map, pos, true, false};
+ghost use Rattle.drain_floats.specs.Patterns.{IsFloatNumber};
 ghost use Rattle.drain_raster.specs.Pixels.{header_extent};
-ghost use Rattle.drain_raster.specs.Bytes.{least_number, greatest_number, CanSpellAll, CanSpellIn, CanSpellTo, IsFirstAlong, IsFirstOutOfRange};
+ghost use Rattle.drain_raster.specs.Bytes.{least_number, greatest_number, CanSpell, CanSpellAll, CanSpellIn, CanSpellTo, IsFirstAlong, IsFirstOutOfRange};
 
-use drain_grid::{Cell, KeptNumbers, Raster};
+use drain_grid::{Cell, HeightKind, KeptNumbers, Raster};
 use drain_header::Header;
 
-/// The least and the greatest number that pixels can encode.
+/// The least and the greatest whole height that pixels can encode.
 #[derive(Clone, Copy)]
 struct Spelled {
     least: i64,
@@ -56,6 +57,25 @@ impl Spelled {
     }
 }
 
+/// Whether a pixel can encode the number.
+fn can_spell(header: &Header, spelled: Spelled, number: i64) -> bool
+    requires least { spelled.least ≡ least_number header.now.signed header.now.bits }
+    requires greatest { spelled.greatest ≡ greatest_number header.now.signed header.now.bits }
+    ensures { IsTrue result ↔ CanSpell header.now number }
+{
+    match header.kind {
+        HeightKind::Whole => spelled.holds(number),
+        HeightKind::Single => is_float(number),
+    }
+}
+
+/// Whether it is the number of a float.
+fn is_float(number: i64) -> bool
+    ensures { IsTrue result ↔ IsFloatNumber number }
+{
+    (-2139095040 <= number && number <= 2139095040) || number == 2143289344
+}
+
 /// The first column of a row with a number that a pixel can't encode.
 fn first_in_row(header: &Header, spelled: Spelled, raster: &Raster, row: u32) -> Option<u32>
     requires shape { raster.now.extent ≡ header_extent header.now }
@@ -65,7 +85,7 @@ fn first_in_row(header: &Header, spelled: Spelled, raster: &Raster, row: u32) ->
     ensures { MatchOption result (CanSpellTo header.now raster.now row header.now.cols) (IsFirstAlong header.now raster.now row) }
 {
     for col in 0..header.cols {
-        if !spelled.holds(raster.value(Cell { row, col })) {
+        if !can_spell(header, spelled, raster.value(Cell { row, col })) {
             return Some(col);
         }
     }
@@ -108,6 +128,9 @@ fn look_at_counts(numbers: &[u32])
 fn are_of_pixels(header: &Header, raster: &Raster) -> bool
     ensures { IsTrue result → CanSpellAll header.now raster.now }
 {
+    if header.kind == HeightKind::Single {
+        return false;
+    }
     match (raster.kept(), header.bits, header.signed) {
         (KeptNumbers::Bytes(numbers), 8, false) => {
             look_at_bytes(numbers);

@@ -3,17 +3,21 @@
 ghost use Rattle.std.specs.Prelude.{◌≡◌, ◌↔◌, ◌<◌, ◌≤◌, ◌*◌, ◌+◌, ◌-◌, ◌++◌, [], length, take, map, All, IfOk, OnOk, IsErrOf, unwrap_or, vec_len};
 ghost use Rattle.std.specs.Vec.{vec_capacity};
 ghost use Rattle.drain_grid.specs.Extent.{row_cells, cells};
-ghost use Rattle.drain_grid.specs.Product.{default_no_data};
 ghost use Rattle.drain_grid.specs.Values.{IsPixel, IsNoData};
 ghost use Rattle.drain_raster.specs.Bytes.{cells_from};
-ghost use Rattle.drain_raster.specs.Pixels.{AreSpelled, needed_len, IsShort, pixel_at, header_extent, raster_of};
+ghost use Rattle.drain_raster.specs.Elevations.{voids_of};
+ghost use Rattle.drain_raster.specs.Pixels.{AreSpelled, IsShort, default_number, header_extent, needed_len, pixel_at, raster_of};
 
 use crate::fault::RasterFault;
 use crate::pixel::Pixel;
 use byteorder::{BigEndian, ByteOrder, LittleEndian};
-use drain_grid::{Product, Raster, Shape};
+use drain_grid::{HeightKind, Product, Raster, Shape};
 use drain_header::{ByteOrdering, Header};
+use drain_pixels::Voids;
 use std::alloc::Global;
+
+/// The number of every NaN.
+const NAN: i64 = 2143289344;
 
 /// How many numbers are decoded before they are appended together: a loop without a growing vector is the fast one.
 const BUFFER_NUMBERS: u32 = 512;
@@ -30,14 +34,36 @@ pub fn needed_len(header: &Header) -> usize
     header.skip as usize + rows_above * header.row_bytes as usize + header.cols as usize * pixel_len
 }
 
-/// The no-data number of a product's raster: the header's, or else the product's default.
+/// The no-data number of a product's raster: the header's, or else the default, which is the product's, and of floats the
+/// number of NaN.
 pub fn nodata(header: &Header, product: Product) -> i64
-    ensures number { result ≡ unwrap_or header.now.nodata (default_no_data product) }
+    ensures number { result ≡ unwrap_or header.now.nodata (default_number header.now.kind product) }
     ensures in_range { IsNoData result }
 {
     match header.nodata {
         Some(number) => number,
-        None => product.default_no_data(),
+        None => default_number(header.kind, product),
+    }
+}
+
+/// The no-data number of a product whose header has none.
+fn default_number(kind: HeightKind, product: Product) -> i64
+    ensures number { result ≡ default_number kind product }
+    ensures in_range { IsNoData result }
+{
+    match kind {
+        HeightKind::Whole => product.default_no_data(),
+        HeightKind::Single => NAN,
+    }
+}
+
+/// Which pixels mean a void: the header's no-data number, and of floats those that are not finite.
+pub fn voids(header: &Header) -> Voids
+    ensures { result ≡ voids_of header.now }
+{
+    Voids {
+        number: header.nodata,
+        kind: header.kind,
     }
 }
 
@@ -119,6 +145,27 @@ fn push_pixels(numbers: &mut Vec<i64>, header: &Header, body: &[u8])
     ensures len { vec_len numbers.new ≡ header.now.rows * header.now.cols }
     ensures pixels { All IsPixel numbers.new.items }
 {
+    match (header.kind, header.order) {
+        (HeightKind::Whole, _) => push_whole(numbers, header, body),
+        (HeightKind::Single, ByteOrdering::Least) => {
+            push_rows::<f32, LittleEndian>(numbers, header, body)
+        }
+        (HeightKind::Single, ByteOrdering::Most) => {
+            push_rows::<f32, BigEndian>(numbers, header, body)
+        }
+    }
+}
+
+/// The same of whole heights.
+fn push_whole(numbers: &mut Vec<i64>, header: &Header, body: &[u8])
+    requires kind { header.now.kind ≡ HeightKind.Whole }
+    requires long { needed_len header.now ≤ length body.now }
+    requires room { header.now.rows * header.now.cols ≤ vec_capacity numbers.old }
+    requires empty { numbers.old.items ≡ [] }
+    ensures items { numbers.new.items ≡ map (pixel_at header.now body.now) (cells (header_extent header.now)) }
+    ensures len { vec_len numbers.new ≡ header.now.rows * header.now.cols }
+    ensures pixels { All IsPixel numbers.new.items }
+{
     match (header.bits, header.signed, header.order) {
         (8, false, _) => push_rows::<u8, LittleEndian>(numbers, header, body),
         (8, true, _) => push_rows::<i8, LittleEndian>(numbers, header, body),
@@ -146,7 +193,7 @@ pub fn read_raster(
     header: &Header,
     body: &[u8],
 ) -> Result<Raster, RasterFault>
-    ensures raster { IfOk result (λ raster. raster ≡ raster_of header.now (default_no_data product) body.now) }
+    ensures raster { IfOk result (λ raster. raster ≡ raster_of header.now (default_number header.now.kind product) body.now) }
     ensures long { OnOk result (¬ IsShort header.now body.now) }
     ensures short { IsErrOf result RasterFault.Short ↔ IsShort header.now body.now }
 {

@@ -10,7 +10,7 @@ ghost use Rattle.drain_grid.specs.declared.cell.TheConstants.{MAX_LENGTH};
 ghost use Rattle.drain_grid.specs.Grid.{Pixels};
 ghost use Rattle.drain_grid.specs.Values.{IsPixel};
 ghost use Rattle.drain_raster.specs.Pixels.{header_extent};
-ghost use Rattle.drain_raster.specs.Bytes.{AreWritten, CanSpellAll, CanSpellAllIn, IsFirstOutOfRange, cells_bytes, cells_from, bytes_of_row, raster_bytes};
+ghost use Rattle.drain_raster.specs.Bytes.{AreWritten, CanSpellAll, CanSpellAllAs, IsFirstOutOfRange, cells_bytes, cells_from, bytes_of_row, raster_bytes};
 ghost use Rattle.drain_raster.specs.RasterRows.{Hands};
 ghost use Rattle.drain_raster.specs.declared.write.TheConstants.{BUFFER_BYTES};
 
@@ -20,7 +20,7 @@ use crate::pixel::Pixel;
 use crate::range::first_out_of_range;
 use byteorder::{BigEndian, ByteOrder, LittleEndian};
 use drain_device::{ByteSink, GaveUp, Patience, write_all};
-use drain_grid::{KeptNumbers, Raster};
+use drain_grid::{HeightKind, KeptNumbers, Raster};
 use drain_header::{ByteOrdering, Header};
 use drain_pixels::PixelNumbers;
 use drain_pixels::stored::AnyPixels;
@@ -66,7 +66,7 @@ fn put_pixels<P: Pixel, T: ByteOrder>(
     first: u32,
     end: u32,
 )
-    requires spelled { CanSpellAllIn P.signed P.bits raster.now }
+    requires spelled { CanSpellAllAs P.kind P.signed P.bits raster.now }
     requires row { row < raster.now.extent.rows }
     requires end { end ≤ raster.now.extent.cols }
     requires first { first ≤ end }
@@ -102,7 +102,7 @@ fn put_kept<N: PixelNumbers + Copy, P: Pixel, T: ByteOrder>(
     requires numbers { N.numbers numbers.now ≡ raster.now.numbers }
     requires counted { length raster.now.numbers ≡ raster.now.extent.rows * raster.now.extent.cols }
     requires pixels { All IsPixel raster.now.numbers }
-    requires spelled { CanSpellAllIn P.signed P.bits raster.now }
+    requires spelled { CanSpellAllAs P.kind P.signed P.bits raster.now }
     requires row { row < raster.now.extent.rows }
     requires end { end ≤ raster.now.extent.cols }
     requires first { first ≤ end }
@@ -129,7 +129,7 @@ fn write_pixels<P: Pixel, T: ByteOrder, W: ByteSink>(
 ) -> Result<(), GaveUp>
     requires len { P.len ≤ 4 }
     requires room { BUFFER_BYTES ≤ length buffer.old }
-    requires spelled { CanSpellAllIn P.signed P.bits raster.now }
+    requires spelled { CanSpellAllAs P.kind P.signed P.bits raster.now }
     requires row { row < raster.now.extent.rows }
     requires cols { cols ≡ raster.now.extent.cols }
     requires fits { cols ≤ MAX_LENGTH }
@@ -156,7 +156,7 @@ fn write_row<P: Pixel, T: ByteOrder, W: ByteSink>(
     patience: &mut Patience,
 ) -> Result<(), GaveUp>
     requires room { BUFFER_BYTES ≤ length buffer.old }
-    requires written { AreWritten header.now P.len P.bits P.signed (P.spells T.bytes_of) }
+    requires written { AreWritten header.now P.kind P.len P.bits P.signed (P.spells T.bytes_of) }
     requires shape { raster.now.extent ≡ header_extent header.now }
     requires spelled { CanSpellAll header.now raster.now }
     requires inside { row < header.now.rows }
@@ -174,7 +174,7 @@ fn write_rows<P: Pixel, T: ByteOrder, W: ByteSink>(
     raster: &Raster,
     patience: &mut Patience,
 ) -> Result<(), GaveUp>
-    requires written { AreWritten header.now P.len P.bits P.signed (P.spells T.bytes_of) }
+    requires written { AreWritten header.now P.kind P.len P.bits P.signed (P.spells T.bytes_of) }
     requires shape { raster.now.extent ≡ header_extent header.now }
     requires spelled { CanSpellAll header.now raster.now }
     ensures { Hands (W.bytes_taken to.old) (W.bytes_taken to.new) (W.counts to.old) (W.counts to.new) (W.stalls to.old) (W.stalls to.new) patience.old patience.new result (flat_map (bytes_of_row header.now raster.now) (range_with_len 0 header.now.rows)) }
@@ -193,6 +193,29 @@ fn write_body<W: ByteSink>(
     raster: &Raster,
     patience: &mut Patience,
 ) -> Result<(), GaveUp>
+    requires shape { raster.now.extent ≡ header_extent header.now }
+    requires spelled { CanSpellAll header.now raster.now }
+    ensures { Hands (W.bytes_taken to.old) (W.bytes_taken to.new) (W.counts to.old) (W.counts to.new) (W.stalls to.old) (W.stalls to.new) patience.old patience.new result (flat_map (bytes_of_row header.now raster.now) (range_with_len 0 header.now.rows)) }
+{
+    match (header.kind, header.order) {
+        (HeightKind::Whole, _) => write_whole(to, header, raster, patience),
+        (HeightKind::Single, ByteOrdering::Least) => {
+            write_rows::<f32, LittleEndian, W>(to, header, raster, patience)
+        }
+        (HeightKind::Single, ByteOrdering::Most) => {
+            write_rows::<f32, BigEndian, W>(to, header, raster, patience)
+        }
+    }
+}
+
+/// The same with pixels of whole heights.
+fn write_whole<W: ByteSink>(
+    to: &mut W,
+    header: &Header,
+    raster: &Raster,
+    patience: &mut Patience,
+) -> Result<(), GaveUp>
+    requires kind { header.now.kind ≡ HeightKind.Whole }
     requires shape { raster.now.extent ≡ header_extent header.now }
     requires spelled { CanSpellAll header.now raster.now }
     ensures { Hands (W.bytes_taken to.old) (W.bytes_taken to.new) (W.counts to.old) (W.counts to.new) (W.stalls to.old) (W.stalls to.new) patience.old patience.new result (flat_map (bytes_of_row header.now raster.now) (range_with_len 0 header.now.rows)) }

@@ -36,7 +36,7 @@ some_of (Some x) v w some is same = ap (λ y. Some y) (is ∙ same)
 pub same_values : (v : Values) (z : Option ℤ) (sink : Bool) (con dir acc bas : ℤ) → AreOfSeam v → z ≡ v.z → sink ≡ v.sink → con ≡ v.con → dir ≡ v.dir → acc ≡ v.acc → bas ≡ v.bas
     → seam_values z sink con dir acc bas ≡ v
 same_values v z sink con dir acc bas of a b c d e f =
-    λ i. record { z = a i; sink = b i; con = c i; dir = d i; acc = e i; bas = f i; spl = sym of.spl i; rnk = (c ∙ sym of.rnk) i }
+    λ i. record { z = a i; sink = b i; con = c i; dir = d i; acc = e i; bas = f i; spl = sym of.spl i; rnk = (d ∙ sym of.rnk) i }
 
 pub flag_is : (b : Bool) → pos (bool_byte b) ≡ flag_number b
 flag_is true = refl

@@ -4,6 +4,8 @@ use Rattle.std.specs.Prelude.{Option, IfSome, codes}
 use Rattle.std.proofs.lemmas.Bool.{cases_Bool}
 use Rattle.std.proofs.lemmas.Bool.Decides.{nat_tests}
 use Rattle.memchr.specs.Find.{Passes, Nowhere, is_byte}
+use Rattle.drain_grid.specs.declared.height_kind.HeightKind.{HeightKind}
+use Rattle.drain_grid.specs.declared.height_kind.HeightKind.TheVariants.{Whole, Single}
 use Rattle.drain_hgt.specs.Corner.{Corner}
 use Rattle.drain_hgt.specs.Name.{name_of, spelled}
 use Rattle.std.specs.Fmt.{signed_decimal}
@@ -11,7 +13,7 @@ use Rattle.drain_report.specs.declared.fault.ReportFault.{ReportFault}
 use Rattle.drain_report.specs.declared.fault.ReportFault.TheVariants.{MissingLine, BadLine, OutOfRange}
 use Rattle.drain_report.specs.declared.head.Head.{Head}
 use Rattle.drain_report.specs.Lines.{AreLong, IsInk, IsLong, line, spaced}
-use Rattle.drain_report.specs.Facts.{height_word, seam_text, tile_line}
+use Rattle.drain_report.specs.Facts.{height_word, kind_end, seam_text, spacing_text, tile_line}
 use Rattle.drain_report.specs.Faults.{line_feeds, IsAt, IsPast, IsLineFault, IsListFault, IsEndFault, HasVersion, FaultFits}
 use Rattle.drain_report.specs.Contents.{head_text, version_line, Contents, end_line, report_text}
 use Rattle.drain_report.proofs.NumberLemmas.{height_ink, signed_ink}
@@ -72,6 +74,21 @@ seam_feed cell z others rest cell_long long others_long =
     let few = spaced_feeds others others_long in
     let last : line_feeds (10 ∷ rest) ≡ 1 + line_feeds rest = refl in
     ap line_feeds (seam_split cell z others rest) ∙ omega (arith, of_cell, of_height, of_others, none, ink, few, last)
+
+-- a spacing's line has one
+kind_feed : (kind : HeightKind) → line_feeds (kind_end kind) ≡ 1
+kind_feed Whole = refl
+kind_feed Single = refl
+
+pub spacing_feed : (ns : List ℤ) (kind : HeightKind) (rest : List ℕ) → AreLong ns → line_feeds (spacing_text ns kind ++ rest) ≡ line_feeds rest + 1
+spacing_feed ns kind rest long =
+    let all = feeds-append (spacing_text ns kind) rest in
+    let front = feeds-append (codes "spacing") (spaced ns ++ kind_end kind) in
+    let numbers = feeds-append (spaced ns) (kind_end kind) in
+    let few = spaced_feeds ns long in
+    let last = kind_feed kind in
+    let first : line_feeds (codes "spacing") ≡ 0 = refl in
+    omega (arith, all, front, numbers, few, last, first)
 
 -- a text without a line feed, and one with one
 pub no_feed : (text : List ℕ) → Nowhere (Passes (is_byte 10) text) 0 (length text) → line_feeds text ≡ 0

@@ -1,11 +1,13 @@
 -- The list of spacings stands in a text where a spacing is listed, and nowhere else.
-use Rattle.std.proofs.Common.{◌≡◌, ◌↔◌, true, false, ℕ, ◌<◌, ◌^◌, ℤ, pos, List, [], ◌∷◌, ◌++◌, length, get_or, slice_index_or, append_assoc, refl, sym, ap, subst, ◌∙◌, arith}
+use Rattle.std.proofs.Common.{◌≡◌, ◌↔◌, true, false, ℕ, ◌<◌, ◌^◌, ◌⊎◌, inl, inr, ℤ, pos, List, [], ◌∷◌, ◌++◌, length, get_or, slice_index_or, append_assoc, refl, sym, ap, ◌∙◌, arith}
 use Rattle.std.specs.Prelude.{Option, Some, None, IfSome, IsSome, MatchOption, is_some, codes}
 use Rattle.std.proofs.lemmas.Bool.{false≢true}
+use Rattle.drain_grid.specs.declared.height_kind.HeightKind.{HeightKind}
+use Rattle.drain_grid.specs.declared.height_kind.HeightKind.TheVariants.{Whole, Single}
 use Rattle.drain_grid.specs.Spacing.{Distances, IsDistance, IsSpacing}
 use Rattle.drain_report.specs.Contents.{all_text, list_text, spacings_text}
-use Rattle.drain_report.specs.Facts.{spacing_line, spacing_numbers}
-use Rattle.drain_report.specs.Lines.{AreLong, spaced}
+use Rattle.drain_report.specs.Facts.{kind_end, spacing_line, spacing_numbers, spacing_text}
+use Rattle.drain_report.specs.Lines.{AreLong, AreNumbersThen, spaced}
 use Rattle.drain_report.proofs.FactLemmas.{narrow_long}
 use Rattle.drain_report.proofs.ListLemmas.{exact_from}
 
@@ -28,19 +30,61 @@ two ns a b long p q =
     let all : ns ≡ get_or ns 0 (pos 0) ∷ get_or ns 1 (pos 0) ∷ [] = exact_from 0 2 ns (omega arith) in
     all ∙ rw (p, q) refl
 
-pub made_of : (ns : List ℤ) (w h : ℕ) (made : Option Distances) → length ns ≡ 2 → get_or ns 0 (pos 0) ≡ pos w → get_or ns 1 (pos 0) ≡ pos h →
-    IfSome made (λ s. s ≡ record { width = w; height = h }) → IfSome made (λ s. ns ≡ spacing_numbers s)
-made_of ns w h None long p q value = tt
-made_of ns w h (Some s) long p q value = two ns (pos w) (pos h) long p q ∙ ap spacing_numbers (sym value)
+-- the same width and height, for heights of this kind
+abbrev pub for_kind : HeightKind → Distances → Distances
+for_kind kind s = record { width = s.width; height = s.height; kind = kind }
 
-pub spacing_made : (made : Option Distances) (w h : ℕ) (s : Distances) → w ≡ s.width → h ≡ s.height →
-    IsSome made ↔ IsSpacing (record { width = w; height = h }) → IfSome made (λ x. x ≡ record { width = w; height = h }) → IsSpacing s → made ≡ Some s
-spacing_made None w h s p q valid value is =
-    let same : s ≡ record { width = w; height = h } = λ i. record { width = sym p i; height = sym q i } in
-    absurd (false≢true (valid.1 (subst IsSpacing same is)))
-spacing_made (Some x) w h s p q valid value is =
-    let same : record { width = w; height = h } ≡ s = λ i. record { width = p i; height = q i } in
-    ap (λ y. Some y) (value ∙ same)
+-- the numbers are those of a spacing that is made of them
+pub made_of : (ns : List ℤ) (w h : ℕ) (made s : Distances) (kind : HeightKind) → length ns ≡ 2 → get_or ns 0 (pos 0) ≡ pos w → get_or ns 1 (pos 0) ≡ pos h →
+    made ≡ record { width = w; height = h; kind = Whole } → s ≡ for_kind kind made → spacing_text ns kind ≡ spacing_line s
+made_of ns w h made s kind long p q value is =
+    ap (λ (ms : List ℤ). spacing_text ms kind) (two ns (pos w) (pos h) long p q) ∙ ap spacing_line (sym (is ∙ ap (for_kind kind) value))
+
+-- none is made only of numbers that aren't a spacing's
+pub none_made : (made : Option Distances) (w h : ℕ) (s : Distances) → made ≡ None → w ≡ s.width → h ≡ s.height →
+    IsSome made ↔ IsSpacing (record { width = w; height = h; kind = Whole }) → IsSpacing s → ⊥
+none_made made w h s none p q valid fit =
+    let numbers : IsSpacing (record { width = w; height = h; kind = Whole }) = rw (p, q) (record { width = fit.width; height = fit.height }) in
+    false≢true (rw none at (valid.1 numbers))
+
+-- the same numbers and the same kind are the same spacing
+pub same_made : (w h : ℕ) (made x s : Distances) (kind : HeightKind) → made ≡ record { width = w; height = h; kind = Whole } → x ≡ for_kind kind made →
+    w ≡ s.width → h ≡ s.height → kind ≡ s.kind → Some x ≡ Some s
+same_made w h made x s kind value is p q r =
+    let same : record { width = w; height = h; kind = kind } ≡ s = λ i. record { width = p i; height = q i; kind = r i } in
+    ap (λ (y : Distances). Some y) (is ∙ ap (for_kind kind) value ∙ same)
+
+-- The parts of a spacing's line.
+
+pub spacing_split : (ns : List ℤ) (kind : HeightKind) (rest : List ℕ) → spacing_text ns kind ++ rest ≡ codes "spacing" ++ (spaced ns ++ (kind_end kind ++ rest))
+spacing_split ns kind rest =
+    append_assoc (codes "spacing") (spaced ns ++ kind_end kind) rest ∙ ap (λ t. codes "spacing" ++ t) (append_assoc (spaced ns) (kind_end kind) rest)
+
+-- the byte with which its end begins, and what follows it
+abbrev pub end_first : HeightKind → ℕ
+end_first Whole = 10
+end_first Single = 32
+
+abbrev pub end_then : HeightKind → List ℕ
+end_then Whole = []
+end_then Single = codes "single\n"
+
+pub end_begins : (kind : HeightKind) (rest : List ℕ) → kind_end kind ++ rest ≡ end_first kind ∷ (end_then kind ++ rest)
+end_begins Whole rest = refl
+end_begins Single rest = refl
+
+pub end_ends : (kind : HeightKind) → (end_first kind ≡ 32) ⊎ (end_first kind ≡ 10)
+end_ends Whole = inr refl
+end_ends Single = inl refl
+
+-- the numbers before its end
+pub numbers_then : (s : Distances) (text rest : List ℕ) → IsSpacing s → text ≡ spaced (spacing_numbers s) ++ (kind_end s.kind ++ rest) →
+    AreNumbersThen text (spacing_numbers s) (end_first s.kind) (end_then s.kind ++ rest)
+numbers_then s text rest fit is = record {
+  long = spacing_long s fit;
+  ends = end_ends s.kind;
+  is = is ∙ ap (λ t. spaced (spacing_numbers s) ++ t) (end_begins s.kind rest);
+}
 
 -- what follows the word of the list
 abbrev behind_word : Distances → List Distances → List ℕ → List ℕ

@@ -2,6 +2,8 @@
 use Rattle.std.specs.Prelude.{◌≡◌, ◌<◌, ◌^◌, ℕ, ℤ, pos, Bool, Option, Some, None, List, [], ◌∷◌, ◌++◌, codes, if◌then◌else◌}
 use Rattle.std.specs.Fmt.{signed_decimal}
 use Rattle.drain_grid.specs.declared.cell.Cell.{Cell}
+use Rattle.drain_grid.specs.declared.height_kind.HeightKind.{HeightKind}
+use Rattle.drain_grid.specs.declared.height_kind.HeightKind.TheVariants.{Whole, Single}
 use Rattle.drain_grid.specs.Spacing.{Distances}
 use Rattle.drain_grid.specs.Values.{Values, AreInRange, NoDataNumbers, IsNoData}
 use Rattle.drain_union.specs.declared.report.Outlet.{Outlet}
@@ -43,12 +45,20 @@ cell_numbers c = pos c.row ∷ pos c.col ∷ []
 abbrev pub sink_line : Cell → List ℕ
 sink_line c = line (codes "sink") (cell_numbers c)
 
--- spacing WIDTH HEIGHT
+-- spacing WIDTH HEIGHT, and of floats a word behind them
 abbrev pub spacing_numbers : Distances → List ℤ
 spacing_numbers s = pos s.width ∷ pos s.height ∷ []
 
+-- how the line ends
+abbrev pub kind_end : HeightKind → List ℕ
+kind_end Whole = 10 ∷ []
+kind_end Single = codes " single\n"
+
+abbrev pub spacing_text : List ℤ → HeightKind → List ℕ
+spacing_text numbers kind = codes "spacing" ++ (spaced numbers ++ kind_end kind)
+
 abbrev pub spacing_line : Distances → List ℕ
-spacing_line s = line (codes "spacing") (spacing_numbers s)
+spacing_line s = spacing_text (spacing_numbers s) s.kind
 
 pub record IsOutlet (o : Outlet) : Type 0 where
   pub label : IsLong o.label

@@ -1,7 +1,8 @@
 //! Lists of a report: how many lines there are, then the lines.
 
+ghost use Rattle.drain_report.specs.declared.lists.TheConstants.{SHORTEST_LINE};
 ghost use Rattle.drain_report.specs.Facts.{IsNarrow, sink_line, cell_numbers, IsOutlet, outlet_numbers, outlet_line};
-ghost use Rattle.std.specs.Prelude.{◌≡◌, ◌<◌, ◌≤◌, ◌^◌, ℕ, List, ◌++◌, IfOk, OnOk, MatchResult, length};
+ghost use Rattle.std.specs.Prelude.{◌≡◌, ◌<◌, ◌≤◌, ◌/◌, ◌^◌, ℕ, List, ◌++◌, IfOk, OnOk, MatchResult, length};
 ghost use Rattle.drain_report.specs.Faults.{IsAt, IsPast, IsListFault, line_feeds};
 ghost use Rattle.drain_report.specs.Contents.{AllAre, IsListOf, all_text, list_text};
 
@@ -12,6 +13,9 @@ use crate::numbers::{push_count, read_count};
 use drain_grid::{Cell, OutOfMemory};
 use drain_union::Outlet;
 use std::alloc::Global;
+
+/// The length of the shortest line of a list, `sink 0 0` with its line feed.
+const SHORTEST_LINE: usize = 9;
 
 impl Fact for Cell {
     ghost numbers_of = { cell_numbers };
@@ -107,7 +111,9 @@ fn read_lines<'a, T: ReportLine>(
     ensures back { (xs : List T) (rest : List ℕ) → length xs ≡ count → AllAre T.fits xs → first.entry.rest.now ≡ all_text T.line_of xs ++ rest → MatchResult result (λ found. (found.0.items ≡ xs) × (found.1.rest.now ≡ rest)) (λ fault. fault ≡ ReportFault.OutOfMemory) }
     ensures place { (feeds : ℕ) → feeds < 2 ^ 63 → IsAt feeds first.entry.number first.entry.rest.now → MatchResult result (λ found. (first.entry.number ≤ found.1.number) × IsAt feeds found.1.number found.1.rest.now) (IsListFault feeds first.entry.number) }
 {
-    let mut items = Vec::new(alloc);
+    let Ok(mut items) = Vec::with_capacity(alloc, room_for(count, first.rest)) else {
+        return Err(ReportFault::OutOfMemory);
+    };
     let mut lines = first;
     for _ in 0..count {
         let (item, next) = match T::read_from(lines) {
@@ -120,6 +126,14 @@ fn read_lines<'a, T: ReportLine>(
         lines = next;
     }
     Ok((items, lines))
+}
+
+/// How many items of a list to take room for: as many as there are said to be, if the text can hold as many lines.
+fn room_for(count: u32, text: &[u8]) -> usize
+    ensures said { result ≤ count }
+    ensures held { result ≤ length text.now / SHORTEST_LINE }
+{
+    (count as usize).min(text.len() / SHORTEST_LINE)
 }
 
 /// Appends a list of this word; one longer than 32 bits count is refused as memory is.

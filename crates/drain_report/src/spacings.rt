@@ -1,29 +1,74 @@
-//! The list of spacings: how far apart the cells of a window's rows are. There is none where all cells are square.
+//! The list of spacings: how far apart the cells of a window's rows are, and a word on each line where heights are floats.
+//! There is none where all cells are square and heights are whole.
 
-ghost use Rattle.std.specs.Prelude.{◌≡◌, ◌<◌, ◌≤◌, ◌^◌, ◌++◌, ℕ, List, IfOk, OnOk, MatchResult, codes};
+ghost use Rattle.std.specs.Prelude.{◌≡◌, ◌<◌, ◌≤◌, ◌^◌, ◌++◌, ℕ, List, Some, IfOk, IfSome, OnOk, MatchOption, MatchResult, codes, length};
+ghost use Rattle.drain_grid.specs.declared.height_kind.HeightKind.{HeightKind as KindOf};
 ghost use Rattle.drain_grid.specs.Spacing.{Distances, IsSpacing};
 ghost use Rattle.drain_report.specs.Contents.{SpacingsFit, spacings_text};
-ghost use Rattle.drain_report.specs.Facts.{spacing_line, spacing_numbers};
+ghost use Rattle.drain_report.specs.Facts.{kind_end, spacing_line, spacing_numbers, spacing_text};
 ghost use Rattle.drain_report.specs.Faults.{IsAt, IsListFault};
+ghost use Rattle.drain_report.specs.Lines.{AreLong};
 
-use crate::facts::{Fact, ReportLine, read_fact, whole_at};
+use crate::facts::{ReportLine, whole_at};
 use crate::fault::ReportFault;
-use crate::lines::{Lines, after_word, push_line, unread};
+use crate::lines::{Lines, after_word, push, push_numbers, read_numbers, unread};
 use crate::lists::{push_list, read_list};
-use drain_grid::{OutOfMemory, Spacing};
+use drain_grid::{HeightKind, OutOfMemory, Spacing};
 use std::alloc::Global;
 
-impl Fact for Spacing {
-    ghost numbers_of = { spacing_numbers };
+/// How a spacing's line ends, and what follows it.
+fn kind_after(text: &[u8]) -> Option<(HeightKind, &[u8])>
+    ensures sound { IfSome result (λ found. text.now ≡ kind_end found.0 ++ found.1.now) }
+    ensures back { (kind : KindOf) (rest : List ℕ) → text.now ≡ kind_end kind ++ rest → MatchOption result ⊥ (λ found. (found.0 ≡ kind) × (found.1.now ≡ rest)) }
+{
+    if let Some(rest) = after_word(text, b"\n") {
+        return Some((HeightKind::Whole, rest));
+    }
+    let Some(rest) = after_word(text, b" single\n") else {
+        return None;
+    };
+    Some((HeightKind::Single, rest))
+}
 
-    ghost how_many = { 2 };
+/// Reads a spacing's line: its numbers; returns the kind of heights, and what follows the line.
+fn spacing_after<'a>(text: &'a [u8], numbers: &mut [i64]) -> Option<(HeightKind, &'a [u8])>
+    ensures len { length numbers.new ≡ length numbers.old }
+    ensures sound { IfSome result (λ found. text.now ≡ spacing_text numbers.new found.0 ++ found.1.now) }
+    ensures long { IfSome result (λ _. AreLong numbers.new) }
+    ensures back { (s : Distances) (rest : List ℕ) → IsSpacing s → length numbers.old ≡ 2 → text.now ≡ spacing_line s ++ rest → MatchOption result ⊥ (λ found. (numbers.new ≡ spacing_numbers s) × ((found.0 ≡ s.kind) × (found.1.now ≡ rest))) }
+{
+    let Some(after) = after_word(text, b"spacing") else {
+        return None;
+    };
+    let Some(end) = read_numbers(after, numbers) else {
+        return None;
+    };
+    let Some((kind, rest)) = kind_after(end) else {
+        return None;
+    };
+    Some((kind, rest))
+}
 
-    ghost is_in_range = { IsSpacing };
+/// The spacing of these numbers for heights of this kind.
+fn spacing_of(numbers: &[i64], kind: HeightKind) -> Option<Spacing>
+    requires long { AreLong numbers.now }
+    requires len { length numbers.now ≡ 2 }
+    ensures sound { IfSome result (λ s. spacing_text numbers.now kind ≡ spacing_line s) }
+    ensures back { (s : Distances) → IsSpacing s → numbers.now ≡ spacing_numbers s → kind ≡ s.kind → result ≡ Some s }
+{
+    let width = whole_at(numbers, 0)?;
+    let height = whole_at(numbers, 1)?;
+    let spacing = Spacing::new(width, height)?;
+    Some(spacing.of_kind(kind))
+}
 
-    fn from_numbers(numbers: &[i64]) -> Option<Spacing> {
-        let width = whole_at(numbers, 0)?;
-        let height = whole_at(numbers, 1)?;
-        Spacing::new(width, height)
+/// How the line of a spacing for heights of this kind ends.
+fn kind_end(kind: HeightKind) -> &'static [u8]
+    ensures { result.now ≡ kind_end kind }
+{
+    match kind {
+        HeightKind::Whole => b"\n".as_slice(),
+        HeightKind::Single => b" single\n".as_slice(),
     }
 }
 
@@ -34,12 +79,21 @@ impl ReportLine for Spacing {
 
     fn read_from<'a>(lines: Lines<'a>) -> Result<(Spacing, Lines<'a>), ReportFault> {
         let mut numbers = [0i64; 2];
-        read_fact(lines, "spacing", &mut numbers)
+        let Some((kind, rest)) = spacing_after(lines.rest, &mut numbers) else {
+            let fault = unread(lines);
+            return Err(fault);
+        };
+        let Some(spacing) = spacing_of(&numbers, kind) else {
+            return Err(ReportFault::OutOfRange(lines.number));
+        };
+        Ok((spacing, lines.after_first(rest)))
     }
 
     fn push_to(&self, text: &mut Vec<u8>) -> Result<(), OutOfMemory> {
         let numbers = [i64::from(self.width), i64::from(self.height)];
-        push_line(text, "spacing", &numbers)
+        push(text, b"spacing")?;
+        push_numbers(text, &numbers)?;
+        push(text, kind_end(self.kind))
     }
 }
 

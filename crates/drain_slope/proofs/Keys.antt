@@ -8,20 +8,22 @@ use Rattle.drain_grid.specs.declared.patch.Patch.{Patch}
 use Rattle.drain_grid.specs.Direction.{directions, order_of}
 use Rattle.drain_grid.specs.Values.{Values}
 use Rattle.drain_grid.specs.Patch.{neighbor, IsDataCell, IsLower, IsLowerAt, HasLower}
+use Rattle.drain_grid.specs.HeightKinds.{height_of}
+use Rattle.drain_grid.proofs.SingleHeights.{numbers_order}
 use Rattle.drain_grid.specs.Slope.{slope_key, key_to, IsSteepest, IsFirstSteepest}
 use Rattle.drain_grid.specs.Spacing.{IsSpacing, distance_square, weight_of}
 use Rattle.drain_grid.proofs.Decisions.{less_complete, less_sound}
 use Rattle.drain_grid.proofs.Neighbors.{of_each, of_earlier}
-use Rattle.drain_slope.specs.Key.{drop_of, drop_at, key_at, IsFirstGreatest}
+use Rattle.drain_slope.specs.Key.{drop_of, drop_at, key_at, IsFirstGreatest, IsLowerCon, IsLowerNumber}
 use Rattle.drain_grid.proofs.Distances.{weight_above_0, steeper_across}
 use Rattle.drain_slope.proofs.Places.{place_at}
 
 -- the drop towards a lower neighbour
-drop_of_lower : (p : Patch) (d : Direction) (n : Values) → IsLower p d n → drop_at p d ≡ p.here.con -ℤ n.con
+drop_of_lower : (p : Patch) (d : Direction) (n : Values) → IsLower p d n → drop_at p d ≡ height_of p.spacing.kind p.here.con -ℤ height_of p.spacing.kind n.con
 drop_of_lower p d n lower =
     ap (drop_of p) lower.beside.is ∙ by_tests (is_some n.z) (int_lt n.con p.here.con) lower.beside.has_data (less_complete n.con p.here.con lower.below)
   where
-    by_tests : (a b : Bool) → a ≡ true → b ≡ true → (if a && b then p.here.con -ℤ n.con else pos 0) ≡ p.here.con -ℤ n.con
+    by_tests : (a b : Bool) → a ≡ true → b ≡ true → (if a && b then height_of p.spacing.kind p.here.con -ℤ height_of p.spacing.kind n.con else pos 0) ≡ height_of p.spacing.kind p.here.con -ℤ height_of p.spacing.kind n.con
     by_tests true true ha hb = refl
     by_tests true false ha hb = absurd (false≢true hb)
     by_tests false b ha hb = absurd (false≢true ha)
@@ -31,14 +33,16 @@ drop_above_0 here there drop is h = omega (arith, ints)
 
 -- is above 0
 pub lower_drops : (p : Patch) (d : Direction) (n : Values) → IsLower p d n → pos 0 <ℤ drop_at p d
-lower_drops p d n lower = drop_above_0 p.here.con n.con (drop_at p d) (drop_of_lower p d n lower) lower.below
+lower_drops p d n lower =
+    drop_above_0 (height_of p.spacing.kind p.here.con) (height_of p.spacing.kind n.con) (drop_at p d) (drop_of_lower p d n lower)
+    ((numbers_order p.spacing.kind n.con p.here.con).0 lower.below)
 
 -- and only there
 pub lower_from_drop : (p : Patch) (d : Direction) → pos 0 <ℤ drop_at p d → IsLowerAt p d
 lower_from_drop p d above = by_neighbor (neighbor p d) refl above
   where
     by_tests : (n : Values) (a b : Bool) → is_some n.z ≡ a → int_lt n.con p.here.con ≡ b → neighbor p d ≡ Some n →
-        pos 0 <ℤ (if a && b then p.here.con -ℤ n.con else pos 0) → IsLowerAt p d
+        pos 0 <ℤ (if a && b then height_of p.spacing.kind p.here.con -ℤ height_of p.spacing.kind n.con else pos 0) → IsLowerAt p d
     by_tests n true true has_data less is h = (n, record { beside = record { is = is; has_data = has_data }; below = less_sound n.con p.here.con less })
     by_tests n true false has_data less is h = absurd (omega (arith, ints))
     by_tests n false b has_data less is h = absurd (omega (arith, ints))
@@ -65,8 +69,8 @@ not_less_is a b h = by_lt_z a b (λ less. absurd (h less)) (λ most. omega (arit
 drop_from_0 : (p : Patch) (d : Direction) → pos 0 ≤ℤ drop_at p d
 drop_from_0 p d = by_neighbor (neighbor p d)
   where
-    by_tests : (n : Values) (a b : Bool) → int_lt n.con p.here.con ≡ b → pos 0 ≤ℤ (if a && b then p.here.con -ℤ n.con else pos 0)
-    by_tests n true true less = let below = less_sound n.con p.here.con less in omega (arith, ints)
+    by_tests : (n : Values) (a b : Bool) → int_lt n.con p.here.con ≡ b → pos 0 ≤ℤ (if a && b then height_of p.spacing.kind p.here.con -ℤ height_of p.spacing.kind n.con else pos 0)
+    by_tests n true true less = let below = (numbers_order p.spacing.kind n.con p.here.con).0 (less_sound n.con p.here.con less) in omega (arith, ints, below)
     by_tests n true false less = omega (arith, ints)
     by_tests n false b less = omega (arith, ints)
 
@@ -215,3 +219,42 @@ as_steep_by_test p d steepest true valid first decides =
     ((λ h. absurd (false≢true h)), (λ h. absurd ((as_steep p d steepest valid first).1 h (decides.0 refl))))
 as_steep_by_test p d steepest false valid first decides =
     ((λ _. (as_steep p d steepest valid first).0 (λ less. false≢true (decides.1 less))), (λ _. refl))
+
+-- a drop is a natural number
+pub natural_drop : (p : Patch) (d : Direction) → (k : ℕ) × (pos k ≡ drop_at p d)
+natural_drop p d = let least = drop_from_0 p d in by_drop (drop_at p d) refl least
+  where
+    by_drop : (drop : ℤ) → drop_at p d ≡ drop → pos 0 ≤ℤ drop → (k : ℕ) × (pos k ≡ drop_at p d)
+    by_drop (pos k) is least = (k, sym is)
+    by_drop (negsuc k) is least = absurd (omega (arith, ints, least))
+
+-- one that isn't above 0 is 0
+pub no_drop : (p : Patch) (d : Direction) → ¬ (pos 0 <ℤ drop_at p d) → drop_at p d ≡ pos 0
+no_drop p d none = let least = drop_from_0 p d in let most = not_less_is (pos 0) (drop_at p d) none in omega (arith, ints, least, most)
+
+-- a lower neighbour is one whose number there is
+pub drops_by_con : (p : Patch) (d : Direction) (con : ℤ) → IsLowerNumber p d con → pos 0 <ℤ drop_at p d
+drops_by_con p d con lower =
+    drop_above_0 (height_of p.spacing.kind p.here.con) (height_of p.spacing.kind con) (drop_at p d) lower.drop ((numbers_order p.spacing.kind con p.here.con).0 lower.below)
+
+pub leads_by_con : (p : Patch) (d : Direction) (o : Option ℤ) → IsLowerCon p d o → IsTrue (is_some o) ↔ (pos 0 <ℤ drop_at p d)
+leads_by_con p d None is = ((λ h. absurd (false≢true h)), (λ h. absurd (omega (arith, ints, is, h))))
+leads_by_con p d (Some con) is = ((λ _. drops_by_con p d con is), (λ _. refl))
+
+-- of two ways of which one leads down
+pub steeper_than_none : (p : Patch) (first second : Direction) → IsSpacing p.spacing → pos 0 <ℤ drop_at p first → drop_at p second ≡ pos 0 →
+    key_at p second <ℤ key_at p first
+steeper_than_none p first second valid drops none =
+    let above = key_above_0 (weight_of p.spacing first) (drop_at p first) (weight_above_0 p.spacing first valid) drops in
+    let zero_key = no_key (weight_of p.spacing second) (drop_at p second) none in
+    omega (arith, ints, above, zero_key)
+
+pub none_not_steeper : (p : Patch) (first second : Direction) → IsSpacing p.spacing → drop_at p first ≡ pos 0 → ¬ (key_at p second <ℤ key_at p first)
+none_not_steeper p first second valid none less =
+    let zero_key = no_key (weight_of p.spacing first) (drop_at p first) none in
+    let least = key_from_0 (weight_of p.spacing second) (drop_at p second) (drop_from_0 p second) in
+    omega (arith, ints, less, zero_key, least)
+  where
+    key_from_0 : (weight : ℕ) (drop : ℤ) → pos 0 ≤ℤ drop → pos 0 ≤ℤ slope_key weight drop
+    key_from_0 weight (pos k) least = omega (arith, ints)
+    key_from_0 weight (negsuc k) least = absurd (omega (arith, ints, least))

@@ -1,2 +1,4 @@
 pub mod Key
 pub mod Fractions
+pub mod Terms
+pub mod Singles

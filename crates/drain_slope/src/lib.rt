@@ -17,11 +17,15 @@ ghost use Rattle.drain_grid.specs.PatchRules.{flow_rules};
 ghost use Rattle.drain_grid.specs.Rule.{IsSlopeRule, IsLeastFault};
 ghost use Rattle.drain_grid.specs.Slope.{IsSteepest, IsFirstSteepest};
 ghost use Rattle.drain_grid.specs.Spacing.{IsSpacing};
-ghost use Rattle.drain_slope.specs.Key.{IsFirstGreatest, drop_at, drop_of, key_at};
+ghost use Rattle.drain_grid.specs.Values.{IsPixel};
+ghost use Rattle.drain_grid.specs.declared.height_kind.HeightKind.{HeightKind};
+ghost use Rattle.drain_slope.specs.Key.{IsFirstGreatest, IsLowerCon, con_below, drop_at, drop_of, key_at};
 
 pub mod fraction;
+pub mod singles;
+pub mod terms;
 
-use drain_grid::{CellValues, Direction, Patch, Rule};
+use drain_grid::{CellValues, Direction, HeightKind, Patch, Rule};
 
 /// The first of the steepest lower neighbours, in the order of directions; none if no neighbour is lower, and at a
 /// void.
@@ -30,7 +34,7 @@ pub fn steepest(patch: &Patch) -> Option<Direction>
 {
     distances_are_valid(patch);
     let first = first_greatest(patch);
-    if has_data(patch) && drop(patch, first) > 0 {
+    if has_data(patch) && leads_down(patch, first) {
         Some(first)
     } else {
         None
@@ -111,9 +115,72 @@ fn first_greatest(patch: &Patch) -> Direction
 pub fn is_steeper(patch: &Patch, first: Direction, second: Direction) -> bool
     ensures { IsTrue result ↔ (key_at patch.now second <ℤ key_at patch.now first) }
 {
+    match patch.spacing.kind {
+        HeightKind::Whole => is_steeper_by_drops(patch, first, second),
+        HeightKind::Single => is_steeper_by_heights(patch, first, second),
+    }
+}
+
+/// The same for whole heights.
+fn is_steeper_by_drops(patch: &Patch, first: Direction, second: Direction) -> bool
+    requires { patch.now.spacing.kind ≡ HeightKind.Whole }
+    ensures { IsTrue result ↔ (key_at patch.now second <ℤ key_at patch.now first) }
+{
     let over = patch.spacing.distance_square(first);
     let other_over = patch.spacing.distance_square(second);
     is_less(drop(patch, second), over, drop(patch, first), other_over)
+}
+
+/// The same for floats.
+fn is_steeper_by_heights(patch: &Patch, first: Direction, second: Direction) -> bool
+    requires { patch.now.spacing.kind ≡ HeightKind.Single }
+    ensures { IsTrue result ↔ (key_at patch.now second <ℤ key_at patch.now first) }
+{
+    let over = patch.spacing.distance_square(first);
+    let other_over = patch.spacing.distance_square(second);
+    match (lower_con(patch, first), lower_con(patch, second)) {
+        (None, _) => false,
+        (Some(_), None) => true,
+        (Some(there), Some(other)) => {
+            singles::is_steeper(con_here(patch), there, other, over, other_over)
+        }
+    }
+}
+
+/// The number at the cell.
+fn con_here(patch: &Patch) -> i64
+    ensures is { result ≡ patch.now.here.con }
+    ensures pixel { IsPixel result }
+{
+    patch.here.con
+}
+
+/// The number of a lower neighbour in this direction, if there is one.
+fn lower_con(patch: &Patch, direction: Direction) -> Option<i64>
+    ensures { IsLowerCon patch.now direction result }
+{
+    match patch.neighbor(direction) {
+        Some(there) => con_below(patch, &there),
+        None => None,
+    }
+}
+
+/// The con of these values, if they are those of a data cell lower than the patch's own.
+pub fn con_below(patch: &Patch, there: &CellValues) -> Option<i64>
+    ensures { result ≡ con_below patch.now there.now }
+{
+    if there.z.is_some() && there.con < patch.here.con {
+        Some(there.con)
+    } else {
+        None
+    }
+}
+
+/// Whether a lower neighbour lies in this direction.
+fn leads_down(patch: &Patch, direction: Direction) -> bool
+    ensures { IsTrue result ↔ (pos 0 <ℤ drop_at patch.now direction) }
+{
+    lower_con(patch, direction).is_some()
 }
 
 /// Whether the square of a drop times that of a distance is less than another such product.
@@ -137,8 +204,9 @@ fn product(drop: u64, distance_square: u64) -> u128
     square * distance_square as u128
 }
 
-/// The drop in this direction, 0 if no neighbour there is lower.
+/// The drop in this direction between whole heights, 0 if no neighbour there is lower.
 pub fn drop(patch: &Patch, direction: Direction) -> u64
+    requires whole { patch.now.spacing.kind ≡ HeightKind.Whole }
     ensures is { pos result ≡ drop_at patch.now direction }
     ensures few { result < 2 ^ 33 }
 {
@@ -150,6 +218,7 @@ pub fn drop(patch: &Patch, direction: Direction) -> u64
 
 /// The drop to these values, 0 if they are not those of a lower data cell.
 fn drop_to(patch: &Patch, there: &CellValues) -> u64
+    requires whole { patch.now.spacing.kind ≡ HeightKind.Whole }
     ensures is { pos result ≡ drop_of patch.now (Some there.now) }
     ensures few { result < 2 ^ 33 }
 {

@@ -123,16 +123,16 @@ same_seam v w of_v of_w passes =
     let con = and_parts _ _ sink.1 in
     let dir = and_parts _ _ con.1 in
     let acc = and_parts _ _ dir.1 in
-    let con_is = (Decides-int_eq v.con w.con).0 con.0 in
+    let dir_is = (Decides-int_eq v.dir w.dir).0 dir.0 in
     λ i. record {
       z = same_option v.z w.z z.0 i;
       sink = same_flag v.sink w.sink sink.0 i;
-      con = con_is i;
-      dir = (Decides-int_eq v.dir w.dir).0 dir.0 i;
+      con = (Decides-int_eq v.con w.con).0 con.0 i;
+      dir = dir_is i;
       acc = (Decides-int_eq v.acc w.acc).0 acc.0 i;
       bas = (Decides-int_eq v.bas w.bas).0 acc.1 i;
       spl = (of_v.spl ∙ sym of_w.spl) i;
-      rnk = (of_v.rnk ∙ con_is ∙ sym of_w.rnk) i;
+      rnk = (of_v.rnk ∙ dir_is ∙ sym of_w.rnk) i;
     }
 
 pub seam_pass : (v w : Values) → v ≡ w → seam_test v w ≡ true

@@ -103,11 +103,11 @@ pub fn spacing_at(listed: &[Spacing], row: u32) -> Spacing
     }
 }
 
-/// Whether two spacings are the same.
+/// Whether two spacings are the same, for heights of one kind.
 pub fn same_spacing(a: Spacing, b: Spacing) -> bool
     ensures { IsTrue result ↔ (a ≡ b) }
 {
-    a.width == b.width && a.height == b.height
+    a.width == b.width && a.height == b.height && a.kind == b.kind
 }
 
 /// A report on one window: where it lies, how far apart the cells of its rows are (`spacing_at`), the no-data numbers,

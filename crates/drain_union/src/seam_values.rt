@@ -8,7 +8,7 @@ use drain_grid::CellValues;
 use std::marker::Model;
 
 /// The values at a cell as an audit has them: the elevation, whether the cell is a listed sink, and the numbers of con,
-/// dir, acc and bas. There is no spill code, which counts as 0, and con takes the place of the ranks.
+/// dir, acc and bas. There is no spill code, which counts as 0, and dir takes the place of the ranks.
 #[derive(Clone, Copy, PartialEq, Eq, Debug)]
 pub struct SeamValues {
     pub z: Option<i64>,
@@ -33,12 +33,12 @@ impl Model for SeamValues {
 }
 
 impl SeamValues {
-    /// Those of a cell, if they have no spill code, and con in place of the rank.
+    /// Those of a cell, if they have no spill code, and dir in place of the rank.
     pub fn of(values: &CellValues) -> Option<SeamValues>
         ensures some { IsSome result ↔ AreOfSeam values.now }
         ensures value { IfSome result (λ v. v ≡ values.now) }
     {
-        if values.spl == 0 && values.rnk == values.con {
+        if values.spl == 0 && values.rnk == values.dir {
             Some(SeamValues {
                 z: values.z,
                 sink: values.sink,
@@ -74,7 +74,7 @@ impl SeamValues {
         ensures valid { IsSome result ↔ AreInRange (seam_values z sink con dir acc bas) }
         ensures value { IfSome result (λ v. v ≡ seam_values z sink con dir acc bas) }
     {
-        match CellValues::of_height(z, sink, con, dir, acc, bas, 0, con) {
+        match CellValues::of_height(z, sink, con, dir, acc, bas, 0, dir) {
             Some(_) => Some(SeamValues {
                 z,
                 sink,

@@ -39,7 +39,7 @@ use Rattle.drain_answer.specs.declared.outcome.AuditVerdict.TheVariants.{Accepte
 use Rattle.drain_answer.specs.declared.refusal.Refusal.{Refusal}
 use Rattle.drain_grid.specs.declared.verdict.Verdict.TheVariants as checked
 
--- What was read of the devices of an audit's four products: con's device counts for the ranks too.
+-- What was read of the devices of an audit's four products: dir's device counts for the ranks too.
 
 -- if only memory ran out, no device failed for good
 pub no_device : (before after : Answer) → OnOk before (IfErr after (λ refusal. refusal ≡ OutOfMemory)) → ¬ IsTrue (gave_up (told_by before) (told_by after))
@@ -47,9 +47,9 @@ no_device (Ok done) (Ok done_then) only up = let no = up in cc
 no_device (Ok done) (Err refusal) only up = let no : IsTrue (gave_up None (Some OutOfMemory)) = subst (λ r. IsTrue (gave_up None (Some r))) only up in cc
 no_device (Err refusal) after only up = let no = up in cc
 
--- whether the product's device failed for good; that of con takes the place of the ranks
+-- whether the product's device failed for good; that of dir takes the place of the ranks
 abbrev failed_of_four : (con dir acc bas last : Answer) → SetProduct → Bool
-failed_of_four con dir acc bas last Rnk = failed_at con dir acc bas last Con
+failed_of_four con dir acc bas last Rnk = failed_at con dir acc bas last Dir
 failed_of_four con dir acc bas last p = failed_at con dir acc bas last p
 
 module _ {R : Type 0} (bl : R → Option (List ℕ)) (ct : R → FaultCounts) (old new : PerProduct RasterRows) where
@@ -81,10 +81,10 @@ module _ {R : Type 0} (bl : R → Option (List ℕ)) (ct : R → FaultCounts) (o
         exactly = (
           λ is. let found = some.0 is in
               by_set_product (λ p. IsTrue (failed_at a b c d e p) → (q : SetProduct) × IsTrue (failed q)) (λ up. (Con, up)) (λ up. (Dir, up)) (λ up. (Acc, up)) (λ up. (Bas, up)) (λ up. absurd (none up)) found.0 found.1,
-          λ found. some.1 (by_set_product (λ p. IsTrue (failed p) → (q : SetProduct) × IsTrue (failed_at a b c d e q)) (λ up. (Con, up)) (λ up. (Dir, up)) (λ up. (Acc, up)) (λ up. (Bas, up)) (λ up. (Con, up)) found.0 found.1),
+          λ found. some.1 (by_set_product (λ p. IsTrue (failed p) → (q : SetProduct) × IsTrue (failed_at a b c d e q)) (λ up. (Con, up)) (λ up. (Dir, up)) (λ up. (Acc, up)) (λ up. (Bas, up)) (λ up. (Dir, up)) found.0 found.1),
         );
         each = by_set_product (λ p. IsPart (of_product (as_five lent) p).body (of_product (as_five then) p).body (of_product (readers_as_five old) p) (of_product (readers_as_five new) p) (failed p))
-            at_con at_dir at_acc at_bas at_con;
+            at_con at_dir at_acc at_bas at_dir;
         headers = by_set_product (λ p. (of_product (as_five then) p).header ≡ (of_product (as_five lent) p).header) refl refl refl refl refl;
       }
 

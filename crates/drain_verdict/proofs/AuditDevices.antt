@@ -76,12 +76,12 @@ split (x ∷ xs) (u ∷ us) ys vs (f ∷ fs) same (here, each) =
 
 module _ (a b c d at bt ct dt : FaultCounts) where
   abbrev Five : List Faults → Type 0
-  Five fs = AnsweredEach (a ∷ b ∷ c ∷ d ∷ a ∷ []) (at ∷ bt ∷ ct ∷ dt ∷ at ∷ []) fs
+  Five fs = AnsweredEach (a ∷ b ∷ c ∷ d ∷ b ∷ []) (at ∷ bt ∷ ct ∷ dt ∷ bt ∷ []) fs
 
   abbrev Four : List Faults → Type 0
   Four fs = AnsweredEach (a ∷ b ∷ c ∷ d ∷ []) (at ∷ bt ∷ ct ∷ dt ∷ []) fs
 
-  -- five of which the last is the first are four
+  -- five of which the last is the second are four
   four_of_five : (fs : List Faults) → Five fs → (gs : List Faults) × Four gs × (Any gave_up fs ↔ Any gave_up gs)
   four_of_five [] each = absurd each
   four_of_five (f ∷ []) (one, each) = absurd each
@@ -90,36 +90,43 @@ module _ (a b c d at bt ct dt : FaultCounts) where
   four_of_five (f ∷ g ∷ h ∷ i ∷ []) (one, (two, (three, (four, each)))) = absurd each
   four_of_five (f ∷ g ∷ h ∷ i ∷ j ∷ k ∷ fs) (one, (two, (three, (four, (five, each))))) = absurd each
   four_of_five (f ∷ g ∷ h ∷ i ∷ j ∷ []) (one, (two, (three, (four, (five, each))))) =
-      let once = told_once a at f j one five in
-      let rest = g ∷ h ∷ i ∷ [] in (
-        once.0 ∷ rest,
-        (once.1.answered, (two, (three, (four, tt)))),
+      let once = told_once b bt g j two five in
+      let more = g ∷ h ∷ i ∷ [] in
+      let rest = once.0 ∷ h ∷ i ∷ [] in (
+        f ∷ rest,
+        (one, (once.1.answered, (three, (four, tt)))),
         (
-          λ some. elim (any-either gave_up (f ∷ rest) (j ∷ []) some) [
-            | inl early ↦ elim (any-cases gave_up f rest early) [
-              | inl is ↦ any-first gave_up once.0 rest (once.1.gives_up.1 (inl is))
-              | inr later ↦ any-later gave_up once.0 rest later
-            ]
-            | inr last ↦ elim (any-cases gave_up j [] last) [
-              | inl is ↦ any-first gave_up once.0 rest (once.1.gives_up.1 (inr is))
-              | inr none ↦ absurd (any-none gave_up none)
-            ]
+          λ some. elim (any-cases gave_up f (more ++ (j ∷ [])) some) [
+            | inl first ↦ any-first gave_up f rest first
+            | inr later ↦ any-later gave_up f rest (elim (any-either gave_up more (j ∷ []) later) [
+              | inl early ↦ elim (any-cases gave_up g (h ∷ i ∷ []) early) [
+                | inl is ↦ any-first gave_up once.0 (h ∷ i ∷ []) (once.1.gives_up.1 (inl is))
+                | inr last ↦ any-later gave_up once.0 (h ∷ i ∷ []) last
+              ]
+              | inr last ↦ elim (any-cases gave_up j [] last) [
+                | inl is ↦ any-first gave_up once.0 (h ∷ i ∷ []) (once.1.gives_up.1 (inr is))
+                | inr none ↦ absurd (any-none gave_up none)
+              ]
+            ])
           ],
-          λ some. elim (any-cases gave_up once.0 rest some) [
-            | inl is ↦ elim (once.1.gives_up.0 is) [
-              | inl first ↦ any-first gave_up f (rest ++ (j ∷ [])) first
-              | inr last ↦ any-right gave_up (f ∷ rest) (j ∷ []) (any-first gave_up j [] last)
-            ]
-            | inr later ↦ any-left gave_up (f ∷ rest) (j ∷ []) (any-later gave_up f rest later)
+          λ some. elim (any-cases gave_up f rest some) [
+            | inl first ↦ any-first gave_up f (more ++ (j ∷ [])) first
+            | inr later ↦ any-later gave_up f (more ++ (j ∷ [])) (elim (any-cases gave_up once.0 (h ∷ i ∷ []) later) [
+              | inl is ↦ elim (once.1.gives_up.0 is) [
+                | inl early ↦ any-first gave_up g (h ∷ i ∷ j ∷ []) early
+                | inr last ↦ any-right gave_up more (j ∷ []) (any-first gave_up j [] last)
+              ]
+              | inr last ↦ any-left gave_up more (j ∷ []) (any-later gave_up g (h ∷ i ∷ []) last)
+            ])
           ],
         ),
       )
 
   -- so a read of the four fails where one of the five does
   fails_of_four : (xs us : List FaultCounts) {F : Type 0} → length xs ≡ length us →
-      SomeReadFails (xs ++ (a ∷ b ∷ c ∷ d ∷ a ∷ [])) (us ++ (at ∷ bt ∷ ct ∷ dt ∷ at ∷ [])) F → SomeReadFails (xs ++ (a ∷ b ∷ c ∷ d ∷ [])) (us ++ (at ∷ bt ∷ ct ∷ dt ∷ [])) F
+      SomeReadFails (xs ++ (a ∷ b ∷ c ∷ d ∷ b ∷ [])) (us ++ (at ∷ bt ∷ ct ∷ dt ∷ bt ∷ [])) F → SomeReadFails (xs ++ (a ∷ b ∷ c ∷ d ∷ [])) (us ++ (at ∷ bt ∷ ct ∷ dt ∷ [])) F
   fails_of_four xs us {F} same fails =
-      let parts = split xs us (a ∷ b ∷ c ∷ d ∷ a ∷ []) (at ∷ bt ∷ ct ∷ dt ∷ at ∷ []) fails.faults same fails.answered in
+      let parts = split xs us (a ∷ b ∷ c ∷ d ∷ b ∷ []) (at ∷ bt ∷ ct ∷ dt ∷ bt ∷ []) fails.faults same fails.answered in
       let four = four_of_five parts.1 parts.4 in
       let left : SomeReadFails xs us (Any gave_up parts.0) = record { faults = parts.0; answered = parts.3; exactly = (λ h. h, λ h. h) } in
       let right : SomeReadFails (a ∷ b ∷ c ∷ d ∷ []) (at ∷ bt ∷ ct ∷ dt ∷ []) (Any gave_up four.0) = record { faults = four.0; answered = four.1; exactly = (λ h. h, λ h. h) } in
@@ -150,8 +157,8 @@ set_devices_of_four counts devices xs xs_then ps ps_then {F} as_many fails =
     let four = fails_of_four (counts ps.con.body) (counts ps.dir.body) (counts ps.acc.body) (counts ps.bas.body)
     (counts ps_then.con.body) (counts ps_then.dir.body) (counts ps_then.acc.body) (counts ps_then.bas.body) (map counts (devices xs)) (map counts (devices xs_then)) as_many
     (rw (
-      sym (map-append counts (devices xs) (ps.con.body ∷ ps.dir.body ∷ ps.acc.body ∷ ps.bas.body ∷ ps.con.body ∷ [])),
-      sym (map-append counts (devices xs_then) (ps_then.con.body ∷ ps_then.dir.body ∷ ps_then.acc.body ∷ ps_then.bas.body ∷ ps_then.con.body ∷ [])),
+      sym (map-append counts (devices xs) (ps.con.body ∷ ps.dir.body ∷ ps.acc.body ∷ ps.bas.body ∷ ps.dir.body ∷ [])),
+      sym (map-append counts (devices xs_then) (ps_then.con.body ∷ ps_then.dir.body ∷ ps_then.acc.body ∷ ps_then.bas.body ∷ ps_then.dir.body ∷ [])),
     ) fails) in
     rw (
       map-append counts (devices xs) (four_devices ps),

@@ -42,14 +42,14 @@ values_none s told none = own_none s 7 (own_values s) told none
 pub values_refused : (s : GroundSet) (refusal : Refusal) → IsToldOf s.terrain 7 (Some refusal) → NoneStandsIn s 7 → IsRefusalIn s refusal
 values_refused s refusal told none = own_refused s 7 (own_values s) refusal told none
 
-pub rasters_none : (s : GroundSet) → ((p : SetProduct) → ¬ IsShort (set_fields s.texts p) (s.texts.raster p)) → NoneStandsIn s 6 → NoneStandsIn s 7
+pub rasters_none : (s : GroundSet) → ((p : SetProduct) → ¬ IsShort (set_fields s.terrain.kind s.texts p) (s.texts.raster p)) → NoneStandsIn s 6 → NoneStandsIn s 7
 rasters_none s long none =
-    none_more (StandsIn s) 6 none (at_raster s (λ b. ¬ StandsIn s b) (λ b no. no) (λ p stands. long p ((of_held (λ h. IsShort (set_fields s.texts h) (s.texts.raster h)) p).0 stands)))
+    none_more (StandsIn s) 6 none (at_raster s (λ b. ¬ StandsIn s b) (λ b no. no) (λ p stands. long p ((of_held (λ h. IsShort (set_fields s.terrain.kind s.texts h) (s.texts.raster h)) p).0 stands)))
 
 -- the refusal of a raster is the first
-pub raster_refused : (s : GroundSet) (p : SetProduct) → IsShort (set_fields s.texts p) (s.texts.raster p) → ((q : SetProduct) → rank_of q < rank_of p → ¬ IsShort (set_fields s.texts q) (s.texts.raster q)) →
+pub raster_refused : (s : GroundSet) (p : SetProduct) → IsShort (set_fields s.terrain.kind s.texts p) (s.texts.raster p) → ((q : SetProduct) → rank_of q < rank_of p → ¬ IsShort (set_fields s.terrain.kind s.texts q) (s.texts.raster q)) →
     NoneStandsIn s 6 → IsRefusalIn s (RasterShort (product_of p))
 raster_refused s p short before none =
-    let is_short = of_held (λ h. IsShort (set_fields s.texts h) (s.texts.raster h)) in
+    let is_short = of_held (λ h. IsShort (set_fields s.terrain.kind s.texts h) (s.texts.raster h)) in
     first_of s (StandsIn s) 6 (rank_of p) (RasterShort (product_of p)) refl ((is_short p).1 short) none
     (at_raster s (λ b. place_in s b < rank_of p → ¬ StandsIn s b) (λ b no less. no) (λ q less stands. before q less ((is_short q).0 stands)))

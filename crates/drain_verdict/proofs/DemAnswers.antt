@@ -13,13 +13,13 @@ use Rattle.drain_grid.specs.Laws.{CorrectFromRules, CorrectIsLocal, RanksPlayNoP
 use Rattle.drain_grid.specs.declared.judged.Judged.{Judged}
 use Rattle.drain_grid.specs.declared.verdict.Verdict.{Verdict}
 use Rattle.drain_grid.specs.declared.verdict.Verdict.TheVariants as checked
-use Rattle.drain_header.specs.Faults.{Answers, Describes}
+use Rattle.drain_header.specs.Faults.{DescribesOf}
 use Rattle.drain_header.specs.Header.{Fields}
 use Rattle.drain_raster.specs.Placing.{HasPixelSize}
 use Rattle.drain_rules.specs.Verdicts.{IfAccepted}
 use Rattle.drain_text.specs.First.{IsBefore, IsFirst}
 use Rattle.drain_verdict.specs.Answers.{AreCorrectIn, IfAccepts, IsAcceptance, IsAnswerIn, IsAuditIn, IsPlainIn}
-use Rattle.drain_verdict.specs.DemGround.{AreHeadersKept, DemTakesAtMost, DemTexts, DemUses, ElevationIsItsPixels, EncodesDem, HasDemHeader, IsDemHeader, IsDemHeaderRefusal, IsDemInput, dem_audit_devices, dem_check_devices, dem_devices, dem_fields, dem_ground}
+use Rattle.drain_verdict.specs.DemGround.{AreHeadersKept, DemTakesAtMost, DemTexts, DemUses, ElevationIsItsPixels, EncodesDem, HasDemHeader, IsDemHeader, IsDemHeaderRefusal, IsDemInput, dem_audit_devices, dem_check_devices, dem_devices, dem_fields, dem_ground, kind_of}
 use Rattle.drain_verdict.specs.Given.{Given}
 use Rattle.drain_verdict.specs.GroundSets.{EncodeTexts, GroundSet, IsReadable, IsRefusalIn, StandsIn, set_grid, set_numbers, set_products}
 use Rattle.drain_verdict.specs.Texts.{SetTexts}
@@ -89,7 +89,7 @@ pub pixels_are : {R : Type 0} (bl : R → Option (List ℕ)) (dem : List (Raster
 pixels_are bl dem d t header tell readable =
     let is = dem_framed bl header.0 dem d header.1 tell in
     record {
-      described = subst (Describes d.header) is.described.fields is.described;
+      described = subst (DescribesOf (kind_of d.header) d.header) is.described.fields is.described;
       sized = subst (λ (k : Fields). HasPixelSize k.place) is.described.fields is.sized;
       whole = readable DemShort;
       pixels = λ c inside. refl;

@@ -8,7 +8,8 @@ use Rattle.drain_device.specs.declared.counts.FaultCounts.{FaultCounts}
 use Rattle.drain_device.specs.declared.row_source.Progress.TheVariants.{Stopped}
 use Rattle.drain_device.proofs.FaultLists.{SomeReadFails-one, takes-none}
 use Rattle.drain_header.specs.Header.{AreWithinBounds, Fields, header_of}
-use Rattle.drain_raster.specs.Elevations.{ElevationRowsArePixels}
+use Rattle.drain_pixels.specs.declared.voids.Voids.{Voids}
+use Rattle.drain_raster.specs.Elevations.{ElevationRowsArePixels, voids_of}
 use Rattle.drain_raster.specs.Laws.{RasterRowsEnd, RasterRowsTakeWhatIsNeeded}
 use Rattle.drain_raster.specs.Pixels.{IsShort, header_extent, needed_len}
 use Rattle.drain_raster.specs.Placing.{HasPixelSize, LiesOn}
@@ -29,16 +30,16 @@ use Rattle.drain_verdict.proofs.RowReads.{raster_none, raster_then}
 
 -- One more row.
 
-module _ {R : Type 0} (bl : R → Option (List ℕ)) (old new : RasterRows) (void : Option ℤ) (body : R) (out : List (Option ℤ)) where
+module _ {R : Type 0} (bl : R → Option (List ℕ)) (old new : RasterRows) (voids : Voids) (body : R) (out : List (Option ℤ)) where
   -- of one raster a row more was requested, and this came
   pub dem_more : (from : List (RasterInput R)) (d : RasterInput R) (t : GroundToGive) (n : ℕ) → length from ≡ 1 →
-      ((start : Coming) (k : ℕ) → IsAfterTold old (bl (slice_index_or from 0 d).body) start k → IsAfterTold new (bl body) start (k + 1) × (out ≡ elevations void (nth_row k start))) →
-      IsDemAfter bl old void from t n →
-      IsDemAfter bl new void (slice_set from 0 (record { header = (slice_index_or from 0 d).header; body = body })) t (n + 1) × (out ≡ ground_row t n)
+      ((start : Coming) (k : ℕ) → IsAfterTold old (bl (slice_index_or from 0 d).body) start k → IsAfterTold new (bl body) start (k + 1) × (out ≡ elevations voids (nth_row k start))) →
+      IsDemAfter bl old voids from t n →
+      IsDemAfter bl new voids (slice_set from 0 (record { header = (slice_index_or from 0 d).header; body = body })) t (n + 1) × (out ≡ ground_row t n)
   dem_more [] d t n one step before = absurd before
   dem_more (input ∷ []) d t n one step before =
       let came = step t.rows n before.1 in
-      ((before.0, came.0), came.1 ∙ ap (λ (v : Option ℤ). elevations v (nth_row n t.rows)) (sym before.0))
+      ((before.0, came.0), came.1 ∙ ap (λ (v : Voids). elevations v (nth_row n t.rows)) (sym before.0))
   dem_more (input ∷ other ∷ more) d t n one step before = absurd before
 
 module _ {R : Type 0} (bl : R → Option (List ℕ)) (ct : R → FaultCounts) where
@@ -141,8 +142,9 @@ dem_none_early h d is BadPixelSize less refuses = refuses (subst (λ (k : Fields
 dem_none_early h d is b less refuses = absurd (omega (arith, less))
 
 -- rasters that lie on the header's lie on the ground
-pub dem_laid : (h : Fields) (d : DemTexts) → IsDemHeader h d.header → IsLaidOn (header_extent h) (LiesOn h) (dem_ground d)
+pub dem_laid : (h : Fields) (d : DemTexts) → IsDemHeader h d.header → IsLaidOn h.kind (header_extent h) (LiesOn h) (dem_ground d)
 dem_laid h d is = record {
+  kind_is = ap (λ (k : Fields). k.kind) (sym is.described.fields);
   extent_is = ap header_extent (sym is.described.fields);
   holds_is = λ place. (
     subst (λ (k : Fields). LiesOn k place) (sym is.described.fields),
@@ -151,12 +153,12 @@ dem_laid h d is = record {
 }
 
 -- new readers are to give the rows of the body
-pub dem_starts : {R : Type 0} (bl : R → Option (List ℕ)) (h : Fields) (raster : RasterRows) (void : Option ℤ) (xs : List (RasterInput R)) (d : DemTexts) → EncodesDem bl xs d → IsDemHeader h d.header → IsDemBegun h raster void →
-    IsDemAfter bl raster void xs (dem_rows_of d) 0
-dem_starts bl h raster void [] d tell is begun = absurd tell
-dem_starts bl h raster void (x ∷ y ∷ more) d tell is begun = absurd tell
-dem_starts bl h raster void (x ∷ []) d tell is begun = (
-  ap (λ (k : Fields). k.nodata) (sym is.described.fields) ∙ sym begun.void_is,
+pub dem_starts : {R : Type 0} (bl : R → Option (List ℕ)) (h : Fields) (raster : RasterRows) (voids : Voids) (xs : List (RasterInput R)) (d : DemTexts) → EncodesDem bl xs d → IsDemHeader h d.header → IsDemBegun h raster voids →
+    IsDemAfter bl raster voids xs (dem_rows_of d) 0
+dem_starts bl h raster voids [] d tell is begun = absurd tell
+dem_starts bl h raster voids (x ∷ y ∷ more) d tell is begun = absurd tell
+dem_starts bl h raster voids (x ∷ []) d tell is begun = (
+  ap voids_of (sym is.described.fields) ∙ sym begun.voids_are,
   subst (λ (known : Option (List ℕ)). IsAfterTold raster known (dem_rows_of d).rows 0) (sym tell.1)
       (record { coming_is = raster_starts; stopped = λ m none. absurd (omega (arith, none)) }),
 )
@@ -189,17 +191,17 @@ dem_rows ends pixels h d is none =
     let whole : ¬ IsShort (dem_fields d) d.body = none DemShort refl in
     let all = ends (dem_fields d) d.body (dem_bounds h d is) in
     record {
-      long = λ row inside. length-map (nth_row row (dem_rows_of d).rows) (height_with (dem_fields d).nodata) ∙ all.long row inside whole;
+      long = λ row inside. length-map (nth_row row (dem_rows_of d).rows) (height_with (voids_of (dem_fields d))) ∙ all.long row inside whole;
       heights = λ row col inside across. pixels (dem_fields d) d.body row col (dem_bounds h d is) whole inside across;
-      none_behind = ap (elevations (dem_fields d).nodata) all.none_behind;
+      none_behind = ap (elevations (voids_of (dem_fields d))) all.none_behind;
     }
 
 -- after all rows the reader has stopped exactly if the raster is short
-pub dem_stopped : RasterRowsEnd → {R : Type 0} (bl : R → Option (List ℕ)) (h : Fields) (raster : RasterRows) (void : Option ℤ) (xs : List (RasterInput R)) (d : DemTexts) → IsDemHeader h d.header →
-    IsDemAfter bl raster void xs (dem_rows_of d) (h.rows + 1) → (raster.progress ≡ Stopped) ↔ IsShort (dem_fields d) d.body
-dem_stopped ends bl h raster void [] d is after = absurd after
-dem_stopped ends bl h raster void (x ∷ y ∷ more) d is after = absurd after
-dem_stopped ends bl h raster void (x ∷ []) d is after =
+pub dem_stopped : RasterRowsEnd → {R : Type 0} (bl : R → Option (List ℕ)) (h : Fields) (raster : RasterRows) (voids : Voids) (xs : List (RasterInput R)) (d : DemTexts) → IsDemHeader h d.header →
+    IsDemAfter bl raster voids xs (dem_rows_of d) (h.rows + 1) → (raster.progress ≡ Stopped) ↔ IsShort (dem_fields d) d.body
+dem_stopped ends bl h raster voids [] d is after = absurd after
+dem_stopped ends bl h raster voids (x ∷ y ∷ more) d is after = absurd after
+dem_stopped ends bl h raster voids (x ∷ []) d is after =
     told (bl x.body) (subst (λ (k : Fields). IsAfterTold raster (bl x.body) (dem_rows_of d).rows (k.rows + 1)) is.described.fields after.1)
   where
     told : (known : Option (List ℕ)) → IsAfterTold raster known (dem_rows_of d).rows ((dem_fields d).rows + 1) → (raster.progress ≡ Stopped) ↔ IsShort (dem_fields d) d.body

@@ -33,7 +33,8 @@ use Rattle.drain_grid.specs.Unranked.{IsFirstEndless}
 use Rattle.drain_grid.specs.Values.{NoDataNumbers}
 use Rattle.drain_header.proofs.OneAnswer as header
 use Rattle.drain_header.specs.declared.fault.HeaderFault.{HeaderFault}
-use Rattle.drain_header.specs.Faults.{Answers}
+use Rattle.drain_grid.specs.declared.height_kind.HeightKind.{HeightKind}
+use Rattle.drain_header.specs.Faults.{AnswersOf}
 use Rattle.drain_rules.specs.Verdicts.{IsVerdict, IsVerdictAmong, IsVerdictBy}
 use Rattle.drain_text.specs.First.{IsFirst}
 use Rattle.drain_verdict.proofs.Order.{at_bad_line, at_bad_spacing, at_header, at_off_data, at_raster, at_spacing_rows}
@@ -41,6 +42,7 @@ use Rattle.drain_verdict.specs.Answers.{IsAnswerIn, IsAuditIn, IsAuditVerdict, c
 use Rattle.drain_verdict.specs.Ground.{refusal_kind}
 use Rattle.drain_verdict.specs.GroundSets.{GroundSet, IsReadable, IsRefusalIn, StandsIn, order_in, place_in, set_grid, set_numbers, set_products}
 use Rattle.drain_verdict.specs.Outcomes.{IsConOutcome, IsOutcome, IsOutcomeIn, IsRankOutcome, IsWayOutcome, rules_of}
+use Rattle.drain_verdict.specs.Texts.{kind_in}
 use Rattle.drain_verdict.specs.SameGround.{IsOfBytes, IsSound}
 
 -- The verdict.
@@ -187,21 +189,21 @@ there product.Spl = refl
 same_product : (p q : Product) → place_of p ≡ place_of q → p ≡ q
 same_product p q same = sym (there p) ∙ ap at_place same ∙ there q
 
-fault_of : (text : List ℕ) (one other : HeaderFault) → Answers text (Err one) → Answers text (Err other) → one ≡ other
-fault_of text one other is too = let same = header.one_answer text (Err one) (Err other) is too in cc
+fault_of : (kind : HeightKind) (text : List ℕ) (one other : HeaderFault) → AnswersOf kind text (Err one) → AnswersOf kind text (Err other) → one ≡ other
+fault_of kind text one other is too = let same = header.one_answer_of kind text (Err one) (Err other) is too in cc
 
 same_number : (a b : ℕ) → ¬ (a < b) → ¬ (b < a) → a ≡ b
 same_number a b above below = omega arith
 
 -- a header has one fault
-same_fault : (header : SetProduct → List ℕ) (p : Product) (one other : HeaderFault) → OfSetProduct (λ h. Answers (header h) (Err one)) p →
-    OfSetProduct (λ h. Answers (header h) (Err other)) p → one ≡ other
-same_fault header product.Con one other is too = fault_of (header held.Con) one other is too
-same_fault header product.Dir one other is too = fault_of (header held.Dir) one other is too
-same_fault header product.Acc one other is too = fault_of (header held.Acc) one other is too
-same_fault header product.Bas one other is too = fault_of (header held.Bas) one other is too
-same_fault header product.Rnk one other is too = fault_of (header held.Rnk) one other is too
-same_fault header product.Spl one other is too = absurd is
+same_fault : (kind : SetProduct → HeightKind) (header : SetProduct → List ℕ) (p : Product) (one other : HeaderFault) → OfSetProduct (λ h. AnswersOf (kind h) (header h) (Err one)) p →
+    OfSetProduct (λ h. AnswersOf (kind h) (header h) (Err other)) p → one ≡ other
+same_fault kind header product.Con one other is too = fault_of (kind held.Con) (header held.Con) one other is too
+same_fault kind header product.Dir one other is too = fault_of (kind held.Dir) (header held.Dir) one other is too
+same_fault kind header product.Acc one other is too = fault_of (kind held.Acc) (header held.Acc) one other is too
+same_fault kind header product.Bas one other is too = fault_of (kind held.Bas) (header held.Bas) one other is too
+same_fault kind header product.Rnk one other is too = fault_of (kind held.Rnk) (header held.Rnk) one other is too
+same_fault kind header product.Spl one other is too = absurd is
 
 module _ (s : GroundSet) (sound : IsSound s.terrain) where
   -- a refusal that applies is this one
@@ -217,7 +219,7 @@ module _ (s : GroundSet) (sound : IsSound s.terrain) where
       at_header s (IsThis (BadHeader p fault)) (unless _)
       (λ q other place stands.
       (let one : product_of q ≡ p = same_product (product_of q) p (omega (arith, place)) in
-      let same : other ≡ fault = same_fault s.texts.header p other fault (subst (OfSetProduct (λ h. Answers (s.texts.header h) (Err other))) one stands) is in
+      let same : other ≡ fault = same_fault (kind_in s.terrain.kind) s.texts.header p other fault (subst (OfSetProduct (λ h. AnswersOf (kind_in s.terrain.kind h) (s.texts.header h) (Err other))) one stands) is in
       λ i. BadHeader (one i) (same i)))
       (λ q place stands. absurd (omega (arith, place))) (λ q place stands. absurd (omega (arith, place))) b kind
   same_refusal (WrongShape p) b is kind =

@@ -31,7 +31,7 @@ use Rattle.drain_grid.proofs.ByProduct.{by_set_product, by_set_product_or_spill,
 use Rattle.drain_verdict.specs.Given.{row_spacing}
 use Rattle.drain_verdict.specs.Ground.{AreGroundRows, GroundToGive}
 use Rattle.drain_verdict.specs.GroundSets.{GroundSet, IsRefusalIn, NoneStandsIn, set_grid, set_numbers, set_products}
-use Rattle.drain_verdict.specs.Texts.{nodata_in, set_fields, set_listed, set_nodata}
+use Rattle.drain_verdict.specs.Texts.{nodata_in, nodata_number, set_fields, set_listed, set_nodata}
 use Rattle.drain_verdict.specs.InputRows.{HasStopped, IsFirstOf, IsShortRefusal, IsToldRefusal}
 use Rattle.drain_verdict.specs.Inputs.{Products}
 use Rattle.drain_verdict.specs.Laws.{RasterLaws}
@@ -70,18 +70,18 @@ at_end after bl t e hs raster rows inputs ps is_after laws bounds shapes = recor
   short_is = λ p. stopped_is_short laws.raster_end (of_product hs p) (raster p) (of_product rows.rasters p) (bl (of_product ps p).body) e.rows (bounds p) (ap (λ (x : Extent). x.rows) (shapes p)) (is_after.product p);
 }
 
-module _ (laws : RasterLaws) (s : GroundSet) (hs : PerProduct Fields) (fields : (p : SetProduct) → of_product hs p ≡ set_fields s.texts p) {Short : SetProduct → Type 0}
+module _ (laws : RasterLaws) (s : GroundSet) (hs : PerProduct Fields) (fields : (p : SetProduct) → of_product hs p ≡ set_fields s.terrain.kind s.texts p) {Short : SetProduct → Type 0}
     (at : AreAtEnd s.terrain.extent hs s.texts.raster Short) where
-  short_there : (p : SetProduct) → Short p → IsShort (set_fields s.texts p) (s.texts.raster p)
+  short_there : (p : SetProduct) → Short p → IsShort (set_fields s.terrain.kind s.texts p) (s.texts.raster p)
   short_there p short = subst (λ (h : Fields). IsShort h (s.texts.raster p)) (fields p) ((at.short_is p).0 short)
 
-  short_back : (p : SetProduct) → IsShort (set_fields s.texts p) (s.texts.raster p) → Short p
+  short_back : (p : SetProduct) → IsShort (set_fields s.terrain.kind s.texts p) (s.texts.raster p) → Short p
   short_back p short = (at.short_is p).1 (subst (λ (h : Fields). IsShort h (s.texts.raster p)) (sym (fields p)) short)
 
   long_enough : ((p : SetProduct) → ¬ Short p) → (p : SetProduct) → ¬ IsShort (of_product hs p) (s.texts.raster p)
   long_enough none p short = none p ((at.short_is p).1 short)
 
-  none_short : ((p : SetProduct) → ¬ Short p) → (p : SetProduct) → ¬ IsShort (set_fields s.texts p) (s.texts.raster p)
+  none_short : ((p : SetProduct) → ¬ Short p) → (p : SetProduct) → ¬ IsShort (set_fields s.terrain.kind s.texts p) (s.texts.raster p)
   none_short none p short = none p (short_back p short)
 
   short_refused : (refusal : Refusal) → IsShortRefusal Short refusal → NoneStandsIn s 6 → IsRefusalIn s refusal
@@ -134,8 +134,8 @@ module _ (laws : RasterLaws) (s : GroundSet) (hs : PerProduct Fields) (fields : 
         laws.raster_pixels (of_product hs p) (s.texts.raster p) r col (at.bounds p) (long_enough none p) (omega (arith, inside, down)) (omega (arith, across, over))
         ∙ ap (λ (h : Fields). pixels.pixel_at h (s.texts.raster p) (place r col)) (fields p) ∙ number_is p
       where
-        number_is : (p : SetProduct) → pixels.pixel_at (set_fields s.texts p) (s.texts.raster p) (place r col) ≡ set_number_in (set_products s) p (place r col)
-        number_is = by_set_product (λ p. pixels.pixel_at (set_fields s.texts p) (s.texts.raster p) (place r col) ≡ set_number_in (set_products s) p (place r col)) refl refl refl refl refl
+        number_is : (p : SetProduct) → pixels.pixel_at (set_fields s.terrain.kind s.texts p) (s.texts.raster p) (place r col) ≡ set_number_in (set_products s) p (place r col)
+        number_is = by_set_product (λ p. pixels.pixel_at (set_fields s.terrain.kind s.texts p) (s.texts.raster p) (place r col) ≡ set_number_in (set_products s) p (place r col)) refl refl refl refl refl
 
     numbers_given : (r : ℕ) → r < s.terrain.extent.rows → AreNumbersOf (set_grid s) (set_products s) r (given rows_to_give r)
     numbers_given r inside = record {
@@ -158,16 +158,16 @@ module _ (laws : RasterLaws) (s : GroundSet) (hs : PerProduct Fields) (fields : 
     blank_even = by_set_product (λ p. length (of_product blank.products p) ≡ length blank.z) refl refl refl refl refl
 
     -- the rows that were given are those of the grid and of the products
-    pub rows_of_bytes : (sinks : List SinkLine) (spacing : ℕ → Distances) → sinks ≡ set_listed s.texts → spacing ≡ row_spacing s.texts.given.spacing → AreRowsOf (set_grid s) (set_products s) sinks spacing (row_given rows_to_give)
+    pub rows_of_bytes : (sinks : List SinkLine) (spacing : ℕ → Distances) → sinks ≡ set_listed s.texts → ((row : ℕ) → spacing row ≡ row_spacing s.terrain.kind s.texts.given.spacing row) → AreRowsOf (set_grid s) (set_products s) sinks spacing (row_given rows_to_give)
     rows_of_bytes sinks spacing sinks_are spacing_is = record {
       row = λ r inside. subst (AreNumbersOf (set_grid s) (set_products s) r) (sym ((is_row_given rows_to_give r).even (even r inside))) (numbers_given r inside);
       last = (is_row_given rows_to_give s.terrain.extent.rows).even (subst IsEven (sym none_given) blank_even) ∙ none_given;
       sinks_are = λ c inside. ap (λ (lines : List SinkLine). is_listed lines c) (sym sinks_are);
-      spaced = λ r inside. ap (λ (s : ℕ → Distances). s r) (sym spacing_is);
+      spaced = λ r inside. sym (spacing_is r);
     }
 
 -- the numbers for no data are the headers'
-pub nodata_are : (s : GroundSet) (hs : PerProduct Fields) → ((p : SetProduct) → of_product hs p ≡ set_fields s.texts p) → nodata_in hs ≡ set_numbers s
+pub nodata_are : (s : GroundSet) (hs : PerProduct Fields) → ((p : SetProduct) → of_product hs p ≡ set_fields s.terrain.kind s.texts p) → nodata_in hs ≡ set_numbers s
 nodata_are s hs fields = λ k. record {
   con = nodata_at Con k;
   dir = nodata_at Dir k;
@@ -177,5 +177,5 @@ nodata_are s hs fields = λ k. record {
   rnk = nodata_at Rnk k;
 }
   where
-    nodata_at : (p : SetProduct) → unwrap_or (of_product hs p).nodata (default_no_data (product_of p)) ≡ set_nodata s.texts p
-    nodata_at p = ap (λ (h : Fields). unwrap_or h.nodata (default_no_data (product_of p))) (fields p)
+    nodata_at : (p : SetProduct) → nodata_number (of_product hs p) p ≡ set_nodata s.terrain.kind s.texts p
+    nodata_at p = ap (λ (h : Fields). nodata_number h p) (fields p)

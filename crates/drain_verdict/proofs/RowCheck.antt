@@ -42,14 +42,14 @@ pub record IsOfSet {M X R : Type 0} (after : M → List X → GroundToGive → �
   pub shapes : (p : SetProduct) → pixels.header_extent (of_product hs p) ≡ e
   pub begun : AreBegun Begun hs (readers start)
   pub starts : after (readers start).elevations (inputs_lent start) t 0
-  pub texts : AreTextsIn bl hs (products_lent start) s.texts
+  pub texts : AreTextsIn bl s.terrain.kind hs (products_lent start) s.texts
   pub ground_rows : IsToldOf s.terrain 5 None → AreGroundRows s.terrain t
   pub none_before : NoneStandsIn s 5
 
 -- so where a grid of this shape is read, of this size
 pub of_call : {M X R : Type 0} (after : M → List X → GroundToGive → ℕ → Type 0) (Begun : M → Type 0) (bl : R → Option (List ℕ)) (s : GroundSet) (t : GroundToGive) (hs : PerProduct Fields) (start : Reading M X R) (shape e : Extent) →
     shape ≡ e → s.terrain.extent ≡ e → RasterLaws → ((p : SetProduct) → pixels.header_extent (of_product hs p) ≡ e) → AreBegun Begun hs (readers start) → after (readers start).elevations (inputs_lent start) t 0 →
-    AreTextsIn bl hs (products_lent start) s.texts → (IsToldOf s.terrain 5 None → AreGroundRows s.terrain t) → NoneStandsIn s 5 → IsOfSet after Begun bl s t hs start shape
+    AreTextsIn bl s.terrain.kind hs (products_lent start) s.texts → (IsToldOf s.terrain 5 None → AreGroundRows s.terrain t) → NoneStandsIn s 5 → IsOfSet after Begun bl s t hs start shape
 of_call after Begun bl s t hs start shape e shape_is extent_is laws shapes begun starts texts ground_rows none_before = record {
   extent_is = extent_is ∙ sym shape_is;
   laws = laws;
@@ -85,7 +85,7 @@ module _ {M X R : Type 0} (after : M → List X → GroundToGive → ℕ → Typ
 
   module _ (told : IsToldRefusal s.terrain (HasStopped (readers now)) None) where
     -- if none was reported, what holds of the grid that is given by rows holds of that of the set
-    pub given_holds : (listing : Listing) (P : Grid → grid.Products → Type 0) → IsListingOf listing s.texts.given → OfGrid (AreGiven after bl start) e listing.sinks.sinks (spacing_of listing.spacing.spacings) P → P (set_grid s) (set_products s)
+    pub given_holds : (listing : Listing) (P : Grid → grid.Products → Type 0) → IsListingOf s.terrain.kind listing s.texts.given → OfGrid (AreGiven after bl start) e listing.sinks.sinks (spacing_of listing.spacing.spacings) P → P (set_grid s) (set_products s)
     given_holds listing P listed of_grid =
         of_grid (row_given (to_give t hs s.texts.raster)) (set_grid s) (set_products s)
         (start_given after bl Begun t hs (readers start) (inputs_lent start) (products_lent start) s.texts.raster of_set.begun of_set.starts of_set.texts.rasters) of_set.extent_is
@@ -96,21 +96,21 @@ module _ {M X R : Type 0} (after : M → List X → GroundToGive → ℕ → Typ
     none_stood = told_none of_set.laws s hs of_set.texts.fields ended told of_set.none_before
 
     -- so the refusal of the lists is the answer
-    pub lists_answer : FoundOffDataIsRight → (listing : Listing) (voids : List Cell) (refusal : Refusal) → IsListingOf listing s.texts.given →
+    pub lists_answer : FoundOffDataIsRight → (listing : Listing) (voids : List Cell) (refusal : Refusal) → IsListingOf s.terrain.kind listing s.texts.given →
         OfGrid (AreGiven after bl start) e listing.sinks.sinks (spacing_of listing.spacing.spacings) (λ g products. AreListedVoids g voids) → IsToldOfLists listing e voids (Some refusal) → IsRefusalIn s refusal
     lists_answer law listing voids refusal listed of_grid said =
         let voids_are = given_holds listing (λ g products. AreListedVoids g voids) listed of_grid in
         lists_refused s listing e voids listed (sym of_set.extent_is) voids_are law refusal said none_stood
 
     -- or else none applies
-    pub none_stands : FoundOffDataIsRight → (listing : Listing) (voids : List Cell) → IsListingOf listing s.texts.given →
+    pub none_stands : FoundOffDataIsRight → (listing : Listing) (voids : List Cell) → IsListingOf s.terrain.kind listing s.texts.given →
         OfGrid (AreGiven after bl start) e listing.sinks.sinks (spacing_of listing.spacing.spacings) (λ g products. AreListedVoids g voids) → IsToldOfLists listing e voids None → IsReadable s
     none_stands law listing voids listed of_voids said =
         let voids_are = given_holds listing (λ g products. AreListedVoids g voids) listed of_voids in
         lists_none s listing e voids listed (sym of_set.extent_is) voids_are law said none_stood
 
     -- and notes of the grid that is given are of the set's grid
-    pub notes_hold : {K : Type 0} (are_of : Rules → Grid → grid.Products → ℕ → K → Type 0) (rules : Rules) (notes : K) (listing : Listing) → rules.nodata ≡ nodata_in hs → IsListingOf listing s.texts.given →
+    pub notes_hold : {K : Type 0} (are_of : Rules → Grid → grid.Products → ℕ → K → Type 0) (rules : Rules) (notes : K) (listing : Listing) → rules.nodata ≡ nodata_in hs → IsListingOf s.terrain.kind listing s.texts.given →
         OfGrid (AreGiven after bl start) e listing.sinks.sinks (spacing_of listing.spacing.spacings) (λ g products. are_of rules g products g.extent.rows notes) → AreNotesIn are_of rules.judged s notes
     notes_hold are_of rules notes listing nodata_is listed of_grid =
         let numbers = nodata_is ∙ nodata_are s hs of_set.texts.fields in

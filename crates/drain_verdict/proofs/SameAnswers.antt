@@ -7,6 +7,7 @@ use Rattle.drain_answer.specs.declared.outcome.Outcome.TheVariants as judged_as
 use Rattle.drain_answer.specs.declared.refusal.Refusal.{Refusal}
 use Rattle.drain_answer.specs.declared.refusal.Refusal.TheVariants.{BadHeader, WrongShape, Misplaced, RasterShort, BadSinkLine, SinkNotData, BadSpacingLine, SpacingRows, OutOfMemory, ReadFailed}
 use Rattle.drain_grid.specs.declared.cell.Cell.{Cell}
+use Rattle.drain_grid.specs.declared.height_kind.HeightKind.{HeightKind}
 use Rattle.drain_grid.specs.declared.judged.Judged.{Judged}
 use Rattle.drain_grid.specs.declared.judged.Judged.TheVariants.{Con, ConDir, ConDirAcc, ConDirBas, All, AllWithRanks}
 use Rattle.drain_grid.specs.declared.product.Product.{Product}
@@ -48,12 +49,12 @@ of_each P Q follows product.Bas is = follows _ is
 of_each P Q follows product.Rnk is = follows _ is
 of_each P Q follows product.Spl is = is
 
--- a ground of another size, and the set on it
-abbrev sized : Extent → Ground → Ground
-sized e g = record { extent = e; elevation = g.elevation; Holds = g.Holds; Refuses = g.Refuses; among = g.among }
+-- a ground of another size and kind of heights, and the set on it
+abbrev sized : Extent → HeightKind → Ground → Ground
+sized e k g = record { extent = e; elevation = g.elevation; kind = k; Holds = g.Holds; Refuses = g.Refuses; among = g.among }
 
-abbrev set_at : Extent → Ground → SetTexts → GroundSet
-set_at e g t = record { terrain = sized e g; texts = t }
+abbrev set_at : Extent → HeightKind → Ground → SetTexts → GroundSet
+set_at e k g t = record { terrain = sized e k g; texts = t }
 
 -- a number that is given where there is an elevation, and another where there is none
 by_data : (a b : Option ℤ) (m n : ℕ) (none : ℤ) → a ≡ b → (IsSome a → m ≡ n) → (if is_some a then pos m else none) ≡ (if is_some b then pos n else none)
@@ -64,19 +65,19 @@ by_data a b m n none is same = given a same ∙ ap (λ (o : Option ℤ). if is_s
     given (Some x) same = ap (λ (k : ℕ). pos k) (same refl)
 
 -- two grounds of one size, with the same elevations
-module _ (runs_kept : PaddingKeepsRuns) (endless_kept : PaddingKeepsFirstEndless) (e : Extent) (t : SetTexts) (a b : Ground)
+module _ (runs_kept : PaddingKeepsRuns) (endless_kept : PaddingKeepsFirstEndless) (e : Extent) (k : HeightKind) (t : SetTexts) (a b : Ground)
     (same : (c : Cell) → IsCellOf e c → a.elevation c ≡ b.elevation c) where
   abbrev sink : Cell → Bool
   sink = is_listed (set_listed t)
 
   abbrev spacing : ℕ → Distances
-  spacing = row_spacing t.given.spacing
+  spacing = row_spacing k t.given.spacing
 
   abbrev here : GroundSet
-  here = set_at e a t
+  here = set_at e k a t
 
   abbrev there : GroundSet
-  there = set_at e b t
+  there = set_at e k b t
 
   abbrev ps : Products
   ps = set_products here
@@ -158,12 +159,12 @@ module _ (runs_kept : PaddingKeepsRuns) (endless_kept : PaddingKeepsFirstEndless
   outcome_there judged outcome is = way_there judged outcome is
 
   -- why they are refused
-  module _ (one_sound : IsSound a) (lies : (p : SetProduct) → b.Holds (set_fields t p).place → a.Holds (set_fields t p).place) where
+  module _ (one_sound : IsSound a) (lies : (p : SetProduct) → b.Holds (set_fields k t p).place → a.Holds (set_fields k t p).place) where
     stands_there : (refusal : Refusal) → StandsIn here refusal → StandsIn there refusal
     stands_there (BadHeader p fault) is = is
     stands_there (WrongShape p) is = is
     stands_there (Misplaced p) is =
-        of_each (λ h. ¬ a.Holds (set_fields t h).place) (λ h. ¬ b.Holds (set_fields t h).place) (λ h out on. out (lies h on)) p is
+        of_each (λ h. ¬ a.Holds (set_fields k t h).place) (λ h. ¬ b.Holds (set_fields k t h).place) (λ h out on. out (lies h on)) p is
     stands_there (RasterShort p) is = is
     stands_there (BadSinkLine n) is = is
     stands_there (SinkNotData n) is = record {
@@ -194,46 +195,46 @@ module _ (runs_kept : PaddingKeepsRuns) (endless_kept : PaddingKeepsFirstEndless
     order_there refusal is = absurd (one_sound refusal is)
 
 -- and where neither is refused, and each product lies on both or on neither
-module _ (runs_kept : PaddingKeepsRuns) (endless_kept : PaddingKeepsFirstEndless) (e : Extent) (t : SetTexts) (a b : Ground)
+module _ (runs_kept : PaddingKeepsRuns) (endless_kept : PaddingKeepsFirstEndless) (e : Extent) (k : HeightKind) (t : SetTexts) (a b : Ground)
     (same : (c : Cell) → IsCellOf e c → a.elevation c ≡ b.elevation c) (one_sound : IsSound a) (other_sound : IsSound b)
-    (lies : (p : SetProduct) → b.Holds (set_fields t p).place ↔ a.Holds (set_fields t p).place) where
-  stands_over : (refusal : Refusal) → StandsIn (set_at e a t) refusal → StandsIn (set_at e b t) refusal
-  stands_over = stands_there runs_kept endless_kept e t a b same one_sound (λ p. (lies p).0)
+    (lies : (p : SetProduct) → b.Holds (set_fields k t p).place ↔ a.Holds (set_fields k t p).place) where
+  stands_over : (refusal : Refusal) → StandsIn (set_at e k a t) refusal → StandsIn (set_at e k b t) refusal
+  stands_over = stands_there runs_kept endless_kept e k t a b same one_sound (λ p. (lies p).0)
 
-  stands_back : (refusal : Refusal) → StandsIn (set_at e b t) refusal → StandsIn (set_at e a t) refusal
-  stands_back = stands_there runs_kept endless_kept e t b a (λ c inside. sym (same c inside)) other_sound (λ p. (lies p).1)
+  stands_back : (refusal : Refusal) → StandsIn (set_at e k b t) refusal → StandsIn (set_at e k a t) refusal
+  stands_back = stands_there runs_kept endless_kept e k t b a (λ c inside. sym (same c inside)) other_sound (λ p. (lies p).1)
 
-  first_over : (refusal : Refusal) → IsFirst (order_in (set_at e a t)) (StandsIn (set_at e a t)) refusal →
-      IsFirst (order_in (set_at e b t)) (StandsIn (set_at e b t)) refusal
+  first_over : (refusal : Refusal) → IsFirst (order_in (set_at e k a t)) (StandsIn (set_at e k a t)) refusal →
+      IsFirst (order_in (set_at e k b t)) (StandsIn (set_at e k b t)) refusal
   first_over refusal is = record {
     holds = stands_over refusal is.holds;
     first = λ q before stands.
-        (let q_is = order_there runs_kept endless_kept e t b a (λ c inside. sym (same c inside)) other_sound (λ p. (lies p).1) q stands in
-        let refusal_is = order_there runs_kept endless_kept e t a b same one_sound (λ p. (lies p).0) refusal is.holds in
+        (let q_is = order_there runs_kept endless_kept e k t b a (λ c inside. sym (same c inside)) other_sound (λ p. (lies p).1) q stands in
+        let refusal_is = order_there runs_kept endless_kept e k t a b same one_sound (λ p. (lies p).0) refusal is.holds in
         is.first q
-        (subst (λ (o : ℕ × ℕ). IsBefore o (order_in (set_at e a t) refusal)) q_is
-        (subst (λ (o : ℕ × ℕ). IsBefore (order_in (set_at e b t) q) o) (sym refusal_is) before))
+        (subst (λ (o : ℕ × ℕ). IsBefore o (order_in (set_at e k a t) refusal)) q_is
+        (subst (λ (o : ℕ × ℕ). IsBefore (order_in (set_at e k b t) q) o) (sym refusal_is) before))
         (stands_back q stands));
   }
 
-  refusal_over : (refusal : Refusal) → IsRefusalIn (set_at e a t) refusal → IsRefusalIn (set_at e b t) refusal
+  refusal_over : (refusal : Refusal) → IsRefusalIn (set_at e k a t) refusal → IsRefusalIn (set_at e k b t) refusal
   refusal_over OutOfMemory is = is
   refusal_over ReadFailed is = is
   refusal_over refusal is = first_over refusal is
 
-  readable_over : IsReadable (set_at e a t) → IsReadable (set_at e b t)
+  readable_over : IsReadable (set_at e k a t) → IsReadable (set_at e k b t)
   readable_over readable refusal stands = readable refusal (stands_back refusal stands)
 
-  audit_over : (answer : Result AuditVerdict Refusal) → IsAuditIn (set_at e a t) answer → IsAuditIn (set_at e b t) answer
-  audit_over (Ok verdict) is = (readable_over is.0, audit_there runs_kept endless_kept e t a b same verdict is.1)
+  audit_over : (answer : Result AuditVerdict Refusal) → IsAuditIn (set_at e k a t) answer → IsAuditIn (set_at e k b t) answer
+  audit_over (Ok verdict) is = (readable_over is.0, audit_there runs_kept endless_kept e k t a b same verdict is.1)
   audit_over (Err refusal) is = refusal_over refusal is
 
-  check_over : (answer : Result Verdict Refusal) → IsAnswerIn (set_at e a t) answer → IsAnswerIn (set_at e b t) answer
-  check_over (Ok verdict) is = (readable_over is.0, tried_there runs_kept endless_kept e t a b same AllWithRanks verdict is.1)
+  check_over : (answer : Result Verdict Refusal) → IsAnswerIn (set_at e k a t) answer → IsAnswerIn (set_at e k b t) answer
+  check_over (Ok verdict) is = (readable_over is.0, tried_there runs_kept endless_kept e k t a b same AllWithRanks verdict is.1)
   check_over (Err refusal) is = refusal_over refusal is
 
-  outcome_over : (judged : Judged) (answer : Result Outcome Refusal) → IsOutcomeIn judged (set_at e a t) answer → IsOutcomeIn judged (set_at e b t) answer
-  outcome_over judged (Ok outcome) is = (readable_over is.0, outcome_there runs_kept endless_kept e t a b same judged outcome is.1)
+  outcome_over : (judged : Judged) (answer : Result Outcome Refusal) → IsOutcomeIn judged (set_at e k a t) answer → IsOutcomeIn judged (set_at e k b t) answer
+  outcome_over judged (Ok outcome) is = (readable_over is.0, outcome_there runs_kept endless_kept e k t a b same judged outcome is.1)
   outcome_over judged (Err refusal) is = refusal_over refusal is
 
 turned : {A B : Type 0} → A ↔ B → B ↔ A
@@ -252,39 +253,43 @@ pub one_answer : PaddingKeepsRuns → PaddingKeepsFirstEndless → (a b : Ground
     HaveOneAnswer (record { terrain = a; texts = t }) (record { terrain = b; texts = t })
 one_answer runs_kept endless_kept a b t one =
     let e = a.extent in
+    let k = a.kind in
     let same : (c : Cell) → IsCellOf e c → a.elevation c ≡ b.elevation c = λ c inside. sym (one.cells.elevation c inside) in
-    let lies : (p : SetProduct) → a.Holds (set_fields t p).place ↔ b.Holds (set_fields t p).place = λ p. turned (one.lies p) in
-    subst (λ (x : Extent). HaveOneAnswer (record { terrain = a; texts = t }) (set_at x b t)) (sym one.cells.extent)
+    let lies : (p : SetProduct) → a.Holds (set_fields k t p).place ↔ b.Holds (set_fields k t p).place = λ p. turned (one.lies p) in
+    subst (λ (x : Extent). HaveOneAnswer (record { terrain = a; texts = t }) (set_at x b.kind b t)) (sym one.cells.extent)
+    (subst (λ (x : HeightKind). HaveOneAnswer (record { terrain = a; texts = t }) (set_at e x b t)) (sym one.cells.kind)
     (record {
       audit =
-          are_one _ _ (audit_over runs_kept endless_kept e t a b same one.one_sound one.other_sound one.lies)
-          (audit_over runs_kept endless_kept e t b a one.cells.elevation one.other_sound one.one_sound lies)
-          (audit_is_one (set_at e b t) one.other_sound);
+          are_one _ _ (audit_over runs_kept endless_kept e k t a b same one.one_sound one.other_sound one.lies)
+          (audit_over runs_kept endless_kept e k t b a one.cells.elevation one.other_sound one.one_sound lies)
+          (audit_is_one (set_at e k b t) one.other_sound);
       check =
-          are_one _ _ (check_over runs_kept endless_kept e t a b same one.one_sound one.other_sound one.lies)
-          (check_over runs_kept endless_kept e t b a one.cells.elevation one.other_sound one.one_sound lies)
-          (check_is_one (set_at e b t) one.other_sound);
+          are_one _ _ (check_over runs_kept endless_kept e k t a b same one.one_sound one.other_sound one.lies)
+          (check_over runs_kept endless_kept e k t b a one.cells.elevation one.other_sound one.one_sound lies)
+          (check_is_one (set_at e k b t) one.other_sound);
       judged = λ judged.
-          are_one _ _ (outcome_over runs_kept endless_kept e t a b same one.one_sound one.other_sound one.lies judged)
-          (outcome_over runs_kept endless_kept e t b a one.cells.elevation one.other_sound one.one_sound lies judged)
-          (outcome_is_one (set_at e b t) one.other_sound judged);
-    })
+          are_one _ _ (outcome_over runs_kept endless_kept e k t a b same one.one_sound one.other_sound one.lies judged)
+          (outcome_over runs_kept endless_kept e k t b a one.cells.elevation one.other_sound one.one_sound lies judged)
+          (outcome_is_one (set_at e k b t) one.other_sound judged);
+    }))
 
 -- of the same elevations two verdicts are one, whatever else the grounds are
 pub one_verdict : PaddingKeepsRuns → PaddingKeepsFirstEndless → (a b : Ground) (t : SetTexts) → HaveOneElevation a b →
     HaveOneVerdict (record { terrain = a; texts = t }) (record { terrain = b; texts = t })
 one_verdict runs_kept endless_kept a b t cells =
     let e = a.extent in
+    let k = a.kind in
     let same : (c : Cell) → IsCellOf e c → a.elevation c ≡ b.elevation c = λ c inside. sym (cells.elevation c inside) in
-    let s : GroundSet = set_at e b t in
-    subst (λ (x : Extent). HaveOneVerdict (record { terrain = a; texts = t }) (set_at x b t)) (sym cells.extent)
+    let s : GroundSet = set_at e k b t in
+    subst (λ (x : Extent). HaveOneVerdict (record { terrain = a; texts = t }) (set_at x b.kind b t)) (sym cells.extent)
+    (subst (λ (x : HeightKind). HaveOneVerdict (record { terrain = a; texts = t }) (set_at e x b t)) (sym cells.kind)
     (record {
       audit = λ here there is is_there.
-          audit_once (set_grid s) (set_products s) (set_numbers s) here there (audit_there runs_kept endless_kept e t a b same here is.1) is_there.1;
+          audit_once (set_grid s) (set_products s) (set_numbers s) here there (audit_there runs_kept endless_kept e k t a b same here is.1) is_there.1;
       check = λ here there is is_there.
           verdict_once (check_rules (set_numbers s)) IsAnyRule (set_grid s) (set_products s) here there
-          (tried_there runs_kept endless_kept e t a b same AllWithRanks here is.1) is_there.1;
+          (tried_there runs_kept endless_kept e k t a b same AllWithRanks here is.1) is_there.1;
       judged = λ judged here there is is_there.
           outcome_once judged (set_grid s) (set_products s) (set_numbers s) here there
-          (outcome_there runs_kept endless_kept e t a b same judged here is.1) is_there.1;
-    })
+          (outcome_there runs_kept endless_kept e k t a b same judged here is.1) is_there.1;
+    }))

@@ -5,9 +5,10 @@ use Rattle.drain_answer.specs.declared.refusal.Refusal.TheVariants.{BadSpacingLi
 use Rattle.drain_grid.specs.declared.cell.Cell.{Cell}
 use Rattle.drain_grid.specs.declared.spacing_text.SpacingInput.{SpacingInput}
 use Rattle.drain_grid.specs.declared.spacing_text.SpacingInput.TheVariants.{Same, ByRow}
+use Rattle.drain_grid.specs.declared.height_kind.HeightKind.{HeightKind}
 use Rattle.drain_grid.specs.Extent.{Extent}
 use Rattle.drain_grid.specs.OffData.{FoundOffDataIsRight}
-use Rattle.drain_grid.specs.Spacing.{Distances, RowSpacings, spacing_of, unit_spacing}
+use Rattle.drain_grid.specs.Spacing.{Distances, RowSpacings, of_kind, spacing_of, unit_spacing}
 use Rattle.drain_grid.specs.SpacingTexts.{rows_listed, spacing_in, spacings_said, spacings_of}
 use Rattle.drain_rows.specs.GridRows.{AreListedVoids}
 use Rattle.drain_verdict.specs.declared.listings.Listing.{Listing}
@@ -26,8 +27,8 @@ said_is (Same s) = refl
 said_is (ByRow text) = refl
 
 -- no row listed, and square cells otherwise
-pub unit_there : (line : ℕ) → spacing_of (record { listed = []; otherwise = unit_spacing }) ≡ spacing_in (Err line)
-unit_there line = λ i row. unit_spacing
+pub unit_there : (kind : HeightKind) (line row : ℕ) → spacing_of (record { listed = []; otherwise = of_kind kind unit_spacing }) row ≡ of_kind kind (spacing_in (Err line) row)
+unit_there kind line row = refl
 
 rows_are : (lines : Result (List Distances) ℕ) (spacings : RowSpacings) → rows_listed lines ≡ Ok spacings → lines ≡ Ok spacings.listed
 rows_are (Ok rows) spacings is = let same : Ok rows ≡ Ok spacings.listed = ap (λ (s : Result RowSpacings ℕ). listed_in s) is in same
@@ -74,7 +75,7 @@ no_other (by_row text) (Some count) height n told fits lists = one_count (by_row
 
 -- What that says of a set.
 
-module _ (set : GroundSet) (listing : SpacingListing) (e : Extent) (listed : IsListedSpacing set.texts.given.spacing listing) (extent_is : e ≡ set.terrain.extent) where
+module _ (set : GroundSet) (listing : SpacingListing) (e : Extent) (listed : IsListedSpacing set.terrain.kind set.texts.given.spacing listing) (extent_is : e ≡ set.terrain.extent) where
   told_without : listing.bad ≡ None → IsTextTold set.texts.given.spacing None listing.rows
   told_without is = subst (λ (bad : Option ℕ). IsTextTold set.texts.given.spacing bad listing.rows) is listed.told
 
@@ -115,7 +116,7 @@ module _ (set : GroundSet) (listing : SpacingListing) (e : Extent) (listed : IsL
 
 -- Both lists, the sinks first.
 
-module _ (set : GroundSet) (listing : Listing) (e : Extent) (voids : List Cell) (listed : IsListingOf listing set.texts.given)
+module _ (set : GroundSet) (listing : Listing) (e : Extent) (voids : List Cell) (listed : IsListingOf set.terrain.kind listing set.texts.given)
     (extent_is : e ≡ set.terrain.extent) (voids_are : AreListedVoids (set_grid set) voids) where
   pub lists_refused : FoundOffDataIsRight → (refusal : Refusal) → IsToldOfLists listing e voids (Some refusal) → NoneStandsIn set 8 → IsRefusalIn set refusal
   lists_refused law refusal told none = elim told [

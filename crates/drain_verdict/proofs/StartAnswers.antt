@@ -4,6 +4,7 @@ use Rattle.std.specs.Prelude.{Option}
 use Rattle.std.specs.List.{AllZip}
 use Rattle.std.proofs.lemmas.List.{length-map}
 use Rattle.std.proofs.lemmas.Slice.Zip.{AllZip-long}
+use Rattle.drain_grid.specs.declared.height_kind.HeightKind.{HeightKind}
 use Rattle.drain_grid.specs.Extent.{Extent}
 use Rattle.drain_grid.specs.declared.set_product.SetProduct.{SetProduct}
 use Rattle.drain_grid.specs.declared.per_product.PerProduct.{PerProduct}
@@ -27,7 +28,8 @@ use Rattle.drain_verdict.specs.Meaning.{input_grid, texts_of, tiling_of}
 use Rattle.drain_verdict.specs.TileGround.{set_of, TellTiles, tile_ground}
 use Rattle.drain_verdict.specs.Answers.{IsAnswer}
 use Rattle.drain_verdict.specs.Uses.{RasterTakesAtMost, BodyTakesAtMost}
-use Rattle.drain_verdict.specs.Stages.{AreHeadersFor, IsFirstRefusalOf, IsHeaderRefusal, IsLayoutOf, IsLayoutRefusal}
+use Rattle.drain_verdict.specs.Texts.{kind_in}
+use Rattle.drain_verdict.specs.Stages.{AreHeadersFor, IsFirstRefusalOf, IsHeaderRefusal, IsLayoutOf, IsLayoutRefusal, AreHeadersOf}
 use Rattle.drain_verdict.proofs.BodyAnswers.{early_none}
 use Rattle.drain_verdict.proofs.HeaderAnswers.{header_refused, headers_are, headers_none, headers_of_same, told_of_same}
 use Rattle.drain_verdict.proofs.LayoutAnswers.{layout_is, layout_refused}
@@ -92,25 +94,30 @@ of_tiles bytes_left side tiles given ps Fact holds i tell = holds i (texts_of i)
 -- Headers of a set.
 
 -- no read failed where a header was refused
-pub header_reads_none : {T : Type 0} (e : Extent) (Holds : Place → Type 0) (text : SetProduct → List ℕ) (refusal : Refusal) → IsFirstRefusalOf e Holds text refusal → ¬ IsErrOf {T = T} (Err refusal) ReadFailed
-header_reads_none e Holds text refusal bad is =
+pub header_reads_none : {T : Type 0} (kind : HeightKind) (e : Extent) (Holds : Place → Type 0) (text : SetProduct → List ℕ) (refusal : Refusal) → IsFirstRefusalOf kind e Holds text refusal → ¬ IsErrOf {T = T} (Err refusal) ReadFailed
+header_reads_none kind e Holds text refusal bad is =
     let same : refusal ≡ ReadFailed = cc in
-    subst (IsHeaderRefusal e Holds (product_of bad.product) (text bad.product)) same bad.refused
+    subst (IsHeaderRefusal (kind_in kind bad.product) e Holds (product_of bad.product) (text bad.product)) same bad.refused
 
 -- what a header needs is what its text says
-pub takes_as_told : {R : Type 0} (bytes_left : R → Option (List ℕ)) (e : Extent) (Holds : Place → Type 0) (old new : Products R) (hs : PerProduct Fields) → AreHeadersFor e Holds old hs → (p : SetProduct) →
+pub takes_as_told : {R : Type 0} (bytes_left : R → Option (List ℕ)) (kind : HeightKind) (e : Extent) (Holds : Place → Type 0) (old new : Products R) (hs : PerProduct Fields) → AreHeadersFor kind e Holds old hs → (p : SetProduct) →
     BodyTakesAtMost bytes_left (of_product hs p) old new p → RasterTakesAtMost bytes_left old new p
-takes_as_told bytes_left e Holds old new hs headers p taken = subst (λ (h : Fields). BodyTakesAtMost bytes_left h old new p) (headers p).described.fields taken
+takes_as_told bytes_left kind e Holds old new hs headers p taken = subst (λ (h : Fields). BodyTakesAtMost bytes_left h old new p) (headers p).described.fields taken
 
 module _ {R : Type 0} (bytes_left : R → Option (List ℕ)) (s : GroundSet) (given : Given) (ps : Products R) (tell : EncodeTexts bytes_left given ps s.texts)
-    (e : Extent) (Holds : Place → Type 0) (laid : IsLaidOn e Holds s.terrain) (early : NoneRefusesBefore s.terrain 4) where
+    (kind : HeightKind) (e : Extent) (Holds : Place → Type 0) (laid : IsLaidOn kind e Holds s.terrain) (early : NoneRefusesBefore s.terrain 4) where
+  lies : IsLaidOn s.terrain.kind e Holds s.terrain
+  lies = subst (λ (k : HeightKind). IsLaidOn k e Holds s.terrain) (sym laid.kind_is) laid
+
   -- the refusal of a header is the answer
-  pub header_answer : (refusal : Refusal) → IsFirstRefusalOf e Holds (λ p. (of_product ps p).header) refusal → IsRefusalIn s refusal
+  pub header_answer : (refusal : Refusal) → IsFirstRefusalOf kind e Holds (λ p. (of_product ps p).header) refusal → IsRefusalIn s refusal
   header_answer refusal bad =
-      header_refused s e Holds laid refusal (told_of_same e Holds (λ p. (of_product ps p).header) s.texts.header refusal bad (λ p. sym (tell.headers_are p))) (early_none s early)
+      let told = told_of_same kind e Holds (λ p. (of_product ps p).header) s.texts.header refusal bad (λ p. sym (tell.headers_are p)) in
+      header_refused s e Holds lies refusal (subst (λ (k : HeightKind). IsFirstRefusalOf k e Holds s.texts.header refusal) (sym laid.kind_is) told) (early_none s early)
 
   -- or the headers are theirs, and no refusal before the lengths applies
-  pub started : (hs : PerProduct Fields) → AreHeadersFor e Holds ps hs → AreTextsIn bytes_left hs ps s.texts × NoneStandsIn s 5
+  pub started : (hs : PerProduct Fields) → AreHeadersFor kind e Holds ps hs → AreTextsIn bytes_left s.terrain.kind hs ps s.texts × NoneStandsIn s 5
   started hs are =
-      let right = headers_of_same e Holds (λ p. (of_product ps p).header) s.texts.header hs are (λ p. sym (tell.headers_are p)) in
-      (record { fields = headers_are s e Holds laid hs right; rasters = tell.rasters_are }, headers_none s e Holds laid hs right (early_none s early))
+      let told = headers_of_same kind e Holds (λ p. (of_product ps p).header) s.texts.header hs are (λ p. sym (tell.headers_are p)) in
+      let right = subst (λ (k : HeightKind). AreHeadersOf k e Holds s.texts.header hs) (sym laid.kind_is) told in
+      (record { fields = headers_are s e Holds lies hs right; rasters = tell.rasters_are }, headers_none s e Holds lies hs right (early_none s early))

@@ -7,6 +7,7 @@ use Rattle.std.specs.Int.{int_max, int_min}
 use Rattle.std.specs.Option.{option_or}
 use Rattle.std.specs.Prelude.{slice_index_or}
 use Rattle.drain_grid.specs.declared.cell.Cell.{Cell}
+use Rattle.drain_grid.specs.declared.height_kind.HeightKind.{HeightKind}
 use Rattle.drain_grid.specs.declared.tile.TheConstants.{VOID}
 use Rattle.drain_grid.specs.Extent.{Extent, IsCellOf}
 use Rattle.drain_grid.specs.Grid.{IsSide, height_from}
@@ -20,7 +21,7 @@ use Rattle.drain_mosaic.specs.Mosaic as mosaic
 use Rattle.drain_mosaic.specs.Mosaic.{first_value, value_from}
 use Rattle.drain_mosaic.specs.Tiling.{Tiling, extent_of, left_of, top_of}
 use Rattle.drain_pixels.specs.Ground.{height_with}
-use Rattle.drain_raster.specs.Pixels.{pixel_at, spelled_by}
+use Rattle.drain_raster.specs.Pixels.{pixel_at, spelled_as, spelled_by}
 use Rattle.drain_rules.specs.Rows.{place}
 use Rattle.drain_verdict.specs.DemGround.{DemTexts, dem_fields, dem_ground}
 use Rattle.drain_verdict.specs.Ground.{Ground}
@@ -44,11 +45,11 @@ sample_is (high ∷ low ∷ more) (suc k) inside =
 pixel_is : (side : ℕ) (h : Fields) (body : List ℕ) (row col : ℕ) → IsTileHeader side h →
     pixel_at h body (place row col) ≡ spelled_by true Most 2 (drop (2 * (row * side + col)) body)
 pixel_is side h body row col header =
-    (λ i. number (header.signed i) (header.order i) (header.bits i) (header.skip i) (header.row_bytes i))
+    (λ i. number (header.whole i) (header.signed i) (header.order i) (header.bits i) (header.skip i) (header.row_bytes i))
     ∙ ap (λ n. spelled_by true Most 2 (drop n body)) there
   where
-    number : Bool → ByteOrdering → ℕ → ℕ → ℕ → ℤ
-    number signed order bits skip row_bytes = spelled_by signed order (bits / 8) (drop (skip + row * row_bytes + col * (bits / 8)) body)
+    number : HeightKind → Bool → ByteOrdering → ℕ → ℕ → ℕ → ℤ
+    number kind signed order bits skip row_bytes = spelled_as kind signed order (bits / 8) (drop (skip + row * row_bytes + col * (bits / 8)) body)
 
     there : 0 + row * (2 * side) + col * 2 ≡ 2 * (row * side + col)
     there = omega arith
@@ -57,6 +58,7 @@ pub tiles_are_rasters : TilesAreRasters
 tiles_are_rasters side d whole header = record {
   rows = header.rows;
   cols = header.cols;
+  whole = header.whole;
   nodata = header.nodata;
   pixels = λ row col above inside.
       (let before : row * side + col < side * side = mul-add-lt row side col side above inside in
@@ -126,9 +128,10 @@ value_is side corner samples c above inside =
 pub samples_are_elevations : SamplesAreElevations
 samples_are_elevations i corner tile d side corners tiles_are has = record {
   extent = (λ j. record { rows = has.rows j; cols = has.cols j }) ∙ sym size;
+  kind = has.whole;
   elevation = λ c inside.
       (let here = subst (λ (e : Extent). IsCellOf e c) size inside in
-      ap (λ void. height_with void (pixel_at (dem_fields d) d.body c)) has.nodata
+      (λ j. height_with (record { number = has.nodata j; kind = has.whole j }) (pixel_at (dem_fields d) d.body c))
       ∙ (ap height_from (has.pixels c.row c.col here.row here.col)
       ∙ (sym (value_is i.side corner (samples_of tile) c here.row here.col)
       ∙ sym (ap (λ (cs : List Corner). first_value (record { side = i.side; corners = cs }) (mosaic.tiles_of cs (map samples_of i.tiles)) c) corners

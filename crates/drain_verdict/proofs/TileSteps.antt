@@ -10,6 +10,7 @@ use Rattle.drain_device.specs.declared.row_source.Progress.{Progress}
 use Rattle.drain_device.specs.declared.row_source.Progress.TheVariants.{Stopped}
 use Rattle.drain_device.specs.declared.row_source.RowStep.{RowStep}
 use Rattle.drain_device.specs.declared.row_source.RowStep.TheVariants.{Row, Ended}
+use Rattle.drain_grid.specs.declared.height_kind.HeightKind.TheVariants.{Whole}
 use Rattle.drain_grid.specs.declared.tile.TheConstants.{VOID}
 use Rattle.drain_hgt.specs.Laws.{OneName}
 use Rattle.drain_hgt.specs.Inputs.{TilesTakeAtMost, names_of, tile_devices}
@@ -25,7 +26,7 @@ use Rattle.drain_mosaic.specs.Tiling.{Tiling, extent_of}
 use Rattle.drain_mosaic.specs.declared.mosaic_rows.MosaicRows.{MosaicRows}
 use Rattle.drain_mosaic.proofs.TileReads.{reads-fail, reads-none, reads-told, reads-then, reads-within}
 use Rattle.drain_mosaic.proofs.MosaicSteps.{have-so}
-use Rattle.drain_pixels.specs.Ground.{elevations, height_with}
+use Rattle.drain_pixels.specs.Ground.{elevations, height_with, whole_voids}
 use Rattle.drain_rules.specs.Rows.{place}
 use Rattle.drain_verdict.specs.Ground.{AreGroundRows, GroundToGive, IsLaidOn, IsToldOf, NoneRefusesBefore}
 use Rattle.drain_verdict.specs.Inputs.{Inputs}
@@ -61,7 +62,7 @@ mosaic_more {R} bl ct old new from now step out t n F as_many counted read steps
     let taken = taken_by step (coming_of bl old from) (coming_of bl new now) t.rows n out before.coming_is (steps told) empty in
     record {
       after = record {
-        void_is = before.void_is;
+        voids_are = before.voids_are;
         told = reads-told R bl ct old.tiles.items new.tiles.items from now F as_many counted read told;
         coming_is = taken.left_is;
         seam_is = seam told ∙ before.seam_is;
@@ -97,8 +98,9 @@ tiles_none_early one bl t tiles i is tell b less refuses =
     layout_none one i tell.corners_are t (tiling_told one bl t tiles i is tell) b less ((own_early (set_of i) b less).refuses refuses)
 
 -- rasters that lie on the layout lie on the ground
-pub tiles_laid : (t : Tiling) (i : Inputs) → IsTilingOf t i → IsLaidOn (extent_of t) (IsPlaced t) (tile_ground i)
+pub tiles_laid : (t : Tiling) (i : Inputs) → IsTilingOf t i → IsLaidOn Whole (extent_of t) (IsPlaced t) (tile_ground i)
 tiles_laid t i is = record {
+  kind_is = refl;
   extent_is = ap extent_of (sym is.tiling_is);
   holds_is = λ place. (
     subst (λ (u : Tiling). IsPlaced u place) (sym is.tiling_is),
@@ -113,7 +115,7 @@ mosaic_starts bl law t m tiles i tell is begun =
     let here = subst (λ (u : Tiling). IsMosaicBegun u m) is.tiling_is begun in
     let mosaic = law (tiling_of i) m tiles i.tiles here.begun tell.tiles_are in
     record {
-      void_is = refl;
+      voids_are = refl;
       told = mosaic.told;
       coming_is = mosaic.rows_are;
       seam_is = mosaic.seam_is;
@@ -126,12 +128,12 @@ pub tiles_rows : TileRowLaws → (t : Tiling) (i : Inputs) → IsTilingOf t i �
 tiles_rows laws t i is none =
     let here = subst (λ (u : Tiling). IsTilingOf u i) is.tiling_is is in
     record {
-      long = λ row inside. length-map (nth_row row (tile_rows_of i).rows) (height_with (Some VOID)) ∙ (laws.rows_whole (tiling_of i) i.tiles).long row inside;
+      long = λ row inside. length-map (nth_row row (tile_rows_of i).rows) (height_with (whole_voids (Some VOID))) ∙ (laws.rows_whole (tiling_of i) i.tiles).long row inside;
       heights = λ row col inside across.
-          get_or-map (height_with (Some VOID)) (nth_row row (tile_rows_of i).rows) col VOID None (subst (λ n. col < n) (sym ((laws.rows_whole (tiling_of i) i.tiles).long row inside)) across)
+          get_or-map (height_with (whole_voids (Some VOID))) (nth_row row (tile_rows_of i).rows) col VOID None (subst (λ n. col < n) (sym ((laws.rows_whole (tiling_of i) i.tiles).long row inside)) across)
           ∙ laws.first_values (tiling_of i) i.tiles row col here.layout inside across
           ∙ ap (λ (tiles : List Tile). first_value (tiling_of i) tiles (place row col)) (all_given laws i here.layout here.counted none);
-      none_behind = ap (elevations (Some VOID)) (laws.rows_whole (tiling_of i) i.tiles).none_behind;
+      none_behind = ap (elevations (whole_voids (Some VOID))) (laws.rows_whole (tiling_of i) i.tiles).none_behind;
     }
 
 -- After the last row.

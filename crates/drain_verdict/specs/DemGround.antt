@@ -7,10 +7,13 @@ use Rattle.drain_device.specs.Reads.{TakesAtMost}
 use Rattle.drain_device.specs.declared.counts.FaultCounts.{FaultCounts}
 use Rattle.drain_grid.specs.declared.cell.Cell.{Cell}
 use Rattle.drain_grid.specs.Extent.{IsCellOf}
-use Rattle.drain_header.specs.Faults.{Answers, Describes}
-use Rattle.drain_header.specs.Header.{AreWithinBounds, Fields, header_of}
+use Rattle.drain_grid.specs.declared.height_kind.HeightKind.{HeightKind}
+use Rattle.drain_header.specs.Faults.{AnswersOf, DescribesOf}
+use Rattle.drain_header.specs.Header.{AreWithinBounds, Fields, fields_of, header_of}
+use Rattle.drain_header.specs.Lines.{kind_said}
 use Rattle.drain_raster.specs.declared.raster_rows.RasterRows.{RasterRows}
-use Rattle.drain_raster.specs.Elevations.{elevation_in}
+use Rattle.drain_pixels.specs.declared.voids.Voids.{Voids}
+use Rattle.drain_raster.specs.Elevations.{elevation_in, voids_of}
 use Rattle.drain_raster.specs.Pixels.{IsShort, header_extent, needed_len}
 use Rattle.drain_raster.specs.Placing.{HasPixelSize, LiesOn}
 use Rattle.drain_raster.specs.RasterRows.{raster_rows}
@@ -32,23 +35,31 @@ pub record DemTexts : Type 0 where
   pub header : List ℕ
   pub body : List ℕ
 
+-- the kind of heights that a header's text says
+abbrev pub kind_of : List ℕ → HeightKind
+kind_of text = kind_said (lines_of text)
+
+-- what such a text says, for that kind
+abbrev pub fields_in : List ℕ → Fields
+fields_in text = fields_of (kind_of text) (lines_of text)
+
 -- what the header says
 abbrev pub dem_fields : DemTexts → Fields
-dem_fields d = header_of (lines_of d.header)
+dem_fields d = fields_in d.header
 
 -- what each of its refusals says; of no other does any apply
 abbrev pub DemRefuses : DemTexts → Refusal → Type 0
-DemRefuses d (BadDemHeader fault) = Answers d.header (Err fault)
+DemRefuses d (BadDemHeader fault) = AnswersOf (kind_of d.header) d.header (Err fault)
 DemRefuses d BadPixelSize = ¬ HasPixelSize (dem_fields d).place
 DemRefuses d DemShort = IsShort (dem_fields d) d.body
 DemRefuses d refusal = ⊥
 
--- a cell has the elevation of its pixel, none where that is the header's no-data number; no two of its refusals are of
--- one kind
+-- a cell has the elevation of its pixel, none where that means a void; no two of its refusals are of one kind
 abbrev pub dem_ground : DemTexts → Ground
 dem_ground d = record {
   extent = header_extent (dem_fields d);
   elevation = elevation_in (dem_fields d) d.body;
+  kind = kind_of d.header;
   Holds = LiesOn (dem_fields d);
   Refuses = DemRefuses d;
   among = λ refusal. 0;
@@ -57,7 +68,7 @@ dem_ground d = record {
 -- the rows of its body
 abbrev pub dem_rows_of : DemTexts → GroundToGive
 dem_rows_of d = record {
-  void = (dem_fields d).nodata;
+  voids = voids_of (dem_fields d);
   rows = raster_rows (dem_fields d) (dem_fields d).rows (dem_fields d).skip d.body;
   wrong = None;
   conflict = None;
@@ -66,13 +77,13 @@ dem_rows_of d = record {
 -- the text describes this header, whose pixels have a size
 pub record IsDemHeader (h : Fields) (text : List ℕ) : Type 0 where
   pub bounds : AreWithinBounds h
-  pub described : Describes text h
+  pub described : DescribesOf (kind_of text) text h
   pub sized : HasPixelSize h.place
 
 -- why the header is refused
 abbrev pub IsDemHeaderRefusal : List ℕ → Refusal → Type 0
-IsDemHeaderRefusal text (BadDemHeader fault) = Answers text (Err fault)
-IsDemHeaderRefusal text BadPixelSize = (h : Fields) × Describes text h × ¬ HasPixelSize h.place
+IsDemHeaderRefusal text (BadDemHeader fault) = AnswersOf (kind_of text) text (Err fault)
+IsDemHeaderRefusal text BadPixelSize = (h : Fields) × DescribesOf (kind_of text) text h × ¬ HasPixelSize h.place
 IsDemHeaderRefusal text refusal = ⊥
 
 -- the inputs are one raster with this header
@@ -99,26 +110,26 @@ ForDem bytes_left dem given ps Fact = ForSet dem_ground (EncodesDem bytes_left d
 abbrev pub ForDemTexts : {R : Type 0} → (R → Option (List ℕ)) → List (RasterInput R) → Given → Products R → (DemTexts → Type 0) → Type 0
 ForDemTexts bytes_left dem given ps Fact = (d : DemTexts) (t : SetTexts) → EncodesDem bytes_left dem d → EncodeTexts bytes_left given ps t → Fact d
 
--- the header is what its text says, and the elevation of each cell is the pixel that the bytes mean, none where that is the
--- header's no-data number
+-- the header is what its text says, and the elevation of each cell is the pixel that the bytes mean, none where that means
+-- a void
 pub record ElevationIsItsPixels (d : DemTexts) : Type 0 where
-  pub described : Describes d.header (dem_fields d)
+  pub described : DescribesOf (kind_of d.header) d.header (dem_fields d)
   pub sized : HasPixelSize (dem_fields d).place
   pub whole : ¬ IsShort (dem_fields d) d.body
   pub pixels : (c : Cell) → IsCellOf (dem_ground d).extent c → (dem_ground d).elevation c ≡ elevation_in (dem_fields d) d.body c
 
 -- Reading.
 
--- the first row of the raster is to come, and this number means a void in it
-pub record IsDemBegun (h : Fields) (raster : RasterRows) (void : Option ℤ) : Type 0 where
+-- the first row of the raster is to come, and these numbers mean a void in it
+pub record IsDemBegun (h : Fields) (raster : RasterRows) (voids : Voids) : Type 0 where
   pub begun : IsRasterBegun h raster
-  pub void_is : void ≡ h.nodata
+  pub voids_are : voids ≡ voids_of h
 
--- this number of rows of the raster was requested, in which this number means a void
-abbrev pub IsDemAfter : {R : Type 0} → (R → Option (List ℕ)) → RasterRows → Option ℤ → List (RasterInput R) → GroundToGive → ℕ → Type 0
-IsDemAfter bytes_left raster void [] t n = ⊥
-IsDemAfter bytes_left raster void (input ∷ []) t n = (t.void ≡ void) × IsAfterTold raster (bytes_left input.body) t.rows n
-IsDemAfter bytes_left raster void (input ∷ other ∷ more) t n = ⊥
+-- this number of rows of the raster was requested, in which these numbers mean a void
+abbrev pub IsDemAfter : {R : Type 0} → (R → Option (List ℕ)) → RasterRows → Voids → List (RasterInput R) → GroundToGive → ℕ → Type 0
+IsDemAfter bytes_left raster voids [] t n = ⊥
+IsDemAfter bytes_left raster voids (input ∷ []) t n = (t.voids ≡ voids) × IsAfterTold raster (bytes_left input.body) t.rows n
+IsDemAfter bytes_left raster voids (input ∷ other ∷ more) t n = ⊥
 
 -- the headers are those of before
 abbrev pub AreHeadersKept : {R : Type 0} → List (RasterInput R) → List (RasterInput R) → Type 0

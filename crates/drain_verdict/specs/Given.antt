@@ -3,7 +3,8 @@ use Rattle.std.specs.Prelude.{◌≡◌, ◌≢◌, ℕ, List, [], length, Resul
 use Rattle.drain_grid.specs.declared.spacing_text.SpacingInput.{SpacingInput}
 use Rattle.drain_grid.specs.declared.spacing_text.SpacingInput.TheVariants.{Same, ByRow}
 use Rattle.drain_grid.specs.Extent.{Extent}
-use Rattle.drain_grid.specs.Spacing.{Distances, RowSpacings, unit_spacing}
+use Rattle.drain_grid.specs.declared.height_kind.HeightKind.{HeightKind}
+use Rattle.drain_grid.specs.Spacing.{Distances, RowSpacings, of_kind, unit_spacing}
 use Rattle.drain_grid.specs.SpacingTexts.{rows_listed, spacing_in, spacings_of}
 
 -- all cells have one spacing, or a text has a line for each row from the north
@@ -30,9 +31,10 @@ abbrev pub spacings_given : GivenSpacing → Result RowSpacings ℕ
 spacings_given (same s) = Ok (record { listed = []; otherwise = s })
 spacings_given (by_row text) = rows_listed (spacings_of text)
 
--- how far apart the cells of a row are: unit spacing past the last line of a text, and for one with a bad line
-abbrev pub row_spacing : GivenSpacing → ℕ → Distances
-row_spacing given = spacing_in (spacings_given given)
+-- how far apart the cells of a row are, with heights of this kind: unit spacing past the last line of a text, and for one
+-- with a bad line
+abbrev pub row_spacing : HeightKind → GivenSpacing → ℕ → Distances
+row_spacing kind given row = of_kind kind (spacing_in (spacings_given given) row)
 
 -- this line of a text by row is the first bad one
 abbrev pub HasBadSpacing : GivenSpacing → ℕ → Type 0

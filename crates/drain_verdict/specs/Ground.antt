@@ -5,16 +5,19 @@ use Rattle.drain_answer.specs.declared.refusal.Refusal.{Refusal}
 use Rattle.drain_answer.specs.declared.refusal.Refusal.TheVariants.{BadSide, BadName, NoTiles, RepeatedTile, BoxTooLarge, BadHeader, WrongShape, Misplaced, BadTileLength, RasterShort, SeamMismatch, BadSinkLine, SinkNotData, BadSpacingLine, SpacingRows, BadDemHeader, BadPixelSize, DemShort, OutOfMemory, ReadFailed}
 use Rattle.drain_device.specs.RowSteps.{Coming, nth_row}
 use Rattle.drain_grid.specs.declared.cell.Cell.{Cell}
+use Rattle.drain_grid.specs.declared.height_kind.HeightKind.{HeightKind}
 use Rattle.drain_grid.specs.Extent.{Extent}
 use Rattle.drain_header.specs.declared.header.Place.{Place}
+use Rattle.drain_pixels.specs.declared.voids.Voids.{Voids}
 use Rattle.drain_pixels.specs.Ground.{elevations}
 use Rattle.drain_rules.specs.Rows.{place}
 
--- its size; its elevations; which places a raster may have that lies on it; which of its own refusals apply; and the
+-- its size; its elevations, and what their numbers stand for; which places a raster may have that lies on it; which of its own refusals apply; and the
 -- place of each of these among those of its kind
 pub record Ground : Type 1 where
   pub extent : Extent
   pub elevation : Cell → Option ℤ
+  pub kind : HeightKind
   pub Holds : Place → Type 0
   pub Refuses : Refusal → Type 0
   pub among : Refusal → ℕ
@@ -57,14 +60,14 @@ IsToldOf g kind (Some refusal) = IsFirstOwn g kind refusal
 -- What a ground is to give: its rows, and what is to be reported after the last: the first input of wrong length, counted
 -- from 0, and the first cell that has two values.
 pub record GroundToGive : Type 0 where
-  pub void : Option ℤ
+  pub voids : Voids
   pub rows : Coming
   pub wrong : Option ℕ
   pub conflict : Option Cell
 
--- its row of this number, as numbers of which one means a void; none past the last
+-- its row of this number, as numbers of which some mean a void; none past the last
 abbrev pub ground_row : GroundToGive → ℕ → List (Option ℤ)
-ground_row t n = elevations t.void (nth_row n t.rows)
+ground_row t n = elevations t.voids (nth_row n t.rows)
 
 -- the rows are those of the ground's elevations, and there is none after the last
 pub record AreGroundRows (g : Ground) (t : GroundToGive) : Type 0 where
@@ -72,8 +75,9 @@ pub record AreGroundRows (g : Ground) (t : GroundToGive) : Type 0 where
   pub heights : (row col : ℕ) → row < g.extent.rows → col < g.extent.cols → slice_index_or (ground_row t row) col None ≡ g.elevation (place row col)
   pub none_behind : ground_row t g.extent.rows ≡ []
 
--- rasters of this size and these places lie on the ground
-pub record IsLaidOn (e : Extent) (Holds : Place → Type 0) (g : Ground) : Type 0 where
+-- heights are of this kind, and rasters of this size and these places lie on the ground
+pub record IsLaidOn (kind : HeightKind) (e : Extent) (Holds : Place → Type 0) (g : Ground) : Type 0 where
+  pub kind_is : g.kind ≡ kind
   pub extent_is : g.extent ≡ e
   pub holds_is : (place : Place) → g.Holds place ↔ Holds place
 

@@ -2,6 +2,7 @@
 use Rattle.std.specs.Prelude.{◌≡◌, ℕ, ◌+◌, ◌*◌, ◌<◌, List, Option, Some, Result, Ok, Err}
 use Rattle.drain_answer.specs.declared.refusal.Refusal.{Refusal}
 use Rattle.drain_answer.specs.declared.refusal.Refusal.TheVariants.{BadHeader, WrongShape, Misplaced, RasterShort, BadSinkLine, SinkNotData, BadSpacingLine, SpacingRows, OutOfMemory, ReadFailed}
+use Rattle.drain_grid.specs.declared.height_kind.HeightKind.{HeightKind}
 use Rattle.drain_grid.specs.declared.judged.Judged.{Judged}
 use Rattle.drain_grid.specs.declared.judged.Rules.{Rules}
 use Rattle.drain_grid.specs.declared.per_product.PerProduct.{PerProduct}
@@ -12,14 +13,14 @@ use Rattle.drain_grid.specs.PerProduct.{of_product}
 use Rattle.drain_grid.specs.SetProduct.{OfSetProduct, place_of}
 use Rattle.drain_grid.specs.SinkTexts.{sinks_of}
 use Rattle.drain_grid.specs.Values.{NoDataNumbers}
-use Rattle.drain_header.specs.Faults.{Answers}
+use Rattle.drain_header.specs.Faults.{AnswersOf}
 use Rattle.drain_header.specs.Header.{Fields}
 use Rattle.drain_raster.specs.Pixels.{header_extent, IsShort}
 use Rattle.drain_text.specs.First.{IsFirst}
 use Rattle.drain_verdict.specs.Given.{Given, HasBadSpacing, HasOtherRows}
 use Rattle.drain_verdict.specs.Ground.{Ground, refusal_kind}
 use Rattle.drain_verdict.specs.Inputs.{Products}
-use Rattle.drain_verdict.specs.Texts.{SetTexts, grid_on, set_fields, set_listed, text_numbers, text_products}
+use Rattle.drain_verdict.specs.Texts.{SetTexts, grid_on, kind_in, set_fields, set_listed, text_numbers, text_products}
 
 -- a ground, and what is said to lie on it
 pub record GroundSet : Type 1 where
@@ -41,14 +42,14 @@ ForSet {X} terrain Means bytes_left given ps Fact =
 
 -- the grid of the elevations and the listed sinks, whose cells are as far apart as given
 abbrev pub set_grid : GroundSet → grid.Grid
-set_grid s = grid_on s.terrain.extent s.terrain.elevation s.texts
+set_grid s = grid_on s.terrain.kind s.terrain.extent s.terrain.elevation s.texts
 
 abbrev pub set_products : GroundSet → grid.Products
-set_products s = text_products s.texts
+set_products s = text_products s.terrain.kind s.texts
 
 -- the no-data numbers of the products
 abbrev pub set_numbers : GroundSet → NoDataNumbers
-set_numbers s = text_numbers s.texts
+set_numbers s = text_numbers s.terrain.kind s.texts
 
 -- the rules about judged rasters of the set
 abbrev pub rules_in : Judged → GroundSet → Rules
@@ -58,14 +59,14 @@ rules_in judged s = record { nodata = set_numbers s; judged = judged }
 
 -- the product's header gives the rows and columns of the ground
 abbrev pub HasShapeIn : GroundSet → SetProduct → Type 0
-HasShapeIn s p = header_extent (set_fields s.texts p) ≡ s.terrain.extent
+HasShapeIn s p = header_extent (set_fields s.terrain.kind s.texts p) ≡ s.terrain.extent
 
 -- of a product only if it is read; out of memory and a failed read aren't about bytes; the others are the ground's own
 abbrev pub StandsIn : GroundSet → Refusal → Type 0
-StandsIn s (BadHeader p fault) = OfSetProduct (λ h. Answers (s.texts.header h) (Err fault)) p
+StandsIn s (BadHeader p fault) = OfSetProduct (λ h. AnswersOf (kind_in s.terrain.kind h) (s.texts.header h) (Err fault)) p
 StandsIn s (WrongShape p) = OfSetProduct (λ h. ¬ HasShapeIn s h) p
-StandsIn s (Misplaced p) = OfSetProduct (λ h. ¬ s.terrain.Holds (set_fields s.texts h).place) p
-StandsIn s (RasterShort p) = OfSetProduct (λ h. IsShort (set_fields s.texts h) (s.texts.raster h)) p
+StandsIn s (Misplaced p) = OfSetProduct (λ h. ¬ s.terrain.Holds (set_fields s.terrain.kind s.texts h).place) p
+StandsIn s (RasterShort p) = OfSetProduct (λ h. IsShort (set_fields s.terrain.kind s.texts h) (s.texts.raster h)) p
 StandsIn s (BadSinkLine n) = sinks_of s.texts.given.sinks ≡ Err n
 StandsIn s (SinkNotData n) = IsOffData (set_grid s) (set_listed s.texts) n
 StandsIn s (BadSpacingLine n) = HasBadSpacing s.texts.given.spacing n
@@ -115,13 +116,13 @@ IsReadIn s (Err refusal) = IsRefusalIn s refusal
 abbrev pub AreNotesIn : {K : Type 0} → (Rules → grid.Grid → grid.Products → ℕ → K → Type 0) → Judged → GroundSet → K → Type 0
 AreNotesIn are_of judged s notes = are_of (rules_in judged s) (set_grid s) (set_products s) (set_grid s).extent.rows notes
 
--- these are the headers that the texts describe, and the products have these bodies
-pub record AreTextsIn {R : Type 0} (bytes_left : R → Option (List ℕ)) (hs : PerProduct Fields) (ps : Products R) (t : SetTexts) : Type 0 where
-  pub fields : (p : SetProduct) → of_product hs p ≡ set_fields t p
+-- these are the headers that the texts describe on heights of this kind, and the products have these bodies
+pub record AreTextsIn {R : Type 0} (bytes_left : R → Option (List ℕ)) (kind : HeightKind) (hs : PerProduct Fields) (ps : Products R) (t : SetTexts) : Type 0 where
+  pub fields : (p : SetProduct) → of_product hs p ≡ set_fields kind t p
   pub rasters : (p : SetProduct) → bytes_left (of_product ps p).body ≡ Some (t.raster p)
 
 -- the fact holds of each set with a ground of these texts, and with such headers, rasters and what is given, of which no
 -- refusal of the ground alone or of a header applies
 abbrev pub ForRead : {X R : Type 0} → (X → Ground) → (X → Type 0) → (R → Option (List ℕ)) → PerProduct Fields → Products R → (SetTexts → Type 0) → (GroundSet → Type 0) → Type 0
 ForRead {X} terrain Means bytes_left hs ps Lists Fact =
-    (x : X) (t : SetTexts) → Means x → AreTextsIn bytes_left hs ps t → Lists t → NoneStandsIn (record { terrain = terrain x; texts = t }) 5 → Fact (record { terrain = terrain x; texts = t })
+    (x : X) (t : SetTexts) → Means x → AreTextsIn bytes_left (terrain x).kind hs ps t → Lists t → NoneStandsIn (record { terrain = terrain x; texts = t }) 5 → Fact (record { terrain = terrain x; texts = t })

@@ -28,9 +28,9 @@ pub record AreBegun {R M : Type 0} (Begun : M → Type 0) (hs : PerProduct Field
   pub bounds : (p : SetProduct) → AreWithinBounds (of_product hs p)
   pub raster : (p : SetProduct) → IsRasterBegun (of_product hs p) (of_product rows.rasters p)
 
--- headers of products with one text are one
+-- headers of dir and of what is read as ranks are one if their texts are
 abbrev pub AreAlike : {R : Type 0} → Products R → PerProduct Fields → Type 0
-AreAlike ps hs = (p q : SetProduct) → (of_product ps p).header ≡ (of_product ps q).header → of_product hs p ≡ of_product hs q
+AreAlike ps hs = ps.rnk.header ≡ ps.dir.header → hs.rnk ≡ hs.dir
 
 -- the rows of the product have stopped
 abbrev pub HasStopped : {R M : Type 0} → InputRows R M → SetProduct → Type 0

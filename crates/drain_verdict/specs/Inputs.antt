@@ -42,11 +42,11 @@ pub record Encode {R : Type 0} (bytes_left : R → Option (List ℕ)) (side : �
   pub headers_are : (p : SetProduct) → i.header p ≡ (of_product ps p).header
   pub rasters_are : (p : SetProduct) → bytes_left (of_product ps p).body ≡ Some (i.raster p)
 
--- The four products of an audit, as the five that are read: con takes the place of ranks, which an audit ignores.
+-- The four products of an audit, as the five that are read: dir takes the place of ranks, which an audit ignores.
 
--- the four, and con once more
+-- the four, and dir once more
 abbrev pub as_five : {R : Type 0} → AuditProducts R → Products R
-as_five ps = record { con = ps.con; dir = ps.dir; acc = ps.acc; bas = ps.bas; rnk = ps.con }
+as_five ps = record { con = ps.con; dir = ps.dir; acc = ps.acc; bas = ps.bas; rnk = ps.dir }
 
 -- the devices of the products of an audit
 abbrev pub four_devices : {R : Type 0} → AuditProducts R → List R
@@ -56,6 +56,6 @@ four_devices ps = ps.con.body ∷ ps.dir.body ∷ ps.acc.body ∷ ps.bas.body �
 abbrev pub audit_devices : {R : Type 0} → List (TileInput R) → AuditProducts R → List R
 audit_devices tiles ps = tile_devices tiles ++ four_devices ps
 
--- the readers of the four, and con's once more
+-- the readers of the four, and dir's once more
 abbrev pub readers_as_five : PerProduct RasterRows → PerProduct RasterRows
-readers_as_five rasters = record { con = rasters.con; dir = rasters.dir; acc = rasters.acc; bas = rasters.bas; rnk = rasters.con }
+readers_as_five rasters = record { con = rasters.con; dir = rasters.dir; acc = rasters.acc; bas = rasters.bas; rnk = rasters.dir }

@@ -3,6 +3,7 @@ use Rattle.std.specs.Prelude.{◌≡◌, ◌≢◌, ◌⊎◌, ℕ, List, length
 use Rattle.drain_answer.specs.declared.refusal.Refusal.{Refusal}
 use Rattle.drain_answer.specs.declared.refusal.Refusal.TheVariants.{BadSpacingLine, SpacingRows}
 use Rattle.drain_grid.specs.declared.cell.Cell.{Cell}
+use Rattle.drain_grid.specs.declared.height_kind.HeightKind.{HeightKind}
 use Rattle.drain_grid.specs.Extent.{Extent}
 use Rattle.drain_grid.specs.SinkTexts.{sinks_of}
 use Rattle.drain_grid.specs.Spacing.{RowSpacings, spacing_of}
@@ -23,16 +24,16 @@ IsTextTold given (Some line) rows = HasBadSpacing given line
 IsTextTold (same s) None rows = rows ≡ None
 IsTextTold (by_row text) None rows = MatchOption rows ⊥ (ListsRows (by_row text))
 
--- this was found of what is given
-pub record IsListedSpacing (given : GivenSpacing) (listing : SpacingListing) : Type 0 where
-  pub spacing : spacing_of listing.spacings ≡ row_spacing given
+-- this was found of what is given, on heights of this kind
+pub record IsListedSpacing (kind : HeightKind) (given : GivenSpacing) (listing : SpacingListing) : Type 0 where
+  pub spacing : (row : ℕ) → spacing_of listing.spacings row ≡ row_spacing kind given row
   pub told : IsTextTold given listing.bad listing.rows
 
 -- so of both
-pub record IsListingOf (listing : Listing) (given : Given) : Type 0 where
+pub record IsListingOf (kind : HeightKind) (listing : Listing) (given : Given) : Type 0 where
   pub sinks : listing.sinks.sinks ≡ lines_in (sinks_of given.sinks)
   pub bad : IsBadLine (sinks_of given.sinks) listing.sinks.bad
-  pub spacing : IsListedSpacing given.spacing listing.spacing
+  pub spacing : IsListedSpacing kind given.spacing listing.spacing
 
 -- the bad line of a text by row is reported, or else the number of its rows, if it isn't the grid's
 abbrev pub IsToldOfSpacing : SpacingListing → Extent → Option Refusal → Type 0

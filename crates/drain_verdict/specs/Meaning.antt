@@ -3,6 +3,7 @@ use Rattle.std.specs.Prelude.{ℤ, List, map}
 use Rattle.drain_grid.specs.declared.cell.Cell.{Cell}
 use Rattle.drain_grid.specs.declared.set_product.SetProduct.{SetProduct}
 use Rattle.drain_grid.specs.declared.sink_line.SinkLine.{SinkLine}
+use Rattle.drain_grid.specs.declared.height_kind.HeightKind.TheVariants.{Whole}
 use Rattle.drain_grid.specs.Grid as grid
 use Rattle.drain_grid.specs.Values.{NoDataNumbers}
 use Rattle.drain_header.specs.Header.{Fields}
@@ -31,22 +32,22 @@ listed_in i = set_listed (texts_of i)
 -- the grid of the elevations and the listed sinks: a cell has the value of the first tile that gives one, its only
 -- value if tiles agree
 abbrev pub input_grid : Inputs → grid.Grid
-input_grid i = grid_on (extent_of (tiling_of i)) (first_value (tiling_of i) (input_tiles i)) (texts_of i)
+input_grid i = grid_on Whole (extent_of (tiling_of i)) (first_value (tiling_of i) (input_tiles i)) (texts_of i)
 
 -- what a product's header says
 abbrev pub fields_of : Inputs → SetProduct → Fields
-fields_of i p = set_fields (texts_of i) p
+fields_of i p = set_fields Whole (texts_of i) p
 
 -- the number of a product at a cell
 abbrev pub input_number : Inputs → SetProduct → Cell → ℤ
-input_number i p c = set_number (texts_of i) p c
+input_number i p c = set_number Whole (texts_of i) p c
 
 abbrev pub input_products : Inputs → grid.Products
-input_products i = text_products (texts_of i)
+input_products i = text_products Whole (texts_of i)
 
 -- the no-data number of a product: the header's, or else the product's default
 abbrev pub input_nodata : Inputs → SetProduct → ℤ
-input_nodata i p = set_nodata (texts_of i) p
+input_nodata i p = set_nodata Whole (texts_of i) p
 
 abbrev pub nodata_numbers : Inputs → NoDataNumbers
-nodata_numbers i = text_numbers (texts_of i)
+nodata_numbers i = text_numbers Whole (texts_of i)

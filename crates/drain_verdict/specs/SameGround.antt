@@ -9,6 +9,7 @@ use Rattle.drain_grid.specs.declared.judged.Judged.{Judged}
 use Rattle.drain_grid.specs.declared.set_product.SetProduct.{SetProduct}
 use Rattle.drain_grid.specs.declared.tile.TheConstants.{VOID}
 use Rattle.drain_grid.specs.declared.verdict.Verdict.{Verdict}
+use Rattle.drain_grid.specs.declared.height_kind.HeightKind.TheVariants.{Whole}
 use Rattle.drain_grid.specs.Extent.{IsCellOf}
 use Rattle.drain_grid.specs.Grid.{IsSide}
 use Rattle.drain_header.specs.declared.header.ByteOrdering.TheVariants.{Most}
@@ -39,9 +40,10 @@ ground_of (raster d) = dem_ground d
 abbrev pub set_on : Terrain → SetTexts → GroundSet
 set_on x t = record { terrain = ground_of x; texts = t }
 
--- as many rows and columns, and the same elevation at each cell
+-- as many rows and columns, heights of one kind, and the same elevation at each cell
 pub record HaveOneElevation (a b : Ground) : Type 0 where
   pub extent : b.extent ≡ a.extent
+  pub kind : b.kind ≡ a.kind
   pub elevation : (c : Cell) → IsCellOf a.extent c → b.elevation c ≡ a.elevation c
 
 -- no refusal of its own applies
@@ -53,7 +55,7 @@ pub record AreOneGround (a b : Ground) (t : SetTexts) : Type 0 where
   pub cells : HaveOneElevation a b
   pub one_sound : IsSound a
   pub other_sound : IsSound b
-  pub lies : (p : SetProduct) → b.Holds (set_fields t p).place ↔ a.Holds (set_fields t p).place
+  pub lies : (p : SetProduct) → b.Holds (set_fields a.kind t p).place ↔ a.Holds (set_fields a.kind t p).place
 
 -- it is about bytes: memory didn't run out, and no read failed
 abbrev pub IsOfBytes : {A : Type 0} → Result A Refusal → Type 0
@@ -87,10 +89,11 @@ pub record HaveOneVerdict (a b : GroundSet) : Type 0 where
 abbrev pub SameElevationsSameVerdict : Type 0
 SameElevationsSameVerdict = (a b : Terrain) (t : SetTexts) → HaveOneElevation (ground_of a) (ground_of b) → HaveOneVerdict (set_on a t) (set_on b t)
 
--- the raster's pixels are the tile's samples: a square of them, where the sample of a void is the no-data number
+-- the raster's pixels are the tile's samples: a square of whole numbers, where the sample of a void is the no-data number
 pub record HasSamplesOf (side : ℕ) (tile : List ℕ) (d : DemTexts) : Type 0 where
   pub rows : (dem_fields d).rows ≡ side
   pub cols : (dem_fields d).cols ≡ side
+  pub whole : (dem_fields d).kind ≡ Whole
   pub nodata : (dem_fields d).nodata ≡ Some VOID
   pub pixels : (row col : ℕ) → row < side → col < side → pixel_at (dem_fields d) d.body (place row col) ≡ tile_sample_at side (samples_of tile) row col
 
@@ -105,6 +108,7 @@ pub record IsTileHeader (side : ℕ) (h : Fields) : Type 0 where
   pub rows : h.rows ≡ side
   pub cols : h.cols ≡ side
   pub bits : h.bits ≡ 16
+  pub whole : h.kind ≡ Whole
   pub signed : h.signed ≡ true
   pub order : h.order ≡ Most
   pub skip : h.skip ≡ 0

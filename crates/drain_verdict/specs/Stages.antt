@@ -2,6 +2,7 @@
 use Rattle.std.specs.Prelude.{◌≡◌, ℕ, List, length, Option, Some, None, Result, Ok, Err, ◌<◌, slice_get}
 use Rattle.drain_grid.specs.declared.cell.Cell.{Cell}
 use Rattle.drain_grid.specs.declared.sink_line.SinkLine.{SinkLine}
+use Rattle.drain_grid.specs.declared.height_kind.HeightKind.{HeightKind}
 use Rattle.drain_grid.specs.Extent.{Extent}
 use Rattle.drain_grid.specs.OffData.{IsLeastLine, IsLeastOff}
 use Rattle.drain_rows.specs.GridRows.{has_data_but}
@@ -21,11 +22,12 @@ use Rattle.drain_hgt.specs.Name.{IsNameOf}
 use Rattle.drain_hgt.specs.Inputs.{IsFirstBadLength}
 use Rattle.drain_header.specs.declared.header.Place.{Place}
 use Rattle.drain_header.specs.Header.{Fields}
-use Rattle.drain_header.specs.Faults.{Answers, Describes}
+use Rattle.drain_header.specs.Faults.{AnswersOf, DescribesOf}
 use Rattle.drain_raster.specs.Pixels.{header_extent}
 use Rattle.drain_mosaic.specs.declared.layout.LayoutFault.{LayoutFault}
 use Rattle.drain_mosaic.specs.GivenTiles.{HasLayoutFault, layout_fault_order}
 use Rattle.drain_verdict.specs.Inputs.{Products}
+use Rattle.drain_verdict.specs.Texts.{kind_in}
 use Rattle.drain_verdict.specs.TileGround.{IsBadName}
 use Rattle.drain_mosaic.specs.declared.layout.LayoutFault.TheVariants as layout
 use Rattle.drain_mosaic.specs.Tiling as tiling
@@ -85,49 +87,49 @@ IsLayoutRefusal side names BoxTooLarge = IsSide side × IsLayoutFault side names
 IsLayoutRefusal side names OutOfMemory = Unit {0}
 IsLayoutRefusal side names refusal = ⊥
 
--- the text describes a header with this shape and a place that lies on the ground
-pub record IsHeaderFor (e : Extent) (Holds : Place → Type 0) (text : List ℕ) (h : Fields) : Type 0 where
-  pub described : Describes text h
+-- the text describes a header of numbers of this kind, with this shape and a place that lies on the ground
+pub record IsHeaderFor (kind : HeightKind) (e : Extent) (Holds : Place → Type 0) (text : List ℕ) (h : Fields) : Type 0 where
+  pub described : DescribesOf kind text h
   pub shape : header_extent h ≡ e
   pub placed : Holds h.place
 
 -- the text describes a header of another shape
-pub record HasWrongShape (e : Extent) (text : List ℕ) : Type 0 where
+pub record HasWrongShape (kind : HeightKind) (e : Extent) (text : List ℕ) : Type 0 where
   pub fields : Fields
-  pub described : Describes text fields
+  pub described : DescribesOf kind text fields
   pub shape_is_not : ¬ (header_extent fields ≡ e)
 
 -- the text describes a header of the right shape that lies elsewhere
-pub record IsElsewhere (e : Extent) (Holds : Place → Type 0) (text : List ℕ) : Type 0 where
+pub record IsElsewhere (kind : HeightKind) (e : Extent) (Holds : Place → Type 0) (text : List ℕ) : Type 0 where
   pub fields : Fields
-  pub described : Describes text fields
+  pub described : DescribesOf kind text fields
   pub shape : header_extent fields ≡ e
   pub not_placed : ¬ Holds fields.place
 
 -- why the header of a product is refused
-abbrev pub IsHeaderRefusal : Extent → (Place → Type 0) → Product → List ℕ → Refusal → Type 0
-IsHeaderRefusal e Holds p text (BadHeader q fault) = (q ≡ p) × Answers text (Err fault)
-IsHeaderRefusal e Holds p text (WrongShape q) = (q ≡ p) × HasWrongShape e text
-IsHeaderRefusal e Holds p text (Misplaced q) = (q ≡ p) × IsElsewhere e Holds text
-IsHeaderRefusal e Holds p text refusal = ⊥
+abbrev pub IsHeaderRefusal : HeightKind → Extent → (Place → Type 0) → Product → List ℕ → Refusal → Type 0
+IsHeaderRefusal kind e Holds p text (BadHeader q fault) = (q ≡ p) × AnswersOf kind text (Err fault)
+IsHeaderRefusal kind e Holds p text (WrongShape q) = (q ≡ p) × HasWrongShape kind e text
+IsHeaderRefusal kind e Holds p text (Misplaced q) = (q ≡ p) × IsElsewhere kind e Holds text
+IsHeaderRefusal kind e Holds p text refusal = ⊥
 
--- each text is a correct header, and these are they
-abbrev pub AreHeadersOf : Extent → (Place → Type 0) → (SetProduct → List ℕ) → PerProduct Fields → Type 0
-AreHeadersOf e Holds text hs = (p : SetProduct) → IsHeaderFor e Holds (text p) (of_product hs p)
+-- each text is a correct header on heights of this kind, and these are they
+abbrev pub AreHeadersOf : HeightKind → Extent → (Place → Type 0) → (SetProduct → List ℕ) → PerProduct Fields → Type 0
+AreHeadersOf kind e Holds text hs = (p : SetProduct) → IsHeaderFor (kind_in kind p) e Holds (text p) (of_product hs p)
 
 -- the first product whose text is refused, and why
-pub record IsFirstRefusalOf (e : Extent) (Holds : Place → Type 0) (text : SetProduct → List ℕ) (refusal : Refusal) : Type 0 where
+pub record IsFirstRefusalOf (kind : HeightKind) (e : Extent) (Holds : Place → Type 0) (text : SetProduct → List ℕ) (refusal : Refusal) : Type 0 where
   pub product : SetProduct
-  pub refused : IsHeaderRefusal e Holds (product_of product) (text product) refusal
-  pub before : (q : SetProduct) → rank_of q < rank_of product → (h : Fields) × IsHeaderFor e Holds (text q) h
+  pub refused : IsHeaderRefusal (kind_in kind product) e Holds (product_of product) (text product) refusal
+  pub before : (q : SetProduct) → rank_of q < rank_of product → (h : Fields) × IsHeaderFor (kind_in kind q) e Holds (text q) h
 
 -- the header of each product is right
-abbrev pub AreHeadersFor : {R : Type 0} → Extent → (Place → Type 0) → Products R → PerProduct Fields → Type 0
-AreHeadersFor e Holds ps hs = AreHeadersOf e Holds (λ p. (of_product ps p).header) hs
+abbrev pub AreHeadersFor : {R : Type 0} → HeightKind → Extent → (Place → Type 0) → Products R → PerProduct Fields → Type 0
+AreHeadersFor kind e Holds ps hs = AreHeadersOf kind e Holds (λ p. (of_product ps p).header) hs
 
 -- the first product whose header is refused, and why
-abbrev pub IsFirstHeaderRefusal : {R : Type 0} → Extent → (Place → Type 0) → Products R → Refusal → Type 0
-IsFirstHeaderRefusal e Holds ps refusal = IsFirstRefusalOf e Holds (λ p. (of_product ps p).header) refusal
+abbrev pub IsFirstHeaderRefusal : {R : Type 0} → HeightKind → Extent → (Place → Type 0) → Products R → Refusal → Type 0
+IsFirstHeaderRefusal kind e Holds ps refusal = IsFirstRefusalOf kind e Holds (λ p. (of_product ps p).header) refusal
 
 -- why the bodies of tiles are refused
 abbrev pub IsTileRefusal : tiling.Tiling → List (List ℕ) → Refusal → Type 0

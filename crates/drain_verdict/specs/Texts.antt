@@ -5,15 +5,18 @@ use Rattle.drain_grid.specs.declared.cell.Cell.{Cell}
 use Rattle.drain_grid.specs.declared.per_product.PerProduct.{PerProduct}
 use Rattle.drain_grid.specs.declared.set_product.SetProduct.{SetProduct}
 use Rattle.drain_grid.specs.declared.sink_line.SinkLine.{SinkLine}
+use Rattle.drain_grid.specs.declared.height_kind.HeightKind.{HeightKind}
+use Rattle.drain_grid.specs.declared.height_kind.HeightKind.TheVariants.{Whole}
+use Rattle.drain_grid.specs.declared.set_product.SetProduct.TheVariants.{Con}
 use Rattle.drain_grid.specs.Extent.{Extent}
 use Rattle.drain_grid.specs.Grid as grid
 use Rattle.drain_grid.specs.PerProduct.{of_product}
-use Rattle.drain_grid.specs.Product.{default_no_data, held_numbers}
+use Rattle.drain_grid.specs.Product.{held_numbers}
 use Rattle.drain_grid.specs.SetProduct.{product_of}
 use Rattle.drain_grid.specs.SinkTexts.{is_listed, sinks_of}
 use Rattle.drain_grid.specs.Values.{NoDataNumbers}
-use Rattle.drain_header.specs.Header.{Fields, header_of}
-use Rattle.drain_raster.specs.Pixels.{pixel_at}
+use Rattle.drain_header.specs.Header.{Fields, fields_of}
+use Rattle.drain_raster.specs.Pixels.{default_number, pixel_at}
 use Rattle.drain_text.specs.Text.{lines_of}
 use Rattle.drain_verdict.specs.Given.{Given, row_spacing}
 
@@ -32,28 +35,37 @@ lines_in (Err bad) = []
 abbrev pub set_listed : SetTexts → List SinkLine
 set_listed t = lines_in (sinks_of t.given.sinks)
 
--- the grid of these elevations and of the listed sinks, whose cells are as far apart as given
-abbrev pub grid_on : Extent → (Cell → Option ℤ) → SetTexts → grid.Grid
-grid_on e elevation t = record { extent = e; elevation = elevation; sink = is_listed (set_listed t); spacing = row_spacing t.given.spacing }
+-- the grid of these elevations, of this kind, and of the listed sinks, whose cells are as far apart as given
+abbrev pub grid_on : HeightKind → Extent → (Cell → Option ℤ) → SetTexts → grid.Grid
+grid_on kind e elevation t = record { extent = e; elevation = elevation; sink = is_listed (set_listed t); spacing = row_spacing kind t.given.spacing }
 
--- what a product's header says
-abbrev pub set_fields : SetTexts → SetProduct → Fields
-set_fields t p = header_of (lines_of (t.header p))
+-- the kind of a product's numbers on heights of this kind: con's are heights, all others whole numbers
+abbrev pub kind_in : HeightKind → SetProduct → HeightKind
+kind_in kind Con = kind
+kind_in kind p = Whole
+
+-- what a product's header says, on heights of this kind
+abbrev pub set_fields : HeightKind → SetTexts → SetProduct → Fields
+set_fields kind t p = fields_of (kind_in kind p) (lines_of (t.header p))
 
 -- the number of a product at a cell
-abbrev pub set_number : SetTexts → SetProduct → Cell → ℤ
-set_number t p c = pixel_at (set_fields t p) (t.raster p) c
+abbrev pub set_number : HeightKind → SetTexts → SetProduct → Cell → ℤ
+set_number kind t p c = pixel_at (set_fields kind t p) (t.raster p) c
 
-abbrev pub text_products : SetTexts → grid.Products
-text_products t = grid.held_products (set_number t)
+abbrev pub text_products : HeightKind → SetTexts → grid.Products
+text_products kind t = grid.held_products (set_number kind t)
 
--- the no-data number of a product: the header's, or else the product's default
-abbrev pub set_nodata : SetTexts → SetProduct → ℤ
-set_nodata t p = unwrap_or (set_fields t p).nodata (default_no_data (product_of p))
+-- the no-data number of a product with this header: the header's, or else the default
+abbrev pub nodata_number : Fields → SetProduct → ℤ
+nodata_number h p = unwrap_or h.nodata (default_number h.kind (product_of p))
 
-abbrev pub text_numbers : SetTexts → NoDataNumbers
-text_numbers t = held_numbers (set_nodata t)
+-- the same in these texts
+abbrev pub set_nodata : HeightKind → SetTexts → SetProduct → ℤ
+set_nodata kind t p = nodata_number (set_fields kind t p) p
+
+abbrev pub text_numbers : HeightKind → SetTexts → NoDataNumbers
+text_numbers kind t = held_numbers (set_nodata kind t)
 
 -- the same of these headers, and the default one for spl
 abbrev pub nodata_in : PerProduct Fields → NoDataNumbers
-nodata_in hs = held_numbers (λ p. unwrap_or (of_product hs p).nodata (default_no_data (product_of p)))
+nodata_in hs = held_numbers (λ p. nodata_number (of_product hs p) p)

@@ -4,6 +4,7 @@ use Rattle.std.specs.List.{AllZip}
 use Rattle.std.specs.Ordering.{int_eq}
 use Rattle.drain_answer.specs.declared.refusal.Refusal.{Refusal}
 use Rattle.drain_answer.specs.declared.refusal.Refusal.TheVariants.{BadSide, BadName, NoTiles, RepeatedTile, BoxTooLarge, BadTileLength, SeamMismatch}
+use Rattle.drain_grid.specs.declared.height_kind.HeightKind.TheVariants.{Whole}
 use Rattle.drain_grid.specs.declared.cell.Cell.{Cell}
 use Rattle.drain_grid.specs.declared.degree.TheConstants.{UNITS_PER_DEGREE}
 use Rattle.drain_grid.specs.Extent.{IsCellOf, index_of}
@@ -88,6 +89,7 @@ abbrev pub tile_ground : Inputs → Ground
 tile_ground i = record {
   extent = tiling.extent_of (tiling_of i);
   elevation = first_value (tiling_of i) (input_tiles i);
+  kind = Whole;
   Holds = IsPlaced (tiling_of i);
   Refuses = TilesRefuse i;
   among = tile_place i;

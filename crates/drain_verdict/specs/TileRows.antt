@@ -6,6 +6,7 @@ use Rattle.drain_device.specs.declared.counts.FaultCounts.{FaultCounts}
 use Rattle.drain_grid.specs.declared.tile.TheConstants.{VOID}
 use Rattle.drain_hgt.specs.declared.input.TileInput.{TileInput}
 use Rattle.drain_hgt.specs.Inputs.{names_of}
+use Rattle.drain_pixels.specs.Ground.{whole_voids}
 use Rattle.drain_mosaic.specs.declared.mosaic_rows.MosaicRows.{MosaicRows}
 use Rattle.drain_mosaic.specs.GivenTiles.{IsBegun, IsLayout, IsToldAtEnd, coming_of, frame_of, mosaic_coming, seam_to_tell, tile_streams, wrong_to_tell}
 use Rattle.drain_mosaic.specs.Laws.{RowsAreFirstValues, RowsAreWhole, RowsEnd, RowsTellLengths, RowsTellSeams, WholeTilesGiveTheirSamples}
@@ -19,7 +20,7 @@ use Rattle.drain_verdict.specs.Meaning.{tiling_of}
 -- the rows of the tiles' bodies, the first of them of wrong length, and the first seam
 abbrev pub tile_rows_of : Inputs → GroundToGive
 tile_rows_of i = record {
-  void = Some VOID;
+  voids = whole_voids (Some VOID);
   rows = mosaic_coming (tiling_of i) i.tiles;
   wrong = wrong_from 0 (tile_streams (tiling_of i) i.corners i.tiles);
   conflict = seam_from (frame_of (tiling_of i)) (tiling.extent_of (tiling_of i)).rows 0 (tile_streams (tiling_of i) i.corners i.tiles);
@@ -39,7 +40,7 @@ pub record IsMosaicBegun (t : tiling.Tiling) (m : MosaicRows) : Type 0 where
 -- this number of rows of the mosaic was requested
 pub record IsMosaicAfter {R : Type 0} (bytes_left : R → Option (List ℕ)) (m : MosaicRows) (tiles : List (TileInput R)) (t : GroundToGive) (n : ℕ) : Type 0 where
   pub told : AreTold bytes_left tiles
-  pub void_is : t.void ≡ Some VOID
+  pub voids_are : t.voids ≡ whole_voids (Some VOID)
   pub coming_is : coming_of bytes_left m tiles ≡ after_rows n t.rows
   pub seam_is : seam_to_tell bytes_left m tiles ≡ t.conflict
   pub wrong_is : wrong_to_tell bytes_left m tiles ≡ t.wrong

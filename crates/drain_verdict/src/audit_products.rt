@@ -1,4 +1,4 @@
-//! The four products of an audit. Its rules ignore ranks, so con's rows take their place.
+//! The four products of an audit. Its rules ignore ranks, so dir's rows take their place.
 
 ghost use Rattle.std.specs.Prelude.{◌≡◌, ℕ, OnOk, IfErr, Err};
 ghost use Rattle.std.specs.List.{All};
@@ -79,7 +79,7 @@ impl<R: ByteSource> ProductInputs<R> for AuditProducts<R> {
             dir: self.dir.header.as_slice(),
             acc: self.acc.header.as_slice(),
             bas: self.bas.header.as_slice(),
-            rnk: self.con.header.as_slice(),
+            rnk: self.dir.header.as_slice(),
         }
     }
 
@@ -89,7 +89,7 @@ impl<R: ByteSource> ProductInputs<R> for AuditProducts<R> {
             dir: RasterRows::new(headers.dir),
             acc: RasterRows::new(headers.acc),
             bas: RasterRows::new(headers.bas),
-            rnk: RasterRows::new(headers.con),
+            rnk: RasterRows::new(headers.dir),
         }
     }
 
@@ -102,7 +102,7 @@ impl<R: ByteSource> ProductInputs<R> for AuditProducts<R> {
         let told = read_raster(told, &mut rasters.dir, &mut self.dir.body, &mut out.dir);
         let told = read_raster(told, &mut rasters.acc, &mut self.acc.body, &mut out.acc);
         let told = read_raster(told, &mut rasters.bas, &mut self.bas.body, &mut out.bas);
-        copy_row(told, &out.con, &mut out.rnk)
+        copy_row(told, &out.dir, &mut out.rnk)
     }
 
     fn first_short(&self, rasters: &PerProduct<RasterRows>) -> Option<SetProduct> {
@@ -110,7 +110,7 @@ impl<R: ByteSource> ProductInputs<R> for AuditProducts<R> {
     }
 }
 
-/// The first product whose rows have stopped; the substitute for ranks has stopped where con has.
+/// The first product whose rows have stopped; the substitute for ranks has stopped where dir has.
 fn first_stopped(rasters: &PerProduct<RasterRows>) -> Option<SetProduct>
     ensures { IsFirstProduct (λ p. (of_product (readers_as_five rasters.now) p).progress ≡ Progress.Stopped) result }
 {
@@ -127,7 +127,7 @@ fn reader_of(rasters: &PerProduct<RasterRows>, product: SetProduct) -> &RasterRo
     ensures { result.now ≡ of_product (readers_as_five rasters.now) product }
 {
     match product {
-        SetProduct::Rnk => &rasters.con,
+        SetProduct::Rnk => &rasters.dir,
         _ => rasters.of(product),
     }
 }

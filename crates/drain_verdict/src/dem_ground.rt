@@ -15,20 +15,20 @@ use crate::ground::GroundInput;
 use crate::next_rows::{RasterInput, read_raster};
 use drain_answer::Refusal;
 use drain_device::ByteSource;
-use drain_grid::{OutOfMemory, Shape};
-use drain_header::{Header, parse_header};
-use drain_pixels::GroundRow;
+use drain_grid::{HeightKind, OutOfMemory, Shape};
+use drain_header::{Header, kind_said, parse_header_of};
+use drain_pixels::{GroundRow, Voids};
 use drain_raster::laws::{
     elevation_rows_are_pixels, raster_rows_end, raster_rows_take_what_is_needed,
 };
-use drain_raster::{RasterRows, has_pixel_size, lies_on, shape};
+use drain_raster::{RasterRows, has_pixel_size, lies_on, shape, voids};
 use std::alloc::Global;
 
-/// A reader of the raster's rows, which are no longer than those of a grid, and the number that means a void in them.
+/// A reader of the raster's rows, which are no longer than those of a grid, and the numbers that mean a void in them.
 #[derive(Drop)]
 pub struct DemRows {
     raster: RasterRows,
-    void: Option<i64>,
+    voids: Voids,
     ghost narrow: { raster.header.cols ≤ MAX_LENGTH },
 }
 
@@ -49,6 +49,8 @@ impl<R: ByteSource> GroundInput<R> for RasterInput<R> {
 
     ghost framed = { λ header texts. IsDemHeader header texts.header };
 
+    ghost kind = { λ header. header.kind };
+
     ghost extent = { λ header. header_extent header };
 
     ghost holds = { λ header place. LiesOn header place };
@@ -59,11 +61,11 @@ impl<R: ByteSource> GroundInput<R> for RasterInput<R> {
 
     ghost means = { λ header inputs texts. EncodesDem R.bytes_left inputs texts };
 
-    ghost begun = { λ header rows. IsDemBegun header rows.raster rows.void };
+    ghost begun = { λ header rows. IsDemBegun header rows.raster rows.voids };
 
     ghost count = { λ rows. 1 };
 
-    ghost after = { λ rows inputs t n. IsDemAfter R.bytes_left rows.raster rows.void inputs t n };
+    ghost after = { λ rows inputs t n. IsDemAfter R.bytes_left rows.raster rows.voids inputs t n };
 
     ghost has_read = { λ start now failed. DemHasRead R.bytes_left R.counts (start.0.raster, start.1) (now.0.raster, now.1) failed };
 
@@ -72,6 +74,10 @@ impl<R: ByteSource> GroundInput<R> for RasterInput<R> {
     ghost kept = { AreHeadersKept };
 
     ghost devices = { dem_devices };
+
+    fn height_kind(header: &Header) -> HeightKind {
+        header.kind
+    }
 
     fn shape(header: &Header) -> Shape {
         shape(header)
@@ -82,9 +88,9 @@ impl<R: ByteSource> GroundInput<R> for RasterInput<R> {
     }
 
     fn begin(_alloc: Global, header: &Header) -> Result<DemRows, OutOfMemory> {
-        let void = header.nodata;
+        let voids = voids(header);
         let raster = RasterRows::new(*header);
-        Ok(DemRows { raster, void })
+        Ok(DemRows { raster, voids })
     }
 
     fn read_row(
@@ -92,7 +98,7 @@ impl<R: ByteSource> GroundInput<R> for RasterInput<R> {
         inputs: &mut [RasterInput<R>],
         out: &mut GroundRow,
     ) -> Result<(), Refusal> {
-        read_elevations(&mut rows.raster, rows.void, &mut inputs[0].body, out)
+        read_elevations(&mut rows.raster, rows.voids, &mut inputs[0].body, out)
     }
 
     fn refusal_of_length(_header: &Header, rows: &DemRows) -> Option<Refusal> {
@@ -122,11 +128,11 @@ impl<R: ByteSource> GroundInput<R> for RasterInput<R> {
 /// Reads the next row of a raster as elevations: none after the last, and none where it is short.
 fn read_elevations<R: ByteSource>(
     raster: &mut RasterRows,
-    void: Option<i64>,
+    voids: Voids,
     body: &mut R,
     out: &mut GroundRow,
 ) -> Result<(), Refusal>
-    ensures rows { OnOk result ((start : Coming) (n : ℕ) → IsAfterTold raster.old (R.bytes_left body.old) start n → IsAfterTold raster.new (R.bytes_left body.new) start (n + 1) × (out.new ≡ elevations void (nth_row n start))) }
+    ensures rows { OnOk result ((start : Coming) (n : ℕ) → IsAfterTold raster.old (R.bytes_left body.old) start n → IsAfterTold raster.new (R.bytes_left body.new) start (n + 1) × (out.new ≡ elevations voids (nth_row n start))) }
     ensures narrow { OnOk result (length out.new ≤ raster.old.header.cols) }
     ensures pixels { OnOk result (All (λ z. IfSome z IsPixel) out.new) }
     ensures read { RasterHasRead (R.bytes_left body.old) (R.bytes_left body.new) (R.counts body.old) (R.counts body.new) raster.old raster.new (IsTrue (gave_up None (told_by result))) }
@@ -135,16 +141,18 @@ fn read_elevations<R: ByteSource>(
 {
     let mut pixels = out.take_pixels();
     read_raster(Ok(()), raster, body, &mut pixels)?;
-    out.put_pixels(void, pixels);
+    out.put_pixels(voids, pixels);
     Ok(())
 }
 
-/// The header of a raster of elevations, or why it is refused: for its own first fault, else since its pixels have no size.
+/// The header of a raster of elevations, floats if its pixel type says so, or why it is refused: for its own first fault,
+/// else since its pixels have no size.
 pub fn dem_header<R>(input: &RasterInput<R>) -> Result<Header, Refusal>
     ensures header { IfOk result (λ header. IsDemHeader header input.now.header) }
     ensures refusal { IfErr result (IsDemHeaderRefusal input.now.header) }
 {
-    let header = match parse_header(input.header.as_slice()) {
+    let text = input.header.as_slice();
+    let header = match parse_header_of(text, kind_said(text)) {
         Ok(header) => header,
         Err(fault) => return Err(Refusal::BadDemHeader(fault)),
     };

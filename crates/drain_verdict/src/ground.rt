@@ -8,6 +8,7 @@ ghost use Rattle.std.specs.Prelude.{◌≡◌, ◌≢◌, ◌↔◌, ◌+◌, �
 ghost use Rattle.std.specs.List.{All};
 ghost use Rattle.drain_device.specs.FaultLists.{SomeReadFails};
 ghost use Rattle.drain_grid.specs.declared.cell.TheConstants.{MAX_LENGTH};
+ghost use Rattle.drain_grid.specs.declared.height_kind.HeightKind.{HeightKind};
 ghost use Rattle.drain_grid.specs.Extent.{Extent};
 ghost use Rattle.drain_grid.specs.Values.{IsPixel};
 ghost use Rattle.drain_header.specs.declared.header.Place.{Place};
@@ -17,7 +18,7 @@ ghost use Rattle.drain_verdict.specs.Refusals.{IsOfBodies};
 
 use drain_answer::Refusal;
 use drain_device::ByteSource;
-use drain_grid::{OutOfMemory, Shape};
+use drain_grid::{HeightKind, OutOfMemory, Shape};
 use drain_header::Header;
 use drain_pixels::GroundRow;
 use std::alloc::Global;
@@ -41,6 +42,9 @@ pub trait GroundInput<R: ByteSource>: Sized {
 
     /// The frame is that of what the inputs say.
     ghost framed: { Self.Frame → Texts → Type 0 };
+
+    /// What numbers of its heights stand for.
+    ghost kind: { Self.Frame → HeightKind };
 
     /// Its rows and columns.
     ghost extent: { Self.Frame → Extent };
@@ -77,6 +81,10 @@ pub trait GroundInput<R: ByteSource>: Sized {
 
     /// The sources of the inputs.
     ghost devices: { List Self → List R };
+
+    /// What numbers of its heights stand for.
+    fn height_kind(frame: &Self::Frame) -> HeightKind
+        ensures { result ≡ kind frame.now };
 
     /// The rows and columns of the ground.
     fn shape(frame: &Self::Frame) -> Shape
@@ -123,7 +131,7 @@ pub trait GroundInput<R: ByteSource>: Sized {
     /// headers applies; a new reader is to give their rows, and these are the ground's if no input has a wrong length.
     fn meaning_laws()
         ensures framed { (f : Self.Frame) (xs : List Self) (x : Texts) → fit f xs → means f xs x → framed f x }
-        ensures laid { (f : Self.Frame) (x : Texts) → framed f x → IsLaidOn (extent f) (holds f) (terrain x) }
+        ensures laid { (f : Self.Frame) (x : Texts) → framed f x → IsLaidOn (kind f) (extent f) (holds f) (terrain x) }
         ensures none_early { (f : Self.Frame) (xs : List Self) (x : Texts) → fit f xs → means f xs x → NoneRefusesBefore (terrain x) 4 }
         ensures start { (f : Self.Frame) (xs : List Self) (x : Texts) (rows : Self.Rows) → means f xs x → framed f x → begun f rows → after rows xs (rows_of x) 0 }
         ensures rows { (f : Self.Frame) (x : Texts) → framed f x → IsToldOf (terrain x) 5 None → AreGroundRows (terrain x) (rows_of x) };

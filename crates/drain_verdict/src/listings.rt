@@ -3,8 +3,8 @@
 //! A text with a bad line is refused only after the last row, so that earlier refusals come first. During the walk it
 //! lists no sink, or unit spacing.
 
-ghost use Rattle.std.specs.Prelude.{◌≡◌, ◌≢◌, Err, IfOk, IfSome, Some};
-ghost use Rattle.drain_grid.specs.Spacing.{spacing_of};
+ghost use Rattle.std.specs.Prelude.{◌≡◌, ◌≢◌, ℕ, Err, IfOk, IfSome, Some};
+ghost use Rattle.drain_grid.specs.Spacing.{of_kind, spacing_of};
 ghost use Rattle.drain_grid.specs.SpacingTexts.{spacing_in};
 ghost use Rattle.drain_verdict.specs.Given.{spacing_from};
 ghost use Rattle.drain_verdict.specs.Listings.{AreRowsCounted, IsListedSpacing, IsListingOf, IsToldOfLists, IsToldOfSpacing};
@@ -14,7 +14,7 @@ use crate::given::Given;
 use crate::stages::{SinkListing, sink_listing, sink_refusal};
 use drain_answer::Refusal;
 use drain_grid::{
-    OutOfMemory, Shape, Spacing, SpacingFault, SpacingInput, Spacings, parse_spacings,
+    HeightKind, OutOfMemory, Shape, Spacing, SpacingFault, SpacingInput, Spacings, parse_spacings,
 };
 use drain_rows::ListedVoids;
 use std::alloc::Global;
@@ -35,40 +35,44 @@ pub struct Listing {
     pub spacing: SpacingListing,
 }
 
-/// What is listed.
-pub fn listing_of(alloc: Global, given: &Given) -> Result<Listing, OutOfMemory>
-    ensures { IfOk result (λ listing. IsListingOf listing given.now) }
+/// What is listed, of a ground with heights of this kind.
+pub fn listing_of(alloc: Global, given: &Given, kind: HeightKind) -> Result<Listing, OutOfMemory>
+    ensures { IfOk result (λ listing. IsListingOf kind listing given.now) }
 {
     let sinks = sink_listing(alloc, given.sinks)?;
-    let spacing = spacing_listing(alloc, &given.spacing)?;
+    let spacing = spacing_listing(alloc, &given.spacing, kind)?;
     Ok(Listing { sinks, spacing })
 }
 
-/// The spacing that is said.
-fn spacing_listing(alloc: Global, input: &SpacingInput<'_>) -> Result<SpacingListing, OutOfMemory>
-    ensures { IfOk result (IsListedSpacing (spacing_from input.now)) }
+/// The spacing that is said, for heights of this kind.
+fn spacing_listing(
+    alloc: Global,
+    input: &SpacingInput<'_>,
+    kind: HeightKind,
+) -> Result<SpacingListing, OutOfMemory>
+    ensures { IfOk result (IsListedSpacing kind (spacing_from input.now)) }
 {
     match parse_spacings(alloc, input) {
         Ok(spacings) => {
             let rows = rows_of(input, &spacings);
             Ok(SpacingListing {
-                spacings,
+                spacings: spacings.of_kind(kind),
                 bad: None,
                 rows,
             })
         }
-        Err(SpacingFault::BadSpacingLine(line)) => Ok(square_cells(alloc, line)),
+        Err(SpacingFault::BadSpacingLine(line)) => Ok(square_cells(alloc, line, kind)),
         Err(SpacingFault::OutOfMemory) => Err(OutOfMemory),
     }
 }
 
 /// Square cells, of a text with this bad line.
-fn square_cells(alloc: Global, line: u64) -> SpacingListing
-    ensures spacing { spacing_of result.spacings ≡ spacing_in (Err line) }
+fn square_cells(alloc: Global, line: u64, kind: HeightKind) -> SpacingListing
+    ensures spacing { (row : ℕ) → spacing_of result.spacings row ≡ of_kind kind (spacing_in (Err line) row) }
     ensures bad { result.bad ≡ Some line }
 {
     SpacingListing {
-        spacings: Spacings::same(alloc, Spacing::unit()),
+        spacings: Spacings::same(alloc, Spacing::unit().of_kind(kind)),
         bad: Some(line),
         rows: None,
     }

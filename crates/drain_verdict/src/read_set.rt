@@ -100,7 +100,7 @@ fn read_bodies<R: ByteSource, T: GroundInput<R>, P: ProductInputs<R>, K: RowVisi
     // The laws that the rows of a raster have the bytes that it needs, and of what is read of the ground's inputs.
     raster_rows_take_what_is_needed();
     T::reading_laws();
-    let listing = match listing_of(alloc, given) {
+    let listing = match listing_of(alloc, given, T::height_kind(frame)) {
         Ok(listing) => listing,
         Err(OutOfMemory) => return Err(Refusal::OutOfMemory),
     };
@@ -130,12 +130,12 @@ fn read_rows<R: ByteSource, T: GroundInput<R>, P: ProductInputs<R>, K: RowVisito
     ensures answer { (hs : PerProduct Fields) → AreBegun (T.begun frame.now) hs (with_rasters P.readers rows.old) → rules.now.nodata ≡ nodata_in hs
         → ((p : SetProduct) → header_extent (of_product hs p) ≡ T.extent frame.now)
         → ForRead T.terrain (λ x. T.means frame.now inputs.old x × T.framed frame.now x) R.bytes_left hs (P.inputs products.old)
-        (λ t. IsListingOf listing.now t.given) (λ s. IsReadIn s result) }
+        (λ t. IsListingOf (T.kind frame.now) listing.now t.given) (λ s. IsReadIn s result) }
     ensures lasting { OnOk result (K.lasting notes.new ≡ K.lasting notes.old) }
     ensures noted { OnOk result ((hs : PerProduct Fields) → AreBegun (T.begun frame.now) hs (with_rasters P.readers rows.old) → rules.now.nodata ≡ nodata_in hs
         → ((p : SetProduct) → header_extent (of_product hs p) ≡ T.extent frame.now)
         → ForRead T.terrain (λ x. T.means frame.now inputs.old x × T.framed frame.now x) R.bytes_left hs (P.inputs products.old)
-        (λ t. IsListingOf listing.now t.given) (λ s. AreNotesIn K.are_of rules.now.judged s notes.new)) }
+        (λ t. IsListingOf (T.kind frame.now) listing.now t.given) (λ s. AreNotesIn K.are_of rules.now.judged s notes.new)) }
     ensures reads { HaveBeenRead T.has_read R.bytes_left R.counts (as_read P.readers P.inputs (rows.old, inputs.old, products.old)) (as_read P.readers P.inputs (rows.new, inputs.new, products.new)) (IsErrOf result Refusal.ReadFailed) }
     ensures of_bodies { IfErr result IsOfBodies }
 {

@@ -2,7 +2,7 @@
 
 ghost use Rattle.std.specs.Prelude.{◌≡◌, IfOk, ◌≢◌, Some, IfSome, ◌↔◌, IsTrue, IfErr};
 ghost use Rattle.drain_grid.specs.SinkTexts.{sinks_of};
-ghost use Rattle.drain_verdict.specs.Texts.{lines_in, nodata_in};
+ghost use Rattle.drain_verdict.specs.Texts.{kind_in, lines_in, nodata_in};
 ghost use Rattle.drain_verdict.specs.Stages.{IsBadLine, IsToldOfSinks, IsHeaderFor, IsHeaderRefusal, AreHeadersOf, IsFirstRefusalOf, IsLayoutOf, IsLayoutRefusal, IsNameRefusal, IsLayoutFaultAs};
 ghost use Rattle.drain_verdict.specs.Refusals.{IsOfBodies};
 ghost use Rattle.drain_raster.specs.Pixels.{header_extent};
@@ -17,10 +17,10 @@ use drain_answer::Refusal;
 use drain_device::ByteSource;
 use drain_grid::tile::is_side;
 use drain_grid::{
-    Cell, NoData, OutOfMemory, PerProduct, Product, SetProduct, Shape, SinkData, SinkFault, Sinks,
-    first_off_data, parse_sinks,
+    Cell, HeightKind, NoData, OutOfMemory, PerProduct, Product, SetProduct, Shape, SinkData,
+    SinkFault, Sinks, first_off_data, parse_sinks,
 };
-use drain_header::{Header, parse_header};
+use drain_header::{Header, parse_header_of};
 use drain_hgt::{TileInput, TileName};
 use drain_mosaic::{Layout, LayoutFault};
 use drain_raster::nodata;
@@ -89,16 +89,27 @@ fn has_shape<R: ByteSource, T: GroundInput<R>>(frame: &T::Frame, header: &Header
     header.rows == shape.rows() && header.cols == shape.cols()
 }
 
-/// The header of one product, or why it is refused: its own fault, then its shape, then its place.
+/// The kind of a product's numbers on heights of this kind: con's are heights, all others whole numbers.
+fn kind_in(kind: HeightKind, product: SetProduct) -> HeightKind
+    ensures { result ≡ kind_in kind product }
+{
+    match product {
+        SetProduct::Con => kind,
+        _ => HeightKind::Whole,
+    }
+}
+
+/// The header of one product, whose numbers are of this kind, or why it is refused: its own fault, then its shape, then its place.
 fn read_header<R: ByteSource, T: GroundInput<R>>(
     frame: &T::Frame,
+    kind: HeightKind,
     product: Product,
     text: &[u8],
 ) -> Result<Header, Refusal>
-    ensures header { IfOk result (IsHeaderFor (T.extent frame.now) (T.holds frame.now) text.now) }
-    ensures refusal { IfErr result (IsHeaderRefusal (T.extent frame.now) (T.holds frame.now) product text.now) }
+    ensures header { IfOk result (IsHeaderFor kind (T.extent frame.now) (T.holds frame.now) text.now) }
+    ensures refusal { IfErr result (IsHeaderRefusal kind (T.extent frame.now) (T.holds frame.now) product text.now) }
 {
-    let header = match parse_header(text) {
+    let header = match parse_header_of(text, kind) {
         Ok(header) => header,
         Err(fault) => return Err(Refusal::BadHeader(product, fault)),
     };
@@ -114,20 +125,23 @@ fn read_header<R: ByteSource, T: GroundInput<R>>(
 /// The header of each product, or the first refusal: all refusals of one product's header come before those
 /// of the next product.
 ///
-/// A header is refused for its own first fault (`BadHeader`), then if its rows or columns aren't those of the ground
-/// (`WrongShape`), then if its raster doesn't lie on the ground (`Misplaced`): on tiles, if its corner lies more than
+/// A header is refused for its own first fault (`BadHeader`), con's as one of the ground's kind of heights, then if its
+/// rows or columns aren't those of the ground (`WrongShape`), then if its raster doesn't lie on the ground (`Misplaced`): on tiles, if its corner lies more than
 /// 10^-6 degree from the mosaic's or its pixels differ from samples by more than 10^-9 degree.
 pub fn read_headers<R: ByteSource, T: GroundInput<R>>(
     frame: &T::Frame,
     texts: &PerProduct<&[u8]>,
 ) -> Result<PerProduct<Header>, Refusal>
-    ensures headers { IfOk result (AreHeadersOf (T.extent frame.now) (T.holds frame.now) (λ p. (of_product texts.now p).now)) }
-    ensures refusal { IfErr result (IsFirstRefusalOf (T.extent frame.now) (T.holds frame.now) (λ p. (of_product texts.now p).now)) }
+    ensures headers { IfOk result (AreHeadersOf (T.kind frame.now) (T.extent frame.now) (T.holds frame.now) (λ p. (of_product texts.now p).now)) }
+    ensures refusal { IfErr result (IsFirstRefusalOf (T.kind frame.now) (T.extent frame.now) (T.holds frame.now) (λ p. (of_product texts.now p).now)) }
 {
     let read = |product: SetProduct| -> Result<Header, Refusal>
-        ensures header { IfOk result (IsHeaderFor (T.extent frame.entry.now) (T.holds frame.entry.now) (of_product texts.entry.now product).now) }
-        ensures refusal { IfErr result (IsHeaderRefusal (T.extent frame.entry.now) (T.holds frame.entry.now) (product_of product) (of_product texts.entry.now product).now) }
-    { read_header::<R, T>(frame, product.product(), texts.of(product)) };
+        ensures header { IfOk result (IsHeaderFor (kind_in (T.kind frame.entry.now) product) (T.extent frame.entry.now) (T.holds frame.entry.now) (of_product texts.entry.now product).now) }
+        ensures refusal { IfErr result (IsHeaderRefusal (kind_in (T.kind frame.entry.now) product) (T.extent frame.entry.now) (T.holds frame.entry.now) (product_of product) (of_product texts.entry.now product).now) }
+    {
+        let kind = kind_in(T::height_kind(frame), product);
+        read_header::<R, T>(frame, kind, product.product(), texts.of(product))
+    };
     PerProduct::from_each(&read)
 }
 

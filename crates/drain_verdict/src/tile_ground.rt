@@ -14,13 +14,13 @@ use crate::laws::tile_row_laws;
 use crate::placing::is_placed;
 use drain_answer::Refusal;
 use drain_device::{ByteSource, ReadFault};
-use drain_grid::{OutOfMemory, Shape};
+use drain_grid::{HeightKind, OutOfMemory, Shape};
 use drain_header::Header;
 use drain_hgt::TileInput;
 use drain_hgt::laws::one_name;
 use drain_mosaic::laws::new_rows_are_of_bodies;
 use drain_mosaic::{Layout, MosaicRows};
-use drain_pixels::GroundRow;
+use drain_pixels::{GroundRow, Voids};
 use std::alloc::Global;
 
 /// A reader of the mosaic's rows, which are no longer than those of a grid.
@@ -32,6 +32,7 @@ pub struct NarrowRows {
 
 impl<R: ByteSource> GroundInput<R> for TileInput<R> {
     ghost use Rattle.std.specs.Prelude.{◌≡◌, length};
+    ghost use Rattle.drain_grid.specs.declared.height_kind.HeightKind.{HeightKind};
     ghost use Rattle.drain_hgt.specs.Inputs.{TilesTakeAtMost, names_of, tile_devices};
     ghost use Rattle.drain_mosaic.specs.Tiling.{extent_of};
     ghost use Rattle.drain_verdict.specs.Inputs.{Inputs};
@@ -51,6 +52,8 @@ impl<R: ByteSource> GroundInput<R> for TileInput<R> {
     ghost rows_of = { tile_rows_of };
 
     ghost framed = { λ layout inputs. IsTilingOf layout inputs };
+
+    ghost kind = { λ layout. HeightKind.Whole };
 
     ghost extent = { λ layout. extent_of layout };
 
@@ -75,6 +78,10 @@ impl<R: ByteSource> GroundInput<R> for TileInput<R> {
     ghost kept = { AreNamesKept };
 
     ghost devices = { tile_devices };
+
+    fn height_kind(_layout: &Layout) -> HeightKind {
+        HeightKind::Whole
+    }
 
     fn shape(layout: &Layout) -> Shape {
         layout.shape()
@@ -143,7 +150,7 @@ fn read_heights<R: ByteSource>(
 {
     let mut samples = out.take_numbers();
     read_samples(mosaic, tiles, &mut samples)?;
-    out.put_numbers(Some(VOID_NUMBER), samples);
+    out.put_numbers(Voids::of(Some(VOID_NUMBER)), samples);
     Ok(())
 }
 

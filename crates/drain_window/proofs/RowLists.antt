@@ -2,23 +2,26 @@
 use Rattle.std.proofs.Common.{◌≡◌, ℕ, zero, suc, ◌+◌, ◌-◌, ◌<◌, ◌≤◌, min, inl, inr, List, [], ◌∷◌, ◌++◌, length, slice_index_or, length-append, refl, sym, ap, subst, ◌∙◌, arith}
 use Rattle.std.proofs.lemmas.Bool.{cases_lt}
 use Rattle.std.proofs.lemmas.List.{get_or_append_left, get_or-append-add}
+use Rattle.drain_grid.specs.declared.height_kind.HeightKind.{HeightKind}
 use Rattle.drain_grid.specs.declared.spacing_text.SpacingInput.{SpacingInput}
 use Rattle.drain_grid.specs.declared.spacing_text.SpacingInput.TheVariants.{Same, ByRow}
-use Rattle.drain_grid.specs.Spacing.{Distances, unit_spacing}
+use Rattle.drain_grid.specs.Spacing.{Distances, of_kind, unit_spacing}
 use Rattle.drain_grid.specs.SpacingTexts.{spacing_said}
 use Rattle.drain_union.specs.declared.place.Place.{Place}
 use Rattle.drain_verdict.specs.Given.{Given, row_spacing, spacing_from}
 use Rattle.drain_window.specs.JudgedRows.{AreAlikeTo, AreRowsOf, IsEnough, last_spacing}
 
 -- what is said and what is given have one spacing of rows
-pub said_given : (input : SpacingInput) → spacing_said input ≡ row_spacing (spacing_from input)
-said_given (Same s) = refl
-said_given (ByRow text) = refl
+pub said_given : (kind : HeightKind) (input : SpacingInput) (row : ℕ) → of_kind kind (spacing_said input row) ≡ row_spacing kind (spacing_from input) row
+said_given kind (Same s) row = refl
+said_given kind (ByRow text) row = refl
 
 -- the rows of what is given are those of the grid
-pub as_given : (call given : Given) (p : Place) (listed : List Distances) → given ≡ call → AreRowsOf (row_spacing call.spacing) p listed →
-    AreRowsOf (row_spacing given.spacing) p listed
-as_given call given p listed same are = subst (λ (g : Given). AreRowsOf (row_spacing g.spacing) p listed) (sym same) are
+pub as_given : (kind here : HeightKind) (call given : Given) (p : Place) (listed : List Distances) → here ≡ kind → given ≡ call →
+    AreRowsOf (row_spacing kind call.spacing) p listed → AreRowsOf (row_spacing here given.spacing) p listed
+as_given kind here call given p listed is same are =
+    subst (λ (k : HeightKind). AreRowsOf (row_spacing k given.spacing) p listed) (sym is)
+    (subst (λ (g : Given). AreRowsOf (row_spacing kind g.spacing) p listed) (sym same) are)
 
 -- one row more was looked at: it is as the last one listed, or is listed
 alike_more : (spacing : ℕ → Distances) (p : Place) (rows end : ℕ) → AreAlikeTo spacing p rows end →

@@ -93,7 +93,7 @@ fn judge_placed<R: ByteSource, T: GroundInput<R>>(
     let Ok(sinks) = judged_sinks(alloc, given.sinks, place, origin) else {
         return Err(Refusal::OutOfMemory);
     };
-    let Ok(spacings) = judged_spacings(alloc, &given.spacing, place) else {
+    let Ok(spacings) = judged_spacings(alloc, &given.spacing, T::height_kind(frame), place) else {
         return Err(Refusal::OutOfMemory);
     };
     match answered(alloc, place, origin, walk, seams, sinks, spacings) {

@@ -12,6 +12,8 @@ mod derived_bytes;
 #[cfg(test)]
 mod derived_flows;
 #[cfg(test)]
+mod float_bytes;
+#[cfg(test)]
 mod followed;
 #[cfg(test)]
 mod funnel;

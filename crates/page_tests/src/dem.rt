@@ -153,7 +153,7 @@ fn a_path_that_leaves_it(rt: HostRuntime) -> Result<(), Fail> {
     let words = "  path stops at row 1, column 0: dir points outside the raster\n";
     page_has(&rt, rt.alloc(), Form::Text, "as text", lost()?, words)?;
     let members =
-        r#""run":{"from":{"row":2,"col":2,"x":500060.500000000000000,"y":-0.250000000000002},"ring":null,"lost":{"cell":{"row":1,"col":0,"x":500000.500000000000000,"y":-0.250000000000001},"by":"outside"}}}"#;
+        r#""run":{"from":{"row":2,"col":2,"x":500060.500000000000000,"y":-0.250000000000002},"ring":null,"lost":{"cell":{"row":1,"col":0,"x":500000.500000000000000,"y":-0.250000000000001},"by":"outside"}},"schema":1,"status":1,"rule":null,"name":"NoEnd","row":2,"col":2}"#;
     page_has(&rt, rt.alloc(), Form::Json, "as JSON", lost()?, members)
 }
 
@@ -190,7 +190,7 @@ fn refusal(kind: usize) -> Facts<Header> {
 static WANTED: [(&str, &str); 3] = [
     (
         "refused BadPixelSize dem\n\nexpected: XDIM and YDIM above 0\nfound: XDIM -30.000000000000000, YDIM 0.000000000000000\n",
-        r#"{"answer":"refused BadPixelSize dem","refusal":{"about":"pixel_size","found":{"xdim":"-30.000000000000000","ydim":"0.000000000000000"}},"rows":null,"cols":null,"elevation":null,"ranks":null,"rules":[],"products":[],"patch":null,"expected":null,"run":null}"#,
+        r#"{"answer":"refused BadPixelSize dem","refusal":{"about":"pixel_size","found":{"xdim":"-30.000000000000000","ydim":"0.000000000000000"}},"rows":null,"cols":null,"elevation":null,"ranks":null,"rules":[],"products":[],"patch":null,"expected":null,"run":null,"schema":1,"status":2,"rule":null,"name":null,"row":null,"col":null}"#,
     ),
     (
         "refused RasterShort dem\n\nexpected: dem of 48 bytes\nfound: dem of 47 bytes\n",
@@ -208,6 +208,40 @@ fn each_refusal(rt: HostRuntime) -> Result<(), Fail> {
         for (form, part) in [(Form::Text, words), (Form::Json, members)] {
             page_has(&rt, rt.alloc(), form, part, refusal(kind), part)?;
         }
+    }
+    Ok(())
+}
+
+/// Where the first centre of a raster in millimetres lies, with pixels of 30 m; and the line of a rule that fails one row
+/// below and one column east of it.
+static LONG_PLACES: [(&str, &str); 3] = [
+    // 25 and 26 bytes
+    (
+        "ULXMAP 500000000\nULYMAP 4000030000\n",
+        "\n10 Slope                1      1      1 500030000.000000000000000 4000000000.000000000000000\n",
+    ),
+    // 27 and 25 bytes
+    (
+        "ULXMAP 9999990000\nULYMAP 100030000\n",
+        "\n10 Slope                1      1      1 10000020000.000000000000000 100000000.000000000000000\n",
+    ),
+    // 24 bytes, and 26 with the sign
+    (
+        "ULXMAP 49970000\nULYMAP -499970000\n",
+        "\n10 Slope                1      1      1  50000000.000000000000000 -500000000.000000000000000\n",
+    ),
+];
+
+#[test]
+fn a_space_before_each_coordinate(rt: HostRuntime) -> Result<(), Fail> {
+    for &(place, line) in &LONG_PLACES {
+        let text = format!(in rt.alloc();
+            "NROWS 3\nNCOLS 4\nNBITS 16\nXDIM 30000\nYDIM 30000\n{place}"
+        )?;
+        let mut findings = no_fault_on(parse_header(text.as_bytes())?, Judged::ConDirAcc);
+        findings.by_rule.slope = cells(1, 1, 1);
+        let facts = rejected(Rule::Slope, 1, 1, findings);
+        page_has(&rt, rt.alloc(), Form::Text, place, facts, line)?;
     }
     Ok(())
 }

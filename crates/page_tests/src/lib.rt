@@ -10,6 +10,8 @@ mod dem_pages;
 #[cfg(test)]
 mod expected;
 #[cfg(test)]
+mod floats;
+#[cfg(test)]
 mod refusals;
 #[cfg(test)]
 mod runs;

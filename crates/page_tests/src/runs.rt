@@ -43,7 +43,7 @@ static RINGS: [(&str, usize, &str); 2] = [
 
 /// The JSON of the ring of three cells.
 static RING_AS_JSON: &str =
-    r#""run":{"from":{"row":0,"col":3,"longitude":-104.0,"latitude":38.0},"ring":{"length":3,"cells":[{"row":1,"col":1,"longitude":-104.66666666666667,"latitude":37.666666666666664},{"row":1,"col":2,"longitude":-104.33333333333333,"latitude":37.666666666666664}]},"lost":null}}"#;
+    r#""run":{"from":{"row":0,"col":3,"longitude":-104.0,"latitude":38.0},"ring":{"length":3,"cells":[{"row":1,"col":1,"longitude":-104.66666666666667,"latitude":37.666666666666664},{"row":1,"col":2,"longitude":-104.33333333333333,"latitude":37.666666666666664}]},"lost":null},"schema":1,"status":1,"rule":null,"name":"NoEnd","row":0,"col":3}"#;
 
 #[test]
 fn rings(rt: HostRuntime) -> Result<(), Fail> {

@@ -1,7 +1,7 @@
-//! What a page says of slopes on cells that aren't square: of all cells alike, and of cells that a text lists.
+//! What a page says of slopes: on cells that aren't square, all alike or listed by a text, and on square cells in degrees.
 
 use crate::agree::has;
-use crate::worked::{Form, Numbers, cell, cells, no_fault, page_of, rejected};
+use crate::worked::{Form, Numbers, accepted, cell, cells, no_fault, page_has, page_of, rejected};
 use drain_explain::Slopes;
 use drain_faults::FaultyPatch;
 use drain_grid::{Cell, Judged, Patch, Rule, Spacing};
@@ -93,5 +93,30 @@ fn ways_as_json(rt: HostRuntime) -> Result<(), Fail> {
         &page,
         r#""ways":[{"code":1,"drop":3,"distance_squared":9},{"code":2,"drop":5,"distance_squared":25},{"code":4,"drop":4,"distance_squared":16}]"#,
     );
+    Ok(())
+}
+
+/// Parts of a page on square cells, with what is judged: no rule fails.
+static ON_SQUARE_CELLS: [(Form, Judged, &str); 4] = [
+    (
+        Form::Text,
+        Judged::ConDir,
+        "\n\nslopes: square cells\nhold: ",
+    ),
+    (
+        Form::Json,
+        Judged::AllWithRanks,
+        r#""cols":4,"slopes":"square cells","ranks":true"#,
+    ),
+    (Form::Text, Judged::Con, "\n\nhold: "),
+    (Form::Json, Judged::Con, r#""cols":4,"ranks":false"#),
+];
+
+#[test]
+fn on_square_cells(rt: HostRuntime) -> Result<(), Fail> {
+    for &(form, judged, part) in &ON_SQUARE_CELLS {
+        let facts = accepted(no_fault(rt.alloc(), judged)?);
+        page_has(&rt, rt.alloc(), form, "square cells", facts, part)?;
+    }
     Ok(())
 }

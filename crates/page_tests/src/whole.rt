@@ -3,14 +3,17 @@
 use crate::agree::same_text;
 use crate::whole_pages::{JSON, TEXT};
 use crate::worked::{
-    Form, Numbers, cell, cells, no_cell, no_fault, page_of, product, rejected, void,
+    Form, Numbers, accepted, cell, cells, no_cell, no_fault, page_of, product, rejected, void,
 };
+use drain_answer::outcome::Status;
 use drain_answer::{Outcome, Refusal};
 use drain_explain::Findings;
 use drain_faults::FaultyPatch;
-use drain_grid::{Cell, Counts, Judged, Patch, Rule, Spacing};
+use drain_grid::{Cell, Judged, Patch, Rule, Spacing};
 use drain_mosaic::Layout;
-use drain_page::{Facts, OUT_OF_MEMORY_OBJECT, failure_json};
+use drain_page::{
+    Facts, OUT_OF_MEMORY_ANSWER, OUT_OF_MEMORY_OBJECT, Parts, answer_json, failure_json,
+};
 use std::alloc::Global;
 use std::test::Fail;
 
@@ -67,25 +70,10 @@ fn a_whole_json(rt: HostRuntime) -> Result<(), Fail> {
     Ok(())
 }
 
-/// The facts of an acceptance.
-fn accepted(alloc: Global) -> Result<Facts<Layout>, Fail> {
-    let counts = Counts {
-        rows: 4,
-        cols: 4,
-        data_cells: 15,
-        raised: 2,
-        outlets: 3,
-    };
-    Ok(Facts {
-        answer: Ok(Outcome::Accepted(counts)),
-        refusal: None,
-        findings: Some(no_fault(alloc, Judged::All)?),
-    })
-}
-
-/// The page of that acceptance.
+/// The page of an acceptance.
 static ACCEPTED: &str = "accepted rows=4 cols=4 data=15 raised=2 outlets=3
 
+slopes: square cells
 hold: 1 VoidCell, 2 Missing, 3 BadCode, 4 BelowGround, 5 OpenRaised, 9 NotLeast, 10 Slope, 11 OutletCode, 12 FlatStep, 13 Accumulation, 14 Label, 15 SharedLabel
 not tried: 6 NoSpill, 7 SpillHeight, 8 SpillRank
 ranks: not checked
@@ -93,7 +81,7 @@ ranks: not checked
 
 #[test]
 fn an_acceptance(rt: HostRuntime) -> Result<(), Fail> {
-    let facts = accepted(rt.alloc())?;
+    let facts = accepted(no_fault(rt.alloc(), Judged::All)?);
     let text = page_of(rt.alloc(), Form::Text, &facts)?;
     same_text(&rt, "an acceptance", &text, ACCEPTED);
     Ok(())
@@ -110,7 +98,7 @@ fn no_tiles() -> Facts<Layout> {
 
 /// The page of that refusal as JSON.
 static NO_TILES: &str =
-    "{\"answer\":\"refused NoTiles\",\"refusal\":null,\"rows\":null,\"cols\":null,\"ranks\":null,\"rules\":[],\"products\":[],\"patch\":null,\"expected\":null,\"run\":null}\n";
+    "{\"answer\":\"refused NoTiles\",\"refusal\":null,\"rows\":null,\"cols\":null,\"ranks\":null,\"rules\":[],\"products\":[],\"patch\":null,\"expected\":null,\"run\":null,\"schema\":1,\"status\":2,\"rule\":null,\"name\":null,\"row\":null,\"col\":null}\n";
 
 #[test]
 fn the_line_alone(rt: HostRuntime) -> Result<(), Fail> {
@@ -125,5 +113,58 @@ fn the_line_alone(rt: HostRuntime) -> Result<(), Fail> {
 fn the_object_without_memory(rt: HostRuntime) -> Result<(), Fail> {
     let json = failure_json(rt.alloc(), "failed OutOfMemory")?;
     same_text(&rt, "no memory", &json, OUT_OF_MEMORY_OBJECT);
+    let json = answer_json(rt.alloc(), "failed OutOfMemory", Parts::failed())?;
+    same_text(&rt, "no memory for an answer", &json, OUT_OF_MEMORY_ANSWER);
+    Ok(())
+}
+
+/// The end of an answer's object, for each kind of answer: status, rule, name, row and column.
+fn parts_of_answers() -> [(Result<Outcome, Refusal>, Status, &'static str); 6] {
+    [
+        (
+            Ok(Outcome::Rejected {
+                rule: Rule::NotLeast,
+                row: 29,
+                col: 5,
+            }),
+            Status::Rejected,
+            r#""status":1,"rule":9,"name":"NotLeast","row":29,"col":5}"#,
+        ),
+        (
+            Ok(Outcome::NoEnd { row: 3, col: 0 }),
+            Status::Rejected,
+            r#""status":1,"rule":null,"name":"NoEnd","row":3,"col":0}"#,
+        ),
+        (
+            Ok(Outcome::NotFilled { row: 0, col: 7 }),
+            Status::Rejected,
+            r#""status":1,"rule":null,"name":"NotFilled","row":0,"col":7}"#,
+        ),
+        (
+            Err(Refusal::SeamMismatch(Cell { row: 1, col: 2 })),
+            Status::Refused,
+            r#""status":2,"rule":null,"name":null,"row":1,"col":2}"#,
+        ),
+        (
+            Err(Refusal::NoTiles),
+            Status::Refused,
+            r#""status":2,"rule":null,"name":null,"row":null,"col":null}"#,
+        ),
+        (
+            Err(Refusal::ReadFailed),
+            Status::Failed,
+            r#""status":3,"rule":null,"name":null,"row":null,"col":null}"#,
+        ),
+    ]
+}
+
+#[test]
+fn the_parts_of_an_answer(rt: HostRuntime) -> Result<(), Fail> {
+    let cases = parts_of_answers();
+    for (answer, status, parts) in &cases {
+        let json = answer_json(rt.alloc(), "the line", Parts::of(answer, *status))?;
+        let wanted = format!(in rt.alloc(); "{{\"answer\":\"the line\",\"schema\":1,{parts}\n")?;
+        same_text(&rt, parts, &json, &wanted);
+    }
     Ok(())
 }

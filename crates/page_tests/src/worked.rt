@@ -2,10 +2,13 @@
 //! north and 105 west.
 
 use crate::agree::has;
-use drain_answer::Outcome;
+use drain_answer::outcome::Status;
+use drain_answer::{Outcome, Refusal};
 use drain_explain::{Findings, Slopes};
 use drain_faults::{FaultyPatch, PerRule, ProductFaults, RuleFaults};
-use drain_grid::{Cell, CellValues, Judged, NoData, Patch, PerProduct, Rule, Rules, Spacing};
+use drain_grid::{
+    Cell, CellValues, Counts, Judged, NoData, Patch, PerProduct, Rule, Rules, Spacing,
+};
 use drain_hgt::TileName;
 use drain_mosaic::Layout;
 use drain_page::{Facts, Frame, page_json, page_text};
@@ -142,6 +145,22 @@ pub fn rejected<F>(rule: Rule, row: u32, col: u32, findings: Findings<F>) -> Fac
     }
 }
 
+/// The facts of an acceptance.
+pub fn accepted<F>(findings: Findings<F>) -> Facts<F> {
+    let counts = Counts {
+        rows: 4,
+        cols: 4,
+        data_cells: 15,
+        raised: 2,
+        outlets: 3,
+    };
+    Facts {
+        answer: Ok(Outcome::Accepted(counts)),
+        refusal: None,
+        findings: Some(findings),
+    }
+}
+
 /// How a page is printed.
 #[derive(Clone, Copy)]
 pub enum Form {
@@ -149,11 +168,20 @@ pub enum Form {
     Json,
 }
 
+/// The exit status of an answer.
+fn status_of(answer: &Result<Outcome, Refusal>) -> Status {
+    match answer {
+        Ok(Outcome::Accepted(_) | Outcome::AcceptedSurface(_)) => Status::Done,
+        Ok(_) => Status::Rejected,
+        Err(refusal) => Status::of_refusal(*refusal),
+    }
+}
+
 /// The page in this form.
 pub fn page_of<F: Frame>(alloc: Global, form: Form, facts: &Facts<F>) -> Result<String, Fail> {
     match form {
         Form::Text => Ok(String::from_utf8(page_text(alloc, facts)?)?),
-        Form::Json => Ok(page_json(alloc, facts)?),
+        Form::Json => Ok(page_json(alloc, facts, status_of(&facts.answer))?),
     }
 }
 

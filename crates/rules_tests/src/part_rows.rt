@@ -11,7 +11,7 @@ ghost use Rattle.drain_rules.specs.Rows.{AreRowNumbers};
 use crate::examples::{Part, is_pixel, numbers_at};
 use drain_grid::{Judged, PerProduct};
 use drain_kernel::{Lanes, Slopes};
-use drain_pixels::{GroundRow, PixelKind, PixelRow};
+use drain_pixels::{GroundRow, PixelKind, PixelRow, Voids};
 use drain_rules::RowView;
 use std::alloc::Global;
 use std::test::Fail;
@@ -76,7 +76,7 @@ fn bytes_of(alloc: Global, kind: PixelKind, numbers: &[i64]) -> Result<Vec<u8>, 
             PixelKind::U16 => bytes.extend_from_slice(&u16::try_from(*number)?.to_le_bytes())?,
             PixelKind::I32 => bytes.extend_from_slice(&i32::try_from(*number)?.to_le_bytes())?,
             PixelKind::U32 => bytes.extend_from_slice(&u32::try_from(*number)?.to_le_bytes())?,
-            PixelKind::Any => return Err("a kind of pixels".into()),
+            PixelKind::F32 | PixelKind::Any => return Err("a kind of pixels".into()),
         }
     }
     Ok(bytes)
@@ -108,7 +108,7 @@ fn ground_row(alloc: Global, ground: Ground, numbers: &[i64]) -> Result<GroundRo
     let (kind, void) = ground;
     let pixels = pixel_row(alloc, kind, numbers)?;
     let mut row = GroundRow::new(alloc);
-    row.put_pixels(void, pixels);
+    row.put_pixels(Voids::of(void), pixels);
     Ok(row)
 }
 

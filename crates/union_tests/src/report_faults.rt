@@ -11,7 +11,7 @@ fn fault(alloc: Global, text: &[u8]) -> Option<ReportFault> {
 }
 
 /// What is replaced in the lines, and the fault.
-static FAULTS: [(usize, &str, ReportFault); 52] = [
+static FAULTS: [(usize, &str, ReportFault); 57] = [
     (1, "drain-window-report 3", ReportFault::WrongVersion),
     (1, "drain-window-report 5", ReportFault::WrongVersion),
     (1, "drain-window-report 4 ", ReportFault::WrongVersion),
@@ -70,6 +70,19 @@ static FAULTS: [(usize, &str, ReportFault); 52] = [
     (6, "spacings 1\nspacing 1", ReportFault::BadLine(7)),
     (6, "spacings 1\nspacing 1 2 3", ReportFault::BadLine(7)),
     (6, "spacings 1\nspacing 1 2", ReportFault::BadLine(8)),
+    (6, "spacings 1\nspacing 1 2 single", ReportFault::BadLine(8)),
+    (6, "spacings 1\nspacing 1 2 Single", ReportFault::BadLine(7)),
+    (
+        6,
+        "spacings 1\nspacing 1 2 single ",
+        ReportFault::BadLine(7),
+    ),
+    (6, "spacings 1\nspacing 1 single", ReportFault::BadLine(7)),
+    (
+        6,
+        "spacings 1\nspacing 0 1 single",
+        ReportFault::OutOfRange(7),
+    ),
     (6, "tiles 3", ReportFault::BadLine(9)),
     (6, "tiles 1", ReportFault::BadLine(8)),
     (7, "tile n37w105.hgt", ReportFault::BadLine(7)),

@@ -1,7 +1,7 @@
 //! Texts that are read and written again.
 
 use crate::report_texts::text;
-use drain_grid::{Cell, Rule};
+use drain_grid::{Cell, HeightKind, Rule};
 use drain_report::{read_report, write_report};
 use drain_union::{Decimal, DemPart, Fault, UnionCounts, UnionGrid, UnionVerdict, spacing_at};
 use std::test::Fail;
@@ -122,6 +122,36 @@ fn spacings_are_read_and_written_again(rt: HostRuntime) -> Result<(), Fail> {
     assert_eq!(rt; spacing_at(spacings, 0).height, 1073741824);
     let again = write_report(rt.alloc(), &window)?;
     assert_eq!(rt; again.as_slice(), SPACED);
+    Ok(())
+}
+
+/// A window of floats: each line of its list says so, also of square cells.
+const OF_FLOATS: &[u8] = b"drain-window-report 4
+side 3601
+window 0 0 4 28801 0 0 0 0
+nodata -32768 255 0 0
+rejected 10 3 28800
+spacings 2
+spacing 1 1 single
+spacing 30 25 single
+tiles 0
+sinks 0
+outlets 0
+seams 0
+end
+";
+
+#[test]
+fn spacings_of_floats_are_read_and_written_again(rt: HostRuntime) -> Result<(), Fail> {
+    let window = read_report(rt.alloc(), OF_FLOATS)?;
+    let spacings = &window.report.spacings;
+    assert_eq!(rt; spacings.len(), 2);
+    for (row, width) in [(0, 1), (1, 30), (2, 30)] {
+        assert_eq!(rt; spacing_at(spacings, row).width, width);
+        assert_eq!(rt; spacing_at(spacings, row).kind, HeightKind::Single);
+    }
+    let again = write_report(rt.alloc(), &window)?;
+    assert_eq!(rt; again.as_slice(), OF_FLOATS);
     Ok(())
 }
 

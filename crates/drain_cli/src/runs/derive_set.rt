@@ -5,11 +5,13 @@ ghost use Rattle.drain_header.specs.Header.{Fields};
 ghost use Rattle.drain_maker.specs.ProductFiles.{CanBeDerived, DerivedFit};
 ghost use Rattle.drain_maker.specs.declared.product_files.TheConstants.{DERIVED_COUNT};
 ghost use Rattle.drain_answer.specs.AuditLines.{no_end_line};
-ghost use Rattle.drain_cli.specs.DerivedSets.{IsDemDerivation, IsDerivation, IsSetHandedOver, none_line, none_status, told_of_dir};
+ghost use Rattle.drain_cli.specs.DerivedSets.{IsDemDerivation, IsDerivation, IsDerivedRun, IsSetHandedOver, none_line, none_status, told_of_dir, with_header};
 ghost use Rattle.drain_maker.specs.declared.derivation.Derived.{Derived};
 ghost use Rattle.drain_maker.specs.declared.derivation.DeriveRefusal.{DeriveRefusal};
 ghost use Rattle.drain_mosaic.specs.Tiling.{Tiling};
 
+use crate::runs::run_explain::headers_of_four;
+use crate::runs::slips::{OtherShape, other_shape};
 use crate::runs::write_set::write_derived_and_place;
 use drain_answer::audit_report;
 use drain_answer::lines::{Line, refusal_line};
@@ -61,40 +63,47 @@ fn derived_of_files(
     ensures written { IfOk result (λ set. DerivedFit set.0 set.1) }
 {
     let opened = open_directions(opener, args);
-    let OpenFiles {
-        mut elevations,
-        mut products,
-        sinks,
-        spacing: _,
-    } = inputs_or_print(opener, opened, "the products", outputs, out)?;
-    derive_opened(
-        opener.alloc(),
-        &mut elevations,
-        sinks.as_slice(),
-        &mut products,
-        out,
-    )
+    let mut files = inputs_or_print(opener, opened, "the products", outputs, out)?;
+    let derived = derive_opened(opener.alloc(), &mut files, out);
+    if let Err(status) = &derived {
+        let headers = headers_of_four(&files.products);
+        if let Some(shape) = other_shape(opener.alloc(), *status, &files.elevations, &headers) {
+            let product = Product::Dir;
+            OtherShape { product, ..shape }.print(opener.rt());
+        }
+    }
+    derived
 }
 
-/// What follows from directions on these elevations, with their header: con's on a mosaic.
-fn derive_opened<R: ByteSource, W: ByteSink>(
+/// What follows from the directions that were opened, on their elevations, with the header of these: con's on a mosaic.
+pub fn derive_opened<R: ByteSource, W: ByteSink>(
     alloc: Global,
-    elevations: &mut OpenElevations<R>,
-    sinks: &[u8],
-    products: &mut AuditProducts<R>,
+    files: &mut OpenFiles<OpenElevations<R>, AuditProducts<R>>,
     out: &mut W,
 ) -> Result<(Header, Derived), u8>
+    // It follows from these directions, on these elevations with these sinks.
+    ensures run { IsDerivedRun R.ByteSource W.ByteSink files.old.elevations files.new.elevations files.old.sinks.items files.old.products files.new.products out.old out.new result }
     ensures written { IfOk result (λ set. DerivedFit set.0 set.1) }
 {
-    match elevations {
+    let sinks = files.sinks.as_slice();
+    let products = &mut files.products;
+    match &mut files.elevations {
         OpenElevations::Tiles(OpenTiles { side, tiles }) => {
-            let tiles = tiles.as_mut_slice();
-            match derive_set(alloc, *side, tiles, sinks, products, out) {
-                Ok((layout, derived)) => Ok((product_header(&layout, Product::Con), derived)),
-                Err(status) => Err(status),
-            }
+            let set = derive_set(alloc, *side, tiles.as_mut_slice(), sinks, products, out);
+            with_header(set)
         }
         OpenElevations::Dem(dem) => derive_dem_set(alloc, dem, sinks, products, out),
+    }
+}
+
+/// What was derived on a mosaic, with con's header on it.
+fn with_header(set: Result<(Layout, Derived), u8>) -> Result<(Header, Derived), u8>
+    ensures header { result ≡ with_header set }
+    ensures written { IfOk set (λ derived. CanBeDerived derived.0 derived.1) → IfOk result (λ derived. DerivedFit derived.0 derived.1) }
+{
+    match set {
+        Ok((layout, derived)) => Ok((product_header(&layout, Product::Con), derived)),
+        Err(status) => Err(status),
     }
 }
 

@@ -1,10 +1,12 @@
 //! Explaining the products of a folder: its files are opened as for a check or an audit, and opened again for details.
 
-ghost use Rattle.std.specs.Prelude.{◌≡◌, length, IfOk, Some};
+ghost use Rattle.std.specs.Prelude.{◌≡◌, ◌↔◌, length, IfOk, IsSome, IsTrue, Some};
+ghost use Rattle.drain_args.specs.declared.form.Form.TheVariants.{Json};
+ghost use Rattle.drain_explain.specs.declared.fault_visitor.Mapping.TheVariants.{Drawn};
 ghost use Rattle.drain_grid.specs.declared.judged.Judged as grid;
 
 use crate::runs::explain_dem::run_explain_on;
-use crate::runs::opened_given::given_of;
+use crate::runs::judge_files::print_usage_error;
 use crate::runs::run_explain;
 use crate::runs::run_explain::{ExplainOutput, MapFault, PageFailure, print_page_failure};
 use drain_answer::outcome::Status;
@@ -17,7 +19,7 @@ use drain_files::file_paths::{header_path, raster_path};
 use drain_files::map_file::{MapClash, map_clash, map_paths, write_map};
 use drain_files::open_failure::{Placing, place_written, print_no_spacing, print_reason};
 use drain_files::open_files::{OpenFault, Opener};
-use drain_files::open_judged::{OpenFiles, open_judged};
+use drain_files::open_judged::open_judged;
 use drain_files::outputs::{Failure, Outputs, look};
 use drain_grid::{Judged, Product};
 use drain_header::Header;
@@ -69,22 +71,13 @@ fn explain_opened(
     let progress = Progress::new(rt, args.inputs.progress);
     let mut opener = Opener::new(rt);
     match open_judged(&mut opener, &args.inputs, judged, &progress) {
-        Ok(
-            OpenFiles {
-                mut elevations,
-                mut products,
-                sinks,
-                spacing,
-            },
-        ) => {
+        Ok(mut files) => {
             if let Some(status) = refused_map(rt, args, opener.ids(), out) {
                 return status;
             }
             run_explain_on(
                 rt.alloc(),
-                &mut elevations,
-                &given_of(sinks.as_slice(), &spacing),
-                &mut products,
+                &mut files,
                 mapping(args),
                 form(args),
                 &mut OnDisk {
@@ -110,7 +103,7 @@ fn refused_map(
         Ok(None) => None,
         Ok(Some((path, clash))) => {
             print_clash(rt, path.as_str(), clash);
-            Some(Status::Refused.code())
+            Some(usage_error(form(args), out))
         }
         Err(fault) => Some(print_unopened(rt, fault, form(args), out)),
     }
@@ -124,9 +117,20 @@ fn print_unopened(rt: &HostRuntime, fault: OpenFault, form: Form, out: &mut impl
             PageFailure::Open(path)
         }
         OpenFault::Body(fault) => PageFailure::from(fault),
-        OpenFault::NoSpacing => return print_no_spacing(rt),
+        OpenFault::NoSpacing => {
+            print_no_spacing(rt);
+            return usage_error(form, out);
+        }
     };
     print_page_failure(rt.alloc(), &why, form, out)
+}
+
+/// The exit status of a usage error; in the form of an object it is printed.
+fn usage_error(form: Form, out: &mut impl ByteSink) -> u8 {
+    match form {
+        Form::Text => Status::Refused.code(),
+        Form::Json => print_usage_error(out),
+    }
 }
 
 /// Prints the usage error for a map that must not be written there.
@@ -145,7 +149,9 @@ fn print_clash(rt: &HostRuntime, path: &str, clash: MapClash) {
 }
 
 /// Whether a map is drawn.
-fn mapping(args: &ExplainArgs<'_>) -> Mapping {
+fn mapping(args: &ExplainArgs<'_>) -> Mapping
+    ensures { (result ≡ Drawn) ↔ IsSome args.now.map }
+{
     match args.map {
         Some(_) => Mapping::Drawn,
         None => Mapping::Undrawn,
@@ -153,7 +159,9 @@ fn mapping(args: &ExplainArgs<'_>) -> Mapping {
 }
 
 /// The form of the explanation.
-fn form(args: &ExplainArgs<'_>) -> Form {
+fn form(args: &ExplainArgs<'_>) -> Form
+    ensures { (result ≡ Json) ↔ IsTrue args.now.json }
+{
     if args.json { Form::Json } else { Form::Text }
 }
 
@@ -198,7 +206,7 @@ impl<'r, 'a, 'e> FileLookup for OnDisk<'r, 'a, 'e> {
 
 impl<'r, 'a, 'e> ExplainOutput for OnDisk<'r, 'a, 'e> {
     // No clause says what a file takes.
-    ghost has_saved = { λ old new result. Unit {0} };
+    ghost has_saved = { λ like pixels old new result. Unit {0} };
 
     fn save_map(&mut self, like: &Header, pixels: &[u8]) -> Result<(), MapFault> {
         match self.args.map {

@@ -3,13 +3,15 @@
 //! As a check does, `make` reports a bad text of widths after all else: until then cells are square.
 
 ghost use Rattle.std.specs.Prelude.{◌≡◌, IfOk, IfErr, IfSome, None};
-ghost use Rattle.drain_cli.specs.MadeSets.{IsNoSpacing, no_spacing_line, no_spacing_status};
+ghost use Rattle.drain_cli.specs.MadeSets.{AreSaidSpacings, IsNoSpacing, no_spacing_line, no_spacing_status};
 ghost use Rattle.drain_maker.specs.Accepted.{AreGivenSpacings};
 
 use drain_answer::Refusal;
 use drain_answer::lines::{Line, refusal_line, words};
 use drain_answer::outcome::Status;
-use drain_grid::{Shape, Spacing, SpacingFault, SpacingInput, Spacings, parse_spacings};
+use drain_grid::{
+    HeightKind, Shape, Spacing, SpacingFault, SpacingInput, Spacings, parse_spacings,
+};
 use drain_verdict::Given;
 use std::alloc::Global;
 
@@ -31,14 +33,14 @@ pub struct MadeSpacing {
     pub fault: Option<NoSpacing>,
 }
 
-/// What is given for a grid of this shape.
-pub fn spacing_to_make(alloc: Global, given: &Given, shape: Shape) -> MadeSpacing
-    ensures given { result.fault ≡ None → AreGivenSpacings given.now.spacing shape result.spacings }
+/// What is given for a grid of this shape, whose heights are of this kind.
+pub fn spacing_to_make(alloc: Global, given: &Given, kind: HeightKind, shape: Shape) -> MadeSpacing
+    ensures given { result.fault ≡ None → AreGivenSpacings kind given.now.spacing shape result.spacings }
     ensures fault { IfSome result.fault (IsNoSpacing given.now.spacing shape) }
 {
     match spacings_for(alloc, given, shape) {
         Ok(spacings) => MadeSpacing {
-            spacings,
+            spacings: spacings.of_kind(kind),
             fault: None,
         },
         Err(fault) => MadeSpacing {
@@ -48,9 +50,9 @@ pub fn spacing_to_make(alloc: Global, given: &Given, shape: Shape) -> MadeSpacin
     }
 }
 
-/// The spacing of each row.
+/// The spacing of each row, of whole heights.
 fn spacings_for(alloc: Global, given: &Given, shape: Shape) -> Result<Spacings, NoSpacing>
-    ensures given { IfOk result (AreGivenSpacings given.now.spacing shape) }
+    ensures given { IfOk result (AreSaidSpacings given.now.spacing shape) }
     ensures fault { IfErr result (IsNoSpacing given.now.spacing shape) }
 {
     let spacings = match parse_spacings(alloc, &given.spacing) {

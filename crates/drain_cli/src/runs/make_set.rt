@@ -1,12 +1,14 @@
 //! What `make` makes, and its files.
 
-ghost use Rattle.std.specs.Prelude.{◌≡◌, IfOk, length, map, IfErr, OnOk};
+ghost use Rattle.std.specs.Prelude.{◌≡◌, [], IfOk, None, length, map, IfErr, OnOk};
 ghost use Rattle.drain_maker.specs.ProductFiles.{SetFits, made_header};
 ghost use Rattle.drain_maker.specs.declared.product_files.TheConstants.{FILE_COUNT};
 ghost use Rattle.drain_device.specs.FaultLists.{SomeReadFails};
 ghost use Rattle.drain_hgt.specs.Inputs.{names_of, tile_devices, TilesTakeAtMost};
 ghost use Rattle.drain_cli.specs.declared.runs.make_set.NoSet.{NoSet};
-ghost use Rattle.drain_cli.specs.MadeSets.{IsDemSetOf, IsNoDemSet, IsNoSet, IsSetOf, no_set_line, no_set_status};
+ghost use Rattle.drain_cli.specs.MadeSets.{IsDemSetOf, IsNoDemSet, IsNoSet, IsSetOf, IsSetOn, no_set_line, no_set_status};
+ghost use Rattle.drain_cli.specs.OpenedInputs.{given_in};
+ghost use Rattle.drain_files.specs.Files.{AreElevationsOf};
 ghost use Rattle.drain_answer.specs.Printing.{Prints};
 ghost use Rattle.drain_files.specs.OpenSpacings.{IsSpacingOf};
 ghost use Rattle.drain_verdict.specs.Given.{plain};
@@ -28,7 +30,7 @@ use drain_files::open_judged::{OpenElevations, OpenFiles, OpenTiles, count_rows,
 use drain_files::open_spacing::open_spacing;
 use drain_files::output_paths::{inputs_or_print, output_paths};
 use drain_files::outputs::{Failure, Outputs};
-use drain_grid::{Product, ProductSet, SinkFault, parse_sinks};
+use drain_grid::{HeightKind, Product, ProductSet, SinkFault, parse_sinks};
 use drain_header::Header;
 use drain_hgt::TileInput;
 use drain_maker::follow::Follow;
@@ -83,33 +85,22 @@ fn made_of_files<'a>(
 ) -> Result<(Header, ProductSet), u8>
     ensures written { IfOk result (λ set. SetFits set.0 set.1) }
 {
-    let opened = open_inputs(opener, progress, args);
-    let OpenFiles {
-        mut elevations,
-        products: (),
-        sinks,
-        spacing,
-    } = inputs_or_print(opener, opened, "the products", outputs, out)?;
-    make_opened(
-        opener.alloc(),
-        &mut elevations,
-        &given_of(sinks.as_slice(), &spacing),
-        &mut MakeProgress(progress),
-        out,
-    )
+    let opened = open_inputs(opener, args);
+    let mut files = inputs_or_print(opener, opened, "the products", outputs, out)?;
+    count_elevations(&mut files.elevations, progress);
+    make_opened(opener.alloc(), &mut files, &mut MakeProgress(progress), out)
 }
 
-/// Opens the elevations, whose rows are counted, and reads the list of sinks and the text of widths. The first fault ends
-/// it.
+/// Opens the elevations, and reads the list of sinks and the text of widths. The first fault ends it.
 fn open_inputs<'a>(
     opener: &mut Opener<'_>,
-    progress: &'a Progress<'a>,
     args: &ProductArgs<'_, Elevations<'_>>,
 ) -> Result<OpenFiles<OpenElevations<InputFile<'a>>, ()>, OpenFault>
+    ensures elevations { IfOk result (λ files. AreElevationsOf args.now.elevations files.elevations) }
+    ensures sinks { args.now.sinks ≡ None → IfOk result (λ files. files.sinks.items ≡ []) }
     ensures spacing { IfOk result (λ files. IsSpacingOf args.now.spacing files.elevations files.spacing) }
 {
-    let mut elevations = open_elevations(opener, &args.elevations)?;
-    count_elevations(&mut elevations, progress);
+    let elevations = open_elevations(opener, &args.elevations)?;
     let sinks = list_at(opener, args.sinks)?;
     let spacing = open_spacing(opener, &args.spacing, &elevations)?;
     Ok(OpenFiles {
@@ -134,24 +125,26 @@ fn count_elevations<'a>(
     }
 }
 
-/// The products of these elevations, with the elevations' header: con's on a mosaic.
-fn make_opened<R: ByteSource, W: ByteSink>(
+/// The products of the elevations that were opened, with the elevations' header: con's on a mosaic.
+pub fn make_opened<R: ByteSource, W: ByteSink>(
     alloc: Global,
-    elevations: &mut OpenElevations<R>,
-    given: &Given,
+    files: &mut OpenFiles<OpenElevations<R>, ()>,
     follow: &mut impl Follow,
     out: &mut W,
 ) -> Result<(Header, ProductSet), u8>
+    // They are made of these elevations, with these sinks and this spacing.
+    ensures made { IfOk result (λ set. IsSetOn R.bytes_left files.old.elevations (given_in files.old) set.0 set.1) }
     ensures written { IfOk result (λ set. SetFits set.0 set.1) }
 {
-    match elevations {
+    let given = given_of(files.sinks.as_slice(), &files.spacing);
+    match &mut files.elevations {
         OpenElevations::Tiles(OpenTiles { side, tiles }) => {
-            match make_set_given(alloc, *side, tiles.as_mut_slice(), given, follow, out) {
+            match make_set_given(alloc, *side, tiles.as_mut_slice(), &given, follow, out) {
                 Ok((layout, products)) => Ok((product_header(&layout, Product::Con), products)),
                 Err(status) => Err(status),
             }
         }
-        OpenElevations::Dem(dem) => make_dem_set(alloc, dem, given, follow, out),
+        OpenElevations::Dem(dem) => make_dem_set(alloc, dem, &given, follow, out),
     }
 }
 
@@ -277,7 +270,12 @@ fn read_and_make<R: ByteSource>(
         Err(fault) => return Err(NoSet::Sinks(fault)),
     };
     let Mosaic { layout, elevation } = mosaic;
-    let MadeSpacing { spacings, fault } = spacing_to_make(alloc, given, layout.shape());
+    let MadeSpacing { spacings, fault } = spacing_to_make(
+        alloc,
+        given,
+        HeightKind::Whole,
+        layout.shape(),
+    );
     match make_freeing(alloc, &layout, elevation, &listed, &spacings, follow) {
         Ok(products) => match fault {
             None => Ok((layout, products)),
@@ -336,7 +334,12 @@ fn read_and_make_dem<R: ByteSource>(
         Err(fault) => return Err(NoSet::Sinks(fault)),
     };
     let Dem { header, raster } = read;
-    let MadeSpacing { spacings, fault } = spacing_to_make(alloc, given, raster.shape());
+    let MadeSpacing { spacings, fault } = spacing_to_make(
+        alloc,
+        given,
+        header.kind,
+        raster.shape(),
+    );
     match make_dem(alloc, raster, &listed, &spacings, follow) {
         Ok(products) => match fault {
             None => Ok((header, products)),

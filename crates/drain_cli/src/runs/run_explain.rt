@@ -1,11 +1,11 @@
 //! A run of `explain` on tiles: the answer, its page and its map.
 
-ghost use Rattle.std.specs.Prelude.{◌≡◌, ◌++◌, ℕ, List, IfOk, codes, string_bytes, IfErr, Result};
-ghost use Rattle.drain_cli.specs.ExplainRuns.{IsNoPage, IsNoPageLine, IsFailureObject, no_page_answer, no_page_of, Explains, FailsToSave, IsOutcome};
+ghost use Rattle.std.specs.Prelude.{◌≡◌, ◌++◌, ℕ, List, IfOk, Ok, codes, string_bytes, Result};
+ghost use Rattle.drain_cli.specs.ExplainRuns.{AreFoundOf, Explains, IsFailureObject, IsNoPage, IsNoPageLine, IsOutcome, IsSaved, IsTileExplained, no_page_answer, no_page_of, place_on_tiles};
+ghost use Rattle.drain_cli.specs.OpenedInputs.{ForTiles};
+ghost use Rattle.drain_header.specs.Header.{Fields};
 ghost use Rattle.drain_answer.specs.Printing.{PrintsText};
 ghost use Rattle.drain_cli.specs.declared.runs.run_explain.MapFault.{MapFault};
-ghost use Rattle.drain_answer.specs.declared.outcome.Outcome as declared;
-ghost use Rattle.drain_answer.specs.declared.refusal.Refusal as declared_refusal;
 
 use crate::answer::outcome_status;
 use drain_answer::outcome::Status;
@@ -27,7 +27,7 @@ use drain_maker::product_files::Part;
 use drain_maker::product_header;
 use drain_mosaic::Layout;
 use drain_page::{Facts, Frame, OUT_OF_MEMORY_OBJECT, failure_json, page_json, page_text};
-use drain_verdict::{Given, Outcome, Refusal};
+use drain_verdict::{AuditProducts, Given, Outcome, Refusal};
 use std::alloc::{AllocError, Global};
 use std::fs;
 use std::fs::File;
@@ -162,7 +162,7 @@ fn print_failed_open<W: ByteSink>(alloc: Global, path: &str, out: &mut W) -> u8
 }
 
 /// The line without a line end.
-fn failed_open(alloc: Global, path: &str) -> Result<String, AllocError>
+pub(crate) fn failed_open(alloc: Global, path: &str) -> Result<String, AllocError>
     ensures { IfOk result (λ line. string_bytes line ≡ codes "failed Open " ++ path.now) }
 {
     let mut line = String::from_str(alloc, "failed Open ")?;
@@ -201,17 +201,24 @@ pub enum MapFault {
 
 /// Where a grid lies, for its page and its map.
 pub trait MapFrame: Frame {
+    ghost place: { Self → Fields };
+
     /// The header of a raster that lies there.
-    fn raster_header(&self) -> Header;
+    fn raster_header(&self) -> Header
+        ensures { result ≡ place self.now };
 }
 
 impl MapFrame for Layout {
+    ghost place = { place_on_tiles };
+
     fn raster_header(&self) -> Header {
         product_header(self, Product::Dir)
     }
 }
 
 impl MapFrame for Header {
+    ghost place = { λ header. header };
+
     fn raster_header(&self) -> Header {
         *self
     }
@@ -219,12 +226,13 @@ impl MapFrame for Header {
 
 /// The place of a map.
 pub trait ExplainOutput {
-    /// A call led from the one state to the other, with this result.
-    ghost has_saved: { Self → Self → Result (Unit {0}) MapFault → Type 0 };
+    /// A call for a map that lies as this header says, with these pixels, led from the one state to the other, with this
+    /// result.
+    ghost has_saved: { Fields → List ℕ → Self → Self → Result (Unit {0}) MapFault → Type 0 };
 
     /// Saves the map of the faults, which lies as the raster with this header does.
     fn save_map(&mut self, like: &Header, pixels: &[u8]) -> Result<(), MapFault>
-        ensures { has_saved self.old self.new result };
+        ensures { has_saved like.now pixels.now self.old self.new result };
 }
 
 /// Saves the map, if there is one, then prints the page, and returns the exit status: that of the answer, or that of a
@@ -239,7 +247,9 @@ pub fn explain<F: MapFrame, B: ExplainOutput, W: ByteSink>(
     beside: &mut B,
     out: &mut W,
 ) -> u8
-    ensures { Explains W.ByteSink out.old out.new (FailsToSave B.has_saved) form facts.now.answer result }
+    // A map that is required was saved, or the page isn't printed.
+    ensures { (saved : Result (Unit {0}) MapFault) × IsSaved B.has_saved F.place facts.now.findings beside.old beside.new saved
+        × Explains W.ByteSink out.old out.new saved form facts.now.answer result }
 {
     match save(facts, beside) {
         Ok(()) => print_page(alloc, facts, form, out),
@@ -249,7 +259,7 @@ pub fn explain<F: MapFrame, B: ExplainOutput, W: ByteSink>(
 
 /// Saves the map, if there is one.
 fn save<F: MapFrame, B: ExplainOutput>(facts: &Facts<F>, beside: &mut B) -> Result<(), MapFault>
-    ensures { IfErr result (FailsToSave B.has_saved) }
+    ensures { IsSaved B.has_saved F.place facts.now.findings beside.old beside.new result }
 {
     match &facts.findings {
         Some(
@@ -265,7 +275,7 @@ fn save<F: MapFrame, B: ExplainOutput>(facts: &Facts<F>, beside: &mut B) -> Resu
 
 /// Prints the page, or that there is no memory for it.
 fn print_page<F: Frame, W: ByteSink>(alloc: Global, facts: &Facts<F>, form: Form, out: &mut W) -> u8
-    ensures { Explains W.ByteSink out.old out.new (λ fault. ⊥) form facts.now.answer result }
+    ensures { Explains W.ByteSink out.old out.new (Ok tt) form facts.now.answer result }
 {
     let status = outcome_status(&facts.answer);
     match form {
@@ -273,7 +283,7 @@ fn print_page<F: Frame, W: ByteSink>(alloc: Global, facts: &Facts<F>, form: Form
             Ok(page) => print_text(out, &page, status),
             Err(_) => print_page_failure(alloc, &PageFailure::OutOfMemory, form, out),
         },
-        Form::Json => match page_json(alloc, facts) {
+        Form::Json => match page_json(alloc, facts, status) {
             Ok(page) => print_text(out, page.as_bytes(), status),
             Err(_) => print_page_failure(alloc, &PageFailure::OutOfMemory, form, out),
         },
@@ -295,9 +305,7 @@ pub fn run_explain<R: ByteSource, B: ExplainOutput + FileLookup, W: ByteSink>(
     beside: &mut B,
     out: &mut W,
 ) -> u8
-    ensures run { (answer : Result declared.Outcome declared_refusal.Refusal)
-        × IsOutcome R.ByteSource side tiles.old tiles.new given.now products.old products.new answer
-        × Explains W.ByteSink out.old out.new (FailsToSave B.ExplainOutput.has_saved) form answer result }
+    ensures run { IsTileExplained R.ByteSource W.ByteSink B.ExplainOutput.has_saved side tiles.old tiles.new given.now products.old products.new mapping form beside.new out.old out.new result }
 {
     let (answer, findings) = explain_products(alloc, side, tiles, given, products, mapping);
     let refusal = match refusal_of(&answer) {
@@ -324,7 +332,8 @@ fn explain_products<R: ByteSource>(
     products: &mut JudgedProducts<R>,
     mapping: Mapping,
 ) -> (Result<Outcome, Refusal>, Option<Findings<Layout>>)
-    ensures { IsOutcome R.ByteSource side tiles.old tiles.new given.now products.old products.new result.0 }
+    ensures answer { IsOutcome R.ByteSource side tiles.old tiles.new given.now products.old products.new result.0 }
+    ensures found { AreFoundOf (ForTiles R.bytes_left side tiles.old given.now) products.old given.now mapping result.0 result.1 }
 {
     match products {
         JudgedProducts::Five(five) => {
@@ -354,12 +363,17 @@ pub(crate) fn headers_of<R>(products: &JudgedProducts<R>) -> PerProduct<&[u8]> {
             bas: five.bas.header.as_slice(),
             rnk: five.rnk.header.as_slice(),
         },
-        JudgedProducts::Four(four, _) => PerProduct {
-            con: four.con.header.as_slice(),
-            dir: four.dir.header.as_slice(),
-            acc: four.acc.header.as_slice(),
-            bas: four.bas.header.as_slice(),
-            rnk: &[],
-        },
+        JudgedProducts::Four(four, _) => headers_of_four(four),
+    }
+}
+
+/// The headers of the four products of an audit.
+pub(crate) fn headers_of_four<R>(products: &AuditProducts<R>) -> PerProduct<&[u8]> {
+    PerProduct {
+        con: products.con.header.as_slice(),
+        dir: products.dir.header.as_slice(),
+        acc: products.acc.header.as_slice(),
+        bas: products.bas.header.as_slice(),
+        rnk: &[],
     }
 }

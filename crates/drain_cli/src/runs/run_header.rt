@@ -1,9 +1,10 @@
 //! A run of `drain header`: the text of a header is read, and the header written in this program's own form.
 
-ghost use Rattle.std.specs.Prelude.{◌≡◌, ◌+◌, ◌++◌, codes};
+ghost use Rattle.drain_grid.specs.declared.height_kind.HeightKind.{HeightKind};
+ghost use Rattle.std.specs.Prelude.{◌≡◌, IfOk, ◌+◌, ◌++◌, codes};
 ghost use Rattle.drain_device.specs.Reads.{TakesAtMost};
 ghost use Rattle.drain_header.specs.Faults.{fault_text};
-ghost use Rattle.drain_cli.specs.FillRuns.{HeaderOutcome, IsHeaderOutcome, IsToldAs, IsAnswerToldAs, header_printed, header_status};
+ghost use Rattle.drain_cli.specs.FillRuns.{HeaderOutcome, IsHeaderOutcome, IsWholeOutcome, IsToldAs, IsAnswerToldAs, header_printed, header_status};
 ghost use Rattle.drain_answer.specs.Printing.{PrintsText};
 
 use drain_answer::lines::{Line, words};
@@ -34,6 +35,7 @@ pub fn run_header<R: ByteSource, W: ByteSink>(alloc: Global, input: &mut R, out:
 /// The answer to what the source has left.
 fn read_header<R: ByteSource>(alloc: Global, input: &mut R) -> HeaderOutcome
     ensures outcome { IsHeaderOutcome R.ByteSource input.old input.new result }
+    ensures whole { IsWholeOutcome result }
     ensures within { TakesAtMost (MAX_HEADER_BYTES + 1) (R.bytes_left input.old) (R.bytes_left input.new) }
 {
     let body = read_body(alloc, input, MAX_HEADER_BYTES + 1)?;
@@ -42,6 +44,7 @@ fn read_header<R: ByteSource>(alloc: Global, input: &mut R) -> HeaderOutcome
 
 /// Prints an outcome, or that there was no memory for the text of its header.
 fn print_outcome<W: ByteSink>(alloc: Global, out: &mut W, outcome: HeaderOutcome) -> u8
+    requires { IsWholeOutcome outcome }
     ensures { (told : HeaderOutcome) × IsToldAs outcome told
         × PrintsText W.ByteSink out.old out.new (header_printed told) (header_status told) result }
 {
@@ -53,6 +56,7 @@ fn print_outcome<W: ByteSink>(alloc: Global, out: &mut W, outcome: HeaderOutcome
 
 /// Prints the lines of a header or the line of its fault, or that there was no memory for the text of the header.
 fn print_answer<W: ByteSink>(alloc: Global, out: &mut W, answer: Result<Header, HeaderFault>) -> u8
+    requires { IfOk answer (λ h. h.kind ≡ HeightKind.Whole) }
     ensures { (told : HeaderOutcome) × IsAnswerToldAs answer told
         × PrintsText W.ByteSink out.old out.new (header_printed told) (header_status told) result }
 {

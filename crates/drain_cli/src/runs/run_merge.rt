@@ -1,6 +1,6 @@
 //! A run of `drain merge`: reports are put together, and the verdict on the union is printed.
 
-ghost use Rattle.std.specs.Prelude.{◌≡◌, IfErr, IfOk, List, OnOk, Ok, Result};
+ghost use Rattle.std.specs.Prelude.{◌≡◌, IfErr, IfOk, List, OnOk, Ok, Result, length, vec_len};
 ghost use Rattle.drain_grid.specs.SinkTexts.{IsSinkFault, sinks_of};
 ghost use Rattle.drain_grid.specs.declared.sink_line.SinkLine.{SinkLine};
 ghost use Rattle.drain_grid.specs.declared.sink_text.SinkFault.{SinkFault};
@@ -9,7 +9,7 @@ ghost use Rattle.drain_merge.specs.declared.map_merge.MapVerdict.{MapVerdict};
 ghost use Rattle.drain_merge.specs.declared.merge_verdict.MergeRefusal.{MergeRefusal};
 ghost use Rattle.drain_merge.specs.declared.totals.UnionSinks.TheVariants.{Listed};
 ghost use Rattle.drain_answer.specs.Printing.{Prints};
-ghost use Rattle.drain_cli.specs.MergeRuns.{IsMergeOutcome, list_line, list_status, MakeUnion, merge_status, refused_status, UnionIsCorrect, UnionIsNotCorrect};
+ghost use Rattle.drain_cli.specs.MergeRuns.{AreSinksAt, IsMergeOutcome, list_line, list_status, MakeUnion, merge_status, refused_status, UnionIsCorrect, UnionIsNotCorrect};
 
 use crate::runs::report_input::read_or_print;
 use crate::runs::report_output::verdict_status;
@@ -49,7 +49,9 @@ pub(crate) fn reports_at(
     opener: &mut Opener<'_>,
     paths: &[&str],
     out: &mut impl ByteSink,
-) -> Result<Vec<WindowReport>, u8> {
+) -> Result<Vec<WindowReport>, u8>
+    ensures each { IfOk result (λ windows. vec_len windows ≡ length paths.now) }
+{
     let mut windows = Vec::new(opener.alloc());
     for (place, path) in paths.iter().enumerate() {
         let window = report_at(opener, place, path, out)?;
@@ -78,7 +80,9 @@ fn sinks_at(
     opener: &mut Opener<'_>,
     path: Option<&str>,
     out: &mut impl ByteSink,
-) -> Result<UnionSinks, u8> {
+) -> Result<UnionSinks, u8>
+    ensures { IfOk result (λ sinks. AreSinksAt path.entry sinks) }
+{
     let Some(path) = path else {
         return Ok(UnionSinks::AsTaken);
     };

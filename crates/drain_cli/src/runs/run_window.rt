@@ -2,12 +2,15 @@
 
 ghost use Rattle.std.specs.Prelude.{◌≡◌, ◌++◌, ◌⊎◌, IfSome, Result};
 ghost use Rattle.drain_files.specs.FilePaths.{header_ending, raster_ending};
-ghost use Rattle.drain_cli.specs.WindowRuns.{IsDemWindowOutcome, IsWindowHandedOver, IsWindowOutcome, refusal_code};
+ghost use Rattle.drain_cli.specs.OpenedInputs.{given_in};
+ghost use Rattle.drain_cli.specs.WindowRuns.{IsDemWindowOutcome, IsWindowHandedOver, IsWindowOutcome, IsWindowRun, refusal_code};
 ghost use Rattle.drain_window.specs.declared.answered.WindowRefusal.{WindowRefusal};
 ghost use Rattle.drain_union.specs.declared.report.WindowReport.{WindowReport};
 
 use crate::runs::opened_given::given_of;
 use crate::runs::report_output::{report_path, write_at};
+use crate::runs::run_explain::headers_of_four;
+use crate::runs::slips::{other_kind, other_shape};
 use drain_answer::outcome::Status;
 use drain_answer::print::{print_failure, print_line};
 use drain_args::requests::WindowArgs;
@@ -15,7 +18,7 @@ use drain_device::{BodyFault, ByteSink, ByteSource, write_nothing};
 use drain_files::map_file::is_named_as_product;
 use drain_files::open_failure::print_open_fault;
 use drain_files::open_files::Opener;
-use drain_files::open_judged::{OpenElevations, OpenFiles, open_audited};
+use drain_files::open_judged::{OpenElevations, OpenFiles, OpenTiles, open_audited};
 use drain_files::output_paths::inputs_or_print;
 use drain_grid::Cell;
 use drain_hgt::TileInput;
@@ -26,8 +29,8 @@ use drain_window::answered::refusal_line;
 use drain_window::{WindowRefusal, judge_window, judge_window_dem};
 use std::alloc::Global;
 
-/// Judges a window of the mosaic of these tiles, or of this part of a raster of elevations, writes its report, prints the line and returns the exit status. The
-/// report's file is created once nothing is left to refuse.
+/// Judges a window of the mosaic of these tiles, or of this part of a raster of elevations, writes its report, prints the
+/// line and returns the exit status. The report's file is created once nothing is left to refuse.
 pub fn window_files(rt: &HostRuntime, args: &WindowArgs<'_>, out: &mut impl ByteSink) -> u8 {
     // If standard output is closed no file may be opened, as the first would take its place.
     if write_nothing(out).is_err() {
@@ -55,35 +58,51 @@ fn judged_files<'a>(
     out: &mut impl ByteSink,
 ) -> Result<WindowReport, u8> {
     let opened = open_audited(opener, &args.inputs, progress);
-    let OpenFiles {
-        mut elevations,
-        mut products,
-        sinks,
-        spacing,
-    } = inputs_or_print(opener, opened, "the report", report, out)?;
+    let mut files = inputs_or_print(opener, opened, "the report", report, out)?;
     if let Some(status) = refused_name(opener.rt(), args, out) {
         return Err(status);
     }
-    let given = given_of(sinks.as_slice(), &spacing);
-    match &mut elevations {
-        OpenElevations::Tiles(tiles) => judge_or_print(
-            opener.alloc(),
-            tiles.side,
-            tiles.tiles.as_mut_slice(),
+    let window = judge_opened(opener.alloc(), &mut files, &args.place, args.at, out);
+    if let Err(status) = &window {
+        let headers = headers_of_four(&files.products);
+        if let Some(shape) = other_shape(opener.alloc(), *status, &files.elevations, &headers) {
+            shape.print(opener.rt());
+        }
+        if let Some(kind) = other_kind(*status, &files.elevations, &headers) {
+            kind.print(opener.rt());
+        }
+    }
+    window
+}
+
+/// Judges the window of the files that were opened, which lies at this place of the mosaic, or of the whole raster of
+/// elevations, of which the part that was opened begins at this cell; and returns what is to be reported. If there is no
+/// verdict, it prints why and returns the exit status.
+pub fn judge_opened<R: ByteSource, W: ByteSink>(
+    alloc: Global,
+    files: &mut OpenFiles<OpenElevations<R>, AuditProducts<R>>,
+    place: &Place,
+    at: Cell,
+    out: &mut W,
+) -> Result<WindowReport, u8>
+    // What is judged are these products, on these elevations with these sinks and this spacing.
+    ensures run { IsWindowRun R.ByteSource W.ByteSink place.now at files.old.elevations files.new.elevations (given_in files.old) files.old.products files.new.products out.old out.new result }
+{
+    let given = given_of(files.sinks.as_slice(), &files.spacing);
+    let products = &mut files.products;
+    match &mut files.elevations {
+        OpenElevations::Tiles(OpenTiles { side, tiles }) => judge_or_print(
+            alloc,
+            *side,
+            tiles.as_mut_slice(),
             &given,
-            &mut products,
-            &args.place,
+            products,
+            place,
             out,
         ),
-        OpenElevations::Dem(dem) => judge_dem_or_print(
-            opener.alloc(),
-            dem,
-            &given,
-            &mut products,
-            &args.place,
-            args.at,
-            out,
-        ),
+        OpenElevations::Dem(dem) => {
+            judge_dem_or_print(alloc, dem, &given, products, place, at, out)
+        }
     }
 }
 

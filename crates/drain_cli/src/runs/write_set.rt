@@ -5,7 +5,7 @@ ghost use Rattle.std.specs.Prelude.{◌≡◌, ◌++◌, ◌≤◌, length, Resu
 ghost use Rattle.drain_cli.specs.DerivedSets.{derived_line};
 ghost use Rattle.drain_cli.specs.MadeSets.{made_line, written_line, written_status};
 ghost use Rattle.drain_files.specs.Files.{IsNamed};
-ghost use Rattle.drain_maker.specs.ProductFiles.{DerivedFit, SetFits, WritesFiles, derived_bytes, set_bytes};
+ghost use Rattle.drain_maker.specs.ProductFiles.{DerivedFit, SetFits, WritesFiles, WritesSet, derived_bytes};
 ghost use Rattle.drain_maker.specs.declared.product_files.SetFault.{SetFault};
 ghost use Rattle.drain_maker.specs.declared.product_files.TheConstants.{DERIVED_COUNT, FILE_COUNT};
 ghost use Rattle.drain_raster.specs.Pixels.{header_extent};
@@ -41,7 +41,7 @@ pub fn write_and_place<F: ByteSink, P: Placing, W: ByteSink>(
     requires counted { length files.old ≡ FILE_COUNT }
     requires written { SetFits elevations.now products.now }
     ensures run { (done told : Result (Unit {0}) SetFault)
-        × WritesFiles F.ByteSink files.old files.new (set_bytes elevations.now products.now) done
+        × WritesSet F.ByteSink elevations.now products.now files.old files.new done
         × IsNamed P.has_placed places.old places.new done told
         × Prints W.ByteSink out.old out.new (made_line (header_extent elevations.now) told) (written_status told) result }
 {

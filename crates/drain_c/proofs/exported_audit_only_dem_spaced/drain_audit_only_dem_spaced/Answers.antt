@@ -1,41 +1,49 @@
-use Rattle.std.proofs.Common.{◌≡◌, ◌<◌, ◌↔◌, Some, IsTrue}
+use Rattle.std.proofs.Common.{◌≡◌, ◌<◌, ◌↔◌, Some, IsFalse, IsTrue}
 use Rattle.drain_answer.specs.OutcomeLines.{outcome_report_line}
 use Rattle.drain_c.specs.Found.{outcome_found}
 use Rattle.drain_c.specs.Given.{audit_raster}
 use Rattle.drain_c.specs.GivenDem.{OfDemBytes, dem_set}
 use Rattle.drain_c.specs.Judged.{judged_of}
-use Rattle.drain_c.specs.Shown.{Reports}
+use Rattle.drain_c.specs.Shown.{Reports, ShowsMissing}
 use Rattle.drain_c.specs.Spacings.{spacing_passed}
-use Rattle.drain_c.specs.Whole.{is_dem_audit_whole}
+use Rattle.drain_c.specs.Whole.{is_dem_audit_whole, is_spacing_whole}
 use Rattle.drain_c.proofs.Choices.{of_spacing, unranked}
 use Rattle.drain_verdict.specs.DemGround.{ElevationIsItsPixels}
 use Rattle.drain_verdict.specs.Given.{spacing_from}
 use Rattle.drain_verdict.specs.Outcomes.{AreRightIn, IsOutcomeIn}
 use Rattle.drain_c.proofs.exported_audit_only_dem_spaced.drain_audit_only_dem_spaced.Goals as goal
 
-pub returns-in-Some-Some-clause-exactly : goal.returns-in-Some-Some-clause-exactly
-returns-in-Some-Some-clause-exactly c =
-    let is : judged_of c.args.judged ≡ Some c.in-Some-Some.judged = cc in
-    let passes : Some (spacing_from c.in-Some-Some.spacing) ≡ spacing_passed c.args.spacing.now = c.in-Some-Some.ensures' in
+pub returns-in-Some-Some-2-clause-exactly : goal.returns-in-Some-Some-2-clause-exactly
+returns-in-Some-Some-2-clause-exactly c =
+    let is : judged_of c.args.judged ≡ Some c.in-Some-Some.field-0-0 = cc in
+    let passes : Some (spacing_from c.in-Some-Some.field-0-1) ≡ spacing_passed c.args.spacing.now = c.in-Some-Some.ensures' in
     of_spacing (λ some ps cells. c.audit_judged_dem.result < 2 → OfDemBytes c.args.dem.now (record { sinks = c.args.sinks.now; spacing = cells }) (audit_raster ps)
     (λ inputs. (c.audit_judged_dem.result ≡ 0) ↔ AreRightIn some (dem_set inputs)))
-    c.args.judged c.in-Some-Some.judged c.args.rasters.now c.judged_bytes-rasters.result c.args.spacing.now (spacing_from c.in-Some-Some.spacing)
-    is c.judged_bytes-rasters.ensures passes (c.audit_judged_dem.ensures.exactly (unranked c.args.judged c.in-Some-Some.judged is))
+    c.args.judged c.in-Some-Some.field-0-0 c.args.rasters.now c.judged_bytes-rasters.result c.args.spacing.now (spacing_from c.in-Some-Some.field-0-1)
+    is c.judged_bytes-rasters.ensures passes (c.audit_judged_dem.ensures.exactly (unranked c.args.judged c.in-Some-Some.field-0-0 is))
 
-pub returns-in-Some-Some-clause-answer : goal.returns-in-Some-Some-clause-answer
-returns-in-Some-Some-clause-answer c =
-    let is : judged_of c.args.judged ≡ Some c.in-Some-Some.judged = cc in
-    let passes : Some (spacing_from c.in-Some-Some.spacing) ≡ spacing_passed c.args.spacing.now = c.in-Some-Some.ensures' in
-    of_spacing (λ some ps cells. IsTrue (is_dem_audit_whole c.args.dem.now ps) → OfDemBytes c.args.dem.now (record { sinks = c.args.sinks.now; spacing = cells }) (audit_raster ps)
+pub returns-in-Some-Some-2-clause-answer : goal.returns-in-Some-Some-2-clause-answer
+returns-in-Some-Some-2-clause-answer c =
+    let is : judged_of c.args.judged ≡ Some c.in-Some-Some.field-0-0 = cc in
+    let passes : Some (spacing_from c.in-Some-Some.field-0-1) ≡ spacing_passed c.args.spacing.now = c.in-Some-Some.ensures' in
+    of_spacing (λ some ps cells. IsTrue (is_spacing_whole c.args.spacing.now) → IsTrue (is_dem_audit_whole c.args.dem.now ps) → OfDemBytes c.args.dem.now (record { sinks = c.args.sinks.now; spacing = cells }) (audit_raster ps)
     (λ inputs. Reports (IsOutcomeIn some (dem_set inputs)) outcome_found outcome_report_line c.audit_judged_dem.new.answer))
-    c.args.judged c.in-Some-Some.judged c.args.rasters.now c.judged_bytes-rasters.result c.args.spacing.now (spacing_from c.in-Some-Some.spacing)
-    is c.judged_bytes-rasters.ensures passes c.audit_judged_dem.ensures.answer
+    c.args.judged c.in-Some-Some.field-0-0 c.args.rasters.now c.judged_bytes-rasters.result c.args.spacing.now (spacing_from c.in-Some-Some.field-0-1)
+    is c.judged_bytes-rasters.ensures passes (λ _. c.audit_judged_dem.ensures.answer)
 
-pub returns-in-Some-Some-clause-elevation : goal.returns-in-Some-Some-clause-elevation
-returns-in-Some-Some-clause-elevation c =
-    let is : judged_of c.args.judged ≡ Some c.in-Some-Some.judged = cc in
-    let passes : Some (spacing_from c.in-Some-Some.spacing) ≡ spacing_passed c.args.spacing.now = c.in-Some-Some.ensures' in
+pub returns-in-Some-Some-2-clause-elevation : goal.returns-in-Some-Some-2-clause-elevation
+returns-in-Some-Some-2-clause-elevation c =
+    let is : judged_of c.args.judged ≡ Some c.in-Some-Some.field-0-0 = cc in
+    let passes : Some (spacing_from c.in-Some-Some.field-0-1) ≡ spacing_passed c.args.spacing.now = c.in-Some-Some.ensures' in
     of_spacing (λ some ps cells. c.audit_judged_dem.result < 2 → OfDemBytes c.args.dem.now (record { sinks = c.args.sinks.now; spacing = cells }) (audit_raster ps)
     (λ inputs. ElevationIsItsPixels inputs.dem))
-    c.args.judged c.in-Some-Some.judged c.args.rasters.now c.judged_bytes-rasters.result c.args.spacing.now (spacing_from c.in-Some-Some.spacing)
+    c.args.judged c.in-Some-Some.field-0-0 c.args.rasters.now c.judged_bytes-rasters.result c.args.spacing.now (spacing_from c.in-Some-Some.field-0-1)
     is c.judged_bytes-rasters.ensures passes c.audit_judged_dem.ensures.elevation
+
+pub returns-in-Some-Some-2-clause-missing : goal.returns-in-Some-Some-2-clause-missing
+returns-in-Some-Some-2-clause-missing c =
+    let is : judged_of c.args.judged ≡ Some c.in-Some-Some.field-0-0 = cc in
+    let passes : Some (spacing_from c.in-Some-Some.field-0-1) ≡ spacing_passed c.args.spacing.now = c.in-Some-Some.ensures' in
+    of_spacing (λ some ps cells. IsFalse (is_dem_audit_whole c.args.dem.now ps) → ShowsMissing c.audit_judged_dem.new.answer)
+    c.args.judged c.in-Some-Some.field-0-0 c.args.rasters.now c.judged_bytes-rasters.result c.args.spacing.now (spacing_from c.in-Some-Some.field-0-1)
+    is c.judged_bytes-rasters.ensures passes c.audit_judged_dem.ensures.missing

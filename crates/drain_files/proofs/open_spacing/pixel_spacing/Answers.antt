@@ -17,9 +17,9 @@ returns c =
     let y : to_z w128 (of_z w128 here.ydim) ≡ here.ydim = omega (arith, ints) in
     let width = is_size _ c.unsigned_abs.result c.unsigned_abs.ensures.value c.if-xdim-le0.false in
     let height = is_size _ c.unsigned_abs-2.result c.unsigned_abs-2.ensures.value c.if-ydim-le0.false in
-    pixel_matched c.args.header.now c.unsigned_abs.result c.unsigned_abs-2.result c.in_lowest_terms.result (record {
+    pixel_matched c.args.header.now c.unsigned_abs.result c.unsigned_abs-2.result c.ratio_of.result (record {
       width = sym (x ∙ ap (λ (h : Fields). h.place.xdim) c.header.view_is) ∙ width.0;
       height = sym (y ∙ ap (λ (h : Fields). h.place.ydim) c.header.view_is) ∙ height.0;
       some_width = width.1;
       some_height = height.1;
-    }) c.in_lowest_terms.ensures
+    }) c.ratio_of.ensures

@@ -1,5 +1,5 @@
 use Rattle.std.proofs.Common.{arith}
-use Rattle.drain_header.proofs.TextReads.{scanned_digits}
+use Rattle.drain_header.proofs.ScannedDigits.{scanned_digits}
 use Rattle.drain_header.proofs.decimal.decimal.Goals as goal
 
 pub returns-clause-digits : goal.returns-clause-digits

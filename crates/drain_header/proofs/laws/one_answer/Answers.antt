@@ -3,4 +3,4 @@ use Rattle.drain_header.proofs.OneAnswer as lemmas
 use Rattle.drain_header.proofs.laws.one_answer.Goals as goal
 
 pub returns : goal.returns
-returns c = lemmas.one_answer
+returns c = lemmas.one_answer_of

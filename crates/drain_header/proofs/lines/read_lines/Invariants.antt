@@ -4,7 +4,7 @@ use Rattle.drain_header.specs.Reading.{nothing, with_lines}
 use Rattle.drain_header.proofs.lines.read_lines.Given as goal
 
 abbrev pub invariant-loop-seen : goal.invariant-loop-seen
-invariant-loop-seen l = (with_lines l.seen l.number (lines_of l.rest) ≡ with_lines nothing 1 (lines_of l.text)) × (l.number + length l.rest ≤ 65537)
+invariant-loop-seen l = (with_lines l.kind l.seen l.number (lines_of l.rest) ≡ with_lines l.kind nothing 1 (lines_of l.text)) × (l.number + length l.rest ≤ 65537)
 
 abbrev pub decreases-loop-seen : goal.decreases-loop-seen
 decreases-loop-seen l = length l.rest

@@ -55,7 +55,7 @@ returns-clause-written g c = λ h fits.
     elim [
       | Con ↦ λ held. record {
         extent = extent ∙ fits.extent;
-        spelled = con_spelled (spacing_of c.args.spacings.now) p c.args.sinks.now c.in_ok-routes.routes.con h.signed h.bits extent (returns-clause-ground g c)
+        spelled = con_spelled (spacing_of c.args.spacings.now) p c.args.sinks.now c.in_ok-routes.routes.con h.kind h.signed h.bits extent (returns-clause-ground g c)
             (λ x inside none.
             ap (λ (e : Extent). get_or c.in_ok-routes.routes.con.numbers (index_of e x) (pos 0)) extent
             ∙ (ap (λ xs. get_or xs (index_of p.extent x) (pos 0)) routes.con_is ∙ routes.voids.voids x inside none))

@@ -19,7 +19,7 @@ loop-place-preserved c =
       heights = λ at inside less.
           (let shape : c.shape-shape.result ≡ p.extent = c.shape-shape.ensures in
           subst (λ xs. IsHeightAt p at (get_or xs (index_of p.extent at) (pos 0))) (sym c.in_ok-push.ensures.items)
-          (with_height p c.loop-place.heights.items _ c.loop-place.place c.cell.result
+          (with_height p (IsHeightAt p) c.loop-place.heights.items _ c.loop-place.place c.cell.result
           (subst (λ (e : Extent). IsCellOf e c.cell.result) shape c.cell.ensures.inside)
           (ap (λ (e : Extent). index_of e c.cell.result) (sym shape) ∙ c.cell.ensures.place) c.loop-place.invariant.long
           (subst (IsHeightAt p c.cell.result) (sym (to_z-of_z w64 c.height_at.result fits)) c.height_at.ensures) c.loop-place.invariant.heights at inside less));

@@ -1,8 +1,10 @@
 use Rattle.std.proofs.Common.{rules, ◌*◌, ◌/◌, ◌≤◌, arith, sym, ap, subst, ◌∙◌, w64}
 use Rattle.std.proofs.lemmas.Int.{to_z-of_z}
+use Rattle.drain_floats.specs.Patterns.{IsFloatNumber}
 use Rattle.drain_grid.specs.Values.{IsNoData}
 use Rattle.drain_maker.specs.ProductFiles.{con_no_data}
 use Rattle.drain_maker.proofs.HeaderBounds.{con_number, packed_fits, packed_holds}
+use Rattle.drain_maker.proofs.KeptNumbers.{con_float}
 use Rattle.drain_maker.proofs.product_files.con_header_on.Goals as goal
 
 pub invariant_of-result : goal.invariant_of-result
@@ -10,6 +12,7 @@ invariant_of-result c =
     let h = c.elevations.inside in
     let within = c.elevations.invariant in
     let bytes = c.from.ensures in
+    let number = sym (to_z-of_z w64 c.con_no_data.result (search rules) ∙ c.con_no_data.ensures ∙ ap con_no_data (sym c.elevations.view_is)) in
     record {
       some_row = within.some_row;
       rows_fit = within.rows_fit;
@@ -23,7 +26,8 @@ invariant_of-result c =
       uly_ok = within.uly_ok;
       xdim_ok = within.xdim_ok;
       ydim_ok = within.ydim_ok;
-      nodata_ok =
-          subst (λ z. ∥ IsNoData z ∥₁) (sym (to_z-of_z w64 c.con_no_data.result (search rules) ∙ c.con_no_data.ensures ∙ ap con_no_data (sym c.elevations.view_is)))
-          (con_number h.nodata within.nodata_ok);
+      nodata_ok = subst (λ z. ∥ IsNoData z ∥₁) number (con_number h.kind h.nodata within.nodata_ok);
+      float_bits = within.float_bits;
+      float_signed = within.float_signed;
+      float_nodata = λ single. subst (λ z. ∥ IsFloatNumber z ∥₁) number ∣ con_float h.kind h.nodata within.float_nodata single ∣₁;
     }

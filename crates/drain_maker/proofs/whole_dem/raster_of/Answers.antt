@@ -1,19 +1,20 @@
-use Rattle.std.proofs.Common.{◌<◌, ◌∙◌, ℕ, ap, pos, rules, subst}
+use Rattle.std.proofs.Common.{◌≡◌, ◌<◌, ◌∙◌, ℕ, ap, rules, subst}
 use Rattle.std.specs.Prelude.{slice_index}
 use Rattle.std.proofs.lemmas.Result.{IfOk-weaker}
-use Rattle.drain_grid.specs.Product.{default_no_data}
+use Rattle.drain_grid.specs.declared.height_kind.HeightKind.TheVariants.{Single}
 use Rattle.drain_grid.specs.declared.product.Product.TheVariants.{Con}
 use Rattle.drain_header.specs.Header.{Fields, IsPixelSize}
-use Rattle.drain_raster.specs.Pixels.{raster_of}
-use Rattle.drain_maker.specs.ProductFiles.{FitsHeader}
+use Rattle.drain_raster.specs.Pixels.{default_number, raster_of}
+use Rattle.drain_maker.specs.ProductFiles.{FitsHeader, no_height}
 use Rattle.drain_maker.proofs.DemReading.{fits_header}
 use Rattle.drain_maker.proofs.whole_dem.raster_of.Goals as goal
 
 pub returns-clause-fits : goal.returns-clause-fits
 returns-clause-fits c =
     let size : ∥ IsPixelSize c.args.header.now.bits ∥₁ = subst (λ (h : Fields). ∥ IsPixelSize h.bits ∥₁) c.header.view_is c.header.invariant.bits_ok in
+    let wide : c.args.header.now.kind ≡ Single → c.args.header.now.bits ≡ 32 = subst (λ (h : Fields). h.kind ≡ Single → h.bits ≡ 32) c.header.view_is c.header.invariant.float_bits in
     let low : (k : ℕ) → slice_index c.args.bytes.now k < 256 = search rules in
     IfOk-weaker c.read_raster.result _ (FitsHeader c.args.header.now)
-    (λ raster is. fits_header c.numbers_are_pixels.ensures c.args.header.now (pos 4294967296) c.args.bytes.now raster size low
-    (is ∙ ap (λ (h : Fields). raster_of h (default_no_data Con) c.args.bytes.now) c.marked_header-marked.ensures))
+    (λ raster is. fits_header c.numbers_are_pixels.ensures c.args.header.now (no_height c.args.header.now.kind) c.args.bytes.now raster size wide low
+    (is ∙ ap (λ (h : Fields). raster_of h (default_number h.kind Con) c.args.bytes.now) c.marked_header-marked.ensures))
     c.read_raster.ensures.raster

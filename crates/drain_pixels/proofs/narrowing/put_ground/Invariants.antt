@@ -1,4 +1,5 @@
 use Rattle.std.proofs.Common.{◌≡◌, IsTrue, length}
+use Rattle.drain_pixels.specs.Ground.{whole_voids}
 use Rattle.drain_pixels.specs.Lanes.{AreGroundLanes}
 use Rattle.drain_pixels.proofs.narrowing.put_ground.Given as goal
 
@@ -6,5 +7,5 @@ use Rattle.drain_pixels.proofs.narrowing.put_ground.Given as goal
 abbrev pub invariant-loop-k : goal.invariant-loop-k
 invariant-loop-k g l = record {
   len : length l.out ≡ length (g.N.PixelNumbers.numbers l.numbers);
-  lanes : IsTrue l.all → AreGroundLanes 32768 l.void (g.N.PixelNumbers.numbers l.numbers) l.out l.k;
+  lanes : IsTrue l.all → AreGroundLanes 32768 (whole_voids l.void) (g.N.PixelNumbers.numbers l.numbers) l.out l.k;
 }

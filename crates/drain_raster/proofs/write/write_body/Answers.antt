@@ -1,24 +1,9 @@
-use Rattle.std.proofs.Common.{true, false}
 use Rattle.drain_header.specs.declared.header.ByteOrdering.TheVariants.{Least, Most}
-use Rattle.drain_raster.proofs.PixelLemmas.{written-so, widest}
+use Rattle.drain_raster.proofs.PixelLemmas.{written-float}
 use Rattle.drain_raster.proofs.write.write_body.Goals as goal
 
-pub write_rows-requires-in_default-true-Least-clause-written : goal.write_rows-requires-in_default-true-Least-clause-written
-write_rows-requires-in_default-true-Least-clause-written g c =
-    let arm = c.in_default-true-Least in
-    written-so c.args.header.now _ 32 true Least c.header.view_is (widest _ c.header.invariant.bits_ok arm.is-0.0.1 arm.is-0.1) arm.is-1 arm.is-2
+pub write_rows-requires-clause-written : goal.write_rows-requires-clause-written
+write_rows-requires-clause-written g c = written-float c.args.header.now _ Least c.header.view_is c.in-Single-Least.is-0 (c.header.invariant.float_bits c.in-Single-Least.is-0) (c.header.invariant.float_signed c.in-Single-Least.is-0) c.in-Single-Least.is-1
 
-pub write_rows-requires-in_default-true-Most-clause-written : goal.write_rows-requires-in_default-true-Most-clause-written
-write_rows-requires-in_default-true-Most-clause-written g c =
-    let arm = c.in_default-true-Most in
-    written-so c.args.header.now _ 32 true Most c.header.view_is (widest _ c.header.invariant.bits_ok arm.is-0.0.1 arm.is-0.1) arm.is-1 arm.is-2
-
-pub write_rows-requires-in_default-false-Least-clause-written : goal.write_rows-requires-in_default-false-Least-clause-written
-write_rows-requires-in_default-false-Least-clause-written g c =
-    let arm = c.in_default-false-Least in
-    written-so c.args.header.now _ 32 false Least c.header.view_is (widest _ c.header.invariant.bits_ok arm.is-0.0.1 arm.is-0.1) arm.is-1 arm.is-2
-
-pub write_rows-requires-in_default-false-Most-clause-written : goal.write_rows-requires-in_default-false-Most-clause-written
-write_rows-requires-in_default-false-Most-clause-written g c =
-    let arm = c.in_default-false-Most in
-    written-so c.args.header.now _ 32 false Most c.header.view_is (widest _ c.header.invariant.bits_ok arm.is-0.0.1 arm.is-0.1) arm.is-1 arm.is-2
+pub write_rows-requires-in-Single-Most-clause-written : goal.write_rows-requires-in-Single-Most-clause-written
+write_rows-requires-in-Single-Most-clause-written g c = written-float c.args.header.now _ Most c.header.view_is c.in-Single-Most.is-0 (c.header.invariant.float_bits c.in-Single-Most.is-0) (c.header.invariant.float_signed c.in-Single-Most.is-0) c.in-Single-Most.is-1

@@ -23,7 +23,7 @@ returns-in_err-write_pixels g c =
     (stalls c.args.to.now) (stalls c.write_pixels.new.to) c.args.patience.now c.write_pixels.new.patience _ c.from_residual.result
     (cells_bytes (g.P.Pixel.spells g.T.ByteOrder.bytes_of) c.args.raster.now (row_cells c.header.inside.cols c.args.row)) (replicate {A = ℕ} (c.header.inside.row_bytes - c.header.inside.cols * c.len.result) 0)
     (bytes_of_row c.args.header.now c.args.raster.now c.args.row) c.from_residual.ensures.0 c.in_err-write_pixels.ensures
-    (row-bytes c.args.header.now _ g.P.Pixel.len c.len.result g.P.Pixel.bits g.P.Pixel.signed (g.P.Pixel.spells g.T.ByteOrder.bytes_of) c.args.raster.now c.args.row c.requires.written c.header.view_is c.len.ensures)
+    (row-bytes c.args.header.now _ g.P.Pixel.kind g.P.Pixel.len c.len.result g.P.Pixel.bits g.P.Pixel.signed (g.P.Pixel.spells g.T.ByteOrder.bytes_of) c.args.raster.now c.args.row c.requires.written c.header.view_is c.len.ensures)
 
 pub returns : goal.returns
 returns g c =
@@ -34,4 +34,4 @@ returns g c =
     (stalls c.args.to.now) (stalls c.write_pixels.new.to) (stalls c.write_zeros.new.to) c.args.patience.now c.write_pixels.new.patience c.write_zeros.new.patience c.write_zeros.result
     (cells_bytes (g.P.Pixel.spells g.T.ByteOrder.bytes_of) c.args.raster.now (row_cells c.header.inside.cols c.args.row)) (replicate {A = ℕ} (c.header.inside.row_bytes - c.header.inside.cols * c.len.result) 0)
     (bytes_of_row c.args.header.now c.args.raster.now c.args.row) c.in_ok-write_pixels.ensures c.write_zeros.ensures
-    (row-bytes c.args.header.now _ g.P.Pixel.len c.len.result g.P.Pixel.bits g.P.Pixel.signed (g.P.Pixel.spells g.T.ByteOrder.bytes_of) c.args.raster.now c.args.row c.requires.written c.header.view_is c.len.ensures)
+    (row-bytes c.args.header.now _ g.P.Pixel.kind g.P.Pixel.len c.len.result g.P.Pixel.bits g.P.Pixel.signed (g.P.Pixel.spells g.T.ByteOrder.bytes_of) c.args.raster.now c.args.row c.requires.written c.header.view_is c.len.ensures)

@@ -7,7 +7,7 @@ pub loop-init : goal.loop-init
 loop-init g c = record {
   len = search rules;
   sound = search rules;
-  back = λ xs rest long are is. rw c.new-items.ensures.items (all_to_come g.T.ReportLine.line_of g.T.ReportLine.fits xs c.args.first.rest.now rest are is);
+  back = λ xs rest long are is. rw c.in-Ok.ensures.items (all_to_come g.T.ReportLine.line_of g.T.ReportLine.fits xs c.args.first.rest.now rest are is);
   place = λ feeds few at. (omega arith, at);
 }
 
@@ -21,18 +21,18 @@ loop-preserved g c =
     let line_of = g.T.ReportLine.line_of in
     let fits = g.T.ReportLine.fits in
     let done = c.loop.items.items in
-    let x = c.in-Ok.read.0 in
+    let x = c.in-Ok-read_from.read.0 in
     let pushed = c.in-Ok-push.ensures.items in
     record {
       len = omega (arith, ap length pushed, length-append done (x ∷ []));
-      sound = rw pushed (list_sound line_of c.args.first.rest.now c.loop.lines.rest.now c.in-Ok.read.1.rest.now done x c.loop.invariant.sound c.in-Ok.ensures.sound);
+      sound = rw pushed (list_sound line_of c.args.first.rest.now c.loop.lines.rest.now c.in-Ok-read_from.read.1.rest.now done x c.loop.invariant.sound c.in-Ok-read_from.ensures.sound);
       back = λ xs rest long are is.
           let step = coming line_of fits xs done c.loop.lines.rest.now rest (c.loop.invariant.back xs rest long are is) (omega arith) in
-          let found = c.in-Ok.ensures.back step.x step.then step.is_one step.is in
-          rw pushed (come line_of fits xs done c.in-Ok.read.1.rest.now rest c.loop.lines.rest.now x step found.0 found.1);
+          let found = c.in-Ok-read_from.ensures.back step.x step.then step.is_one step.is in
+          rw pushed (come line_of fits xs done c.in-Ok-read_from.read.1.rest.now rest c.loop.lines.rest.now x step found.0 found.1);
       place = λ feeds few at.
           let so_far = c.loop.invariant.place feeds few at in
-          let next = c.in-Ok.ensures.place feeds few so_far.1 in
+          let next = c.in-Ok-read_from.ensures.place feeds few so_far.1 in
           (omega (arith, so_far.0, next.0), next.1);
     }
 

@@ -1,5 +1,6 @@
 use Rattle.std.proofs.Common.{◌∙◌, Option, ap, subst, sym}
 use Rattle.drain_grid.specs.declared.spacing_text.SpacingFault.{SpacingFault}
+use Rattle.drain_grid.specs.Spacing.{Distances, of_kind}
 use Rattle.drain_grid.specs.SpacingTexts.{IsSpacingFault, spacing_in}
 use Rattle.drain_verdict.specs.Given.{HasBadSpacing, spacing_from}
 use Rattle.drain_verdict.specs.Listings.{IsTextTold}
@@ -9,7 +10,8 @@ use Rattle.drain_verdict.proofs.listings.spacing_listing.Goals as goal
 
 pub returns-in-Ok : goal.returns-in-Ok
 returns-in-Ok c = record {
-  spacing = c.in-Ok.ensures.spacing ∙ ap spacing_in (said_is c.args.input.now);
+  spacing = λ row.
+      c.of_kind.ensures.rows row ∙ ap (of_kind c.args.kind) (ap (λ (s : ℕ → Distances). s row) c.in-Ok.ensures.spacing ∙ ap (λ given. spacing_in given row) (said_is c.args.input.now));
   told = text_told (spacing_from c.args.input.now) c.in-Ok.spacings c.rows_of-rows.result (sym (said_is c.args.input.now) ∙ c.in-Ok.ensures.listed) c.rows_of-rows.ensures;
 }
 
@@ -18,6 +20,6 @@ returns-in-Err-BadSpacingLine c =
     let fault = subst (λ (f : SpacingFault). IsSpacingFault c.args.input.now f) c.in-Err-BadSpacingLine.field-0-is c.in-Err-BadSpacingLine.ensures.err in
     let bad : HasBadSpacing (spacing_from c.args.input.now) c.in-Err-BadSpacingLine.line = sym (said_is c.args.input.now) ∙ fault in
     record {
-      spacing = c.square_cells.ensures.spacing ∙ ap spacing_in (sym bad);
+      spacing = λ row. c.square_cells.ensures.spacing row ∙ ap (λ given. of_kind c.args.kind (spacing_in given row)) (sym bad);
       told = subst (λ (told : Option ℕ). IsTextTold (spacing_from c.args.input.now) told c.square_cells.result.rows) (sym c.square_cells.ensures.bad) bad;
     }

@@ -1,7 +1,8 @@
 use Rattle.std.proofs.Common.{◌∙◌, [], ap}
-use Rattle.drain_grid.specs.Spacing.{Distances, spacing_of}
+use Rattle.drain_grid.specs.Spacing.{Distances, RowSpacings, of_kind, spacing_of}
 use Rattle.drain_verdict.proofs.SpacingAnswers.{unit_there}
 use Rattle.drain_verdict.proofs.listings.square_cells.Goals as goal
 
 pub returns-clause-spacing : goal.returns-clause-spacing
-returns-clause-spacing c = ap spacing_of (c.same.ensures ∙ ap (λ (s : Distances). record { listed = []; otherwise = s }) c.unit.ensures) ∙ unit_there c.args.line
+returns-clause-spacing c = λ row.
+    ap (λ (s : RowSpacings). spacing_of s row) (c.same.ensures ∙ ap (λ (s : Distances). record { listed = []; otherwise = s }) (c.of_kind.ensures ∙ ap (λ (s : Distances). of_kind c.args.kind s) c.unit.ensures)) ∙ unit_there c.args.kind c.args.line row

@@ -1,5 +1,6 @@
 use Rattle.std.proofs.Common.{◌≡◌, subst, sym}
 use Rattle.std.proofs.lemmas.Result.{err_from_is_err_and}
+use Rattle.drain_grid.specs.declared.height_kind.HeightKind.{HeightKind}
 use Rattle.drain_answer.specs.declared.refusal.Refusal.TheVariants.{ReadFailed}
 use Rattle.drain_rows.proofs.WindowLemmas.{on-ok}
 use Rattle.drain_verdict.specs.InputReads.{as_read}
@@ -37,14 +38,14 @@ read_rows-requires-clause-counted g c = c.reading_laws.ensures.counted c.args.fr
 
 pub returns-clause-answer : goal.returns-clause-answer
 returns-clause-answer g c = λ x t means texts given none.
-    let listed = subst (IsListingOf c.in-Ok.listing) (sym given) c.in-Ok.ensures in
+    let listed = subst (IsListingOf (g.T.GroundInput.kind c.args.frame.now) c.in-Ok.listing) (sym given) (subst (λ (k : HeightKind). IsListingOf k c.in-Ok.listing c.args.given.now) c.height_kind.ensures c.in-Ok.ensures) in
     c.read_rows.ensures.answer c.args.headers c.in_ok-rows.ensures.begun c.nodata_of-nodata.ensures c.requires.shapes x t means texts listed none
 
 pub returns-clause-noted : goal.returns-clause-noted
 returns-clause-noted g c =
     on-ok c.read_rows.result
     (λ noted x t means texts given none.
-    let listed = subst (IsListingOf c.in-Ok.listing) (sym given) c.in-Ok.ensures in
+    let listed = subst (IsListingOf (g.T.GroundInput.kind c.args.frame.now) c.in-Ok.listing) (sym given) (subst (λ (k : HeightKind). IsListingOf k c.in-Ok.listing c.args.given.now) c.height_kind.ensures c.in-Ok.ensures) in
     noted c.args.headers c.in_ok-rows.ensures.begun c.nodata_of-nodata.ensures c.requires.shapes x t means texts listed none)
     c.read_rows.ensures.noted
 

@@ -1,6 +1,8 @@
-use Rattle.std.proofs.Common.{◌≡◌, ◌+◌, ap, subst, None, Some, ◌∙◌}
+use Rattle.std.proofs.Common.{◌≡◌, ◌+◌, ap, subst, sym, None, Some, ◌∙◌}
+use Rattle.drain_grid.specs.declared.height_kind.HeightKind.{HeightKind}
 use Rattle.drain_grid.specs.Extent.{Extent}
 use Rattle.drain_answer.specs.declared.refusal.Refusal.TheVariants.{ReadFailed}
+use Rattle.drain_verdict.specs.Listings.{IsListingOf}
 use Rattle.drain_verdict.specs.GroundSets.{GroundSet}
 use Rattle.drain_verdict.specs.InputReads.{as_read}
 use Rattle.drain_verdict.specs.Refusals.{refusal_of}
@@ -69,11 +71,12 @@ returns-in-Some-listing_refusal-clause-answer g c = λ hs begun nodata shapes x 
     let of_set = of_call g.T.GroundInput.after (g.T.GroundInput.begun c.args.frame.now) g.R.ByteSource.bytes_left s (g.T.GroundInput.rows_of x) hs start c.shape-shape.result (g.T.GroundInput.extent c.args.frame.now) c.shape-shape.ensures
     (c.meaning_laws.ensures.laid c.args.frame.now x framed).extent_is c.raster_laws.ensures shapes begun (c.meaning_laws.ensures.start c.args.frame.now c.args.inputs.now x c.args.rows.now.elevations means.0 framed begun.elevations)
     texts (c.meaning_laws.ensures.rows c.args.frame.now x framed) none in
+    let listed = subst (λ (k : HeightKind). IsListingOf k c.args.listing.now t.given) (sym (c.meaning_laws.ensures.laid c.args.frame.now x framed).kind_is) lists in
     let come = came g.T.GroundInput.after g.T.GroundInput.has_read g.R.ByteSource.bytes_left g.R.ByteSource.counts c.reading_laws.ensures.nothing view (c.args.rows.now, c.args.inputs.now, c.args.products.now) (new.source, new.tiles, new.products) _ None c.in-Ok.ensures.reads in
     let asked = subst (λ (e : Extent). g.T.GroundInput.after new.source.elevations new.tiles (g.T.GroundInput.rows_of x) (e.rows + 1)) c.shape-shape.ensures
     (ground_asked g.T.GroundInput.after g.T.GroundInput.has_read g.R.ByteSource.bytes_left g.R.ByteSource.counts (g.T.GroundInput.begun c.args.frame.now) s (g.T.GroundInput.rows_of x) hs start now c.shape-shape.result of_set come) in
     lists_answer g.T.GroundInput.after g.T.GroundInput.has_read g.R.ByteSource.bytes_left g.R.ByteSource.counts (g.T.GroundInput.begun c.args.frame.now) s (g.T.GroundInput.rows_of x) hs start now c.shape-shape.result of_set come (c.in_default.ensures.refusal x new.tiles framed asked)
-    c.found_off_data_is_right.ensures c.args.listing.now c.in-Ok.voids c.in-Some-listing_refusal.refusal lists c.in-Ok.ensures.voids c.in-Some-listing_refusal.ensures.told
+    c.found_off_data_is_right.ensures c.args.listing.now c.in-Ok.voids c.in-Some-listing_refusal.refusal listed c.in-Ok.ensures.voids c.in-Some-listing_refusal.ensures.told
 
 pub returns-in-Some-listing_refusal-clause-reads : goal.returns-in-Some-listing_refusal-clause-reads
 returns-in-Some-listing_refusal-clause-reads g c =
@@ -92,11 +95,12 @@ returns-clause-answer g c = λ hs begun nodata shapes x t means texts lists none
     let of_set = of_call g.T.GroundInput.after (g.T.GroundInput.begun c.args.frame.now) g.R.ByteSource.bytes_left s (g.T.GroundInput.rows_of x) hs start c.shape-shape.result (g.T.GroundInput.extent c.args.frame.now) c.shape-shape.ensures
     (c.meaning_laws.ensures.laid c.args.frame.now x framed).extent_is c.raster_laws.ensures shapes begun (c.meaning_laws.ensures.start c.args.frame.now c.args.inputs.now x c.args.rows.now.elevations means.0 framed begun.elevations)
     texts (c.meaning_laws.ensures.rows c.args.frame.now x framed) none in
+    let listed = subst (λ (k : HeightKind). IsListingOf k c.args.listing.now t.given) (sym (c.meaning_laws.ensures.laid c.args.frame.now x framed).kind_is) lists in
     let come = came g.T.GroundInput.after g.T.GroundInput.has_read g.R.ByteSource.bytes_left g.R.ByteSource.counts c.reading_laws.ensures.nothing view (c.args.rows.now, c.args.inputs.now, c.args.products.now) (new.source, new.tiles, new.products) _ None c.in-Ok.ensures.reads in
     let asked = subst (λ (e : Extent). g.T.GroundInput.after new.source.elevations new.tiles (g.T.GroundInput.rows_of x) (e.rows + 1)) c.shape-shape.ensures
     (ground_asked g.T.GroundInput.after g.T.GroundInput.has_read g.R.ByteSource.bytes_left g.R.ByteSource.counts (g.T.GroundInput.begun c.args.frame.now) s (g.T.GroundInput.rows_of x) hs start now c.shape-shape.result of_set come) in
     none_stands g.T.GroundInput.after g.T.GroundInput.has_read g.R.ByteSource.bytes_left g.R.ByteSource.counts (g.T.GroundInput.begun c.args.frame.now) s (g.T.GroundInput.rows_of x) hs start now c.shape-shape.result of_set come (c.in_default.ensures.refusal x new.tiles framed asked)
-    c.found_off_data_is_right.ensures c.args.listing.now c.in-Ok.voids lists c.in-Ok.ensures.voids c.in-None.ensures.told
+    c.found_off_data_is_right.ensures c.args.listing.now c.in-Ok.voids listed c.in-Ok.ensures.voids c.in-None.ensures.told
 
 pub returns-clause-noted : goal.returns-clause-noted
 returns-clause-noted g c = λ hs begun nodata shapes x t means texts lists none.
@@ -109,11 +113,12 @@ returns-clause-noted g c = λ hs begun nodata shapes x t means texts lists none.
     let of_set = of_call g.T.GroundInput.after (g.T.GroundInput.begun c.args.frame.now) g.R.ByteSource.bytes_left s (g.T.GroundInput.rows_of x) hs start c.shape-shape.result (g.T.GroundInput.extent c.args.frame.now) c.shape-shape.ensures
     (c.meaning_laws.ensures.laid c.args.frame.now x framed).extent_is c.raster_laws.ensures shapes begun (c.meaning_laws.ensures.start c.args.frame.now c.args.inputs.now x c.args.rows.now.elevations means.0 framed begun.elevations)
     texts (c.meaning_laws.ensures.rows c.args.frame.now x framed) none in
+    let listed = subst (λ (k : HeightKind). IsListingOf k c.args.listing.now t.given) (sym (c.meaning_laws.ensures.laid c.args.frame.now x framed).kind_is) lists in
     let come = came g.T.GroundInput.after g.T.GroundInput.has_read g.R.ByteSource.bytes_left g.R.ByteSource.counts c.reading_laws.ensures.nothing view (c.args.rows.now, c.args.inputs.now, c.args.products.now) (new.source, new.tiles, new.products) _ None c.in-Ok.ensures.reads in
     let asked = subst (λ (e : Extent). g.T.GroundInput.after new.source.elevations new.tiles (g.T.GroundInput.rows_of x) (e.rows + 1)) c.shape-shape.ensures
     (ground_asked g.T.GroundInput.after g.T.GroundInput.has_read g.R.ByteSource.bytes_left g.R.ByteSource.counts (g.T.GroundInput.begun c.args.frame.now) s (g.T.GroundInput.rows_of x) hs start now c.shape-shape.result of_set come) in
     notes_hold g.T.GroundInput.after g.T.GroundInput.has_read g.R.ByteSource.bytes_left g.R.ByteSource.counts (g.T.GroundInput.begun c.args.frame.now) s (g.T.GroundInput.rows_of x) hs start now c.shape-shape.result of_set come (c.in_default.ensures.refusal x new.tiles framed asked)
-    g.K.RowVisitor.are_of c.args.rules.now new.notes c.args.listing.now nodata lists c.in-Ok.ensures.noted
+    g.K.RowVisitor.are_of c.args.rules.now new.notes c.args.listing.now nodata listed c.in-Ok.ensures.noted
 
 pub returns-clause-reads : goal.returns-clause-reads
 returns-clause-reads g c =

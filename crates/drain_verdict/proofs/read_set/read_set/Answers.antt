@@ -11,9 +11,9 @@ pub returns-in_err-headers-clause-answer : goal.returns-in_err-headers-clause-an
 returns-in_err-headers-clause-answer g c = λ x t means tell.
     let told = err_from_is_err_and c.from_residual.result c.from_residual.ensures.1 in
     let framed = c.meaning_laws.ensures.framed c.args.frame.now c.args.inputs.now x c.requires.fit means in
-    rw (told.1, told.2) (header_answer g.R.ByteSource.bytes_left (record { terrain = g.T.GroundInput.terrain x; texts = t }) c.args.given.now (g.P.ProductInputs.inputs c.args.products.now) tell _ _
+    rw (told.1, told.2) (header_answer g.R.ByteSource.bytes_left (record { terrain = g.T.GroundInput.terrain x; texts = t }) c.args.given.now (g.P.ProductInputs.inputs c.args.products.now) tell _ _ _
     (c.meaning_laws.ensures.laid c.args.frame.now x framed) (c.meaning_laws.ensures.none_early c.args.frame.now c.args.inputs.now x c.requires.fit means) _
-    (told_of_same _ _ _ _ _ c.in_err-headers.ensures.refusal c.texts.ensures))
+    (told_of_same _ _ _ _ _ _ c.in_err-headers.ensures.refusal c.texts.ensures))
 
 pub returns-in_err-headers-clause-uses : goal.returns-in_err-headers-clause-uses
 returns-in_err-headers-clause-uses g c =
@@ -21,18 +21,18 @@ returns-in_err-headers-clause-uses g c =
     let inputs = g.P.ProductInputs.inputs in
     rw (told.1, told.2) (set_uses_none inputs (λ xs ps. set_devices g.T.GroundInput.devices xs (inputs ps)) (g.T.GroundInput.within c.args.frame.now) g.T.GroundInput.kept g.R.ByteSource.bytes_left g.R.ByteSource.counts
     c.args.inputs.now c.args.products.now (Err c.in_err-headers.field-0.0) (c.reading_laws.ensures.none_within c.args.frame.now c.args.inputs.now) (c.reading_laws.ensures.none_kept c.args.inputs.now)
-    (header_reads_none _ _ _ _ c.in_err-headers.ensures.refusal))
+    (header_reads_none _ _ _ _ _ c.in_err-headers.ensures.refusal))
 
 pub read_bodies-requires-clause-alike : goal.read_bodies-requires-clause-alike
 read_bodies-requires-clause-alike g c =
-    alike _ _ (g.P.ProductInputs.inputs c.args.products.now) c.in_ok-headers.headers (headers_of_same _ _ _ _ _ c.in_ok-headers.ensures.headers c.texts.ensures)
+    alike _ _ _ (g.P.ProductInputs.inputs c.args.products.now) c.in_ok-headers.headers (headers_of_same _ _ _ _ _ _ c.in_ok-headers.ensures.headers c.texts.ensures)
 
 pub returns-clause-answer : goal.returns-clause-answer
 returns-clause-answer g c = λ x t means tell.
     let framed = c.meaning_laws.ensures.framed c.args.frame.now c.args.inputs.now x c.requires.fit means in
-    let begun = started g.R.ByteSource.bytes_left (record { terrain = g.T.GroundInput.terrain x; texts = t }) c.args.given.now (g.P.ProductInputs.inputs c.args.products.now) tell _ _
+    let begun = started g.R.ByteSource.bytes_left (record { terrain = g.T.GroundInput.terrain x; texts = t }) c.args.given.now (g.P.ProductInputs.inputs c.args.products.now) tell _ _ _
     (c.meaning_laws.ensures.laid c.args.frame.now x framed) (c.meaning_laws.ensures.none_early c.args.frame.now c.args.inputs.now x c.requires.fit means) c.in_ok-headers.headers
-    (headers_of_same _ _ _ _ _ c.in_ok-headers.ensures.headers c.texts.ensures) in
+    (headers_of_same _ _ _ _ _ _ c.in_ok-headers.ensures.headers c.texts.ensures) in
     c.read_bodies.ensures.answer x t (means, framed) begun.0 tell.given_is begun.1
 
 pub returns-clause-noted : goal.returns-clause-noted
@@ -40,9 +40,9 @@ returns-clause-noted g c =
     on-ok c.read_bodies.result
     (λ noted x t means tell.
     let framed = c.meaning_laws.ensures.framed c.args.frame.now c.args.inputs.now x c.requires.fit means in
-    let begun = started g.R.ByteSource.bytes_left (record { terrain = g.T.GroundInput.terrain x; texts = t }) c.args.given.now (g.P.ProductInputs.inputs c.args.products.now) tell _ _
+    let begun = started g.R.ByteSource.bytes_left (record { terrain = g.T.GroundInput.terrain x; texts = t }) c.args.given.now (g.P.ProductInputs.inputs c.args.products.now) tell _ _ _
     (c.meaning_laws.ensures.laid c.args.frame.now x framed) (c.meaning_laws.ensures.none_early c.args.frame.now c.args.inputs.now x c.requires.fit means) c.in_ok-headers.headers
-    (headers_of_same _ _ _ _ _ c.in_ok-headers.ensures.headers c.texts.ensures) in
+    (headers_of_same _ _ _ _ _ _ c.in_ok-headers.ensures.headers c.texts.ensures) in
     noted x t (means, framed) begun.0 tell.given_is begun.1)
     c.read_bodies.ensures.noted
 
@@ -52,8 +52,8 @@ returns-clause-uses g c =
     record {
       inputs_within = body.inputs_within;
       rasters_within = λ p.
-          takes_as_told g.R.ByteSource.bytes_left _ _ (g.P.ProductInputs.inputs c.args.products.now) (g.P.ProductInputs.inputs c.read_bodies.new.products) c.in_ok-headers.headers
-          (headers_of_same _ _ _ _ _ c.in_ok-headers.ensures.headers c.texts.ensures) p
+          takes_as_told g.R.ByteSource.bytes_left _ _ _ (g.P.ProductInputs.inputs c.args.products.now) (g.P.ProductInputs.inputs c.read_bodies.new.products) c.in_ok-headers.headers
+          (headers_of_same _ _ _ _ _ _ c.in_ok-headers.ensures.headers c.texts.ensures) p
           (body.rasters_within p);
       faults = body.faults;
       kept = body.kept;

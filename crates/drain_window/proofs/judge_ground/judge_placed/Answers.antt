@@ -47,7 +47,7 @@ returns-in-Some-clause-answer g c = λ x t means tell.
     let said : Given = record { sinks = c.given.inside.sinks.now; spacing = spacing_from c.given.inside.spacing } in
     let same : t.given ≡ said = tell.given_is ∙ sym c.given.view_is in
     let listed = c.in-Ok.ensures (set_grid s) (set_products s) (ap (λ (given : Given). is_listed (lines_in (sinks_of given.sinks))) same) in
-    let spaced = as_given said t.given c.args.place.now c.in-Ok-judged_spacings.spacings.items same c.in-Ok-judged_spacings.ensures in (
+    let spaced = as_given c.height_kind.result s.terrain.kind said t.given c.args.place.now c.in-Ok-judged_spacings.spacings.items (laid.kind_is ∙ sym c.height_kind.ensures) same c.in-Ok-judged_spacings.ensures in (
       c.in_ok-read_set.ensures.answer x t means tell,
       c.in-Some.ensures.answer (set_numbers s) (set_grid s) (set_products s) placed some (record { rows_are = noted.1.rows_are; right = noted.1.right }) noted.0 listed spaced,
     )

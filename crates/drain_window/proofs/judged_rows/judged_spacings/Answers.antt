@@ -1,6 +1,6 @@
-use Rattle.std.proofs.Common.{ℕ, subst, ◌∙◌}
+use Rattle.std.proofs.Common.{ℕ, ap, sym, ◌∙◌, ◌+◌}
 use Rattle.std.proofs.lemmas.Result.{IfOk-weaker}
-use Rattle.drain_grid.specs.Spacing.{Distances, spacing_of}
+use Rattle.drain_grid.specs.Spacing.{Distances, of_kind}
 use Rattle.drain_verdict.specs.Given.{row_spacing, spacing_from}
 use Rattle.drain_window.specs.JudgedRows.{AreRowsOf}
 use Rattle.drain_window.proofs.RowLists.{said_given}
@@ -10,7 +10,9 @@ pub returns-in-Ok : goal.returns-in-Ok
 returns-in-Ok c =
     let p = c.args.place.now in
     let input = c.args.spacing.now in
-    let same = c.in-Ok.ensures.spacing ∙ said_given input in
-    IfOk-weaker c.rows_inside.result (λ listed. AreRowsOf (spacing_of c.in-Ok.spacings) p listed.items)
-    (λ listed. AreRowsOf (row_spacing (spacing_from input)) p listed.items)
-    (λ listed are. subst (λ (f : ℕ → Distances). AreRowsOf f p listed.items) same are) c.rows_inside.ensures
+    let kind = c.args.kind in
+    IfOk-weaker c.rows_inside.result _
+    (λ listed. AreRowsOf (row_spacing kind (spacing_from input)) p listed.items)
+    (λ listed are row below.
+    sym (c.of_kind-spacings.ensures.rows (p.top + row) ∙ ap (λ (f : ℕ → Distances). of_kind kind (f (p.top + row))) c.in-Ok.ensures.spacing ∙ said_given kind input (p.top + row)) ∙ are row below)
+    c.rows_inside.ensures

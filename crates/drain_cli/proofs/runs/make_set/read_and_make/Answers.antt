@@ -1,5 +1,6 @@
 use Rattle.std.proofs.Common.{Ok, ◌≡◌, ◌∙◌, rules, subst, sym}
 use Rattle.drain_device.proofs.FaultLists.{SomeReadFails-iff}
+use Rattle.drain_grid.specs.declared.height_kind.HeightKind.TheVariants.{Whole}
 use Rattle.drain_grid.specs.Extent.{Extent}
 use Rattle.drain_grid.specs.SinkTexts.{IsSinkFault, sinks_of}
 use Rattle.drain_maker.proofs.FileLemmas.{FitHeaders-set}
@@ -20,7 +21,7 @@ returns-in-None-clause-made g c =
       listed = listed;
       listed_are = subst (λ (given : Given). sinks_of given.sinks ≡ Ok listed) c.given.view_is c.in-Ok-parse_sinks.ensures.listed;
       spacings = spacings;
-      spacings_are = subst (λ (e : Extent). AreGivenSpacings c.args.given.now.spacing e spacings) (c.shape.ensures ∙ sym mosaic.same_shape) (c.spacing_to_make-spacings.ensures.given c.in-None.is);
+      spacings_are = subst (λ (e : Extent). AreGivenSpacings Whole c.args.given.now.spacing e spacings) (c.shape.ensures ∙ sym mosaic.same_shape) (c.spacing_to_make-spacings.ensures.given c.in-None.is);
       made = record { shape = made.shape; nodata = made.nodata; rules = made.rules; written = made.written; rasters = made.rasters; on_data = made.sinks };
     }
 

@@ -2,6 +2,7 @@ use Rattle.std.proofs.Common.{ℤ, IfSome, Ok, Option, ◌≡◌, ◌∙◌, ap,
 use Rattle.drain_cli.specs.MadeSets.{IsNoSpacing}
 use Rattle.drain_cli.specs.declared.runs.made_spacing.NoSpacing.{NoSpacing}
 use Rattle.drain_device.proofs.FaultLists.{SomeReadFails-iff}
+use Rattle.drain_grid.specs.declared.height_kind.HeightKind.{HeightKind}
 use Rattle.drain_grid.specs.Extent.{Extent}
 use Rattle.drain_grid.specs.GridRules.{RulesHold}
 use Rattle.drain_grid.specs.PatchRules.{check_rules}
@@ -9,6 +10,7 @@ use Rattle.drain_grid.specs.Rule.{IsAnyRule}
 use Rattle.drain_grid.specs.SinkTexts.{IsSinkFault, sinks_of}
 use Rattle.drain_grid.specs.Spacing.{spacing_of}
 use Rattle.drain_grid.specs.WholeGrid.{products_of}
+use Rattle.drain_header.specs.Header.{Fields}
 use Rattle.drain_maker.specs.Accepted.{AreGivenSpacings}
 use Rattle.drain_maker.specs.Dems.{spaced_dem_grid}
 use Rattle.drain_maker.specs.Made.{made_numbers}
@@ -28,7 +30,8 @@ returns-in-None-clause-made g c =
       listed = listed;
       listed_are = subst (λ (given : Given). sinks_of given.sinks ≡ Ok listed) c.given.view_is c.in-Ok-parse_sinks.ensures.listed;
       spacings = spacings;
-      spacings_are = subst (λ (e : Extent). AreGivenSpacings c.args.given.now.spacing e spacings) c.shape.ensures (c.spacing_to_make-spacings.ensures.given c.in-None.is);
+      spacings_are = subst (λ (e : Extent). AreGivenSpacings read.header.kind c.args.given.now.spacing e spacings) c.shape.ensures
+          (subst (λ (k : HeightKind). AreGivenSpacings k c.args.given.now.spacing c.shape.result spacings) (ap (λ (h : Fields). h.kind) c.header.view_is) (c.spacing_to_make-spacings.ensures.given c.in-None.is));
       made = record {
         shape = made.shape;
         nodata = made.nodata ∙ ap made_numbers read.nodata;

@@ -1,7 +1,9 @@
 use Rattle.std.proofs.Common.{refl, subst, sym}
-use Rattle.drain_cli.specs.ExplainRuns.{IsOutcome}
+use Rattle.drain_cli.specs.ExplainRuns.{AreFound, AreFoundOf, IsOutcome}
 use Rattle.drain_cli.specs.JudgedRuns.{IsJudgement, IsPartOutcome}
-use Rattle.drain_cli.proofs.AnswerLemmas.{explained_outcome}
+use Rattle.drain_cli.specs.OpenedInputs.{ForTiles}
+use Rattle.drain_cli.proofs.AnswerLemmas.{explained_outcome, found_of}
+use Rattle.drain_explain.specs.Explanations.{answer_in}
 use Rattle.drain_files.specs.declared.open_judged.JudgedProducts.TheVariants as products
 use Rattle.drain_grid.specs.declared.judged.Judged.TheVariants.{AllWithRanks}
 use Rattle.drain_verdict.specs.Inputs.{audit_devices, as_five}
@@ -12,17 +14,35 @@ use Rattle.drain_cli.proofs.runs.run_explain.explain_products.Goals as goal
 pub returns-in-Five : goal.returns-in-Five
 returns-in-Five g c =
     let explained = c.explain_check in
-    subst (λ ps. IsOutcome g.R.ByteSource c.args.side c.args.tiles.now explained.new.tiles c.args.given.now ps (products.Five explained.new.products) c.answer_and_findings.result.0)
-    (sym c.in-Five.is)
-    (subst (λ a. IsJudgement (λ ps. ps) devices_of (IsOutcomeAnswer AllWithRanks) g.R.ByteSource c.args.side c.args.tiles.now explained.new.tiles c.args.given.now c.in-Five.five explained.new.products a) (sym c.answer_and_findings.ensures)
-    (explained_outcome (λ ps. ps) devices_of AllWithRanks g.R.ByteSource _ _ _ _ _ _ explained.result explained.ensures.answer explained.ensures.uses))
+    let told = c.answer_and_findings in
+    record {
+      answer = subst (λ ps. IsOutcome g.R.ByteSource c.args.side c.args.tiles.now explained.new.tiles c.args.given.now ps (products.Five explained.new.products) told.result.0)
+          (sym c.in-Five.is)
+          (subst (λ a. IsJudgement (λ ps. ps) devices_of (IsOutcomeAnswer AllWithRanks) g.R.ByteSource c.args.side c.args.tiles.now explained.new.tiles c.args.given.now c.in-Five.five explained.new.products a) (sym told.ensures.answer)
+          (explained_outcome (λ ps. ps) devices_of AllWithRanks g.R.ByteSource _ _ _ _ _ _ explained.result explained.ensures.answer explained.ensures.uses));
+      found = subst (λ ps. AreFoundOf (ForTiles g.R.ByteSource.bytes_left c.args.side c.args.tiles.now c.args.given.now) ps c.args.given.now c.args.mapping told.result.0 told.result.1)
+          (sym c.in-Five.is)
+          (subst (λ a. AreFound (ForTiles g.R.ByteSource.bytes_left c.args.side c.args.tiles.now c.args.given.now c.in-Five.five) AllWithRanks c.args.given.now c.args.mapping a told.result.1) (sym told.ensures.answer)
+          (subst (λ f. AreFound (ForTiles g.R.ByteSource.bytes_left c.args.side c.args.tiles.now c.args.given.now c.in-Five.five) AllWithRanks c.args.given.now c.args.mapping (answer_in explained.result) f) (sym told.ensures.findings)
+          (found_of (ForTiles g.R.ByteSource.bytes_left c.args.side c.args.tiles.now c.args.given.now c.in-Five.five) AllWithRanks c.args.given.now c.args.mapping explained.result
+          explained.ensures.explained explained.ensures.endless explained.ensures.drawn explained.ensures.slopes)));
+    }
 
 pub returns-in-Four : goal.returns-in-Four
 returns-in-Four g c =
     let explained = c.explain_audit in
-    subst (λ ps. IsOutcome g.R.ByteSource c.args.side c.args.tiles.now explained.new.tiles c.args.given.now ps (products.Four explained.new.products c.in-Four.judged) c.answer_and_findings-in-Four.result.0)
-    (sym c.in-Four.is) (
-      subst (λ a. IsPartOutcome g.R.ByteSource c.in-Four.judged c.args.side c.args.tiles.now explained.new.tiles c.args.given.now c.in-Four.four explained.new.products a) (sym c.answer_and_findings-in-Four.ensures)
-          (explained_outcome as_five audit_devices c.in-Four.judged g.R.ByteSource _ _ _ _ _ _ explained.result explained.ensures.answer explained.ensures.uses),
-      refl,
-    )
+    let told = c.answer_and_findings-in-Four in
+    record {
+      answer = subst (λ ps. IsOutcome g.R.ByteSource c.args.side c.args.tiles.now explained.new.tiles c.args.given.now ps (products.Four explained.new.products c.in-Four.judged) told.result.0)
+          (sym c.in-Four.is) (
+            subst (λ a. IsPartOutcome g.R.ByteSource c.in-Four.judged c.args.side c.args.tiles.now explained.new.tiles c.args.given.now c.in-Four.four explained.new.products a) (sym told.ensures.answer)
+                (explained_outcome as_five audit_devices c.in-Four.judged g.R.ByteSource _ _ _ _ _ _ explained.result explained.ensures.answer explained.ensures.uses),
+            refl,
+          );
+      found = subst (λ ps. AreFoundOf (ForTiles g.R.ByteSource.bytes_left c.args.side c.args.tiles.now c.args.given.now) ps c.args.given.now c.args.mapping told.result.0 told.result.1)
+          (sym c.in-Four.is)
+          (subst (λ a. AreFound (ForTiles g.R.ByteSource.bytes_left c.args.side c.args.tiles.now c.args.given.now (as_five c.in-Four.four)) c.in-Four.judged c.args.given.now c.args.mapping a told.result.1) (sym told.ensures.answer)
+          (subst (λ f. AreFound (ForTiles g.R.ByteSource.bytes_left c.args.side c.args.tiles.now c.args.given.now (as_five c.in-Four.four)) c.in-Four.judged c.args.given.now c.args.mapping (answer_in explained.result) f) (sym told.ensures.findings)
+          (found_of (ForTiles g.R.ByteSource.bytes_left c.args.side c.args.tiles.now c.args.given.now (as_five c.in-Four.four)) c.in-Four.judged c.args.given.now c.args.mapping explained.result
+          explained.ensures.explained explained.ensures.endless explained.ensures.drawn explained.ensures.slopes)));
+    }

@@ -1,5 +1,9 @@
-use Rattle.std.proofs.Common.{◌∙◌}
-use Rattle.std.specs.Prelude.{Ok, Err}
+use Rattle.std.proofs.Common.{◌≡◌, ◌∙◌, Result, Ok, Err, IfOk, subst}
+use Rattle.drain_grid.specs.declared.height_kind.HeightKind.{HeightKind}
+use Rattle.drain_grid.specs.declared.height_kind.HeightKind.TheVariants.{Whole}
+use Rattle.drain_header.specs.declared.fault.HeaderFault.{HeaderFault}
+use Rattle.drain_header.specs.Header.{Fields}
+use Rattle.drain_header.specs.Text.{IsTextOfKind}
 use Rattle.drain_device.specs.declared.read.BodyFault.TheVariants.{OutOfMemory}
 use Rattle.drain_cli.proofs.RoundTrips.{told_header, told_no_memory, told_fault}
 use Rattle.drain_answer.proofs.PrintLemmas.{PrintsText-same, Prints-same}
@@ -9,8 +13,11 @@ pub returns-in-Ok-header_text : goal.returns-in-Ok-header_text
 returns-in-Ok-header_text g c = (
   Ok (Ok c.in-Ok.header),
   told_header c.args.answer c.in-Ok.header c.in-Ok.is,
-  PrintsText-same (c.as_slice.ensures.value ∙ c.in-Ok-header_text.ensures) c.print_text.ensures,
+  PrintsText-same (c.as_slice.ensures.value ∙ subst (λ (k : HeightKind). IsTextOfKind k c.in-Ok.header c.in-Ok-header_text.text.items) (whole c.args.answer c.in-Ok.header c.in-Ok.is c.requires) c.in-Ok-header_text.ensures) c.print_text.ensures,
 )
+  where
+    whole : (answer : Result Fields HeaderFault) (h : Fields) → answer ≡ Ok h → IfOk answer (λ h. h.kind ≡ Whole) → h.kind ≡ Whole
+    whole answer h is all = subst (λ (a : Result Fields HeaderFault). IfOk a (λ h. h.kind ≡ Whole)) is all
 
 pub returns-in-Err-header_text : goal.returns-in-Err-header_text
 returns-in-Err-header_text g c = (Err OutOfMemory, told_no_memory c.args.answer c.in-Ok.header c.in-Ok.is, c.print_failure.ensures)

@@ -1,7 +1,6 @@
-use Rattle.std.proofs.Common.{◌≡◌, refl, subst}
+use Rattle.std.proofs.Common.{◌≡◌, refl, subst, sym}
 use Rattle.drain_device.specs.Failing.{full_patience}
 use Rattle.drain_device.specs.declared.row_source.Progress.TheVariants.{Going}
-use Rattle.drain_grid.specs.declared.set_product.SetProduct.TheVariants.{Con, Rnk}
 use Rattle.drain_grid.proofs.ByProduct.{by_set_product}
 use Rattle.drain_header.specs.Header.{Fields}
 use Rattle.drain_raster.specs.declared.raster_rows.RasterRows.{RasterRows}
@@ -15,11 +14,11 @@ begun h raster header left gap going patience = record { header_is = header; lef
 pub returns : goal.returns
 returns g c =
     let hs = c.args.headers in
-    let con = begun hs.con c.new.result c.new.ensures.header c.new.ensures.left c.new.ensures.gap c.new.ensures.going c.new.ensures.patience in
+    let dir = begun hs.dir c.new-2.result c.new-2.ensures.header c.new-2.ensures.left c.new-2.ensures.gap c.new-2.ensures.going c.new-2.ensures.patience in
     record {
-      begun = by_set_product _ con
-          (begun hs.dir c.new-2.result c.new-2.ensures.header c.new-2.ensures.left c.new-2.ensures.gap c.new-2.ensures.going c.new-2.ensures.patience)
+      begun = by_set_product _ (begun hs.con c.new.result c.new.ensures.header c.new.ensures.left c.new.ensures.gap c.new.ensures.going c.new.ensures.patience)
+          dir
           (begun hs.acc c.new-3.result c.new-3.ensures.header c.new-3.ensures.left c.new-3.ensures.gap c.new-3.ensures.going c.new-3.ensures.patience)
           (begun hs.bas c.new-4.result c.new-4.ensures.header c.new-4.ensures.left c.new-4.ensures.gap c.new-4.ensures.going c.new-4.ensures.patience)
-          (subst (λ (h : Fields). IsRasterBegun h c.new.result) (c.requires.alike Con Rnk refl) con);
+          (subst (λ (h : Fields). IsRasterBegun h c.new-2.result) (sym (c.requires.alike refl)) dir);
     }

@@ -1,0 +1,38 @@
+use Rattle.std.proofs.Common.{◌≡◌, ◌∙◌, ◌+◌, ◌*◌, All, pos, length, get_or, sym, ap, subst, rules}
+use mir.Syntax.{w64}
+use mir.Val.{SFits, to_z, of_z}
+use Rattle.std.proofs.lemmas.Int.{to_z-of_z}
+use Rattle.std.proofs.lemmas.List.{length-append}
+use Rattle.std.proofs.lemmas.List.Elements.{All-push}
+use Rattle.drain_grid.specs.Extent.{Extent, IsCellOf, index_of}
+use Rattle.drain_grid.specs.Values.{IsPixel}
+use Rattle.drain_grid.proofs.Runs.{index_of-below}
+use Rattle.drain_flood.proofs.Cells.{within}
+use Rattle.drain_maker.specs.Dems.{IsKeptAt}
+use Rattle.drain_maker.proofs.DemLemmas.{with_height}
+use Rattle.drain_maker.proofs.whole_dem.finite_numbers.Goals as goal
+
+pub loop-place-preserved : goal.loop-place-preserved
+loop-place-preserved c =
+    let p = c.args.raster.now in
+    let fits : SFits w64 c.kept_at.result = search rules in
+    let kept : IsKeptAt p c.cell.result (to_z w64 (of_z w64 c.kept_at.result)) = subst (IsKeptAt p c.cell.result) (sym (to_z-of_z w64 c.kept_at.result fits)) c.kept_at.ensures in
+    record {
+      long = ap length c.in_ok-push.ensures.items ∙ length-append c.loop-place.numbers.items _ ∙ ap (λ n. n + 1) c.loop-place.invariant.long;
+      pixels = subst (All IsPixel) (sym c.in_ok-push.ensures.items) (All-push IsPixel c.loop-place.numbers.items _ c.loop-place.invariant.pixels kept.pixel);
+      numbers = λ at inside less.
+          (let shape : c.shape-shape.result ≡ p.extent = c.shape-shape.ensures in
+          subst (λ xs. IsKeptAt p at (get_or xs (index_of p.extent at) (pos 0))) (sym c.in_ok-push.ensures.items)
+          (with_height p (IsKeptAt p) c.loop-place.numbers.items _ c.loop-place.place c.cell.result
+          (subst (λ (e : Extent). IsCellOf e c.cell.result) shape c.cell.ensures.inside)
+          (ap (λ (e : Extent). index_of e c.cell.result) (sym shape) ∙ c.cell.ensures.place) c.loop-place.invariant.long
+          kept c.loop-place.invariant.numbers at inside less));
+    }
+
+pub returns-clause-numbers : goal.returns-clause-numbers
+returns-clause-numbers c = λ at inside.
+    (let p = c.args.raster.now in
+    let all : c.cells-place-end.result ≡ p.extent.rows * p.extent.cols =
+    c.cells-place-end.ensures.product ∙ ap (λ (e : Extent). e.rows * e.cols) c.shape-shape.ensures in
+    c.loop-place.invariant.numbers at inside
+    (within (index_of p.extent at) (p.extent.rows * p.extent.cols) c.cells-place-end.result c.loop-place.place (index_of-below p.extent at inside) all c.loop-place-test.false))

@@ -1,0 +1,14 @@
+use Rattle.std.proofs.Common.{◌*◌, ap}
+use Rattle.drain_header.specs.Header.{Fields}
+use Rattle.drain_raster.proofs.PlacingLemmas.{coordinate-so, within-so}
+use Rattle.drain_raster.proofs.placing.is_as_wide.Goals as goal
+
+pub returns : goal.returns
+returns c =
+    let here = c.header in
+    let there = c.elevations in
+    within-so _ _ _ c.distance-apart.result _ _ _ _ _ _ (ap (λ (f : Fields). 100 * f.cols) there.view_is)
+    (coordinate-so _ _ there.invariant.xdim_ok (ap (λ (f : Fields). f.place.xdim) there.view_is))
+    (coordinate-so _ _ here.invariant.xdim_ok (ap (λ (f : Fields). f.place.xdim) here.view_is))
+    (coordinate-so _ _ there.invariant.xdim_ok (ap (λ (f : Fields). f.place.xdim) there.view_is))
+    c.distance-apart.ensures.value c.is_within_pixel.ensures
