@@ -1,8 +1,11 @@
 """acc: the tool's numbers become counts of cells, each with the cell itself."""
 
+import math
+from fractions import Fraction
+
 import numpy as np
 
-from .around import Array, bands, gets_water, leading
+from .around import Array, bands, gets_water, inflow_of, leading
 from .errors import CannotJudge, OddRaster
 from .flow import Flow
 from .grids import cell_area
@@ -18,28 +21,35 @@ DIGIT, MOST_OF_DIGIT = 2.0**-23, 0.25
 NEAR_AREA, SURE = 1e-6, 0.99
 MOST_KINDS = 1 << 20
 SINGLE = 1 << 24  # from here on single precision doesn't hold all whole numbers
-# By which part of itself a sum of at most eight numbers and one, in single precision, may differ from the exact one.
-SUM_SLACK = 8 * 2.0**-24
+# By which part of itself an addition in single precision may be off; a sixteenth more for what earlier ones were off.
+ADDITION = 2.0**-24 * 17 / 16
+SAID = 1e-6  # from which part of a cell on the answer says by how much numbers were rounded
 
 
 def put_counts(made: Converted) -> None:
     """Writes acc, and notes what was done."""
     choose_counting(made)
-    counts, near, signs, unsure = made.set.add("acc"), 0, 0, 0
+    counts, near, signs, is_unsure = made.set.add("acc"), 0, 0, False
     refusal: OddRaster | None = None
     is_single, signed = made.layers["acc"].dtype == np.float32, made.job.tool == "grass"
+    exact = exact_to(made.per)
     for rows, numbers, none in made.windows("acc"):
         values = np.where(none, numbers.dtype.type(0), numbers)
         signs += int((values < 0).sum()) if signed else 0
-        whole, bad, rounded = cells_of(magnitude(values), made.per)
-        bad = ~none & (bad | (whole >= MOST_COUNT - made.plus) | ((values < 0) & (not signed)))
-        near += int((~none & rounded).sum())
-        unsure += int((bad | (np.abs(values) >= SINGLE)).sum()) if is_single else 0
+        whole, bad, off = cells_of(magnitude(values), made.per)
+        never = ~none & ((whole >= MOST_COUNT - made.plus) | ((values < 0) & (not signed)))
+        if odd := no_count(rows.start, never, numbers, made.per):
+            raise odd
+        bad &= ~none
+        sums = bad | (whole >= exact) if is_single else bad
+        is_unsure |= is_single and bool(sums.any())
+        off = np.where(none | sums, 0, off)
+        near, made.rounded = near + int((off > 0).sum()), max(made.rounded, float(off.max()))
         refusal = refusal or no_count(rows.start, bad, numbers, made.per)
         counts[rows] = np.where(none | bad, 0, whole + np.uint64(made.plus)).astype(np.uint32)
     if refusal and not is_single:
         raise refusal
-    if unsure:
+    if is_unsure:
         take_sums(made)
     note_misplaced(made, "acc")
     if signs:
@@ -75,49 +85,80 @@ def magnitude(numbers: Array) -> Array:
 
 
 def cells_of(sizes: Array, per: float) -> tuple[Array, Array, Array]:
-    """How many times `per` each number is; where it is no whole number of times; and where it is one but nearly.
+    """How many times `per` each number is; where it is no whole number of times; and by how much it differs from one.
 
     Whole numbers go through no floating-point ones.
     """
     if sizes.dtype.kind != "f" and float(per).is_integer():
         whole, rest = np.divmod(sizes, np.uint64(per))
-        return whole, rest != 0, np.zeros(rest.shape, bool)
+        return whole, rest != 0, np.zeros(rest.shape)
     with np.errstate(over="ignore"):
         values = np.minimum(sizes.astype(np.float64) / per, MOST_COUNT)
     near, is_single = np.rint(values), sizes.dtype == np.float32
     slack = np.minimum((SLACK_OF_SINGLE if is_single else SLACK) * values, MOST_SLACK)
     if is_single and per != 1:
         slack = np.maximum(slack, np.minimum(DIGIT * values, MOST_OF_DIGIT))
-    return near.astype(np.uint64), np.abs(near - values) > slack, near != values
+    off = np.abs(near - values)
+    return near.astype(np.uint64), off > slack, off
+
+
+def exact_to(per: float) -> int:
+    """Up to which count single precision holds each number times `per`, so that sums of these are exact."""
+    whole = Fraction(per).numerator
+    return SINGLE // (whole // (whole & -whole))
+
+
+class Rounding:
+    """What rounding of sums in single precision may do to the counts along dir, in cells.
+
+    Where sums aren't exact, each addition may be off by half the last digit, and so may a sum that was stored.
+    """
+
+    def __init__(self, flow: Flow, per: float) -> None:
+        self.flow, self.inflow, self.exact = flow, inflow_of(flow.codes), exact_to(per)
+        self.way = np.empty(flow.acc.shape, np.float32)  # by all sums on the way to a cell
+        for band, _, _ in bands(*self.way.shape):
+            self.way[band] = self.step(band)
+        flow.add_along(self.way)
+
+    def step(self, band: slice) -> Array:
+        """By the sum of each cell of some rows alone."""
+        counts = self.flow.acc[band].astype(np.float64)
+        return np.where(counts > self.exact, np.maximum(self.inflow[band], 2) * (ADDITION * counts), 0)
 
 
 def take_sums(made: Converted) -> None:
-    """Takes numbers that a sum in single precision may have rounded for the counts along dir that they stand for.
+    """Takes numbers that sums in single precision may have rounded for the counts along dir that they stand for.
 
-    A number counts as one if it differs from the sum of its inflow, as the tool has it, by no more than such a sum may.
+    A number counts as one if it differs from 1 and its inflow, as the tool has it, by no more than one sum may, and
+    from the count along dir by no more than all sums on the way may. If it differs by whole cells it is a wrong count.
     """
-    taken, lost, layer, flow = 0, 0, made.layers["acc"], Flow(made)
-    codes, counts = made.set["dir"], made.set["acc"]
-    for band, around, inner in bands(*codes.shape):
+    taken, lost, other, layer, flow = 0, 0, 0, made.layers["acc"], Flow(made)
+    counts, rounding = made.set["acc"], Rounding(flow, made.per)
+    for band, around, inner in bands(*counts.shape):
         numbers, none = layer.window(around.start, around.stop - around.start)
-        values = np.abs(np.where(none, 0, numbers).astype(np.float64))
-        total = np.full(values.shape, float((1 - made.plus) * made.per))
-        for here, there, leads in leading(codes[around]):
-            total[there] += np.where(leads, values[here] + made.plus * made.per, 0)
-        fits = (np.abs(total - values) <= SUM_SLACK * values)[inner]
-        sizes, none = values[inner], none[inner]
-        bad = cells_of(sizes.astype(np.float32), made.per)[1] & ~none
-        if refusal := no_count(band.start, bad & ~fits, numbers[inner], made.per):
+        sizes = np.abs(np.where(none, 0, numbers).astype(np.float64))
+        tools = sizes / made.per + made.plus
+        rest = tools - 1
+        for here, there, leads in leading(flow.codes[around]):
+            rest[there] -= np.where(leads, tools[here], 0)
+        whole, bad, near = (one[inner] for one in cells_of(sizes.astype(np.float32), made.per))
+        off, rest = np.abs(tools - flow.acc[around])[inner], rest[inner]
+        is_count = np.abs(rest - np.rint(rest)) <= rounding.step(band)
+        if refusal := no_count(band.start, bad & ~is_count & ~none[inner], numbers[inner], made.per):
             raise refusal
-        sums = (bad | (sizes >= SINGLE)) & ~none
-        lost += int((sums & ~fits).sum())
-        counts[band] = np.where(sums & fits, flow.acc[band], counts[band])
-        taken += int((sums & fits).sum())
-    made.completed["acc"] = taken
+        sums = (bad | (whole >= rounding.exact)) & ~none[inner]
+        fits = sums & is_count & (np.rint(rest) == 0) & (off <= rounding.way[band])
+        counts[band] = np.where(fits, flow.acc[band], np.where(sums, whole + np.uint64(made.plus), counts[band]))
+        off = np.where(fits, off, np.where(sums, near, 0))
+        made.rounded, other = max(made.rounded, float(off.max())), other + int((off > MOST_OF_DIGIT).sum())
+        taken, lost = taken + int(fits.sum()), lost + int((sums & ~fits).sum())
+    made.completed["acc"] = other
     if taken:
         made.note(f"acc: {cells(taken)} with a sum in single precision, right but for rounding: counted along dir")
     if lost:
-        made.note(f"acc: {lost:,} numbers of {SINGLE:,} or more in single precision: the tool may have rounded them")
+        text = f"{lost:,} numbers of {rounding.exact:,} or more cells in single precision"
+        made.note(f"acc: {text}: the tool may have rounded them")
 
 
 def is_area(number: float, area: float | None) -> bool:
@@ -176,10 +217,12 @@ def counts_taken(made: Converted) -> str:
     """What the numbers of acc were taken for, as the end of an answer's first line; "" where acc isn't judged."""
     if "acc" not in made.judged:
         return ""
+    text = f"{made.per:.9g} a cell, by --cell-area"
     if made.per == 1:
-        return f"; acc counts: {'cells above each, 1 added' if made.plus else 'cells'}"
-    if is_area(made.per, cell_area(made.dem)):
+        text = "cells above each, 1 added" if made.plus else "cells"
+    elif is_area(made.per, cell_area(made.dem)):
         crs = made.dem.crs
         metric = crs and crs.is_projected and crs.linear_units_factor[1] == 1
-        return f"; acc counts: area of a cell, {made.per:.9g} {'m2' if metric else 'square units of the map'}"
-    return f"; acc counts: {made.per:.9g} a cell, by --cell-area"
+        text = f"area of a cell, {made.per:.9g} {'m2' if metric else 'square units of the map'}"
+    most = f", rounded by at most {math.ceil(made.rounded * 1000) / 1000:,} cells" if made.rounded > SAID else ""
+    return f"; acc counts: {text}{most}"

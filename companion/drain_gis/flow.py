@@ -7,7 +7,7 @@ from collections.abc import Iterator
 
 import numpy as np
 
-from .around import CODES, NO_CODE, NO_DIRECTION, OUTLET, STEPS, Array, bands, leading
+from .around import CODES, NO_CODE, NO_DIRECTION, OUTLET, STEPS, Array, bands, inflow_of, is_open, leading
 from .drain import Answer, Finding, accepted, rejected
 from .errors import DrainFailed
 from .job import Converted
@@ -27,15 +27,16 @@ class Flow:
         for here, there, leads in leading(self.codes):
             goes[here] |= leads & self.data[there]
         self.strange = np.flatnonzero(self.codes == NO_CODE)
-        # Cells whose code leads off the grid or into no data, or that have none. As ends of paths they may be meant, but
-        # for those that were left by `complete_open`: where heights are known, a path stops there.
+        # Cells whose code leads off the grid or into no data, or that have none, and ends inside the grid. They may be
+        # meant, but for those that were left by `complete_open`: where heights are known, a path stops there.
         off = np.flatnonzero(self.data & ~goes & (self.codes != NO_CODE))
-        self.stops = np.concatenate([self.strange, off if made.is_whole else off[:0]])
+        self.inside = np.flatnonzero(self.ends_inside())
+        self.stops = np.concatenate([self.strange, off, self.inside] if made.is_whole else [self.strange])
         self.codes.flat[off] = OUTLET
         self.endless: Answer | None = None
         found = self.derive()
         if isinstance(found, Answer):
-            self.endless, self.ring = found, ring_cells(self.codes, self.data)
+            self.endless, self.ring = found, ring_cells(self.codes)
             self.codes.flat[np.concatenate([self.ring, self.strange])] = OUTLET
             found = self.derive()
         if isinstance(found, Answer):
@@ -43,7 +44,22 @@ class Flow:
         self.acc, self.bas = found
         self.lost = np.unique(np.concatenate([self.stops, self.ring]))  # cells that end a path, and aren't outlets
         # The labels of the cells that don't drain.
-        self.cut = np.unique(self.bas.flat[np.concatenate([self.ring, self.strange])])
+        self.cut = np.unique(self.bas.flat[self.lost])
+
+    def ends_inside(self) -> Array:
+        """Where paths end though water can't leave: not at the edge, not beside a void, and at no listed sink."""
+        found = self.codes == OUTLET
+        for band, around, inner in bands(*found.shape):
+            found[band] &= ~is_open(self.data, around, inner)
+        if self.made.set.sinks:
+            found[tuple(np.array(self.made.set.sinks).T)] = False
+        return found
+
+    def add_along(self, sizes: Array) -> None:
+        """Adds to what each cell has what all cells have that drain through it."""
+        flat = sizes.reshape(-1)
+        for front, to in waves(self.codes):
+            np.add.at(flat, to, flat[front])
 
     def derive(self) -> Answer | tuple[Array, Array]:
         """Has `drain` derive acc and bas; or the answer where a path doesn't end."""
@@ -57,6 +73,12 @@ class Flow:
         text = f"{cells(many)} of {self.made.many:,} don't drain: {cells(len(self.ring))} in rings, {stops:,} at which a path stops"
         row, col = divmod(int(self.lost[0]), self.codes.shape[1])
         return f"{text}, first at row {row}, column {col}"
+
+    def inside_text(self) -> str:
+        """How many cells drain to ends inside the grid; "" where none does."""
+        many = int(self.acc.flat[self.inside].sum(dtype=np.int64))
+        text = f"dir: {cells(many)} of {self.made.many:,} drain to {len(self.inside):,} ends inside the grid"
+        return f"{text}, where water can't leave: not at its edge, beside a void or at a listed sink" if many else ""
 
     def way_text(self, row: int, col: int) -> str:
         """Where the path from a cell goes round, or stops."""
@@ -149,12 +171,12 @@ class Flow:
 
     def faults(self) -> Iterator[tuple[slice, int, Array]]:
         """Where each rule about dir, acc and bas fails, band by band."""
-        numbers = [self.made.set[name] for name in ("acc", "bas") if name in self.made.set.products]
         has = self.made.set.products
+        numbers = [(self.made.set[name], self.made.set.kinds[name][1]) for name in ("dir", "acc", "bas") if name in has]
         shared, cols = self.shared_labels() if "bas" in has else self.ring[:0], self.data.shape[1]
         for band, around, inner in bands(*self.data.shape):
             data = self.data[band]
-            blank = [one[band] == 0 for one in numbers] or [~data]
+            blank = [one[band] == none for one, none in numbers]
             yield band, 1, ~data & ~np.logical_and.reduce(blank)
             yield band, 2, data & np.logical_or.reduce(blank)
             yield band, 3, data & (self.made.set["dir"][band] == NO_CODE)
@@ -168,23 +190,27 @@ class Flow:
                 yield band, number, here
 
 
-def ring_cells(codes: Array, data: Array) -> Array:
-    """The cells of all rings: what is left when cells that nothing flows into are taken away, again and again."""
+def waves(codes: Array) -> Iterator[tuple[Array, Array]]:
+    """The cells that lead on, each after all that lead to it, and where each leads. Cells of rings never come."""
     steps = np.zeros(256, np.int32)
     for code, (down, right) in STEPS.items():
         steps[code] = down * codes.shape[1] + right
-    inflow, flat = np.zeros(codes.shape, np.uint8), codes.ravel()
-    for here, there, leads in leading(codes):
-        inflow[there] += leads & data[here]
-    moving, inflow = (data & np.isin(codes, CODES)).ravel(), inflow.ravel()
+    flat, moving, inflow = codes.ravel(), np.isin(codes, CODES).ravel(), inflow_of(codes).ravel()
     front = np.flatnonzero(moving & (inflow == 0)).astype(np.int32)
     while front.size:
-        moving[front] = False
         to = front + steps[flat[front]]
+        yield front, to
         np.subtract.at(inflow, to, 1)
         to = np.unique(to)
         front = to[(inflow[to] == 0) & moving[to]]
-    return np.flatnonzero(moving)
+
+
+def ring_cells(codes: Array) -> Array:
+    """The cells of all rings."""
+    left = np.isin(codes, CODES).ravel()
+    for front, _ in waves(codes):
+        left[front] = False
+    return np.flatnonzero(left)
 
 
 def stream_least(made: Converted) -> int:

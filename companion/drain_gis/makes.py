@@ -1,8 +1,7 @@
-"""Rasters that are made: right ones by `drain make` and `drain derive`, on the source's grid and in a tool's codes; and
-elevations whose heights are whole in a unit, for a tool to run on."""
+"""Rasters that are made: right ones by `drain make` and `drain derive`, on the source's grid and in a tool's codes."""
 
 import tempfile
-from collections.abc import Iterable, Iterator, Mapping, Sequence
+from collections.abc import Iterable, Iterator, Mapping
 from pathlib import Path
 from typing import Any
 
@@ -16,8 +15,8 @@ from .flow import Flow
 from .grids import PLAIN, check_grid
 from .heights import Unit, find_unit
 from .job import Converted, Job
-from .layers import DRIVERS, Layer, Level, drivers_of, holds, layer_of, open_file
-from .maps import write_raster, written_whole
+from .layers import Layer, Level, drivers_of, holds, layer_of
+from .maps import check_plain, check_raster, write_raster, written_whole
 from .sets import PRODUCTS, Set, bounds
 from .spacing import Spacing
 from .tools import TOOLS, spacing_of_tool
@@ -29,44 +28,42 @@ Written = tuple[str, float | None, Iterator[tuple[int, Array]]]  # type, no-data
 def make(
     dem: Any, outs: Mapping[str, Path], codes: str = "drain", *, nodata: Any = None, sinks: Any = None,
     spacing: str | None = None, program: str | None = None, allow_drivers: str | None = None,
-) -> Spacing:  # fmt: skip
+) -> tuple[Spacing, list[str]]:  # fmt: skip
     """Writes the right con, dir, acc and bas of elevations: `outs` has a path for each that is wanted.
 
     con has the unit of dem, and its type or one of 32 bits; dir has the codes of a tool, and goes steepest by a spacing, which is
-    returned: the tool's own unless one is named. Raises CannotJudge, or DrainFailed.
+    returned: the tool's own unless one is named; with what was noted of dem. Raises CannotJudge, or DrainFailed.
     """
     layer = layer_of("dem", dem, nodata, drivers_of(allow_drivers))
     check_outs(outs, PRODUCTS, [layer], codes)
     check_grid(layer, layer)
-    unit, kind = find_unit(layer)
+    unit, kind, text = find_unit(layer)
     with tempfile.TemporaryDirectory(prefix="drain-gis-") as work:
         job, one = Job(Program(program), Path(work), codes), Set(Path(work), (layer.rows, layer.cols), PLAIN)
         one.take_heights(kind)
         one.spacing = spacing_of_tool(codes, layer, spacing)
-        job.sinks = list(sinks or [])
-        made = Converted(job, one, {"dem": layer}, (), {}, False, unit)
+        job.sinks = [] if sinks is None else list(sinks)
+        made = Converted(job, one, {"dem": layer}, (), {}, False, unit, [text] if unit.tens else [])
         put_ground(made)
         products = job.program.make(one, job.work)
         for name, path in outs.items():
             with written_whole(path) as new:
                 done = heights(made, unit, products["con"]) if name == "con" else numbers(made, name, products[name])
                 write_raster(new, layer, *done, is_scaled=name == "con")
-        return one.spacing
+        return one.spacing, made.notes
 
 
 def heights(made: Converted, unit: Unit, con: Array) -> Written:
     """con in the numbers of dem: each height of the filled surface is one of the elevations."""
-    kind, is_single = made.dem.dtype, True
+    kind = made.dem.dtype
     if kind.kind == "f":
         kind = np.promote_types(kind, np.float32)
-    elif kind.itemsize == 8 and not made.data.all():  # rasterio writes no no-data number of 64 bits
+    elif kind.itemsize == 8:  # rasterio writes no no-data number of 64 bits, and mixes up their signs (layers.py)
         kind = np.dtype(made.set.kinds["con"][0])
-    ends = (NO_HEIGHT, float(np.finfo(kind).min)) if kind.kind == "f" else bounds(kind)
+    ends = (NO_HEIGHT, bounds(kind)[0]) if kind.kind == "f" else bounds(kind)
     free = [number for number in (made.dem.nodata, *ends) if number is not None and holds(kind, number)]
     for _, found, void in made.windows("dem"):
         there = found[~void]
-        with np.errstate(over="ignore"):
-            is_single = is_single and bool((there.astype(np.float32) == there).all())
         free = [number for number in free if not (there == number).any()]
     if not free and not made.data.all():
         raise CannotJudge(f"dem has no number left for no data: the least and the greatest of {kind} are heights")
@@ -74,10 +71,9 @@ def heights(made: Converted, unit: Unit, con: Array) -> Written:
 
     def parts() -> Iterator[tuple[int, Array]]:
         for rows, found, void in made.windows("dem"):
-            filled = raised = con[rows]
-            if kind.kind == "f":
-                raised = (filled / unit.per).astype(np.float32 if is_single else np.float64)
-            filled = np.where(filled == unit.whole(found, void), found, raised).astype(kind)
+            filled = con[rows]
+            raised = filled / unit.per if unit.per > 1 else filled
+            filled = np.where(filled == unit.put(found, void), found, raised).astype(kind)
             filled[void] = nodata or 0
             yield rows.start, filled
 
@@ -118,44 +114,19 @@ def derive(
                 write_raster(new, layers["dir"], *numbers(made, name, flow.acc if name == "acc" else flow.bas))
 
 
-def make_whole(source: str, out: Path, per: int, nodata: int | float | None, drivers: Sequence[str] = DRIVERS) -> float:
-    """Writes a GeoTIFF of heights in single precision, whole in 1 / per or not at all. Returns the most that one moved."""
-    layer, most = open_file("dem", source, nodata, drivers), [0.0]
-    if layer.scaling != (1.0, 0.0):
-        raise CannotJudge(f"{source} has the scale and offset {layer.scaling}: write its heights plainly")
-    check_apart([out], layer.files())
-    if out.exists():
-        raise CannotJudge(f"{out} is there already")
-
-    def parts() -> Iterator[tuple[int, Array]]:
-        for top, rows in layer.windows():
-            found, blank = layer.window(top, rows)
-            exact = np.where(blank, 0, found).astype(np.float64)
-            near = np.rint(exact * per)
-            written = np.where(blank, NO_HEIGHT, near / per).astype(np.float32)
-            if (np.rint(written.astype(np.float64) * per) != np.where(blank, NO_HEIGHT * per, near)).any():
-                raise CannotJudge(f"{source}: heights in steps of {1 / per:g} are too large for single precision")
-            if (~blank & (written == NO_HEIGHT)).any():
-                raise CannotJudge(f"{source}: a height of {NO_HEIGHT}, which means no data in what is written")
-            most[0] = max(most[0], float(np.abs(exact - near / per).max(initial=0)))
-            yield top, written
-
-    with written_whole(out) as new:
-        write_raster(new, layer, "float32", NO_HEIGHT, parts())
-    return most[0]
-
-
 def check_outs(outs: Mapping[str, Path], names: tuple[str, ...], layers: list[Layer], codes: str) -> None:
     """Refuses what can't be written, and a file that is read."""
     if not outs or set(outs) - set(names):
         raise CannotJudge(f"nothing to write, or what isn't made here: expected {', '.join(names)}")
     if codes not in TOOLS:
         raise CannotJudge(f"no preset is called {codes}: there are {', '.join(TOOLS)}")
+    for out in outs.values():
+        check_raster(out)
     check_apart(outs.values(), [path for layer in layers for path in layer.files()])
 
 
 def check_apart(outs: Iterable[str | Path], sources: Iterable[str | Path]) -> None:
-    """Refuses to replace a file that is read, or one output by another."""
+    """Refuses to replace a file that is read, what is no plain file, or one output by another."""
     outs, sources = list(outs), list(sources)
     if len({Path(out).resolve() for out in outs}) < len(outs):
         raise CannotJudge(f"{', '.join(map(str, outs))}: each output needs a name of its own")
@@ -164,3 +135,4 @@ def check_apart(outs: Iterable[str | Path], sources: Iterable[str | Path]) -> No
             raise CannotJudge(f"{out}: there is no such folder: make it first")
         if Path(out).exists() and any(Path(out).samefile(source) for source in sources):
             raise CannotJudge(f"{out} is read, and would be replaced: name another")
+    check_plain(path for out in outs for path in (Path(out), Path(f"{out}.aux.xml")))

@@ -36,7 +36,7 @@ def differences(made: Converted) -> Iterator[str]:
 
 
 def are(made: Converted, name: str, have: Array, numbers: Array) -> Array:
-    """Where numbers of the folder stand for those of a source: of decimals the nearest of single or of double precision.
+    """Where numbers of the folder stand for those of a source: of decimals the nearest of double precision.
 
     Whole counts are compared as such, modulo 2^64.
     """
@@ -47,8 +47,7 @@ def are(made: Converted, name: str, have: Array, numbers: Array) -> Array:
             right |= (have == code) & (numbers == number)
         return np.asarray(right)
     if name in ("dem", "con"):
-        heights, is_float = have / (made.unit or Unit()).per, numbers.dtype.kind == "f"
-        return np.asarray((heights == numbers) | (is_float & (heights.astype(np.float32) == numbers)))
+        return np.asarray(have / (made.unit or Unit()).per == numbers)
     below, per, plus = made.job.tool == "grass", made.per, made.plus
     if numbers.dtype.kind != "f" and float(per).is_integer():
         here, there = (have.astype(np.int64) - plus).astype(np.uint64) * np.uint64(per), numbers.astype(np.uint64)

@@ -10,7 +10,7 @@ from fractions import Fraction
 from math import cos, radians, sin, sqrt
 
 from .errors import CannotJudge
-from .grids import in_degrees, is_square
+from .grids import cell_sizes, in_degrees, is_turned
 from .layers import Layer, Level
 
 Pair = tuple[int, int]  # width and height
@@ -22,7 +22,9 @@ KINDS = {
     "unit": "unit spacing", "cells": "the cell sizes of the header", "sphere": "distances on a sphere, row by row",
     "wgs84": "distances on the ellipsoid, row by row", "middle": "distances on the ellipsoid, one for all rows",
 }  # fmt: skip
-SIZES = re.compile(r"([0-9]+(?:\.[0-9]*)?|\.[0-9]+),([0-9]+(?:\.[0-9]*)?|\.[0-9]+)", re.ASCII)
+OTHERS = "Name the sizes (--spacing W,H), or take --spacing unit"
+SIZE = r"([0-9]{1,99}(?:\.[0-9]{0,99})?|\.[0-9]{1,99})"
+SIZES = re.compile(f"{SIZE},{SIZE}", re.ASCII)
 
 
 @dataclass(frozen=True)
@@ -31,6 +33,7 @@ class Spacing:
 
     kind: str = "unit"
     pairs: tuple[Pair, ...] = (UNIT,)
+    sides: str = ""  # of turned cells: what their sizes are, in words
 
     def of_row(self, row: int) -> Pair:
         """The width and the height of the cells of a row."""
@@ -53,24 +56,43 @@ class Spacing:
         return [] if self.is_unit else ["--spacing", "{},{}".format(*self.pairs[0])]
 
     def __str__(self) -> str:
-        return KINDS.get(self.kind, f"cells {self.kind.replace(',', ' by ')}")
+        return self.sides or KINDS.get(self.kind, f"cells {self.kind.replace(',', ' by ')}")
 
 
 def spacing_of(kind: str, layer: Layer) -> Spacing:
-    """The spacing of a raster by a kind, or by `W,H`. Without a place it is unit spacing."""
+    """The spacing of a raster by a kind, or by `W,H`. Raises CannotJudge where the raster doesn't say it."""
     if kind not in KINDS:
         return Spacing(kind, (sizes_of(kind),))
     if kind in GROUND and not in_degrees(layer):
         raise CannotJudge(f"--spacing {kind}: {layer.name} isn't in degrees; its cell sizes are --spacing cells")
-    if kind == "unit" or isinstance(layer, Level) or not layer.transform or kind == "cells" and is_square(layer):
+    if kind == "unit" or isinstance(layer, Level):
         return Spacing(kind)
-    t = layer.transform
-    ratio = Fraction(repr(abs(t.a))) / Fraction(repr(abs(t.e)))
     if kind == "cells":
-        return Spacing(kind, (pair_of(ratio),))
+        return by_cells(layer)
+    if is_turned(layer):
+        raise CannotJudge(f"--spacing {kind}: {layer.name} is turned, so a row has no latitude of its own. {OTHERS}")
+    t = layer.transform
+    ratio = float(Fraction(repr(abs(t.a))) / Fraction(repr(abs(t.e))))
     middles = [layer.rows / 2] if kind == "middle" else [row + 0.5 for row in range(layer.rows)]
-    pairs = tuple(rounded(float(ratio) * GROUND[kind](radians(t.f + at * t.e))) for at in middles)
+    pairs = tuple(rounded(ratio * GROUND[kind](radians(t.f + at * t.e))) for at in middles)
     return Spacing(kind, pairs[:1] if len(set(pairs)) == 1 else pairs)
+
+
+def by_cells(layer: Layer) -> Spacing:
+    """The sizes of the header; of a turned raster the lengths of the sides of its cells."""
+    sizes = cell_sizes(layer)
+    if sizes is None:
+        why = "rows and columns aren't at right angles" if layer.transform else "it has no georeference"
+        raise CannotJudge(f"--spacing cells: the cell sizes of {layer.name} aren't known: {why}. {OTHERS}")
+    sides = "the lengths of the sides of its turned cells, {:.9g} by {:.9g}".format(*map(float, sizes))
+    return Spacing("cells", (pair_of(sizes[0] / sizes[1]),), sides if is_turned(layer) else "")
+
+
+def kinds_of(layer: Layer) -> list[str]:
+    """The kinds that a raster allows, and that aren't unit spacing on it."""
+    sizes = cell_sizes(layer)
+    found = ["cells"] if sizes and pair_of(sizes[0] / sizes[1]) != UNIT else []
+    return found + (list(GROUND) if in_degrees(layer) and not is_turned(layer) else [])
 
 
 def sizes_of(word: str) -> Pair:
@@ -80,17 +102,17 @@ def sizes_of(word: str) -> Pair:
     while any(size.denominator > 1 for size in sizes):
         sizes = [size * 10 for size in sizes]
     if not sizes or not all(1 <= size <= MOST for size in sizes):
-        raise CannotJudge(f"--spacing {word}: expected {', '.join(KINDS)}, or W,H: two sizes, as 10,12.5")
+        raise CannotJudge(f"--spacing {word:.60}: expected {', '.join(KINDS)}, or W,H: two sizes, as 10,12.5")
     return int(sizes[0]), int(sizes[1])
 
 
 def pair_of(ratio: Fraction) -> Pair:
     """Width and height with this ratio: exact where the numbers aren't too large."""
-    exact = ratio.numerator, ratio.denominator
-    return exact if max(exact) <= MOST else rounded(float(ratio))
+    exact, near = (ratio.numerator, ratio.denominator), rounded(ratio)
+    return exact if max(exact) <= MOST else UNIT if near == (LARGER, LARGER) else near
 
 
-def rounded(ratio: float) -> Pair:
+def rounded(ratio: float | Fraction) -> Pair:
     """Width and height with nearly this ratio; the larger is 10^9."""
     return max(1, round(LARGER * min(ratio, 1))), max(1, round(LARGER / max(ratio, 1)))
 

@@ -1,20 +1,24 @@
-"""How many cells go down a steepest way, by the codes of each tool and by each spacing; and the unit of con: of a sample of rows.
+"""How many cells go down a steepest way, by the codes of each tool and by each spacing, and the unit of con, of a sample of rows; and
+how much less steep the ways are that are wrong.
 
 It explains an answer, and decides nothing.
 """
 
 import numpy as np
 
-from .around import OUTLET, Around
-from .grids import in_degrees, is_square
+from .around import OUTLET, STEPS, Around, Array, leading
 from .job import Converted
 from .layers import Level
-from .spacing import GROUND, Spacing, spacing_of
+from .rules import cells
+from .spacing import Spacing, kinds_of, spacing_of
+from .surface import at_most
 from .tools import TOOLS
 
 SAMPLE = 200_000  # about how many cells are looked at
 # How much larger a share has to be for a warning: by another tool's codes, and by another spacing.
 MUCH_BETTER, BETTER = 0.2, 0.01
+# Up to which share less steep a way is by the rounding of a tool in single precision; and the least share that is told from none.
+ROUNDING, LEAST_SHARE = 1e-6, 1e-15
 
 
 def shares(made: Converted, ways: list[tuple[str, Spacing]]) -> list[float]:
@@ -44,10 +48,9 @@ def can_sample(made: Converted) -> bool:
 def note_shares(made: Converted) -> None:
     """Notes, of a DEM in degrees or with cells that aren't square, how many cells go steepest by each spacing."""
     name, dem, own = made.job.tool, made.dem, made.set.spacing
-    if not can_sample(made) or not (in_degrees(dem) or not is_square(dem)):
+    if not can_sample(made) or not (kinds := kinds_of(dem)):
         return
-    kinds = ["unit", *([] if is_square(dem) else ["cells"]), *(GROUND if in_degrees(dem) else [])]
-    ways = {kind: spacing_of(kind, dem) for kind in kinds} | {own.kind: own}
+    ways = {kind: spacing_of(kind, dem) for kind in ("unit", *kinds)} | {own.kind: own}
     found = dict(zip(ways, shares(made, [(name, way) for way in ways.values()])))
     listed = ", ".join(f"{found[kind]:.1%} by {way}" for kind, way in ways.items())
     text = f"dir: steepest ways, of all cells with a lower neighbour: {listed}"
@@ -57,6 +60,42 @@ def note_shares(made: Converted) -> None:
     made.note(text)
 
 
+def less_steep(made: Converted, around: slice, inner: slice) -> Array:
+    """By which share the ways of a band of rows are less steep than a steepest one, in double precision: 1 of what leads not down."""
+    con, codes = made.set["con"][around], made.set["dir"][around]
+    there_is = made.data[around] & (con != made.set.kinds["con"][1])
+    sizes = np.array([made.set.spacing.of_row(row) for row in range(around.start, around.stop)], np.float64)
+    own, best = np.zeros(codes.shape), np.full(codes.shape, np.finfo(np.float64).tiny)
+    for (here, there, leads), (down, right) in zip(leading(codes), STEPS.values()):
+        across = np.hypot(sizes[here[0], :1] * right, sizes[here[0], 1:] * down)
+        drops = np.where(there_is[here] & there_is[there], con[here].astype(np.float64) - con[there], 0)
+        slopes = np.maximum(drops, 0) / across
+        own[here] = np.where(leads, slopes, own[here])
+        best[here] = np.maximum(best[here], slopes)
+    return np.asarray(np.clip(1 - own / best, LEAST_SHARE, 1)[inner])
+
+
+class Shares:
+    """How many wrong ways are less steep by no more than rounding, and by more; and by which share at most."""
+
+    def __init__(self) -> None:
+        self.few, self.more = [0, 0.0], [0, 0.0]
+
+    def add(self, shares: Array) -> None:
+        """Takes more cells in."""
+        for one, found in ((self.few, shares[shares <= ROUNDING]), (self.more, shares[shares > ROUNDING])):
+            one[:] = one[0] + found.size, max(one[1], found.max(initial=0))
+
+    def text(self) -> str:
+        """In words."""
+        (few, least), (more, most) = self.few, self.more
+        if not few:
+            return f"less steep by at most {at_most(most)}"
+        go = "goes" if few == 1 else "go"
+        others = f"{int(more):,} by at most {at_most(most)}" if more else "none by more"
+        return f"{cells(int(few))} {go} less steep by at most {at_most(least)} (rounding), {others}"
+
+
 def other_unit(made: Converted) -> str:
     """Whether con is in another unit than dem: asked after a rejection."""
     if "con" not in made.judged or made.own_ground or made.unit is None:
@@ -64,7 +103,7 @@ def other_unit(made: Converted) -> str:
     some = slice(None, None, -(-made.data.size // SAMPLE))
     dem, con = made.set["dem"][some], made.set["con"][some]
     there = made.data[some] & (con != made.set.kinds["con"][1]) & (dem != 0)
-    ratio = float(np.median(con[there] / dem[there])) if there.any() else 1.0
+    ratio = float(np.median(con[there].astype(np.float64) / dem[there])) if there.any() else 1.0
     return "" if 0.9 < ratio < 1.1 else f"WARNING: con is mostly {ratio:.4g} times dem: are both in one unit?"
 
 

@@ -3,14 +3,19 @@
 Of given elevations one con is right, and what `drain make` writes is it.
 """
 
+from collections.abc import Sequence
+from decimal import ROUND_CEILING, Context
+from fractions import Fraction
 
 import numpy as np
 
 from .around import Array
 from .drain import Finding
 from .job import Converted
-from .rules import NOT_FILLED, SOUND, Cell, cells, tally
+from .rules import NOT_FILLED, RULES, SOUND, Cell, cells, tally
 from .sets import Set
+
+NOT_LEAST = 9
 
 
 class Surface:
@@ -36,24 +41,45 @@ class Surface:
             missing += int(none.sum())
             sizes.add(off)
             tally(found, 0, none | (off > 0) | (off < 0), top)
+        sloped = "" if self.made.slope is None else f"at most {at_most(self.made.slope)} above the filled surface of dem"
         if not found:
-            return True, "the least surface"
+            return True, f"{sloped}, and without depressions" if sloped else "the least surface"
         texts = [*sizes.texts(), *([f"{cells(missing)} without a height"] if missing else [])]
         row, col = found[0][1]
-        return False, f"not the least surface: {'; '.join(texts)}; first at row {row}, column {col}"
+        return False, f"{sloped or 'not the least surface'}: {'; '.join(texts)}; first at row {row}, column {col}"
 
-    def own_ground_text(self) -> str:
+    def slope(self, bound: Fraction | None = None) -> float | None:
+        """How much con is above the least surface at most; None if it is below it, lacks, or exceeds it by more than a bound."""
+        most = 0.0
+        for top, rows in self.made.dem.windows():
+            data = self.made.data[top : top + rows]
+            con, least = (a[top : top + rows][data] for a in (self.con, self.least))
+            if (con == self.blank).any() or (con < least).any():
+                return None
+            if bound is not None and self.made.scale.exceeds(con, least, bound).any():
+                return None
+            most = max(most, float(self.made.scale.above(con, least).max(initial=0)))
+        return most
+
+    def own_ground(self, products: Sequence[str] = ()) -> Set:
+        """A set with con for its ground, and these products."""
+        ground = self.made.set.another(self.made.job.work, self.con, self.made.data, products)
+        ground.sinks = [cell for cell in self.made.set.sinks if self.con[cell] != self.blank]
+        return ground
+
+    def own_ground_text(self, found: Finding) -> str:
         """Whether con drains at all: judged as its own ground, which a breached or sloped surface passes."""
-        made, sizes = self.made, Sizes()
-        ground = made.set.another(made.job.work, self.con, made.data)
-        ground.sinks = [cell for cell in made.set.sinks if self.con[cell] != self.blank]
+        made, sizes, ground = self.made, Sizes(), self.own_ground()
         own = Surface(made, ground)
         for top, rows in made.dem.windows():
             sizes.add(own.off(slice(top, top + rows)))
         many, most, _ = sizes.found["too low"]
         if many:
             return f"as its own ground it has depressions at {cells(int(many))}, at most {most:.4g} deep"
-        return "as its own ground it has no depressions: breached, carved or raised surfaces are so, and drain"
+        if {n for n in found.rules if RULES[n].raster == "con"} != {NOT_LEAST} or (slope := self.slope()) is None:
+            return "as its own ground it has no depressions: breached, carved or raised surfaces are so, and drain"
+        text = f"as its own ground it has no depressions: the filled surface plus a slope of at most {at_most(slope)}"
+        return f"{text}, which --flatten {at_most(slope)} allows (SAGA adds none with -MINSLOPE 0, Whitebox without --fix_flats)"
 
     def add_low_cells(self, finding: Finding) -> None:
         """Puts the cells of con alone that are lower than the least surface on the map, and counts them."""
@@ -81,3 +107,8 @@ class Sizes:
             f"{cells(int(many))} {word}, by at most {most:.4g} and {total / many:.4g} on average"
             for word, (many, most, total) in self.found.items() if many
         ]  # fmt: skip
+
+
+def at_most(size: float) -> str:
+    """A size rounded up to four digits, in words: no more than this."""
+    return f"{float(Context(prec=4, rounding=ROUND_CEILING).create_decimal(repr(float(size)))):.9g}"

@@ -5,6 +5,7 @@ labels are the weak components of the graph of directions, rings its strong comp
 """
 
 from collections.abc import Mapping
+from fractions import Fraction
 
 import numpy as np
 import scipy.sparse
@@ -33,20 +34,27 @@ def open_cells(void: np.ndarray) -> np.ndarray:
 
 
 def least_surface(z: np.ndarray, void: np.ndarray, sinks: tuple[tuple[int, int], ...] = ()) -> np.ndarray:
-    """By reconstruction from the open cells and the sinks."""
-    mask, starts = np.where(void, HIGH, z).astype(np.float64), open_cells(void)
+    """By reconstruction from the open cells and the sinks, of the places of the heights in their order."""
+    levels, places = np.unique(np.where(void, z[~void].min(), z), return_inverse=True)
+    mask, starts = np.where(void, HIGH, places.reshape(z.shape)).astype(np.float64), open_cells(void)
     for sink in sinks:
         starts[sink] = True
     seed = np.where(starts, mask, HIGH)
-    return np.where(void, 0, reconstruction(seed, mask, "erosion", np.ones((3, 3)))).astype(z.dtype)
+    least = np.where(void, 0, reconstruction(seed, mask, "erosion", np.ones((3, 3)))).astype(np.int64)
+    return np.where(void, 0, levels[least]).astype(z.dtype)
 
 
 def slopes(con: np.ndarray, void: np.ndarray, sizes: tuple[int, int] = SQUARE) -> dict[int, np.ndarray]:
-    """Code to the square of the slope down that way, times the product of the three squared distances; 0 where it isn't down."""
+    """Code to the square of the slope down that way, times the product of the three squared distances; 0 where it isn't down.
+
+    Of floats it is a fraction.
+    """
+    exact = np.frompyfunc(Fraction, 1, 1)(con.astype(np.float64)) if con.dtype.kind == "f" else con.astype(np.int64)
+    there = shifted(~void, False)
     squares = {code: (right * sizes[0]) ** 2 + (down * sizes[1]) ** 2 for code, (down, right) in STEP.items()}
     found = {}
-    for code, beside in shifted(np.where(void, HIGH, con.astype(np.int64)), HIGH).items():
-        drop = np.where(void | (beside == HIGH), 0, np.maximum(con.astype(np.int64) - beside, 0))
+    for code, beside in shifted(exact, 0).items():
+        drop = np.where(~void & there[code], np.maximum(exact - beside, 0), 0)
         found[code] = drop**2 * (squares[1] * squares[2] * squares[4] // squares[code])
     return found
 
@@ -106,6 +114,8 @@ def flow_faults(codes: np.ndarray, products: Mapping[str, np.ndarray], void: np.
     graph, _ = graph_of(codes, void)
     if has_ring(graph) or not np.isin(codes[~void], [0, BLANK, *STEP]).all():
         return {"path"}
+    if (codes[~void] == BLANK).any():
+        return {"no data"}
     right = {
         "acc": "acc" not in products or (products["acc"] == accumulation(graph, void))[~void].all(),
         "bas": "bas" not in products or are_labels(products["bas"], basins(graph, void.shape), void),

@@ -1,5 +1,6 @@
-"""The package as a tool's developer uses it: assertions, and little memory."""
+"""The package as a tool's developer uses it: assertions, the library that judges arrays, and little memory."""
 
+import ctypes
 import os
 import subprocess
 import sys
@@ -11,6 +12,8 @@ import numpy as np
 import pytest
 import worlds
 from conftest import COMPANION
+from drain_gis import library
+from drain_gis.drain import Program
 
 SLOPE = np.array([[3, 2, 1]] * 3, np.int16)
 RIGHT: dict[str, Any] = {
@@ -47,6 +50,75 @@ def test_nothing_of_the_caller_is_changed() -> None:
     drain_gis.audit(**rasters, codes="esri", parts=True)
     for name, a in rasters.items():
         assert np.array_equal(a.data, before[name].data) and np.array_equal(a.mask, before[name].mask)
+
+
+def test_sinks_may_be_an_array() -> None:
+    """A pit of one cell, which a sink drains; no cell at all is no sink."""
+    z = np.full((3, 3), 5, np.int16)
+    z[1, 1] = 1
+    assert drain_gis.audit(z, con=z, sinks=np.argwhere(z == 1))
+    assert drain_gis.audit(z, con=z, sinks=np.argwhere(z == 0)).name == "NotFilled"
+
+
+@pytest.mark.parametrize(
+    ("given", "reason"),
+    [
+        ({"dem": [[1, 2], [3]], "con": SLOPE}, "dem: not numbers of two dimensions"),
+        ({"con": SLOPE, "nodata": {"con": 10**400}}, "can't hold it"), ({"con": SLOPE, "nodata": {"con": -(10**5000)}}, "can't hold it"),
+        ({"con": SLOPE / 2, "nodata": {"con": 10**400}}, "can't hold it"), ({"con": SLOPE, "spacing": "9" * 5000 + ",1"}, "--spacing 999"),
+        ({"con": SLOPE, "sinks": np.ones((2, 3), int)}, "a row and a column"), ({"con": SLOPE, "sinks": [(0.5, 1)]}, "a row and a column"),
+    ],
+)  # fmt: skip
+def test_arguments_that_are_none(given: dict[str, Any], reason: str) -> None:
+    try:
+        assert reason in str(drain_gis.audit(**given))
+    except drain_gis.CannotJudge as error:
+        assert reason in str(error)
+
+
+class StandIn:
+    """A shared object that accepts anything, of a version, with the places of members that it gives."""
+
+    def __init__(self, version: str, answer: tuple[int, ...], faults: tuple[int, ...]) -> None:
+        def put(at: int, content: bytes) -> None:
+            ctypes.memmove(at, content, len(content))
+
+        def layout(places: tuple[int, ...]) -> Any:
+            return lambda at: put(at, np.array(places[1:], "<u4").tobytes()) or places[0]
+
+        def explain(*places: Any) -> int:
+            put(places[-1], bytes(16) + b"accepted rows=3 cols=3 data=9 raised=0 outlets=3 by=0\0")
+            return 0
+
+        self.drain_version = lambda at, size: put(at, version.encode() + b"\0") or len(version)
+        self.drain_answer_layout, self.drain_faults_layout = layout(answer), layout(faults)
+        self.drain_explain_dem, self.drain_derive_dem = explain, lambda *places: 3
+
+
+# Of drain.h: the size, then the places of status, rule, row, col and line; the size, and that of a rule's three numbers.
+ANSWER, FAULTS = (180, 0, 4, 8, 12, 16), (180, 0, 4, 8, 12)
+
+
+@pytest.mark.parametrize(
+    ("other", "is_used"),
+    [
+        ({}, True), ({"version": ("0.", "1.")}, False), ({"version": ("logic ", "logic 0")}, False), ({"needed": {"sse4_2", "no_such_word"}}, False),
+        ({"answer": (184, *ANSWER[1:])}, False), ({"answer": (180, 0, 8, 4, 12, 16)}, False), ({"faults": (192, *FAULTS[1:])}, False),
+    ],
+)  # fmt: skip
+def test_a_library_of_another_version_or_processor_judges_nothing(
+    tmp_path: Path, monkeypatch: Any, other: Any, is_used: bool
+) -> None:
+    """The program answers then: it rejects what the stand-in accepts."""
+    (tmp_path / "drain").symlink_to(os.path.realpath(Program().path))
+    (tmp_path / "libdrain.so").write_bytes(b"")
+    version = Program().version.removeprefix("drain ").replace(*other.get("version", ("", "")))
+    one = StandIn(version, other.get("answer", ANSWER), other.get("faults", FAULTS))
+    monkeypatch.setattr(library.ctypes, "CDLL", lambda path: one)
+    monkeypatch.setattr(library, "NEEDED", other.get("needed", {"fpu"}))
+    verdict = drain_gis.audit(SLOPE, **WRONG, program=str(tmp_path / "drain"))
+    assert (" by=0" in verdict.line) is is_used is verdict.accepted, verdict
+    assert is_used or verdict.name == "Accumulation"
 
 
 MEMORY = """

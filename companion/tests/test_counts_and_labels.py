@@ -1,5 +1,6 @@
 """What acc counts, labels of any size, and numbers that are none."""
 
+import math
 from pathlib import Path
 from typing import Any
 
@@ -138,9 +139,80 @@ def test_sums_in_single_precision_are_taken_within_their_rounding() -> None:
     assert not verdict and any("16,777,216 or more" in note for note in verdict.notes)
 
 
+def along_a_row(cells: int) -> np.ndarray:
+    """Directions along a row, with an outlet at its end."""
+    return np.where(np.arange(cells) < cells - 1, 1, 0)[None]
+
+
+def areas(cells: int, bias: float) -> np.ndarray:
+    """Areas along a row as a tool in single precision adds them up, each sum too large by so many halves of a digit."""
+    sums = np.full((1, cells), 812.3, np.float32)
+    for i in range(1, cells):
+        sums[0, i] = (sums[0, i - 1].astype(np.float64) + sums[0, 0]) * (1 + bias * 2.0**-24)
+    return sums
+
+
+@pytest.mark.parametrize("bias", [0, 0.9, -0.9])
+def test_the_first_line_says_by_how_much_sums_were_rounded(bias: float) -> None:
+    acc = areas(8000, bias)
+    off = np.abs(acc / acc[0, 0].astype(np.float64) - np.arange(1, 8001)).max()
+    verdict = drain_gis.audit(dir=along_a_row(8000), acc=acc, codes="esri", cell_area=812.3)
+    assert verdict and verdict.line.endswith(f", rounded by at most {math.ceil(off * 1000) / 1000} cells"), verdict.line
+    assert not any("millionth" in note for note in verdict.notes), "they were counted along dir"
+
+
+@pytest.mark.parametrize("bias", [6.5, -6.5])
+def test_more_than_rounding_is_no_count(bias: float) -> None:
+    verdict = drain_gis.audit(dir=along_a_row(3000), acc=areas(3000, bias), codes="esri", cell_area=812.3)
+    assert not verdict and "is no count" in verdict.dropped["acc"]
+
+
+@pytest.mark.parametrize("cells", [1, -1, 100])
+def test_a_count_that_is_lost_among_rounded_sums_is_found(cells: int) -> None:
+    acc = areas(3000, 0)
+    acc[0, 2000:] -= np.float32(cells * 812.3)
+    verdict = drain_gis.audit(dir=along_a_row(3000), acc=acc, codes="esri", cell_area=812.3, parts=True)
+    assert verdict.rule == 13 and (verdict.row, verdict.col) == (0, 2000)
+    assert "acc differs at 1,000 cells" in verdict.parts["acc"] and ", rounded by at most 0." in verdict.line
+
+
+@pytest.mark.parametrize("bias", [6.5, -6.5])
+def test_sums_of_whole_numbers_that_single_precision_holds_are_not_rounded(bias: float) -> None:
+    """A river into which a row of 2,000 cells flows at each step: in the end it has 28,000.08, or 27,999.92."""
+    codes, acc = np.ones((14, 2000), np.int16), np.tile(np.arange(1, 2001, dtype=np.float32), (14, 1))
+    codes[:, -1] = [4] * 13 + [0]
+    for row in range(1, 14):
+        acc[row, -1] = (acc[row - 1, -1].astype(np.float64) + 2000) * (1 + bias * 2.0**-24)
+    assert 0.05 < abs(acc[13, -1] - 28000) < 0.1
+    verdict = drain_gis.audit(dir=codes, acc=acc, codes="esri")
+    assert not verdict and "column 1999 is no count" in verdict.dropped["acc"]
+
+
+@pytest.mark.parametrize(("kind", "part"), [("f4", 1e-6), ("f8", 2.0**-40)])
+@pytest.mark.parametrize("sign", [1, -1])
+def test_a_count_may_be_off_by_a_small_part_of_itself_up_and_down(kind: str, part: float, sign: int) -> None:
+    near, far = (np.where(ACC == 3, 3 * (1 + sign * part * n), ACC).astype(kind) for n in (0.8, 1.6))
+    assert (near != ACC).sum() == (far != ACC).sum() == 1
+    verdict, text = audit(acc=near), "; acc counts: cells, rounded by at most 0.001 cells"
+    assert verdict and verdict.line.endswith(text if kind == "f4" else "; acc counts: cells"), verdict.line
+    assert any("1 numbers are whole but for a millionth" in note for note in verdict.notes)
+    assert refused("acc", "at row 0, column 0 is no count", acc=far)
+
+
+def test_a_folder_says_by_how_much_sums_were_rounded(tmp_path: Path) -> None:
+    dem, codes = np.arange(4000, 0, -1, np.int16)[None], along_a_row(4000).astype(np.uint8)
+    rasters = {"dem": dem, "dir": codes, "acc": areas(4000, 0.9)}
+    words = worlds.words({name: worlds.write_tif(tmp_path / f"{name}.tif", a) for name, a in rasters.items()})
+    direct = command("judge", "--quiet", *words, "--cell-area", 812.3)
+    done = command("import", *words, "--cell-area", 812.3, tmp_path / "out")
+    assert (direct.status, done.status) == (0, 0) and "rounded by at most 0." in direct.out, done
+    assert direct.out.splitlines()[0] in command("judge", tmp_path / "out").out
+
+
 def test_signs_of_grass_are_dropped(world: worlds.World) -> None:
     codes = np.ma.array(worlds.in_codes_of(TOOLS["grass"], world.dir), mask=world.void)
-    verdict = drain_gis.audit(**{**world.given("con"), "dir": codes, "acc": -world.masked("acc")}, codes="grass")
+    given = {**world.given("con"), "dir": codes, "acc": -world.masked("acc")}
+    verdict = drain_gis.audit(**given, codes="grass", spacing="unit")
     assert verdict and any("their sign is dropped" in note for note in verdict.notes)
 
 
@@ -154,6 +226,41 @@ def test_labels_of_any_size_stay_apart(first: int, kind: str) -> None:
     two[0, 1] = one[0, 4]
     assert audit(bas=one) and audit(bas=two).name == "Label"
     assert audit(bas=np.full((1, 5), one[0, 0])).name == "SharedLabel"
+
+
+@pytest.mark.parametrize(("labels", "name"), [([1, 1], "SharedLabel"), ([2, 2], "SharedLabel"), ([1, 2], None)])
+def test_each_outlet_has_a_label_of_its_own_without_heights_too(labels: list[int], name: str | None) -> None:
+    bas = np.where(BAS == 1, *labels)
+    assert drain_gis.audit(dir=CODES, bas=bas, codes="esri").name == name
+    assert drain_gis.audit(DEM * np.pi, dir=CODES, acc=ACC, bas=bas, codes="esri").name == name
+
+
+@pytest.mark.parametrize("name", ["dir", "acc", "bas"])
+def test_numbers_in_voids_and_none_in_data_cells_where_heights_have_no_unit(name: str) -> None:
+    """Each raster may be the only one with the fault."""
+    void = np.arange(5)[None] == 4
+    plain = {"dir": np.array([[0, 16, 16, 16, 0]]), "acc": np.array([[4, 3, 2, 1, 9]]), "bas": np.array([[7] * 5])}
+    dem = np.ma.array(DEM * np.pi, mask=void)
+    for rule, col, mask in ((0, 0, void), (1, 4, False), (2, 3, void | (np.arange(5)[None] == 3))):
+        rasters = {n: np.ma.array(a, mask=mask if n == name else void) for n, a in plain.items()}
+        verdict = drain_gis.audit(dem, **rasters, codes="esri", acc_counts="cells")
+        assert verdict.accepted == (not rule) and verdict.rules.get(rule, (1, (0, col))) == (1, (0, col)), verdict
+        assert list(verdict.dropped) == ["dir"] and (rule in verdict.rules or not rule)
+
+
+def test_no_direction_at_any_cell_is_missing() -> None:
+    verdict = drain_gis.audit(dir=np.ma.masked_all(ACC.shape, "u1"), acc=np.ones_like(ACC), codes="esri")
+    assert not verdict and (verdict.name, verdict.rules) == ("Missing", {2: (5, (0, 0))})
+
+
+@pytest.mark.parametrize("kind", ["f4", "f8"])
+def test_directions_that_are_angles_are_not_judged(kind: str) -> None:
+    """As of TauDEM's D-infinity: radians. Whole numbers in floating point are codes."""
+    angles = np.array([[np.pi, np.pi, 3, 0, 0]], kind)
+    verdict = drain_gis.audit(DEM, con=DEM, dir=angles, acc=ACC, codes="taudem", spacing="unit")
+    assert verdict.accepted and not verdict and verdict.judged == ("con",)
+    assert "at row 0, column 0 is no code. Directions into several cells (D-infinity)" in verdict.dropped["dir"]
+    assert drain_gis.audit(DEM, con=DEM, dir=CODES.astype(kind), codes="esri")
 
 
 def test_what_is_no_label() -> None:

@@ -7,6 +7,8 @@ import libraries
 import numpy as np
 import pytest
 import worlds
+from drain_gis import around
+from scipy import ndimage
 
 BOWL = np.maximum.outer(np.abs(np.arange(5) - 2), np.abs(np.arange(5) - 2)) * 10
 DOWN = libraries.random_steepest(BOWL, np.zeros(BOWL.shape, bool), np.random.default_rng(1))
@@ -19,6 +21,7 @@ def test_outlets_that_lead_off_get_0() -> None:
     verdict, outlets = drain_gis.audit(**rasters, codes="esri"), int((world.dir[~world.void] == 0).sum())
     assert verdict and verdict.answer.counts["outlets"] == outlets
     assert any(f"{outlets} outlets had a code that leads off" in note for note in verdict.notes)
+    assert f"; {outlets} cells whose dir leads off taken for outlets" in verdict.line
     verdict = drain_gis.audit(**rasters, ends="keep", parts=True, codes="esri")
     assert verdict.name == "NoEnd" and verdict.parts["con"] == "the least surface"
 
@@ -38,6 +41,7 @@ def test_a_rim_without_directions_is_completed_only_on_request() -> None:
     assert not drain_gis.audit(**rasters, codes="esri")
     verdict = drain_gis.audit(**rasters, complete_rim=True, codes="esri")
     assert verdict and any(f"{rim.sum()} cells at the rim" in note for note in verdict.notes)
+    assert verdict.line.endswith(f"; dir at {rim.sum()} cells of the rim completed")
 
 
 def test_a_rim_is_completed_by_drops_of_32_bits() -> None:
@@ -163,3 +167,52 @@ def test_one_odd_cell_in_the_last_window_is_seen(rasters: dict[str, np.ndarray],
     verdict = drain_gis.audit(**rasters, codes="esri")
     assert verdict.line.startswith(text) or text in "".join(verdict.dropped.values())
     assert verdict.accepted or verdict.map[PIT] not in (0, 255)
+
+
+def test_a_rim_is_not_completed_in_silence_where_no_way_is_known_to_be_the_steepest() -> None:
+    world = worlds.random_world(seed=3)
+    given = {"dem": world.masked("dem") * np.pi, "dir": world.masked("dir")}
+    options = {"codes": "terra", "complete_rim": True, "spacing": "unit"}
+    for rasters in (given, {**given, "dem": None}):
+        notes = "\n".join(drain_gis.audit(**rasters, **options).notes)
+        assert "dir: --complete-rim gives none, as which way is steepest isn't known" in notes, notes
+
+
+def picture_of(rows: str) -> np.ndarray:
+    """Where a drawing has data: # is a void."""
+    return np.array([[letter != "#" for letter in row] for row in rows.split()])
+
+
+@pytest.mark.parametrize(
+    ("rows", "cells", "groups"),
+    [
+        ("...", 0, 0), ("###", 0, 0), ("... ... ...", 0, 0), ("... .#. ...", 1, 1), ("... .#. ..#", 0, 0), ("...# .#.. .... ....", 1, 1),
+        ("..... .#.#. ..#.. .....", 3, 1), (".......... .##.#..#.. .##....#.. ..........", 7, 3), ("..... .###. .#.#. .###. .....", 8, 1),
+        ("...... .####. .#..#. .#.##. .#.... .#####", 0, 0), ("####### #.....# #.###.# #.###.# #.....# #######", 6, 1),
+        (".#. .#. ...", 0, 0), ("..... ###.. .....", 0, 0), ("..... ..### .....", 0, 0), ("... .#. .#.", 0, 0),
+    ],
+)  # fmt: skip
+def test_voids_inside_the_land(rows: str, cells: int, groups: int) -> None:
+    """Those that no chain of voids joins to the edge, across corners too."""
+    assert around.inner_voids(picture_of(rows)) == (cells, groups)
+
+
+def test_voids_inside_the_land_are_those_of_scipy() -> None:
+    rng = np.random.default_rng(1)
+    for share in (0.1, 0.3, 0.45, 0.6) * 30:
+        data = rng.random(rng.integers(1, 30, 2)) >= share
+        label, _ = ndimage.label(~data, np.ones((3, 3)))
+        outer = np.unique(np.concatenate([label[0], label[-1], label[:, 0], label[:, -1]]))
+        inner = ~data & ~np.isin(label, outer)
+        assert around.inner_voids(data) == (inner.sum(), np.unique(label[inner]).size)
+
+
+def test_a_void_in_a_lake_is_noted() -> None:
+    """It lets water out, so that nothing is filled."""
+    dem = np.pad(np.ones((2, 2)), 2, constant_values=9)
+    void = np.ma.masked_array(dem, np.arange(dem.size).reshape(dem.shape) == 14)  # a cell of the lake
+    for z, con, raised, noted in ((dem, np.full(dem.shape, 9), 4, False), (void, void, 0, True)):
+        verdict = drain_gis.audit(z, con=con)
+        assert verdict and f"raised={raised}" in verdict.line, verdict
+        text = "dem: 1 void inside the land, in 1 group: water may leave there"
+        assert any(note.startswith(text) for note in verdict.notes) == noted, verdict.notes

@@ -111,6 +111,27 @@ def test_paths_without_an_end() -> None:
     assert flow.name == "NoEnd" and f"{len(lost)} cells of" in flow.ends and "ring of 2 cells" in flow.ends
 
 
+def test_what_flows_to_an_end_inside_the_grid_does_not_drain() -> None:
+    """An inner cell gets 0: all that drains through it is lost, and acc is compared at the other cells alone."""
+    world, rim = worlds.random_world(seed=9), libraries.open_cells(worlds.random_world(seed=9).void)
+    stop = np.unravel_index(np.where(world.void | rim, 0, world.acc).argmax(), world.acc.shape)
+    lost, row, col, below = int(world.acc[stop]), *stop, 0
+    while world.dir[row, col]:
+        (row, col), below = world.beside((int(row), int(col)))[int(world.dir[row, col])], below + 1
+    upstream = next(c for c in world.cells() if world.beside(c).get(int(world.dir[c])) == tuple(map(int, stop)))
+    world.dir[stop], acc = 0, world.masked("acc")
+    acc[upstream] += 5
+    given, ends = {**world.given(), "acc": acc}, f"first at row {stop[0]}, column {stop[1]}"
+    text = f"{lost} cells of {(~world.void).sum()} don't drain: 0 cells in rings, 1 at which a path stops, {ends}"
+    part = drain_gis.audit(**given, **PLAIN, parts=True).parts["acc, bas"]
+    assert text in part and f"acc differs at {below} cell" in part and lost > 20, part
+    verdict = drain_gis.audit(world.masked("dem") * np.pi, dir=given["dir"], codes="esri")
+    text = f"dir: {lost} cells of {(~world.void).sum()} drain to 1 ends inside the grid"
+    assert any(note.startswith(text) for note in verdict.notes), verdict.notes
+    listed = drain_gis.audit(world.masked("dem") * np.pi, dir=given["dir"], sinks=[stop], codes="esri")
+    assert not any("ends inside the grid" in note for note in listed.notes)
+
+
 def test_how_many_cells_do_not_drain_is_told_once() -> None:
     """r.fill.dir's rim leads off the grid though a neighbour is lower: no part says that every path ends."""
     files = {"con": FIXTURES / "saga-con.tif", "dir": FIXTURES / "grass-fill-dir-dir.tif"}

@@ -20,7 +20,7 @@ from conftest import left
 from drain_gis import sets
 from drain_gis.tools import TOOLS
 
-FORMS = dict.fromkeys(("dem", "con"), ("<i", "SIGNEDINT", -(2**31)))
+FORMS = dict.fromkeys(("dem", "con"), ("<f", "FLOAT", -(2.0**128 - 2.0**104)))
 FORMS |= {"dir": ("<B", "UNSIGNEDINT", 255)} | dict.fromkeys(("acc", "bas"), ("<I", "UNSIGNEDINT", 0))
 PLACE = {"ULXMAP": 500015, "ULYMAP": 3999985, "XDIM": 30, "YDIM": 30}  # of the middle of the first cell, and of cells
 ROWS, COLS, SINK = 17, 26, (8, 11)
@@ -71,8 +71,8 @@ def test_rasters(imported: Imported, name: str) -> None:
     if name == "bas":
         pairs = set(zip(found[data].tolist(), right[data].tolist()))
         assert len(pairs) == len({a for a, _ in pairs}) == len({b for _, b in pairs})
-    else:  # a float of 32 bits between 4096 and 8192 is a whole number of steps of 2^-11
-        right = (right / 10 + 4000).astype(np.float32) * 2048 if name in ("dem", "con") else right
+    else:
+        right = (right / 10 + 4000).astype(np.float32) if name in ("dem", "con") else right
         assert np.array_equal(found[data], right[data])
 
 
@@ -85,6 +85,8 @@ def test_sinks_and_facts(imported: Imported) -> None:
     assert sorted(imported.facts["inputs"]) == sorted(hashes) and imported.facts["data"] == (~imported.void).sum()
     notes = [line[2:] for line in imported.done.out.split("wrote ")[0].splitlines()]
     assert notes and notes == imported.facts["notes"]
+    rasters = {name: (imported.out / f"{name}.bil").read_bytes() for name in FORMS}
+    assert imported.facts["sums"] == {name: hashlib.sha256(content).hexdigest() for name, content in rasters.items()}
 
 
 def test_the_program_accepts_it_by_the_line_that_is_printed(imported: Imported) -> None:
@@ -107,11 +109,12 @@ def changed(imported: Imported) -> Iterator[Imported]:
 WRONG = [
     ("rows", 0), ("rows", 10**9), ("rows", 17.0), ("rows", True), ("rows", "17"), ("rows", 16), ("cols", 30_000), ("cols", -1), ("data", -1),
     ("judged", []), ("judged", ["con", "con"]), ("judged", ["dem"]), ("judged", "con"), ("products", ["con", "dir"]), ("data", 7),
-    ("tool", "arc"), ("tool", "--from"), ("sinks", "--only"), ("sinks", [[1]]), ("sinks", [["a", "b"]]), ("sinks", [[9, 9]]), ("notes", [1]),
+    ("tool", "arc"), ("tool", "--from"), ("sinks", "--only"), ("sinks", [[1]]), ("sinks", [["a", "b"]]), ("sinks", [[9, 9]]), ("notes", [1]), ("taken", [1]),
     ("notes", {"a": 1}), ("transform", [0] * 6), ("transform", ["a", 1, 0, 0, 0, -1]), ("transform", [0, 1]), ("crs", "no WKT"),
     ("inputs", [["dem", "/d.tif", "no hash"]]), ("inputs", [["dem"]]), ("unit", {}), ("unit", {"tens": 9, "twos": 0}), ("per", 0),
     *(("heights", odd) for odd in ([], ["<f4", 0], ["<i4", 7], ["<i8", -(2**63)], ["<u4", 0], ["<i4", -(2.0**31)], 4, [["<i4"], 0])),
-    ("spacing", "sphere"), ("spacing", "1,0"), ("spacing", 1), ("per", "1"), ("plus", 2), ("own_ground", 1), ("dem", 3), ("drain_gis", "0"), ("judged", ["dir", "con"]), ("crs", None),
+    ("spacing", "sphere"), ("spacing", "1,0"), ("spacing", 1), ("per", "1"), ("plus", 2), ("rounded", 0), ("rounded", -0.5), ("rounded", "a"), ("own_ground", 1), ("dem", 3), ("drain_gis", "0"), ("judged", ["dir", "con"]), ("crs", None),
+    ("sums", {}), ("sums", []), ("sums", dict.fromkeys(FORMS, "0" * 64)), ("taken", 3), ("taken", [1]), ("taken", {"a": 1}),
 ]  # fmt: skip
 
 
@@ -152,6 +155,43 @@ def test_a_file_that_is_missing_or_changed(changed: Imported, name: str) -> None
         assert done.status in (2, 3) and done.out == "" and "Traceback" not in done.error, done
 
 
+@pytest.mark.parametrize("name", FORMS)
+def test_a_raster_of_other_bytes_is_refused(changed: Imported, name: str) -> None:
+    """One bit of a folder's raster, which keeps its length."""
+    path, pixels = changed.out / f"{name}.bil", bytearray((changed.out / f"{name}.bil").read_bytes())
+    pixels[len(pixels) // 2] ^= 1
+    path.write_bytes(pixels)
+    done = command("judge", changed.out)
+    assert (done.status, done.out, f"{name}.bil isn't" in done.error) == (2, "", True), done
+
+
+OPTIONS = "--complete-rim|--flatten 1|--inland-sinks|--acc-counts auto|--ends zero|--cell-area 900|--allow-drivers VRT|--spacing unit"
+OPTIONS += "|--nodata dem=1|--from esri|--sinks {dem}|--con {dem}"
+
+
+@pytest.mark.parametrize("words", OPTIONS.split("|"))
+def test_what_an_import_settled_is_no_option_of_its_folder(changed: Imported, words: str) -> None:
+    done, option = command("judge", *words.format(**changed.paths).split(), changed.out), words.split()[0]
+    assert (done.status, done.out, f"leave out {option}" in done.error) == (2, "", True), done
+    assert command("judge", "--quiet", "--no-parts", "--progress", changed.out).status == 0
+
+
+@pytest.mark.parametrize("name", ["import.json", "con.hdr", "dem.bil"])
+def test_a_pipe_in_a_folder_is_refused(changed: Imported, name: str) -> None:
+    (changed.out / name).unlink()
+    os.mkfifo(changed.out / name)
+    done = command("judge", changed.out)
+    assert (done.status, done.out, f"{name} is no plain file" in done.error) == (2, "", True), done
+
+
+def test_a_note_begins_no_line(changed: Imported) -> None:
+    note = "x\naccepted rows=9\r\x85\u2028accepted rows=8"
+    done = put_facts(changed, {**changed.facts, "notes": [note]})
+    lines = [line for line in done.out.splitlines() if line.startswith("accepted ")]
+    assert done.status == 0 and len(lines) == 1 and f"rows={ROWS} cols={COLS}" in lines[0], done
+    assert "x\\x0aaccepted rows=9\\x0d\\x85\\u2028accepted rows=8" in done.out
+
+
 def test_no_output_replaces_a_file_of_the_import(changed: Imported) -> None:
     for path in [*changed.out.iterdir(), *map(Path, changed.paths.values())]:
         before = path.read_bytes()
@@ -161,10 +201,12 @@ def test_no_output_replaces_a_file_of_the_import(changed: Imported) -> None:
 
 def test_an_acceptance_of_other_cells_is_none(changed: Imported) -> None:
     """All rasters voided alike would be accepted: of other cells than those that were imported."""
+    sums = {}
     for name, (form, _, nodata) in FORMS.items():
         path = changed.out / f"{name}.bil"
         path.write_bytes(struct.pack(form, nodata) * (path.stat().st_size // struct.calcsize(form)))
-    assert command("judge", changed.out).status in (2, 3)
+        sums[name] = hashlib.sha256(path.read_bytes()).hexdigest()
+    assert command("judge", changed.out).status == put_facts(changed, {**changed.facts, "sums": sums}).status == 2
 
 
 def test_what_is_there_is_kept(tmp_path: Path, files: dict[str, str]) -> None:
@@ -225,11 +267,10 @@ def test_modes_are_those_of_the_umask(tmp_path: Path, files: Any, umask: int, fo
         for _ in range(2):
             assert command("import", *words, "--overwrite", tmp_path / "o").status == 0
         assert command("judge", *words, *outs).status == command("judge", tmp_path / "o").status == 1
-        assert command("whole", files["dem"], tmp_path / "w.tif").status == 0
     finally:
         os.umask(before)
     written = {path for path in tmp_path.rglob("*") if path not in inputs}
     names = {path.name for path in written if path.parent == tmp_path}
-    assert names == {"o", "m.tif", "m.tif.aux.xml", "p.png", "r.html", "w.tif"}
+    assert names == {"o", "m.tif", "m.tif.aux.xml", "p.png", "r.html"}
     for path in written:
         assert oct(path.stat().st_mode & 0o777) == oct(folder if path.is_dir() else file), path

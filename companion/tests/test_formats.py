@@ -4,19 +4,22 @@ import os
 import socket
 import struct
 import subprocess
+import sys
 import time
 from collections.abc import Callable, Iterator
 from contextlib import contextmanager
 from pathlib import Path
+from typing import Any
 
 import numpy as np
 import pytest
 import rasterio
 import rasterio.shutil
 import worlds
-from conftest import Printed, start
+from conftest import COMPANION, Printed, start
 from conftest import drain_gis as command
-from drain_gis.layers import DRIVERS
+from drain_gis.errors import OddRaster
+from drain_gis.layers import DRIVERS, layer_of
 
 SOURCE = (
     '<VRTDataset rasterXSize="31" rasterYSize="23"><Metadata><MDI key="INTERNAL_MASK_FLAGS_1">2</MDI></Metadata>'
@@ -39,7 +42,6 @@ def each(paths: dict[str, str], odd: Path | str) -> Iterator[Printed]:
     yield command("judge", "--from", "esri", "--dir", odd)
     yield command("judge", "--dem", odd, "--con", odd)
     yield command("import", "--dem", odd, "--con", paths["con"], out)
-    yield command("whole", odd, out)
     yield command("make", odd, f"{out}-con.tif")
     yield command("derive", "--from", "esri", odd, f"{out}-acc.tif")
     assert not [path for path in out.parent.iterdir() if path.name.startswith("out")]
@@ -108,6 +110,19 @@ def test_a_mask_or_overviews_of_another_format_change_nothing(tmp_path: Path, le
     assert done.status == 0 or (done.status == 2 and f"{name} " in done.out and "not judged: " in done.out), done
 
 
+@pytest.mark.parametrize("name", ["con.tif.msk", "con.tif.ovr", "con.tif.aux", "con.tif.aux.xml", "con.tfw", "CON.aux"])
+def test_a_pipe_beside_a_raster_is_refused(tmp_path: Path, level: dict[str, str], name: str) -> None:
+    """Who opens it waits for ever. Another file's pipe, a folder and a link that leads nowhere don't count."""
+    os.mkfifo(tmp_path / "confluence.msk")
+    (tmp_path / "con.d").mkdir()
+    (tmp_path / "con.prj").symlink_to("nowhere")
+    words = [sys.executable, "-m", "drain_gis", "judge", *worlds.words(level)]
+    assert subprocess.run(words, cwd=COMPANION, timeout=100).returncode == 0
+    os.mkfifo(tmp_path / name)
+    done = subprocess.run(words, cwd=COMPANION, timeout=100, capture_output=True, encoding="utf-8")
+    assert done.returncode == 2 and f"not judged: con: {tmp_path / name} is no plain file" in done.stdout, done
+
+
 @pytest.mark.parametrize(
     "path", "GTIFF_DIR:1:{dem} /vsisubfile/0,{dem} zip://{dem} https://x/{dem} /dev/zero .".split()
 )
@@ -156,6 +171,56 @@ def test_sizes_are_refused_before_a_pixel_is_read(tmp_path: Path, level: dict[st
     assert time.monotonic() - begun < 10
 
 
+def test_a_file_that_stores_next_to_nothing_is_refused(tmp_path: Path, level: dict[str, str]) -> None:
+    """400 million pixels in 146 bytes."""
+    odd, begun = block_of(tmp_path / "sparse.tif", 20_000, 20_000), time.monotonic()
+    assert odd.stat().st_size < 200
+    for done in each(level, odd):
+        assert done.status == 2 and "claims 400,000,000 bytes of pixels, and holds next to none" in done.out + done.error, done
+    assert time.monotonic() - begun < 20
+
+
+@pytest.mark.parametrize("how", ["deflate", "zstd", "lzw", "lzma", "packbits"])
+def test_compressed_and_sparse_rasters_are_read(tmp_path: Path, how: str) -> None:
+    """One number packed as tightly as it can be; and a raster of which one tile of 32 is stored."""
+    shape: dict[str, Any] = {"height": 2048, "width": 4096, "count": 1, "dtype": "int16", "tiled": True, "sparse_ok": True}
+    tile = np.random.default_rng(1).integers(1, 30_000, (512, 512), np.int16)
+    for name, numbers in (("full", np.full((2048, 4096), 7, np.int16)), ("sparse", tile)):
+        path = tmp_path / f"{name}.tif"
+        with rasterio.open(path, "w", driver="GTiff", compress=how, blockxsize=512, blockysize=512, **shape) as file:
+            file.write(numbers, 1, window=((0, numbers.shape[0]), (0, numbers.shape[1])))
+        found = layer_of("dem", path).window(511, 2)[0][:, [0, 511, 4095]]
+        assert found.tolist() == ([[7] * 3] * 2 if name == "full" else [[tile[511, 0], tile[511, 511], 0], [0] * 3])
+
+
+@pytest.mark.parametrize(
+    ("kind", "numbers"),
+    [("Int64", (-(2**53) - 1, -5, 2**62 + 1)), ("UInt64", (1, 2**53 + 1, 2**64 - 2)), ("Int32", (-(2**31), -1, 5))],
+)
+def test_whole_numbers_keep_their_sign(tmp_path: Path, kind: str, numbers: tuple[int, ...]) -> None:
+    """As GDAL's own programs read and write them."""
+    np.array([numbers], kind.lower()).tofile(tmp_path / "x.raw")
+    band = f'<VRTRasterBand dataType="{kind}" band="1" subClass="VRTRawRasterBand"><SourceFilename relativetoVRT="1">x.raw'
+    text = f'<VRTDataset rasterXSize="3" rasterYSize="1">{band}</SourceFilename></VRTRasterBand></VRTDataset>'
+    (tmp_path / "x.vrt").write_text(text)
+    subprocess.run(["gdal_translate", "-q", tmp_path / "x.vrt", tmp_path / "x.tif"], check=True)
+    found, blank = layer_of("dem", tmp_path / "x.tif").window(0, 1)
+    assert (found.dtype.name, found[0].tolist(), blank.any()) == (kind.lower(), list(numbers), False)
+    words = ["--dir", worlds.write_tif(tmp_path / "dir.tif", np.zeros((1, 3), np.uint8), None, None, None)]
+    done = command("judge", *words, "--from", "esri", "--bas", tmp_path / "x.tif")
+    assert done.status == 0 and f"labels from {numbers[0]} to {numbers[2]} are numbered" in done.out, done
+
+
+def test_heights_of_64_bits_are_made_and_judged(tmp_path: Path) -> None:
+    """Some are below 0."""
+    world = worlds.random_world(voids=0)
+    dem = worlds.write_tif(tmp_path / "dem.tif", world.dem.astype(np.int64) - 9)
+    assert command("make", dem, tmp_path / "con.tif").status == 0
+    assert command("judge", "--dem", dem, "--con", tmp_path / "con.tif").status == 0
+    with rasterio.open(tmp_path / "con.tif") as file:
+        assert np.array_equal(file.read(1), world.con - 9)
+
+
 def test_formats_of_the_tools_are_read(tmp_path: Path, level: dict[str, str]) -> None:
     """Each is written by GDAL, read, and has the numbers that were written."""
     endings = {"GTiff": "tif", "EHdr": "bil", "ENVI": "img", "SAGA": "sdat", "AAIGrid": "asc", "GSBG": "grd", "GS7BG": "grd", "RST": "rst", "PCRaster": "map"}  # fmt: skip
@@ -183,7 +248,8 @@ def test_made_heights_have_the_scale_of_the_elevations(tmp_path: Path, level: di
         file.scales, file.offsets = [0.01], [100]
     made = {"con": tmp_path / "made-con.tif", "dir": tmp_path / "made-dir.tif"}
     assert command("make", level["dem"], *made.values()).status == 0
-    assert command("judge", *worlds.words({"dem": level["dem"], **made})).status == 0
+    done = command("judge", *worlds.words({"dem": level["dem"], **made}))
+    assert done.status == 0 and "dem names the scale 0.01 and the offset 100: its numbers are judged as" in done.out, done
     with rasterio.open(made["con"]) as con, rasterio.open(made["dir"]) as codes:
         assert (con.scales, con.offsets, codes.scales) == ((0.01,), (100.0,), (1.0,))
 
@@ -195,5 +261,20 @@ def test_bands_and_scales_are_refused(tmp_path: Path, level: dict[str, str]) -> 
         assert done.status == 2 and "2 bands" in done.error, done
     with rasterio.open(level["con"], "r+") as file:
         file.scales = [0.1]
-    for done in (command("judge", *worlds.words(level)), command("whole", level["con"], tmp_path / "w.tif")):
-        assert done.status == 2 and "the scale and offset (0.1, 0.0)" in done.out + done.error, done
+    done = command("judge", *worlds.words(level))
+    assert done.status == 2 and "the scale and offset (0.1, 0.0)" in done.out + done.error, done
+
+
+@pytest.mark.parametrize(
+    ("scale", "offset"), [(-1, 0), (0, 0), ("inf", 0), ("nan", 0), (-0.01, 5), (1, "inf"), (1, "-inf"), (2, "nan")]
+)
+def test_a_scale_that_is_no_number_above_0_is_refused(tmp_path: Path, level: dict[str, str], scale: Any, offset: Any) -> None:
+    """Though dem and con name the same: by -1 the lowest surface would be the highest."""
+    for name in ("dem", "con"):
+        with rasterio.open(level[name], "r+") as file:
+            file.scales, file.offsets = [float(scale)], [float(offset)]
+    for given in ({n: level[n] for n in ("dem", "con")}, level):
+        done = command("judge", *worlds.words(given))
+        text = done.error + done.out
+        assert done.status == 2 and f"the scale {float(scale):g} and the offset {float(offset):g}: a scale is" in text, done
+    assert command("make", level["dem"], tmp_path / "m-con.tif").status == 2

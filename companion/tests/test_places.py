@@ -11,7 +11,12 @@ import pytest
 import rasterio
 import worlds
 from conftest import drain_gis as command
+from conftest import outputs
+from drain_gis.errors import OddRaster
+from drain_gis.grids import PLAIN, check_grid, metres_per_cell, place_of
+from drain_gis.layers import Layer, layer_of
 from drain_gis.rules import RULES
+from rasterio.crs import CRS
 from worlds import UTM, Affine
 
 DEGREES = Affine(1 / 1200, 0, 10, 0, -1 / 1200, 50)
@@ -86,6 +91,58 @@ def test_another_grid_is_not_judged(tmp_path: Path, world: worlds.World, place: 
         assert not text or re.search(f"not judged: {name}: .*{text}", done.out), done
 
 
+def along(make: Any, rest: int, *numbers: float) -> list[Affine]:
+    """Moves or changes of size by each of these numbers along rows, and along columns."""
+    return [make(*by) for n in numbers for by in ((n, rest), (rest, n))]
+
+
+# A hundredth of a pixel at a corner of 23 rows and 31 columns is 0.00043 of their number and 0.00032.
+OFF = along(Affine.translation, 0, -1, -0.4, -0.011, 0.011, 0.4, 1) + along(Affine.scale, 1, 0.99, 0.9995, 1.0005, 1.01)
+NEAR = along(Affine.translation, 0, -0.009, 0, 0.009) + along(Affine.scale, 1, 0.9998, 1.0002)
+PLACES = [
+    (UTM, 32616), (UTM, None), (TURNED, 32616), (DEGREES, 4326), (DEGREES * Affine.rotation(180), 4326),
+    (DEGREES * Affine.rotation(-90), 4326),
+]  # fmt: skip
+
+
+def lying(place: Affine, epsg: int | None, name: str = "con") -> Layer:
+    """A raster of 23 rows and 31 columns that lies there."""
+    layer = Layer(name, np.zeros((23, 31), np.int16))
+    layer.transform, layer.crs = place, CRS.from_epsg(epsg) if epsg else None
+    return layer
+
+
+@pytest.mark.parametrize(("place", "epsg"), PLACES, ids=str)
+def test_a_hundredth_of_a_pixel_to_each_side(place: Affine, epsg: int | None) -> None:
+    """Of degrees that aren't turned after whole turns too."""
+    dem, turns = lying(place, epsg, "dem"), (0, -360, 720) if epsg == 4326 and place.a else (0,)
+    for turn in turns:
+        there = Affine.translation(turn, 0) * place
+        for by in NEAR:
+            check_grid(dem, lying(there * by, epsg))
+        for by in OFF:
+            with pytest.raises(OddRaster, match="pixels off dem"):
+                check_grid(dem, lying(there * by, epsg))
+
+
+@pytest.mark.parametrize("place", [UTM, TURNED, UTM * Affine.rotation(180)], ids=str)
+def test_tiles_a_hundredth_of_a_cell_off_to_each_side(tmp_path: Path, place: Affine) -> None:
+    """Of a tile of 4 by 4 cells a hundredth of a cell at its far corner is 0.0025 of their number."""
+    first, tile = np.zeros((23, 31), np.int16), np.zeros((4, 4), np.int16)
+    paths = [worlds.write_tif(tmp_path / "first.tif", first, None, place), str(tmp_path / "tile.tif")]
+    off = along(Affine.translation, 0, -0.4, -0.011, 0.011, 0.4) + along(Affine.scale, 1, 0.99, 0.997, 1.003, 1.01)
+    for at in ((31, 0), (0, -4)):
+        there = place * Affine.translation(*at)
+        for by in NEAR:
+            worlds.write_tif(Path(paths[1]), tile, None, there * by)
+            side = layer_of("dem", paths)
+            assert (side.rows, side.cols) == ((23, 35) if at[0] else (27, 31))
+        for by in off:
+            worlds.write_tif(Path(paths[1]), tile, None, there * by)
+            with pytest.raises(OddRaster, match="isn't on the grid of"):
+                layer_of("dem", paths)
+
+
 @pytest.mark.parametrize("shape", [(3, 3), (31, 23), (24, 31)])
 def test_another_size_is_not_judged(tmp_path: Path, world: worlds.World, shape: tuple[int, int]) -> None:
     other = worlds.write_tif(tmp_path / "o.tif", np.zeros(shape, np.int16))
@@ -118,3 +175,37 @@ def test_directions_by_distances_on_the_ground_are_told_apart(tmp_path: Path) ->
     ground = command("judge", *worlds.words(paths), "--spacing", "sphere")
     assert ground.status == 0 and "fits better" not in ground.out, ground
     assert "slopes by distances on a sphere" in ground.out
+
+
+LOCAL = 'LOCAL_CS["a quarry",UNIT["metre",1],AXIS["Easting",EAST],AXIS["Northing",NORTH]]'
+ENGINEERING = 'ENGCRS["a quarry",EDATUM["its corner"],CS[Cartesian,2],AXIS["x",east],AXIS["y",north],LENGTHUNIT["metre",1]]'
+
+
+@pytest.mark.parametrize("system", [LOCAL, ENGINEERING, "EPSG:4978"])
+def test_a_system_without_metres_has_a_report(tmp_path: Path, world: worlds.World, system: str) -> None:
+    """A local system, and a geocentric one: with a picture, but without its scale bar."""
+    words = wrong_set(tmp_path, world, (2, 3), UTM, None)
+    for path in words[3::2]:
+        with rasterio.open(path, "r+") as file:
+            file.crs = CRS.from_user_input(system)
+    assert metres_per_cell(layer_of("dem", words[3])) is None
+    done = command("judge", *words, *outputs(tmp_path))
+    assert (done.status, done.error) == (1, "") and "longitude" not in done.out and "row=2 col=3" in done.out, done
+    assert all((tmp_path / name).stat().st_size for name in ("r.html", "m.tif", "p.png"))
+
+
+@pytest.mark.parametrize("member", ["c", "f"])
+@pytest.mark.parametrize("sign", [1, -1])
+def test_a_header_has_places_up_to_ten_billion(member: str, sign: int) -> None:
+    """The bound of a header of `drain` (docs/FORMATS.md): beyond it a plain frame."""
+    for number, is_plain in ((9.9e9, False), (1.1e10, True)):
+        assert (place_of(UTM._replace(**{member: sign * number})) == PLAIN) == is_plain
+
+
+@pytest.mark.parametrize("turn", [0, 30, 90, 135, 180, -60])
+def test_metres_of_a_turned_raster(turn: int) -> None:
+    """Of degrees that are turned they differ by row and column: then there are none."""
+    layer = lying(UTM * Affine.rotation(turn) * Affine.scale(1, 2 / 3), 32616)
+    assert metres_per_cell(layer) == pytest.approx((30, 20))
+    layer = lying(DEGREES * Affine.rotation(turn), 4326)
+    assert (metres_per_cell(layer) is None) == (turn not in (0, 180))

@@ -1,5 +1,7 @@
 """A raster is the same whatever it comes from, and in whatever windows it is read; tiles lie where they lie."""
 
+import subprocess
+from itertools import permutations
 from pathlib import Path
 from tempfile import TemporaryDirectory
 from typing import Any
@@ -13,6 +15,7 @@ import worlds
 import xarray
 from conftest import drain_gis as command
 from drain_gis import layers
+from drain_gis.drain import Program
 from drain_gis.layers import layer_of
 from hypothesis import given, settings
 from hypothesis import strategies as st
@@ -100,10 +103,31 @@ def test_tiles_are_laid_where_they_lie(tmp_path: Path, world: worlds.World) -> N
         assert np.array_equal(numbers[~blank], z[top : top + rows][~blank])
 
 
-def test_a_gap_has_no_data_and_the_later_number_counts(tmp_path: Path) -> None:
-    one, two = np.full((2, 3), 5, np.int16), np.array([[7, NODATA, 7]], np.int16)
-    numbers, blank = layer_of("dem", [part(tmp_path, "a", one, 0, 0), part(tmp_path, "b", two, 1, 1)]).window(0, 2)
-    assert np.where(blank, -1, numbers).tolist() == [[5, 5, 5, -1], [5, 7, 5, 7]]
+def test_a_gap_has_no_data_and_a_void_takes_the_other_number(tmp_path: Path) -> None:
+    one, two = np.array([[5, 5, 5], [5, NODATA, 6]], np.int16), np.array([[5, NODATA, 7]], np.int16)
+    tiles = [part(tmp_path, "a", one, 0, 0), part(tmp_path, "b", two, 1, 1)]
+    for order in (tiles, tiles[::-1]):
+        numbers, blank = layer_of("dem", order).window(0, 2)
+        assert np.where(blank, -1, numbers).tolist() == [[5, 5, 5, -1], [5, 5, 6, 7]]
+
+
+@pytest.mark.parametrize("kind", ["i2", "f4"])
+def test_tiles_that_differ_where_they_overlap_are_refused(tmp_path: Path, kind: str) -> None:
+    """Whichever comes first; the first cell in the order of rows is named."""
+    z = np.add.outer(np.arange(9, 4, -1), np.arange(7)).astype(kind)
+    a, b, c = z[:, :4], z[:, 3:].copy(), z[3:, 2:4].copy()
+    names = [part(tmp_path, name, tile, row, col) for name, tile, row, col in (("a", a, 0, 0), ("b", b, 0, 3), ("c", c, 3, 2))]
+    con = part(tmp_path, "con", z, 0, 0)
+    for tiles in permutations(names):
+        dem = [word for name in tiles for word in ("--dem", name)]
+        assert command("judge", *dem, "--con", con).status == 0
+    b[4, 0], c[1, 0] = b[4, 0] + 1, c[1, 0] - 1  # at row 4, columns 3 and 2
+    part(tmp_path, "b", b, 0, 3), part(tmp_path, "c", c, 3, 2)
+    for tiles in permutations(names):
+        dem = [word for name in tiles for word in ("--dem", name)]
+        done = command("judge", *dem, "--con", con)
+        assert done.status == 2 and "dem: SeamMismatch row=4 col=2: a tile has " in done.error, done
+        assert " 7, and " in done.error and " has 6. " in done.error or " 6, and " in done.error and " has 7. " in done.error
 
 
 @pytest.mark.parametrize(
@@ -137,6 +161,13 @@ def test_hgt_tiles_side_by_side(tmp_path: Path) -> None:
     for words in (["--dem", *tiles], ["--dem", tiles[0], "--dem", tiles[1]]):
         done = command("import", *words, "--con", con, "--overwrite", tmp_path / "out")
         assert (done.status, "1201 rows, 2401 columns" in done.out) == (0, True), done
+    z[700, 1200] += 1
+    z[:, :1201].tofile(tiles[0])
+    done = subprocess.run([Program().path, "make", "--out", tmp_path, *tiles], capture_output=True, text=True)
+    seam = "SeamMismatch row=700 col=1200"
+    assert done.stdout == f"refused {seam}\n", "as drain says of them"
+    done = command("judge", "--dem", *tiles, "--con", con)
+    assert done.status == 2 and seam in done.error, done
 
 
 @pytest.mark.parametrize(("kind", "nodata"), [("u1", -99999.0), ("i2", 1e30), ("u1", float("nan"))])

@@ -12,10 +12,12 @@ import numpy as np
 import pytest
 import rasterio
 import worlds
+import xarray
 from conftest import FIXTURES
 from conftest import drain_gis as command
 from drain_gis.layers import layer_of
 from drain_gis.spacing import KINDS, spacing_of
+from drain_gis.tools import TOOLS, spacing_of_tool
 from rasterio.transform import Affine
 
 # Latitude, and the length of a degree of latitude and of longitude there on WGS 84 in km, as tables have them.
@@ -60,13 +62,137 @@ def test_rows_on_a_sphere(tmp_path: Path) -> None:
     )
 
 
+@pytest.mark.parametrize(("top", "first", "last"), [(0.5 / 3600, 0, 1), (1 + 0.5 / 3600, 1, 0)], ids=["S01", "N00"])
+def test_rows_of_a_tile_at_the_equator(tmp_path: Path, top: float, first: int, last: int) -> None:
+    """At one arc second the rows next to the equator are alike, for 10^9 steps, and the others aren't. cos 1 degree is 0.9998477."""
+    sizes, rows = {0: 10**9, 1: 999847695}, pair("sphere", tmp_path, 1 / 3600, 1 / 3600, top, 3601)
+    assert len(rows.pairs) == 3601 and rows.text.count("\n") == 3601
+    assert (rows.of_row(0), rows.of_row(3600)) == ((sizes[first], 10**9), (sizes[last], 10**9))
+    alike = [rows.of_row(row) for row in ((0, 1) if first == 0 else (3599, 3600))]
+    assert alike == [(10**9, 10**9)] * 2 and rows.of_row(1800) == (999961923, 10**9)  # cos 0.5 degrees: 0.99996192
+
+
 def test_sizes_of_a_header(tmp_path: Path) -> None:
-    """Exact, so that ties stay ties; an array without a place has square cells."""
-    for width, height, sizes in ((30, 10, (3, 1)), (0.1, 0.3, (1, 3)), (12.5, 20, (5, 8)), (90, 90, (1, 1))):
+    """Exact, so that ties stay ties."""
+    for width, height, sizes in (
+        (30, 10, (3, 1)), (0.1, 0.3, (1, 3)), (12.5, 20, (5, 8)), (90, 90, (1, 1)), (10, 10.000009, (10**7, 10**7 + 9)),
+    ):  # fmt: skip
         assert pair("cells", tmp_path, width, height, 0, 2, 32616).pairs == (sizes,)
     ((width, height),) = pair("cells", tmp_path, 1 / 1201, 1 / 7001, 0).pairs
     assert width == 10**9 and height == pytest.approx(10**9 * 1201 / 7001, abs=1)
-    assert spacing_of("cells", layer_of("dem", np.zeros((2, 2)))).is_unit
+    assert pair("cells", tmp_path, 89.994067349451, 89.994067349446, 0, 2, 32616).is_unit  # they differ by less than 10^-9
+
+
+SIDE, PLACE = Affine.scale(30, -20), Affine.translation(500000, 4000000)
+
+
+@pytest.mark.parametrize("turn", [0, 30, 45, 90, 135, 180, -30, -90, -120])
+def test_sizes_of_a_turned_raster(tmp_path: Path, turn: int) -> None:
+    """The lengths of the sides of its cells, and of degrees none by row."""
+    layer = layer_of("dem", worlds.write_tif(tmp_path / "x.tif", np.zeros((3, 4)), None, PLACE * Affine.rotation(turn) * SIDE))
+    found = spacing_of("cells", layer)
+    assert found.pairs == ((3, 2),) and ("turned cells, 30 by 20" in str(found)) == (turn not in (0, 180))
+    place = Affine.translation(10, 50) * Affine.rotation(turn) * Affine.scale(0.003, -0.002)
+    layer = layer_of("dem", worlds.write_tif(tmp_path / "d.tif", np.zeros((3, 4)), None, place, 4326))
+    assert spacing_of("cells", layer).pairs == ((3, 2),)
+    for kind in ("sphere", "wgs84", "middle"):
+        if turn not in (0, 180):
+            with pytest.raises(drain_gis.CannotJudge, match=f"--spacing {kind}: dem is turned"):
+                spacing_of(kind, layer)
+        else:
+            width, height = spacing_of(kind, layer).of_row(0)
+            assert width / height == pytest.approx(1.5 * 0.6428, rel=0.01)  # cos 50 degrees: 0.6428
+
+
+@pytest.mark.parametrize("slant", [0.001, -0.001])
+def test_sizes_that_are_not_known(tmp_path: Path, slant: float) -> None:
+    """Without a place, and of cells that are no rectangles: neither asked for nor by a preset."""
+    paths = {"array": np.zeros((3, 4)), "file": worlds.write_tif(tmp_path / "x.tif", np.zeros((3, 4)), None, None, None)}
+    for name, place in (("right", Affine(1, slant, 0, 0, 1, 0)), ("down", Affine(1, 0, 0, slant, 1, 0))):
+        paths[name] = worlds.write_tif(tmp_path / f"{name}.tif", np.zeros((3, 4)), None, PLACE * place * SIDE)
+        slanting = Affine.translation(10, 50) * place * Affine.scale(0.001, -0.001)
+        dem = layer_of("dem", worlds.write_tif(tmp_path / "d.tif", np.zeros((30, 40)), None, slanting, 4326))
+        with pytest.raises(drain_gis.CannotJudge, match="--spacing wgs84: dem is turned"):
+            spacing_of("wgs84", dem)
+    for name, source in paths.items():
+        why = "it has no georeference" if name in ("array", "file") else "aren't at right angles"
+        for kind, tool in (("cells", "drain"), (None, "taudem"), (None, "grass")):
+            with pytest.raises(drain_gis.CannotJudge, match=f"--spacing cells: the cell sizes of dem aren't known: .*{why}"):
+                spacing_of_tool(tool, layer_of("dem", source), kind)
+
+
+def test_an_answer_where_sizes_are_not_known() -> None:
+    """Arrays, with a preset of cell sizes: by sizes that are named, and where slopes aren't judged."""
+    world = worlds.random_world(voids=0)
+    codes = worlds.in_codes_of(TOOLS["taudem"], world.dir)
+    given = {"dem": world.dem, "con": world.con, "dir": codes, "codes": "taudem"}
+    for more in ({}, {"spacing": "cells"}):
+        with pytest.raises(drain_gis.CannotJudge, match="no georeference. Name the sizes .--spacing W,H., or take --spacing unit"):
+            drain_gis.audit(**given, **more)
+    assert drain_gis.audit(**given, spacing="unit") and drain_gis.audit(**given, spacing="30,30")
+    assert drain_gis.audit(dir=codes, acc=world.acc, codes="taudem")
+
+
+def wide_world() -> worlds.World:
+    """Right rasters of cells that are 3 wide and 2 high, wrong ones of square cells."""
+    z, void = np.random.default_rng(5).integers(0, 900, (12, 14)).astype(np.int32), np.zeros((12, 14), bool)
+    return worlds.World(z, void, **libraries.make(z, void, np.random.default_rng(1), sizes=(3, 2)))
+
+
+@pytest.mark.parametrize("turn", [0, 30, 90])
+def test_a_turned_raster_is_judged_by_its_sides(tmp_path: Path, turn: int) -> None:
+    codes = worlds.in_codes_of(TOOLS["taudem"], wide_world().dir).astype("i2")
+    paths = worlds.write_set(tmp_path, wide_world(), PLACE * Affine.rotation(turn) * SIDE, dir=codes)
+    words = worlds.words(paths, "taudem")
+    done = command("judge", *words, "--out", tmp_path / "r.html")
+    assert done.status == 0, done
+    sides = "slopes: by the lengths of the sides of its turned cells, 30 by 20, the preset of taudem"
+    for text in (done.out, (tmp_path / "r.html").read_text(encoding="utf-8")):
+        assert (sides in text and "grid: turned" in text) == (turn != 0), text
+    unit = command("judge", *words, "--spacing", "unit")
+    assert unit.status == 1 and "rule 10 Slope" in unit.out and "--spacing cells fits better" in unit.out, unit
+
+
+def placed(a: np.ndarray, x: object, y: object) -> xarray.DataArray:
+    """A DataArray with coordinates, and without a coordinate system."""
+    return xarray.DataArray(a, dims=("y", "x"), coords={"y": y, "x": x})
+
+
+def test_coordinates_without_a_system() -> None:
+    """Of which most NetCDF files are: sizes are those of the coordinates, in their own precision."""
+    rows, cols = np.arange(12), np.arange(14)
+    numbers = placed(wide_world().dem, 500015 + 30 * cols, 4000000 - 20 * rows)
+    given = {"con": wide_world().con, "dir": wide_world().dir, "codes": "drain"}
+    assert drain_gis.audit(numbers, **given, spacing="cells")
+    assert drain_gis.audit(numbers, **given, spacing="unit").name == "Slope"
+    for x, y, sizes in (
+        (0.1 * cols, 7 - 0.3 * rows, (1, 3)), (10 + cols / 1200, 50 - rows / 1200, (1, 1)),
+        ((500000 + 30.1 * cols).astype("f4"), (4000 - 30.1 * rows).astype("f4"), (1, 1)),
+        ((-500000 + 30.1 * cols).astype("f4"), (-4000 - 30.1 * rows).astype("f4"), (1, 1)),
+    ):  # fmt: skip
+        assert spacing_of("cells", layer_of("dem", placed(numbers.values, x, y))).pairs == (sizes,)
+    for x, y, text in (
+        (cols, -rows, None), (cols, rows, "no georeference"), (cols + 0.5, rows + 0.5, "no georeference"),
+        (cols**2, -rows, "x aren't evenly"), (cols, np.where(rows > 5, -rows, 1 - rows), "y aren't evenly"),
+    ):  # fmt: skip
+        if text is None:
+            assert spacing_of("cells", layer_of("dem", placed(numbers.values, x, y))).is_unit
+            continue
+        with pytest.raises(drain_gis.CannotJudge, match=text):
+            spacing_of("cells", layer_of("dem", placed(numbers.values, x, y)))
+    with pytest.raises(drain_gis.CannotJudge, match="first row is the southernmost"):
+        drain_gis.audit(placed(numbers.values, 30 * cols, 20 * rows), con=numbers.values)
+
+
+def test_cells_that_are_nearly_square(tmp_path: Path) -> None:
+    """10 by 10.000009: a drop of 1 is steeper to the east than to the south, and both are right on square cells."""
+    arrays = {"dem": [[2, 1, 1], [1, 1, 1], [1, 1, 1]], "dir": [[4, 0, 0], [0, 4, 0], [0, 0, 0]]}
+    place, paths = Affine(10, 0, 0, 0, -10.000009, 0), {}
+    for name, numbers in arrays.items():
+        paths[name] = worlds.write_tif(tmp_path / f"{name}.tif", np.array(numbers, np.int16), None, place)
+    for spacing, status in (("cells", 1), ("unit", 0)):
+        done = command("judge", *worlds.words(paths), "--spacing", spacing)
+        assert (done.status, "rule 10 Slope: 1 cell" in done.out) == (status, status == 1), done
 
 
 def test_two_sizes() -> None:

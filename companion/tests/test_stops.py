@@ -7,7 +7,6 @@ import sys
 import time
 from pathlib import Path
 
-import numpy as np
 import pytest
 import worlds
 from conftest import COMPANION, FIXTURES, left, outputs, start
@@ -47,13 +46,6 @@ def test_a_full_disk_leaves_nothing(tmp_path: Path) -> None:
     before = left(out)
     assert start("import", *SAGA, "--overwrite", out, room=4000, TMPDIR=str(temporary)).status == 3
     assert left(out) == before
-
-
-def test_whole_heights_on_a_full_disk_leave_nothing(tmp_path: Path) -> None:
-    source = worlds.write_tif(tmp_path / "z.tif", np.random.default_rng(1).random((300, 300)).astype(np.float32), -9999)
-    for room in (0, 20_000):
-        done = start("whole", source, tmp_path / "whole.tif", room=room)
-        assert done.status == 3 and [path.name for path in tmp_path.iterdir()] == ["z.tif"], done
 
 
 STEPS = [

@@ -7,6 +7,7 @@ from typing import Any
 import libraries
 import numpy as np
 import rasterio
+from drain_gis.layers import SWAPPED
 from libraries import STEP
 from rasterio.transform import Affine
 
@@ -78,6 +79,7 @@ def write_tif(
     path: Path, numbers: np.ndarray, nodata: float | None = None, place: Affine | None = UTM, epsg: int | None = 32616
 ) -> str:
     """A GeoTIFF of one band. Returns its path."""
+    numbers = numbers.view(SWAPPED.get(numbers.dtype.name, numbers.dtype))  # as rasterio calls what it writes
     shape = {"height": numbers.shape[0], "width": numbers.shape[1], "count": 1, "dtype": numbers.dtype}
     where = {"transform": place} if place else {}
     with rasterio.open(path, "w", driver="GTiff", nodata=nodata, crs=epsg and f"EPSG:{epsg}", **shape, **where) as file:

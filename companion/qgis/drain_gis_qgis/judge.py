@@ -22,7 +22,6 @@ TOOLS = (
 COUNTS = ("auto", "cells", "above", "area")
 SWITCHES = {
     "complete-rim": "Give cells at the edge and beside voids that have no direction the steepest one",
-    "flatten": "Round filled elevations down to the unit of the elevations: takes off slopes that were added on flats",
     "inland-sinks": "List the cells that the directions call inland sinks",
 }
 ACCEPTED, REJECTED = 0, 1
@@ -74,6 +73,8 @@ class Judge(core.QgsProcessingAlgorithm):
         add(core.QgsProcessingParameterEnum("COUNTS", counts, COUNTS, False, "auto", False, True))
         for name, text in SWITCHES.items():
             add(core.QgsProcessingParameterBoolean(name.upper().replace("-", "_"), text, False))
+        slope = "The most that a slope on flats may raise filled elevations by, in the unit of the elevations"
+        add(core.QgsProcessingParameterString("FLATTEN", slope, optional=True))
         nodata = "No-data numbers that the files don't name, such as dem=-9999 dir=0"
         add(core.QgsProcessingParameterString("NODATA", nodata, optional=True))
         program = "The command drain-gis: its name on the PATH, or its path"
@@ -114,6 +115,8 @@ class Judge(core.QgsProcessingAlgorithm):
         codes = self.parameterAsEnumString(parameters, "TOOL", context)
         found += ["--from", codes] if codes else []
         found += ["--acc-counts", self.parameterAsEnumString(parameters, "COUNTS", context)]
+        slope = self.parameterAsString(parameters, "FLATTEN", context)
+        found += ["--flatten", slope] if slope else []
         for name in SWITCHES:
             is_on = self.parameterAsBoolean(parameters, name.upper().replace("-", "_"), context)
             found += [f"--{name}"] if is_on else []
