@@ -1,15 +1,16 @@
 # make           proves what the program needs, and builds it to build/drain, with build/libdrain.a
 # make demo      shows it on the bundled samples, in two minutes; without a proved program it runs the sources unproved
 # make library   builds build/libdrain.a alone, for C and Python (docs/LIBRARY.md)
-# make install   puts program, man pages, libraries and their header below PREFIX (/usr/local; DESTDIR goes in front), and
-#                does make install-companion: the command drain-gis, and drain_gis for Python's import. They need
-#                python3-rasterio, -matplotlib, -jinja2, -click and -tqdm to run
+# make install   puts program, man pages, completions for bash, libraries and their header below PREFIX (/usr/local;
+#                DESTDIR goes in front), and does make install-companion: the command drain-gis, and drain_gis for
+#                Python's import. They need python3-rasterio, -matplotlib, -jinja2, -click and -tqdm to run
 # make dist      packs a release for users without the toolchain into build/release (RELEASING.md)
 # make deb       packs a .deb there
 # make wheel     packs drain-gis for pip there, with the static program and the library in it
 # make plugin    packs the plugin for QGIS there
 # make same      proves and builds from nothing, and compares with FILE=PROVED of a release
-# make test      passes everything: every proof and test, the edits of the gate, then the program's own tests
+# make test      passes everything: every proof, then side by side the edits of the gate and all tests; with FAST=1 no
+#                proof, for a change of Python or documents: the tests run with the build/drain that is there
 # make companion-test   passes the companion's tests with build/drain, or with DRAIN=PROGRAM
 # make large     runs each command on 100 million cells: 4 GB of disk, 2 GB of memory, some minutes; and drain_gis on
 #                30 million cells in memory
@@ -29,6 +30,9 @@ build/drain: FORCE
 
 build/drain.1: build/drain tools/man_page.py
 	@tools/man_page.py build/drain >$@
+
+build/drain.bash: build/drain tools/completions.py
+	@tools/completions.py build/drain >$@
 
 build/libdrain.a: FORCE
 	@tools/build_library.sh $@
@@ -51,9 +55,10 @@ demo:
 
 library: build/libdrain.a
 
-install: build/drain build/drain.1 build/libdrain.so.0 install-companion
+install: build/drain build/drain.1 build/drain.bash build/libdrain.so.0 install-companion
 	install -D -m 755 build/drain "$(DESTDIR)$(PREFIX)/bin/drain"
 	install -D -m 644 build/drain.1 "$(DESTDIR)$(PREFIX)/share/man/man1/drain.1"
+	install -D -m 644 build/drain.bash "$(DESTDIR)$(PREFIX)/share/bash-completion/completions/drain"
 	install -D -m 644 build/libdrain.a "$(DESTDIR)$(PREFIX)/lib/libdrain.a"
 	install -D -m 644 build/libdrain.so.0 "$(DESTDIR)$(PREFIX)/lib/libdrain.so.0"
 	ln -sf libdrain.so.0 "$(DESTDIR)$(PREFIX)/lib/libdrain.so"
@@ -90,7 +95,7 @@ edits:
 	tools/try_edits.sh $(CRATES)
 
 test:
-	tools/gate.sh
+	FAST=$(FAST) tools/gate.sh
 
 companion-test:
 	tests/companion.sh $(or $(DRAIN),build/drain)

@@ -1,7 +1,7 @@
 #!/usr/bin/env bash
 # Measures the program; what is compared, and beside what, stands at the head of each file. It exits with 1 where lines or files differ; times never make it
 # fail. Without names all are measured.
-# Usage: bench/run.sh DRAIN [check|lists|fill|explain|memory|make|hard|sinks].. [SIDE, of sinks alone]
+# Usage: bench/run.sh DRAIN [check|lists|fill|explain|memory|make|floats|hard|sinks].. [SIDE, of sinks alone]
 set -euo pipefail
 drain=$(realpath "$1")
 shift
@@ -35,7 +35,7 @@ measure_one() (
     exit "$differ"
 )
 
-[ $# -gt 0 ] || set -- check lists fill explain memory make hard sinks
+[ $# -gt 0 ] || set -- check lists fill explain memory make floats hard sinks
 status=0
 for name; do
     echo "== $name"

@@ -234,7 +234,7 @@ def build(crate: str, target: Path, anew: bool, library: Path | None, more: list
     """Proves and builds the program, and writes it and the record of its proof, where both are whole; then what else is wanted."""
     uses = with_all_below([crate, *([LIBRARY] if library else [])], read_crates(TOP / "crates.txt"))
     progress = Progress(len(uses))
-    print(f"Proving {len(uses)} crates: 15 to 25 minutes with 4 processors the first time ...", flush=True)
+    print(f"Proving {len(uses)} crates: 1 to 2 hours with 4 processors the first time ...", flush=True)
     with tempfile.TemporaryDirectory() as scratch:
         folder = Path(scratch) / "proving"
         proved_sum = copy_sources(list(uses), folder)

@@ -8,7 +8,8 @@ It reports, each with its file and line:
   120 characters (200 in a table; code is exempt);
 - a name in an entry of docs/DEFINITIONS.md that no file which it links has, and a crate with specs/ that it leaves out;
 - a call or clause in the first column of docs/PROVED.md that no code has;
-- a word that readers don't know (WORDS), outside code; and over 40,000 words in all .md files;
+- another number of files or lines than docs/THEOREM.md says are to be read;
+- a word that readers don't know (WORDS), outside code; and over 42,000 words in all .md files;
 - with PROGRAM, an example whose output isn't what the program prints.
 
 An example is a fenced block with a line `$ drain ..` or `$ build/drain ..`. All its lines `$ ..` are run, in order, by
@@ -29,9 +30,9 @@ import shutil
 import subprocess
 import sys
 import tempfile
-from collections.abc import Iterator
+from collections.abc import Iterable, Iterator
 
-README_LINE, README_LINES, DOCS_LINE, TABLE_LINE, ALL_WORDS = 100, 80, 120, 200, 40_000
+README_LINE, README_LINES, DOCS_LINE, TABLE_LINE, ALL_WORDS = 100, 80, 120, 200, 42_000
 WORDS = re.compile(
     r"\b(noughts?|want\s+of\s+memory|(?:is|are|was|were)\s+(?:told|asked\s+for)|hand(?:s|ed)\s+out|whoever"
     r"|a\s+word\s+on|faults?\s+of\s+the\s+words)\b",
@@ -47,6 +48,10 @@ DRAIN = re.compile(r"(?<![\w./-])(?:build/)?drain\s+([a-z]+|--[a-z-]+)(?![\w/:=.
 EXAMPLE = re.compile(r"^\$ (?:.*\s)?(?:build/)?drain ")
 CONTRACT = re.compile(r"\b(?:fn|ensures|struct)\s+(\w+)")
 DEFINITION = re.compile(r"\[(\w+)\]\(\.\./(crates/\w+/specs/(\w+)\.antt)\)|`(\w+)`")
+USED = re.compile(r"^(?:pub )?use Rattle\.(\w+)\.specs\.(?!declared\b)(\w+)", re.MULTILINE)
+READ_FIRST = (("drain_grid", "Correct"), ("drain_verdict", "Meaning"), ("drain_verdict", "Inputs"))
+READING = re.compile(r"(\d+) files of `specs/` \(([\d,]+) lines\)")
+READING_STEP = re.compile(r"^[2-5]\. [A-Z][\w ]+ \((\d+)\)")
 MARK = "@@ end of a command @@"
 
 
@@ -216,6 +221,32 @@ def definition_faults(root: pathlib.Path, lines: list[Line]) -> Iterator[tuple[i
             yield len(lines), f"no definition of {crate}"
 
 
+def lines_reached(root: pathlib.Path, first: Iterable[tuple[str, str]]) -> dict[tuple[str, str], int]:
+    """The lines of each file of specs/ that these, each a crate and a module, reach by `use`."""
+    found: dict[tuple[str, str], int] = {}
+    waiting = list(first)
+    while waiting:
+        crate, module = waiting.pop()
+        file = root / "crates" / crate / "specs" / f"{module}.antt"
+        if (crate, module) not in found and file.is_file():
+            text = file.read_text(encoding="utf-8")
+            found[crate, module] = len(text.splitlines())
+            waiting += USED.findall(text)
+    return found
+
+
+def reading_faults(root: pathlib.Path, lines: list[Line]) -> Iterator[tuple[int, str]]:
+    """The list of what to read: how many files and lines it says, and the lines of each of its steps from 2 on."""
+    reached = lines_reached(root, READ_FIRST)
+    steps = [(line.number, int(count)) for line in lines for count in READING_STEP.findall(line.text)]
+    for line in lines:
+        for files, count in READING.findall(line.text):
+            if (int(files), int(count.replace(",", ""))) != (len(reached), sum(reached.values())):
+                yield line.number, f"{len(reached)} files of {sum(reached.values())} lines are reached"
+            if sum(step for _, step in steps) != sum(reached.values()):
+                yield line.number, f"the steps have {sum(step for _, step in steps)} lines in all"
+
+
 def claim_faults(root: pathlib.Path, lines: list[Line]) -> Iterator[tuple[int, str]]:
     """The calls and clauses in the first column of docs/PROVED.md that no code has."""
     sources = (path.read_text(encoding="utf-8") for path in root.glob("crates/*/src/**/*.rt"))
@@ -338,6 +369,8 @@ def faults_of(root: pathlib.Path, program: pathlib.Path | None = None, write: bo
             found += definition_faults(root, lines)
         if name == "docs/PROVED.md":
             found += claim_faults(root, lines)
+        if name == "docs/THEOREM.md":
+            found += reading_faults(root, lines)
         for line in lines:
             for fault in (
                 *path_faults(root, document, line),

@@ -45,7 +45,7 @@ prove_copies() {
     cp "$top/HANDLES" "$proved"
     awk 'FNR == NR { wanted[$1]; next } { name = $1; sub(/:.*/, "", name) } name in wanted' <(printf '%s\n' "$@") "$top/crates.txt" >"$proved/crates.txt"
     for name; do copy_crate "$top/crates/$name" "$proved/crates/$name"; done
-    echo "Proving $# crates: some minutes, or up to three quarters of an hour where nothing of them was proved here before ..."
+    echo "Proving $# crates: some minutes, or up to two hours where nothing of them was proved here before ..."
     (cd "$proved" && rt ci) >"$log" 2>&1 </dev/null || show_log
 }
 

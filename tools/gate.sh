@@ -1,12 +1,34 @@
 #!/usr/bin/env bash
 # The merge gate: what documents name is there; tests of the gate's scripts; the layout of sources; every proof from nothing and the tests
-# (rt ci); a part of the wrong bodies (tools/gate_edits.py); then the program and its own tests, the documents' examples, a first run, releases,
-# the companion, windows, and tests with memory refused.
+# (rt ci); then, side by side (tools/gate_steps.py), a part of the wrong bodies (tools/gate_edits.py), libdrain, the program and its own tests, the
+# documents' examples, a first run, releases, the companion, windows, and tests with memory refused.
 # Each step from rt ci on ends with a line of its seconds: on the clock, and of processors.
 # Usage: tools/gate.sh
+#     FAST=1    leaves all proofs out, and tests with the build/drain that is there: for changes of Python or documents. It is not the gate.
 set -euo pipefail
 cd "$(dirname "$0")/.."
 TIMEFORMAT='took %0R s, of processors %0U s and %0S s of the system'
+
+fast=
+if [ "${FAST:-}" = 1 ]; then
+    fast=--fast
+    echo 'FAST=1: all proofs are left out, so this is not the merge gate: it tests build/drain as it is there.'
+    tools/is_proved.sh build/drain || {
+        echo 'FAST=1 needs a program that was proved of these sources: run make, or copy build/drain and build/drain.proved of another checkout' >&2
+        exit 1
+    }
+fi
+
+mkdir -p build
+tools/check_readmes.py
+tools/library_example.py
+tests/documents_are_checked.py
+tests/named_edits.py
+tests/edits_are_chosen.py
+tests/gate_tools.py
+tools/check_docs.py
+tools/check_layout.sh
+[ -z "$fast" ] || exec tools/gate_steps.py --fast
 
 # As many checks side by side as there are processors, and 5 GiB of memory for each. rt gives a check more jobs where a processor would be idle.
 held=$(awk '/MemAvailable/ { print int($2 / 5242880) }' /proc/meminfo)
@@ -14,16 +36,6 @@ if [ "$held" -lt "$(nproc)" ]; then
     [ "$held" -ge 1 ] || held=1
     export RT_JOBS=$held
 fi
-
-mkdir -p build
-tools/check_readmes.py
-tools/library_example.py
-tests/check_docs.py
-tests/named_edits.py
-tests/gate_edits.py
-tests/gate_tools.py
-tools/check_docs.py
-tools/check_layout.sh
 sources=$(tools/sources_sum.sh)
 time rt ci
 [ "$(tools/sources_sum.sh)" = "$sources" ] || {
@@ -35,23 +47,4 @@ cp crates/drain/out/drain build/drain
 rm -f build/drain.o
 [ ! -f crates/drain/out/drain.o ] || cp crates/drain/out/drain.o build/drain.o
 tools/record_proof.sh build/drain "$sources"
-time tools/try_named_edits.py --gate
-time tools/check_docs.py build/drain
-time tools/build_library.sh build/libdrain.a .
-# The program for x86-64-v3, where the other was compiled in this run: the static program is linked from the objects of both.
-if [ -f build/drain.o ]; then
-    time tools/build_v3.sh build/drain-v3 .
-fi
-time tests/library.sh build/libdrain.a
-time tests/first_run.sh build/drain
-time tests/shipping.sh build
-tools/shared_library.sh build/libdrain.a build/libdrain.so.0
-time tests/companion.sh build/drain
-time tests/continent.sh build/drain
-time tests/program/run.sh build/drain
-# The static program, where the objects that it is linked from were made in this run.
-if [ -f build/drain.o ] && command -v gcc >/dev/null; then
-    tools/static_program.sh build/drain build/drain-static
-    time tests/program/run.sh build/drain-static
-fi
-time tests/refused_memory.sh byte_tests cell_tests rules_tests page_tests verdict_tests union_tests maker_tests cli_tests
+exec tools/gate_steps.py

@@ -46,6 +46,12 @@ def about(help_text):
     return [" ".join(text.split()) for text in paragraphs if not text.startswith("Usage:")]
 
 
+def section(title, heading, help_text):
+    """A section with the lines of the help below this heading, up to the next empty line; none without it."""
+    found = re.search(rf"^ *{heading}:\n((?:.+\n)+)", help_text + "\n", re.M)
+    return [f'.SH "{title}"', *as_it_is(found[1])] if found else []
+
+
 def main():
     overview, name = output_of("--help"), os.path.basename(sys.argv[1])
     version, *logic = output_of("--version").replace(", version", "").rstrip("\n").split("\n")
@@ -61,6 +67,7 @@ def main():
         shown = output_of(command, "--help")
         page += [f'.SH "{escaped(name.upper())} {command.upper()}"', *([] if does in shown else [escaped(does) + ".", ".PP"])]
         page += as_it_is(shown)
+    page += section("EXIT STATUS", "Exit status(?:es)?", overview) + section("EXAMPLES", "Examples?", overview)
     print("\n".join(page))
 
 

@@ -4,6 +4,9 @@ in a file of its own. The prover checks only these functions, and has to refuse 
 proof sees the contracts of what it calls and no body, so no edit helps another to be refused. The checks use the
 libraries that rt ci built, so an edit takes some twenty seconds, while a try of the whole crate takes minutes.
 
+An edit of specs/ makes a definition wrong. It is tried alone, and counts as refused where a proof on which its function
+rests isn't one of the wrong definition.
+
 With --every the others are tried as well, each on the function that its first text is in. One that isn't refused there
 may be refused elsewhere in its crate: its name goes into FILE, and tools/try_edits.sh tries it on the whole crate. One
 that doesn't compile is a failure.
@@ -42,7 +45,7 @@ OF_A_NAME = re.compile(r"has no field|is not in scope|that can be named from her
 # What is said of a wrong body that the compiler refuses: it shows nothing of the contracts.
 NO_CODE = "it does not compile"
 # What is said of a proof that rests on another one which was refused.
-OF_ANOTHER = "stands by its signature alone"
+OF_ANOTHER = re.compile(r"stands by its signature alone|(?:was|were) not checked")
 
 
 class BadEdit(Exception):
@@ -75,6 +78,9 @@ class Edit:
         if not self.changes:
             raise BadEdit(f"{self.name}: no new text")
         self.file = self.changes[0][0]
+
+    def is_definition(self) -> bool:
+        return self.file.startswith("specs/")
 
     def find_function(self, crate: Path) -> None:
         """Names the function that the first text is in, where none is named."""
@@ -128,7 +134,9 @@ class Round:
         self.crate, self.edits, self.texts = crate, [edit], applied_alone(crate, edit)
 
     def takes(self, edit: Edit) -> bool:
-        """Puts the edit in, unless another one is in its file."""
+        """Puts the edit in, unless another one is in its file, or one is of a definition."""
+        if any(each.is_definition() for each in (edit, *self.edits)):
+            return False
         texts = edit.applied(self.crate, self.texts)
         if texts is None or edit.file in (other.file for other in self.edits):
             return False
@@ -257,6 +265,8 @@ def verdict(crate: str, edit: Edit, said: str) -> tuple[str, bool]:
     if not found:
         return "NOT REFUSED", False
     own = rf"^(?:note: )?(?:\./)?proofs/(?:\S*/)?{re.escape(only.rpartition('::')[2])}/"
+    if edit.is_definition():
+        own = r"^(?:\./)?proofs/"
     of_names, goals = 0, []
     for place, message in messages(said):
         if re.match(own, place):
@@ -264,7 +274,7 @@ def verdict(crate: str, edit: Edit, said: str) -> tuple[str, bool]:
                 if "/Invariants.antt" in place:
                     return "NOT REFUSED: a name in its invariants", False
                 of_names += 1
-            elif "error" in place and OF_ANOTHER not in message:
+            elif "error" in place and not OF_ANOTHER.search(message):
                 goals += re.findall(r"^`(\S+)`", message)[:1] or ["a lemma"]
         elif place.startswith(f"note: {edit.file}:"):
             goals += re.findall(r"^it is not proved.*?\(`(\S+)`\)", message, re.S)

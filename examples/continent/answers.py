@@ -6,17 +6,20 @@
     answers.py drop               drops records of answers that don't count, and the verdict if it rests on one
     answers.py shared             prints the files that are read for each window, without the parts of VRTs
 
-WORD.. is the line of a window in OUT/windows.txt. The record, OUT/inputs/NAME.txt, has this line, then size, time of
-the last change in nanoseconds, inode and path of each file: tiles, rasters with headers, the list of sinks, and the
-answer's own line and report. The answer counts as long as all of it is the same. Merges have the same in OUT/merges:
-their records have the line of OUT/merges.txt, and the reports that they take; a refused merge has no report. OUT, RASTERS
-and perhaps SINKS are in the environment. The verdict is OUT/verdict.txt, which Snakemake writes; a refused one is dropped
-too.
+WORD.. is the line of a window in OUT/windows.txt. The record, OUT/inputs/NAME.txt, has this line, then size, mtime, ctime
+(both in nanoseconds), inode and path of each file: tiles, rasters with headers, the lists of sinks and widths, the program
+and the answer's own line and report. SPACING and the program's version are in lines of this form too. The answer counts as
+long as all of it is the same. No program sets a ctime, so a change in place is seen also if it puts the mtime back. Merges
+have the same in OUT/merges: their records have the line of OUT/merges.txt, the program and the reports that they take; a
+refused merge has no report. The environment is that of job.sh. The verdict is OUT/verdict.txt, which Snakemake writes; a
+refused one is dropped too.
 """
 
 import os
+import shutil
+import subprocess
 import sys
-from collections.abc import Sequence
+from collections.abc import Mapping, Sequence
 from functools import cache, cached_property
 from hashlib import sha256
 from pathlib import Path
@@ -29,10 +32,26 @@ from rasters import NO_DATA, CannotCut, opened, raster_at
 Answered = Window | Merge
 
 
-def state(path: Path, kept_as: Path | None = None) -> str:
-    """What shows that a file is the same: its size, time and inode."""
+def state(path: Path) -> str:
+    """What shows that a file is the same: its size, times and inode."""
     found = path.stat()
-    return f"{found.st_size} {found.st_mtime_ns} {found.st_ino} {kept_as or path}"
+    return f"{found.st_size} {found.st_mtime_ns} {found.st_ctime_ns} {found.st_ino} {path}"
+
+
+def said(value: str, name: str) -> str:
+    """The same of what is no file."""
+    return f"- - - {'_'.join(value.split())} {name}"
+
+
+def program_states(program: str) -> list[str]:
+    """Those of the program's file and of its version."""
+    if not (found := shutil.which(program)):
+        raise CannotCut(f"{program}: no program")
+    path = os.path.abspath(found)
+    run = subprocess.run([path, "--version"], capture_output=True, text=True, check=False)
+    if run.returncode or not run.stdout:
+        raise CannotCut(f"{path} --version: status {run.returncode} {run.stderr}".rstrip())
+    return [state(Path(path)), said(run.stdout, f"{path} --version")]
 
 
 def changed(record: Sequence[str], now: Sequence[str]) -> str:
@@ -41,7 +60,7 @@ def changed(record: Sequence[str], now: Sequence[str]) -> str:
         return "its line of the plan"
     before, after = set(record), set(now)
     other = [line for line in now if line not in before] or [line for line in record if line not in after]
-    return other[0].split(" ", 3)[-1] if other else ""
+    return other[0].split(" ", 4)[-1] if other else ""
 
 
 def states(files: Sequence[Path]) -> list[str]:
@@ -49,18 +68,22 @@ def states(files: Sequence[Path]) -> list[str]:
     if len(files) <= 2:
         return [state(path) for path in files]
     parts = "\n".join(map(state, files[1:]))
-    return [state(files[0]), f"{len(files)} files {sha256(os.fsencode(parts)).hexdigest()} {files[0]}"]
+    return [state(files[0]), said(f"{len(files)} files {sha256(os.fsencode(parts)).hexdigest()}", str(files[0]))]
 
 
 class Answers:
-    """The answers to the windows of a plan, with the files as they are when this is made."""
+    """The answers to the windows of a plan, with the files as they are when this is made; by the environment of job.sh."""
 
-    def __init__(self, out: str, rasters: str, sinks: str) -> None:
-        self.out = Path(os.path.abspath(out))
-        shared = [opened(Path(os.path.abspath(rasters)), name).files for name in NO_DATA]
-        shared += [[Path(os.path.abspath(sinks))]] if sinks else []
+    def __init__(self, env: Mapping[str, str]) -> None:
+        self.out = Path(os.path.abspath(env["OUT"]))
+        shared = [opened(Path(os.path.abspath(env["RASTERS"])), name).files for name in NO_DATA]
+        lists = {name: os.path.abspath(env[name]) for name in ("SINKS", "WIDTHS") if env.get(name)}
+        shared += [[Path(path)] for path in lists.values()]
         self.shared = [path for files in shared for path in (files if len(files) <= 2 else files[:1])]
+        self.program = program_states(env["DRAIN"])
         self.states = [line for files in shared for line in states(files)]
+        said_of = {**lists, "SPACING": env.get("SPACING", "")}
+        self.states += [said(value, name) for name, value in said_of.items() if value]
         self.known: dict[str, str] = {}
         """What is at fault with answers to windows that were looked at."""
 
@@ -87,9 +110,9 @@ class Answers:
     def inputs(self, of: Answered) -> list[str]:
         """The record of an answer without its own files, as they are now."""
         if isinstance(of, Merge):
-            return [str(of), *map(state, self.taken(of))]
+            return [str(of), *map(state, self.taken(of)), *self.program]
         tiles = dem_states(of.dem) if of.dem else [state(Path(tile)) for tile in of.tiles]
-        return [str(of), *tiles, *self.states]
+        return [str(of), *tiles, *self.states, *self.program]
 
     def taken(self, merge: Merge) -> list[Path]:
         """The reports that a merge takes. In place of a group that has none it takes what this one would."""
@@ -146,12 +169,12 @@ class Answers:
         if name := changed(given, self.inputs(of)):
             sys.exit(f"{of.name}: {name} changed while the window was judged")
         has_report = isinstance(of, Window) or (work / "report").exists()
-        reports = [state(work / "report", report)] if has_report else []
-        write(work / "inputs", [*given, state(work / "line", line), *reports])
-        # The record comes last: without it an answer doesn't count.
-        for path, source in ((line, "line"), *([(report, "report")] if has_report else []), (record, "inputs")):
-            path.parent.mkdir(parents=True, exist_ok=True)
-            os.replace(work / source, path)
+        answer = [(report, "report"), (line, "line")] if has_report else [(line, "line")]
+        for path, source in answer:
+            put(work / source, path)
+        # A new name is a new ctime. The record comes last: without it an answer doesn't count.
+        write(work / "inputs", [*given, *(state(path) for path, _ in reversed(answer))])
+        put(work / "inputs", record)
 
     def tell_missing(self) -> None:
         """Names windows without an answer. It fails if one has an answer that doesn't count any longer."""
@@ -192,10 +215,15 @@ def write(path: Path, lines: Sequence[str]) -> None:
     path.write_bytes(os.fsencode("".join(f"{line}\n" for line in lines)))
 
 
+def put(source: Path, path: Path) -> None:
+    path.parent.mkdir(parents=True, exist_ok=True)
+    os.replace(source, path)
+
+
 def main(words: Sequence[str]) -> None:
     name = words[2] if len(words) > 2 else "answers.py"
     try:
-        answers = Answers(os.environ["OUT"], os.environ["RASTERS"], os.environ.get("SINKS", ""))
+        answers = Answers(os.environ)
         match words:
             case ["begin", work, *window]:
                 answers.begin(Window.of(window), Path(work))

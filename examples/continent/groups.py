@@ -13,13 +13,13 @@ from math import isqrt
 
 from places import Box, Window
 
-SEAM_CELL_BYTES, OUTLET_BYTES = 64, 16
+SEAM_CELL_BYTES, OUTLET_BYTES = 128, 32
 """What a merge holds for each cell of a seam of a window, and for each outlet (docs/SCALE.md)."""
 
 CELLS_OF_AN_OUTLET = 10_000
 """Outlets aren't known before windows are judged: a guess, rather too few cells than too many."""
 
-MERGE_BYTES = 300_000_000
+MERGE_BYTES = 600_000_000
 """The most that a merge should hold, where no group is given."""
 
 LEAST_GROUP, SEAM_DEPTH = 2, 2

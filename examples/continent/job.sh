@@ -8,8 +8,9 @@
 # job has folders of its own, so that no job takes the files of another.
 # Usage: job.sh NAME BOX INNER MOSAIC TILE..     a line of OUT/windows.txt; or with a DEM in place of tiles
 # In the environment: DRAIN, the program; SIDE, samples along an edge of a tile; RASTERS, the union's rasters (cut.py);
-# OUT; perhaps SINKS, the union's list; and CUTS, a folder for the cut rasters, such as a node's own disk (OUT/work).
-# A DEM needs no SIDE.
+# OUT; perhaps SINKS, the union's list; how far apart cells are, SPACING=W,H, or WIDTHS, a text with a line for each row of
+# the union, else cells are square; and CUTS, a folder for the cut rasters, such as a node's own disk (OUT/work). A DEM
+# needs no SIDE.
 set -u
 here=$(dirname "$0")
 case ${5:-.hgt} in
@@ -34,7 +35,8 @@ work=$(mktemp -d "$OUT/work/$name.XXXXXX") || exit 3
 
 mkdir -p "${CUTS:-$OUT/work}" || exit 3
 cuts=$(mktemp -d "${CUTS:-$OUT/work}/$name.cut.XXXXXX") || exit 3
-"$here/cut.py" ${SIDE:+--side "$SIDE"} ${SINKS:+--sinks "$SINKS"} "$RASTERS" "$cuts" "$@" || exit 3
+"$here/cut.py" ${SIDE:+--side "$SIDE"} ${SINKS:+--sinks "$SINKS"} ${WIDTHS:+--widths "$WIDTHS"} "$RASTERS" "$cuts" "$@" ||
+    exit 3
 
 judge() {
     # Where the mosaic begins in the union.
@@ -43,6 +45,8 @@ judge() {
     [ -z "$is_dem" ] || shift
     [ "$inner" = - ] || set -- --inner "$inner" "$@"
     [ -z "${SINKS:-}" ] || set -- --sinks "$cuts/sinks.txt" "$@"
+    [ -z "${SPACING:-}" ] || set -- --spacing "$SPACING" "$@"
+    [ -z "${WIDTHS:-}" ] || set -- --widths "$cuts/widths.txt" "$@"
     set -- --products "$cuts" --box "$box" --report "$work/report" "$@"
     if [ -n "$is_dem" ]; then
         set -- --dem "$cuts/dem.bil" --at "$at" "$@"

@@ -13,7 +13,7 @@ import signal
 import subprocess
 import sys
 import tempfile
-from collections.abc import Sequence
+from collections.abc import Mapping, Sequence
 from pathlib import Path
 
 sys.dont_write_bytecode = True
@@ -50,8 +50,17 @@ def join(answers: Answers, group: Merge) -> None:
         answers.keep(group, work)
 
 
+def distances(env: Mapping[str, str]) -> str:
+    """Over which distances slopes were compared."""
+    if widths := env.get("WIDTHS"):
+        return f"widths by row, {widths}"
+    return f"spacing {env['SPACING']}" if env.get("SPACING") else "square cells"
+
+
 def verdict(answers: Answers) -> int:
-    """Prints the verdict. If a report can't be read, it is made again next time."""
+    """Prints the verdict, and on standard error how far apart cells are. If a report can't be read, it is made again next
+    time."""
+    print(f"slopes: {distances(os.environ)}", file=sys.stderr)
     reports, sinks = answers.taken(answers.merges[UNION]), os.environ.get("SINKS", "")
     status, line = merged(*(["--sinks", sinks] if sinks else []), *reports)
     match line.split(" "):
@@ -65,7 +74,7 @@ def verdict(answers: Answers) -> int:
 
 
 def main(names: Sequence[str]) -> int:
-    answers = Answers(os.environ["OUT"], os.environ["RASTERS"], os.environ.get("SINKS", ""))
+    answers = Answers(os.environ)
     if not names:
         answers.tell_missing()
     for group in answers.groups:

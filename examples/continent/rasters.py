@@ -10,7 +10,7 @@ from typing import Literal, Protocol
 from places import Box
 
 NO_DATA = {"con": -32768, "dir": 255, "acc": 0, "bas": 0}
-MOST_HEADER_BYTES = 65_536
+MOST_HEADER_BYTES, PIXEL_LIMIT = 65_536, 2**32
 STRIP_BYTES, CACHE_BYTES = 4_000_000, 64_000_000
 """About how many bytes GDAL reads at once, and keeps."""
 
@@ -78,6 +78,14 @@ class Raster(Protocol):
         """The bytes of each row of a box that lies in it."""
 
 
+def whole(number: Decimal | float, path: Path) -> int:
+    """The no-data number of a raster."""
+    exact = Decimal(number)
+    if not exact.is_finite() or exact.copy_abs() >= PIXEL_LIMIT or exact != int(exact):
+        raise CannotCut(f"{path}: a NODATA that isn't whole, or has more than 32 bits: {number}")
+    return int(exact)
+
+
 class BilRaster:
     """A BIL file. A row is held at a time."""
 
@@ -96,8 +104,6 @@ class BilRaster:
             self.row_bytes = int(keys.get("TOTALROWBYTES", keys.get("BANDROWBYTES", str(cols * bits // 8))))
         except (KeyError, ValueError, InvalidOperation) as error:
             raise CannotCut(f"{path.with_suffix('.hdr')}: no header of a raster: {error}") from error
-        if number is not None and number != int(number):
-            raise CannotCut(f"{path}: a NODATA that isn't whole")
         if bits not in (8, 16, 32) or kind not in ("SIGNEDINT", "UNSIGNEDINT") or keys.get("NBANDS", "1") != "1":
             raise CannotCut(f"{path}: not one band of whole numbers of 8, 16 or 32 bits")
         self.form = Form(
@@ -106,7 +112,7 @@ class BilRaster:
             bits,
             kind == "SIGNEDINT",
             order,
-            None if number is None else int(number),
+            None if number is None else whole(number, path),
             west,
             north,
             width,
@@ -146,7 +152,11 @@ class GdalRaster:
             raise CannotCut(f"{path}: {self.source.RasterCount} bands of {kind}; one of whole numbers is needed")
         if not place or place[2] or place[4] or place[5] >= 0:
             raise CannotCut(f"{path}: it has no place on a map, with north above")
-        nodata = NO_DATA.get(name) if band.GetNoDataValue() is None else int(band.GetNoDataValue())
+        if band.GetScale() not in (None, 1) or band.GetOffset() not in (None, 0):
+            raise CannotCut(f"{path}: a scale or an offset; pixels are read as they are")
+        if band.GetMaskFlags() & gdal.GMF_PER_DATASET:
+            raise CannotCut(f"{path}: a mask; cells without data need a NODATA number")
+        nodata = NO_DATA.get(name) if band.GetNoDataValue() is None else whole(band.GetNoDataValue(), path)
         west, north = Decimal(place[0] + place[1] / 2), Decimal(place[3] + place[5] / 2)
         rows, cols = self.source.RasterYSize, self.source.RasterXSize
         order = "I" if sys.byteorder == "little" else "M"
