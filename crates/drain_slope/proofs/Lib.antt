@@ -5,3 +5,4 @@ pub mod Fractions
 pub mod Products
 pub mod Sums
 pub mod Squares
+pub mod Units

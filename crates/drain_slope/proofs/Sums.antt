@@ -1,6 +1,6 @@
 -- A sum from the greatest shift down: what was added so far, times a power, and the rest, which is less than a few of that power.
-use Rattle.std.proofs.Common.{◌≡◌, ℕ, zero, suc, ◌+◌, ◌-◌, ◌*◌, ◌^◌, ◌<◌, ◌≤◌, ◌==◌, ℤ, pos, negsuc, neg_ℤ, ◌+ℤ◌, ◌*ℤ◌, ◌<ℤ◌, ◌≤ℤ◌, ◌⊎◌, ◌↔◌, Bool, true, false, nat_lt, if◌then◌else◌, inl, inr, refl, sym, ◌∙◌, ap, subst, arith}
-use Rattle.std.proofs.Math.Nat.{mul-le-mul_right, mul-le-mul_left, two-pow-succ}
+use Rattle.std.proofs.Common.{◌≡◌, ℕ, suc, ◌+◌, ◌*◌, ◌^◌, ◌<◌, ◌≤◌, ◌==◌, ℤ, pos, neg_ℤ, ◌+ℤ◌, ◌*ℤ◌, ◌<ℤ◌, ◌≤ℤ◌, ◌⊎◌, ◌↔◌, Bool, true, false, nat_lt, if◌then◌else◌, inl, inr, refl, sym, ◌∙◌, ap, subst, arith}
+use Rattle.std.proofs.Math.Nat.{two-pow-succ}
 use Rattle.std.proofs.Math.Pow.{pow_mono}
 use Rattle.std.proofs.Math.IntN.{zero-*ℤ, +ℤ_idr, *ℤ_comm}
 use Rattle.std.proofs.lemmas.Bool.{cases_lt, cases_order}
@@ -10,7 +10,7 @@ use Rattle.std.proofs.lemmas.Nat.{pow_pos, mul-lt}
 use Rattle.drain_slope.proofs.Products.{associates, distributes, mul_high, mul_low, mul_above, mul_below}
 use Rattle.drain_slope.specs.declared.terms.Term.{Term}
 use Rattle.drain_slope.specs.declared.terms.Sum.{Sum}
-use Rattle.drain_slope.specs.Terms.{term_value, added, sum_value, IsWithin, AreWithin, AreBelow, AreFrom, number_at, level_of, value_below, rest_of}
+use Rattle.drain_slope.specs.Terms.{term_value, sum_value, IsWithin, AreWithin, AreBelow, AreFrom, number_at, level_of, value_below, rest_of}
 
 -- one shift more
 step_term : (s : ℕ) (t : Term) → value_below (suc s) t ≡ (number_at s t *ℤ pos (2 ^ s)) +ℤ value_below s t

@@ -1,5 +1,5 @@
 -- Slopes between heights of single precision, as products across.
-use Rattle.std.specs.Prelude.{ℕ, ◌*◌, ◌<◌, ◌^◌, ◌≤◌, ℤ, pos, neg_ℤ, ◌-ℤ◌, ◌*ℤ◌, ◌≤ℤ◌, ◌≡◌, ◌↔◌, Bool, IsTrue}
+use Rattle.std.specs.Prelude.{ℕ, ◌*◌, ◌<◌, ◌^◌, ℤ, pos, neg_ℤ, ◌-ℤ◌, ◌≤ℤ◌, ◌≡◌, ◌↔◌, Bool, IsTrue}
 use Rattle.drain_grid.specs.HeightKinds.{single_height}
 
 -- a number of a height
@@ -12,3 +12,8 @@ abbrev pub ComparesSlopes : ℤ → ℤ → ℤ → ℕ → ℕ → Bool → Typ
 ComparesSlopes here first second over other steeper =
     (x y : ℕ) → pos x ≡ single_height here -ℤ single_height first → pos y ≡ single_height here -ℤ single_height second →
     IsTrue steeper ↔ ((y * y) * over < (x * x) * other)
+
+-- the same of the drops from a height to two others
+abbrev pub ComparesDrops : ℤ → ℤ → ℤ → ℕ → ℕ → Bool → Type 0
+ComparesDrops here first second over other steeper =
+    (x y : ℕ) → pos x ≡ here -ℤ first → pos y ≡ here -ℤ second → IsTrue steeper ↔ ((y * y) * over < (x * x) * other)

@@ -1,6 +1,6 @@
 -- Sums of whole numbers times powers of two. That the sign of such a sum is found from the greatest powers down, in numbers of
 -- few bits, is this project's own.
-use Rattle.std.specs.Prelude.{ℕ, ◌<◌, ◌≤◌, ◌^◌, ◌==◌, nat_lt, ℤ, pos, ◌+ℤ◌, ◌*ℤ◌, ◌≤ℤ◌, neg_ℤ, if◌then◌else◌}
+use Rattle.std.specs.Prelude.{ℕ, ◌+◌, ◌<◌, ◌≤◌, ◌^◌, ◌==◌, nat_lt, ℤ, pos, ◌+ℤ◌, ◌*ℤ◌, ◌≤ℤ◌, neg_ℤ, if◌then◌else◌}
 use Rattle.drain_slope.specs.declared.terms.Term.{Term}
 use Rattle.drain_slope.specs.declared.terms.Sum.{Sum}
 
@@ -44,6 +44,12 @@ pub record AreFrom (bottom : ℕ) (s : Sum) : Type 0 where
   pub c : bottom ≤ s.c.shift
   pub d : bottom ≤ s.d.shift
   pub e : bottom ≤ s.e.shift
+
+-- a term's number has at most 24 bits, and its shift is at most 7 above this one
+pub record IsNear (unit : ℕ) (t : Term) : Type 0 where
+  pub few : IsWithin (2 ^ 24) t
+  pub from : unit ≤ t.shift
+  pub near : t.shift ≤ unit + 7
 
 -- the numbers of the terms of one shift
 abbrev pub number_at : ℕ → Term → ℤ

@@ -22,6 +22,7 @@ ghost use Rattle.drain_grid.specs.declared.height_kind.HeightKind.{HeightKind};
 ghost use Rattle.drain_slope.specs.Key.{IsFirstGreatest, IsLowerCon, con_below, drop_at, drop_of, key_at};
 
 pub mod fraction;
+mod in_unit;
 pub mod singles;
 pub mod terms;
 
@@ -184,7 +185,12 @@ fn leads_down(patch: &Patch, direction: Direction) -> bool
 }
 
 /// Whether the square of a drop times that of a distance is less than another such product.
-fn is_less(drop: u64, distance_square: u64, other_drop: u64, other_distance_square: u64) -> bool
+pub(crate) fn is_less(
+    drop: u64,
+    distance_square: u64,
+    other_drop: u64,
+    other_distance_square: u64,
+) -> bool
     requires drop { drop < 2 ^ 33 }
     requires other_drop { other_drop < 2 ^ 33 }
     requires distance { distance_square ≤ 2 ^ 61 }

@@ -1,10 +1,13 @@
 //! Which of two slopes down from a height is steeper, exactly, for heights of single precision.
+//!
+//! Most heights are of like size, and are compared in one unit. Any others are compared by the sign of a sum.
 
 ghost use Rattle.std.specs.Prelude.{◌≡◌, ◌≤◌, ◌<◌, ◌+◌, ◌*◌, ◌^◌, pos, neg_ℤ, ◌-ℤ◌, ◌*ℤ◌, ◌≤ℤ◌};
 ghost use Rattle.drain_grid.specs.HeightKinds.{digits_of, shift_of, single_height};
-ghost use Rattle.drain_slope.specs.Singles.{ComparesSlopes, IsNumber};
+ghost use Rattle.drain_slope.specs.Singles.{ComparesDrops, ComparesSlopes, IsNumber};
 ghost use Rattle.drain_slope.specs.Terms.{IsWithin, term_value};
 
+use crate::in_unit::is_steeper_in_unit;
 use crate::terms::{Sum, Term, is_above_0};
 
 /// The digits of the float at a place, counted from 0.
@@ -135,6 +138,27 @@ pub fn is_steeper(here: i64, first: i64, second: i64, over: u64, other_over: u64
     let h = height(here);
     let f = height(first);
     let s = height(second);
+    let lowest = h.shift.min(f.shift).min(s.shift);
+    let highest = h.shift.max(f.shift).max(s.shift);
+    if highest - lowest <= 7 {
+        is_steeper_in_unit(h, f, s, lowest, over, other_over)
+    } else {
+        is_steeper_by_terms(h, f, s, over, other_over)
+    }
+}
+
+/// The same for any heights, by a sum of five products.
+fn is_steeper_by_terms(h: Term, f: Term, s: Term, over: u64, other_over: u64) -> bool
+    requires h { IsWithin (2 ^ 24) h }
+    requires f { IsWithin (2 ^ 24) f }
+    requires s { IsWithin (2 ^ 24) s }
+    requires shift_h { h.shift ≤ 511 }
+    requires shift_f { f.shift ≤ 511 }
+    requires shift_s { s.shift ≤ 511 }
+    requires over { over ≤ 2 ^ 61 }
+    requires other { other_over ≤ 2 ^ 61 }
+    ensures { ComparesDrops (term_value h) (term_value f) (term_value s) over other_over result }
+{
     let sum = Sum {
         a: product(h, h, difference(other_over, over)),
         b: product(f, f, difference(other_over, 0)),

@@ -1,42 +1,23 @@
-use Rattle.std.proofs.Common.{◌≡◌, ℕ, ◌*◌, ◌<◌, ◌↔◌, Bool, IsTrue, ℤ, pos, neg_ℤ, ◌-ℤ◌, ◌*ℤ◌, ◌<ℤ◌, refl, sym, ◌∙◌, ap, subst, arith, to_z, of_z}
-use Rattle.std.specs.Int.{w64, w128}
-use Rattle.std.proofs.lemmas.Int.{ints, to_z-of_z}
-use Rattle.drain_slope.specs.declared.terms.Term.{Term}
+use Rattle.std.proofs.Common.{◌≡◌, ℤ, FitsSigned, ◌∙◌, ap, to_z, of_z}
+use Rattle.std.specs.Int.{w64}
+use Rattle.std.proofs.lemmas.Int.{to_z-of_z}
 use Rattle.drain_grid.specs.HeightKinds.{single_height}
-use Rattle.drain_slope.specs.Terms.{term_value, sum_value}
-use Rattle.drain_slope.proofs.Squares.{products_across, sum_decides}
+use Rattle.drain_slope.specs.Terms.{term_value}
+use Rattle.drain_slope.proofs.Units.{same_drops}
 use Rattle.drain_slope.proofs.singles.is_steeper.Goals as goal
 
--- the sign of the sum of five products decides
-decides : (steeper : Bool) (h f s a b c d e : Term) (da db dc dd de top left right : ℤ) (x y o v : ℕ) → term_value h ≡ top → term_value f ≡ left → term_value s ≡ right →
-    pos x ≡ top -ℤ left → pos y ≡ top -ℤ right →
-    da ≡ pos o -ℤ pos v → term_value a ≡ (term_value h *ℤ term_value h) *ℤ da →
-    db ≡ pos o -ℤ pos 0 → term_value b ≡ (term_value f *ℤ term_value f) *ℤ db →
-    dc ≡ pos 0 -ℤ pos v → term_value c ≡ (term_value s *ℤ term_value s) *ℤ dc →
-    dd ≡ neg_ℤ (pos (2 * o)) → term_value d ≡ (term_value h *ℤ term_value f) *ℤ dd →
-    de ≡ pos (2 * v) → term_value e ≡ (term_value h *ℤ term_value s) *ℤ de →
-    IsTrue steeper ↔ (pos 0 <ℤ sum_value (record { a = a; b = b; c = c; d = d; e = e })) → IsTrue steeper ↔ ((y * y) * v < (x * x) * o)
-decides steeper h f s a b c d e da db dc dd de top left right x y o v is_h is_f is_s is_x is_y is_da is_a is_db is_b is_dc is_c is_dd is_d is_de is_e test =
-    let across = products_across (term_value h) (term_value f) (term_value s) (pos x) (pos y) (term_value a) (term_value b) (term_value c) (term_value d) (term_value e)
-    da db dc o v (drop_by _ _ _ _ _ is_x is_h is_f) (drop_by _ _ _ _ _ is_y is_h is_s) is_da is_a is_db is_b is_dc is_c
-    (is_d ∙ ap (λ z. (term_value h *ℤ term_value f) *ℤ z) is_dd) (is_e ∙ ap (λ z. (term_value h *ℤ term_value s) *ℤ z) is_de) in
-    let sign = sum_decides (sum_value (record { a = a; b = b; c = c; d = d; e = e })) x y o v across in
-    ((λ h. sign.0 (test.0 h)), (λ h. test.1 (sign.1 h)))
-  where
-    drop_by : (x h f h' f' : ℤ) → x ≡ h -ℤ f → h' ≡ h → f' ≡ f → x ≡ h' -ℤ f'
-    drop_by x h f h' f' is is_h is_f = omega (arith, ints, is, is_h, is_f)
+-- the height of a number, as the number is passed on
+passed : (height number : ℤ) → FitsSigned w64 number → height ≡ single_height (to_z w64 (of_z w64 number)) → height ≡ single_height number
+passed height number fits is = is ∙ ap single_height (to_z-of_z w64 number fits)
 
-pub returns : goal.returns
-returns c = λ x y is_x is_y.
-    (let here : term_value c.height-h.result ≡ single_height c.args.here = c.height-h.ensures.value ∙ ap single_height (to_z-of_z w64 c.args.here c.ranges.here) in
-    let first : term_value c.height-f.result ≡ single_height c.args.first = c.height-f.ensures.value ∙ ap single_height (to_z-of_z w64 c.args.first c.ranges.first) in
-    let second : term_value c.height-s.result ≡ single_height c.args.second = c.height-s.ensures.value ∙ ap single_height (to_z-of_z w64 c.args.second c.ranges.second) in
-    let da : to_z w128 (of_z w128 c.difference.result) ≡ pos c.args.other_over -ℤ pos c.args.over = omega (arith, ints, c.difference.ensures) in
-    let db : to_z w128 (of_z w128 c.difference-2.result) ≡ pos c.args.other_over -ℤ pos 0 = omega (arith, ints, c.difference-2.ensures) in
-    let dc : to_z w128 (of_z w128 c.difference-3.result) ≡ pos 0 -ℤ pos c.args.over = omega (arith, ints, c.difference-3.ensures) in
-    let dd : to_z w128 (of_z w128 c.minus_twice.result) ≡ neg_ℤ (pos (2 * c.args.other_over)) = omega (arith, ints, c.minus_twice.ensures) in
-    let de : to_z w128 (of_z w128 c.twice.result) ≡ pos (2 * c.args.over) = omega (arith, ints, c.twice.ensures) in
-    decides c.is_above_0.result c.height-h.result c.height-f.result c.height-s.result c.product.result c.product-2.result c.product-3.result c.product-4.result
-    c.product-5.result _ _ _ _ _ (single_height c.args.here) (single_height c.args.first) (single_height c.args.second) x y c.args.other_over c.args.over
-    here first second is_x is_y da c.product.ensures.value db c.product-2.ensures.value dc c.product-3.ensures.value dd c.product-4.ensures.value
-    de c.product-5.ensures.value c.is_above_0.ensures)
+pub returns-then-highest-lowest-le7 : goal.returns-then-highest-lowest-le7
+returns-then-highest-lowest-le7 c =
+    same_drops (term_value c.height-h.result) (term_value c.height-f.result) (term_value c.height-s.result) _ _ _ c.args.over c.args.other_over c.is_steeper_in_unit.result
+    (passed _ c.args.here c.ranges.here c.height-h.ensures.value) (passed _ c.args.first c.ranges.first c.height-f.ensures.value)
+    (passed _ c.args.second c.ranges.second c.height-s.ensures.value) c.is_steeper_in_unit.ensures
+
+pub returns-else-highest-lowest-le7 : goal.returns-else-highest-lowest-le7
+returns-else-highest-lowest-le7 c =
+    same_drops (term_value c.height-h.result) (term_value c.height-f.result) (term_value c.height-s.result) _ _ _ c.args.over c.args.other_over c.is_steeper_by_terms.result
+    (passed _ c.args.here c.ranges.here c.height-h.ensures.value) (passed _ c.args.first c.ranges.first c.height-f.ensures.value)
+    (passed _ c.args.second c.ranges.second c.height-s.ensures.value) c.is_steeper_by_terms.ensures

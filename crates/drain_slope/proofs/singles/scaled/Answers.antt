@@ -1,5 +1,5 @@
-use Rattle.std.proofs.Common.{◌≡◌, ◌^◌, refl, arith}
-use Rattle.drain_slope.proofs.Products.{IsBounded, of_machine}
+use Rattle.std.proofs.Common.{◌^◌, refl, arith}
+use Rattle.drain_slope.proofs.Products.{of_machine}
 use Rattle.drain_slope.proofs.singles.scaled.Goals as goal
 
 pub returns-clause-value : goal.returns-clause-value
