@@ -12,6 +12,7 @@ use crate::is_less;
 use crate::terms::Term;
 
 /// The power of two of this exponent.
+#[inline(always)]
 fn power(exponent: u32) -> i64
     requires { exponent ≤ 7 }
     ensures value { result ≡ pos (2 ^ exponent) }
@@ -20,6 +21,7 @@ fn power(exponent: u32) -> i64
 }
 
 /// The number of a height, in 64 bits.
+#[inline(always)]
 fn number_of(height: Term) -> i64
     requires { IsWithin (2 ^ 24) height }
     ensures { result ≡ height.number }
@@ -28,6 +30,7 @@ fn number_of(height: Term) -> i64
 }
 
 /// The product of a number of at most 24 bits and a power of two of at most 7.
+#[inline(always)]
 fn scaled(number: i64, power: i64) -> i64
     requires low_number { neg_ℤ (pos (2 ^ 24)) ≤ℤ number }
     requires high_number { number ≤ℤ pos (2 ^ 24) }
@@ -41,7 +44,8 @@ fn scaled(number: i64, power: i64) -> i64
 }
 
 /// A height as a whole number of units, of which each is the power of two of this shift.
-fn in_unit(height: Term, unit: u32) -> i64
+#[inline(always)]
+pub fn in_unit(height: Term, unit: u32) -> i64
     requires { IsNear unit height }
     ensures value { term_value height ≡ result *ℤ pos (2 ^ unit) }
     ensures low { neg_ℤ (pos (2 ^ 31)) ≤ℤ result }

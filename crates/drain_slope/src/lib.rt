@@ -22,7 +22,7 @@ ghost use Rattle.drain_grid.specs.declared.height_kind.HeightKind.{HeightKind};
 ghost use Rattle.drain_slope.specs.Key.{IsFirstGreatest, IsLowerCon, con_below, drop_at, drop_of, key_at};
 
 pub mod fraction;
-mod in_unit;
+pub mod in_unit;
 pub mod singles;
 pub mod terms;
 

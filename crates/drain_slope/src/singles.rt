@@ -11,6 +11,7 @@ use crate::in_unit::is_steeper_in_unit;
 use crate::terms::{Sum, Term, is_above_0};
 
 /// The digits of the float at a place, counted from 0.
+#[inline(always)]
 fn digits(place: u64) -> u64
     ensures value { result ≡ digits_of place }
     ensures few { result < 2 ^ 24 }
@@ -23,6 +24,7 @@ fn digits(place: u64) -> u64
 }
 
 /// By how many bits they are shifted.
+#[inline(always)]
 fn shift(place: u64) -> u32
     requires { place ≤ 2 ^ 32 }
     ensures value { result ≡ shift_of place }
@@ -37,6 +39,7 @@ fn shift(place: u64) -> u32
 }
 
 /// The height of a number.
+#[inline(always)]
 pub fn height(number: i64) -> Term
     requires { IsNumber number }
     ensures value { term_value result ≡ single_height number }
