@@ -17,3 +17,4 @@ pub mod SeenNumbers
 pub mod OnGround
 pub mod Fallen
 pub mod ConAlone
+mod UnitWays

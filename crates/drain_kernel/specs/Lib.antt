@@ -7,6 +7,7 @@ pub mod Shown
 pub mod Around
 pub mod Images
 pub mod Tests
+pub mod Units
 pub mod Slopes
 pub mod Laws
 pub mod Falls

@@ -78,6 +78,10 @@ is_no_steeper_by_fraction s con e other d low = nat_le ((con - other) * (fractio
 abbrev pub falls_by_fractions : Slopes → ℕ → ℕ → List ℕ → Bool
 falls_by_fractions s con = falls_by (is_no_steeper_by_fraction s con) con
 
+-- the code leads down such a way, or along the flat
+abbrev pub goes_by_fractions : Slopes → ℕ → ℕ → List ℕ → Bool
+goes_by_fractions s con code cons = is_direction_code code && (falls_by_fractions s con code cons || steps_along con code cons)
+
 -- the key of the way in a direction from one number to another, of floats
 abbrev pub float_key : ℕ → Distances → ℕ → Direction → ℕ → ℤ
 float_key bias s con d low = slope_key (weight_of s d) (single_height (lowered bias con) -ℤ single_height (lowered bias low))

@@ -8,6 +8,7 @@ mod columns;
 mod con_alone;
 pub mod falls;
 mod height_lanes;
+mod in_unit;
 pub mod kept;
 mod lane_height;
 mod lane_row;

@@ -12,6 +12,7 @@ use crate::columns::{
     SumTest, SurfaceTest, WayTest, WaysTest,
 };
 use crate::con_alone::surfaces_pass;
+use crate::in_unit::directions_in_unit;
 use crate::lane_rows::LaneRows;
 use crate::near::FirstTest;
 use crate::ranked::{HasRankTest, RankedWaysTest, RanksTest};
@@ -53,13 +54,14 @@ fn keep_ways_by_fractions<H: FirstTest>(rows: &LaneRows<H>, from: usize, end: us
     passes_along(&SurfaceTest(&*rows), from, end) && passes_along(&FractionsTest(&*rows), from, end)
 }
 
-/// Whether these rules hold, of floats.
+/// Whether these rules hold, of floats: by heights in one unit, else each exactly.
 fn keep_ways_by_heights<H: FirstTest>(rows: &LaneRows<H>, from: usize, end: usize) -> bool
     requires stretch { IsStretch rows.now from end }
     requires floats { is_whole rows.now.slopes.spacing.kind ≡ false }
     ensures { IsTrue result → Along from end (KeepsWayAt rows.now) }
 {
-    passes_along(&SurfaceTest(&*rows), from, end) && passes_along(&HeightsTest(&*rows), from, end)
+    passes_along(&SurfaceTest(&*rows), from, end)
+        && (directions_in_unit(rows, from, end) || passes_along(&HeightsTest(&*rows), from, end))
 }
 
 /// Whether the rules of the conditioned elevation and of the direction, without ranks, hold: of square cells by the test

@@ -2,7 +2,7 @@
 
 ghost use Rattle.std.specs.Prelude.{◌≡◌, ◌&&◌, ◌==◌, Bool, false, true};
 ghost use Rattle.drain_kernel.specs.Eights.{eight};
-ghost use Rattle.drain_kernel.specs.Slopes.{AreSound, falls_by_fractions, falls_by_heights, falls_down, is_no_steeper_by_key, is_unit, is_whole, keeps_way_down};
+ghost use Rattle.drain_kernel.specs.Slopes.{AreSound, falls_by_fractions, falls_by_heights, falls_down, goes_by_fractions, is_no_steeper_by_key, is_unit, is_whole, keeps_way_down};
 
 use crate::around::{
     Eight, is_along_col, is_along_row, is_direction, is_straight, least_across, least_along_col,
@@ -149,6 +149,20 @@ pub(crate) fn falls_down<H: LaneHeight>(slopes: &Slopes, con: H, code: u16, cons
     }
 }
 
+/// Whether the code leads down the steepest way by the fractions, or along the flat.
+#[inline(always)]
+pub(crate) fn goes_by_fractions<H: LaneHeight>(
+    slopes: &Slopes,
+    con: H,
+    code: u16,
+    cons: Eight<H>,
+) -> bool
+    ensures { result ≡ goes_by_fractions slopes.now (H.number con) code (eight H.number cons) }
+{
+    let goes = falls_by_fractions(slopes, con, code, cons) | steps_along(con, code, cons);
+    is_direction(code) & goes
+}
+
 /// The rules of the direction, without ranks, at a cell where all have data; of whole heights of cells that aren't square.
 #[inline(always)]
 pub(crate) fn keeps_by_fractions<H: LaneHeight>(
@@ -161,8 +175,7 @@ pub(crate) fn keeps_by_fractions<H: LaneHeight>(
     requires whole { is_whole slopes.now.spacing.kind ≡ true }
     ensures { result ≡ keeps_way_down H.bias slopes.now (H.number con) code (eight H.number cons) }
 {
-    let goes = falls_by_fractions(slopes, con, code, cons) | steps_along(con, code, cons);
-    is_direction(code) & goes
+    goes_by_fractions(slopes, con, code, cons)
 }
 
 /// The same of floats.
