@@ -1,15 +1,16 @@
 //! The text of a header: one line for each keyword, always in the same order.
 
-ghost use Rattle.std.specs.Prelude.{◌≡◌, ◌++◌, List, ℕ, IfOk, IfSome, OnOk, decimal};
+ghost use Rattle.std.specs.Prelude.{◌≡◌, ◌≤◌, ◌<◌, ◌+◌, ◌*◌, ◌/◌, ◌%◌, ◌^◌, ◌++◌, List, ℕ, IfOk, IfSome, OnOk, decimal};
 ghost use Rattle.std.specs.Int.{is_negative};
 ghost use Rattle.std.specs.Fmt.{sign_text};
 ghost use Rattle.drain_floats.specs.Patterns.{IsFloatNumber};
+ghost use Rattle.drain_header.specs.Header.{IsCoordinate};
 ghost use Rattle.drain_header.specs.Text.{IsTextOf, shape_lines, pixel_lines, place_lines, line, nodata_line, IsFloatLine, fraction_text, places_text, ordering_text, signedness_text, type_text};
 
 use crate::header::{ByteOrdering, Header, Place};
 use crate::key::Key;
 use drain_floats::word_of;
-use drain_grid::{HeightKind, OutOfMemory, UNITS_PER_DEGREE};
+use drain_grid::{HeightKind, OutOfMemory};
 use itoa::Buffer;
 use std::alloc::Global;
 
@@ -60,6 +61,10 @@ fn push_pixels(text: &mut Vec<u8>, header: &Header) -> Result<(), OutOfMemory>
 
 /// Appends the lines of the place.
 fn push_place(text: &mut Vec<u8>, place: &Place) -> Result<(), OutOfMemory>
+    requires ulx { IsCoordinate place.now.ulx }
+    requires uly { IsCoordinate place.now.uly }
+    requires xdim { IsCoordinate place.now.xdim }
+    requires ydim { IsCoordinate place.now.ydim }
     ensures { OnOk result (text.new.items ≡ text.old.items ++ place_lines place.now) }
 {
     push_degrees(text, Key::Ulxmap, place.ulx)?;
@@ -134,29 +139,70 @@ fn push_float(text: &mut Vec<u8>, nodata: Option<i64>) -> Result<(), OutOfMemory
     push_line(text, Key::Nodata, word_of(number, &mut digits))
 }
 
+/// 5^15: times 2^15 it is the units of a degree.
+const FIFTHS: u64 = 30517578125;
+
+/// Whole degrees, and units of 10^-15 degree.
+#[derive(Clone, Copy)]
+struct Degrees {
+    whole: u64,
+    rest: u64,
+}
+
+/// A number by 5^15: the quotient, and what is left.
+fn by_fifths(number: u128) -> Degrees
+    requires { number < 2 ^ 69 }
+    ensures sum { number ≡ result.whole * 30517578125 + result.rest }
+    ensures less { result.rest < 30517578125 }
+    ensures few { result.whole < 2 ^ 35 }
+{
+    let high = (number >> 6) as u64;
+    let low = (number & 63) as u64;
+    let step = (high % FIFTHS) * 64 + low;
+    Degrees {
+        whole: (high / FIFTHS) * 64 + step / FIFTHS,
+        rest: step % FIFTHS,
+    }
+}
+
+/// A magnitude in units of 10^-15 degree, by divisions of 64 bits: those of 128 bits call functions that the C library
+/// doesn't have.
+fn in_degrees(magnitude: u128) -> Degrees
+    requires { magnitude ≤ 10000000000000000000000000 }
+    ensures whole { result.whole ≡ magnitude / 1000000000000000 }
+    ensures rest { result.rest ≡ magnitude % 1000000000000000 }
+{
+    let fifths = by_fifths(magnitude >> 15);
+    Degrees {
+        whole: fifths.whole,
+        rest: fifths.rest * 32768 + (magnitude & 32767) as u64,
+    }
+}
+
 /// Appends the line of a keyword whose value is in units of 10^-15 degree.
 fn push_degrees(text: &mut Vec<u8>, key: Key, units: i128) -> Result<(), OutOfMemory>
+    requires { IsCoordinate units }
     ensures { OnOk result (text.new.items ≡ text.old.items ++ line key (places_text units)) }
 {
-    let magnitude = units.unsigned_abs();
+    let degrees = in_degrees(units.unsigned_abs());
     let mut digits = Buffer::new();
     push(text, key.name().as_bytes())?;
     push(text, b" ")?;
     push(text, sign(units).as_bytes())?;
-    push(text, digits.format(magnitude / UNITS_PER_DEGREE).as_bytes())?;
+    push(text, digits.format(degrees.whole).as_bytes())?;
     push(text, b".")?;
-    push_fraction(text, magnitude)?;
+    push_fraction(text, degrees.rest)?;
     push(text, b"\n")
 }
 
-/// Appends the 15 digits after the point of a magnitude in units of 10^-15 degree.
-fn push_fraction(text: &mut Vec<u8>, magnitude: u128) -> Result<(), OutOfMemory>
-    ensures { OnOk result (text.new.items ≡ text.old.items ++ fraction_text magnitude) }
+/// Appends the 15 digits after the point of a magnitude of which these units are left.
+fn push_fraction(text: &mut Vec<u8>, rest: u64) -> Result<(), OutOfMemory>
+    requires { rest < 1000000000000000 }
+    ensures { OnOk result ((magnitude : ℕ) → rest ≡ magnitude % 1000000000000000 → text.new.items ≡ text.old.items ++ fraction_text magnitude) }
 {
-    let fraction = (magnitude % UNITS_PER_DEGREE) as u64;
     let mut digits = Buffer::new();
     // A leading one keeps the zeros after it; it is dropped.
-    let led = digits.format(UNITS_PER_DEGREE as u64 + fraction);
+    let led = digits.format(1_000_000_000_000_000 + rest);
     push(text, &led.as_bytes()[1..])
 }
 

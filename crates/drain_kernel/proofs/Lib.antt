@@ -18,3 +18,5 @@ pub mod OnGround
 pub mod Fallen
 pub mod ConAlone
 mod UnitWays
+mod Blocks
+mod Made

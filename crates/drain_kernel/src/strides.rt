@@ -12,7 +12,7 @@ use crate::columns::{
     SumTest, SurfaceTest, WayTest, WaysTest,
 };
 use crate::con_alone::surfaces_pass;
-use crate::in_unit::directions_in_unit;
+use crate::in_unit::directions_by_fractions;
 use crate::lane_rows::LaneRows;
 use crate::near::FirstTest;
 use crate::ranked::{HasRankTest, RankedWaysTest, RanksTest};
@@ -61,7 +61,8 @@ fn keep_ways_by_heights<H: FirstTest>(rows: &LaneRows<H>, from: usize, end: usiz
     ensures { IsTrue result → Along from end (KeepsWayAt rows.now) }
 {
     passes_along(&SurfaceTest(&*rows), from, end)
-        && (directions_in_unit(rows, from, end) || passes_along(&HeightsTest(&*rows), from, end))
+        && (directions_by_fractions(rows, from, end)
+            || passes_along(&HeightsTest(&*rows), from, end))
 }
 
 /// Whether the rules of the conditioned elevation and of the direction, without ranks, hold: of square cells by the test

@@ -12,7 +12,7 @@ use crate::terms::{Sum, Term, is_above_0};
 
 /// The digits of the float at a place, counted from 0.
 #[inline(always)]
-fn digits(place: u64) -> u64
+pub fn digits(place: u64) -> u64
     ensures value { result ≡ digits_of place }
     ensures few { result < 2 ^ 24 }
 {
@@ -25,7 +25,7 @@ fn digits(place: u64) -> u64
 
 /// By how many bits they are shifted.
 #[inline(always)]
-fn shift(place: u64) -> u32
+pub fn shift(place: u64) -> u32
     requires { place ≤ 2 ^ 32 }
     ensures value { result ≡ shift_of place }
     ensures few { result ≤ 511 }
