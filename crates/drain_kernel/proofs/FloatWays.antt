@@ -1,6 +1,7 @@
 -- What the test of floats gives: no way of another class has a greater key, so no way has.
-use Rattle.std.proofs.Common.{◌≡◌, ℕ, ◌*◌, ◌≤◌, ◌<◌, ℤ, pos, negsuc, ◌-ℤ◌, ◌≤ℤ◌, ◌<ℤ◌, int_lt, Bool, true, false, not, ◌||◌, ◌&&◌, nat_le, nat_lt, map, inl, inr, refl, sym, ap, subst, arith}
+use Rattle.std.proofs.Common.{◌≡◌, ℕ, ◌*◌, ◌≤◌, ◌<◌, ℤ, pos, negsuc, ◌-ℤ◌, ◌≤ℤ◌, ◌<ℤ◌, int_lt, Bool, true, false, not, ◌||◌, ◌&&◌, nat_le, nat_lt, map, FitsSigned, inl, inr, refl, sym, ap, subst, arith}
 use Rattle.std.proofs.Math.Nat.{mul-le-mul_left}
+use Rattle.std.specs.Int.{w64}
 use Rattle.std.proofs.lemmas.Bool.{false≢true, and_parts, or_cases}
 use Rattle.std.proofs.lemmas.Bool.Decides.{Decides-ltb}
 use Rattle.std.proofs.lemmas.Int.{ints}
@@ -15,12 +16,16 @@ use Rattle.drain_grid.specs.Spacing.{Distances, IsSpacing, distance_square, weig
 use Rattle.drain_grid.proofs.Decisions.{at_most_there, less_complete, less_sound}
 use Rattle.drain_grid.proofs.Distances.{steeper_across}
 use Rattle.drain_grid.proofs.SingleHeights.{numbers_order}
-use Rattle.drain_slope.specs.Singles.{ComparesSlopes}
+use Rattle.drain_slope.specs.Singles.{ComparesSlopes, IsNumber}
 use Rattle.drain_kernel.specs.Shown.{lowered}
 use Rattle.drain_kernel.specs.Slopes.{falls_by_heights, float_key, is_no_steeper_by_key}
 use Rattle.drain_kernel.proofs.ClassWays.{ComparesWays, steepest_by}
 use Rattle.drain_kernel.proofs.Inland.{le_from}
 use Rattle.drain_kernel.proofs.Keys.{same_tests}
+
+-- a number of a height fits 64 bits
+pub fits : (z : ℤ) → IsNumber z → FitsSigned w64 z
+fits z number = let low = number.low in let high = number.high in omega (arith, ints, low, high)
 
 -- the height of a lane's number
 abbrev pub float_at : ℕ → ℕ → ℤ

@@ -1,5 +1,5 @@
 -- What the test by fractions gives of heights in one unit: of the floats that they stand for, no way of another class is steeper.
-use Rattle.std.proofs.Common.{◌≡◌, ℕ, ◌+◌, ◌-◌, ◌*◌, ◌^◌, ◌≤◌, ◌<◌, ℤ, pos, ◌-ℤ◌, ◌+ℤ◌, ◌*ℤ◌, ◌≤ℤ◌, ◌<ℤ◌, int_lt, Bool, true, false, not, ◌||◌, ◌&&◌, ◌==◌, nat_le, nat_lt, min, List, length, slice_index, slice_set, ◌≢◌, FitsSigned, inl, inr, sym, ◌∙◌, ap, subst, arith, if◌then◌else◌}
+use Rattle.std.proofs.Common.{◌≡◌, ℕ, ◌+◌, ◌-◌, ◌*◌, ◌^◌, ◌≤◌, ◌<◌, ℤ, pos, ◌-ℤ◌, ◌+ℤ◌, ◌*ℤ◌, ◌≤ℤ◌, ◌<ℤ◌, int_lt, Bool, true, false, not, ◌||◌, ◌&&◌, ◌==◌, nat_le, nat_lt, min, List, length, slice_index, slice_set, ◌≢◌, inl, inr, sym, ◌∙◌, ap, subst, arith, if◌then◌else◌}
 use Rattle.std.proofs.Math.Nat.{mul-le-mul_right, mul-lt-mul_of_pos_right}
 use Rattle.std.proofs.lemmas.Bool.{false≢true, false_from_ne_true, and_from, and_parts, cases_lt, le-leb, not_from_false, or_cases, or_left, or_right}
 use Rattle.std.proofs.lemmas.Bool.Decides.{Decides-eqb, Decides-ltb}
@@ -16,8 +16,6 @@ use Rattle.drain_grid.specs.Spacing.{distance_square, weight_of}
 use Rattle.drain_grid.proofs.Decisions.{less_sound}
 use Rattle.drain_grid.proofs.SingleHeights.{numbers_order}
 use Rattle.drain_slope.specs.Fractions.{IsBelow}
-use Rattle.drain_slope.specs.Singles.{IsNumber}
-use Rattle.std.specs.Int.{w64}
 use Rattle.drain_slope.proofs.Fractions.{by_fraction_below}
 use Rattle.drain_slope.proofs.Products.{distributes}
 use Rattle.drain_kernel.specs.declared.slopes.Slopes.{Slopes}
@@ -296,10 +294,6 @@ kept_in_unit bias unit rows from count k above here below one sound floats left 
 
     inside_right : (from count k : ℕ) → from + 1 ≤ k → k + 1 < from + count → (k - from) + 1 < count
     inside_right from count k left right = omega (arith, left, right)
-
--- a number of a height fits 64 bits
-pub fits : (z : ℤ) → IsNumber z → FitsSigned w64 z
-fits z number = let low = number.low in let high = number.high in omega (arith, ints, low, high)
 
 -- one lane more of a row
 pub one_more : (unit bias : ℕ) (row : List ℕ) (from k : ℕ) (lanes : List ℕ) (lane : ℕ) → from ≤ k → k - from < length lanes →

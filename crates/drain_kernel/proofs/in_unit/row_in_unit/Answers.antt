@@ -4,7 +4,8 @@ use Rattle.std.proofs.lemmas.Int.{to_z-of_z}
 use Rattle.std.proofs.lemmas.List.{length-set}
 use Rattle.drain_kernel.specs.Shown.{lowered}
 use Rattle.drain_kernel.specs.Units.{IsInUnit, made_offset}
-use Rattle.drain_kernel.proofs.UnitWays.{fits, one_more}
+use Rattle.drain_kernel.proofs.FloatWays.{fits}
+use Rattle.drain_kernel.proofs.UnitWays.{one_more}
 use Rattle.drain_kernel.proofs.in_unit.row_in_unit.Goals as goal
 
 inside : (from end k room : ℕ) → end - from ≤ 66 → from ≤ k → k < end → room ≡ 66 → k - from < room

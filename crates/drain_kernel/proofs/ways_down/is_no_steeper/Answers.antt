@@ -1,12 +1,8 @@
-use Rattle.std.proofs.Common.{ℤ, ◌∙◌, sym, arith, FitsSigned}
+use Rattle.std.proofs.Common.{◌∙◌, sym}
 use Rattle.std.specs.Int.{w64}
-use Rattle.std.proofs.lemmas.Int.{ints, to_z-of_z}
-use Rattle.drain_slope.specs.Singles.{IsNumber}
-use Rattle.drain_kernel.proofs.FloatWays.{test_by_products}
+use Rattle.std.proofs.lemmas.Int.{to_z-of_z}
+use Rattle.drain_kernel.proofs.FloatWays.{fits, test_by_products}
 use Rattle.drain_kernel.proofs.ways_down.is_no_steeper.Goals as goal
-
-fits : (z : ℤ) → IsNumber z → FitsSigned w64 z
-fits z number = let low = number.low in let high = number.high in omega (arith, ints, low, high)
 
 pub returns : goal.returns
 returns g c =
