@@ -1,5 +1,5 @@
 -- What the status of a check or of an audit says of its answer.
-use Rattle.std.proofs.Common.{ℕ, List, Result, Ok, Err, refl, ◌≡◌, ◌↔◌, IfOk, IfSome, IsSome, arith}
+use Rattle.std.proofs.Common.{ℕ, List, Result, Ok, Err, refl, subst, ◌≡◌, ◌↔◌, IfOk, IfSome, IsSome, arith}
 use Rattle.drain_device.specs.Failing.{Source}
 use Rattle.drain_cli.specs.ExplainRuns.{AreFound}
 use Rattle.drain_explain.specs.Explanations.{AreFindingsIn, IsEndlessIn, answer_in, findings_in}
@@ -8,6 +8,7 @@ use Rattle.drain_explain.specs.declared.fault_visitor.Mapping.{Mapping}
 use Rattle.drain_explain.specs.declared.fault_visitor.Mapping.TheVariants.{Drawn}
 use Rattle.drain_explain.specs.declared.findings.Explanation.{Explanation}
 use Rattle.drain_hgt.specs.declared.input.TileInput.{TileInput}
+use Rattle.drain_hgt.specs.Inputs.{TilesTakeAtMost}
 use Rattle.drain_answer.specs.declared.outcome.Outcome.{Outcome}
 use Rattle.drain_grid.specs.declared.judged.Judged.{Judged}
 use Rattle.drain_verdict.specs.Outcomes.{IsOutcomeAnswer, IsOutcomeIn}
@@ -16,9 +17,8 @@ use Rattle.drain_verdict.specs.declared.next_rows.RasterInput.{RasterInput}
 use Rattle.drain_answer.specs.declared.refusal.Refusal.{Refusal}
 use Rattle.drain_verdict.specs.Given.{Given}
 use Rattle.drain_verdict.specs.Inputs.{Inputs, Encode, Products}
-use Rattle.drain_verdict.specs.Uses.{UsesInputs}
-use Rattle.drain_verdict.proofs.AuditDevices.{failed_alike}
-use Rattle.drain_verdict.proofs.InputLemmas.{set_uses_alike, uses_alike}
+use Rattle.drain_verdict.specs.Reading.{told_by}
+use Rattle.drain_verdict.specs.Uses.{AreNamesKept, UsesInputs, UsesTold}
 use Rattle.drain_cli.specs.JudgedRuns.{IsDemJudgement, IsJudgement, answer_status, outcome_status}
 use Rattle.drain_grid.specs.declared.verdict.Verdict.{Verdict}
 use Rattle.drain_rules.specs.Verdicts.{IfAccepted}
@@ -36,13 +36,10 @@ use Rattle.drain_answer.specs.declared.outcome.Outcome.TheVariants as outcome
 
 -- From an explanation to the outcome of a check or of an audit.
 
--- the answer uses the inputs as the explanation does
-uses_as_told : {F R P : Type 0} (inputs_of : P → Products R) (devices : List (TileInput R) → P → List R) (source : Source R) (side : ℕ) (old new : List (TileInput R) × P) (explained : Result (Explanation F) Refusal) →
-    UsesInputs inputs_of devices source.bytes_left source.counts side old new explained → UsesInputs inputs_of devices source.bytes_left source.counts side old new (answer_in explained)
-uses_as_told inputs_of devices source side old new (Ok e) uses = uses_alike inputs_of devices source.bytes_left source.counts side side old new (Ok e) _ refl ((λ fails. cc), (λ fails. cc)) tt uses
-uses_as_told {F} inputs_of devices source side old new (Err refusal) uses =
-    let explained : Result (Explanation F) Refusal = Err refusal in
-    uses_alike inputs_of devices source.bytes_left source.counts side side old new explained _ refl (failed_alike refusal) uses.untouched uses
+-- the answer has the explanation's refusal
+same_told : {F : Type 0} (explained : Result (Explanation F) Refusal) → told_by explained ≡ told_by (answer_in explained)
+same_told (Ok e) = refl
+same_told (Err refusal) = refl
 
 -- the outcome that is explained, or the refusal, is that for the judged rasters
 pub explained_outcome : {F R P : Type 0} (inputs_of : P → Products R) (devices : List (TileInput R) → P → List R) (judged : Judged) (source : Source R) (side : ℕ) (tiles_old tiles_new : List (TileInput R)) (given : Given) (ps_old ps_new : P) (explained : Result (Explanation F) Refusal) →
@@ -51,25 +48,17 @@ pub explained_outcome : {F R P : Type 0} (inputs_of : P → Products R) (devices
     IsJudgement inputs_of devices (IsOutcomeAnswer judged) source side tiles_old tiles_new given ps_old ps_new (answer_in explained)
 explained_outcome inputs_of devices judged source side tiles_old tiles_new given ps_old ps_new explained answer uses = record {
   answer = answer;
-  uses = uses_as_told inputs_of devices source side (tiles_old, ps_old) (tiles_new, ps_new) explained uses;
+  uses = subst (UsesTold inputs_of devices (TilesTakeAtMost source.bytes_left side) AreNamesKept source.bytes_left source.counts (tiles_old, ps_old) (tiles_new, ps_new)) (same_told explained) uses;
 }
 
 -- the same on a raster of elevations
-dem_uses_as_told : {F R P : Type 0} (inputs_of : P → Products R) (devices : List (RasterInput R) → P → List R) (source : Source R) (old new : List (RasterInput R) × P) (explained : Result (Explanation F) Refusal) →
-    DemUses inputs_of devices source.bytes_left source.counts old new explained → DemUses inputs_of devices source.bytes_left source.counts old new (answer_in explained)
-dem_uses_as_told inputs_of devices source old new (Ok e) uses =
-    set_uses_alike inputs_of devices (DemTakesAtMost source.bytes_left) AreHeadersKept source.bytes_left source.counts old new (Ok e) _ ((λ fails. cc), (λ fails. cc)) tt uses
-dem_uses_as_told {F} inputs_of devices source old new (Err refusal) uses =
-    let explained : Result (Explanation F) Refusal = Err refusal in
-    set_uses_alike inputs_of devices (DemTakesAtMost source.bytes_left) AreHeadersKept source.bytes_left source.counts old new explained _ (failed_alike refusal) uses.untouched uses
-
 pub explained_on_dem : {F R P : Type 0} (inputs_of : P → Products R) (devices : List (RasterInput R) → P → List R) (judged : Judged) (source : Source R) (dem_old dem_new : List (RasterInput R)) (given : Given) (ps_old ps_new : P) (explained : Result (Explanation F) Refusal) →
     ForDem source.bytes_left dem_old given (inputs_of ps_old) (λ s. IsOutcomeIn judged s (answer_in explained)) →
     DemUses inputs_of devices source.bytes_left source.counts (dem_old, ps_old) (dem_new, ps_new) explained →
     IsDemJudgement inputs_of devices (IsOutcomeIn judged) source dem_old dem_new given ps_old ps_new (answer_in explained)
 explained_on_dem inputs_of devices judged source dem_old dem_new given ps_old ps_new explained answer uses = record {
   answer = answer;
-  uses = dem_uses_as_told inputs_of devices source (dem_old, ps_old) (dem_new, ps_new) explained uses;
+  uses = subst (UsesTold inputs_of devices (DemTakesAtMost source.bytes_left) AreHeadersKept source.bytes_left source.counts (dem_old, ps_old) (dem_new, ps_new)) (same_told explained) uses;
 }
 
 -- what every cell showed is found for the answer that is explained

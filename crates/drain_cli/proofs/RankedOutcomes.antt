@@ -1,5 +1,5 @@
 -- The outcome with the verdict of a check: it answers the inputs and uses them as the verdict does.
-use Rattle.std.proofs.Common.{◌≡◌, ℕ, List, Result, Ok, Err, refl}
+use Rattle.std.proofs.Common.{◌≡◌, ℕ, List, Result, Ok, Err, refl, subst}
 use Rattle.drain_answer.specs.declared.refusal.Refusal.{Refusal}
 use Rattle.drain_cli.specs.JsonRuns.{ranked_outcome}
 use Rattle.drain_cli.specs.JudgedRuns.{IsDemJudgement, IsJudgement, answer_status, outcome_status}
@@ -9,6 +9,7 @@ use Rattle.drain_grid.specs.declared.judged.Judged.TheVariants.{AllWithRanks}
 use Rattle.drain_grid.specs.declared.verdict.Verdict.{Verdict}
 use Rattle.drain_grid.specs.declared.verdict.Verdict.TheVariants as check
 use Rattle.drain_hgt.specs.declared.input.TileInput.{TileInput}
+use Rattle.drain_hgt.specs.Inputs.{TilesTakeAtMost}
 use Rattle.drain_verdict.specs.Answers.{IsAnswer, IsAnswerIn}
 use Rattle.drain_verdict.specs.DemGround.{AreHeadersKept, DemTakesAtMost, DemUses, ForDem, dem_check_devices, dem_ground}
 use Rattle.drain_verdict.specs.Given.{Given}
@@ -16,10 +17,9 @@ use Rattle.drain_verdict.specs.GroundSets.{GroundSet}
 use Rattle.drain_verdict.specs.Inputs.{Encode, Inputs, Products}
 use Rattle.drain_verdict.specs.Outcomes.{IsOutcomeAnswer, IsOutcomeIn}
 use Rattle.drain_verdict.specs.TileGround.{set_of}
-use Rattle.drain_verdict.specs.Uses.{UsesInputs, devices_of}
+use Rattle.drain_verdict.specs.Reading.{told_by}
+use Rattle.drain_verdict.specs.Uses.{AreNamesKept, UsesInputs, UsesTold, devices_of}
 use Rattle.drain_verdict.specs.declared.next_rows.RasterInput.{RasterInput}
-use Rattle.drain_verdict.proofs.AuditDevices.{failed_alike}
-use Rattle.drain_verdict.proofs.InputLemmas.{set_uses_alike, uses_alike}
 
 -- and it has its status
 pub ranked_status : (answer : Result Verdict Refusal) → outcome_status (ranked_outcome answer) ≡ answer_status (Check answer)
@@ -32,42 +32,28 @@ ranked_answer s (Ok (check.Accepted counts)) is = is
 ranked_answer s (Ok (check.Rejected rule row col)) is = is
 ranked_answer s (Err refusal) is = is
 
--- on tiles
-uses_as_ranked : {R : Type 0} (source : Source R) (side : ℕ) (old new : List (TileInput R) × Products R) (answer : Result Verdict Refusal) →
-    UsesInputs (λ ps. ps) devices_of source.bytes_left source.counts side old new answer → UsesInputs (λ ps. ps) devices_of source.bytes_left source.counts side old new (ranked_outcome answer)
-uses_as_ranked source side old new (Ok (check.Accepted counts)) uses =
-    uses_alike (λ ps. ps) devices_of source.bytes_left source.counts side side old new (Ok (check.Accepted counts)) _ refl ((λ fails. cc), (λ fails. cc)) tt uses
-uses_as_ranked source side old new (Ok (check.Rejected rule row col)) uses =
-    uses_alike (λ ps. ps) devices_of source.bytes_left source.counts side side old new (Ok (check.Rejected rule row col)) _ refl ((λ fails. cc), (λ fails. cc)) tt uses
-uses_as_ranked source side old new (Err refusal) uses =
-    let answer : Result Verdict Refusal = Err refusal in
-    uses_alike (λ ps. ps) devices_of source.bytes_left source.counts side side old new answer _ refl (failed_alike refusal) uses.untouched uses
+-- and the same refusal
+same_told : (answer : Result Verdict Refusal) → told_by answer ≡ told_by (ranked_outcome answer)
+same_told (Ok (check.Accepted counts)) = refl
+same_told (Ok (check.Rejected rule row col)) = refl
+same_told (Err refusal) = refl
 
+-- on tiles
 pub ranked_judgement : {R : Type 0} (source : Source R) (side : ℕ) (tiles_old tiles_new : List (TileInput R)) (given : Given) (ps_old ps_new : Products R) (answer : Result Verdict Refusal) →
     ((i : Inputs) → Encode source.bytes_left side tiles_old given ps_old i → IsAnswer i answer) →
     UsesInputs (λ ps. ps) devices_of source.bytes_left source.counts side (tiles_old, ps_old) (tiles_new, ps_new) answer →
     IsJudgement (λ ps. ps) devices_of (IsOutcomeAnswer AllWithRanks) source side tiles_old tiles_new given ps_old ps_new (ranked_outcome answer)
 ranked_judgement source side tiles_old tiles_new given ps_old ps_new answer is uses = record {
   answer = λ i encoded. ranked_answer (set_of i) answer (is i encoded);
-  uses = uses_as_ranked source side (tiles_old, ps_old) (tiles_new, ps_new) answer uses;
+  uses = subst (UsesTold (λ ps. ps) devices_of (TilesTakeAtMost source.bytes_left side) AreNamesKept source.bytes_left source.counts (tiles_old, ps_old) (tiles_new, ps_new)) (same_told answer) uses;
 }
 
 -- on one raster of elevations
-dem_uses_as_ranked : {R : Type 0} (source : Source R) (old new : List (RasterInput R) × Products R) (answer : Result Verdict Refusal) →
-    DemUses (λ ps. ps) dem_check_devices source.bytes_left source.counts old new answer → DemUses (λ ps. ps) dem_check_devices source.bytes_left source.counts old new (ranked_outcome answer)
-dem_uses_as_ranked source old new (Ok (check.Accepted counts)) uses =
-    set_uses_alike (λ ps. ps) dem_check_devices (DemTakesAtMost source.bytes_left) AreHeadersKept source.bytes_left source.counts old new (Ok (check.Accepted counts)) _ ((λ fails. cc), (λ fails. cc)) tt uses
-dem_uses_as_ranked source old new (Ok (check.Rejected rule row col)) uses =
-    set_uses_alike (λ ps. ps) dem_check_devices (DemTakesAtMost source.bytes_left) AreHeadersKept source.bytes_left source.counts old new (Ok (check.Rejected rule row col)) _ ((λ fails. cc), (λ fails. cc)) tt uses
-dem_uses_as_ranked source old new (Err refusal) uses =
-    let answer : Result Verdict Refusal = Err refusal in
-    set_uses_alike (λ ps. ps) dem_check_devices (DemTakesAtMost source.bytes_left) AreHeadersKept source.bytes_left source.counts old new answer _ (failed_alike refusal) uses.untouched uses
-
 pub ranked_on_dem : {R : Type 0} (source : Source R) (dem_old dem_new : List (RasterInput R)) (given : Given) (ps_old ps_new : Products R) (answer : Result Verdict Refusal) →
     ForDem source.bytes_left dem_old given ps_old (λ s. IsAnswerIn s answer) →
     DemUses (λ ps. ps) dem_check_devices source.bytes_left source.counts (dem_old, ps_old) (dem_new, ps_new) answer →
     IsDemJudgement (λ ps. ps) dem_check_devices (IsOutcomeIn AllWithRanks) source dem_old dem_new given ps_old ps_new (ranked_outcome answer)
 ranked_on_dem source dem_old dem_new given ps_old ps_new answer is uses = record {
   answer = λ dem texts means encoded. ranked_answer (record { terrain = dem_ground dem; texts = texts }) answer (is dem texts means encoded);
-  uses = dem_uses_as_ranked source (dem_old, ps_old) (dem_new, ps_new) answer uses;
+  uses = subst (UsesTold (λ ps. ps) dem_check_devices (DemTakesAtMost source.bytes_left) AreHeadersKept source.bytes_left source.counts (dem_old, ps_old) (dem_new, ps_new)) (same_told answer) uses;
 }

@@ -1,5 +1,5 @@
 -- Rasters of counts, labels and steps that are right.
-use Rattle.std.proofs.Common.{ℤ, Bool, Option, subst, ◌≡◌, ◌↔◌, Result, Ok, Err, IfOk, IfErr, IsErrOf, refl, sym, ◌∙◌, ℕ, pos, List, map, ap, rules}
+use Rattle.std.proofs.Common.{ℤ, Bool, Option, Some, None, subst, ◌≡◌, Result, Ok, Err, IfOk, IfErr, refl, sym, ◌∙◌, ℕ, pos, List, map, ap, rules}
 use Rattle.drain_grid.specs.declared.cell.Cell.{Cell}
 use Rattle.drain_grid.specs.Grid.{Grid, Products, HasData, Pixels}
 use Rattle.drain_grid.specs.Extent.{Extent}
@@ -8,9 +8,12 @@ use Rattle.drain_paths.specs.Basins.{ends_before, AreBasinLabels}
 use Rattle.drain_maker.specs.Derived.{AreDerived, DerivedByDirections, IsDeriveRefusalIn, IsFlowsRefusal, IsRefusalFor, reading_in}
 use Rattle.drain_paths.specs.declared.flow.CertifyRefusal.{CertifyRefusal}
 use Rattle.drain_answer.specs.declared.refusal.Refusal.{Refusal}
-use Rattle.drain_answer.specs.declared.refusal.Refusal.TheVariants.{OutOfMemory, ReadFailed}
+use Rattle.drain_answer.specs.declared.refusal.Refusal.TheVariants.{OutOfMemory}
 use Rattle.drain_verdict.specs.GroundSets.{GroundSet, IsReadable, IsRefusalIn, set_grid, set_products}
-use Rattle.drain_verdict.specs.Refusals.{IsOfBodies}
+use Rattle.drain_verdict.specs.Inputs.{Products as Given}
+use Rattle.drain_verdict.specs.Uses.{UsesSet, UsesTold}
+use Rattle.drain_verdict.proofs.InputLemmas.{no_memory_left}
+use Rattle.drain_device.specs.declared.counts.FaultCounts.{FaultCounts}
 use Rattle.drain_maker.specs.declared.derivation.DeriveRefusal.{DeriveRefusal}
 use Rattle.drain_maker.specs.declared.derivation.DeriveRefusal.TheVariants.{Refused, NoEnd}
 use Rattle.drain_grid.specs.declared.product.Product.{Product}
@@ -78,20 +81,13 @@ pub of_memory_says_nothing : {A : Type 0} (answer : Result A Refusal) (P : Refus
 of_memory_says_nothing (Ok x) P same holds = tt
 of_memory_says_nothing (Err why) P same holds = subst P (sym same) holds
 
--- no read failed where all was read, nor where memory ran out then
-no_memory_alone : {A : Type 0} (answer : Result A Refusal) → IfErr answer (λ refusal. refusal ≡ OutOfMemory) → ¬ IsErrOf answer ReadFailed
-no_memory_alone (Ok x) of_memory is = cc
-no_memory_alone (Err why) of_memory is = (let same : why ≡ ReadFailed = cc in let memory : why ≡ OutOfMemory = of_memory in cc)
-
-pub counted_alike : {A B : Type 0} (read : A) (answer : Result B Refusal) → IfErr answer (λ refusal. refusal ≡ OutOfMemory) →
-    IsErrOf {T = A} (Ok read) ReadFailed ↔ IsErrOf answer ReadFailed
-counted_alike read answer of_memory = ((λ is. absurd (let no = is in cc)), (λ is. absurd (no_memory_alone answer of_memory is)))
-
--- and that memory ran out says nothing of devices
-pub counted_untouched : {A : Type 0} (Same : Type 0) (answer : Result A Refusal) → IfErr answer (λ refusal. refusal ≡ OutOfMemory) →
-    IfErr answer (λ refusal. ¬ IsOfBodies refusal → Same)
-counted_untouched Same (Ok x) of_memory = tt
-counted_untouched Same (Err why) of_memory = λ not. absurd (not (subst IsOfBodies (sym of_memory) tt))
+-- where all was read, or memory ran out then, the inputs are used alike
+pub counted_uses : {X R P A : Type 0} (inputs_of : P → Given R) (devices : List X → P → List R) (IsWithin IsKept : List X → List X → Type 0) (bytes_left : R → Option (List ℕ)) (counts : R → FaultCounts)
+    (old new : List X × P) (answer : Result A Refusal) → IfErr answer (λ refusal. refusal ≡ OutOfMemory) →
+    UsesTold inputs_of devices IsWithin IsKept bytes_left counts old new None → UsesSet inputs_of devices IsWithin IsKept bytes_left counts old new answer
+counted_uses inputs_of devices IsWithin IsKept bytes_left counts old new (Ok x) of_memory uses = uses
+counted_uses inputs_of devices IsWithin IsKept bytes_left counts old new (Err why) of_memory uses =
+    subst (λ refusal. UsesTold inputs_of devices IsWithin IsKept bytes_left counts old new (Some refusal)) (sym of_memory) (no_memory_left inputs_of devices IsWithin IsKept bytes_left counts old new uses)
 
 -- what follows from two facts about an answer
 pub if_ok_both : {A B : Type 0} (answer : Result A B) (P Q R : A → Type 0) → IfOk answer P → IfOk answer Q → ((a : A) → P a → Q a → R a) → IfOk answer R

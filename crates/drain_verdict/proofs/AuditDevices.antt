@@ -141,13 +141,6 @@ module _ (a b c d at bt ct dt : FaultCounts) where
         ],
       ) left right
 
--- answers of any two kinds say alike whether a read failed
-pub failed_alike : {A B : Type 0} (refusal : Refusal) → IsErrOf {T = A} (Err refusal) ReadFailed ↔ IsErrOf {T = B} (Err refusal) ReadFailed
-failed_alike refusal = (λ is. (let same : refusal ≡ ReadFailed = cc in ap Err same), λ is. (let same : refusal ≡ ReadFailed = cc in ap Err same))
-
-pub none_alike : {A B : Type 0} (a : A) (b : B) → IsErrOf (Ok a) ReadFailed ↔ IsErrOf (Ok b) ReadFailed
-none_alike a b = (λ is. absurd (let no = is in cc), λ is. absurd (let no = is in cc))
-
 -- five products of which one is read twice, beside these devices of a ground
 pub set_devices_of_four : {X R : Type 0} (counts : R → FaultCounts) (devices : List X → List R) (xs xs_then : List X) (ps ps_then : AuditProducts R) {F : Type 0} →
     length (map counts (devices xs)) ≡ length (map counts (devices xs_then)) →

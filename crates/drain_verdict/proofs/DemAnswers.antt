@@ -27,12 +27,12 @@ use Rattle.drain_verdict.specs.Headline.{ProductsAreRight}
 use Rattle.drain_verdict.specs.Inputs.{Products, as_five}
 use Rattle.drain_verdict.specs.Outcomes.{IsOutcomeIn}
 use Rattle.drain_verdict.specs.Refusals.{IsOfBodies}
-use Rattle.drain_verdict.specs.Uses.{UsesSet, set_devices}
+use Rattle.drain_verdict.specs.Uses.{UsesSet, UsesTold, set_devices}
 use Rattle.drain_verdict.specs.declared.audit_products.AuditProducts.{AuditProducts}
 use Rattle.drain_verdict.specs.declared.next_rows.RasterInput.{RasterInput}
 use Rattle.drain_verdict.proofs.Acceptance.{products_right}
 use Rattle.drain_verdict.proofs.AuditAnswers.{as_certified, exactly}
-use Rattle.drain_verdict.proofs.AuditDevices.{failed_alike, set_devices_of_four}
+use Rattle.drain_verdict.proofs.AuditDevices.{set_devices_of_four}
 use Rattle.drain_verdict.proofs.DemSteps.{dem_framed}
 use Rattle.drain_verdict.proofs.Order.{at_name, at_side, first_of, none_first, none_more}
 
@@ -134,16 +134,15 @@ module _ {R : Type 0} (bl : R → Option (List ℕ)) (dem : List (RasterInput R)
 -- What is used.
 
 -- four products of which one is read twice: that one counts once
-pub dem_four_used : {R A B : Type 0} (bl : R → Option (List ℕ)) (ct : R → FaultCounts) (old new : List (RasterInput R) × AuditProducts R) (answer : Result A Refusal) (audit : Result B Refusal) →
-    IsErrOf answer ReadFailed ↔ IsErrOf audit ReadFailed → IfErr audit (λ refusal. ¬ IsOfBodies refusal → (new.0 ≡ old.0) × (new.1 ≡ old.1)) →
-    DemUses as_five (λ xs ps. dem_check_devices xs (as_five ps)) bl ct old new answer → DemUses as_five dem_audit_devices bl ct old new audit
-dem_four_used {R} bl ct old new answer audit alike untouched uses = record {
+pub dem_four_used : {R : Type 0} (bl : R → Option (List ℕ)) (ct : R → FaultCounts) (old new : List (RasterInput R) × AuditProducts R) (told : Option Refusal) →
+    UsesTold as_five (λ xs ps. dem_check_devices xs (as_five ps)) (DemTakesAtMost bl) AreHeadersKept bl ct old new told → UsesTold as_five dem_audit_devices (DemTakesAtMost bl) AreHeadersKept bl ct old new told
+dem_four_used {R} bl ct old new told uses = record {
   inputs_within = uses.inputs_within;
   rasters_within = uses.rasters_within;
-  faults = SomeReadFails-iff alike (set_devices_of_four ct dem_devices old.0 new.0 old.1 new.1 as_many uses.faults);
+  faults = set_devices_of_four ct dem_devices old.0 new.0 old.1 new.1 as_many uses.faults;
   kept = uses.kept;
   headers = uses.headers;
-  untouched = untouched;
+  untouched = uses.untouched;
 }
   where
     as_many : length (map ct (dem_devices old.0)) ≡ length (map ct (dem_devices new.0))
@@ -159,8 +158,3 @@ dem_four_used {R} bl ct old new answer audit alike untouched uses = record {
           length-map old.0 (λ (x : RasterInput R). x.header),
           length-map new.0 (λ (x : RasterInput R). x.header),
         )
-
--- the same of a refusal
-pub dem_four_failed : {R A B : Type 0} (bl : R → Option (List ℕ)) (ct : R → FaultCounts) (old new : List (RasterInput R) × AuditProducts R) (refusal : Refusal) →
-    DemUses {T = A} as_five (λ xs ps. dem_check_devices xs (as_five ps)) bl ct old new (Err refusal) → DemUses {T = B} as_five dem_audit_devices bl ct old new (Err refusal)
-dem_four_failed bl ct old new refusal uses = dem_four_used bl ct old new (Err refusal) (Err refusal) (failed_alike refusal) uses.untouched uses

@@ -1,17 +1,17 @@
 -- Which product's device failed for good, if each is read only while nothing was refused before.
-use Rattle.std.proofs.Common.{◌≡◌, ◌↔◌, ℕ, List, map, Option, Result, Ok, Err, IfErr, IsErrOf, refl, subst, [], ◌∷◌, Some, None, IsSome, sym, ◌⊎◌, inl, inr, Bool, IsTrue, IfOk, ap, ◌∙◌}
+use Rattle.std.proofs.Common.{◌≡◌, ◌↔◌, ℕ, List, map, Option, Result, Ok, Err, IfErr, IsErrOf, refl, subst, [], ◌∷◌, Some, None, IsSome, sym, ◌⊎◌, inl, inr, Bool, IsTrue, IfOk, IfSome, ap, ◌∙◌}
 use Rattle.drain_device.specs.declared.counts.FaultCounts.{FaultCounts}
 use Rattle.drain_device.proofs.FaultLists.{SomeReadFails-iff, SomeReadFails-none, takes-none}
 use Rattle.drain_hgt.specs.declared.input.TileInput.{TileInput}
 use Rattle.drain_hgt.specs.Inputs.{TilesTakeAtMost, names_of}
 use Rattle.drain_grid.specs.PerProduct.{of_product}
-use Rattle.drain_verdict.specs.Inputs.{as_five, Products, AreNames}
-use Rattle.drain_verdict.specs.Uses.{devices_of, AreNamesKept, AuditUses, UsesInputs, UsesSet}
+use Rattle.drain_verdict.specs.Inputs.{as_five, audit_devices, Products, AreNames}
+use Rattle.drain_verdict.specs.Uses.{devices_of, AreNamesKept, UsesInputs, UsesSet, UsesTold}
 use Rattle.drain_verdict.specs.Refusals.{IsOfBodies}
 use Rattle.drain_verdict.specs.declared.audit_products.AuditProducts.{AuditProducts}
 use Rattle.drain_answer.specs.declared.refusal.Refusal.{Refusal}
-use Rattle.drain_answer.specs.declared.refusal.Refusal.TheVariants.{ReadFailed}
-use Rattle.drain_verdict.proofs.AuditDevices.{devices_of_four, failed_alike, tiles_take_none}
+use Rattle.drain_answer.specs.declared.refusal.Refusal.TheVariants.{OutOfMemory, ReadFailed}
+use Rattle.drain_verdict.proofs.AuditDevices.{devices_of_four, tiles_take_none}
 use Rattle.std.specs.List.{All, AllZip}
 use Rattle.std.proofs.lemmas.Bool.{false≢true}
 use Rattle.std.proofs.lemmas.List.Elements.{All-head, All-tail}
@@ -29,14 +29,19 @@ use Rattle.drain_verdict.specs.Reading.{gave_up, told_by}
 
 -- How an answer uses its inputs: where none was called, and of four products of which one is read twice.
 
+-- a read failed where the answer says so
+pub told_failed : {T : Type 0} (answer : Result T Refusal) → IsErrOf answer ReadFailed ↔ (told_by answer ≡ Some ReadFailed)
+told_failed (Ok x) = (λ is. absurd (let no = is in cc), λ is. absurd (let no = is in cc))
+told_failed (Err refusal) = (λ is. (let same : refusal ≡ ReadFailed = cc in ap Some same), λ is. (let same : refusal ≡ ReadFailed = cc in ap Err same))
+
 -- an answer about bodies may change the inputs
-pub of_bodies_may : {T : Type 0} (Same : Type 0) (answer : Result T Refusal) → IfErr answer IsOfBodies → IfErr answer (λ refusal. ¬ IsOfBodies refusal → Same)
+pub of_bodies_may : {T : Type 0} (Same : Type 0) (answer : Result T Refusal) → IfErr answer IsOfBodies → IfSome (told_by answer) (λ refusal. ¬ IsOfBodies refusal → Same)
 of_bodies_may Same (Ok x) of_bodies = tt
 of_bodies_may Same (Err refusal) of_bodies = λ not. absurd (not of_bodies)
 
-same_in : {T : Type 0} (Same : Type 0) (answer : Result T Refusal) → Same → IfErr answer (λ refusal. ¬ IsOfBodies refusal → Same)
-same_in Same (Ok x) same = tt
-same_in Same (Err refusal) same = λ not. same
+same_in : (Same : Type 0) (told : Option Refusal) → Same → IfSome told (λ refusal. ¬ IsOfBodies refusal → Same)
+same_in Same None same = tt
+same_in Same (Some refusal) same = λ not. same
 
 -- if no device was called, all is as it was
 pub set_uses_none : {X R P T : Type 0} (inputs_of : P → Products R) (devices : List X → P → List R) (IsWithin IsKept : List X → List X → Type 0) (bytes_left : R → Option (List ℕ)) (counts : R → FaultCounts)
@@ -45,10 +50,10 @@ pub set_uses_none : {X R P T : Type 0} (inputs_of : P → Products R) (devices :
 set_uses_none inputs_of devices IsWithin IsKept bytes_left counts inputs ps answer within kept not = record {
   inputs_within = within;
   rasters_within = λ p. takes-none _ (bytes_left (of_product (inputs_of ps) p).body);
-  faults = SomeReadFails-none (map counts (devices inputs ps)) not;
+  faults = SomeReadFails-none (map counts (devices inputs ps)) (λ is. not ((told_failed answer).1 is));
   kept = kept;
   headers = λ p. refl;
-  untouched = same_in _ answer (refl, refl);
+  untouched = same_in _ (told_by answer) (refl, refl);
 }
 
 pub uses_none : {R P T : Type 0} (inputs_of : P → Products R) (devices : List (TileInput R) → P → List R) (bytes_left : R → Option (List ℕ)) (counts : R → FaultCounts) (side : ℕ)
@@ -56,46 +61,30 @@ pub uses_none : {R P T : Type 0} (inputs_of : P → Products R) (devices : List 
 uses_none inputs_of devices bytes_left counts side tiles ps answer not =
     set_uses_none inputs_of devices (TilesTakeAtMost bytes_left side) AreNamesKept bytes_left counts tiles ps answer (tiles_take_none bytes_left side tiles) refl not
 
--- an answer of another type that says the same of reads and refusals uses them alike
-pub set_uses_alike : {X R P A B : Type 0} (inputs_of : P → Products R) (devices : List X → P → List R) (IsWithin IsKept : List X → List X → Type 0) (bytes_left : R → Option (List ℕ)) (counts : R → FaultCounts)
-    (old new : List X × P) (answer : Result A Refusal) (other : Result B Refusal) →
-    IsErrOf answer ReadFailed ↔ IsErrOf other ReadFailed → IfErr other (λ refusal. ¬ IsOfBodies refusal → (new.0 ≡ old.0) × (new.1 ≡ old.1)) →
-    UsesSet inputs_of devices IsWithin IsKept bytes_left counts old new answer → UsesSet inputs_of devices IsWithin IsKept bytes_left counts old new other
-set_uses_alike inputs_of devices IsWithin IsKept bytes_left counts old new answer other alike untouched uses = record {
+-- where memory runs out after all was read
+pub no_memory_left : {X R P : Type 0} (inputs_of : P → Products R) (devices : List X → P → List R) (IsWithin IsKept : List X → List X → Type 0) (bytes_left : R → Option (List ℕ)) (counts : R → FaultCounts)
+    (old new : List X × P) → UsesTold inputs_of devices IsWithin IsKept bytes_left counts old new None → UsesTold inputs_of devices IsWithin IsKept bytes_left counts old new (Some OutOfMemory)
+no_memory_left inputs_of devices IsWithin IsKept bytes_left counts old new uses = record {
   inputs_within = uses.inputs_within;
   rasters_within = uses.rasters_within;
-  faults = SomeReadFails-iff alike uses.faults;
+  faults = SomeReadFails-iff (λ is. absurd (let no = is in cc), λ is. absurd (let no = is in cc)) uses.faults;
   kept = uses.kept;
   headers = uses.headers;
-  untouched = untouched;
+  untouched = λ not. absurd (not tt);
 }
-
--- and so of tiles with an equal side
-pub uses_alike : {R P A B : Type 0} (inputs_of : P → Products R) (devices : List (TileInput R) → P → List R) (bytes_left : R → Option (List ℕ)) (counts : R → FaultCounts) (side other_side : ℕ)
-    (old new : List (TileInput R) × P) (answer : Result A Refusal) (other : Result B Refusal) →
-    side ≡ other_side → IsErrOf answer ReadFailed ↔ IsErrOf other ReadFailed → IfErr other (λ refusal. ¬ IsOfBodies refusal → (new.0 ≡ old.0) × (new.1 ≡ old.1)) →
-    UsesInputs inputs_of devices bytes_left counts side old new answer → UsesInputs inputs_of devices bytes_left counts other_side old new other
-uses_alike inputs_of devices bytes_left counts side other_side old new answer other same alike untouched uses =
-    subst (λ (s : ℕ). UsesInputs inputs_of devices bytes_left counts s old new other) same
-    (set_uses_alike inputs_of devices (TilesTakeAtMost bytes_left side) AreNamesKept bytes_left counts old new answer other alike untouched uses)
 
 -- four products of which one is read twice: that one counts once
-pub four_used : {R A B : Type 0} (bytes_left : R → Option (List ℕ)) (counts : R → FaultCounts) (side : ℕ) (old new : List (TileInput R) × AuditProducts R) (answer : Result A Refusal) (audit : Result B Refusal) →
-    IsErrOf answer ReadFailed ↔ IsErrOf audit ReadFailed → IfErr audit (λ refusal. ¬ IsOfBodies refusal → (new.0 ≡ old.0) × (new.1 ≡ old.1)) →
-    UsesInputs as_five (λ ts ps. devices_of ts (as_five ps)) bytes_left counts side old new answer → AuditUses bytes_left counts side old new audit
-four_used bytes_left counts side old new answer audit alike untouched uses = record {
+pub four_used : {R : Type 0} (bytes_left : R → Option (List ℕ)) (counts : R → FaultCounts) (side : ℕ) (old new : List (TileInput R) × AuditProducts R) (told : Option Refusal) →
+    UsesTold as_five (λ ts ps. devices_of ts (as_five ps)) (TilesTakeAtMost bytes_left side) AreNamesKept bytes_left counts old new told →
+    UsesTold as_five audit_devices (TilesTakeAtMost bytes_left side) AreNamesKept bytes_left counts old new told
+four_used bytes_left counts side old new told uses = record {
   inputs_within = uses.inputs_within;
   rasters_within = uses.rasters_within;
-  faults = SomeReadFails-iff alike (devices_of_four counts old.0 new.0 old.1 new.1 uses.kept uses.faults);
+  faults = devices_of_four counts old.0 new.0 old.1 new.1 uses.kept uses.faults;
   kept = uses.kept;
   headers = uses.headers;
-  untouched = untouched;
+  untouched = uses.untouched;
 }
-
--- the same of a refusal
-pub four_failed : {R A B : Type 0} (bytes_left : R → Option (List ℕ)) (counts : R → FaultCounts) (side : ℕ) (old new : List (TileInput R) × AuditProducts R) (refusal : Refusal) →
-    UsesInputs {T = A} as_five (λ ts ps. devices_of ts (as_five ps)) bytes_left counts side old new (Err refusal) → AuditUses {T = B} bytes_left counts side old new (Err refusal)
-four_failed bytes_left counts side old new refusal uses = four_used bytes_left counts side old new (Err refusal) (Err refusal) (failed_alike refusal) uses.untouched uses
 
 -- The inputs that a call encodes: each part is read off the arguments, and each name gives its corner.
 

@@ -94,10 +94,6 @@ flows_left judged g ps extent flows (inr (inr (inr is))) left = subst (λ (j : J
 pub same_listed : (lines : Result (List SinkLine) ℕ) (a b : List SinkLine) → lines ≡ Ok a → lines ≡ Ok b → a ≡ b
 same_listed lines a b is_a is_b = cc
 
--- neither says that a read failed
-pub memory_alike : {A B : Type 0} (a : A) → IsErrOf (Ok a) ReadFailed ↔ IsErrOf {T = B} (Err OutOfMemory) ReadFailed
-memory_alike a = (λ is. absurd (let no = is in cc), λ is. absurd (let no = is in cc))
-
 -- the rules about con hold of a right surface
 con_holds : (g : Grid) (ps : Products) (nodata : NoDataNumbers) → IsRightSurface g ps nodata → RulesHold (part_rules Con nodata) (IsPartRule Con) g ps
 con_holds g ps nodata right c VoidCell inside own = λ void. record { con_is = right.voids c inside void; dir_is = tt; acc_is = tt; bas_is = tt }

@@ -4,7 +4,7 @@ use Rattle.drain_answer.specs.declared.refusal.Refusal.{Refusal}
 use Rattle.drain_answer.specs.declared.refusal.Refusal.TheVariants.{OutOfMemory, ReadFailed}
 
 -- the refusal of an answer
-abbrev pub told_by : Result (Unit {0}) Refusal → Option Refusal
+abbrev pub told_by : {T : Type 0} → Result T Refusal → Option Refusal
 told_by (Ok done) = None
 told_by (Err refusal) = Some refusal
 

@@ -1,5 +1,5 @@
 -- How an answer uses its inputs.
-use Rattle.std.specs.Prelude.{ℕ, List, map, ◌++◌, Option, ◌≡◌, Result, IfErr, IsErrOf}
+use Rattle.std.specs.Prelude.{ℕ, List, map, ◌++◌, Option, Some, ◌≡◌, Result, IfSome}
 use Rattle.drain_device.specs.Reads.{TakesAtMost}
 use Rattle.drain_grid.specs.declared.set_product.SetProduct.{SetProduct}
 use Rattle.drain_grid.specs.PerProduct.{of_product}
@@ -12,6 +12,7 @@ use Rattle.drain_raster.specs.Pixels.{needed_len}
 use Rattle.drain_verdict.specs.Inputs.{Products, audit_devices, as_five}
 use Rattle.drain_device.specs.FaultLists.{SomeReadFails}
 use Rattle.drain_device.specs.declared.counts.FaultCounts.{FaultCounts}
+use Rattle.drain_verdict.specs.Reading.{told_by}
 use Rattle.drain_verdict.specs.Refusals.{IsOfBodies}
 use Rattle.drain_verdict.specs.declared.audit_products.AuditProducts.{AuditProducts}
 use Rattle.drain_answer.specs.declared.refusal.Refusal.{Refusal}
@@ -41,18 +42,22 @@ set_devices devices inputs ps = devices inputs ++ product_devices ps
 
 -- from the inputs of a ground and the products before to those after. The products are read as these five, from these
 -- devices; of the ground's inputs the reading is within this, and this is kept
-pub record UsesSet {X R P T : Type 0} (inputs_of : P → Products R) (devices : List X → P → List R) (IsWithin IsKept : List X → List X → Type 0) (bytes_left : R → Option (List ℕ)) (counts : R → FaultCounts)
-    (old new : List X × P) (answer : Result T Refusal) : Type 0 where
+pub record UsesTold {X R P : Type 0} (inputs_of : P → Products R) (devices : List X → P → List R) (IsWithin IsKept : List X → List X → Type 0) (bytes_left : R → Option (List ℕ)) (counts : R → FaultCounts)
+    (old new : List X × P) (told : Option Refusal) : Type 0 where
   -- of the ground's inputs no more is read than this, of a raster nothing past its last needed byte
   pub inputs_within : IsWithin old.0 new.0
   pub rasters_within : (p : SetProduct) → RasterTakesAtMost bytes_left (inputs_of old.1) (inputs_of new.1) p
   -- the answer is that a read failed exactly where a device failed or was interrupted for the 1,000th time
-  pub faults : SomeReadFails (map counts (devices old.0 old.1)) (map counts (devices new.0 new.1)) (IsErrOf answer ReadFailed)
+  pub faults : SomeReadFails (map counts (devices old.0 old.1)) (map counts (devices new.0 new.1)) (told ≡ Some ReadFailed)
   -- what is kept of the ground's inputs, as names, and headers are unchanged
   pub kept : IsKept old.0 new.0
   pub headers : (p : SetProduct) → (of_product (inputs_of new.1) p).header ≡ (of_product (inputs_of old.1) p).header
   -- a refusal that comes before any body is read leaves every device and every value as it was
-  pub untouched : IfErr answer (λ refusal. ¬ IsOfBodies refusal → (new.0 ≡ old.0) × (new.1 ≡ old.1))
+  pub untouched : IfSome told (λ refusal. ¬ IsOfBodies refusal → (new.0 ≡ old.0) × (new.1 ≡ old.1))
+
+-- only the refusal of an answer matters
+abbrev pub UsesSet : {X R P T : Type 0} → (P → Products R) → (List X → P → List R) → (List X → List X → Type 0) → (List X → List X → Type 0) → (R → Option (List ℕ)) → (R → FaultCounts) → List X × P → List X × P → Result T Refusal → Type 0
+UsesSet inputs_of devices IsWithin IsKept bytes_left counts old new answer = UsesTold inputs_of devices IsWithin IsKept bytes_left counts old new (told_by answer)
 
 -- the names are those of before
 abbrev pub AreNamesKept : {R : Type 0} → List (TileInput R) → List (TileInput R) → Type 0

@@ -1,21 +1,18 @@
 -- From the notes of all rows to the report on a window, and the verdict.
-use Rattle.std.proofs.Common.{◌≡◌, ◌↔◌, ℕ, Option, List, Result, Ok, Err, IfErr, IsErrOf, sym, subst, ◌+◌, ◌-◌, ◌<◌, ◌≤◌, true, false, refl, ap, arith}
+use Rattle.std.proofs.Common.{◌≡◌, ℕ, Option, Some, List, Result, Ok, Err, sym, subst, ◌+◌, ◌-◌, ◌<◌, ◌≤◌, true, false, refl, ap, arith}
 use Rattle.drain_answer.specs.declared.refusal.Refusal.{Refusal}
-use Rattle.drain_answer.specs.declared.refusal.Refusal.TheVariants.{BoxTooLarge, OutOfMemory, ReadFailed}
+use Rattle.drain_answer.specs.declared.refusal.Refusal.TheVariants.{BoxTooLarge}
 use Rattle.drain_device.specs.declared.counts.FaultCounts.{FaultCounts}
-use Rattle.drain_device.proofs.FaultLists.{SomeReadFails-iff}
 use Rattle.drain_hgt.specs.declared.input.TileInput.{TileInput}
+use Rattle.drain_hgt.specs.Inputs.{TilesTakeAtMost}
 use Rattle.drain_mosaic.specs.Tiling.{Tiling}
-use Rattle.drain_verdict.proofs.OutcomeLemmas.{memory_alike}
-use Rattle.drain_verdict.specs.Refusals.{IsOfBodies}
 use Rattle.drain_verdict.specs.DemGround.{DemUses, dem_audit_devices, dem_check_devices}
-use Rattle.drain_verdict.specs.Inputs.{as_five}
-use Rattle.drain_verdict.specs.Uses.{AuditUses, UsesInputs, devices_of}
+use Rattle.drain_verdict.specs.Inputs.{as_five, audit_devices}
+use Rattle.drain_verdict.specs.Uses.{AreNamesKept, AuditUses, UsesInputs, devices_of}
 use Rattle.drain_verdict.specs.declared.next_rows.RasterInput.{RasterInput}
-use Rattle.drain_verdict.proofs.DemAnswers.{dem_four_failed}
-use Rattle.drain_verdict.proofs.InputLemmas.{four_failed}
+use Rattle.drain_verdict.proofs.DemAnswers.{dem_four_used}
+use Rattle.drain_verdict.proofs.InputLemmas.{four_used, no_memory_left}
 use Rattle.drain_verdict.specs.declared.audit_products.AuditProducts.{AuditProducts}
-use Rattle.drain_verdict.proofs.AuditDevices.{none_alike}
 use Rattle.drain_union.specs.Reports.{Report, audited, IsSortedByLabel, ListsOutlets, IsReportOf, ListsSeams, ListsSinks, ListsSpacings}
 use Rattle.drain_union.specs.declared.report.WindowReport.{WindowReport}
 use Rattle.drain_union.specs.declared.verdict.UnionVerdict.{UnionVerdict}
@@ -55,39 +52,27 @@ use Rattle.drain_window.specs.WindowNotes.{AreOfWindow}
 
 -- How the inputs are used, from one answer to the next.
 
-module _ {R : Type 0} (bytes_left : R → Option (List ℕ)) (counts : R → FaultCounts) (side : ℕ) (old new : List (TileInput R) × AuditProducts R) where
-  -- two answers say alike that a read failed
-  pub used_again : {A B : Type 0} (a : Result A Refusal) (b : Result B Refusal) → IsErrOf a ReadFailed ↔ IsErrOf b ReadFailed →
-      IfErr b (λ refusal. ¬ IsOfBodies refusal → (new.0 ≡ old.0) × (new.1 ≡ old.1)) → AuditUses bytes_left counts side old new a → AuditUses bytes_left counts side old new b
-  used_again a b alike untouched uses = record {
-    inputs_within = uses.inputs_within;
-    rasters_within = uses.rasters_within;
-    faults = SomeReadFails-iff alike uses.faults;
-    kept = uses.kept;
-    headers = uses.headers;
-    untouched = untouched;
-  }
-
-  pub with_tiles_uses : (t : Tiling) (v : UnionVerdict) (r : Report) (result : Result WindowReport WindowRefusal) → IsWithTiles t v r result →
-      AuditUses {T = UnionVerdict × Report} bytes_left counts side old new (Ok (v, r)) → AuditUses bytes_left counts side old new (as_refused result)
-  with_tiles_uses t v r (Ok a) is uses = used_again {A = UnionVerdict × Report} (Ok (v, r)) (Ok a) (none_alike {A = UnionVerdict × Report} (v, r) a) tt uses
-  with_tiles_uses t v r (Err refusal) same uses =
-      subst (λ (x : WindowRefusal). AuditUses bytes_left counts side old new (as_refused {A = WindowReport} (Err x))) (sym same)
-      (used_again {A = UnionVerdict × Report} (Ok (v, r)) (Err OutOfMemory) (memory_alike {A = UnionVerdict × Report} (v, r)) (λ not. absurd (not tt)) uses)
+pub with_tiles_uses : {R : Type 0} (bl : R → Option (List ℕ)) (ct : R → FaultCounts) (side : ℕ) (old new : List (TileInput R) × AuditProducts R) (t : Tiling) (v : UnionVerdict) (r : Report)
+    (result : Result WindowReport WindowRefusal) → IsWithTiles t v r result →
+    AuditUses {T = UnionVerdict × Report} bl ct side old new (Ok (v, r)) → AuditUses bl ct side old new (as_refused result)
+with_tiles_uses bl ct side old new t v r (Ok a) is uses = uses
+with_tiles_uses bl ct side old new t v r (Err refusal) same uses =
+    subst (λ (x : WindowRefusal). AuditUses bl ct side old new (as_refused {A = WindowReport} (Err x))) (sym same)
+    (no_memory_left as_five audit_devices (TilesTakeAtMost bl side) AreNamesKept bl ct old new uses)
 
 -- a refusal is that of the ground
 
 pub refused : {R : Type 0} (bl : R → Option (List ℕ)) (ct : R → FaultCounts) (side : ℕ) (old new : List (TileInput R) × AuditProducts R) (refusal : WindowRefusal) →
     UsesInputs as_five (λ ts ps. devices_of ts (as_five ps)) bl ct side old new (as_refused {A = UnionVerdict × Report} (Err refusal)) →
     AuditUses bl ct side old new (as_refused {A = WindowReport} (Err refusal))
-refused bl ct side old new (OfInputs refusal) uses = four_failed {A = UnionVerdict × Report} bl ct side old new refusal uses
-refused bl ct side old new OutsideMosaic uses = four_failed {A = UnionVerdict × Report} bl ct side old new BoxTooLarge uses
+refused bl ct side old new (OfInputs refusal) uses = four_used bl ct side old new (Some refusal) uses
+refused bl ct side old new OutsideMosaic uses = four_used bl ct side old new (Some BoxTooLarge) uses
 
 pub dem_refused : {R : Type 0} (bl : R → Option (List ℕ)) (ct : R → FaultCounts) (old new : List (RasterInput R) × AuditProducts R) (refusal : WindowRefusal) →
     DemUses as_five (λ xs ps. dem_check_devices xs (as_five ps)) bl ct old new (as_refused {A = UnionVerdict × Report} (Err refusal)) →
     DemUses as_five dem_audit_devices bl ct old new (as_refused {A = WindowReport} (Err refusal))
-dem_refused bl ct old new (OfInputs refusal) uses = dem_four_failed {A = UnionVerdict × Report} bl ct old new refusal uses
-dem_refused bl ct old new OutsideMosaic uses = dem_four_failed {A = UnionVerdict × Report} bl ct old new BoxTooLarge uses
+dem_refused bl ct old new (OfInputs refusal) uses = dem_four_used bl ct old new (Some refusal) uses
+dem_refused bl ct old new OutsideMosaic uses = dem_four_used bl ct old new (Some BoxTooLarge) uses
 
 -- a sorted list of the same outlets is that of the window
 listed : (nodata : NoDataNumbers) (origin : Cell) (p : Place) (g : Grid) (ps : Products) (outlets sorted : List Outlet) → IsSortedByLabel sorted → IsPermutation outlets sorted →

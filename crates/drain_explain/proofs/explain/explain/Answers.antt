@@ -1,4 +1,4 @@
-use Rattle.std.proofs.Common.{◌<◌, Option, Ok, Err, sym, subst}
+use Rattle.std.proofs.Common.{◌<◌, ℕ, None, Option, Some, Ok, Err, sym, subst}
 use Rattle.std.specs.Prelude.{IfSome}
 use Rattle.std.proofs.lemmas.Result.{err_from_is_err_and}
 use Rattle.drain_grid.specs.declared.cell.Cell.{Cell}
@@ -7,11 +7,11 @@ use Rattle.drain_verdict.specs.Answers.{rules_at}
 use Rattle.drain_verdict.specs.GroundSets.{AreNotesIn, set_grid, set_products}
 use Rattle.drain_verdict.specs.Meaning.{input_grid, input_products}
 use Rattle.drain_verdict.specs.Outcomes.{IsOutcomeIn}
-use Rattle.drain_verdict.specs.Uses.{devices_of}
+use Rattle.drain_hgt.specs.Inputs.{TilesTakeAtMost}
+use Rattle.drain_verdict.specs.Uses.{AreNamesKept, UsesTold, devices_of}
 use Rattle.drain_explain.specs.Explanations.{AreFaultNotes, IsEndlessOf, IsEndlessOn, outcome_in}
-use Rattle.drain_verdict.proofs.AuditDevices.{failed_alike, none_alike}
 use Rattle.drain_verdict.proofs.StartAnswers.{at_side, laid, layout_answer, layout_reads_none, of_tiles}
-use Rattle.drain_verdict.proofs.InputLemmas.{uses_alike, uses_none}
+use Rattle.drain_verdict.proofs.InputLemmas.{uses_none}
 use Rattle.drain_explain.proofs.explain.explain.Goals as goal
 
 pub returns-in_err-layout-clause-answer : goal.returns-in_err-layout-clause-answer
@@ -23,7 +23,7 @@ pub returns-in_err-layout-clause-uses : goal.returns-in_err-layout-clause-uses
 returns-in_err-layout-clause-uses g c =
     let told = err_from_is_err_and c.from_residual.result c.from_residual.ensures.1 in
     let inputs = g.P.ProductInputs.inputs in
-    rw (told.1, told.2) (uses_none inputs (λ ts ps. devices_of ts (inputs ps)) g.R.ByteSource.bytes_left g.R.ByteSource.counts c.args.side c.args.tiles.now c.args.products.now (Err c.in_err-layout.field-0.0)
+    rw (told.1, told.2) (uses_none {T = Unit {0}} inputs (λ ts ps. devices_of ts (inputs ps)) g.R.ByteSource.bytes_left g.R.ByteSource.counts c.args.side c.args.tiles.now c.args.products.now (Err c.in_err-layout.field-0.0)
     (layout_reads_none _ _ _ c.in_err-layout.ensures.refusal))
 
 pub see-requires : goal.see-requires
@@ -42,14 +42,16 @@ returns-in_err-seen-clause-uses g c =
     let told = err_from_is_err_and c.from_residual-in_err-seen.result c.from_residual-in_err-seen.ensures.1 in
     let uses = c.in_err-seen.ensures.uses in
     let inputs = g.P.ProductInputs.inputs in
-    rw (told.1, told.2) (uses_alike inputs (λ ts ps. devices_of ts (inputs ps)) g.R.ByteSource.bytes_left g.R.ByteSource.counts c.in_ok-layout.layout.side c.args.side (c.args.tiles.now, c.args.products.now) (c.see.new.inputs, c.see.new.products)
-    (Err c.in_err-seen.field-0.0) (Err c.in_err-seen.field-0.0) c.in_ok-layout.ensures.layout.side_is (failed_alike c.in_err-seen.field-0.0) uses.untouched uses)
+    rw (told.1, told.2) (subst
+    (λ (side : ℕ). UsesTold inputs (λ ts ps. devices_of ts (inputs ps)) (TilesTakeAtMost g.R.ByteSource.bytes_left side) AreNamesKept g.R.ByteSource.bytes_left g.R.ByteSource.counts (c.args.tiles.now, c.args.products.now) (c.see.new.inputs, c.see.new.products) (Some c.in_err-seen.field-0.0))
+    c.in_ok-layout.ensures.layout.side_is uses)
 
 pub returns-clause-uses : goal.returns-clause-uses
 returns-clause-uses g c =
     let inputs = g.P.ProductInputs.inputs in
-    uses_alike inputs (λ ts ps. devices_of ts (inputs ps)) g.R.ByteSource.bytes_left g.R.ByteSource.counts c.in_ok-layout.layout.side c.args.side (c.args.tiles.now, c.args.products.now) (c.see.new.inputs, c.see.new.products)
-    (Ok c.in_ok-seen.seen) (Ok _) c.in_ok-layout.ensures.layout.side_is (none_alike c.in_ok-seen.seen _) tt c.in_ok-seen.ensures.uses
+    subst
+    (λ (side : ℕ). UsesTold inputs (λ ts ps. devices_of ts (inputs ps)) (TilesTakeAtMost g.R.ByteSource.bytes_left side) AreNamesKept g.R.ByteSource.bytes_left g.R.ByteSource.counts (c.args.tiles.now, c.args.products.now) (c.see.new.inputs, c.see.new.products) None)
+    c.in_ok-layout.ensures.layout.side_is c.in_ok-seen.ensures.uses
 
 pub returns-clause-answer : goal.returns-clause-answer
 returns-clause-answer g c = λ inputs tell.

@@ -1,4 +1,4 @@
-use Rattle.std.proofs.Common.{Err, Ok, Option, refl, rules, subst, sym}
+use Rattle.std.proofs.Common.{Err, Option, refl, rules, subst, sym}
 use Rattle.std.specs.Prelude.{IfSome}
 use Rattle.std.proofs.lemmas.Result.{err_from_is_err_and}
 use Rattle.drain_explain.specs.Explanations.{IsEndlessIn}
@@ -7,10 +7,9 @@ use Rattle.drain_paths.specs.declared.endless_path.EndlessPath.{EndlessPath}
 use Rattle.drain_header.specs.Header.{Fields}
 use Rattle.drain_verdict.specs.DemGround.{AreHeadersKept, DemTakesAtMost, IsDemInput, dem_check_devices}
 use Rattle.drain_verdict.specs.GroundSets.{rules_in, set_grid, set_products}
-use Rattle.drain_verdict.proofs.AuditDevices.{failed_alike, none_alike}
 use Rattle.drain_verdict.proofs.DemAnswers.{dem_set, header_answer, header_reads_none, one_header, pixels_are, refused_text}
 use Rattle.drain_verdict.proofs.DemSteps.{dem_takes_none}
-use Rattle.drain_verdict.proofs.InputLemmas.{set_uses_alike, set_uses_none}
+use Rattle.drain_verdict.proofs.InputLemmas.{set_uses_none}
 use Rattle.drain_explain.proofs.explain_dem.explain.Goals as goal
 
 pub returns-in_err-header-clause-answer : goal.returns-in_err-header-clause-answer
@@ -24,7 +23,7 @@ returns-in_err-header-clause-uses g c =
     let inputs = g.P.ProductInputs.inputs in
     let bl = g.R.ByteSource.bytes_left in
     let ct = g.R.ByteSource.counts in
-    rw (is.1, is.2) (set_uses_none inputs (λ xs ps. dem_check_devices xs (inputs ps)) (DemTakesAtMost bl) AreHeadersKept bl ct c.args.dem.now c.args.products.now (Err c.in_err-header.field-0.0)
+    rw (is.1, is.2) (set_uses_none {T = Unit {0}} inputs (λ xs ps. dem_check_devices xs (inputs ps)) (DemTakesAtMost bl) AreHeadersKept bl ct c.args.dem.now c.args.products.now (Err c.in_err-header.field-0.0)
     (dem_takes_none bl ct c.args.dem.now) refl (header_reads_none _ _ c.in_err-header.ensures.refusal))
 
 pub see-requires : goal.see-requires
@@ -38,20 +37,10 @@ returns-in_err-seen-clause-answer g c = λ d t tell told.
 pub returns-in_err-seen-clause-uses : goal.returns-in_err-seen-clause-uses
 returns-in_err-seen-clause-uses g c =
     let is = err_from_is_err_and c.from_residual-in_err-seen.result c.from_residual-in_err-seen.ensures.1 in
-    let inputs = g.P.ProductInputs.inputs in
-    let bl = g.R.ByteSource.bytes_left in
-    let uses = c.in_err-seen.ensures.uses in
-    rw (is.1, is.2) (set_uses_alike inputs (λ xs ps. dem_check_devices xs (inputs ps)) (DemTakesAtMost bl) AreHeadersKept bl g.R.ByteSource.counts
-    (c.args.dem.now, c.args.products.now) (c.see.new.inputs, c.see.new.products)
-    (Err c.in_err-seen.field-0.0) (Err c.in_err-seen.field-0.0) (failed_alike c.in_err-seen.field-0.0) uses.untouched uses)
+    rw (is.1, is.2) c.in_err-seen.ensures.uses
 
 pub returns-clause-uses : goal.returns-clause-uses
-returns-clause-uses g c =
-    let inputs = g.P.ProductInputs.inputs in
-    let bl = g.R.ByteSource.bytes_left in
-    set_uses_alike inputs (λ xs ps. dem_check_devices xs (inputs ps)) (DemTakesAtMost bl) AreHeadersKept bl g.R.ByteSource.counts
-    (c.args.dem.now, c.args.products.now) (c.see.new.inputs, c.see.new.products)
-    (Ok c.in_ok-seen.seen) (Ok _) (none_alike c.in_ok-seen.seen _) tt c.in_ok-seen.ensures.uses
+returns-clause-uses g c = c.in_ok-seen.ensures.uses
 
 pub returns-clause-answer : goal.returns-clause-answer
 returns-clause-answer g c = λ d t tell told. c.in_ok-seen.ensures.answer d t tell told

@@ -1,12 +1,11 @@
-use Rattle.std.proofs.Common.{Ok, Err, sym, subst}
+use Rattle.std.proofs.Common.{Err, sym, subst}
 use Rattle.std.proofs.lemmas.Result.{err_from_is_err_and}
 use Rattle.drain_grid.specs.Extent.{Extent}
 use Rattle.drain_verdict.specs.Deciding.{AreFlowsFor}
 use Rattle.drain_verdict.specs.GroundSets.{GroundSet, set_grid, set_numbers, set_products}
 use Rattle.drain_verdict.specs.Uses.{set_devices}
-use Rattle.drain_verdict.proofs.AuditDevices.{failed_alike, none_alike}
-use Rattle.drain_verdict.proofs.OutcomeLemmas.{memory_alike, outcome_is}
-use Rattle.drain_verdict.proofs.InputLemmas.{set_uses_alike, set_uses_none}
+use Rattle.drain_verdict.proofs.OutcomeLemmas.{outcome_is}
+use Rattle.drain_verdict.proofs.InputLemmas.{no_memory_left, set_uses_none}
 use Rattle.drain_answer.specs.declared.refusal.Refusal.TheVariants.{OutOfMemory}
 use Rattle.drain_explain.proofs.Noting.{endless-told}
 use Rattle.drain_explain.proofs.seen.see.Goals as goal
@@ -14,8 +13,8 @@ use Rattle.drain_explain.proofs.seen.see.Goals as goal
 pub returns-in-Err-clause-uses : goal.returns-in-Err-clause-uses
 returns-in-Err-clause-uses g c =
     let inputs = g.P.ProductInputs.inputs in
-    set_uses_none inputs (λ xs ps. set_devices g.T.GroundInput.devices xs (inputs ps)) (g.T.GroundInput.within c.args.frame.now) g.T.GroundInput.kept g.R.ByteSource.bytes_left g.R.ByteSource.counts
-    c.args.inputs.now c.args.products.now _ (c.reading_laws.ensures.none_within c.args.frame.now c.args.inputs.now) (c.reading_laws.ensures.none_kept c.args.inputs.now) (λ is. cc)
+    set_uses_none {T = Unit {0}} inputs (λ xs ps. set_devices g.T.GroundInput.devices xs (inputs ps)) (g.T.GroundInput.within c.args.frame.now) g.T.GroundInput.kept g.R.ByteSource.bytes_left g.R.ByteSource.counts
+    c.args.inputs.now c.args.products.now (Err OutOfMemory) (c.reading_laws.ensures.none_within c.args.frame.now c.args.inputs.now) (c.reading_laws.ensures.none_kept c.args.inputs.now) (λ is. cc)
 
 pub returns-in_err-judgement-clause-answer : goal.returns-in_err-judgement-clause-answer
 returns-in_err-judgement-clause-answer g c = λ x t means tell.
@@ -25,25 +24,16 @@ returns-in_err-judgement-clause-answer g c = λ x t means tell.
 pub returns-in_err-judgement-clause-uses : goal.returns-in_err-judgement-clause-uses
 returns-in_err-judgement-clause-uses g c =
     let told = err_from_is_err_and c.from_residual.result c.from_residual.ensures.1 in
-    let uses = c.in_err-judgement.ensures.uses in
-    let inputs = g.P.ProductInputs.inputs in
-    rw (told.1, told.2) (set_uses_alike inputs (λ xs ps. set_devices g.T.GroundInput.devices xs (inputs ps)) (g.T.GroundInput.within c.args.frame.now) g.T.GroundInput.kept g.R.ByteSource.bytes_left g.R.ByteSource.counts
-    (c.args.inputs.now, c.args.products.now) (c.judge_set.new.inputs, c.judge_set.new.products)
-    (Err c.in_err-judgement.field-0.0) (Err c.in_err-judgement.field-0.0) (failed_alike c.in_err-judgement.field-0.0) uses.untouched uses)
+    rw (told.1, told.2) c.in_err-judgement.ensures.uses
 
 pub returns-clause-uses : goal.returns-clause-uses
-returns-clause-uses g c =
-    let inputs = g.P.ProductInputs.inputs in
-    set_uses_alike inputs (λ xs ps. set_devices g.T.GroundInput.devices xs (inputs ps)) (g.T.GroundInput.within c.args.frame.now) g.T.GroundInput.kept g.R.ByteSource.bytes_left g.R.ByteSource.counts
-    (c.args.inputs.now, c.args.products.now) (c.judge_set.new.inputs, c.judge_set.new.products)
-    (Ok c.in_ok-judgement.judgement) (Ok _) (none_alike c.in_ok-judgement.judgement _) tt c.in_ok-judgement.ensures.uses
+returns-clause-uses g c = c.in_ok-judgement.ensures.uses
 
 pub returns-in-Err-endless_of-clause-uses : goal.returns-in-Err-endless_of-clause-uses
 returns-in-Err-endless_of-clause-uses g c =
     let inputs = g.P.ProductInputs.inputs in
-    set_uses_alike inputs (λ xs ps. set_devices g.T.GroundInput.devices xs (inputs ps)) (g.T.GroundInput.within c.args.frame.now) g.T.GroundInput.kept g.R.ByteSource.bytes_left g.R.ByteSource.counts
-    (c.args.inputs.now, c.args.products.now) (c.judge_set.new.inputs, c.judge_set.new.products)
-    (Ok c.in_ok-judgement.judgement) (Err OutOfMemory) (memory_alike c.in_ok-judgement.judgement) (λ not. absurd (not tt)) c.in_ok-judgement.ensures.uses
+    no_memory_left inputs (λ xs ps. set_devices g.T.GroundInput.devices xs (inputs ps)) (g.T.GroundInput.within c.args.frame.now) g.T.GroundInput.kept g.R.ByteSource.bytes_left g.R.ByteSource.counts
+    (c.args.inputs.now, c.args.products.now) (c.judge_set.new.inputs, c.judge_set.new.products) c.in_ok-judgement.ensures.uses
 
 pub returns-clause-answer : goal.returns-clause-answer
 returns-clause-answer g c = λ x t means tell.

@@ -1,7 +1,8 @@
-use Rattle.std.proofs.Common.{Ok, Err, subst}
+use Rattle.std.proofs.Common.{None, Ok, Err, subst}
 use Rattle.drain_mosaic.specs.Tiling.{Tiling}
 use Rattle.drain_verdict.specs.Given.{plain}
 use Rattle.drain_verdict.specs.Inputs.{audit_devices, as_five}
+use Rattle.drain_verdict.specs.Reading.{told_by}
 use Rattle.drain_verdict.specs.Uses.{AuditUses}
 use Rattle.drain_verdict.proofs.StartAnswers.{at_side, layout_answer, layout_reads_none, of_tiles}
 use Rattle.drain_verdict.proofs.InputLemmas.{four_used, uses_none}
@@ -16,7 +17,7 @@ returns-in-Err-clause-err g c = λ inputs tell.
 
 pub returns-in-Err-clause-uses : goal.returns-in-Err-clause-uses
 returns-in-Err-clause-uses g c =
-    uses_none as_five audit_devices g.R.ByteSource.bytes_left g.R.ByteSource.counts c.args.side c.args.tiles.now c.args.products.now (Err c.in-Err.refusal) (layout_reads_none _ _ _ c.in-Err.ensures.refusal)
+    uses_none {T = Unit {0}} as_five audit_devices g.R.ByteSource.bytes_left g.R.ByteSource.counts c.args.side c.args.tiles.now c.args.products.now (Err c.in-Err.refusal) (layout_reads_none _ _ _ c.in-Err.ensures.refusal)
 
 pub returns-in-Ok-derive_on-clause-derived : goal.returns-in-Ok-derive_on-clause-derived
 returns-in-Ok-derive_on-clause-derived g c = λ inputs tell.
@@ -27,9 +28,8 @@ returns-in-Ok-derive_on-clause-derived g c = λ inputs tell.
 pub returns-in-Ok-derive_on-clause-uses : goal.returns-in-Ok-derive_on-clause-uses
 returns-in-Ok-derive_on-clause-uses g c =
     let t = c.in-Ok.layout in
-    let uses = c.in-Ok-derive_on.ensures.uses in
     subst (λ side. AuditUses g.R.ByteSource.bytes_left g.R.ByteSource.counts side (c.args.tiles.now, c.args.products.now) (c.derive_on.new.inputs, c.derive_on.new.products) (Ok tt)) c.in-Ok.ensures.layout.side_is
-    (four_used g.R.ByteSource.bytes_left g.R.ByteSource.counts t.side (c.args.tiles.now, c.args.products.now) (c.derive_on.new.inputs, c.derive_on.new.products) (Ok tt) (Ok tt) (λ h. h, λ h. h) tt uses)
+    (four_used g.R.ByteSource.bytes_left g.R.ByteSource.counts t.side (c.args.tiles.now, c.args.products.now) (c.derive_on.new.inputs, c.derive_on.new.products) None c.in-Ok-derive_on.ensures.uses)
 
 pub returns-in-Err-derive_on-clause-err : goal.returns-in-Err-derive_on-clause-err
 returns-in-Err-derive_on-clause-err g c = λ inputs tell.
@@ -40,9 +40,7 @@ returns-in-Err-derive_on-clause-err g c = λ inputs tell.
 pub returns-in-Err-derive_on-clause-uses : goal.returns-in-Err-derive_on-clause-uses
 returns-in-Err-derive_on-clause-uses g c =
     let t = c.in-Ok.layout in
-    let uses = c.in-Err-derive_on.ensures.uses in
     let why = c.in-Err-derive_on.why in
     subst (AuditUses g.R.ByteSource.bytes_left g.R.ByteSource.counts c.args.side (c.args.tiles.now, c.args.products.now) (c.derive_on.new.inputs, c.derive_on.new.products)) (same_reading Derived (Tiling × Derived) why)
     (subst (λ side. AuditUses g.R.ByteSource.bytes_left g.R.ByteSource.counts side (c.args.tiles.now, c.args.products.now) (c.derive_on.new.inputs, c.derive_on.new.products) (reading_in {T = Derived} (Err why))) c.in-Ok.ensures.layout.side_is
-    (four_used g.R.ByteSource.bytes_left g.R.ByteSource.counts t.side (c.args.tiles.now, c.args.products.now) (c.derive_on.new.inputs, c.derive_on.new.products) (reading_in {T = Derived} (Err why)) (reading_in {T = Derived} (Err why)) (λ h. h, λ h. h)
-    uses.untouched uses))
+    (four_used g.R.ByteSource.bytes_left g.R.ByteSource.counts t.side (c.args.tiles.now, c.args.products.now) (c.derive_on.new.inputs, c.derive_on.new.products) (told_by (reading_in {T = Derived} (Err why))) c.in-Err-derive_on.ensures.uses))

@@ -1,7 +1,8 @@
-use Rattle.std.proofs.Common.{Ok, Err, refl, subst}
+use Rattle.std.proofs.Common.{None, Err, refl, subst}
 use Rattle.drain_header.specs.Header.{Fields}
 use Rattle.drain_verdict.specs.DemGround.{AreHeadersKept, DemTakesAtMost, DemUses, dem_audit_devices}
 use Rattle.drain_verdict.specs.Inputs.{as_five}
+use Rattle.drain_verdict.specs.Reading.{told_by}
 use Rattle.drain_verdict.proofs.DemAnswers.{dem_four_used, header_answer, header_reads_none, refused_text}
 use Rattle.drain_verdict.proofs.DemSteps.{dem_takes_none}
 use Rattle.drain_verdict.proofs.InputLemmas.{set_uses_none}
@@ -17,18 +18,15 @@ pub returns-in-Err-clause-uses : goal.returns-in-Err-clause-uses
 returns-in-Err-clause-uses g c =
     let bl = g.R.ByteSource.bytes_left in
     let ct = g.R.ByteSource.counts in
-    set_uses_none as_five dem_audit_devices (DemTakesAtMost bl) AreHeadersKept bl ct c.args.dem.now c.args.products.now (Err c.in-Err.refusal) (dem_takes_none bl ct c.args.dem.now) refl
+    set_uses_none {T = Unit {0}} as_five dem_audit_devices (DemTakesAtMost bl) AreHeadersKept bl ct c.args.dem.now c.args.products.now (Err c.in-Err.refusal) (dem_takes_none bl ct c.args.dem.now) refl
     (header_reads_none _ _ c.in-Err.ensures.refusal)
 
 pub returns-in-Ok-derive_on-clause-uses : goal.returns-in-Ok-derive_on-clause-uses
 returns-in-Ok-derive_on-clause-uses g c =
-    let uses = c.in-Ok-derive_on.ensures.uses in
-    dem_four_used g.R.ByteSource.bytes_left g.R.ByteSource.counts (c.args.dem.now, c.args.products.now) (c.derive_on.new.inputs, c.derive_on.new.products) (Ok tt) (Ok tt) (λ h. h, λ h. h) tt uses
+    dem_four_used g.R.ByteSource.bytes_left g.R.ByteSource.counts (c.args.dem.now, c.args.products.now) (c.derive_on.new.inputs, c.derive_on.new.products) None c.in-Ok-derive_on.ensures.uses
 
 pub returns-in-Err-derive_on-clause-uses : goal.returns-in-Err-derive_on-clause-uses
 returns-in-Err-derive_on-clause-uses g c =
-    let uses = c.in-Err-derive_on.ensures.uses in
     let why = c.in-Err-derive_on.why in
     subst (DemUses as_five dem_audit_devices g.R.ByteSource.bytes_left g.R.ByteSource.counts (c.args.dem.now, c.args.products.now) (c.derive_on.new.inputs, c.derive_on.new.products)) (same_reading Derived (Fields × Derived) why)
-    (dem_four_used g.R.ByteSource.bytes_left g.R.ByteSource.counts (c.args.dem.now, c.args.products.now) (c.derive_on.new.inputs, c.derive_on.new.products) (reading_in {T = Derived} (Err why)) (reading_in {T = Derived} (Err why)) (λ h. h, λ h. h)
-    uses.untouched uses)
+    (dem_four_used g.R.ByteSource.bytes_left g.R.ByteSource.counts (c.args.dem.now, c.args.products.now) (c.derive_on.new.inputs, c.derive_on.new.products) (told_by (reading_in {T = Derived} (Err why))) c.in-Err-derive_on.ensures.uses)

@@ -1,4 +1,4 @@
-use Rattle.std.proofs.Common.{Ok, Err, refl, sym, subst}
+use Rattle.std.proofs.Common.{refl, sym, subst}
 use Rattle.std.proofs.lemmas.Result.{err_from_is_err_and}
 use Rattle.drain_grid.specs.Extent.{Extent}
 use Rattle.drain_paths.specs.Flows.{AreFirstFlows, AreFlowsOf}
@@ -6,9 +6,7 @@ use Rattle.drain_paths.proofs.GridFlows.{AreFirstFlows-none, AreFlowsOf-all}
 use Rattle.drain_verdict.specs.GroundSets.{EncodeTexts, GroundSet, set_grid, set_products}
 use Rattle.drain_verdict.specs.Inputs.{as_five}
 use Rattle.drain_verdict.specs.Uses.{set_devices}
-use Rattle.drain_verdict.proofs.AuditDevices.{failed_alike}
-use Rattle.drain_verdict.proofs.InputLemmas.{set_uses_alike}
-use Rattle.drain_maker.proofs.DerivedRasters.{counted_alike, counted_untouched, if_same, of_memory_says_nothing}
+use Rattle.drain_maker.proofs.DerivedRasters.{counted_uses, if_same, of_memory_says_nothing}
 use Rattle.drain_maker.proofs.derivation.flows_on.Goals as goal
 
 pub read_set-requires-clause-unnoted : goal.read_set-requires-clause-unnoted
@@ -22,10 +20,7 @@ returns-in_err-read_set-clause-err g c =
 pub returns-in_err-read_set-clause-uses : goal.returns-in_err-read_set-clause-uses
 returns-in_err-read_set-clause-uses g c =
     let told = err_from_is_err_and c.from_residual.result c.from_residual.ensures.1 in
-    let uses = c.in_err-read_set.ensures.uses in
-    rw (told.1, told.2) (set_uses_alike as_five (λ xs ps. set_devices g.T.GroundInput.devices xs (as_five ps)) (g.T.GroundInput.within c.args.frame.now) g.T.GroundInput.kept g.R.ByteSource.bytes_left g.R.ByteSource.counts
-    (c.args.inputs.now, c.args.products.now) (c.read_set.new.inputs, c.read_set.new.products)
-    (Err c.in_err-read_set.field-0.0) (Err c.in_err-read_set.field-0.0) (failed_alike c.in_err-read_set.field-0.0) uses.untouched uses)
+    rw (told.1, told.2) c.in_err-read_set.ensures.uses
 
 pub returns-clause-flows : goal.returns-clause-flows
 returns-clause-flows g c =
@@ -43,7 +38,5 @@ returns-clause-err g c = of_memory_says_nothing c.counted.result _ c.counted.ens
 
 pub returns-clause-uses : goal.returns-clause-uses
 returns-clause-uses g c =
-    set_uses_alike as_five (λ xs ps. set_devices g.T.GroundInput.devices xs (as_five ps)) (g.T.GroundInput.within c.args.frame.now) g.T.GroundInput.kept g.R.ByteSource.bytes_left g.R.ByteSource.counts
-    (c.args.inputs.now, c.args.products.now) (c.read_set.new.inputs, c.read_set.new.products)
-    (Ok c.in_ok-read_set.field-0) c.counted.result (counted_alike c.in_ok-read_set.field-0 c.counted.result c.counted.ensures.err)
-    (counted_untouched _ c.counted.result c.counted.ensures.err) c.in_ok-read_set.ensures.uses
+    counted_uses as_five (λ xs ps. set_devices g.T.GroundInput.devices xs (as_five ps)) (g.T.GroundInput.within c.args.frame.now) g.T.GroundInput.kept g.R.ByteSource.bytes_left g.R.ByteSource.counts
+    (c.args.inputs.now, c.args.products.now) (c.read_set.new.inputs, c.read_set.new.products) c.counted.result c.counted.ensures.err c.in_ok-read_set.ensures.uses

@@ -1,8 +1,8 @@
-use Rattle.std.proofs.Common.{map, rules}
+use Rattle.std.proofs.Common.{◌≡◌, Err, ap, map, rules}
 use Rattle.std.proofs.lemmas.Result.{err_from_is_err_and}
 use Rattle.drain_device.proofs.FaultLists.{SomeReadFails-iff, SomeReadFails-none}
+use Rattle.drain_answer.specs.declared.refusal.Refusal.TheVariants.{ReadFailed}
 use Rattle.drain_verdict.specs.DemGround.{dem_devices}
-use Rattle.drain_verdict.proofs.AuditDevices.{failed_alike}
 use Rattle.drain_verdict.proofs.DemAnswers.{header_reads_none, refused_text}
 use Rattle.drain_maker.proofs.DemReading.{body_refused, dem_read, header_refused, one_fails, told_header, told_one}
 use Rattle.drain_maker.proofs.whole_dem.read_dem.Goals as goal
@@ -28,7 +28,7 @@ returns-in_err-raster-clause-refusal g c =
 pub returns-in_err-raster-clause-faults : goal.returns-in_err-raster-clause-faults
 returns-in_err-raster-clause-faults g c =
     let is = err_from_is_err_and c.from_residual-in_err-raster.result c.from_residual-in_err-raster.ensures.1 in
-    rw (is.1, is.2) (SomeReadFails-iff (failed_alike c.in_err-raster.field-0.0)
+    rw (is.1, is.2) (SomeReadFails-iff (λ is. (let same : c.in_err-raster.field-0.0 ≡ ReadFailed = cc in ap Err same), λ is. (let same : c.in_err-raster.field-0.0 ≡ ReadFailed = cc in ap Err same))
     (one_fails g.R.ByteSource.bytes_left g.R.ByteSource.counts c.args.dem.now _ c.read_pixels.new.body (search rules) c.in_err-raster.ensures.faults))
 
 pub returns-clause-dem : goal.returns-clause-dem

@@ -1,9 +1,8 @@
-use Rattle.std.proofs.Common.{Ok}
+use Rattle.std.proofs.Common.{None, Some}
 use Rattle.std.proofs.lemmas.Result.{err_from_is_err_and}
 use Rattle.drain_verdict.specs.GroundSets.{set_grid, set_numbers, set_products}
 use Rattle.drain_verdict.proofs.AuditAnswers.{both_are}
-use Rattle.drain_verdict.proofs.AuditDevices.{none_alike}
-use Rattle.drain_verdict.proofs.DemAnswers.{dem_four_failed, dem_four_used, dem_set}
+use Rattle.drain_verdict.proofs.DemAnswers.{dem_four_used, dem_set}
 use Rattle.drain_verdict.proofs.dem_auditor.audit_of.Goals as goal
 
 pub returns-in_err-judgement-clause-answer : goal.returns-in_err-judgement-clause-answer
@@ -14,7 +13,7 @@ returns-in_err-judgement-clause-answer g c = λ d t tell told.
 pub returns-in_err-judgement-clause-uses : goal.returns-in_err-judgement-clause-uses
 returns-in_err-judgement-clause-uses g c =
     let is = err_from_is_err_and c.from_residual.result c.from_residual.ensures.1 in
-    rw (is.1, is.2) (dem_four_failed g.R.ByteSource.bytes_left g.R.ByteSource.counts (c.args.dem.now, c.args.products.now) (c.judge_dem.new.dem, c.judge_dem.new.products) c.in_err-judgement.field-0.0 c.in_err-judgement.ensures.uses)
+    rw (is.1, is.2) (dem_four_used g.R.ByteSource.bytes_left g.R.ByteSource.counts (c.args.dem.now, c.args.products.now) (c.judge_dem.new.dem, c.judge_dem.new.products) (Some c.in_err-judgement.field-0.0) c.in_err-judgement.ensures.uses)
 
 pub returns-clause-answer : goal.returns-clause-answer
 returns-clause-answer g c = λ d t tell told.
@@ -27,5 +26,4 @@ returns-clause-answer g c = λ d t tell told.
 
 pub returns-clause-uses : goal.returns-clause-uses
 returns-clause-uses g c =
-    dem_four_used g.R.ByteSource.bytes_left g.R.ByteSource.counts (c.args.dem.now, c.args.products.now) (c.judge_dem.new.dem, c.judge_dem.new.products)
-    (Ok c.in_ok-judgement.judgement) (Ok c.verdict_of_both.result) (none_alike c.in_ok-judgement.judgement c.verdict_of_both.result) tt c.in_ok-judgement.ensures.uses
+    dem_four_used g.R.ByteSource.bytes_left g.R.ByteSource.counts (c.args.dem.now, c.args.products.now) (c.judge_dem.new.dem, c.judge_dem.new.products) None c.in_ok-judgement.ensures.uses

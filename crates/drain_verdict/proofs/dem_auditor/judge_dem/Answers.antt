@@ -17,7 +17,7 @@ returns-in_err-header-clause-uses g c =
     let inputs = g.P.ProductInputs.inputs in
     let bl = g.R.ByteSource.bytes_left in
     let ct = g.R.ByteSource.counts in
-    rw (is.1, is.2) (set_uses_none inputs (λ xs ps. dem_check_devices xs (inputs ps)) (DemTakesAtMost bl) AreHeadersKept bl ct c.args.dem.now c.args.products.now (Err c.in_err-header.field-0.0)
+    rw (is.1, is.2) (set_uses_none {T = Unit {0}} inputs (λ xs ps. dem_check_devices xs (inputs ps)) (DemTakesAtMost bl) AreHeadersKept bl ct c.args.dem.now c.args.products.now (Err c.in_err-header.field-0.0)
     (dem_takes_none bl ct c.args.dem.now) refl (header_reads_none _ _ c.in_err-header.ensures.refusal))
 
 pub judge_set-requires-clause-unnoted : goal.judge_set-requires-clause-unnoted

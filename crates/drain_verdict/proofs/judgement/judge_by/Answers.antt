@@ -7,10 +7,8 @@ use Rattle.drain_verdict.specs.Given.{Given}
 use Rattle.drain_verdict.specs.GroundSets.{GroundSet, rules_in, set_grid, set_products}
 use Rattle.drain_verdict.specs.Texts.{set_listed}
 use Rattle.drain_verdict.specs.Uses.{set_devices}
-use Rattle.drain_verdict.proofs.AuditDevices.{failed_alike, none_alike}
-use Rattle.drain_verdict.proofs.OutcomeLemmas.{memory_alike}
 use Rattle.drain_verdict.proofs.SinkAnswers.{listed_ok}
-use Rattle.drain_verdict.proofs.InputLemmas.{set_uses_alike}
+use Rattle.drain_verdict.proofs.InputLemmas.{no_memory_left}
 use Rattle.drain_verdict.proofs.judgement.judge_by.Goals as goal
 
 pub read_set-requires-clause-unnoted : goal.read_set-requires-clause-unnoted
@@ -24,11 +22,7 @@ returns-in_err-read_set-clause-answer g c =
 pub returns-in_err-read_set-clause-uses : goal.returns-in_err-read_set-clause-uses
 returns-in_err-read_set-clause-uses g c =
     let told = err_from_is_err_and c.from_residual.result c.from_residual.ensures.1 in
-    let uses = c.in_err-read_set.ensures.uses in
-    let inputs = g.P.ProductInputs.inputs in
-    rw (told.1, told.2) (set_uses_alike inputs (λ xs ps. set_devices g.T.GroundInput.devices xs (inputs ps)) (g.T.GroundInput.within c.args.frame.now) g.T.GroundInput.kept g.R.ByteSource.bytes_left g.R.ByteSource.counts
-    (c.args.inputs.now, c.args.products.now) (c.read_set.new.inputs, c.read_set.new.products)
-    (Err c.in_err-read_set.field-0.0) (Err c.in_err-read_set.field-0.0) (failed_alike c.in_err-read_set.field-0.0) uses.untouched uses)
+    rw (told.1, told.2) c.in_err-read_set.ensures.uses
 
 pub returns-in-Ok-clause-answer : goal.returns-in-Ok-clause-answer
 returns-in-Ok-clause-answer g c = λ x t means tell.
@@ -62,15 +56,10 @@ returns-in-Ok-clause-flows g c = λ x t means tell.
     (c.in-Ok.ensures.flows (rules_in c.args.judged s) (set_grid s) (set_products s) (sym extent) rows)
 
 pub returns-in-Ok-clause-uses : goal.returns-in-Ok-clause-uses
-returns-in-Ok-clause-uses g c =
-    let inputs = g.P.ProductInputs.inputs in
-    set_uses_alike inputs (λ xs ps. set_devices g.T.GroundInput.devices xs (inputs ps)) (g.T.GroundInput.within c.args.frame.now) g.T.GroundInput.kept g.R.ByteSource.bytes_left g.R.ByteSource.counts
-    (c.args.inputs.now, c.args.products.now) (c.read_set.new.inputs, c.read_set.new.products)
-    (Ok c.in_ok-read_set.field-0) (Ok _) (none_alike c.in_ok-read_set.field-0 _) tt c.in_ok-read_set.ensures.uses
+returns-in-Ok-clause-uses g c = c.in_ok-read_set.ensures.uses
 
 pub returns-in-Err-clause-uses : goal.returns-in-Err-clause-uses
 returns-in-Err-clause-uses g c =
     let inputs = g.P.ProductInputs.inputs in
-    set_uses_alike inputs (λ xs ps. set_devices g.T.GroundInput.devices xs (inputs ps)) (g.T.GroundInput.within c.args.frame.now) g.T.GroundInput.kept g.R.ByteSource.bytes_left g.R.ByteSource.counts
-    (c.args.inputs.now, c.args.products.now) (c.read_set.new.inputs, c.read_set.new.products)
-    (Ok c.in_ok-read_set.field-0) (Err OutOfMemory) (memory_alike c.in_ok-read_set.field-0) (λ not. absurd (not tt)) c.in_ok-read_set.ensures.uses
+    no_memory_left inputs (λ xs ps. set_devices g.T.GroundInput.devices xs (inputs ps)) (g.T.GroundInput.within c.args.frame.now) g.T.GroundInput.kept g.R.ByteSource.bytes_left g.R.ByteSource.counts
+    (c.args.inputs.now, c.args.products.now) (c.read_set.new.inputs, c.read_set.new.products) c.in_ok-read_set.ensures.uses

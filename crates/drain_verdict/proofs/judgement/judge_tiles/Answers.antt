@@ -14,7 +14,7 @@ pub returns-in_err-layout-clause-uses : goal.returns-in_err-layout-clause-uses
 returns-in_err-layout-clause-uses g c =
     let told = err_from_is_err_and c.from_residual.result c.from_residual.ensures.1 in
     let inputs = g.P.ProductInputs.inputs in
-    rw (told.1, told.2) (uses_none inputs (λ ts ps. devices_of ts (inputs ps)) g.R.ByteSource.bytes_left g.R.ByteSource.counts c.args.side c.args.tiles.now c.args.products.now (Err c.in_err-layout.field-0.0)
+    rw (told.1, told.2) (uses_none {T = Unit {0}} inputs (λ ts ps. devices_of ts (inputs ps)) g.R.ByteSource.bytes_left g.R.ByteSource.counts c.args.side c.args.tiles.now c.args.products.now (Err c.in_err-layout.field-0.0)
     (layout_reads_none _ _ _ c.in_err-layout.ensures.refusal))
 
 pub judge-requires-clause-laid : goal.judge-requires-clause-laid

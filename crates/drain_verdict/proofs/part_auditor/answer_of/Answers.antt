@@ -1,20 +1,18 @@
-use Rattle.std.proofs.Common.{Ok}
+use Rattle.std.proofs.Common.{None, Some}
 use Rattle.std.proofs.lemmas.Result.{err_from_is_err_and}
 use Rattle.drain_verdict.specs.Meaning.{input_grid, nodata_numbers, input_products}
-use Rattle.drain_verdict.proofs.AuditDevices.{none_alike}
 use Rattle.drain_verdict.proofs.OutcomeLemmas.{outcome_is}
-use Rattle.drain_verdict.proofs.InputLemmas.{four_failed, four_used}
+use Rattle.drain_verdict.proofs.InputLemmas.{four_used}
 use Rattle.drain_verdict.proofs.part_auditor.answer_of.Goals as goal
 
 pub returns-in_err-judgement-clause-uses : goal.returns-in_err-judgement-clause-uses
 returns-in_err-judgement-clause-uses g c =
     let told = err_from_is_err_and c.from_residual.result c.from_residual.ensures.1 in
-    rw (told.1, told.2) (four_failed g.R.ByteSource.bytes_left g.R.ByteSource.counts c.args.side (c.args.tiles.now, c.args.products.now) (c.judge_tiles.new.tiles, c.judge_tiles.new.products) c.in_err-judgement.field-0.0 c.in_err-judgement.ensures.uses)
+    rw (told.1, told.2) (four_used g.R.ByteSource.bytes_left g.R.ByteSource.counts c.args.side (c.args.tiles.now, c.args.products.now) (c.judge_tiles.new.tiles, c.judge_tiles.new.products) (Some c.in_err-judgement.field-0.0) c.in_err-judgement.ensures.uses)
 
 pub returns-clause-uses : goal.returns-clause-uses
 returns-clause-uses g c =
-    four_used g.R.ByteSource.bytes_left g.R.ByteSource.counts c.args.side (c.args.tiles.now, c.args.products.now) (c.judge_tiles.new.tiles, c.judge_tiles.new.products)
-    (Ok c.in_ok-judgement.judgement) (Ok c.outcome_of.result) (none_alike c.in_ok-judgement.judgement c.outcome_of.result) tt c.in_ok-judgement.ensures.uses
+    four_used g.R.ByteSource.bytes_left g.R.ByteSource.counts c.args.side (c.args.tiles.now, c.args.products.now) (c.judge_tiles.new.tiles, c.judge_tiles.new.products) None c.in_ok-judgement.ensures.uses
 
 pub returns-clause-answer : goal.returns-clause-answer
 returns-clause-answer g c = λ inputs tell.

@@ -1,9 +1,10 @@
 use Rattle.std.proofs.Common.{Err}
 use Rattle.std.proofs.lemmas.Result.{err_from_is_err_and}
+use Rattle.drain_device.proofs.FaultLists.{SomeReadFails-iff}
 use Rattle.drain_rows.proofs.WindowLemmas.{on-ok}
 use Rattle.drain_verdict.specs.Uses.{set_devices}
 use Rattle.drain_verdict.proofs.HeaderAnswers.{alike, headers_of_same, told_of_same}
-use Rattle.drain_verdict.proofs.InputLemmas.{of_bodies_may, set_uses_none}
+use Rattle.drain_verdict.proofs.InputLemmas.{of_bodies_may, set_uses_none, told_failed}
 use Rattle.drain_verdict.proofs.StartAnswers.{header_answer, header_reads_none, started, takes_as_told}
 use Rattle.drain_verdict.proofs.read_set.read_set.Goals as goal
 
@@ -19,7 +20,7 @@ pub returns-in_err-headers-clause-uses : goal.returns-in_err-headers-clause-uses
 returns-in_err-headers-clause-uses g c =
     let told = err_from_is_err_and c.from_residual.result c.from_residual.ensures.1 in
     let inputs = g.P.ProductInputs.inputs in
-    rw (told.1, told.2) (set_uses_none inputs (λ xs ps. set_devices g.T.GroundInput.devices xs (inputs ps)) (g.T.GroundInput.within c.args.frame.now) g.T.GroundInput.kept g.R.ByteSource.bytes_left g.R.ByteSource.counts
+    rw (told.1, told.2) (set_uses_none {T = Unit {0}} inputs (λ xs ps. set_devices g.T.GroundInput.devices xs (inputs ps)) (g.T.GroundInput.within c.args.frame.now) g.T.GroundInput.kept g.R.ByteSource.bytes_left g.R.ByteSource.counts
     c.args.inputs.now c.args.products.now (Err c.in_err-headers.field-0.0) (c.reading_laws.ensures.none_within c.args.frame.now c.args.inputs.now) (c.reading_laws.ensures.none_kept c.args.inputs.now)
     (header_reads_none _ _ _ _ _ c.in_err-headers.ensures.refusal))
 
@@ -55,7 +56,7 @@ returns-clause-uses g c =
           takes_as_told g.R.ByteSource.bytes_left _ _ _ (g.P.ProductInputs.inputs c.args.products.now) (g.P.ProductInputs.inputs c.read_bodies.new.products) c.in_ok-headers.headers
           (headers_of_same _ _ _ _ _ _ c.in_ok-headers.ensures.headers c.texts.ensures) p
           (body.rasters_within p);
-      faults = body.faults;
+      faults = SomeReadFails-iff (told_failed c.read_bodies.result) body.faults;
       kept = body.kept;
       headers = body.headers;
       untouched = of_bodies_may _ c.read_bodies.result body.of_bodies;

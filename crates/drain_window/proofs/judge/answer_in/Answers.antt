@@ -1,10 +1,9 @@
-use Rattle.std.proofs.Common.{◌∙◌, Ok, Err, ap, subst}
+use Rattle.std.proofs.Common.{◌∙◌, None, Ok, Err, ap, subst}
 use Rattle.drain_grid.specs.declared.cell.Cell.{Cell}
 use Rattle.drain_verdict.specs.Inputs.{as_five}
 use Rattle.drain_verdict.specs.Meaning.{input_grid, input_products, nodata_numbers}
 use Rattle.drain_verdict.proofs.StartAnswers.{layout_of_inputs, of_tiles}
 use Rattle.drain_verdict.proofs.InputLemmas.{four_used}
-use Rattle.drain_verdict.proofs.AuditDevices.{none_alike}
 use Rattle.drain_window.proofs.WindowReports.{refused, with_tiles_uses}
 use Rattle.drain_window.proofs.WindowVerdicts.{refused_answer, with_tiles_agree, with_tiles_answer}
 use Rattle.drain_window.specs.WindowLines.{map_origin}
@@ -30,7 +29,7 @@ returns-in-Ok-clause-uses g c =
     with_tiles_uses g.R.ByteSource.bytes_left g.R.ByteSource.counts c.args.layout.now.side (c.args.tiles.now, c.args.products.now) (c.judge_ground.new.inputs, c.judge_ground.new.products)
     c.args.layout.now v r c.with_tiles.result c.with_tiles.ensures
     (four_used g.R.ByteSource.bytes_left g.R.ByteSource.counts c.args.layout.now.side (c.args.tiles.now, c.args.products.now) (c.judge_ground.new.inputs, c.judge_ground.new.products)
-    (Ok (v, r)) (Ok (v, r)) (none_alike (v, r) (v, r)) tt c.in-Ok.ensures.uses)
+    None c.in-Ok.ensures.uses)
 
 pub returns-in-Ok-clause-agree : goal.returns-in-Ok-clause-agree
 returns-in-Ok-clause-agree g c =

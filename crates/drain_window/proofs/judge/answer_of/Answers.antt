@@ -11,7 +11,7 @@ returns-in-Err-clause-answer g c = λ inputs tell.
 
 pub returns-in-Err-clause-uses : goal.returns-in-Err-clause-uses
 returns-in-Err-clause-uses g c =
-    uses_none as_five audit_devices g.R.ByteSource.bytes_left g.R.ByteSource.counts c.args.side c.args.tiles.now c.args.products.now (Err c.in-Err.refusal)
+    uses_none {T = Unit {0}} as_five audit_devices g.R.ByteSource.bytes_left g.R.ByteSource.counts c.args.side c.args.tiles.now c.args.products.now (Err c.in-Err.refusal)
     (layout_reads_none _ _ _ c.in-Err.ensures.refusal)
 
 pub answer_in-requires : goal.answer_in-requires

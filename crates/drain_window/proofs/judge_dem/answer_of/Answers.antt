@@ -1,5 +1,4 @@
-use Rattle.std.proofs.Common.{Ok, Err, refl}
-use Rattle.drain_verdict.proofs.AuditDevices.{none_alike}
+use Rattle.std.proofs.Common.{None, Err, refl}
 use Rattle.drain_verdict.proofs.DemAnswers.{dem_four_used, header_answer, header_reads_none, refused_text}
 use Rattle.drain_verdict.proofs.DemSteps.{dem_takes_none}
 use Rattle.drain_verdict.proofs.InputLemmas.{set_uses_none}
@@ -15,13 +14,13 @@ pub returns-in-Err-clause-uses : goal.returns-in-Err-clause-uses
 returns-in-Err-clause-uses g c =
     let bl = g.R.ByteSource.bytes_left in
     let ct = g.R.ByteSource.counts in
-    set_uses_none as_five dem_audit_devices (DemTakesAtMost bl) AreHeadersKept bl ct c.args.dem.now c.args.products.now (Err c.in-Err.refusal) (dem_takes_none bl ct c.args.dem.now) refl
+    set_uses_none {T = Unit {0}} as_five dem_audit_devices (DemTakesAtMost bl) AreHeadersKept bl ct c.args.dem.now c.args.products.now (Err c.in-Err.refusal) (dem_takes_none bl ct c.args.dem.now) refl
     (header_reads_none _ _ c.in-Err.ensures.refusal)
 
 pub returns-in-Ok-judge_ground-clause-uses : goal.returns-in-Ok-judge_ground-clause-uses
 returns-in-Ok-judge_ground-clause-uses g c =
     dem_four_used g.R.ByteSource.bytes_left g.R.ByteSource.counts (c.args.dem.now, c.args.products.now) (c.judge_ground.new.inputs, c.judge_ground.new.products)
-    (Ok (c.in-Ok-judge_ground.verdict, c.in-Ok-judge_ground.report)) (Ok _) (none_alike (c.in-Ok-judge_ground.verdict, c.in-Ok-judge_ground.report) _) tt c.in-Ok-judge_ground.ensures.uses
+    None c.in-Ok-judge_ground.ensures.uses
 
 pub returns-in-Err-judge_ground-clause-uses : goal.returns-in-Err-judge_ground-clause-uses
 returns-in-Err-judge_ground-clause-uses g c =

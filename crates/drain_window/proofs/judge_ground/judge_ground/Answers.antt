@@ -10,7 +10,7 @@ use Rattle.drain_window.proofs.judge_ground.judge_ground.Goals as goal
 
 pub returns-then-not-is_origin-clause-uses : goal.returns-then-not-is_origin-clause-uses
 returns-then-not-is_origin-clause-uses g c =
-    set_uses_none as_five (λ xs ps. set_devices g.T.GroundInput.devices xs (as_five ps)) (g.T.GroundInput.within c.args.frame.now) g.T.GroundInput.kept g.R.ByteSource.bytes_left g.R.ByteSource.counts
+    set_uses_none {T = Unit {0}} as_five (λ xs ps. set_devices g.T.GroundInput.devices xs (as_five ps)) (g.T.GroundInput.within c.args.frame.now) g.T.GroundInput.kept g.R.ByteSource.bytes_left g.R.ByteSource.counts
     c.args.inputs.now c.args.products.now (Err BoxTooLarge) (c.reading_laws.ensures.none_within c.args.frame.now c.args.inputs.now) (c.reading_laws.ensures.none_kept c.args.inputs.now) outside_reads_none
 
 pub returns-in-Ok-clause-answer : goal.returns-in-Ok-clause-answer

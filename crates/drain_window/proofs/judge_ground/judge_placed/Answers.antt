@@ -1,16 +1,13 @@
-use Rattle.std.proofs.Common.{◌≡◌, ◌<◌, ◌∙◌, Ok, Err, sym, ap, subst, arith, rules}
+use Rattle.std.proofs.Common.{◌≡◌, ◌<◌, ◌∙◌, sym, ap, subst, arith, rules}
 use Rattle.std.proofs.lemmas.Result.{err_from_is_err_and}
 use Rattle.drain_grid.specs.Extent.{Extent, IsExtent}
 use Rattle.drain_grid.specs.SinkTexts.{is_listed, sinks_of}
-use Rattle.drain_verdict.proofs.AuditDevices.{failed_alike, none_alike}
-use Rattle.drain_verdict.proofs.InputLemmas.{set_uses_alike}
-use Rattle.drain_verdict.proofs.OutcomeLemmas.{memory_alike}
+use Rattle.drain_verdict.proofs.InputLemmas.{no_memory_left}
 use Rattle.drain_verdict.specs.Given.{Given, spacing_from}
 use Rattle.drain_verdict.specs.GroundSets.{GroundSet, set_grid, set_numbers, set_products}
 use Rattle.drain_verdict.specs.Inputs.{as_five}
 use Rattle.drain_verdict.specs.Texts.{lines_in}
 use Rattle.drain_verdict.specs.Uses.{set_devices}
-use Rattle.drain_answer.specs.declared.refusal.Refusal.TheVariants.{OutOfMemory}
 use Rattle.drain_union.specs.Windows.{IsPlaceIn}
 use Rattle.drain_window.proofs.RowLists.{as_given}
 use Rattle.drain_window.proofs.judge_ground.judge_placed.Goals as goal
@@ -29,10 +26,7 @@ returns-in_err-read_set-clause-answer g c =
 pub returns-in_err-read_set-clause-uses : goal.returns-in_err-read_set-clause-uses
 returns-in_err-read_set-clause-uses g c =
     let told = err_from_is_err_and c.from_residual.result c.from_residual.ensures.1 in
-    let uses = c.in_err-read_set.ensures.uses in
-    rw (told.1, told.2) (set_uses_alike as_five (λ xs ps. set_devices g.T.GroundInput.devices xs (as_five ps)) (g.T.GroundInput.within c.args.frame.now) g.T.GroundInput.kept g.R.ByteSource.bytes_left g.R.ByteSource.counts
-    (c.args.inputs.now, c.args.products.now) (c.read_set.new.inputs, c.read_set.new.products)
-    (Err c.in_err-read_set.field-0.0) (Err c.in_err-read_set.field-0.0) (failed_alike c.in_err-read_set.field-0.0) uses.untouched uses)
+    rw (told.1, told.2) c.in_err-read_set.ensures.uses
 
 pub returns-in-Some-clause-answer : goal.returns-in-Some-clause-answer
 returns-in-Some-clause-answer g c = λ x t means tell.
@@ -53,25 +47,19 @@ returns-in-Some-clause-answer g c = λ x t means tell.
     )
 
 pub returns-in-Some-clause-uses : goal.returns-in-Some-clause-uses
-returns-in-Some-clause-uses g c =
-    set_uses_alike as_five (λ xs ps. set_devices g.T.GroundInput.devices xs (as_five ps)) (g.T.GroundInput.within c.args.frame.now) g.T.GroundInput.kept g.R.ByteSource.bytes_left g.R.ByteSource.counts
-    (c.args.inputs.now, c.args.products.now) (c.read_set.new.inputs, c.read_set.new.products)
-    (Ok c.in_ok-read_set.field-0) (Ok _) (none_alike c.in_ok-read_set.field-0 _) tt c.in_ok-read_set.ensures.uses
+returns-in-Some-clause-uses g c = c.in_ok-read_set.ensures.uses
 
 pub returns-in-None-clause-uses : goal.returns-in-None-clause-uses
 returns-in-None-clause-uses g c =
-    set_uses_alike as_five (λ xs ps. set_devices g.T.GroundInput.devices xs (as_five ps)) (g.T.GroundInput.within c.args.frame.now) g.T.GroundInput.kept g.R.ByteSource.bytes_left g.R.ByteSource.counts
-    (c.args.inputs.now, c.args.products.now) (c.read_set.new.inputs, c.read_set.new.products)
-    (Ok c.in_ok-read_set.field-0) (Err OutOfMemory) (memory_alike c.in_ok-read_set.field-0) (λ not. absurd (not tt)) c.in_ok-read_set.ensures.uses
+    no_memory_left as_five (λ xs ps. set_devices g.T.GroundInput.devices xs (as_five ps)) (g.T.GroundInput.within c.args.frame.now) g.T.GroundInput.kept g.R.ByteSource.bytes_left g.R.ByteSource.counts
+    (c.args.inputs.now, c.args.products.now) (c.read_set.new.inputs, c.read_set.new.products) c.in_ok-read_set.ensures.uses
 
 pub returns-in_default-clause-uses : goal.returns-in_default-clause-uses
 returns-in_default-clause-uses g c =
-    set_uses_alike as_five (λ xs ps. set_devices g.T.GroundInput.devices xs (as_five ps)) (g.T.GroundInput.within c.args.frame.now) g.T.GroundInput.kept g.R.ByteSource.bytes_left g.R.ByteSource.counts
-    (c.args.inputs.now, c.args.products.now) (c.read_set.new.inputs, c.read_set.new.products)
-    (Ok c.in_ok-read_set.field-0) (Err OutOfMemory) (memory_alike c.in_ok-read_set.field-0) (λ not. absurd (not tt)) c.in_ok-read_set.ensures.uses
+    no_memory_left as_five (λ xs ps. set_devices g.T.GroundInput.devices xs (as_five ps)) (g.T.GroundInput.within c.args.frame.now) g.T.GroundInput.kept g.R.ByteSource.bytes_left g.R.ByteSource.counts
+    (c.args.inputs.now, c.args.products.now) (c.read_set.new.inputs, c.read_set.new.products) c.in_ok-read_set.ensures.uses
 
 pub returns-in_default-judged_spacings-clause-uses : goal.returns-in_default-judged_spacings-clause-uses
 returns-in_default-judged_spacings-clause-uses g c =
-    set_uses_alike as_five (λ xs ps. set_devices g.T.GroundInput.devices xs (as_five ps)) (g.T.GroundInput.within c.args.frame.now) g.T.GroundInput.kept g.R.ByteSource.bytes_left g.R.ByteSource.counts
-    (c.args.inputs.now, c.args.products.now) (c.read_set.new.inputs, c.read_set.new.products)
-    (Ok c.in_ok-read_set.field-0) (Err OutOfMemory) (memory_alike c.in_ok-read_set.field-0) (λ not. absurd (not tt)) c.in_ok-read_set.ensures.uses
+    no_memory_left as_five (λ xs ps. set_devices g.T.GroundInput.devices xs (as_five ps)) (g.T.GroundInput.within c.args.frame.now) g.T.GroundInput.kept g.R.ByteSource.bytes_left g.R.ByteSource.counts
+    (c.args.inputs.now, c.args.products.now) (c.read_set.new.inputs, c.read_set.new.products) c.in_ok-read_set.ensures.uses
