@@ -5,7 +5,7 @@ use Rattle.drain_explain.specs.Explanations.{AreFindingsIn, IsEndlessIn}
 use Rattle.drain_explain.specs.Slopes.{slopes_of}
 use Rattle.drain_explain.specs.declared.fault_visitor.Mapping.{Mapping}
 use Rattle.drain_explain.specs.declared.fault_visitor.Mapping.TheVariants.{Drawn}
-use Rattle.drain_explain.specs.declared.findings.Findings.{Findings}
+use Rattle.drain_findings.specs.declared.findings.Findings.{Findings}
 use Rattle.drain_faults.specs.declared.fault_map.FaultMap.{FaultMap}
 use Rattle.drain_grid.specs.declared.judged.Judged.{Judged}
 use Rattle.drain_grid.specs.declared.product.Product.TheVariants as product

@@ -6,7 +6,7 @@ use Rattle.std.proofs.Math.Nat.{eq-or-lt_of_le}
 use Rattle.std.specs.Int.Signed.{≤ℤ_refl}
 use Rattle.std.specs.Int.RustNames.{int_lt}
 use Rattle.drain_explain.specs.ElevationRanges.{AreBounds, IsElevationAbove, IsOfRow, IsRange, joined}
-use Rattle.drain_explain.specs.declared.elevation_range.ElevationRange.{ElevationRange}
+use Rattle.drain_findings.specs.declared.elevation_range.ElevationRange.{ElevationRange}
 use Rattle.drain_grid.specs.Grid.{Grid, Products}
 use Rattle.drain_rules.specs.Rows.{AreNumbersOf, RowNumbers, place}
 

@@ -1,4 +1,2 @@
 mod Elevations
-mod TriedRules
 mod Noting
-mod UntriedRules

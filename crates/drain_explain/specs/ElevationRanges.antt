@@ -1,7 +1,7 @@
 -- The least and the greatest elevation, by their numbers, which are ordered as heights are. Source: this project's own.
 use Rattle.std.specs.Prelude.{◌≡◌, ◌<◌, ◌≤ℤ◌, ℕ, ℤ, List, slice_index_or, Option, None, Some}
 use Rattle.std.specs.Int.{int_max, int_min}
-use Rattle.drain_explain.specs.declared.elevation_range.ElevationRange.{ElevationRange}
+use Rattle.drain_findings.specs.declared.elevation_range.ElevationRange.{ElevationRange}
 use Rattle.drain_grid.specs.declared.cell.Cell.{Cell}
 use Rattle.drain_grid.specs.Grid.{Grid}
 

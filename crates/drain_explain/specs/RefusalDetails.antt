@@ -1,14 +1,14 @@
 -- What an explanation reports of refused inputs: what was expected, and what was found.
 use Rattle.std.specs.Prelude.{◌≡◌, ◌&&◌, ◌-◌, ◌∷◌, ℕ, List, length, take, nat_lt, Some, slice_get, if◌then◌else◌, ◌≢◌, ◌+◌, ◌*◌, ◌<◌, ℤ, [], Ok}
 use Rattle.drain_mosaic.specs.Tiling.{Tiling, extent_of, left_of, top_of, north_edge, spacing_of, west_edge}
-use Rattle.drain_explain.specs.declared.refusal_detail.NotData.TheVariants.{Void, Outside}
-use Rattle.drain_explain.specs.declared.refusal_detail.RefusalDetail.{RefusalDetail}
-use Rattle.drain_explain.specs.declared.refusal_detail.RefusalDetail.TheVariants.{SinkLine, SinkCell, SpacingLine, SpacingRows, Seam, Side, Name, Shape, Position, TileLength, RasterLength, PixelSize, DemLength, Kind}
-use Rattle.drain_explain.specs.declared.refusal_detail.TheConstants.{SHOWN_BYTES}
+use Rattle.drain_findings.specs.declared.refusal_detail.NotData.TheVariants.{Void, Outside}
+use Rattle.drain_findings.specs.declared.refusal_detail.RefusalDetail.{RefusalDetail}
+use Rattle.drain_findings.specs.declared.refusal_detail.RefusalDetail.TheVariants.{SinkLine, SinkCell, SpacingLine, SpacingRows, Seam, Side, Name, Shape, Position, TileLength, RasterLength, PixelSize, DemLength, Kind}
+use Rattle.drain_findings.specs.declared.refusal_detail.TheConstants.{SHOWN_BYTES}
 use Rattle.drain_text.specs.Text.{lines_of, words_of, whole_number}
 use Rattle.drain_grid.specs.declared.cell.Cell.{Cell}
 use Rattle.drain_grid.specs.declared.tile.TheConstants.{VOID}
-use Rattle.drain_explain.specs.declared.refusal_detail.TileValue.{TileValue}
+use Rattle.drain_findings.specs.declared.refusal_detail.TileValue.{TileValue}
 use Rattle.drain_answer.specs.declared.refusal.Refusal.{Refusal}
 use Rattle.drain_grid.specs.declared.height_kind.HeightKind.{HeightKind}
 use Rattle.drain_grid.specs.declared.height_kind.HeightKind.TheVariants.{Whole}

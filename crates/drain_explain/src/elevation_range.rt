@@ -3,15 +3,8 @@
 ghost use Rattle.std.specs.Prelude.{◌≡◌, Some, length};
 ghost use Rattle.drain_explain.specs.ElevationRanges.{IsOfRow, IsRange, joined};
 
+use drain_findings::ElevationRange;
 use drain_pixels::GroundRow;
-
-/// The least and the greatest elevation of some data cells, by their numbers: whole numbers in the unit of the elevations,
-/// or the places of floats among the floats, which are ordered as they are.
-#[derive(Clone, Copy, PartialEq, Eq, Debug)]
-pub struct ElevationRange {
-    pub least: i64,
-    pub greatest: i64,
-}
 
 /// The range of a row's elevations, none if all its cells are voids.
 pub(crate) fn range_of(row: &GroundRow) -> Option<ElevationRange>

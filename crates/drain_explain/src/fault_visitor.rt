@@ -6,8 +6,9 @@ ghost use Rattle.drain_grid.specs.declared.judged.Rules.{Rules};
 ghost use Rattle.drain_explain.specs.Explanations.{AreFaultNotes, IsWalkNoted};
 ghost use Rattle.drain_explain.specs.declared.fault_visitor.Mapping.TheVariants.{Drawn};
 
-use crate::elevation_range::{ElevationRange, joined, range_of};
+use crate::elevation_range::{joined, range_of};
 use drain_faults::FaultWalk;
+use drain_findings::ElevationRange;
 use drain_grid::{Judged, NoData, OutOfMemory, Rules, Shape, Verdict};
 use drain_rows::{RowBuffer, RowVisitor, VerdictVisitor};
 use drain_rules::ThreeRows;

@@ -10,17 +10,17 @@ pub mod explain;
 pub mod explain_dem;
 pub mod fault_visitor;
 pub mod findings;
-pub mod laws;
 pub mod refusal_detail;
 pub mod refused;
 pub mod seen;
 pub mod slopes;
 
-pub use elevation_range::ElevationRange;
+pub use drain_findings::{
+    ElevationRange, Extent, Findings, NotData, RefusalDetail, SHOWN_BYTES, Slopes, TileValue,
+    judged_product,
+};
 pub use explain::{explain_audit, explain_check};
 pub use explain_dem::{explain_audit_dem, explain_check_dem};
 pub use fault_visitor::{FaultVisitor, Mapping};
-pub use findings::{Explanation, Findings, answer_and_findings, judged_product};
-pub use refusal_detail::{Extent, NotData, RefusalDetail, SHOWN_BYTES, TileValue};
+pub use findings::{Explanation, answer_and_findings};
 pub use refused::{FileLookup, detail_of, detail_of_dem};
-pub use slopes::Slopes;

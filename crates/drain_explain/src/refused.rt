@@ -8,10 +8,10 @@ ghost use Rattle.drain_hgt.specs.Inputs.{names_of};
 ghost use Rattle.drain_verdict.specs.Stages.{IsLayoutOf};
 
 use crate::refusal_detail::{
-    Extent, RefusalDetail, seam_detail, sink_cell_detail, sink_line_detail, spacing_line_detail,
-    spacing_rows_detail,
+    seam_detail, sink_cell_detail, sink_line_detail, spacing_line_detail, spacing_rows_detail,
 };
 use drain_answer::Refusal;
+use drain_findings::{Extent, RefusalDetail};
 use drain_grid::{HeightKind, PerProduct, Product, Shape};
 use drain_header::{HeaderFault, Place, kind_said, parse_header_of};
 use drain_hgt::tile::tile_length;

@@ -1,7 +1,7 @@
 //! The facts of an explanation, for a page.
 
 use drain_answer::{Outcome, Refusal};
-use drain_explain::{Findings, RefusalDetail};
+use drain_findings::{Findings, RefusalDetail};
 
 /// An answer and its explanation, on a grid that lies there.
 #[derive(Drop)]

@@ -17,7 +17,7 @@ use crate::run::write_run;
 use crate::slopes::write_slopes;
 use drain_answer::outcome::Status;
 use drain_answer::outcome_report;
-use drain_explain::{ElevationRange, Findings, RefusalDetail};
+use drain_findings::{ElevationRange, Findings, RefusalDetail};
 use drain_grid::{HeightKind, OutOfMemory};
 use drain_mosaic::Layout;
 use std::alloc::{AllocError, Global};

@@ -7,8 +7,8 @@ use crate::json_text::{JsonText, JsonValue};
 use crate::numerals::{Numeral, kind_of, numeral_if_any};
 use crate::patch_text::rows_of;
 use crate::rules::placed;
-use drain_explain::Findings;
 use drain_faults::product_faults::{nodata_of, number_at};
+use drain_findings::Findings;
 use drain_grid::{CellValues, HeightKind, SetProduct};
 use std::alloc::AllocError;
 

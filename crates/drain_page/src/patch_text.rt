@@ -3,8 +3,8 @@
 use crate::expected::{expected_at, push_expected};
 use crate::frame::{Frame, Words};
 use crate::names::{Shown, shown_ground, shown_number, shown_word};
-use drain_explain::Findings;
 use drain_faults::FaultyPatch;
+use drain_findings::Findings;
 use drain_grid::{Cell, CellValues, Direction, HeightKind, NoData, Patch, SetProduct};
 use std::alloc::{AllocError, Global};
 

@@ -5,7 +5,7 @@ ghost use Rattle.std.specs.Prelude.{◌≡◌};
 use crate::json_text::{JsonText, JsonValue};
 use crate::kind_words::{push_kinds, write_kinds};
 use crate::names::{shown_bytes, units_text};
-use drain_explain::{Extent, NotData, RefusalDetail, TileValue};
+use drain_findings::{Extent, NotData, RefusalDetail, TileValue};
 use drain_grid::{MAX_SIDE, MIN_SIDE, Product};
 use drain_header::Place;
 use std::alloc::{AllocError, Global};

@@ -5,8 +5,8 @@ ghost use Rattle.std.specs.Prelude.{◌≡◌};
 use crate::frame::{Coordinate, Frame, Words};
 use crate::json_text::{JsonText, JsonValue};
 use crate::names::{shown_indented, shown_rule};
-use drain_explain::Findings;
 use drain_faults::{ProductFaults, RULES, RuleFaults};
+use drain_findings::Findings;
 use drain_grid::{Cell, Rule, SetProduct};
 use std::alloc::AllocError;
 

@@ -5,7 +5,7 @@ ghost use Rattle.std.specs.Prelude.{◌≡◌};
 use crate::frame::Frame;
 use crate::json_text::{JsonText, JsonValue};
 use crate::rules::placed;
-use drain_explain::Findings;
+use drain_findings::Findings;
 use drain_grid::Cell;
 use drain_paths::{EndlessPath, LostBy};
 use std::alloc::AllocError;

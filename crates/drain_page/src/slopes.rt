@@ -12,7 +12,7 @@ use crate::float_ways::{ConsDown, cons_down, push_float_ways, write_float_ways};
 use crate::frame::Frame;
 use crate::json_text::{JsonText, JsonValue};
 use crate::names::shown_code;
-use drain_explain::{Findings, Slopes};
+use drain_findings::{Findings, Slopes};
 use drain_grid::{Direction, HeightKind, Patch, Rule, Spacing};
 use drain_slope::{drop, is_steeper};
 use std::alloc::{AllocError, Global};

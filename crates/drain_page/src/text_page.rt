@@ -12,7 +12,7 @@ use crate::rules::push_rules;
 use crate::run::push_run;
 use crate::slopes::push_slopes;
 use drain_answer::outcome_report;
-use drain_explain::{ElevationRange, Findings};
+use drain_findings::{ElevationRange, Findings};
 use drain_grid::{HeightKind, OutOfMemory};
 use std::alloc::{AllocError, Global};
 

@@ -2,7 +2,7 @@
 
 use crate::worked::{Form, page_has};
 use drain_answer::Refusal;
-use drain_explain::{Extent, NotData, RefusalDetail, TileValue};
+use drain_findings::{Extent, NotData, RefusalDetail, TileValue};
 use drain_grid::{Cell, Product};
 use drain_header::Place;
 use drain_hgt::TileName;

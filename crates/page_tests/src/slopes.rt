@@ -2,8 +2,8 @@
 
 use crate::agree::has;
 use crate::worked::{Form, Numbers, accepted, cell, cells, no_fault, page_has, page_of, rejected};
-use drain_explain::Slopes;
 use drain_faults::FaultyPatch;
+use drain_findings::Slopes;
 use drain_grid::{Cell, Judged, Patch, Rule, Spacing};
 use drain_mosaic::Layout;
 use drain_page::Facts;

@@ -7,8 +7,8 @@ use crate::worked::{
 };
 use drain_answer::outcome::Status;
 use drain_answer::{Outcome, Refusal};
-use drain_explain::Findings;
 use drain_faults::FaultyPatch;
+use drain_findings::Findings;
 use drain_grid::{Cell, Judged, Patch, Rule, Spacing};
 use drain_mosaic::Layout;
 use drain_page::{

@@ -4,8 +4,8 @@
 use crate::agree::has;
 use drain_answer::outcome::Status;
 use drain_answer::{Outcome, Refusal};
-use drain_explain::{Findings, Slopes};
 use drain_faults::{FaultyPatch, PerRule, ProductFaults, RuleFaults};
+use drain_findings::{Findings, Slopes};
 use drain_grid::{
     Cell, CellValues, Counts, Judged, NoData, Patch, PerProduct, Rule, Rules, Spacing,
 };

@@ -3,7 +3,7 @@ use Rattle.std.specs.Prelude.{IfSome, ◌≢◌}
 use Rattle.drain_answer.specs.declared.refusal.Refusal.{Refusal}
 use Rattle.drain_answer.specs.declared.refusal.Refusal.TheVariants.{BadHeader, BadPixelSize, DemShort}
 use Rattle.drain_explain.specs.RefusalDetails.{IsDemDetailOf, IsSetDetail, OfDem}
-use Rattle.drain_explain.specs.declared.refusal_detail.RefusalDetail.{RefusalDetail}
+use Rattle.drain_findings.specs.declared.refusal_detail.RefusalDetail.{RefusalDetail}
 use Rattle.drain_grid.specs.declared.height_kind.HeightKind.{HeightKind}
 use Rattle.drain_grid.specs.declared.product.Product.{Product}
 use Rattle.drain_grid.specs.declared.set_product.SetProduct.{SetProduct}

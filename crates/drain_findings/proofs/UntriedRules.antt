@@ -13,7 +13,7 @@ use Rattle.drain_grid.specs.PatchRules.{check_rules}
 use Rattle.drain_grid.specs.RulesAbout.{part_rules, rules_about, tried}
 use Rattle.drain_grid.specs.Unranked.{unranked}
 use Rattle.drain_grid.specs.Values.{NoDataNumbers}
-use Rattle.drain_explain.specs.Explanations.{judged}
+use Rattle.drain_findings.specs.LookedAt.{judged}
 
 not_judged : (is_judged : Bool) (P : Type 0) → ¬ IsTrue is_judged → IfJudged is_judged P
 not_judged true P not = absurd (not refl)

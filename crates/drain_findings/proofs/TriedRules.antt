@@ -18,7 +18,7 @@ use Rattle.drain_grid.specs.declared.set_product.SetProduct.{SetProduct}
 use Rattle.drain_grid.specs.declared.set_product.SetProduct.TheVariants.{Con}
 use Rattle.drain_grid.specs.Judged.{IfJudged, has_acc, has_bas, has_dir, has_product}
 use Rattle.drain_grid.specs.RulesAbout.{part_rules, rules_about, tried}
-use Rattle.drain_explain.specs.Explanations.{judged}
+use Rattle.drain_findings.specs.LookedAt.{judged}
 use Rattle.drain_grid.specs.declared.judged.Judged.TheVariants as rasters
 
 -- For each rule a patch that breaks it.

@@ -1,10 +1,10 @@
 use Rattle.std.proofs.Common.{◌≡◌, ◌∙◌, inl, inr, sym, subst, Some, IsTrue}
 use Rattle.drain_grid.specs.Judged.{has_product}
 use Rattle.drain_grid.proofs.Tallies.{none_some, same_some}
-use Rattle.drain_explain.specs.Explanations.{judged}
-use Rattle.drain_explain.proofs.TriedRules.{IsBroken, IsLookedAt, missing, tried_rule, void_cell}
-use Rattle.drain_explain.proofs.UntriedRules.{untried_rule}
-use Rattle.drain_explain.proofs.findings.Findings.tries.Goals as goal
+use Rattle.drain_findings.specs.LookedAt.{judged}
+use Rattle.drain_findings.proofs.TriedRules.{IsBroken, IsLookedAt, missing, tried_rule, void_cell}
+use Rattle.drain_findings.proofs.UntriedRules.{untried_rule}
+use Rattle.drain_findings.proofs.findings.Findings.tries.Goals as goal
 
 pub returns-in-VoidCell-clause-tried : goal.returns-in-VoidCell-clause-tried
 returns-in-VoidCell-clause-tried g c = λ true other.

@@ -1,0 +1,2 @@
+mod TriedRules
+mod UntriedRules
