@@ -11,7 +11,7 @@ use drain_files::map_file::write_map;
 use drain_files::open_judged::JudgedProducts;
 use drain_grid::{Judged, Product};
 use drain_header::Header;
-use drain_maker::product_files::SetFault;
+use drain_sets::SetFault;
 use drain_verdict::Given;
 use std::alloc::{AllocError, Global};
 use std::test::Fail;

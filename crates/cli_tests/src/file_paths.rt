@@ -4,7 +4,7 @@ use crate::printed::{holds, same_bytes};
 use drain_args::requests::map_stem;
 use drain_files::file_paths::{header_path, map_path, raster_path, tile_name};
 use drain_grid::Product;
-use drain_maker::product_files::Part;
+use drain_sets::FilePart;
 use std::alloc::{AllocError, Global};
 use std::test::Fail;
 
@@ -73,9 +73,9 @@ fn a_map_ends_in_bil(rt: HostRuntime) -> Result<(), Fail> {
 }
 
 /// A part of a map, and the path of its file.
-static MAP_PATHS: [(Part, &str); 2] = [
-    (Part::Raster, "a/faults.bil"),
-    (Part::Header, "a/faults.hdr"),
+static MAP_PATHS: [(FilePart, &str); 2] = [
+    (FilePart::Raster, "a/faults.bil"),
+    (FilePart::Header, "a/faults.hdr"),
 ];
 
 #[test]

@@ -5,7 +5,7 @@ ghost use Rattle.std.specs.Prelude.{◌≡◌, length, IfOk};
 use crate::making::{make, pit};
 use crate::printed::{Printed, room, same_number, same_run};
 use drain_device::faults::{ScriptSink, Scripted, SinkAnswer};
-use drain_maker::product_files::FILE_COUNT;
+use drain_sets::FILE_COUNT;
 use std::alloc::{AllocError, Global};
 use std::process::Abort;
 use std::test::Fail;

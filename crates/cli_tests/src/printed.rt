@@ -7,7 +7,7 @@ use drain_device::faults::{ScriptSink, Scripted, SinkAnswer};
 use drain_device::{BodyFault, ByteSource, VecSink};
 use drain_grid::SetProduct;
 use drain_hgt::TileInput;
-use drain_maker::product_files::FILE_COUNT;
+use drain_sets::FILE_COUNT;
 use drain_verdict::Products;
 use std::alloc::{AllocError, Global};
 use std::process::Abort;

@@ -4,12 +4,12 @@
 use crate::printed::{holds, holds_at, same_bytes, same_number};
 use drain_device::{BodyFault, ByteSink, ByteSource, SliceSource, VecSink};
 use drain_header::parse_header;
-use drain_maker::follow::Part;
 use drain_progress::counted_device::CountedDevice;
 use drain_progress::progress::Progress;
-use drain_progress::progress_lines::{Phase, part_line, row_line};
+use drain_progress::progress_lines::{Phase, row_line, stage_line};
 use drain_progress::rows::{RowEnds, raster_row_ends, read_rows};
 use drain_progress::throttle::Throttle;
+use drain_sets::Stage;
 use std::alloc::Global;
 use std::process::Abort;
 use std::test::Fail;
@@ -50,18 +50,18 @@ fn lines_tell_which_rows_are_counted(rt: HostRuntime) {
     }
 }
 
-/// A part of making products, and the line when it begins.
-static PARTS: [(Part, &str); 4] = [
-    (Part::Surface, "drain: making, 1 of 4: filled elevation"),
-    (Part::Directions, "drain: making, 2 of 4: directions"),
-    (Part::Counts, "drain: making, 3 of 4: accumulation"),
-    (Part::Labels, "drain: making, 4 of 4: basin labels"),
+/// A stage of making products, and the line when it begins.
+static STAGES: [(Stage, &str); 4] = [
+    (Stage::Surface, "drain: making, 1 of 4: filled elevation"),
+    (Stage::Directions, "drain: making, 2 of 4: directions"),
+    (Stage::Counts, "drain: making, 3 of 4: accumulation"),
+    (Stage::Labels, "drain: making, 4 of 4: basin labels"),
 ];
 
 #[test]
-fn lines_name_the_part_that_is_made(rt: HostRuntime) {
-    for &(part, wanted) in &PARTS {
-        let line = part_line(part);
+fn lines_name_the_stage_that_is_made(rt: HostRuntime) {
+    for &(stage, wanted) in &STAGES {
+        let line = stage_line(stage);
         same_bytes(&rt, wanted, line.as_str().as_bytes(), wanted.as_bytes());
     }
 }

@@ -7,7 +7,8 @@ use Rattle.drain_c.specs.Spacings.{spacing_passed}
 use Rattle.drain_grid.specs.declared.judged.Judged.{Judged}
 use Rattle.drain_grid.specs.declared.judged.Judged.TheVariants.{Con, ConDir, ConDirAcc, ConDirBas, All}
 use Rattle.drain_grid.specs.Judged.{has_rnk}
-use Rattle.drain_verdict.specs.Given.{Given, GivenSpacing}
+use Rattle.drain_verdict.specs.Given.{Given}
+use Rattle.drain_sets.specs.GivenSpacings.{GivenSpacing}
 
 abbrev IsUnranked : Option Judged → Type 0
 IsUnranked None = Unit {0}

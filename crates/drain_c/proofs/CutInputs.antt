@@ -13,7 +13,8 @@ use Rattle.drain_hgt.specs.Corner.{Corner}
 use Rattle.drain_hgt.specs.Samples.{IsTile}
 use Rattle.drain_text.specs.First.{IsFirst}
 use Rattle.drain_verdict.specs.Answers.{IsAnswerIn, IsAuditIn}
-use Rattle.drain_verdict.specs.DemGround.{DemTexts, dem_ground, kind_of}
+use Rattle.drain_verdict.specs.DemGround.{DemTexts, dem_ground}
+use Rattle.drain_header.specs.Lines.{kind_of}
 use Rattle.drain_verdict.specs.GroundSets.{GroundSet, IsReadable, IsRefusalIn, StandsIn, order_in}
 use Rattle.drain_verdict.specs.Inputs.{Inputs}
 use Rattle.drain_verdict.specs.Meaning.{texts_of}

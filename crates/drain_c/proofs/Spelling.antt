@@ -22,7 +22,7 @@ use Rattle.drain_verdict.specs.GroundSets.{EncodeTexts, GroundSet}
 use Rattle.drain_verdict.specs.Headline.{ForCheck}
 use Rattle.drain_verdict.specs.Inputs.{Inputs, Encode, Products}
 use Rattle.drain_verdict.specs.Texts.{SetTexts}
-use Rattle.drain_verdict.specs.declared.next_rows.RasterInput.{RasterInput}
+use Rattle.drain_sets.specs.declared.raster_input.RasterInput.{RasterInput}
 
 -- A call over inputs of one kind: which inputs its bytes are, and what a fact of its sources is. Sources have the first bytes
 -- of each header.

@@ -2,7 +2,7 @@
 
 ghost use Rattle.std.specs.Prelude.{◌≡◌, option_map};
 ghost use Rattle.drain_c.specs.Spacings.{is_no_text, spacing_passed};
-ghost use Rattle.drain_verdict.specs.Given.{spacing_from};
+ghost use Rattle.drain_sets.specs.GivenSpacings.{spacing_from};
 
 use crate::given::{GivenBytes, SpacingBytes};
 use drain_grid::{Spacing, SpacingInput};

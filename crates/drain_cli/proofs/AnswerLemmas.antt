@@ -13,7 +13,7 @@ use Rattle.drain_answer.specs.declared.outcome.Outcome.{Outcome}
 use Rattle.drain_grid.specs.declared.judged.Judged.{Judged}
 use Rattle.drain_verdict.specs.Outcomes.{IsOutcomeAnswer, IsOutcomeIn}
 use Rattle.drain_verdict.specs.DemGround.{AreHeadersKept, DemTakesAtMost, DemUses, ForDem}
-use Rattle.drain_verdict.specs.declared.next_rows.RasterInput.{RasterInput}
+use Rattle.drain_sets.specs.declared.raster_input.RasterInput.{RasterInput}
 use Rattle.drain_answer.specs.declared.refusal.Refusal.{Refusal}
 use Rattle.drain_verdict.specs.Given.{Given}
 use Rattle.drain_verdict.specs.Inputs.{Inputs, Encode, Products}

@@ -19,7 +19,7 @@ use Rattle.drain_verdict.specs.Outcomes.{IsOutcomeAnswer, IsOutcomeIn}
 use Rattle.drain_verdict.specs.TileGround.{set_of}
 use Rattle.drain_verdict.specs.Reading.{told_by}
 use Rattle.drain_verdict.specs.Uses.{AreNamesKept, UsesInputs, UsesTold, devices_of}
-use Rattle.drain_verdict.specs.declared.next_rows.RasterInput.{RasterInput}
+use Rattle.drain_sets.specs.declared.raster_input.RasterInput.{RasterInput}
 
 -- and it has its status
 pub ranked_status : (answer : Result Verdict Refusal) → outcome_status (ranked_outcome answer) ≡ answer_status (Check answer)

@@ -3,7 +3,7 @@ use Rattle.std.proofs.Common.{◌≡◌, ◌<◌, ◌++◌, List, ℕ, Option, N
 use Rattle.std.specs.Io.KnownBytes.{Consumes, IsAtEnd}
 use Rattle.std.proofs.lemmas.List.{append-nil}
 use Rattle.drain_device.specs.declared.patience.GaveUp.{GaveUp}
-use Rattle.drain_maker.specs.declared.product_files.SetFault.{SetFault}
+use Rattle.drain_sets.specs.declared.set_files.SetFault.{SetFault}
 use Rattle.drain_answer.specs.Printing.{status_after}
 use Rattle.drain_answer.specs.Statuses.{status_code}
 use Rattle.drain_answer.specs.declared.outcome.Status.{Status}

@@ -27,7 +27,9 @@ use Rattle.drain_raster.specs.Bytes.{raster_bytes}
 use Rattle.drain_verdict.specs.Meaning.{texts_of}
 use Rattle.drain_verdict.specs.Texts.{SetTexts}
 use Rattle.drain_maker.specs.Mosaics.{IsMosaicOf}
-use Rattle.drain_maker.specs.ProductFiles.{WritesFiles, header_bytes, header_on, made_header, set_bytes}
+use Rattle.drain_maker.specs.ProductFiles.{header_bytes, made_header, set_bytes}
+use Rattle.drain_sets.specs.ProductHeaders.{header_on}
+use Rattle.drain_sets.specs.FileWrites.{WritesFiles}
 use Rattle.drain_maker.specs.Made.{AreMade}
 use Rattle.drain_grid.specs.declared.product.Product.TheVariants as product
 use Rattle.drain_maker.specs.Accepted.{AreFilesOf, AreGivenSpacings, MadeIsAccepted, MadeOnDemIsAccepted}

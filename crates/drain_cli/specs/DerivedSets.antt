@@ -17,16 +17,16 @@ use Rattle.drain_grid.specs.Extent.{Extent}
 use Rattle.drain_header.specs.Header.{Fields}
 use Rattle.drain_hgt.specs.Inputs.{names_of}
 use Rattle.drain_hgt.specs.declared.input.TileInput.{TileInput}
-use Rattle.drain_maker.specs.declared.product_files.SetFault.{SetFault}
+use Rattle.drain_sets.specs.declared.set_files.SetFault.{SetFault}
 use Rattle.drain_verdict.specs.Stages.{IsLayoutOf}
 use Rattle.drain_mosaic.specs.Tiling.{Tiling}
 use Rattle.drain_verdict.specs.Answers.{ForAudit}
 use Rattle.drain_verdict.specs.DemGround.{DemUses, ForDem, IsDemInput, dem_audit_devices}
 use Rattle.drain_verdict.specs.Given.{plain}
 use Rattle.drain_verdict.specs.Inputs.{as_five}
-use Rattle.drain_verdict.specs.declared.next_rows.RasterInput.{RasterInput}
+use Rattle.drain_sets.specs.declared.raster_input.RasterInput.{RasterInput}
 use Rattle.drain_verdict.specs.Uses.{AuditUses}
-use Rattle.drain_verdict.specs.declared.audit_products.AuditProducts.{AuditProducts}
+use Rattle.drain_sets.specs.declared.raster_input.AuditProducts.{AuditProducts}
 use Rattle.drain_answer.specs.Printing.{Prints}
 use Rattle.drain_cli.specs.MadeSets.{written_line}
 use Rattle.drain_answer.specs.Statuses.{refusal_status}

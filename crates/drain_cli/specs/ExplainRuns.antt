@@ -25,7 +25,7 @@ use Rattle.drain_verdict.specs.Given.{Given}
 use Rattle.drain_verdict.specs.Inputs.{Products, as_five}
 use Rattle.drain_verdict.specs.Uses.{devices_of}
 use Rattle.drain_verdict.specs.Outcomes.{IsOutcomeAnswer, IsOutcomeIn}
-use Rattle.drain_verdict.specs.declared.next_rows.RasterInput.{RasterInput}
+use Rattle.drain_sets.specs.declared.raster_input.RasterInput.{RasterInput}
 use Rattle.drain_page.specs.declared.json_page.TheConstants.{OUT_OF_MEMORY_OBJECT}
 use Rattle.drain_args.specs.declared.form.Form.{Form}
 use Rattle.drain_args.specs.declared.form.Form.TheVariants.{Text, Json}

@@ -22,14 +22,14 @@ use Rattle.drain_files.specs.declared.open_judged.OpenElevations.{OpenElevations
 use Rattle.drain_files.specs.declared.open_judged.OpenElevations.TheVariants.{Tiles, Dem}
 use Rattle.drain_verdict.specs.DemGround.{DemUses, ForDem, dem_audit_devices, dem_check_devices}
 use Rattle.drain_verdict.specs.GroundSets.{GroundSet}
-use Rattle.drain_verdict.specs.declared.next_rows.RasterInput.{RasterInput}
+use Rattle.drain_sets.specs.declared.raster_input.RasterInput.{RasterInput}
 use Rattle.drain_verdict.specs.Outcomes.{IsOutcomeAnswer, IsOutcomeIn}
 use Rattle.drain_grid.specs.declared.verdict.Verdict.{Verdict}
 use Rattle.drain_verdict.specs.Answers.{IsAnswer, IsAnswerIn, IsAuditAnswer}
 use Rattle.drain_verdict.specs.Given.{Given}
 use Rattle.drain_verdict.specs.Inputs.{audit_devices, as_five, Inputs, Products, Encode}
 use Rattle.drain_verdict.specs.Uses.{devices_of, UsesInputs}
-use Rattle.drain_verdict.specs.declared.audit_products.AuditProducts.{AuditProducts}
+use Rattle.drain_sets.specs.declared.raster_input.AuditProducts.{AuditProducts}
 use Rattle.drain_answer.specs.declared.outcome.AuditVerdict.TheVariants as audit
 use Rattle.drain_answer.specs.declared.outcome.Outcome.TheVariants as outcome
 use Rattle.drain_grid.specs.declared.verdict.Verdict.TheVariants as check

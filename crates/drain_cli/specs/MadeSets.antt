@@ -2,13 +2,13 @@
 use Rattle.std.specs.Prelude.{ℕ, ◌++◌, List, Result, Ok, Err, codes, decimal, ◌≡◌, map, Option}
 use Rattle.drain_mosaic.specs.Tiling.{Tiling, extent_of}
 use Rattle.drain_verdict.specs.DemGround.{DemTexts, EncodesDem, dem_devices, dem_ground}
-use Rattle.drain_verdict.specs.declared.next_rows.RasterInput.{RasterInput}
+use Rattle.drain_sets.specs.declared.raster_input.RasterInput.{RasterInput}
 use Rattle.drain_answer.specs.Lines.{refusal_line}
 use Rattle.drain_answer.specs.Statuses.{refusal_status}
 use Rattle.drain_answer.specs.declared.outcome.Status.{Status}
 use Rattle.drain_answer.specs.declared.outcome.Status.TheVariants.{Done, Refused, Failed}
-use Rattle.drain_maker.specs.declared.product_files.SetFault.{SetFault}
-use Rattle.drain_maker.specs.declared.product_files.SetFault.TheVariants.{WriteFailed, OutOfMemory}
+use Rattle.drain_sets.specs.declared.set_files.SetFault.{SetFault}
+use Rattle.drain_sets.specs.declared.set_files.SetFault.TheVariants.{WriteFailed, OutOfMemory}
 use Rattle.drain_cli.specs.declared.runs.make_set.NoSet.{NoSet}
 use Rattle.drain_cli.specs.declared.runs.make_set.NoSet.TheVariants.{Ground, Sinks, Spacing, Maker}
 use Rattle.drain_cli.specs.declared.runs.made_spacing.NoSpacing.{NoSpacing}
@@ -30,7 +30,8 @@ use Rattle.drain_hgt.specs.declared.input.TileInput.{TileInput}
 use Rattle.drain_hgt.specs.Inputs.{tile_devices}
 use Rattle.drain_answer.specs.declared.refusal.Refusal.TheVariants.{ReadFailed}
 use Rattle.drain_device.specs.FaultLists.{SomeReadFails}
-use Rattle.drain_verdict.specs.Given.{Given, GivenSpacing, HasBadSpacing, HasOtherRows, spacings_given}
+use Rattle.drain_verdict.specs.Given.{Given, HasBadSpacing, HasOtherRows, spacings_given}
+use Rattle.drain_sets.specs.GivenSpacings.{GivenSpacing}
 use Rattle.drain_verdict.specs.Inputs.{Inputs}
 use Rattle.drain_verdict.specs.Refusals.{IsOfBodies}
 use Rattle.drain_maker.specs.Mosaics.{IsMosaicOf, IsMosaicRefusal}

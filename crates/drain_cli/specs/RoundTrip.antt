@@ -23,7 +23,7 @@ use Rattle.drain_verdict.specs.TileGround.{TellTiles}
 use Rattle.drain_verdict.specs.Answers.{IsAnswer, IsAnswerIn}
 use Rattle.drain_verdict.specs.DemGround.{DemTexts, EncodesDem, dem_ground}
 use Rattle.drain_verdict.specs.Meaning.{texts_of}
-use Rattle.drain_verdict.specs.declared.next_rows.RasterInput.{RasterInput}
+use Rattle.drain_sets.specs.declared.raster_input.RasterInput.{RasterInput}
 use Rattle.drain_grid.specs.declared.product.Product.TheVariants.{Con}
 use Rattle.drain_header.specs.Header.{Fields}
 use Rattle.drain_maker.specs.Dems.{spaced_dem_grid}

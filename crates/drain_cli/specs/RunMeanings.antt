@@ -14,7 +14,7 @@ use Rattle.drain_verdict.specs.GroundSets.{GroundSet}
 use Rattle.drain_verdict.specs.Headline.{ProductsAreRight}
 use Rattle.drain_verdict.specs.Inputs.{as_five, Products}
 use Rattle.drain_verdict.specs.Outcomes.{AreRightIn}
-use Rattle.drain_verdict.specs.declared.next_rows.RasterInput.{RasterInput}
+use Rattle.drain_sets.specs.declared.raster_input.RasterInput.{RasterInput}
 
 -- of five products that they are right, of four that those that are judged are; ranks are none of these
 abbrev pub AcceptedOf : {R : Type 0} → (Products R → (GroundSet → Type 0) → Type 0) → JudgedProducts R → Type 0

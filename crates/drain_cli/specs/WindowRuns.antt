@@ -1,7 +1,7 @@
 -- How the first part of a run of `drain window` ends: with what is to be reported, or with the reason why there is none.
 use Rattle.std.specs.Prelude.{ℕ, List, Result, Ok, Err, IfOk, codes, ◌≡◌}
-use Rattle.drain_maker.specs.declared.product_files.SetFault.{SetFault}
-use Rattle.drain_maker.specs.declared.product_files.SetFault.TheVariants.{WriteFailed, OutOfMemory}
+use Rattle.drain_sets.specs.declared.set_files.SetFault.{SetFault}
+use Rattle.drain_sets.specs.declared.set_files.SetFault.TheVariants.{WriteFailed, OutOfMemory}
 use Rattle.drain_answer.specs.declared.outcome.Status.{Status}
 use Rattle.drain_answer.specs.declared.outcome.Status.TheVariants.{Done, Rejected, Failed, Refused}
 use Rattle.drain_report.specs.Contents.{ContentsFit, contents_of, report_text}
@@ -21,8 +21,8 @@ use Rattle.drain_verdict.specs.DemGround.{DemUses, ForDem, dem_audit_devices}
 use Rattle.drain_verdict.specs.Given.{Given}
 use Rattle.drain_verdict.specs.Inputs.{as_five}
 use Rattle.drain_verdict.specs.Uses.{AuditUses}
-use Rattle.drain_verdict.specs.declared.audit_products.AuditProducts.{AuditProducts}
-use Rattle.drain_verdict.specs.declared.next_rows.RasterInput.{RasterInput}
+use Rattle.drain_sets.specs.declared.raster_input.AuditProducts.{AuditProducts}
+use Rattle.drain_sets.specs.declared.raster_input.RasterInput.{RasterInput}
 use Rattle.drain_window.specs.WindowAnswers.{as_refused, IsDemWindow, IsOfDem, IsWindowAnswer}
 use Rattle.drain_window.specs.WindowLines.{refusal_line}
 use Rattle.drain_window.specs.declared.answered.WindowRefusal.{WindowRefusal}

@@ -21,8 +21,10 @@ use Rattle.drain_hgt.specs.Corner.{Corner}
 use Rattle.drain_hgt.specs.Samples.{tile_length}
 use Rattle.drain_grid.specs.Extent.{Extent}
 use Rattle.drain_raster.specs.Pixels.{header_extent, needed_len}
-use Rattle.drain_verdict.specs.DemGround.{IsDemHeader, kind_of}
-use Rattle.drain_verdict.specs.Given.{Given, GivenSpacing, by_row}
+use Rattle.drain_verdict.specs.DemGround.{IsDemHeader}
+use Rattle.drain_header.specs.Lines.{kind_of}
+use Rattle.drain_verdict.specs.Given.{Given}
+use Rattle.drain_sets.specs.GivenSpacings.{GivenSpacing, by_row}
 use Rattle.drain_verdict.specs.Stages.{IsLayoutOf}
 use Rattle.drain_answer.specs.declared.refusal.Refusal.TheVariants as refusal
 use Rattle.drain_grid.specs.declared.product.Product.TheVariants as product

@@ -3,7 +3,7 @@
 ghost use Rattle.std.specs.Prelude.{◌≢◌, ◌↔◌, ◌<◌, IfSome, IsTrue, length, ◌≡◌, ◌-◌, ◌&&◌, nat_lt, option_map, slice_get, take, if◌then◌else◌};
 ghost use Rattle.drain_explain.specs.RefusalDetails.{IsHeightAt, IsSeamDetail, IsCellDetail, IsLineDetail, IsSpacingLineDetail, IsSpacingRowsDetail};
 ghost use Rattle.drain_text.specs.Text.{lines_of};
-ghost use Rattle.drain_verdict.specs.Given.{spacing_from};
+ghost use Rattle.drain_sets.specs.GivenSpacings.{spacing_from};
 
 use crate::refused::FileLookup;
 use drain_findings::{NotData, RefusalDetail, SHOWN_BYTES, TileValue};

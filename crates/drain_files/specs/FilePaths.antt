@@ -8,9 +8,9 @@ use Rattle.drain_grid.specs.declared.product.Product.{Product}
 use Rattle.drain_grid.specs.declared.product.Product.TheVariants.{Con, Dir, Acc, Bas, Rnk}
 use Rattle.drain_grid.specs.Product.{product_name}
 use Rattle.drain_grid.specs.SetProduct.{product_of}
-use Rattle.drain_maker.specs.declared.product_files.Part.{Part}
-use Rattle.drain_maker.specs.declared.product_files.Part.TheVariants.{Header, Raster}
-use Rattle.drain_maker.specs.declared.product_files.SetFile.{SetFile}
+use Rattle.drain_sets.specs.declared.set_files.FilePart.{FilePart}
+use Rattle.drain_sets.specs.declared.set_files.FilePart.TheVariants.{Header, Raster}
+use Rattle.drain_sets.specs.declared.set_files.SetFile.{SetFile}
 
 abbrev pub slash : ℕ
 slash = 47
@@ -30,18 +30,18 @@ abbrev pub raster_ending : List ℕ
 raster_ending = codes ".bil"
 
 -- the ending of a file's name, by what of a product it holds
-abbrev pub ending_of : Part → List ℕ
+abbrev pub ending_of : FilePart → List ℕ
 ending_of Header = header_ending
 ending_of Raster = raster_ending
 
 -- the ending of the file of a raster of elevations, in the case of the raster's
-abbrev pub dem_file_ending : DemEnding → Part → List ℕ
+abbrev pub dem_file_ending : DemEnding → FilePart → List ℕ
 dem_file_ending Lower part = ending_of part
 dem_file_ending Upper Header = codes ".HDR"
 dem_file_ending Upper Raster = codes ".BIL"
 
 -- its path, the header's next to the raster's
-abbrev pub dem_file : DemArgs → Part → List ℕ
+abbrev pub dem_file : DemArgs → FilePart → List ℕ
 dem_file dem part = dem.stem.now ++ dem_file_ending dem.ending part
 
 -- the name is the whole path, or follows the path's last slash

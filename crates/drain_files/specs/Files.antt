@@ -1,6 +1,6 @@
 -- What opening, reading and placing of files does.
 use Rattle.std.specs.Prelude.{◌≡◌, Result, Ok, Err, ◌⊎◌, ℕ, ◌++◌, List, [], ◌∷◌, codes, Option, Some, replicate, pos, false, ◌<◌, length}
-use Rattle.drain_maker.specs.declared.product_files.SetFault.{SetFault}
+use Rattle.drain_sets.specs.declared.set_files.SetFault.{SetFault}
 use Rattle.drain_device.specs.declared.read.BodyFault.TheVariants.{OutOfMemory}
 use Rattle.drain_answer.specs.Outcomes.{failure_text}
 use Rattle.drain_answer.specs.Printing.{line_feed}

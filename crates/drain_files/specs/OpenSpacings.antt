@@ -13,9 +13,9 @@ use Rattle.drain_grid.specs.Spacing.{Distances, IsSpacing, unit_spacing}
 use Rattle.drain_grid.specs.declared.height_kind.HeightKind.TheVariants.{Whole}
 use Rattle.drain_header.specs.Faults.{AnswersOf}
 use Rattle.drain_header.specs.Header.{Fields}
-use Rattle.drain_verdict.specs.DemGround.{kind_of}
-use Rattle.drain_verdict.specs.Given.{GivenSpacing, by_row, same}
-use Rattle.drain_verdict.specs.declared.next_rows.RasterInput.{RasterInput}
+use Rattle.drain_header.specs.Lines.{kind_of}
+use Rattle.drain_sets.specs.GivenSpacings.{GivenSpacing, by_row, same}
+use Rattle.drain_sets.specs.declared.raster_input.RasterInput.{RasterInput}
 
 -- what an open text or a spacing gives to judge by
 abbrev pub spacing_opened : OpenSpacing → GivenSpacing

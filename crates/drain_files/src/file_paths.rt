@@ -7,7 +7,7 @@ ghost use Rattle.drain_files.specs.FilePaths.{dem_file, dem_file_ending, product
 use drain_answer::lines::{push_number, words};
 use drain_args::requests::{DemArgs, DemEnding};
 use drain_grid::Product;
-use drain_maker::product_files::Part;
+use drain_sets::FilePart;
 use memchr::memrchr;
 use std::alloc::{AllocError, Global};
 
@@ -52,7 +52,7 @@ fn separator(folder: &str) -> &'static str
 }
 
 /// The path of the header or the raster of elevations: the raster's is as given, the header's next to it.
-pub fn dem_path(alloc: Global, dem: &DemArgs<'_>, part: Part) -> Result<String, AllocError>
+pub fn dem_path(alloc: Global, dem: &DemArgs<'_>, part: FilePart) -> Result<String, AllocError>
     ensures { IfOk result (λ path. string_bytes path ≡ dem_file dem.now part) }
 {
     let mut path = String::from_str(alloc, dem.stem)?;
@@ -60,18 +60,18 @@ pub fn dem_path(alloc: Global, dem: &DemArgs<'_>, part: Part) -> Result<String, 
     Ok(path)
 }
 
-fn dem_file_ending(ending: DemEnding, part: Part) -> &'static str
+fn dem_file_ending(ending: DemEnding, part: FilePart) -> &'static str
     ensures { result.now ≡ dem_file_ending ending part }
 {
     match (ending, part) {
         (DemEnding::Lower, part) => ending_of(part),
-        (DemEnding::Upper, Part::Header) => ".HDR",
-        (DemEnding::Upper, Part::Raster) => ".BIL",
+        (DemEnding::Upper, FilePart::Header) => ".HDR",
+        (DemEnding::Upper, FilePart::Raster) => ".BIL",
     }
 }
 
 /// The path of a map's file: the header is next to the raster, with `.hdr` in place of `.bil`.
-pub fn map_path(alloc: Global, stem: &str, part: Part) -> Result<String, AllocError>
+pub fn map_path(alloc: Global, stem: &str, part: FilePart) -> Result<String, AllocError>
     ensures { IfOk result (λ path. string_bytes path ≡ stem.now ++ ending_of part) }
 {
     let mut path = String::from_str(alloc, stem)?;
@@ -79,12 +79,12 @@ pub fn map_path(alloc: Global, stem: &str, part: Part) -> Result<String, AllocEr
     Ok(path)
 }
 
-fn ending_of(part: Part) -> &'static str
+fn ending_of(part: FilePart) -> &'static str
     ensures { result.now ≡ ending_of part }
 {
     match part {
-        Part::Header => ".hdr",
-        Part::Raster => ".bil",
+        FilePart::Header => ".hdr",
+        FilePart::Raster => ".bil",
     }
 }
 

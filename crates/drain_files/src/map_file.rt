@@ -3,7 +3,7 @@
 ghost use Rattle.std.specs.Prelude.{◌≡◌, ◌++◌, ◌∷◌, [], IfOk, map, string_bytes, vec_len};
 ghost use Rattle.drain_files.specs.FilePaths.{header_ending, raster_ending};
 ghost use Rattle.drain_header.specs.Text.{text_of};
-ghost use Rattle.drain_maker.specs.ProductFiles.{WritesFiles};
+ghost use Rattle.drain_sets.specs.FileWrites.{WritesFiles};
 ghost use Rattle.drain_files.specs.Files.{map_header};
 
 use crate::file_id::{FileId, Target, first_clash, is_input};
@@ -14,7 +14,7 @@ use crate::whole_input::write_bytes;
 use drain_device::ByteSink;
 use drain_grid::HeightKind;
 use drain_header::{ByteOrdering, Header, header_text};
-use drain_maker::product_files::{Part, SetFault};
+use drain_sets::{FilePart, SetFault};
 use std::alloc::{AllocError, Global};
 
 /// Why a map must not be written there.
@@ -34,8 +34,8 @@ pub fn map_paths(alloc: Global, stem: &str) -> Result<Vec<String>, AllocError>
     ensures count { IfOk result (λ paths. vec_len paths ≡ 2) }
 {
     let mut paths = Vec::new(alloc);
-    paths.push(map_path(alloc, stem, Part::Header)?)?;
-    paths.push(map_path(alloc, stem, Part::Raster)?)?;
+    paths.push(map_path(alloc, stem, FilePart::Header)?)?;
+    paths.push(map_path(alloc, stem, FilePart::Raster)?)?;
     Ok(paths)
 }
 

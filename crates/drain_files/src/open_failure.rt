@@ -2,14 +2,14 @@
 
 ghost use Rattle.std.specs.Prelude.{Result, ◌≡◌, IfOk, List, ℕ};
 ghost use Rattle.drain_files.specs.Files.{IsNamed, open_failure_line, IsOpenFailure};
-ghost use Rattle.drain_maker.specs.declared.product_files.SetFault.{SetFault};
+ghost use Rattle.drain_sets.specs.declared.set_files.SetFault.{SetFault};
 ghost use Rattle.drain_answer.specs.Printing.{PrintsText};
 
 use crate::open_files::OpenFault;
 use drain_answer::outcome::Status;
 use drain_answer::print::{print_failure, print_text};
 use drain_device::{BodyFault, ByteSink};
-use drain_maker::product_files::SetFault;
+use drain_sets::SetFault;
 use std::alloc::{AllocError, Global};
 use std::io;
 use std::io::ErrorKind;

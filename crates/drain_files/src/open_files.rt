@@ -4,7 +4,7 @@ ghost use Rattle.std.specs.Prelude.{◌≡◌, ◌≤◌, IfOk, length, vec_len,
 ghost use Rattle.std.specs.List.{AllZip};
 ghost use Rattle.drain_hgt.specs.Inputs.{names_of};
 ghost use Rattle.drain_files.specs.FilePaths.{IsLastPart};
-ghost use Rattle.drain_maker.specs.declared.product_files.TheConstants.{FILE_COUNT};
+ghost use Rattle.drain_sets.specs.declared.set_files.TheConstants.{FILE_COUNT};
 
 use crate::file_id::FileId;
 use crate::file_paths::tile_name;
@@ -15,10 +15,10 @@ use crate::whole_input::{MAX_TEXT_BYTES, MAX_WIDTHS_BYTES, read_text};
 use drain_device::{BodyFault, ByteList, Reader, Writer};
 use drain_header::Header;
 use drain_hgt::TileInput;
-use drain_maker::product_files::{Part, SET_FILES, SetFile};
 use drain_progress::counted_device::CountedDevice;
 use drain_progress::progress::Progress;
 use drain_progress::rows::written_rows;
+use drain_sets::{FilePart, SET_FILES, SetFile};
 use std::alloc::{AllocError, Global};
 use std::fs::File;
 use std::io;
@@ -218,7 +218,7 @@ fn counted<'g, 'a>(
     progress: &'g Progress<'g>,
 ) -> OutputFile<'g, 'a> {
     let mut created = CountedDevice::new(begun);
-    if let Part::Raster = file.part {
+    if let FilePart::Raster = file.part {
         created.count_by(progress.counter(written_rows(elevations, file.product)));
     }
     created

@@ -15,12 +15,11 @@ use drain_device::{ByteList, read_body};
 use drain_grid::{Judged, PerProduct, Product, SetProduct, Spacing};
 use drain_header::{MAX_HEADER_BYTES, header_text, kind_said, parse_header_of};
 use drain_hgt::TileInput;
-use drain_maker::product_files::Part;
 use drain_progress::counted_device::CountedDevice;
 use drain_progress::progress::Progress;
 use drain_progress::progress_lines::Phase;
 use drain_progress::rows::read_rows;
-use drain_verdict::{AuditProducts, Products, RasterInput};
+use drain_sets::{AuditProducts, FilePart, Products, RasterInput};
 use std::alloc::Global;
 
 /// Open files, of which only the headers, the list of sinks and the text of widths have been read.
@@ -112,8 +111,8 @@ fn open_dem<'a>(
     opener: &mut Opener<'_>,
     dem: &DemArgs<'_>,
 ) -> Result<RasterInput<InputFile<'a>>, OpenFault> {
-    let header = dem_path(opener.alloc(), dem, Part::Header)?;
-    let raster = dem_path(opener.alloc(), dem, Part::Raster)?;
+    let header = dem_path(opener.alloc(), dem, FilePart::Header)?;
+    let raster = dem_path(opener.alloc(), dem, FilePart::Raster)?;
     open_raster(opener, header.as_str(), raster.as_str())
 }
 

@@ -4,7 +4,7 @@ ghost use Rattle.std.specs.Prelude.{◌≡◌, ◌<◌, ◌≤◌, ◌^◌, IfOk
 ghost use Rattle.std.specs.Int.{IsGcd};
 ghost use Rattle.drain_files.specs.OpenSpacings.{AreHeaderSizes, IsHeaderSpacing, IsLowest, IsOpenSpacing, IsPixelSpacing, IsRatio, IsRounded, IsSpacingOf, greatest_size, least_size, spacing_opened};
 ghost use Rattle.drain_grid.specs.Spacing.{Distances, IsSpacing};
-ghost use Rattle.drain_verdict.specs.Given.{spacing_from};
+ghost use Rattle.drain_sets.specs.GivenSpacings.{spacing_from};
 
 use crate::open_files::{OpenFault, Opener, widths_at};
 use crate::open_judged::OpenElevations;

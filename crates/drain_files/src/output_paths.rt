@@ -12,7 +12,7 @@ use crate::outputs::target_at;
 use drain_answer::outcome::Status;
 use drain_answer::print::print_failure;
 use drain_device::{BodyFault, ByteSink, write_nothing};
-use drain_maker::product_files::{Part, SetFile};
+use drain_sets::{FilePart, SetFile};
 use std::alloc::{AllocError, Global};
 
 /// The paths of these files in this folder, in their order.
@@ -33,8 +33,8 @@ fn path_of(alloc: Global, folder: &str, file: SetFile) -> Result<String, AllocEr
 {
     let product = file.product.product();
     match file.part {
-        Part::Header => header_path(alloc, folder, product),
-        Part::Raster => raster_path(alloc, folder, product),
+        FilePart::Header => header_path(alloc, folder, product),
+        FilePart::Raster => raster_path(alloc, folder, product),
     }
 }
 

@@ -9,7 +9,7 @@ use crate::file_paths::{folder_of, part_path};
 use crate::open_failure::{Placing, Reason, print_reason};
 use crate::open_files::OpenFault;
 use drain_device::Writer;
-use drain_maker::product_files::SetFault;
+use drain_sets::SetFault;
 use std::alloc::Global;
 use std::cell::Cell;
 use std::fs::{File, Metadata};

@@ -1,6 +1,6 @@
 //! Reading a text to its end, and writing the bytes of a file.
 
-ghost use Rattle.drain_maker.specs.ProductFiles.{WritesFile};
+ghost use Rattle.drain_sets.specs.FileWrites.{WritesFile};
 ghost use Rattle.std.specs.Io.KnownBytes.{Consumes, IsAtEnd};
 ghost use Rattle.std.specs.Prelude.{◌<◌, ◌≤◌, ℕ, IfOk, OnErr, IsErrOf, vec_len, ◌≡◌, ◌+◌, ◌⊎◌, IfErr};
 ghost use Rattle.drain_device.specs.Counts.{Answered};
@@ -9,7 +9,7 @@ ghost use Rattle.drain_device.specs.Reads.{TakesAtMost};
 ghost use Rattle.drain_files.specs.Files.{TakesMoreThan};
 
 use drain_device::{BodyFault, ByteSink, ByteSource, GaveUp, Patience, read_whole, write_all};
-use drain_maker::product_files::SetFault;
+use drain_sets::SetFault;
 use std::alloc::Global;
 
 /// Writes the bytes of a file.

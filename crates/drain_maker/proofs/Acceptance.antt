@@ -43,14 +43,16 @@ use Rattle.drain_verdict.specs.Meaning.{tiling_of}
 use Rattle.drain_verdict.specs.TileGround.{TilesRefuse, set_of}
 use Rattle.drain_maker.specs.Mosaics.{IsMosaicOf}
 use Rattle.drain_verdict.specs.Answers.{IsAnswerIn}
-use Rattle.drain_maker.specs.ProductFiles.{SetFits, con_no_data, header_on, made_header}
+use Rattle.drain_maker.specs.ProductFiles.{SetFits, made_header}
+use Rattle.drain_sets.specs.ProductHeaders.{con_no_data, header_on}
 use Rattle.drain_maker.specs.Dems.{dem_elevation}
 use Rattle.drain_maker.specs.Made.{AreRasters, made_numbers}
 use Rattle.drain_maker.specs.Accepted.{AreGivenSpacings, AreNamed, AreFilesOf, IsMadeAcceptance, MadeIsAccepted, MadeOnDemIsAccepted}
 use Rattle.drain_grid.proofs.ByProduct.{none_of_held}
 use Rattle.drain_maker.proofs.FileLemmas.{FitHeaders-set}
 use Rattle.drain_maker.proofs.Placing.{near_by_names, no_way, side_by_readable}
-use Rattle.drain_maker.proofs.HeaderBounds.{IsSmall, bounds_on, within_bounds, placed}
+use Rattle.drain_maker.proofs.MosaicHeaders.{IsSmall, within_bounds, placed}
+use Rattle.drain_sets.proofs.HeaderBounds.{bounds_on}
 
 -- all headers of products have the size and the place of the elevations
 one_size : (h : Fields) (p : SetProduct) → header_extent (header_on h (product_of p)) ≡ header_extent h

@@ -37,11 +37,13 @@ use Rattle.drain_raster.specs.Pixels.{IsShort, header_extent, needed_len, number
 use Rattle.drain_raster.specs.Placing.{HasPixelSize}
 use Rattle.drain_raster.proofs.PixelLemmas.{spelled_as-take}
 use Rattle.drain_text.specs.First.{IsBefore}
-use Rattle.drain_verdict.specs.DemGround.{DemRefuses, DemTexts, EncodesDem, IsDemHeader, IsDemHeaderRefusal, dem_devices, dem_fields, dem_ground, kind_of}
+use Rattle.drain_verdict.specs.DemGround.{DemRefuses, DemTexts, EncodesDem, IsDemHeader, IsDemHeaderRefusal, dem_devices, dem_fields, dem_ground}
+use Rattle.drain_header.specs.Lines.{kind_of}
 use Rattle.drain_verdict.specs.Ground.{refusal_kind}
-use Rattle.drain_verdict.specs.declared.next_rows.RasterInput.{RasterInput}
+use Rattle.drain_sets.specs.declared.raster_input.RasterInput.{RasterInput}
 use Rattle.drain_maker.specs.Dems.{IsBodyRefusal, IsDemOf, IsGroundRefusal, IsKept, IsRasterOf, kept_number}
-use Rattle.drain_maker.specs.ProductFiles.{FitsHeader, con_no_data}
+use Rattle.drain_maker.specs.ProductFiles.{FitsHeader}
+use Rattle.drain_sets.specs.ProductHeaders.{con_no_data}
 use Rattle.drain_maker.proofs.KeptNumbers.{kept_height, pattern_number}
 use Rattle.drain_maker.proofs.MosaicAnswers.{reads-front}
 

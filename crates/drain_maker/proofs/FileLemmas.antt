@@ -1,5 +1,5 @@
 -- From the writes of single files to those of a set.
-use Rattle.std.proofs.Common.{◌≡◌, ◌<◌, ℕ, ℤ, List, true, false, map, length, arith, ◌↔◌, zero, suc, ◌+◌, ◌≤◌, inl, inr, [], ◌∷◌, ◌++◌, slice_index_or, Option, Some, None, Result, Ok, Err, IsErrOf, refl, sym, ap, subst, ◌∙◌, length-append, append_assoc, append-nil}
+use Rattle.std.proofs.Common.{◌≡◌, ◌<◌, ℕ, ℤ, List, true, false, map, length, arith, ◌↔◌, zero, suc, ◌+◌, ◌≤◌, inl, inr, [], ◌∷◌, ◌++◌, slice_index_or, Option, Some, Result, Ok, Err, IsErrOf, refl, sym, ap, subst, ◌∙◌, length-append, append_assoc, append-nil}
 use Rattle.drain_grid.specs.declared.cell.Cell.{Cell}
 use Rattle.drain_grid.specs.Grid.{Pixels}
 use Rattle.drain_grid.specs.WholeGrid.{raster_in}
@@ -10,8 +10,7 @@ use Rattle.drain_grid.specs.declared.height_kind.HeightKind.TheVariants.{Whole, 
 use Rattle.drain_raster.specs.Bytes.{CanSpellAll, IsFirstOutOfRange, raster_bytes}
 use Rattle.drain_maker.specs.Made.{AreMadeSpelled, CanBeWritten}
 use Rattle.std.specs.Prelude.{slice_set}
-use Rattle.std.specs.Io.KnownBytes.{Appends}
-use Rattle.drain_device.specs.Failing.{Sink, WriteFails, full_patience, GivesUpWriting}
+use Rattle.drain_device.specs.Failing.{Sink, WriteFails}
 use Rattle.drain_device.specs.Counts.{HandsOver}
 use Rattle.std.proofs.lemmas.List.{get_or-map}
 use Rattle.drain_grid.specs.declared.product.Product.TheVariants as product
@@ -19,18 +18,21 @@ use Rattle.drain_grid.specs.declared.set_product.SetProduct.{SetProduct}
 use Rattle.drain_floats.specs.Words.{IsFloatWord}
 use Rattle.drain_header.specs.declared.key.Key.TheVariants.{Nodata}
 use Rattle.drain_header.specs.Header.{Fields}
-use Rattle.drain_header.specs.Text.{IsFloatLine, IsTextOf, IsTextOfKind, text_of, shape_lines, pixel_lines, place_lines, nodata_line, line}
+use Rattle.drain_header.specs.Text.{IsFloatLine, IsTextOf, IsTextOfKind, text_of, shape_lines, pixel_lines, place_lines, line}
 use Rattle.drain_mosaic.specs.Tiling.{Tiling, extent_of}
 use Rattle.drain_raster.specs.declared.fault.WriteFault.{WriteFault}
 use Rattle.drain_raster.specs.Pixels.{header_extent}
-use Rattle.drain_maker.specs.declared.product_files.SetFault.{SetFault}
-use Rattle.drain_maker.specs.declared.product_files.SetFault.TheVariants.{WriteFailed, OutOfMemory}
-use Rattle.drain_maker.specs.declared.product_files.SetFile.{SetFile}
-use Rattle.drain_maker.specs.declared.product_files.TheConstants.{SET_FILES, DERIVED_COUNT, DERIVED_FILES}
+use Rattle.drain_sets.specs.declared.set_files.SetFault.{SetFault}
+use Rattle.drain_sets.specs.declared.set_files.SetFault.TheVariants.{WriteFailed, OutOfMemory}
+use Rattle.drain_sets.specs.declared.set_files.SetFile.{SetFile}
+use Rattle.drain_sets.specs.declared.set_files.TheConstants.{SET_FILES, DERIVED_COUNT, DERIVED_FILES}
 use Rattle.drain_maker.specs.declared.derivation.Derived.{Derived}
 use Rattle.drain_maker.specs.Derived.{AreCounts}
-use Rattle.drain_maker.specs.ProductFiles.{CanSpellAllIn, DerivedFit, FitHeaders, IsDerived, SetFits, WritesFile, WritesFiles, WritesSet, derived_bytes, derived_raster, file_bytes, header_on, made_header, set_bytes}
+use Rattle.drain_maker.specs.ProductFiles.{CanSpellAllIn, DerivedFit, FitHeaders, IsDerived, SetFits, WritesSet, derived_bytes, derived_raster, file_bytes, made_header, set_bytes}
+use Rattle.drain_sets.specs.ProductHeaders.{header_on}
+use Rattle.drain_sets.specs.FileWrites.{WritesFile, WritesFiles}
 use Rattle.drain_maker.proofs.TileLists.{get-seam, set-seam}
+use Rattle.drain_sets.proofs.FileWrites.{any_text-some, no_memory}
 use Rattle.drain_raster.specs.declared.fault.WriteFault.TheVariants as write
 
 -- what can be encoded of each raster of a product set can be of all
@@ -41,55 +43,6 @@ each_spelled ps con dir acc bas rnk Dir = dir
 each_spelled ps con dir acc bas rnk Acc = acc
 each_spelled ps con dir acc bas rnk Bas = bas
 each_spelled ps con dir acc bas rnk Rnk = rnk
-
--- no byte was taken
-appends-nothing : (taken : Option (List ℕ)) → Appends taken taken []
-appends-nothing None = tt
-appends-nothing (Some xs) = sym (append-nil xs)
-
--- without a fault no sink fails for good
-never-gives-up : GivesUpWriting full_patience 0 0 0 → ⊥
-never-gives-up (inl failed) = omega (arith, failed)
-never-gives-up (inr (inl interrupted)) = omega (arith, interrupted)
-never-gives-up (inr (inr stalled)) = omega (arith, stalled)
-
--- a file that wasn't called, as memory ran out
-pub no_memory : {F : Type 0} (sink : Sink F) (file : F) (bytes : List ℕ) → 0 < length bytes →
-    WritesFile sink file file bytes (Err OutOfMemory)
-no_memory sink file bytes some = record {
-  written = (0, some, appends-nothing (sink.bytes_taken file));
-  faults = record {
-    failures = 0;
-    interruptions = 0;
-    stalls = 0;
-    answered = record { failures_are = omega arith; interruptions_are = omega arith };
-    stalled = omega arith;
-    exactly = ((λ e. cc), λ gave. absurd (never-gives-up gave));
-  };
-}
-
--- a header's text has some bytes
-shape-some : (h : Fields) → 0 < length (shape_lines h)
-unfolding shape_lines line
-shape-some h = omega arith
-
-some-more : (xs ys : List ℕ) → 0 < length xs → 0 < length (xs ++ ys)
-some-more xs ys some = omega (arith, some, length-append xs ys)
-
-ended-some : (h : Fields) (end : List ℕ) → 0 < length (shape_lines h ++ pixel_lines h ++ place_lines h.place ++ end)
-ended-some h end =
-    some-more (shape_lines h ++ pixel_lines h ++ place_lines h.place) end
-    (some-more (shape_lines h ++ pixel_lines h) (place_lines h.place) (some-more (shape_lines h) (pixel_lines h) (shape-some h)))
-
-pub text-some : (h : Fields) → 0 < length (text_of h)
-text-some h = ended-some h (nodata_line h.nodata)
-
-kind-some : (kind : HeightKind) (h : Fields) (text : List ℕ) → IsTextOfKind kind h text → 0 < length text
-kind-some Whole h text is = subst (λ (t : List ℕ). 0 < length t) (sym is) (text-some h)
-kind-some Single h text is = subst (λ (t : List ℕ). 0 < length t) (sym is.2) (ended-some h is.0)
-
-pub any_text-some : (h : Fields) (text : List ℕ) → IsTextOf h text → 0 < length text
-any_text-some h text is = kind-some h.kind h text is
 
 -- a no-data number with a word has a line
 pub some_line : (o : Option ℤ) (n m : ℤ) (word : List ℕ) → o ≡ Some n → m ≡ n → IsFloatWord m word → (end : List ℕ) × IsFloatLine o end

@@ -12,11 +12,12 @@ use Rattle.drain_grid.specs.Grid.{Pixels}
 use Rattle.drain_grid.specs.Values.{IsPixel}
 use Rattle.drain_grid.specs.WholeGrid.{number_at}
 use Rattle.drain_header.specs.Header.{Fields}
-use Rattle.drain_header.proofs.Bounds.{float_known}
 use Rattle.drain_pixels.specs.Ground.{height_with, is_number, whole_voids}
 use Rattle.drain_raster.specs.Bytes.{CanSpell, CanSpellAs}
 use Rattle.drain_maker.specs.Dems.{IsKept, kept_number}
-use Rattle.drain_maker.specs.ProductFiles.{FitsHeader, con_no_data, no_height}
+use Rattle.drain_maker.specs.ProductFiles.{FitsHeader}
+use Rattle.drain_sets.specs.ProductHeaders.{con_no_data, no_height}
+use Rattle.drain_sets.proofs.HeaderBounds.{con_float}
 
 -- the number of a pattern of 32 bits is that of a float
 pub pattern_number : (p : ℕ) → p < 4294967296 → IsFloatNumber (number_of p)
@@ -28,13 +29,7 @@ pattern_number p small = elim (nat_lt 2139095040 (p % 2147483648)) as (λ b. nat
   ] refl
 ] refl
 
--- the no-data number of a header of floats, or that of NaN, is a float's
-pub con_float : (kind : HeightKind) (o : Option ℤ) → (kind ≡ Single → ∥ IfSome o IsFloatNumber ∥₁) → kind ≡ Single → IsFloatNumber (unwrap_or o (no_height kind))
-con_float Whole o ok single = cc
-con_float Single None ok single = inr refl
-con_float Single (Some z) ok single = float_known (Some z) (ok single)
-
--- so that of a raster that has con's
+-- the no-data number of a raster that has con's is a float's
 pub void_float : (h inside : Fields) (p : Pixels) → inside ≡ h → (inside.kind ≡ Single → ∥ IfSome inside.nodata IsFloatNumber ∥₁) → p.nodata ≡ con_no_data h → inside.kind ≡ Single →
     IsFloatNumber p.nodata
 void_float h inside p view ok nodata single = subst IsFloatNumber (ap con_no_data view ∙ sym nodata) (con_float inside.kind inside.nodata ok single)

@@ -1,5 +1,5 @@
 mod Acceptance
-mod HeaderBounds
+mod MosaicHeaders
 mod Placing
 pub mod DerivedRasters
 pub mod Completed

@@ -23,14 +23,16 @@ use Rattle.drain_rules.specs.Verdicts.{counts_of}
 use Rattle.drain_answer.specs.declared.refusal.Refusal.{Refusal}
 use Rattle.drain_answer.specs.declared.refusal.Refusal.TheVariants.{OutOfMemory, ReadFailed}
 use Rattle.drain_verdict.specs.DemGround.{DemTexts, dem_ground}
-use Rattle.drain_verdict.specs.Given.{GivenSpacing, HasBadSpacing, HasOtherRows, row_spacing}
+use Rattle.drain_verdict.specs.Given.{HasBadSpacing, HasOtherRows, row_spacing}
+use Rattle.drain_sets.specs.GivenSpacings.{GivenSpacing}
 use Rattle.drain_verdict.specs.Inputs.{Inputs, AreNames}
 use Rattle.drain_verdict.specs.Meaning.{texts_of, tiling_of}
 use Rattle.drain_verdict.specs.Texts.{SetTexts}
 use Rattle.drain_maker.specs.Dems.{AreMadeOn, IsDemOf, spaced_dem_grid}
 use Rattle.drain_maker.specs.Mosaics.{IsMosaicOf}
 use Rattle.drain_verdict.specs.Answers.{IsAnswer, IsAnswerIn}
-use Rattle.drain_maker.specs.ProductFiles.{header_on, made_header}
+use Rattle.drain_maker.specs.ProductFiles.{made_header}
+use Rattle.drain_sets.specs.ProductHeaders.{header_on}
 use Rattle.drain_maker.specs.Made.{AreMade}
 
 -- if each name names a tile, the corners are those of the named tiles

@@ -27,7 +27,8 @@ use Rattle.drain_text.specs.First.{IsFirst}
 use Rattle.drain_verdict.specs.DemGround.{DemTexts, IsDemHeader, dem_ground}
 use Rattle.drain_verdict.specs.Ground.{Ground, refusal_kind}
 use Rattle.drain_maker.specs.Made.{AreRasters, made_numbers}
-use Rattle.drain_maker.specs.ProductFiles.{SetFits, con_no_data}
+use Rattle.drain_maker.specs.ProductFiles.{SetFits}
+use Rattle.drain_sets.specs.ProductHeaders.{con_no_data}
 use Rattle.drain_maker.specs.declared.maker.MakeRefusal.{MakeRefusal}
 use Rattle.drain_maker.specs.declared.maker.MakeRefusal.TheVariants.{MakerFault, OutOfMemory, SinkNotData}
 

@@ -18,7 +18,8 @@ use Rattle.drain_raster.specs.Bytes.{CanSpellAll}
 use Rattle.drain_mosaic.specs.Tiling.{Tiling}
 use Rattle.drain_maker.specs.declared.maker.MakeRefusal.{MakeRefusal}
 use Rattle.drain_maker.specs.declared.maker.MakeRefusal.TheVariants.{MakerFault, OutOfMemory, SinkNotData}
-use Rattle.drain_maker.specs.ProductFiles.{CanSpellAllIn, made_header, bits_of, is_signed}
+use Rattle.drain_maker.specs.ProductFiles.{CanSpellAllIn, made_header}
+use Rattle.drain_sets.specs.ProductHeaders.{bits_of, is_signed}
 use Rattle.drain_grid.specs.declared.cell.Cell.{Cell}
 use Rattle.drain_grid.specs.Correct.{IsCorrect, RunsAreSound}
 use Rattle.drain_grid.specs.Extent.{index_of, Extent}

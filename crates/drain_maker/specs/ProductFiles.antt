@@ -1,19 +1,17 @@
--- The files of a product set or of derived rasters: their bytes, what has to hold so that they can be written, and the
--- result of writing them one after the other.
-use Rattle.std.specs.Prelude.{ℕ, ℤ, pos, ◌*◌, ◌/◌, Bool, true, false, Some, unwrap_or, ◌≡◌, ◌⊎◌, List, [], ◌∷◌, Result, Ok, Err, IsErr}
+-- The files of a product set or of derived rasters: the headers of a mosaic's, their bytes, what has to hold so that they
+-- can be written, and that they are.
+use Rattle.std.specs.Prelude.{ℕ, ◌*◌, ◌/◌, Bool, Some, ◌≡◌, List, [], ◌∷◌, Result}
 use Rattle.drain_grid.specs.declared.cell.Cell.{Cell}
-use Rattle.drain_grid.specs.declared.height_kind.HeightKind.{HeightKind}
-use Rattle.drain_grid.specs.declared.height_kind.HeightKind.TheVariants.{Whole, Single}
+use Rattle.drain_grid.specs.declared.height_kind.HeightKind.TheVariants.{Whole}
 use Rattle.drain_grid.specs.declared.product.Product.{Product}
-use Rattle.drain_grid.specs.declared.product.Product.TheVariants.{Con, Dir, Acc, Bas, Spl, Rnk}
+use Rattle.drain_grid.specs.declared.product.Product.TheVariants.{Con, Acc, Bas, Rnk}
 use Rattle.drain_grid.specs.Product.{default_no_data}
 use Rattle.drain_header.specs.declared.header.ByteOrdering.TheVariants.{Least}
 use Rattle.drain_header.specs.declared.header.Place.{Place}
 use Rattle.drain_header.specs.Header.{Fields}
 use Rattle.drain_mosaic.specs.Tiling.{Tiling, west_edge, north_edge, spacing_of, extent_of}
 use Rattle.std.specs.List.{flat_map}
-use Rattle.drain_device.specs.Failing.{Sink, WriteFails}
-use Rattle.drain_device.specs.Counts.{HandsOver}
+use Rattle.drain_device.specs.Failing.{Sink}
 use Rattle.drain_grid.specs.declared.product_set.ProductSet.{ProductSet}
 use Rattle.drain_grid.specs.declared.set_product.SetProduct.{SetProduct}
 use Rattle.drain_grid.specs.Extent.{IsCellOf}
@@ -24,29 +22,15 @@ use Rattle.drain_header.specs.Text.{IsTextOf, text_of}
 use Rattle.drain_raster.specs.Bytes.{CanSpellAll, CanSpellIn, raster_bytes}
 use Rattle.drain_raster.specs.Pixels.{header_extent}
 use Rattle.drain_maker.specs.declared.derivation.Derived.{Derived}
-use Rattle.drain_maker.specs.declared.product_files.Part.{Part}
-use Rattle.drain_maker.specs.declared.product_files.Part.TheVariants.{Header, Raster}
-use Rattle.drain_maker.specs.declared.product_files.SetFile.{SetFile}
-use Rattle.drain_maker.specs.declared.product_files.SetFault.{SetFault}
-use Rattle.drain_maker.specs.declared.product_files.SetFault.TheVariants.{WriteFailed}
+use Rattle.drain_sets.specs.FileWrites.{WritesFile, WritesFiles}
+use Rattle.drain_sets.specs.ProductHeaders.{bits_of, con_no_data, header_on, is_signed}
+use Rattle.drain_sets.specs.declared.set_files.FilePart.{FilePart}
+use Rattle.drain_sets.specs.declared.set_files.FilePart.TheVariants.{Header, Raster}
+use Rattle.drain_sets.specs.declared.set_files.SetFile.{SetFile}
+use Rattle.drain_sets.specs.declared.set_files.SetFault.{SetFault}
 use Rattle.drain_grid.specs.declared.set_product.SetProduct.TheVariants as held
 
--- The headers of the rasters of `make`.
--- Source: the Esri description of BIL headers; sizes, byte order and no-data numbers are this project's own
-
--- heights have 16 bits, codes 8, counts, labels and ranks 32
-abbrev pub bits_of : Product → ℕ
-bits_of Con = 16
-bits_of Dir = 8
-bits_of Acc = 32
-bits_of Bas = 32
-bits_of Spl = 8
-bits_of Rnk = 32
-
--- only heights can be negative
-abbrev pub is_signed : Product → Bool
-is_signed Con = true
-is_signed p = false
+-- The headers of the rasters of `make`. Source: this project's own.
 
 -- the corner of the mosaic, and the spacing of its samples
 abbrev pub mosaic_place : Tiling → Place
@@ -72,15 +56,6 @@ made_header t p = record {
   kind = Whole;
 }
 
--- a number that no height is: one that no pixel spells, and of floats that of NaN
-abbrev pub no_height : HeightKind → ℤ
-no_height Whole = pos 4294967296
-no_height Single = pos 2143289344
-
--- the no-data number of con on a raster of elevations: the raster's own, or one that no height is
-abbrev pub con_no_data : Fields → ℤ
-con_no_data h = unwrap_or h.nodata (no_height h.kind)
-
 -- the raster's header with that number
 abbrev pub marked_header : Fields → Fields
 marked_header h = record {
@@ -96,44 +71,13 @@ marked_header h = record {
   kind = h.kind;
 }
 
--- the header of a product that isn't con on a raster of elevations with this header: of its size, at its place
-abbrev pub header_beside : Fields → Product → Fields
-header_beside h p = record {
-  rows = h.rows;
-  cols = h.cols;
-  bits = bits_of p;
-  order = Least;
-  signed = false;
-  skip = 0;
-  row_bytes = h.cols * (bits_of p / 8);
-  place = h.place;
-  nodata = Some (default_no_data p);
-  kind = Whole;
-}
-
--- that of any product: con has the raster's pixels, floats where these are
-abbrev pub header_on : Fields → Product → Fields
-header_on h Con = record {
-  rows = h.rows;
-  cols = h.cols;
-  bits = h.bits;
-  order = Least;
-  signed = h.signed;
-  skip = 0;
-  row_bytes = h.cols * (h.bits / 8);
-  place = h.place;
-  nodata = Some (con_no_data h);
-  kind = h.kind;
-}
-header_on h p = header_beside h p
-
 -- the text of a product's header on a raster of elevations with this header, where con's is this one
 abbrev pub header_bytes : List ℕ → Fields → SetProduct → List ℕ
 header_bytes con h held.Con = con
 header_bytes con h p = text_of (header_on h (product_of p))
 
 -- the bytes of a file of a product: its header's text, or its raster's bytes
-abbrev pub part_bytes : List ℕ → Fields → SetProduct → Pixels → Part → List ℕ
+abbrev pub part_bytes : List ℕ → Fields → SetProduct → Pixels → FilePart → List ℕ
 part_bytes con h p r Header = header_bytes con h p
 part_bytes con h p r Raster = raster_bytes (header_on h (product_of p)) r
 
@@ -162,19 +106,6 @@ SetFits h ps = FitHeaders h (λ p. Unit {0}) (raster_in ps)
 -- then its raster
 unfoldable pub set_bytes : List ℕ → Fields → ProductSet → List (List ℕ)
 set_bytes con h ps = flat_map (λ p. header_bytes con h p ∷ raster_bytes (header_on h (product_of p)) (raster_in ps p) ∷ []) products
-
--- the file took its bytes, or a proper first part of them; the write failed exactly if the file failed for good
-pub record WritesFile {F : Type 0} (sink : Sink F) (old new : F) (bytes : List ℕ) (done : Result (Unit {0}) SetFault) : Type 0 where
-  pub written : HandsOver (sink.bytes_taken old) (sink.bytes_taken new) done bytes
-  pub faults : WriteFails (sink.counts old) (sink.counts new) (sink.stalls old) (sink.stalls new) (done ≡ Err WriteFailed)
-
--- the files took their bytes one after the other; the first that didn't ended it, and later ones are as they were
-abbrev pub WritesFiles : {F : Type 0} → Sink F → List F → List F → List (List ℕ) → Result (Unit {0}) SetFault → Type 0
-WritesFiles sink [] [] [] done = done ≡ Ok tt
-WritesFiles sink (old ∷ olds) (new ∷ news) (bytes ∷ more) done =
-    (WritesFile sink old new bytes (Ok tt) × WritesFiles sink olds news more done)
-    ⊎ (IsErr done × (WritesFile sink old new bytes done × (news ≡ olds)))
-WritesFiles sink olds news texts done = ⊥
 
 -- the file took a text of the header, of which there is one for whole heights
 abbrev pub WritesHeader : {F : Type 0} → Sink F → Fields → F → F → Result (Unit {0}) SetFault → Type 0

@@ -18,7 +18,6 @@ ghost use Rattle.drain_maker.specs.Made.{AreRasters, AreRightProducts, AreRoutes
 ghost use Rattle.drain_maker.specs.Narrow.{IsNarrowed};
 ghost use Rattle.drain_maker.specs.ProductFiles.{FitsHeader, SetFits};
 
-use crate::follow::{Follow, Part};
 use crate::maker::MakeRefusal;
 use crate::narrow::{narrow_elevation, narrow_raster};
 use crate::products::{
@@ -34,6 +33,7 @@ use drain_grid::{
     Cell, Elevation, OutOfMemory, Product, ProductSet, Raster, Shape, SinkData, Sinks, Spacings,
     first_off_data,
 };
+use drain_sets::{Follow, Stage};
 use std::alloc::Global;
 
 /// A raster that is lent, or given away: a given one is freed when it is dropped.
@@ -239,12 +239,12 @@ fn route_wide<D: AsRaster + Drop>(
     ensures dir { IfOk result (λ routes. vec_len routes.dir ≡ (D.raster dem).extent.rows * (D.raster dem).extent.cols) }
     ensures routes { IfOk result (λ routes. AreRoutes (spaced_dem_grid (spacing_of spacings.now) (D.raster dem) sinks.now) (D.raster dem).nodata routes.con.numbers routes.rnk.items routes.dir.items) }
 {
-    follow.begin(Part::Surface);
+    follow.begin(Stage::Surface);
     let raster = dem.as_raster();
     let shape = raster.shape();
     let nodata = raster.nodata();
     let surface = surface_of(alloc, dem, sinks)?;
-    follow.begin(Part::Directions);
+    follow.begin(Stage::Directions);
     let codes = exact_directions(alloc, &surface, spacings)?;
     let routes = route(alloc, surface, codes)?;
     Ok(Routes {

@@ -6,7 +6,6 @@
 
 pub mod dem;
 pub mod derivation;
-pub mod follow;
 mod header_texts;
 pub mod laws;
 mod maker;
@@ -19,6 +18,7 @@ pub mod whole_dem;
 pub use dem::{AsRaster, make_dem};
 pub use derivation::{DeriveRefusal, Derived, derive, derive_dem, derive_from_flows};
 pub use drain_flood::LevelQueue;
+pub use drain_sets::{Follow, SetFault, Stage, Unfollowed};
 pub use drain_verdict::{CertifyRefusal, certify};
 pub use maker::{MakeRefusal, make, make_freeing};
 pub use mosaic::{AsElevation, Mosaic, read_mosaic};

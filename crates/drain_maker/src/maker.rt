@@ -8,12 +8,12 @@ ghost use Rattle.drain_grid.specs.WholeGrid.{grid_of, products_of, nodata_of, sp
 ghost use Rattle.drain_mosaic.specs.Tiling.{extent_of};
 ghost use Rattle.drain_maker.specs.Made.{KeepsEveryRule, CanBeWritten, AreRasters, IsSinkAnswer, Succeeds};
 
-use crate::follow::{Follow, Unfollowed};
 use crate::mosaic::AsElevation;
 use crate::products::build;
 use drain_grid::laws::found_off_data_is_right;
 use drain_grid::{Elevation, OutOfMemory, ProductSet, Sinks, Spacing, Spacings, first_off_data};
 use drain_mosaic::Layout;
+use drain_sets::{Follow, Unfollowed};
 use std::alloc::Global;
 use thiserror::Error;
 

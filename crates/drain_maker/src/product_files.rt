@@ -1,8 +1,11 @@
-//! The files of a set: names, headers, pixels.
+//! The header of a product of a mosaic, and writing the files of a set: headers, pixels.
 
 ghost use Rattle.std.specs.Prelude.{◌≡◌, length, map};
 ghost use Rattle.drain_header.specs.Header.{IsCoordinate};
-ghost use Rattle.drain_maker.specs.ProductFiles.{con_no_data, header_beside, header_bytes, header_on, made_header, mosaic_place, no_height, bits_of, is_signed, DerivedFit, FitHeaders, IsDerived, SetFits, WritesFile, WritesFiles, WritesHeader, WritesSet, derived_bytes, derived_raster, file_bytes};
+ghost use Rattle.drain_maker.specs.ProductFiles.{header_bytes, made_header, mosaic_place, DerivedFit, FitHeaders, IsDerived, SetFits, WritesHeader, WritesSet, derived_bytes, derived_raster, file_bytes};
+ghost use Rattle.drain_sets.specs.FileWrites.{WritesFile, WritesFiles};
+ghost use Rattle.drain_sets.specs.ProductHeaders.{header_beside};
+ghost use Rattle.drain_sets.specs.declared.set_files.TheConstants.{DERIVED_COUNT, FILE_COUNT};
 ghost use Rattle.std.specs.List.{All};
 ghost use Rattle.drain_grid.specs.Grid.{Pixels};
 ghost use Rattle.drain_grid.specs.WholeGrid.{raster_in};
@@ -18,6 +21,8 @@ use drain_grid::{HeightKind, Product, ProductSet, Raster, SetProduct};
 use drain_header::{ByteOrdering, Header, Place, header_text};
 use drain_mosaic::Layout;
 use drain_raster::write_raster;
+use drain_sets::product_headers::{bits_of, con_header_on, header_beside, header_on, is_signed};
+use drain_sets::{DERIVED_FILES, FilePart, SET_FILES, SetFault, SetFile};
 use std::alloc::Global;
 
 /// The header of a product of this mosaic.
@@ -44,102 +49,6 @@ pub fn product_header(layout: &Layout, product: Product) -> Header
     }
 }
 
-/// The header of a product on a raster of elevations with this header; on a mosaic that of con stands for it.
-///
-/// It has the raster's rows, columns and place. Con has pixels of its size and sign, floats where these are, and its no-data
-/// number, or if it has none 4294967296, which no pixel is, and of floats NaN's. All else is as `product_header` has it.
-pub fn header_on(elevations: &Header, product: Product) -> Header
-    ensures { result ≡ header_on elevations.now product }
-{
-    match product {
-        Product::Con => con_header_on(elevations),
-        Product::Dir | Product::Acc | Product::Bas | Product::Spl | Product::Rnk => {
-            header_beside(elevations, product)
-        }
-    }
-}
-
-/// The header of con there.
-fn con_header_on(elevations: &Header) -> Header
-    ensures { result ≡ header_on elevations.now Product.Con }
-{
-    Header {
-        rows: elevations.rows,
-        cols: elevations.cols,
-        bits: elevations.bits,
-        order: ByteOrdering::Least,
-        signed: elevations.signed,
-        skip: 0,
-        row_bytes: elevations.cols * u32::from(elevations.bits / 8),
-        place: elevations.place,
-        nodata: Some(con_no_data(elevations)),
-        kind: elevations.kind,
-    }
-}
-
-/// The header of another product there.
-fn header_beside(elevations: &Header, product: Product) -> Header
-    ensures { result ≡ header_beside elevations.now product }
-{
-    let bits = bits_of(product);
-    Header {
-        rows: elevations.rows,
-        cols: elevations.cols,
-        bits,
-        order: ByteOrdering::Least,
-        signed: false,
-        skip: 0,
-        row_bytes: elevations.cols * u32::from(bits / 8),
-        place: elevations.place,
-        nodata: Some(product.default_no_data()),
-        kind: HeightKind::Whole,
-    }
-}
-
-/// The no-data number of con: the elevations' own, or one that no height is.
-pub(crate) fn con_no_data(elevations: &Header) -> i64
-    ensures { result ≡ con_no_data elevations.now }
-{
-    match elevations.nodata {
-        Some(number) => number,
-        None => no_height(elevations.kind),
-    }
-}
-
-/// A number that no height of the kind has.
-fn no_height(kind: HeightKind) -> i64
-    ensures { result ≡ no_height kind }
-{
-    match kind {
-        HeightKind::Whole => NO_PIXEL,
-        HeightKind::Single => NAN,
-    }
-}
-
-/// A number that no pixel of whole heights is.
-const NO_PIXEL: i64 = 4_294_967_296;
-
-/// The number of NaN.
-const NAN: i64 = 2_143_289_344;
-
-/// How many bits a pixel of the product has.
-fn bits_of(product: Product) -> u8
-    ensures { result ≡ bits_of product }
-{
-    match product {
-        Product::Dir | Product::Spl => 8,
-        Product::Con => 16,
-        Product::Acc | Product::Bas | Product::Rnk => 32,
-    }
-}
-
-/// Whether numbers of the product can be negative.
-fn is_signed(product: Product) -> bool
-    ensures { result ≡ is_signed product }
-{
-    product == Product::Con
-}
-
 /// The mosaic's place, and the spacing of its samples.
 fn mosaic_place(layout: &Layout) -> Place
     ensures place { result ≡ mosaic_place layout.now }
@@ -157,51 +66,6 @@ fn mosaic_place(layout: &Layout) -> Place
         xdim: spacing,
         ydim: spacing,
     }
-}
-
-/// What a file holds of a product.
-#[derive(Clone, Copy, PartialEq, Eq, Debug)]
-pub enum Part {
-    Header,
-    Raster,
-}
-
-/// A file of a product set, or of derived rasters.
-#[derive(Clone, Copy, PartialEq, Eq, Debug)]
-pub struct SetFile {
-    pub product: SetProduct,
-    pub part: Part,
-}
-
-/// The files of these products: of each its header, and then its raster.
-macro_rules! files_of {
-    ($($product:ident)*) => {
-        [$(
-            SetFile { product: SetProduct::$product, part: Part::Header },
-            SetFile { product: SetProduct::$product, part: Part::Raster },
-        )*]
-    };
-}
-
-/// How many files a product set has.
-pub const FILE_COUNT: usize = 10;
-
-/// The files of a product set in their order.
-pub const SET_FILES: [SetFile; FILE_COUNT] = files_of!(Con Dir Acc Bas Rnk);
-
-/// How many files derived rasters have.
-pub const DERIVED_COUNT: usize = 6;
-
-/// The files of derived rasters in their order.
-pub const DERIVED_FILES: [SetFile; DERIVED_COUNT] = files_of!(Acc Bas Rnk);
-
-/// Why not every file was written.
-#[derive(Clone, Copy, PartialEq, Eq, Debug)]
-pub enum SetFault {
-    /// A sink failed, was interrupted for the 1,000th time, or accepted no byte of some.
-    WriteFailed,
-    /// Memory was refused for the text of a header.
-    OutOfMemory,
 }
 
 /// Rasters of products that are written together.
@@ -317,8 +181,8 @@ fn write_file<S: FileSet, F: ByteSink>(
     ensures { WritesFile F.ByteSink to.old to.new (file_bytes con.now elevations.now (S.rasters set.now) file) result }
 {
     match file.part {
-        Part::Header => write_header_on(alloc, elevations, con, file.product, to),
-        Part::Raster => {
+        FilePart::Header => write_header_on(alloc, elevations, con, file.product, to),
+        FilePart::Raster => {
             let header = header_on(elevations, file.product.product());
             write_numbers(&header, set.raster_of(file.product), to)
         }

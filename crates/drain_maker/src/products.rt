@@ -16,7 +16,6 @@ ghost use Rattle.drain_paths.specs.Flows.{bytes_flows, OfFlows};
 ghost use Rattle.drain_paths.specs.Inflows.{AreUpstreamCounts};
 ghost use Rattle.drain_grid.specs.declared.sink_line.SinkLine.{SinkLine};
 
-use crate::follow::{Follow, Part};
 use crate::laws::routes_keep_rules;
 use crate::mosaic::AsElevation;
 use crate::narrow::narrow_raster;
@@ -25,6 +24,7 @@ use drain_flood::ways::directions;
 use drain_flood::{Flood, HeightList, Surface, fill, ways_on_flats};
 use drain_grid::{Elevation, OutOfMemory, Product, ProductSet, Raster, Shape, Sinks, Spacings};
 use drain_paths::{accumulate_codes, label_ended_codes};
+use drain_sets::{Follow, Stage};
 use std::alloc::Global;
 
 /// The raster of a product of heights.
@@ -89,7 +89,7 @@ pub(crate) fn flooded(
     ensures extent { IfOk result (λ flood. flood.extent ≡ elevation.now.extent) }
     ensures flooded { IfOk result (λ flood. (spacing : ℕ → Distances) → IsFlooded (spaced_grid spacing elevation.now sinks.now) flood) }
 {
-    follow.begin(Part::Surface);
+    follow.begin(Stage::Surface);
     fill(alloc, elevation, sinks)
 }
 
@@ -107,7 +107,7 @@ pub(crate) fn route_flooded(
 {
     // The law that voids, and they alone, have the no-data height.
     flood_shows_voids();
-    follow.begin(Part::Directions);
+    follow.begin(Stage::Directions);
     let surface = flood.into_surface(alloc)?;
     let codes = directions(alloc, &surface, spacings)?;
     route(alloc, surface, codes)
@@ -156,9 +156,9 @@ pub(crate) fn count_and_label(
     ensures labels { IfOk result (λ both. vec_len both.labels ≡ shape.rows * shape.cols) }
     ensures right { IfOk result (λ both. OfFlows shape (bytes_flows codes.now) (λ g ps. AreCountsAndLabels g ps shape both.counts.items both.labels.items)) }
 {
-    follow.begin(Part::Counts);
+    follow.begin(Stage::Counts);
     let counts = count_ended(alloc, codes, shape)?;
-    follow.begin(Part::Labels);
+    follow.begin(Stage::Labels);
     let labels = label_ended(alloc, codes, shape)?;
     Ok(CountsAndLabels { counts, labels })
 }

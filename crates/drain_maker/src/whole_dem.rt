@@ -12,9 +12,9 @@ ghost use Rattle.drain_verdict.specs.DemGround.{AreHeadersKept, DemTakesAtMost, 
 ghost use Rattle.drain_verdict.specs.Refusals.{IsOfBodies};
 ghost use Rattle.drain_maker.specs.Dems.{IsBodyRefusal, IsDemOf, IsGroundRefusal, IsKept, IsKeptAt, IsRasterOf, kept_number};
 ghost use Rattle.drain_maker.specs.OneFact.{fits_prop};
-ghost use Rattle.drain_maker.specs.ProductFiles.{FitsHeader, con_no_data, marked_header, no_height};
+ghost use Rattle.drain_maker.specs.ProductFiles.{FitsHeader, marked_header};
+ghost use Rattle.drain_sets.specs.ProductHeaders.{con_no_data, no_height};
 
-use crate::product_files::con_no_data;
 use drain_answer::Refusal;
 use drain_device::{BodyFault, ByteSource, read_whole};
 use drain_floats::is_finite;
@@ -22,6 +22,7 @@ use drain_grid::{Cell, HeightKind, OutOfMemory, Product, Raster};
 use drain_header::Header;
 use drain_raster::laws::numbers_are_pixels;
 use drain_raster::{RasterFault, needed_len, read_raster};
+use drain_sets::product_headers::con_no_data;
 use drain_verdict::{RasterInput, dem_header};
 use std::alloc::Global;
 

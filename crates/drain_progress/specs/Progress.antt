@@ -2,8 +2,8 @@
 use Rattle.std.specs.Prelude.{ℕ, ◌+◌, ◌*◌, ◌≤◌, ◌<◌, List, codes, Bool, ◌&&◌, not, nat_lt, [], ◌∷◌, ◌++◌, if◌then◌else◌}
 use Rattle.drain_progress.specs.declared.progress_lines.Phase.{Phase}
 use Rattle.drain_progress.specs.declared.progress_lines.Phase.TheVariants.{Checking, Reading, Writing}
-use Rattle.drain_maker.specs.declared.follow.Part.{Part}
-use Rattle.drain_maker.specs.declared.follow.Part.TheVariants.{Surface, Directions, Labels, Counts}
+use Rattle.drain_sets.specs.declared.follow.Stage.{Stage}
+use Rattle.drain_sets.specs.declared.follow.Stage.TheVariants.{Surface, Directions, Labels, Counts}
 use Rattle.std.specs.List.{count_by}
 use Rattle.drain_progress.specs.declared.throttle.TheConstants.{APART}
 
@@ -24,12 +24,12 @@ before_row Checking = codes "drain: row "
 before_row Reading = codes "drain: reading row "
 before_row Writing = codes "drain: writing row "
 
--- the line when a part of making products begins
-abbrev pub part_text : Part → List ℕ
-part_text Surface = codes "drain: making, 1 of 4: filled elevation"
-part_text Directions = codes "drain: making, 2 of 4: directions"
-part_text Counts = codes "drain: making, 3 of 4: accumulation"
-part_text Labels = codes "drain: making, 4 of 4: basin labels"
+-- the line when a stage of making products begins
+abbrev pub stage_text : Stage → List ℕ
+stage_text Surface = codes "drain: making, 1 of 4: filled elevation"
+stage_text Directions = codes "drain: making, 2 of 4: directions"
+stage_text Counts = codes "drain: making, 3 of 4: accumulation"
+stage_text Labels = codes "drain: making, 4 of 4: basin labels"
 
 -- When lines about progress are printed. Times are milliseconds.
 

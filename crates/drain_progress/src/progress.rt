@@ -3,14 +3,14 @@
 //!
 //! Whether a line can be written or the clock read doesn't change the run.
 
-use crate::progress_lines::{Phase, part_line, row_line};
+use crate::progress_lines::{Phase, row_line, stage_line};
 use crate::rows::Rows;
 use crate::throttle::Throttle;
 use drain_answer::lines::{Line, words};
 use drain_answer::outcome::Status;
 use drain_answer::print::print_line;
 use drain_device::{Writer, write_nothing};
-use drain_maker::follow::{Follow, Part};
+use drain_sets::{Follow, Stage};
 use std::cell::Cell;
 use std::time::Instant;
 
@@ -85,14 +85,14 @@ impl<'a> Progress<'a> {
         self.throttle.set(throttle);
     }
 
-    /// Reports that a part of making products begins, if a line is due.
-    fn begin(&self, part: Part) {
+    /// Reports that a stage of making products begins, if a line is due.
+    fn begin(&self, stage: Stage) {
         let Some(now) = self.now() else {
             return;
         };
         let mut throttle = self.throttle.get();
         if throttle.is_due(now) {
-            self.print(&part_line(part));
+            self.print(&stage_line(stage));
         }
         self.throttle.set(throttle);
     }
@@ -108,13 +108,13 @@ impl<'a> Progress<'a> {
     }
 }
 
-/// Reports which part of making products begins.
+/// Reports which stage of making products begins.
 #[derive(Clone, Copy)]
 pub struct MakeProgress<'a>(pub &'a Progress<'a>);
 
 impl Follow for MakeProgress<'_> {
-    fn begin(&mut self, part: Part) {
-        self.0.begin(part);
+    fn begin(&mut self, stage: Stage) {
+        self.0.begin(stage);
     }
 }
 

@@ -1,10 +1,10 @@
 //! The text of progress lines.
 
 ghost use Rattle.std.specs.Prelude.{◌≡◌, ◌++◌, codes, decimal};
-ghost use Rattle.drain_progress.specs.Progress.{before_row, part_text};
+ghost use Rattle.drain_progress.specs.Progress.{before_row, stage_text};
 
 use drain_answer::lines::{Line, push_number, words};
-use drain_maker::follow::Part;
+use drain_sets::Stage;
 
 /// Which rows are counted.
 #[derive(Clone, Copy)]
@@ -32,14 +32,14 @@ pub fn row_line(phase: Phase, row: u32, rows: u32) -> Line
     line
 }
 
-/// The line when a part of making products begins.
-pub fn part_line(part: Part) -> Line
-    ensures { result.bytes ≡ part_text part }
+/// The line when a stage of making products begins.
+pub fn stage_line(stage: Stage) -> Line
+    ensures { result.bytes ≡ stage_text stage }
 {
-    match part {
-        Part::Surface => words("drain: making, 1 of 4: filled elevation"),
-        Part::Directions => words("drain: making, 2 of 4: directions"),
-        Part::Counts => words("drain: making, 3 of 4: accumulation"),
-        Part::Labels => words("drain: making, 4 of 4: basin labels"),
+    match stage {
+        Stage::Surface => words("drain: making, 1 of 4: filled elevation"),
+        Stage::Directions => words("drain: making, 2 of 4: directions"),
+        Stage::Counts => words("drain: making, 3 of 4: accumulation"),
+        Stage::Labels => words("drain: making, 4 of 4: basin labels"),
     }
 }

@@ -11,7 +11,7 @@ use crate::progress_lines::Phase;
 use drain_grid::SetProduct;
 use drain_header::Header;
 use drain_hgt::TileInput;
-use drain_maker::product_files::header_on;
+use drain_sets::header_on;
 
 /// Which rows of a device are counted, where they end, how many rows there are before them, and how many in all.
 #[derive(Clone, Copy)]

@@ -10,7 +10,7 @@ use Rattle.drain_raster.specs.declared.raster_rows.RasterRows.{RasterRows}
 use Rattle.drain_verdict.specs.Inputs.{as_five, readers_as_five, Inputs}
 use Rattle.drain_verdict.specs.InputReads.{RasterHasRead, RastersHaveRead}
 use Rattle.drain_verdict.specs.Reading.{gave_up, told_by}
-use Rattle.drain_verdict.specs.declared.audit_products.AuditProducts.{AuditProducts}
+use Rattle.drain_sets.specs.declared.raster_input.AuditProducts.{AuditProducts}
 use Rattle.drain_answer.specs.declared.refusal.Refusal.TheVariants.{OutOfMemory}
 use Rattle.drain_verdict.proofs.InputLemmas.{Answer, Stay, failed_at, some_failed}
 use Rattle.std.specs.Prelude.{Result}

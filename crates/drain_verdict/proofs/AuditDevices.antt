@@ -12,7 +12,7 @@ use Rattle.std.specs.List.{Any}
 use Rattle.std.proofs.lemmas.Bool.{cases_order}
 use Rattle.drain_device.specs.Counts.{Answered}
 use Rattle.drain_device.specs.Failing.{full_patience}
-use Rattle.drain_verdict.specs.declared.audit_products.AuditProducts.{AuditProducts}
+use Rattle.drain_sets.specs.declared.raster_input.AuditProducts.{AuditProducts}
 use Rattle.drain_answer.specs.declared.refusal.Refusal.{Refusal}
 use Rattle.drain_answer.specs.declared.refusal.Refusal.TheVariants.{ReadFailed}
 

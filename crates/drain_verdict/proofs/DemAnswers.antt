@@ -19,7 +19,8 @@ use Rattle.drain_raster.specs.Placing.{HasPixelSize}
 use Rattle.drain_rules.specs.Verdicts.{IfAccepted}
 use Rattle.drain_text.specs.First.{IsBefore, IsFirst}
 use Rattle.drain_verdict.specs.Answers.{AreCorrectIn, IfAccepts, IsAcceptance, IsAnswerIn, IsAuditIn, IsPlainIn}
-use Rattle.drain_verdict.specs.DemGround.{AreHeadersKept, DemTakesAtMost, DemTexts, DemUses, ElevationIsItsPixels, EncodesDem, HasDemHeader, IsDemHeader, IsDemHeaderRefusal, IsDemInput, dem_audit_devices, dem_check_devices, dem_devices, dem_fields, dem_ground, kind_of}
+use Rattle.drain_verdict.specs.DemGround.{AreHeadersKept, DemTakesAtMost, DemTexts, DemUses, ElevationIsItsPixels, EncodesDem, HasDemHeader, IsDemHeader, IsDemHeaderRefusal, IsDemInput, dem_audit_devices, dem_check_devices, dem_devices, dem_fields, dem_ground}
+use Rattle.drain_header.specs.Lines.{kind_of}
 use Rattle.drain_verdict.specs.Given.{Given}
 use Rattle.drain_verdict.specs.GroundSets.{EncodeTexts, GroundSet, IsReadable, IsRefusalIn, StandsIn, set_grid, set_numbers, set_products}
 use Rattle.drain_verdict.specs.Texts.{SetTexts}
@@ -28,8 +29,8 @@ use Rattle.drain_verdict.specs.Inputs.{Products, as_five}
 use Rattle.drain_verdict.specs.Outcomes.{IsOutcomeIn}
 use Rattle.drain_verdict.specs.Refusals.{IsOfBodies}
 use Rattle.drain_verdict.specs.Uses.{UsesSet, UsesTold, set_devices}
-use Rattle.drain_verdict.specs.declared.audit_products.AuditProducts.{AuditProducts}
-use Rattle.drain_verdict.specs.declared.next_rows.RasterInput.{RasterInput}
+use Rattle.drain_sets.specs.declared.raster_input.AuditProducts.{AuditProducts}
+use Rattle.drain_sets.specs.declared.raster_input.RasterInput.{RasterInput}
 use Rattle.drain_verdict.proofs.Acceptance.{products_right}
 use Rattle.drain_verdict.proofs.AuditAnswers.{as_certified, exactly}
 use Rattle.drain_verdict.proofs.AuditDevices.{set_devices_of_four}

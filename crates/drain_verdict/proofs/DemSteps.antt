@@ -19,7 +19,7 @@ use Rattle.drain_pixels.specs.Ground.{elevations, height_with}
 use Rattle.std.proofs.lemmas.List.{length-map}
 use Rattle.drain_text.specs.Text.{lines_of}
 use Rattle.drain_verdict.specs.DemGround.{AreHeadersKept, DemHasRead, DemRefuses, DemTakesAtMost, DemTexts, EncodesDem, IsDemAfter, IsDemBegun, IsDemHeader, IsDemInput, dem_devices, dem_fields, dem_ground, dem_rows_of}
-use Rattle.drain_verdict.specs.declared.next_rows.RasterInput.{RasterInput}
+use Rattle.drain_sets.specs.declared.raster_input.RasterInput.{RasterInput}
 use Rattle.drain_verdict.specs.Ground.{AreGroundRows, GroundToGive, IsLaidOn, IsToldOf, NoneRefusesBefore, ground_row}
 use Rattle.drain_verdict.specs.InputReads.{RasterHasRead}
 use Rattle.drain_verdict.specs.InputRows.{IsRasterBegun}

@@ -8,7 +8,7 @@ use Rattle.drain_grid.specs.PerProduct.{of_product}
 use Rattle.drain_verdict.specs.Inputs.{as_five, audit_devices, Products, AreNames}
 use Rattle.drain_verdict.specs.Uses.{devices_of, AreNamesKept, UsesInputs, UsesSet, UsesTold}
 use Rattle.drain_verdict.specs.Refusals.{IsOfBodies}
-use Rattle.drain_verdict.specs.declared.audit_products.AuditProducts.{AuditProducts}
+use Rattle.drain_sets.specs.declared.raster_input.AuditProducts.{AuditProducts}
 use Rattle.drain_answer.specs.declared.refusal.Refusal.{Refusal}
 use Rattle.drain_answer.specs.declared.refusal.Refusal.TheVariants.{OutOfMemory, ReadFailed}
 use Rattle.drain_verdict.proofs.AuditDevices.{devices_of_four, tiles_take_none}

@@ -13,7 +13,8 @@ use Rattle.drain_grid.specs.SpacingTexts.{rows_listed, spacing_in, spacings_said
 use Rattle.drain_rows.specs.GridRows.{AreListedVoids}
 use Rattle.drain_verdict.specs.declared.listings.Listing.{Listing}
 use Rattle.drain_verdict.specs.declared.listings.SpacingListing.{SpacingListing}
-use Rattle.drain_verdict.specs.Given.{GivenSpacing, HasBadSpacing, HasOtherRows, ListsRows, by_row, same, spacing_from, spacings_given}
+use Rattle.drain_verdict.specs.Given.{HasBadSpacing, HasOtherRows, ListsRows, spacings_given}
+use Rattle.drain_sets.specs.GivenSpacings.{GivenSpacing, by_row, same, spacing_from}
 use Rattle.drain_verdict.specs.GroundSets.{GroundSet, IsReadable, IsRefusalIn, NoneStandsIn, StandsIn, place_in, set_grid}
 use Rattle.drain_verdict.specs.Listings.{AreRowsCounted, IsListedSpacing, IsListingOf, IsTextTold, IsToldOfLists, IsToldOfSpacing}
 use Rattle.drain_verdict.proofs.Order.{at_bad_spacing, at_spacing_rows, first_of, none_more, readable}

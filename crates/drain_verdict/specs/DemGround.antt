@@ -7,10 +7,9 @@ use Rattle.drain_device.specs.Reads.{TakesAtMost}
 use Rattle.drain_device.specs.declared.counts.FaultCounts.{FaultCounts}
 use Rattle.drain_grid.specs.declared.cell.Cell.{Cell}
 use Rattle.drain_grid.specs.Extent.{IsCellOf}
-use Rattle.drain_grid.specs.declared.height_kind.HeightKind.{HeightKind}
 use Rattle.drain_header.specs.Faults.{AnswersOf, DescribesOf}
 use Rattle.drain_header.specs.Header.{AreWithinBounds, Fields, fields_of, header_of}
-use Rattle.drain_header.specs.Lines.{kind_said}
+use Rattle.drain_header.specs.Lines.{kind_of}
 use Rattle.drain_raster.specs.declared.raster_rows.RasterRows.{RasterRows}
 use Rattle.drain_pixels.specs.declared.voids.Voids.{Voids}
 use Rattle.drain_raster.specs.Elevations.{elevation_in, voids_of}
@@ -18,7 +17,7 @@ use Rattle.drain_raster.specs.Pixels.{IsShort, header_extent, needed_len}
 use Rattle.drain_raster.specs.Placing.{HasPixelSize, LiesOn}
 use Rattle.drain_raster.specs.RasterRows.{raster_rows}
 use Rattle.drain_text.specs.Text.{lines_of}
-use Rattle.drain_verdict.specs.declared.next_rows.RasterInput.{RasterInput}
+use Rattle.drain_sets.specs.declared.raster_input.RasterInput.{RasterInput}
 use Rattle.drain_verdict.specs.Given.{Given}
 use Rattle.drain_verdict.specs.Ground.{Ground, GroundToGive}
 use Rattle.drain_verdict.specs.GroundSets.{EncodeTexts, ForSet, GroundSet}
@@ -27,17 +26,13 @@ use Rattle.drain_verdict.specs.InputReads.{RasterHasRead}
 use Rattle.drain_verdict.specs.InputRows.{IsRasterBegun}
 use Rattle.drain_verdict.specs.Inputs.{Products, four_devices}
 use Rattle.drain_verdict.specs.Uses.{UsesSet, set_devices}
-use Rattle.drain_verdict.specs.declared.audit_products.AuditProducts.{AuditProducts}
+use Rattle.drain_sets.specs.declared.raster_input.AuditProducts.{AuditProducts}
 use Rattle.drain_verdict.specs.ToGive.{IsAfterTold}
 
 -- the header and the body of a raster of elevations
 pub record DemTexts : Type 0 where
   pub header : List ℕ
   pub body : List ℕ
-
--- the kind of heights that a header's text says
-abbrev pub kind_of : List ℕ → HeightKind
-kind_of text = kind_said (lines_of text)
 
 -- what such a text says, for that kind
 abbrev pub fields_in : List ℕ → Fields

@@ -1,21 +1,10 @@
 -- What is given beside the rasters: a list of sinks, and how far apart cells are.
 use Rattle.std.specs.Prelude.{◌≡◌, ◌≢◌, ℕ, List, [], length, Result, Ok, Err}
-use Rattle.drain_grid.specs.declared.spacing_text.SpacingInput.{SpacingInput}
-use Rattle.drain_grid.specs.declared.spacing_text.SpacingInput.TheVariants.{Same, ByRow}
 use Rattle.drain_grid.specs.Extent.{Extent}
 use Rattle.drain_grid.specs.declared.height_kind.HeightKind.{HeightKind}
 use Rattle.drain_grid.specs.Spacing.{Distances, RowSpacings, of_kind, unit_spacing}
 use Rattle.drain_grid.specs.SpacingTexts.{rows_listed, spacing_in, spacings_of}
-
--- all cells have one spacing, or a text has a line for each row from the north
-pub data GivenSpacing : Type 0 where
-  same : Distances → GivenSpacing
-  by_row : List ℕ → GivenSpacing
-
--- what a caller says, whose text lies somewhere in memory
-abbrev pub spacing_from : SpacingInput → GivenSpacing
-spacing_from (Same s) = same s
-spacing_from (ByRow text) = by_row text.now
+use Rattle.drain_sets.specs.GivenSpacings.{GivenSpacing, by_row, same}
 
 -- the list of sinks, and how far apart cells are
 pub record Given : Type 0 where

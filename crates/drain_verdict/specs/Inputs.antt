@@ -9,9 +9,9 @@ use Rattle.drain_hgt.specs.Corner.{Corner}
 use Rattle.drain_hgt.specs.Name.{IsNameOf}
 use Rattle.drain_hgt.specs.Inputs.{names_of, AreBodies, tile_devices}
 use Rattle.drain_verdict.specs.Given.{Given}
-use Rattle.drain_verdict.specs.declared.next_rows.RasterInput.{RasterInput}
+use Rattle.drain_sets.specs.declared.raster_input.RasterInput.{RasterInput}
 use Rattle.drain_raster.specs.declared.raster_rows.RasterRows.{RasterRows}
-use Rattle.drain_verdict.specs.declared.audit_products.AuditProducts.{AuditProducts}
+use Rattle.drain_sets.specs.declared.raster_input.AuditProducts.{AuditProducts}
 
 -- the side, the names of the tiles, which tiles they name, the tiles' bodies, the list of sinks and how far apart cells are,
 -- and each product's header and body

@@ -9,7 +9,8 @@ use Rattle.drain_grid.specs.SinkTexts.{sinks_of}
 use Rattle.drain_grid.specs.Spacing.{RowSpacings, spacing_of}
 use Rattle.drain_verdict.specs.declared.listings.Listing.{Listing}
 use Rattle.drain_verdict.specs.declared.listings.SpacingListing.{SpacingListing}
-use Rattle.drain_verdict.specs.Given.{Given, GivenSpacing, HasBadSpacing, ListsRows, by_row, row_spacing, same, spacings_given}
+use Rattle.drain_verdict.specs.Given.{Given, HasBadSpacing, ListsRows, row_spacing, spacings_given}
+use Rattle.drain_sets.specs.GivenSpacings.{GivenSpacing, by_row, same}
 use Rattle.drain_verdict.specs.Stages.{IsBadLine, IsToldOfSinks}
 use Rattle.drain_verdict.specs.Texts.{lines_in}
 

@@ -14,7 +14,7 @@ use Rattle.drain_device.specs.FaultLists.{SomeReadFails}
 use Rattle.drain_device.specs.declared.counts.FaultCounts.{FaultCounts}
 use Rattle.drain_verdict.specs.Reading.{told_by}
 use Rattle.drain_verdict.specs.Refusals.{IsOfBodies}
-use Rattle.drain_verdict.specs.declared.audit_products.AuditProducts.{AuditProducts}
+use Rattle.drain_sets.specs.declared.raster_input.AuditProducts.{AuditProducts}
 use Rattle.drain_answer.specs.declared.refusal.Refusal.{Refusal}
 use Rattle.drain_answer.specs.declared.refusal.Refusal.TheVariants.{ReadFailed}
 

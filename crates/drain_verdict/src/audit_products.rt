@@ -15,13 +15,14 @@ ghost use Rattle.drain_verdict.specs.Inputs.{Products, readers_as_five};
 ghost use Rattle.drain_verdict.specs.Reading.{IsOfReading, told_by};
 ghost use Rattle.drain_verdict.specs.ToGive.{IsAfterTold, IsNextRow};
 
-use crate::next_rows::{RasterInput, read_raster};
+use crate::next_rows::read_raster;
 use drain_answer::Refusal;
 use drain_device::ByteSource;
 use drain_grid::{OutOfMemory, PerProduct, SetProduct};
 use drain_header::Header;
 use drain_pixels::PixelRow;
 use drain_raster::RasterRows;
+use drain_sets::AuditProducts;
 
 /// The products of a call. They are always read as five: for a missing product, which the rules then
 /// ignore, another is the substitute.
@@ -55,15 +56,6 @@ pub trait ProductInputs<R: ByteSource> {
     /// The first product whose rows have stopped.
     fn first_short(&self, rasters: &PerProduct<RasterRows>) -> Option<SetProduct>
         ensures { IsFirstProduct (λ p. (of_product (readers rasters.now) p).progress ≡ Progress.Stopped) result };
-}
-
-/// The products of an audit: all but the ranks.
-#[derive(Drop)]
-pub struct AuditProducts<R> {
-    pub con: RasterInput<R>,
-    pub dir: RasterInput<R>,
-    pub acc: RasterInput<R>,
-    pub bas: RasterInput<R>,
 }
 
 impl<R: ByteSource> ProductInputs<R> for AuditProducts<R> {

@@ -10,7 +10,6 @@ ghost use Rattle.drain_verdict.specs.Given.{plain};
 ghost use Rattle.drain_verdict.specs.Headline.{IsRight, TilesAreOne, ElevationIsTheirs};
 ghost use Rattle.drain_verdict.specs.Uses.{AuditUses};
 
-use crate::audit_products::AuditProducts;
 use crate::given::Given;
 use crate::judgement::judge_tiles;
 use crate::outcome::verdict_of_both;
@@ -20,6 +19,7 @@ use drain_grid::Judged;
 use drain_grid::laws::{correct_is_local, ranks_play_no_part, sound_from_correct};
 use drain_hgt::TileInput;
 use drain_mosaic::laws::agreement_gives_elevation;
+use drain_sets::AuditProducts;
 use std::alloc::Global;
 
 /// Whether the four products of the tiles are correct on unit spacing, or the first refusal.

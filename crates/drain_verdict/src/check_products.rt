@@ -6,13 +6,14 @@ ghost use Rattle.drain_grid.specs.PerProduct.{of_product};
 ghost use Rattle.drain_verdict.specs.InputRows.{IsFirstProduct};
 
 use crate::audit_products::ProductInputs;
-use crate::next_rows::{Products, RasterInput, read_rasters};
+use crate::next_rows::read_rasters;
 use drain_answer::Refusal;
 use drain_device::ByteSource;
 use drain_grid::{PerProduct, SetProduct};
 use drain_header::Header;
 use drain_pixels::PixelRow;
 use drain_raster::RasterRows;
+use drain_sets::{Products, RasterInput};
 
 impl<R: ByteSource> ProductInputs<R> for PerProduct<RasterInput<R>> {
     ghost inputs = { λ products. products };

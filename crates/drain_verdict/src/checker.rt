@@ -10,13 +10,13 @@ ghost use Rattle.drain_verdict.specs.Uses.{CheckUses};
 
 use crate::given::Given;
 use crate::judgement::judge_tiles;
-use crate::next_rows::Products;
 use drain_answer::Refusal;
 use drain_device::ByteSource;
 use drain_grid::laws::correct_from_rules;
 use drain_grid::{Judged, Verdict};
 use drain_hgt::TileInput;
 use drain_mosaic::laws::agreement_gives_elevation;
+use drain_sets::Products;
 use std::alloc::Global;
 
 /// The verdict on products of the tiles on unit spacing, or the first refusal.

@@ -15,11 +15,10 @@ ghost use Rattle.drain_verdict.specs.Inputs.{as_five};
 ghost use Rattle.drain_verdict.specs.Judgements.{IsJudgementIn};
 ghost use Rattle.drain_verdict.specs.Outcomes.{AreRightIn, IsOutcomeIn};
 
-use crate::audit_products::{AuditProducts, ProductInputs};
+use crate::audit_products::ProductInputs;
 use crate::dem_ground::dem_header;
 use crate::given::Given;
 use crate::judgement::{Judgement, judge_set};
-use crate::next_rows::{Products, RasterInput};
 use crate::outcome::{outcome_of, verdict_of_both};
 use drain_answer::{AuditVerdict, Outcome, Refusal};
 use drain_basin::OutletLabels;
@@ -30,6 +29,7 @@ use drain_grid::laws::{
 use drain_grid::{Judged, Verdict};
 use drain_laws::parts::{part_is_local, surface_is_part};
 use drain_rules::Walk;
+use drain_sets::{AuditProducts, Products, RasterInput};
 use std::alloc::Global;
 
 /// The verdict on products of a raster of elevations, or the first refusal.

@@ -12,7 +12,7 @@ ghost use Rattle.drain_verdict.specs.Reading.{IsOfReading, gave_up, told_by};
 ghost use Rattle.drain_verdict.specs.ToGive.{IsAfterTold};
 
 use crate::ground::GroundInput;
-use crate::next_rows::{RasterInput, read_raster};
+use crate::next_rows::read_raster;
 use drain_answer::Refusal;
 use drain_device::ByteSource;
 use drain_grid::{HeightKind, OutOfMemory, Shape};
@@ -22,6 +22,7 @@ use drain_raster::laws::{
     elevation_rows_are_pixels, raster_rows_end, raster_rows_take_what_is_needed,
 };
 use drain_raster::{RasterRows, has_pixel_size, lies_on, shape, voids};
+use drain_sets::RasterInput;
 use std::alloc::Global;
 
 /// A reader of the raster's rows, which are no longer than those of a grid, and the numbers that mean a void in them.

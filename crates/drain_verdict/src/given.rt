@@ -14,7 +14,8 @@ pub struct Given<'a> {
 }
 
 impl<'a> Model for Given<'a> {
-    ghost use Rattle.drain_verdict.specs.Given.{Given, spacing_from};
+    ghost use Rattle.drain_verdict.specs.Given.{Given};
+    ghost use Rattle.drain_sets.specs.GivenSpacings.{spacing_from};
 
     ghost Value = { Given };
 

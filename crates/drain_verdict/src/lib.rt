@@ -22,7 +22,6 @@ pub mod read_set;
 pub mod stages;
 mod tile_ground;
 
-pub use audit_products::AuditProducts;
 pub use auditor::{audit, audit_given};
 pub use checker::{check, check_given};
 pub use decider::certify;
@@ -34,7 +33,7 @@ pub use drain_grid::{
 };
 pub use drain_paths::CertifyRefusal;
 pub use drain_rules::check_fill;
+pub use drain_sets::{AuditProducts, Products, RasterInput};
 pub use given::Given;
 pub use judgement::{Judgement, judge};
-pub use next_rows::{Products, RasterInput};
 pub use part_auditor::audit_part;

@@ -6,7 +6,7 @@
 ghost use Rattle.std.specs.Prelude.{◌≡◌, ◌≢◌, ℕ, Err, IfOk, IfSome, Some};
 ghost use Rattle.drain_grid.specs.Spacing.{of_kind, spacing_of};
 ghost use Rattle.drain_grid.specs.SpacingTexts.{spacing_in};
-ghost use Rattle.drain_verdict.specs.Given.{spacing_from};
+ghost use Rattle.drain_sets.specs.GivenSpacings.{spacing_from};
 ghost use Rattle.drain_verdict.specs.Listings.{AreRowsCounted, IsListedSpacing, IsListingOf, IsToldOfLists, IsToldOfSpacing};
 ghost use Rattle.drain_verdict.specs.Refusals.{IsOfBodies};
 

@@ -11,20 +11,11 @@ ghost use Rattle.drain_verdict.specs.Reading.{IsOfReading, gave_up, told_by};
 ghost use Rattle.drain_verdict.specs.ToGive.{IsAfterTold, IsNextRow};
 
 use drain_answer::Refusal;
-use drain_device::{ByteList, ByteSource, ReadFault, RowSource};
+use drain_device::{ByteSource, ReadFault, RowSource};
 use drain_grid::PerProduct;
 use drain_pixels::PixelRow;
 use drain_raster::RasterRows;
-
-/// A product's whole header, and the source of its raster's bytes.
-#[derive(Drop)]
-pub struct RasterInput<R> {
-    pub header: ByteList,
-    pub body: R,
-}
-
-/// The products of one ground.
-pub type Products<R> = PerProduct<RasterInput<R>>;
+use drain_sets::Products;
 
 /// Reads the next row of each product. The first refusal ends it.
 pub fn read_rasters<R: ByteSource>(

@@ -7,7 +7,6 @@ ghost use Rattle.drain_verdict.specs.Answers.{ForAudit};
 ghost use Rattle.drain_verdict.specs.Outcomes.{AreJudgedRight, IsOutcomeAnswer};
 ghost use Rattle.drain_verdict.specs.Uses.{AuditUses};
 
-use crate::audit_products::AuditProducts;
 use crate::given::Given;
 use crate::judgement::judge_tiles;
 use crate::outcome::outcome_of;
@@ -17,6 +16,7 @@ use drain_grid::Judged;
 use drain_grid::laws::correct_is_local;
 use drain_hgt::TileInput;
 use drain_laws::parts::{part_is_local, surface_is_part};
+use drain_sets::AuditProducts;
 use std::alloc::Global;
 
 /// Whether the judged rasters are right, or the first refusal: some are if they are part of a correct set.

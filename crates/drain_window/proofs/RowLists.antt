@@ -8,7 +8,8 @@ use Rattle.drain_grid.specs.declared.spacing_text.SpacingInput.TheVariants.{Same
 use Rattle.drain_grid.specs.Spacing.{Distances, of_kind, unit_spacing}
 use Rattle.drain_grid.specs.SpacingTexts.{spacing_said}
 use Rattle.drain_union.specs.declared.place.Place.{Place}
-use Rattle.drain_verdict.specs.Given.{Given, row_spacing, spacing_from}
+use Rattle.drain_verdict.specs.Given.{Given, row_spacing}
+use Rattle.drain_sets.specs.GivenSpacings.{spacing_from}
 use Rattle.drain_window.specs.JudgedRows.{AreAlikeTo, AreRowsOf, IsEnough, last_spacing}
 
 -- what is said and what is given have one spacing of rows

@@ -9,10 +9,10 @@ use Rattle.drain_mosaic.specs.Tiling.{Tiling}
 use Rattle.drain_verdict.specs.DemGround.{DemUses, dem_audit_devices, dem_check_devices}
 use Rattle.drain_verdict.specs.Inputs.{as_five, audit_devices}
 use Rattle.drain_verdict.specs.Uses.{AreNamesKept, AuditUses, UsesInputs, devices_of}
-use Rattle.drain_verdict.specs.declared.next_rows.RasterInput.{RasterInput}
+use Rattle.drain_sets.specs.declared.raster_input.RasterInput.{RasterInput}
 use Rattle.drain_verdict.proofs.DemAnswers.{dem_four_used}
 use Rattle.drain_verdict.proofs.InputLemmas.{four_used, no_memory_left}
-use Rattle.drain_verdict.specs.declared.audit_products.AuditProducts.{AuditProducts}
+use Rattle.drain_sets.specs.declared.raster_input.AuditProducts.{AuditProducts}
 use Rattle.drain_union.specs.Reports.{Report, audited, IsSortedByLabel, ListsOutlets, IsReportOf, ListsSeams, ListsSinks, ListsSpacings}
 use Rattle.drain_union.specs.declared.report.WindowReport.{WindowReport}
 use Rattle.drain_union.specs.declared.verdict.UnionVerdict.{UnionVerdict}

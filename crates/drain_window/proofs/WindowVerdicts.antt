@@ -27,7 +27,7 @@ use Rattle.drain_verdict.specs.Given.{Given}
 use Rattle.drain_verdict.specs.GroundSets.{GroundSet, set_grid, set_numbers, set_products}
 use Rattle.drain_verdict.specs.Inputs.{Inputs, Products as AllProducts}
 use Rattle.drain_verdict.specs.TileGround.{set_of}
-use Rattle.drain_verdict.specs.declared.next_rows.RasterInput.{RasterInput}
+use Rattle.drain_sets.specs.declared.raster_input.RasterInput.{RasterInput}
 use Rattle.drain_verdict.specs.Meaning.{input_grid, input_products, nodata_numbers, tiling_of}
 use Rattle.drain_union.specs.declared.report.WindowReport.{WindowReport}
 use Rattle.drain_union.specs.declared.union_grid.UnionGrid.{UnionGrid}

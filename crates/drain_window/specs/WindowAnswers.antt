@@ -13,7 +13,7 @@ use Rattle.drain_header.specs.declared.header.Place.{Place as HeaderPlace}
 use Rattle.drain_verdict.specs.DemGround.{IsDemInput}
 use Rattle.drain_verdict.specs.GroundSets.{GroundSet, IsReadable, IsRefusalIn, set_grid, set_numbers, set_products}
 use Rattle.drain_verdict.specs.Inputs.{Inputs}
-use Rattle.drain_verdict.specs.declared.next_rows.RasterInput.{RasterInput}
+use Rattle.drain_sets.specs.declared.raster_input.RasterInput.{RasterInput}
 use Rattle.drain_verdict.specs.Meaning.{input_grid, input_products, nodata_numbers, tiling_of}
 use Rattle.drain_union.specs.declared.place.Place.{Place}
 use Rattle.drain_union.specs.declared.report.WindowReport.{WindowReport}

@@ -2,7 +2,8 @@
 
 ghost use Rattle.std.specs.Prelude.{◌≡◌, ◌<◌, ◌≤◌, ℕ, IfOk};
 ghost use Rattle.drain_grid.specs.Spacing.{spacing_of};
-ghost use Rattle.drain_verdict.specs.Given.{row_spacing, spacing_from};
+ghost use Rattle.drain_verdict.specs.Given.{row_spacing};
+ghost use Rattle.drain_sets.specs.GivenSpacings.{spacing_from};
 ghost use Rattle.drain_window.specs.JudgedRows.{AreRowsOf, IsEnough};
 ghost use Rattle.drain_window.specs.SeamRows.{EndsInRange};
 

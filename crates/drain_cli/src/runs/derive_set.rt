@@ -3,7 +3,7 @@
 ghost use Rattle.std.specs.Prelude.{◌≡◌, IfOk, length, Result};
 ghost use Rattle.drain_header.specs.Header.{Fields};
 ghost use Rattle.drain_maker.specs.ProductFiles.{CanBeDerived, DerivedFit};
-ghost use Rattle.drain_maker.specs.declared.product_files.TheConstants.{DERIVED_COUNT};
+ghost use Rattle.drain_sets.specs.declared.set_files.TheConstants.{DERIVED_COUNT};
 ghost use Rattle.drain_answer.specs.AuditLines.{no_end_line};
 ghost use Rattle.drain_cli.specs.DerivedSets.{IsDemDerivation, IsDerivation, IsDerivedRun, IsSetHandedOver, none_line, none_status, told_of_dir, with_header};
 ghost use Rattle.drain_maker.specs.declared.derivation.Derived.{Derived};
@@ -28,9 +28,9 @@ use drain_files::outputs::{Failure, Outputs};
 use drain_grid::Product;
 use drain_header::Header;
 use drain_hgt::TileInput;
-use drain_maker::product_files::DERIVED_FILES;
 use drain_maker::{DeriveRefusal, Derived, derive, derive_dem, product_header};
 use drain_mosaic::Layout;
+use drain_sets::DERIVED_FILES;
 use drain_verdict::{AuditProducts, AuditVerdict, RasterInput, Refusal};
 use std::alloc::Global;
 

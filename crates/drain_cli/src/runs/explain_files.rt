@@ -23,8 +23,8 @@ use drain_files::open_judged::open_judged;
 use drain_files::outputs::{Failure, Outputs, look};
 use drain_grid::{Judged, Product};
 use drain_header::Header;
-use drain_maker::product_files::SetFault;
 use drain_progress::progress::Progress;
+use drain_sets::SetFault;
 use std::alloc::Global;
 
 /// Explains the products of a folder, and returns the exit status.

@@ -2,7 +2,7 @@
 
 ghost use Rattle.std.specs.Prelude.{◌≡◌, [], IfOk, None, length, map, IfErr, OnOk};
 ghost use Rattle.drain_maker.specs.ProductFiles.{SetFits, made_header};
-ghost use Rattle.drain_maker.specs.declared.product_files.TheConstants.{FILE_COUNT};
+ghost use Rattle.drain_sets.specs.declared.set_files.TheConstants.{FILE_COUNT};
 ghost use Rattle.drain_device.specs.FaultLists.{SomeReadFails};
 ghost use Rattle.drain_hgt.specs.Inputs.{names_of, tile_devices, TilesTakeAtMost};
 ghost use Rattle.drain_cli.specs.declared.runs.make_set.NoSet.{NoSet};
@@ -33,8 +33,6 @@ use drain_files::outputs::{Failure, Outputs};
 use drain_grid::{HeightKind, Product, ProductSet, SinkFault, parse_sinks};
 use drain_header::Header;
 use drain_hgt::TileInput;
-use drain_maker::follow::Follow;
-use drain_maker::product_files::SET_FILES;
 use drain_maker::{
     Dem, MakeRefusal, Mosaic, make_dem, make_freeing, product_header, read_dem, read_mosaic,
 };
@@ -42,6 +40,7 @@ use drain_mosaic::Layout;
 use drain_progress::progress::{MakeProgress, Progress};
 use drain_progress::progress_lines::Phase;
 use drain_progress::rows::count_tiles;
+use drain_sets::{Follow, SET_FILES};
 use drain_verdict::{Given, RasterInput, Refusal};
 use std::alloc::Global;
 

@@ -2,8 +2,8 @@
 
 ghost use Rattle.std.specs.Prelude.{◌≡◌, IfOk, length, vec_len, Result};
 ghost use Rattle.drain_files.specs.Files.{IsNamed};
-ghost use Rattle.drain_maker.specs.ProductFiles.{WritesFile};
-ghost use Rattle.drain_maker.specs.declared.product_files.SetFault.{SetFault};
+ghost use Rattle.drain_sets.specs.FileWrites.{WritesFile};
+ghost use Rattle.drain_sets.specs.declared.set_files.SetFault.{SetFault};
 ghost use Rattle.drain_answer.specs.Printing.{Prints};
 ghost use Rattle.drain_cli.specs.WindowRuns.{IsReadable, reported_line, reported_status, text_of, verdict_status};
 
@@ -15,8 +15,8 @@ use drain_files::file_id::FileId;
 use drain_files::open_failure::{Placing, place_written, print_open_fault};
 use drain_files::outputs::{Failure, Outputs};
 use drain_files::whole_input::write_bytes;
-use drain_maker::product_files::SetFault;
 use drain_report::write_report;
+use drain_sets::SetFault;
 use drain_union::verdict_line::verdict_line;
 use drain_union::{UnionVerdict, WindowReport};
 use std::alloc::{AllocError, Global};

@@ -23,10 +23,10 @@ use drain_files::open_judged::JudgedProducts;
 use drain_grid::{PerProduct, Product};
 use drain_header::Header;
 use drain_hgt::TileInput;
-use drain_maker::product_files::Part;
 use drain_maker::product_header;
 use drain_mosaic::Layout;
 use drain_page::{Facts, Frame, OUT_OF_MEMORY_OBJECT, failure_json, page_json, page_text};
+use drain_sets::FilePart;
 use drain_verdict::{AuditProducts, Given, Outcome, Refusal};
 use std::alloc::{AllocError, Global};
 use std::fs;
@@ -40,7 +40,7 @@ pub fn tile_length(rt: &HostRuntime, args: &TileArgs<'_>, place: usize) -> Optio
 
 /// How many bytes the raster of elevations has.
 pub fn dem_length(rt: &HostRuntime, args: &DemArgs<'_>) -> Option<u64> {
-    let path = dem_path(rt.alloc(), args, Part::Raster).ok()?;
+    let path = dem_path(rt.alloc(), args, FilePart::Raster).ok()?;
     length_of(rt, path.as_str())
 }
 

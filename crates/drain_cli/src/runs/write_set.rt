@@ -5,9 +5,10 @@ ghost use Rattle.std.specs.Prelude.{◌≡◌, ◌++◌, ◌≤◌, length, Resu
 ghost use Rattle.drain_cli.specs.DerivedSets.{derived_line};
 ghost use Rattle.drain_cli.specs.MadeSets.{made_line, written_line, written_status};
 ghost use Rattle.drain_files.specs.Files.{IsNamed};
-ghost use Rattle.drain_maker.specs.ProductFiles.{DerivedFit, SetFits, WritesFiles, WritesSet, derived_bytes};
-ghost use Rattle.drain_maker.specs.declared.product_files.SetFault.{SetFault};
-ghost use Rattle.drain_maker.specs.declared.product_files.TheConstants.{DERIVED_COUNT, FILE_COUNT};
+ghost use Rattle.drain_maker.specs.ProductFiles.{DerivedFit, SetFits, WritesSet, derived_bytes};
+ghost use Rattle.drain_sets.specs.FileWrites.{WritesFiles};
+ghost use Rattle.drain_sets.specs.declared.set_files.SetFault.{SetFault};
+ghost use Rattle.drain_sets.specs.declared.set_files.TheConstants.{DERIVED_COUNT, FILE_COUNT};
 ghost use Rattle.drain_raster.specs.Pixels.{header_extent};
 ghost use Rattle.drain_answer.specs.Printing.{Prints};
 
@@ -19,8 +20,9 @@ use drain_files::open_failure::{Placing, place_written};
 use drain_grid::{ProductSet, Shape};
 use drain_header::Header;
 use drain_maker::Derived;
-use drain_maker::product_files::{SetFault, write_derived, write_files};
+use drain_maker::product_files::{write_derived, write_files};
 use drain_raster::shape;
+use drain_sets::SetFault;
 use std::alloc::Global;
 
 /// Writes header and raster of each product, in the order of `SET_FILES`, gives the files their names, prints

@@ -9,7 +9,7 @@ use Rattle.drain_c.specs.Spacings.{spacing_passed}
 use Rattle.drain_c.specs.Whole.{is_dem_audit_whole, is_spacing_whole}
 use Rattle.drain_c.proofs.Choices.{of_spacing, unranked}
 use Rattle.drain_verdict.specs.DemGround.{ElevationIsItsPixels}
-use Rattle.drain_verdict.specs.Given.{spacing_from}
+use Rattle.drain_sets.specs.GivenSpacings.{spacing_from}
 use Rattle.drain_verdict.specs.Outcomes.{AreRightIn, IsOutcomeIn}
 use Rattle.drain_c.proofs.exported_audit_only_dem_spaced.drain_audit_only_dem_spaced.Goals as goal
 

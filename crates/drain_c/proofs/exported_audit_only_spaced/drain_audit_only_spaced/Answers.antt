@@ -7,7 +7,7 @@ use Rattle.drain_c.specs.Shown.{Reports}
 use Rattle.drain_c.specs.Spacings.{spacing_passed}
 use Rattle.drain_c.specs.Whole.{is_audit_whole, is_spacing_whole}
 use Rattle.drain_c.proofs.Choices.{of_spacing, unranked}
-use Rattle.drain_verdict.specs.Given.{spacing_from}
+use Rattle.drain_sets.specs.GivenSpacings.{spacing_from}
 use Rattle.drain_verdict.specs.Outcomes.{AreJudgedRight, IsOutcomeAnswer}
 use Rattle.drain_c.proofs.exported_audit_only_spaced.drain_audit_only_spaced.Goals as goal
 

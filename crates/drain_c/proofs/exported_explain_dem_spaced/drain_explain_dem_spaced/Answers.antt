@@ -7,7 +7,7 @@ use Rattle.drain_c.specs.Spacings.{spacing_passed}
 use Rattle.drain_c.specs.Whole.{is_dem_audit_whole, is_spacing_whole}
 use Rattle.drain_c.proofs.Choices.{of_spacing}
 use Rattle.drain_verdict.specs.DemGround.{ElevationIsItsPixels}
-use Rattle.drain_verdict.specs.Given.{spacing_from}
+use Rattle.drain_sets.specs.GivenSpacings.{spacing_from}
 use Rattle.drain_c.proofs.exported_explain_dem_spaced.drain_explain_dem_spaced.Goals as goal
 
 pub returns-in-Some-Some-2-clause-answer : goal.returns-in-Some-Some-2-clause-answer

@@ -5,7 +5,7 @@ use Rattle.drain_c.specs.Judged.{judged_of}
 use Rattle.drain_c.specs.Spacings.{spacing_passed}
 use Rattle.drain_c.specs.Whole.{is_audit_whole, is_spacing_whole}
 use Rattle.drain_c.proofs.Choices.{of_spacing}
-use Rattle.drain_verdict.specs.Given.{spacing_from}
+use Rattle.drain_sets.specs.GivenSpacings.{spacing_from}
 use Rattle.drain_verdict.specs.TileGround.{set_of}
 use Rattle.drain_c.proofs.exported_explain_spaced.drain_explain_spaced.Goals as goal
 

@@ -1,5 +1,5 @@
 use Rattle.std.proofs.Common.{inr, refl}
-use Rattle.drain_maker.proofs.FileLemmas.{no_memory, text-some}
+use Rattle.drain_sets.proofs.FileWrites.{no_memory, text-some}
 use Rattle.drain_files.specs.Files.{map_header}
 use Rattle.drain_files.proofs.map_file.write_map.Goals as goal
 

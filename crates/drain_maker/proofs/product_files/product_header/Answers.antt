@@ -1,7 +1,7 @@
 use Rattle.std.proofs.Common.{◌≡◌, ◌∙◌, ◌*◌, ◌/◌, ap, rules}
 use mir.Syntax.{w64}
 use Rattle.std.proofs.lemmas.Int.{to_z-of_z}
-use Rattle.drain_maker.proofs.HeaderBounds.{product_bounds}
+use Rattle.drain_sets.proofs.HeaderBounds.{product_bounds}
 use Rattle.drain_maker.proofs.product_files.product_header.Goals as goal
 
 pub invariant_of-result : goal.invariant_of-result

@@ -1,4 +1,4 @@
-use Rattle.drain_maker.proofs.FileLemmas.{any_text-some, no_memory}
+use Rattle.drain_sets.proofs.FileWrites.{any_text-some, no_memory}
 use Rattle.drain_maker.proofs.product_files.write_header.Goals as goal
 
 pub returns-in_default : goal.returns-in_default

@@ -3,7 +3,8 @@ use Rattle.std.proofs.lemmas.Result.{err_from_is_err_and}
 use Rattle.drain_grid.specs.Extent.{Extent, IsExtent}
 use Rattle.drain_grid.specs.SinkTexts.{is_listed, sinks_of}
 use Rattle.drain_verdict.proofs.InputLemmas.{no_memory_left}
-use Rattle.drain_verdict.specs.Given.{Given, spacing_from}
+use Rattle.drain_verdict.specs.Given.{Given}
+use Rattle.drain_sets.specs.GivenSpacings.{spacing_from}
 use Rattle.drain_verdict.specs.GroundSets.{GroundSet, set_grid, set_numbers, set_products}
 use Rattle.drain_verdict.specs.Inputs.{as_five}
 use Rattle.drain_verdict.specs.Texts.{lines_in}

@@ -2,10 +2,10 @@ use Rattle.std.proofs.Common.{rules, ◌*◌, ◌/◌, ◌≤◌, arith, sym, ap
 use Rattle.std.proofs.lemmas.Int.{to_z-of_z}
 use Rattle.drain_floats.specs.Patterns.{IsFloatNumber}
 use Rattle.drain_grid.specs.Values.{IsNoData}
-use Rattle.drain_maker.specs.ProductFiles.{con_no_data}
-use Rattle.drain_maker.proofs.HeaderBounds.{con_number, packed_fits, packed_holds}
-use Rattle.drain_maker.proofs.KeptNumbers.{con_float}
-use Rattle.drain_maker.proofs.product_files.con_header_on.Goals as goal
+use Rattle.drain_sets.specs.ProductHeaders.{con_no_data}
+use Rattle.drain_sets.proofs.HeaderBounds.{con_number, packed_fits, packed_holds}
+use Rattle.drain_sets.proofs.HeaderBounds.{con_float}
+use Rattle.drain_sets.proofs.product_headers.con_header_on.Goals as goal
 
 pub invariant_of-result : goal.invariant_of-result
 invariant_of-result c =

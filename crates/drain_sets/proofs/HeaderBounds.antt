@@ -1,39 +1,20 @@
--- The header of a product is within the bounds of a header, and has the mosaic's place.
-use Rattle.std.proofs.Common.{◌≡◌, ℕ, ◌+◌, ◌-◌, ◌*◌, ◌/◌, ◌^◌, ◌≤◌, inl, inr, ℤ, pos, negsuc, nat_abs, ◌-ℤ◌, ◌*ℤ◌, Bool, false, refl, sym, subst, arith, rules}
+-- The header of a product is within the bounds of a header.
+use Rattle.std.proofs.Common.{◌≡◌, ℕ, ◌*◌, ◌/◌, ◌≤◌, inl, inr, ℤ, Bool, false, refl, sym, subst, arith, rules}
 use Rattle.std.specs.Prelude.{Option, Some, None, IfSome, unwrap_or}
 use Rattle.std.proofs.Math.Bridge.{le_prop}
 use Rattle.std.proofs.Math.Logic.{∥∥₁_elim}
-use Rattle.std.proofs.lemmas.Int.{ints}
-use Rattle.std.proofs.Math.Nat.{mul-le-mul_right}
-use Rattle.drain_grid.specs.declared.degree.TheConstants.{UNITS_PER_DEGREE}
+use Rattle.drain_floats.specs.Patterns.{IsFloatNumber}
 use Rattle.drain_grid.specs.declared.height_kind.HeightKind.{HeightKind}
 use Rattle.drain_grid.specs.declared.height_kind.HeightKind.TheVariants.{Whole, Single}
 use Rattle.drain_grid.specs.declared.product.Product.{Product}
 use Rattle.drain_grid.specs.declared.product.Product.TheVariants.{Con, Dir, Acc, Bas, Spl, Rnk}
 use Rattle.drain_grid.specs.Product.{default_no_data}
-use Rattle.drain_grid.specs.Grid.{IsSide}
 use Rattle.drain_grid.specs.Values.{IsNoData}
 use Rattle.drain_header.specs.declared.header.ByteOrdering.TheVariants.{Least}
 use Rattle.drain_header.specs.declared.header.Place.{Place}
 use Rattle.drain_header.specs.Header.{Fields, IsPixelSize, IsCoordinate, AreWithinBounds}
-use Rattle.drain_mosaic.specs.Tiling.{Tiling, west_of, north_of, west_edge, north_edge, tiles_down, tiles_across}
-use Rattle.drain_verdict.specs.TileGround.{IsPlaced}
-use Rattle.drain_maker.specs.ProductFiles.{bits_of, header_beside, header_on, is_signed, made_header, mosaic_place, no_height}
-use Rattle.drain_maker.proofs.KeptNumbers.{con_float}
-use Rattle.drain_maker.proofs.Placing.{IsNear, spacing, no_way}
-
--- a tiling of at most 8 by 8 tiles of a lawful side, whose edges are degrees
-pub record IsSmall (t : Tiling) : Type 0 where
-  pub side : IsSide t.side
-  pub down : tiles_down t ≤ 8
-  pub across : tiles_across t ≤ 8
-  pub near : IsNear t
-
--- 8 tiles of 3601 samples have at most 28801 of them
-length_fits : (n side : ℕ) → n ≤ 8 → side ≤ 3601 → n * (side - 1) + 1 ≤ 28801
-length_fits n side few small =
-    let wide : n * (side - 1) ≤ 8 * (side - 1) = mul-le-mul_right (side - 1) few in
-    omega (arith, wide)
+use Rattle.drain_header.proofs.Bounds.{float_known}
+use Rattle.drain_sets.specs.ProductHeaders.{bits_of, header_beside, header_on, no_height}
 
 size_ok : (p : Product) → IsPixelSize (bits_of p)
 size_ok Con = inr (inl refl)
@@ -97,13 +78,11 @@ con_number kind (Some z) ok = ok
 pub no_float : {X : Type 0} → Whole ≡ Single → X
 no_float is = absurd (let no : ⊥ = cc in no)
 
--- degrees are coordinates, and so is a spacing
-degrees_ok : (z : ℤ) → nat_abs z ≤ 180 → IsCoordinate (z *ℤ pos UNITS_PER_DEGREE)
-degrees_ok (pos n) near = record { low = omega (arith, ints); high = omega (arith, ints) }
-degrees_ok (negsuc n) near = record { low = omega (arith, ints); high = omega (arith, ints) }
-
-spacing_ok : (n : ℕ) → 1 ≤ n → IsCoordinate (pos (UNITS_PER_DEGREE / n))
-spacing_ok n some = record { low = omega (arith, ints); high = omega (arith, ints) }
+-- the no-data number of a header of floats, or that of NaN, is a float's
+pub con_float : (kind : HeightKind) (o : Option ℤ) → (kind ≡ Single → ∥ IfSome o IsFloatNumber ∥₁) → kind ≡ Single → IsFloatNumber (unwrap_or o (no_height kind))
+con_float Whole o ok single = cc
+con_float Single None ok single = inr refl
+con_float Single (Some z) ok single = float_known (Some z) (ok single)
 
 -- a header of whole numbers, with the pixels of a product and rows without padding
 pub product_bounds : (p : Product) (rows cols bits row_bytes : ℕ) (signed : Bool) (place : Place) (nodata : ℤ) →
@@ -128,15 +107,6 @@ product_bounds p rows cols bits row_bytes signed place nodata is_bits is_row is_
   float_signed = no_float;
   float_nodata = no_float;
 }
-
-pub within_bounds : (t : Tiling) (p : Product) → IsSmall t → AreWithinBounds (made_header t p)
-within_bounds t p small =
-    let side : IsSide t.side = small.side in
-    let wide : tiles_across t * (t.side - 1) + 1 ≤ 28801 = length_fits (tiles_across t) t.side small.across side.most in
-    product_bounds p (tiles_down t * (t.side - 1) + 1) (tiles_across t * (t.side - 1) + 1) (bits_of p) ((tiles_across t * (t.side - 1) + 1) * (bits_of p / 8)) (is_signed p)
-    (mosaic_place t) (default_no_data p) refl refl refl (omega arith) (length_fits (tiles_down t) t.side small.down side.most) (omega arith) wide
-    (degrees_ok (west_of t) small.near.west) (degrees_ok (north_of t) (omega (arith, small.near.north)))
-    (spacing_ok (t.side - 1) (omega (arith, side.least))) (spacing_ok (t.side - 1) (omega (arith, side.least)))
 
 -- the header of a product on elevations within the bounds of a header is within them too
 beside_bounds : (h : Fields) (p : Product) → AreWithinBounds h → AreWithinBounds (header_beside h p)
@@ -168,15 +138,3 @@ bounds_on h Acc ok = beside_bounds h Acc ok
 bounds_on h Bas ok = beside_bounds h Bas ok
 bounds_on h Spl ok = beside_bounds h Spl ok
 bounds_on h Rnk ok = beside_bounds h Rnk ok
-
--- the spacing is within a billionth of a degree of that of the samples
-spaced : (n : ℕ) → 1 ≤ n → nat_abs (pos (UNITS_PER_DEGREE / n) *ℤ pos n -ℤ pos UNITS_PER_DEGREE) ≤ 10 ^ 6 * n
-spaced n some = let h = spacing UNITS_PER_DEGREE n some in omega (arith, h)
-
-pub placed : (t : Tiling) → IsSide t.side → IsPlaced t (mosaic_place t)
-placed t side = record {
-  ulx = no_way (10 ^ 9) (west_edge t);
-  uly = no_way (10 ^ 9) (north_edge t);
-  xdim = spaced (t.side - 1) (omega (arith, side.least));
-  ydim = spaced (t.side - 1) (omega (arith, side.least));
-}

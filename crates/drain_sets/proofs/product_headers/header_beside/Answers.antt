@@ -1,8 +1,8 @@
 use Rattle.std.proofs.Common.{◌∙◌, ◌*◌, ◌/◌, ap, rules, false}
 use mir.Syntax.{w64}
 use Rattle.std.proofs.lemmas.Int.{to_z-of_z}
-use Rattle.drain_maker.proofs.HeaderBounds.{product_bounds}
-use Rattle.drain_maker.proofs.product_files.header_beside.Goals as goal
+use Rattle.drain_sets.proofs.HeaderBounds.{product_bounds}
+use Rattle.drain_sets.proofs.product_headers.header_beside.Goals as goal
 
 pub invariant_of-result : goal.invariant_of-result
 invariant_of-result c =

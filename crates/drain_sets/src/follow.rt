@@ -1,8 +1,8 @@
-//! Which part of making products has begun, for those who wait for them.
+//! Which stage of making products has begun, for those who wait for them.
 
-/// A part of making products. They come in this order.
+/// A stage of making products. They come in this order.
 #[derive(Clone, Copy, PartialEq, Eq, Debug)]
-pub enum Part {
+pub enum Stage {
     /// The filled elevation, by a flood.
     Surface,
     Directions,
@@ -14,8 +14,8 @@ pub enum Part {
 
 /// Follows how products are made. What is made doesn't depend on it.
 pub trait Follow {
-    /// A part begins.
-    fn begin(&mut self, part: Part);
+    /// A stage begins.
+    fn begin(&mut self, stage: Stage);
 }
 
 /// Follows nothing.
@@ -23,5 +23,5 @@ pub trait Follow {
 pub struct Unfollowed;
 
 impl Follow for Unfollowed {
-    fn begin(&mut self, _part: Part) {}
+    fn begin(&mut self, _stage: Stage) {}
 }

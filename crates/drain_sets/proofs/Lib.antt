@@ -1,0 +1,2 @@
+pub mod FileWrites
+pub mod HeaderBounds

@@ -1,0 +1,3 @@
+pub mod FileWrites
+pub mod GivenSpacings
+pub mod ProductHeaders
