@@ -18,7 +18,10 @@ pub mod whole_dem;
 pub use dem::{AsRaster, make_dem};
 pub use derivation::{DeriveRefusal, Derived, derive, derive_dem, derive_from_flows};
 pub use drain_flood::LevelQueue;
-pub use drain_sets::{Follow, SetFault, Stage, Unfollowed};
+pub use drain_sets::{
+    DERIVED_COUNT, DERIVED_FILES, FILE_COUNT, FilePart, Follow, SET_FILES, SetFault, SetFile,
+    Stage, Unfollowed, header_on,
+};
 pub use drain_verdict::{CertifyRefusal, certify};
 pub use maker::{MakeRefusal, make, make_freeing};
 pub use mosaic::{AsElevation, Mosaic, read_mosaic};
