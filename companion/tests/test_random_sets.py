@@ -173,8 +173,7 @@ def test_library_and_program_give_the_same(alone: str, case: Case, without_heigh
     if options["acc_counts"] == "area":
         options["cell_area"] = AREA
     one, other = (drain_gis.audit(**sources, **options, program=program) for program in (None, alone))
-    are_whole = all(a.dtype.kind != "f" for name, a in sources.items() if name in ("dem", "con"))
-    assert one.made.set.is_held == are_whole and not other.made.set.is_held
+    assert one.made.set.is_held and not other.made.set.is_held
     assert (str(one), one.notes, one.rules, one.sizes) == (str(other), other.notes, other.rules, other.sizes)
     assert (one.map is None) == (other.map is None) and np.array_equal(one.shown, other.shown)
 

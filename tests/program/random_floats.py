@@ -192,9 +192,8 @@ def judge_by_library(library):
         ALL_CHANGES[number % len(ALL_CHANGES)](case)
         case.write()
         lines = {list_: case.line(list_.split(",")) for list_ in LISTS}
-        # It reads con in the place of rasters that aren't judged, which con of floats can't take: so all four.
-        told = library_line(library, case, LISTS[-1].split(","))
-        wrong = [] if told == lines[LISTS[-1]] else [f"{told!r}, not {lines[LISTS[-1]]!r}"]
+        told = {list_: library_line(library, case, list_.split(",")) for list_ in LISTS}
+        wrong = [f"{list_}: {told[list_]!r}, not {line!r}" for list_, line in lines.items() if told[list_] != line]
         return wrong, {list_: kind_of(line) for list_, line in lines.items()}
 
     passed, failed = judge_cases(judge_case, CASES)

@@ -135,8 +135,7 @@ uint32_t drain_audit_only(uint32_t side, const drain_tile *tiles, size_t tile_co
                           drain_answer *answer);
 
 /* The same over one raster of elevations: dem is that of drain_audit_dem, the other arguments are those of
- * drain_audit_only. Over floats all four have to be judged: con is read in the place of each raster that isn't, whose
- * header is then refused (BadHeader).
+ * drain_audit_only.
  * Returns answer->status. */
 uint32_t drain_audit_only_dem(const drain_raster *dem, const uint8_t *sinks, size_t sinks_length,
                               const drain_audit_rasters *rasters, uint32_t judged, drain_answer *answer);

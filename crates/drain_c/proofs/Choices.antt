@@ -1,8 +1,7 @@
 -- What holds of the rasters that a number names, which are none with ranks.
 use Rattle.std.proofs.Common.{◌≡◌, ℕ, ◌==◌, Bool, true, false, if◌then◌else◌, Option, Some, None, IfSome, refl, sym, subst}
-use Rattle.drain_c.specs.declared.given.AuditBytes.{AuditBytes}
 use Rattle.drain_c.specs.declared.given.SpacingBytes.{SpacingBytes}
-use Rattle.drain_c.specs.Judged.{judged_bytes, judged_of}
+use Rattle.drain_c.specs.Judged.{judged_of}
 use Rattle.drain_c.specs.Spacings.{spacing_passed}
 use Rattle.drain_grid.specs.declared.judged.Judged.{Judged}
 use Rattle.drain_grid.specs.declared.judged.Judged.TheVariants.{Con, ConDir, ConDirAcc, ConDirBas, All}
@@ -26,15 +25,12 @@ pub unranked : (n : ℕ) (judged : Judged) → judged_of n ≡ Some judged → h
 unranked n judged is = subst IsUnranked is (each n)
 
 -- what holds of the judged rasters and of what is given beside them
-pub of_choice : (P : Judged → AuditBytes → Given → Type 0) (n : ℕ) (judged : Judged) (rasters bytes : AuditBytes) (said given : Given) → judged_of n ≡ Some judged →
-    bytes ≡ judged_bytes judged rasters → given ≡ said → P judged bytes given → IfSome (judged_of n) (λ some. P some (judged_bytes some rasters) said)
-of_choice P n judged rasters bytes said given is bytes_are given_is holds =
-    subst (λ o. IfSome o (λ some. P some (judged_bytes some rasters) said)) (sym is) (subst (λ ps. P judged ps said) bytes_are (subst (P judged bytes) given_is holds))
+pub of_choice : (P : Judged → Given → Type 0) (n : ℕ) (judged : Judged) (said given : Given) → judged_of n ≡ Some judged → given ≡ said → P judged given →
+    IfSome (judged_of n) (λ some. P some said)
+of_choice P n judged said given is given_is holds = subst (λ o. IfSome o (λ some. P some said)) (sym is) (subst (P judged) given_is holds)
 
 -- the same on a passed spacing
-pub of_spacing : (P : Judged → AuditBytes → GivenSpacing → Type 0) (n : ℕ) (judged : Judged) (rasters bytes : AuditBytes) (said : SpacingBytes) (cells : GivenSpacing) →
-    judged_of n ≡ Some judged → bytes ≡ judged_bytes judged rasters → Some cells ≡ spacing_passed said → P judged bytes cells →
-    IfSome (judged_of n) (λ some. IfSome (spacing_passed said) (λ passed. P some (judged_bytes some rasters) passed))
-of_spacing P n judged rasters bytes said cells is bytes_are passes holds =
-    subst (λ o. IfSome o (λ some. IfSome (spacing_passed said) (λ passed. P some (judged_bytes some rasters) passed))) (sym is)
-    (subst (λ o. IfSome o (λ passed. P judged (judged_bytes judged rasters) passed)) passes (subst (λ ps. P judged ps cells) bytes_are holds))
+pub of_spacing : (P : Judged → GivenSpacing → Type 0) (n : ℕ) (judged : Judged) (said : SpacingBytes) (cells : GivenSpacing) → judged_of n ≡ Some judged → Some cells ≡ spacing_passed said → P judged cells →
+    IfSome (judged_of n) (λ some. IfSome (spacing_passed said) (λ passed. P some passed))
+of_spacing P n judged said cells is passes holds =
+    subst (λ o. IfSome o (λ some. IfSome (spacing_passed said) (λ passed. P some passed))) (sym is) (subst (λ o. IfSome o (P judged)) passes holds)

@@ -2,7 +2,9 @@
 use Rattle.std.proofs.Common.{◌≡◌, ℕ, List, [], ◌∷◌, map, refl, subst, sym}
 use Rattle.std.specs.List.{AllZip}
 use Rattle.std.proofs.lemmas.List.Elements.{All-head, All-tail}
-use Rattle.drain_c.specs.Laws.{BytesAreDemInputs, BytesAreInputs}
+use Rattle.drain_c.specs.Judged.{judged_raster}
+use Rattle.drain_c.specs.Laws.{BytesAreDemInputs, BytesAreInputs, BytesAreJudgedDemInputs, BytesAreJudgedInputs}
+use Rattle.drain_c.proofs.MissingRasters.{missing_beside}
 use Rattle.drain_hgt.specs.Corner.{Corner}
 use Rattle.drain_hgt.specs.Name.{IsNameOf}
 use Rattle.drain_hgt.specs.Laws.{NamesGiveCorners}
@@ -25,8 +27,8 @@ bytes_are_inputs corner side tiles given raster = (
     corners = map corner.0 (map (λ t. t.name.bytes.now) tiles);
     tiles = map (λ t. t.samples.bytes.now) tiles;
     given = given;
-    header = λ p. (raster p).header.bytes.now;
-    raster = λ p. (raster p).pixels.bytes.now;
+    header = λ p. (raster p).header;
+    raster = λ p. (raster p).pixels;
   },
   record {
     side_is = refl;
@@ -43,7 +45,20 @@ pub bytes_are_dem_inputs : BytesAreDemInputs
 bytes_are_dem_inputs dem given raster = (
   record {
     dem = record { header = dem.header.bytes.now; body = dem.pixels.bytes.now };
-    texts = record { given = given; header = λ p. (raster p).header.bytes.now; raster = λ p. (raster p).pixels.bytes.now };
+    texts = record { given = given; header = λ p. (raster p).header; raster = λ p. (raster p).pixels };
   },
   record { dem_header_is = refl; dem_body_is = refl; given_are = refl; headers_are = λ p. refl; rasters_are = λ p. refl },
 )
+
+-- where some rasters are judged: under a header that is right beside con
+pub bytes_are_judged_inputs : NamesGiveCorners → BytesAreJudgedInputs
+bytes_are_judged_inputs corner side tiles given judged ps =
+    let header = missing_beside ps.con.header.bytes.now in
+    let found = bytes_are_inputs corner side tiles given (judged_raster judged ps header.0) in
+    (found.0, record { header = header.0; header_is = header.1; bytes_are = found.1 })
+
+pub bytes_are_judged_dem_inputs : BytesAreJudgedDemInputs
+bytes_are_judged_dem_inputs dem given judged ps =
+    let header = missing_beside ps.con.header.bytes.now in
+    let found = bytes_are_dem_inputs dem given (judged_raster judged ps header.0) in
+    (found.0, record { header = header.0; header_is = header.1; bytes_are = found.1 })

@@ -4,5 +4,6 @@ pub mod Derivations
 pub mod Explained
 pub mod GivenInputs
 pub mod LongHeaders
+pub mod MissingRasters
 pub mod Spelling
 pub mod Statuses

@@ -4,10 +4,13 @@ use Rattle.std.proofs.lemmas.List.{take_more}
 use Rattle.std.proofs.lemmas.Slice.Zip.{all_zipped_more}
 use Rattle.drain_c.specs.declared.given.TileBytes.{TileBytes}
 use Rattle.drain_c.specs.declared.given.RasterBytes.{RasterBytes}
-use Rattle.drain_c.specs.Given.{AreOfBytes}
+use Rattle.drain_c.specs.declared.given.AuditBytes.{AuditBytes}
+use Rattle.drain_c.specs.Given.{AreOfBytes, RasterTexts, as_passed}
 use Rattle.drain_c.specs.GivenDem.{AreOfDem, DemInputs}
-use Rattle.drain_c.specs.Sources.{IsTileOf, AreTilesOf, AreRastersOf, IsRasterOf}
+use Rattle.drain_c.specs.Judged.{AreOfJudged, AreOfJudgedDem, judged_raster}
+use Rattle.drain_c.specs.Sources.{IsTileOf, AreTilesOf, AreRastersOf, AreJudgedOf, IsRasterOf}
 use Rattle.drain_c.proofs.CutInputs.{AreAnswers, Cut, answer_kept, cut_dem, cut_tiles, dem_cut, tile_cut}
+use Rattle.drain_grid.specs.declared.judged.Judged.{Judged}
 use Rattle.drain_grid.specs.declared.set_product.SetProduct.{SetProduct}
 use Rattle.drain_hgt.specs.declared.input.TileInput.{TileInput}
 use Rattle.drain_hgt.specs.Inputs.{names_of, AreBodies}
@@ -81,7 +84,7 @@ bodies bytes_left (g ∷ given) [] are = absurd are
 bodies bytes_left (g ∷ given) (tile ∷ tiles) are = (are.0.1, bodies bytes_left given tiles are.1)
 
 -- the sources have the bytes of the inputs, and the first bytes of each header
-pub tells : {R : Type 0} (bytes_left : R → Option (List ℕ)) (side : ℕ) (given : List TileBytes) (beside : Given) (raster : SetProduct → RasterBytes)
+pub tells : {R : Type 0} (bytes_left : R → Option (List ℕ)) (side : ℕ) (given : List TileBytes) (beside : Given) (raster : SetProduct → RasterTexts)
     (tiles : List (TileInput R)) (ps : Products R) → AreTilesOf bytes_left given tiles → AreRastersOf bytes_left raster ps →
     (i : Inputs) → AreOfBytes side given beside raster i → Encode bytes_left side tiles beside ps (cut_tiles i)
 tells bytes_left side given beside raster tiles ps are_tiles are_rasters i are = record {
@@ -94,12 +97,22 @@ tells bytes_left side given beside raster tiles ps are_tiles are_rasters i are =
   rasters_are = λ p. (are_rasters p).1 ∙ ap Some (sym (are.rasters_are p));
 }
 
-abbrev pub tile_call : {R : Type 0} (bytes_left : R → Option (List ℕ)) (side : ℕ) (given : List TileBytes) (beside : Given) (raster : SetProduct → RasterBytes)
+abbrev pub tile_call : {R : Type 0} (bytes_left : R → Option (List ℕ)) (side : ℕ) (given : List TileBytes) (beside : Given) (raster : SetProduct → RasterTexts)
     (tiles : List (TileInput R)) (ps : Products R) → AreTilesOf bytes_left given tiles → AreRastersOf bytes_left raster ps → Call tile_cut
 tile_call bytes_left side given beside raster tiles ps are_tiles are_rasters = record {
   Of = AreOfBytes side given beside raster;
   For = ForCheck bytes_left side tiles beside ps;
   of_sources = λ Fact fact i are. fact (cut_tiles i) (tells bytes_left side given beside raster tiles ps are_tiles are_rasters i are);
+}
+
+-- the same where some rasters are judged
+abbrev pub judged_tile_call : {R : Type 0} (bytes_left : R → Option (List ℕ)) (side : ℕ) (given : List TileBytes) (beside : Given) (judged : Judged) (rasters : AuditBytes)
+    (tiles : List (TileInput R)) (ps : Products R) → AreTilesOf bytes_left given tiles → AreJudgedOf bytes_left judged rasters ps → Call tile_cut
+judged_tile_call bytes_left side given beside judged rasters tiles ps are_tiles are_rasters = record {
+  Of = AreOfJudged side given beside judged rasters;
+  For = ForCheck bytes_left side tiles beside ps;
+  of_sources = λ Fact fact i are. fact (cut_tiles i) (tells bytes_left side given beside (judged_raster judged rasters are.header) tiles ps are_tiles
+      (are_rasters are.header are.header_is) i are.bytes_are);
 }
 
 -- One raster of elevations.
@@ -108,16 +121,32 @@ tile_call bytes_left side given beside raster tiles ps are_tiles are_rasters = r
 abbrev pub ForDemInputs : {R : Type 0} → (R → Option (List ℕ)) → List (RasterInput R) → Given → Products R → (DemInputs → Type 0) → Type 0
 ForDemInputs bytes_left dem beside ps Fact = (d : DemTexts) (t : SetTexts) → EncodesDem bytes_left dem d → EncodeTexts bytes_left beside ps t → Fact (record { dem = d; texts = t })
 
-abbrev pub dem_call : {R : Type 0} (bytes_left : R → Option (List ℕ)) (given : RasterBytes) (beside : Given) (raster : SetProduct → RasterBytes)
-    (dem : RasterInput R) (ps : Products R) → IsRasterOf bytes_left given dem → AreRastersOf bytes_left raster ps → Call dem_cut
+-- the inputs, with the first bytes of each header, are what the sources have
+pub dem_of_sources : {R : Type 0} (bytes_left : R → Option (List ℕ)) (given : RasterBytes) (beside : Given) (raster : SetProduct → RasterTexts)
+    (dem : RasterInput R) (ps : Products R) → IsRasterOf bytes_left (as_passed given) dem → AreRastersOf bytes_left raster ps →
+    (Fact : DemInputs → Type 0) → ForDemInputs bytes_left (dem ∷ []) beside ps Fact → (i : DemInputs) → AreOfDem given beside raster i → Fact (cut_dem i)
+dem_of_sources bytes_left given beside raster dem ps is_dem are_rasters Fact fact i are =
+    fact (cut_dem i).dem (cut_dem i).texts
+    (ap (take 65537) are.dem_header_is ∙ sym is_dem.0, is_dem.1 ∙ ap Some (sym are.dem_body_is))
+    (record {
+      given_is = are.given_are;
+      headers_are = λ p. ap (take 65537) (are.headers_are p) ∙ sym (are_rasters p).0;
+      rasters_are = λ p. (are_rasters p).1 ∙ ap Some (sym (are.rasters_are p));
+    })
+
+abbrev pub dem_call : {R : Type 0} (bytes_left : R → Option (List ℕ)) (given : RasterBytes) (beside : Given) (raster : SetProduct → RasterTexts)
+    (dem : RasterInput R) (ps : Products R) → IsRasterOf bytes_left (as_passed given) dem → AreRastersOf bytes_left raster ps → Call dem_cut
 dem_call bytes_left given beside raster dem ps is_dem are_rasters = record {
   Of = AreOfDem given beside raster;
   For = ForDemInputs bytes_left (dem ∷ []) beside ps;
-  of_sources = λ Fact fact i are. fact (cut_dem i).dem (cut_dem i).texts
-      (ap (take 65537) are.dem_header_is ∙ sym is_dem.0, is_dem.1 ∙ ap Some (sym are.dem_body_is))
-      (record {
-        given_is = are.given_are;
-        headers_are = λ p. ap (take 65537) (are.headers_are p) ∙ sym (are_rasters p).0;
-        rasters_are = λ p. (are_rasters p).1 ∙ ap Some (sym (are.rasters_are p));
-      });
+  of_sources = dem_of_sources bytes_left given beside raster dem ps is_dem are_rasters;
+}
+
+-- the same where some rasters are judged
+abbrev pub judged_dem_call : {R : Type 0} (bytes_left : R → Option (List ℕ)) (given : RasterBytes) (beside : Given) (judged : Judged) (rasters : AuditBytes)
+    (dem : RasterInput R) (ps : Products R) → IsRasterOf bytes_left (as_passed given) dem → AreJudgedOf bytes_left judged rasters ps → Call dem_cut
+judged_dem_call bytes_left given beside judged rasters dem ps is_dem are_rasters = record {
+  Of = AreOfJudgedDem given beside judged rasters;
+  For = ForDemInputs bytes_left (dem ∷ []) beside ps;
+  of_sources = λ Fact fact i are. dem_of_sources bytes_left given beside (judged_raster judged rasters are.header) dem ps is_dem (are_rasters are.header are.header_is) Fact fact i are.bytes_are;
 }

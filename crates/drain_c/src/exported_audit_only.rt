@@ -3,7 +3,6 @@
 ghost use Rattle.std.specs.Prelude.{◌≡◌, ◌<◌, ◌↔◌, false, IfSome, IsFalse, IsNone, IsTrue};
 ghost use Rattle.drain_answer.specs.OutcomeLines.{outcome_report_line};
 ghost use Rattle.drain_c.specs.Found.{outcome_found};
-ghost use Rattle.drain_c.specs.Given.{OfBytes, audit_raster};
 ghost use Rattle.drain_c.specs.Judged.{OfJudgedBytes, judged_bytes, judged_of};
 ghost use Rattle.drain_c.specs.Shown.{Reports, ShowsBadChoice, ShowsMissing};
 ghost use Rattle.drain_c.specs.Whole.{is_audit_whole};
@@ -48,13 +47,12 @@ pub extern "C" fn drain_audit_only<'a>(
 {
     match judged_of(judged) {
         Some(judged) => {
-            let rasters = judged_bytes(judged, rasters);
             audit_judged(
                 alloc,
                 side,
                 tiles,
                 &Given::plain(sinks),
-                &rasters,
+                rasters,
                 judged,
                 answer,
             )
@@ -66,7 +64,7 @@ pub extern "C" fn drain_audit_only<'a>(
     }
 }
 
-/// The same of these rasters.
+/// The same of a choice, with what is given beside the rasters.
 pub(crate) fn audit_judged<'a>(
     alloc: Global,
     side: u32,
@@ -76,12 +74,12 @@ pub(crate) fn audit_judged<'a>(
     judged: Judged,
     answer: &mut Answer,
 ) -> u32
-    ensures exactly { has_rnk judged ≡ false → result < 2 → OfBytes side tiles.now given.now (audit_raster rasters.now) (λ inputs. (result ≡ 0) ↔ AreJudgedRight judged inputs) }
-    ensures missing { IsFalse (is_audit_whole tiles.now rasters.now) → ShowsMissing answer.new }
-    ensures answer { IsTrue (is_audit_whole tiles.now rasters.now) → OfBytes side tiles.now given.now (audit_raster rasters.now) (λ inputs. Reports (IsOutcomeAnswer judged inputs) outcome_found outcome_report_line answer.new) }
+    ensures exactly { has_rnk judged ≡ false → result < 2 → OfJudgedBytes side tiles.now given.now judged rasters.now (λ inputs. (result ≡ 0) ↔ AreJudgedRight judged inputs) }
+    ensures missing { IsFalse (is_audit_whole tiles.now (judged_bytes judged rasters.now)) → ShowsMissing answer.new }
+    ensures answer { IsTrue (is_audit_whole tiles.now (judged_bytes judged rasters.now)) → OfJudgedBytes side tiles.now given.now judged rasters.now (λ inputs. Reports (IsOutcomeAnswer judged inputs) outcome_found outcome_report_line answer.new) }
     ensures status { answer.new.status ≡ result }
 {
-    if !is_audit_whole(tiles, rasters) {
+    if !is_audit_whole(tiles, &judged_bytes(judged, rasters)) {
         show_missing(answer);
         return answer.status;
     }

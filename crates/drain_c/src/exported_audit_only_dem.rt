@@ -3,8 +3,7 @@
 ghost use Rattle.std.specs.Prelude.{◌≡◌, ◌<◌, ◌↔◌, false, IfSome, IsFalse, IsNone, IsTrue};
 ghost use Rattle.drain_answer.specs.OutcomeLines.{outcome_report_line};
 ghost use Rattle.drain_c.specs.Found.{outcome_found};
-ghost use Rattle.drain_c.specs.Given.{audit_raster};
-ghost use Rattle.drain_c.specs.GivenDem.{OfDemBytes, dem_set};
+ghost use Rattle.drain_c.specs.GivenDem.{dem_set};
 ghost use Rattle.drain_c.specs.Judged.{OfJudgedDem, judged_bytes, judged_of};
 ghost use Rattle.drain_c.specs.Shown.{Reports, ShowsBadChoice, ShowsMissing};
 ghost use Rattle.drain_c.specs.Whole.{is_dem_audit_whole};
@@ -52,8 +51,7 @@ pub extern "C" fn drain_audit_only_dem<'a>(
 {
     match judged_of(judged) {
         Some(judged) => {
-            let rasters = judged_bytes(judged, rasters);
-            audit_judged_dem(alloc, dem, &Given::plain(sinks), &rasters, judged, answer)
+            audit_judged_dem(alloc, dem, &Given::plain(sinks), rasters, judged, answer)
         }
         None => {
             show_bad_choice(answer);
@@ -62,7 +60,7 @@ pub extern "C" fn drain_audit_only_dem<'a>(
     }
 }
 
-/// The same of these rasters.
+/// The same of a choice, with what is given beside the rasters.
 pub(crate) fn audit_judged_dem<'a>(
     alloc: Global,
     dem: &RasterBytes<'a>,
@@ -71,13 +69,13 @@ pub(crate) fn audit_judged_dem<'a>(
     judged: Judged,
     answer: &mut Answer,
 ) -> u32
-    ensures exactly { has_rnk judged ≡ false → result < 2 → OfDemBytes dem.now given.now (audit_raster rasters.now) (λ inputs. (result ≡ 0) ↔ AreRightIn judged (dem_set inputs)) }
-    ensures elevation { result < 2 → OfDemBytes dem.now given.now (audit_raster rasters.now) (λ inputs. ElevationIsItsPixels inputs.dem) }
-    ensures missing { IsFalse (is_dem_audit_whole dem.now rasters.now) → ShowsMissing answer.new }
-    ensures answer { IsTrue (is_dem_audit_whole dem.now rasters.now) → OfDemBytes dem.now given.now (audit_raster rasters.now) (λ inputs. Reports (IsOutcomeIn judged (dem_set inputs)) outcome_found outcome_report_line answer.new) }
+    ensures exactly { has_rnk judged ≡ false → result < 2 → OfJudgedDem dem.now given.now judged rasters.now (λ inputs. (result ≡ 0) ↔ AreRightIn judged (dem_set inputs)) }
+    ensures elevation { result < 2 → OfJudgedDem dem.now given.now judged rasters.now (λ inputs. ElevationIsItsPixels inputs.dem) }
+    ensures missing { IsFalse (is_dem_audit_whole dem.now (judged_bytes judged rasters.now)) → ShowsMissing answer.new }
+    ensures answer { IsTrue (is_dem_audit_whole dem.now (judged_bytes judged rasters.now)) → OfJudgedDem dem.now given.now judged rasters.now (λ inputs. Reports (IsOutcomeIn judged (dem_set inputs)) outcome_found outcome_report_line answer.new) }
     ensures status { answer.new.status ≡ result }
 {
-    if !is_dem_audit_whole(dem, rasters) {
+    if !is_dem_audit_whole(dem, &judged_bytes(judged, rasters)) {
         show_missing(answer);
         return answer.status;
     }

@@ -3,7 +3,6 @@
 ghost use Rattle.std.specs.Prelude.{◌≡◌, ◌<◌, ◌↔◌, false, IfSome, IsFalse, IsNone, IsTrue};
 ghost use Rattle.drain_answer.specs.OutcomeLines.{outcome_report_line};
 ghost use Rattle.drain_c.specs.Found.{outcome_found};
-ghost use Rattle.drain_c.specs.Given.{OfBytes, audit_raster};
 ghost use Rattle.drain_c.specs.Judged.{OfJudgedBytes, judged_bytes, judged_of};
 ghost use Rattle.drain_c.specs.Spacings.{spacing_passed};
 ghost use Rattle.drain_c.specs.Shown.{Reports, ShowsBadChoice, ShowsMissing};
@@ -14,7 +13,7 @@ ghost use Rattle.drain_verdict.specs.Outcomes.{AreJudgedRight, IsOutcomeAnswer};
 use crate::answer::{Answer, show_bad_choice, show_missing};
 use crate::exported_audit_only::audit_judged;
 use crate::given::{AuditBytes, SpacingBytes, TileBytes};
-use crate::judged::{judged_bytes, judged_of};
+use crate::judged::judged_of;
 use crate::spacing::spacing_passed;
 use crate::whole::is_spacing_whole;
 use drain_verdict::Given;
@@ -55,9 +54,8 @@ pub extern "C" fn drain_audit_only_spaced<'a>(
             answer.status
         }
         (Some(judged), Some(spacing)) => {
-            let rasters = judged_bytes(judged, rasters);
             let given = Given { sinks, spacing };
-            audit_judged(alloc, side, tiles, &given, &rasters, judged, answer)
+            audit_judged(alloc, side, tiles, &given, rasters, judged, answer)
         }
         _ => {
             show_bad_choice(answer);

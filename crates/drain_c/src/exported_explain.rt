@@ -2,7 +2,6 @@
 
 ghost use Rattle.std.specs.Prelude.{◌≡◌, ◌<◌, ◌≤◌, IfSome, IsFalse, IsNone, IsTrue};
 ghost use Rattle.drain_c.specs.Explained.{Explains, ReportsMapped};
-ghost use Rattle.drain_c.specs.Given.{OfBytes, audit_raster};
 ghost use Rattle.drain_c.specs.Judged.{OfJudgedBytes, judged_bytes, judged_of};
 ghost use Rattle.drain_c.specs.Shown.{ShowsBadChoice, ShowsMissing};
 ghost use Rattle.drain_c.specs.Whole.{is_audit_whole};
@@ -49,13 +48,12 @@ pub extern "C" fn drain_explain<'a>(
 {
     match judged_of(judged) {
         Some(judged) => {
-            let rasters = judged_bytes(judged, rasters);
             explain_judged(
                 alloc,
                 side,
                 tiles,
                 &Given::plain(sinks),
-                &rasters,
+                rasters,
                 judged,
                 map,
                 faults,
@@ -69,7 +67,7 @@ pub extern "C" fn drain_explain<'a>(
     }
 }
 
-/// The same of these rasters.
+/// The same of a choice, with what is given beside the rasters.
 pub(crate) fn explain_judged<'a>(
     alloc: Global,
     side: u32,
@@ -81,13 +79,13 @@ pub(crate) fn explain_judged<'a>(
     faults: &mut Faults,
     answer: &mut Answer,
 ) -> u32
-    ensures missing { IsFalse (is_audit_whole tiles.now rasters.now) → ShowsMissing answer.new }
-    ensures answer { IsTrue (is_audit_whole tiles.now rasters.now) → OfBytes side tiles.now given.now (audit_raster rasters.now) (λ inputs. ReportsMapped judged (set_of inputs) map.old answer.new) }
+    ensures missing { IsFalse (is_audit_whole tiles.now (judged_bytes judged rasters.now)) → ShowsMissing answer.new }
+    ensures answer { IsTrue (is_audit_whole tiles.now (judged_bytes judged rasters.now)) → OfJudgedBytes side tiles.now given.now judged rasters.now (λ inputs. ReportsMapped judged (set_of inputs) map.old answer.new) }
     ensures status { answer.new.status ≡ result }
-    ensures explained { result < 2 → OfBytes side tiles.now given.now (audit_raster rasters.now) (λ inputs. Explains judged (set_of inputs) faults.new map.new) }
+    ensures explained { result < 2 → OfJudgedBytes side tiles.now given.now judged rasters.now (λ inputs. Explains judged (set_of inputs) faults.new map.new) }
     ensures unwritten { 2 ≤ result → (map.new ≡ map.old) × (faults.new ≡ faults.old) }
 {
-    if !is_audit_whole(tiles, rasters) {
+    if !is_audit_whole(tiles, &judged_bytes(judged, rasters)) {
         show_missing(answer);
         return answer.status;
     }

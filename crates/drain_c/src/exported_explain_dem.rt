@@ -2,8 +2,7 @@
 
 ghost use Rattle.std.specs.Prelude.{◌≡◌, ◌<◌, ◌≤◌, IfSome, IsFalse, IsNone, IsTrue};
 ghost use Rattle.drain_c.specs.Explained.{Explains, ReportsMapped};
-ghost use Rattle.drain_c.specs.Given.{audit_raster};
-ghost use Rattle.drain_c.specs.GivenDem.{OfDemBytes, dem_set};
+ghost use Rattle.drain_c.specs.GivenDem.{dem_set};
 ghost use Rattle.drain_c.specs.Judged.{OfJudgedDem, judged_bytes, judged_of};
 ghost use Rattle.drain_c.specs.Shown.{ShowsBadChoice, ShowsMissing};
 ghost use Rattle.drain_c.specs.Whole.{is_dem_audit_whole};
@@ -52,12 +51,11 @@ pub extern "C" fn drain_explain_dem<'a>(
 {
     match judged_of(judged) {
         Some(judged) => {
-            let rasters = judged_bytes(judged, rasters);
             explain_judged_dem(
                 alloc,
                 dem,
                 &Given::plain(sinks),
-                &rasters,
+                rasters,
                 judged,
                 map,
                 faults,
@@ -71,7 +69,7 @@ pub extern "C" fn drain_explain_dem<'a>(
     }
 }
 
-/// The same of these rasters.
+/// The same of a choice, with what is given beside the rasters.
 pub(crate) fn explain_judged_dem<'a>(
     alloc: Global,
     dem: &RasterBytes<'a>,
@@ -82,14 +80,14 @@ pub(crate) fn explain_judged_dem<'a>(
     faults: &mut Faults,
     answer: &mut Answer,
 ) -> u32
-    ensures missing { IsFalse (is_dem_audit_whole dem.now rasters.now) → ShowsMissing answer.new }
-    ensures answer { IsTrue (is_dem_audit_whole dem.now rasters.now) → OfDemBytes dem.now given.now (audit_raster rasters.now) (λ inputs. ReportsMapped judged (dem_set inputs) map.old answer.new) }
+    ensures missing { IsFalse (is_dem_audit_whole dem.now (judged_bytes judged rasters.now)) → ShowsMissing answer.new }
+    ensures answer { IsTrue (is_dem_audit_whole dem.now (judged_bytes judged rasters.now)) → OfJudgedDem dem.now given.now judged rasters.now (λ inputs. ReportsMapped judged (dem_set inputs) map.old answer.new) }
     ensures status { answer.new.status ≡ result }
-    ensures explained { result < 2 → OfDemBytes dem.now given.now (audit_raster rasters.now) (λ inputs. Explains judged (dem_set inputs) faults.new map.new) }
+    ensures explained { result < 2 → OfJudgedDem dem.now given.now judged rasters.now (λ inputs. Explains judged (dem_set inputs) faults.new map.new) }
     ensures unwritten { 2 ≤ result → (map.new ≡ map.old) × (faults.new ≡ faults.old) }
-    ensures elevation { result < 2 → OfDemBytes dem.now given.now (audit_raster rasters.now) (λ inputs. ElevationIsItsPixels inputs.dem) }
+    ensures elevation { result < 2 → OfJudgedDem dem.now given.now judged rasters.now (λ inputs. ElevationIsItsPixels inputs.dem) }
 {
-    if !is_dem_audit_whole(dem, rasters) {
+    if !is_dem_audit_whole(dem, &judged_bytes(judged, rasters)) {
         show_missing(answer);
         return answer.status;
     }

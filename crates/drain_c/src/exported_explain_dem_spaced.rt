@@ -2,8 +2,7 @@
 
 ghost use Rattle.std.specs.Prelude.{◌≡◌, ◌<◌, ◌≤◌, IfSome, IsFalse, IsNone, IsTrue};
 ghost use Rattle.drain_c.specs.Explained.{Explains, ReportsMapped};
-ghost use Rattle.drain_c.specs.Given.{audit_raster};
-ghost use Rattle.drain_c.specs.GivenDem.{OfDemBytes, dem_set};
+ghost use Rattle.drain_c.specs.GivenDem.{dem_set};
 ghost use Rattle.drain_c.specs.Judged.{OfJudgedDem, judged_bytes, judged_of};
 ghost use Rattle.drain_c.specs.Spacings.{spacing_passed};
 ghost use Rattle.drain_c.specs.Shown.{ShowsBadChoice, ShowsMissing};
@@ -14,7 +13,7 @@ use crate::answer::{Answer, show_bad_choice, show_missing};
 use crate::exported_explain_dem::explain_judged_dem;
 use crate::faults::Faults;
 use crate::given::{AuditBytes, RasterBytes, SpacingBytes};
-use crate::judged::{judged_bytes, judged_of};
+use crate::judged::judged_of;
 use crate::spacing::spacing_passed;
 use crate::whole::is_spacing_whole;
 use drain_verdict::Given;
@@ -58,9 +57,8 @@ pub extern "C" fn drain_explain_dem_spaced<'a>(
             answer.status
         }
         (Some(judged), Some(spacing)) => {
-            let rasters = judged_bytes(judged, rasters);
             let given = Given { sinks, spacing };
-            explain_judged_dem(alloc, dem, &given, &rasters, judged, map, faults, answer)
+            explain_judged_dem(alloc, dem, &given, rasters, judged, map, faults, answer)
         }
         _ => {
             show_bad_choice(answer);

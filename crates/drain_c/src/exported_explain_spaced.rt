@@ -2,7 +2,6 @@
 
 ghost use Rattle.std.specs.Prelude.{◌≡◌, ◌<◌, ◌≤◌, IfSome, IsFalse, IsNone, IsTrue};
 ghost use Rattle.drain_c.specs.Explained.{Explains, ReportsMapped};
-ghost use Rattle.drain_c.specs.Given.{OfBytes, audit_raster};
 ghost use Rattle.drain_c.specs.Judged.{OfJudgedBytes, judged_bytes, judged_of};
 ghost use Rattle.drain_c.specs.Spacings.{spacing_passed};
 ghost use Rattle.drain_c.specs.Shown.{ShowsBadChoice, ShowsMissing};
@@ -13,7 +12,7 @@ use crate::answer::{Answer, show_bad_choice, show_missing};
 use crate::exported_explain::explain_judged;
 use crate::faults::Faults;
 use crate::given::{AuditBytes, SpacingBytes, TileBytes};
-use crate::judged::{judged_bytes, judged_of};
+use crate::judged::judged_of;
 use crate::spacing::spacing_passed;
 use crate::whole::is_spacing_whole;
 use drain_verdict::Given;
@@ -55,10 +54,9 @@ pub extern "C" fn drain_explain_spaced<'a>(
             answer.status
         }
         (Some(judged), Some(spacing)) => {
-            let rasters = judged_bytes(judged, rasters);
             let given = Given { sinks, spacing };
             explain_judged(
-                alloc, side, tiles, &given, &rasters, judged, map, faults, answer,
+                alloc, side, tiles, &given, rasters, judged, map, faults, answer,
             )
         }
         _ => {

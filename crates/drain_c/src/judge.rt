@@ -2,6 +2,7 @@
 
 ghost use Rattle.std.specs.Prelude.{◌≡◌, ◌↔◌, IfOk, IsSome, false};
 ghost use Rattle.drain_c.specs.Given.{OfBytes, audit_raster, check_raster};
+ghost use Rattle.drain_c.specs.Judged.{OfJudgedBytes};
 ghost use Rattle.drain_answer.specs.Outcomes.{IsAcceptedOutcome};
 ghost use Rattle.drain_explain.specs.Explanations.{AreFindingsOf, answer_in};
 ghost use Rattle.drain_grid.specs.Judged.{has_rnk};
@@ -11,7 +12,7 @@ ghost use Rattle.drain_verdict.specs.Headline.{IsRight, TilesAreOne, ElevationIs
 ghost use Rattle.drain_verdict.specs.Outcomes.{AreJudgedRight, IsOutcomeAnswer};
 
 use crate::given::{AuditBytes, CheckBytes, TileBytes};
-use crate::sources::{audit_inputs, check_inputs, tile_inputs};
+use crate::sources::{audit_inputs, check_inputs, judged_inputs, tile_inputs};
 use drain_explain::{Explanation, Mapping, explain_audit};
 use drain_grid::{Judged, Verdict};
 use drain_mosaic::Layout;
@@ -45,11 +46,11 @@ pub fn judge_some<'a>(
     products: &AuditBytes<'a>,
     judged: Judged,
 ) -> Result<Outcome, Refusal>
-    ensures answer { OfBytes side tiles.now given.now (audit_raster products.now) (λ inputs. IsOutcomeAnswer judged inputs result) }
-    ensures exactly { has_rnk judged ≡ false → IfOk result (λ outcome. OfBytes side tiles.now given.now (audit_raster products.now) (λ inputs. IsAcceptedOutcome outcome ↔ AreJudgedRight judged inputs)) }
+    ensures answer { OfJudgedBytes side tiles.now given.now judged products.now (λ inputs. IsOutcomeAnswer judged inputs result) }
+    ensures exactly { has_rnk judged ≡ false → IfOk result (λ outcome. OfJudgedBytes side tiles.now given.now judged products.now (λ inputs. IsAcceptedOutcome outcome ↔ AreJudgedRight judged inputs)) }
 {
     let mut tiles = tile_inputs(alloc, tiles)?;
-    let mut products = audit_inputs(alloc, products)?;
+    let mut products = judged_inputs(alloc, judged, products)?;
     audit_part(
         alloc,
         side,
@@ -69,15 +70,15 @@ pub fn judge_explained<'a>(
     products: &AuditBytes<'a>,
     judged: Judged,
 ) -> Result<Explanation<Layout>, Refusal>
-    ensures answer { OfBytes side tiles.now given.now (audit_raster products.now) (λ inputs. IsOutcomeAnswer judged inputs (answer_in result)) }
-    ensures explained { IfOk result (λ e. OfBytes side tiles.now given.now (audit_raster products.now) (λ inputs. AreFindingsOf judged inputs e.findings)) }
+    ensures answer { OfJudgedBytes side tiles.now given.now judged products.now (λ inputs. IsOutcomeAnswer judged inputs (answer_in result)) }
+    ensures explained { IfOk result (λ e. OfJudgedBytes side tiles.now given.now judged products.now (λ inputs. AreFindingsOf judged inputs e.findings)) }
     ensures drawn { IfOk result (λ e. IsSome e.findings.map) }
 {
     let mut tiles = tile_inputs(alloc, tiles)?;
-    let mut products = audit_inputs(alloc, products)?;
+    let mut rasters = judged_inputs(alloc, judged, products)?;
     let tiles = tiles.as_mut_slice();
     let mapping = Mapping::Drawn;
-    explain_audit(alloc, side, tiles, given, &mut products, judged, mapping)
+    explain_audit(alloc, side, tiles, given, &mut rasters, judged, mapping)
 }
 
 /// The answer of a check.

@@ -21,7 +21,7 @@ pub fn judged_of(number: u32) -> Option<Judged>
     }
 }
 
-/// The judged rasters, and con in the place of each other, of which no number matters.
+/// The judged rasters, and con in the place of each other: no byte of these may be missing.
 pub fn judged_bytes<'a>(judged: Judged, given: &AuditBytes<'a>) -> AuditBytes<'a>
     ensures { result ≡ judged_bytes judged given.now }
 {

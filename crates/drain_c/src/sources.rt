@@ -2,14 +2,16 @@
 //! 65,537 bytes of a longer one; samples and pixels are not.
 
 ghost use Rattle.std.specs.Prelude.{◌≡◌, take, IfOk, IfErr};
-ghost use Rattle.drain_c.specs.Given.{audit_raster, check_raster};
-ghost use Rattle.drain_c.specs.Sources.{AreTilesOf, AreRastersOf, IsRasterOf, IsTileOf};
+ghost use Rattle.drain_c.specs.Given.{as_passed, audit_raster, check_raster};
+ghost use Rattle.drain_c.specs.Sources.{AreJudgedOf, AreTilesOf, AreRastersOf, IsJudgedOf, IsMissingOf, IsRasterOf, IsTileOf};
 ghost use Rattle.drain_verdict.specs.Inputs.{as_five};
 
 use crate::given::{AuditBytes, CheckBytes, RasterBytes, TileBytes};
 use drain_device::{ByteList, ByteSource, SliceSource};
+use drain_grid::Judged;
 use drain_header::MAX_HEADER_BYTES;
 use drain_hgt::TileInput;
+use drain_sets::missing::missing_header;
 use drain_verdict::{AuditProducts, Products, RasterInput, Refusal};
 use std::alloc::Global;
 
@@ -49,7 +51,7 @@ pub fn raster_input<'a>(
     alloc: Global,
     given: &RasterBytes<'a>,
 ) -> Result<RasterInput<SliceSource<'a>>, Refusal>
-    ensures same { IfOk result (λ raster. IsRasterOf ⟦<SliceSource<'a> as ByteSource>⟧.bytes_left given.now raster) }
+    ensures same { IfOk result (λ raster. IsRasterOf ⟦<SliceSource<'a> as ByteSource>⟧.bytes_left (as_passed given.now) raster) }
     ensures memory { IfErr result (λ refusal. refusal ≡ Refusal.OutOfMemory) }
 {
     let header = byte_list(alloc, first_bytes(given.header.bytes))?;
@@ -92,6 +94,56 @@ pub fn audit_inputs<'a>(
         acc: raster_input(alloc, &given.acc)?,
         bas: raster_input(alloc, &given.bas)?,
     })
+}
+
+/// The four rasters of an audit of which these are judged: con, and con's pixels in the place of each other that isn't.
+pub fn judged_inputs<'a>(
+    alloc: Global,
+    judged: Judged,
+    given: &AuditBytes<'a>,
+) -> Result<AuditProducts<SliceSource<'a>>, Refusal>
+    ensures same { IfOk result (λ products. AreJudgedOf ⟦<SliceSource<'a> as ByteSource>⟧.bytes_left judged given.now (as_five products)) }
+    ensures memory { IfErr result (λ refusal. refusal ≡ Refusal.OutOfMemory) }
+{
+    let con = &given.con;
+    Ok(AuditProducts {
+        con: raster_input(alloc, con)?,
+        dir: input_or_missing(alloc, judged.has_dir(), &given.dir, con)?,
+        acc: input_or_missing(alloc, judged.has_acc(), &given.acc, con)?,
+        bas: input_or_missing(alloc, judged.has_bas(), &given.bas, con)?,
+    })
+}
+
+/// A raster if it is judged, else a missing one.
+fn input_or_missing<'a>(
+    alloc: Global,
+    is_judged: bool,
+    given: &RasterBytes<'a>,
+    con: &RasterBytes<'a>,
+) -> Result<RasterInput<SliceSource<'a>>, Refusal>
+    ensures same { IfOk result (λ raster. IsJudgedOf ⟦<SliceSource<'a> as ByteSource>⟧.bytes_left is_judged given.now con.now raster) }
+    ensures memory { IfErr result (λ refusal. refusal ≡ Refusal.OutOfMemory) }
+{
+    if is_judged {
+        return raster_input(alloc, given);
+    }
+    missing_input(alloc, con)
+}
+
+/// A raster that isn't judged: con's pixels, a byte for each cell, under the header of a raster that lies as con does.
+fn missing_input<'a>(
+    alloc: Global,
+    con: &RasterBytes<'a>,
+) -> Result<RasterInput<SliceSource<'a>>, Refusal>
+    ensures same { IfOk result (λ raster. IsMissingOf ⟦<SliceSource<'a> as ByteSource>⟧.bytes_left con.now raster) }
+    ensures memory { IfErr result (λ refusal. refusal ≡ Refusal.OutOfMemory) }
+{
+    let Ok(text) = missing_header(alloc, first_bytes(con.header.bytes)) else {
+        return Err(Refusal::OutOfMemory);
+    };
+    let header = ByteList::new(text);
+    let body = SliceSource::new(con.pixels.bytes);
+    Ok(RasterInput { header, body })
 }
 
 /// The five rasters of a check.

@@ -1,5 +1,5 @@
 -- What opening, reading and placing of files does.
-use Rattle.std.specs.Prelude.{◌≡◌, Result, Ok, Err, ◌⊎◌, ℕ, ◌++◌, List, [], ◌∷◌, codes, Option, Some, replicate, pos, false, ◌<◌, length}
+use Rattle.std.specs.Prelude.{◌≡◌, Result, Ok, Err, ◌⊎◌, ℕ, ◌++◌, List, [], ◌∷◌, codes, Option, Some, replicate, ◌<◌, length}
 use Rattle.drain_sets.specs.declared.set_files.SetFault.{SetFault}
 use Rattle.drain_device.specs.declared.read.BodyFault.TheVariants.{OutOfMemory}
 use Rattle.drain_answer.specs.Outcomes.{failure_text}
@@ -8,8 +8,6 @@ use Rattle.drain_device.specs.declared.counts.FaultCounts.{FaultCounts}
 use Rattle.drain_device.specs.Counts.{no_faults}
 use Rattle.drain_files.specs.declared.source_or_ones.SourceOrOnes.{SourceOrOnes}
 use Rattle.drain_files.specs.declared.source_or_ones.SourceOrOnes.TheVariants.{Source, Ones}
-use Rattle.drain_header.specs.declared.header.ByteOrdering.TheVariants.{Least}
-use Rattle.drain_header.specs.Header.{Fields}
 use Rattle.std.specs.Io.KnownBytes.{Consumes}
 use Rattle.std.specs.List.{AllZip}
 use Rattle.drain_args.specs.declared.requests.Elevations.{Elevations}
@@ -22,7 +20,6 @@ use Rattle.drain_files.specs.declared.open_judged.OpenTiles.{OpenTiles}
 use Rattle.drain_hgt.specs.Inputs.{names_of}
 use Rattle.drain_files.specs.declared.open_judged.JudgedProducts.{JudgedProducts}
 use Rattle.drain_files.specs.declared.open_judged.JudgedProducts.TheVariants.{Five, Four}
-use Rattle.drain_grid.specs.declared.height_kind.HeightKind.TheVariants.{Whole}
 use Rattle.drain_grid.specs.declared.judged.Judged.{Judged}
 use Rattle.drain_grid.specs.declared.judged.Judged.TheVariants.{AllWithRanks}
 
@@ -54,25 +51,6 @@ bytes_of bytes_left (Ones n) = Some (replicate n 1)
 abbrev pub source_counts : {R : Type 0} → (R → FaultCounts) → SourceOrOnes R → FaultCounts
 source_counts counts (Source source) = counts source
 source_counts counts (Ones n) = no_faults
-
--- The header of a map of faults.
--- Source: the Esri description of BIL headers; sizes, byte order and the no-data number are this project's own
-
--- of a map that lies as a raster with this header does: a byte without a sign for each pixel, nothing to skip, rows without
--- padding, 255 for no data
-abbrev pub map_header : Fields → Fields
-map_header h = record {
-  rows = h.rows;
-  cols = h.cols;
-  bits = 8;
-  order = Least;
-  signed = false;
-  skip = 0;
-  row_bytes = h.cols;
-  place = h.place;
-  nodata = Some (pos 255);
-  kind = Whole;
-}
 
 -- When a text is too long.
 

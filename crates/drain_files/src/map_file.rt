@@ -4,7 +4,7 @@ ghost use Rattle.std.specs.Prelude.{◌≡◌, ◌++◌, ◌∷◌, [], IfOk, ma
 ghost use Rattle.drain_files.specs.FilePaths.{header_ending, raster_ending};
 ghost use Rattle.drain_header.specs.Text.{text_of};
 ghost use Rattle.drain_sets.specs.FileWrites.{WritesFiles};
-ghost use Rattle.drain_files.specs.Files.{map_header};
+ghost use Rattle.drain_sets.specs.Missing.{map_header};
 
 use crate::file_id::{FileId, Target, first_clash, is_input};
 use crate::file_paths::{folder_of, is_product_name, map_path, tile_name};
@@ -12,8 +12,8 @@ use crate::open_files::OpenFault;
 use crate::outputs::{look, target_at};
 use crate::whole_input::write_bytes;
 use drain_device::ByteSink;
-use drain_grid::HeightKind;
-use drain_header::{ByteOrdering, Header, header_text};
+use drain_header::{Header, header_text};
+use drain_sets::missing::map_header;
 use drain_sets::{FilePart, SetFault};
 use std::alloc::{AllocError, Global};
 
@@ -87,25 +87,6 @@ pub fn is_named_as_product(
     match (look(rt, folder)?, look(rt, products)?) {
         (Some(here), Some(there)) => Ok(FileId::of(&here).is(FileId::of(&there))),
         _ => Ok(false),
-    }
-}
-
-/// The header of a map that lies as the raster with this header does: a byte without a sign for each pixel, 255 for no
-/// data, as in directions.
-pub fn map_header(raster: &Header) -> Header
-    ensures { result ≡ map_header raster.now }
-{
-    Header {
-        rows: raster.rows,
-        cols: raster.cols,
-        bits: 8,
-        order: ByteOrdering::Least,
-        signed: false,
-        skip: 0,
-        row_bytes: raster.cols,
-        place: raster.place,
-        nodata: Some(255),
-        kind: HeightKind::Whole,
     }
 }
 

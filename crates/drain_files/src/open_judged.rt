@@ -6,19 +6,19 @@ ghost use Rattle.drain_files.specs.Files.{AreElevationsOf, AreOf, AreTilesOf};
 ghost use Rattle.drain_files.specs.OpenSpacings.{IsSpacingOf};
 
 use crate::file_paths::{dem_path, header_path, raster_path};
-use crate::map_file::map_header;
 use crate::open_files::{InputFile, OpenFault, Opener, list_at, open_tiles};
 use crate::open_spacing::{OpenSpacing, open_spacing};
 use crate::source_or_ones::SourceOrOnes;
 use drain_args::requests::{DemArgs, Elevations, ProductArgs, TileArgs};
 use drain_device::{ByteList, read_body};
 use drain_grid::{Judged, PerProduct, Product, SetProduct, Spacing};
-use drain_header::{MAX_HEADER_BYTES, header_text, kind_said, parse_header_of};
+use drain_header::{MAX_HEADER_BYTES, kind_said, parse_header_of};
 use drain_hgt::TileInput;
 use drain_progress::counted_device::CountedDevice;
 use drain_progress::progress::Progress;
 use drain_progress::progress_lines::Phase;
 use drain_progress::rows::read_rows;
+use drain_sets::missing::missing_header;
 use drain_sets::{AuditProducts, FilePart, Products, RasterInput};
 use std::alloc::Global;
 
@@ -213,9 +213,13 @@ fn missing_like<'a>(
     alloc: Global,
     there: &RasterInput<InputFile<'a>>,
 ) -> Result<RasterInput<InputFile<'a>>, OpenFault> {
-    let header = ByteList::new(missing_header(alloc, there.header.as_slice())?);
-    let body = CountedDevice::new(SourceOrOnes::missing());
-    Ok(RasterInput { header, body })
+    let Ok(text) = missing_header(alloc, there.header.as_slice()) else {
+        return Err(OpenFault::no_memory());
+    };
+    Ok(RasterInput {
+        header: ByteList::new(text),
+        body: CountedDevice::new(SourceOrOnes::missing()),
+    })
 }
 
 /// A missing con, of the heights that there are: on a raster of elevations ones with its header.
@@ -233,17 +237,6 @@ fn missing_con<'a>(
                 body: CountedDevice::new(SourceOrOnes::missing()),
             })
         }
-    }
-}
-
-/// The text of its header. One that has a fault is copied: then the raster that is there is refused, and no other.
-fn missing_header(alloc: Global, there: &[u8]) -> Result<Vec<u8>, OpenFault> {
-    match parse_header_of(there, kind_said(there)) {
-        Ok(header) => match header_text(alloc, &map_header(&header)) {
-            Ok(text) => Ok(text),
-            Err(_) => Err(OpenFault::no_memory()),
-        },
-        Err(_) => Ok(Vec::from_slice(alloc, there)?),
     }
 }
 

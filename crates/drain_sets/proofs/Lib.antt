@@ -1,2 +1,3 @@
 pub mod FileWrites
 pub mod HeaderBounds
+mod MissingHeaders

@@ -3,6 +3,7 @@
 #![tactic(auto)]
 
 pub mod follow;
+pub mod missing;
 pub mod product_headers;
 pub mod raster_input;
 pub mod set_files;

@@ -1,14 +1,14 @@
 use Rattle.drain_answer.specs.Outcomes.{IsAcceptedOutcome}
 use Rattle.drain_c.specs.Found.{outcome_found}
-use Rattle.drain_c.specs.Given.{audit_raster}
-use Rattle.drain_c.specs.GivenDem.{AreOfDem, dem_set}
+use Rattle.drain_c.specs.GivenDem.{dem_set}
+use Rattle.drain_c.specs.Judged.{AreOfJudgedDem}
 use Rattle.drain_c.proofs.Statuses.{below_two, exactly, from_two, outcome_statuses}
 use Rattle.drain_verdict.specs.Outcomes.{AreRightIn}
 use Rattle.drain_c.proofs.exported_audit_only_dem.audit_judged_dem.Goals as goal
 
 pub returns-clause-exactly : goal.returns-clause-exactly
 returns-clause-exactly c unranked below =
-    exactly outcome_found IsAcceptedOutcome outcome_statuses (AreOfDem c.args.dem.now c.args.given.now (audit_raster c.args.rasters.now)) (λ inputs. AreRightIn c.args.judged (dem_set inputs))
+    exactly outcome_found IsAcceptedOutcome outcome_statuses (AreOfJudgedDem c.args.dem.now c.args.given.now c.args.judged c.args.rasters.now) (λ inputs. AreRightIn c.args.judged (dem_set inputs))
     c.judge_dem_some-outcome.result c.show_outcome.new.answer.status c.show_outcome.ensures.status_is below (c.judge_dem_some-outcome.ensures.exactly unranked)
 
 pub returns-clause-elevation : goal.returns-clause-elevation

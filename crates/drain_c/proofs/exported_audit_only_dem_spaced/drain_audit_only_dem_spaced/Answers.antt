@@ -1,9 +1,8 @@
 use Rattle.std.proofs.Common.{◌≡◌, ◌<◌, ◌↔◌, Some, IsFalse, IsTrue}
 use Rattle.drain_answer.specs.OutcomeLines.{outcome_report_line}
 use Rattle.drain_c.specs.Found.{outcome_found}
-use Rattle.drain_c.specs.Given.{audit_raster}
-use Rattle.drain_c.specs.GivenDem.{OfDemBytes, dem_set}
-use Rattle.drain_c.specs.Judged.{judged_of}
+use Rattle.drain_c.specs.GivenDem.{dem_set}
+use Rattle.drain_c.specs.Judged.{OfJudgedDem, judged_bytes, judged_of}
 use Rattle.drain_c.specs.Shown.{Reports, ShowsMissing}
 use Rattle.drain_c.specs.Spacings.{spacing_passed}
 use Rattle.drain_c.specs.Whole.{is_dem_audit_whole, is_spacing_whole}
@@ -17,33 +16,33 @@ pub returns-in-Some-Some-2-clause-exactly : goal.returns-in-Some-Some-2-clause-e
 returns-in-Some-Some-2-clause-exactly c =
     let is : judged_of c.args.judged ≡ Some c.in-Some-Some.field-0-0 = cc in
     let passes : Some (spacing_from c.in-Some-Some.field-0-1) ≡ spacing_passed c.args.spacing.now = c.in-Some-Some.ensures' in
-    of_spacing (λ some ps cells. c.audit_judged_dem.result < 2 → OfDemBytes c.args.dem.now (record { sinks = c.args.sinks.now; spacing = cells }) (audit_raster ps)
+    of_spacing (λ some cells. c.audit_judged_dem.result < 2 → OfJudgedDem c.args.dem.now (record { sinks = c.args.sinks.now; spacing = cells }) some c.args.rasters.now
     (λ inputs. (c.audit_judged_dem.result ≡ 0) ↔ AreRightIn some (dem_set inputs)))
-    c.args.judged c.in-Some-Some.field-0-0 c.args.rasters.now c.judged_bytes-rasters.result c.args.spacing.now (spacing_from c.in-Some-Some.field-0-1)
-    is c.judged_bytes-rasters.ensures passes (c.audit_judged_dem.ensures.exactly (unranked c.args.judged c.in-Some-Some.field-0-0 is))
+    c.args.judged c.in-Some-Some.field-0-0 c.args.spacing.now (spacing_from c.in-Some-Some.field-0-1)
+    is passes (c.audit_judged_dem.ensures.exactly (unranked c.args.judged c.in-Some-Some.field-0-0 is))
 
 pub returns-in-Some-Some-2-clause-answer : goal.returns-in-Some-Some-2-clause-answer
 returns-in-Some-Some-2-clause-answer c =
     let is : judged_of c.args.judged ≡ Some c.in-Some-Some.field-0-0 = cc in
     let passes : Some (spacing_from c.in-Some-Some.field-0-1) ≡ spacing_passed c.args.spacing.now = c.in-Some-Some.ensures' in
-    of_spacing (λ some ps cells. IsTrue (is_spacing_whole c.args.spacing.now) → IsTrue (is_dem_audit_whole c.args.dem.now ps) → OfDemBytes c.args.dem.now (record { sinks = c.args.sinks.now; spacing = cells }) (audit_raster ps)
+    of_spacing (λ some cells. IsTrue (is_spacing_whole c.args.spacing.now) → IsTrue (is_dem_audit_whole c.args.dem.now (judged_bytes some c.args.rasters.now)) → OfJudgedDem c.args.dem.now (record { sinks = c.args.sinks.now; spacing = cells }) some c.args.rasters.now
     (λ inputs. Reports (IsOutcomeIn some (dem_set inputs)) outcome_found outcome_report_line c.audit_judged_dem.new.answer))
-    c.args.judged c.in-Some-Some.field-0-0 c.args.rasters.now c.judged_bytes-rasters.result c.args.spacing.now (spacing_from c.in-Some-Some.field-0-1)
-    is c.judged_bytes-rasters.ensures passes (λ _. c.audit_judged_dem.ensures.answer)
+    c.args.judged c.in-Some-Some.field-0-0 c.args.spacing.now (spacing_from c.in-Some-Some.field-0-1)
+    is passes (λ _. c.audit_judged_dem.ensures.answer)
 
 pub returns-in-Some-Some-2-clause-elevation : goal.returns-in-Some-Some-2-clause-elevation
 returns-in-Some-Some-2-clause-elevation c =
     let is : judged_of c.args.judged ≡ Some c.in-Some-Some.field-0-0 = cc in
     let passes : Some (spacing_from c.in-Some-Some.field-0-1) ≡ spacing_passed c.args.spacing.now = c.in-Some-Some.ensures' in
-    of_spacing (λ some ps cells. c.audit_judged_dem.result < 2 → OfDemBytes c.args.dem.now (record { sinks = c.args.sinks.now; spacing = cells }) (audit_raster ps)
+    of_spacing (λ some cells. c.audit_judged_dem.result < 2 → OfJudgedDem c.args.dem.now (record { sinks = c.args.sinks.now; spacing = cells }) some c.args.rasters.now
     (λ inputs. ElevationIsItsPixels inputs.dem))
-    c.args.judged c.in-Some-Some.field-0-0 c.args.rasters.now c.judged_bytes-rasters.result c.args.spacing.now (spacing_from c.in-Some-Some.field-0-1)
-    is c.judged_bytes-rasters.ensures passes c.audit_judged_dem.ensures.elevation
+    c.args.judged c.in-Some-Some.field-0-0 c.args.spacing.now (spacing_from c.in-Some-Some.field-0-1)
+    is passes c.audit_judged_dem.ensures.elevation
 
 pub returns-in-Some-Some-2-clause-missing : goal.returns-in-Some-Some-2-clause-missing
 returns-in-Some-Some-2-clause-missing c =
     let is : judged_of c.args.judged ≡ Some c.in-Some-Some.field-0-0 = cc in
     let passes : Some (spacing_from c.in-Some-Some.field-0-1) ≡ spacing_passed c.args.spacing.now = c.in-Some-Some.ensures' in
-    of_spacing (λ some ps cells. IsFalse (is_dem_audit_whole c.args.dem.now ps) → ShowsMissing c.audit_judged_dem.new.answer)
-    c.args.judged c.in-Some-Some.field-0-0 c.args.rasters.now c.judged_bytes-rasters.result c.args.spacing.now (spacing_from c.in-Some-Some.field-0-1)
-    is c.judged_bytes-rasters.ensures passes c.audit_judged_dem.ensures.missing
+    of_spacing (λ some cells. IsFalse (is_dem_audit_whole c.args.dem.now (judged_bytes some c.args.rasters.now)) → ShowsMissing c.audit_judged_dem.new.answer)
+    c.args.judged c.in-Some-Some.field-0-0 c.args.spacing.now (spacing_from c.in-Some-Some.field-0-1)
+    is passes c.audit_judged_dem.ensures.missing

@@ -1,6 +1,6 @@
 use Rattle.std.proofs.Common.{inr, refl}
 use Rattle.drain_sets.proofs.FileWrites.{no_memory, text-some}
-use Rattle.drain_files.specs.Files.{map_header}
+use Rattle.drain_sets.specs.Missing.{map_header}
 use Rattle.drain_files.proofs.map_file.write_map.Goals as goal
 
 pub returns-in_default : goal.returns-in_default
