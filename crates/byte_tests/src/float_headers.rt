@@ -21,15 +21,20 @@ struct Lines {
 
 /// A header of three rows and three columns with these lines.
 fn text(alloc: Global, lines: &Lines) -> Result<Vec<u8>, AllocError> {
+    let parts = [
+        lines.order,
+        "LAYOUT BIL\nNROWS 3\nNCOLS 3\nNBANDS 1\n",
+        lines.bits,
+        "BANDROWBYTES 24\nTOTALROWBYTES 24\nSKIPBYTES 0\n",
+        lines.kind,
+        "ULXMAP 0.000000000000000\nULYMAP 1.000000000000000\n",
+        "XDIM 0.500000000000000\nYDIM 0.500000000000000\n",
+        lines.nodata,
+    ];
     let mut text = Vec::new(alloc);
-    text.extend_from_slice(lines.order.as_bytes())?;
-    text.extend_from_slice(b"LAYOUT BIL\nNROWS 3\nNCOLS 3\nNBANDS 1\n")?;
-    text.extend_from_slice(lines.bits.as_bytes())?;
-    text.extend_from_slice(b"BANDROWBYTES 24\nTOTALROWBYTES 24\nSKIPBYTES 0\n")?;
-    text.extend_from_slice(lines.kind.as_bytes())?;
-    text.extend_from_slice(b"ULXMAP 0.000000000000000\nULYMAP 1.000000000000000\n")?;
-    text.extend_from_slice(b"XDIM 0.500000000000000\nYDIM 0.500000000000000\n")?;
-    text.extend_from_slice(lines.nodata.as_bytes())?;
+    for part in parts {
+        text.extend_from_slice(part.as_bytes())?;
+    }
     Ok(text)
 }
 

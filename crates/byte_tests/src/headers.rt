@@ -209,9 +209,10 @@ static LINE_FEEDS: [(usize, HeaderFault); 3] = [
 
 #[test]
 fn the_longest_text(rt: HostRuntime) -> Result<(), Fail> {
-    let line_feeds = [b'\n'; 65537];
+    let mut line_feeds = Vec::new(rt.alloc());
     for &(length, wanted) in &LINE_FEEDS {
-        let answer = parse_header(&line_feeds[..length]);
+        line_feeds.resize(length, b'\n')?;
+        let answer = parse_header(&line_feeds);
         same(&rt, length, answer, Err(wanted));
     }
     Ok(())
