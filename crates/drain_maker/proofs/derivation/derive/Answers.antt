@@ -28,7 +28,7 @@ returns-in-Ok-derive_on-clause-derived g c = λ inputs tell.
 pub returns-in-Ok-derive_on-clause-uses : goal.returns-in-Ok-derive_on-clause-uses
 returns-in-Ok-derive_on-clause-uses g c =
     let t = c.in-Ok.layout in
-    subst (λ side. AuditUses g.R.ByteSource.bytes_left g.R.ByteSource.counts side (c.args.tiles.now, c.args.products.now) (c.derive_on.new.inputs, c.derive_on.new.products) (Ok tt)) c.in-Ok.ensures.layout.side_is
+    subst (λ side. AuditUses {T = Unit {0}} g.R.ByteSource.bytes_left g.R.ByteSource.counts side (c.args.tiles.now, c.args.products.now) (c.derive_on.new.inputs, c.derive_on.new.products) (Ok tt)) c.in-Ok.ensures.layout.side_is
     (four_used g.R.ByteSource.bytes_left g.R.ByteSource.counts t.side (c.args.tiles.now, c.args.products.now) (c.derive_on.new.inputs, c.derive_on.new.products) None c.in-Ok-derive_on.ensures.uses)
 
 pub returns-in-Err-derive_on-clause-err : goal.returns-in-Err-derive_on-clause-err
