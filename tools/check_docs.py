@@ -48,7 +48,7 @@ DRAIN = re.compile(r"(?<![\w./-])(?:build/)?drain\s+([a-z]+|--[a-z-]+)(?![\w/:=.
 EXAMPLE = re.compile(r"^\$ (?:.*\s)?(?:build/)?drain ")
 CONTRACT = re.compile(r"\b(?:fn|ensures|struct)\s+(\w+)")
 DEFINITION = re.compile(r"\[(\w+)\]\(\.\./(crates/\w+/specs/(\w+)\.antt)\)|`(\w+)`")
-USED = re.compile(r"^(?:pub )?use Rattle\.(\w+)\.specs\.(?!declared\b)(\w+)", re.MULTILINE)
+USED = re.compile(r"^(?:pub )?use Rattle\.(\w+)\.specs\.(?!declared\b)(\w+)(?:\.\{(.*)\})?", re.MULTILINE)
 READ_FIRST = (("drain_grid", "Correct"), ("drain_verdict", "Meaning"), ("drain_verdict", "Inputs"))
 READING = re.compile(r"(\d+) files of `specs/` \(([\d,]+) lines\)")
 READING_STEP = re.compile(r"^[2-5]\. [A-Z][\w ]+ \((\d+)\)")
@@ -221,6 +221,18 @@ def definition_faults(root: pathlib.Path, lines: list[Line]) -> Iterator[tuple[i
             yield len(lines), f"no definition of {crate}"
 
 
+def modules_used(root: pathlib.Path, text: str) -> Iterator[tuple[str, str]]:
+    """The crates and modules whose names a text uses. A module `Names` only passes names on: their own count."""
+    for crate, module, names in USED.findall(text):
+        if module != "Names":
+            yield crate, module
+            continue
+        passed = (root / "crates" / crate / "specs" / "Names.antt").read_text(encoding="utf-8")
+        for home_crate, home, given in USED.findall(passed):
+            if set(names.split(", ")) & set(given.split(", ")):
+                yield home_crate, home
+
+
 def lines_reached(root: pathlib.Path, first: Iterable[tuple[str, str]]) -> dict[tuple[str, str], int]:
     """The lines of each file of specs/ that these, each a crate and a module, reach by `use`."""
     found: dict[tuple[str, str], int] = {}
@@ -231,7 +243,7 @@ def lines_reached(root: pathlib.Path, first: Iterable[tuple[str, str]]) -> dict[
         if (crate, module) not in found and file.is_file():
             text = file.read_text(encoding="utf-8")
             found[crate, module] = len(text.splitlines())
-            waiting += USED.findall(text)
+            waiting += modules_used(root, text)
     return found
 
 

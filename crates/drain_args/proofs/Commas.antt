@@ -1,20 +1,11 @@
 -- The numbers of a text between its commas: the first and those behind it, or the one of the whole text.
 --
 -- A split begins with what stands before the first comma. A number has digits alone, so no comma is in it.
-use Rattle.std.proofs.Common.{◌≡◌, ◌≢◌, ℕ, ◌&&◌, true, false, List, [], ◌∷◌, length, map, Option, Some, None, MatchOption, arith, refl, sym, ap, ◌∙◌}
-use Rattle.std.specs.Borrow.{Bor}
-use Rattle.std.specs.Prelude.{nat_lt, nat_le, if◌then◌else◌}
-use Rattle.std.specs.Str.Parse.{digits_value}
-use Rattle.std.specs.Char.{is_ascii_digit}
-use Rattle.std.specs.List.{slice_split, onto_first, list_all, position_or_len, after_first, join_with_byte}
+use Rattle.drain_args.proofs.Names.{◌≡◌, ◌≢◌, ℕ, ◌&&◌, true, false, List, [], ◌∷◌, length, map, Option, Some, None, MatchOption, arith, refl, sym, ap, ◌∙◌, Bor, nat_lt, nat_le, if◌then◌else◌, digits_value, is_ascii_digit, slice_split, onto_first, list_all, position_or_len, after_first, join_with_byte, IsSplitOnceResult, split_once_first, whole_number, both, is_comma, numbers_of}
 use Rattle.std.proofs.lemmas.List.Elements.{All-from_get_or}
 use Rattle.std.proofs.lemmas.List.Splits.{slice_split_none, slice_split_first, slice_split-cons_no, join_with_byte-slice_split}
 use Rattle.std.proofs.lemmas.List.Sums.{fails_before_first}
-use Rattle.std.proofs.lemmas.Str.Pattern.{IsSplitOnceResult, split_once_first}
 use Rattle.std.proofs.lemmas.Bool.Decides.{nat_tests}
-use Rattle.drain_text.specs.Text.{whole_number}
-use Rattle.drain_text.proofs.Digits.{both}
-use Rattle.drain_args.specs.PlaceTexts.{is_comma, numbers_of}
 
 -- a text without a comma is one part
 alone : (text : List ℕ) → position_or_len is_comma text ≡ length text → numbers_of text ≡ whole_number text ∷ []

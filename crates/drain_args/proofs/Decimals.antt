@@ -2,21 +2,11 @@
 --
 -- A decimal times a power of ten is one whole number at most, since a power of ten cancels. A lower power than that where
 -- both were divided as often as possible would make both divisible once more.
-use Rattle.std.proofs.Common.{◌≡◌, ◌≢◌, ℕ, zero, suc, ◌+◌, ◌-◌, ◌*◌, ◌/◌, ◌%◌, ◌^◌, ◌<◌, ◌≤◌, true, false, List, [], ◌∷◌, ◌++◌, length, get_or, Option, Some, None, MatchOption, arith, refl, sym, ap, subst, ◌∙◌, inl, inr}
-use Rattle.std.specs.Borrow.{Bor}
-use Rattle.std.specs.Prelude.{nat_lt}
-use Rattle.std.specs.Str.Parse.{AllDigits, digits_value}
-use Rattle.std.specs.List.{list_all}
-use Rattle.std.specs.Char.{is_ascii_digit}
+use Rattle.drain_args.proofs.Names.{◌≡◌, ◌≢◌, ℕ, zero, suc, ◌+◌, ◌-◌, ◌*◌, ◌/◌, ◌%◌, ◌^◌, ◌<◌, ◌≤◌, true, false, List, [], ◌∷◌, ◌++◌, length, get_or, Option, Some, None, MatchOption, arith, refl, sym, ap, subst, ◌∙◌, inl, inr, Bor, nat_lt, AllDigits, digits_value, list_all, is_ascii_digit, mul-div_cancel, one-le-pow, pow-suc, IsNumeralModel, digit_from_value, not_in_digits, numerals_by_value, tells_digits, IsSplitOnceResult, split_after, split_parts, both, digit_worth, last_digits, ArePartsOf, IsDecimal, IsFewDigits, IsLeastUnit, IsSpacingText, IsUnits, IsWritten, comma, point}
 use Rattle.std.proofs.lemmas.Bool.{le-leb, ltb-true, ltb-false}
 use Rattle.std.proofs.lemmas.Nat.{pow-add}
-use Rattle.std.proofs.Math.Nat.{mul-div_cancel, one-le-pow, pow-suc}
-use Rattle.std.proofs.lemmas.Str.Parse.{IsNumeralModel, digit_from_value, not_in_digits, numerals_by_value, tells_digits}
-use Rattle.std.proofs.lemmas.Str.Pattern.{IsSplitOnceResult, split_after, split_parts}
 use Rattle.drain_grid.specs.Spacing.{Distances, IsSpacing}
 use Rattle.drain_grid.specs.declared.height_kind.HeightKind.TheVariants.{Whole}
-use Rattle.drain_text.proofs.Digits.{both, digit_worth, last_digits}
-use Rattle.drain_args.specs.SpacingTexts.{ArePartsOf, IsDecimal, IsFewDigits, IsLeastUnit, IsSpacingText, IsUnits, IsWritten, comma, point}
 
 -- a factor above 0 cancels
 cancel : (a b k : ℕ) → 0 < k → a * k ≡ b * k → a ≡ b

@@ -1,2 +1,3 @@
+pub mod Names
 pub mod Commas
 pub mod Decimals

@@ -1,6 +1,6 @@
 -- Arguments of several letters behind one hyphen. Source: the syntax guidelines of POSIX, of which this program uses no group of options.
-use Rattle.std.specs.Prelude.{ℕ, Bool, ◌==◌, ◌&&◌, ◌||◌, not, nat_lt, List, length, Option, Some, None, codes, find, option_and_then, if◌then◌else◌}
-use Rattle.std.specs.List.{slice_index_or}
+use Rattle.std.specs.Prelude.{◌==◌, ◌&&◌, ◌||◌, if◌then◌else◌}
+use Rattle.drain_args.specs.Names.{ℕ, Bool, not, nat_lt, List, length, Option, Some, None, codes, find, option_and_then, slice_index_or}
 use Rattle.std.specs.Str.{bytes_eq}
 
 -- one hyphen, then another byte, and at least one more

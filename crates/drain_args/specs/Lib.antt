@@ -1,3 +1,4 @@
+pub mod Names
 pub mod Clusters
 pub mod PlaceTexts
 pub mod Requests

@@ -1,11 +1,9 @@
 -- Where a window lies, as it is written behind --box, --inner and --at. Source: this project's own, as the help of drain window
 -- says it.
-use Rattle.std.specs.Prelude.{◌≡◌, ℕ, Bool, true, ◌==◌, ◌||◌, List, [], ◌∷◌, map, Option, Some}
-use Rattle.std.specs.List.{list_all, list_any, slice_split}
-use Rattle.drain_grid.specs.declared.cell.Cell.{Cell}
+use Rattle.std.specs.Prelude.{◌≡◌, ◌==◌, ◌||◌, ◌∷◌}
+use Rattle.drain_args.specs.Names.{ℕ, Bool, true, List, [], map, Option, Some, list_all, list_any, slice_split, Cell, Place}
 use Rattle.drain_text.specs.Text.{whole_number}
 use Rattle.drain_union.specs.declared.place.InnerSides.{InnerSides}
-use Rattle.drain_union.specs.declared.place.Place.{Place}
 
 -- a comma
 abbrev pub is_comma : ℕ → Bool

@@ -1,8 +1,7 @@
 -- Which request the arguments make: by the name of the command, and by the values that were found for each argument.
-use Rattle.std.specs.Prelude.{◌≡◌, ◌⊎◌, ◌++◌, ℕ, Bool, true, false, [], map, Option, Some, None, option_map, unwrap_or, codes}
-use Rattle.std.specs.Str.Parse.{digits_value, without_leading_plus}
+use Rattle.std.specs.Prelude.{◌≡◌, ◌⊎◌, ◌++◌}
+use Rattle.drain_args.specs.Names.{ℕ, Bool, true, false, [], map, Option, Some, None, option_map, unwrap_or, codes, digits_value, without_leading_plus, first_value, matched_of, one_text, raw_values, Cell, IsOrigin}
 use Rattle.std.specs.Borrow.{Bor}
-use Rattle.clap.specs.Matches.{first_value, matched_of, one_text, raw_values}
 use Rattle.clap.specs.Walk.{Text}
 use Rattle.clap.specs.declared.parser.matches.Found.{Found}
 use Rattle.drain_grid.specs.declared.judged.Judged.{Judged}
@@ -23,8 +22,6 @@ use Rattle.drain_args.specs.declared.spacings.SpacingChoice.{SpacingChoice}
 use Rattle.drain_args.specs.declared.spacings.SpacingChoice.TheVariants.{Unit as Square, Same, Header as OfHeader, ByRow}
 use Rattle.drain_args.specs.PlaceTexts.{IsBox, IsCellText, IsInner}
 use Rattle.drain_args.specs.SpacingTexts.{IsSpacingText}
-use Rattle.drain_grid.specs.declared.cell.Cell.{Cell}
-use Rattle.drain_union.specs.Windows.{IsOrigin}
 
 -- a flag is set exactly if it is there: its value is then true
 abbrev pub IsFlag : Text → Found → Bool → Type 0

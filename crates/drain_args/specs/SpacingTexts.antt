@@ -1,7 +1,6 @@
 -- Width and height of cells, as they are written behind --spacing. Source: this project's own, as the help of drain audit says it.
-use Rattle.std.specs.Prelude.{◌≡◌, ◌⊎◌, ℕ, ◌+◌, ◌*◌, ◌^◌, ◌<◌, ◌≤◌, List, [], ◌∷◌, ◌++◌, length}
-use Rattle.std.specs.Str.Parse.{AllDigits, digits_value}
-use Rattle.drain_grid.specs.Spacing.{Distances}
+use Rattle.std.specs.Prelude.{◌≡◌, ◌⊎◌, ◌+◌, ◌*◌, ◌^◌, ◌<◌, ◌≤◌, ◌∷◌, ◌++◌}
+use Rattle.drain_args.specs.Names.{ℕ, List, [], length, AllDigits, digits_value, Distances}
 use Rattle.drain_grid.specs.declared.height_kind.HeightKind.TheVariants.{Whole}
 
 -- a comma, and a point

@@ -1,7 +1,6 @@
 //! Which elevations are named: tiles, or one raster.
 
-ghost use Rattle.std.specs.Prelude.{IfOk};
-ghost use Rattle.clap.specs.Matches.{found_of};
+ghost use Rattle.drain_args.specs.Names.{IfOk, found_of};
 ghost use Rattle.drain_args.specs.Requests.{AreElevations, AreTiles, IsDemOption};
 
 use crate::commands::CommandSpec;

@@ -1,7 +1,7 @@
 //! The values of a command's arguments, as `clap` found them: by the names of the arguments.
 
-ghost use Rattle.std.specs.Prelude.{◌≡◌, [], IfOk, map, option_map, unwrap_or};
-ghost use Rattle.clap.specs.Matches.{first_value, found_of, matched_of, raw_values};
+ghost use Rattle.std.specs.Prelude.{◌≡◌};
+ghost use Rattle.drain_args.specs.Names.{[], IfOk, map, option_map, unwrap_or, first_value, found_of, matched_of, raw_values};
 ghost use Rattle.drain_args.specs.Requests.{IsFlag, IsSideOption};
 
 use crate::commands::{DEFAULT_SIDE, program};

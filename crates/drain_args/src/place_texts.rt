@@ -1,11 +1,9 @@
 //! Where a window lies, from the texts of `--box`, `--inner` and `--at`.
 
-ghost use Rattle.std.specs.Prelude.{◌≡◌, ◌≢◌, ◌∷◌, [], ℕ, MatchOption, Option, Some, List, false};
-ghost use Rattle.std.specs.List.{list_all};
+ghost use Rattle.std.specs.Prelude.{◌≡◌, ◌≢◌, ◌∷◌};
+ghost use Rattle.drain_args.specs.Names.{[], ℕ, MatchOption, Option, Some, List, false, list_all, IsOrigin, Place};
 ghost use Rattle.drain_grid.specs.Extent.{IsExtent};
 ghost use Rattle.drain_grid.specs.declared.cell.Cell.{Cell as CellOf};
-ghost use Rattle.drain_union.specs.Windows.{IsOrigin};
-ghost use Rattle.drain_union.specs.declared.place.Place.{Place};
 ghost use Rattle.drain_args.specs.PlaceTexts.{IsBox, IsCellText, IsInner, has, is_side_letter, numbers_of};
 
 use drain_grid::{Cell, Shape};

@@ -1,7 +1,7 @@
 //! The command-line arguments: which command is required.
 
-ghost use Rattle.std.specs.Prelude.{◌≡◌, ◌++◌, IfOk, IfSome, codes};
-ghost use Rattle.clap.specs.Matches.{found_of};
+ghost use Rattle.std.specs.Prelude.{◌≡◌, ◌++◌};
+ghost use Rattle.drain_args.specs.Names.{IfOk, IfSome, codes, found_of};
 ghost use Rattle.drain_args.specs.Requests.{IsFlag, IsListOption, IsMap, IsMergeArgs, IsProductArgs, IsRequestOf, IsStart, map_ending};
 
 use crate::clusters::first_cluster;

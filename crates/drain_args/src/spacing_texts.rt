@@ -3,11 +3,9 @@
 //! A decimal is read in units of 10^-18, which hold any that it may be. Then both are divided by ten while both stay
 //! whole: what is left are the whole numbers of the least power of ten.
 
-ghost use Rattle.std.specs.Prelude.{◌≡◌, ◌+◌, ◌*◌, ◌^◌, ◌-◌, ◌<◌, ℕ, MatchOption, length};
+ghost use Rattle.std.specs.Prelude.{◌≡◌, ◌+◌, ◌*◌, ◌^◌, ◌-◌, ◌<◌};
+ghost use Rattle.drain_args.specs.Names.{ℕ, MatchOption, length, list_all, digits_value, Distances, IsSpacing};
 ghost use Rattle.std.specs.Char.{is_ascii_digit};
-ghost use Rattle.std.specs.List.{list_all};
-ghost use Rattle.std.specs.Str.Parse.{digits_value};
-ghost use Rattle.drain_grid.specs.Spacing.{Distances, IsSpacing};
 ghost use Rattle.drain_grid.specs.declared.height_kind.HeightKind.{HeightKind};
 ghost use Rattle.drain_args.specs.SpacingTexts.{ArePartsOf, IsDecimal, IsFewDigits, IsLeastUnit, IsSpacingText, IsUnits};
 

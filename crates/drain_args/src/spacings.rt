@@ -1,7 +1,6 @@
 //! How far apart cells are, as the command line says it: alike everywhere, by the header, or row by row.
 
-ghost use Rattle.std.specs.Prelude.{IfOk};
-ghost use Rattle.clap.specs.Matches.{found_of};
+ghost use Rattle.drain_args.specs.Names.{IfOk, found_of};
 ghost use Rattle.drain_args.specs.Requests.{IsSpacingChoice, IsSpacingOption};
 
 use crate::given::option_given;

@@ -1,11 +1,7 @@
 -- The bits of places in words, after some are set.
-use Rattle.std.proofs.Common.{◌≡◌, ◌≢◌, ◌<◌, ◌≤◌, ◌+◌, ◌-◌, ◌*◌, ◌^◌, ◌/◌, ◌%◌, ◌↔◌, ℕ, cond, List, ◌++◌, length, max, take, replicate, nat_eq, get_or, slice_set, bit_and, bit_or, IsTrue, inl, inr, zero, sym, ◌∙◌, ap, subst, suc, refl, arith, rules, w16, w64}
+use Rattle.drain_basin.proofs.Names.{◌≡◌, ◌≢◌, ◌<◌, ◌≤◌, ◌+◌, ◌-◌, ◌*◌, ◌^◌, ◌/◌, ◌%◌, ◌↔◌, ℕ, cond, List, ◌++◌, length, max, take, replicate, nat_eq, get_or, slice_set, bit_and, bit_or, IsTrue, inl, inr, zero, sym, ◌∙◌, ap, subst, suc, refl, arith, rules, w16, w64, bit_at, Width, cases_Bool, cases_eq, cases_lt, eqb-true, eq-eqb, cond-true, false≢true, bit_at-zero, bit_at_above, bit_at_cat_low, bit_at_cat_high, bit_at_or, bit_at_set_same, bit_at_set_other, shr_and_one, low_bit, high_bit, word}
 use mir.Val.{bits}
-use Rattle.std.specs.Int.{bit_at, Width}
-use Rattle.std.proofs.lemmas.Bool.{cases_Bool, cases_eq, cases_lt, eqb-true, eq-eqb, cond-true, false≢true}
 use Rattle.std.proofs.lemmas.List.{get_or-append_right, get_or-replicate, length-replicate, get_or-set_other, get_or-set_same, get_or_append_left, get_or_past, take-append-le, take_all}
-use Rattle.std.proofs.lemmas.Nat.Bits.{bit_at-zero, bit_at_above, bit_at_cat_low, bit_at_cat_high, bit_at_or, bit_at_set_same, bit_at_set_other, shr_and_one}
-use Rattle.drain_basin.specs.Admitted.{low_bit, high_bit, word}
 
 -- the test of one bit
 pub clear_test : (n i : ℕ) → IsTrue (nat_eq (bit_and (n / 2 ^ i) 1) 0) ↔ (bit_at n i ≡ 0)

@@ -1,10 +1,6 @@
 -- What is admitted after a place's bit is set.
-use Rattle.std.proofs.Common.{◌≡◌, ◌≢◌, ◌<◌, ◌/◌, ◌%◌, ℕ, ℤ, Bool, cond, false, true, List, max, nat_eq, get_or, FitsSigned, IsTrue, ◌↔◌, ◌⊎◌, inl, inr, sym, ◌∙◌, ap, subst, refl, arith, w64, of_z, to_z}
-use Rattle.std.specs.Int.{cast_signed, cast_unsigned}
-use Rattle.std.proofs.lemmas.Bool.{cases_Bool, cond-true, eqb-true, eq-eqb, false≢true}
+use Rattle.drain_basin.proofs.Names.{◌≡◌, ◌≢◌, ◌<◌, ◌/◌, ◌%◌, ℕ, ℤ, Bool, cond, false, true, List, max, nat_eq, get_or, FitsSigned, IsTrue, ◌↔◌, ◌⊎◌, inl, inr, sym, ◌∙◌, ap, subst, refl, arith, w64, of_z, to_z, cast_signed, cast_unsigned, cases_Bool, cond-true, eqb-true, eq-eqb, false≢true, bit_at-lt, high_bit, low_bit, set_bit, word, IsAdmitted, LabelSet}
 use Rattle.std.proofs.lemmas.Int.{to_z-of_z}
-use Rattle.std.proofs.lemmas.Nat.Bits.{bit_at-lt}
-use Rattle.drain_basin.specs.Admitted.{high_bit, low_bit, set_bit, word, IsAdmitted, LabelSet}
 
 -- new has the bits of old, and that of one more place
 abbrev pub Adds : LabelSet → LabelSet → ℕ → Type 0

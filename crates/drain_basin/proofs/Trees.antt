@@ -1,12 +1,10 @@
 -- The words of blocks in a tree.
-use Rattle.std.proofs.Common.{◌∙◌, Option, None, Some, IsSome, false, refl, sym, ◌≡◌, ◌<◌, ◌≤◌, ◌/◌, ℕ, cond, List, nat_eq, unwrap_or, arith}
+use Rattle.drain_basin.proofs.Names.{◌∙◌, Option, None, Some, IsSome, false, refl, sym, ◌≡◌, ◌<◌, ◌≤◌, ◌/◌, ℕ, cond, List, nat_eq, unwrap_or, arith, common_steps, word}
 use Rattle.std.specs.BTreeMap.{is_at}
 use Rattle.std.specs.Map.{lookup}
 use Rattle.std.specs.Ordering.{nat_cmp, is_gt}
 use Rattle.std.proofs.lemmas.Bool.Decides.{nat_tests}
-use Rattle.std.proofs.lemmas.Grind.{common_steps}
 use Rattle.std.proofs.lemmas.Map.Keys.{le_from_not_gt}
-use Rattle.drain_basin.specs.Admitted.{word}
 
 -- the order of numbers finds the key that is equal
 same_test : (k q : ℕ) → is_at (nat_cmp k) q ≡ nat_eq k q

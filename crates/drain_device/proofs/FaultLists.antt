@@ -1,13 +1,7 @@
 -- How parts of a read add up, in faults and patience.
-use Rattle.std.proofs.Common.{◌≡◌, ℕ, ◌+◌, ◌-◌, Ok, IsErrOf, arith, inl, inr, ◌↔◌, zero, suc, ◌⊎◌, List, Option, Some, None, [], ◌∷◌, ◌++◌, refl}
-use Rattle.drain_device.specs.declared.counts.FaultCounts.{FaultCounts}
-use Rattle.drain_device.specs.declared.row_source.ReadFault.{ReadFault}
-use Rattle.drain_device.specs.declared.row_source.ReadFault.TheVariants.{ReadFailed}
-use Rattle.drain_device.specs.Failing.{PartFails, ReadFails, GivesUp, full_patience}
+use Rattle.drain_device.proofs.Names.{◌≡◌, ℕ, ◌+◌, ◌-◌, Ok, IsErrOf, arith, inl, inr, ◌↔◌, zero, suc, ◌⊎◌, List, Option, Some, None, [], ◌∷◌, ◌++◌, refl, FaultCounts, ReadFault, ReadFailed, PartFails, ReadFails, GivesUp, full_patience, Answered, TakesAtMost}
 use Rattle.drain_device.proofs.PartLemmas.{bears, gives_up-left, gives_up-full}
 use Rattle.std.specs.List.{Any}
-use Rattle.drain_device.specs.Counts.{Answered}
-use Rattle.drain_device.specs.Reads.{TakesAtMost}
 use Rattle.drain_device.specs.FaultLists.{Faults, AnsweredEach, SomeReadFails}
 
 -- a part that made no call

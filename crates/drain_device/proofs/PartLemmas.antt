@@ -1,19 +1,8 @@
 -- A row that comes is the next one: by induction on the rows that came.
-use Rattle.std.proofs.Common.{◌≡◌, zero, suc, ◌+◌, arith, refl, sym, ap, subst, ◌∙◌, ℕ, ◌≤◌, List, ◌++◌, length, take, length-append, ◌-◌, ◌<◌, inl, inr, [], Option, Some, None, Ok, ◌≢◌, ℤ, Err}
-use Rattle.drain_device.specs.RowSteps.{Coming, IsNthRow, after_rows, EndsWithin, PartComes, RowComes}
-use Rattle.drain_device.specs.RowSteps.Coming.{Next, End, Wrong}
+use Rattle.drain_device.proofs.Names.{◌≡◌, zero, suc, ◌+◌, arith, refl, sym, ap, subst, ◌∙◌, ℕ, ◌≤◌, List, ◌++◌, length, take, length-append, ◌-◌, ◌<◌, inl, inr, [], Option, Some, None, Ok, ◌≢◌, ℤ, Err, Coming, IsNthRow, after_rows, EndsWithin, PartComes, RowComes, Next, End, Wrong, take-append-le, length-take-le, take-append-add, GivesUp, GivesUpWriting, Appends, Keeps, Consumes, stalls_after, counted, Answered, FaultCounts, Consumes-trans, TakesAtMost, ReadFault, WrongLength, ReadFailed, OutOfMemory, AlreadyFailed}
 use Rattle.drain_device.specs.Laws.{RowsComeInOrder}
-use Rattle.std.proofs.lemmas.List.{take-append-le, length-take-le, append-nil}
-use Rattle.std.proofs.Math.Seq.{take-append-add}
+use Rattle.std.proofs.lemmas.List.{append-nil}
 use borrow.Rule.Slice.PartMut.{put_mid, post_of}
-use Rattle.drain_device.specs.Failing.{GivesUp, GivesUpWriting}
-use Rattle.std.specs.Io.KnownBytes.{Appends, Keeps, Consumes}
-use Rattle.drain_device.specs.Counts.{stalls_after, counted, Answered}
-use Rattle.drain_device.specs.declared.counts.FaultCounts.{FaultCounts}
-use Rattle.std.proofs.KnownBytes.{Consumes-trans}
-use Rattle.drain_device.specs.Reads.{TakesAtMost}
-use Rattle.drain_device.specs.declared.row_source.ReadFault.{ReadFault}
-use Rattle.drain_device.specs.declared.row_source.ReadFault.TheVariants.{WrongLength, ReadFailed, OutOfMemory, AlreadyFailed}
 
 pub rows_come_in_order : RowsComeInOrder
 rows_come_in_order start now left zero row is is_next =

@@ -1,13 +1,8 @@
 -- How a row that was read is one step of what is to come.
-use Rattle.std.proofs.Common.{◌≡◌, ℕ, ◌+◌, ◌≤◌, ℤ, List, [], ◌++◌, length, Option, Some, None, Result, Ok, Err, arith, refl, sym, subst, ap, ◌∙◌, append-nil}
-use Rattle.std.specs.Io.KnownBytes.{Consumes, IsAtEnd}
-use Rattle.drain_device.specs.Reads.{TakesAtMost}
+use Rattle.drain_device.proofs.Names.{◌≡◌, ℕ, ◌+◌, ◌≤◌, ℤ, List, [], ◌++◌, length, Option, Some, None, Result, Ok, Err, arith, refl, sym, subst, ap, ◌∙◌, Consumes, IsAtEnd, TakesAtMost, ReadFault, WrongLength, ReadFailed, OutOfMemory, AlreadyFailed, RowComes, EndComes, Coming, Gives, Steps, ReadsWithin, Next, Wrong}
+use Rattle.std.proofs.Common.{append-nil}
 use Rattle.drain_device.specs.declared.row_source.RowStep.{RowStep}
 use Rattle.drain_device.specs.declared.row_source.RowStep.TheVariants.{Row}
-use Rattle.drain_device.specs.declared.row_source.ReadFault.{ReadFault}
-use Rattle.drain_device.specs.declared.row_source.ReadFault.TheVariants.{WrongLength, ReadFailed, OutOfMemory, AlreadyFailed}
-use Rattle.drain_device.specs.RowSteps.{RowComes, EndComes, Coming, Gives, Steps, ReadsWithin}
-use Rattle.drain_device.specs.RowSteps.Coming.{Next, Wrong}
 
 -- a step on the bytes taken, whatever follows them
 gives-part : (before after : List ℕ → Coming) (old new : Option (List ℕ)) (answer : Result RowStep ReadFault) (out : List ℤ) (bytes : List ℕ) →

@@ -1,6 +1,6 @@
 -- What a read of many calls took, and what it left.
-use Rattle.std.specs.Prelude.{◌≡◌, ℕ, ◌<◌, ◌≤◌, List, length, take, drop, Option, Some, None, Result, Ok, Err}
-use Rattle.std.specs.Io.KnownBytes.{Consumes, IsAtEnd}
+use Rattle.std.specs.Prelude.{◌≡◌, ◌<◌, ◌≤◌}
+use Rattle.drain_device.specs.Names.{ℕ, List, length, take, drop, Option, Some, None, Result, Ok, Err, Consumes, IsAtEnd}
 
 -- at most n bytes were taken
 abbrev pub TakesAtMost : ℕ → Option (List ℕ) → Option (List ℕ) → Type 0

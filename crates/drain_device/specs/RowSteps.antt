@@ -1,6 +1,6 @@
 -- The rows that are still to come, and how they end.
-use Rattle.std.specs.Prelude.{◌≡◌, ℕ, zero, suc, ◌+◌, ℤ, Bool, true, false, List, [], ◌<◌, length, Option, Result, Ok, Err, ◌≤◌, Some, None}
-use Rattle.std.specs.Io.KnownBytes.{Consumes, IsAtEnd}
+use Rattle.std.specs.Prelude.{◌≡◌, ◌+◌, ◌<◌, ◌≤◌}
+use Rattle.drain_device.specs.Names.{ℕ, zero, suc, ℤ, Bool, true, false, List, [], length, Option, Result, Ok, Err, Some, None, Consumes, IsAtEnd}
 use Rattle.drain_device.specs.Reads.{TakesAtMost}
 use Rattle.drain_device.specs.declared.row_source.ReadFault.{ReadFault}
 use Rattle.drain_device.specs.declared.row_source.ReadFault.TheVariants.{WrongLength, ReadFailed, OutOfMemory, AlreadyFailed}

@@ -1,7 +1,6 @@
 //! Whether a sink can be written to, before there is anything to write.
 
-ghost use Rattle.std.specs.Prelude.{IsErr};
-ghost use Rattle.std.specs.Io.KnownBytes.{Keeps};
+ghost use Rattle.drain_device.specs.Names.{IsErr, Keeps};
 ghost use Rattle.drain_device.specs.Failing.{WriteFails};
 
 use crate::fault::DeviceFault;

@@ -3,8 +3,8 @@
 //! Neither way requests a byte after the limit, or calls the device once the limit is reached. A read fails exactly
 //! where the device failed, or was interrupted for the 1,000th time in the call.
 
-ghost use Rattle.std.specs.Io.KnownBytes.{Consumes, IsAtEnd};
-ghost use Rattle.std.specs.Prelude.{◌≡◌, ◌<◌, ◌≤◌, IfOk, OnErr, IsErrOf, vec_len, vec_capacity};
+ghost use Rattle.std.specs.Prelude.{◌≡◌, ◌<◌, ◌≤◌};
+ghost use Rattle.drain_device.specs.Names.{Consumes, IsAtEnd, IfOk, OnErr, IsErrOf, vec_len, vec_capacity};
 ghost use Rattle.drain_device.specs.Failing.{ReadFails};
 ghost use Rattle.drain_device.specs.Reads.{ReadsUpTo, TakesAtMost};
 

@@ -1,7 +1,7 @@
 //! A writer of std as a device: a file, a pipe, standard output. It adds counts of faults and stalls to std's `Write`.
 
 ghost use Rattle.std.specs.Prelude.{◌≡◌};
-ghost use Rattle.std.specs.Io.KnownBytes.{Keeps};
+ghost use Rattle.drain_device.specs.Names.{Keeps};
 ghost use Rattle.drain_device.specs.Counts.{no_faults, counts_after};
 
 use crate::counts::FaultCounts;

@@ -1,10 +1,6 @@
 -- What holds of each rule holds of all.
-use Rattle.std.proofs.Common.{◌≡◌, Bool, arith}
-use Rattle.drain_grid.specs.declared.rule.Rule.{Rule}
-use Rattle.drain_grid.specs.declared.rule.Rule.TheVariants.{VoidCell, Missing, BadCode, BelowGround, OpenRaised, NoSpill, SpillHeight, SpillRank, NotLeast, Slope, OutletCode, FlatStep, Accumulation, Label, SharedLabel}
-use Rattle.drain_grid.specs.Rule.{IsPatchRule}
+use Rattle.drain_faults.proofs.Names.{◌≡◌, Bool, arith, Rule, VoidCell, Missing, BadCode, BelowGround, OpenRaised, NoSpill, SpillHeight, SpillRank, NotLeast, Slope, OutletCode, FlatStep, Accumulation, Label, SharedLabel, IsPatchRule, TellsFault, of_rule}
 use Rattle.drain_faults.specs.declared.per_rule.PerRule.{PerRule}
-use Rattle.drain_faults.specs.CellFaults.{TellsFault, of_rule}
 
 pub by_rule : (P : Rule → Type 0) → P VoidCell → P Missing → P BadCode → P BelowGround → P OpenRaised → P NoSpill → P SpillHeight → P SpillRank →
     P NotLeast → P Slope → P OutletCode → P FlatStep → P Accumulation → P Label → P SharedLabel → (r : Rule) → P r

@@ -1,14 +1,6 @@
 -- The cells before a place, as the place goes on in row order.
-use Rattle.std.proofs.Common.{◌≡◌, ℕ, zero, suc, ◌+◌, ◌*◌, ◌<◌, ◌≤◌, ◌^◌, [], ◌∷◌, ◌++◌, length, sym, ◌∙◌, ap, subst, arith, add-one, append_assoc, length-append}
-use Rattle.std.proofs.lemmas.List.{append-nil}
-use Rattle.std.proofs.lemmas.List.FromFn.{length-map-range_with_len, map-range_with_len_more}
+use Rattle.drain_faults.proofs.Names.{◌≡◌, ℕ, zero, suc, ◌+◌, ◌*◌, ◌<◌, ◌≤◌, ◌^◌, [], ◌∷◌, ◌++◌, length, sym, ◌∙◌, ap, subst, arith, add-one, append_assoc, length-append, append-nil, length-map-range_with_len, map-range_with_len_more, row_cells, Grid, cells_above, place, cells_above-more, cells_before}
 use Rattle.std.proofs.Math.Nat.{mul-le-mul_right}
-use Rattle.drain_grid.specs.Extent.{row_cells}
-use Rattle.drain_grid.specs.Grid.{Grid}
-use Rattle.drain_rules.specs.Walks.{cells_above}
-use Rattle.drain_rules.specs.Rows.{place}
-use Rattle.drain_rules.proofs.GridLemmas.{cells_above-more}
-use Rattle.drain_faults.specs.FaultWalks.{cells_before}
 
 -- one cell more
 pub cells_before-more : (g : Grid) (row col : ℕ) → cells_before g row (col + 1) ≡ cells_before g row col ++ place row col ∷ []

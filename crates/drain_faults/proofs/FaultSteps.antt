@@ -1,33 +1,12 @@
 -- What was found, with one cell more or a run of sound cells; and from row to row.
-use Rattle.std.proofs.Common.{◌≡◌, ◌∙◌, ℕ, ◌+◌, ◌<◌, ◌≤◌, int_lt, unwrap_or, pos, refl, sym, ap, subst, arith, ◌^◌, IsTrue, List, [], ◌∷◌, ◌++◌, length, inl, inr}
+use Rattle.drain_faults.proofs.Names.{◌≡◌, ◌∙◌, ℕ, ◌+◌, ◌<◌, ◌≤◌, int_lt, unwrap_or, pos, refl, sym, ap, subst, arith, ◌^◌, IsTrue, List, [], ◌∷◌, ◌++◌, length, inl, inr, Patch, Grid, Products, IsInside, patch_at, values_at, Profile, Extent, IsRightVoid, CountsAbove, cells_above, AreRowPatches, IsAtMost, CountsAlong, place, CountsAlong-more, along_run, IsAdmitted, Cell, Rules, HoldsAt, has_bas, tried, IsKept, IsOutletByCode, FaultTally, RuleFaults, IsNotedAt, of_rule, HoldsIfTried, AreFaultsOf, IsFound, IsFoundAbove, IsFoundBefore, IsNewOutletAt, cells_before}
 use Rattle.std.specs.Ordering.{int_eq}
-use Rattle.drain_grid.specs.declared.patch.Patch.{Patch}
-use Rattle.drain_grid.specs.Grid.{Grid, Products, IsInside, patch_at, values_at}
-use Rattle.drain_grid.specs.PatchRules.{Profile}
-use Rattle.drain_grid.specs.Extent.{Extent}
 use Rattle.drain_rules.specs.declared.walk.Tally.{Tally}
 use Rattle.drain_grid.specs.declared.verdict.Counts.{Counts}
-use Rattle.drain_rules.specs.Fill.{IsRightVoid}
-use Rattle.drain_rules.specs.Walks.{CountsAbove, cells_above}
-use Rattle.drain_rules.specs.Rows.{AreRowPatches, IsAtMost, CountsAlong, place}
 use Rattle.drain_rules.specs.Verdicts.{counts_of}
-use Rattle.drain_rules.proofs.RowLemmas.{CountsAlong-more, along_run}
 use Rattle.drain_rules.proofs.RightVoids.{void_counts, void_is_no_data}
-use Rattle.drain_basin.specs.Admitted.{IsAdmitted}
-use Rattle.drain_grid.specs.declared.cell.Cell.{Cell}
-use Rattle.drain_grid.specs.declared.judged.Rules.{Rules}
-use Rattle.drain_grid.specs.GridRules.{HoldsAt}
-use Rattle.drain_grid.specs.Judged.{has_bas}
-use Rattle.drain_grid.specs.RulesAbout.{tried}
-use Rattle.drain_kernel.specs.Columns.{IsKept}
-use Rattle.drain_rules.specs.Labels.{IsOutletByCode}
 use Rattle.drain_rules.proofs.LabelSteps.{AreLabelsBefore-more, AreLabelsBefore-row}
 use Rattle.drain_rules.proofs.PassedCells.{inside-row}
-use Rattle.drain_faults.specs.declared.row_faults.FaultTally.{FaultTally}
-use Rattle.drain_faults.specs.declared.patch_faults.RuleFaults.{RuleFaults}
-use Rattle.drain_faults.specs.CellFaults.{IsNotedAt, of_rule, HoldsIfTried}
-use Rattle.drain_faults.specs.Faults.{AreFaultsOf}
-use Rattle.drain_faults.specs.FaultWalks.{IsFound, IsFoundAbove, IsFoundBefore, IsNewOutletAt, cells_before}
 use Rattle.drain_faults.specs.Noted.{IsNoted}
 use Rattle.drain_faults.proofs.CellsBefore.{cells_before-all, cells_before-few, cells_before-more, cells_before-none}
 use Rattle.drain_faults.proofs.TriedRules.{patch_noted, patch_past, IsSound, no_label, of_kept, of_void, sound_holds, least_at, shared_at, tried_at}

@@ -1,3 +1,4 @@
+pub mod Names
 pub mod ByRule
 pub mod CellsBefore
 pub mod FaultSteps

@@ -1,24 +1,8 @@
 -- The numbers of a map, with one cell more or a run of cells of one number; and from row to row.
-use Rattle.std.proofs.Common.{◌≡◌, ℕ, zero, suc, ◌+◌, ◌-◌, ◌<◌, ◌≤◌, is_some, List, [], ◌∷◌, ◌++◌, Option, Some, None, sym, ◌∙◌, ap, subst, arith, append_assoc}
-use Rattle.std.specs.Prelude.{replicate, ◌↔◌, IsSome}
-use Rattle.std.proofs.lemmas.List.{append-nil}
-use Rattle.drain_grid.specs.declared.cell.Cell.{Cell}
-use Rattle.drain_grid.specs.declared.judged.Rules.{Rules}
-use Rattle.drain_grid.specs.declared.patch.Patch.{Patch}
-use Rattle.drain_grid.specs.declared.rule.Rule.{Rule}
-use Rattle.drain_grid.specs.Grid.{Grid, Products, patch_at}
-use Rattle.drain_grid.specs.Rule.{IsAnyRule, IsLeastFault}
-use Rattle.drain_grid.specs.RulesAbout.{tried}
-use Rattle.drain_kernel.specs.Columns.{IsKept}
-use Rattle.drain_rules.specs.Fill.{IsRightVoid}
-use Rattle.drain_rules.specs.Walks.{cells_above}
-use Rattle.drain_rules.specs.Rows.{AreRowPatches, place}
+use Rattle.drain_faults.proofs.Names.{◌≡◌, ℕ, zero, suc, ◌+◌, ◌-◌, ◌<◌, ◌≤◌, is_some, List, [], ◌∷◌, ◌++◌, Option, Some, None, sym, ◌∙◌, ap, subst, arith, append_assoc, replicate, append-nil, Cell, Rules, Patch, Rule, Grid, Products, patch_at, IsAnyRule, IsLeastFault, tried, IsKept, IsRightVoid, cells_above, AreRowPatches, place, FaultTally, AreDrawn, AreMapPixels, IsMapOfCells, IsMapPixel, fault_pixel, IsFoundBefore, cells_before, HoldsIfTried}
+use Rattle.std.specs.Prelude.{◌↔◌, IsSome}
 use Rattle.drain_faults.specs.declared.fault_map.FaultMap.{FaultMap}
 use Rattle.drain_faults.specs.declared.fault_map.TheConstants.{SOUND, SOUND_VOID}
-use Rattle.drain_faults.specs.declared.row_faults.FaultTally.{FaultTally}
-use Rattle.drain_faults.specs.FaultMaps.{AreDrawn, AreMapPixels, IsMapOfCells, IsMapPixel, fault_pixel}
-use Rattle.drain_faults.specs.FaultWalks.{IsFoundBefore, cells_before}
-use Rattle.drain_faults.specs.CellFaults.{HoldsIfTried}
 use Rattle.drain_faults.proofs.CellsBefore.{cells_before-all, cells_before-more, cells_before-none}
 use Rattle.drain_faults.proofs.FaultSteps.{inside_row}
 use Rattle.drain_faults.proofs.TriedRules.{of_kept, of_void, sound_holds, least_at}

@@ -1,9 +1,5 @@
 -- One cell more of a list: how many of its cells lack a fact, and which of them first. By induction over the list.
-use Rattle.std.proofs.Common.{◌≡◌, ℕ, ◌+◌, ◌<◌, ◌≤◌, ◌^◌, List, [], ◌∷◌, ◌++◌, length, Option, Some, None, unwrap_or, inl, inr, refl, sym, subst, arith}
-use Rattle.drain_grid.specs.declared.cell.Cell.{Cell}
-use Rattle.drain_faults.specs.declared.patch_faults.RuleFaults.{RuleFaults}
-use Rattle.drain_faults.specs.CellFaults.{IsNotedAt, IsWithFault}
-use Rattle.drain_faults.specs.Faults.{AreCellsWithout, IsFirstWithout, IsNumberWithout}
+use Rattle.drain_faults.proofs.Names.{◌≡◌, ℕ, ◌+◌, ◌<◌, ◌≤◌, ◌^◌, List, [], ◌∷◌, ◌++◌, length, Option, Some, None, unwrap_or, inl, inr, refl, sym, subst, arith, Cell, RuleFaults, IsNotedAt, IsWithFault, AreCellsWithout, IsFirstWithout, IsNumberWithout}
 
 module _ (P : Cell → Type 0) where
   -- the numbers of two lists add up

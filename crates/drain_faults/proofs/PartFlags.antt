@@ -1,16 +1,6 @@
 -- Which of the rules about some rasters fail at a patch: as of all rasters, if the raster that they judge is one of them.
-use Rattle.std.proofs.Common.{◌≡◌, ◌↔◌, ◌∙◌, ◌&&◌, Bool, true, false, IsTrue, Some, ap, sym, subst, arith}
-use Rattle.std.proofs.lemmas.Bool.{false≢true}
-use Rattle.drain_grid.specs.declared.judged.Judged.{Judged}
-use Rattle.drain_grid.specs.declared.patch.Patch.{Patch}
-use Rattle.drain_grid.specs.declared.rule.Rule.{Rule}
-use Rattle.drain_grid.specs.declared.rule.Rule.TheVariants.{VoidCell, Missing}
-use Rattle.drain_grid.specs.Judged.{IfJudged}
-use Rattle.drain_grid.specs.Rule.{IsLeastFault, IsPatchRule}
-use Rattle.drain_grid.specs.RulesAbout.{part_rules}
-use Rattle.drain_grid.specs.Values.{NoDataNumbers}
-use Rattle.drain_grid.proofs.AllRules.{same_rule}
-use Rattle.drain_faults.specs.CellFaults.{TellsFault}
+use Rattle.drain_faults.proofs.Names.{◌≡◌, ◌∙◌, ◌&&◌, Bool, true, false, IsTrue, Some, ap, sym, subst, arith, false≢true, Judged, Patch, Rule, VoidCell, Missing, IfJudged, IsLeastFault, IsPatchRule, part_rules, NoDataNumbers, same_rule, TellsFault}
+use Rattle.std.proofs.Common.{◌↔◌}
 use Rattle.drain_faults.proofs.PatchFlags.{tells_least}
 
 -- a flag of a rule, and one of it if its raster is judged

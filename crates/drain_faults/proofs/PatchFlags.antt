@@ -1,20 +1,7 @@
 -- Which of the rules about all rasters fail at a patch: which faults hide others, and that those on spill parents never fail.
-use Rattle.std.proofs.Common.{◌≡◌, ◌↔◌, ◌<◌, Bool, true, false, not, IsTrue, Option, Some, None, inl, inr, refl, sym, ap, subst, arith, ◌∙◌}
-use Rattle.std.proofs.lemmas.Bool.{false≢true, true≢false, cases_lt}
-use Rattle.drain_grid.specs.declared.cell.Cell.{Cell}
-use Rattle.drain_grid.specs.declared.rule.Rule.{Rule}
-use Rattle.drain_grid.specs.Rule.{rule_number, IsLeastFault, IsFillRule, IsPresenceRule, IsSlopeRule, IsOnly}
-use Rattle.drain_grid.proofs.AllRules.{same_rule}
-use Rattle.drain_faults.specs.declared.patch_faults.RuleFaults.{RuleFaults}
-use Rattle.drain_faults.specs.CellFaults.{IsNotedAt, IsWith, TellsFault}
-use Rattle.drain_grid.specs.declared.patch.Patch.{Patch}
-use Rattle.drain_grid.specs.declared.rule.Rule.TheVariants.{VoidCell, Missing, BadCode, NoSpill, SpillHeight, SpillRank, Slope, OutletCode, Accumulation, Label, FlatStep}
-use Rattle.drain_grid.specs.Values.{NoDataNumbers}
-use Rattle.drain_grid.specs.PatchRules.{BadCodeWithoutSpill, flow_rules, surface_rules}
-use Rattle.drain_grid.specs.declared.judged.Rules.{Rules}
-use Rattle.drain_grid.specs.Judged.{has_rnk}
+use Rattle.drain_faults.proofs.Names.{◌≡◌, ◌<◌, Bool, true, false, not, IsTrue, Option, Some, None, inl, inr, refl, sym, ap, subst, arith, ◌∙◌, false≢true, true≢false, cases_lt, Cell, Rule, rule_number, IsLeastFault, IsFillRule, IsPresenceRule, IsSlopeRule, IsOnly, same_rule, RuleFaults, IsNotedAt, IsWith, TellsFault, Patch, VoidCell, Missing, BadCode, NoSpill, SpillHeight, SpillRank, Slope, OutletCode, Accumulation, Label, FlatStep, NoDataNumbers, BadCodeWithoutSpill, flow_rules, surface_rules, Rules, has_rnk, flow_with, surface_with, whole}
+use Rattle.std.proofs.Common.{◌↔◌}
 use Rattle.drain_kernel.specs.Rules.{rules_with}
-use Rattle.drain_rules.proofs.Faults.{flow_with, surface_with, whole}
 
 -- What tests and least faults say of whether a rule fails.
 

@@ -1,25 +1,12 @@
 -- The rules VoidCell and Missing hold exactly where each judged product keeps its part of them.
-use Rattle.std.proofs.Common.{◌≡◌, ◌≢◌, ◌↔◌, Bool, true, false, IsNone, IsTrue, inl, refl, subst, ◌+◌, ◌<◌, ◌^◌, List, [], ◌∷◌, ◌++◌, length, arith}
-use Rattle.std.proofs.lemmas.Bool.{true≢false}
+use Rattle.drain_faults.proofs.Names.{◌≡◌, ◌≢◌, Bool, true, false, IsNone, IsTrue, inl, refl, subst, ◌+◌, ◌<◌, ◌^◌, List, [], ◌∷◌, ◌++◌, length, arith, true≢false, Cell, Judged, Rules, Patch, VoidCell, Missing, IfJudged, has_acc, has_bas, has_dir, has_product, has_rnk, part_rules, rules_about, tried, NoDataNumbers, number_for, value_of, by_set_product, AreProductsNotedAt, MissingHoldsOf, VoidCellHoldsOf, AreFaultsByProduct, TellsFault, Grid, Products, patch_at, of_product}
+use Rattle.std.proofs.Common.{◌↔◌}
 use Rattle.drain_grid.specs.declared.set_product.SetProduct.{SetProduct}
 use Rattle.drain_grid.specs.declared.set_product.SetProduct.TheVariants.{Con, Dir, Acc, Bas, Rnk}
-use Rattle.drain_grid.specs.declared.cell.Cell.{Cell}
-use Rattle.drain_grid.specs.declared.judged.Judged.{Judged}
-use Rattle.drain_grid.specs.declared.judged.Rules.{Rules}
-use Rattle.drain_grid.specs.declared.patch.Patch.{Patch}
 use Rattle.drain_grid.specs.declared.per_product.PerProduct.{PerProduct}
-use Rattle.drain_grid.specs.declared.rule.Rule.TheVariants.{VoidCell, Missing}
-use Rattle.drain_grid.specs.Judged.{IfJudged, has_acc, has_bas, has_dir, has_product, has_rnk}
-use Rattle.drain_grid.specs.RulesAbout.{part_rules, rules_about, tried}
 use Rattle.drain_grid.specs.SetProduct.{product_of}
 use Rattle.drain_grid.specs.Patch.{IsDataCell}
-use Rattle.drain_grid.specs.Values.{NoDataNumbers, number_for, value_of}
-use Rattle.drain_grid.proofs.ByProduct.{by_set_product}
 use Rattle.drain_faults.specs.declared.product_faults.ProductFaults.{ProductFaults}
-use Rattle.drain_faults.specs.ByProduct.{AreProductsNotedAt, MissingHoldsOf, VoidCellHoldsOf, AreFaultsByProduct}
-use Rattle.drain_faults.specs.CellFaults.{TellsFault}
-use Rattle.drain_grid.specs.Grid.{Grid, Products, patch_at}
-use Rattle.drain_grid.specs.PerProduct.{of_product}
 use Rattle.drain_faults.proofs.NumbersWithout.{holding_more, noted_more}
 use Rattle.drain_faults.proofs.TriedRules.{IsSound}
 use Rattle.drain_grid.specs.declared.judged.Judged.TheVariants as rasters

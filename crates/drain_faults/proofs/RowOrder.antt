@@ -1,19 +1,5 @@
 -- The first of the cells of a grid's rows, one row after another, is the first in row order; and so the verdict.
-use Rattle.std.proofs.Common.{◌≡◌, ℕ, zero, suc, ◌+◌, ◌<◌, ◌⊎◌, List, [], ◌∷◌, ◌++◌, Some, None, inl, inr, refl, sym, subst, arith, add-one, below_more}
-use Rattle.std.proofs.lemmas.List.FromFn.{map-range_with_len_more}
-use Rattle.drain_grid.specs.declared.cell.Cell.{Cell}
-use Rattle.drain_grid.specs.Extent.{row_cells}
-use Rattle.drain_grid.specs.Grid.{Grid, Products}
-use Rattle.drain_grid.specs.declared.judged.Rules.{Rules}
-use Rattle.drain_grid.specs.GridRules.{IsFirstFault, RulesHold}
-use Rattle.drain_grid.specs.RulesAbout.{IsTried, tried}
-use Rattle.drain_rules.specs.Walks.{cells_above}
-use Rattle.drain_rules.specs.Rows.{place}
-use Rattle.drain_rules.proofs.GridLemmas.{IsFirstFault-row, cells_above-more}
-use Rattle.drain_rules.proofs.RowLemmas.{IsRowFault-cell}
-use Rattle.drain_faults.specs.declared.patch_faults.FaultyPatch.{FaultyPatch}
-use Rattle.drain_faults.specs.Faults.{IsFirstFaulty, IsFirstWithout}
-use Rattle.drain_faults.specs.CellFaults.{AllHoldAt, IsLeastAt}
+use Rattle.drain_faults.proofs.Names.{◌≡◌, ℕ, zero, suc, ◌+◌, ◌<◌, ◌⊎◌, List, [], ◌∷◌, ◌++◌, Some, None, inl, inr, refl, sym, subst, arith, add-one, below_more, map-range_with_len_more, Cell, row_cells, Grid, Products, Rules, IsFirstFault, RulesHold, IsTried, tried, cells_above, place, IsFirstFault-row, cells_above-more, IsRowFault-cell, FaultyPatch, IsFirstFaulty, IsFirstWithout, AllHoldAt, IsLeastAt}
 
 module _ (P : Cell → Type 0) where
   -- where none of two lists lacks the fact, none of either does

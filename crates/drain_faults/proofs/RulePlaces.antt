@@ -1,10 +1,7 @@
 -- The rules by their places in their order: a search that has passed a place has passed each lesser rule.
-use Rattle.std.proofs.Common.{◌≡◌, ℕ, ◌+◌, ◌-◌, ◌<◌, get_or, refl, subst, arith}
-use Rattle.drain_grid.specs.declared.rule.Rule.{Rule}
-use Rattle.drain_grid.specs.declared.rule.Rule.TheVariants.{VoidCell}
-use Rattle.drain_grid.specs.Rule.{IsAnyRule, rule_number}
+use Rattle.drain_faults.proofs.Names.{◌≡◌, ℕ, ◌+◌, ◌-◌, ◌<◌, get_or, refl, subst, arith, Rule, VoidCell, IsAnyRule, rule_number, numbered}
 use Rattle.drain_grid.proofs.Decisions.{each_below, same_number}
-use Rattle.drain_grid.proofs.AllRules.{numbered, rules}
+use Rattle.drain_grid.proofs.AllRules.{rules}
 
 -- what is at a place has the number after it
 pub place_at : (k : ℕ) → k < 15 → rule_number (get_or rules k VoidCell) ≡ k + 1

@@ -1,28 +1,8 @@
 -- The rules that are tried: what they say of a patch with labels, and of a cell.
-use Rattle.std.proofs.Common.{◌≡◌, List, [], ◌∷◌, ◌++◌, Option, Some, None, sym, subst, ℤ, ◌↔◌, ◌⊎◌, IsNone, IsSome, inl, inr, arith, Bool, false, IsTrue, refl}
-use Rattle.drain_grid.specs.declared.cell.Cell.{Cell}
-use Rattle.drain_grid.specs.declared.judged.Rules.{Rules}
-use Rattle.drain_grid.specs.declared.patch.Patch.{Patch}
-use Rattle.drain_grid.specs.declared.rule.Rule.{Rule}
-use Rattle.drain_grid.specs.Grid.{Grid, Products, patch_at, IsInside}
-use Rattle.drain_faults.specs.declared.patch_faults.FaultyPatch.{FaultyPatch}
-use Rattle.drain_faults.specs.CellFaults.{IsFirstNoted, AllHoldAt, IsLeastAt, TellsFault, HoldsIfTried}
-use Rattle.drain_faults.specs.Faults.{IsFirstPatch}
+use Rattle.drain_faults.proofs.Names.{◌≡◌, List, [], ◌∷◌, ◌++◌, Option, Some, None, sym, subst, ℤ, ◌⊎◌, IsNone, inl, inr, arith, Bool, false, IsTrue, refl, Cell, Rules, Patch, Rule, Grid, Products, patch_at, IsInside, FaultyPatch, IsFirstNoted, AllHoldAt, IsLeastAt, TellsFault, HoldsIfTried, IsFirstPatch, IsAdmitted, LabelSet, SharedLabel, HoldsAt, Profile, IsPatchRule, IsLeastFault, IsAnyRule, IsKept, IsRightVoid, IsLabelOf, IsOutletByCode, AreLabelsBefore, labelled_profile, false≢true, true≢false, Judged, has_bas, IsTried, tried, labelled-HoldsAt, patch_tried}
+use Rattle.std.proofs.Common.{◌↔◌, IsSome}
 use Rattle.drain_faults.proofs.NumbersWithout.{first_found, first_past, first_stays}
-use Rattle.drain_basin.specs.Admitted.{IsAdmitted, LabelSet}
-use Rattle.drain_grid.specs.declared.rule.Rule.TheVariants.{SharedLabel}
-use Rattle.drain_grid.specs.GridRules.{HoldsAt}
-use Rattle.drain_grid.specs.PatchRules.{Profile}
-use Rattle.drain_grid.specs.Rule.{IsPatchRule, IsLeastFault, IsAnyRule}
-use Rattle.drain_kernel.specs.Columns.{IsKept}
-use Rattle.drain_rules.specs.Fill.{IsRightVoid}
-use Rattle.drain_rules.specs.Labels.{IsLabelOf, IsOutletByCode, AreLabelsBefore, labelled_profile}
-use Rattle.std.proofs.lemmas.Bool.{false≢true, true≢false}
-use Rattle.drain_grid.specs.declared.judged.Judged.{Judged}
 use Rattle.drain_grid.specs.declared.judged.Judged.TheVariants.{ConDirBas, All, AllWithRanks}
-use Rattle.drain_grid.specs.Judged.{has_bas}
-use Rattle.drain_grid.specs.RulesAbout.{IsTried, tried}
-use Rattle.drain_rules.proofs.Faults.{labelled-HoldsAt, patch_tried}
 use Rattle.drain_faults.proofs.PatchFlags.{tells_same}
 use Rattle.drain_faults.proofs.RulePlaces.{any_rule}
 

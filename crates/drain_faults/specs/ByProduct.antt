@@ -1,16 +1,8 @@
 -- What VoidCell and Missing require of each product, and at how many cells of a list it fails. This project's own.
-use Rattle.std.specs.Prelude.{◌≡◌, ◌≢◌, IsNone, List}
-use Rattle.drain_grid.specs.declared.cell.Cell.{Cell}
-use Rattle.drain_grid.specs.declared.judged.Rules.{Rules}
-use Rattle.drain_grid.specs.declared.set_product.SetProduct.{SetProduct}
-use Rattle.drain_grid.specs.declared.patch.Patch.{Patch}
+use Rattle.std.specs.Prelude.{◌≡◌, ◌≢◌}
+use Rattle.drain_faults.specs.Names.{IsNone, List, Cell, Rules, SetProduct, Patch, Grid, Products, patch_at, IfJudged, has_product, product_of, of_product, number_for, value_of}
 use Rattle.drain_grid.specs.declared.per_product.PerProduct.{PerProduct}
-use Rattle.drain_grid.specs.Grid.{Grid, Products, patch_at}
-use Rattle.drain_grid.specs.Judged.{IfJudged, has_product}
-use Rattle.drain_grid.specs.SetProduct.{product_of}
 use Rattle.drain_grid.specs.Patch.{IsDataCell}
-use Rattle.drain_grid.specs.PerProduct.{of_product}
-use Rattle.drain_grid.specs.Values.{number_for, value_of}
 use Rattle.drain_faults.specs.declared.product_faults.ProductFaults.{ProductFaults}
 use Rattle.drain_faults.specs.CellFaults.{IsNotedAt}
 use Rattle.drain_faults.specs.Faults.{AreCellsWithout}

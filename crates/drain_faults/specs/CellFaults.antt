@@ -1,17 +1,7 @@
 -- What one cell more adds to what was found of one rule, and to the first fault.
-use Rattle.std.specs.Prelude.{Bool, true, false, Option, ◌≡◌, ◌+◌, ◌^◌, ◌<◌, ◌⊎◌, Some, None, unwrap_or}
-use Rattle.drain_basin.specs.Admitted.{LabelSet}
-use Rattle.drain_grid.specs.declared.rule.Rule.{Rule}
-use Rattle.drain_grid.specs.declared.rule.Rule.TheVariants.{VoidCell, Missing, BadCode, BelowGround, OpenRaised, NoSpill, SpillHeight, SpillRank, NotLeast, Slope, OutletCode, FlatStep, Accumulation, Label, SharedLabel}
+use Rattle.std.specs.Prelude.{◌≡◌, ◌+◌, ◌^◌, ◌<◌, ◌⊎◌}
+use Rattle.drain_faults.specs.Names.{Bool, true, false, Option, Some, None, unwrap_or, LabelSet, Rule, VoidCell, Missing, BadCode, BelowGround, OpenRaised, NoSpill, SpillHeight, SpillRank, NotLeast, Slope, OutletCode, FlatStep, Accumulation, Label, SharedLabel, Cell, Rules, Patch, Grid, Products, HoldsAt, IsLeastFault, IsAnyRule, IsTried, tried, labelled_profile}
 use Rattle.drain_faults.specs.declared.per_rule.PerRule.{PerRule}
-use Rattle.drain_grid.specs.declared.cell.Cell.{Cell}
-use Rattle.drain_grid.specs.declared.judged.Rules.{Rules}
-use Rattle.drain_grid.specs.declared.patch.Patch.{Patch}
-use Rattle.drain_grid.specs.Grid.{Grid, Products}
-use Rattle.drain_grid.specs.GridRules.{HoldsAt}
-use Rattle.drain_grid.specs.Rule.{IsLeastFault, IsAnyRule}
-use Rattle.drain_grid.specs.RulesAbout.{IsTried, tried}
-use Rattle.drain_rules.specs.Labels.{labelled_profile}
 use Rattle.drain_faults.specs.declared.patch_faults.FaultyPatch.{FaultyPatch}
 use Rattle.drain_faults.specs.declared.patch_faults.RuleFaults.{RuleFaults}
 

@@ -1,13 +1,6 @@
 -- The number of each cell on a map of faults. Source: this project's own.
-use Rattle.std.specs.Prelude.{◌≡◌, ℕ, ◌++◌, Bool, true, false, is_some, List, [], ◌∷◌, Option, Some, None, IfSome}
-use Rattle.drain_grid.specs.declared.cell.Cell.{Cell}
-use Rattle.drain_grid.specs.declared.judged.Rules.{Rules}
-use Rattle.drain_grid.specs.declared.patch.Patch.{Patch}
-use Rattle.drain_grid.specs.declared.rule.Rule.{Rule}
-use Rattle.drain_grid.specs.Grid.{Grid, Products}
-use Rattle.drain_grid.specs.Rule.{rule_number}
-use Rattle.drain_rules.specs.Walks.{cells_above}
-use Rattle.drain_rules.specs.Rows.{AreRowPatches}
+use Rattle.std.specs.Prelude.{◌≡◌, ◌++◌, ◌∷◌}
+use Rattle.drain_faults.specs.Names.{ℕ, Bool, true, false, is_some, List, [], Option, Some, None, IfSome, Cell, Rules, Patch, Rule, Grid, Products, rule_number, cells_above, AreRowPatches}
 use Rattle.drain_faults.specs.declared.fault_map.FaultMap.{FaultMap}
 use Rattle.drain_faults.specs.declared.fault_map.TheConstants.{SOUND, SOUND_VOID}
 use Rattle.drain_faults.specs.declared.fault_walk.FaultWalk.{FaultWalk}

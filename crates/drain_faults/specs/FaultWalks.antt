@@ -1,15 +1,7 @@
 -- What a walk over rows of patches has found, for any grid whose rows they are.
-use Rattle.std.specs.Prelude.{◌≡◌, ℕ, pos, ◌++◌, IsTrue, List}
-use Rattle.drain_grid.specs.declared.cell.Cell.{Cell}
-use Rattle.drain_grid.specs.declared.judged.Rules.{Rules}
-use Rattle.drain_grid.specs.declared.patch.Patch.{Patch}
+use Rattle.std.specs.Prelude.{◌≡◌, ◌++◌}
+use Rattle.drain_faults.specs.Names.{ℕ, pos, IsTrue, List, Cell, Rules, Patch, Grid, Products, HasData, SharedLabelHolds, has_bas, CountsAbove, cells_above, AreLabelsBefore, AreRowPatches, place}
 use Rattle.drain_grid.specs.Extent.{row_cells}
-use Rattle.drain_grid.specs.Grid.{Grid, Products, HasData}
-use Rattle.drain_grid.specs.GridRules.{SharedLabelHolds}
-use Rattle.drain_grid.specs.Judged.{has_bas}
-use Rattle.drain_rules.specs.Walks.{CountsAbove, cells_above}
-use Rattle.drain_rules.specs.Labels.{AreLabelsBefore}
-use Rattle.drain_rules.specs.Rows.{AreRowPatches, place}
 use Rattle.drain_faults.specs.declared.fault_walk.FaultWalk.{FaultWalk}
 use Rattle.drain_faults.specs.declared.row_faults.FaultTally.{FaultTally}
 use Rattle.drain_faults.specs.ByProduct.{AreFaultsByProduct}

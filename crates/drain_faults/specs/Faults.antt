@@ -1,11 +1,6 @@
 -- At how many cells of a list something doesn't hold, and at which of them first. Source: this project's own.
-use Rattle.std.specs.Prelude.{◌≡◌, ℕ, ◌+◌, ◌⊎◌, List, [], ◌∷◌, Option, Some, None}
-use Rattle.drain_grid.specs.declared.cell.Cell.{Cell}
-use Rattle.drain_grid.specs.declared.judged.Rules.{Rules}
-use Rattle.drain_grid.specs.declared.rule.Rule.{Rule}
-use Rattle.drain_grid.specs.Grid.{Grid, Products, patch_at}
-use Rattle.drain_grid.specs.GridRules.{HoldsAt}
-use Rattle.drain_grid.specs.RulesAbout.{IsTried, tried}
+use Rattle.std.specs.Prelude.{◌≡◌, ◌+◌, ◌⊎◌, ◌∷◌}
+use Rattle.drain_faults.specs.Names.{ℕ, List, [], Option, Some, None, Cell, Rules, Rule, Grid, Products, patch_at, HoldsAt, IsTried, tried}
 use Rattle.drain_faults.specs.declared.patch_faults.FaultyPatch.{FaultyPatch}
 use Rattle.drain_faults.specs.declared.per_rule.PerRule.{PerRule}
 use Rattle.drain_faults.specs.declared.patch_faults.RuleFaults.{RuleFaults}

@@ -1,3 +1,4 @@
+pub mod Names
 pub mod ByProduct
 pub mod CellFaults
 pub mod FaultMaps

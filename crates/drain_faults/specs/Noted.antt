@@ -1,12 +1,6 @@
 -- What one cell more adds to all that was found.
-use Rattle.std.specs.Prelude.{ℤ, ◌↔◌, ◌⊎◌, IsTrue}
-use Rattle.drain_basin.specs.Admitted.{IsAdmitted}
-use Rattle.drain_grid.specs.declared.cell.Cell.{Cell}
-use Rattle.drain_grid.specs.declared.judged.Rules.{Rules}
-use Rattle.drain_grid.specs.declared.patch.Patch.{Patch}
-use Rattle.drain_grid.specs.declared.rule.Rule.{Rule}
-use Rattle.drain_grid.specs.Judged.{has_bas}
-use Rattle.drain_rules.specs.Labels.{IsLabelOf}
+use Rattle.std.specs.Prelude.{◌↔◌, ◌⊎◌}
+use Rattle.drain_faults.specs.Names.{ℤ, IsTrue, IsAdmitted, Cell, Rules, Patch, Rule, has_bas, IsLabelOf}
 use Rattle.drain_faults.specs.declared.row_faults.FaultTally.{FaultTally}
 use Rattle.drain_faults.specs.ByProduct.{AreProductsNotedAt}
 use Rattle.drain_faults.specs.CellFaults.{IsLeastNoted, IsNotedAt, of_rule, HoldsIfTried}

@@ -1,8 +1,7 @@
 //! The walk over a grid, row by row.
 
-ghost use Rattle.drain_grid.specs.declared.cell.TheConstants.{MAX_LENGTH};
-ghost use Rattle.drain_rules.specs.Rows.{IsAtMost};
 ghost use Rattle.std.specs.Prelude.{◌*◌};
+ghost use Rattle.drain_faults.specs.Names.{MAX_LENGTH, IsAtMost};
 
 use crate::fault_map::FaultMap;
 use crate::patch_faults::{FaultyPatch, RuleFaults};
@@ -26,11 +25,8 @@ pub struct FaultWalk {
 }
 
 impl FaultWalk {
-    ghost use Rattle.std.specs.Prelude.{◌≡◌, ◌<◌, ◌+◌, ◌↔◌, ◌⊎◌, IfOk, IfSome, IsNone, IsSome, IsTrue, OnErr, OnOk};
-    ghost use Rattle.drain_grid.specs.Grid.{Grid, Products};
-    ghost use Rattle.drain_grid.specs.declared.judged.Rules.{Rules};
-    ghost use Rattle.drain_grid.specs.Judged.{has_bas};
-    ghost use Rattle.drain_rules.specs.Walks.{cells_above};
+    ghost use Rattle.std.specs.Prelude.{◌≡◌, ◌<◌, ◌+◌, ◌↔◌, ◌⊎◌};
+    ghost use Rattle.drain_faults.specs.Names.{IfOk, IfSome, IsNone, IsSome, IsTrue, OnErr, OnOk, Grid, Products, Rules, has_bas, cells_above};
     ghost use Rattle.drain_rules.specs.Verdicts.{IsVerdictBy};
     ghost use Rattle.drain_faults.specs.ByProduct.{AreFaultsByProduct};
     ghost use Rattle.drain_faults.specs.Faults.{AreFaultsOf, IsFirstPatch};

@@ -1,11 +1,7 @@
 //! What the definitions of this crate name, and how they fit together.
 
 ghost use Rattle.std.specs.Prelude.{◌≡◌, ◌↔◌};
-ghost use Rattle.drain_grid.specs.declared.set_product.SetProduct.{SetProduct};
-ghost use Rattle.drain_grid.specs.declared.patch.Patch.{Patch};
-ghost use Rattle.drain_grid.specs.declared.rule.Rule.TheVariants.{VoidCell, Missing};
-ghost use Rattle.drain_grid.specs.declared.judged.Rules.{Rules};
-ghost use Rattle.drain_grid.specs.RulesAbout.{tried};
+ghost use Rattle.drain_faults.specs.Names.{SetProduct, Patch, VoidCell, Missing, Rules, tried};
 ghost use Rattle.drain_faults.specs.ByProduct.{MissingHoldsOf, VoidCellHoldsOf};
 
 use crate::fault_map::{SOUND, SOUND_VOID};

@@ -4,13 +4,10 @@
 //! other is checked alone.
 
 ghost use Rattle.drain_faults.specs.CellFaults.{IsFirstNoted, IsWith, TellsFault, of_rule};
-ghost use Rattle.std.specs.Prelude.{◌≡◌, ◌↔◌, ◌&&◌, false, IsTrue, Some, None};
-ghost use Rattle.drain_grid.specs.declared.rule.Rule.{Rule};
-ghost use Rattle.drain_grid.specs.Rule.{IsLeastFault, IsPatchRule};
-ghost use Rattle.drain_grid.specs.RulesAbout.{part_rules, tried};
+ghost use Rattle.std.specs.Prelude.{◌≡◌, ◌↔◌, ◌&&◌};
+ghost use Rattle.drain_faults.specs.Names.{false, IsTrue, Some, None, Rule, IsLeastFault, IsPatchRule, part_rules, tried, has_rnk};
 ghost use Rattle.drain_grid.specs.Direction.{IsCode};
 ghost use Rattle.drain_grid.specs.PatchRules.{BadCodeWithoutSpill, NotLeastHolds, OpenRaisedWithoutSpill};
-ghost use Rattle.drain_grid.specs.Judged.{has_rnk};
 ghost use Rattle.drain_kernel.specs.Rules.{rules_with};
 
 use crate::per_rule::PerRule;

@@ -1,8 +1,7 @@
 //! Fifteen things, one for each rule.
 
-ghost use Rattle.std.specs.Prelude.{◌≡◌, false};
-ghost use Rattle.drain_grid.specs.declared.rule.Rule.{Rule};
-ghost use Rattle.drain_grid.specs.Rule.{IsAnyRule, IsLeastFault};
+ghost use Rattle.std.specs.Prelude.{◌≡◌};
+ghost use Rattle.drain_faults.specs.Names.{false, Rule, IsAnyRule, IsLeastFault};
 ghost use Rattle.drain_faults.specs.CellFaults.{of_rule};
 
 use drain_grid::Rule;

@@ -3,14 +3,9 @@
 //! The rules VoidCell and Missing are about all judged products at once; to repair them one needs to know which is wrong
 //! where.
 
-ghost use Rattle.std.specs.Prelude.{◌≡◌, ◌≢◌, ◌↔◌, IsNone, IsSome, IsTrue, None};
-ghost use Rattle.drain_grid.specs.SetProduct.{product_of};
-ghost use Rattle.drain_grid.specs.Values.{number_for, value_of};
+ghost use Rattle.std.specs.Prelude.{◌≡◌, ◌≢◌, ◌↔◌};
+ghost use Rattle.drain_faults.specs.Names.{IsNone, IsSome, IsTrue, None, product_of, number_for, value_of, SetProduct, VoidCell, Missing, of_product, tried};
 ghost use Rattle.drain_faults.specs.ByProduct.{MissingHoldsOf, VoidCellHoldsOf, AreProductsNotedAt, IsProductNotedAt};
-ghost use Rattle.drain_grid.specs.declared.set_product.SetProduct.{SetProduct};
-ghost use Rattle.drain_grid.specs.declared.rule.Rule.TheVariants.{VoidCell, Missing};
-ghost use Rattle.drain_grid.specs.PerProduct.{of_product};
-ghost use Rattle.drain_grid.specs.RulesAbout.{tried};
 ghost use Rattle.drain_faults.specs.CellFaults.{TellsFault};
 
 use crate::patch_faults::RuleFaults;

@@ -1,16 +1,9 @@
 //! The walk along one row, patch by patch. It stops at no fault.
 
-ghost use Rattle.std.specs.Prelude.{IfOk, IsTrue, OnErr, OnOk, ◌≡◌, ◌↔◌, ◌⊎◌, ℤ, ◌<◌, ◌+◌, IsSome};
-ghost use Rattle.drain_grid.specs.Rule.{IsAnyRule, IsLeastFault, IsPatchRule};
-ghost use Rattle.drain_basin.specs.Admitted.{IsAdmitted};
-ghost use Rattle.drain_grid.specs.Judged.{has_bas};
-ghost use Rattle.drain_rules.specs.Labels.{IsOutletByCode, IsLabelOf};
+ghost use Rattle.std.specs.Prelude.{◌≡◌, ◌↔◌, ◌⊎◌, ◌<◌, ◌+◌};
+ghost use Rattle.drain_faults.specs.Names.{IfOk, IsTrue, OnErr, OnOk, ℤ, IsSome, IsAnyRule, IsLeastFault, IsPatchRule, IsAdmitted, has_bas, IsOutletByCode, IsLabelOf, Rule, MAX_LENGTH, cells_above, IsAtMost, CountsAlong};
 ghost use Rattle.drain_faults.specs.Noted.{IsNoted};
 ghost use Rattle.drain_faults.specs.CellFaults.{HoldsIfTried, TellsFault, of_rule};
-ghost use Rattle.drain_grid.specs.declared.rule.Rule.{Rule};
-ghost use Rattle.drain_grid.specs.declared.cell.TheConstants.{MAX_LENGTH};
-ghost use Rattle.drain_rules.specs.Walks.{cells_above};
-ghost use Rattle.drain_rules.specs.Rows.{IsAtMost, CountsAlong};
 ghost use Rattle.drain_faults.specs.FaultMaps.{IsMapOfCells, OfRowDrawn};
 ghost use Rattle.drain_faults.specs.FaultWalks.{HasNewOutlet, IsFoundAbove, OfRowFound, OfRowPatches};
 

@@ -1,8 +1,5 @@
 -- The ratio of the least whole numbers between two others: by continued fractions, one step at a time.
-use Rattle.std.proofs.Common.{◌≡◌, ℕ, ◌+◌, ◌-◌, ◌*◌, ◌<◌, ◌≤◌, arith, ap}
-use Rattle.std.proofs.Math.Nat.{le-mul_of_pos_right, le_of_mul-le-mul_left, lt_of_mul-lt-mul_left, mul-le-mul_left, mul-pos}
-use Rattle.drain_files.specs.Simplest.{AreBounds, IsBetween, IsSimplest}
-use Rattle.drain_files.specs.declared.simplest.Ratio.{Ratio}
+use Rattle.drain_files.proofs.Names.{◌≡◌, ℕ, ◌+◌, ◌-◌, ◌*◌, ◌<◌, ◌≤◌, arith, ap, le-mul_of_pos_right, le_of_mul-le-mul_left, lt_of_mul-lt-mul_left, mul-le-mul_left, mul-pos, AreBounds, IsBetween, IsSimplest, Ratio}
 
 -- the lower ratio is a whole number: no smaller number is in between
 pub ends_whole : (low high : Ratio) (q : ℕ) → AreBounds low high → low.width ≡ q * low.height → IsSimplest low high (record { width = q; height = 1 })

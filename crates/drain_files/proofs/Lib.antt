@@ -1,3 +1,4 @@
+pub mod Names
 pub mod Fractions
 mod LowestTerms
 pub mod PathLemmas

@@ -1,15 +1,7 @@
 -- Two sizes, divided by their greatest common divisor.
-use Rattle.std.proofs.Common.{◌≡◌, ℕ, ℤ, zero, suc, pos, ◌*◌, ◌/◌, ◌<◌, Option, Some, None, MatchOption, false, arith, inl, inr, refl, sym, ap, subst, ◌∙◌}
-use Rattle.std.specs.Int.{◌∣◌, IsGcd}
-use Rattle.std.specs.Prelude.{int_le, unsigned_abs}
-use Rattle.std.proofs.lemmas.Int.{ints}
-use Rattle.std.proofs.Math.Nat.{div-mul_cancel, mul-div_cancel}
-use Rattle.std.proofs.lemmas.Nat.Gcd.{same_from_IsGcd}
+use Rattle.drain_files.proofs.Names.{◌≡◌, ℕ, ℤ, zero, suc, pos, ◌*◌, ◌/◌, ◌<◌, Option, Some, None, MatchOption, false, arith, inl, inr, refl, sym, ap, subst, ◌∙◌, ◌∣◌, IsGcd, int_le, unsigned_abs, ints, div-mul_cancel, mul-div_cancel, same_from_IsGcd, Fields, IsSimplest, Ratio}
 use Rattle.drain_grid.specs.Spacing.{Distances, IsSpacing}
 use Rattle.drain_grid.specs.declared.height_kind.HeightKind.TheVariants.{Whole}
-use Rattle.drain_header.specs.Header.{Fields}
-use Rattle.drain_files.specs.Simplest.{IsSimplest}
-use Rattle.drain_files.specs.declared.simplest.Ratio.{Ratio}
 use Rattle.drain_files.specs.OpenSpacings.{AreSizes, IsLowest, IsPixelSpacing, IsRatio, IsRounded, greatest_ratio, least_ratio}
 
 -- a divisor of a size above 0 is above 0

@@ -1,14 +1,7 @@
 -- What follows the last slash of a path, and what precedes it.
-use Rattle.std.proofs.Common.{List, [], ◌∷◌, ◌++◌, ◌≡◌, ℕ, ◌+◌, ◌<◌, get_or, take, ◌⊎◌, inl, inr, sym, subst, below_more, ◌-◌, ◌≤◌, length, drop, refl, ap, ◌∙◌, arith, length-drop, take-append-drop}
-use Rattle.std.specs.List.{AllZip}
-use Rattle.std.proofs.lemmas.Option.{get_or_from_slice_get}
-use Rattle.drain_files.specs.FileIds.{Clashes, IsInput, MeetsSome}
-use Rattle.drain_files.specs.declared.file_id.FileId.{FileId}
-use Rattle.drain_files.specs.declared.file_id.Target.{Target}
-use Rattle.std.specs.Prelude.{◌≢◌, slice_range}
-use Rattle.std.proofs.lemmas.List.{drop_more, get_or-drop, take_more}
+use Rattle.drain_files.proofs.Names.{List, [], ◌∷◌, ◌++◌, ◌≡◌, ℕ, ◌+◌, ◌<◌, get_or, take, ◌⊎◌, inl, inr, sym, subst, below_more, ◌-◌, ◌≤◌, length, drop, refl, ap, ◌∙◌, arith, length-drop, take-append-drop, AllZip, get_or_from_slice_get, Clashes, IsInput, MeetsSome, FileId, Target, slice_range, drop_more, get_or-drop, take_more, slash, IsFolderPart, IsLastPart}
+use Rattle.std.specs.Prelude.{◌≢◌}
 use Rattle.std.proofs.lemmas.List.Elements.{All-from_get_or}
-use Rattle.drain_files.specs.FilePaths.{slash, IsFolderPart, IsLastPart}
 
 -- The names of tiles that were opened one after the other.
 

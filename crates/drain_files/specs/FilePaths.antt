@@ -1,12 +1,11 @@
 -- The paths of products' files, and the name in a tile's path.
-use Rattle.std.specs.Prelude.{◌≡◌, ◌≢◌, ◌⊎◌, ◌==◌, ℕ, List, [], ◌∷◌, ◌++◌, codes, decimal, if◌then◌else◌}
-use Rattle.std.specs.List.{All, ends_with}
+use Rattle.std.specs.Prelude.{◌≡◌, ◌≢◌, ◌⊎◌, ◌==◌, ◌∷◌, ◌++◌, if◌then◌else◌}
+use Rattle.drain_files.specs.Names.{ℕ, List, [], codes, decimal, All, ends_with, product_name}
 use Rattle.drain_args.specs.declared.requests.DemArgs.{DemArgs}
 use Rattle.drain_args.specs.declared.requests.DemEnding.{DemEnding}
 use Rattle.drain_args.specs.declared.requests.DemEnding.TheVariants.{Lower, Upper}
 use Rattle.drain_grid.specs.declared.product.Product.{Product}
 use Rattle.drain_grid.specs.declared.product.Product.TheVariants.{Con, Dir, Acc, Bas, Rnk}
-use Rattle.drain_grid.specs.Product.{product_name}
 use Rattle.drain_grid.specs.SetProduct.{product_of}
 use Rattle.drain_sets.specs.declared.set_files.FilePart.{FilePart}
 use Rattle.drain_sets.specs.declared.set_files.FilePart.TheVariants.{Header, Raster}

@@ -1,15 +1,11 @@
 -- What opening, reading and placing of files does.
-use Rattle.std.specs.Prelude.{◌≡◌, Result, Ok, Err, ◌⊎◌, ℕ, ◌++◌, List, [], ◌∷◌, codes, Option, Some, replicate, ◌<◌, length}
-use Rattle.drain_sets.specs.declared.set_files.SetFault.{SetFault}
+use Rattle.std.specs.Prelude.{◌≡◌, ◌⊎◌, ◌++◌, ◌∷◌, ◌<◌}
+use Rattle.drain_files.specs.Names.{Result, Ok, Err, ℕ, List, [], codes, Option, Some, replicate, length, SetFault, line_feed, no_faults, Consumes, AllZip, names_of}
 use Rattle.drain_device.specs.declared.read.BodyFault.TheVariants.{OutOfMemory}
 use Rattle.drain_answer.specs.Outcomes.{failure_text}
-use Rattle.drain_answer.specs.Printing.{line_feed}
 use Rattle.drain_device.specs.declared.counts.FaultCounts.{FaultCounts}
-use Rattle.drain_device.specs.Counts.{no_faults}
 use Rattle.drain_files.specs.declared.source_or_ones.SourceOrOnes.{SourceOrOnes}
 use Rattle.drain_files.specs.declared.source_or_ones.SourceOrOnes.TheVariants.{Source, Ones}
-use Rattle.std.specs.Io.KnownBytes.{Consumes}
-use Rattle.std.specs.List.{AllZip}
 use Rattle.drain_args.specs.declared.requests.Elevations.{Elevations}
 use Rattle.drain_args.specs.declared.requests.Elevations.TheVariants as of
 use Rattle.drain_args.specs.declared.requests.TileArgs.{TileArgs}
@@ -17,7 +13,6 @@ use Rattle.drain_files.specs.FilePaths.{IsLastPart}
 use Rattle.drain_files.specs.declared.open_judged.OpenElevations.{OpenElevations}
 use Rattle.drain_files.specs.declared.open_judged.OpenElevations.TheVariants.{Tiles, Dem}
 use Rattle.drain_files.specs.declared.open_judged.OpenTiles.{OpenTiles}
-use Rattle.drain_hgt.specs.Inputs.{names_of}
 use Rattle.drain_files.specs.declared.open_judged.JudgedProducts.{JudgedProducts}
 use Rattle.drain_files.specs.declared.open_judged.JudgedProducts.TheVariants.{Five, Four}
 use Rattle.drain_grid.specs.declared.judged.Judged.{Judged}

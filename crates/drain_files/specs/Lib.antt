@@ -1,3 +1,4 @@
+pub mod Names
 pub mod FileIds
 pub mod FilePaths
 pub mod Files

@@ -1,6 +1,6 @@
 -- How far apart cells are, as the command line says it and as the files do.
-use Rattle.std.specs.Prelude.{◌≡◌, ◌⊎◌, ℕ, ◌+◌, ◌-◌, ◌*◌, ◌/◌, ◌^◌, ◌<◌, ◌≤◌, pos, List, ◌∷◌, [], Result, Ok, Err}
-use Rattle.std.specs.Int.{IsGcd}
+use Rattle.std.specs.Prelude.{◌≡◌, ◌⊎◌, ◌+◌, ◌-◌, ◌*◌, ◌/◌, ◌^◌, ◌<◌, ◌≤◌, ◌∷◌}
+use Rattle.drain_files.specs.Names.{ℕ, pos, List, [], Ok, IsGcd, Distances, IsSpacing, unit_spacing, GivenSpacing, by_row, same}
 use Rattle.drain_args.specs.declared.spacings.SpacingChoice.{SpacingChoice}
 use Rattle.drain_args.specs.declared.spacings.SpacingChoice.TheVariants as choice
 use Rattle.drain_files.specs.declared.open_judged.OpenElevations.{OpenElevations}
@@ -9,12 +9,10 @@ use Rattle.drain_files.specs.declared.open_spacing.OpenSpacing.{OpenSpacing}
 use Rattle.drain_files.specs.declared.open_spacing.OpenSpacing.TheVariants.{Same, ByRow}
 use Rattle.drain_files.specs.Simplest.{IsSimplest}
 use Rattle.drain_files.specs.declared.simplest.Ratio.{Ratio}
-use Rattle.drain_grid.specs.Spacing.{Distances, IsSpacing, unit_spacing}
 use Rattle.drain_grid.specs.declared.height_kind.HeightKind.TheVariants.{Whole}
 use Rattle.drain_header.specs.Faults.{AnswersOf}
 use Rattle.drain_header.specs.Header.{Fields}
 use Rattle.drain_header.specs.Lines.{kind_of}
-use Rattle.drain_sets.specs.GivenSpacings.{GivenSpacing, by_row, same}
 use Rattle.drain_sets.specs.declared.raster_input.RasterInput.{RasterInput}
 
 -- what an open text or a spacing gives to judge by

@@ -1,7 +1,7 @@
 //! The paths of products' files and of a map, the name in a tile's path, and the folder of an output.
 
-ghost use Rattle.std.specs.Prelude.{◌≡◌, ◌++◌, ◌↔◌, IfOk, IsTrue, string_bytes};
-ghost use Rattle.drain_grid.specs.Product.{product_name};
+ghost use Rattle.std.specs.Prelude.{◌≡◌, ◌++◌, ◌↔◌};
+ghost use Rattle.drain_files.specs.Names.{IfOk, IsTrue, string_bytes, product_name};
 ghost use Rattle.drain_files.specs.FilePaths.{dem_file, dem_file_ending, product_path, separator, header_ending, raster_ending, ending_of, IsFolderPart, IsLastPart, IsProductName, part_name};
 
 use drain_answer::lines::{push_number, words};

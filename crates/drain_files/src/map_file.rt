@@ -1,9 +1,9 @@
 //! The files of a map of the faults: a raster of a byte for each cell, and its header.
 
-ghost use Rattle.std.specs.Prelude.{◌≡◌, ◌++◌, ◌∷◌, [], IfOk, map, string_bytes, vec_len};
+ghost use Rattle.std.specs.Prelude.{◌≡◌, ◌++◌, ◌∷◌};
+ghost use Rattle.drain_files.specs.Names.{[], IfOk, map, string_bytes, vec_len, WritesFiles};
 ghost use Rattle.drain_files.specs.FilePaths.{header_ending, raster_ending};
 ghost use Rattle.drain_header.specs.Text.{text_of};
-ghost use Rattle.drain_sets.specs.FileWrites.{WritesFiles};
 ghost use Rattle.drain_sets.specs.Missing.{map_header};
 
 use crate::file_id::{FileId, Target, first_clash, is_input};

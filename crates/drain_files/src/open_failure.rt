@@ -1,9 +1,8 @@
 //! The line for a file that can't be opened.
 
-ghost use Rattle.std.specs.Prelude.{Result, ◌≡◌, IfOk, List, ℕ};
+ghost use Rattle.std.specs.Prelude.{◌≡◌};
+ghost use Rattle.drain_files.specs.Names.{Result, IfOk, List, ℕ, SetFault, PrintsText};
 ghost use Rattle.drain_files.specs.Files.{IsNamed, open_failure_line, IsOpenFailure};
-ghost use Rattle.drain_sets.specs.declared.set_files.SetFault.{SetFault};
-ghost use Rattle.drain_answer.specs.Printing.{PrintsText};
 
 use crate::open_files::OpenFault;
 use drain_answer::outcome::Status;

@@ -1,8 +1,7 @@
 //! Opening files to read, tiles, a list of sinks and a text of widths among them, and creating files to write.
 
-ghost use Rattle.std.specs.Prelude.{◌≡◌, ◌≤◌, IfOk, length, vec_len, [], None};
-ghost use Rattle.std.specs.List.{AllZip};
-ghost use Rattle.drain_hgt.specs.Inputs.{names_of};
+ghost use Rattle.std.specs.Prelude.{◌≡◌, ◌≤◌};
+ghost use Rattle.drain_files.specs.Names.{IfOk, length, vec_len, [], None, AllZip, names_of};
 ghost use Rattle.drain_files.specs.FilePaths.{IsLastPart};
 ghost use Rattle.drain_sets.specs.declared.set_files.TheConstants.{FILE_COUNT};
 

@@ -1,10 +1,8 @@
 //! How far apart cells are, as the command line says it: read from the header of the elevations, or from a text.
 
-ghost use Rattle.std.specs.Prelude.{◌≡◌, ◌<◌, ◌≤◌, ◌^◌, IfOk, MatchOption};
-ghost use Rattle.std.specs.Int.{IsGcd};
+ghost use Rattle.std.specs.Prelude.{◌≡◌, ◌<◌, ◌≤◌, ◌^◌};
+ghost use Rattle.drain_files.specs.Names.{IfOk, MatchOption, IsGcd, Distances, IsSpacing, spacing_from};
 ghost use Rattle.drain_files.specs.OpenSpacings.{AreHeaderSizes, IsHeaderSpacing, IsLowest, IsOpenSpacing, IsPixelSpacing, IsRatio, IsRounded, IsSpacingOf, greatest_size, least_size, spacing_opened};
-ghost use Rattle.drain_grid.specs.Spacing.{Distances, IsSpacing};
-ghost use Rattle.drain_sets.specs.GivenSpacings.{spacing_from};
 
 use crate::open_files::{OpenFault, Opener, widths_at};
 use crate::open_judged::OpenElevations;

@@ -1,7 +1,7 @@
 //! The paths of the files that a run writes into a folder, and whether one leads to an input.
 
-ghost use Rattle.std.specs.Prelude.{◌≡◌, IfOk, Ok, length, string_bytes, vec_len};
-ghost use Rattle.std.specs.List.{AllZip};
+ghost use Rattle.std.specs.Prelude.{◌≡◌};
+ghost use Rattle.drain_files.specs.Names.{IfOk, Ok, length, string_bytes, vec_len, AllZip};
 ghost use Rattle.drain_files.specs.FilePaths.{IsPathOf};
 
 use crate::file_id::is_input;

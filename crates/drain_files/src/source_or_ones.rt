@@ -1,7 +1,6 @@
 //! A source, or ones in the place of a raster that isn't judged.
 
-ghost use Rattle.std.specs.Prelude.{◌≡◌, Some, replicate};
-ghost use Rattle.drain_device.specs.Counts.{no_faults};
+ghost use Rattle.std.specs.Prelude.{◌≡◌};
 
 use drain_device::{ByteSource, DeviceFault};
 

@@ -1,9 +1,7 @@
 //! Reading a text to its end, and writing the bytes of a file.
 
-ghost use Rattle.drain_sets.specs.FileWrites.{WritesFile};
-ghost use Rattle.std.specs.Io.KnownBytes.{Consumes, IsAtEnd};
-ghost use Rattle.std.specs.Prelude.{◌<◌, ◌≤◌, ℕ, IfOk, OnErr, IsErrOf, vec_len, ◌≡◌, ◌+◌, ◌⊎◌, IfErr};
-ghost use Rattle.drain_device.specs.Counts.{Answered};
+ghost use Rattle.std.specs.Prelude.{◌<◌, ◌≤◌, ◌≡◌, ◌+◌, ◌⊎◌};
+ghost use Rattle.drain_files.specs.Names.{WritesFile, Consumes, IsAtEnd, ℕ, IfOk, OnErr, IsErrOf, vec_len, IfErr, Answered};
 ghost use Rattle.drain_device.specs.Failing.{GivesUp, full_patience};
 ghost use Rattle.drain_device.specs.Reads.{TakesAtMost};
 ghost use Rattle.drain_files.specs.Files.{TakesMoreThan};

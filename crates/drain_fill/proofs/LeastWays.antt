@@ -1,14 +1,6 @@
 -- The least that neighbours allow, found direction by direction.
-use Rattle.std.proofs.Common.{◌≡◌, ℕ, ◌+◌, ◌<◌, ℤ, ◌≤ℤ◌, ◌↔◌, Option, Some, None, IsSome, ◌⊎◌, MatchOption, IfSome, option_and_then, is_some, if◌then◌else◌, get_or, refl, inl, inr, sym, ◌∙◌, subst, arith, below_more, rules}
-use Rattle.std.proofs.lemmas.Int.{ints}
-use Rattle.std.specs.Int.{int_max}
-use Rattle.drain_grid.specs.declared.direction.Direction.{Direction}
+use Rattle.drain_fill.proofs.Names.{◌≡◌, ℕ, ◌+◌, ◌<◌, ℤ, ◌≤ℤ◌, ◌↔◌, Option, Some, None, IsSome, ◌⊎◌, MatchOption, IfSome, option_and_then, is_some, if◌then◌else◌, get_or, refl, inl, inr, sym, ◌∙◌, subst, arith, below_more, rules, ints, int_max, Direction, Patch, directions, IsDataCell, IsDataNeighbor, neighbor, height, Values, NotLeastHolds}
 use Rattle.drain_grid.specs.declared.direction.Direction.TheVariants.{East, SouthEast, South, SouthWest, West, NorthWest, North, NorthEast}
-use Rattle.drain_grid.specs.declared.patch.Patch.{Patch}
-use Rattle.drain_grid.specs.Direction.{directions}
-use Rattle.drain_grid.specs.Patch.{IsDataCell, IsDataNeighbor, neighbor, height}
-use Rattle.drain_grid.specs.Values.{Values}
-use Rattle.drain_grid.specs.PatchRules.{NotLeastHolds}
 use Rattle.drain_fill.specs.LeastWays.{IsGreatestAllowed, IsNotAbove, way, way_of}
 
 -- the least of the directions before a place

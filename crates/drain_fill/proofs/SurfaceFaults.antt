@@ -1,9 +1,6 @@
 -- The rules on the conditioned elevation without spill parents, after BelowGround: only two of them require something.
-use Rattle.std.proofs.Common.{◌<◌, arith}
-use Rattle.drain_grid.specs.declared.patch.Patch.{Patch}
+use Rattle.drain_fill.proofs.Names.{◌<◌, arith, Patch, BelowGround, OpenRaised, NotLeast, NotLeastHolds, OpenRaisedWithoutSpill, surface_rules}
 use Rattle.drain_grid.specs.declared.rule.Rule.{Rule}
-use Rattle.drain_grid.specs.declared.rule.Rule.TheVariants.{BelowGround, OpenRaised, NotLeast}
-use Rattle.drain_grid.specs.PatchRules.{NotLeastHolds, OpenRaisedWithoutSpill, surface_rules}
 use Rattle.drain_grid.specs.Rule.{IsAboveRule, rule_number}
 
 -- where those two hold, all do

@@ -1,10 +1,7 @@
 -- What each neighbour allows as conditioned elevation, and the least of it.
-use Rattle.std.specs.Prelude.{◌≡◌, ℤ, ◌≤ℤ◌, Option, Some, None, is_some, option_and_then, if◌then◌else◌}
-use Rattle.std.specs.Int.{int_max}
-use Rattle.drain_grid.specs.declared.direction.Direction.{Direction}
+use Rattle.std.specs.Prelude.{◌≡◌, ◌≤ℤ◌, if◌then◌else◌}
+use Rattle.drain_fill.specs.Names.{ℤ, Option, Some, None, is_some, option_and_then, int_max, Direction, height, neighbor, IsDataNeighbor, Values}
 use Rattle.drain_grid.specs.declared.patch.Patch.{Patch}
-use Rattle.drain_grid.specs.Patch.{height, neighbor, IsDataNeighbor}
-use Rattle.drain_grid.specs.Values.{Values}
 
 -- the greater of the ground and the elevation there; none without data there
 abbrev pub way_of : ℤ → Values → Option ℤ

@@ -1,10 +1,7 @@
 //! The greatest conditioned elevation that rule NotLeast allows at a cell.
 
-ghost use Rattle.std.specs.Prelude.{◌≡◌, ◌↔◌, ◌⊎◌, ◌≤ℤ◌, IfSome, MatchOption};
-ghost use Rattle.drain_grid.specs.declared.direction.Direction.{Direction};
-ghost use Rattle.drain_grid.specs.Patch.{IsDataCell, IsDataNeighbor, neighbor, height};
-ghost use Rattle.drain_grid.specs.PatchRules.{NotLeastHolds};
-ghost use Rattle.drain_grid.specs.Values.{Values};
+ghost use Rattle.std.specs.Prelude.{◌≡◌, ◌↔◌, ◌⊎◌, ◌≤ℤ◌};
+ghost use Rattle.drain_fill.specs.Names.{IfSome, MatchOption, Direction, IsDataCell, IsDataNeighbor, neighbor, height, NotLeastHolds, Values};
 ghost use Rattle.drain_fill.specs.LeastWays.{IsGreatestAllowed, IsNotAbove, way, way_of};
 
 use drain_grid::{CellValues, Direction, Patch};

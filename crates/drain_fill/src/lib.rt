@@ -14,11 +14,8 @@ pub mod least_way;
 pub mod opening;
 mod surface;
 
-ghost use Rattle.std.specs.Prelude.{◌≡◌, ◌↔◌, ◌<ℤ◌, IsTrue, Some};
-ghost use Rattle.std.specs.Int.{int_max};
-ghost use Rattle.drain_grid.specs.Patch.{IsOpen, height};
-ghost use Rattle.drain_grid.specs.PatchRules.{fill_rules, BelowGroundHolds, OpenRaisedHolds, NotLeastHolds};
-ghost use Rattle.drain_grid.specs.Rule.{IsFillRule, IsAboveRule, IsLevelRule, IsSpillRule, IsLeastFault};
+ghost use Rattle.std.specs.Prelude.{◌≡◌, ◌↔◌, ◌<ℤ◌};
+ghost use Rattle.drain_fill.specs.Names.{IsTrue, Some, int_max, IsOpen, height, fill_rules, BelowGroundHolds, OpenRaisedHolds, NotLeastHolds, IsFillRule, IsAboveRule, IsLevelRule, IsSpillRule, IsLeastFault};
 
 pub use below::first_below;
 use drain_grid::{CellValues, Patch, Rule};

@@ -1,8 +1,7 @@
 //! Why a cell is open.
 
-ghost use Rattle.std.specs.Prelude.{◌≡◌, ◌↔◌, IfSome, IsNone, IsTrue, None, false, true};
-ghost use Rattle.drain_grid.specs.declared.direction.Direction.{Direction};
-ghost use Rattle.drain_grid.specs.Patch.{IsOpen, neighbor};
+ghost use Rattle.std.specs.Prelude.{◌≡◌, ◌↔◌};
+ghost use Rattle.drain_fill.specs.Names.{IfSome, IsNone, IsTrue, None, false, true, Direction, IsOpen, neighbor};
 
 use drain_grid::{Direction, Patch};
 

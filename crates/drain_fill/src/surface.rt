@@ -3,9 +3,8 @@
 //! With the rules on directions they make `con` the least surface from which water gets out (law
 //! `least_from_rules_profile2` of `drain_grid`).
 
-ghost use Rattle.std.specs.Prelude.{◌≡◌, ◌↔◌, IsTrue, Some};
-ghost use Rattle.drain_grid.specs.PatchRules.{BelowGroundHolds, OpenRaisedWithoutSpill, surface_rules};
-ghost use Rattle.drain_grid.specs.Rule.{IsAboveRule, IsFillRule, IsLeastFault};
+ghost use Rattle.std.specs.Prelude.{◌≡◌, ◌↔◌};
+ghost use Rattle.drain_fill.specs.Names.{IsTrue, Some, BelowGroundHolds, OpenRaisedWithoutSpill, surface_rules, IsAboveRule, IsFillRule, IsLeastFault};
 
 use crate::{is_above_ground, is_least};
 use drain_grid::{Patch, Rule};

@@ -1,25 +1,7 @@
 -- The beginning, cell by cell: an open cell is reached at its own height.
-use Rattle.std.proofs.Common.{◌≡◌, ◌≢◌, ℕ, ◌+◌, ◌∙◌, ◌⊎◌, inl, inr, ℤ, pos, ◌≤ℤ◌, List, [], ◌∷◌, Option, Some, None, IsSome, IsTrue, option_map, Contains, get_or, refl, sym, ap, subst, arith}
-use Rattle.std.proofs.lemmas.Bool.{cases_order, false≢true}
-use Rattle.std.proofs.lemmas.List.Elements.{All-nil, All-push, All-weaker, Contains-append_left, Contains-push}
+use Rattle.drain_filled.proofs.Names.{◌≡◌, ◌≢◌, ℕ, ◌+◌, ◌∙◌, ◌⊎◌, inl, inr, ℤ, pos, ◌≤ℤ◌, List, [], ◌∷◌, Option, Some, None, IsSome, IsTrue, option_map, Contains, get_or, refl, sym, ap, subst, arith, cases_order, false≢true, All-nil, All-push, All-weaker, Contains-append_left, Contains-push, Cell, Direction, SinkLine, Extent, index_of, step, Grid, IsInside, IsOpenCell, height_at, IsGap, same_index, same_or_not, step_lies, gap_from_void, UNREACHED, Flooding, con_at, mark_at, IsReachedCell, Reaches, none_or_some, outlet_reached, DataCells, HasDataCells, IsGapBeside, data_mark, IsBegun, IsBetween, IsReachedPlace}
 use Rattle.std.specs.List.{All}
-use Rattle.drain_grid.specs.declared.cell.Cell.{Cell}
-use Rattle.drain_grid.specs.declared.direction.Direction.{Direction}
-use Rattle.drain_grid.specs.declared.sink_line.SinkLine.{SinkLine}
-use Rattle.drain_grid.specs.Extent.{Extent, index_of, step}
-use Rattle.drain_grid.specs.Grid.{Grid, IsInside, IsOpenCell, height_at}
-use Rattle.drain_grid.specs.Open.{IsGap}
 use Rattle.drain_grid.specs.SinkTexts.{is_listed}
-use Rattle.drain_grid.proofs.Alike.{same_index}
-use Rattle.drain_grid.proofs.Lowered.{same_or_not}
-use Rattle.drain_grid.proofs.Neighbors.{step_lies}
-use Rattle.drain_grid.proofs.OpenCells.{gap_from_void}
-use Rattle.drain_flood.specs.declared.layers.TheConstants.{UNREACHED}
-use Rattle.drain_flood.specs.Floods.{Flooding, con_at, mark_at, IsReachedCell, Reaches}
-use Rattle.drain_flood.proofs.Cells.{none_or_some}
-use Rattle.drain_flood.proofs.Reaching.{outlet_reached}
-use Rattle.drain_filled.specs.Grounds.{DataCells, HasDataCells, IsGapBeside, data_mark}
-use Rattle.drain_filled.specs.Sweeps.{IsBegun, IsBetween, IsReachedPlace}
 
 -- what is open beside a gap, by the marks of the ground
 

@@ -1,24 +1,6 @@
 -- The beginning and the end: only open cells are reached at first, and once nothing is held all cells are reached.
-use Rattle.std.proofs.Common.{◌≡◌, ℕ, zero, suc, ◌+◌, ◌-◌, ◌<◌, inl, inr, [], Option, Some, None, option_map, refl, sym, subst, arith}
-use Rattle.std.proofs.lemmas.Bool.{cases_eq}
-use Rattle.std.proofs.lemmas.List.Elements.{All-nil}
+use Rattle.drain_filled.proofs.Names.{◌≡◌, ℕ, zero, suc, ◌+◌, ◌-◌, ◌<◌, inl, inr, [], Option, Some, None, option_map, refl, sym, subst, arith, cases_eq, All-nil, Cell, Direction, East, opposite, index_of, step, Grid, HasData, IsInside, IsGap, IsLeastSurface, step_back, step_lies, IsOpenAmong-gap, gap_from_void, UNREACHED, Flooding, con_at, mark_at, IsReachedCell, none_in, none_or_some, IsBegun, IsHeld, IsReachedPair, IsReachedPlace, IsSweepOf}
 use Rattle.std.specs.List.{All}
-use Rattle.drain_grid.specs.declared.cell.Cell.{Cell}
-use Rattle.drain_grid.specs.declared.direction.Direction.{Direction}
-use Rattle.drain_grid.specs.declared.direction.Direction.TheVariants.{East}
-use Rattle.drain_grid.specs.Direction.{opposite}
-use Rattle.drain_grid.specs.Extent.{index_of, step}
-use Rattle.drain_grid.specs.Grid.{Grid, HasData, IsInside}
-use Rattle.drain_grid.specs.Open.{IsGap}
-use Rattle.drain_grid.specs.Path.{IsLeastSurface}
-use Rattle.drain_grid.proofs.Inflows.{step_back}
-use Rattle.drain_grid.proofs.Neighbors.{step_lies}
-use Rattle.drain_grid.proofs.OpenCells.{IsOpenAmong-gap, gap_from_void}
-use Rattle.drain_flood.specs.declared.layers.TheConstants.{UNREACHED}
-use Rattle.drain_flood.specs.Floods.{Flooding, con_at, mark_at, IsReachedCell}
-use Rattle.drain_flood.proofs.AllReached.{none_in}
-use Rattle.drain_flood.proofs.Cells.{none_or_some}
-use Rattle.drain_filled.specs.Sweeps.{IsBegun, IsHeld, IsReachedPair, IsReachedPlace, IsSweepOf}
 
 -- Once nothing is held, every data cell is reached: going east from it leads to an open cell, since the last column is on the
 -- edge, and every open cell is reached.

@@ -1,15 +1,6 @@
 -- One row more of the lists of a grid's marks and conditioned elevations; one place more of a comparison.
-use Rattle.std.proofs.Common.{◌≡◌, ◌≢◌, ℕ, ◌+◌, ◌<◌, ◌∙◌, inl, inr, ℤ, pos, List, Option, None, get_or, ◌*◌, ◌++◌, length, map, length-append, set, get_or-set_other, get_or-set_same, below_more, ap, sym, subst, arith}
-use Rattle.std.proofs.lemmas.Bool.{cases_order}
-use Rattle.std.proofs.lemmas.List.{get_or_append_left, get_or-append-add, get_or-map, length-map}
-use Rattle.drain_grid.specs.declared.cell.Cell.{Cell}
-use Rattle.drain_grid.specs.Extent.{IsCellOf, index_of}
-use Rattle.drain_grid.specs.Grid.{Grid, Products, IsInside}
-use Rattle.drain_grid.proofs.Alike.{same_index, before_row}
-use Rattle.drain_flood.specs.declared.layers.TheConstants.{UNREACHED}
-use Rattle.drain_filled.specs.Compared.{listed_at, AreOneBefore, HasMark}
-use Rattle.drain_filled.specs.ConRows.{AreFirstCon, ConLists, mark_of, with_row}
-use Rattle.drain_filled.specs.Grounds.{DataCells, data_mark}
+use Rattle.drain_filled.proofs.Names.{◌≡◌, ◌≢◌, ℕ, ◌+◌, ◌<◌, ◌∙◌, inl, inr, ℤ, pos, List, Option, None, get_or, ◌*◌, ◌++◌, length, map, length-append, set, below_more, ap, sym, subst, arith, cases_order, get_or_append_left, get_or-append-add, get_or-map, length-map, Cell, IsCellOf, index_of, Grid, Products, IsInside, same_index, before_row, UNREACHED, listed_at, AreOneBefore, HasMark, AreFirstCon, ConLists, mark_of, with_row, DataCells, data_mark}
+use Rattle.std.proofs.Common.{get_or-set_other, get_or-set_same}
 
 -- What a comparison place by place says of cells.
 

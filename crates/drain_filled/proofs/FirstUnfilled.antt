@@ -2,27 +2,10 @@
 --
 -- The heights are the least surface of the grid. Each other least surface is equal to it at data cells. So the first data cell
 -- where the lists differ is the first one where the surface isn't filled.
-use Rattle.std.proofs.Common.{◌≡◌, ◌≤ℤ◌, ◌*◌, ◌∙◌, ℕ, ℤ, pos, ◌==◌, Bool, inl, inr, List, refl, sym, ap, subst, arith, Option, Some, None, IsSome, IsNone, MatchOption, unwrap_or, if◌then◌else◌}
-use Rattle.std.proofs.lemmas.Bool.{cases_eq, eq-eqb, ne_eqb, false≢true}
-use Rattle.std.proofs.lemmas.Int.{ints}
-use Rattle.drain_grid.specs.declared.cell.Cell.{Cell}
-use Rattle.drain_grid.specs.declared.rule.Rule.TheVariants.{BelowGround}
-use Rattle.drain_grid.specs.declared.sink_line.SinkLine.{SinkLine}
-use Rattle.drain_grid.specs.Extent.{Extent, IsCellOf}
-use Rattle.drain_grid.specs.Grid.{Grid, HasData, IsInside, Products, height_at}
+use Rattle.drain_filled.proofs.Names.{◌≡◌, ◌≤ℤ◌, ◌*◌, ◌∙◌, ℕ, ℤ, pos, ◌==◌, Bool, inl, inr, List, refl, sym, ap, subst, arith, Option, Some, None, IsSome, IsNone, MatchOption, unwrap_or, if◌then◌else◌, cases_eq, eq-eqb, ne_eqb, false≢true, ints, Cell, BelowGround, SinkLine, Extent, IsCellOf, Grid, HasData, IsInside, Products, height_at, IsLeastSurface, Surface, earlier_index, con_below, levels, index_of-below, UNREACHED, none_or_some, listed_at, AreOneBefore, HasMark, IsFirstOther, HasCellsOf, HasHeights, IsFirstUnfilled, HasSinks, IsGroundAndCon, mark_of, DataCells, HasDataCells, data_mark, listed_grid, IsBetween}
 use Rattle.drain_grid.specs.GridRules.{RulesHold}
-use Rattle.drain_grid.specs.Path.{IsLeastSurface, Surface}
 use Rattle.drain_grid.specs.PatchRules.{surface_rules}
 use Rattle.drain_grid.specs.Rule.{IsFillRule}
-use Rattle.drain_grid.proofs.Alike.{earlier_index}
-use Rattle.drain_grid.proofs.Lowered.{con_below, levels}
-use Rattle.drain_grid.proofs.Runs.{index_of-below}
-use Rattle.drain_flood.specs.declared.layers.TheConstants.{UNREACHED}
-use Rattle.drain_flood.proofs.Cells.{none_or_some}
-use Rattle.drain_filled.specs.Compared.{listed_at, AreOneBefore, HasMark, IsFirstOther, HasCellsOf, HasHeights, IsFirstUnfilled}
-use Rattle.drain_filled.specs.ConRows.{HasSinks, IsGroundAndCon, mark_of}
-use Rattle.drain_filled.specs.Grounds.{DataCells, HasDataCells, data_mark, listed_grid}
-use Rattle.drain_filled.specs.Sweeps.{IsBetween}
 use Rattle.drain_filled.proofs.LeastSurfaces.{one_least_surface, same_cells_same_surface}
 
 its_own : (g : Grid) → HasCellsOf g g

@@ -2,21 +2,8 @@
 --
 -- Grids with the same elevations and sinks at their cells have the same open cells, since a step stays in the grid. So they
 -- have the same paths, and what covers the ground and drains in the one does so in the other.
-use Rattle.std.proofs.Common.{◌≡◌, ◌≢◌, ◌≤ℤ◌, ◌<ℤ◌, ◌∙◌, ℤ, Bool, Option, Some, None, IsSome, List, [], ◌∷◌, option_map, unwrap_or, pos, refl, sym, ap, subst, arith}
-use Rattle.std.specs.List.{AllByRecursion}
-use Rattle.std.proofs.lemmas.Int.{ints}
-use Rattle.drain_grid.specs.declared.cell.Cell.{Cell}
-use Rattle.drain_grid.specs.declared.rule.Rule.TheVariants.{BelowGround}
-use Rattle.drain_grid.specs.declared.direction.Direction.{Direction}
-use Rattle.drain_grid.specs.Extent.{IsCellOf, step, Extent}
-use Rattle.drain_grid.specs.Grid.{Grid, HasData, IsOpenCell, height_at}
-use Rattle.drain_grid.specs.Open.{IsOpenAmong}
-use Rattle.drain_grid.specs.Path.{IsPath, Surface, NeverRises, Drains, CoversGround}
-use Rattle.drain_grid.proofs.Lowered.{HasData-path, con_below, con_below_crest, levels}
-use Rattle.drain_grid.proofs.Neighbors.{step_lies}
-use Rattle.drain_grid.proofs.OpenCells.{IsOpenAmong-alike}
+use Rattle.drain_filled.proofs.Names.{◌≡◌, ◌≢◌, ◌≤ℤ◌, ◌<ℤ◌, ◌∙◌, ℤ, Bool, Option, Some, None, IsSome, List, [], ◌∷◌, option_map, unwrap_or, pos, refl, sym, ap, subst, arith, AllByRecursion, ints, Cell, BelowGround, Direction, IsCellOf, step, Extent, Grid, HasData, IsOpenCell, height_at, IsOpenAmong, IsPath, Surface, NeverRises, Drains, CoversGround, HasData-path, con_below, con_below_crest, levels, step_lies, IsOpenAmong-alike, AreOneSurface, HasCellsOf}
 use Rattle.drain_filled.specs.Laws.{AreBetween, OneLeastSurface, RulesKeepConBetween, RulesKeepConLow, SameCellsSameSurface, SameNumbersSameCell, UnfilledIsTooLow}
-use Rattle.drain_filled.specs.Compared.{AreOneSurface, HasCellsOf}
 
 -- two numbers, each at most the other
 both_ways : (a b : ℤ) → a ≤ℤ b → b ≤ℤ a → a ≡ b

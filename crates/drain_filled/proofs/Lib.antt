@@ -1,3 +1,4 @@
+pub mod Names
 pub mod Beginning
 pub mod Ending
 pub mod FirstCon

@@ -1,22 +1,7 @@
 -- A least surface with the marks of its cells is a surface from which ways are found; between pixels it has pixels' numbers.
-use Rattle.std.proofs.Common.{◌≡◌, ◌≢◌, ◌∙◌, ◌*◌, ◌<◌, ◌≤ℤ◌, ℕ, ℤ, pos, List, [], ◌∷◌, IsSome, IsNone, inl, inr, length, get_or, refl, sym, ap, subst, arith}
-use Rattle.std.specs.List.{All}
-use Rattle.std.proofs.lemmas.Int.{ints}
-use Rattle.std.proofs.lemmas.List.Elements.{All-from_get_or}
-use Rattle.drain_grid.specs.declared.cell.Cell.{Cell}
+use Rattle.drain_filled.proofs.Names.{◌≡◌, ◌≢◌, ◌∙◌, ◌*◌, ◌<◌, ◌≤ℤ◌, ℕ, ℤ, pos, List, [], ◌∷◌, length, get_or, refl, sym, ap, subst, arith, ints, Cell, Extent, index_of, Grid, HasData, IsInside, height_at, IsLeastSurface, NeverRises, Surface, least_at_open, least_beside, AreNeighbors-lies, step_lies, index_of-below, UNREACHED, Flooding, IsSurfaceOf, con_at, mark_at, HasHeights, ArePixelHeights, DataCells, IsMarkAt, IsVoided, data_mark, IsBetween}
 use Rattle.drain_grid.specs.declared.values.TheConstants.{LEAST_PIXEL, GREATEST_PIXEL}
-use Rattle.drain_grid.specs.Extent.{Extent, IsCellOf, index_of}
-use Rattle.drain_grid.specs.Grid.{Grid, HasData, IsInside, IsOpenCell, height_at}
-use Rattle.drain_grid.specs.Path.{CoversGround, Drains, IsLeastSurface, IsPath, NeverRises, Surface}
 use Rattle.drain_grid.specs.Values.{IsPixel}
-use Rattle.drain_grid.proofs.Lowered.{least_at_open, least_beside}
-use Rattle.drain_grid.proofs.Neighbors.{AreNeighbors-lies, step_lies}
-use Rattle.drain_grid.proofs.Runs.{index_of-below}
-use Rattle.drain_flood.specs.declared.layers.TheConstants.{UNREACHED}
-use Rattle.drain_flood.specs.Floods.{Flooding, IsSurfaceOf, con_at, mark_at}
-use Rattle.drain_filled.specs.Compared.{AreOneSurface, HasCellsOf, HasHeights}
-use Rattle.drain_filled.specs.Grounds.{ArePixelHeights, DataCells, HasDataCells, IsMarkAt, IsVoided, data_mark}
-use Rattle.drain_filled.specs.Sweeps.{IsBetween}
 use Rattle.drain_filled.proofs.LeastSurfaces.{same_cells_same_surface}
 
 -- a surface of one height never rises

@@ -1,28 +1,8 @@
 -- From one cell to the next: a cell is taken from the trail or from those that wait, its neighbours are looked at, and it is left.
-use Rattle.std.proofs.Common.{◌≡◌, ℕ, ◌<◌, ◌+◌, ◌∙◌, ◌⊎◌, inl, inr, ℤ, ◌≤ℤ◌, List, [], ◌∷◌, ◌++◌, Bool, true, false, ◌||◌, Some, Contains, get_or, length, refl, sym, ap, subst, arith}
+use Rattle.drain_filled.proofs.Names.{◌≡◌, ℕ, ◌<◌, ◌+◌, ◌∙◌, ◌⊎◌, inl, inr, ℤ, ◌≤ℤ◌, List, [], ◌∷◌, ◌++◌, Bool, true, false, ◌||◌, Some, Contains, get_or, length, refl, sym, ap, subst, arith, IsPermutation, int_max, cases_order, false≢true, or_left, or_right, ints, All-nil, All-cons, All-contains, All-head, All-tail, All-push, All-weaker, Contains-append_left, Contains-get_or, Contains-push, Contains-push_cases, All-permutation, Contains-permutation, Cell, Direction, East, directions, Extent, index_of, step, Grid, IsInside, same_index, of_each, Flooding, con_at, mark_at, IsReachedCell, IsUnreached, IsNextTurn, IsOut, with_lists, none_in, outlet_reached, cons_cases, head_in, out_all, out_has, tail_in, HasFloor, IsBusyAround, IsBusyCell, IsHeld, IsLookedRound, IsReachedPair, IsReachedPlace, IsSweepOf, PassesBeside}
 use Rattle.std.specs.List.{All}
-use Rattle.std.specs.List.Sorted.{IsPermutation}
-use Rattle.std.specs.Int.{int_max}
-use Rattle.std.proofs.lemmas.Bool.{cases_order, false≢true, or_left, or_right}
-use Rattle.std.proofs.lemmas.Int.{ints}
-use Rattle.std.proofs.lemmas.List.Elements.{All-nil, All-cons, All-contains, All-head, All-tail, All-push, All-weaker, Contains-append_left, Contains-get_or, Contains-push, Contains-push_cases}
-use Rattle.std.proofs.lemmas.List.Sorted.{All-permutation, Contains-permutation}
-use Rattle.drain_grid.specs.declared.cell.Cell.{Cell}
-use Rattle.drain_grid.specs.declared.direction.Direction.{Direction}
-use Rattle.drain_grid.specs.declared.direction.Direction.TheVariants.{East}
-use Rattle.drain_grid.specs.Direction.{directions}
-use Rattle.drain_grid.specs.Extent.{Extent, index_of, step}
-use Rattle.drain_grid.specs.Grid.{Grid, IsInside}
-use Rattle.drain_grid.proofs.Alike.{same_index}
-use Rattle.drain_grid.proofs.Neighbors.{of_each}
 use Rattle.drain_grid.proofs.Tallies.{same_some}
-use Rattle.drain_flood.specs.Floods.{Flooding, con_at, mark_at, IsReachedCell, IsUnreached}
 use Rattle.drain_flood.specs.Looks.{IsLook}
-use Rattle.drain_flood.specs.Turns.{IsNextTurn, IsOut, with_lists}
-use Rattle.drain_flood.proofs.AllReached.{none_in}
-use Rattle.drain_flood.proofs.Reaching.{outlet_reached}
-use Rattle.drain_flood.proofs.Turns.{cons_cases, head_in, out_all, out_has, tail_in}
-use Rattle.drain_filled.specs.Sweeps.{HasFloor, IsBusyAround, IsBusyCell, IsHeld, IsLookedRound, IsReachedPair, IsReachedPlace, IsSweepOf, PassesBeside}
 use Rattle.drain_filled.proofs.Sweeping.{floor_kept, from_kept, kept_by_reaching, was_fresh}
 
 -- Other lists.

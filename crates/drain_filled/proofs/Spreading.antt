@@ -1,18 +1,7 @@
 -- One turn of a sweep: what holds of the surface afterwards, and how much less is left to do.
-use Rattle.std.proofs.Common.{◌≡◌, ℕ, ◌+◌, ◌*◌, ◌<◌, ◌≤◌, ◌∙◌, ℤ, List, [], ◌∷◌, ◌++◌, Bool, true, false, Option, Some, None, Result, Ok, Err, MatchOption, OnOk, OnErr, length, refl, sym, ap, subst, arith}
+use Rattle.drain_filled.proofs.Names.{◌≡◌, ℕ, ◌+◌, ◌*◌, ◌<◌, ◌≤◌, ◌∙◌, ℤ, List, [], ◌∷◌, ◌++◌, Bool, true, false, Option, Some, None, Result, Ok, Err, MatchOption, OnOk, OnErr, length, refl, sym, ap, subst, arith, IsPermutation, false≢true, length_push, All-cons, All-head, All-tail, All-permutation, length_permutation, Cell, Extent, IsCellOf, index_of, Grid, IsInside, Flooding, con_at, unreached, IsLessWork, IsNextTurn, IsBusyCell, IsLookedRound, IsLowest, IsSweepOf, Waits, left_to_do}
 use Rattle.std.specs.List.{All}
-use Rattle.std.specs.List.Sorted.{IsPermutation}
-use Rattle.std.proofs.lemmas.Bool.{false≢true}
-use Rattle.std.proofs.lemmas.List.{length_push}
-use Rattle.std.proofs.lemmas.List.Elements.{All-cons, All-head, All-tail}
-use Rattle.std.proofs.lemmas.List.Sorted.{All-permutation, length_permutation}
-use Rattle.drain_grid.specs.declared.cell.Cell.{Cell}
-use Rattle.drain_grid.specs.Extent.{Extent, IsCellOf, index_of}
-use Rattle.drain_grid.specs.Grid.{Grid, IsInside}
-use Rattle.drain_flood.specs.Floods.{Flooding, con_at, unreached}
-use Rattle.drain_flood.specs.Turns.{IsLessWork, IsNextTurn}
 use Rattle.drain_flood.proofs.Turning.{turn_work}
-use Rattle.drain_filled.specs.Sweeps.{IsBusyCell, IsLookedRound, IsLowest, IsSweepOf, Waits, left_to_do}
 use Rattle.drain_filled.proofs.Moving.{busy_cell, deferred, passed, popped_busy, waits}
 
 -- what a call returned for a cell

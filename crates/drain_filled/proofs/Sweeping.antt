@@ -3,25 +3,8 @@
 -- The heart of it is that a cell may be raised. Let no reached cell with an unreached neighbour be below a level. Take a surface
 -- that covers the ground and drains, and from an unreached cell a path along which it never rises. The path ends at an open cell,
 -- which is reached. Where it first comes to a reached cell, the surface is at least the level, so it is at the unreached cell.
-use Rattle.std.proofs.Common.{◌≡◌, ◌≢◌, ℕ, ◌∙◌, ◌⊎◌, inl, inr, ℤ, ◌≤ℤ◌, List, [], ◌∷◌, Some, Contains, refl, sym, ap, subst, arith}
-use Rattle.std.specs.List.{All, AllByRecursion}
-use Rattle.std.specs.Int.{int_max}
-use Rattle.std.proofs.lemmas.Bool.{cases_eq}
-use Rattle.std.proofs.lemmas.Int.{ints, clamps}
-use Rattle.std.proofs.lemmas.List.Elements.{All-weaker, All-push, Contains-append_left, Contains-push}
-use Rattle.drain_grid.specs.declared.cell.Cell.{Cell}
-use Rattle.drain_grid.specs.declared.direction.Direction.{Direction}
-use Rattle.drain_grid.specs.Direction.{opposite}
-use Rattle.drain_grid.specs.Extent.{index_of, step}
-use Rattle.drain_grid.specs.Grid.{Grid, IsOpenCell, height_at}
-use Rattle.drain_grid.specs.Path.{CoversGround, Drains, IsPath, NeverRises, Surface}
-use Rattle.drain_grid.proofs.Inflows.{step_back}
-use Rattle.drain_grid.proofs.Lowered.{HasData-path, same_or_not}
-use Rattle.drain_grid.proofs.Neighbors.{AreNeighbors-lies, direction_between, step_gives, step_lies}
-use Rattle.drain_flood.specs.declared.layers.TheConstants.{UNREACHED}
-use Rattle.drain_flood.specs.Floods.{Flooding, con_at, mark_at, HasDescent, IsReachedCell, IsUnreached, Reaches}
-use Rattle.drain_flood.proofs.Reaching.{outlet_reached}
-use Rattle.drain_filled.specs.Sweeps.{HasFloor, IsBetween, IsHeld, IsReachedPair, IsReachedPlace, IsSweepOf}
+use Rattle.drain_filled.proofs.Names.{◌≡◌, ◌≢◌, ℕ, ◌∙◌, ◌⊎◌, inl, inr, ℤ, ◌≤ℤ◌, List, [], ◌∷◌, Some, Contains, refl, sym, ap, subst, arith, AllByRecursion, int_max, cases_eq, ints, clamps, All-weaker, All-push, Contains-append_left, Contains-push, Cell, Direction, opposite, index_of, step, Grid, IsOpenCell, height_at, CoversGround, Drains, IsPath, NeverRises, Surface, step_back, HasData-path, same_or_not, AreNeighbors-lies, direction_between, step_gives, step_lies, UNREACHED, Flooding, con_at, mark_at, HasDescent, IsReachedCell, IsUnreached, Reaches, outlet_reached, HasFloor, IsBetween, IsHeld, IsReachedPair, IsReachedPlace, IsSweepOf}
+use Rattle.std.specs.List.{All}
 
 -- what a surface that covers the ground and drains is at unreached cells
 module _ (g : Grid) (f : Flooding) (level : ℤ) (opened : (c : Cell) → IsOpenCell g c → mark_at g.extent f c ≢ UNREACHED)

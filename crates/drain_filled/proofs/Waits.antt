@@ -1,9 +1,6 @@
 -- Pairs of a depth and an item, as pairs of a height and an item.
-use Rattle.std.proofs.Common.{◌≡◌, ◌≤◌, ◌-ℤ◌, ◌≤ℤ◌, ℕ, ℤ, pos, List, ◌∷◌, map, All, arith, subst, sym}
-use Rattle.std.proofs.lemmas.Int.{ints}
-use Rattle.std.specs.List.Sorted.{IsPermutation}
-use Rattle.std.proofs.lemmas.List.Sorted.{IsPermutation-map}
-use Rattle.std.proofs.lemmas.List.Elements.{All-map}
+use Rattle.drain_filled.proofs.Names.{◌≡◌, ◌≤◌, ◌-ℤ◌, ◌≤ℤ◌, ℕ, ℤ, pos, List, ◌∷◌, map, arith, subst, sym, ints, IsPermutation, IsPermutation-map, All-map}
+use Rattle.std.proofs.Common.{All}
 use Rattle.drain_filled.specs.Depths.{waiting_pair}
 
 pub put_pair : (h : ℤ) (depth item : ℕ) (xs ys : List (ℕ × ℕ)) (old : List (ℤ × ℕ)) → pos 9223372036854775807 -ℤ pos depth ≡ h → old ≡ map waiting_pair xs →

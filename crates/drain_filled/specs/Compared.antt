@@ -1,10 +1,6 @@
 -- Two lists of heights in row order, compared at the data cells of a grid.
-use Rattle.std.specs.Prelude.{◌≡◌, ◌≢◌, ◌<◌, ℕ, ℤ, pos, List, slice_index_or}
-use Rattle.drain_grid.specs.declared.cell.Cell.{Cell}
-use Rattle.drain_grid.specs.Extent.{IsCellOf, index_of, IsEarlier, Extent}
-use Rattle.drain_grid.specs.Grid.{Grid, HasData, IsInside}
-use Rattle.drain_grid.specs.Path.{IsLeastSurface, Surface}
-use Rattle.drain_flood.specs.declared.layers.TheConstants.{UNREACHED}
+use Rattle.std.specs.Prelude.{◌≡◌, ◌≢◌, ◌<◌}
+use Rattle.drain_filled.specs.Names.{ℕ, ℤ, pos, List, slice_index_or, Cell, IsCellOf, index_of, IsEarlier, Extent, Grid, HasData, IsInside, IsLeastSurface, Surface, UNREACHED}
 use Rattle.drain_filled.specs.Grounds.{DataCells, data_mark}
 
 -- the number at a cell's place in a list in row order

@@ -1,11 +1,6 @@
 -- Which cells of the rows of a grid have data, and their conditioned elevations, in lists.
-use Rattle.std.specs.Prelude.{◌≡◌, ℕ, ◌*◌, ◌<◌, ◌++◌, ℤ, pos, List, Option, Some, None, length, map, slice_index_or}
-use Rattle.drain_grid.specs.declared.cell.Cell.{Cell}
-use Rattle.drain_grid.specs.declared.sink_line.SinkLine.{SinkLine}
-use Rattle.drain_grid.specs.Extent.{index_of}
-use Rattle.drain_grid.specs.Grid.{Grid, Products, IsInside}
-use Rattle.drain_grid.specs.SinkTexts.{is_listed}
-use Rattle.drain_flood.specs.declared.layers.TheConstants.{UNREACHED, VOID}
+use Rattle.std.specs.Prelude.{◌≡◌, ◌*◌, ◌<◌, ◌++◌}
+use Rattle.drain_filled.specs.Names.{ℕ, ℤ, pos, List, Option, Some, None, length, map, slice_index_or, Cell, SinkLine, index_of, Grid, Products, IsInside, is_listed, UNREACHED, VOID}
 use Rattle.drain_filled.specs.Grounds.{DataCells, data_mark}
 
 -- the mark of a cell with this elevation: before a sweep no data cell is reached

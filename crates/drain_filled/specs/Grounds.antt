@@ -1,14 +1,7 @@
 -- Which cells of a grid have data, in memory; and the grid that it is with a number at each of them.
-use Rattle.std.specs.Prelude.{◌≡◌, ◌≢◌, ℕ, ℤ, pos, ◌==◌, List, Option, Some, None, IsNone, slice_index_or, if◌then◌else◌}
-use Rattle.drain_grid.specs.declared.cell.Cell.{Cell}
-use Rattle.drain_grid.specs.declared.direction.Direction.{Direction}
-use Rattle.drain_grid.specs.declared.sink_line.SinkLine.{SinkLine}
-use Rattle.drain_grid.specs.Extent.{Extent, index_of, step}
-use Rattle.drain_grid.specs.Grid.{Grid, HasData, IsInside, IsOpenCell, height_at}
-use Rattle.drain_grid.specs.SinkTexts.{is_listed}
+use Rattle.std.specs.Prelude.{◌≡◌, ◌≢◌, ◌==◌, if◌then◌else◌}
+use Rattle.drain_filled.specs.Names.{ℕ, ℤ, pos, List, Option, Some, None, IsNone, slice_index_or, Cell, Direction, SinkLine, Extent, index_of, step, Grid, HasData, IsInside, IsOpenCell, height_at, is_listed, IsPixel, OPEN, REACHED, UNREACHED, VOID}
 use Rattle.drain_grid.specs.Spacing.{unit_spacing}
-use Rattle.drain_grid.specs.Values.{IsPixel}
-use Rattle.drain_flood.specs.declared.layers.TheConstants.{OPEN, REACHED, UNREACHED, VOID}
 
 -- a mark for each cell, in row order: that of an unreached cell where there is data, another at voids
 pub record DataCells : Type 0 where

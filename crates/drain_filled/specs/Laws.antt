@@ -1,11 +1,6 @@
 -- What the definitions of least surfaces say together.
-use Rattle.std.specs.Prelude.{◌≤ℤ◌, ◌<ℤ◌, ℤ}
-use Rattle.drain_grid.specs.declared.cell.Cell.{Cell}
-use Rattle.drain_grid.specs.Grid.{Grid, Products, HasData, height_at}
-use Rattle.drain_grid.specs.GridRules.{RulesHold}
-use Rattle.drain_grid.specs.Path.{Drains, IsLeastSurface, Surface}
-use Rattle.drain_grid.specs.PatchRules.{surface_rules}
-use Rattle.drain_grid.specs.Rule.{IsFillRule}
+use Rattle.std.specs.Prelude.{◌≤ℤ◌, ◌<ℤ◌}
+use Rattle.drain_filled.specs.Names.{ℤ, Cell, Grid, Products, HasData, height_at, RulesHold, Drains, IsLeastSurface, Surface, surface_rules, IsFillRule}
 use Rattle.drain_filled.specs.Compared.{AreOneSurface, HasCellsOf, IsFirstUnfilled}
 
 -- two least surfaces are equal at each data cell

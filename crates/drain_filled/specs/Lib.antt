@@ -1,3 +1,4 @@
+pub mod Names
 pub mod Compared
 pub mod ConRows
 pub mod Depths

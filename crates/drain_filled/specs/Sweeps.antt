@@ -5,21 +5,12 @@
 -- lower. So once all cells are reached it is the least of these.
 -- Source: Priority-Flood (Barnes, Lehman and Mulla 2014), with traces as in Zhou, Sun and Fu (2016); that it may begin at
 -- any surface between the ground and the filled one is this project's own.
-use Rattle.std.specs.Prelude.{◌≡◌, ◌≢◌, ℕ, ◌<◌, ◌+◌, ◌*◌, ◌⊎◌, ℤ, ◌≤ℤ◌, List, [], ◌∷◌, ◌++◌, Contains, Bool, true, false, Some, IsSome, length, get_or, ◌≤◌}
+use Rattle.std.specs.Prelude.{◌≡◌, ◌≢◌, ◌<◌, ◌+◌, ◌*◌, ◌⊎◌, ◌≤ℤ◌, ◌∷◌, ◌++◌, ◌≤◌}
+use Rattle.drain_filled.specs.Names.{ℕ, ℤ, List, [], Contains, Bool, true, false, Some, IsSome, length, get_or, IsPermutation, Cell, Direction, Extent, IsCellOf, index_of, step, Grid, HasData, IsInside, IsOpenCell, CoversGround, Drains, Surface, UNREACHED, Flooding, con_at, mark_at, unreached, HasDescent, IsReachedCell, IsUnreached, IsFreshAt, with_lists}
 use Rattle.std.specs.List.{All}
-use Rattle.std.specs.List.Sorted.{IsPermutation}
-use Rattle.drain_grid.specs.declared.cell.Cell.{Cell}
-use Rattle.drain_grid.specs.declared.direction.Direction.{Direction}
 use Rattle.drain_grid.specs.declared.direction.Direction.TheVariants.{East}
 use Rattle.drain_grid.specs.Direction.{directions}
-use Rattle.drain_grid.specs.Extent.{Extent, IsCellOf, index_of, step}
-use Rattle.drain_grid.specs.Grid.{Grid, HasData, IsInside, IsOpenCell}
-use Rattle.drain_grid.specs.Path.{CoversGround, Drains, Surface}
-use Rattle.drain_flood.specs.declared.layers.TheConstants.{UNREACHED}
 use Rattle.drain_flood.specs.declared.level_queue.TheConstants.{MAX_CELLS}
-use Rattle.drain_flood.specs.Floods.{Flooding, con_at, mark_at, unreached, HasDescent, IsReachedCell, IsUnreached}
-use Rattle.drain_flood.specs.Looks.{IsFreshAt}
-use Rattle.drain_flood.specs.Turns.{with_lists}
 
 -- the surface covers the ground, and none that covers the ground and drains is lower at a data cell
 pub record IsBetween (g : Grid) (s : Surface) : Type 0 where

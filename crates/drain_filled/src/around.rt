@@ -1,11 +1,7 @@
 //! The eight neighbours of a cell of a sweep.
 
-ghost use Rattle.std.specs.Prelude.{◌≡◌, ◌*◌, ◌<◌, ℕ, List, MatchOption, IfSome, IfOk, OnOk};
-ghost use Rattle.drain_grid.specs.declared.cell.Cell.{Cell};
-ghost use Rattle.drain_grid.specs.Extent.{IsCellOf};
-ghost use Rattle.drain_grid.specs.Grid.{Grid};
-ghost use Rattle.drain_flood.specs.Looks.{IsFreshAt, IsLook};
-ghost use Rattle.drain_flood.specs.Turns.{IsLessWork};
+ghost use Rattle.std.specs.Prelude.{◌≡◌, ◌*◌, ◌<◌};
+ghost use Rattle.drain_filled.specs.Names.{ℕ, List, MatchOption, IfSome, IfOk, OnOk, Cell, IsCellOf, Grid, IsFreshAt, IsLook, IsLessWork};
 ghost use Rattle.drain_filled.specs.Sweeps.{IsBusyCell, IsFreshPlace, IsLookedRound};
 
 use crate::sweep::Sweep;

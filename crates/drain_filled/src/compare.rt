@@ -1,9 +1,7 @@
 //! The first cell where a surface isn't the filled one.
 
-ghost use Rattle.std.specs.Prelude.{◌≡◌, ◌↔◌, ◌*◌, ◌<◌, ℤ, length, IfOk, IsTrue, MatchOption, pos, slice_index_or};
-ghost use Rattle.drain_grid.specs.declared.cell.Cell.{Cell};
-ghost use Rattle.drain_grid.specs.Grid.{Grid};
-ghost use Rattle.drain_grid.specs.Path.{IsLeastSurface, Surface};
+ghost use Rattle.std.specs.Prelude.{◌≡◌, ◌↔◌, ◌*◌, ◌<◌};
+ghost use Rattle.drain_filled.specs.Names.{length, IfOk, IsTrue, MatchOption, pos, slice_index_or, Cell, Grid, IsLeastSurface, Surface};
 ghost use Rattle.drain_filled.specs.Compared.{AreOneBefore, IsFirstOther, HasCellsOf, HasHeights, IsFirstUnfilled, listed_at};
 ghost use Rattle.drain_filled.specs.Grounds.{HasDataCells, listed_grid};
 ghost use Rattle.drain_filled.specs.Sweeps.{IsBetween};

@@ -1,7 +1,7 @@
 //! Which cells of the rows that were taken so far have data, and their conditioned elevations.
 
-ghost use Rattle.std.specs.Prelude.{◌≡◌, ◌*◌, IfSome, IsSome, OnErr, OnOk, [], vec_len};
-ghost use Rattle.drain_grid.specs.Grid.{Grid, Products};
+ghost use Rattle.std.specs.Prelude.{◌≡◌, ◌*◌};
+ghost use Rattle.drain_filled.specs.Names.{IfSome, IsSome, OnErr, OnOk, [], vec_len, Grid, Products};
 ghost use Rattle.drain_filled.specs.ConRows.{AreFirstCon, IsGroundAndCon, with_row};
 
 use crate::ground::Ground;

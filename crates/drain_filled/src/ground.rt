@@ -1,10 +1,7 @@
 //! Which cells of a grid have data, and which of these are open.
 
-ghost use Rattle.std.specs.Prelude.{◌≡◌, ◌↔◌, ◌*◌, ◌⊎◌, IsTrue, length, vec_len};
-ghost use Rattle.drain_grid.specs.declared.direction.Direction.{Direction};
-ghost use Rattle.drain_grid.specs.Extent.{IsCellOf};
-ghost use Rattle.drain_grid.specs.SinkTexts.{is_listed};
-ghost use Rattle.drain_flood.specs.declared.layers.TheConstants.{UNREACHED};
+ghost use Rattle.std.specs.Prelude.{◌≡◌, ◌↔◌, ◌*◌, ◌⊎◌};
+ghost use Rattle.drain_filled.specs.Names.{IsTrue, length, vec_len, Direction, IsCellOf, is_listed, UNREACHED};
 ghost use Rattle.drain_filled.specs.Grounds.{IsGapBeside, data_mark};
 
 use drain_flood::layers::UNREACHED;

@@ -1,11 +1,7 @@
 //! The filled surface of a ground with the marks of its cells, from which ways are found.
 
-ghost use Rattle.std.specs.Prelude.{◌≡◌, ◌*◌, ◌<◌, ℕ, IfOk, IsNone, length, pos, slice_index_or};
-ghost use Rattle.drain_grid.specs.declared.cell.Cell.{Cell};
-ghost use Rattle.drain_grid.specs.Extent.{IsCellOf, index_of};
-ghost use Rattle.drain_grid.specs.Grid.{Grid, IsInside, height_at};
-ghost use Rattle.drain_grid.specs.Values.{IsPixel};
-ghost use Rattle.drain_flood.specs.Floods.{IsSurfaceOf, con_at};
+ghost use Rattle.std.specs.Prelude.{◌≡◌, ◌*◌, ◌<◌};
+ghost use Rattle.drain_filled.specs.Names.{ℕ, IfOk, IsNone, length, pos, slice_index_or, Cell, IsCellOf, index_of, Grid, IsInside, height_at, IsPixel, IsSurfaceOf, con_at};
 ghost use Rattle.drain_filled.specs.Compared.{HasHeights};
 ghost use Rattle.drain_filled.specs.Grounds.{ArePixelHeights, HasDataCells, IsMarkAt, IsVoided};
 

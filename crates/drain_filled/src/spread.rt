@@ -6,12 +6,8 @@
 //!
 //! Source: Priority-Flood (Barnes, Lehman and Mulla 2014), with traces as in Zhou, Sun and Fu (2016).
 
-ghost use Rattle.std.specs.Prelude.{◌≡◌, ◌<◌, ◌≤◌, ◌+◌, ◌*◌, ℕ, List, [], ◌∷◌, ◌++◌, pos, true, false, All, IfOk, MatchOption, OnOk, length, slice_index_or};
-ghost use Rattle.drain_grid.specs.Extent.{IsCellOf, index_of};
-ghost use Rattle.drain_grid.specs.Grid.{Grid};
-ghost use Rattle.drain_grid.specs.Path.{IsLeastSurface};
-ghost use Rattle.drain_flood.specs.Floods.{con_at};
-ghost use Rattle.drain_flood.specs.Turns.{IsEmptied};
+ghost use Rattle.drain_filled.specs.Names.{ℕ, List, [], pos, true, false, IfOk, MatchOption, OnOk, length, slice_index_or, IsCellOf, index_of, Grid, IsLeastSurface, con_at, IsEmptied};
+ghost use Rattle.std.specs.Prelude.{◌≡◌, ◌<◌, ◌≤◌, ◌+◌, ◌*◌, ◌∷◌, ◌++◌, All};
 ghost use Rattle.drain_filled.specs.Grounds.{HasDataCells};
 ghost use Rattle.drain_filled.specs.Sweeps.{AreNone, AreNoneLeft, IsBetween, IsLast, IsSweepOf, left_to_do};
 

@@ -1,11 +1,7 @@
 //! The cells of a grid with data and their conditioned elevations, compared with the filled surface.
 
-ghost use Rattle.std.specs.Prelude.{◌≡◌, ◌*◌, IfOk, MatchOption, vec_len};
-ghost use Rattle.drain_grid.specs.Grid.{Grid, Products};
-ghost use Rattle.drain_grid.specs.GridRules.{RulesHold};
-ghost use Rattle.drain_grid.specs.Path.{IsLeastSurface};
-ghost use Rattle.drain_grid.specs.PatchRules.{surface_rules};
-ghost use Rattle.drain_grid.specs.Rule.{IsFillRule};
+ghost use Rattle.std.specs.Prelude.{◌≡◌, ◌*◌};
+ghost use Rattle.drain_filled.specs.Names.{IfOk, MatchOption, vec_len, Grid, Products, RulesHold, IsLeastSurface, surface_rules, IsFillRule};
 ghost use Rattle.drain_filled.specs.Compared.{IsFirstUnfilled};
 ghost use Rattle.drain_filled.specs.ConRows.{HasSinks, IsGroundAndCon};
 

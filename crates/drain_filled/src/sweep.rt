@@ -1,12 +1,7 @@
 //! A surface under way: a height and a mark for each cell, the trail, and the cells that wait.
 
-ghost use Rattle.std.specs.Prelude.{◌≡◌, ◌+◌, ◌*◌, ◌<◌, [], pos, IfOk, IsTrue, MatchOption, OnOk, length, slice_index_or};
-ghost use Rattle.drain_grid.specs.Extent.{IsCellOf, index_of};
-ghost use Rattle.drain_grid.specs.Grid.{Grid};
-ghost use Rattle.drain_grid.specs.declared.cell.Cell.{Cell};
-ghost use Rattle.drain_flood.specs.Floods.{con_at, Reaches};
-ghost use Rattle.drain_flood.specs.Turns.{IsDone, IsEmptied, IsNextTurn};
-ghost use Rattle.drain_flood.specs.declared.layers.TheConstants.{UNREACHED};
+ghost use Rattle.std.specs.Prelude.{◌≡◌, ◌+◌, ◌*◌, ◌<◌};
+ghost use Rattle.drain_filled.specs.Names.{[], pos, IfOk, IsTrue, MatchOption, OnOk, length, slice_index_or, IsCellOf, index_of, Grid, Cell, con_at, Reaches, IsDone, IsEmptied, IsNextTurn, UNREACHED};
 ghost use Rattle.drain_filled.specs.Grounds.{HasDataCells};
 ghost use Rattle.drain_filled.specs.Sweeps.{IsBegun, IsBetween, IsLowest, IsSweepOf, Waits};
 

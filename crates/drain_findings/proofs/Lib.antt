@@ -1,2 +1,3 @@
+pub mod Names
 mod TriedRules
 mod UntriedRules

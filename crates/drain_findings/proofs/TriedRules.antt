@@ -1,24 +1,11 @@
 -- A rule on a judged product requires something: some patch breaks it.
-use Rattle.std.proofs.Common.{◌≡◌, ℕ, ℤ, pos, ◌+ℤ◌, [], ◌∷◌, Option, Some, None, false, refl, arith, ◌≢◌, Bool, true, IsTrue}
+use Rattle.drain_findings.proofs.Names.{◌≡◌, ℕ, ℤ, pos, ◌+ℤ◌, [], ◌∷◌, Option, Some, None, false, refl, arith, ◌≢◌, Bool, true, IsTrue, Patch, BadCode, BelowGround, OpenRaised, NotLeast, Slope, OutletCode, FlatStep, Accumulation, Label, VoidCell, Missing, NoSpill, SpillHeight, SpillRank, SharedLabel, Values, NoDataNumbers, BadCodeWithoutSpill, BelowGroundHolds, OpenRaisedWithoutSpill, NotLeastHolds, SlopeHolds, OutletCodeHolds, FlatStepHolds, AccumulationHolds, LabelHolds, check_rules, LevelStepHolds, unranked, Judged, Rules, Rule, SetProduct, Con, IfJudged, has_acc, has_bas, has_dir, has_product, part_rules, rules_about, tried, judged}
 use Rattle.std.proofs.lemmas.Int.{ints}
-use Rattle.drain_grid.specs.declared.patch.Patch.{Patch}
-use Rattle.drain_grid.specs.declared.rule.Rule.TheVariants.{BadCode, BelowGround, OpenRaised, NotLeast, Slope, OutletCode, FlatStep, Accumulation, Label, VoidCell, Missing, NoSpill, SpillHeight, SpillRank, SharedLabel}
 use Rattle.drain_grid.specs.Spacing.{unit_spacing}
-use Rattle.drain_grid.specs.Values.{Values, NoDataNumbers}
-use Rattle.drain_grid.specs.PatchRules.{BadCodeWithoutSpill, BelowGroundHolds, OpenRaisedWithoutSpill, NotLeastHolds, SlopeHolds, OutletCodeHolds, FlatStepHolds, AccumulationHolds, LabelHolds, check_rules}
-use Rattle.drain_grid.specs.Unranked.{LevelStepHolds, unranked}
 use Rattle.drain_grid.proofs.Decisions.{no, refuted}
 use Rattle.drain_grid.proofs.PatchDecisions.{is_closed, has_lower}
 use Rattle.drain_grid.proofs.RuleDecisions.{names_some, patch_rule}
 use Rattle.std.proofs.lemmas.Bool.{false≢true}
-use Rattle.drain_grid.specs.declared.judged.Judged.{Judged}
-use Rattle.drain_grid.specs.declared.judged.Rules.{Rules}
-use Rattle.drain_grid.specs.declared.rule.Rule.{Rule}
-use Rattle.drain_grid.specs.declared.set_product.SetProduct.{SetProduct}
-use Rattle.drain_grid.specs.declared.set_product.SetProduct.TheVariants.{Con}
-use Rattle.drain_grid.specs.Judged.{IfJudged, has_acc, has_bas, has_dir, has_product}
-use Rattle.drain_grid.specs.RulesAbout.{part_rules, rules_about, tried}
-use Rattle.drain_findings.specs.LookedAt.{judged}
 use Rattle.drain_grid.specs.declared.judged.Judged.TheVariants as rasters
 
 -- For each rule a patch that breaks it.

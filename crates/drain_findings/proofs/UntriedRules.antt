@@ -1,19 +1,6 @@
 -- A rule about a product that isn't judged requires nothing.
-use Rattle.std.proofs.Common.{◌≡◌, ◌≢◌, Bool, true, false, IsTrue, Some, refl}
-use Rattle.drain_grid.specs.declared.judged.Judged.{Judged}
+use Rattle.drain_findings.proofs.Names.{◌≡◌, ◌≢◌, Bool, true, false, IsTrue, Some, refl, Judged, Rules, Patch, Rule, VoidCell, Missing, BadCode, BelowGround, OpenRaised, NoSpill, SpillHeight, SpillRank, NotLeast, Slope, OutletCode, FlatStep, Accumulation, Label, SharedLabel, SetProduct, Con, Dir, Acc, Bas, IfJudged, has_acc, has_bas, has_dir, has_product, check_rules, part_rules, rules_about, tried, unranked, NoDataNumbers, judged}
 use Rattle.drain_grid.specs.declared.judged.Judged.TheVariants as rasters
-use Rattle.drain_grid.specs.declared.judged.Rules.{Rules}
-use Rattle.drain_grid.specs.declared.patch.Patch.{Patch}
-use Rattle.drain_grid.specs.declared.rule.Rule.{Rule}
-use Rattle.drain_grid.specs.declared.rule.Rule.TheVariants.{VoidCell, Missing, BadCode, BelowGround, OpenRaised, NoSpill, SpillHeight, SpillRank, NotLeast, Slope, OutletCode, FlatStep, Accumulation, Label, SharedLabel}
-use Rattle.drain_grid.specs.declared.set_product.SetProduct.{SetProduct}
-use Rattle.drain_grid.specs.declared.set_product.SetProduct.TheVariants.{Con, Dir, Acc, Bas}
-use Rattle.drain_grid.specs.Judged.{IfJudged, has_acc, has_bas, has_dir, has_product}
-use Rattle.drain_grid.specs.PatchRules.{check_rules}
-use Rattle.drain_grid.specs.RulesAbout.{part_rules, rules_about, tried}
-use Rattle.drain_grid.specs.Unranked.{unranked}
-use Rattle.drain_grid.specs.Values.{NoDataNumbers}
-use Rattle.drain_findings.specs.LookedAt.{judged}
 
 not_judged : (is_judged : Bool) (P : Type 0) → ¬ IsTrue is_judged → IfJudged is_judged P
 not_judged true P not = absurd (not refl)

@@ -1,9 +1,7 @@
 -- A way on along a flat, in a direction.
 use Rattle.std.specs.Prelude.{◌≡◌, ◌<ℤ◌}
-use Rattle.drain_grid.specs.declared.direction.Direction.{Direction}
+use Rattle.drain_flat.specs.Names.{Direction, IsDataNeighbor, Values}
 use Rattle.drain_grid.specs.declared.patch.Patch.{Patch}
-use Rattle.drain_grid.specs.Patch.{IsDataNeighbor}
-use Rattle.drain_grid.specs.Values.{Values}
 
 -- a data neighbour of the cell's height
 pub record IsLevelBeside (p : Patch) (d : Direction) (n : Values) : Type 0 where

@@ -12,13 +12,9 @@
 
 pub mod ways;
 
-ghost use Rattle.std.specs.Prelude.{◌↔◌, IsTrue};
-ghost use Rattle.drain_grid.specs.declared.direction.Direction.{Direction};
-ghost use Rattle.drain_grid.specs.Patch.{IsClosed, HasLower};
-ghost use Rattle.drain_grid.specs.PatchRules.{flow_rules, IsFlatStep};
+ghost use Rattle.std.specs.Prelude.{◌↔◌};
+ghost use Rattle.drain_flat.specs.Names.{IsTrue, Direction, IsClosed, HasLower, flow_rules, IsFlatStep, level_rules, IsLevelStep, Values};
 ghost use Rattle.drain_grid.specs.Rule.{IsOnly, IsLeastFault};
-ghost use Rattle.drain_grid.specs.Unranked.{level_rules, IsLevelStep};
-ghost use Rattle.drain_grid.specs.Values.{Values};
 
 use drain_grid::{Patch, Rule};
 pub use ways::{is_flat_way, is_flat_way_without_ranks};

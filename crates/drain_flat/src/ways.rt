@@ -1,11 +1,9 @@
 //! The ways on along a flat: in which directions rule FlatStep lets a cell step.
 
-ghost use Rattle.std.specs.Prelude.{◌≡◌, ◌↔◌, ◌<ℤ◌, IsSome, IsTrue};
+ghost use Rattle.std.specs.Prelude.{◌≡◌, ◌↔◌, ◌<ℤ◌};
+ghost use Rattle.drain_flat.specs.Names.{IsSome, IsTrue, IsClosed, HasLower, FlatStepHolds, LevelStepHolds};
 ghost use Rattle.drain_flat.specs.Ways.{IsFlatWay, IsLevelWay};
 ghost use Rattle.drain_grid.specs.Direction.{Names};
-ghost use Rattle.drain_grid.specs.Patch.{IsClosed, HasLower};
-ghost use Rattle.drain_grid.specs.PatchRules.{FlatStepHolds};
-ghost use Rattle.drain_grid.specs.Unranked.{LevelStepHolds};
 
 use drain_grid::{CellValues, Direction, Patch};
 

@@ -1,3 +1,4 @@
+pub mod Names
 pub mod ReadBack
 pub mod Spelling
 pub mod Numbers

@@ -1,17 +1,10 @@
 -- What a text of a float reads as is a number of a pattern.
-use Rattle.std.proofs.Common.{◌≡◌, ℕ, ◌+◌, ◌-◌, ◌*◌, ◌^◌, ◌%◌, ◌<◌, ◌≤◌, Bool, true, false, List, length, ℤ, pos, neg_ℤ, nat_lt, refl, subst, arith, inl, inr}
-use Rattle.std.specs.Prelude.{◌==◌, Option, Some, None, option_map, option_and_then, if◌then◌else◌, codes, slice_index, drop}
-use Rattle.std.specs.Float.{Float, binary32}
-use Rattle.std.specs.Float.Numeral.{scan_numeral, has_digits, numeral_digits, tens_up, tens_down, minus}
+use Rattle.drain_floats.proofs.Names.{◌≡◌, ℕ, ◌+◌, ◌-◌, ◌*◌, ◌^◌, ◌%◌, ◌<◌, ◌≤◌, Bool, true, false, List, length, ℤ, pos, neg_ℤ, nat_lt, refl, subst, arith, inl, inr, ◌==◌, Option, None, option_map, option_and_then, if◌then◌else◌, codes, slice_index, drop, binary32, scan_numeral, has_digits, numeral_digits, tens_up, tens_down, minus, ints, ltb-true, ltb-false, T, fits, to_bits-lt, number_of, IsFloatNumber, float_number, float_nodata}
+use Rattle.std.specs.Prelude.{Some}
+use Rattle.std.specs.Float.{Float}
 use Rattle.std.specs.Float.Parse.{begins_with, read_word, read_unsigned, sign_len, read_float, parse_float}
-use Rattle.std.proofs.lemmas.Int.{ints}
-use Rattle.std.proofs.lemmas.Bool.{ltb-true, ltb-false}
-use lib.Dec.{T}
-use lib.Ieee.{fits, to_bits}
+use lib.Ieee.{to_bits}
 use lib.Ieee.Fits.{round-fits, inf-fits, nan-fits}
-use lib.Ieee.Bits.{to_bits-lt}
-use Rattle.drain_floats.specs.Patterns.{number_of, IsFloatNumber}
-use Rattle.drain_floats.specs.Words.{float_number, float_nodata}
 
 number_within : (p : ℕ) → p < 4294967296 → IsFloatNumber (number_of p)
 number_within p small = elim (nat_lt 2139095040 (p % 2147483648)) as (λ b. nat_lt 2139095040 (p % 2147483648) ≡ b → IsFloatNumber (if b then pos 2143289344 else (if nat_lt p 2147483648 then pos p else neg_ℤ (pos (p - 2147483648))))) [

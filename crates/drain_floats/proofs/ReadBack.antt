@@ -1,8 +1,6 @@
 -- The number of what is written for a number.
-use Rattle.std.proofs.Common.{◌≡◌, ℕ, suc, ◌+◌, ◌-◌, ◌%◌, ◌<◌, ◌≤◌, Bool, false, nat_lt, ℤ, pos, negsuc, neg_ℤ, refl, ap, arith}
-use Rattle.std.proofs.lemmas.Int.{ints}
+use Rattle.drain_floats.proofs.Names.{◌≡◌, ℕ, suc, ◌+◌, ◌-◌, ◌%◌, ◌<◌, ◌≤◌, Bool, false, nat_lt, ℤ, pos, negsuc, neg_ℤ, refl, ap, arith, ints, number_of, pattern_of, IsSingle}
 use Rattle.std.proofs.lemmas.Bool.Decides.{nat_tests}
-use Rattle.drain_floats.specs.Patterns.{number_of, pattern_of, IsSingle}
 
 -- by the place, and by the sign
 read_place : (k : ℕ) → k ≤ 2139095040 → number_of k ≡ pos k

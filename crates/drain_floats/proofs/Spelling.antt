@@ -1,20 +1,12 @@
 -- The words of a float: they read as its number, and no blank is in them.
-use Rattle.std.proofs.Common.{◌≡◌, ℕ, ◌%◌, ◌<◌, ◌≤◌, Bool, true, false, List, [], ◌∷◌, ◌++◌, length, ℤ, pos, negsuc, refl, sym, ◌∙◌, ap, subst, arith, length-append}
-use Rattle.std.specs.Prelude.{IsTrue, IsFalse, if◌then◌else◌}
-use Rattle.std.specs.Float.{Float, binary32, float_is_finite}
+use Rattle.drain_floats.proofs.Names.{◌≡◌, ℕ, ◌%◌, ◌<◌, ◌≤◌, Bool, true, false, List, [], ◌∷◌, ◌++◌, length, ℤ, pos, negsuc, refl, sym, ◌∙◌, ap, subst, arith, length-append, IsTrue, IsFalse, if◌then◌else◌, binary32, Parts, exponent_text, text_of, ints, T, of_bits, nan_bits, to_bits-of_bits, nan_bits_is, not, number_of, pattern_of, IsSingle, float_number, AreAboveSpace}
+use Rattle.std.specs.Float.{Float, float_is_finite}
 use Rattle.std.specs.Fmt.{sign_text}
 use Rattle.std.specs.Str.Parse.{AllDigits}
-use Rattle.std.specs.Float.Numeral.{Parts, exponent_text, text_of}
 use Rattle.std.proofs.lemmas.Str.Parse.{digit_from_value}
 use Rattle.std.proofs.lemmas.Float.{not_nan_f32_bits}
-use Rattle.std.proofs.lemmas.Int.{ints}
-use lib.Dec.{T}
-use lib.Ieee.{nan, inf, fin, of_bits, is_nan, nan_bits}
-use lib.Ieee.Bits.{to_bits-of_bits, nan_bits_is}
-use mathlib.Core.Bool.{not}
+use lib.Ieee.{nan, inf, fin, is_nan}
 use Rattle.ryu.specs.Plain.{IsPlain, IsPlainNumber, word_of}
-use Rattle.drain_floats.specs.Patterns.{number_of, pattern_of, IsSingle}
-use Rattle.drain_floats.specs.Words.{float_number, AreAboveSpace}
 use Rattle.drain_floats.proofs.ReadBack.{read_back}
 
 -- a pattern whose place is that of no NaN

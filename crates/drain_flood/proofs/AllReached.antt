@@ -1,20 +1,7 @@
 -- If the trail is empty and no cell waits, every data cell is reached: going east from it leads to an open cell, since
 -- the last column is on the edge, and every open cell is reached.
-use Rattle.std.proofs.Common.{◌≡◌, ℕ, zero, suc, ◌+◌, ◌-◌, ◌<◌, inl, inr, ℤ, List, [], Option, Some, None, option_map, Contains, refl, sym, subst, arith}
-use Rattle.std.proofs.lemmas.Bool.{cases_eq}
-use Rattle.drain_grid.specs.declared.cell.Cell.{Cell}
-use Rattle.drain_grid.specs.declared.direction.Direction.{Direction}
-use Rattle.drain_grid.specs.declared.direction.Direction.TheVariants.{East}
-use Rattle.drain_grid.specs.Direction.{opposite}
-use Rattle.drain_grid.specs.Extent.{step}
-use Rattle.drain_grid.specs.Grid.{Grid, HasData, IsOpenCell}
-use Rattle.drain_grid.specs.Open.{IsGap}
+use Rattle.drain_flood.proofs.Names.{◌≡◌, ℕ, zero, suc, ◌+◌, ◌-◌, ◌<◌, inl, inr, ℤ, List, [], Option, Some, None, option_map, Contains, refl, sym, subst, arith, cases_eq, Cell, Direction, East, opposite, step, Grid, HasData, IsOpenCell, IsGap, step_lies, step_back, OPEN, UNREACHED, Flooding, mark_at, IsReachedCell, IsFloodOf, AllAreReached}
 use Rattle.drain_grid.proofs.OpenCells.{IsOpenAmong-gap, gap_from_void}
-use Rattle.drain_grid.proofs.Neighbors.{step_lies}
-use Rattle.drain_grid.proofs.Inflows.{step_back}
-use Rattle.drain_flood.specs.declared.layers.TheConstants.{OPEN, UNREACHED}
-use Rattle.drain_flood.specs.Floods.{Flooding, mark_at, IsReachedCell, IsFloodOf}
-use Rattle.drain_flood.specs.Laws.{AllAreReached}
 use Rattle.drain_flood.proofs.Cells.{none_or_some}
 
 outlet_reached : (code : ℕ) → code ≡ OPEN → code ≡ UNREACHED → ⊥

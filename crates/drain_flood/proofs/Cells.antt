@@ -1,11 +1,5 @@
 -- What an option holds; a list that gets a number for each cell in row order.
-use Rattle.std.proofs.Common.{◌≡◌, ℕ, ◌+◌, ◌<◌, ◌≤◌, ◌⊎◌, ◌∙◌, ◌++◌, ◌∷◌, [], List, inl, inr, ℤ, Option, Some, None, IsNone, IsSome, length, get_or, refl, sym, ap, subst, arith}
-use Rattle.std.proofs.lemmas.Bool.{cases_lt}
-use Rattle.std.proofs.lemmas.List.{get_or_append_left, get_or_push, length-append}
-use Rattle.drain_grid.specs.declared.cell.Cell.{Cell}
-use Rattle.drain_grid.specs.Extent.{index_of}
-use Rattle.drain_grid.specs.Grid.{Grid, IsInside}
-use Rattle.drain_grid.proofs.Alike.{same_index}
+use Rattle.drain_flood.proofs.Names.{◌≡◌, ℕ, ◌+◌, ◌<◌, ◌≤◌, ◌⊎◌, ◌∙◌, ◌++◌, ◌∷◌, [], List, inl, inr, ℤ, Option, Some, None, IsNone, IsSome, length, get_or, refl, sym, ap, subst, arith, cases_lt, get_or_append_left, get_or_push, length-append, Cell, index_of, Grid, IsInside, same_index}
 
 -- an elevation is none or some
 pub none_or_some : (o : Option ℤ) → IsNone o ⊎ IsSome o

@@ -1,11 +1,7 @@
 -- Chains of items, and what a write to one item's link does to them.
-use Rattle.std.proofs.Common.{◌≡◌, ◌≢◌, ℕ, zero, suc, ◌<◌, ◌≤◌, true, false, cond, ◌==◌, List, [], ◌∷◌, ◌++◌, length, set, get_or, refl, sym, ap, ◌∙◌, subst, arith, length-set, get_or-set_other, get_or-set_same}
-use Rattle.std.specs.List.{All, sum_by}
-use Rattle.std.proofs.lemmas.Bool.{le-ltb, lt-ltb, ne_eqb}
-use Rattle.std.proofs.lemmas.List.Elements.{All-nil, All-cons, All-head, All-tail, All-push}
-use Rattle.std.proofs.lemmas.List.Sums.{sum_by-set, sum_by-le}
-use Rattle.drain_flood.specs.declared.level_queue.TheConstants.{ABSENT, END, MAX_CELLS}
-use Rattle.drain_flood.specs.Ways.{chain, items_at, IsChain, last_or}
+use Rattle.drain_flood.proofs.Names.{◌≡◌, ◌≢◌, ℕ, zero, suc, ◌<◌, ◌≤◌, true, false, cond, ◌==◌, List, [], ◌∷◌, ◌++◌, length, set, get_or, refl, sym, ap, ◌∙◌, subst, arith, get_or-set_other, get_or-set_same, All, sum_by, le-ltb, lt-ltb, ne_eqb, All-nil, All-cons, All-head, All-tail, All-push, sum_by-set, sum_by-le, ABSENT, END, MAX_CELLS, chain, IsChain, last_or}
+use Rattle.std.proofs.Common.{length-set}
+use Rattle.drain_flood.specs.Ways.{items_at}
 
 -- a chain is what its first item spells
 chain_is : (behind xs : List ℕ) (n at : ℕ) → IsChain behind at xs → length behind ≤ MAX_CELLS → length xs ≤ n → chain behind n at ≡ xs

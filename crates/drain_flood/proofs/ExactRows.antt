@@ -1,11 +1,5 @@
 -- The codes of a row that are put cell by cell.
-use Rattle.std.proofs.Common.{◌≡◌, ◌≢◌, ℕ, ◌+◌, ◌*◌, ◌<◌, inl, inr, List, length, set, get_or, slice_index, sym, ap, ◌∙◌, subst, arith, get_or-set_other, get_or-set_same}
-use Rattle.std.proofs.lemmas.Bool.{cases_eq}
-use Rattle.drain_grid.specs.declared.cell.Cell.{Cell}
-use Rattle.drain_grid.specs.Extent.{index_of}
-use Rattle.drain_grid.specs.Grid.{Grid, IsInside}
-use Rattle.drain_flood.specs.Floods.{Flooding}
-use Rattle.drain_flood.specs.Ways.{IsCodeAt}
+use Rattle.drain_flood.proofs.Names.{◌≡◌, ◌≢◌, ℕ, ◌+◌, ◌*◌, ◌<◌, inl, inr, List, length, set, get_or, slice_index, sym, ap, ◌∙◌, subst, arith, get_or-set_other, get_or-set_same, cases_eq, Cell, index_of, Grid, IsInside, Flooding, IsCodeAt}
 
 -- the code of the next cell is put, and those before it stay
 pub code_more : (g : Grid) (f : Flooding) (row col place code : ℕ) (dirs : List ℕ) → place ≡ index_of g.extent (record { row = row; col = col }) →

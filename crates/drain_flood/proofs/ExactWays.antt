@@ -1,22 +1,7 @@
 -- The first steepest way down that a patch of the surface alone shows is that of the grid.
-use Rattle.std.proofs.Common.{◌≡◌, ◌≢◌, ◌∙◌, inl, inr, ◌<◌, ◌≤ℤ◌, ◌<ℤ◌, ◌==◌, ℕ, ℤ, Option, Some, None, IsSome, if◌then◌else◌, refl, sym, ap, subst, arith, eq-eqb}
-use Rattle.std.proofs.lemmas.Bool.{ne_eqb, false≢true}
-use Rattle.std.proofs.lemmas.Int.{ints, by_lt_z}
-use Rattle.drain_grid.specs.declared.cell.Cell.{Cell}
-use Rattle.drain_grid.specs.declared.direction.Direction.{Direction}
+use Rattle.drain_flood.proofs.Names.{◌≡◌, ◌≢◌, ◌∙◌, inl, inr, ◌<◌, ◌≤ℤ◌, ◌<ℤ◌, ◌==◌, ℕ, ℤ, Option, Some, None, IsSome, if◌then◌else◌, refl, sym, ap, subst, arith, ne_eqb, false≢true, ints, by_lt_z, Cell, Direction, order_of, Extent, Grid, Products, HasData, IsInside, patch_at, values_at, IsLower, IsFirstSteepest, IsSteepest, key_to, Distances, Values, step_lies, cell_shown, shown_cell, VOID, Flooding, con_at, mark_at, IsSurfaceOf, IsCodeAt, IsLowerNeighbor, IsWayDown, key_down, marked_grid, marked_products, way_code}
+use Rattle.std.proofs.Common.{eq-eqb}
 use Rattle.drain_grid.specs.declared.patch.Patch.{Patch}
-use Rattle.drain_grid.specs.Direction.{order_of}
-use Rattle.drain_grid.specs.Extent.{Extent}
-use Rattle.drain_grid.specs.Grid.{Grid, Products, HasData, IsInside, patch_at, values_at}
-use Rattle.drain_grid.specs.Patch.{IsLower}
-use Rattle.drain_grid.specs.Slope.{IsFirstSteepest, IsSteepest, key_to}
-use Rattle.drain_grid.specs.Spacing.{Distances}
-use Rattle.drain_grid.specs.Values.{Values}
-use Rattle.drain_grid.proofs.Neighbors.{step_lies}
-use Rattle.drain_grid.proofs.Patches.{cell_shown, shown_cell}
-use Rattle.drain_flood.specs.declared.layers.TheConstants.{VOID}
-use Rattle.drain_flood.specs.Floods.{Flooding, con_at, mark_at, IsSurfaceOf}
-use Rattle.drain_flood.specs.Ways.{IsCodeAt, IsLowerNeighbor, IsWayDown, key_down, marked_grid, marked_products, way_code}
 use Rattle.drain_flood.proofs.Cells.{none_or_some}
 use Rattle.drain_flood.proofs.SteepestWays.{data_code}
 

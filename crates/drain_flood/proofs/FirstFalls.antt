@@ -2,14 +2,8 @@
 --
 -- Twice the square of a whole number is a square only at 0, so a way along a row or column and one across a corner are
 -- never equally steep. Of two ways of one kind the one with the less lane is steeper.
-use Rattle.std.proofs.Common.{◌≡◌, ◌≢◌, ◌⊎◌, ℕ, zero, suc, ◌+◌, ◌-◌, ◌*◌, ◌/◌, ◌%◌, ◌≤◌, ◌<◌, Bool, true, false, ◌==◌, nat_lt, min, map, inl, inr, refl, sym, ap, subst, if◌then◌else◌, arith}
-use Rattle.std.proofs.lemmas.Bool.{cases_lt, cases_eq, cases_Bool, false≢true, eqb-true, eqb-false}
-use Rattle.std.proofs.lemmas.Bool.Decides.{Decides-ltb, nat_tests}
-use Rattle.std.proofs.lemmas.Nat.{mul-le, mul-lt}
-use Rattle.drain_grid.specs.declared.direction.Direction.{Direction}
-use Rattle.drain_grid.specs.declared.direction.Direction.TheVariants.{East, SouthEast, South, SouthWest, West, NorthWest, North, NorthEast}
-use Rattle.drain_grid.specs.Direction.{directions, code_of, is_straight, order_of}
-use Rattle.drain_flood.specs.Laid.{fall_in, first_across, first_along, is_steeper, least_across, least_along, level_of_lane}
+use Rattle.drain_flood.proofs.Names.{◌≡◌, ◌≢◌, ◌⊎◌, ℕ, zero, suc, ◌+◌, ◌-◌, ◌*◌, ◌/◌, ◌%◌, ◌≤◌, ◌<◌, Bool, true, false, ◌==◌, nat_lt, min, map, inl, inr, refl, sym, ap, subst, if◌then◌else◌, arith, cases_lt, cases_eq, cases_Bool, false≢true, eqb-true, eqb-false, Decides-ltb, nat_tests, mul-le, mul-lt, Direction, East, SouthEast, South, SouthWest, West, NorthWest, North, NorthEast, directions, code_of, is_straight, order_of, first_across, first_along, is_steeper, least_across, least_along, level_of_lane}
+use Rattle.drain_flood.specs.Laid.{fall_in}
 
 -- the key of a drop, by its square
 abbrev pub weight : Bool → ℕ → ℕ

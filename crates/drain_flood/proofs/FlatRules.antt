@@ -1,25 +1,5 @@
 -- Directions that lead down the steepest way, else along the flat to a smaller rank, keep rules 3 and 10 to 12.
-use Rattle.std.proofs.Common.{◌≡◌, ℕ, ◌+◌, ◌∙◌, inl, inr, ℤ, pos, ◌-ℤ◌, ◌≤ℤ◌, ◌<ℤ◌, None, IsSome, sym, ap, subst, arith}
-use Rattle.std.proofs.lemmas.Int.{ints}
-use Rattle.drain_grid.specs.declared.cell.Cell.{Cell}
-use Rattle.drain_grid.specs.declared.direction.Direction.{Direction}
-use Rattle.drain_grid.specs.declared.rule.Rule.{Rule}
-use Rattle.drain_grid.specs.declared.rule.Rule.TheVariants.{Slope, OutletCode, FlatStep, Accumulation, Label, SharedLabel}
-use Rattle.drain_grid.specs.Grid.{Grid, Products, HasData, IsInside, values_at, patch_at}
-use Rattle.drain_grid.specs.GridRules.{HoldsAt}
-use Rattle.drain_grid.specs.Patch.{IsLower, HasLower}
-use Rattle.drain_grid.specs.PatchRules.{flow_rules, BadCodeWithoutSpill, SlopeHolds, OutletCodeHolds, FlatStepHolds}
-use Rattle.drain_grid.specs.Rule.{IsWayRule}
-use Rattle.drain_grid.specs.HeightKinds.{height_of}
-use Rattle.drain_grid.specs.Slope.{slope_key, key_to}
-use Rattle.drain_grid.specs.Spacing.{weight_of}
-use Rattle.drain_grid.specs.Values.{Values}
-use Rattle.drain_grid.proofs.Neighbors.{step_lies}
-use Rattle.drain_grid.proofs.Patches.{IsOpen-patch_at, cell_shown, shown_cell}
-use Rattle.drain_flood.specs.Floods.{Flooding, con_at}
-use Rattle.drain_flood.specs.Flats.{Laying, rank_at, IsDown, AreWaysOnFlats, ShowsWays}
-use Rattle.drain_flood.specs.Laws.{FlatsKeepRules}
-use Rattle.drain_flood.specs.Ways.{IsLowerNeighbor, IsWayDown, key_down}
+use Rattle.drain_flood.proofs.Names.{◌≡◌, ℕ, ◌+◌, ◌∙◌, inl, inr, ℤ, pos, ◌-ℤ◌, ◌≤ℤ◌, ◌<ℤ◌, None, IsSome, sym, ap, subst, arith, ints, Cell, Direction, Rule, Slope, OutletCode, FlatStep, Accumulation, Label, SharedLabel, Grid, Products, HasData, IsInside, values_at, patch_at, HoldsAt, IsLower, HasLower, flow_rules, BadCodeWithoutSpill, SlopeHolds, OutletCodeHolds, FlatStepHolds, IsWayRule, height_of, slope_key, key_to, weight_of, Values, step_lies, IsOpen-patch_at, cell_shown, shown_cell, Flooding, con_at, Laying, rank_at, IsDown, AreWaysOnFlats, ShowsWays, FlatsKeepRules, IsLowerNeighbor, IsWayDown, key_down}
 
 rank_falls : (rank of : ℕ) (a b : ℤ) → a ≡ pos of → b ≡ pos rank → rank ≡ of + 1 → a <ℤ b
 rank_falls rank of a b at_a at_b one = omega (arith, ints)

@@ -1,13 +1,5 @@
 -- Heights, codes and ranks are the default no-data numbers exactly at voids.
-use Rattle.std.proofs.Common.{◌≡◌, ◌≢◌, ℕ, ◌*◌, ◌<◌, ◌≤◌, ◌∙◌, inl, inr, ℤ, pos, ◌≤ℤ◌, ◌<ℤ◌, sym, ap, arith}
-use Rattle.std.proofs.lemmas.Int.{ints}
-use Rattle.drain_grid.specs.declared.direction.Direction.{Direction}
-use Rattle.drain_grid.specs.declared.direction.Direction.TheVariants.{East}
-use Rattle.drain_grid.specs.Direction.{IsCode, code_of}
-use Rattle.drain_flood.specs.declared.layers.TheConstants.{NO_HEIGHT}
-use Rattle.drain_flood.specs.declared.level_queue.TheConstants.{MAX_CELLS}
-use Rattle.drain_flood.specs.Flats.{rank_at}
-use Rattle.drain_flood.specs.Laws.{FlatsArePresent, FloodShowsVoids}
+use Rattle.drain_flood.proofs.Names.{◌≡◌, ◌≢◌, ℕ, ◌*◌, ◌<◌, ◌≤◌, ◌∙◌, inl, inr, ℤ, pos, ◌≤ℤ◌, ◌<ℤ◌, sym, ap, arith, ints, Direction, East, IsCode, code_of, NO_HEIGHT, MAX_CELLS, rank_at, FlatsArePresent, FloodShowsVoids}
 use Rattle.drain_flood.proofs.FlatRules.{good_code}
 
 -- no code of a direction or an outlet is the no-data number

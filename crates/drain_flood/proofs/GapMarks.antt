@@ -1,30 +1,6 @@
 -- Bytes around a cell: the least of them is 0 where the cell is beside a gap.
-use Rattle.std.proofs.Common.{◌≡◌, ◌∙◌, ◌↔◌, ◌⊎◌, ◌+◌, ◌-◌, ◌*◌, ◌<◌, ◌≤◌, ℕ, ℤ, pos, min, inl, inr, List, length, slice_index, slice_index_or, Bool, true, false, if◌then◌else◌, IsTrue, Option, Some, None, get_or, set, get_or-set_other, get_or-set_same, IsNone, option_map, refl, sym, ap, subst, arith}
-use Rattle.std.specs.List.{All}
-use Rattle.std.specs.Ordering.{int_eq}
-use Rattle.std.proofs.lemmas.Bool.{cases_eq, cases_lt, false≢true}
-use Rattle.std.proofs.lemmas.Bool.Decides.{Decides-int_eq}
-use Rattle.std.proofs.lemmas.List.Elements.{All-get_or}
+use Rattle.drain_flood.proofs.Names.{◌≡◌, ◌∙◌, ◌↔◌, ◌⊎◌, ◌+◌, ◌-◌, ◌*◌, ◌<◌, ◌≤◌, ℕ, ℤ, pos, min, inl, inr, List, length, slice_index, slice_index_or, Bool, true, false, if◌then◌else◌, IsTrue, Option, Some, None, get_or, set, get_or-set_other, get_or-set_same, IsNone, option_map, refl, sym, ap, subst, arith, All, int_eq, cases_eq, cases_lt, false≢true, Decides-int_eq, All-get_or, Cell, Direction, East, SouthEast, South, SouthWest, West, NorthWest, North, NorthEast, cols_right, rows_down, IsCellOf, index_of, step, Grid, Heights, IsInside, IsSample, height_from, IsGap, is_listed, Distances, SinkLine, index_of-below, elevation_at, sample_at, sample_row, spaced_grid, before_row, place, step_gives, step_lies, none_some, some_or_none, void_data, at_ends, place_in_row, col_beside, number_beside, number_in_row, row_beside, three_rows, NO_HEIGHT, OPEN, VOID, AreDataMarks, AreFirstMarks, AreGrounds, IsFirstMark, IsGround, IsMarkOf, least_around, AreInside, IsClosed, IsInnerPlace}
 use Rattle.std.proofs.lemmas.List.FromFn.{get_or-map-range_with_len, length-map-range_with_len}
-use Rattle.drain_grid.specs.declared.cell.Cell.{Cell}
-use Rattle.drain_grid.specs.declared.direction.Direction.{Direction}
-use Rattle.drain_grid.specs.declared.direction.Direction.TheVariants.{East, SouthEast, South, SouthWest, West, NorthWest, North, NorthEast}
-use Rattle.drain_grid.specs.Direction.{cols_right, rows_down}
-use Rattle.drain_grid.specs.Extent.{IsCellOf, index_of, step}
-use Rattle.drain_grid.specs.Grid.{Grid, Heights, IsInside, IsSample, height_from}
-use Rattle.drain_grid.specs.Open.{IsGap}
-use Rattle.drain_grid.specs.SinkTexts.{is_listed}
-use Rattle.drain_grid.specs.Spacing.{Distances}
-use Rattle.drain_grid.specs.declared.sink_line.SinkLine.{SinkLine}
-use Rattle.drain_grid.proofs.Runs.{index_of-below}
-use Rattle.drain_grid.specs.WholeGrid.{elevation_at, sample_at, sample_row, spaced_grid}
-use Rattle.drain_grid.proofs.Alike.{before_row}
-use Rattle.drain_grid.proofs.Neighbors.{place, step_gives, step_lies}
-use Rattle.drain_grid.proofs.Tallies.{none_some, some_or_none, void_data}
-use Rattle.drain_grid.proofs.ThreeRows.{at_ends, place_in_row, col_beside, number_beside, number_in_row, row_beside, three_rows}
-use Rattle.drain_flood.specs.declared.layers.TheConstants.{NO_HEIGHT, OPEN, VOID}
-use Rattle.drain_flood.specs.Laid.{AreDataMarks, AreFirstMarks, AreGrounds, IsFirstMark, IsGround, IsMarkOf, least_around}
-use Rattle.drain_flood.specs.Looks.{AreInside, IsClosed, IsInnerPlace}
 use Rattle.drain_flood.proofs.Cells.{none_or_some}
 use Rattle.drain_flood.proofs.Insides.{cell_there}
 

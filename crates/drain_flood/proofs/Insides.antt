@@ -1,18 +1,5 @@
 -- Cells that aren't on the edge of the grid: which start closed, what keeps them known, and their neighbours' places.
-use Rattle.std.proofs.Common.{◌≡◌, ◌∙◌, ℕ, ◌+◌, ◌-◌, ◌*◌, ◌/◌, ◌%◌, ◌<◌, inl, inr, Bool, List, [], ◌∷◌, ◌++◌, ℤ, Result, Ok, Err, IfOk, append-nil, refl, sym, ap, subst, arith}
-use Rattle.std.specs.List.{All}
-use Rattle.std.proofs.lemmas.Bool.{cases_eq}
-use Rattle.std.proofs.lemmas.Nat.{div_below, div-add-mod'}
-use Rattle.std.proofs.lemmas.List.Elements.{All-contains, Contains-push}
-use Rattle.drain_grid.specs.declared.cell.Cell.{Cell}
-use Rattle.drain_grid.specs.declared.direction.Direction.{Direction}
-use Rattle.drain_grid.specs.Extent.{Extent, IsCellOf, index_of}
-use Rattle.drain_grid.specs.Grid.{Grid}
-use Rattle.drain_grid.proofs.Alike.{same_index}
-use Rattle.drain_flood.specs.Floods.{Flooding}
-use Rattle.drain_flood.specs.Looks.{IsInnerPlace, IsInnerAt, IsPlaceBeside, IsLook, IsLookedBefore}
-use Rattle.drain_flood.specs.Turns.{IsNextTurn, IsLessWork, IsLookedAround, LooksAround}
-use Rattle.drain_grid.specs.Direction.{rows_down, cols_right}
+use Rattle.drain_flood.proofs.Names.{◌≡◌, ◌∙◌, ℕ, ◌+◌, ◌-◌, ◌*◌, ◌/◌, ◌%◌, ◌<◌, inl, inr, Bool, List, [], ◌∷◌, ◌++◌, ℤ, Result, Ok, Err, IfOk, append-nil, refl, sym, ap, subst, arith, All, cases_eq, div_below, div-add-mod', All-contains, Contains-push, Cell, Direction, Extent, IsCellOf, index_of, Grid, same_index, Flooding, IsInnerPlace, IsInnerAt, IsPlaceBeside, IsLook, IsLookedBefore, IsNextTurn, IsLessWork, IsLookedAround, LooksAround, rows_down, cols_right}
 use Rattle.drain_flood.proofs.Looking.{inner_beside, less_more}
 
 -- the cell at a place

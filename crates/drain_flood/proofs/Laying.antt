@@ -1,30 +1,6 @@
 -- The start of a flood: the open cells are reached, each at its ground.
-use Rattle.std.proofs.Common.{[], List, ℕ, ℤ, ◌≡◌, ◌∙◌, ◌+◌, ◌-◌, ◌*◌, ◌<◌, ◌≤◌, ◌==◌, inl, inr, pos, length, slice_index, slice_index_or, if◌then◌else◌, sym, ap, subst, arith, ◌≤ℤ◌, ◌<ℤ◌, Bool, true, false, IsSome, unwrap_or, Some, None, Contains, refl}
+use Rattle.drain_flood.proofs.Names.{[], List, ℕ, ℤ, ◌≡◌, ◌∙◌, ◌+◌, ◌-◌, ◌*◌, ◌<◌, ◌≤◌, ◌==◌, inl, inr, pos, length, slice_index, slice_index_or, if◌then◌else◌, sym, ap, subst, arith, ◌≤ℤ◌, ◌<ℤ◌, Bool, true, false, IsSome, unwrap_or, Some, None, Contains, refl, div-add-mod', All, int_max, int_eq, cases_lt, cases_eq, false≢true, Decides-int_eq, ints, clamps, by_lt_z, All-nil, All-weaker, Cell, SinkLine, Extent, index_of, IsCellOf, Grid, HasData, Heights, IsInside, IsOpenCell, IsSample, height_at, height_from, Distances, unit_spacing, sample_at, spaced_grid, before_row, cases, open_cell, cell_at, index_of-below, three_rows, at_ends, place_in_row, place_in_own_row, GAP, NO_HEIGHT, OPEN, UNREACHED, VOID, Flooding, con_at, mark_at, IsAhead, IsFlooded, IsFloodOf, IsOpenIn, IsReachedCell, IsWaiting, AreFirstMarks, AreGrounds, AreRowLanes, IsFirstMark, IsGround, IsLane, IsOpenPlace, fall_at, AreFirstCodes, IsCodeAt}
 use Rattle.std.proofs.Math.Nat.{div-lt_iff_lt-mul, mod-lt}
-use Rattle.std.proofs.lemmas.Nat.{div-add-mod'}
-use Rattle.std.specs.List.{All}
-use Rattle.std.specs.Int.{int_max}
-use Rattle.std.specs.Ordering.{int_eq}
-use Rattle.std.proofs.lemmas.Bool.{cases_lt, cases_eq, false≢true}
-use Rattle.std.proofs.lemmas.Bool.Decides.{Decides-int_eq}
-use Rattle.std.proofs.lemmas.Int.{ints, clamps, by_lt_z}
-use Rattle.std.proofs.lemmas.List.Elements.{All-nil, All-weaker}
-use Rattle.drain_grid.specs.declared.cell.Cell.{Cell}
-use Rattle.drain_grid.specs.declared.sink_line.SinkLine.{SinkLine}
-use Rattle.drain_grid.specs.Extent.{Extent, index_of, IsCellOf}
-use Rattle.drain_grid.specs.Grid.{Grid, HasData, Heights, IsInside, IsOpenCell, IsSample, height_at, height_from}
-use Rattle.drain_grid.specs.Spacing.{Distances, unit_spacing}
-use Rattle.drain_grid.specs.WholeGrid.{sample_at, spaced_grid}
-use Rattle.drain_grid.proofs.Alike.{before_row}
-use Rattle.drain_grid.proofs.Decisions.{cases}
-use Rattle.drain_grid.proofs.PatchDecisions.{open_cell}
-use Rattle.drain_grid.proofs.Runs.{cell_at, index_of-below}
-use Rattle.drain_grid.proofs.ThreeRows.{three_rows, at_ends, place_in_row, place_in_own_row}
-use Rattle.drain_flood.specs.declared.falls.TheConstants.{GAP}
-use Rattle.drain_flood.specs.declared.layers.TheConstants.{NO_HEIGHT, OPEN, UNREACHED, VOID}
-use Rattle.drain_flood.specs.Floods.{Flooding, con_at, mark_at, IsAhead, IsFlooded, IsFloodOf, IsOpenIn, IsReachedCell, IsWaiting}
-use Rattle.drain_flood.specs.Laid.{AreFirstMarks, AreGrounds, AreRowLanes, IsFirstMark, IsGround, IsLane, IsOpenPlace, fall_at}
-use Rattle.drain_flood.specs.Ways.{AreFirstCodes, IsCodeAt}
 use Rattle.drain_flood.proofs.Cells.{none_or_some}
 use Rattle.drain_flood.proofs.GapMarks.{void_is_none}
 use Rattle.drain_flood.proofs.SteepestWays.{code_from_lanes, fall_small}

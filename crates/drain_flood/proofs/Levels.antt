@@ -1,7 +1,5 @@
 -- Levels: how a raised cell's elevation relates to its neighbours.
-use Rattle.std.proofs.Common.{◌≡◌, ◌⊎◌, inl, inr, ℤ, ◌≤ℤ◌, arith}
-use Rattle.std.specs.Int.{int_max}
-use Rattle.std.proofs.lemmas.Int.{ints, clamps}
+use Rattle.drain_flood.proofs.Names.{◌≡◌, ◌⊎◌, inl, inr, ℤ, ◌≤ℤ◌, arith, int_max, ints, clamps}
 
 -- what is raised to a level that isn't below the flood's isn't below it either
 pub not_below : (con z from level : ℤ) → con ≡ int_max z from → level ≤ℤ from → level ≤ℤ con

@@ -1,3 +1,4 @@
+pub mod Names
 pub mod ChainLemmas
 pub mod PairLemmas
 pub mod PopLemmas

@@ -1,25 +1,7 @@
 -- The neighbours of a cell, direction by direction.
-use Rattle.std.proofs.Common.{◌≡◌, ℕ, ◌+◌, ◌-◌, ◌*◌, ◌<◌, ◌≤◌, ap, arith, ℤ, pos, ◌≤ℤ◌, List, [], ◌∷◌, ◌≢◌, ◌∙◌, ◌⊎◌, ◌↔◌, inl, inr, ◌<ℤ◌, Bool, true, false, IsTrue, ◌||◌, get_or, length, refl, sym, subst}
-use Rattle.drain_grid.specs.declared.cell.Cell.{Cell}
-use Rattle.drain_grid.specs.declared.direction.Direction.{Direction}
-use Rattle.drain_grid.specs.declared.direction.Direction.TheVariants.{East, SouthEast, South, SouthWest, West, NorthWest, North, NorthEast}
-use Rattle.drain_grid.specs.Direction.{rows_down, cols_right, directions}
-use Rattle.drain_grid.specs.Extent.{IsCellOf, index_of, Extent}
-use Rattle.drain_grid.proofs.Neighbors.{place, reach, step_gives, direction_between, of_each}
-use Rattle.drain_flood.specs.Looks.{IsInnerPlace, IsPlaceBeside, IsFreshAt, IsLook, IsAround, IsLookedBefore, PassesLook}
-use Rattle.std.specs.Int.{int_max}
-use Rattle.std.proofs.lemmas.Int.{ints, clamps}
-use Rattle.drain_grid.specs.Grid.{Grid, Products, height_at}
-use Rattle.drain_grid.specs.Path.{IsPath, NeverRises, IsFilled}
-use Rattle.drain_grid.proofs.Lowered.{AreLevels, HasData-path}
+use Rattle.drain_flood.proofs.Names.{◌≡◌, ℕ, ◌+◌, ◌-◌, ◌*◌, ◌<◌, ◌≤◌, ap, arith, ℤ, pos, ◌≤ℤ◌, List, [], ◌∷◌, ◌≢◌, ◌∙◌, ◌⊎◌, ◌↔◌, inl, inr, ◌<ℤ◌, Bool, true, false, IsTrue, ◌||◌, get_or, length, refl, sym, subst, Cell, Direction, East, SouthEast, South, SouthWest, West, NorthWest, North, NorthEast, rows_down, cols_right, directions, IsCellOf, index_of, Extent, place, reach, step_gives, direction_between, of_each, IsInnerPlace, IsPlaceBeside, IsFreshAt, IsLook, IsAround, IsLookedBefore, PassesLook, int_max, ints, clamps, Grid, Products, height_at, IsPath, NeverRises, IsFilled, AreLevels, HasData-path, Flooding, con_at, IsSurfaceOf, mark_at, unreached, IsUnreached, Reaches, IsReachedFrom, FloodIsDone, FloodIsFilled, cases_order, or_left, or_right, same_some, length_push, IsLessWork, IsLookedAround}
 use Rattle.drain_grid.proofs.SpillPaths.{SpillPath, path_here, path_onward, IsFilled-paths}
-use Rattle.drain_flood.specs.Floods.{Flooding, con_at, IsSurfaceOf, mark_at, unreached, IsUnreached, Reaches, IsReachedFrom}
-use Rattle.drain_flood.specs.Laws.{FloodIsDone, FloodIsFilled}
 use Rattle.drain_flood.proofs.AllReached.{all_are_reached}
-use Rattle.std.proofs.lemmas.Bool.{cases_order, or_left, or_right}
-use Rattle.drain_grid.proofs.Tallies.{same_some}
-use Rattle.std.proofs.lemmas.List.{length_push}
-use Rattle.drain_flood.specs.Turns.{IsLessWork, IsLookedAround}
 use Rattle.drain_flood.proofs.Reaching.{kept_by_reaching, outlet_reached}
 
 -- Away from the edge of the grid the place of a neighbour is found by adding.

@@ -1,27 +1,6 @@
 -- The start: ways down and outlets, and then the cells of flats next to low edges, in row order.
-use Rattle.std.proofs.Common.{◌≡◌, ◌≢◌, ℕ, ◌+◌, ◌*◌, ◌<◌, ◌≤◌, ◌∙◌, inl, inr, ℤ, pos, ◌==◌, cond, List, [], Option, Some, None, length, set, get_or, count_by, refl, sym, ap, subst, arith, if◌then◌else◌}
-use Rattle.std.specs.List.{All}
-use Rattle.std.proofs.lemmas.Bool.{cases_eq, ne_eqb}
+use Rattle.drain_flood.proofs.Names.{◌≡◌, ◌≢◌, ℕ, ◌+◌, ◌*◌, ◌<◌, ◌≤◌, ◌∙◌, inl, inr, ℤ, pos, ◌==◌, cond, List, [], Option, Some, None, length, set, get_or, count_by, refl, sym, ap, subst, arith, if◌then◌else◌, All, cases_eq, ne_eqb, All-nil, sum_by-set, count_by-le-length, Cell, Direction, East, code_of, opposite, index_of, step, Extent, Grid, HasData, IsInside, cases, step_back, opposite_opposite, step_lies, open_cell, index_of-below, same_index, OPEN, REACHED, VOID, NO_RANK, Flooding, con_at, mark_at, IsSurfaceOf, first_rank, AreFirstRanks, Laying, way_at, rank_at, wayless, IsSettled, IsFlat, IsOnFlat, HasWay, IsLookedFor, IsToLook, AreLaid, Settles, IsSettledFrom, IsLowEdgeThere, with_ahead, IsWayDown, way_code, AreFirstCodes}
 use Rattle.std.proofs.lemmas.List.{length-set}
-use Rattle.std.proofs.lemmas.List.Elements.{All-nil}
-use Rattle.std.proofs.lemmas.List.Sums.{sum_by-set, count_by-le-length}
-use Rattle.drain_grid.specs.declared.cell.Cell.{Cell}
-use Rattle.drain_grid.specs.declared.direction.Direction.{Direction}
-use Rattle.drain_grid.specs.declared.direction.Direction.TheVariants.{East}
-use Rattle.drain_grid.specs.Direction.{code_of, opposite}
-use Rattle.drain_grid.specs.Extent.{index_of, step, Extent}
-use Rattle.drain_grid.specs.Grid.{Grid, HasData, IsInside}
-use Rattle.drain_grid.proofs.Decisions.{cases}
-use Rattle.drain_grid.proofs.Inflows.{step_back, opposite_opposite}
-use Rattle.drain_grid.proofs.Neighbors.{step_lies}
-use Rattle.drain_grid.proofs.PatchDecisions.{open_cell}
-use Rattle.drain_grid.proofs.Runs.{index_of-below}
-use Rattle.drain_grid.proofs.Alike.{same_index}
-use Rattle.drain_flood.specs.declared.layers.TheConstants.{OPEN, REACHED, VOID, NO_RANK}
-use Rattle.drain_flood.specs.Floods.{Flooding, con_at, mark_at, IsSurfaceOf}
-use Rattle.drain_flood.specs.Flats.{first_rank, AreFirstRanks, Laying, way_at, rank_at, wayless, IsSettled, IsFlat, IsOnFlat, HasWay, IsLookedFor, IsToLook, AreLaid, Settles, IsSettledFrom}
-use Rattle.drain_flood.specs.Walks.{IsLowEdgeThere, with_ahead}
-use Rattle.drain_flood.specs.Ways.{IsWayDown, way_code, AreFirstCodes}
 use Rattle.drain_flood.proofs.Cells.{none_or_some}
 use Rattle.drain_flood.proofs.Settling.{kept_by_settling, code_settles}
 use Rattle.drain_flood.proofs.SteepestWays.{data_code}

@@ -1,12 +1,5 @@
 -- What the pairs of all levels are when the items of one level change.
-use Rattle.std.proofs.Common.{◌≡◌, ◌≢◌, ℕ, zero, suc, ◌+◌, ◌<◌, ◌≤◌, ℤ, ◌≤ℤ◌, ◌<ℤ◌, List, [], ◌∷◌, ◌++◌, length, get_or, Contains, refl, sym, ap, ◌∙◌, subst, inl, inr, arith, append_assoc}
-use Rattle.std.specs.List.{All}
-use Rattle.std.proofs.lemmas.Bool.{cases_eq}
-use Rattle.std.proofs.lemmas.Int.{ints}
-use Rattle.std.proofs.lemmas.List.{map_push, get_or-map, length-map}
-use Rattle.std.proofs.lemmas.List.Elements.{All-nil, All-append, All-map, All-weaker, Contains-append_left, Contains-append_right, Contains-append_cases}
-use Rattle.drain_flood.specs.Turns.{IsPut}
-use Rattle.drain_flood.specs.Ways.{level_of, pairs_at, pairs_from}
+use Rattle.drain_flood.proofs.Names.{◌≡◌, ◌≢◌, ℕ, zero, suc, ◌+◌, ◌<◌, ◌≤◌, ℤ, ◌≤ℤ◌, ◌<ℤ◌, List, [], ◌∷◌, ◌++◌, length, get_or, Contains, refl, sym, ap, ◌∙◌, subst, inl, inr, arith, append_assoc, All, cases_eq, ints, map_push, get_or-map, length-map, All-nil, All-append, All-map, All-weaker, Contains-append_left, Contains-append_right, Contains-append_cases, IsPut, level_of, pairs_at, pairs_from}
 
 -- a level at a lower place is lower
 rises : (l m : ℕ) → l < m → level_of l <ℤ level_of m

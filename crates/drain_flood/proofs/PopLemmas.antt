@@ -1,11 +1,7 @@
 -- What a pop leaves: the items of the lowest level are one less at the front, and all are linked again.
-use Rattle.std.proofs.Common.{◌≡◌, ◌≢◌, ℕ, zero, suc, ◌<◌, ◌≤◌, List, [], ◌∷◌, length, set, get_or, Contains, refl, sym, ap, ◌∙◌, subst, inl, inr, arith, length-set, get_or-set_other, get_or-set_same}
-use Rattle.std.proofs.lemmas.Bool.{cases_eq, cases_lt}
-use Rattle.std.proofs.lemmas.List.{get_or_read}
-use Rattle.std.proofs.lemmas.List.Elements.{Contains-append_right, Contains-append_cases}
-use Rattle.drain_flood.specs.declared.level_queue.TheConstants.{ABSENT, END, LEVELS}
-use Rattle.drain_flood.specs.Turns.{Waiting}
-use Rattle.drain_flood.specs.Ways.{items_at, level_of, pairs_of, IsChain, last_or, AreLinked, IsLinked}
+use Rattle.drain_flood.proofs.Names.{◌≡◌, ◌≢◌, ℕ, zero, suc, ◌<◌, ◌≤◌, List, [], ◌∷◌, length, set, get_or, Contains, refl, sym, ap, ◌∙◌, subst, inl, inr, arith, get_or-set_other, get_or-set_same, cases_eq, cases_lt, get_or_read, Contains-append_right, Contains-append_cases, ABSENT, END, LEVELS, Waiting, level_of, IsChain, last_or, AreLinked, IsLinked}
+use Rattle.std.proofs.Common.{length-set}
+use Rattle.drain_flood.specs.Ways.{items_at, pairs_of}
 use Rattle.drain_flood.proofs.PairLemmas.{first_pair, no_pairs}
 use Rattle.drain_flood.proofs.ChainLemmas.{IsChain-set, empty_from_end}
 use Rattle.drain_flood.proofs.QueueLemmas.{moved, moved_here, moved_other, relinked, all_differ, seen_as}

@@ -1,12 +1,7 @@
 -- What a push leaves: the items of its level are one more at the end, and all are linked again.
-use Rattle.std.proofs.Common.{◌≡◌, ◌≢◌, ℕ, ◌<◌, ◌≤◌, ℤ, List, [], ◌∷◌, ◌++◌, length, set, get_or, Contains, ◌⊎◌, refl, sym, ap, ◌∙◌, subst, inl, inr, arith, length-set, get_or-set_other, get_or-set_same}
-use Rattle.std.specs.List.{All}
-use Rattle.std.proofs.lemmas.Bool.{cases_eq}
-use Rattle.std.proofs.lemmas.List.{get_or_read}
-use Rattle.std.proofs.lemmas.List.Elements.{All-nil, Contains-push, Contains-push_cases, Contains-append_left, Contains-append_right}
-use Rattle.drain_flood.specs.declared.level_queue.TheConstants.{ABSENT, END, LEVELS, MAX_CELLS}
-use Rattle.drain_flood.specs.Turns.{Waiting, Holds, IsPut}
-use Rattle.drain_flood.specs.Ways.{items_at, level_of, pairs_from, pairs_of, IsChain, last_or, AreLinked, IsLinked}
+use Rattle.drain_flood.proofs.Names.{◌≡◌, ◌≢◌, ℕ, ◌<◌, ◌≤◌, ℤ, List, [], ◌∷◌, ◌++◌, length, set, get_or, Contains, ◌⊎◌, refl, sym, ap, ◌∙◌, subst, inl, inr, arith, get_or-set_other, get_or-set_same, All, cases_eq, get_or_read, All-nil, Contains-push, Contains-push_cases, Contains-append_left, Contains-append_right, ABSENT, END, LEVELS, MAX_CELLS, Waiting, Holds, IsPut, level_of, pairs_from, IsChain, last_or, AreLinked, IsLinked}
+use Rattle.std.proofs.Common.{length-set}
+use Rattle.drain_flood.specs.Ways.{items_at, pairs_of}
 use Rattle.drain_flood.proofs.PairLemmas.{put_pair}
 use Rattle.drain_flood.proofs.ChainLemmas.{IsChain-set, IsChain-push, empty_from_end}
 use Rattle.drain_flood.proofs.QueueLemmas.{moved, moved_here, moved_other, relinked, has_link, all_differ, seen_as, is_absent}

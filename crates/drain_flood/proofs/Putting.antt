@@ -1,14 +1,7 @@
 -- Numbers that are written at one place: the numbers of each cell afterwards.
-use Rattle.std.proofs.Common.{◌≡◌, ◌≢◌, ℕ, ◌+◌, ◌*◌, ◌<◌, ◌∙◌, ℤ, pos, ◌==◌, cond, List, [], ◌∷◌, ◌++◌, length, set, get_or, count_by, refl, sym, ap, subst, arith, get_or-set_other, get_or-set_same}
-use Rattle.std.proofs.lemmas.Bool.{eq-eqb, ne_eqb}
+use Rattle.drain_flood.proofs.Names.{◌≡◌, ◌≢◌, ℕ, ◌+◌, ◌*◌, ◌<◌, ◌∙◌, ℤ, pos, ◌==◌, cond, List, [], ◌∷◌, ◌++◌, length, set, get_or, count_by, refl, sym, ap, subst, arith, get_or-set_other, get_or-set_same, ne_eqb, sum_by-set, Cell, IsCellOf, index_of, Extent, index_of-below, same_index, REACHED, UNREACHED, Flooding, mark_at, Reaches}
+use Rattle.std.proofs.lemmas.Bool.{eq-eqb}
 use Rattle.std.proofs.lemmas.List.{length-set}
-use Rattle.std.proofs.lemmas.List.Sums.{sum_by-set}
-use Rattle.drain_grid.specs.declared.cell.Cell.{Cell}
-use Rattle.drain_grid.specs.Extent.{IsCellOf, index_of, Extent}
-use Rattle.drain_grid.proofs.Runs.{index_of-below}
-use Rattle.drain_grid.proofs.Alike.{same_index}
-use Rattle.drain_flood.specs.declared.layers.TheConstants.{REACHED, UNREACHED}
-use Rattle.drain_flood.specs.Floods.{Flooding, mark_at, Reaches}
 
 -- a number written at a cell's place is there
 pub put_there : {X : Type 0} (e : Extent) (xs : List X) (place : ℕ) (n : Cell) (x d : X) → IsCellOf e n → length xs ≡ e.rows * e.cols →

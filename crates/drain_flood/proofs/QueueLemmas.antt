@@ -1,12 +1,7 @@
 -- What is linked by some items of each level is linked by those of its chains, and is seen as their pairs.
-use Rattle.std.proofs.Common.{◌≡◌, ◌≢◌, ℕ, ◌<◌, ◌≤◌, cond, not, ◌==◌, nat_lt, IsTrue, ℤ, List, [], length, get_or, Contains, refl, sym, ap, ◌∙◌, subst, inl, inr, arith}
-use Rattle.std.specs.List.{All}
-use Rattle.std.proofs.lemmas.Bool.{cases_eq, cases_lt, eq-eqb, ne_eqb, eqb-false, ltb-true, not-true, not_from_false}
-use Rattle.std.proofs.lemmas.List.{get_or_past, get_or_default, get_or_read}
-use Rattle.std.proofs.lemmas.List.Elements.{All-get_or, All-contains}
-use Rattle.drain_flood.specs.declared.level_queue.TheConstants.{ABSENT, END, LEVELS, MAX_CELLS}
-use Rattle.drain_flood.specs.Turns.{Waiting, Holds}
-use Rattle.drain_flood.specs.Ways.{items_at, level_of, pairs_from, pairs_of, AreLinked, IsLinked}
+use Rattle.drain_flood.proofs.Names.{◌≡◌, ◌≢◌, ℕ, ◌<◌, ◌≤◌, cond, not, ◌==◌, nat_lt, IsTrue, ℤ, List, [], length, get_or, Contains, refl, sym, ap, ◌∙◌, subst, inl, inr, arith, All, cases_eq, cases_lt, ne_eqb, eqb-false, ltb-true, not-true, not_from_false, get_or_past, get_or_default, get_or_read, All-get_or, All-contains, ABSENT, END, LEVELS, MAX_CELLS, Waiting, Holds, level_of, pairs_from, AreLinked, IsLinked}
+use Rattle.std.proofs.lemmas.Bool.{eq-eqb}
+use Rattle.drain_flood.specs.Ways.{items_at, pairs_of}
 use Rattle.drain_flood.proofs.PairLemmas.{no_pairs, pair_of_item, item_of_pair}
 use Rattle.drain_flood.proofs.ChainLemmas.{items_are, in_chain}
 

@@ -1,20 +1,5 @@
 -- What holds of a flood still holds after one more cell is reached.
-use Rattle.std.proofs.Common.{◌≡◌, ◌≢◌, ℕ, ◌∙◌, ◌⊎◌, inl, inr, ℤ, ◌≤ℤ◌, ◌<ℤ◌, List, [], ◌∷◌, ◌++◌, Some, IsNone, Contains, refl, sym, ap, subst, arith, append_assoc}
-use Rattle.std.specs.List.{All, AllByRecursion}
-use Rattle.std.specs.Int.{int_max}
-use Rattle.std.proofs.lemmas.List.Elements.{All-weaker, All-push, Contains-append_left, Contains-push}
-use Rattle.drain_grid.specs.declared.cell.Cell.{Cell}
-use Rattle.drain_grid.specs.declared.direction.Direction.{Direction}
-use Rattle.drain_grid.specs.Direction.{opposite}
-use Rattle.drain_grid.specs.Extent.{index_of, step}
-use Rattle.drain_grid.specs.Grid.{Grid, HasData, IsInside, IsOpenCell, height_at}
-use Rattle.drain_grid.specs.Path.{IsPath, NeverRises}
-use Rattle.drain_grid.proofs.Inflows.{step_back}
-use Rattle.drain_grid.proofs.Lowered.{HasData-path, same_or_not}
-use Rattle.drain_grid.proofs.Neighbors.{step_lies, AreNeighbors-lies}
-use Rattle.drain_flood.specs.declared.layers.TheConstants.{OPEN, REACHED, UNREACHED, VOID}
-use Rattle.drain_flood.specs.Floods.{Flooding, con_at, mark_at, IsReachedCell, IsUnreached, IsBlankIn, IsOpenIn, HasDescent, IsKeptCell, IsWaiting, IsAhead, IsCounted, IsFloodOf, Reaches, IsReachedFrom}
-use Rattle.drain_flood.specs.Laws.{KeptByReaching}
+use Rattle.drain_flood.proofs.Names.{◌≡◌, ◌≢◌, ℕ, ◌∙◌, ◌⊎◌, inl, inr, ℤ, ◌≤ℤ◌, ◌<ℤ◌, List, [], ◌∷◌, ◌++◌, Some, IsNone, Contains, refl, sym, ap, subst, arith, append_assoc, All, AllByRecursion, int_max, All-weaker, All-push, Contains-append_left, Contains-push, Cell, Direction, opposite, index_of, step, Grid, HasData, IsInside, IsOpenCell, height_at, IsPath, NeverRises, step_back, HasData-path, same_or_not, step_lies, AreNeighbors-lies, OPEN, REACHED, UNREACHED, VOID, Flooding, con_at, mark_at, IsReachedCell, IsUnreached, IsBlankIn, IsOpenIn, HasDescent, IsKeptCell, IsWaiting, IsAhead, IsCounted, IsFloodOf, Reaches, IsReachedFrom, KeptByReaching}
 use Rattle.drain_flood.proofs.Cells.{none_or_some}
 use Rattle.drain_flood.proofs.Levels.{not_below, capped, no_lower, over_ground, over_from}
 

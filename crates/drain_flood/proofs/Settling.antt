@@ -1,27 +1,7 @@
 -- What holds while flats get their ways still holds after one more cell is settled.
-use Rattle.std.proofs.Common.{ℕ, inl, inr, ℤ, ◌≤ℤ◌, [], ◌∷◌, Contains, sym, ap, subst, arith, ◌≡◌, ◌+◌, ◌*◌, ◌<◌, ◌≤◌, List, Some, ◌≢◌, ◌∙◌, ◌++◌, IsNone, refl, append_assoc}
-use Rattle.std.specs.List.{All}
-use Rattle.std.proofs.lemmas.Int.{ints, by_lt_z}
-use Rattle.std.proofs.lemmas.List.Elements.{All-cons, All-head, All-tail, All-weaker, All-push, Contains-append_left, Contains-push}
-use Rattle.drain_grid.specs.Extent.{index_of, step}
-use Rattle.drain_flood.specs.Floods.{con_at, IsWaiting, IsAhead, Flooding}
-use Rattle.drain_flood.specs.Laws.{TakenOfALevel, AllAreSettled, KeptBySettling}
-use Rattle.drain_flood.specs.Turns.{with_lists}
+use Rattle.drain_flood.proofs.Names.{ℕ, inl, inr, ℤ, ◌≤ℤ◌, [], ◌∷◌, Contains, sym, ap, subst, arith, ◌≡◌, ◌+◌, ◌*◌, ◌<◌, ◌≤◌, List, Some, ◌≢◌, ◌∙◌, ◌++◌, IsNone, refl, append_assoc, All, ints, by_lt_z, All-cons, All-head, All-tail, All-weaker, All-push, Contains-append_left, Contains-push, index_of, step, con_at, IsWaiting, IsAhead, Flooding, TakenOfALevel, AllAreSettled, KeptBySettling, with_lists, cases_eq, Cell, Direction, opposite, code_of, Grid, HasData, IsInside, IsPath, NeverRises, Drains, step_back, HasData-path, same_or_not, direction_between, step_gives, index_of-below, REACHED, VOID, Laying, way_at, rank_at, wayless, IsSettled, IsFlat, AreLaid, AreWaysOnFlats, IsBlankWay, HasWay, IsLookedFor, IsToLook, Settles, IsSettledFrom, East}
 use Rattle.drain_flood.proofs.Turns.{relisted, cons_cases, head_in, tail_in}
-use Rattle.std.proofs.lemmas.Bool.{cases_eq}
-use Rattle.drain_grid.specs.declared.cell.Cell.{Cell}
-use Rattle.drain_grid.specs.declared.direction.Direction.{Direction}
-use Rattle.drain_grid.specs.Direction.{opposite, code_of}
-use Rattle.drain_grid.specs.Grid.{Grid, HasData, IsInside}
-use Rattle.drain_grid.specs.Path.{IsPath, NeverRises, Drains}
-use Rattle.drain_grid.proofs.Inflows.{step_back}
-use Rattle.drain_grid.proofs.Lowered.{HasData-path, same_or_not}
-use Rattle.drain_grid.proofs.Neighbors.{direction_between, step_gives}
-use Rattle.drain_grid.proofs.Runs.{index_of-below}
-use Rattle.drain_flood.specs.declared.layers.TheConstants.{REACHED, VOID}
-use Rattle.drain_flood.specs.Flats.{Laying, way_at, rank_at, wayless, IsSettled, IsFlat, AreLaid, AreWaysOnFlats, IsBlankWay, HasWay, IsLookedFor, IsToLook, Settles, IsSettledFrom}
 use Rattle.drain_flood.proofs.AllReached.{none_in}
-use Rattle.drain_grid.specs.declared.direction.Direction.TheVariants.{East}
 use Rattle.drain_flood.proofs.Cells.{none_or_some}
 
 -- Cells that wait at one level may be taken together: each goes on the trail.

@@ -1,16 +1,7 @@
 -- What a push and a pop leave of the stacks of all levels.
-use Rattle.std.proofs.Common.{◌≡◌, ◌≢◌, ℕ, zero, suc, ◌<◌, ◌≤◌, ◌+◌, ℤ, ◌≤ℤ◌, List, [], ◌∷◌, ◌++◌, map, length, set, get_or, Result, Ok, Err, OnErr, refl, sym, ap, ◌∙◌, subst, inl, inr, arith, length-set, get_or-set_other, get_or-set_same, Vec, Global}
-use Rattle.std.specs.List.{All}
-use Rattle.std.specs.List.Sorted.{IsPermutation}
-use Rattle.std.proofs.lemmas.Bool.{cases_eq, cases_lt}
-use Rattle.std.proofs.lemmas.Int.{ints}
-use Rattle.std.proofs.lemmas.List.{map-set, length-map, get_or-map}
-use Rattle.std.proofs.lemmas.List.Elements.{All-nil, All-append, All-get_or, All-map}
-use Rattle.std.proofs.lemmas.List.Sorted.{IsPermutation-middle, IsPermutation-sym}
-use Rattle.drain_flood.specs.declared.level_queue.TheConstants.{LEVELS}
-use Rattle.drain_flood.specs.Turns.{IsPut}
-use Rattle.drain_flood.specs.Ways.{level_of, pairs_at, pairs_from}
-use Rattle.drain_flood.specs.Stacks.{stack_at, stacked, AreStacks}
+use Rattle.drain_flood.proofs.Names.{◌≡◌, ◌≢◌, ℕ, zero, suc, ◌<◌, ◌≤◌, ◌+◌, ℤ, ◌≤ℤ◌, List, [], ◌∷◌, ◌++◌, map, length, set, get_or, Result, Ok, Err, OnErr, refl, sym, ap, ◌∙◌, subst, inl, inr, arith, get_or-set_other, get_or-set_same, Vec, Global, All, IsPermutation, cases_eq, cases_lt, ints, map-set, length-map, get_or-map, All-nil, All-append, All-get_or, All-map, IsPermutation-middle, IsPermutation-sym, LEVELS, IsPut, level_of, pairs_at, pairs_from, stack_at, AreStacks}
+use Rattle.std.proofs.Common.{length-set}
+use Rattle.drain_flood.specs.Stacks.{stacked}
 use Rattle.drain_flood.proofs.PairLemmas.{at_level, no_pairs, put_pair}
 
 -- the stack at a place is the one that was read there

@@ -1,26 +1,5 @@
 -- The first steepest way down of a cell, from three rows of lanes.
-use Rattle.std.proofs.Common.{◌≡◌, ◌≢◌, ◌∙◌, ℕ, ◌+◌, ◌-◌, ◌*◌, ◌<◌, ◌≤◌, ◌==◌, inl, inr, ℤ, pos, ◌+ℤ◌, ◌-ℤ◌, ◌≤ℤ◌, ◌<ℤ◌, List, Some, None, slice_index, if◌then◌else◌, refl, sym, ap, subst, arith}
-use Rattle.std.proofs.lemmas.Bool.{ne_eqb}
-use Rattle.std.proofs.lemmas.Int.{ints}
-use Rattle.drain_grid.specs.declared.cell.Cell.{Cell}
-use Rattle.drain_grid.specs.declared.direction.Direction.{Direction}
-use Rattle.drain_grid.specs.declared.direction.Direction.TheVariants.{East, SouthEast, South, SouthWest, West, NorthWest, North, NorthEast}
-use Rattle.drain_grid.specs.Direction.{code_of, cols_right, is_straight, rows_down}
-use Rattle.drain_grid.specs.Extent.{step}
-use Rattle.drain_grid.specs.Grid.{Grid, HasData, IsInside}
-use Rattle.drain_grid.specs.HeightKinds.{height_of}
-use Rattle.drain_grid.specs.Slope.{slope_key}
-use Rattle.drain_grid.specs.Spacing.{Distances, unit_spacing, weight_of}
-use Rattle.drain_grid.proofs.Decisions.{cases}
-use Rattle.drain_grid.proofs.Neighbors.{step_gives, step_lies}
-use Rattle.drain_grid.proofs.Tallies.{none_some, some_or_none}
-use Rattle.drain_grid.proofs.PatchDecisions.{open_cell}
-use Rattle.drain_grid.proofs.ThreeRows.{row_beside, number_beside, number_in_row, col_beside}
-use Rattle.drain_flood.specs.declared.falls.TheConstants.{GAP}
-use Rattle.drain_flood.specs.declared.layers.TheConstants.{NO_HEIGHT, VOID, OPEN, REACHED}
-use Rattle.drain_flood.specs.Floods.{Flooding, con_at, mark_at, IsFlooded, IsSurfaceOf}
-use Rattle.drain_flood.specs.Laid.{AreRowLanes, IsLane, fall_at, level_of_lane}
-use Rattle.drain_flood.specs.Ways.{IsCodeAt, IsLowerNeighbor, IsWayDown, key_down}
+use Rattle.drain_flood.proofs.Names.{◌≡◌, ◌≢◌, ◌∙◌, ℕ, ◌+◌, ◌-◌, ◌*◌, ◌<◌, ◌≤◌, ◌==◌, inl, inr, ℤ, pos, ◌+ℤ◌, ◌-ℤ◌, ◌≤ℤ◌, ◌<ℤ◌, List, Some, None, slice_index, if◌then◌else◌, refl, sym, ap, subst, arith, ne_eqb, ints, Cell, Direction, East, SouthEast, South, SouthWest, West, NorthWest, North, NorthEast, code_of, cols_right, is_straight, rows_down, step, Grid, HasData, IsInside, height_of, slope_key, Distances, unit_spacing, weight_of, cases, step_gives, step_lies, none_some, some_or_none, open_cell, row_beside, number_beside, number_in_row, col_beside, GAP, NO_HEIGHT, VOID, OPEN, REACHED, Flooding, con_at, mark_at, IsFlooded, IsSurfaceOf, AreRowLanes, IsLane, fall_at, level_of_lane, IsCodeAt, IsLowerNeighbor, IsWayDown, key_down}
 use Rattle.drain_flood.proofs.Cells.{none_or_some}
 use Rattle.drain_flood.proofs.FirstFalls.{IsFirstFall, MeansFall, fall_means, key_of, weight}
 

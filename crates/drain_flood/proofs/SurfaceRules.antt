@@ -1,17 +1,5 @@
 -- A filled surface keeps rules 4, 5 and 9 at every cell.
-use Rattle.std.proofs.Common.{◌≡◌, ◌≤ℤ◌, ◌∙◌, IsSome, sym, subst, arith}
-use Rattle.std.specs.Int.{int_max}
-use Rattle.drain_grid.specs.declared.cell.Cell.{Cell}
-use Rattle.drain_grid.specs.declared.rule.Rule.{Rule}
-use Rattle.drain_grid.specs.declared.rule.Rule.TheVariants.{BelowGround, OpenRaised, NotLeast, SharedLabel}
-use Rattle.drain_grid.specs.Grid.{Grid, Products, HasData, IsInside, height_at, patch_at}
-use Rattle.drain_grid.specs.GridRules.{HoldsAt}
-use Rattle.drain_grid.specs.PatchRules.{surface_rules, BelowGroundHolds, OpenRaisedWithoutSpill, NotLeastHolds}
-use Rattle.drain_grid.specs.Rule.{IsFillRule}
-use Rattle.drain_grid.specs.Values.{Values}
-use Rattle.drain_grid.proofs.Patches.{IsOpen-patch_at, cell_shown}
-use Rattle.drain_flood.specs.Floods.{Flooding, con_at, IsSurfaceOf}
-use Rattle.drain_flood.specs.Laws.{SurfaceKeepsRules}
+use Rattle.drain_flood.proofs.Names.{◌≡◌, ◌≤ℤ◌, ◌∙◌, IsSome, sym, subst, arith, int_max, Cell, Rule, BelowGround, OpenRaised, NotLeast, SharedLabel, Grid, Products, HasData, IsInside, height_at, patch_at, HoldsAt, surface_rules, BelowGroundHolds, OpenRaisedWithoutSpill, NotLeastHolds, IsFillRule, Values, IsOpen-patch_at, cell_shown, Flooding, con_at, IsSurfaceOf, SurfaceKeepsRules}
 
 module _ (g : Grid) (f : Flooding) (ps : Products) (flooded : IsSurfaceOf g f) (con : (c : Cell) → ps.con c ≡ con_at g.extent f c) (c : Cell) (inside : IsInside g c) where
   here : IsSome (g.elevation c) → HasData g c

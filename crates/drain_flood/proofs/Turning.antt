@@ -1,21 +1,9 @@
 -- One turn of a trace: a cell is taken from the trail, its neighbours are looked at, and it is left.
-use Rattle.std.proofs.Common.{◌≡◌, ℕ, zero, suc, ◌+◌, ◌-◌, ◌<◌, ℤ, ◌<ℤ◌, List, ◌++◌, length, get_or, pos, refl, inl, inr, arith, ◌∙◌, ◌≤ℤ◌, Bool, true, false, [], ◌∷◌, Contains, sym, ap, subst}
-use Rattle.std.proofs.lemmas.Bool.{cases_lt, false≢true}
-use Rattle.std.proofs.lemmas.Int.{ints}
-use Rattle.std.proofs.lemmas.List.{length-append}
+use Rattle.drain_flood.proofs.Names.{◌≡◌, ℕ, zero, suc, ◌+◌, ◌-◌, ◌<◌, ℤ, ◌<ℤ◌, List, ◌++◌, length, get_or, pos, refl, inl, inr, arith, ◌∙◌, ◌≤ℤ◌, Bool, true, false, [], ◌∷◌, Contains, sym, ap, subst, cases_lt, false≢true, ints, length-append, All, All-permutation, Contains-permutation, length_permutation, Rises, with_lists, IsOut, IsNextTurn, IsLeftWaiting, IsLessWork, IsLookedAround, IsPopped, LooksAround, level_of, pairs_at, pairs_from, All-head, All-cons, Cell, index_of, Grid, IsInside, height_at, same_index, Flooding, con_at, unreached, IsWaiting, IsAhead, IsFloodOf}
 use Rattle.std.proofs.Math.ListN.{get_or-append}
 use Rattle.std.proofs.Math.Seq.{get_or-append_right}
-use Rattle.std.specs.List.{All}
-use Rattle.std.proofs.lemmas.List.Sorted.{All-permutation, Contains-permutation, length_permutation}
-use Rattle.drain_flood.specs.Turns.{Rises, with_lists, IsOut, IsNextTurn, IsLeftWaiting, IsLessWork, IsLookedAround, IsPopped, LooksAround}
-use Rattle.drain_flood.specs.Ways.{items_at, level_of, pairs_at, pairs_from, pairs_of}
+use Rattle.drain_flood.specs.Ways.{items_at, pairs_of}
 use Rattle.drain_flood.proofs.PairLemmas.{at_level, higher_from}
-use Rattle.std.proofs.lemmas.List.Elements.{All-head, All-cons}
-use Rattle.drain_grid.specs.declared.cell.Cell.{Cell}
-use Rattle.drain_grid.specs.Extent.{index_of}
-use Rattle.drain_grid.specs.Grid.{Grid, IsInside, height_at}
-use Rattle.drain_grid.proofs.Alike.{same_index}
-use Rattle.drain_flood.specs.Floods.{Flooding, con_at, unreached, IsWaiting, IsAhead, IsFloodOf}
 use Rattle.drain_flood.proofs.Turns.{taken, deferred, recalled, left, risen, head_in, tail_in}
 
 -- The pairs of all levels, level by level, rise.

@@ -1,18 +1,6 @@
 -- From one cell to the next: a cell whose neighbours were looked at is left, or waits, and a lowest waiting one is
 -- taken.
-use Rattle.std.proofs.Common.{◌≡◌, ℕ, zero, suc, ◌<◌, ◌∙◌, ◌⊎◌, inl, inr, ℤ, ◌≤ℤ◌, ◌<ℤ◌, List, [], ◌∷◌, ◌++◌, Option, Some, None, Result, Ok, Err, MatchOption, IfSome, OnOk, OnErr, Contains, get_or, refl, sym, ap, subst, arith}
-use Rattle.std.specs.List.{All}
-use Rattle.std.specs.List.Sorted.{IsPermutation}
-use Rattle.std.proofs.lemmas.List.Sorted.{All-permutation, Contains-permutation}
-use Rattle.std.proofs.lemmas.Int.{ints}
-use Rattle.std.proofs.lemmas.List.Elements.{All-nil, All-cons, All-head, All-tail, All-append, All-weaker, All-contains, Contains-append_left, Contains-append_right, Contains-append_cases, Contains-get_or}
-use Rattle.drain_grid.specs.declared.cell.Cell.{Cell}
-use Rattle.drain_grid.specs.declared.direction.Direction.{Direction}
-use Rattle.drain_grid.specs.Extent.{index_of, step}
-use Rattle.drain_grid.specs.Grid.{Grid, IsInside, height_at}
-use Rattle.drain_grid.proofs.Alike.{same_index}
-use Rattle.drain_flood.specs.Turns.{with_lists, IsOut}
-use Rattle.drain_flood.specs.Floods.{Flooding, con_at, IsReachedCell, IsUnreached, IsKeptCell, IsWaiting, IsAhead, IsFloodOf}
+use Rattle.drain_flood.proofs.Names.{◌≡◌, ℕ, zero, suc, ◌<◌, ◌∙◌, ◌⊎◌, inl, inr, ℤ, ◌≤ℤ◌, ◌<ℤ◌, List, [], ◌∷◌, ◌++◌, Option, Some, None, Result, Ok, Err, MatchOption, IfSome, OnOk, OnErr, Contains, get_or, refl, sym, ap, subst, arith, All, IsPermutation, All-permutation, Contains-permutation, ints, All-nil, All-cons, All-head, All-tail, All-append, All-weaker, All-contains, Contains-append_left, Contains-append_right, Contains-append_cases, Contains-get_or, Cell, Direction, index_of, step, Grid, IsInside, height_at, same_index, with_lists, IsOut, Flooding, con_at, IsReachedCell, IsUnreached, IsKeptCell, IsWaiting, IsAhead, IsFloodOf}
 use Rattle.drain_flood.proofs.AllReached.{none_in}
 use Rattle.drain_flood.proofs.Levels.{cap_rises}
 

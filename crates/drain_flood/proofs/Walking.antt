@@ -1,25 +1,7 @@
 -- The walk along flats: a cell is taken, its neighbours are looked at direction by direction, and it is left.
-use Rattle.std.proofs.Common.{◌≡◌, ◌≢◌, ℕ, ◌+◌, ◌*◌, ◌<◌, ◌≤◌, ◌∙◌, inl, inr, ℤ, ◌==◌, cond, List, [], ◌∷◌, ◌++◌, Some, Contains, length, set, get_or, drop, count_by, min, refl, sym, ap, subst, arith}
-use Rattle.std.specs.List.{All}
-use Rattle.std.proofs.lemmas.Bool.{cases_order, eq-eqb, ne_eqb}
-use Rattle.std.proofs.lemmas.List.{length-set, length_push, drop-append-le}
-use Rattle.std.proofs.lemmas.List.Elements.{All-head, All-tail, All-weaker}
-use Rattle.std.proofs.lemmas.List.Sums.{sum_by-set}
-use Rattle.drain_grid.specs.declared.cell.Cell.{Cell}
-use Rattle.drain_grid.specs.declared.direction.Direction.{Direction}
-use Rattle.drain_grid.specs.declared.direction.Direction.TheVariants.{East}
-use Rattle.drain_grid.specs.Direction.{directions, code_of, opposite}
-use Rattle.drain_grid.specs.Extent.{IsCellOf, index_of, step, Extent}
-use Rattle.drain_grid.specs.Grid.{Grid, IsInside}
-use Rattle.drain_grid.proofs.Tallies.{same_some}
-use Rattle.drain_grid.proofs.Runs.{index_of-below}
-use Rattle.drain_grid.proofs.Alike.{same_index}
-use Rattle.drain_grid.proofs.Neighbors.{of_each}
-use Rattle.drain_flood.specs.declared.layers.TheConstants.{REACHED}
-use Rattle.drain_flood.specs.declared.level_queue.TheConstants.{MAX_CELLS}
-use Rattle.drain_flood.specs.Floods.{Flooding, con_at}
-use Rattle.drain_flood.specs.Flats.{Laying, way_at, rank_at, wayless, IsSettled, IsFlat, HasWay, IsLookedFor, IsToLook, AreLaid, Settles, IsSettledFrom}
-use Rattle.drain_flood.specs.Walks.{IsWalk, NoneAt, IsWalked, IsPassed, IsLessWalk, with_ahead, IsNextPlace}
+use Rattle.drain_flood.proofs.Names.{◌≡◌, ◌≢◌, ℕ, ◌+◌, ◌*◌, ◌<◌, ◌≤◌, ◌∙◌, inl, inr, ℤ, ◌==◌, cond, List, [], ◌∷◌, ◌++◌, Some, Contains, length, set, get_or, drop, count_by, min, refl, sym, ap, subst, arith, All, cases_order, ne_eqb, length_push, drop-append-le, All-head, All-tail, All-weaker, sum_by-set, Cell, Direction, East, directions, code_of, opposite, IsCellOf, index_of, step, Extent, Grid, IsInside, same_some, index_of-below, same_index, of_each, REACHED, MAX_CELLS, Flooding, con_at, Laying, way_at, rank_at, wayless, IsSettled, IsFlat, HasWay, IsLookedFor, IsToLook, AreLaid, Settles, IsSettledFrom, IsWalk, NoneAt, IsWalked, IsPassed, IsLessWalk, with_ahead, IsNextPlace}
+use Rattle.std.proofs.lemmas.Bool.{eq-eqb}
+use Rattle.std.proofs.lemmas.List.{length-set}
 use Rattle.drain_flood.proofs.Putting.{put_there, put_elsewhere}
 use Rattle.drain_flood.proofs.Settling.{kept_by_settling, code_settles}
 use Rattle.drain_flood.proofs.Turns.{cons_cases}

@@ -5,13 +5,9 @@
 -- neighbour by neighbour. It reaches every cell of a filled surface, since from each a path leads out that never rises.
 -- Source: ways along flats from their low edges (Garbrecht and Martz 1997; Barnes, Lehman and Mulla 2014b); these facts
 -- are this project's own.
-use Rattle.std.specs.Prelude.{◌≡◌, ◌≢◌, ℕ, ◌+◌, ◌*◌, ◌<◌, ◌≤◌, ◌⊎◌, ◌==◌, pos, List, [], ◌∷◌, ◌++◌, Contains, length, slice_index_or, Some, None, IsNone, count_by, if◌then◌else◌}
+use Rattle.std.specs.Prelude.{◌≡◌, ◌≢◌, ◌+◌, ◌*◌, ◌<◌, ◌≤◌, ◌⊎◌, ◌==◌, ◌∷◌, ◌++◌, if◌then◌else◌}
+use Rattle.drain_flood.specs.Names.{ℕ, pos, List, [], Contains, length, slice_index_or, Some, None, IsNone, count_by, Cell, Direction, code_of, opposite, IsCellOf, index_of, step, Extent, Grid, Products, HasData, IsInside, IsOpenCell}
 use Rattle.std.specs.List.{All}
-use Rattle.drain_grid.specs.declared.cell.Cell.{Cell}
-use Rattle.drain_grid.specs.declared.direction.Direction.{Direction}
-use Rattle.drain_grid.specs.Direction.{code_of, opposite}
-use Rattle.drain_grid.specs.Extent.{IsCellOf, index_of, step, Extent}
-use Rattle.drain_grid.specs.Grid.{Grid, Products, HasData, IsInside, IsOpenCell}
 use Rattle.drain_flood.specs.declared.layers.TheConstants.{OPEN, REACHED, VOID, NO_RANK}
 use Rattle.drain_flood.specs.Floods.{Flooding, con_at}
 use Rattle.drain_flood.specs.Ways.{IsSteepestNeighbor, IsWayDown}

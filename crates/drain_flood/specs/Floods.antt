@@ -6,14 +6,9 @@
 -- matter.
 -- Source: Priority-Flood (Barnes, Lehman and Mulla 2014), with traces as in Zhou, Sun and Fu (2016); these facts are
 -- this project's own.
-use Rattle.std.specs.Prelude.{◌≡◌, ◌≢◌, ℕ, ◌+◌, ◌*◌, ◌⊎◌, ◌==◌, ℤ, pos, ◌≤ℤ◌, ◌<ℤ◌, List, [], ◌∷◌, ◌++◌, Contains, length, slice_index_or, Some, IsNone, count_by}
-use Rattle.std.specs.List.{All, AllByRecursion}
-use Rattle.std.specs.Int.{int_max}
-use Rattle.drain_grid.specs.declared.cell.Cell.{Cell}
-use Rattle.drain_grid.specs.declared.direction.Direction.{Direction}
-use Rattle.drain_grid.specs.Extent.{IsCellOf, index_of, step, Extent}
-use Rattle.drain_grid.specs.Grid.{Grid, HasData, IsInside, IsOpenCell, height_at}
-use Rattle.drain_grid.specs.Path.{IsPath, NeverRises, CoversGround, Drains}
+use Rattle.std.specs.Prelude.{◌≡◌, ◌≢◌, ◌+◌, ◌*◌, ◌⊎◌, ◌==◌, ◌≤ℤ◌, ◌<ℤ◌, ◌∷◌, ◌++◌}
+use Rattle.drain_flood.specs.Names.{ℕ, ℤ, pos, List, [], Contains, length, slice_index_or, Some, IsNone, count_by, AllByRecursion, int_max, Cell, Direction, IsCellOf, index_of, step, Extent, Grid, HasData, IsInside, IsOpenCell, height_at, IsPath, NeverRises, CoversGround, Drains}
+use Rattle.std.specs.List.{All}
 use Rattle.drain_flood.specs.declared.layers.TheConstants.{OPEN, REACHED, UNREACHED, VOID, NO_HEIGHT}
 
 -- the height and mark of each cell in row order; the places of the cells on the trail; the waiting cells, as pairs of a

@@ -1,12 +1,9 @@
 -- Lanes of heights for the first ways down, and the beginning of a flood: the ground and the first mark of each cell.
-use Rattle.std.specs.Prelude.{◌≡◌, ℕ, ◌+◌, ◌<◌, ◌-◌, ◌*◌, ◌/◌, ℤ, pos, ◌+ℤ◌, ◌<ℤ◌, Bool, ◌==◌, nat_lt, min, List, [], ◌∷◌, slice_index, if◌then◌else◌, slice_index_or, ◌≢◌, ◌↔◌, ◌⊎◌, length, IsNone, IsTrue}
-use Rattle.drain_grid.specs.declared.cell.Cell.{Cell}
-use Rattle.drain_grid.specs.Extent.{IsCellOf, index_of, Extent}
+use Rattle.std.specs.Prelude.{◌≡◌, ◌+◌, ◌<◌, ◌-◌, ◌*◌, ◌/◌, ◌+ℤ◌, ◌<ℤ◌, ◌==◌, ◌∷◌, if◌then◌else◌, ◌≢◌, ◌↔◌, ◌⊎◌}
+use Rattle.drain_flood.specs.Names.{ℕ, ℤ, pos, Bool, nat_lt, min, List, [], slice_index, slice_index_or, length, IsNone, IsTrue, Cell, IsCellOf, index_of, Extent, Grid, HasData, Heights, IsInside, IsOpenCell, IsSample, elevation_at}
 use Rattle.drain_flood.specs.Floods.{Flooding, con_at}
 use Rattle.drain_flood.specs.declared.layers.TheConstants.{NO_HEIGHT, OPEN, UNREACHED, VOID}
 use Rattle.drain_flood.specs.declared.falls.TheConstants.{GAP}
-use Rattle.drain_grid.specs.Grid.{Grid, HasData, Heights, IsInside, IsOpenCell, IsSample}
-use Rattle.drain_grid.specs.WholeGrid.{elevation_at}
 
 -- Lanes of heights, and the first steepest way down among eight of them.
 

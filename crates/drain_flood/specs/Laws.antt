@@ -1,15 +1,12 @@
 -- What the definitions of a flood say together.
-use Rattle.std.specs.Prelude.{IsNone, ◌≢◌, ◌≡◌, ◌*◌, ◌≤◌, ℤ, ℕ, List, [], ◌∷◌}
-use Rattle.drain_grid.specs.declared.cell.Cell.{Cell}
-use Rattle.drain_grid.specs.declared.direction.Direction.{Direction}
-use Rattle.drain_grid.specs.Grid.{Grid, Products, HasData, IsInside, patch_at}
+use Rattle.std.specs.Prelude.{◌≢◌, ◌≡◌, ◌*◌, ◌≤◌, ◌∷◌}
+use Rattle.drain_flood.specs.Names.{IsNone, ℤ, ℕ, List, [], Cell, Direction, Grid, Products, HasData, IsInside, patch_at, Drains, IsFilled}
 use Rattle.drain_grid.specs.GridRules.{RulesHold}
 use Rattle.drain_grid.specs.PatchRules.{flow_rules, surface_rules, BadCodeWithoutSpill}
 use Rattle.drain_grid.specs.Product.{default_numbers}
 use Rattle.drain_flood.specs.declared.layers.TheConstants.{NO_HEIGHT}
 use Rattle.drain_flood.specs.declared.level_queue.TheConstants.{MAX_CELLS}
 use Rattle.drain_grid.specs.Rule.{IsFillRule, IsWayRule}
-use Rattle.drain_grid.specs.Path.{Drains, IsFilled}
 use Rattle.drain_flood.specs.Turns.{with_lists}
 use Rattle.drain_flood.specs.Flats.{Laying, AreLaid, IsSettledFrom, Settles, AreWaysOnFlats, ShowsWays}
 use Rattle.drain_flood.specs.Floods.{con_at, Flooding, IsFloodOf, IsReachedCell, IsReachedFrom, Reaches, IsFlooded, IsSurfaceOf, ShowsVoids}

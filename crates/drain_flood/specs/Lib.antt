@@ -1,3 +1,4 @@
+pub mod Names
 pub mod Ways
 pub mod Stacks
 pub mod Turns

@@ -1,12 +1,6 @@
 -- The neighbours of a cell: what is done with each, and what holds before and after.
-use Rattle.std.specs.Prelude.{◌≡◌, ℕ, ◌+◌, ◌*◌, ◌<◌, ◌⊎◌, ℤ, ◌≤ℤ◌, ◌<ℤ◌, Bool, true, false, List, Some, get_or, slice_index_or}
-use Rattle.std.specs.Int.{int_max}
-use Rattle.drain_grid.specs.declared.cell.Cell.{Cell}
-use Rattle.drain_grid.specs.declared.direction.Direction.{Direction}
-use Rattle.drain_grid.specs.declared.direction.Direction.TheVariants.{East}
-use Rattle.drain_grid.specs.Direction.{directions}
-use Rattle.drain_grid.specs.Extent.{index_of, step, Extent}
-use Rattle.drain_grid.specs.Grid.{Grid, height_at}
+use Rattle.std.specs.Prelude.{◌≡◌, ◌+◌, ◌*◌, ◌<◌, ◌⊎◌, ◌≤ℤ◌, ◌<ℤ◌}
+use Rattle.drain_flood.specs.Names.{ℕ, ℤ, Bool, true, false, List, Some, get_or, slice_index_or, int_max, Cell, Direction, East, directions, index_of, step, Extent, Grid, height_at}
 use Rattle.drain_flood.specs.declared.layers.TheConstants.{REACHED, UNREACHED}
 use Rattle.drain_flood.specs.Floods.{Flooding, con_at, mark_at, IsReachedCell, IsUnreached, IsFloodOf, Reaches}
 

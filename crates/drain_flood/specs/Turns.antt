@@ -1,12 +1,8 @@
 -- What each call does to a flood under way.
-use Rattle.std.specs.Prelude.{◌≡◌, ℕ, ◌≤◌, ◌<◌, ℤ, ◌≤ℤ◌, ◌<ℤ◌, List, ◌∷◌, ◌++◌, Contains, length, get_or, ◌*◌, ◌+◌, Bool, true, false, [], Some}
+use Rattle.std.specs.Prelude.{◌≡◌, ◌≤◌, ◌<◌, ◌≤ℤ◌, ◌<ℤ◌, ◌∷◌, ◌++◌, ◌*◌, ◌+◌}
+use Rattle.drain_flood.specs.Names.{ℕ, ℤ, List, Contains, length, get_or, Bool, true, false, [], Some, IsPermutation, Extent, IsCellOf, index_of, step, Cell, Direction, Grid, height_at}
 use Rattle.std.specs.List.{All}
-use Rattle.std.specs.List.Sorted.{IsPermutation}
-use Rattle.drain_grid.specs.Extent.{Extent, IsCellOf, index_of, step}
 use Rattle.drain_flood.specs.declared.level_queue.TheConstants.{MAX_CELLS}
-use Rattle.drain_grid.specs.declared.cell.Cell.{Cell}
-use Rattle.drain_grid.specs.declared.direction.Direction.{Direction}
-use Rattle.drain_grid.specs.Grid.{Grid, height_at}
 use Rattle.drain_flood.specs.Floods.{Flooding, con_at, unreached, IsUnreached, IsFloodOf, IsReachedCell}
 use Rattle.drain_flood.specs.Looks.{AreInside, IsLookedBefore}
 

@@ -1,12 +1,7 @@
 -- The walk along flats: what each call changes, and what holds before and after.
-use Rattle.std.specs.Prelude.{◌≡◌, ◌≢◌, ℕ, ◌+◌, ◌*◌, ◌<◌, ◌≤◌, ◌⊎◌, ℤ, List, [], ◌∷◌, length, Some, get_or}
+use Rattle.std.specs.Prelude.{◌≡◌, ◌≢◌, ◌+◌, ◌*◌, ◌<◌, ◌≤◌, ◌⊎◌, ◌∷◌}
+use Rattle.drain_flood.specs.Names.{ℕ, ℤ, List, [], length, Some, get_or, Cell, Direction, East, directions, code_of, opposite, IsCellOf, index_of, step, Extent, Grid}
 use Rattle.std.specs.List.{All}
-use Rattle.drain_grid.specs.declared.cell.Cell.{Cell}
-use Rattle.drain_grid.specs.declared.direction.Direction.{Direction}
-use Rattle.drain_grid.specs.declared.direction.Direction.TheVariants.{East}
-use Rattle.drain_grid.specs.Direction.{directions, code_of, opposite}
-use Rattle.drain_grid.specs.Extent.{IsCellOf, index_of, step, Extent}
-use Rattle.drain_grid.specs.Grid.{Grid}
 use Rattle.drain_flood.specs.declared.layers.TheConstants.{REACHED, VOID}
 use Rattle.drain_flood.specs.declared.level_queue.TheConstants.{MAX_CELLS}
 use Rattle.drain_flood.specs.Floods.{Flooding, con_at}

@@ -1,14 +1,9 @@
 -- The way of each cell of a filled surface that has a lower neighbour: the first steepest one down.
 -- Source: D8 (O'Callaghan and Mark 1984).
-use Rattle.std.specs.Prelude.{◌≡◌, ℕ, ◌*◌, ◌<◌, ℤ, ◌-ℤ◌, ◌≤ℤ◌, ◌<ℤ◌, List, length, slice_index_or, Option, Some, None, IsNone, ◌≢◌, zero, suc, ◌+◌, ◌≤◌, pos, nat_lt, ◌==◌, if◌then◌else◌, [], ◌∷◌, ◌++◌, map, get_or, Contains}
-use Rattle.drain_grid.specs.declared.cell.Cell.{Cell}
-use Rattle.drain_grid.specs.declared.direction.Direction.{Direction}
-use Rattle.drain_grid.specs.Direction.{code_of, order_of}
-use Rattle.drain_grid.specs.Extent.{Extent, index_of, step}
-use Rattle.drain_grid.specs.Grid.{Grid, HasData, IsInside, Products, no_sink}
+use Rattle.std.specs.Prelude.{◌≡◌, ◌*◌, ◌<◌, ◌-ℤ◌, ◌≤ℤ◌, ◌<ℤ◌, ◌≢◌, ◌+◌, ◌≤◌, ◌==◌, if◌then◌else◌, ◌∷◌, ◌++◌}
+use Rattle.drain_flood.specs.Names.{ℕ, ℤ, List, length, slice_index_or, Option, Some, None, IsNone, zero, suc, pos, nat_lt, [], map, get_or, Contains, Cell, Direction, code_of, order_of, Extent, index_of, step, Grid, HasData, IsInside, Products, no_sink, Distances, weight_of}
 use Rattle.drain_grid.specs.HeightKinds.{height_of}
 use Rattle.drain_grid.specs.Slope.{slope_key}
-use Rattle.drain_grid.specs.Spacing.{Distances, weight_of}
 use Rattle.drain_flood.specs.declared.layers.TheConstants.{VOID}
 use Rattle.drain_flood.specs.Floods.{Flooding, con_at, mark_at}
 use Rattle.std.specs.List.{All}

@@ -5,13 +5,8 @@
 //! them is unreached. Else the eight directions are written out, so each neighbour's place is a sum of numbers that are
 //! known beforehand, and no side is tested.
 
-ghost use Rattle.std.specs.Prelude.{◌≡◌, ◌↔◌, ◌+◌, ◌*◌, ◌<◌, ℕ, ℤ, List, IfOk, OnOk, IsTrue, get_or};
-ghost use Rattle.drain_grid.specs.declared.cell.Cell.{Cell};
-ghost use Rattle.drain_grid.specs.declared.direction.Direction.{Direction};
-ghost use Rattle.drain_grid.specs.declared.direction.Direction.TheVariants.{East};
-ghost use Rattle.drain_grid.specs.Direction.{directions};
-ghost use Rattle.drain_grid.specs.Extent.{IsCellOf, index_of};
-ghost use Rattle.drain_grid.specs.Grid.{Grid};
+ghost use Rattle.std.specs.Prelude.{◌≡◌, ◌↔◌, ◌+◌, ◌*◌, ◌<◌};
+ghost use Rattle.drain_flood.specs.Names.{ℕ, ℤ, List, IfOk, OnOk, IsTrue, get_or, Cell, Direction, East, directions, IsCellOf, index_of, Grid};
 ghost use Rattle.drain_flood.specs.Floods.{Flooding};
 ghost use Rattle.drain_flood.specs.Looks.{IsAround, IsFreshAt, IsInnerAt, IsLook, IsLookedBefore, IsPlaceBeside};
 ghost use Rattle.drain_flood.specs.Turns.{IsLessWork, IsLookedAround, LooksAround};

@@ -1,11 +1,8 @@
 //! The code of each data cell of a filled surface with a lower neighbour, whatever its heights and its spacing: cell by
 //! cell, by the keys of slopes.
 
-ghost use Rattle.std.specs.Prelude.{◌≡◌, ℕ, ◌*◌, ◌<◌, ◌==◌, IfOk, None, Some, length, slice_index, if◌then◌else◌};
-ghost use Rattle.drain_grid.specs.declared.cell.Cell.{Cell};
-ghost use Rattle.drain_grid.specs.Extent.{IsCellOf, index_of};
-ghost use Rattle.drain_grid.specs.Grid.{Grid, IsInside};
-ghost use Rattle.drain_grid.specs.Spacing.{spacing_of};
+ghost use Rattle.std.specs.Prelude.{◌≡◌, ◌*◌, ◌<◌, ◌==◌, if◌then◌else◌};
+ghost use Rattle.drain_flood.specs.Names.{ℕ, IfOk, None, Some, length, slice_index, Cell, IsCellOf, index_of, Grid, IsInside, spacing_of};
 ghost use Rattle.drain_flood.specs.Floods.{IsSurfaceOf};
 ghost use Rattle.drain_flood.specs.Ways.{AreFirstCodes, IsCodeAt, IsSpaced};
 

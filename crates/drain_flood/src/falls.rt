@@ -5,11 +5,8 @@
 //! serve eight neighbours: the steepest way along a row or column leads to the least of four lanes, and the steepest
 //! across a corner to the least of the other four.
 
-ghost use Rattle.std.specs.Prelude.{◌≡◌, ◌≤◌, ◌<◌, ◌+◌, ◌*◌, ◌/◌, ◌^◌, ◌&&◌, ◌==◌, ℕ, pos, min, nat_lt, length, slice_index, slice_index_or, if◌then◌else◌};
-ghost use Rattle.drain_grid.specs.Extent.{index_of};
-ghost use Rattle.drain_grid.specs.Grid.{Grid, IsInside};
-ghost use Rattle.drain_grid.specs.Spacing.{unit_spacing};
-ghost use Rattle.drain_grid.specs.declared.cell.Cell.{Cell};
+ghost use Rattle.std.specs.Prelude.{◌≡◌, ◌≤◌, ◌<◌, ◌+◌, ◌*◌, ◌/◌, ◌^◌, ◌&&◌, ◌==◌, if◌then◌else◌};
+ghost use Rattle.drain_flood.specs.Names.{ℕ, pos, min, nat_lt, length, slice_index, slice_index_or, index_of, Grid, IsInside, unit_spacing, Cell};
 ghost use Rattle.drain_flood.specs.Floods.{IsFlooded};
 ghost use Rattle.drain_flood.specs.Ways.{IsCodeAt};
 ghost use Rattle.drain_flood.specs.Laid.{AreRowLanes, IsLane, around_in, fall_at, fall_in, first_across, first_along, is_steeper, least_across, least_along, level_of_lane};

@@ -2,12 +2,8 @@
 //!
 //! Away from the edge of the grid the eight directions are written out, as where a flood looks around.
 
-ghost use Rattle.std.specs.Prelude.{◌≡◌, ℕ, ◌+◌, ◌*◌, ◌<◌, List, MatchOption, IfSome, OnOk, IsTrue, get_or};
-ghost use Rattle.drain_grid.specs.declared.cell.Cell.{Cell};
-ghost use Rattle.drain_grid.specs.declared.direction.Direction.TheVariants.{East};
-ghost use Rattle.drain_grid.specs.Direction.{directions};
-ghost use Rattle.drain_grid.specs.Extent.{IsCellOf};
-ghost use Rattle.drain_grid.specs.Grid.{Grid};
+ghost use Rattle.std.specs.Prelude.{◌≡◌, ◌+◌, ◌*◌, ◌<◌};
+ghost use Rattle.drain_flood.specs.Names.{ℕ, List, MatchOption, IfSome, OnOk, IsTrue, get_or, Cell, East, directions, IsCellOf, Grid};
 ghost use Rattle.drain_flood.specs.Floods.{con_at};
 ghost use Rattle.drain_flood.specs.Looks.{IsInnerPlace};
 ghost use Rattle.drain_flood.specs.Flats.{Laying, IsSettled, AreLaid};

@@ -6,11 +6,8 @@
 //!
 //! Source: ways along flats from their low edges (Garbrecht and Martz 1997; Barnes, Lehman and Mulla 2014b).
 
-ghost use Rattle.std.specs.Prelude.{◌≡◌, ◌≢◌, ℕ, ◌+◌, ◌*◌, ◌<◌, List, [], MatchOption, IfSome, IfOk, OnOk, IsTrue, length, slice_index_or};
-ghost use Rattle.drain_grid.specs.declared.cell.Cell.{Cell};
-ghost use Rattle.drain_grid.specs.declared.direction.Direction.{Direction};
-ghost use Rattle.drain_grid.specs.Extent.{IsCellOf, index_of};
-ghost use Rattle.drain_grid.specs.Grid.{Grid};
+ghost use Rattle.std.specs.Prelude.{◌≡◌, ◌≢◌, ◌+◌, ◌*◌, ◌<◌};
+ghost use Rattle.drain_flood.specs.Names.{ℕ, List, [], MatchOption, IfSome, IfOk, OnOk, IsTrue, length, slice_index_or, Cell, Direction, IsCellOf, index_of, Grid};
 ghost use Rattle.drain_flood.specs.Floods.{IsSurfaceOf, con_at};
 ghost use Rattle.drain_flood.specs.Flats.{first_rank, AreFirstRanks, Laying, way_at, rank_at, wayless, IsSettled, AreLaid, Settles, AreWaysOnFlats};
 ghost use Rattle.drain_flood.specs.Ways.{AreFirstCodes};

@@ -8,13 +8,8 @@
 //!
 //! Source: Priority-Flood (Barnes, Lehman and Mulla 2014), with traces as in Zhou, Sun and Fu (2016).
 
-ghost use Rattle.std.specs.Prelude.{◌≡◌, ◌↔◌, ◌+◌, ◌*◌, ◌<◌, ℕ, ℤ, pos, List, [], None, MatchOption, IfSome, IfOk, OnOk, IsTrue, length, slice_index_or, vec_len};
-ghost use Rattle.drain_grid.specs.Spacing.{Distances};
-ghost use Rattle.drain_grid.specs.WholeGrid.{spaced_grid};
-ghost use Rattle.drain_grid.specs.Path.{IsFilled};
-ghost use Rattle.drain_grid.specs.declared.cell.Cell.{Cell};
-ghost use Rattle.drain_grid.specs.Extent.{IsCellOf, index_of};
-ghost use Rattle.drain_grid.specs.Grid.{Grid};
+ghost use Rattle.std.specs.Prelude.{◌≡◌, ◌↔◌, ◌+◌, ◌*◌, ◌<◌};
+ghost use Rattle.drain_flood.specs.Names.{ℕ, ℤ, pos, List, [], None, MatchOption, IfSome, IfOk, OnOk, IsTrue, length, slice_index_or, vec_len, Distances, spaced_grid, IsFilled, Cell, IsCellOf, index_of, Grid};
 ghost use Rattle.drain_flood.specs.Floods.{Flooding, con_at, mark_at, unreached, IsFloodOf, IsFlooded, Reaches};
 ghost use Rattle.drain_flood.specs.Looks.{IsClosed, IsInnerAt, IsInnerPlace};
 ghost use Rattle.drain_flood.specs.Turns.{IsNextTurn, IsDone, IsPopped, IsEmptied, IsLeftWaiting};

@@ -5,14 +5,10 @@
 //! the eight around a cell is 0 if the cell is beside a gap. So a row's cells are looked at many at a time, by loops
 //! without a branch.
 
-ghost use Rattle.std.specs.Prelude.{◌≡◌, ◌↔◌, ◌≤◌, ◌<◌, ◌+◌, ◌*◌, ℕ, pos, min, false, List, All, Contains, IfOk, OnOk, length, slice_index, slice_index_or};
-ghost use Rattle.drain_grid.specs.declared.cell.Cell.{Cell};
+ghost use Rattle.drain_flood.specs.Names.{ℕ, pos, min, false, List, Contains, IfOk, OnOk, length, slice_index, slice_index_or, Cell, IsCellOf, index_of, IsSample, Distances, spaced_grid};
+ghost use Rattle.std.specs.Prelude.{◌≡◌, ◌↔◌, ◌≤◌, ◌<◌, ◌+◌, ◌*◌, All};
 ghost use Rattle.drain_grid.specs.declared.sink_line.SinkLine.{SinkLine};
-ghost use Rattle.drain_grid.specs.Extent.{IsCellOf, index_of};
-ghost use Rattle.drain_grid.specs.Grid.{IsSample};
 ghost use Rattle.drain_grid.specs.SinkTexts.{is_listed};
-ghost use Rattle.drain_grid.specs.Spacing.{Distances};
-ghost use Rattle.drain_grid.specs.WholeGrid.{spaced_grid};
 ghost use Rattle.drain_flood.specs.declared.level_queue.TheConstants.{MAX_CELLS};
 ghost use Rattle.drain_flood.specs.Laid.{AreDataMarks, AreFirstMarks, AreGrounds, IsFirstMark, IsMarkOf, IsOpenPlace, around_in, least_across, least_along, least_around};
 

@@ -1,8 +1,7 @@
 //! Cells and their places in row order, and the places of neighbours.
 
-ghost use Rattle.std.specs.Prelude.{◌≡◌, ◌+◌, ◌*◌, ◌^◌, ◌<◌, None, MatchOption, IfSome, IsTrue};
-ghost use Rattle.drain_grid.specs.Direction.{rows_down, cols_right};
-ghost use Rattle.drain_grid.specs.Extent.{IsCellOf, index_of, step};
+ghost use Rattle.std.specs.Prelude.{◌≡◌, ◌+◌, ◌*◌, ◌^◌, ◌<◌};
+ghost use Rattle.drain_flood.specs.Names.{None, MatchOption, IfSome, IsTrue, rows_down, cols_right, IsCellOf, index_of, step};
 ghost use Rattle.drain_flood.specs.Looks.{IsInnerAt, IsInnerPlace, IsPlaceBeside};
 
 use drain_grid::{Cell, Direction, Shape};

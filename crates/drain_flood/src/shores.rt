@@ -1,8 +1,7 @@
 //! The low edges of flats: outlets, and cells with a lower neighbour. Their rank is 0.
 
-ghost use Rattle.std.specs.Prelude.{◌≡◌, ◌↔◌, MatchOption, IsTrue};
-ghost use Rattle.drain_grid.specs.declared.direction.Direction.{Direction};
-ghost use Rattle.drain_grid.specs.Extent.{IsCellOf};
+ghost use Rattle.std.specs.Prelude.{◌≡◌, ◌↔◌};
+ghost use Rattle.drain_flood.specs.Names.{MatchOption, IsTrue, Direction, IsCellOf};
 ghost use Rattle.drain_flood.specs.Looks.{IsInnerPlace};
 ghost use Rattle.drain_flood.specs.Walks.{IsLowEdgeThere};
 

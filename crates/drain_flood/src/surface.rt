@@ -1,7 +1,7 @@
 //! A filled surface: the height and the mark of each cell.
 
-ghost use Rattle.std.specs.Prelude.{◌≡◌, ◌*◌, ◌<◌, ◌≤◌, [], pos, length, slice_index_or};
-ghost use Rattle.drain_grid.specs.Values.{IsPixel};
+ghost use Rattle.std.specs.Prelude.{◌≡◌, ◌*◌, ◌<◌, ◌≤◌};
+ghost use Rattle.drain_flood.specs.Names.{[], pos, length, slice_index_or, IsPixel};
 ghost use Rattle.drain_flood.specs.declared.level_queue.TheConstants.{MAX_CELLS};
 
 use crate::heights::HeightList;

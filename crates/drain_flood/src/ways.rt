@@ -4,10 +4,8 @@
 //! Source: D8 (O'Callaghan and Mark 1984). In rows of square cells with whole heights slopes are compared by the squares of
 //! their drops, halved across corners, many cells at a time; in any other row cell by cell.
 
-ghost use Rattle.std.specs.Prelude.{◌≡◌, ◌↔◌, ◌+◌, ◌*◌, IfOk, IsTrue, OnOk, length};
-ghost use Rattle.drain_grid.specs.Direction.{code_of};
-ghost use Rattle.drain_grid.specs.Grid.{Grid};
-ghost use Rattle.drain_grid.specs.Spacing.{spacing_of, unit_spacing};
+ghost use Rattle.std.specs.Prelude.{◌≡◌, ◌↔◌, ◌+◌, ◌*◌};
+ghost use Rattle.drain_flood.specs.Names.{IfOk, IsTrue, OnOk, length, code_of, Grid, spacing_of, unit_spacing};
 ghost use Rattle.drain_flood.specs.Floods.{IsFlooded};
 ghost use Rattle.drain_flood.specs.Ways.{AreFirstCodes, IsSpaced};
 

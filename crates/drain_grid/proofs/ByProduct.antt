@@ -1,19 +1,8 @@
 -- The least of rules 1 to 3, from what holds of a data cell.
-use Rattle.std.proofs.Common.{◌<◌, Some, sym, subst, inl, inr, arith, ◌↔◌}
-use Rattle.std.proofs.lemmas.Bool.{cases_eq}
-use Rattle.drain_grid.specs.declared.patch.Patch.{Patch}
-use Rattle.drain_grid.specs.declared.rule.Rule.{Rule}
-use Rattle.drain_grid.specs.declared.rule.Rule.TheVariants.{VoidCell, Missing, BadCode}
-use Rattle.drain_grid.specs.Direction.{IsCode}
-use Rattle.drain_grid.specs.Values.{NoDataNumbers, IsComplete}
-use Rattle.drain_grid.specs.Rule.{rule_number, IsPresenceRule, IsLeastFault}
-use Rattle.drain_grid.specs.Patch.{IsDataCell}
-use Rattle.drain_grid.specs.PatchRules.{profile1, VoidCellHolds}
+use Rattle.drain_grid.proofs.Names.{◌<◌, Some, sym, subst, inl, inr, arith, ◌↔◌, cases_eq, Patch, Rule, VoidCell, Missing, BadCode, IsCode, NoDataNumbers, IsComplete, rule_number, IsPresenceRule, IsLeastFault, IsDataCell, profile1, VoidCellHolds, SetProduct, OfSetProduct, product_of}
 use Rattle.drain_grid.proofs.AllRules.{same_rule}
 use Rattle.drain_grid.specs.declared.product.Product.{Product}
 use Rattle.drain_grid.specs.declared.product.Product.TheVariants.{Con, Dir, Acc, Bas, Spl, Rnk}
-use Rattle.drain_grid.specs.declared.set_product.SetProduct.{SetProduct}
-use Rattle.drain_grid.specs.SetProduct.{OfSetProduct, product_of}
 use Rattle.drain_grid.specs.declared.set_product.SetProduct.TheVariants as held
 
 -- a data cell is no void

@@ -1,12 +1,7 @@
 -- A set of cells in an order of cells: what an insertion adds.
-use Rattle.std.proofs.Common.{◌≡◌, ◌||◌, Bool, true, false, cond, Ordering, List, [], ◌∷◌, refl, sym, ap, ◌∙◌, arith}
-use Rattle.std.specs.List.{list_any}
-use Rattle.std.specs.Ordering.{is_eq}
+use Rattle.drain_grid.proofs.Names.{◌≡◌, ◌||◌, Bool, true, false, cond, Ordering, List, [], ◌∷◌, refl, sym, ap, ◌∙◌, arith, list_any, is_eq, nat_tests, Cell, same_cell}
 use Rattle.std.specs.BTreeMap.{is_at}
 use Rattle.std.specs.BTreeSet.{BTreeSet, Updates}
-use Rattle.std.proofs.lemmas.Bool.Decides.{nat_tests}
-use Rattle.drain_grid.specs.declared.cell.Cell.{Cell}
-use Rattle.drain_grid.specs.Extent.{same_cell}
 use Rattle.drain_grid.specs.CellLists.{is_among}
 
 -- in the order two cells are equal exactly where they are one

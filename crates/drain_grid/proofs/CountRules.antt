@@ -1,22 +1,11 @@
 -- Rules 13 to 15 at a cell, where every run ends, counts are those of cells upstream, and equal labels mean one basin.
-use Rattle.std.proofs.Common.{◌≡◌, ◌∙◌, ◌↔◌, inl, inr, pos, ◌+ℤ◌, IsSome, sym, ap, subst, arith}
-use Rattle.std.proofs.Math.IntN.{pos-+ℤ-pos}
-use Rattle.drain_grid.specs.declared.cell.Cell.{Cell}
-use Rattle.drain_grid.specs.Extent.{IsEarlier}
-use Rattle.drain_grid.specs.Grid.{Grid, Products, IsInside, HasData, patch_at, values_at}
-use Rattle.drain_grid.specs.GridRules.{SharedLabelHolds, RulesHold}
-use Rattle.drain_grid.specs.PatchRules.{AccumulationHolds, LabelHolds, flow_rules}
-use Rattle.drain_grid.specs.Run.{RunEnds, ShareBasin, upstream_count, run_end}
-use Rattle.drain_grid.specs.Values.{Values}
+use Rattle.drain_grid.proofs.Names.{◌≡◌, ◌∙◌, ◌↔◌, inl, inr, pos, ◌+ℤ◌, IsSome, sym, ap, subst, arith, pos-+ℤ-pos, Cell, IsEarlier, Grid, Products, IsInside, HasData, patch_at, values_at, SharedLabelHolds, RulesHold, AccumulationHolds, LabelHolds, flow_rules, RunEnds, ShareBasin, upstream_count, run_end, Values, Label, SharedLabel, IsWayRule, IsLabelRule, LabelsAreBasins}
 use Rattle.drain_grid.proofs.Codes.{next-named}
 use Rattle.drain_grid.proofs.Runs.{ended-run_end, ended_chains, run_end-zero, along_runs, run_end-next, run_end-stops}
 use Rattle.drain_grid.proofs.HandedOn.{handed_on, handed_total}
 use Rattle.drain_grid.proofs.Inflows.{HasData-flow}
 use Rattle.drain_grid.proofs.Patches.{cell_shown}
 use Rattle.drain_grid.proofs.Upstream.{upstream_count-parts}
-use Rattle.drain_grid.specs.declared.rule.Rule.TheVariants.{Label, SharedLabel}
-use Rattle.drain_grid.specs.Rule.{IsWayRule, IsLabelRule}
-use Rattle.drain_grid.specs.Laws.{LabelsAreBasins}
 use Rattle.drain_grid.proofs.Alike.{cases_earlier}
 use Rattle.drain_grid.proofs.Steps.{LeadsOn}
 

@@ -1,15 +1,6 @@
 -- Keys compare as slopes do: products across of squared drops and squared distances. In each direction the weight times
 -- the square of the distance is one number, the product of the three squares.
-use Rattle.std.proofs.Common.{◌≡◌, ℕ, ◌*◌, ◌<◌, ◌≤◌, ◌↔◌, ℤ, pos, ◌*ℤ◌, ◌<ℤ◌, if◌then◌else◌, inl, inr, refl, sym, ◌∙◌, ap, subst, arith}
-use Rattle.std.proofs.Math.Nat.{mul-le-mul_left, mul-le-mul_right, le_of_mul-le-mul_right, mul_comm, mul_assoc}
-use Rattle.std.proofs.lemmas.Bool.{cases_lt}
-use Rattle.std.proofs.lemmas.Int.{ints}
-use Rattle.std.proofs.lemmas.Nat.{mul-le, mul-lt}
-use Rattle.drain_grid.specs.declared.direction.Direction.{Direction}
-use Rattle.drain_grid.specs.declared.direction.Direction.TheVariants.{East, SouthEast, South, SouthWest, West, NorthWest, North, NorthEast}
-use Rattle.drain_grid.specs.Slope.{slope_key}
-use Rattle.drain_grid.specs.Direction.{is_straight}
-use Rattle.drain_grid.specs.Spacing.{Distances, unit_spacing, IsSpacing, row_square, col_square, corner_square, distance_square, weight_of}
+use Rattle.drain_grid.proofs.Names.{◌≡◌, ℕ, ◌*◌, ◌<◌, ◌≤◌, ◌↔◌, ℤ, pos, ◌*ℤ◌, ◌<ℤ◌, if◌then◌else◌, inl, inr, refl, sym, ◌∙◌, ap, subst, arith, mul-le-mul_left, mul-le-mul_right, le_of_mul-le-mul_right, mul_comm, mul_assoc, cases_lt, ints, mul-le, mul-lt, Direction, East, SouthEast, South, SouthWest, West, NorthWest, North, NorthEast, slope_key, is_straight, Distances, unit_spacing, IsSpacing, row_square, col_square, corner_square, distance_square, weight_of}
 
 -- a product of three in another order
 swap_last : (a b c : ℕ) → (a * b) * c ≡ (a * c) * b

@@ -3,16 +3,7 @@
 -- (AllRules), the other that correct products keep the rules (FromCorrect); in between, products differ only in ranks
 -- (Alike, WithoutRanks). Where the rules without ranks hold, every run ends anyway (RunsByCounts), so these rules are
 -- enough.
-use Rattle.std.proofs.Common.{◌≡◌, ◌*◌, ◌∷◌, ℤ, negsuc, refl, subst, arith}
-use Rattle.drain_grid.specs.declared.cell.Cell.{Cell}
-use Rattle.drain_grid.specs.PatchRules.{check_rules}
-use Rattle.drain_grid.specs.Unranked.{level_rules, with_ranks, with_rank_nodata}
-use Rattle.drain_grid.specs.GridRules.{RulesHold}
-use Rattle.drain_grid.specs.Rule.{IsAnyRule, IsCountRule, IsFlowRule}
-use Rattle.drain_grid.specs.Laws.{RulesAreCorrect, CorrectIsLocal, CorrectByRulesAlone, RanksPlayNoPart, SoundFromCorrect}
-use Rattle.drain_grid.specs.Grid.{Grid, Products}
-use Rattle.drain_grid.specs.Run.{IsOutlet, VisitsOnce, run_end}
-use Rattle.drain_grid.specs.Correct.{RunsAreSound}
+use Rattle.drain_grid.proofs.Names.{◌≡◌, ◌*◌, ◌∷◌, ℤ, negsuc, refl, subst, arith, Cell, check_rules, level_rules, with_ranks, with_rank_nodata, RulesHold, IsAnyRule, IsCountRule, IsFlowRule, RulesAreCorrect, CorrectIsLocal, CorrectByRulesAlone, RanksPlayNoPart, SoundFromCorrect, Grid, Products, IsOutlet, VisitsOnce, run_end, RunsAreSound}
 use Rattle.drain_grid.proofs.AllRules.{correct_from_rules}
 use Rattle.drain_grid.proofs.FromCorrect.{rules_from_correct, unranked_from_correct}
 use Rattle.drain_grid.proofs.Profiles.{RulesHold-level, RulesHold-within}

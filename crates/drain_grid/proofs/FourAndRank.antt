@@ -1,9 +1,6 @@
 -- What is said of each product that a set holds is said of con, dir, acc and bas, and of the rank.
-use Rattle.std.proofs.Common.{◌≡◌, ◌≢◌, ◌↔◌}
+use Rattle.drain_grid.proofs.Names.{◌≡◌, ◌≢◌, ◌↔◌, product_of, Values, NoDataNumbers, number_for, value_of, IsBlankWithoutSpill, IsCompleteWithoutSpill, IsBlankWithoutRank, IsCompleteWithoutRank}
 use Rattle.drain_grid.specs.declared.set_product.SetProduct.TheVariants.{Con, Dir, Acc, Bas, Rnk}
-use Rattle.drain_grid.specs.SetProduct.{product_of}
-use Rattle.drain_grid.specs.Values.{Values, NoDataNumbers, number_for, value_of, IsBlankWithoutSpill, IsCompleteWithoutSpill}
-use Rattle.drain_grid.specs.Unranked.{IsBlankWithoutRank, IsCompleteWithoutRank}
 use Rattle.drain_grid.proofs.ByProduct.{by_set_product}
 
 -- the five have their no-data numbers where the four and the rank do

@@ -5,20 +5,8 @@
 -- what correct codes do there: they lead to a steepest cell, stop at an outlet, or lead along a flat. Rule 13 is that what drains through a cell is the cell and what drains through the cells that flow in
 -- (Upstream). Rules 14 and 15 are what equal labels mean, for a cell and the next one, and for two outlets. What open means
 -- has no part in it.
-use Rattle.std.proofs.Common.{◌≡◌, inl, inr, ◌≤ℤ◌, [], IsSome, subst, arith}
-use Rattle.std.specs.Int.{int_max}
-use Rattle.std.proofs.lemmas.Int.{ints, by_lt_z}
-use Rattle.drain_grid.specs.declared.cell.Cell.{Cell}
-use Rattle.drain_grid.specs.declared.rule.Rule.{Rule}
-use Rattle.drain_grid.specs.declared.rule.Rule.TheVariants.{VoidCell, Missing, BadCode, BelowGround, OpenRaised, NoSpill, SpillHeight, SpillRank, NotLeast, Slope, OutletCode, FlatStep, Accumulation, Label, SharedLabel}
-use Rattle.drain_grid.specs.Values.{Values, NoDataNumbers}
-use Rattle.drain_grid.specs.Grid.{Grid, Products, IsInside, HasData, height_at, values_at, patch_at}
-use Rattle.drain_grid.specs.PatchRules.{BelowGroundHolds, NotLeastHolds, SlopeHolds, OutletCodeHolds, BadCodeWithoutSpill, OpenRaisedWithoutSpill}
-use Rattle.drain_grid.specs.Unranked.{unranked, VoidCellWithoutRank, MissingWithoutRank, LevelStepHolds}
-use Rattle.drain_grid.specs.GridRules.{HoldsAt, RulesHold}
-use Rattle.drain_grid.specs.Rule.{IsAnyRule}
-use Rattle.drain_grid.specs.Correct.{IsCorrect}
-use Rattle.drain_grid.specs.Laws.{RulesFromCorrect}
+use Rattle.drain_grid.proofs.Names.{◌≡◌, inl, inr, ◌≤ℤ◌, [], IsSome, subst, arith, int_max, ints, by_lt_z, Cell, Rule, VoidCell, Missing, BadCode, BelowGround, OpenRaised, NoSpill, SpillHeight, SpillRank, NotLeast, Slope, OutletCode, FlatStep, Accumulation, Label, SharedLabel, Values, NoDataNumbers, Grid, Products, IsInside, HasData, height_at, values_at, patch_at, BelowGroundHolds, NotLeastHolds, SlopeHolds, OutletCodeHolds, BadCodeWithoutSpill, OpenRaisedWithoutSpill, unranked, VoidCellWithoutRank, MissingWithoutRank, LevelStepHolds, RulesHold, IsAnyRule, IsCorrect, RulesFromCorrect}
+use Rattle.drain_grid.specs.GridRules.{HoldsAt}
 use Rattle.drain_grid.proofs.Neighbors.{AreNeighbors-lies, step_lies}
 use Rattle.drain_grid.proofs.Patches.{IsOpen-patch_at, cell_shown, shown_cell}
 use Rattle.drain_grid.proofs.Codes.{named-next}

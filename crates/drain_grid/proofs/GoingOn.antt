@@ -1,17 +1,6 @@
 -- Runs that go on for n steps, under rules 10 to 12 without ranks: the run of a data cell goes on for n + 1 steps
 -- exactly where its code leads to a cell whose run goes on for n.
-use Rattle.std.proofs.Common.{◌≡◌, ◌≢◌, ◌∙◌, ◌⊎◌, inl, inr, ℕ, suc, pos, Bool, true, Some, sym, ap, arith}
-use Rattle.drain_grid.specs.declared.cell.Cell.{Cell}
-use Rattle.drain_grid.specs.declared.direction.Direction.{Direction}
-use Rattle.drain_grid.specs.declared.rule.Rule.TheVariants.{Slope, OutletCode, FlatStep}
-use Rattle.drain_grid.specs.Values.{Values}
-use Rattle.drain_grid.specs.Direction.{Names}
-use Rattle.drain_grid.specs.Patch.{IsDataNeighbor}
-use Rattle.drain_grid.specs.Rule.{IsWayRule}
-use Rattle.drain_grid.specs.Unranked.{level_rules}
-use Rattle.drain_grid.specs.Grid.{Grid, Products, HasData, patch_at}
-use Rattle.drain_grid.specs.GridRules.{RulesHold}
-use Rattle.drain_grid.specs.Run.{next, steps_from, last_from}
+use Rattle.drain_grid.proofs.Names.{◌≡◌, ◌≢◌, ◌∙◌, ◌⊎◌, inl, inr, ℕ, suc, pos, Bool, true, Some, sym, ap, arith, Cell, Direction, Slope, OutletCode, FlatStep, Values, Names, IsDataNeighbor, IsWayRule, level_rules, Grid, Products, HasData, patch_at, RulesHold, next, steps_from, last_from}
 use Rattle.drain_grid.proofs.Decisions.{Decision, cases, both, no, same}
 use Rattle.drain_grid.proofs.PatchDecisions.{data_cell, has_lower, is_open}
 use Rattle.drain_grid.proofs.Patches.{cell_shown}

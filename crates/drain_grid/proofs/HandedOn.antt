@@ -1,18 +1,5 @@
 -- What the cells that flow into a cell pass on: the sum in rule 13.
-use Rattle.std.proofs.Common.{◌≡◌, ℕ, ◌≤◌, ◌∙◌, inl, inr, ℤ, pos, ◌+ℤ◌, Bool, true, false, cond, if◌then◌else◌, ◌&&◌, ◌==◌, Option, Some, None, is_some, option_map, List, [], ◌∷◌, map, refl, sym, ap, subst, arith}
-use Rattle.std.specs.List.{sum_by}
-use Rattle.std.proofs.Math.IntN.{pos-+ℤ-pos}
-use Rattle.std.proofs.lemmas.Bool.{cases_Bool, false≢true, eqb-true, eq-eqb}
-use Rattle.std.proofs.lemmas.List.Sums.{sum_by-cons}
-use Rattle.std.proofs.lemmas.Int.{ints}
-use borrow.Author.Differences.{up, down}
-use Rattle.drain_grid.specs.declared.cell.Cell.{Cell}
-use Rattle.drain_grid.specs.declared.direction.Direction.{Direction}
-use Rattle.drain_grid.specs.Direction.{directions, order_of, opposite, names}
-use Rattle.drain_grid.specs.Extent.{step}
-use Rattle.drain_grid.specs.Patch.{neighbor}
-use Rattle.drain_grid.specs.PatchRules.{inflow, total}
-use Rattle.drain_grid.specs.Grid.{Grid, Products, patch_at, values_at}
+use Rattle.drain_grid.proofs.Names.{◌≡◌, ℕ, ◌≤◌, ◌∙◌, inl, inr, ℤ, pos, ◌+ℤ◌, Bool, true, false, cond, if◌then◌else◌, ◌&&◌, ◌==◌, Option, Some, None, is_some, option_map, List, [], ◌∷◌, map, refl, sym, ap, subst, arith, sum_by, pos-+ℤ-pos, cases_Bool, false≢true, eqb-true, eq-eqb, sum_by-cons, ints, up, down, Cell, Direction, directions, order_of, opposite, names, step, neighbor, inflow, total, Grid, Products, patch_at, values_at}
 use Rattle.drain_grid.proofs.Patches.{neighbor-patch_at}
 use Rattle.drain_grid.proofs.CellSums.{sum_by_directions_one, sum_by_same, sum_by_zero, sum_by_swap, directions_at_most, same_place_same}
 use Rattle.drain_grid.proofs.Inflows.{FlowsFrom, share, share_cases, share_flow, share_sum, inflow_share}

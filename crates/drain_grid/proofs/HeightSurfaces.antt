@@ -1,12 +1,6 @@
 -- No surface of heights that covers the ground and drains is lower than con's heights: along the path on which it never rises,
 -- as for numbers (Lowered), since heights rise with numbers.
-use Rattle.std.proofs.Common.{◌≡◌, ◌≤ℤ◌, ℤ, List, [], ◌∷◌, sym, subst, arith}
-use Rattle.std.proofs.lemmas.Int.{ints, clamps, by_lt_z}
-use Rattle.drain_grid.specs.declared.cell.Cell.{Cell}
-use Rattle.drain_grid.specs.declared.height_kind.HeightKind.{HeightKind}
-use Rattle.drain_grid.specs.Grid.{Grid, HasData, height_at}
-use Rattle.drain_grid.specs.HeightKinds.{height_of}
-use Rattle.drain_grid.specs.Path.{IsPath, Surface, NeverRises, Drains, IsLeastSurface}
+use Rattle.drain_grid.proofs.Names.{◌≡◌, ◌≤ℤ◌, ℤ, List, [], ◌∷◌, sym, subst, arith, ints, clamps, by_lt_z, Cell, HeightKind, Grid, HasData, height_at, height_of, IsPath, Surface, NeverRises, Drains, IsLeastSurface}
 use Rattle.drain_grid.proofs.Lowered.{HasData-path, least_at_open, least_beside}
 use Rattle.drain_grid.proofs.SingleHeights.{numbers_order}
 

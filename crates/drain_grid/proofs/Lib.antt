@@ -1,3 +1,4 @@
+pub mod Names
 mod WorkedDefinitions
 mod WorkedRules
 pub mod Alike

@@ -1,13 +1,6 @@
 -- Runs give line numbers: which run gives a number, and what one more run or cell changes.
-use Rattle.std.proofs.Common.{◌≡◌, ℕ, zero, suc, ◌+◌, ◌-◌, ◌<◌, ◌≤◌, leb, le-leb, leb-true, leb-false, true, false, cond, List, [], ◌∷◌, ◌++◌, length, map, get_or, take, drop, Some, refl, sym, ap, ◌∙◌, arith}
-use Rattle.std.specs.List.{All, fold, slice_get}
-use Rattle.std.specs.List.Sorted.{IsPartitionPoint}
-use Rattle.std.proofs.lemmas.Bool.{lt-leb}
-use Rattle.std.proofs.lemmas.List.{get_or-drop, length-drop, take-append-drop, take_more}
-use Rattle.std.proofs.lemmas.List.Sums.{fold-append}
-use Rattle.drain_grid.specs.declared.cell.Cell.{Cell}
+use Rattle.drain_grid.proofs.Names.{◌≡◌, ℕ, zero, suc, ◌+◌, ◌-◌, ◌<◌, ◌≤◌, leb, le-leb, leb-true, leb-false, true, false, cond, List, [], ◌∷◌, ◌++◌, length, map, get_or, take, drop, Some, refl, sym, ap, ◌∙◌, arith, All, fold, slice_get, IsPartitionPoint, lt-leb, get_or-drop, length-drop, take-append-drop, take_more, fold-append, Cell, counted_on, line_number_at, numbered_from, numbered}
 use Rattle.drain_grid.specs.declared.numbered_cells.LineRun.{LineRun}
-use Rattle.drain_grid.specs.OffData.{counted_on, line_number_at, numbered_from, numbered}
 
 -- a run that begins at the cell or before it counts on, and one that begins later doesn't
 counted_in : (i number : ℕ) (run : LineRun) → run.first ≤ i → counted_on i number run ≡ run.line + (i - run.first)

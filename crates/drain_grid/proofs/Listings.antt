@@ -1,9 +1,7 @@
 -- What lines before others list, and what follows; and the first bad line.
-use Rattle.std.proofs.Common.{◌<◌, ℕ, List, length, get_or, arith, ◌≡◌, Bool, true, false, Option, Some, None, is_none, refl, sym, ◌∙◌, [], ◌∷◌, ◌++◌, Result, Ok, Err, ap, append_assoc, ◌+◌, zero, suc}
-use Rattle.std.proofs.lemmas.Bool.{false≢true}
+use Rattle.drain_grid.proofs.Names.{◌<◌, ℕ, List, length, get_or, arith, ◌≡◌, Bool, true, false, Option, Some, None, is_none, refl, sym, ◌∙◌, [], ◌∷◌, ◌++◌, Result, Ok, Err, ap, append_assoc, ◌+◌, zero, suc, false≢true, line_says, listing, with_item, with_line}
 use Rattle.drain_grid.specs.declared.number_line.LineSays.{LineSays}
 use Rattle.drain_grid.specs.declared.number_line.LineSays.TheVariants.{Nothing, Numbers, Other}
-use Rattle.drain_grid.specs.Listings.{line_says, listing, with_item, with_line}
 
 -- what lists these first
 abbrev pub after_these : {A : Type 0} → List A → Result (List A) ℕ → Result (List A) ℕ

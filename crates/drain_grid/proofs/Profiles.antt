@@ -1,18 +1,7 @@
 -- The rules of a part of a profile are those of the profile, and where all of them hold, those of the part do; the profile without spill parents
 -- follows from the one with them, rule by rule.
-use Rattle.std.proofs.Common.{◌≢◌, ◌↔◌, refl, arith}
-use Rattle.drain_grid.specs.declared.cell.Cell.{Cell}
-use Rattle.drain_grid.specs.declared.patch.Patch.{Patch}
-use Rattle.drain_grid.specs.declared.rule.Rule.{Rule}
-use Rattle.drain_grid.specs.declared.rule.Rule.TheVariants.{VoidCell, Missing, BadCode, BelowGround, OpenRaised, NoSpill, SpillHeight, SpillRank, NotLeast, Slope, OutletCode, FlatStep, Accumulation, Label, SharedLabel}
-use Rattle.drain_grid.specs.SetProduct.{product_of}
-use Rattle.drain_grid.specs.Values.{NoDataNumbers}
-use Rattle.drain_grid.specs.Rule.{rule_number, IsAnyRule, IsFillRule, IsFlowRule}
-use Rattle.drain_grid.specs.PatchRules.{Profile, fill_rules, flow_rules, profile1, profile2, surface_rules}
-use Rattle.drain_grid.specs.Unranked.{level_rules, unranked}
-use Rattle.drain_grid.specs.Grid.{Grid, Products, patch_at}
-use Rattle.drain_grid.specs.GridRules.{HoldsAt, RulesHold}
-use Rattle.drain_grid.specs.Laws.{Profile2FromProfile1}
+use Rattle.drain_grid.proofs.Names.{◌≢◌, ◌↔◌, refl, arith, Cell, Patch, Rule, VoidCell, Missing, BadCode, BelowGround, OpenRaised, NoSpill, SpillHeight, SpillRank, NotLeast, Slope, OutletCode, FlatStep, Accumulation, Label, SharedLabel, product_of, NoDataNumbers, rule_number, IsAnyRule, IsFillRule, IsFlowRule, Profile, fill_rules, flow_rules, profile1, profile2, surface_rules, level_rules, unranked, Grid, Products, patch_at, RulesHold, Profile2FromProfile1}
+use Rattle.drain_grid.specs.GridRules.{HoldsAt}
 
 -- a rule on the conditioned elevation says what it says in the profile without spill parents
 pub surface_same : (nodata : NoDataNumbers) (p : Patch) (r : Rule) → IsFillRule r → surface_rules p r ↔ profile2 nodata p r

@@ -1,19 +1,9 @@
 -- Where every run ends and ranks are the numbers of their steps, ranks play no part in any rule: along a code the rank falls by
 -- one, and the no-data number of ranks is that of the voids alone.
-use Rattle.std.proofs.Common.{◌≡◌, ◌≢◌, ◌↔◌, ◌<ℤ◌, Some, subst, arith}
-use Rattle.std.proofs.lemmas.Int.{ints}
-use Rattle.drain_grid.specs.declared.cell.Cell.{Cell}
-use Rattle.drain_grid.specs.declared.rule.Rule.{Rule}
-use Rattle.drain_grid.specs.declared.rule.Rule.TheVariants.{VoidCell, Missing, BadCode, BelowGround, OpenRaised, NoSpill, SpillHeight, SpillRank, NotLeast, Slope, OutletCode, FlatStep, Accumulation, Label, SharedLabel}
+use Rattle.drain_grid.proofs.Names.{◌≡◌, ◌≢◌, ◌↔◌, ◌<ℤ◌, Some, subst, arith, ints, Cell, Rule, VoidCell, Missing, BadCode, BelowGround, OpenRaised, NoSpill, SpillHeight, SpillRank, NotLeast, Slope, OutletCode, FlatStep, Accumulation, Label, SharedLabel, product_of, Values, NoDataNumbers, number_for, value_of, Grid, Products, IsInside, HasData, patch_at, FlatStepHolds, check_rules, VoidCellWithoutSpill, MissingWithoutSpill, unranked, VoidCellWithoutRank, MissingWithoutRank, LevelStepHolds, RanksAreSteps, next, RunEnds}
 use Rattle.drain_grid.specs.declared.set_product.SetProduct.TheVariants.{Con, Dir, Acc, Bas}
-use Rattle.drain_grid.specs.SetProduct.{product_of}
-use Rattle.drain_grid.specs.Values.{Values, NoDataNumbers, number_for, value_of}
 use Rattle.drain_grid.proofs.ByProduct.{by_set_product}
-use Rattle.drain_grid.specs.Grid.{Grid, Products, IsInside, HasData, patch_at}
 use Rattle.drain_grid.specs.GridRules.{HoldsAt}
-use Rattle.drain_grid.specs.PatchRules.{FlatStepHolds, check_rules, VoidCellWithoutSpill, MissingWithoutSpill}
-use Rattle.drain_grid.specs.Unranked.{unranked, VoidCellWithoutRank, MissingWithoutRank, LevelStepHolds, RanksAreSteps}
-use Rattle.drain_grid.specs.Run.{next, RunEnds}
 use Rattle.drain_grid.proofs.Patches.{cell_shown}
 use Rattle.drain_grid.proofs.Codes.{next-named}
 use Rattle.drain_grid.proofs.Runs.{ended-run_steps}

@@ -6,20 +6,7 @@
 -- (none_goes, stopping_sum). A run may take as many steps as there are cells, and by then none is left (dwindles).
 --
 -- acc may have any sign: it is what is above 0 in it less what is below, so that sums are of numbers from 0 on.
-use Rattle.std.proofs.Common.{◌≡◌, ℕ, zero, suc, ◌+◌, ◌-◌, ◌≤◌, ◌∙◌, inl, inr, pos, Bool, true, false, cond, refl, ap, arith}
-use Rattle.std.specs.List.{sum_by}
-use Rattle.std.proofs.lemmas.Bool.{false≢true}
-use Rattle.std.proofs.lemmas.Int.{ints}
-use borrow.Author.Differences.{up, down}
-use Rattle.drain_grid.specs.declared.cell.Cell.{Cell}
-use Rattle.drain_grid.specs.declared.rule.Rule.TheVariants.{Accumulation}
-use Rattle.drain_grid.specs.Extent.{cells}
-use Rattle.drain_grid.specs.Rule.{IsWayRule, IsCountRule}
-use Rattle.drain_grid.specs.Unranked.{level_rules}
-use Rattle.drain_grid.specs.Grid.{Grid, Products, HasData}
-use Rattle.drain_grid.specs.GridRules.{RulesHold}
-use Rattle.drain_grid.specs.Run.{steps_from, last_from, RunEnds}
-use Rattle.drain_grid.specs.Laws.{RunsEndByCounts}
+use Rattle.drain_grid.proofs.Names.{◌≡◌, ℕ, zero, suc, ◌+◌, ◌-◌, ◌≤◌, ◌∙◌, inl, inr, pos, Bool, true, false, cond, refl, ap, arith, sum_by, false≢true, ints, up, down, Cell, Accumulation, cells, IsWayRule, IsCountRule, level_rules, Grid, Products, HasData, RulesHold, steps_from, last_from, RunEnds, RunsEndByCounts}
 use Rattle.drain_grid.proofs.Decisions.{cases, same}
 use Rattle.drain_grid.proofs.CellSums.{sum_by_same, sum_by_add, sum_by_cells_same, sum_by_cells_le, cells_at_most}
 use Rattle.drain_grid.proofs.Profiles.{RulesHold-within}

@@ -1,14 +1,7 @@
 -- Numbers are ordered as their heights: within one exponent by the digits, and a greater exponent's digits are at least half of
 -- what the lower one's can reach.
-use Rattle.std.proofs.Common.{◌≡◌, ℕ, suc, ◌+◌, ◌*◌, ◌%◌, ◌^◌, ◌<◌, ◌≤◌, ◌↔◌, ℤ, pos, negsuc, ◌<ℤ◌, inl, inr, sym, subst, arith}
-use Rattle.std.proofs.Math.Nat.{mul-le-mul_right, mul-lt-mul_of_pos_right, two-pow-succ}
+use Rattle.drain_grid.proofs.Names.{◌≡◌, ℕ, suc, ◌+◌, ◌*◌, ◌%◌, ◌^◌, ◌<◌, ◌≤◌, ◌↔◌, ℤ, pos, negsuc, ◌<ℤ◌, inl, inr, sym, subst, arith, mul-le-mul_right, mul-lt-mul_of_pos_right, two-pow-succ, cases_lt, ints, by_lt_z, pow_pos, HeightKind, Whole, Single, digits_of, shift_of, magnitude_of, single_height, height_of}
 use Rattle.std.proofs.Math.Pow.{pow_mono}
-use Rattle.std.proofs.lemmas.Bool.{cases_lt}
-use Rattle.std.proofs.lemmas.Int.{ints, by_lt_z}
-use Rattle.std.proofs.lemmas.Nat.{pow_pos}
-use Rattle.drain_grid.specs.declared.height_kind.HeightKind.{HeightKind}
-use Rattle.drain_grid.specs.declared.height_kind.HeightKind.TheVariants.{Whole, Single}
-use Rattle.drain_grid.specs.HeightKinds.{digits_of, shift_of, magnitude_of, single_height, height_of}
 
 -- below the least exponent's end the digits are the place
 low_digits : (k : ℕ) → k < 8388608 → digits_of k ≡ k

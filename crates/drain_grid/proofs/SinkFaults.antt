@@ -1,23 +1,5 @@
 -- Numbers without a sign that 32 bits hold are pixels.
-use Rattle.std.proofs.Common.{◌<◌, ℕ, pos, List, map, length, get_or, arith, ◌≡◌, Bool, true, false, Some, None, ◌⊎◌, inl, inr, refl, sym, ◌∙◌, [], ◌∷◌, Result, Ok, Err, ap, ◌+◌, ◌*◌, ◌^◌, ◌≤◌, ◌==◌, ◌&&◌, ◌||◌, is_ok, subst}
-use Rattle.std.specs.List.{All, AllByRecursion, list_any}
-use Rattle.std.proofs.lemmas.Int.{ints}
-use Rattle.std.proofs.lemmas.List.Elements.{All-map, recursion_from_All}
-use Rattle.drain_grid.specs.Values.{IsPixel}
-use Rattle.std.proofs.lemmas.Bool.{false≢true, eq-eqb}
-use Rattle.std.proofs.lemmas.Option.{slice_get_within}
-use Rattle.drain_grid.specs.declared.cell.Cell.{Cell}
-use Rattle.drain_grid.specs.declared.sink_line.SinkLine.{SinkLine}
-use Rattle.drain_grid.specs.Grid.{Grid, HasData}
-use Rattle.drain_grid.specs.OffData.{FoundOffDataIsRight}
-use Rattle.drain_grid.specs.SinkTexts.{is_listed, wide_place, ArePlaces}
-use Rattle.std.specs.List.Sorted.{IsBinarySearchResult, IsNonDecreasing}
-use Rattle.std.specs.Ordering.{nat_cmp}
-use Rattle.std.proofs.lemmas.Bool.Decides.{nat_tests}
-use Rattle.std.proofs.lemmas.List.{get_or_default}
-use Rattle.std.proofs.lemmas.List.Folds.{list_any_at, list_any_none}
-use Rattle.std.proofs.lemmas.List.Sorted.{list_any-IsPermutation, searched}
-use Rattle.drain_grid.specs.Extent.{same_cell}
+use Rattle.drain_grid.proofs.Names.{◌<◌, ℕ, pos, List, map, length, get_or, arith, ◌≡◌, Bool, true, false, Some, None, ◌⊎◌, inl, inr, refl, sym, ◌∙◌, [], ◌∷◌, Result, Ok, Err, ap, ◌+◌, ◌*◌, ◌^◌, ◌≤◌, ◌==◌, ◌&&◌, ◌||◌, is_ok, subst, All, AllByRecursion, list_any, ints, All-map, recursion_from_All, IsPixel, false≢true, eq-eqb, slice_get_within, Cell, SinkLine, Grid, HasData, FoundOffDataIsRight, is_listed, wide_place, ArePlaces, IsBinarySearchResult, IsNonDecreasing, nat_cmp, nat_tests, get_or_default, list_any_at, list_any_none, list_any-IsPermutation, searched, same_cell}
 
 pub are_pixels : (xs : List ℕ) → ((i d : ℕ) → i < length xs → get_or xs i d < 4294967296) → All IsPixel (map (λ n. pos n) xs)
 are_pixels xs fit = All-map IsPixel (λ n. pos n) xs (λ i d less. let h = fit i d less in record { low = omega (arith, ints, h); high = omega (arith, ints, h) })

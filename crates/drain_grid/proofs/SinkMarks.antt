@@ -1,14 +1,6 @@
 -- A row's columns are marked as the places of the row are passed, which are adjacent among the sorted places.
-use Rattle.std.proofs.Common.{◌≡◌, ℕ, ◌+◌, ◌-◌, ◌*◌, ◌^◌, ◌<◌, ◌≤◌, ◌==◌, ◌||◌, Bool, true, false, List, length, get_or, set, take, drop, ltb, ltb-true, ltb-false, length-take, sym, ap, subst, ◌∙◌, arith}
-use Rattle.std.specs.List.{list_any}
-use Rattle.std.specs.List.Sorted.{IsPartitionPoint}
+use Rattle.drain_grid.proofs.Names.{◌≡◌, ℕ, ◌+◌, ◌-◌, ◌*◌, ◌^◌, ◌<◌, ◌≤◌, ◌==◌, ◌||◌, Bool, true, false, List, length, get_or, set, take, drop, ltb, ltb-true, ltb-false, length-take, sym, ap, subst, ◌∙◌, arith, list_any, IsPartitionPoint, nat_tests, common_steps, get_or-drop, get_or-take, get_or_default, length-drop, take-append-drop, take_rest, list_any-append, list_any_more, list_any_none, SinkLine, is_listed, ArePlaces}
 use Rattle.std.proofs.Math.Bool.{or-false}
-use Rattle.std.proofs.lemmas.Bool.Decides.{nat_tests}
-use Rattle.std.proofs.lemmas.Grind.{common_steps}
-use Rattle.std.proofs.lemmas.List.{get_or-drop, get_or-take, get_or_default, length-drop, take-append-drop, take_rest}
-use Rattle.std.proofs.lemmas.List.Folds.{list_any-append, list_any_more, list_any_none}
-use Rattle.drain_grid.specs.declared.sink_line.SinkLine.{SinkLine}
-use Rattle.drain_grid.specs.SinkTexts.{is_listed, ArePlaces}
 use Rattle.drain_grid.proofs.SinkFaults.{listed_by_places}
 
 -- some place is that of the column, in the row that begins at `first`

@@ -1,12 +1,6 @@
 -- What cells pass on, added up over the cells that take it: each cell's number counts once, at the cell that its code
 -- leads to.
-use Rattle.std.proofs.Common.{◌≡◌, ℕ, ◌∙◌, inl, inr, Bool, true, false, cond, List, Some, refl, sym, ap, subst}
-use Rattle.std.specs.List.{sum_by}
-use Rattle.std.proofs.lemmas.Bool.{cases_Bool, false≢true, false_from_ne_true}
-use Rattle.drain_grid.specs.declared.cell.Cell.{Cell}
-use Rattle.drain_grid.specs.Extent.{Extent, IsCellOf, same_cell, cells}
-use Rattle.drain_grid.specs.Grid.{Grid, Products, HasData}
-use Rattle.drain_grid.specs.Run.{next}
+use Rattle.drain_grid.proofs.Names.{◌≡◌, ℕ, ◌∙◌, inl, inr, Bool, true, false, cond, List, Some, refl, sym, ap, subst, sum_by, cases_Bool, false≢true, false_from_ne_true, Cell, Extent, IsCellOf, same_cell, cells, Grid, Products, HasData, next}
 use Rattle.drain_grid.proofs.Tallies.{same_some}
 use Rattle.drain_grid.proofs.CellSums.{sum_by_same, sum_by_zero, sum_by_swap, sum_by_cells_one, same_cell_true, same_cell_self}
 use Rattle.drain_grid.proofs.Inflows.{FlowsFrom, HasData-flow, next-flow, flow-next, flow_unique}

@@ -1,12 +1,6 @@
 -- Numbers of a row of cells and of the rows above and below it, each with one number more at both ends, and what they
 -- say of a cell's neighbours. Rows and columns are counted from 1, so those outside the grid have numbers too.
-use Rattle.std.proofs.Common.{◌≡◌, ℕ, ◌+◌, ◌-◌, ◌*◌, ◌<◌, ◌≤◌, inl, inr, List, slice_index, refl, sym, ap, subst, arith}
-use Rattle.std.proofs.lemmas.Bool.{cases_eq}
-use Rattle.drain_grid.specs.declared.cell.Cell.{Cell}
-use Rattle.drain_grid.specs.declared.direction.Direction.{Direction}
-use Rattle.drain_grid.specs.declared.direction.Direction.TheVariants.{East, SouthEast, South, SouthWest, West, NorthWest, North, NorthEast}
-use Rattle.drain_grid.specs.Direction.{cols_right, rows_down}
-use Rattle.drain_grid.specs.Extent.{IsCellOf, Extent}
+use Rattle.drain_grid.proofs.Names.{◌≡◌, ℕ, ◌+◌, ◌-◌, ◌*◌, ◌<◌, ◌≤◌, inl, inr, List, slice_index, refl, sym, ap, subst, arith, cases_eq, Cell, Direction, East, SouthEast, South, SouthWest, West, NorthWest, North, NorthEast, cols_right, rows_down, IsCellOf, Extent}
 use Rattle.drain_grid.proofs.Neighbors.{place, reach}
 
 -- the row in which the neighbour in a direction lies

@@ -6,20 +6,7 @@
 -- all x, with the sum over cells and the sum over directions exchanged (CellSums), the number for c is one more than
 -- the sum of the numbers for the cells that flow in, and that is rule 13's sum. The induction is on the number itself:
 -- what flows into c has a smaller one.
-use Rattle.std.proofs.Common.{◌≡◌, ℕ, zero, suc, ◌+◌, ◌<◌, ◌≤◌, ◌∙◌, inl, inr, pos, ◌+ℤ◌, true, false, cond, ◌&&◌, length, IsSome, is_some, refl, sym, ap, subst, arith}
-use Rattle.std.specs.List.{sum_by}
-use Rattle.std.proofs.Math.IntN.{pos-+ℤ-pos}
-use Rattle.std.proofs.lemmas.Bool.{cases_Bool, false≢true, false_from_ne_true, and_from, and_left, and_right}
-use Rattle.drain_grid.specs.declared.cell.Cell.{Cell}
-use Rattle.drain_grid.specs.declared.direction.Direction.{Direction}
-use Rattle.drain_grid.specs.declared.rule.Rule.TheVariants.{Accumulation}
-use Rattle.drain_grid.specs.Extent.{same_cell, cells}
-use Rattle.drain_grid.specs.Rule.{IsWayRule, IsCountRule}
-use Rattle.drain_grid.specs.PatchRules.{flow_rules}
-use Rattle.drain_grid.specs.Grid.{Grid, Products, IsInside, HasData}
-use Rattle.drain_grid.specs.GridRules.{RulesHold}
-use Rattle.drain_grid.specs.Run.{next, run, drains_through, upstream_count}
-use Rattle.drain_grid.specs.Laws.{CountsUpstream}
+use Rattle.drain_grid.proofs.Names.{◌≡◌, ℕ, zero, suc, ◌+◌, ◌<◌, ◌≤◌, ◌∙◌, inl, inr, pos, ◌+ℤ◌, true, false, cond, ◌&&◌, length, IsSome, is_some, refl, sym, ap, subst, arith, sum_by, pos-+ℤ-pos, cases_Bool, false≢true, false_from_ne_true, and_from, and_left, and_right, Cell, Direction, Accumulation, same_cell, cells, IsWayRule, IsCountRule, flow_rules, Grid, Products, IsInside, HasData, RulesHold, next, run, drains_through, upstream_count, CountsUpstream}
 use Rattle.drain_grid.proofs.CellSums.{sum_by_add, sum_by_cells_same, sum_by_cells_one, same_cell_true, same_cell_self}
 use Rattle.drain_grid.proofs.Chains.{AreChains, stands_self, one_longer, stands_no_longer, stands_unique, stands_next, stands_before}
 use Rattle.drain_grid.proofs.Profiles.{RulesHold-within}

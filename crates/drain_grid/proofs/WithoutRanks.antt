@@ -1,19 +1,6 @@
 -- The rules without ranks ignore ranks: they hold of products where they hold of the same products with other ranks.
 -- And the numbers of steps, which ranks may be taken to be.
-use Rattle.std.proofs.Common.{◌≡◌, ◌∙◌, ℕ, ℤ, pos, negsuc, ◌+ℤ◌, ◌≤ℤ◌, if◌then◌else◌, List, [], ◌∷◌, map, Option, Some, None, IsNone, IsSome, is_some, option_map, refl, sym, ap, subst}
-use Rattle.std.specs.Int.{int_max}
-use Rattle.std.proofs.lemmas.Bool.{false≢true}
-use Rattle.drain_grid.specs.declared.cell.Cell.{Cell}
-use Rattle.drain_grid.specs.declared.direction.Direction.{Direction}
-use Rattle.drain_grid.specs.declared.rule.Rule.{Rule}
-use Rattle.drain_grid.specs.declared.rule.Rule.TheVariants.{VoidCell, Missing, BadCode, BelowGround, OpenRaised, NoSpill, SpillHeight, SpillRank, NotLeast, Slope, OutletCode, FlatStep, Accumulation, Label, SharedLabel}
-use Rattle.drain_grid.specs.Direction.{directions}
-use Rattle.drain_grid.specs.Values.{Values, NoDataNumbers}
-use Rattle.drain_grid.specs.Patch.{neighbor, IsOpen, HasLower}
-use Rattle.drain_grid.specs.PatchRules.{inflow, total, NotLeastHolds, SlopeHolds, OutletCodeHolds, AccumulationHolds, LabelHolds, OpenRaisedWithoutSpill}
-use Rattle.drain_grid.specs.Unranked.{unranked, VoidCellWithoutRank, MissingWithoutRank, LevelStepHolds, run_steps, RanksAreSteps, with_ranks, with_rank_nodata}
-use Rattle.drain_grid.specs.Extent.{step}
-use Rattle.drain_grid.specs.Grid.{Grid, Products, IsInside, HasData, height_at, values_at, patch_at}
+use Rattle.drain_grid.proofs.Names.{◌≡◌, ◌∙◌, ℕ, ℤ, pos, negsuc, ◌+ℤ◌, ◌≤ℤ◌, if◌then◌else◌, List, [], ◌∷◌, map, Option, Some, None, IsNone, IsSome, is_some, option_map, refl, sym, ap, subst, int_max, false≢true, Cell, Direction, Rule, VoidCell, Missing, BadCode, BelowGround, OpenRaised, NoSpill, SpillHeight, SpillRank, NotLeast, Slope, OutletCode, FlatStep, Accumulation, Label, SharedLabel, directions, Values, NoDataNumbers, neighbor, IsOpen, HasLower, inflow, total, NotLeastHolds, SlopeHolds, OutletCodeHolds, AccumulationHolds, LabelHolds, OpenRaisedWithoutSpill, unranked, VoidCellWithoutRank, MissingWithoutRank, LevelStepHolds, run_steps, RanksAreSteps, with_ranks, with_rank_nodata, step, Grid, Products, IsInside, HasData, height_at, values_at, patch_at}
 use Rattle.drain_grid.specs.GridRules.{HoldsAt}
 use Rattle.drain_grid.proofs.Patches.{IsOpen-patch_at, neighbor-patch_at, cell_shown, shown_cell}
 use Rattle.drain_grid.proofs.Slopes.{lower_shown, HasLower-lower_cell, steepest_cell, IsSteepest-cell}

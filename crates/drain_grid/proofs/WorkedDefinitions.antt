@@ -1,15 +1,5 @@
 -- The definitions worked on small grids: slopes and the first steepest, runs, what drains through a cell, open cells.
-use Rattle.std.proofs.Common.{◌≡◌, ℤ, pos, negsuc, ◌-ℤ◌, false, [], ◌∷◌, Some, refl}
-use Rattle.drain_grid.specs.declared.height_kind.HeightKind.TheVariants.{Whole}
-use Rattle.drain_grid.specs.declared.direction.Direction.{Direction}
-use Rattle.drain_grid.specs.declared.direction.Direction.TheVariants.{East, SouthEast, South}
-use Rattle.drain_grid.specs.declared.patch.Patch.{Patch}
-use Rattle.drain_grid.specs.Direction.{order_of}
-use Rattle.drain_grid.specs.Values.{Values}
-use Rattle.drain_grid.specs.Spacing.{Distances, unit_spacing}
-use Rattle.drain_grid.specs.Slope.{slope_key, IsSteepest, IsFirstSteepest}
-use Rattle.drain_grid.specs.Grid.{IsOpenCell}
-use Rattle.drain_grid.specs.Run.{run, run_end, RunEnds, upstream_count, ShareBasin}
+use Rattle.drain_grid.proofs.Names.{◌≡◌, ℤ, pos, negsuc, ◌-ℤ◌, false, [], ◌∷◌, Some, refl, Whole, Direction, East, SouthEast, South, Patch, order_of, Values, Distances, unit_spacing, slope_key, IsSteepest, IsFirstSteepest, IsOpenCell, run, run_end, RunEnds, upstream_count, ShareBasin}
 use Rattle.drain_grid.proofs.Decisions.{Decision, alike, no, both, given, less_number, each_direction, refuted}
 use Rattle.drain_grid.proofs.PatchDecisions.{open_cell, has_lower, is_steepest}
 use Rattle.drain_grid.proofs.WorkedGrids.{cell, slope_grid, slope_products, ring_grid, ring_products, gap_grid}

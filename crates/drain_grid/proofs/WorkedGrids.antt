@@ -1,10 +1,6 @@
 -- Small grids and products on them, which definitions and rules are worked on.
-use Rattle.std.proofs.Common.{ℕ, ℤ, pos, ◌==◌, ◌&&◌, if◌then◌else◌, List, [], ◌∷◌, Some, None, slice_index_or}
-use Rattle.drain_grid.specs.declared.cell.Cell.{Cell}
-use Rattle.drain_grid.specs.Values.{NoDataNumbers}
-use Rattle.drain_grid.specs.Spacing.{unit_spacing}
+use Rattle.drain_grid.proofs.Names.{ℕ, ℤ, pos, ◌==◌, ◌&&◌, if◌then◌else◌, List, [], ◌∷◌, Some, None, slice_index_or, Cell, NoDataNumbers, unit_spacing, Grid, Products, no_sink}
 use Rattle.drain_grid.specs.Product.{default_numbers}
-use Rattle.drain_grid.specs.Grid.{Grid, Products, no_sink}
 
 abbrev pub cell : ℕ → ℕ → Cell
 cell r k = record { row = r; col = k }

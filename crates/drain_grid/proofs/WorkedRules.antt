@@ -1,14 +1,6 @@
 -- The rules worked on small grids: products that keep them all, so that the laws speak of something, and for each rule
 -- products of which it is the first fault; 6 to 8 only with spill parents.
-use Rattle.std.proofs.Common.{pos, ◌==◌, if◌then◌else◌, refl}
-use Rattle.drain_grid.specs.declared.cell.Cell.{Cell}
-use Rattle.drain_grid.specs.declared.rule.Rule.{Rule}
-use Rattle.drain_grid.specs.declared.rule.Rule.TheVariants.{VoidCell, Missing, BadCode, BelowGround, OpenRaised, NoSpill, SpillHeight, SpillRank, NotLeast, Slope, OutletCode, FlatStep, Accumulation, Label, SharedLabel}
-use Rattle.drain_grid.specs.Rule.{IsAnyRule, IsFillRule}
-use Rattle.drain_grid.specs.PatchRules.{check_rules, fill_rules}
-use Rattle.drain_grid.specs.Grid.{Grid, Products}
-use Rattle.drain_grid.specs.Correct.{IsCorrect}
-use Rattle.drain_grid.specs.GridRules.{RulesHold, IsFirstFault}
+use Rattle.drain_grid.proofs.Names.{pos, ◌==◌, if◌then◌else◌, refl, Cell, Rule, VoidCell, Missing, BadCode, BelowGround, OpenRaised, NoSpill, SpillHeight, SpillRank, NotLeast, Slope, OutletCode, FlatStep, Accumulation, Label, SharedLabel, IsAnyRule, IsFillRule, check_rules, fill_rules, Grid, Products, IsCorrect, RulesHold, IsFirstFault}
 use Rattle.drain_grid.proofs.AllRules.{correct_from_rules}
 use Rattle.drain_grid.proofs.Decisions.{Decision}
 use Rattle.drain_grid.proofs.RuleDecisions.{fill_rule, patch_rule, rules_hold, first_fault}

@@ -1,6 +1,5 @@
 -- Lists of cells.
-use Rattle.std.specs.Prelude.{Bool, List}
-use Rattle.std.specs.List.{list_any}
+use Rattle.drain_grid.specs.Names.{Bool, List, list_any}
 use Rattle.drain_grid.specs.declared.cell.Cell.{Cell}
 use Rattle.drain_grid.specs.Extent.{same_cell}
 

@@ -1,3 +1,4 @@
+pub mod Names
 pub mod CellLists
 pub mod Unranked
 pub mod Correct

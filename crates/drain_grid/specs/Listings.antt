@@ -1,8 +1,8 @@
 -- Texts of two whole numbers a line: what its lines list, or the first bad one. The form is this project's own.
-use Rattle.std.specs.Prelude.{◌+◌, ℕ, List, [], ◌∷◌, Option, Some, None, Result, Ok, Err}
+use Rattle.std.specs.Prelude.{◌+◌, ◌∷◌}
+use Rattle.drain_grid.specs.Names.{ℕ, List, [], Option, Some, None, Result, Ok, Err, words_of, whole_number}
 use Rattle.drain_grid.specs.declared.number_line.LineSays.{LineSays}
 use Rattle.drain_grid.specs.declared.number_line.LineSays.TheVariants.{Nothing, Numbers, Other}
-use Rattle.drain_text.specs.Text.{words_of, whole_number}
 
 -- two whole numbers
 abbrev pub numbers_say : Option ℕ → Option ℕ → LineSays

@@ -1,7 +1,7 @@
 -- Line numbers, kept by runs of consecutive lines: the first number gives them all. Runs are this project's own.
-use Rattle.std.specs.Prelude.{◌≡◌, ℕ, ◌+◌, ◌-◌, ◌^◌, ◌<◌, ◌≤◌, leb, List, [], ◌∷◌, length, slice_index_or, if◌then◌else◌, ◌&&◌, nat_lt, is_some, Bool, true, false, slice_get, Option, Some, None, MatchOption}
-use Rattle.std.specs.List.{All, fold}
-use Rattle.std.specs.List.Sorted.{IsNonDecreasingBy}
+use Rattle.std.specs.Prelude.{◌≡◌, ◌+◌, ◌-◌, ◌^◌, ◌<◌, ◌≤◌, ◌∷◌, if◌then◌else◌, ◌&&◌}
+use Rattle.drain_grid.specs.Names.{ℕ, leb, List, [], length, slice_index_or, nat_lt, is_some, Bool, true, false, slice_get, Option, Some, None, MatchOption, fold, IsNonDecreasingBy}
+use Rattle.std.specs.List.{All}
 use Rattle.drain_grid.specs.declared.cell.Cell.{Cell}
 use Rattle.drain_grid.specs.declared.numbered_cells.LineRun.{LineRun}
 use Rattle.drain_grid.specs.declared.sink_line.SinkLine.{SinkLine}

@@ -1,14 +1,13 @@
 -- A list of sinks: the cells that a user lists as open, each with its line number. Inland sinks are this project's own.
-use Rattle.std.specs.Prelude.{◌+◌, ◌*◌, ◌^◌, ◌<◌, ℕ, Bool, List, map, ◌≡◌, Option, Some, Result, Err}
-use Rattle.std.specs.List.{All, list_any}
-use Rattle.std.specs.List.Sorted.{IsNonDecreasing, IsPermutation}
+use Rattle.std.specs.Prelude.{◌+◌, ◌*◌, ◌^◌, ◌<◌, ◌≡◌}
+use Rattle.drain_grid.specs.Names.{ℕ, Bool, List, map, Option, Some, Result, Err, list_any, IsNonDecreasing, IsPermutation, lines_of}
+use Rattle.std.specs.List.{All}
 use Rattle.drain_grid.specs.declared.cell.Cell.{Cell}
 use Rattle.drain_grid.specs.declared.sink_line.SinkLine.{SinkLine}
 use Rattle.drain_grid.specs.Extent.{same_cell}
 use Rattle.drain_grid.specs.Listings.{listing}
 use Rattle.drain_grid.specs.declared.sink_text.SinkFault.{SinkFault}
 use Rattle.drain_grid.specs.declared.sink_text.SinkFault.TheVariants.{BadSinkLine, OutOfMemory}
-use Rattle.drain_text.specs.Text.{lines_of}
 
 -- some line lists the cell
 abbrev pub is_listed : List SinkLine → Cell → Bool

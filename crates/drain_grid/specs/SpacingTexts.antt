@@ -1,6 +1,7 @@
 -- How a user says how far apart cells are: by one spacing, or by a text with a line for each row, its width and its
 -- height. The form is this project's own.
-use Rattle.std.specs.Prelude.{ℕ, Bool, nat_lt, nat_le, ◌&&◌, if◌then◌else◌, List, [], ◌≡◌, Option, Some, None, Result, Ok, Err}
+use Rattle.std.specs.Prelude.{◌&&◌, if◌then◌else◌, ◌≡◌}
+use Rattle.drain_grid.specs.Names.{ℕ, Bool, nat_lt, nat_le, List, [], Option, Some, None, Result, Ok, Err, lines_of}
 use Rattle.drain_grid.specs.declared.spacing.TheConstants.{GREATEST_SPACING}
 use Rattle.drain_grid.specs.declared.spacing_text.SpacingFault.{SpacingFault}
 use Rattle.drain_grid.specs.declared.spacing_text.SpacingFault.TheVariants.{BadSpacingLine, OutOfMemory}
@@ -9,7 +10,6 @@ use Rattle.drain_grid.specs.declared.spacing_text.SpacingInput.TheVariants.{Same
 use Rattle.drain_grid.specs.Listings.{listing}
 use Rattle.drain_grid.specs.declared.height_kind.HeightKind.TheVariants.{Whole}
 use Rattle.drain_grid.specs.Spacing.{Distances, RowSpacings, spacing_of, unit_spacing}
-use Rattle.drain_text.specs.Text.{lines_of}
 
 -- a width or a height
 abbrev pub is_distance : ℕ → Bool

@@ -2,9 +2,9 @@
 //!
 //! Most lines follow one another, so a line number is kept only if it doesn't follow that of the cell before.
 
-ghost use Rattle.std.specs.Prelude.{◌≡◌, ◌↔◌, ℕ, ◌+◌, ◌-◌, ◌<◌, ◌≤◌, [], ◌∷◌, ◌++◌, length, map, slice_get, slice_index_or, Some, IsTrue, IsErr, OnOk};
+ghost use Rattle.std.specs.Prelude.{◌≡◌, ◌↔◌, ◌+◌, ◌-◌, ◌<◌, ◌≤◌, ◌∷◌, ◌++◌};
+ghost use Rattle.drain_grid.specs.Names.{ℕ, [], length, map, slice_get, slice_index_or, Some, IsTrue, IsErr, OnOk, IsNonDecreasingBy};
 ghost use Rattle.std.specs.List.{All};
-ghost use Rattle.std.specs.List.Sorted.{IsNonDecreasingBy};
 ghost use Rattle.drain_grid.specs.declared.numbered_cells.LineRun.{LineRun};
 ghost use Rattle.drain_grid.specs.OffData.{line_number_at, AreRuns};
 

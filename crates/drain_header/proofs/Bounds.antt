@@ -1,20 +1,9 @@
 -- Coordinates and no-data numbers of words are within the bounds of a header.
-use Rattle.std.proofs.Common.{◌≡◌, ℕ, ◌≤◌, Bool, true, false, List, arith, refl, ap, inl, inr, ◌<◌}
-use Rattle.std.specs.Prelude.{ℤ, pos, neg_ℤ, ◌≤ℤ◌, ◌&&◌, ◌||◌, ◌==◌, ◌⊎◌, negsuc, nat_le, nat_lt, cond, Option, Some, None, IfSome, option_and_then}
-use Rattle.std.proofs.lemmas.Int.{ints}
-use Rattle.std.proofs.lemmas.Bool.{le-leb, leb-true, lt-ltb, ltb-true, eqb-true}
-use Rattle.std.proofs.Math.Logic.{∥∥₁_elim}
-use Rattle.std.proofs.Math.Bridge.{le_prop}
-use Rattle.drain_grid.specs.Values.{IsNoData}
+use Rattle.drain_header.proofs.Names.{◌≤◌, Bool, true, false, arith, ap, inl, inr, ◌<◌, pos, neg_ℤ, ◌≤ℤ◌, ◌&&◌, ◌||◌, ◌==◌, ◌⊎◌, negsuc, nat_le, nat_lt, cond, Option, Some, None, IfSome, option_and_then, ints, le-leb, leb-true, lt-ltb, ltb-true, eqb-true, ∥∥₁_elim, le_prop, IsNoData, float_nodata, HeightKind, Whole, Single, IsCoordinate, IsPixelSize, IsPixelSizeOf, Seen, signed_in, IsNoDataOf, decimal_of, is_small, is_whole, in_units, with_sign, coordinate_of, decimal_nodata}
+use Rattle.std.proofs.Common.{◌≡◌, ℕ, List, refl}
+use Rattle.std.specs.Prelude.{ℤ}
 use Rattle.drain_floats.specs.Patterns.{IsFloatNumber}
-use Rattle.drain_floats.specs.Words.{float_nodata}
 use Rattle.drain_floats.proofs.Numbers.{float_number_within}
-use Rattle.drain_grid.specs.declared.height_kind.HeightKind.{HeightKind}
-use Rattle.drain_grid.specs.declared.height_kind.HeightKind.TheVariants.{Whole, Single}
-use Rattle.drain_header.specs.Header.{IsCoordinate, IsPixelSize, IsPixelSizeOf}
-use Rattle.drain_header.specs.Reading.{Seen}
-use Rattle.drain_header.specs.Finished.{signed_in, IsNoDataOf}
-use Rattle.drain_header.specs.Decimals.{decimal_of, is_small, is_whole, in_units, with_sign, coordinate_of, decimal_nodata}
 use Rattle.drain_header.proofs.Units.{small_magnitude}
 
 sign_low : (b : Bool) (m k : ℕ) → m ≤ k → neg_ℤ (pos k) ≤ℤ with_sign b m

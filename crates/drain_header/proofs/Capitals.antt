@@ -1,10 +1,7 @@
 -- Words that are compared in capitals, letter by letter.
-use Rattle.std.proofs.Common.{◌≡◌, ℕ, ◌<◌, true, false, List, length, map, get_or, arith, refl, sym, ◌∙◌}
-use Rattle.std.specs.Prelude.{bytes_eq}
-use Rattle.std.specs.Char.{to_ascii_uppercase}
-use Rattle.std.proofs.lemmas.List.{same_lists, get_or-map, get_or_default, length-map}
+use Rattle.drain_header.proofs.Names.{◌<◌, true, false, length, map, get_or, arith, sym, ◌∙◌, bytes_eq, to_ascii_uppercase, same_lists, get_or-map, get_or_default, length-map, reads}
+use Rattle.std.proofs.Common.{◌≡◌, ℕ, List, refl}
 use Rattle.std.proofs.lemmas.Slice.Eq.{bytes_eq-Decides}
-use Rattle.drain_header.specs.Lines.{reads}
 
 pub reads_same : (text word : List ℕ) → length word ≡ length text → ((k : ℕ) → k < length word → to_ascii_uppercase (get_or word k 0) ≡ get_or text k 0) → true ≡ reads text word
 reads_same text word long same =

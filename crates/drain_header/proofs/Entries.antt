@@ -1,19 +1,9 @@
 -- A text that grows by one part after another.
-use Rattle.std.proofs.Common.{◌≡◌, ◌/◌, ◌^◌, List, [], ◌∷◌, ◌++◌, ℕ, ℤ, ap, ◌∙◌, append_assoc, zero, suc, ◌<◌, Bool, true, false, arith, refl, inl, inr, ◌+◌, ◌*◌, ◌≤◌, length, sym, length-append}
-use Rattle.std.specs.Prelude.{decimal, unsigned_abs, codes, Option, Some, None, ◌⊎◌, ◌||◌, cond, find, nat_eq, nat_lt, slice_get, option_and_then}
-use Rattle.std.specs.Fmt.{sign_text}
-use Rattle.std.specs.Int.{is_negative}
-use Rattle.drain_grid.specs.declared.height_kind.HeightKind.{HeightKind}
-use Rattle.drain_header.specs.declared.header.Place.{Place}
-use Rattle.drain_header.specs.declared.key.Key.{Key}
-use Rattle.drain_header.specs.declared.key.Key.TheVariants.{Nrows, Ncols, Nbands, Nbits, ByteOrder, Layout, PixelType, SkipBytes, BandRowBytes, TotalRowBytes, Ulxmap, Ulymap, Xdim, Ydim, Nodata}
-use Rattle.drain_header.specs.Header.{Fields}
-use Rattle.drain_header.specs.Lines.{key_name, key_order, named_key, line_key, line_value, value_at, is_some_key, takes, takes_some}
-use Rattle.drain_header.specs.Text.{line, fraction_text, places_text, ordering_text, type_text, shape_lines, pixel_lines, place_lines}
-use Rattle.std.specs.Option.{option_or}
+use Rattle.drain_header.proofs.Names.{◌/◌, ◌^◌, ◌∷◌, ap, ◌∙◌, zero, suc, ◌<◌, Bool, true, false, arith, inl, inr, ◌+◌, ◌*◌, ◌≤◌, length, sym, decimal, unsigned_abs, codes, Option, Some, None, ◌⊎◌, ◌||◌, cond, find, nat_eq, nat_lt, slice_get, option_and_then, sign_text, is_negative, HeightKind, Place, Key, Nrows, Ncols, Nbands, Nbits, ByteOrder, Layout, PixelType, SkipBytes, BandRowBytes, TotalRowBytes, Ulxmap, Ulymap, Xdim, Ydim, Fields, key_name, key_order, named_key, line_key, line_value, value_at, is_some_key, takes, takes_some, ordering_text, type_text, option_or, lines_of, words_of, IsWord, ink_told, spaced, line_first, two_words}
+use Rattle.std.proofs.Common.{◌≡◌, List, [], ◌++◌, ℕ, ℤ, append_assoc, refl, length-append}
+use Rattle.drain_header.specs.declared.key.Key.TheVariants.{Nodata}
+use Rattle.drain_header.specs.Text.{line, fraction_text, places_text, shape_lines, pixel_lines, place_lines}
 use Rattle.std.specs.List.{list_all}
-use Rattle.drain_text.specs.Text.{lines_of, words_of}
-use Rattle.drain_text.proofs.Joining.{IsWord, ink_told, spaced, line_first, two_words}
 
 -- one part more
 more : (before after known part : List ℕ) → after ≡ before ++ part → before ≡ known → after ≡ known ++ part

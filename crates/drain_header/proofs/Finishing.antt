@@ -1,24 +1,8 @@
 -- The header of the values, or the last fault, is that of the lines; and the values are within the bounds of a header.
-use Rattle.std.proofs.Common.{◌≡◌, ℕ, Bool, true, false, List, suc, length, ◌*◌, ◌/◌, arith, refl, sym, ap, subst, ◌∙◌}
-use Rattle.std.specs.Prelude.{ℤ, pos, not, ◌&&◌, ◌==◌, cond, nat_le, nat_lt, Option, Some, None, is_none, IfSome, option_and_then, option_map, unwrap_or, Result, Ok, Err}
-use Rattle.std.proofs.lemmas.Bool.{leb-true}
-use Rattle.drain_text.specs.Text.{whole_number}
-use Rattle.drain_grid.specs.declared.height_kind.HeightKind.{HeightKind}
-use Rattle.drain_grid.specs.declared.height_kind.HeightKind.TheVariants.{Whole, Single}
-use Rattle.drain_header.specs.declared.header.ByteOrdering.{ByteOrdering}
-use Rattle.drain_header.specs.declared.header.ByteOrdering.TheVariants.{Least}
-use Rattle.drain_header.specs.declared.key.Key.TheVariants.{Nrows, Ncols, Nbits, PixelType, Ulxmap, Ulymap, Xdim, Ydim}
+use Rattle.drain_header.proofs.Names.{Bool, true, false, suc, length, ◌*◌, ◌/◌, arith, sym, ap, subst, ◌∙◌, pos, not, ◌&&◌, ◌==◌, cond, nat_le, nat_lt, Option, Some, None, is_none, IfSome, option_and_then, option_map, unwrap_or, Result, Ok, Err, leb-true, whole_number, HeightKind, Whole, Single, ByteOrdering, Least, Nrows, Ncols, Nbits, PixelType, Ulxmap, Ulymap, Xdim, Ydim, Number, Signed, HeaderFault, NotOneBand, BadBits, BadPixelType, RowTooShort, Fields, IsCoordinate, said, packed_row, row_bytes_of, signed_of, fields_of, coordinate_of, value_at, size_of, signedness_of, sign_of, nodata_of, Seen, lacking, is_unseen, said_by, sign_in, number_or, packed_row_in, row_bytes_in, is_other_type_in, is_pixel_size_of, signed_in, header_in, finished, IsNoDataOf, IsSize, AreTaken}
+use Rattle.std.proofs.Common.{◌≡◌, ℕ, List, refl}
+use Rattle.std.specs.Prelude.{ℤ}
 use Rattle.drain_header.specs.declared.key.Key.TheVariants as keys
-use Rattle.drain_header.specs.declared.value.Value.TheVariants.{Number, Signed}
-use Rattle.drain_header.specs.declared.fault.HeaderFault.{HeaderFault}
-use Rattle.drain_header.specs.declared.fault.HeaderFault.TheVariants.{NotOneBand, BadBits, BadPixelType, RowTooShort}
-use Rattle.drain_header.specs.Header.{Fields, IsCoordinate, said, packed_row, row_bytes_of, signed_of, fields_of}
-use Rattle.drain_header.specs.Decimals.{coordinate_of}
-use Rattle.drain_header.specs.Lines.{value_at, size_of, signedness_of, sign_of, nodata_of}
-use Rattle.drain_header.specs.Reading.{Seen}
-use Rattle.drain_header.specs.Faults.{lacking, is_unseen}
-use Rattle.drain_header.specs.Said.{said_by, sign_in}
-use Rattle.drain_header.specs.Finished.{number_or, packed_row_in, row_bytes_in, is_other_type_in, is_pixel_size_of, signed_in, header_in, finished, IsNoDataOf, IsSize, AreTaken}
 use Rattle.drain_header.proofs.AnswerFunction.{is_bad_type, last_answer}
 use Rattle.drain_header.proofs.Bounds.{coordinate_within, nodata_within, float_within}
 use Rattle.drain_header.proofs.Folding.{IsSeen, at}

@@ -1,15 +1,8 @@
 -- The first keyword that the lines lack is the first that their values lack.
-use Rattle.std.proofs.Common.{◌≡◌, ℕ, true, false, List, length, refl, ◌∙◌, suc, Bool, ap}
-use Rattle.std.specs.Prelude.{not, cond, Option, Some, None, is_some, is_none}
-use Rattle.std.specs.Option.{option_or}
-use Rattle.drain_header.specs.declared.key.Key.{Key}
-use Rattle.drain_header.specs.declared.key.Key.TheVariants.{Nrows, Ncols, Ulxmap, Ulymap, Xdim, Ydim}
-use Rattle.drain_header.specs.declared.value.Value.{Value}
-use Rattle.drain_header.specs.Reading.{Seen}
-use Rattle.drain_header.specs.Faults.{lacking, is_unseen}
+use Rattle.drain_header.proofs.Names.{true, false, length, ◌∙◌, suc, Bool, ap, not, cond, Option, Some, None, is_some, is_none, option_or, Key, Nrows, Ncols, Ulxmap, Ulymap, Xdim, Ydim, Value, Seen, lacking, is_unseen, HeightKind}
+use Rattle.std.proofs.Common.{◌≡◌, ℕ, List, refl}
 use Rattle.drain_header.proofs.AnswerFunction.{is_absent, first_missing}
 use Rattle.drain_header.proofs.Folding.{IsSeen, at}
-use Rattle.drain_grid.specs.declared.height_kind.HeightKind.{HeightKind}
 
 abbrev either : Bool → Key → Option Key
 either b key = cond b (Some key) None

@@ -2,21 +2,10 @@
 --
 -- By induction over the lines that are left: `IsSeen` says what is kept of those before. It speaks of a keyword in three
 -- ways, since the function of the answer does: whether an earlier line has it, the first line that has it, and that line's value.
-use Rattle.std.proofs.Common.{◌≡◌, ℕ, zero, suc, ◌+◌, ◌<◌, Bool, true, false, List, [], ◌∷◌, ◌++◌, length, get_or, arith, refl, sym, ap, ◌∙◌}
-use Rattle.std.specs.Prelude.{◌||◌, not, cond, find, Option, Some, None, is_some, option_and_then, option_map, slice_get, slice_set, Result, Ok, Err, nat_eq}
-use Rattle.std.specs.Option.{option_or}
-use Rattle.std.proofs.lemmas.Bool.{eqb-true, eqb-false}
-use Rattle.std.proofs.lemmas.List.{append_assoc, append-nil, get_or-replicate, get_or-set_same, get_or-set_other, length-set, length-append}
-use Rattle.drain_grid.specs.declared.height_kind.HeightKind.{HeightKind}
-use Rattle.drain_header.specs.declared.key.Key.{Key}
-use Rattle.drain_header.specs.declared.key.Key.TheVariants.{Nrows, Ncols, Nbands, Nbits, ByteOrder, Layout, PixelType, SkipBytes, BandRowBytes, TotalRowBytes, Ulxmap, Ulymap, Xdim, Ydim, Nodata}
-use Rattle.drain_header.specs.declared.value.Value.{Value}
-use Rattle.drain_header.specs.declared.fault.HeaderFault.{HeaderFault}
-use Rattle.drain_header.specs.declared.fault.HeaderFault.TheVariants.{RepeatedKey, BadValue}
-use Rattle.drain_header.specs.Lines.{key_order, line_key, line_value, is_some_key, takes, takes_some}
-use Rattle.drain_header.specs.Faults.{line_at}
-use Rattle.drain_header.specs.Header.{value_read}
-use Rattle.drain_header.specs.Reading.{Seen, nothing, with_value, with_key, with_lines, follow}
+use Rattle.drain_header.proofs.Names.{zero, suc, ◌+◌, ◌<◌, Bool, true, false, ◌∷◌, length, get_or, arith, sym, ap, ◌∙◌, ◌||◌, not, cond, find, Option, Some, None, is_some, option_and_then, option_map, slice_get, slice_set, Result, Ok, Err, nat_eq, option_or, eqb-true, eqb-false, get_or-replicate, get_or-set_same, get_or-set_other, length-set, HeightKind, Key, Nrows, Ncols, Nbands, Nbits, ByteOrder, Layout, PixelType, SkipBytes, BandRowBytes, TotalRowBytes, Ulxmap, Ulymap, Xdim, Ydim, Value, HeaderFault, RepeatedKey, BadValue, key_order, line_key, line_value, is_some_key, takes, takes_some, line_at, value_read, Seen, nothing, with_value, with_key, with_lines, follow}
+use Rattle.std.proofs.Common.{◌≡◌, ℕ, List, [], ◌++◌, refl}
+use Rattle.std.proofs.lemmas.List.{append_assoc, append-nil, length-append}
+use Rattle.drain_header.specs.declared.key.Key.TheVariants.{Nodata}
 use Rattle.drain_header.proofs.Entries.{any_below, first_below}
 use Rattle.drain_header.proofs.AnswerFunction.{key_on, is_repeated, is_bad, line_fault}
 use Rattle.drain_header.proofs.AnswerTests.{place_below, is_some_key-true}

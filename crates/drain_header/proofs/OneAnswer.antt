@@ -1,15 +1,7 @@
 -- A text has one answer: what it describes is computed from its lines, and no two faults have the same place.
-use Rattle.std.proofs.Common.{◌≡◌, ℕ, ◌+◌, ◌*◌, ◌/◌, ◌%◌, ◌<◌, List, [], ◌∷◌, arith, refl, sym, ap, ◌∙◌, inl, inr}
-use Rattle.std.specs.Prelude.{cond, ◌==◌, slice_get, Option, Some, None, option_and_then, option_map, Result, Ok, Err}
-use Rattle.std.proofs.lemmas.Bool.{eq-eqb, ne_eqb}
-use Rattle.drain_text.specs.First.{IsFirst}
-use Rattle.drain_grid.specs.declared.height_kind.HeightKind.{HeightKind}
-use Rattle.drain_grid.specs.declared.height_kind.HeightKind.TheVariants.{Whole}
-use Rattle.drain_header.specs.declared.fault.HeaderFault.{HeaderFault}
-use Rattle.drain_header.specs.declared.fault.HeaderFault.TheVariants.{TooLong, RepeatedKey, BadValue, MissingKey, NotOneBand, BadBits, BadPixelType, RowTooShort}
-use Rattle.drain_header.specs.Header.{Fields}
-use Rattle.drain_header.specs.Lines.{keys}
-use Rattle.drain_header.specs.Faults.{fault_order, HasFaultOf, AnswersOf, Answers}
+use Rattle.drain_header.proofs.Names.{◌+◌, ◌*◌, ◌/◌, ◌%◌, ◌<◌, ◌∷◌, arith, sym, ap, ◌∙◌, inl, inr, cond, ◌==◌, slice_get, Option, Some, None, option_and_then, option_map, Result, Ok, Err, ne_eqb, IsFirst, HeightKind, Whole, HeaderFault, TooLong, RepeatedKey, BadValue, MissingKey, NotOneBand, BadBits, BadPixelType, RowTooShort, Fields, keys, fault_order, HasFaultOf, AnswersOf, Answers}
+use Rattle.std.proofs.Common.{◌≡◌, ℕ, List, [], refl}
+use Rattle.std.proofs.lemmas.Bool.{eq-eqb}
 use Rattle.drain_header.proofs.AnswerTests.{key_place}
 
 -- the fault of a line that has this second number

@@ -1,17 +1,7 @@
 -- What is left of a text's answer, step by step: a line's fault, a missing keyword, and the values of all lines.
-use Rattle.std.proofs.Common.{◌≡◌, ℕ, ◌≤◌, false, List, suc, length, ap, ◌∙◌}
-use Rattle.std.specs.Prelude.{cond, nat_lt, Option, Some, None, Result, Ok, Err}
+use Rattle.drain_header.proofs.Names.{◌≤◌, false, suc, length, ap, ◌∙◌, cond, nat_lt, Option, Some, None, Result, Ok, Err, le-ltb, lines_of, HeightKind, Key, HeaderFault, TooLong, MissingKey, Fields, AnswersOf, lacking, Seen, nothing, with_lines, finished, AreTaken}
+use Rattle.std.proofs.Common.{◌≡◌, ℕ, List}
 use Rattle.std.specs.Result.{IsErrAnd}
-use Rattle.std.proofs.lemmas.Bool.{le-ltb}
-use Rattle.drain_text.specs.Text.{lines_of}
-use Rattle.drain_grid.specs.declared.height_kind.HeightKind.{HeightKind}
-use Rattle.drain_header.specs.declared.key.Key.{Key}
-use Rattle.drain_header.specs.declared.fault.HeaderFault.{HeaderFault}
-use Rattle.drain_header.specs.declared.fault.HeaderFault.TheVariants.{TooLong, MissingKey}
-use Rattle.drain_header.specs.Header.{Fields}
-use Rattle.drain_header.specs.Faults.{AnswersOf, lacking}
-use Rattle.drain_header.specs.Reading.{Seen, nothing, with_lines}
-use Rattle.drain_header.specs.Finished.{finished, AreTaken}
 use Rattle.drain_header.proofs.Entries.{first_below}
 use Rattle.drain_header.proofs.AnswerFunction.{line_fault, last_answer, key_answer, line_answer, answer_of}
 use Rattle.drain_header.proofs.AnswerMeaning.{answer_is}

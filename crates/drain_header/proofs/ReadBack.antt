@@ -1,25 +1,12 @@
 -- The values of a header's text read back as the numbers that were printed.
-use Rattle.std.proofs.Common.{◌≡◌, ℕ, ◌+◌, ◌*◌, ◌/◌, ◌^◌, ◌<◌, ◌≤◌, Bool, true, false, List, [], ◌∷◌, ◌++◌, length, arith, refl, sym, ap, ◌∙◌, length-append, append-nil, append_assoc}
-use Rattle.std.specs.Prelude.{ℤ, pos, negsuc, unsigned_abs, cond, nat_le, ◌==◌, ◌&&◌, ◌||◌, slice_index, Some, None, option_and_then, decimal}
-use Rattle.std.specs.Fmt.{sign_text, signed_decimal}
-use Rattle.std.specs.Int.{is_negative}
-use Rattle.std.specs.Str.Parse.{digits_value, AllDigits, IsNumeral}
-use Rattle.std.specs.Float.Numeral.{Parts, scan_numeral, minus}
-use Rattle.std.proofs.lemmas.Bool.{le-leb, le-ltb, lt-ltb, ne_eqb, eq-eqb}
-use Rattle.std.proofs.lemmas.Fmt.{decimal_is_IsNumeral}
-use Rattle.std.proofs.lemmas.Str.Parse.{digit_from_value}
-use Rattle.std.proofs.lemmas.Float.Parse.{scan_numeral-text_of}
-use Rattle.std.proofs.lemmas.Int.{ints}
-use Rattle.drain_grid.specs.Values.{IsNoData}
-use Rattle.drain_header.specs.Header.{IsCoordinate}
-use Rattle.drain_header.specs.Decimals.{unsigned_part, are_decimal, decimal_from, decimal_of, is_small, is_whole, in_units, with_sign, coordinate_of, decimal_nodata}
-use Rattle.drain_header.specs.Lines.{size_of}
+use Rattle.drain_header.proofs.Names.{◌+◌, ◌*◌, ◌/◌, ◌^◌, ◌<◌, ◌≤◌, Bool, true, false, ◌∷◌, length, arith, sym, ap, ◌∙◌, pos, negsuc, unsigned_abs, cond, nat_le, ◌==◌, ◌&&◌, ◌||◌, slice_index, Some, None, option_and_then, decimal, sign_text, signed_decimal, is_negative, digits_value, AllDigits, IsNumeral, Parts, minus, le-leb, le-ltb, lt-ltb, ne_eqb, decimal_is_IsNumeral, digit_from_value, scan_numeral-text_of, ints, IsNoData, IsCoordinate, unsigned_part, are_decimal, decimal_from, decimal_of, is_small, is_whole, in_units, with_sign, coordinate_of, decimal_nodata, size_of, length-last_digits, last_digits_are, AllInk, IsWord, ink-append, two, chosen, digits_ink, decimal_word, decimal_short, whole_read}
+use Rattle.std.proofs.Common.{◌≡◌, ℕ, List, [], ◌++◌, refl, length-append, append-nil, append_assoc}
+use Rattle.std.specs.Prelude.{ℤ}
+use Rattle.std.specs.Float.Numeral.{scan_numeral}
+use Rattle.std.proofs.lemmas.Bool.{eq-eqb}
 use Rattle.drain_header.specs.Text.{fraction_text, places_text}
-use Rattle.drain_text.proofs.LastDigits.{length-last_digits, last_digits_are}
 use Rattle.drain_header.proofs.WorkedDecimals.{value_of_places, pointed, pointed_reads}
 use Rattle.drain_header.proofs.Units.{coordinate_is, nodata_is}
-use Rattle.drain_text.proofs.Joining.{AllInk, IsWord, ink-append}
-use Rattle.drain_text.proofs.Printed.{two, chosen, digits_ink, decimal_word, decimal_short, whole_read}
 
 pub size_read : (n : ℕ) → 1 ≤ n → n ≤ 28801 → size_of (decimal n) ≡ Some n
 size_read n some fits =

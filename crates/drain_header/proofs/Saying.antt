@@ -1,16 +1,8 @@
 -- What the values of the keywords say is what the lines say.
-use Rattle.std.proofs.Common.{◌≡◌, ℕ, List, suc, length, refl, ap, ◌∙◌}
-use Rattle.std.specs.Prelude.{Option, Some, None, option_and_then, option_map}
-use Rattle.drain_text.specs.Text.{whole_number}
-use Rattle.drain_grid.specs.declared.height_kind.HeightKind.{HeightKind}
-use Rattle.drain_header.specs.declared.key.Key.TheVariants.{Nrows, Ncols, Nbands, Nbits, ByteOrder, PixelType, SkipBytes, BandRowBytes, TotalRowBytes, Ulxmap, Ulymap, Xdim, Ydim}
+use Rattle.drain_header.proofs.Names.{suc, length, ap, ◌∙◌, Option, Some, None, option_and_then, option_map, whole_number, HeightKind, Nrows, Ncols, Nbands, Nbits, ByteOrder, PixelType, SkipBytes, BandRowBytes, TotalRowBytes, Ulxmap, Ulymap, Xdim, Ydim, Value, Number, Ordering, Signed, Coordinate, coordinate_of, value_at, size_of, ordering_of, sign_of, nodata_of, Seen, said_by, said_number, ordering_in, sign_in, coordinate_in, said_nodata}
+use Rattle.std.proofs.Common.{◌≡◌, ℕ, List, refl}
 use Rattle.drain_header.specs.declared.key.Key.TheVariants as keys
-use Rattle.drain_header.specs.declared.value.Value.{Value}
-use Rattle.drain_header.specs.declared.value.Value.TheVariants.{Number, Ordering, Signed, Coordinate, Nodata}
-use Rattle.drain_header.specs.Decimals.{coordinate_of}
-use Rattle.drain_header.specs.Lines.{value_at, size_of, ordering_of, sign_of, nodata_of}
-use Rattle.drain_header.specs.Reading.{Seen}
-use Rattle.drain_header.specs.Said.{said_by, said_number, ordering_in, sign_in, coordinate_in, said_nodata}
+use Rattle.drain_header.specs.declared.value.Value.TheVariants.{Nodata}
 use Rattle.drain_header.proofs.Folding.{IsSeen}
 
 -- a kind takes out what was put in

@@ -1,15 +1,7 @@
 -- Digits that are cut after those that count, and shifted by powers of ten.
-use Rattle.std.proofs.Common.{◌≡◌, ℕ, zero, suc, ◌+◌, ◌-◌, ◌*◌, ◌^◌, ◌<◌, ◌≤◌, Bool, true, false, List, [], ◌∷◌, ◌++◌, length, take, drop, min, arith, refl, sym, ap, ◌∙◌, eq-eqb}
-use Rattle.std.specs.Prelude.{◌&&◌, ◌==◌, nat_lt}
-use Rattle.std.specs.Str.Parse.{digits_value, digits_value_after, AllDigits}
-use Rattle.std.specs.Float.Numeral.{Parts, tens_up, tens_down}
-use Rattle.drain_header.specs.Decimals.{IsScaled}
-use Rattle.std.proofs.lemmas.Bool.{ne_eqb, ltb-true, ltb-false}
-use Rattle.std.proofs.lemmas.List.{take-append-drop, take_min, drop_min, length-drop, length-append}
-use Rattle.std.proofs.lemmas.Nat.{pow-add}
-use Rattle.std.proofs.Math.Nat.{one-le-pow, mul-le-mul_right, mul-lt-mul_of_pos_right, pow-le-pow_right}
-use Rattle.std.proofs.lemmas.Int.Digits.{digits_value-lt}
-use Rattle.drain_text.proofs.Digits.{value-append, after-append, drop_digits}
+use Rattle.drain_header.proofs.Names.{zero, suc, ◌+◌, ◌-◌, ◌*◌, ◌^◌, ◌<◌, ◌≤◌, Bool, true, false, ◌∷◌, length, take, drop, min, arith, sym, ap, ◌∙◌, ◌&&◌, ◌==◌, nat_lt, digits_value, digits_value_after, AllDigits, Parts, tens_up, tens_down, IsScaled, ne_eqb, ltb-true, ltb-false, take-append-drop, take_min, drop_min, length-drop, pow-add, one-le-pow, mul-le-mul_right, mul-lt-mul_of_pos_right, pow-le-pow_right, digits_value-lt, value-append, after-append, drop_digits}
+use Rattle.std.proofs.Common.{◌≡◌, ℕ, List, [], ◌++◌, refl, eq-eqb}
+use Rattle.std.proofs.lemmas.List.{length-append}
 
 take-append : (n : ℕ) (xs ys : List ℕ) → take n (xs ++ ys) ≡ take n xs ++ take (n - length xs) ys
 take-append zero [] ys = refl

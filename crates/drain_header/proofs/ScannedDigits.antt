@@ -1,11 +1,8 @@
 -- The parts of a scanned decimal are of digits.
-use Rattle.std.proofs.Common.{◌≡◌, ℕ, true, false, List, length, arith, sym, Bool, ap, ◌+◌, ◌≤◌, [], drop}
-use Rattle.std.specs.Prelude.{cond, slice_range, slice_index, ◌==◌, if◌then◌else◌}
-use Rattle.std.specs.Str.Parse.{AllDigits}
-use Rattle.std.specs.Float.Numeral.{Parts, scan_numeral, digits_end, exponent_start, has_exponent, dot}
+use Rattle.drain_header.proofs.Names.{true, false, length, arith, sym, Bool, ap, ◌+◌, ◌≤◌, drop, cond, slice_range, slice_index, ◌==◌, if◌then◌else◌, AllDigits, Parts, digits_end, exponent_start, has_exponent, dot, parts_of, IsOfDigits, counted_digits, append_digits}
+use Rattle.std.proofs.Common.{◌≡◌, ℕ, List, []}
+use Rattle.std.specs.Float.Numeral.{scan_numeral}
 use Rattle.drain_header.specs.declared.numeral.Numeral.{Numeral}
-use Rattle.drain_header.specs.Decimals.{parts_of, IsOfDigits}
-use Rattle.drain_text.proofs.Digits.{counted_digits, append_digits}
 
 run : (bs : List ℕ) (i : ℕ) → AllDigits 10 (slice_range bs i (digits_end bs i))
 run bs i = counted_digits (drop i bs) _ (omega arith)

@@ -2,31 +2,12 @@
 --
 -- The text is that of a list of entries, each of which its keyword takes. So its lines are known, each keyword is on
 -- one line alone, and the value at each keyword is the one that was printed.
-use Rattle.std.proofs.Common.{◌≡◌, ℕ, true, false, List, length, arith, refl, sym, ◌∙◌, suc, Bool, ap, ◌+◌, ◌≤◌, [], inl, inr, zero, ◌*◌, ◌/◌, ◌∷◌, ◌++◌, append-nil, append_assoc, true≢false}
-use Rattle.std.specs.Prelude.{Option, Some, None, is_some, ◌==◌, ℤ, pos, unsigned_abs, IfSome, option_and_then, option_map, slice_get, unwrap_or, decimal, codes}
-use Rattle.drain_header.specs.Lines.{reads, line_key, line_value, value_at, takes, takes_some, ordering_of, signedness_of, nodata_of, says_float}
-use Rattle.drain_header.specs.declared.key.Key.{Key}
-use Rattle.drain_header.specs.declared.key.Key.TheVariants.{Nrows, Ncols, Ulxmap, Ulymap, Xdim, Ydim, Nbands, Nbits, ByteOrder, Layout, PixelType, SkipBytes, BandRowBytes, TotalRowBytes, Nodata}
-use Rattle.drain_header.specs.Faults.{line_at, HasKey, HasFaultOf, IsRequired, DescribesOf, HasBadPixelType}
-use Rattle.drain_header.specs.Decimals.{coordinate_of}
-use Rattle.std.specs.Fmt.{signed_decimal}
-use Rattle.std.proofs.Math.Logic.{∥∥₁_elim}
-use Rattle.std.proofs.Math.Bridge.{le_prop}
-use Rattle.drain_text.specs.Text.{lines_of, whole_number}
-use Rattle.drain_grid.specs.Values.{IsNoData}
-use Rattle.drain_grid.specs.declared.height_kind.HeightKind.{HeightKind}
-use Rattle.drain_grid.specs.declared.height_kind.HeightKind.TheVariants.{Whole, Single}
-use Rattle.drain_floats.specs.Words.{IsFloatWord, AreAboveSpace}
-use Rattle.drain_header.specs.declared.header.ByteOrdering.{ByteOrdering}
-use Rattle.drain_header.specs.declared.header.ByteOrdering.TheVariants.{Least, Most}
-use Rattle.drain_header.specs.declared.header.Place.{Place}
-use Rattle.drain_header.specs.declared.fault.HeaderFault.{HeaderFault}
-use Rattle.drain_header.specs.declared.fault.HeaderFault.TheVariants.{TooLong, RepeatedKey, BadValue, MissingKey, NotOneBand, BadBits, BadPixelType, RowTooShort}
-use Rattle.drain_header.specs.Header.{Fields, IsCoordinate, IsPixelSize, IsPixelSizeOf, AreWithinBounds, said, packed_row, row_bytes_of, signed_of, fields_of}
-use Rattle.drain_header.specs.Text.{line, nodata_line, ordering_text, signedness_text, type_text, places_text, shape_lines, pixel_lines, place_lines, IsFloatLine, IsTextOfKind, IsTextOf}
-use Rattle.drain_text.proofs.Joining.{AllInk, IsWord, ink_told}
+use Rattle.drain_header.proofs.Names.{true, false, length, arith, sym, ◌∙◌, suc, Bool, ap, ◌+◌, ◌≤◌, inl, inr, zero, ◌*◌, ◌/◌, ◌∷◌, true≢false, Option, Some, None, is_some, ◌==◌, pos, unsigned_abs, IfSome, option_and_then, option_map, slice_get, unwrap_or, decimal, codes, reads, line_key, line_value, value_at, takes, takes_some, ordering_of, signedness_of, nodata_of, says_float, Key, Nrows, Ncols, Ulxmap, Ulymap, Xdim, Ydim, Nbands, Nbits, ByteOrder, Layout, PixelType, SkipBytes, BandRowBytes, TotalRowBytes, line_at, HasKey, HasFaultOf, IsRequired, DescribesOf, HasBadPixelType, coordinate_of, signed_decimal, ∥∥₁_elim, le_prop, lines_of, whole_number, IsNoData, HeightKind, Whole, Single, IsFloatWord, AreAboveSpace, ByteOrdering, Least, Most, Place, HeaderFault, TooLong, RepeatedKey, BadValue, MissingKey, NotOneBand, BadBits, BadPixelType, RowTooShort, Fields, IsCoordinate, IsPixelSize, IsPixelSizeOf, AreWithinBounds, said, packed_row, row_bytes_of, signed_of, fields_of, nodata_line, ordering_text, signedness_text, type_text, IsFloatLine, IsTextOfKind, IsTextOf, AllInk, IsWord, ink_told, decimal_word, decimal_short, whole_read}
+use Rattle.std.proofs.Common.{◌≡◌, ℕ, List, refl, [], ◌++◌, append-nil, append_assoc}
+use Rattle.std.specs.Prelude.{ℤ}
+use Rattle.drain_header.specs.declared.key.Key.TheVariants.{Nodata}
+use Rattle.drain_header.specs.Text.{line, places_text, shape_lines, pixel_lines, place_lines}
 use Rattle.drain_header.proofs.Entries.{line_number, entries_text, entries_lines, AllGood, IsGood, value_in, lines_entries, value_entries, told_at, entries_short, key_bare}
-use Rattle.drain_text.proofs.Printed.{decimal_word, decimal_short, whole_read}
 use Rattle.drain_header.proofs.ReadBack.{size_read, coordinate_read, nodata_read, nodata_small, places_word, places_short, nodata_word, nodata_short}
 
 -- the entry of the no-data number, by its word

@@ -1,11 +1,7 @@
 -- A magnitude in units decides whether a decimal is small, and is its value.
-use Rattle.std.proofs.Common.{◌≡◌, ℕ, suc, ◌+◌, ◌-◌, ◌*◌, ◌/◌, ◌%◌, ◌^◌, ◌<◌, ◌≤◌, Bool, true, false, List, arith, refl, sym, ap, ◌∙◌, inl, inr}
-use Rattle.std.specs.Prelude.{◌&&◌, ◌==◌, ◌⊎◌, nat_lt, ℤ, cond, Option, Some, None, option_and_then, if◌then◌else◌}
-use Rattle.std.proofs.lemmas.Nat.{div_below, div-mul-add, mod-mul-add}
-use Rattle.std.proofs.lemmas.Bool.{le-leb, leb-true, lt-leb, eqb-true, eqb-false, ltb-true, ltb-false}
-use Rattle.std.specs.Float.Numeral.{Parts, numeral_digits, tens_up, tens_down}
-use Rattle.drain_header.specs.Decimals.{Decimal, decimal_from, decimal_of, is_small, is_whole, in_units, with_sign, coordinate_of, decimal_nodata, IsScaled}
-use Rattle.std.proofs.Math.Nat.{mul-le-mul_right, one-le-pow}
+use Rattle.drain_header.proofs.Names.{suc, ◌+◌, ◌-◌, ◌*◌, ◌/◌, ◌%◌, ◌^◌, ◌<◌, ◌≤◌, Bool, true, false, arith, sym, ap, ◌∙◌, inl, inr, ◌&&◌, ◌==◌, ◌⊎◌, nat_lt, cond, Option, Some, None, option_and_then, if◌then◌else◌, div_below, div-mul-add, mod-mul-add, le-leb, leb-true, lt-leb, eqb-true, eqb-false, ltb-true, ltb-false, Parts, numeral_digits, tens_up, tens_down, Decimal, decimal_from, decimal_of, is_small, is_whole, in_units, with_sign, coordinate_of, decimal_nodata, IsScaled, mul-le-mul_right, one-le-pow}
+use Rattle.std.proofs.Common.{◌≡◌, ℕ, List, refl}
+use Rattle.std.specs.Prelude.{ℤ}
 
 -- a quotient below the limit, or at the limit with no rest
 pub within_limit : (a c q r m k : ℕ) → a * m ≡ q * c + r → r < c → 0 < m → ((q < k * m) ⊎ ((q ≡ k * m) × (r ≡ 0))) → a ≤ k * c

@@ -1,9 +1,6 @@
 -- A header from the values of its keywords, or the first fault of the text as a whole.
-use Rattle.std.specs.Prelude.{ℕ, ◌*◌, ◌/◌, ◌≤◌, ℤ, pos, Bool, true, false, not, ◌||◌, ◌==◌, nat_lt, Option, Some, None, is_none, IfSome, unwrap_or, Result, Ok, Err, slice_index_or, if◌then◌else◌}
-use Rattle.drain_grid.specs.Values.{IsNoData}
-use Rattle.drain_floats.specs.Patterns.{IsFloatNumber}
-use Rattle.drain_grid.specs.declared.height_kind.HeightKind.{HeightKind}
-use Rattle.drain_grid.specs.declared.height_kind.HeightKind.TheVariants.{Whole, Single}
+use Rattle.std.specs.Prelude.{◌*◌, ◌/◌, ◌≤◌, ◌||◌, ◌==◌, if◌then◌else◌}
+use Rattle.drain_header.specs.Names.{ℕ, ℤ, pos, Bool, true, false, not, nat_lt, Option, Some, None, is_none, IfSome, unwrap_or, Result, Ok, Err, slice_index_or, IsNoData, IsFloatNumber, HeightKind, Whole, Single}
 use Rattle.drain_header.specs.declared.header.ByteOrdering.TheVariants.{Least}
 use Rattle.drain_header.specs.declared.key.Key.{Key}
 use Rattle.drain_header.specs.declared.key.Key.TheVariants.{Nrows, Ncols, Nbands, Nbits, ByteOrder, PixelType, SkipBytes, BandRowBytes, TotalRowBytes, Ulxmap, Ulymap, Xdim, Ydim}

@@ -1,3 +1,4 @@
+pub mod Names
 pub mod Header
 pub mod Decimals
 pub mod Lines

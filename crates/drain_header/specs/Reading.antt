@@ -1,6 +1,6 @@
 -- Reading a header's lines one after another: the values of the keywords so far, or the first fault of a line.
-use Rattle.std.specs.Prelude.{ℕ, ◌+◌, List, [], ◌∷◌, Option, Some, None, is_some, option_and_then, Result, Ok, Err, if◌then◌else◌, slice_index_or, slice_set, replicate}
-use Rattle.drain_grid.specs.declared.height_kind.HeightKind.{HeightKind}
+use Rattle.std.specs.Prelude.{◌+◌, ◌∷◌, if◌then◌else◌}
+use Rattle.drain_header.specs.Names.{ℕ, List, [], Option, Some, None, is_some, option_and_then, Result, Ok, Err, slice_index_or, slice_set, replicate, HeightKind}
 use Rattle.drain_header.specs.declared.key.Key.{Key}
 use Rattle.drain_header.specs.declared.value.Value.{Value}
 use Rattle.drain_header.specs.declared.fault.HeaderFault.{HeaderFault}

@@ -4,8 +4,8 @@
 //! sum past 128 bits stops there; of the others only whether all are zeros is kept. So a decimal is compared with its
 //! limit before its further places are dropped, in one step per digit.
 
-ghost use Rattle.std.specs.Prelude.{◌≡◌, ◌+◌, ◌*◌, ◌-◌, ◌^◌, ◌<◌, ◌≤◌, ◌==◌, if◌then◌else◌, length, ℕ, min, option_map, IfSome};
-ghost use Rattle.std.specs.Str.Parse.{digits_value, digits_value_after, AllDigits};
+ghost use Rattle.std.specs.Prelude.{◌≡◌, ◌+◌, ◌*◌, ◌-◌, ◌^◌, ◌<◌, ◌≤◌, ◌==◌, if◌then◌else◌};
+ghost use Rattle.drain_header.specs.Names.{length, ℕ, min, option_map, IfSome, digits_value, digits_value_after, AllDigits};
 ghost use Rattle.drain_header.specs.Decimals.{parts_of, decimal_from_parts, IsOfDigits, IsScaled, Compares, with_sign, decimal_of, coordinate_of, decimal_nodata};
 
 use crate::numeral::{Numeral, scan};

@@ -1,7 +1,7 @@
 //! Which heights a header says that it has, before it is parsed for them.
 
-ghost use Rattle.std.specs.Prelude.{◌≡◌, option_map, if◌then◌else◌};
-ghost use Rattle.drain_text.specs.Text.{lines_of};
+ghost use Rattle.std.specs.Prelude.{◌≡◌, if◌then◌else◌};
+ghost use Rattle.drain_header.specs.Names.{option_map, lines_of};
 ghost use Rattle.drain_header.specs.Lines.{is_some_key, kind_said as kind_meant, says_float as float_meant};
 
 use crate::key::Key;

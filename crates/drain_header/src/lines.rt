@@ -1,7 +1,7 @@
 //! The lines of a header, one after another: each keyword's value, or the first fault of a line.
 
-ghost use Rattle.std.specs.Prelude.{◌≡◌, ◌≤◌, None, is_some, length, slice_index_or};
-ghost use Rattle.drain_text.specs.Text.{lines_of};
+ghost use Rattle.std.specs.Prelude.{◌≡◌, ◌≤◌};
+ghost use Rattle.drain_header.specs.Names.{None, is_some, length, slice_index_or, lines_of};
 ghost use Rattle.drain_header.specs.Faults.{lacking};
 ghost use Rattle.drain_header.specs.Lines.{key_order};
 ghost use Rattle.drain_header.specs.Reading.{nothing, with_header_line as line_added, with_lines as lines_added};

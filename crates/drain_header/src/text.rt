@@ -1,9 +1,7 @@
 //! The text of a header: one line for each keyword, always in the same order.
 
-ghost use Rattle.std.specs.Prelude.{◌≡◌, ◌≤◌, ◌<◌, ◌+◌, ◌*◌, ◌/◌, ◌%◌, ◌^◌, ◌++◌, List, ℕ, IfOk, IfSome, OnOk, decimal};
-ghost use Rattle.std.specs.Int.{is_negative};
-ghost use Rattle.std.specs.Fmt.{sign_text};
-ghost use Rattle.drain_floats.specs.Patterns.{IsFloatNumber};
+ghost use Rattle.std.specs.Prelude.{◌≡◌, ◌≤◌, ◌<◌, ◌+◌, ◌*◌, ◌/◌, ◌%◌, ◌^◌, ◌++◌};
+ghost use Rattle.drain_header.specs.Names.{List, ℕ, IfOk, IfSome, OnOk, decimal, is_negative, sign_text, IsFloatNumber};
 ghost use Rattle.drain_header.specs.Header.{IsCoordinate};
 ghost use Rattle.drain_header.specs.Text.{IsTextOf, shape_lines, pixel_lines, place_lines, line, nodata_line, IsFloatLine, fraction_text, places_text, ordering_text, signedness_text, type_text};
 

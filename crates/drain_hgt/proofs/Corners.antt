@@ -1,11 +1,5 @@
 -- The corner that a name names, read from its places.
-use Rattle.std.proofs.Common.{◌≡◌, ℕ, suc, inl, inr, ◌+◌, ◌*◌, ◌-◌, ◌/◌, ◌%◌, ◌≤◌, Bool, true, false, List, get_or, ℤ, pos, negsuc, sym, ap, ◌∙◌, arith}
-use Rattle.std.specs.Prelude.{nat_abs, neg_ℤ}
-use Rattle.std.specs.Char.{eq_ignore_ascii_case}
-use Rattle.std.specs.Int.{is_negative}
-use Rattle.std.proofs.lemmas.Bool.{cases_Bool, false≢true, leb-true}
-use Rattle.drain_hgt.specs.Corner.{Corner}
-use Rattle.drain_hgt.specs.Laws.{NamesGiveCorners}
+use Rattle.drain_hgt.proofs.Names.{◌≡◌, ℕ, suc, inl, inr, ◌+◌, ◌*◌, ◌-◌, ◌/◌, ◌%◌, ◌≤◌, Bool, true, false, List, get_or, ℤ, pos, negsuc, sym, ap, ◌∙◌, arith, nat_abs, neg_ℤ, eq_ignore_ascii_case, is_negative, cases_Bool, false≢true, leb-true, Corner, NamesGiveCorners}
 use Rattle.drain_hgt.proofs.Reading.{few_degrees}
 use Rattle.drain_hgt.proofs.Spelling.{HasPlaces, places}
 

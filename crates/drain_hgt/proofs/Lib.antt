@@ -1,3 +1,4 @@
+pub mod Names
 pub mod Spelling
 pub mod Reading
 pub mod Corners

@@ -1,12 +1,6 @@
 -- Bytes mean one thing.
-use Rattle.std.proofs.Common.{◌≡◌, ℕ, suc, ◌+◌, ◌/◌, ◌%◌, ◌≤◌, List, ℤ, pos, negsuc, refl, sym, ap, ◌∙◌, arith}
-use Rattle.std.specs.Prelude.{nat_abs, Ok, Err}
-use Rattle.std.specs.Int.{is_negative}
-use Rattle.std.proofs.lemmas.Bool.{leb-true}
-use Rattle.drain_hgt.specs.declared.name.NameFault.TheVariants.{BadForm, BadRange}
-use Rattle.drain_hgt.specs.Corner.{Corner}
-use Rattle.drain_hgt.specs.Name.{IsNameOf, HasForm}
-use Rattle.drain_hgt.specs.Laws.{OneName}
+use Rattle.drain_hgt.proofs.Names.{◌≡◌, ℕ, suc, ◌+◌, ◌/◌, ◌%◌, ◌≤◌, List, ℤ, pos, negsuc, refl, sym, ap, ◌∙◌, arith, nat_abs, is_negative, leb-true, BadForm, BadRange, Corner, IsNameOf, HasForm, OneName}
+use Rattle.std.specs.Prelude.{Ok, Err}
 use Rattle.drain_hgt.proofs.Spelling.{HasPlaces, places}
 use Rattle.drain_hgt.proofs.Reading.{few_degrees}
 

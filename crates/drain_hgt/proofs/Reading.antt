@@ -1,14 +1,8 @@
 -- What was read in a name's places, and what it means.
-use Rattle.std.proofs.Common.{◌≡◌, ℕ, ◌+◌, ◌*◌, ◌/◌, ◌%◌, ◌<◌, ◌≤◌, Bool, List, get_or, ℤ, pos, negsuc, Option, Some, None, MatchOption, arith, sym, ap, ◌∙◌, refl}
-use Rattle.std.specs.Prelude.{nat_abs, map}
-use Rattle.std.specs.Char.{to_ascii_lowercase, eq_ignore_ascii_case}
-use Rattle.std.specs.Int.{is_negative}
+use Rattle.drain_hgt.proofs.Names.{◌≡◌, ℕ, ◌+◌, ◌*◌, ◌/◌, ◌%◌, ◌<◌, ◌≤◌, Bool, List, get_or, ℤ, pos, negsuc, Option, Some, None, MatchOption, arith, sym, ap, ◌∙◌, refl, nat_abs, to_ascii_lowercase, eq_ignore_ascii_case, is_negative, ints, BadRange, Corner, IsOnMap, IsWithin, spelled, IsAt, IsSameText, HasForm, MeansName}
+use Rattle.std.specs.Prelude.{map}
 use Rattle.std.specs.Option.{ok_or}
-use Rattle.std.proofs.lemmas.Int.{ints}
-use Rattle.drain_hgt.specs.declared.name.NameFault.TheVariants.{BadRange}
 use Rattle.drain_hgt.specs.declared.name.TheConstants.{ZERO}
-use Rattle.drain_hgt.specs.Corner.{Corner, IsOnMap, IsWithin}
-use Rattle.drain_hgt.specs.Name.{spelled, IsAt, IsSameText, HasForm, MeansName}
 use Rattle.drain_hgt.proofs.Spelling.{HasPlaces, places, spells_same}
 
 -- the number is the byte's digit where it is one

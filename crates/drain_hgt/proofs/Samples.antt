@@ -1,14 +1,6 @@
 -- Pairs of bytes read one by one are the samples of all of them.
-use Rattle.std.proofs.Common.{◌≡◌, ◌≢◌, ℕ, suc, ◌+◌, ◌-◌, ◌*◌, ◌<◌, ℤ, List, [], ◌∷◌, length, drop, w16, w64, take, set, get_or, get_or-set_other, get_or-set_same, below_more, arith, refl, sym, ap, ◌∙◌}
-use Rattle.std.specs.Int.{cast_signed}
-use Rattle.std.specs.Prelude.{slice_index}
-use Rattle.std.proofs.lemmas.Int.{ints, to_z-of_z}
-use Rattle.std.proofs.lemmas.List.{take_rest}
-use Rattle.std.proofs.lemmas.Bool.Decides.{nat_tests}
-use Rattle.byteorder.specs.Endian.{twos_complement, big_number, IsReadBy}
+use Rattle.drain_hgt.proofs.Names.{◌≡◌, ◌≢◌, ℕ, suc, ◌+◌, ◌-◌, ◌*◌, ◌<◌, ℤ, List, [], ◌∷◌, length, drop, w16, w64, take, set, get_or, get_or-set_other, get_or-set_same, below_more, arith, refl, sym, ap, ◌∙◌, cast_signed, slice_index, ints, to_z-of_z, take_rest, nat_tests, twos_complement, big_number, IsReadBy, IsSample, samples_of}
 use mir.Val.{to_z, of_z}
-use Rattle.drain_grid.specs.Grid.{IsSample}
-use Rattle.drain_hgt.specs.Samples.{samples_of}
 
 -- the sample of the first two bytes
 abbrev pub sample : List ℕ → ℤ

@@ -1,10 +1,6 @@
 -- What bytes have in their places where they are a name's but for the case of letters.
-use Rattle.std.proofs.Common.{◌≡◌, ℕ, ◌+◌, ◌*◌, ◌/◌, ◌%◌, ◌<◌, Bool, true, false, List, ◌∷◌, length, map, get_or, arith, refl, sym, ap, ◌∙◌, cond}
-use Rattle.std.specs.Prelude.{codes}
-use Rattle.std.specs.Char.{to_ascii_lowercase, eq_ignore_ascii_case}
-use Rattle.std.proofs.lemmas.List.{get_or-map, length-map}
-use Rattle.std.proofs.lemmas.Bool.Decides.{nat_tests}
-use Rattle.drain_hgt.specs.Name.{spelled, IsSameText}
+use Rattle.drain_hgt.proofs.Names.{◌≡◌, ℕ, ◌+◌, ◌*◌, ◌/◌, ◌%◌, ◌<◌, Bool, true, false, List, ◌∷◌, length, get_or, arith, refl, sym, ap, ◌∙◌, cond, codes, to_ascii_lowercase, eq_ignore_ascii_case, get_or-map, length-map, nat_tests, spelled, IsSameText}
+use Rattle.std.proofs.Common.{map}
 
 -- the bytes of a name, one by one
 abbrev listed : Bool → ℕ → Bool → ℕ → List ℕ

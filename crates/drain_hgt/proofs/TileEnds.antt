@@ -1,10 +1,5 @@
 -- A tile's rows end wrong exactly where its length is wrong: by induction on the rows left.
-use Rattle.std.proofs.Common.{◌≡◌, ◌↔◌, ℕ, zero, suc, ◌*◌, List, [], ◌∷◌, length, drop, true, false, IsTrue, inl, inr, arith, refl}
-use Rattle.std.proofs.lemmas.Bool.{cases_lt, lt-ltb, le-ltb}
-use Rattle.std.proofs.lemmas.List.{length-drop}
-use Rattle.drain_device.specs.RowSteps.{ends_wrong}
-use Rattle.drain_hgt.specs.TileRows.{tile_rows}
-use Rattle.drain_hgt.specs.Laws.{TileRowsTellLengths}
+use Rattle.drain_hgt.proofs.Names.{◌≡◌, ◌↔◌, ℕ, zero, suc, ◌*◌, List, [], ◌∷◌, length, drop, true, false, IsTrue, inl, inr, arith, refl, cases_lt, lt-ltb, le-ltb, length-drop, ends_wrong, tile_rows, TileRowsTellLengths}
 
 ends : (side left : ℕ) (body : List ℕ) → IsTrue (ends_wrong (tile_rows side left body)) ↔ (length body ≡ 2 * side * left → ⊥)
 ends side zero [] = (λ wrong. absurd (let no : false ≡ true = wrong in cc), λ other. absurd (other (omega arith)))

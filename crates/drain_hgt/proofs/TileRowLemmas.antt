@@ -1,16 +1,12 @@
 -- What is to come of a tile, one row further.
-use Rattle.std.proofs.Common.{◌≡◌, ℕ, zero, suc, ◌+◌, ◌-◌, ◌*◌, ◌≤◌, ℤ, List, [], ◌∷◌, ◌++◌, length, Option, Ok, Err, arith, refl, length-append}
-use Rattle.std.proofs.lemmas.Bool.{lt-ltb, le-ltb}
-use Rattle.std.proofs.lemmas.List.{take_at, drop_at}
+use Rattle.drain_hgt.proofs.Names.{◌≡◌, ℕ, zero, suc, ◌+◌, ◌-◌, ◌*◌, ◌≤◌, ℤ, List, [], ◌∷◌, ◌++◌, length, Option, arith, refl, length-append, lt-ltb, le-ltb, take_at, drop_at, Gives, ReadsWithin, coming_at, most_at, RowComes, EndComes, samples_of, tile_rows}
+use Rattle.std.proofs.Common.{Ok, Err}
 use Rattle.drain_device.specs.declared.row_source.RowStep.TheVariants.{Row}
 use Rattle.drain_device.specs.declared.row_source.ReadFault.{ReadFault}
 use Rattle.drain_device.specs.declared.row_source.Progress.{Progress}
 use Rattle.drain_device.specs.declared.row_source.Progress.TheVariants.{Going}
 use Rattle.drain_device.specs.RowSteps.Coming.{Next, Wrong}
-use Rattle.drain_device.specs.RowSteps.{Gives, ReadsWithin, coming_at, most_at, RowComes, EndComes}
 use Rattle.drain_device.proofs.RowLemmas.{gives-row, gives-no_row, gives-no_end, within-row}
-use Rattle.drain_hgt.specs.Samples.{samples_of}
-use Rattle.drain_hgt.specs.TileRows.{tile_rows}
 
 -- a row is there
 tile_rows-next : (side left : ℕ) (xs rest : List ℕ) → (left ≡ 0 → ⊥) → length xs ≡ 2 * side → tile_rows side left (xs ++ rest) ≡ Next (samples_of xs) (tile_rows side (left - 1) rest)

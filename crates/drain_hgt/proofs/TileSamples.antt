@@ -1,14 +1,6 @@
 -- The rows of a whole tile are its samples: by induction on the rows left.
-use Rattle.std.proofs.Common.{◌≡◌, ℕ, zero, suc, ◌+◌, ◌*◌, ◌<◌, ◌≤◌, ℤ, List, [], ◌∷◌, ◌++◌, length, take, drop, arith, refl, sym, ap, ◌∙◌, take-append-drop}
-use Rattle.std.specs.Prelude.{slice_index_or}
-use Rattle.std.proofs.lemmas.Bool.{le-ltb}
-use Rattle.std.proofs.lemmas.List.{length-take-le, length-drop, get_or_append_left, get_or-append-add}
-use Rattle.byteorder.specs.Endian.{twos_complement}
-use Rattle.drain_device.specs.RowSteps.{nth_row}
+use Rattle.drain_hgt.proofs.Names.{◌≡◌, ℕ, zero, suc, ◌+◌, ◌*◌, ◌<◌, ◌≤◌, ℤ, List, [], ◌∷◌, ◌++◌, length, take, drop, arith, refl, sym, ap, ◌∙◌, take-append-drop, slice_index_or, le-ltb, length-take-le, length-drop, get_or_append_left, get_or-append-add, twos_complement, nth_row, samples_of, tile_rows, TileRowsAreSamples}
 use Rattle.drain_grid.specs.declared.tile.TheConstants.{VOID}
-use Rattle.drain_hgt.specs.Samples.{samples_of}
-use Rattle.drain_hgt.specs.TileRows.{tile_rows}
-use Rattle.drain_hgt.specs.Laws.{TileRowsAreSamples}
 
 pub samples-append : (n : ℕ) (xs ys : List ℕ) → length xs ≡ 2 * n → samples_of (xs ++ ys) ≡ samples_of xs ++ samples_of ys
 samples-append zero [] ys even = refl

@@ -1,7 +1,6 @@
 -- What the names and the rows of tiles promise.
-use Rattle.std.specs.Prelude.{◌≡◌, ◌↔◌, ◌<◌, ℕ, List, Result, Ok, IsTrue, slice_index_or}
-use Rattle.drain_device.specs.RowSteps.{ends_wrong, nth_row}
-use Rattle.drain_grid.specs.declared.tile.TheConstants.{VOID}
+use Rattle.std.specs.Prelude.{◌≡◌, ◌↔◌, ◌<◌}
+use Rattle.drain_hgt.specs.Names.{ℕ, List, Result, Ok, IsTrue, slice_index_or, ends_wrong, nth_row, VOID}
 use Rattle.drain_hgt.specs.declared.name.NameFault.{NameFault}
 use Rattle.drain_hgt.specs.Corner.{Corner, IsOnMap}
 use Rattle.drain_hgt.specs.Name.{MeansName, IsNameOf, name_of}

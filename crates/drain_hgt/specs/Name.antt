@@ -1,7 +1,7 @@
 -- The names of tiles (the SRTM HGT documentation).
-use Rattle.std.specs.Prelude.{◌≡◌, ℕ, ℤ, nat_abs, Bool, List, ◌++◌, map, Result, Ok, Err, codes, if◌then◌else◌}
+use Rattle.std.specs.Prelude.{◌≡◌, ◌++◌, if◌then◌else◌}
+use Rattle.drain_hgt.specs.Names.{ℕ, ℤ, nat_abs, Bool, List, map, Result, Ok, Err, codes, is_negative}
 use Rattle.std.specs.Char.{to_ascii_lowercase}
-use Rattle.std.specs.Int.{is_negative}
 use Rattle.drain_text.specs.Text.{last_digits}
 use Rattle.drain_hgt.specs.declared.name.NameFault.{NameFault}
 use Rattle.drain_hgt.specs.declared.name.NameFault.TheVariants.{BadForm, BadRange}

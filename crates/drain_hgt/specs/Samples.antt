@@ -1,7 +1,6 @@
 -- The samples of a tile (the SRTM HGT documentation).
-use Rattle.std.specs.Prelude.{◌≡◌, ℕ, ◌+◌, ◌*◌, ℤ, List, [], ◌∷◌, length, slice_index_or}
-use Rattle.drain_grid.specs.declared.tile.TheConstants.{VOID}
-use Rattle.byteorder.specs.Endian.{twos_complement}
+use Rattle.std.specs.Prelude.{◌≡◌, ◌+◌, ◌*◌, ◌∷◌}
+use Rattle.drain_hgt.specs.Names.{ℕ, ℤ, List, [], length, slice_index_or, VOID, twos_complement}
 
 -- two bytes for each sample of the square
 abbrev pub tile_length : ℕ → ℕ

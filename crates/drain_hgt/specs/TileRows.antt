@@ -1,6 +1,6 @@
 -- What is to come of a tile's bytes, row by row (the SRTM HGT documentation).
-use Rattle.std.specs.Prelude.{ℕ, zero, suc, ◌+◌, ◌*◌, nat_lt, List, [], ◌∷◌, length, take, drop, if◌then◌else◌}
-use Rattle.drain_device.specs.RowSteps.{Coming, coming_at, most_at}
+use Rattle.std.specs.Prelude.{◌+◌, ◌*◌, ◌∷◌, if◌then◌else◌}
+use Rattle.drain_hgt.specs.Names.{ℕ, zero, suc, nat_lt, List, [], length, take, drop, Coming, coming_at, most_at}
 use Rattle.drain_device.specs.RowSteps.Coming.{Next, End, Wrong}
 use Rattle.drain_hgt.specs.declared.tile_rows.TileRows.{TileRows}
 use Rattle.drain_hgt.specs.Samples.{samples_of}

@@ -3,8 +3,8 @@
 //! A tile is a square of 16-bit signed samples, most significant byte first, row after row from the northernmost, each
 //! row from west to east, without a header. Source: the SRTM HGT documentation.
 
-ghost use Rattle.std.specs.Prelude.{◌≡◌, ◌*◌, ◌↔◌, IfOk, IsErrOf, length};
-ghost use Rattle.drain_grid.specs.Grid.{IsSide};
+ghost use Rattle.std.specs.Prelude.{◌≡◌, ◌*◌, ◌↔◌};
+ghost use Rattle.drain_hgt.specs.Names.{IfOk, IsErrOf, length, IsSide};
 ghost use Rattle.drain_hgt.specs.Samples.{IsTile, samples_of, tile_length};
 
 use byteorder::{BigEndian, ByteOrder};

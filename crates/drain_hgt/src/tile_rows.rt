@@ -1,12 +1,9 @@
 //! The rows of a tile, one at a time.
 
-ghost use Rattle.std.specs.Prelude.{◌≡◌, ◌≢◌, ◌↔◌, ◌≤◌, ◌*◌, ◌+◌, ℕ, List, length, All, Ok, IsErrOf, IsTrue, OnOk};
-ghost use Rattle.std.specs.Int.{cast_signed, w16};
-ghost use Rattle.byteorder.specs.Endian.{big_number};
+ghost use Rattle.std.specs.Prelude.{◌≡◌, ◌≢◌, ◌↔◌, ◌≤◌, ◌*◌, ◌+◌};
+ghost use Rattle.drain_hgt.specs.Names.{ℕ, List, length, All, Ok, IsErrOf, IsTrue, OnOk, cast_signed, w16, big_number, RowComes, Gives, IsEmptyUnlessRow, IsLong, ReadsWithin, StaysEnded, progress_after, IsSample, IsSide};
 ghost use Rattle.drain_device.specs.Failing.{PartFails, full_patience};
-ghost use Rattle.drain_device.specs.RowSteps.{RowComes, Gives, IsEmptyUnlessRow, IsLong, ReadsWithin, StaysEnded, progress_after};
 ghost use Rattle.drain_device.specs.declared.row_source.Progress.{Progress};
-ghost use Rattle.drain_grid.specs.Grid.{IsSample, IsSide};
 ghost use Rattle.drain_hgt.specs.Samples.{samples_of};
 
 use byteorder::{BigEndian, ByteOrder};

@@ -1,15 +1,5 @@
 -- The floats of a block are whole numbers of one power of two, as many as their places and an offset.
-use Rattle.std.proofs.Common.{◌≡◌, Bool, true, false, ◌&&◌, IsTrue, List, slice_index, ℕ, zero, suc, ◌+◌, ◌-◌, ◌*◌, ◌/◌, ◌%◌, ◌^◌, ◌<◌, ◌≤◌, ℤ, pos, negsuc, neg_ℤ, ◌+ℤ◌, ◌-ℤ◌, inl, inr, sym, ◌∙◌, ap, subst, arith}
-use Rattle.std.proofs.Math.Nat.{two-pow-succ}
-use Rattle.std.proofs.lemmas.Bool.{and_parts, cases_lt}
-use Rattle.std.proofs.lemmas.Int.{ints}
-use Rattle.drain_grid.specs.HeightKinds.{digits_of, shift_of, magnitude_of, single_height}
-use Rattle.drain_kernel.specs.Shown.{lowered}
-use Rattle.drain_kernel.specs.Around.{around_in}
-use Rattle.drain_kernel.specs.Columns.{cons_round, keeps_direction_at}
-use Rattle.drain_kernel.specs.LaneNumbers.{ThreeLanes}
-use Rattle.drain_kernel.specs.Slopes.{AreSound, goes_by_fractions, is_whole, keeps_way_down}
-use Rattle.drain_kernel.specs.Units.{AreInBlock, AreInOneBlock, IsInBlock, IsInUnit}
+use Rattle.drain_kernel.proofs.Names.{◌≡◌, Bool, true, false, ◌&&◌, IsTrue, List, slice_index, ℕ, zero, suc, ◌+◌, ◌-◌, ◌*◌, ◌/◌, ◌%◌, ◌^◌, ◌<◌, ◌≤◌, ℤ, pos, negsuc, neg_ℤ, ◌+ℤ◌, ◌-ℤ◌, inl, inr, sym, ◌∙◌, ap, subst, arith, two-pow-succ, and_parts, cases_lt, ints, digits_of, shift_of, magnitude_of, single_height, lowered, around_in, cons_round, keeps_direction_at, ThreeLanes, AreSound, goes_by_fractions, is_whole, keeps_way_down, AreInBlock, AreInOneBlock, IsInBlock, IsInUnit}
 use Rattle.drain_kernel.proofs.UnitWays.{AreEach, goes_in_unit}
 
 low_digits : (k : ℕ) → k < 8388608 → digits_of k ≡ k

@@ -1,15 +1,8 @@
 -- Sums of capped numbers: below the cap they are those of the numbers.
-use Rattle.std.proofs.Common.{◌≡◌, ℕ, ◌≤◌, ◌<◌, true, ◌&&◌, ◌||◌, nat_lt, min, List, IsTrue, inl, inr, sym, subst, arith, ◌==◌, ◌∙◌, ap, ◌+◌, Bool, false, slice_index, refl, if◌then◌else◌}
-use Rattle.std.proofs.lemmas.Bool.{and_parts, leb-true, or_cases, or_left, or_right, cases_lt}
-use Rattle.std.proofs.lemmas.Bool.Decides.{Decides-ltb, Decides-eqb}
-use Rattle.drain_kernel.specs.Images.{EachHasImage, at_most, lower, upper}
-use Rattle.drain_kernel.specs.Around.{is_direction_code, least_across_in, least_straight_in, named_in}
-use Rattle.drain_kernel.specs.declared.slopes.Slopes.{Slopes}
-use Rattle.drain_kernel.specs.Slopes.{falls_by, falls_by_fractions, falls_by_heights, falls_down, is_no_steeper_by_fraction, is_no_steeper_by_key, is_unit, is_whole, keeps_way_down}
-use Rattle.drain_grid.specs.declared.direction.Direction.{Direction}
-use Rattle.drain_kernel.specs.Tests.{falls_steepest, is_ranked, steps_along, is_ranked_by_halves, adds_up, passed_on}
+use Rattle.drain_kernel.proofs.Names.{◌≡◌, ℕ, ◌≤◌, ◌<◌, true, ◌&&◌, ◌||◌, nat_lt, min, List, IsTrue, inl, inr, sym, subst, arith, ◌==◌, ◌∙◌, ap, ◌+◌, Bool, false, slice_index, refl, if◌then◌else◌, and_parts, leb-true, or_cases, or_left, or_right, cases_lt, Decides-ltb, Decides-eqb, EachHasImage, at_most, lower, upper, is_direction_code, least_across_in, least_straight_in, named_in, Slopes, falls_by_fractions, falls_by_heights, falls_down, is_no_steeper_by_fraction, is_no_steeper_by_key, is_unit, is_whole, keeps_way_down, Direction, passed_on, both_true}
+use Rattle.drain_kernel.specs.Slopes.{falls_by}
+use Rattle.drain_kernel.specs.Tests.{falls_steepest, is_ranked, steps_along, is_ranked_by_halves, adds_up}
 use Rattle.drain_kernel.proofs.VouchedNumbers.{named_image}
-use Rattle.std.specs.Cmp.Derive.{both_true}
 use Rattle.std.proofs.Math.Bool.{or_assoc}
 use Rattle.drain_kernel.proofs.Keys.{same_tests}
 

@@ -1,14 +1,7 @@
 -- A code that leads to the least number along the row, along the column or across corners leads down the steepest way, where the
 -- ways to the two other least numbers are no steeper.
-use Rattle.std.proofs.Common.{◌≡◌, ℕ, ◌≤◌, ◌<◌, pos, Bool, true, false, not, map, inl, inr, refl, sym, ◌∙◌, ap, subst, arith}
-use Rattle.std.proofs.lemmas.Bool.{false≢true, and_parts, or_cases}
-use Rattle.std.proofs.lemmas.Bool.Decides.{Decides-eqb, Decides-ltb}
-use Rattle.drain_grid.specs.declared.direction.Direction.{Direction}
-use Rattle.drain_grid.specs.declared.direction.Direction.TheVariants.{East, SouthEast, South, SouthWest, West, NorthWest, North, NorthEast}
-use Rattle.drain_grid.specs.Direction.{directions, Names}
-use Rattle.drain_grid.specs.Spacing.{Distances, weight_of}
-use Rattle.drain_kernel.specs.Around.{is_straight_code, least_across_in}
-use Rattle.drain_kernel.specs.Slopes.{falls_by, is_col_code, is_row_code, least_col_in, least_row_in}
+use Rattle.drain_kernel.proofs.Names.{◌≡◌, ℕ, ◌≤◌, ◌<◌, pos, Bool, true, false, not, map, inl, inr, refl, sym, ◌∙◌, ap, subst, arith, false≢true, and_parts, or_cases, Decides-eqb, Decides-ltb, Direction, East, SouthEast, South, SouthWest, West, NorthWest, North, NorthEast, directions, Names, Distances, weight_of, is_straight_code, least_across_in, is_col_code, is_row_code, least_col_in, least_row_in}
+use Rattle.drain_kernel.specs.Slopes.{falls_by}
 use Rattle.drain_kernel.proofs.NamedNumbers.{named_is, same_natural}
 
 -- what it means that the way of a weight to a number is no steeper than that of another, and that a test shows it between ways along the

@@ -1,17 +1,6 @@
 -- A cell that passes the tests of the lanes keeps the rules about the judged rasters.
-use Rattle.std.proofs.Common.{Bool, true, false, arith}
-use Rattle.drain_grid.specs.declared.judged.Judged.{Judged}
-use Rattle.drain_grid.specs.declared.judged.Judged.TheVariants.{Con, ConDir, ConDirAcc, ConDirBas, All, AllWithRanks}
-use Rattle.drain_grid.specs.declared.patch.Patch.{Patch}
-use Rattle.drain_grid.specs.declared.rule.Rule.{Rule}
-use Rattle.drain_grid.specs.declared.rule.Rule.TheVariants.{VoidCell, Missing, BadCode, BelowGround, OpenRaised, NoSpill, SpillHeight, SpillRank, NotLeast, Slope, OutletCode, FlatStep, Accumulation, Label, SharedLabel}
-use Rattle.drain_grid.specs.Judged.{IfJudged, has_acc, has_bas, has_dir, has_rnk}
-use Rattle.drain_grid.specs.PatchRules.{AccumulationHolds, Profile}
-use Rattle.drain_grid.specs.Rule.{IsPatchRule}
-use Rattle.drain_grid.specs.RulesAbout.{part_rules, rules_about}
-use Rattle.drain_grid.specs.Unranked.{unranked}
-use Rattle.drain_grid.specs.Values.{NoDataNumbers}
-use Rattle.drain_kernel.specs.Rules.{rules_with, tested, without_sums}
+use Rattle.drain_kernel.proofs.Names.{Bool, true, false, arith, Judged, ConDir, ConDirAcc, ConDirBas, All, AllWithRanks, Patch, Rule, VoidCell, Missing, BadCode, BelowGround, OpenRaised, NoSpill, SpillHeight, SpillRank, NotLeast, Slope, OutletCode, FlatStep, Accumulation, Label, SharedLabel, IfJudged, has_acc, has_bas, has_dir, has_rnk, AccumulationHolds, Profile, IsPatchRule, part_rules, rules_about, unranked, NoDataNumbers, rules_with, tested, without_sums}
+use Rattle.drain_grid.specs.declared.judged.Judged.TheVariants.{Con}
 
 -- a fact holds whether it is about a judged raster or not
 if_judged : (b : Bool) (P : Type 0) → P → IfJudged b P

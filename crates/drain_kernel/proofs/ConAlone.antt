@@ -1,25 +1,7 @@
 -- Where con alone is judged, a cell that passes the tests of the surface is kept, and so is one that is not raised,
 -- whatever lies beside it.
-use Rattle.std.proofs.Common.{◌≡◌, ◌≢◌, ℕ, ℤ, pos, ◌≤ℤ◌, Bool, true, false, IsSome, is_some, unwrap_or, refl, sym, ◌∙◌, ap, subst, arith}
-use Rattle.std.specs.Int.{int_max}
-use Rattle.std.proofs.lemmas.Bool.{false≢true}
-use Rattle.std.proofs.lemmas.Int.{ints, clamps}
-use Rattle.drain_grid.specs.declared.judged.Judged.{Judged}
-use Rattle.drain_grid.specs.declared.judged.Judged.TheVariants.{Con, ConDir, ConDirAcc, ConDirBas, All, AllWithRanks}
-use Rattle.drain_grid.specs.declared.judged.Rules.{Rules}
-use Rattle.drain_grid.specs.declared.patch.Patch.{Patch}
-use Rattle.drain_grid.specs.declared.rule.Rule.{Rule}
-use Rattle.drain_grid.specs.declared.rule.Rule.TheVariants.{VoidCell, Missing, BadCode, BelowGround, OpenRaised, NoSpill, SpillHeight, SpillRank, NotLeast, Slope, OutletCode, FlatStep, Accumulation, Label, SharedLabel}
-use Rattle.drain_grid.specs.Judged.{IfJudged, has_dir, has_rnk}
-use Rattle.drain_grid.specs.Patch.{height}
-use Rattle.drain_grid.specs.PatchRules.{BelowGroundHolds, NotLeastHolds, OpenRaisedWithoutSpill}
-use Rattle.drain_grid.specs.RulesAbout.{part_rules, rules_about, tried}
-use Rattle.drain_grid.specs.Values.{NoDataNumbers}
-use Rattle.drain_kernel.specs.Columns.{HaveRanks, IsKept, IsShownIn, IsShownRoundIn}
-use Rattle.drain_kernel.specs.ConAlone.{FallsWith, IsClearedAlone, IsClearedAt, LiesAt, PassesWith, SurfacePassesAt}
-use Rattle.drain_kernel.specs.LaneNumbers.{HaveOneBias, ThreeLanes}
-use Rattle.drain_kernel.specs.Shown.{lowered}
-use Rattle.drain_kernel.specs.Slopes.{AreSound}
+use Rattle.drain_kernel.proofs.Names.{◌≡◌, ◌≢◌, ℕ, ℤ, pos, ◌≤ℤ◌, Bool, true, false, IsSome, is_some, unwrap_or, refl, sym, ◌∙◌, ap, subst, arith, int_max, false≢true, ints, clamps, Judged, ConDir, ConDirAcc, ConDirBas, All, AllWithRanks, Rules, Patch, Rule, VoidCell, Missing, BadCode, BelowGround, OpenRaised, NoSpill, SpillHeight, SpillRank, NotLeast, Slope, OutletCode, FlatStep, Accumulation, Label, SharedLabel, IfJudged, has_dir, has_rnk, height, BelowGroundHolds, NotLeastHolds, OpenRaisedWithoutSpill, part_rules, rules_about, tried, NoDataNumbers, HaveRanks, IsKept, IsShownIn, IsShownRoundIn, FallsWith, IsClearedAlone, IsClearedAt, LiesAt, PassesWith, SurfacePassesAt, HaveOneBias, ThreeLanes, lowered, AreSound}
+use Rattle.drain_grid.specs.declared.judged.Judged.TheVariants.{Con}
 use Rattle.drain_kernel.proofs.Fallen.{is_kept_there}
 use Rattle.drain_kernel.proofs.Inland.{bias_beside, inland_from, not_open, of_surface, some_height}
 use Rattle.drain_kernel.proofs.Meaning.{have_data_from, is_kept, not_zero}

@@ -1,22 +1,8 @@
 -- The count along one column more, and along columns where two tests agree.
-use Rattle.std.proofs.Common.{◌≡◌, ℕ, ◌+◌, ℤ, pos, ◌+ℤ◌, Bool, true, false, ◌&&◌, refl, arith, if◌then◌else◌, zero, suc, ◌-◌, ◌≤◌, ◌<◌, cond, map, List, [], ◌∷◌, sym, ◌∙◌, ap, subst, add-one, ◌≢◌, ◌<ℤ◌, ◌==◌, nat_lt, int_lt, Some, None, IsSome, is_some, unwrap_or, slice_index}
-use Rattle.std.proofs.lemmas.Bool.{false≢true}
-use Rattle.std.proofs.lemmas.Int.{ints}
+use Rattle.drain_kernel.proofs.Names.{◌≡◌, ℕ, ◌+◌, ℤ, pos, ◌+ℤ◌, Bool, true, false, ◌&&◌, refl, arith, if◌then◌else◌, zero, suc, ◌-◌, ◌≤◌, ◌<◌, cond, map, List, [], ◌∷◌, sym, ◌∙◌, ap, subst, add-one, ◌≢◌, ◌<ℤ◌, ◌==◌, nat_lt, int_lt, Some, None, IsSome, is_some, unwrap_or, slice_index, false≢true, ints, Patch, Rule, VoidCell, Missing, BadCode, BelowGround, OpenRaised, NoSpill, SpillHeight, SpillRank, NotLeast, Slope, OutletCode, FlatStep, Accumulation, Label, SharedLabel, Profile, IfJudged, tested, without_sums, Decides-ltb, Values, less_complete, less_sound, LaneNumbers, is_raised_at, is_above_ground, RaisedAreCounted, Shows, lowered}
 use Rattle.std.specs.List.{sum_by, count_by, range_with_len}
 use Rattle.std.proofs.lemmas.List.FromFn.{sum_by-map-range_with_len_more}
-use Rattle.drain_grid.specs.declared.patch.Patch.{Patch}
-use Rattle.drain_grid.specs.declared.rule.Rule.{Rule}
-use Rattle.drain_grid.specs.declared.rule.Rule.TheVariants.{VoidCell, Missing, BadCode, BelowGround, OpenRaised, NoSpill, SpillHeight, SpillRank, NotLeast, Slope, OutletCode, FlatStep, Accumulation, Label, SharedLabel}
-use Rattle.drain_grid.specs.PatchRules.{Profile}
-use Rattle.drain_grid.specs.Judged.{IfJudged}
-use Rattle.drain_kernel.specs.Rules.{tested, without_sums}
-use Rattle.std.proofs.lemmas.Bool.Decides.{Decides-ltb}
-use Rattle.drain_grid.specs.Values.{Values}
-use Rattle.drain_grid.proofs.Decisions.{less_complete, less_sound}
-use Rattle.drain_kernel.specs.LaneNumbers.{LaneNumbers}
-use Rattle.drain_kernel.specs.Columns.{is_raised_at}
-use Rattle.drain_kernel.specs.Laws.{is_above_ground, RaisedAreCounted}
-use Rattle.drain_kernel.specs.Shown.{Shows, lowered, height_of}
+use Rattle.drain_kernel.specs.Shown.{height_of}
 use Rattle.drain_kernel.proofs.Keys.{same_tests}
 
 -- What eight neighbours pass on.

@@ -1,20 +1,6 @@
 -- A cell that lies on its ground and falls is kept, whatever lies beside it.
-use Rattle.std.proofs.Common.{◌≡◌, ◌≢◌, ℕ, pos, true, map, List, Option, is_some, inr, sym, ◌∙◌, ap, subst}
-use Rattle.std.proofs.lemmas.Bool.{and_parts}
-use Rattle.std.proofs.lemmas.Bool.Decides.{Decides-eqb}
-use Rattle.drain_grid.specs.declared.direction.Direction.{Direction}
-use Rattle.drain_grid.specs.declared.patch.Patch.{Patch}
-use Rattle.drain_grid.specs.Direction.{directions, code_of, Names}
-use Rattle.drain_grid.specs.Values.{Values}
-use Rattle.drain_grid.specs.Patch.{HasLower}
-use Rattle.drain_grid.specs.PatchRules.{LabelHolds}
-use Rattle.drain_grid.specs.Slope.{IsSteepest}
-use Rattle.drain_kernel.specs.LaneNumbers.{HaveOneBias, ThreeLanes}
-use Rattle.drain_grid.specs.declared.judged.Rules.{Rules}
-use Rattle.drain_grid.specs.Judged.{IfJudged, has_acc, has_rnk}
-use Rattle.drain_kernel.specs.Falls.{FallsAt, highest, keeps_fall}
-use Rattle.drain_kernel.specs.Columns.{IsKept, HaveRanks, IsShownRoundIn}
-use Rattle.drain_grid.specs.RulesAbout.{tried}
+use Rattle.drain_kernel.proofs.Names.{◌≡◌, ◌≢◌, ℕ, pos, true, map, List, Option, is_some, inr, sym, ◌∙◌, ap, subst, and_parts, Decides-eqb, Direction, Patch, directions, code_of, Names, Values, HasLower, LabelHolds, IsSteepest, HaveOneBias, ThreeLanes, Rules, IfJudged, has_acc, has_rnk, FallsAt, highest, IsKept, HaveRanks, IsShownRoundIn, tried, Slopes, AreSound}
+use Rattle.drain_kernel.specs.Falls.{keeps_fall}
 use Rattle.drain_kernel.proofs.ClearedRules.{cleared}
 use Rattle.drain_kernel.proofs.Inland.{bias_beside, le_from, no_void, some_height}
 use Rattle.drain_kernel.proofs.Meaning.{are_complete, no_outlet, not_zero}
@@ -22,8 +8,6 @@ use Rattle.drain_kernel.proofs.NamedNumbers.{named_is, names_some}
 use Rattle.drain_kernel.proofs.Numbers.{Numbers, numbers_in, patch_of, values_are}
 use Rattle.drain_kernel.proofs.Counting.{if_tested}
 use Rattle.drain_kernel.proofs.Ways.{AreSeen, steepest_down}
-use Rattle.drain_kernel.specs.declared.slopes.Slopes.{Slopes}
-use Rattle.drain_kernel.specs.Slopes.{AreSound}
 use Rattle.drain_kernel.proofs.OnGround.{IsSound, keeps_rules, rank_from}
 use Rattle.drain_kernel.proofs.SeenNumbers.{are_seen, numbers_seen, sum_from}
 

@@ -1,24 +1,7 @@
 -- What the test of floats gives: no way of another class has a greater key, so no way has.
-use Rattle.std.proofs.Common.{◌≡◌, ℕ, ◌*◌, ◌≤◌, ◌<◌, ℤ, pos, negsuc, ◌-ℤ◌, ◌≤ℤ◌, ◌<ℤ◌, int_lt, Bool, true, false, not, ◌||◌, ◌&&◌, nat_le, nat_lt, map, FitsSigned, inl, inr, refl, sym, ap, subst, arith}
-use Rattle.std.proofs.Math.Nat.{mul-le-mul_left}
-use Rattle.std.specs.Int.{w64}
-use Rattle.std.proofs.lemmas.Bool.{false≢true, and_parts, or_cases}
-use Rattle.std.proofs.lemmas.Bool.Decides.{Decides-ltb}
-use Rattle.std.proofs.lemmas.Int.{ints}
-use Rattle.std.proofs.lemmas.Nat.{mul-le}
-use Rattle.drain_grid.specs.declared.direction.Direction.{Direction}
-use Rattle.drain_grid.specs.declared.direction.Direction.TheVariants.{East, South, SouthEast}
-use Rattle.drain_grid.specs.declared.height_kind.HeightKind.TheVariants.{Single}
-use Rattle.drain_grid.specs.Direction.{directions, Names}
-use Rattle.drain_grid.specs.HeightKinds.{single_height}
-use Rattle.drain_grid.specs.Slope.{slope_key}
-use Rattle.drain_grid.specs.Spacing.{Distances, IsSpacing, distance_square, weight_of}
-use Rattle.drain_grid.proofs.Decisions.{at_most_there, less_complete, less_sound}
+use Rattle.drain_kernel.proofs.Names.{◌≡◌, ℕ, ◌*◌, ◌≤◌, ◌<◌, ℤ, pos, negsuc, ◌-ℤ◌, ◌≤ℤ◌, ◌<ℤ◌, int_lt, Bool, true, false, not, ◌||◌, ◌&&◌, nat_le, nat_lt, map, FitsSigned, inl, inr, refl, sym, ap, subst, arith, mul-le-mul_left, w64, false≢true, and_parts, or_cases, Decides-ltb, ints, mul-le, Direction, East, South, SouthEast, Single, directions, Names, single_height, slope_key, Distances, IsSpacing, distance_square, weight_of, at_most_there, less_complete, less_sound, numbers_order, lowered, falls_by_heights, float_key, is_no_steeper_by_key}
 use Rattle.drain_grid.proofs.Distances.{steeper_across}
-use Rattle.drain_grid.proofs.SingleHeights.{numbers_order}
 use Rattle.drain_slope.specs.Singles.{ComparesSlopes, IsNumber}
-use Rattle.drain_kernel.specs.Shown.{lowered}
-use Rattle.drain_kernel.specs.Slopes.{falls_by_heights, float_key, is_no_steeper_by_key}
 use Rattle.drain_kernel.proofs.ClassWays.{ComparesWays, steepest_by}
 use Rattle.drain_kernel.proofs.Inland.{le_from}
 use Rattle.drain_kernel.proofs.Keys.{same_tests}

@@ -1,14 +1,5 @@
 -- What the test by fractions gives: no way of another class is steeper, so no way is.
-use Rattle.std.proofs.Common.{◌≡◌, ℕ, ◌-◌, ◌*◌, ◌≤◌, ◌<◌, pos, true, map, arith}
-use Rattle.std.proofs.Math.Nat.{mul-le-mul_left}
-use Rattle.std.proofs.lemmas.Nat.{mul-le}
-use Rattle.drain_grid.specs.declared.direction.Direction.{Direction}
-use Rattle.drain_grid.specs.declared.direction.Direction.TheVariants.{East, SouthEast, South}
-use Rattle.drain_grid.specs.Direction.{directions, Names}
-use Rattle.drain_grid.specs.Spacing.{Distances, weight_of}
-use Rattle.drain_slope.proofs.Fractions.{by_fraction_below}
-use Rattle.drain_kernel.specs.declared.slopes.Slopes.{Slopes}
-use Rattle.drain_kernel.specs.Slopes.{AreSound, falls_by_fractions, is_no_steeper_by_fraction}
+use Rattle.drain_kernel.proofs.Names.{◌≡◌, ℕ, ◌-◌, ◌*◌, ◌≤◌, ◌<◌, pos, true, map, arith, mul-le-mul_left, mul-le, Direction, East, SouthEast, South, directions, Names, Distances, weight_of, by_fraction_below, Slopes, AreSound, falls_by_fractions, is_no_steeper_by_fraction}
 use Rattle.drain_kernel.proofs.ClassWays.{ComparesWays, steepest_by}
 use Rattle.drain_kernel.proofs.Inland.{le_from}
 

@@ -1,19 +1,6 @@
 -- A cell and eight neighbours that all have data, the cell not listed as a sink: what its patch shows, and what the test of the surface gives.
-use Rattle.std.proofs.Common.{◌≡◌, ◌≢◌, ℕ, ◌≤◌, pos, ◌≤ℤ◌, Bool, true, false, not, ◌==◌, nat_le, max, map, List, Option, Some, None, is_some, option_map, unwrap_or, inl, inr, refl, sym, ◌∙◌, ap, subst, arith, if◌then◌else◌}
-use Rattle.std.specs.Int.{int_max}
-use Rattle.std.proofs.lemmas.Bool.{false≢true, and_parts}
-use Rattle.std.proofs.lemmas.Bool.Decides.{Decides-eqb, leb_tells}
-use Rattle.std.proofs.lemmas.Int.{ints, clamps}
-use Rattle.drain_grid.specs.declared.direction.Direction.{Direction}
-use Rattle.drain_grid.specs.declared.direction.Direction.TheVariants.{East, SouthEast, South, SouthWest, West, NorthWest, North, NorthEast}
-use Rattle.drain_grid.specs.Direction.{directions}
-use Rattle.drain_grid.specs.Values.{Values}
-use Rattle.drain_grid.specs.Open.{IsGap}
-use Rattle.drain_grid.specs.Patch.{neighbor, height, IsDataNeighbor, IsOpen}
-use Rattle.drain_grid.specs.PatchRules.{BelowGroundHolds, NotLeastHolds}
-use Rattle.drain_grid.proofs.Tallies.{same_some}
-use Rattle.drain_kernel.specs.LaneNumbers.{HaveOneBias, ThreeLanes}
-use Rattle.drain_kernel.specs.Shown.{lowered, height_of, row_beside}
+use Rattle.drain_kernel.proofs.Names.{◌≡◌, ◌≢◌, ℕ, ◌≤◌, pos, ◌≤ℤ◌, Bool, true, false, not, ◌==◌, nat_le, max, map, List, Option, Some, None, is_some, option_map, unwrap_or, inl, inr, refl, sym, ◌∙◌, ap, subst, arith, if◌then◌else◌, int_max, false≢true, and_parts, Decides-eqb, leb_tells, ints, clamps, Direction, East, SouthEast, South, SouthWest, West, NorthWest, North, NorthEast, directions, Values, IsGap, neighbor, height, IsDataNeighbor, IsOpen, BelowGroundHolds, NotLeastHolds, same_some, HaveOneBias, ThreeLanes, lowered, row_beside}
+use Rattle.drain_kernel.specs.Shown.{height_of}
 use Rattle.drain_kernel.specs.Tests.{keeps_surface}
 use Rattle.drain_kernel.proofs.Numbers.{Numbers, values_of, patch_of}
 use Rattle.drain_kernel.proofs.NamedNumbers.{least_bound}

@@ -1,3 +1,4 @@
+pub mod Names
 pub mod VouchedNumbers
 pub mod NamedNumbers
 pub mod Keys

@@ -1,9 +1,5 @@
 -- The lanes that are made of floats: as many units as the height, and 2^31.
-use Rattle.std.proofs.Common.{◌≡◌, ℕ, suc, ◌+◌, ◌-◌, ◌*◌, ◌^◌, ◌<◌, ℤ, pos, negsuc, neg_ℤ, ◌+ℤ◌, ◌≤ℤ◌, ◌<ℤ◌, unsigned_abs, refl, ◌∙◌, ap, arith}
-use Rattle.std.proofs.lemmas.Int.{ints}
-use Rattle.std.proofs.lemmas.Nat.{pow-add}
-use Rattle.drain_grid.specs.HeightKinds.{digits_of, shift_of, magnitude_of}
-use Rattle.drain_kernel.specs.Units.{IsInUnit, made_offset}
+use Rattle.drain_kernel.proofs.Names.{◌≡◌, ℕ, suc, ◌+◌, ◌-◌, ◌*◌, ◌^◌, ◌<◌, ℤ, pos, negsuc, neg_ℤ, ◌+ℤ◌, ◌≤ℤ◌, ◌<ℤ◌, unsigned_abs, refl, ◌∙◌, ap, arith, ints, pow-add, digits_of, shift_of, magnitude_of, IsInUnit, made_offset}
 
 -- digits that are shifted from a unit on
 pub units_are : (place unit up : ℕ) → shift_of place ≡ unit + up → magnitude_of place ≡ (digits_of place * 2 ^ up) * 2 ^ unit

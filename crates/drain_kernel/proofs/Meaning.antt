@@ -1,32 +1,14 @@
 -- A cell whose numbers pass every test is kept.
-use Rattle.std.proofs.Common.{◌≡◌, ◌≢◌, ℕ, pos, true, ◌==◌, map, List, Option, slice_index, IsNone, is_some, inr, sym, ◌∙◌, ap, subst, Bool, false}
-use Rattle.std.proofs.lemmas.Bool.{false≢true}
-use Rattle.std.proofs.lemmas.Bool.Decides.{Decides-eqb}
-use Rattle.drain_grid.specs.declared.direction.Direction.{Direction}
-use Rattle.drain_grid.specs.declared.direction.Direction.TheVariants.{East, SouthEast, South, SouthWest, West, NorthWest, North, NorthEast}
+use Rattle.drain_kernel.proofs.Names.{◌≡◌, ◌≢◌, ℕ, pos, true, ◌==◌, map, List, Option, slice_index, IsNone, is_some, inr, sym, ◌∙◌, ap, subst, Bool, false, false≢true, Decides-eqb, Direction, East, SouthEast, South, SouthWest, West, NorthWest, North, NorthEast, Dir, Acc, Bas, Rnk, Patch, Rule, VoidCell, Missing, BadCode, BelowGround, OpenRaised, NoSpill, SpillHeight, SpillRank, NotLeast, Slope, OutletCode, FlatStep, Accumulation, Label, SharedLabel, directions, code_of, opposite, Values, NoDataNumbers, value_of, number_for, AccumulationHolds, LabelHolds, inflow, check_rules, unranked, HaveOneBias, LaneNumbers, ThreeLanes, Rules, IfJudged, has_acc, has_rnk, HasCountsAt, HasWayAt, IsInlandAt, PassesAt, RanksPassAt, IsKept, HaveRanks, IsShownIn, tried, rules_with, tested, without_sums, lowered, HasDataAt, HasRanks, row_beside, col_beside, AreSound}
 use Rattle.drain_grid.specs.declared.set_product.SetProduct.{SetProduct}
-use Rattle.drain_grid.specs.declared.set_product.SetProduct.TheVariants.{Con, Dir, Acc, Bas, Rnk}
-use Rattle.drain_grid.specs.declared.patch.Patch.{Patch}
-use Rattle.drain_grid.specs.declared.rule.Rule.{Rule}
-use Rattle.drain_grid.specs.declared.rule.Rule.TheVariants.{VoidCell, Missing, BadCode, BelowGround, OpenRaised, NoSpill, SpillHeight, SpillRank, NotLeast, Slope, OutletCode, FlatStep, Accumulation, Label, SharedLabel}
-use Rattle.drain_grid.specs.Direction.{directions, code_of, opposite}
+use Rattle.drain_grid.specs.declared.set_product.SetProduct.TheVariants.{Con}
 use Rattle.drain_grid.specs.SetProduct.{product_of}
-use Rattle.drain_grid.specs.Values.{Values, NoDataNumbers, value_of, number_for}
-use Rattle.drain_grid.specs.PatchRules.{AccumulationHolds, LabelHolds, inflow, check_rules}
-use Rattle.drain_grid.specs.Unranked.{unranked}
-use Rattle.drain_kernel.specs.LaneNumbers.{HaveOneBias, LaneNumbers, ThreeLanes}
-use Rattle.drain_grid.specs.declared.judged.Rules.{Rules}
-use Rattle.drain_grid.specs.Judged.{IfJudged, has_acc, has_rnk}
-use Rattle.drain_kernel.specs.Columns.{HasCountsAt, HasWayAt, IsInlandAt, PassesAt, RanksPassAt, IsKept, HaveRanks, IsShownIn}
-use Rattle.drain_grid.specs.RulesAbout.{tried}
 use Rattle.drain_kernel.proofs.ClearedRules.{cleared}
-use Rattle.drain_kernel.specs.Rules.{rules_with, tested, without_sums}
-use Rattle.drain_kernel.specs.Shown.{lowered, height_of, HasDataAt, HasRanks, row_beside, col_beside}
+use Rattle.drain_kernel.specs.Shown.{height_of}
 use Rattle.drain_kernel.specs.Tests.{adds_up}
 use Rattle.drain_kernel.proofs.Inland.{bias_beside, IsInland, inland_from, of_each, not_open, OfSurface, of_surface}
 use Rattle.drain_kernel.proofs.Numbers.{Numbers, HaveDataAt, values_of, patch_of, numbers_in, numbers_beside, patch_is, neighbor_is}
 use Rattle.drain_kernel.proofs.Counting.{inflow_passed, total_is, if_tested, summed}
-use Rattle.drain_kernel.specs.Slopes.{AreSound}
 use Rattle.drain_kernel.proofs.Ways.{OfDirection, of_direction, of_label, IsRanked, ranked_from, flat_step_from}
 
 -- the four numbers aren't their products' no-data numbers

@@ -1,10 +1,5 @@
 -- What the test of surface and direction in 16 bits gives: of minima that are at most con, and squares of near drops.
-use Rattle.std.proofs.Common.{◌≡◌, ℕ, ◌+◌, ◌-◌, ◌*◌, ◌%◌, ◌^◌, ◌≤◌, ◌<◌, Bool, true, not, ◌&&◌, ◌||◌, ◌==◌, nat_le, min, max, List, slice_index, inl, inr, refl, sym, ◌∙◌, ap, subst, arith}
-use Rattle.std.specs.Cmp.Derive.{both_true}
-use Rattle.std.proofs.lemmas.Bool.{and_parts, cases_lt, le-leb, leb-true, or_cases, or_left, or_right}
-use Rattle.std.proofs.lemmas.Bool.Decides.{Decides-eqb, Decides-ltb}
-use Rattle.std.proofs.lemmas.Nat.{mul-le}
-use Rattle.drain_kernel.specs.Around.{LeadsAcross, LeadsStraight, least_across_in, least_straight_in, named_in}
+use Rattle.drain_kernel.proofs.Names.{◌≡◌, ℕ, ◌+◌, ◌-◌, ◌*◌, ◌%◌, ◌^◌, ◌≤◌, ◌<◌, Bool, true, not, ◌&&◌, ◌||◌, ◌==◌, nat_le, min, max, List, slice_index, inl, inr, refl, sym, ◌∙◌, ap, subst, arith, both_true, and_parts, cases_lt, le-leb, leb-true, or_cases, or_left, or_right, Decides-eqb, Decides-ltb, mul-le, LeadsAcross, LeadsStraight, least_across_in, least_straight_in, named_in}
 use Rattle.drain_kernel.specs.Tests.{falls_steepest, keeps_direction, keeps_surface, steps_along}
 
 -- the square of a near drop fits 16 bits

@@ -1,12 +1,6 @@
 -- The numbers of a cell as lanes hold them, and what three rows of lanes show, made of such cells.
-use Rattle.std.proofs.Common.{◌≡◌, ℕ, ℤ, pos, Bool, List, Option, Some, slice_index, ◌∙◌, ap}
-use Rattle.drain_grid.specs.declared.direction.Direction.{Direction}
-use Rattle.drain_grid.specs.declared.patch.Patch.{Patch}
-use Rattle.drain_grid.specs.Patch.{neighbor}
-use Rattle.drain_grid.specs.Spacing.{Distances}
-use Rattle.drain_grid.specs.Values.{Values}
-use Rattle.drain_kernel.specs.LaneNumbers.{LaneNumbers}
-use Rattle.drain_kernel.specs.Shown.{lowered, height_of, HasDataAt, Shows, IsShown, row_beside, col_beside}
+use Rattle.drain_kernel.proofs.Names.{◌≡◌, ℕ, ℤ, pos, Bool, List, Option, Some, slice_index, ◌∙◌, ap, Direction, Patch, neighbor, Distances, Values, LaneNumbers, lowered, HasDataAt, Shows, IsShown, row_beside, col_beside}
+use Rattle.drain_kernel.specs.Shown.{height_of}
 
 -- what lanes say of a cell, and what they needn't say; and how far apart the cells of its row are
 pub record Numbers : Type 0 where

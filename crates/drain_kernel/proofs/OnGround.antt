@@ -1,21 +1,6 @@
 -- A cell that lies on its ground keeps every rule, by these facts of its code and its label, whatever lies beside it.
-use Rattle.std.proofs.Common.{◌≡◌, ◌≢◌, ℕ, ℤ, pos, ◌≤ℤ◌, List, Option, Some, IsNone, unwrap_or, sym, ◌∙◌, ap, subst, arith, Bool, true, false}
-use Rattle.std.specs.Int.{int_max}
-use Rattle.std.proofs.lemmas.Bool.{false≢true}
-use Rattle.std.proofs.lemmas.Int.{ints, clamps}
-use Rattle.drain_grid.specs.declared.patch.Patch.{Patch}
-use Rattle.drain_grid.specs.declared.rule.Rule.{Rule}
-use Rattle.drain_grid.specs.declared.rule.Rule.TheVariants.{VoidCell, Missing, BadCode, BelowGround, OpenRaised, NoSpill, SpillHeight, SpillRank, NotLeast, Slope, OutletCode, FlatStep, Accumulation, Label, SharedLabel}
-use Rattle.drain_grid.specs.Direction.{IsCode}
-use Rattle.drain_grid.specs.Values.{Values, NoDataNumbers}
-use Rattle.drain_grid.specs.Patch.{height, HasLower, IsClosed}
-use Rattle.drain_grid.specs.PatchRules.{AccumulationHolds, LabelHolds, OutletCodeHolds, SlopeHolds, check_rules}
-use Rattle.drain_grid.specs.Unranked.{unranked}
-use Rattle.drain_kernel.specs.LaneNumbers.{ThreeLanes}
-use Rattle.drain_grid.specs.Judged.{IfJudged}
-use Rattle.drain_kernel.specs.Columns.{HasRankAt, HaveRanks}
-use Rattle.drain_kernel.specs.Rules.{rules_with, tested, without_sums}
-use Rattle.drain_kernel.specs.Shown.{lowered, height_of, HasDataAt, Shows}
+use Rattle.drain_kernel.proofs.Names.{◌≡◌, ◌≢◌, ℕ, ℤ, pos, ◌≤ℤ◌, List, Option, Some, IsNone, unwrap_or, sym, ◌∙◌, ap, subst, arith, Bool, true, false, int_max, false≢true, ints, clamps, Patch, Rule, VoidCell, Missing, BadCode, BelowGround, OpenRaised, NoSpill, SpillHeight, SpillRank, NotLeast, Slope, OutletCode, FlatStep, Accumulation, Label, SharedLabel, IsCode, Values, NoDataNumbers, height, HasLower, IsClosed, AccumulationHolds, LabelHolds, OutletCodeHolds, SlopeHolds, check_rules, unranked, ThreeLanes, IfJudged, HasRankAt, HaveRanks, rules_with, tested, without_sums, lowered, HasDataAt, Shows}
+use Rattle.drain_kernel.specs.Shown.{height_of}
 use Rattle.drain_kernel.proofs.Meaning.{AreComplete, is_complete}
 use Rattle.drain_kernel.proofs.Numbers.{Numbers, patch_of}
 use Rattle.drain_kernel.proofs.Counting.{summed}

@@ -1,29 +1,11 @@
 -- An outlet beside a void keeps every rule of its patch.
-use Rattle.std.proofs.Common.{◌≡◌, ℕ, ◌+◌, ◌-◌, ◌≤◌, ◌<◌, Bool, true, false, ◌==◌, IsTrue, slice_index, sym, ◌∙◌, arith, if◌then◌else◌, ◌≢◌, ◌⊎◌, min, Option, option_map, pos, map, List, Some, None, IsSome, inl, inr, refl, ap, subst}
-use Rattle.std.proofs.lemmas.Bool.Decides.{Decides-eqb, leb_tells}
-use Rattle.drain_kernel.specs.Columns.{Along, HaveLabelAt, keeps_label_at, HaveRanks, IsShownRoundIn}
-use Rattle.std.proofs.lemmas.Bool.{and_parts}
-use Rattle.drain_grid.specs.declared.direction.Direction.{Direction}
-use Rattle.drain_grid.specs.declared.direction.Direction.TheVariants.{East, SouthEast, South, SouthWest, West, NorthWest, North, NorthEast}
-use Rattle.drain_grid.specs.declared.patch.Patch.{Patch}
-use Rattle.drain_grid.specs.Direction.{directions, code_of}
-use Rattle.drain_grid.specs.Values.{Values}
-use Rattle.drain_grid.specs.Patch.{HasLower, IsOpen}
-use Rattle.drain_kernel.specs.LaneNumbers.{HaveOneBias, LaneNumbers, ThreeLanes}
-use Rattle.drain_grid.specs.declared.judged.Rules.{Rules}
-use Rattle.drain_grid.specs.Judged.{IfJudged, has_acc, has_rnk}
-use Rattle.drain_grid.specs.RulesAbout.{tried}
-use Rattle.drain_kernel.specs.Rules.{rules_with}
+use Rattle.drain_kernel.proofs.Names.{◌≡◌, ℕ, ◌+◌, ◌-◌, ◌≤◌, ◌<◌, Bool, true, false, ◌==◌, IsTrue, slice_index, sym, ◌∙◌, arith, if◌then◌else◌, ◌≢◌, ◌⊎◌, min, Option, option_map, pos, map, List, Some, None, IsSome, inl, inr, refl, ap, subst, Decides-eqb, leb_tells, Along, HaveLabelAt, keeps_label_at, HaveRanks, IsShownRoundIn, and_parts, Direction, East, SouthEast, South, SouthWest, West, NorthWest, North, NorthEast, Patch, directions, code_of, Values, HasLower, IsOpen, HaveOneBias, LaneNumbers, ThreeLanes, Rules, IfJudged, has_acc, has_rnk, tried, rules_with, IsShownRound, row_beside, col_beside, IsLeastFault, IsPatchRule, IsGap, least_straight_in, least_across_in, highest}
 use Rattle.drain_kernel.proofs.ClearedRules.{cleared, tested_too}
-use Rattle.drain_kernel.specs.Shown.{height_of, IsShownRound, row_beside, col_beside}
+use Rattle.drain_kernel.specs.Shown.{height_of}
 use Rattle.drain_kernel.proofs.Inland.{bias_beside, le_from, no_void, some_height}
 use Rattle.drain_kernel.proofs.Meaning.{are_complete, no_outlet, not_zero}
 use Rattle.drain_kernel.proofs.Numbers.{Numbers, numbers_in, patch_of, values_are}
 use Rattle.drain_kernel.proofs.Ways.{AreSeen, number_of_lower}
-use Rattle.drain_grid.specs.Rule.{IsLeastFault, IsPatchRule}
-use Rattle.drain_grid.specs.Open.{IsGap}
-use Rattle.drain_kernel.specs.Around.{least_straight_in, least_across_in}
-use Rattle.drain_kernel.specs.Falls.{highest}
 use Rattle.drain_kernel.specs.Outlets.{OutletAt, keeps_outlet}
 use Rattle.drain_kernel.proofs.NamedNumbers.{least_bound}
 use Rattle.drain_kernel.proofs.OnGround.{IsSound, keeps_rules, rank_from}

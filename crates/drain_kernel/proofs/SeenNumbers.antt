@@ -1,19 +1,7 @@
 -- What is seen of the neighbours of a cell in three rows of lanes: the numbers of those with data.
-use Rattle.std.proofs.Common.{◌≡◌, ◌≢◌, ℕ, ◌<◌, ℤ, pos, Bool, true, false, ◌==◌, ◌&&◌, map, Option, Some, None, IsSome, is_some, slice_index, refl, sym, ◌∙◌, ap, subst, arith, if◌then◌else◌}
-use Rattle.std.proofs.lemmas.Bool.{false≢true}
-use Rattle.std.proofs.lemmas.Bool.Decides.{Decides-eqb}
-use Rattle.drain_grid.specs.declared.direction.Direction.{Direction}
-use Rattle.drain_grid.specs.declared.direction.Direction.TheVariants.{East, SouthEast, South, SouthWest, West, NorthWest, North, NorthEast}
-use Rattle.drain_grid.specs.declared.patch.Patch.{Patch}
-use Rattle.drain_grid.specs.Direction.{directions, code_of, names, opposite}
-use Rattle.drain_grid.specs.Spacing.{Distances}
-use Rattle.drain_grid.specs.Values.{Values}
-use Rattle.drain_grid.specs.PatchRules.{AccumulationHolds, inflow}
-use Rattle.drain_grid.proofs.Tallies.{same_some}
-use Rattle.drain_kernel.specs.LaneNumbers.{LaneNumbers}
-use Rattle.drain_kernel.specs.Falls.{highest, seen_code, seen_con}
-use Rattle.drain_kernel.specs.Shown.{lowered, height_of, HasDataAt, IsShownRound, Shows, row_beside, col_beside}
-use Rattle.drain_kernel.specs.Tests.{adds_up, passed_on}
+use Rattle.drain_kernel.proofs.Names.{◌≡◌, ◌≢◌, ℕ, ◌<◌, ℤ, pos, Bool, true, false, ◌==◌, ◌&&◌, map, Option, Some, None, IsSome, is_some, slice_index, refl, sym, ◌∙◌, ap, subst, arith, if◌then◌else◌, false≢true, Decides-eqb, Direction, East, SouthEast, South, SouthWest, West, NorthWest, North, NorthEast, Patch, directions, code_of, names, opposite, Distances, Values, AccumulationHolds, inflow, same_some, LaneNumbers, highest, seen_code, seen_con, lowered, HasDataAt, IsShownRound, Shows, row_beside, col_beside, passed_on}
+use Rattle.drain_kernel.specs.Shown.{height_of}
+use Rattle.drain_kernel.specs.Tests.{adds_up}
 use Rattle.drain_kernel.proofs.Inland.{of_each, some_height}
 use Rattle.drain_kernel.proofs.Numbers.{Numbers, numbers_in, patch_of, values_of}
 use Rattle.drain_kernel.proofs.Counting.{inflow_passed, total_is}

@@ -1,32 +1,11 @@
 -- What the test by fractions gives of heights in one unit: of the floats that they stand for, no way of another class is steeper.
-use Rattle.std.proofs.Common.{◌≡◌, ℕ, ◌+◌, ◌-◌, ◌*◌, ◌^◌, ◌≤◌, ◌<◌, ℤ, pos, ◌-ℤ◌, ◌+ℤ◌, ◌*ℤ◌, ◌≤ℤ◌, ◌<ℤ◌, int_lt, Bool, true, false, not, ◌||◌, ◌&&◌, ◌==◌, nat_le, nat_lt, min, List, length, slice_index, slice_set, ◌≢◌, inl, inr, sym, ◌∙◌, ap, subst, arith, if◌then◌else◌}
-use Rattle.std.proofs.Math.Nat.{mul-le-mul_right, mul-lt-mul_of_pos_right}
-use Rattle.std.proofs.lemmas.Bool.{false≢true, false_from_ne_true, and_from, and_parts, cases_lt, le-leb, not_from_false, or_cases, or_left, or_right}
-use Rattle.std.proofs.lemmas.Bool.Decides.{Decides-eqb, Decides-ltb}
-use Rattle.std.proofs.lemmas.Int.{ints}
+use Rattle.drain_kernel.proofs.Names.{◌≡◌, ℕ, ◌+◌, ◌-◌, ◌*◌, ◌^◌, ◌≤◌, ◌<◌, ℤ, pos, ◌-ℤ◌, ◌+ℤ◌, ◌*ℤ◌, ◌≤ℤ◌, ◌<ℤ◌, int_lt, Bool, true, false, not, ◌||◌, ◌&&◌, ◌==◌, nat_le, nat_lt, min, List, length, slice_index, slice_set, ◌≢◌, inl, inr, sym, ◌∙◌, ap, subst, arith, if◌then◌else◌, mul-le-mul_right, mul-lt-mul_of_pos_right, false≢true, false_from_ne_true, and_from, and_parts, cases_lt, le-leb, not_from_false, or_cases, or_left, or_right, Decides-eqb, Decides-ltb, ints, get_or-set_other, pow_pos, Direction, East, SouthEast, South, Single, single_height, slope_key, distance_square, weight_of, less_sound, numbers_order, by_fraction_below, Slopes, around_in, is_straight_code, least_across_in, least_straight_in, named_in, lowered, AreSound, falls_by_fractions, falls_by_heights, float_key, fraction_of, goes_by_fractions, is_col_code, is_no_steeper_by_fraction, is_no_steeper_by_key, is_row_code, is_whole, keeps_way_down, least_col_in, least_row_in, AreInOneUnit, AreInUnit, IsInUnit, made_offset, ThreeLanes, keeps_direction_at, cons_round}
 use Rattle.std.proofs.lemmas.Grind.{get_or-set_at}
-use Rattle.std.proofs.lemmas.List.{get_or-set_other}
-use Rattle.std.proofs.lemmas.Nat.{pow_pos}
-use Rattle.drain_grid.specs.declared.direction.Direction.{Direction}
-use Rattle.drain_grid.specs.declared.direction.Direction.TheVariants.{East, SouthEast, South}
-use Rattle.drain_grid.specs.declared.height_kind.HeightKind.TheVariants.{Single}
-use Rattle.drain_grid.specs.HeightKinds.{single_height}
-use Rattle.drain_grid.specs.Slope.{slope_key}
-use Rattle.drain_grid.specs.Spacing.{distance_square, weight_of}
-use Rattle.drain_grid.proofs.Decisions.{less_sound}
-use Rattle.drain_grid.proofs.SingleHeights.{numbers_order}
 use Rattle.drain_slope.specs.Fractions.{IsBelow}
-use Rattle.drain_slope.proofs.Fractions.{by_fraction_below}
 use Rattle.drain_slope.proofs.Products.{distributes}
-use Rattle.drain_kernel.specs.declared.slopes.Slopes.{Slopes}
-use Rattle.drain_kernel.specs.Around.{around_in, is_straight_code, least_across_in, least_straight_in, named_in}
-use Rattle.drain_kernel.specs.Shown.{lowered}
-use Rattle.drain_kernel.specs.Slopes.{AreSound, falls_by, falls_by_fractions, falls_by_heights, float_key, fraction_of, goes_by_fractions, is_col_code, is_no_steeper_by_fraction, is_no_steeper_by_key, is_row_code, is_whole, keeps_way_down, least_col_in, least_row_in}
+use Rattle.drain_kernel.specs.Slopes.{falls_by}
 use Rattle.drain_kernel.specs.Tests.{falls_steepest, steps_along}
 use Rattle.drain_kernel.proofs.Inland.{le_from}
-use Rattle.drain_kernel.specs.Units.{AreInOneUnit, AreInUnit, IsInUnit, made_offset}
-use Rattle.drain_kernel.specs.LaneNumbers.{ThreeLanes}
-use Rattle.drain_kernel.specs.Columns.{keeps_direction_at, cons_round}
 
 -- a lane that is 2^31 more than so many units
 pub lane_is : (number units : ℤ) (unit lane : ℕ) → single_height number ≡ units *ℤ pos (2 ^ unit) → pos lane ≡ units +ℤ pos 2147483648 → IsInUnit unit (made_offset unit) number lane

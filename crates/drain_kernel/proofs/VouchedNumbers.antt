@@ -1,15 +1,7 @@
 -- Numbers of a cell that keeps the rules, and no-data numbers that they can't be.
-use Rattle.std.proofs.Common.{ℕ, ◌+◌, ◌-◌, ◌≤◌, Bool, ◌&&◌, IsTrue, below_more, inl, inr, arith, ◌≢◌, pos, List, ◌≡◌, ◌<◌, true, false, ◌==◌, slice_index, if◌then◌else◌}
-use Rattle.std.proofs.lemmas.Bool.{and_parts, cases_lt}
-use Rattle.drain_kernel.specs.LaneNumbers.{ThreeLanes}
-use Rattle.drain_kernel.specs.Columns.{Along, AreDataAt, IsInlandAt, HasWayAt, KeepsWayAt}
-use Rattle.std.proofs.lemmas.Bool.Decides.{Decides-eqb}
-use Rattle.drain_grid.specs.Values.{NoDataNumbers}
-use Rattle.drain_kernel.specs.Around.{is_direction_code, around_in, named_in}
-use Rattle.drain_kernel.specs.Shown.{lowered}
+use Rattle.drain_kernel.proofs.Names.{ℕ, ◌+◌, ◌-◌, ◌≤◌, Bool, ◌&&◌, IsTrue, below_more, inl, inr, arith, ◌≢◌, pos, List, ◌≡◌, ◌<◌, true, false, ◌==◌, slice_index, if◌then◌else◌, and_parts, cases_lt, ThreeLanes, Along, AreDataAt, IsInlandAt, HasWayAt, KeepsWayAt, Decides-eqb, NoDataNumbers, is_direction_code, around_in, named_in, lowered, EachHasImage}
 use Rattle.drain_kernel.specs.Tests.{adds_up, keeps_surface}
 use Rattle.drain_kernel.proofs.Inland.{le_from}
-use Rattle.drain_kernel.specs.Images.{EachHasImage}
 
 -- What holds along some columns and at the next holds along one more; what holds with the columns beside them.
 

@@ -1,25 +1,8 @@
 -- What the tests of the direction and of ranks give at an inland cell.
-use Rattle.std.proofs.Common.{◌≡◌, ◌⊎◌, ℕ, ◌-◌, ◌*◌, ◌≤◌, ◌<◌, ℤ, pos, ◌-ℤ◌, ◌≤ℤ◌, ◌<ℤ◌, Bool, true, false, not, ◌&&◌, ◌==◌, map, List, Option, inl, inr, refl, sym, ◌∙◌, ap, subst, arith, if◌then◌else◌}
-use Rattle.std.proofs.lemmas.Bool.{false≢true, and_parts, or_cases}
-use Rattle.std.proofs.lemmas.Bool.Decides.{Decides-eqb, Decides-ltb}
-use Rattle.std.proofs.lemmas.Int.{ints}
-use Rattle.drain_grid.specs.declared.direction.Direction.{Direction}
-use Rattle.drain_grid.specs.Direction.{directions, Names, NamesSome, is_straight}
-use Rattle.drain_grid.specs.Values.{Values}
-use Rattle.drain_grid.specs.Patch.{IsDataNeighbor, IsLower, HasLower}
+use Rattle.drain_kernel.proofs.Names.{◌≡◌, ◌⊎◌, ℕ, ◌-◌, ◌*◌, ◌≤◌, ◌<◌, ℤ, pos, ◌-ℤ◌, ◌≤ℤ◌, ◌<ℤ◌, Bool, true, false, not, ◌&&◌, ◌==◌, map, List, Option, inl, inr, refl, sym, ◌∙◌, ap, subst, arith, if◌then◌else◌, false≢true, and_parts, or_cases, Decides-eqb, Decides-ltb, ints, Direction, directions, Names, NamesSome, is_straight, Values, IsDataNeighbor, IsLower, HasLower, Whole, Single, slope_key, key_to, IsSteepest, Distances, unit_spacing, weight_of, SlopeHolds, FlatStepHolds, LabelHolds, IsLevelStep, LevelStepHolds, same_some, least_straight_in, least_across_in, lowered, Slopes, AreSound, falls_by_fractions, falls_by_heights, falls_down, is_unit, keeps_way_down, is_whole, keeps_label}
 use Rattle.drain_grid.specs.declared.height_kind.HeightKind.{HeightKind}
-use Rattle.drain_grid.specs.declared.height_kind.HeightKind.TheVariants.{Whole, Single}
 use Rattle.drain_grid.specs.HeightKinds.{height_of}
-use Rattle.drain_grid.specs.Slope.{slope_key, key_to, IsSteepest}
-use Rattle.drain_grid.specs.Spacing.{Distances, unit_spacing, weight_of}
-use Rattle.drain_grid.specs.PatchRules.{SlopeHolds, FlatStepHolds, LabelHolds}
-use Rattle.drain_grid.specs.Unranked.{IsLevelStep, LevelStepHolds}
-use Rattle.drain_grid.proofs.Tallies.{same_some}
-use Rattle.drain_kernel.specs.Around.{least_straight_in, least_across_in}
-use Rattle.drain_kernel.specs.Shown.{lowered}
-use Rattle.drain_kernel.specs.declared.slopes.Slopes.{Slopes}
-use Rattle.drain_kernel.specs.Slopes.{AreSound, falls_by_fractions, falls_by_heights, falls_down, is_unit, keeps_way_down, is_whole}
-use Rattle.drain_kernel.specs.Tests.{keeps_label, falls_steepest, steps_along, is_ranked}
+use Rattle.drain_kernel.specs.Tests.{falls_steepest, steps_along, is_ranked}
 use Rattle.drain_kernel.proofs.Inland.{IsInland, is_beside, of_beside, le_from}
 use Rattle.drain_kernel.proofs.FloatWays.{HasNoGreaterKey, float_at, steepest_by_keys}
 use Rattle.drain_kernel.proofs.FractionWays.{counted, steepest_by_fractions}

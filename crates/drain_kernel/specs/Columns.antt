@@ -1,17 +1,9 @@
 -- The tests at a column of three rows of lanes.
-use Rattle.std.specs.Prelude.{◌≢◌, pos, IsSome, None, Option, ℕ, ◌-◌, Bool, nat_lt, slice_index, ◌≡◌, ℤ, List, length, ◌≤◌, ◌<◌, ◌+◌, IsTrue}
-use Rattle.drain_grid.specs.declared.patch.Patch.{Patch}
-use Rattle.drain_grid.specs.PatchRules.{Profile}
-use Rattle.drain_grid.specs.Rule.{IsPatchRule, IsLeastFault}
-use Rattle.std.specs.List.{count_by, range_with_len}
+use Rattle.std.specs.Prelude.{◌≢◌, ◌-◌, ◌≡◌, ◌≤◌, ◌<◌, ◌+◌}
+use Rattle.drain_kernel.specs.Names.{pos, IsSome, None, Option, ℕ, Bool, nat_lt, slice_index, ℤ, List, length, IsTrue, Patch, Profile, IsPatchRule, IsLeastFault, count_by, range_with_len, PerProduct, AreLanes, AreElevationLanes, AreHeightLanes, NoDataNumbers, Rules, IfJudged, has_acc, has_rnk}
 use Rattle.drain_kernel.specs.LaneNumbers.{LaneNumbers, ThreeLanes}
-use Rattle.drain_grid.specs.declared.per_product.PerProduct.{PerProduct}
-use Rattle.drain_pixels.specs.Lanes.{AreLanes, AreElevationLanes, AreHeightLanes}
 use Rattle.drain_kernel.specs.Shown.{cols, HasRanks, IsInner, IsShown, IsShownRound, HasDataAt, lowered}
-use Rattle.drain_grid.specs.Values.{NoDataNumbers}
-use Rattle.drain_grid.specs.declared.judged.Rules.{Rules}
 use Rattle.drain_kernel.specs.Around.{around_in}
-use Rattle.drain_grid.specs.Judged.{IfJudged, has_acc, has_rnk}
 use Rattle.drain_kernel.specs.Slopes.{keeps_way_down}
 use Rattle.drain_kernel.specs.Tests.{keeps_surface, keeps_label, adds_up, is_ranked}
 

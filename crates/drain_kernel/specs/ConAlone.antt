@@ -1,8 +1,6 @@
 -- The tests of a column where con alone is judged.
-use Rattle.std.specs.Prelude.{◌≡◌, ◌≢◌, ℕ, Bool, true, false, IsTrue, slice_index}
-use Rattle.drain_grid.specs.declared.judged.Rules.{Rules}
-use Rattle.drain_grid.specs.Judged.{has_dir}
-use Rattle.drain_grid.specs.Values.{NoDataNumbers}
+use Rattle.std.specs.Prelude.{◌≡◌, ◌≢◌}
+use Rattle.drain_kernel.specs.Names.{ℕ, Bool, true, false, IsTrue, slice_index, Rules, has_dir, NoDataNumbers}
 use Rattle.drain_kernel.specs.Columns.{IsInlandAt, PassesAt, keeps_surface_at}
 use Rattle.drain_kernel.specs.Falls.{FallsAt}
 use Rattle.drain_kernel.specs.LaneNumbers.{LaneNumbers, ThreeLanes}

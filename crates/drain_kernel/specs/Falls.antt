@@ -1,9 +1,8 @@
 -- The tests of a cell that lies on its ground and falls, whatever lies beside it: voids are passed over.
-use Rattle.std.specs.Prelude.{ℕ, ◌+◌, ◌-◌, Bool, not, ◌&&◌, ◌==◌, nat_le, IsTrue, List, [], ◌∷◌, slice_index, if◌then◌else◌}
+use Rattle.std.specs.Prelude.{◌+◌, ◌-◌, ◌&&◌, ◌==◌, ◌∷◌, if◌then◌else◌}
+use Rattle.drain_kernel.specs.Names.{ℕ, Bool, not, nat_le, IsTrue, List, [], slice_index, Rules, IfJudged, has_acc, has_rnk}
 use Rattle.drain_kernel.specs.LaneNumbers.{ThreeLanes}
-use Rattle.drain_grid.specs.declared.judged.Rules.{Rules}
 use Rattle.drain_kernel.specs.Around.{is_direction_code, named_in}
-use Rattle.drain_grid.specs.Judged.{IfJudged, has_acc, has_rnk}
 use Rattle.drain_kernel.specs.Columns.{HasCountsAt, HasRankAt, HasWayAt, accs_round, codes_round, cons_round, heights_round, labels_round}
 use Rattle.drain_kernel.specs.declared.slopes.Slopes.{Slopes}
 use Rattle.drain_kernel.specs.Slopes.{falls_down}

@@ -1,6 +1,6 @@
 -- Numbers in 16 bits that stand for numbers of 32: capped ones, and halves.
-use Rattle.std.specs.Prelude.{◌≡◌, ℕ, ◌/◌, ◌%◌, min, List, slice_index}
-use Rattle.drain_pixels.specs.Lanes.{AreCapped, AreLower, AreUpper}
+use Rattle.std.specs.Prelude.{◌≡◌, ◌/◌, ◌%◌}
+use Rattle.drain_kernel.specs.Names.{ℕ, min, List, slice_index, AreCapped, AreLower, AreUpper}
 
 -- the number, or 65535 if it is more
 abbrev pub at_most : ℕ → ℕ

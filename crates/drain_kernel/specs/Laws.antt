@@ -1,8 +1,6 @@
 -- What lanes of a row's numbers show, and what their count of raised columns is.
-use Rattle.std.specs.Prelude.{◌≡◌, ℕ, ◌-◌, ◌<◌, ℤ, pos, Bool, List, Option, None, length, slice_index_or, IsSome, unwrap_or, int_lt}
-use Rattle.std.specs.List.{count_by, range_with_len}
-use Rattle.drain_grid.specs.declared.per_product.PerProduct.{PerProduct}
-use Rattle.drain_grid.specs.Values.{Values}
+use Rattle.std.specs.Prelude.{◌≡◌, ◌-◌, ◌<◌}
+use Rattle.drain_kernel.specs.Names.{ℕ, ℤ, pos, Bool, List, Option, None, length, slice_index_or, IsSome, unwrap_or, int_lt, count_by, range_with_len, PerProduct, Values}
 use Rattle.drain_kernel.specs.LaneNumbers.{LaneNumbers}
 use Rattle.drain_kernel.specs.Columns.{Along, raised_lanes, AreLanesOf}
 use Rattle.drain_kernel.specs.Shown.{Shows}

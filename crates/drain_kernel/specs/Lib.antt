@@ -1,3 +1,4 @@
+pub mod Names
 pub mod LaneNumbers
 pub mod Eights
 pub mod LanesOf

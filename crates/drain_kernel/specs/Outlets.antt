@@ -1,9 +1,8 @@
 -- The tests of an outlet beside a void: a data cell with code 0, not raised, with no lower neighbour.
-use Rattle.std.specs.Prelude.{ℕ, Bool, not, ◌&&◌, ◌==◌, nat_le, min, IsTrue, List, slice_index}
+use Rattle.std.specs.Prelude.{◌&&◌, ◌==◌}
+use Rattle.drain_kernel.specs.Names.{ℕ, Bool, not, nat_le, min, IsTrue, List, slice_index, Rules, IfJudged, has_rnk}
 use Rattle.drain_kernel.specs.LaneNumbers.{ThreeLanes}
-use Rattle.drain_grid.specs.declared.judged.Rules.{Rules}
 use Rattle.drain_kernel.specs.Around.{least_straight_in, least_across_in}
-use Rattle.drain_grid.specs.Judged.{IfJudged, has_rnk}
 use Rattle.drain_kernel.specs.Columns.{HasCountsAt, HasRankAt, HasWayAt, cons_round, heights_round}
 use Rattle.drain_kernel.specs.Falls.{each_seen, seen_con, seen_sum_at}
 

@@ -1,11 +1,7 @@
 -- What the lanes test of the rules about judged rasters.
-use Rattle.std.specs.Prelude.{Bool, true, false}
-use Rattle.drain_grid.specs.declared.judged.Rules.{Rules}
+use Rattle.drain_kernel.specs.Names.{Bool, true, false, Rules, has_acc, has_rnk, Profile, check_rules, NoDataNumbers}
 use Rattle.drain_grid.specs.declared.rule.Rule.TheVariants.{Accumulation}
-use Rattle.drain_grid.specs.Judged.{has_acc, has_rnk}
-use Rattle.drain_grid.specs.PatchRules.{Profile, check_rules}
 use Rattle.drain_grid.specs.Unranked.{unranked}
-use Rattle.drain_grid.specs.Values.{NoDataNumbers}
 
 -- the rules of a check with ranks, else the same without ranks
 abbrev pub rules_with : Bool → NoDataNumbers → Profile

@@ -1,10 +1,7 @@
 -- What lanes show at a column, and the patch that three rows of lanes show round it.
-use Rattle.std.specs.Prelude.{◌≡◌, ◌≢◌, ℕ, ◌≤◌, ◌<◌, ◌+◌, ◌-◌, ℤ, pos, ◌-ℤ◌, ◌==◌, false, Option, Some, None, slice_index, length, if◌then◌else◌}
-use Rattle.drain_grid.specs.declared.direction.Direction.{Direction}
-use Rattle.drain_grid.specs.declared.direction.Direction.TheVariants.{East, SouthEast, South, SouthWest, West, NorthWest, North, NorthEast}
-use Rattle.drain_grid.specs.declared.patch.Patch.{Patch}
+use Rattle.std.specs.Prelude.{◌≡◌, ◌≢◌, ◌≤◌, ◌<◌, ◌+◌, ◌-◌, ◌-ℤ◌, ◌==◌, if◌then◌else◌}
+use Rattle.drain_kernel.specs.Names.{ℕ, ℤ, pos, false, Option, Some, None, slice_index, length, Direction, East, SouthEast, South, SouthWest, West, NorthWest, North, NorthEast, Patch, Values}
 use Rattle.drain_grid.specs.Patch.{neighbor}
-use Rattle.drain_grid.specs.Values.{Values}
 use Rattle.drain_kernel.specs.LaneNumbers.{LaneNumbers}
 
 -- the height that a lane holds: less than the lane by the bias

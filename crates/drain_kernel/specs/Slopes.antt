@@ -1,15 +1,11 @@
 -- How steepness is compared along a row of lanes: of whole heights by squares where cells are square, else by fractions below
 -- the ratios of distances; of floats exactly.
-use Rattle.std.specs.Prelude.{ℕ, ◌*◌, ◌-◌, ℤ, ◌-ℤ◌, int_lt, Bool, true, false, not, ◌||◌, ◌&&◌, ◌==◌, nat_lt, nat_le, min, List, slice_index, if◌then◌else◌}
-use Rattle.drain_grid.specs.declared.direction.Direction.{Direction}
-use Rattle.drain_grid.specs.declared.direction.Direction.TheVariants.{East, South, SouthEast}
+use Rattle.std.specs.Prelude.{◌*◌, ◌-◌, ◌-ℤ◌, ◌||◌, ◌&&◌, ◌==◌, if◌then◌else◌}
+use Rattle.drain_kernel.specs.Names.{ℕ, ℤ, int_lt, Bool, true, false, not, nat_lt, nat_le, min, List, slice_index, Direction, East, South, SouthEast, single_height, Distances, IsSpacing, row_square, col_square, corner_square, weight_of, IsBelow}
 use Rattle.drain_grid.specs.declared.height_kind.HeightKind.{HeightKind}
 use Rattle.drain_grid.specs.declared.height_kind.HeightKind.TheVariants.{Whole, Single}
-use Rattle.drain_grid.specs.HeightKinds.{single_height}
 use Rattle.drain_grid.specs.Slope.{slope_key}
-use Rattle.drain_grid.specs.Spacing.{Distances, IsSpacing, row_square, col_square, corner_square, weight_of}
 use Rattle.drain_slope.specs.declared.fraction.Fraction.{Fraction}
-use Rattle.drain_slope.specs.Fractions.{IsBelow}
 use Rattle.drain_kernel.specs.declared.slopes.Slopes.{Slopes}
 use Rattle.drain_kernel.specs.Around.{named_in, is_direction_code, is_straight_code, least_across_in}
 use Rattle.drain_kernel.specs.Shown.{lowered}

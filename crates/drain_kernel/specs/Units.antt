@@ -1,6 +1,6 @@
 -- Heights of floats as whole numbers of one power of two, in lanes. That like heights are compared so is this project's own.
-use Rattle.std.specs.Prelude.{◌≡◌, ℕ, ◌+◌, ◌*◌, ◌/◌, ◌^◌, ◌<◌, ◌≤◌, ℤ, pos, ◌+ℤ◌, List, slice_index}
-use Rattle.drain_grid.specs.HeightKinds.{single_height}
+use Rattle.std.specs.Prelude.{◌≡◌, ◌+◌, ◌*◌, ◌/◌, ◌^◌, ◌<◌, ◌≤◌, ◌+ℤ◌}
+use Rattle.drain_kernel.specs.Names.{ℕ, ℤ, pos, List, slice_index, single_height}
 use Rattle.drain_kernel.specs.LaneNumbers.{ThreeLanes}
 use Rattle.drain_kernel.specs.Shown.{lowered}
 

@@ -1,14 +1,12 @@
 //! A cell that lies on its ground and falls: it keeps every rule whether it is open or not, so voids beside it and
 //! listed sinks make no difference.
 
-ghost use Rattle.std.specs.Prelude.{◌≡◌, ◌≤◌, ◌<◌, ◌==◌, IsTrue, if◌then◌else◌};
-ghost use Rattle.drain_grid.specs.declared.patch.Patch.{Patch};
-ghost use Rattle.drain_grid.specs.Judged.{IfJudged, has_acc, has_rnk};
+ghost use Rattle.std.specs.Prelude.{◌≡◌, ◌≤◌, ◌<◌, ◌==◌, if◌then◌else◌};
+ghost use Rattle.drain_kernel.specs.Names.{IsTrue, Patch, IfJudged, has_acc, has_rnk, tried};
 ghost use Rattle.drain_kernel.specs.Columns.{HasCountsAt, HasRankAt, HasWayAt, IsKept, HaveRanks, IsInnerColumn, IsShownRoundIn};
 ghost use Rattle.drain_kernel.specs.ConAlone.{IsClearedAlone};
 ghost use Rattle.drain_kernel.specs.Eights.{eight};
 ghost use Rattle.drain_kernel.specs.Falls.{FallsAt, each_seen, keeps_fall, keeps_fall_at, seen_code, seen_con, seen_sum_at};
-ghost use Rattle.drain_grid.specs.RulesAbout.{tried};
 ghost use Rattle.drain_kernel.specs.Shown.{cols, HasRanks, IsInner, IsShownRound};
 
 use crate::around::{Eight, is_direction};

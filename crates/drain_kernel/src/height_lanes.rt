@@ -1,7 +1,7 @@
 //! The heights of a row, in 16 bits or in 32.
 
-ghost use Rattle.std.specs.Prelude.{◌≡◌, IsTrue, false, length, map, vec_len};
-ghost use Rattle.drain_pixels.specs.Lanes.{AreElevationLanes, AreHeightLanes};
+ghost use Rattle.std.specs.Prelude.{◌≡◌};
+ghost use Rattle.drain_kernel.specs.Names.{IsTrue, false, length, map, vec_len, AreElevationLanes, AreHeightLanes};
 
 use drain_pixels::row_lanes::HeightLane;
 use drain_pixels::{GroundRow, PixelRow};

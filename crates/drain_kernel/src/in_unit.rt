@@ -1,15 +1,14 @@
 //! Heights of floats along a stretch as whole numbers of one power of two. Between such numbers fractions say which way is
 //! steeper, as between whole heights.
 
-ghost use Rattle.std.specs.Prelude.{◌≡◌, ◌*◌, ◌≤◌, ◌<◌, ◌+◌, ◌-◌, ◌^◌, ◌/◌, ℕ, slice_index, ◌≤ℤ◌, ◌+ℤ◌, neg_ℤ, pos, IfSome, IsTrue, false};
+ghost use Rattle.std.specs.Prelude.{◌≡◌, ◌*◌, ◌≤◌, ◌<◌, ◌+◌, ◌-◌, ◌^◌, ◌/◌, ◌≤ℤ◌, ◌+ℤ◌};
+ghost use Rattle.drain_kernel.specs.Names.{ℕ, slice_index, neg_ℤ, pos, IfSome, IsTrue, false, magnitude_of, IsNumber};
 ghost use Rattle.drain_kernel.specs.Columns.{Along, IsInnerColumn, IsStretch, keeps_direction_at};
 ghost use Rattle.drain_kernel.specs.Shown.{cols};
 ghost use Rattle.drain_kernel.specs.Slopes.{is_whole};
 ghost use Rattle.drain_kernel.specs.Units.{AreInBlock, AreInOneBlock, AreInOneUnit, AreInUnit, IsInBlock, IsInUnit, made_offset};
 ghost use Rattle.drain_kernel.specs.Around.{around_in};
 ghost use Rattle.drain_kernel.specs.Eights.{eight};
-ghost use Rattle.drain_grid.specs.HeightKinds.{magnitude_of};
-ghost use Rattle.drain_slope.specs.Singles.{IsNumber};
 
 use crate::around::{Eight, around};
 use crate::column_test::{ColumnTest, passes_along};

@@ -1,10 +1,8 @@
 //! How far along a row every rule of a patch holds.
 
-ghost use Rattle.std.specs.Prelude.{◌≡◌, ◌≤◌, IsTrue};
-ghost use Rattle.drain_grid.specs.declared.patch.Patch.{Patch};
-ghost use Rattle.drain_grid.specs.Judged.{IfJudged, has_rnk};
+ghost use Rattle.std.specs.Prelude.{◌≡◌, ◌≤◌};
+ghost use Rattle.drain_kernel.specs.Names.{IsTrue, Patch, IfJudged, has_rnk, tried};
 ghost use Rattle.drain_kernel.specs.Columns.{Along, IsKept, HaveRanks, IsInnerColumn, IsShownIn, IsStretch};
-ghost use Rattle.drain_grid.specs.RulesAbout.{tried};
 ghost use Rattle.drain_kernel.specs.ConAlone.{IsClearedAt};
 ghost use Rattle.drain_kernel.specs.Shown.{cols, IsInner, IsShown};
 

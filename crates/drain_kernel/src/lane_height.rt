@@ -7,9 +7,9 @@ use drain_slope::fraction::Fraction;
 
 /// A height in a lane: a number, as many above the lowest height as the height lies.
 pub trait LaneHeight: HeightLane {
-    ghost use Rattle.std.specs.Prelude.{◌≡◌, ◌≢◌, ◌-◌, ◌*◌, ◌==◌, IsTrue, min, max, nat_lt, nat_le, neg_ℤ, pos};
+    ghost use Rattle.std.specs.Prelude.{◌≡◌, ◌≢◌, ◌-◌, ◌*◌, ◌==◌};
+    ghost use Rattle.drain_kernel.specs.Names.{IsTrue, min, max, nat_lt, nat_le, neg_ℤ, pos, IsNumber};
     ghost use Rattle.drain_kernel.specs.Falls.{highest};
-    ghost use Rattle.drain_slope.specs.Singles.{IsNumber};
     ghost use Rattle.drain_kernel.specs.Shown.{lowered};
     ghost use Rattle.drain_kernel.specs.Tests.{is_as_steep, is_as_steep_across};
 

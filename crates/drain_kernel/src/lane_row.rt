@@ -31,11 +31,11 @@ impl<'a, H: HeightLane> Model for LaneRow<'a, H> {
 }
 
 impl<H: LaneHeight> LaneRow<'_, H> {
-    ghost use Rattle.std.specs.Prelude.{◌≤◌, ◌<◌, ◌-◌, ◌+◌, ◌^◌, ◌↔◌, ◌≢◌, cond, pos};
+    ghost use Rattle.std.specs.Prelude.{◌≤◌, ◌<◌, ◌-◌, ◌+◌, ◌^◌, ◌↔◌, ◌≢◌};
+    ghost use Rattle.drain_kernel.specs.Names.{cond, pos, AreCapped, AreLower, AreUpper};
     ghost use Rattle.drain_kernel.specs.Columns.{is_raised_at, raised_lanes};
     ghost use Rattle.drain_kernel.specs.Images.{at_most, lower, upper};
     ghost use Rattle.drain_kernel.specs.Shown.{cols, HasDataAt, HasRanks, lowered};
-    ghost use Rattle.drain_pixels.specs.Lanes.{AreCapped, AreLower, AreUpper};
 
     /// How many columns there are.
     pub(crate) fn cols(&self) -> usize

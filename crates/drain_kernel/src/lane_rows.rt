@@ -29,8 +29,8 @@ impl<'a, H: HeightLane> Model for LaneRows<'a, H> {
 }
 
 impl<'a, H: LaneHeight> LaneRows<'a, H> {
-    ghost use Rattle.std.specs.Prelude.{◌≡◌, IfSome, IsTrue, Some};
-    ghost use Rattle.drain_grid.specs.Judged.{IfJudged, has_rnk};
+    ghost use Rattle.std.specs.Prelude.{◌≡◌};
+    ghost use Rattle.drain_kernel.specs.Names.{IfSome, IsTrue, Some, IfJudged, has_rnk};
     ghost use Rattle.drain_kernel.specs.Columns.{accs_round, codes_round, cons_round, heights_round, labels_round, ranks_round};
     ghost use Rattle.drain_kernel.specs.Eights.{eight};
     ghost use Rattle.drain_kernel.specs.Images.{EachHasImage, at_most, lower, upper};

@@ -1,9 +1,7 @@
 //! A row of a grid and its products, with heights in 16 bits where these are enough, else in 32.
 
-ghost use Rattle.std.specs.Prelude.{◌≡◌, IsTrue, false, length, vec_len};
-ghost use Rattle.drain_grid.specs.declared.set_product.SetProduct.{SetProduct};
-ghost use Rattle.drain_grid.specs.Judged.{IfJudged, has_rnk};
-ghost use Rattle.drain_grid.specs.PerProduct.{of_product, per_product};
+ghost use Rattle.std.specs.Prelude.{◌≡◌};
+ghost use Rattle.drain_kernel.specs.Names.{IsTrue, false, length, vec_len, SetProduct, IfJudged, has_rnk, of_product, per_product};
 ghost use Rattle.drain_kernel.specs.Columns.{AreLanesOf};
 ghost use Rattle.drain_kernel.specs.LanesOf.{lanes_of};
 

@@ -1,13 +1,10 @@
 //! An outlet beside a void: a data cell on its ground with code 0 and no lower neighbour.
 
-ghost use Rattle.std.specs.Prelude.{◌≡◌, ◌≤◌, IsTrue, None};
-ghost use Rattle.drain_grid.specs.declared.patch.Patch.{Patch};
-ghost use Rattle.drain_grid.specs.Rule.{IsLeastFault, IsPatchRule};
-ghost use Rattle.drain_grid.specs.Judged.{IfJudged, has_rnk};
+ghost use Rattle.std.specs.Prelude.{◌≡◌, ◌≤◌};
+ghost use Rattle.drain_kernel.specs.Names.{IsTrue, None, Patch, IsLeastFault, IsPatchRule, IfJudged, has_rnk, tried};
 ghost use Rattle.drain_kernel.specs.Columns.{HaveRanks, IsInnerColumn, IsShownRoundIn};
 ghost use Rattle.drain_kernel.specs.Eights.{eight};
 ghost use Rattle.drain_kernel.specs.Outlets.{OutletAt, keeps_outlet, keeps_outlet_at};
-ghost use Rattle.drain_grid.specs.RulesAbout.{tried};
 ghost use Rattle.drain_kernel.specs.Shown.{cols, IsInner, IsShownRound};
 
 use crate::around::{Eight, least_across, least_straight};

@@ -1,9 +1,8 @@
 //! The numbers of a row's products, but con: in 16 bits where that is enough, else in 32.
 
-ghost use Rattle.std.specs.Prelude.{◌≡◌, IsTrue, false, length, map, vec_len};
-ghost use Rattle.drain_grid.specs.Judged.{IfJudged, has_rnk};
+ghost use Rattle.std.specs.Prelude.{◌≡◌};
+ghost use Rattle.drain_kernel.specs.Names.{IsTrue, false, length, map, vec_len, IfJudged, has_rnk, AreCapped, AreLanes};
 ghost use Rattle.drain_kernel.specs.Images.{AreRankLanes};
-ghost use Rattle.drain_pixels.specs.Lanes.{AreCapped, AreLanes};
 
 use drain_grid::{Judged, PerProduct};
 use drain_pixels::PixelRow;
@@ -32,8 +31,7 @@ pub struct ProductLanes {
 }
 
 impl ProductLanes {
-    ghost use Rattle.drain_grid.specs.declared.set_product.SetProduct.{SetProduct};
-    ghost use Rattle.drain_grid.specs.PerProduct.{of_product};
+    ghost use Rattle.drain_kernel.specs.Names.{SetProduct, of_product};
 
     /// No row. It takes no memory.
     pub fn new(alloc: Global) -> ProductLanes

@@ -1,8 +1,7 @@
 //! How steepness is compared along a row: fractions below the ratios of its cells' three distances.
 
 ghost use Rattle.std.specs.Prelude.{◌≡◌};
-ghost use Rattle.drain_grid.specs.Spacing.{col_square, corner_square, row_square};
-ghost use Rattle.drain_slope.specs.Fractions.{IsBelow};
+ghost use Rattle.drain_kernel.specs.Names.{col_square, corner_square, row_square, IsBelow};
 
 use drain_grid::{Direction, Spacing};
 use drain_slope::fraction::{Fraction, fraction_below};

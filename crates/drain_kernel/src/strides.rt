@@ -1,7 +1,7 @@
 //! Columns along a row, one stride at a time.
 
-ghost use Rattle.std.specs.Prelude.{◌≡◌, ◌≤◌, IsTrue, false, true};
-ghost use Rattle.drain_grid.specs.Judged.{IfJudged, has_acc, has_rnk};
+ghost use Rattle.std.specs.Prelude.{◌≡◌, ◌≤◌};
+ghost use Rattle.drain_kernel.specs.Names.{IsTrue, false, true, IfJudged, has_acc, has_rnk};
 ghost use Rattle.drain_kernel.specs.ConAlone.{IsClearedAt};
 ghost use Rattle.drain_kernel.specs.Columns.{adds_up_at, Along, HasWayAt, IsInlandAt, KeepsCountsAt, KeepsRankedWayAt, KeepsWayAt, PassesAt, RanksPassAt, HaveRanks, IsStretch};
 ghost use Rattle.drain_kernel.specs.Slopes.{is_unit, is_whole};

@@ -1,8 +1,8 @@
 //! No-data numbers that no number of a cell that keeps the rules can be, so that its numbers needn't be compared with them.
 
-ghost use Rattle.std.specs.Prelude.{◌≡◌, ◌≢◌, ◌≤◌, ℕ, IsTrue, true, pos};
+ghost use Rattle.std.specs.Prelude.{◌≡◌, ◌≢◌, ◌≤◌};
+ghost use Rattle.drain_kernel.specs.Names.{ℕ, IsTrue, true, pos, has_acc};
 ghost use Rattle.drain_kernel.specs.Around.{is_direction_code};
-ghost use Rattle.drain_grid.specs.Judged.{has_acc};
 ghost use Rattle.drain_kernel.specs.Shown.{lowered};
 
 use crate::cells::bas_differs;

@@ -1,26 +1,11 @@
 -- Two patches that differ only in what no rule looks at: in a direction one may show nothing and the other a void. Each
 -- rule holds of the one exactly where it holds of the other.
-use Rattle.std.proofs.Common.{◌≡◌, inl, inr, ◌⊎◌, ◌∙◌, ℤ, pos, ◌+ℤ◌, ◌-ℤ◌, ◌≤ℤ◌, ◌<ℤ◌, ◌&&◌, Option, Some, None, IsNone, IsSome, IsTrue, is_some, unwrap_or, option_map, if◌then◌else◌, refl, sym, ap, subst}
-use Rattle.std.specs.Int.{int_max}
-use Rattle.std.proofs.lemmas.Bool.{false≢true}
-use Rattle.drain_grid.specs.declared.direction.Direction.{Direction}
-use Rattle.drain_grid.specs.declared.patch.Patch.{Patch}
-use Rattle.drain_grid.specs.declared.rule.Rule.{Rule}
-use Rattle.drain_grid.specs.declared.rule.Rule.TheVariants.{VoidCell, Missing, BadCode, BelowGround, OpenRaised, NotLeast, Slope, OutletCode, FlatStep, Accumulation, Label}
+use Rattle.drain_laws.proofs.Names.{◌≡◌, inl, inr, ◌⊎◌, ◌∙◌, ℤ, pos, ◌+ℤ◌, ◌-ℤ◌, ◌≤ℤ◌, ◌<ℤ◌, ◌&&◌, Option, Some, None, IsNone, IsSome, IsTrue, is_some, unwrap_or, option_map, if◌then◌else◌, refl, sym, ap, subst, int_max, false≢true, Direction, Patch, Rule, VoidCell, Missing, BadCode, BelowGround, OpenRaised, NotLeast, Slope, OutletCode, FlatStep, Accumulation, Label, product_of, IsCode, Names, names, opposite, directions, Values, NoDataNumbers, value_of, neighbor, height, IsDataNeighbor, IsOpen, IsClosed, IsLower, HasLower, height_of, slope_key, key_to, IsSteepest, BelowGroundHolds, NotLeastHolds, SlopeHolds, OutletCodeHolds, FlatStepHolds, AccumulationHolds, LabelHolds, VoidCellWithoutSpill, MissingWithoutSpill, BadCodeWithoutSpill, OpenRaisedWithoutSpill, inflow, check_rules, VoidCellWithoutRank, MissingWithoutRank, LevelStepHolds, unranked, total-same}
 use Rattle.drain_grid.specs.declared.set_product.SetProduct.{SetProduct}
 use Rattle.drain_grid.specs.declared.set_product.SetProduct.TheVariants as held
-use Rattle.drain_grid.specs.SetProduct.{product_of}
-use Rattle.drain_grid.specs.Direction.{IsCode, Names, names, opposite, directions}
-use Rattle.drain_grid.specs.Values.{Values, NoDataNumbers, value_of}
 use Rattle.drain_grid.specs.Open.{IsGap}
-use Rattle.drain_grid.specs.Patch.{neighbor, height, IsDataNeighbor, IsOpen, IsClosed, IsLower, HasLower}
-use Rattle.drain_grid.specs.HeightKinds.{height_of}
-use Rattle.drain_grid.specs.Slope.{slope_key, key_to, IsSteepest}
 use Rattle.drain_grid.specs.Spacing.{Distances, weight_of}
-use Rattle.drain_grid.specs.PatchRules.{BelowGroundHolds, NotLeastHolds, SlopeHolds, OutletCodeHolds, FlatStepHolds, AccumulationHolds, LabelHolds, VoidCellWithoutSpill, MissingWithoutSpill, BadCodeWithoutSpill, OpenRaisedWithoutSpill, inflow, check_rules}
-use Rattle.drain_grid.specs.Unranked.{VoidCellWithoutRank, MissingWithoutRank, LevelStepHolds, unranked}
 use Rattle.drain_grid.proofs.OpenCells.{gap_from_void}
-use Rattle.drain_grid.proofs.WithoutRanks.{total-same}
 
 -- the numbers that rules without ranks look at, at a neighbour too
 pub record AreSame (v w : Values) : Type 0 where

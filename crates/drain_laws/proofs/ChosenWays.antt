@@ -1,23 +1,6 @@
 -- On a surface that drains each cell has a direction: the steepest way down, none at an outlet, else along the flat to a
 -- cell with a smaller rank. With these directions and ranks rules 10 to 12 hold.
-use Rattle.std.proofs.Common.{◌≡◌, ◌⊎◌, inl, inr, ℤ, pos, negsuc, refl, arith}
-use Rattle.std.proofs.lemmas.Int.{ints}
-use Rattle.drain_grid.specs.declared.cell.Cell.{Cell}
-use Rattle.drain_grid.specs.declared.direction.Direction.{Direction}
-use Rattle.drain_grid.specs.declared.rule.Rule.TheVariants.{Slope, OutletCode, FlatStep}
-use Rattle.drain_grid.specs.Direction.{IsCode, Names, code_of}
-use Rattle.drain_grid.specs.Grid.{Grid, Products, HasData, patch_at, values_at}
-use Rattle.drain_grid.specs.GridRules.{RulesHold}
-use Rattle.drain_grid.specs.Patch.{IsOpen, HasLower}
-use Rattle.drain_grid.specs.PatchRules.{flow_rules, SlopeHolds, OutletCodeHolds, FlatStepHolds}
-use Rattle.drain_grid.specs.Path.{Drains}
-use Rattle.drain_grid.specs.Rule.{IsWayRule}
-use Rattle.drain_grid.specs.Slope.{IsSteepest}
-use Rattle.drain_grid.proofs.Decisions.{cases}
-use Rattle.drain_grid.proofs.Neighbors.{step_lies}
-use Rattle.drain_grid.proofs.PatchDecisions.{has_lower, is_open, data_cell}
-use Rattle.drain_grid.proofs.Patches.{shown_cell}
-use Rattle.drain_grid.proofs.Slopes.{steepest_cell, IsSteepest-cell}
+use Rattle.drain_laws.proofs.Names.{◌≡◌, ◌⊎◌, inl, inr, ℤ, pos, negsuc, refl, arith, ints, Cell, Direction, Slope, OutletCode, FlatStep, IsCode, Names, code_of, Grid, Products, HasData, patch_at, values_at, RulesHold, IsOpen, HasLower, flow_rules, SlopeHolds, OutletCodeHolds, FlatStepHolds, Drains, IsWayRule, IsSteepest, cases, step_lies, has_lower, is_open, data_cell, shown_cell, steepest_cell, IsSteepest-cell}
 use Rattle.drain_laws.proofs.NearEdges.{IsStepOn, rank_of, step_on}
 use Rattle.drain_laws.proofs.SameWays.{steepest_there, open_there, open_back, low_there, low_back}
 use Rattle.drain_laws.proofs.SteepestWays.{some_steepest}

@@ -1,26 +1,12 @@
 -- Products are correct where every run ends, the rules on heights and directions hold without ranks, and the other facts of
 -- correct products are known. Ranks are the numbers of steps here, so the rules hold with ranks too, and the laws about
 -- whole runs say the rest.
-use Rattle.std.proofs.Common.{◌≡◌, ◌↔◌, inl, inr, pos, IsNone, arith}
-use Rattle.drain_grid.specs.declared.cell.Cell.{Cell}
-use Rattle.drain_grid.specs.declared.rule.Rule.{Rule}
-use Rattle.drain_grid.specs.declared.rule.Rule.TheVariants.{Slope}
-use Rattle.drain_grid.specs.Unranked.{RanksAreSteps, unranked}
+use Rattle.drain_laws.proofs.Names.{◌≡◌, ◌↔◌, inl, inr, pos, IsNone, arith, Cell, Rule, Slope, RanksAreSteps, unranked, Grid, Products, IsInside, HasData, patch_at, RulesHold, check_rules, flow_rules, surface_rules, IsFillRule, IsFlowRule, IsWayRule, IsCountRule, IsLabelRule, IsFlatCell, RunEnds, ShareBasin, upstream_count, NoDataNumbers, cases, has_lower, least_from_rules_profile2, runs_end, steepest_cell, HasLower-lower_cell}
 use Rattle.drain_grid.specs.Correct.{IsBlankAt, IsCompleteAt, GoesSteepest, IsCorrect, RunsAreSound}
-use Rattle.drain_grid.specs.Grid.{Grid, Products, IsInside, HasData, patch_at}
-use Rattle.drain_grid.specs.GridRules.{RulesHold}
-use Rattle.drain_grid.specs.PatchRules.{check_rules, flow_rules, surface_rules}
-use Rattle.drain_grid.specs.Rule.{IsFillRule, IsFlowRule, IsWayRule, IsCountRule, IsLabelRule}
-use Rattle.drain_grid.specs.Run.{IsFlatCell, RunEnds, ShareBasin, upstream_count}
-use Rattle.drain_grid.specs.Values.{NoDataNumbers}
 use Rattle.drain_grid.proofs.CountRules.{labels_are_basins}
 use Rattle.drain_grid.proofs.Codes.{next-named}
-use Rattle.drain_grid.proofs.Decisions.{cases}
-use Rattle.drain_grid.proofs.PatchDecisions.{has_lower}
 use Rattle.drain_grid.proofs.Profiles.{flow_same, surface_same_unranked, HoldsAt-patch}
 use Rattle.drain_grid.proofs.Ranks.{own_ranks_play_no_part}
-use Rattle.drain_grid.proofs.Runs.{least_from_rules_profile2, runs_end}
-use Rattle.drain_grid.proofs.Slopes.{steepest_cell, HasLower-lower_cell}
 use Rattle.drain_grid.proofs.Upstream.{counts_upstream}
 
 -- the facts of correct products that don't follow from rules on heights and directions

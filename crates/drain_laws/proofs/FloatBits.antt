@@ -1,12 +1,11 @@
 -- The float of a pattern is its height: the toolchain's `odd` keeps the value, digits times a power of two.
-use Rattle.std.proofs.Common.{◌≡◌, ◌≢◌, ℕ, zero, suc, ◌+◌, ◌*◌, ◌/◌, ◌%◌, ◌^◌, ◌<◌, ◌≤◌, Bool, true, false, pos, negsuc, refl, sym, ◌∙◌, ap, subst, arith}
+use Rattle.drain_laws.proofs.Names.{◌≡◌, ◌≢◌, ℕ, zero, suc, ◌+◌, ◌*◌, ◌/◌, ◌%◌, ◌^◌, ◌<◌, ◌≤◌, Bool, true, false, pos, negsuc, refl, sym, ◌∙◌, ap, subst, arith, digits_of, shift_of, magnitude_of, single_height}
 use Rattle.std.proofs.lemmas.Bool.Decides.{nat_tests}
 use borrow.Author.Tests.{ne_eqb}
 use lib.Ieee.Exact.{HasValue, odd_sign}
 use lib.Ieee.{Float, binary32, fin, inf, nan, odd, of_bits, of_fields}
 use lib.Pow.{pow-add}
 use native.Mathlib.Nat.{mul-one, mul_assoc}
-use Rattle.drain_grid.specs.HeightKinds.{digits_of, shift_of, magnitude_of, single_height}
 use Rattle.drain_floats.specs.Patterns.{place_of, number_of}
 use Rattle.drain_laws.specs.Floats.{IsFinite, has_sign, with_sign, PatternsMeanFloats}
 

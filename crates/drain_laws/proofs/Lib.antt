@@ -1,3 +1,4 @@
+pub mod Names
 mod AlikePatches
 mod PaddedCells
 mod PaddedVerdicts

@@ -1,21 +1,7 @@
 -- How many level steps a cell of a surface is from a low edge: a cell that is open or has a lower neighbour. If the surface
 -- drains, each data cell has such a number, the rank here, and a cell that is no low edge has a level neighbour with a
 -- smaller one.
-use Rattle.std.proofs.Common.{◌≡◌, ℕ, zero, suc, ◌<◌, ◌⊎◌, inl, inr, false, List, [], ◌∷◌, Option, Some, None, refl, sym, subst, arith}
-use Rattle.std.proofs.lemmas.Bool.{false≢true}
-use Rattle.std.proofs.lemmas.Int.{ints, by_lt_z}
-use Rattle.drain_grid.specs.declared.cell.Cell.{Cell}
-use Rattle.drain_grid.specs.declared.direction.Direction.{Direction}
-use Rattle.drain_grid.specs.Extent.{step}
-use Rattle.drain_grid.specs.Grid.{Grid, Products, HasData, patch_at}
-use Rattle.drain_grid.specs.Patch.{IsOpen, HasLower}
-use Rattle.drain_grid.specs.Path.{IsPath, NeverRises, Drains}
-use Rattle.drain_grid.proofs.Decisions.{Decision, cases, both, either, same, some_direction}
-use Rattle.drain_grid.proofs.Lowered.{HasData-path}
-use Rattle.drain_grid.proofs.Neighbors.{direction_between, step_gives}
-use Rattle.drain_grid.proofs.PatchDecisions.{data_cell, has_lower, is_open}
-use Rattle.drain_grid.proofs.Patches.{IsOpen-patch_at}
-use Rattle.drain_grid.proofs.Slopes.{HasLower-lower_cell}
+use Rattle.drain_laws.proofs.Names.{◌≡◌, ℕ, zero, suc, ◌<◌, ◌⊎◌, inl, inr, false, List, [], ◌∷◌, Option, Some, None, refl, sym, subst, arith, false≢true, ints, by_lt_z, Cell, Direction, step, Grid, Products, HasData, patch_at, IsOpen, HasLower, IsPath, NeverRises, Drains, Decision, cases, both, either, same, some_direction, HasData-path, direction_between, step_gives, data_cell, has_lower, is_open, IsOpen-patch_at, HasLower-lower_cell}
 use Rattle.drain_laws.proofs.SameWays.{IsLeastNumber, least_number, least-le}
 
 -- there is a cell, and the fact holds of it

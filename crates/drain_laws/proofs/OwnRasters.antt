@@ -1,13 +1,5 @@
 -- The rasters that directions determine: the accumulation, labels and ranks of one's own.
-use Rattle.std.proofs.Common.{◌≡◌, ◌≢◌, ◌↔◌, ◌∙◌, ℕ, ℤ, pos, negsuc, if◌then◌else◌, Option, Some, None, IsNone, IsSome, is_some, refl, sym, ap}
-use Rattle.std.proofs.lemmas.Bool.{false≢true}
-use Rattle.drain_grid.specs.declared.cell.Cell.{Cell}
-use Rattle.drain_grid.specs.Unranked.{run_steps, RanksAreSteps}
-use Rattle.drain_grid.specs.Extent.{index_of}
-use Rattle.drain_grid.specs.Grid.{Grid, Products, IsInside, HasData}
-use Rattle.drain_grid.specs.Run.{run_end, ShareBasin, upstream_count}
-use Rattle.drain_grid.specs.Values.{NoDataNumbers}
-use Rattle.drain_grid.proofs.Alike.{run_end-alike, run_steps-alike, upstream-alike, same_index}
+use Rattle.drain_laws.proofs.Names.{◌≡◌, ◌≢◌, ◌↔◌, ◌∙◌, ℕ, ℤ, pos, negsuc, if◌then◌else◌, Option, Some, None, IsNone, IsSome, is_some, refl, sym, ap, false≢true, Cell, run_steps, RanksAreSteps, index_of, Grid, Products, IsInside, HasData, run_end, ShareBasin, upstream_count, NoDataNumbers, run_end-alike, run_steps-alike, upstream-alike, same_index}
 
 -- at a data cell the number, at a void -1
 pub from_counts : Grid → (Cell → ℕ) → Cell → ℤ

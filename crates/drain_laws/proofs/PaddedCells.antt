@@ -1,20 +1,6 @@
 -- The cells of a padded grid: which have data, which are open, and what a patch shows of them. Where a step leads
 -- outside the grid, it leads in the padded grid outside too, or to a void.
-use Rattle.std.proofs.Common.{◌≡◌, true, false, ℤ, None, is_some, if◌then◌else◌, refl, ap, inl, inr, ◌⊎◌, ◌∙◌, pos, Option, Some, IsNone, IsSome, option_map, sym, subst, arith}
-use Rattle.std.proofs.lemmas.Bool.{false_from_ne_true}
-use Rattle.drain_grid.specs.declared.cell.Cell.{Cell}
-use Rattle.drain_grid.specs.Extent.{Extent, IsCellOf, step}
-use Rattle.drain_grid.specs.Grid.{Grid, Products, IsInside, HasData, IsOpenCell, values_at, patch_at}
-use Rattle.drain_grid.proofs.PatchDecisions.{is_cell_of}
-use Rattle.drain_laws.specs.Laws.{EveryGridCanBePadded, PaddingKeepsData, PaddingKeepsOpen}
-use Rattle.drain_grid.specs.declared.direction.Direction.{Direction}
-use Rattle.drain_grid.specs.Values.{Values}
-use Rattle.drain_grid.specs.Patch.{neighbor}
-use Rattle.drain_grid.proofs.Decisions.{cases}
-use Rattle.drain_grid.proofs.Neighbors.{step_gives, step_lies}
-use Rattle.drain_grid.proofs.Tallies.{none_some, same_some, void_data}
-use Rattle.drain_grid.proofs.Patches.{IsOpen-patch_at, cell_shown, neighbor-patch_at}
-use Rattle.drain_laws.specs.Padding.{IsPadded, AreSameAt}
+use Rattle.drain_laws.proofs.Names.{◌≡◌, true, false, ℤ, None, is_some, if◌then◌else◌, refl, ap, inl, inr, ◌⊎◌, ◌∙◌, pos, Option, Some, IsNone, IsSome, option_map, sym, subst, arith, false_from_ne_true, Cell, Extent, IsCellOf, step, Grid, Products, IsInside, HasData, IsOpenCell, values_at, patch_at, is_cell_of, EveryGridCanBePadded, PaddingKeepsData, PaddingKeepsOpen, Direction, Values, neighbor, cases, step_gives, step_lies, none_some, same_some, void_data, IsOpen-patch_at, cell_shown, neighbor-patch_at, IsPadded, AreSameAt}
 use Rattle.drain_laws.proofs.AlikePatches.{AreAlike, AreSame, HaveSameRanks, ShowAlike, ShowsNoData, alike_turned, open_there}
 
 -- A grid padded to a given size: voids beyond its last row and column, and no-data numbers there.

@@ -1,19 +1,7 @@
 -- What padding keeps of the rules at each cell: at a cell of the grid since its two patches are alike, and beyond the
 -- grid since rules require no more of a void than its no-data numbers.
-use Rattle.std.proofs.Common.{◌≡◌, ◌∙◌, IsNone, IsSome, sym}
-use Rattle.drain_grid.specs.declared.cell.Cell.{Cell}
-use Rattle.drain_grid.specs.declared.rule.Rule.{Rule}
-use Rattle.drain_grid.specs.declared.rule.Rule.TheVariants.{VoidCell, Missing, OpenRaised, NoSpill, SpillHeight, SpillRank, Slope, OutletCode, FlatStep, SharedLabel}
+use Rattle.drain_laws.proofs.Names.{◌≡◌, ◌∙◌, IsNone, IsSome, sym, Cell, Rule, VoidCell, Missing, OpenRaised, NoSpill, SpillHeight, SpillRank, Slope, OutletCode, FlatStep, SharedLabel, product_of, NoDataNumbers, number_for, value_of, Grid, Products, IsInside, patch_at, values_at, check_rules, unranked, HoldsAt, SharedLabelHolds, void_data, ArePadded, ArePaddedRanks, AreKept}
 use Rattle.drain_grid.specs.declared.set_product.SetProduct.TheVariants as held
-use Rattle.drain_grid.specs.SetProduct.{product_of}
-use Rattle.drain_grid.specs.Values.{NoDataNumbers, number_for, value_of}
-use Rattle.drain_grid.specs.Grid.{Grid, Products, IsInside, patch_at, values_at}
-use Rattle.drain_grid.specs.PatchRules.{check_rules}
-use Rattle.drain_grid.specs.Unranked.{unranked}
-use Rattle.drain_grid.specs.GridRules.{HoldsAt, SharedLabelHolds}
-use Rattle.drain_grid.proofs.Tallies.{void_data}
-use Rattle.drain_laws.specs.Padding.{ArePadded, ArePaddedRanks}
-use Rattle.drain_laws.specs.Laws.{AreKept}
 use Rattle.drain_laws.proofs.AlikePatches.{alike_turned, ranks_turned, unranked_there, check_there}
 use Rattle.drain_laws.proofs.PaddedCells.{data_there, data_back, patches_alike, same_ranks}
 

@@ -2,21 +2,10 @@
 -- steps lead through the same cells in both. A padded grid may have more cells, so the bound in the definition of a run
 -- is wider. But a run that is over takes no more steps (steps-many), and what comes to a code 0 in any number of steps
 -- is a run that ends (ends_within, by a lemma of drain_paths). Both by induction on the number of steps.
-use Rattle.std.proofs.Common.{◌≡◌, inl, inr, ◌∙◌, ℕ, zero, suc, ◌+◌, ◌-◌, ◌≤◌, ℤ, pos, ◌∷◌, length, Option, Some, None, IsNone, IsSome, is_some, ◌⊎◌, option_and_then, if◌then◌else◌, refl, sym, ap, subst, arith}
-use Rattle.std.specs.List.{list_any}
+use Rattle.drain_laws.proofs.Names.{◌≡◌, inl, inr, ◌∙◌, ℕ, zero, suc, ◌+◌, ◌-◌, ◌≤◌, ℤ, pos, ◌∷◌, length, Option, Some, None, IsNone, IsSome, is_some, ◌⊎◌, option_and_then, if◌then◌else◌, refl, sym, ap, subst, arith, list_any, Cell, Direction, named_direction, same_cell, step, NoDataNumbers, Grid, Products, IsInside, HasData, only_data, next, continued, steps_from, last_from, run_end, RunEnds, drains_through, HasData-next, steps-more, cell_count, steps-next, ArePadded, PaddingKeepsSteps, PaddingKeepsRuns, PaddingKeepsFirstEndless, PaddingKeepsAccumulation, PaddingKeepsBasins}
 use Rattle.std.proofs.lemmas.Nat.{mul-le}
-use Rattle.drain_grid.specs.declared.cell.Cell.{Cell}
-use Rattle.drain_grid.specs.declared.direction.Direction.{Direction}
-use Rattle.drain_grid.specs.Direction.{named_direction}
-use Rattle.drain_grid.specs.Extent.{same_cell, step}
-use Rattle.drain_grid.specs.Values.{NoDataNumbers}
-use Rattle.drain_grid.specs.Grid.{Grid, Products, IsInside, HasData}
-use Rattle.drain_grid.specs.Run.{only_data, next, continued, steps_from, last_from, run_end, RunEnds, drains_through}
-use Rattle.drain_grid.proofs.Runs.{HasData-next, steps-more, cell_count, steps-next}
 use Rattle.drain_grid.proofs.Walks.{EndsAfter-zero}
 use Rattle.drain_paths.proofs.Shorter.{RunEnds-before}
-use Rattle.drain_laws.specs.Padding.{ArePadded}
-use Rattle.drain_laws.specs.Laws.{PaddingKeepsSteps, PaddingKeepsRuns, PaddingKeepsFirstEndless, PaddingKeepsAccumulation, PaddingKeepsBasins}
 use Rattle.drain_laws.proofs.PaddedCells.{step_alike, within, data_there, data_back}
 use Rattle.drain_laws.proofs.PaddedVerdicts.{padding_keeps_tallies}
 

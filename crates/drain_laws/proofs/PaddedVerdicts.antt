@@ -1,23 +1,10 @@
 -- Rules that are kept at the grid's cells, and hold beyond. So all of them hold in both or in neither. The first that
 -- fails is the same, since row order is by rows and columns, whatever the size. With the counts so is the verdict. And
 -- products are correct exactly where all rules without ranks hold, by a law of drain_grid.
-use Rattle.std.proofs.Common.{◌≡◌, inl, inr, ◌∙◌, ℕ, ℤ, Bool, true, false, cond, ◌&&◌, Option, Some, None, IsSome, is_some, int_lt, unwrap_or, pos, refl, sym, ap, ◌↔◌}
-use Rattle.std.specs.List.{sum_by}
+use Rattle.drain_laws.proofs.Names.{◌≡◌, inl, inr, ◌∙◌, ℕ, ℤ, Bool, true, false, cond, ◌&&◌, Option, Some, None, IsSome, is_some, int_lt, unwrap_or, pos, refl, sym, ap, ◌↔◌, sum_by, false_from_ne_true, Cell, cells, same_cell, Extent, Grid, Products, IsInside, height_at, is_data, HoldsAt, RulesHold, IsPadded, AreSameAt, CountsAreKept, PaddingKeepsTallies, PaddingKeepsCounts, AreKept, HoldBeyond, HaveOneFirstFault, HaveOneVerdict, resized, PaddingKeepsRules, PaddingBreaksNoRule, PaddingKeepsFirstFault, PaddingKeepsVerdict, PaddingKeepsChecks, PaddingKeepsCorrect, Rule, IsAnyRule, Profile, check_rules, unranked, correct_by_rules_alone}
 use Rattle.std.specs.Ordering.{int_eq}
-use Rattle.std.proofs.lemmas.Bool.{false_from_ne_true}
-use Rattle.drain_grid.specs.declared.cell.Cell.{Cell}
-use Rattle.drain_grid.specs.Extent.{cells, same_cell, Extent}
-use Rattle.drain_grid.specs.Grid.{Grid, Products, IsInside, height_at}
-use Rattle.drain_grid.specs.GridRules.{is_data, HoldsAt, RulesHold}
 use Rattle.drain_grid.proofs.CellSums.{same_cell_self, same_cell_true, sum_by_cells_one, sum_by_cells_same, sum_by_swap, sum_by_zero}
-use Rattle.drain_laws.specs.Padding.{IsPadded, AreSameAt}
-use Rattle.drain_laws.specs.Laws.{CountsAreKept, PaddingKeepsTallies, PaddingKeepsCounts, AreKept, HoldBeyond, HaveOneFirstFault, HaveOneVerdict, resized, PaddingKeepsRules, PaddingBreaksNoRule, PaddingKeepsFirstFault, PaddingKeepsVerdict, PaddingKeepsChecks, PaddingKeepsCorrect}
 use Rattle.drain_laws.proofs.PaddedCells.{inside_or_not, within}
-use Rattle.drain_grid.specs.declared.rule.Rule.{Rule}
-use Rattle.drain_grid.specs.Rule.{IsAnyRule}
-use Rattle.drain_grid.specs.PatchRules.{Profile, check_rules}
-use Rattle.drain_grid.specs.Unranked.{unranked}
-use Rattle.drain_grid.proofs.Exactly.{correct_by_rules_alone}
 use Rattle.drain_grid.specs.declared.verdict.Counts.{Counts}
 use Rattle.drain_grid.specs.declared.verdict.Verdict.{Verdict}
 use Rattle.drain_grid.specs.declared.verdict.Verdict.TheVariants.{Accepted, Rejected}

@@ -2,25 +2,9 @@
 -- One way the rules without ranks hold of the whole set, and those about judged rasters look at these alone (SameWays).
 -- The other way the rasters that aren't given are those that directions determine (OwnRasters), and with them the
 -- set is correct (CorrectByWays).
-use Rattle.std.proofs.Common.{◌≡◌, Bool, true, false, IsNone, IsTrue, refl, arith}
-use Rattle.std.proofs.lemmas.Bool.{false≢true}
-use Rattle.drain_grid.specs.declared.cell.Cell.{Cell}
-use Rattle.drain_grid.specs.declared.rule.Rule.{Rule}
-use Rattle.drain_grid.specs.declared.rule.Rule.TheVariants.{VoidCell, Missing, BelowGround, OpenRaised, NoSpill, SpillHeight, SpillRank, NotLeast, Slope, OutletCode, FlatStep, Accumulation, Label, SharedLabel}
-use Rattle.drain_grid.specs.Unranked.{RanksAreSteps, unranked}
-use Rattle.drain_grid.specs.Grid.{Grid, Products, IsInside, HasData, patch_at, values_at}
-use Rattle.drain_grid.specs.GridRules.{HoldsAt, RulesHold, SharedLabelHolds}
-use Rattle.drain_grid.specs.PatchRules.{AccumulationHolds, LabelHolds}
-use Rattle.drain_grid.specs.Rule.{IsBetween, IsFillRule, IsWayRule, IsCountRule, IsLabelRule}
-use Rattle.drain_grid.specs.Run.{RunEnds}
-use Rattle.drain_grid.specs.Values.{NoDataNumbers}
-use Rattle.drain_grid.proofs.Alike.{RunEnds-alike}
-use Rattle.drain_grid.proofs.Exactly.{correct_is_local}
+use Rattle.drain_laws.proofs.Names.{◌≡◌, Bool, true, false, IsNone, IsTrue, refl, arith, false≢true, Cell, Rule, VoidCell, Missing, BelowGround, OpenRaised, NoSpill, SpillHeight, SpillRank, NotLeast, Slope, OutletCode, FlatStep, Accumulation, Label, SharedLabel, RanksAreSteps, unranked, Grid, Products, IsInside, HasData, patch_at, values_at, HoldsAt, RulesHold, SharedLabelHolds, AccumulationHolds, LabelHolds, IsBetween, IsFillRule, IsWayRule, IsCountRule, IsLabelRule, RunEnds, NoDataNumbers, RunEnds-alike, correct_is_local, Con, ConDir, ConDirAcc, ConDirBas, All, AllWithRanks, PartIsLocal, IsPartOfCorrect, IsSomeWays, joined, joined_numbers, IsBlankPart, IsCompletePart, IsPartRule, part_rules}
 use Rattle.drain_grid.specs.declared.judged.Judged.{Judged}
-use Rattle.drain_grid.specs.declared.judged.Judged.TheVariants.{Con, ConDir, ConDirAcc, ConDirBas, All, AllWithRanks}
 use Rattle.drain_grid.specs.Judged.{IfJudged, has_acc, has_bas, has_dir}
-use Rattle.drain_laws.specs.PartOf.{PartIsLocal, IsPartOfCorrect, IsSomeWays, joined, joined_numbers}
-use Rattle.drain_grid.specs.RulesAbout.{IsBlankPart, IsCompletePart, IsPartRule, part_rules}
 use Rattle.drain_rules.proofs.RightVoids.{if_judged}
 use Rattle.drain_laws.proofs.CorrectByWays.{correct_by_ways, counts_by_rules, labels_by_rules, sound}
 use Rattle.drain_laws.proofs.OwnRasters.{from_counts-differs, from_counts-void, own_counts-right, own_labels-right, own_numbers, own_ranks-right, own_rasters}

@@ -1,28 +1,6 @@
 -- The rules on heights and directions look at these alone: they hold of products where they hold of others with the
 -- same heights and directions. The rule on the accumulation looks at this too, and that on labels at these.
-use Rattle.drain_grid.specs.declared.cell.Cell.{Cell}
-use Rattle.drain_grid.specs.Grid.{Grid, Products, IsInside, patch_at, HasData, height_at, values_at}
-use Rattle.drain_grid.specs.Patch.{IsOpen, HasLower, neighbor}
-use Rattle.drain_grid.specs.Run.{IsLowerCell, IsSteepestCell}
-use Rattle.drain_grid.proofs.Patches.{IsOpen-patch_at, neighbor-patch_at, cell_shown, shown_cell}
-use Rattle.drain_grid.proofs.Slopes.{lower_shown, HasLower-lower_cell, steepest_cell, IsSteepest-cell}
-use Rattle.drain_grid.specs.declared.judged.Judged.TheVariants.{Con, ConDir, ConDirAcc, ConDirBas}
-use Rattle.drain_laws.specs.PartOf.{joined}
-use Rattle.std.proofs.Common.{ℕ, zero, suc, ◌<◌, ◌≤◌, ◌⊎◌, inl, inr, subst, arith, ◌≡◌, ◌∙◌, pos, ◌+ℤ◌, ◌≤ℤ◌, Option, Some, None, option_map, refl, sym, ap}
-use Rattle.std.proofs.lemmas.Bool.{cases_lt, cases_order}
-use Rattle.drain_grid.proofs.Decisions.{Decision, cases}
-use Rattle.std.specs.Int.{int_max}
-use Rattle.drain_grid.specs.declared.direction.Direction.{Direction}
-use Rattle.drain_grid.specs.declared.rule.Rule.{Rule}
-use Rattle.drain_grid.specs.declared.rule.Rule.TheVariants.{VoidCell, Missing, OpenRaised, NotLeast, Slope, OutletCode, FlatStep, Accumulation, Label, SharedLabel}
-use Rattle.drain_grid.specs.Direction.{directions}
-use Rattle.drain_grid.specs.Extent.{step}
-use Rattle.drain_grid.specs.Values.{Values, NoDataNumbers}
-use Rattle.drain_grid.specs.PatchRules.{inflow, NotLeastHolds, SlopeHolds, OutletCodeHolds, AccumulationHolds, LabelHolds, OpenRaisedWithoutSpill}
-use Rattle.drain_grid.specs.Unranked.{unranked, LevelStepHolds}
-use Rattle.drain_grid.specs.Rule.{IsBetween}
-use Rattle.drain_grid.specs.GridRules.{HoldsAt}
-use Rattle.drain_grid.proofs.WithoutRanks.{total-same}
+use Rattle.drain_laws.proofs.Names.{Cell, Grid, Products, IsInside, patch_at, HasData, height_at, values_at, IsOpen, HasLower, neighbor, IsLowerCell, IsSteepestCell, IsOpen-patch_at, neighbor-patch_at, cell_shown, shown_cell, lower_shown, HasLower-lower_cell, steepest_cell, IsSteepest-cell, Con, ConDir, ConDirAcc, ConDirBas, joined, ℕ, zero, suc, ◌<◌, ◌≤◌, ◌⊎◌, inl, inr, subst, arith, ◌≡◌, ◌∙◌, pos, ◌+ℤ◌, ◌≤ℤ◌, Option, Some, None, option_map, refl, sym, ap, cases_lt, cases_order, Decision, cases, int_max, Direction, Rule, VoidCell, Missing, OpenRaised, NotLeast, Slope, OutletCode, FlatStep, Accumulation, Label, SharedLabel, directions, step, Values, NoDataNumbers, inflow, NotLeastHolds, SlopeHolds, OutletCodeHolds, AccumulationHolds, LabelHolds, OpenRaisedWithoutSpill, unranked, LevelStepHolds, IsBetween, HoldsAt, total-same}
 
 -- What is lower, steepest and open looks at heights alone.
 

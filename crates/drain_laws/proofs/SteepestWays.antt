@@ -1,16 +1,6 @@
 -- Where a neighbour is lower, one is steepest: the best of the directions, one after another.
-use Rattle.std.proofs.Common.{◌≡◌, ◌≤ℤ◌, ◌⊎◌, inl, inr, List, [], ◌∷◌, refl, sym, ap, ◌∙◌, subst, arith}
-use Rattle.std.proofs.lemmas.Int.{ints, by_lt_z}
-use Rattle.drain_grid.specs.declared.direction.Direction.{Direction}
+use Rattle.drain_laws.proofs.Names.{◌≡◌, ◌≤ℤ◌, ◌⊎◌, inl, inr, List, [], ◌∷◌, refl, sym, ap, ◌∙◌, subst, arith, ints, by_lt_z, Direction, Patch, directions, neighbor, IsLower, IsLowerAt, HasLower, key_to, IsSteepest, Values, cases, same_some, is_lower_at}
 use Rattle.drain_grid.specs.declared.direction.Direction.TheVariants.{East, SouthEast, South, SouthWest, West, NorthWest, North, NorthEast}
-use Rattle.drain_grid.specs.declared.patch.Patch.{Patch}
-use Rattle.drain_grid.specs.Direction.{directions}
-use Rattle.drain_grid.specs.Patch.{neighbor, IsLower, IsLowerAt, HasLower}
-use Rattle.drain_grid.specs.Slope.{key_to, IsSteepest}
-use Rattle.drain_grid.specs.Values.{Values}
-use Rattle.drain_grid.proofs.Decisions.{cases}
-use Rattle.drain_grid.proofs.Tallies.{same_some}
-use Rattle.drain_grid.proofs.PatchDecisions.{is_lower_at}
 
 -- the direction is in the list
 abbrev IsIn : Direction → List Direction → Type 0

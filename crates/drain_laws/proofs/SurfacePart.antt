@@ -1,28 +1,7 @@
 -- A surface is part of a correct set exactly where it is the filled surface, and its no-data number stands exactly at voids.
 -- A filled surface drains, so it has directions (ChosenWays) with which every run ends; the rest is the law about given
 -- rasters with directions.
-use Rattle.std.proofs.Common.{◌≢◌, inl, inr, ℤ, ◌≤ℤ◌, negsuc, [], sym, ◌∙◌, subst, arith}
-use Rattle.std.specs.Int.{int_max}
-use Rattle.std.proofs.lemmas.Bool.{false≢true}
-use Rattle.drain_grid.specs.declared.cell.Cell.{Cell}
-use Rattle.drain_grid.specs.declared.rule.Rule.{Rule}
-use Rattle.drain_grid.specs.declared.rule.Rule.TheVariants.{VoidCell, Missing, BadCode, BelowGround, OpenRaised, NotLeast, Slope, OutletCode, FlatStep, Accumulation, Label, SharedLabel}
-use Rattle.drain_grid.specs.Direction.{IsCode}
-use Rattle.drain_grid.specs.Grid.{Grid, Products, IsInside, HasData, height_at, patch_at}
-use Rattle.drain_grid.specs.GridRules.{HoldsAt, RulesHold}
-use Rattle.drain_grid.specs.PatchRules.{NotLeastHolds, OpenRaisedWithoutSpill, flow_rules}
-use Rattle.drain_grid.specs.Path.{IsLeastSurface}
-use Rattle.drain_grid.specs.Rule.{IsBetween, IsWayRule}
-use Rattle.drain_grid.specs.Run.{RunEnds}
-use Rattle.drain_grid.specs.Unranked.{unranked}
-use Rattle.drain_grid.specs.Values.{Values, NoDataNumbers}
-use Rattle.drain_grid.proofs.Lowered.{HasData-path, least_at_open, least_beside}
-use Rattle.drain_grid.proofs.Neighbors.{AreNeighbors-lies}
-use Rattle.drain_grid.proofs.Patches.{IsOpen-patch_at, cell_shown}
-use Rattle.drain_grid.proofs.Runs.{runs_end}
-use Rattle.drain_grid.specs.declared.judged.Judged.TheVariants.{Con, ConDir}
-use Rattle.drain_laws.specs.PartOf.{SurfaceIsPart, IsPartOfCorrect, IsRightSurface, joined, joined_numbers}
-use Rattle.drain_grid.specs.RulesAbout.{IsPartRule, part_rules}
+use Rattle.drain_laws.proofs.Names.{◌≢◌, inl, inr, ℤ, ◌≤ℤ◌, negsuc, [], sym, ◌∙◌, subst, arith, int_max, false≢true, Cell, Rule, VoidCell, Missing, BadCode, BelowGround, OpenRaised, NotLeast, Slope, OutletCode, FlatStep, Accumulation, Label, SharedLabel, IsCode, Grid, Products, IsInside, HasData, height_at, patch_at, HoldsAt, RulesHold, NotLeastHolds, OpenRaisedWithoutSpill, flow_rules, IsLeastSurface, IsBetween, IsWayRule, RunEnds, unranked, Values, NoDataNumbers, HasData-path, least_at_open, least_beside, AreNeighbors-lies, IsOpen-patch_at, cell_shown, runs_end, Con, ConDir, SurfaceIsPart, IsPartOfCorrect, IsRightSurface, joined, joined_numbers, IsPartRule, part_rules}
 use Rattle.drain_laws.proofs.ChosenWays.{routed, void_code, data_code, way_rules}
 use Rattle.drain_laws.proofs.PartLocal.{part_holds, to_part}
 

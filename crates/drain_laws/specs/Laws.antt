@@ -1,18 +1,13 @@
 -- What padding with voids keeps: the rules, the first fault, the verdict, the counts, the runs, and what correct
 -- products mean.
-use Rattle.std.specs.Prelude.{◌≡◌, ◌≤◌, ◌↔◌, Bool, ◌&&◌}
+use Rattle.std.specs.Prelude.{◌≡◌, ◌≤◌, ◌↔◌, ◌&&◌}
+use Rattle.drain_laws.specs.Names.{Bool, Cell, NoDataNumbers, Grid, Products, IsInside, HasData, IsOpenCell, is_data, data_count, raised_count, HoldsAt, IsFirstFault, run, RunEnds, upstream_count, ShareBasin, IsCorrect}
 use Rattle.std.specs.List.{count_by}
-use Rattle.drain_grid.specs.declared.cell.Cell.{Cell}
 use Rattle.drain_grid.specs.declared.rule.Rule.{Rule}
 use Rattle.drain_grid.specs.Extent.{Extent, cells}
-use Rattle.drain_grid.specs.Values.{NoDataNumbers}
-use Rattle.drain_grid.specs.Grid.{Grid, Products, IsInside, HasData, IsOpenCell}
-use Rattle.drain_grid.specs.GridRules.{is_data, data_count, raised_count, HoldsAt, IsFirstFault}
 use Rattle.drain_grid.specs.Rule.{IsAnyRule}
 use Rattle.drain_grid.specs.PatchRules.{Profile, check_rules}
 use Rattle.drain_grid.specs.Unranked.{unranked, RanksAreSteps, IsFirstEndless}
-use Rattle.drain_grid.specs.Run.{run, RunEnds, upstream_count, ShareBasin}
-use Rattle.drain_grid.specs.Correct.{IsCorrect}
 use Rattle.drain_grid.specs.declared.verdict.Verdict.{Verdict}
 use Rattle.drain_grid.specs.declared.verdict.Verdict.TheVariants.{Accepted, Rejected}
 use Rattle.drain_rules.specs.Verdicts.{outlet_count, IsVerdictOf}

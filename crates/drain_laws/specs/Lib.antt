@@ -1,3 +1,4 @@
+pub mod Names
 pub mod Floats
 pub mod Laws
 pub mod Padding

@@ -1,9 +1,6 @@
 -- A grid padded with voids: a larger grid, in which it lies from the first row and column on. This project's own.
-use Rattle.std.specs.Prelude.{◌≡◌, ℕ, ◌<◌, ◌≤◌, IsNone}
-use Rattle.drain_grid.specs.declared.cell.Cell.{Cell}
-use Rattle.drain_grid.specs.Values.{NoDataNumbers}
-use Rattle.drain_grid.specs.Grid.{Grid, Products, IsInside}
-use Rattle.drain_grid.specs.Correct.{IsBlankAt}
+use Rattle.std.specs.Prelude.{◌≡◌, ◌<◌, ◌≤◌}
+use Rattle.drain_laws.specs.Names.{ℕ, IsNone, Cell, NoDataNumbers, Grid, Products, IsInside, IsBlankAt}
 
 -- p is g with voids after its last row and after its last column, and its rows are spaced as those of g; sinks listed
 -- at those voids play no part

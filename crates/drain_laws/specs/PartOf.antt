@@ -1,14 +1,9 @@
 -- What it means that judged rasters are right: they are part of a correct set.
-use Rattle.std.specs.Prelude.{◌≡◌, ◌≢◌, IsNone, ◌↔◌}
-use Rattle.drain_grid.specs.declared.cell.Cell.{Cell}
-use Rattle.drain_grid.specs.Correct.{IsCorrect}
-use Rattle.drain_grid.specs.Grid.{Grid, Products, HasData, IsInside}
+use Rattle.std.specs.Prelude.{◌≡◌, ◌≢◌, ◌↔◌}
+use Rattle.drain_laws.specs.Names.{IsNone, Cell, IsCorrect, Grid, Products, HasData, IsInside, NoDataNumbers, RulesHold, RunEnds}
 use Rattle.drain_grid.specs.Path.{IsLeastSurface}
-use Rattle.drain_grid.specs.Values.{NoDataNumbers}
 use Rattle.drain_grid.specs.declared.judged.Judged.{Judged}
 use Rattle.drain_grid.specs.declared.judged.Judged.TheVariants.{Con, ConDir, ConDirAcc, ConDirBas, All, AllWithRanks}
-use Rattle.drain_grid.specs.GridRules.{RulesHold}
-use Rattle.drain_grid.specs.Run.{RunEnds}
 use Rattle.drain_grid.specs.RulesAbout.{IsPartRule, part_rules}
 
 -- the judged rasters of one set, and the others of another

@@ -1,21 +1,5 @@
 -- A fault of a window that lies in a box is at a cell of the box.
-use Rattle.std.proofs.Common.{◌≡◌, ℕ, ◌+◌, ◌-◌, ◌^◌, ◌<◌, ◌≤◌, min, Some, List, ap, arith}
-use Rattle.std.proofs.lemmas.List.Elements.{All-contains}
-use Rattle.drain_grid.specs.declared.cell.Cell.{Cell}
-use Rattle.drain_grid.proofs.Neighbors.{place}
-use Rattle.drain_grid.proofs.Tallies.{none_some, same_some}
-use Rattle.drain_union.specs.Joins.{LiesInBox}
-use Rattle.drain_union.specs.Windows.{in_union}
-use Rattle.drain_union.specs.declared.place.Place.{Place}
-use Rattle.drain_union.specs.declared.report.WindowReport.{WindowReport}
-use Rattle.drain_union.specs.declared.verdict.Fault.{Fault}
-use Rattle.drain_union.specs.declared.verdict.UnionVerdict.{UnionVerdict}
-use Rattle.drain_union.specs.declared.verdict.UnionVerdict.TheVariants.{Accepted, Rejected}
-use Rattle.drain_union.proofs.ReportMerges.{to_map}
-use Rattle.drain_merge.specs.BoxReports.{EndFit}
-use Rattle.drain_merge.specs.Merges.{FillBox}
-use Rattle.drain_merge.specs.Places.{places_of}
-use Rattle.drain_merge.specs.Seams.{fault_in, IsFirstOfFaults}
+use Rattle.drain_merge.proofs.Names.{◌≡◌, ℕ, ◌+◌, ◌-◌, ◌^◌, ◌<◌, ◌≤◌, min, Some, List, ap, arith, All-contains, Cell, place, none_some, same_some, LiesInBox, in_union, Place, WindowReport, Fault, UnionVerdict, Accepted, Rejected, to_map, EndFit, FillBox, places_of, fault_in, IsFirstOfFaults}
 
 -- the cell from the box's first one on, and back
 counted : (box : Place) (c d : Cell) → box.top ≤ c.row → box.left ≤ c.col → d ≡ record { row = c.row - box.top; col = c.col - box.left } → in_union box d ≡ c

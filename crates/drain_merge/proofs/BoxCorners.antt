@@ -1,14 +1,6 @@
 -- From a judged cell the next one east is judged at the same place, or its column is the end of that place's judged
 -- ones; south likewise.
-use Rattle.std.proofs.Common.{◌≡◌, ℕ, zero, suc, ◌<◌, ◌≤◌, inl, inr, List, arith}
-use Rattle.std.specs.List.{Contains}
-use Rattle.drain_grid.specs.declared.cell.Cell.{Cell}
-use Rattle.drain_grid.proofs.Decisions.{cases, less_number}
-use Rattle.drain_grid.proofs.Neighbors.{place}
-use Rattle.drain_union.specs.declared.place.Place.{Place}
-use Rattle.drain_union.specs.Windows.{IsJudgedAtSome, judged_top, judged_left, judged_bottom, judged_right}
-use Rattle.drain_union.proofs.ApartPlaces.{IsWithinEdges, edges_within, within_edges}
-use Rattle.drain_merge.specs.Unjudged.{IsCornerRow, IsCornerCol, CornersTellBox}
+use Rattle.drain_merge.proofs.Names.{◌≡◌, ℕ, zero, suc, ◌<◌, ◌≤◌, inl, inr, List, arith, Contains, Cell, cases, less_number, place, Place, IsJudgedAtSome, judged_top, judged_left, judged_bottom, judged_right, IsWithinEdges, edges_within, within_edges, IsCornerRow, IsCornerCol, CornersTellBox}
 
 -- a judged cell of the union, by the edges of the place that judges it
 some_within : (places : List Place) (c : Cell) → IsJudgedAtSome places c → (p : Place) × Contains places p × IsWithinEdges p c

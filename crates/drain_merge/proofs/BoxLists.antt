@@ -1,23 +1,7 @@
 -- What the report of a box lists, from the sorted lists of its windows.
-use Rattle.std.proofs.Common.{◌≡◌, ◌↔◌, ℕ, ◌+◌, ◌-◌, ◌<◌, ◌≤◌, min, inl, inr, List, [], ◌∷◌, ◌++◌, length, slice_index_or, sym, ap, subst, ◌∙◌, below_more, arith}
-use Rattle.std.specs.List.{All, Contains}
-use Rattle.std.specs.List.Sorted.{IsPermutation}
+use Rattle.drain_merge.proofs.Names.{◌≡◌, ◌↔◌, ℕ, ◌+◌, ◌-◌, ◌<◌, ◌≤◌, min, inl, inr, List, [], ◌∷◌, ◌++◌, length, slice_index_or, sym, ap, subst, ◌∙◌, below_more, arith, All, Contains, IsPermutation, length-append, All-contains, Contains-permutation, IsPermutation-sym, Distances, unit_spacing, Cell, IsSortedByLabel, ShowTheSame, spacing_at, Place, Outlet, Shown, WindowReport, pairs, AreAll, HasRow, IsSpacingOfRow, spacing_in, SpacesBox, HaveOneSpacing, HaveRowsAlike, all_outlets, all_seams, all_sinks}
 use Rattle.std.proofs.Math.ListN.{get_or-append}
 use Rattle.std.proofs.Math.Seq.{get_or-append_seam}
-use Rattle.std.proofs.lemmas.List.{length-append}
-use Rattle.std.proofs.lemmas.List.Elements.{All-contains}
-use Rattle.std.proofs.lemmas.List.Sorted.{Contains-permutation, IsPermutation-sym}
-use Rattle.drain_grid.specs.Spacing.{Distances, unit_spacing}
-use Rattle.drain_grid.specs.declared.cell.Cell.{Cell}
-use Rattle.drain_union.specs.Reports.{IsSortedByLabel, ShowTheSame, spacing_at}
-use Rattle.drain_union.specs.declared.place.Place.{Place}
-use Rattle.drain_union.specs.declared.report.Outlet.{Outlet}
-use Rattle.drain_union.specs.declared.report.Shown.{Shown}
-use Rattle.drain_union.specs.declared.report.WindowReport.{WindowReport}
-use Rattle.drain_union.proofs.ReportMerges.{pairs}
-use Rattle.drain_merge.specs.BoxReports.{AreAll, HasRow, IsSpacingOfRow, spacing_in, SpacesBox}
-use Rattle.drain_merge.specs.Merges.{HaveOneSpacing, HaveRowsAlike}
-use Rattle.drain_merge.specs.Places.{all_outlets, all_seams, all_sinks}
 use Rattle.drain_merge.proofs.OuterSeams.{AreOuterOf}
 
 permuted : {X : Type 0} (xs ys : List X) → IsPermutation xs ys → (x : X) → Contains ys x ↔ Contains xs x

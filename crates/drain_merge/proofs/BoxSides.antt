@@ -1,6 +1,5 @@
 -- A place lies in a box where its rows and its columns do.
-use Rattle.drain_union.specs.declared.place.Place.{Place}
-use Rattle.drain_union.specs.Joins.{LiesInBox}
+use Rattle.drain_merge.proofs.Names.{Place, LiesInBox}
 use Rattle.drain_merge.specs.Boxes.{ColsLieIn, RowsLieIn}
 
 pub in_box : (box p : Place) → RowsLieIn box p → ColsLieIn box p → LiesInBox box p

@@ -1,17 +1,5 @@
 -- The first crossing of corner rows and corner columns that isn't judged is the first cell of the box that isn't.
-use Rattle.std.proofs.Common.{◌≡◌, ℕ, ◌<◌, ◌≤◌, arith, suc, ◌⊎◌, inl, inr, Option, Some, None, List, [], ◌∷◌, ◌++◌, length, slice_index, map, sym, subst}
-use Rattle.drain_grid.proofs.Neighbors.{place}
-use Rattle.drain_union.specs.declared.place.Place.{Place}
-use Rattle.drain_union.specs.Windows.{IsJudgedAt, IsJudgedAtSome, judged_bottom, judged_left, judged_right, judged_top}
-use Rattle.drain_union.proofs.ApartPlaces.{edges_within, within_edges}
-use Rattle.std.specs.List.{Contains}
-use Rattle.std.specs.List.Sorted.{IsPermutation, IsNonDecreasing}
-use Rattle.std.proofs.lemmas.List.Elements.{Contains-append_left, Contains-push}
-use Rattle.std.proofs.lemmas.List.Sorted.{Contains-permutation}
-use Rattle.drain_grid.specs.declared.cell.Cell.{Cell}
-use Rattle.drain_grid.specs.Extent.{IsEarlier}
-use Rattle.drain_union.proofs.ReportMerges.{to_map}
-use Rattle.drain_merge.specs.Unjudged.{IsCornerRow, IsCornerCol, IsJudgedCrossing, IsNewBetween, IsFirstInRow, IsFirstCrossing, IsFirstUnjudged}
+use Rattle.drain_merge.proofs.Names.{◌≡◌, ℕ, ◌<◌, ◌≤◌, arith, suc, ◌⊎◌, inl, inr, Option, Some, None, List, [], ◌∷◌, ◌++◌, length, slice_index, map, sym, subst, place, Place, IsJudgedAt, IsJudgedAtSome, judged_bottom, judged_left, judged_right, judged_top, edges_within, within_edges, Contains, IsPermutation, IsNonDecreasing, Contains-append_left, Contains-push, Contains-permutation, Cell, IsEarlier, to_map, IsCornerRow, IsCornerCol, IsJudgedCrossing, IsNewBetween, IsFirstInRow, IsFirstCrossing, IsFirstUnjudged}
 use Rattle.drain_merge.proofs.BoxCorners.{judged_if_corners_are, corners_tell_box}
 use Rattle.drain_merge.proofs.NewNumbers.{Passed, all_passed, passed_before, held_at}
 

@@ -1,7 +1,5 @@
 -- One element more of a list, in a search for the first element without a property.
-use Rattle.std.proofs.Common.{◌≡◌, ℕ, ◌+◌, ◌<◌, List, length, slice_index_or, subst, ◌∙◌, below_more, arith}
-use Rattle.std.specs.List.{AllWithin}
-use Rattle.std.proofs.lemmas.List.{get_or_default}
+use Rattle.drain_merge.proofs.Names.{◌≡◌, ℕ, ◌+◌, ◌<◌, List, length, slice_index_or, subst, ◌∙◌, below_more, arith, AllWithin, get_or_default}
 
 -- an element that was read is the one at its place
 pub at_place : {X : Type 0} (P : X → Type 0) (xs : List X) (i : ℕ) (x : X) → i < length xs → x ≡ slice_index_or xs i x → P x →

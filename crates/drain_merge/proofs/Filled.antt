@@ -1,18 +1,7 @@
 -- Where places are laid on one another all over a box, from its first judged row to its last, each cell that it judges is
 -- judged once.
-use Rattle.std.proofs.Common.{◌≡◌, ℕ, zero, suc, ◌+◌, ◌-◌, ◌<◌, ◌≤◌, inl, inr, List, [], ◌∷◌, length, slice_index, slice_index_or, take, refl, ap, ◌∙◌, subst, arith}
-use Rattle.std.specs.List.{AllPairs, Contains, sum_by}
-use Rattle.std.specs.List.Sorted.{IsNonDecreasing, IsPermutation}
-use Rattle.std.proofs.lemmas.List.{get_or_default, get_or-take, length-take-le}
-use Rattle.std.proofs.lemmas.List.Elements.{All-contains, Contains-get_or}
-use Rattle.std.proofs.lemmas.List.Sorted.{Contains-permutation, sum_by-IsPermutation}
-use Rattle.std.proofs.lemmas.List.Sums.{sum_by-cons, sum_by_more, sum_by-take-le, get_or-le-sum_by}
-use Rattle.drain_grid.specs.declared.cell.Cell.{Cell}
-use Rattle.drain_grid.proofs.Decisions.{cases, less_number}
-use Rattle.drain_union.specs.declared.place.Place.{Place}
-use Rattle.drain_union.specs.Windows.{BothJudgeOne, IsJudgedAt, IsJudgedAtSome, judged_top, judged_left, judged_bottom, judged_right}
-use Rattle.drain_union.proofs.ApartPlaces.{within_edges}
-use Rattle.drain_merge.specs.Filling.{AreEndsOf, AreLaid, Fill, IsBetweenEnds, ReachAllOver, times, within}
+use Rattle.drain_merge.proofs.Names.{◌≡◌, ℕ, zero, suc, ◌+◌, ◌-◌, ◌<◌, ◌≤◌, inl, inr, List, [], ◌∷◌, length, slice_index, slice_index_or, take, refl, ap, ◌∙◌, subst, arith, AllPairs, Contains, sum_by, IsNonDecreasing, IsPermutation, get_or_default, length-take-le, All-contains, Contains-get_or, Contains-permutation, sum_by-IsPermutation, sum_by-cons, sum_by_more, sum_by-take-le, get_or-le-sum_by, Cell, cases, less_number, Place, BothJudgeOne, IsJudgedAt, IsJudgedAtSome, judged_top, judged_left, judged_bottom, judged_right, within_edges, AreEndsOf, AreLaid, Fill, IsBetweenEnds, ReachAllOver, times, within}
+use Rattle.std.proofs.lemmas.List.{get_or-take}
 use Rattle.drain_merge.proofs.Layers.{judged_times, times_judged, within_cases, within_one}
 
 -- Terms of a sum.

@@ -1,17 +1,8 @@
 -- One window more, in a search for the first of the windows' faults; pairs of a list, and the first of them.
-use Rattle.std.proofs.Common.{◌≡◌, ℕ, ◌+◌, ◌<◌, List, length, slice_index_or, take, subst, ◌∙◌, below_more, arith, get_or-take, inl, inr, Option, Some, None, [], ◌∷◌, ◌++◌, refl, sym, ap}
-use Rattle.std.specs.List.{All, Contains, HoldsAt}
-use Rattle.std.specs.List.Sorted.{IsPermutation}
-use Rattle.std.proofs.lemmas.List.{length-take-le, take_more}
-use Rattle.std.proofs.lemmas.List.Sorted.{Contains-permutation, IsPermutation-sym}
-use Rattle.std.proofs.lemmas.List.Elements.{Contains-append_left, Contains-push, Contains-push_cases}
-use Rattle.drain_union.proofs.FirstFaults.{pair_trans}
-use Rattle.drain_union.specs.declared.verdict.Fault.{Fault}
-use Rattle.drain_union.specs.declared.report.WindowReport.{WindowReport}
+use Rattle.drain_merge.proofs.Names.{◌≡◌, ℕ, ◌+◌, ◌<◌, List, length, slice_index_or, take, subst, ◌∙◌, below_more, arith, inl, inr, Option, Some, None, [], ◌∷◌, ◌++◌, refl, sym, ap, All, Contains, IsPermutation, length-take-le, take_more, Contains-permutation, IsPermutation-sym, Contains-append_left, Contains-push, Contains-push_cases, pair_trans, Fault, WindowReport, union_fault, ComesBefore, IsEarlierFault, IsFirstOfFaults, earlier_differs, none_some, same_some}
+use Rattle.std.proofs.Common.{get_or-take}
+use Rattle.std.specs.List.{HoldsAt}
 use Rattle.drain_merge.proofs.Elements.{at_place}
-use Rattle.drain_merge.specs.Seams.{union_fault, ComesBefore, IsEarlierFault, IsFirstOfFaults}
-use Rattle.drain_grid.proofs.Alike.{earlier_differs}
-use Rattle.drain_grid.proofs.Tallies.{none_some, same_some}
 
 -- what holds of any two elements of a list holds of any two of one with the same elements
 pub both_permuted : {X : Type 0} (R : X → X → Type 0) (xs ys : List X) → IsPermutation xs ys → ((x y : X) → Contains ys x → Contains ys y → R x y) →

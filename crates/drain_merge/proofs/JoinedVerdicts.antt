@@ -1,26 +1,5 @@
 -- The verdict that the verdicts on windows make of the box that they fill is that on what their union shows there.
-use Rattle.std.proofs.Common.{◌≡◌, ℕ, List, map, refl, sym, ap, subst, ◌∙◌, arith}
-use Rattle.std.specs.List.{Contains}
-use Rattle.drain_grid.specs.declared.cell.Cell.{Cell}
-use Rattle.drain_grid.specs.Extent.{IsCellOf}
-use Rattle.drain_grid.specs.Grid.{Grid, Products}
-use Rattle.drain_grid.specs.GridRules.{is_data, is_raised}
-use Rattle.drain_rules.specs.Verdicts.{has_outlet_code}
-use Rattle.drain_union.specs.declared.place.Place.{Place}
-use Rattle.drain_union.specs.declared.place.TheConstants.{SEAM_DEPTH}
-use Rattle.drain_union.specs.declared.report.WindowReport.{WindowReport}
-use Rattle.drain_union.specs.declared.verdict.UnionVerdict.{UnionVerdict}
-use Rattle.drain_union.specs.declared.verdict.UnionVerdict.TheVariants.{Accepted, Rejected}
-use Rattle.drain_union.specs.Joins.{FillPlace, shown_at}
-use Rattle.drain_union.specs.Reports.{Agree, Report}
-use Rattle.drain_union.specs.Windows.{AreWindowsFrom, in_union, IsFirstInside, IsFrom, Window}
-use Rattle.drain_union.proofs.JoinedCounts.{join_adds_up}
-use Rattle.drain_union.proofs.JoinedFaults.{join_tells_fault}
-use Rattle.drain_union.proofs.JudgedCounts.{judged_most, one_cell}
-use Rattle.drain_merge.specs.BoxReports.{IsJoin, IsJoinedVerdict, IsOfBox}
-use Rattle.drain_merge.specs.Seams.{cell_there}
-use Rattle.drain_merge.specs.Totals.{capped}
-use Rattle.drain_merge.specs.UnionVerdicts.{AreJudgedFrom, IsVerdictInside, windows_of}
+use Rattle.drain_merge.proofs.Names.{◌≡◌, ℕ, List, map, refl, sym, ap, subst, ◌∙◌, arith, Contains, Cell, IsCellOf, Grid, Products, is_data, is_raised, has_outlet_code, Place, SEAM_DEPTH, WindowReport, UnionVerdict, Accepted, Rejected, FillPlace, shown_at, Agree, Report, AreWindowsFrom, in_union, IsFirstInside, IsFrom, Window, join_adds_up, join_tells_fault, judged_most, one_cell, IsJoin, IsJoinedVerdict, IsOfBox, cell_there, capped, AreJudgedFrom, IsVerdictInside, windows_of}
 use Rattle.drain_merge.proofs.JoinedWindows.{filled, lies, placed, report, short_cols, short_rows}
 use Rattle.drain_merge.proofs.JudgedWindows.{apart, first_inside, sums_of_judged, there_is, window_places}
 use Rattle.drain_merge.proofs.MergedCounts.{fits}

@@ -1,30 +1,7 @@
 -- Windows that fill the smallest box that holds them: where the box lies in each union of which they are windows, and that
 -- the report that theirs make is of what the union shows there.
-use Rattle.std.proofs.Common.{◌≡◌, ◌↔◌, ℕ, ◌+◌, ◌-◌, ◌^◌, ◌<◌, ◌≤◌, min, max, ◌⊎◌, inl, inr, Bool, List, [], ◌∷◌, length, slice_index_or, map, fold, IsTrue, refl, sym, ap, subst, ◌∙◌, arith}
-use Rattle.std.specs.List.{Contains}
-use Rattle.std.proofs.lemmas.Bool.{cases_Bool, false_from_ne_true, false≢true}
-use Rattle.std.proofs.lemmas.List.Elements.{All-contains, Contains-get_or}
-use Rattle.drain_grid.specs.declared.cell.Cell.{Cell}
-use Rattle.drain_grid.specs.Grid.{Grid, Products}
-use Rattle.drain_grid.specs.Values.{NoDataNumbers}
-use Rattle.drain_grid.proofs.Decisions.{cases, less_number}
-use Rattle.drain_union.specs.declared.place.Place.{Place}
-use Rattle.drain_union.specs.declared.place.TheConstants.{SEAM_DEPTH}
-use Rattle.drain_union.specs.declared.report.WindowReport.{WindowReport}
-use Rattle.drain_union.specs.declared.verdict.UnionVerdict.{UnionVerdict}
-use Rattle.drain_union.specs.declared.verdict.UnionVerdict.TheVariants.{Accepted, Rejected}
-use Rattle.drain_union.specs.Joins.{FillPlace, IsJoined, LiesInBox, shown_at}
-use Rattle.drain_union.specs.Reports.{is_accepted, IsReportOf, Report}
-use Rattle.drain_union.specs.Windows.{AreWindowsFrom, in_union, IsFrom, IsPlaceIn, JudgesSome, place_from, RulesHoldInside, Window}
+use Rattle.drain_merge.proofs.Names.{◌≡◌, ◌↔◌, ℕ, ◌+◌, ◌-◌, ◌^◌, ◌<◌, ◌≤◌, min, max, ◌⊎◌, inl, inr, Bool, List, [], ◌∷◌, length, slice_index_or, map, fold, IsTrue, refl, sym, ap, subst, ◌∙◌, arith, Contains, cases_Bool, false_from_ne_true, false≢true, All-contains, Contains-get_or, Cell, Grid, Products, NoDataNumbers, cases, less_number, Place, SEAM_DEPTH, WindowReport, UnionVerdict, Accepted, Rejected, FillPlace, IsJoined, LiesInBox, shown_at, is_accepted, IsReportOf, Report, AreWindowsFrom, in_union, IsFrom, IsPlaceIn, JudgesSome, place_from, RulesHoldInside, Window, from_inside, join_is_report, to_map, IsJoin, greatest_by, least_by, left_of, top_of, places_of, reports_of, AreJudgedFrom, IsVerdictInside, windows_of, North, South, West, East}
 use Rattle.drain_union.proofs.FilledPlaces.{fill_by_edges, inside}
-use Rattle.drain_union.proofs.GroupWindows.{from_inside}
-use Rattle.drain_union.proofs.JoinedReports.{join_is_report}
-use Rattle.drain_union.proofs.ReportMerges.{to_map}
-use Rattle.drain_merge.specs.BoxReports.{IsJoin}
-use Rattle.drain_merge.specs.MapBoxes.{greatest_by, least_by, left_of, top_of}
-use Rattle.drain_merge.specs.Places.{places_of, reports_of}
-use Rattle.drain_merge.specs.UnionVerdicts.{AreJudgedFrom, IsVerdictInside, windows_of}
-use Rattle.drain_merge.specs.declared.smallest_box.Side.TheVariants.{North, South, West, East}
 use Rattle.drain_merge.proofs.JudgedWindows.{at_places, from_reports, to_window}
 use Rattle.drain_merge.proofs.SortedSeams.{first_one, later_one, same_places}
 

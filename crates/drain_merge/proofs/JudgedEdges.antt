@@ -1,12 +1,6 @@
 -- The edges of judged rows and columns show whether a place judges a cell, and whether two places judge one both.
-use Rattle.std.proofs.Common.{◌≡◌, ◌↔◌, ℕ, ◌<◌, max, min, IsTrue, refl, arith}
-use lib.Dec.{ltb}
+use Rattle.drain_merge.proofs.Names.{◌≡◌, ◌↔◌, ℕ, ◌<◌, max, min, IsTrue, refl, arith, ltb, lt-ltb, place, Place, BothJudgeOne, JudgesSome, in_union, judged_bottom, judged_left, judged_right, judged_top, edges_within, meeting, within_edges}
 use borrow.Author.Tests.{ltb-true}
-use Rattle.std.proofs.lemmas.Bool.{lt-ltb}
-use Rattle.drain_grid.proofs.Neighbors.{place}
-use Rattle.drain_union.specs.declared.place.Place.{Place}
-use Rattle.drain_union.specs.Windows.{BothJudgeOne, JudgesSome, in_union, judged_bottom, judged_left, judged_right, judged_top}
-use Rattle.drain_union.proofs.ApartPlaces.{edges_within, meeting, within_edges}
 
 -- where it has a judged row, a place judges a cell exactly where it has a judged column
 pub some_judged : (p : Place) (left right : ℕ) → left ≡ judged_left p → right ≡ judged_right p → judged_top p < judged_bottom p →

@@ -1,32 +1,5 @@
 -- What is reported of windows says where they lie, whether the rules hold in them, and what they count.
-use Rattle.std.proofs.Common.{◌≡◌, ℕ, ◌+◌, ◌-◌, ◌^◌, ◌<◌, min, zero, suc, ◌⊎◌, inl, inr, Option, Some, None, List, [], ◌∷◌, length, slice_index_or, map, IsTrue, refl, sym, ap, subst, ◌∙◌, arith}
-use Rattle.std.specs.List.{All, AllPairs, Contains, sum_by}
-use Rattle.std.proofs.lemmas.List.{get_or-map, length-map}
-use Rattle.std.proofs.lemmas.List.Elements.{All-contains, Contains-get_or}
-use Rattle.drain_grid.specs.declared.cell.Cell.{Cell}
-use Rattle.drain_grid.specs.Extent.{IsCellOf}
-use Rattle.drain_grid.specs.GridRules.{IsEarlierPair}
-use Rattle.drain_grid.specs.Values.{NoDataNumbers}
-use Rattle.drain_grid.proofs.Neighbors.{place}
-use Rattle.drain_grid.proofs.Tallies.{none_some, same_some}
-use Rattle.drain_union.specs.declared.place.Place.{Place}
-use Rattle.drain_union.specs.declared.place.TheConstants.{SEAM_DEPTH}
-use Rattle.drain_union.specs.declared.report.WindowReport.{WindowReport}
-use Rattle.drain_union.specs.declared.verdict.Fault.{Fault}
-use Rattle.drain_union.specs.declared.verdict.UnionVerdict.{UnionVerdict}
-use Rattle.drain_union.specs.declared.verdict.UnionVerdict.TheVariants.{Accepted, Rejected}
-use Rattle.drain_union.specs.Joins.{LiesInBox}
-use Rattle.drain_union.specs.JudgedCounts.{judged_data, judged_raised, judged_outlets}
-use Rattle.drain_union.specs.Reports.{OverlapInSeams, Report, ShowTheSame}
-use Rattle.drain_union.specs.Windows.{BothJudgeOne, in_union, IsFirstInside, IsNotBefore, JudgesSome, RulesHoldInside, Window}
-use Rattle.drain_union.proofs.ApartPlaces.{apart_in_box}
-use Rattle.drain_union.proofs.JudgedCounts.{listed_same, sum_by_map}
-use Rattle.drain_union.proofs.ReportMerges.{from_map, to_map}
-use Rattle.drain_merge.specs.Merges.{HaveNoData}
-use Rattle.drain_merge.specs.Places.{all_seams, places_of, reports_of}
-use Rattle.drain_merge.specs.Seams.{cell_there, fault_in, IsFirstOfFaults, union_fault}
-use Rattle.drain_merge.specs.Totals.{data_cells_in, data_cells_of, outlets_in, outlets_of, raised_in, raised_of}
-use Rattle.drain_merge.specs.UnionVerdicts.{AreJudgedFrom, IsRejected, IsVerdictInside, SomeIsRejected, windows_of}
+use Rattle.drain_merge.proofs.Names.{◌≡◌, ℕ, ◌+◌, ◌-◌, ◌^◌, ◌<◌, min, zero, suc, ◌⊎◌, inl, inr, Option, Some, None, List, [], ◌∷◌, length, slice_index_or, map, IsTrue, refl, sym, ap, subst, ◌∙◌, arith, All, AllPairs, Contains, sum_by, get_or-map, length-map, All-contains, Contains-get_or, Cell, IsCellOf, IsEarlierPair, NoDataNumbers, place, none_some, same_some, Place, SEAM_DEPTH, WindowReport, Fault, UnionVerdict, Accepted, Rejected, LiesInBox, judged_data, judged_raised, judged_outlets, OverlapInSeams, Report, ShowTheSame, BothJudgeOne, in_union, IsFirstInside, IsNotBefore, JudgesSome, RulesHoldInside, Window, apart_in_box, listed_same, sum_by_map, from_map, to_map, HaveNoData, all_seams, places_of, reports_of, cell_there, fault_in, IsFirstOfFaults, union_fault, data_cells_in, data_cells_of, outlets_in, outlets_of, raised_in, raised_of, AreJudgedFrom, IsRejected, IsVerdictInside, SomeIsRejected, windows_of}
 use Rattle.drain_merge.proofs.SortedSeams.{first_one, in_flat, later_one}
 
 -- what holds of what any two of a list are mapped to holds of any two of the mapped list, and the other way round

@@ -1,16 +1,6 @@
 -- Places that are laid one by one: in the columns from an end up to the next, the judged rows of each begin where those
 -- of the earlier ones end, so each cell above the level there is judged once.
-use Rattle.std.proofs.Common.{◌≡◌, ℕ, ◌+◌, ◌*◌, ◌<◌, ◌≤◌, ◌⊎◌, inl, inr, List, [], ◌∷◌, ◌++◌, length, slice_index, sym, ap, ◌∙◌, subst, arith}
-use Rattle.std.specs.List.{sum_by}
-use Rattle.std.proofs.lemmas.Bool.Decides.{nat_tests}
-use Rattle.std.proofs.lemmas.List.Elements.{All-push}
-use Rattle.std.proofs.lemmas.List.Sums.{sum_by_push}
-use Rattle.drain_grid.specs.declared.cell.Cell.{Cell}
-use Rattle.drain_grid.proofs.Decisions.{cases, less_number}
-use Rattle.drain_union.specs.declared.place.Place.{Place}
-use Rattle.drain_union.specs.Windows.{IsJudgedAt, judged_top, judged_left, judged_bottom, judged_right}
-use Rattle.drain_union.proofs.ApartPlaces.{edges_within, within_edges}
-use Rattle.drain_merge.specs.Filling.{AreLaid, IsBetweenEnds, IsLaid, times, within}
+use Rattle.drain_merge.proofs.Names.{◌≡◌, ℕ, ◌+◌, ◌*◌, ◌<◌, ◌≤◌, ◌⊎◌, inl, inr, List, [], ◌∷◌, ◌++◌, length, slice_index, sym, ap, ◌∙◌, subst, arith, sum_by, nat_tests, All-push, sum_by_push, Cell, cases, less_number, Place, IsJudgedAt, judged_top, judged_left, judged_bottom, judged_right, edges_within, within_edges, AreLaid, IsBetweenEnds, IsLaid, times, within}
 
 -- Numbers from one up to another.
 

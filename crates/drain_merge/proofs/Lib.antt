@@ -1,3 +1,4 @@
+pub mod Names
 pub mod JudgedEdges
 pub mod BoxCorners
 pub mod NewNumbers

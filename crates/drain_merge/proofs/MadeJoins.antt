@@ -1,27 +1,6 @@
 -- What is made of windows that fill a box is the report of a join.
-use Rattle.std.proofs.Common.{◌≡◌, ◌⊎◌, inl, inr, ◌+◌, ◌-◌, true, IsTrue, None, List, slice_index_or, refl, sym, ap, subst, ◌∙◌, arith}
-use Rattle.std.specs.List.{All, Contains}
-use Rattle.std.proofs.lemmas.Bool.{false≢true}
-use Rattle.std.proofs.lemmas.List.Elements.{All-contains}
-use Rattle.drain_grid.specs.declared.cell.Cell.{Cell}
-use Rattle.drain_grid.specs.Values.{NoDataNumbers}
-use Rattle.drain_grid.proofs.Tallies.{none_some}
-use Rattle.drain_union.specs.Joins.{HoldsOuterSeams, IsJoined}
-use Rattle.drain_union.specs.Reports.{Agree, is_accepted, Report, ShowTheSame, SpacedAlike, spacing_at}
-use Rattle.drain_union.specs.declared.place.Place.{Place}
-use Rattle.drain_union.specs.declared.place.TheConstants.{SEAM_DEPTH}
-use Rattle.drain_union.specs.declared.report.Outlet.{Outlet}
-use Rattle.drain_union.specs.declared.report.WindowReport.{WindowReport}
+use Rattle.drain_merge.proofs.Names.{◌≡◌, ◌⊎◌, inl, inr, ◌+◌, ◌-◌, true, IsTrue, None, List, slice_index_or, refl, sym, ap, subst, ◌∙◌, arith, All, Contains, false≢true, All-contains, Cell, NoDataNumbers, none_some, HoldsOuterSeams, IsJoined, Agree, is_accepted, Report, ShowTheSame, SpacedAlike, spacing_at, Place, SEAM_DEPTH, Outlet, WindowReport, UnionVerdict, Accepted, Rejected, from_map, to_map, IsJoin, IsJoinedVerdict, IsJoinOver, IsSmallestBox, HaveGrid, FillBox, HaveNoData, HaveOneNoData, HaveOneSpacing, all_seams, places_of, reports_of, fault_in, SomeIsRejected}
 use Rattle.drain_union.specs.declared.union_grid.UnionGrid.{UnionGrid}
-use Rattle.drain_union.specs.declared.verdict.UnionVerdict.{UnionVerdict}
-use Rattle.drain_union.specs.declared.verdict.UnionVerdict.TheVariants.{Accepted, Rejected}
-use Rattle.drain_union.proofs.ReportMerges.{from_map, to_map}
-use Rattle.drain_merge.specs.BoxReports.{IsJoin, IsJoinedVerdict, IsJoinOver, IsSmallestBox}
-use Rattle.drain_merge.specs.MapBoxes.{HaveGrid}
-use Rattle.drain_merge.specs.Merges.{FillBox, HaveNoData, HaveOneNoData, HaveOneSpacing}
-use Rattle.drain_merge.specs.Places.{all_seams, places_of, reports_of}
-use Rattle.drain_merge.specs.Seams.{fault_in}
-use Rattle.drain_merge.specs.UnionVerdicts.{SomeIsRejected}
 use Rattle.drain_merge.proofs.JudgedWindows.{from_reports, some_rejected}
 use Rattle.drain_merge.proofs.SortedSeams.{from_flat, in_flat}
 

@@ -1,21 +1,5 @@
 -- The verdict in words of lists is the verdict on the union.
-use Rattle.std.proofs.Common.{inl, inr, List, sym, subst, arith}
-use Rattle.drain_grid.specs.declared.cell.Cell.{Cell}
-use Rattle.drain_grid.specs.declared.rule.Rule.{Rule}
-use Rattle.drain_grid.specs.declared.rule.Rule.TheVariants.{SharedLabel}
-use Rattle.drain_grid.specs.Grid.{Grid, Products}
-use Rattle.drain_grid.specs.GridRules.{IsFirstFault}
-use Rattle.drain_grid.specs.Rule.{IsAnyRule, IsPatchRule}
-use Rattle.drain_grid.specs.Extent.{Extent}
-use Rattle.drain_grid.specs.Unranked.{unranked}
-use Rattle.drain_grid.specs.Values.{NoDataNumbers}
-use Rattle.drain_union.specs.declared.report.WindowReport.{WindowReport}
-use Rattle.drain_union.specs.declared.verdict.UnionVerdict.{UnionVerdict}
-use Rattle.drain_union.specs.declared.verdict.UnionVerdict.TheVariants.{Accepted, Rejected}
-use Rattle.drain_merge.specs.Merges.{AreOfOneUnion, IsListVerdict, IsMerged}
-use Rattle.drain_merge.specs.Places.{places_of}
-use Rattle.drain_union.specs.Sizes.{FitsNumbers}
-use Rattle.drain_merge.specs.UnionVerdicts.{IsTriedWith, IsUnionVerdict}
+use Rattle.drain_merge.proofs.Names.{inl, inr, List, sym, subst, arith, Cell, Rule, SharedLabel, Grid, Products, IsFirstFault, IsAnyRule, IsPatchRule, Extent, unranked, NoDataNumbers, WindowReport, UnionVerdict, Accepted, Rejected, AreOfOneUnion, IsListVerdict, IsMerged, places_of, FitsNumbers, IsTriedWith, IsUnionVerdict}
 use Rattle.drain_merge.proofs.WholeBoxes.{as_union, FillUnion}
 use Rattle.drain_merge.proofs.JudgedWindows.{faulty, some_rejected}
 use Rattle.drain_merge.proofs.MergedCounts.{union_counts}

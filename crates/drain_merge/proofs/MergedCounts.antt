@@ -1,22 +1,7 @@
 -- The counts of the reports add up to those of the union's cells.
-use Rattle.std.proofs.Common.{◌≡◌, ℕ, ◌-◌, ◌*◌, ◌^◌, ◌<◌, ◌≤◌, Bool, true, false, cond, None, List, sym, ap, subst, ◌∙◌, arith}
+use Rattle.drain_merge.proofs.Names.{◌≡◌, ℕ, ◌-◌, ◌*◌, ◌^◌, ◌<◌, ◌≤◌, Bool, true, false, cond, None, List, sym, ap, subst, ◌∙◌, arith, is_data, is_raised, Grid, Products, Extent, NoDataNumbers, sum_by_cells_le, has_outlet_code, Window, AreWindowsOf, JudgeAll, Report, WindowReport, counts_add_up, IsFirstOfFaults, places_of, HaveNoData, AreCountsOf, AreUnionCounts, capped, AreJudgedFrom, windows_of}
 use Rattle.std.proofs.lemmas.Nat.{mul-le}
-use Rattle.drain_grid.specs.GridRules.{is_data, is_raised}
-use Rattle.drain_grid.specs.Grid.{Grid, Products}
-use Rattle.drain_grid.specs.Extent.{Extent}
-use Rattle.drain_grid.specs.Values.{NoDataNumbers}
-use Rattle.drain_grid.proofs.CellSums.{sum_by_cells_le}
-use Rattle.drain_rules.specs.Verdicts.{has_outlet_code}
-use Rattle.drain_union.specs.Windows.{Window, AreWindowsOf, JudgeAll}
-use Rattle.drain_union.specs.Reports.{Report}
-use Rattle.drain_union.specs.declared.report.WindowReport.{WindowReport}
-use Rattle.drain_union.proofs.JudgedCounts.{counts_add_up}
 use Rattle.drain_union.specs.declared.verdict.UnionCounts.{UnionCounts}
-use Rattle.drain_merge.specs.Seams.{IsFirstOfFaults}
-use Rattle.drain_merge.specs.Places.{places_of}
-use Rattle.drain_merge.specs.Merges.{HaveNoData}
-use Rattle.drain_merge.specs.Totals.{AreCountsOf, AreUnionCounts, capped}
-use Rattle.drain_merge.specs.UnionVerdicts.{AreJudgedFrom, windows_of}
 use Rattle.drain_merge.proofs.JudgedWindows.{apart, sums_of_judged}
 use Rattle.drain_merge.proofs.MergedUnions.{judge}
 use Rattle.drain_merge.proofs.WholeBoxes.{FillUnion}

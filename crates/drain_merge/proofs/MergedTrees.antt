@@ -1,20 +1,5 @@
 -- The verdict on joined reports is the verdict on all windows for which they stand.
-use Rattle.std.proofs.Common.{◌≡◌, ◌+◌, ◌-◌, ◌⊎◌, inl, inr, None, List, map, refl, sym, ap, subst, ◌∙◌, arith}
-use Rattle.std.specs.List.{Contains}
-use Rattle.std.proofs.lemmas.List.Elements.{All-contains}
-use Rattle.drain_grid.specs.declared.cell.Cell.{Cell}
-use Rattle.drain_grid.specs.Grid.{Grid, Products}
-use Rattle.drain_union.specs.declared.place.Place.{Place}
-use Rattle.drain_union.specs.declared.report.WindowReport.{WindowReport}
-use Rattle.drain_union.specs.Joins.{shown_at}
-use Rattle.drain_union.specs.Reports.{Report}
-use Rattle.drain_union.specs.Windows.{AreWindowsFrom, AreWindowsOf, cut_grid, cut_products, IsFrom, IsWindowOf, moved, place_from, Window, window_from}
-use Rattle.drain_union.proofs.ReportMerges.{from_map, to_map}
-use Rattle.drain_merge.specs.MapBoxes.{box_of, boxed, IsMapVerdict}
-use Rattle.drain_merge.specs.Places.{judged_from}
-use Rattle.drain_merge.specs.Seams.{IsFirstOfFaults}
-use Rattle.drain_merge.specs.Trees.{all_behind, EachStandsFor, MergeOfJoins}
-use Rattle.drain_merge.specs.UnionVerdicts.{AreJudgedFrom, IsJudgedFrom, IsRejected, IsVerdictOn, SomeIsRejected, windows_of}
+use Rattle.drain_merge.proofs.Names.{◌≡◌, ◌+◌, ◌-◌, ◌⊎◌, inl, inr, None, List, map, refl, sym, ap, subst, ◌∙◌, arith, Contains, All-contains, Cell, Grid, Products, Place, WindowReport, shown_at, Report, AreWindowsFrom, AreWindowsOf, cut_grid, cut_products, IsFrom, IsWindowOf, moved, place_from, Window, window_from, from_map, to_map, box_of, boxed, IsMapVerdict, judged_from, IsFirstOfFaults, all_behind, EachStandsFor, MergeOfJoins, AreJudgedFrom, IsJudgedFrom, IsRejected, IsVerdictOn, SomeIsRejected, windows_of}
 use Rattle.drain_merge.specs.declared.map_merge.MapVerdict.{MapVerdict}
 use Rattle.drain_merge.proofs.JudgedWindows.{from_window, some_or_none, to_window}
 use Rattle.drain_merge.proofs.MovedWindows.{box_begins, judged_from_map}

@@ -1,35 +1,10 @@
 -- What is computed from lists says whether the products of the union are correct, and what their first fault is.
-use Rattle.std.proofs.Common.{◌≡◌, ◌^◌, ◌<◌, inl, inr, pos, Some, None, List, IsTrue, sym, ap, subst, ◌∙◌, arith}
-use Rattle.std.specs.List.{Contains}
-use Rattle.std.proofs.lemmas.List.Elements.{All-contains}
-use Rattle.drain_grid.specs.declared.cell.Cell.{Cell}
-use Rattle.drain_grid.specs.declared.rule.Rule.{Rule}
-use Rattle.drain_grid.specs.declared.rule.Rule.TheVariants.{SharedLabel}
+use Rattle.drain_merge.proofs.Names.{◌≡◌, ◌^◌, ◌<◌, inl, inr, pos, Some, None, List, IsTrue, sym, ap, subst, ◌∙◌, arith, Contains, All-contains, Cell, Rule, SharedLabel, IsCellOf, IsEarlier, Extent, Grid, Products, IsInside, HasData, IsEarlierPair, IsFirstFault, IsAnyRule, IsPatchRule, unranked, NoDataNumbers, Outlet, Place, SEAM_DEPTH, ListsOutlets, ShareNoLabel, Report, IsReportOf, CanMerge, ShowTheSame, SpacedAlike, Window, in_union, IsPlaceIn, IsJudgedIn, IsJudgedAtSome, JudgeAll, IsJudgedOutlet, NoLabelIsShared, AreWindowsOf, least_fault_is_first, in_all_of, all_of, from_map, to_map, one_union, Fault, WindowReport, cell_there, IsFirstOfFaults, IsFirstSharing, reports_of, places_of, all_outlets, all_seams, HaveNoData, HaveOneSpacing, AreJudgedFrom, windows_of}
 use Rattle.drain_grid.specs.Correct.{IsCorrect}
-use Rattle.drain_grid.specs.Extent.{IsCellOf, IsEarlier, Extent}
-use Rattle.drain_grid.specs.Grid.{Grid, Products, IsInside, HasData}
-use Rattle.drain_grid.specs.GridRules.{HoldsAt, IsEarlierPair, IsFirstFault}
-use Rattle.drain_grid.specs.Rule.{IsAnyRule, IsPatchRule}
-use Rattle.drain_grid.specs.Unranked.{unranked}
-use Rattle.drain_grid.specs.Values.{NoDataNumbers}
+use Rattle.drain_grid.specs.GridRules.{HoldsAt}
 use Rattle.drain_grid.proofs.Exactly.{correct_by_rules_alone}
-use Rattle.drain_union.specs.declared.report.Outlet.{Outlet}
-use Rattle.drain_union.specs.declared.place.Place.{Place}
-use Rattle.drain_union.specs.declared.place.TheConstants.{SEAM_DEPTH}
-use Rattle.drain_union.specs.Reports.{ListsOutlets, ShareNoLabel, Report, IsReportOf, CanMerge, ShowTheSame, SpacedAlike}
-use Rattle.drain_union.specs.Windows.{Window, in_union, IsPlaceIn, IsJudgedIn, IsJudgedAtSome, JudgeAll, IsJudgedOutlet, NoLabelIsShared, AreWindowsOf}
-use Rattle.drain_union.proofs.FirstFaults.{least_fault_is_first}
-use Rattle.drain_union.proofs.ApartPlaces.{in_all_of}
-use Rattle.drain_union.proofs.JudgedCounts.{all_of}
-use Rattle.drain_union.proofs.ReportMerges.{from_map, to_map, one_union}
 use Rattle.drain_union.proofs.Unions.{by_patch, correct_by_windows, outlet_there, outlet_back, bas_same}
 use Rattle.drain_union.proofs.WindowPatches.{patch_of_window}
-use Rattle.drain_union.specs.declared.verdict.Fault.{Fault}
-use Rattle.drain_union.specs.declared.report.WindowReport.{WindowReport}
-use Rattle.drain_merge.specs.Seams.{cell_there, IsFirstOfFaults, IsFirstSharing}
-use Rattle.drain_merge.specs.Places.{reports_of, places_of, all_outlets, all_seams}
-use Rattle.drain_merge.specs.Merges.{HaveNoData, HaveOneSpacing}
-use Rattle.drain_merge.specs.UnionVerdicts.{AreJudgedFrom, windows_of}
 use Rattle.drain_merge.proofs.WholeBoxes.{FillUnion}
 use Rattle.drain_merge.proofs.JudgedWindows.{agree, at_places, first_inside, from_reports, from_window, hold, overlaps, pairs_map, says_so, there_is, to_window}
 use Rattle.drain_merge.proofs.SortedSeams.{from_flat, in_flat, same_places}

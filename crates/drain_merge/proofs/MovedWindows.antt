@@ -1,28 +1,5 @@
 -- What is reported of a window of a map is so of the window that is counted from another cell.
-use Rattle.std.proofs.Common.{◌≡◌, inr, List, map, subst, ap, ◌∙◌, ℕ, zero, suc, ◌+◌, ◌-◌, ◌≤◌, ◌^◌, ◌≤ℤ◌, min, fold, [], ◌∷◌, length, slice_index_or, sym, arith}
-use Rattle.drain_union.specs.declared.report.WindowReport.{WindowReport}
-use Rattle.drain_merge.specs.declared.map_merge.UnionBox.{UnionBox}
-use Rattle.drain_merge.specs.declared.merge_verdict.MergeRefusal.{MergeRefusal}
-use Rattle.drain_merge.specs.declared.merge_verdict.MergeRefusal.TheVariants.{OutOfMemory}
-use Rattle.drain_merge.specs.declared.totals.UnionSinks.{UnionSinks}
-use Rattle.drain_merge.specs.MapBoxes.{box_of, boxed, HaveOneGrid, IsBoxRefusal, IsMapRefusal, top_of, left_of, JudgedFromMap, BoxBegins}
-use Rattle.drain_merge.specs.Places.{judged_from, outlet_from, shown_from}
-use Rattle.std.specs.List.{Contains}
-use Rattle.std.proofs.lemmas.List.{get_or-map, length-map}
-use Rattle.drain_grid.specs.declared.cell.Cell.{Cell}
-use Rattle.drain_grid.specs.Grid.{values_at}
-use Rattle.drain_grid.specs.Values.{NoDataNumbers}
-use Rattle.drain_grid.proofs.Neighbors.{place}
-use Rattle.drain_union.specs.declared.verdict.UnionVerdict.{UnionVerdict}
-use Rattle.drain_union.specs.declared.verdict.UnionVerdict.TheVariants.{Accepted, Rejected}
-use Rattle.drain_union.specs.declared.report.Outlet.{Outlet}
-use Rattle.drain_union.specs.declared.place.Place.{Place}
-use Rattle.drain_union.specs.declared.place.TheConstants.{SEAM_DEPTH}
-use Rattle.drain_union.specs.declared.report.Shown.{Shown}
-use Rattle.drain_union.specs.Reports.{ListsOutlets, IsSortedByLabel, IsOnSeam, ListsSeams, ListsSinks}
-use Rattle.drain_union.specs.Windows.{Window, cell_from, place_from, window_from, in_union, IsJudgedIn, IsJudgedOutlet, RulesHoldInside}
-use Rattle.drain_union.proofs.ReportMerges.{from_map, to_map}
-use Rattle.drain_merge.specs.UnionVerdicts.{IsVerdictInside}
+use Rattle.drain_merge.proofs.Names.{◌≡◌, inr, List, map, subst, ap, ◌∙◌, ℕ, zero, suc, ◌+◌, ◌-◌, ◌≤◌, ◌^◌, ◌≤ℤ◌, min, fold, [], ◌∷◌, length, slice_index_or, sym, arith, WindowReport, UnionBox, MergeRefusal, OutOfMemory, UnionSinks, box_of, boxed, HaveOneGrid, IsBoxRefusal, IsMapRefusal, top_of, left_of, JudgedFromMap, BoxBegins, judged_from, outlet_from, shown_from, Contains, get_or-map, length-map, Cell, values_at, NoDataNumbers, place, UnionVerdict, Accepted, Rejected, Outlet, Place, SEAM_DEPTH, Shown, ListsOutlets, IsSortedByLabel, IsOnSeam, ListsSeams, ListsSinks, Window, cell_from, place_from, window_from, in_union, IsJudgedIn, IsJudgedOutlet, RulesHoldInside, from_map, to_map, IsVerdictInside}
 
 -- A refusal of the windows that are counted from their box is one of the windows on the map.
 

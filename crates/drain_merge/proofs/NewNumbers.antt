@@ -1,11 +1,6 @@
 -- Numbers of a sorted list that are tried in turn: those before a first and from an end on, and those that equal the one
 -- before, are passed over.
-use Rattle.std.proofs.Common.{◌≡◌, ℕ, ◌+◌, ◌-◌, ◌<◌, ◌≤◌, inl, inr, List, length, slice_index, sym, subst, ◌∙◌, below_more, arith}
-use Rattle.std.specs.List.{Contains}
-use Rattle.std.specs.List.Sorted.{IsNonDecreasing}
-use Rattle.std.proofs.lemmas.List.{get_or_default}
-use Rattle.drain_grid.proofs.Decisions.{cases, same_number, less_number}
-use Rattle.drain_merge.specs.Unjudged.{IsNewBetween}
+use Rattle.drain_merge.proofs.Names.{◌≡◌, ℕ, ◌+◌, ◌-◌, ◌<◌, ◌≤◌, inl, inr, List, length, slice_index, sym, subst, ◌∙◌, below_more, arith, Contains, IsNonDecreasing, get_or_default, cases, same_number, less_number, IsNewBetween}
 
 -- the first so many of the numbers, as far as they are from the first one up to the end, have the property
 abbrev pub Passed : (ℕ → Type 0) → List ℕ → ℕ → ℕ → ℕ → Type 0

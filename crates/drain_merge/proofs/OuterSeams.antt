@@ -1,11 +1,5 @@
 -- The list of what lies along the seams of a box, one more of all that is shown at a time.
-use Rattle.std.proofs.Common.{◌↔◌, inl, inr, List, [], ◌∷◌, ◌++◌, subst, sym}
-use Rattle.std.specs.List.{Contains}
-use Rattle.std.proofs.lemmas.List.Elements.{Contains-append_left, Contains-push, Contains-push_cases}
-use Rattle.drain_union.specs.Joins.{IsOuter}
-use Rattle.drain_union.specs.declared.place.Place.{Place}
-use Rattle.drain_union.specs.declared.place.TheConstants.{SEAM_DEPTH}
-use Rattle.drain_union.specs.declared.report.Shown.{Shown}
+use Rattle.drain_merge.proofs.Names.{◌↔◌, inl, inr, List, [], ◌∷◌, ◌++◌, subst, sym, Contains, Contains-append_left, Contains-push, Contains-push_cases, IsOuter, Place, SEAM_DEPTH, Shown}
 
 -- the list holds what of these lies along the seams of the box, and nothing else
 abbrev pub AreOuterOf : Place → List Shown → List Shown → Type 0

@@ -1,13 +1,9 @@
 -- Numbers that rise still rise where one of equals is kept.
-use Rattle.std.proofs.Common.{◌≡◌, ℕ, ◌+◌, ◌≤◌, List, [], slice_index_or, eqb, false, subst, sym, arith}
-use Rattle.std.specs.List.{dedup}
-use Rattle.std.specs.List.Sorted.{IsNonDecreasing, IsSorted, IsStrictlyIncreasing}
+use Rattle.drain_merge.proofs.Names.{◌≡◌, ℕ, ◌+◌, ◌≤◌, List, [], slice_index_or, false, subst, sym, arith, dedup, IsNonDecreasing, IsSorted, IsStrictlyIncreasing, nat_tests, get_or_default, IsNonDecreasingBy-from_all_adjacent}
+use Rattle.std.proofs.Common.{eqb}
 use Rattle.std.specs.List.Retain.{IsFiltered, DiffersFromLast}
 use Rattle.std.specs.Ordering.{is_lt, nat_cmp}
-use Rattle.std.proofs.lemmas.Bool.Decides.{nat_tests}
-use Rattle.std.proofs.lemmas.List.{get_or_default}
 use Rattle.std.proofs.lemmas.List.Filters.{dedup_is}
-use Rattle.std.proofs.lemmas.List.Sorted.{IsNonDecreasingBy-from_all_adjacent}
 use Rattle.std.proofs.lemmas.Map.Keys.{IsStrictlyIncreasing-dedup}
 
 not_less : (a b : ℕ) → b ≤ a → is_lt (nat_cmp a b) ≡ false

@@ -1,10 +1,6 @@
 -- Two cells are one where the test of their numbers passes.
-use Rattle.std.proofs.Common.{◌≡◌, ◌&&◌, true}
+use Rattle.drain_merge.proofs.Names.{◌≡◌, ◌&&◌, true, and_parts, Decides-eqb, Cell, place}
 use lib.Dec.{eqb}
-use Rattle.std.proofs.lemmas.Bool.{and_parts}
-use Rattle.std.proofs.lemmas.Bool.Decides.{Decides-eqb}
-use Rattle.drain_grid.specs.declared.cell.Cell.{Cell}
-use Rattle.drain_grid.proofs.Neighbors.{place}
 
 pub same_cells : (a b : Cell) → (eqb a.row b.row && eqb a.col b.col) ≡ true → a ≡ b
 same_cells a b passes =

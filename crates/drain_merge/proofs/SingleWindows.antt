@@ -1,29 +1,5 @@
 -- The report of a window stands for itself: what a union shows at its place is what the window shows.
-use Rattle.std.proofs.Common.{◌≡◌, ℕ, zero, suc, inl, inr, List, [], ◌∷◌, IsTrue, refl, sym, ap, subst, ◌∙◌, arith}
-use Rattle.std.specs.List.{Contains, sum_by}
-use Rattle.std.proofs.lemmas.List.Sums.{sum_by-cons}
-use Rattle.std.proofs.lemmas.List.Elements.{Contains-get_or}
-use Rattle.drain_grid.specs.declared.cell.Cell.{Cell}
-use Rattle.drain_grid.specs.declared.rule.Rule.{Rule}
-use Rattle.drain_grid.specs.Grid.{Grid, Products}
-use Rattle.drain_grid.specs.GridRules.{IsEarlierPair}
-use Rattle.drain_grid.proofs.Alike.{earlier_differs}
-use Rattle.drain_union.specs.declared.place.Place.{Place}
-use Rattle.drain_union.specs.declared.place.TheConstants.{SEAM_DEPTH}
-use Rattle.drain_union.specs.declared.report.Outlet.{Outlet}
-use Rattle.drain_union.specs.declared.report.WindowReport.{WindowReport}
-use Rattle.drain_union.specs.declared.verdict.UnionVerdict.{UnionVerdict}
-use Rattle.drain_union.specs.declared.verdict.UnionVerdict.TheVariants.{Accepted, Rejected}
-use Rattle.drain_union.specs.JudgedCounts.{judged_data, judged_outlets, judged_raised}
-use Rattle.drain_union.specs.Joins.{FillPlace, IsJoined, IsOuter, shown_at}
-use Rattle.drain_union.specs.Reports.{IsReportOf, Report, SpacedAlike, spacing_at}
-use Rattle.drain_union.specs.Windows.{AreWindowsFrom, in_union, IsFirstInside, IsFrom, IsJudgedIn, IsNotBefore, IsPlaceIn, IsWindowOf, JudgesSome, place_from, Window, window_from}
-use Rattle.drain_union.proofs.JoinedCounts.{join_adds_up}
-use Rattle.drain_union.proofs.JoinedFaults.{join_tells_fault}
-use Rattle.drain_union.proofs.JoinedReports.{join_is_report}
-use Rattle.drain_union.proofs.JudgedCounts.{one_cell}
-use Rattle.drain_merge.specs.Trees.{WindowStands}
-use Rattle.drain_merge.specs.UnionVerdicts.{IsJudgedFrom, IsVerdictInside}
+use Rattle.drain_merge.proofs.Names.{◌≡◌, ℕ, zero, suc, inl, inr, List, [], ◌∷◌, IsTrue, refl, sym, ap, subst, ◌∙◌, arith, Contains, sum_by, sum_by-cons, Contains-get_or, Cell, Rule, Grid, Products, IsEarlierPair, earlier_differs, Place, SEAM_DEPTH, Outlet, WindowReport, UnionVerdict, Accepted, Rejected, judged_data, judged_outlets, judged_raised, FillPlace, IsJoined, IsOuter, shown_at, IsReportOf, Report, SpacedAlike, spacing_at, AreWindowsFrom, in_union, IsFirstInside, IsFrom, IsJudgedIn, IsNotBefore, IsPlaceIn, IsWindowOf, JudgesSome, place_from, Window, window_from, join_adds_up, join_tells_fault, join_is_report, one_cell, WindowStands, IsJudgedFrom, IsVerdictInside}
 use Rattle.drain_merge.proofs.SortedSeams.{first_one}
 
 -- the one element of a list

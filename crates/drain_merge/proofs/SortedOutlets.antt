@@ -1,22 +1,10 @@
 -- Outlets sorted by label, and those with one label in row order: what neighbours in the list say of the rest.
-use Rattle.std.proofs.Common.{◌≡◌, ◌≢◌, ℕ, zero, suc, ◌+◌, ◌-◌, ◌<◌, ◌⊎◌, inl, inr, false, pos, ◌≤ℤ◌, Option, Some, None, List, length, slice_index_or, refl, sym, ap, subst, ◌∙◌, below_more, arith, is_lt, nat_cmp, int_cmp}
-use Rattle.std.specs.List.{Contains}
-use Rattle.std.specs.List.Sorted.{IsPermutation}
-use Rattle.std.specs.Ordering.{ordering_then}
-use Rattle.std.proofs.lemmas.Bool.{false≢true, cases_order}
+use Rattle.drain_merge.proofs.Names.{◌≡◌, ◌≢◌, ℕ, zero, suc, ◌+◌, ◌-◌, ◌<◌, ◌⊎◌, inl, inr, false, pos, ◌≤ℤ◌, Option, Some, None, List, length, slice_index_or, refl, sym, ap, subst, ◌∙◌, below_more, arith, int_cmp, Contains, IsPermutation, ordering_then, false≢true, cases_order, get_or_default, Contains-get_or, Cell, IsEarlier, place, earlier_trans, earlier_differs, Outlet, SharesAt, IsNoSooner, AreInOrder, IsLeastSharing, SharesWithEarlier, IsFirstSharing, IsEarlierOf}
+use Rattle.std.proofs.Common.{is_lt, nat_cmp}
 use Rattle.std.proofs.lemmas.Cmp.{ranked, int_ranked, by_ranked}
 use Rattle.std.proofs.lemmas.Int.{ints}
-use Rattle.std.proofs.lemmas.List.{get_or_default}
-use Rattle.std.proofs.lemmas.List.Elements.{Contains-get_or}
-use Rattle.drain_grid.specs.declared.cell.Cell.{Cell}
-use Rattle.drain_grid.specs.Extent.{IsEarlier}
-use Rattle.drain_grid.proofs.Neighbors.{place}
-use Rattle.drain_grid.proofs.Alike.{earlier_trans, earlier_differs}
 use Rattle.drain_grid.proofs.Lowered.{same_or_not}
-use Rattle.drain_union.specs.declared.report.Outlet.{Outlet}
-use Rattle.drain_union.specs.Reports.{SharesAt}
 use Rattle.drain_merge.proofs.FirstOfFaults.{both_permuted, pair_permuted}
-use Rattle.drain_merge.specs.Seams.{IsNoSooner, AreInOrder, IsLeastSharing, SharesWithEarlier, IsFirstSharing, IsEarlierOf}
 
 -- what a comparison of cells says
 pub cell_order : (a b : Cell) → is_lt (ordering_then (nat_cmp b.row a.row) (nat_cmp b.col a.col)) ≡ false → IsEarlier a b ⊎ (a ≡ b)

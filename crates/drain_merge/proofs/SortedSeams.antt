@@ -1,24 +1,6 @@
 -- What is shown, sorted in row order: what neighbours in the list say of the rest.
-use Rattle.std.proofs.Common.{◌≡◌, ℕ, zero, suc, true, inl, inr, Some, List, [], ◌∷◌, slice_get, sym, ap, arith, map, refl, subst, ◌+◌, ◌-◌, ◌<◌, ◌≤◌, ◌⊎◌, Option, None, length, slice_index_or, ◌∙◌}
-use Rattle.std.specs.List.{Contains, flat_map}
-use Rattle.std.proofs.lemmas.Bool.{false≢true, or_cases, cases_order}
-use Rattle.drain_grid.specs.declared.cell.Cell.{Cell}
-use Rattle.drain_grid.specs.Extent.{same_cell, IsEarlier}
-use Rattle.drain_grid.proofs.CellSums.{same_cell_true}
-use Rattle.drain_grid.specs.CellLists.{is_among}
-use Rattle.std.proofs.lemmas.List.Elements.{Contains-append_left, Contains-append_right, Contains-append_cases, Contains-get_or}
-use Rattle.drain_union.specs.declared.place.Place.{Place}
-use Rattle.drain_union.specs.declared.report.WindowReport.{WindowReport}
-use Rattle.drain_merge.specs.Places.{reports_of, places_of}
-use Rattle.std.specs.List.Sorted.{IsPermutation}
-use Rattle.std.proofs.lemmas.List.{get_or_default}
-use Rattle.std.proofs.lemmas.List.Sorted.{all_adjacent_more}
-use Rattle.drain_union.specs.declared.report.Shown.{Shown}
-use Rattle.drain_merge.specs.Seams.{Differ, IsFirstDifference, AreInRowOrder, NoneDiffersBelow, IsFirstDiffering}
-use Rattle.drain_grid.proofs.Decisions.{cases, passes}
-use Rattle.drain_grid.proofs.Alike.{earlier_trans, earlier_differs}
+use Rattle.drain_merge.proofs.Names.{◌≡◌, ℕ, zero, suc, true, inl, inr, Some, List, [], ◌∷◌, slice_get, sym, ap, arith, map, refl, subst, ◌+◌, ◌-◌, ◌<◌, ◌≤◌, ◌⊎◌, Option, None, length, slice_index_or, ◌∙◌, Contains, flat_map, false≢true, or_cases, cases_order, Cell, same_cell, IsEarlier, same_cell_true, is_among, Contains-append_left, Contains-append_right, Contains-append_cases, Contains-get_or, Place, WindowReport, reports_of, places_of, IsPermutation, get_or_default, all_adjacent_more, Shown, Differ, IsFirstDifference, AreInRowOrder, NoneDiffersBelow, IsFirstDiffering, cases, passes, earlier_trans, earlier_differs, values_test, same_values, values_pass}
 use Rattle.drain_merge.proofs.FirstOfFaults.{both_permuted, pair_permuted}
-use Rattle.drain_union.proofs.SameValues.{values_test, same_values, values_pass}
 
 -- Cells of a list, by a test and by their places.
 

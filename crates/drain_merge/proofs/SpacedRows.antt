@@ -1,7 +1,5 @@
 -- The rows that two windows have in common, counted from the first of them.
-use Rattle.std.proofs.Common.{◌≡◌, ℕ, ◌+◌, ◌-◌, ◌<◌, min, max, List, ap, ◌∙◌, arith}
-use Rattle.drain_grid.specs.Spacing.{Distances}
-use Rattle.drain_union.specs.Reports.{spacing_at}
+use Rattle.drain_merge.proofs.Names.{◌≡◌, ℕ, ◌+◌, ◌-◌, ◌<◌, min, max, List, ap, ◌∙◌, arith, Distances, spacing_at}
 
 module _ (xs ys : List Distances) (top_a top_b rows_a rows_b top count : ℕ) (first : top ≡ max top_a top_b)
     (counted : count ≡ min (top_a + rows_a) (top_b + rows_b) - top) where

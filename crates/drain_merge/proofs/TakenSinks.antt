@@ -1,30 +1,8 @@
 -- Windows that took the sinks of a list are those of a union with these sinks: each cell of the union is judged in some
 -- window, which reports it as a sink exactly if it is one.
-use Rattle.std.proofs.Common.{◌≡◌, ◌⊎◌, Bool, true, false, inl, inr, List, map, refl, sym, ap, subst, ◌∙◌}
-use Rattle.std.specs.List.{Contains}
-use Rattle.drain_grid.specs.declared.cell.Cell.{Cell}
-use Rattle.drain_grid.specs.declared.sink_line.SinkLine.{SinkLine}
-use Rattle.drain_grid.specs.Extent.{IsCellOf, Extent}
-use Rattle.drain_grid.specs.Grid.{Grid, Products}
-use Rattle.drain_grid.specs.SinkTexts.{is_listed}
-use Rattle.drain_grid.specs.Values.{Values, NoDataNumbers}
-use Rattle.drain_union.specs.declared.verdict.UnionVerdict.TheVariants.{Accepted, Rejected}
-use Rattle.drain_union.specs.declared.place.Place.{Place}
-use Rattle.drain_union.specs.declared.place.TheConstants.{SEAM_DEPTH}
-use Rattle.drain_union.specs.declared.report.WindowReport.{WindowReport}
-use Rattle.drain_union.specs.Reports.{Report, ListsSinks, CanMerge}
-use Rattle.drain_union.specs.Windows.{Window, in_union, IsJudgedIn, RulesHoldInside, AreWindowsOf}
+use Rattle.drain_merge.proofs.Names.{◌≡◌, ◌⊎◌, Bool, true, false, inl, inr, List, map, refl, sym, ap, subst, ◌∙◌, Contains, Cell, SinkLine, IsCellOf, Extent, Grid, Products, is_listed, Values, NoDataNumbers, Accepted, Rejected, Place, SEAM_DEPTH, WindowReport, Report, ListsSinks, CanMerge, Window, in_union, IsJudgedIn, RulesHoldInside, AreWindowsOf, from_map, to_map, UnionBox, UnionVerdict, UnionSinks, reports_of, all_sinks, judged_from, AreTaken, box_of, boxed, HasMapSinks, is_among, HasSinks, TakeLines, IsVerdictInside, AreJudgedFrom, IsRejected, IsUnionVerdict, SomeIsRejected, windows_of}
 use Rattle.drain_union.proofs.Merges.{line_of}
-use Rattle.drain_union.proofs.ReportMerges.{from_map, to_map}
-use Rattle.drain_merge.specs.declared.map_merge.UnionBox.{UnionBox}
-use Rattle.drain_union.specs.declared.verdict.UnionVerdict.{UnionVerdict}
-use Rattle.drain_merge.specs.declared.totals.UnionSinks.{UnionSinks}
 use Rattle.drain_merge.specs.declared.totals.UnionSinks.TheVariants.{AsTaken, Listed}
-use Rattle.drain_merge.specs.Places.{reports_of, all_sinks, judged_from}
-use Rattle.drain_merge.specs.MapBoxes.{AreTaken, box_of, boxed, HasMapSinks}
-use Rattle.drain_grid.specs.CellLists.{is_among}
-use Rattle.drain_merge.specs.UnionSinks.{HasSinks, TakeLines}
-use Rattle.drain_merge.specs.UnionVerdicts.{IsVerdictInside, AreJudgedFrom, IsRejected, IsUnionVerdict, SomeIsRejected, windows_of}
 use Rattle.drain_merge.proofs.SortedSeams.{contained_if_has, at_place, from_flat, in_flat}
 
 -- two tests of which each passes where the other does

@@ -1,27 +1,6 @@
 -- A report that joins windows stands for theirs, and so does one that joins such reports.
-use Rattle.std.proofs.Common.{◌≡◌, ◌↔◌, inl, inr, None, List, slice_index_or, IsTrue, subst, ◌∙◌}
-use Rattle.std.specs.List.{Contains}
-use Rattle.std.proofs.lemmas.List.Elements.{All-contains, Contains-get_or}
-use Rattle.drain_grid.specs.declared.cell.Cell.{Cell}
-use Rattle.drain_grid.specs.Grid.{Grid, Products}
-use Rattle.drain_grid.specs.Values.{NoDataNumbers}
-use Rattle.drain_union.specs.declared.place.Place.{Place}
-use Rattle.drain_union.specs.declared.place.TheConstants.{SEAM_DEPTH}
-use Rattle.drain_union.specs.declared.report.WindowReport.{WindowReport}
-use Rattle.drain_union.specs.declared.verdict.UnionVerdict.{UnionVerdict}
-use Rattle.drain_union.specs.declared.verdict.UnionVerdict.TheVariants.{Accepted, Rejected}
-use Rattle.drain_union.specs.Joins.{IsGroup, LiesInBox, shown_at}
-use Rattle.drain_union.specs.Reports.{Report, ShowTheSame, SpacedAlike}
-use Rattle.drain_union.specs.Windows.{AreWindowsFrom, IsFrom, IsWindowOf, Window, window_from}
-use Rattle.drain_union.proofs.GroupWindows.{are_windows, corner, from_corner, own_shown, own_window}
-use Rattle.drain_union.proofs.ReportMerges.{from_map}
+use Rattle.drain_merge.proofs.Names.{◌≡◌, ◌↔◌, inl, inr, None, List, slice_index_or, IsTrue, subst, ◌∙◌, Contains, All-contains, Contains-get_or, Cell, Grid, Products, NoDataNumbers, Place, SEAM_DEPTH, WindowReport, UnionVerdict, Accepted, Rejected, IsGroup, LiesInBox, shown_at, Report, ShowTheSame, SpacedAlike, AreWindowsFrom, IsFrom, IsWindowOf, Window, window_from, are_windows, corner, from_corner, own_shown, own_window, from_map, IsJoin, IsJoinedVerdict, IsOfBox, HaveNoData, all_seams, reports_of, IsFirstOfFaults, all_behind, EachStandsFor, JoinsStandForAll, JoinStands, StandsFor, AreJudgedFrom, IsJudgedFrom, IsRejected, SomeIsRejected, windows_of}
 use Rattle.drain_union.proofs.SeenWindows.{grid_at, products_at, window_at_box}
-use Rattle.drain_merge.specs.BoxReports.{IsJoin, IsJoinedVerdict, IsOfBox}
-use Rattle.drain_merge.specs.Merges.{HaveNoData}
-use Rattle.drain_merge.specs.Places.{all_seams, reports_of}
-use Rattle.drain_merge.specs.Seams.{IsFirstOfFaults}
-use Rattle.drain_merge.specs.Trees.{all_behind, EachStandsFor, JoinsStandForAll, JoinStands, StandsFor}
-use Rattle.drain_merge.specs.UnionVerdicts.{AreJudgedFrom, IsJudgedFrom, IsRejected, SomeIsRejected, windows_of}
 use Rattle.drain_merge.proofs.JoinedVerdicts.{join_of_box}
 use Rattle.drain_merge.proofs.JoinedWindows as joined
 use Rattle.drain_merge.proofs.JudgedWindows.{agree, faulty, from_window, overlaps, pairs_map, says_so, some_or_none, some_rejected, to_window}

@@ -1,19 +1,5 @@
 -- A union is the box at its first cell in which no side is inner.
-use Rattle.std.proofs.Common.{◌≡◌, ◌+◌, inl, inr, List, subst, arith}
-use Rattle.std.specs.List.{All, AllPairs}
-use Rattle.std.proofs.lemmas.Bool.{false≢true}
-use Rattle.std.proofs.lemmas.List.Elements.{All-weaker}
-use Rattle.drain_grid.specs.declared.cell.Cell.{Cell}
-use Rattle.drain_grid.specs.Extent.{Extent, IsCellOf}
-use Rattle.drain_grid.proofs.Neighbors.{place}
-use Rattle.drain_union.specs.declared.place.Place.{Place}
-use Rattle.drain_union.specs.Joins.{LiesInBox}
-use Rattle.drain_union.specs.Windows.{BothJudgeOne, JudgesSome, IsJudgedAtSome, IsPlaceIn}
-use Rattle.drain_union.specs.declared.report.WindowReport.{WindowReport}
-use Rattle.drain_merge.specs.Merges.{AreOfOneUnion, FillBox, IsMergeRefusal, IsPlaceRefusal, whole_box}
-use Rattle.drain_merge.specs.Places.{places_of}
-use Rattle.drain_merge.specs.declared.merge_verdict.MergeRefusal.{MergeRefusal}
-use Rattle.drain_merge.specs.declared.merge_verdict.MergeRefusal.TheVariants.{NoReports, OtherSide, OtherGrid, OtherNoData, OtherSpacing, OutsideUnion, JudgesNothing, Overlap, LeftOut, SeamsDiffer, SinkLeftOut, SinkNotListed, OutOfMemory}
+use Rattle.drain_merge.proofs.Names.{◌≡◌, ◌+◌, inl, inr, List, subst, arith, All, AllPairs, false≢true, All-weaker, Cell, Extent, IsCellOf, place, Place, LiesInBox, BothJudgeOne, JudgesSome, IsJudgedAtSome, IsPlaceIn, WindowReport, AreOfOneUnion, FillBox, IsMergeRefusal, IsPlaceRefusal, whole_box, places_of, MergeRefusal, NoReports, OtherSide, OtherGrid, OtherNoData, OtherSpacing, OutsideUnion, JudgesNothing, Overlap, LeftOut, SeamsDiffer, SinkLeftOut, SinkNotListed, OutOfMemory}
 
 -- the places lie in a union of this size, judge a cell each, none in common, and judge each of its cells
 pub record FillUnion (e : Extent) (places : List Place) : Type 0 where

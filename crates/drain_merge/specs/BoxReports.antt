@@ -1,10 +1,8 @@
 -- The report that the reports of windows make of the smallest box that holds them. These definitions are this project's
 -- own.
-use Rattle.std.specs.Prelude.{◌≡◌, ◌↔◌, ◌⊎◌, ℕ, ◌+◌, ◌-◌, ◌<◌, ◌≤◌, ◌^◌, min, IsTrue, Bool, false, List, [], Some, None, length, slice_index_or}
-use Rattle.std.specs.List.{All, Contains}
-use Rattle.drain_grid.specs.Grid.{Grid, Products}
+use Rattle.std.specs.Prelude.{◌≡◌, ◌↔◌, ◌⊎◌, ◌+◌, ◌-◌, ◌<◌, ◌≤◌, ◌^◌}
+use Rattle.drain_merge.specs.Names.{ℕ, min, IsTrue, Bool, false, List, [], Some, None, length, slice_index_or, All, Contains, Grid, Products, Cell, IsJoined, IsOuter, shown_at, Agree, IsSortedByLabel, Report, ShowTheSame, spacing_at, AreWindowsFrom, in_union, IsFrom, IsWindowOf, Window, window_from, Place, SEAM_DEPTH, WindowReport, Outlet, Shown, UnionVerdict, Accepted, Rejected}
 use Rattle.drain_grid.specs.Spacing.{Distances}
-use Rattle.drain_grid.specs.declared.cell.Cell.{Cell}
 use Rattle.drain_merge.specs.MapBoxes.{bottom_end, greatest_by, HaveGrid, IsGridRefusal, least_by, left_of, right_end, top_of}
 use Rattle.drain_merge.specs.Merges.{AreOfOneUnion, FillBox, HaveNoData, HaveOneNoData, HaveOneSpacing, IsNoDataRefusal, IsPlaceRefusal, IsSpacingRefusal}
 use Rattle.drain_merge.specs.Places.{all_outlets, all_seams, all_sinks, places_of, reports_of}
@@ -16,16 +14,6 @@ use Rattle.drain_merge.specs.declared.merge_verdict.MergeRefusal.{MergeRefusal}
 use Rattle.drain_merge.specs.declared.merge_verdict.MergeRefusal.TheVariants.{NoReports, OtherSide, OtherGrid, OtherNoData, OtherSpacing, OutsideUnion, JudgesNothing, Overlap, LeftOut, SeamsDiffer, SinkLeftOut, SinkNotListed, OutOfMemory}
 use Rattle.drain_merge.specs.declared.smallest_box.Side.{Side}
 use Rattle.drain_merge.specs.declared.smallest_box.Side.TheVariants.{North, South, West, East}
-use Rattle.drain_union.specs.Joins.{IsJoined, IsOuter, shown_at}
-use Rattle.drain_union.specs.Reports.{Agree, IsSortedByLabel, Report, ShowTheSame, spacing_at}
-use Rattle.drain_union.specs.Windows.{AreWindowsFrom, in_union, IsFrom, IsWindowOf, Window, window_from}
-use Rattle.drain_union.specs.declared.place.Place.{Place}
-use Rattle.drain_union.specs.declared.place.TheConstants.{SEAM_DEPTH}
-use Rattle.drain_union.specs.declared.report.WindowReport.{WindowReport}
-use Rattle.drain_union.specs.declared.report.Outlet.{Outlet}
-use Rattle.drain_union.specs.declared.report.Shown.{Shown}
-use Rattle.drain_union.specs.declared.verdict.UnionVerdict.{UnionVerdict}
-use Rattle.drain_union.specs.declared.verdict.UnionVerdict.TheVariants.{Accepted, Rejected}
 
 -- The smallest box that holds windows.
 

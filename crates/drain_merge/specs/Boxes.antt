@@ -1,6 +1,6 @@
 -- Places that lie in a box. These definitions are this project's own.
-use Rattle.std.specs.Prelude.{◌≡◌, ◌+◌, ◌≤◌, ◌⊎◌, IsTrue}
-use Rattle.drain_union.specs.declared.place.Place.{Place}
+use Rattle.std.specs.Prelude.{◌≡◌, ◌+◌, ◌≤◌, ◌⊎◌}
+use Rattle.drain_merge.specs.Names.{IsTrue, Place}
 
 -- the place's rows lie in the box, and its sides in the north and the south are inner, or the box's and not inner there
 pub record RowsLieIn (box p : Place) : Type 0 where

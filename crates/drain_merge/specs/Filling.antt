@@ -1,9 +1,7 @@
 -- Places that fill a box, and how they are laid. These definitions are this project's own.
-use Rattle.std.specs.Prelude.{◌≡◌, ℕ, ◌+◌, ◌-◌, ◌*◌, ◌<◌, ◌≤◌, ◌⊎◌, ◌&&◌, List, cond, nat_le, nat_lt, length, slice_index}
-use Rattle.std.specs.List.{All, AllPairs, Contains, sum_by}
-use Rattle.drain_grid.specs.declared.cell.Cell.{Cell}
-use Rattle.drain_union.specs.declared.place.Place.{Place}
-use Rattle.drain_union.specs.Windows.{BothJudgeOne, IsJudgedAt, IsJudgedAtSome, judged_top, judged_left, judged_bottom, judged_right}
+use Rattle.std.specs.Prelude.{◌≡◌, ◌+◌, ◌-◌, ◌*◌, ◌<◌, ◌≤◌, ◌⊎◌, ◌&&◌}
+use Rattle.drain_merge.specs.Names.{ℕ, List, cond, nat_le, nat_lt, length, slice_index, All, AllPairs, Contains, Cell, Place, BothJudgeOne, IsJudgedAt, IsJudgedAtSome, judged_top, judged_left, judged_bottom, judged_right}
+use Rattle.std.specs.List.{sum_by}
 
 -- the places judge each cell that the box judges, and none in common
 pub record Fill (box : Place) (places : List Place) : Type 0 where

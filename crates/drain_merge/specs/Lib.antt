@@ -1,3 +1,4 @@
+pub mod Names
 pub mod Seams
 pub mod Places
 pub mod Totals

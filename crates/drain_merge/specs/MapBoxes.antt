@@ -1,26 +1,18 @@
 -- The box on a map that holds windows, and the verdict on it. These definitions are this project's own.
-use Rattle.std.specs.Prelude.{◌≡◌, ℕ, ◌+◌, ◌-◌, ◌^◌, ◌⊎◌, min, max, Some, List, map, fold, slice_index_or, ◌≤◌}
-use Rattle.std.specs.List.{All, Contains}
-use Rattle.drain_grid.specs.Grid.{Grid, Products}
-use Rattle.drain_grid.specs.Extent.{Extent}
-use Rattle.drain_union.specs.Reports.{Report}
-use Rattle.drain_union.specs.Windows.{Window, window_from, AreWindowsOf}
-use Rattle.drain_union.specs.declared.report.WindowReport.{WindowReport}
+use Rattle.std.specs.Prelude.{◌≡◌, ◌+◌, ◌-◌, ◌^◌, ◌⊎◌, ◌≤◌}
+use Rattle.drain_merge.specs.Names.{ℕ, min, max, Some, List, map, fold, slice_index_or, All, Contains, Grid, Products, Extent, Report, Window, window_from, AreWindowsOf, WindowReport, CountsOn, UnionVerdict, Cell}
 use Rattle.drain_union.specs.declared.union_grid.DemPart.{DemPart}
 use Rattle.drain_union.specs.declared.union_grid.UnionGrid.{UnionGrid}
 use Rattle.drain_union.specs.declared.union_grid.UnionGrid.TheVariants.{Tiles, Dem}
-use Rattle.drain_union.specs.UnionGrids.{CountsOn}
 use Rattle.drain_merge.specs.declared.map_merge.MapVerdict.{MapVerdict}
 use Rattle.drain_merge.specs.declared.map_merge.UnionBox.{UnionBox}
 use Rattle.drain_merge.specs.declared.merge_verdict.MergeRefusal.{MergeRefusal}
 use Rattle.drain_merge.specs.declared.merge_verdict.MergeRefusal.TheVariants.{OtherSide, OtherGrid, OutOfMemory}
-use Rattle.drain_union.specs.declared.verdict.UnionVerdict.{UnionVerdict}
 use Rattle.drain_merge.specs.declared.totals.UnionSinks.{UnionSinks}
 use Rattle.drain_merge.specs.Merges.{IsMergeRefusal}
 use Rattle.drain_merge.specs.Places.{all_sinks, judged_from, IsFirstFailing}
 use Rattle.drain_merge.specs.UnionSinks.{HasSinks, IsSinkRefusal, TakeSinks}
 use Rattle.drain_merge.specs.UnionVerdicts.{AreJudgedFrom, IsUnionVerdict, SomeIsRejected, windows_of, IsJudgedFrom}
-use Rattle.drain_grid.specs.declared.cell.Cell.{Cell}
 
 -- the least and the greatest number that windows have
 abbrev pub least_by : (WindowReport → ℕ) → List WindowReport → ℕ

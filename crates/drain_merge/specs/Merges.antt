@@ -1,20 +1,8 @@
 -- What a merge of windows returns, in words of its lists. These definitions are this project's own.
-use Rattle.std.specs.Prelude.{false, ◌≡◌, ◌⊎◌, ℕ, ◌<◌, Option, length, Some, None, List, [], slice_index_or}
-use Rattle.std.specs.List.{All, AllPairs}
-use Rattle.drain_grid.specs.declared.cell.Cell.{Cell}
-use Rattle.drain_grid.specs.declared.rule.Rule.TheVariants.{SharedLabel}
-use Rattle.drain_grid.specs.Extent.{Extent}
-use Rattle.drain_grid.specs.Values.{NoDataNumbers}
-use Rattle.drain_union.specs.declared.place.Place.{Place}
-use Rattle.drain_union.specs.Reports.{SpacedAlike}
-use Rattle.drain_union.specs.Joins.{LiesInBox}
-use Rattle.drain_union.specs.Windows.{BothJudgeOne, JudgesSome, IsJudgedAt, IsJudgedAtSome}
-use Rattle.drain_union.specs.declared.report.WindowReport.{WindowReport}
+use Rattle.std.specs.Prelude.{◌≡◌, ◌⊎◌, ◌<◌}
+use Rattle.drain_merge.specs.Names.{false, ℕ, Option, length, Some, None, List, [], slice_index_or, All, AllPairs, Cell, SharedLabel, Extent, NoDataNumbers, Place, SpacedAlike, LiesInBox, BothJudgeOne, JudgesSome, IsJudgedAt, IsJudgedAtSome, WindowReport, Fault, UnionVerdict, Accepted, Rejected}
 use Rattle.drain_merge.specs.declared.merge_verdict.MergeRefusal.{MergeRefusal}
 use Rattle.drain_merge.specs.declared.merge_verdict.MergeRefusal.TheVariants.{NoReports, OtherSide, OtherGrid, OtherNoData, OtherSpacing, OutsideUnion, JudgesNothing, Overlap, LeftOut, SeamsDiffer, SinkLeftOut, SinkNotListed, OutOfMemory}
-use Rattle.drain_union.specs.declared.verdict.Fault.{Fault}
-use Rattle.drain_union.specs.declared.verdict.UnionVerdict.{UnionVerdict}
-use Rattle.drain_union.specs.declared.verdict.UnionVerdict.TheVariants.{Accepted, Rejected}
 use Rattle.drain_merge.specs.Seams.{IsFirstOfFaults, IsFirstDifference, IsFirstSharing}
 use Rattle.drain_merge.specs.Unjudged.{IsFirstUnjudged}
 use Rattle.drain_merge.specs.Places.{places_of, all_outlets, all_seams, IsFirstFailing, IsFirstClash}

@@ -1,13 +1,6 @@
 -- When places of windows make a union. These definitions are this project's own.
-use Rattle.std.specs.Prelude.{◌<◌, List, map, ℕ, Option, Some, None, length, slice_index_or}
-use Rattle.std.specs.List.{flat_map, All, AllPairs, AllWithin, HoldsAt}
-use Rattle.drain_grid.specs.declared.cell.Cell.{Cell}
-use Rattle.drain_union.specs.declared.report.Outlet.{Outlet}
-use Rattle.drain_union.specs.declared.place.Place.{Place}
-use Rattle.drain_union.specs.declared.report.Shown.{Shown}
-use Rattle.drain_union.specs.Reports.{Report}
-use Rattle.drain_union.specs.declared.report.WindowReport.{WindowReport}
-use Rattle.drain_union.specs.Windows.{BothJudgeOne, cell_from, place_from}
+use Rattle.std.specs.Prelude.{◌<◌}
+use Rattle.drain_merge.specs.Names.{List, map, ℕ, Option, Some, None, length, slice_index_or, flat_map, All, AllPairs, AllWithin, HoldsAt, Cell, Outlet, Place, Shown, Report, WindowReport, BothJudgeOne, cell_from, place_from}
 use Rattle.drain_merge.specs.declared.places.Clash.{Clash}
 
 -- What the windows of a union report. These definitions are this project's own.

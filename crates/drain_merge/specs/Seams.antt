@@ -1,17 +1,6 @@
 -- What windows show along their seams. These definitions are this project's own.
-use Rattle.std.specs.Prelude.{◌≡◌, ℕ, ◌<◌, ◌⊎◌, ◌<ℤ◌, Option, Some, None, List, length, slice_index_or, ◌≢◌, ◌-◌, ◌+◌, ◌^◌, min}
-use Rattle.std.specs.List.{AllAdjacentBelow, Contains}
-use Rattle.drain_grid.specs.declared.cell.Cell.{Cell}
-use Rattle.drain_grid.specs.Extent.{IsEarlier}
-use Rattle.drain_union.specs.declared.report.Outlet.{Outlet}
-use Rattle.drain_union.specs.Reports.{SharesAt, ShareNoLabel, ShowTheSame}
-use Rattle.drain_union.specs.declared.place.Place.{Place}
-use Rattle.drain_union.specs.declared.report.Shown.{Shown}
-use Rattle.drain_grid.specs.GridRules.{IsEarlierPair}
-use Rattle.drain_union.specs.declared.verdict.UnionVerdict.{UnionVerdict}
-use Rattle.drain_union.specs.declared.verdict.UnionVerdict.TheVariants.{Accepted, Rejected}
-use Rattle.drain_union.specs.declared.verdict.Fault.{Fault}
-use Rattle.drain_union.specs.declared.report.WindowReport.{WindowReport}
+use Rattle.std.specs.Prelude.{◌≡◌, ◌<◌, ◌⊎◌, ◌<ℤ◌, ◌≢◌, ◌-◌, ◌+◌, ◌^◌}
+use Rattle.drain_merge.specs.Names.{ℕ, Option, Some, None, List, length, slice_index_or, min, AllAdjacentBelow, Contains, Cell, IsEarlier, Outlet, SharesAt, ShareNoLabel, ShowTheSame, Place, Shown, IsEarlierPair, UnionVerdict, Accepted, Rejected, Fault, WindowReport}
 
 -- Labels that two outlets share. These definitions are this project's own.
 

@@ -1,12 +1,7 @@
 -- The counts of a union. These definitions are this project's own.
-use Rattle.std.specs.Prelude.{◌≡◌, ℕ, ◌-◌, ◌^◌, min, List, sum_by}
-use Rattle.drain_grid.specs.GridRules.{data_count, raised_count}
-use Rattle.drain_grid.specs.Grid.{Grid, Products}
-use Rattle.drain_grid.specs.Extent.{Extent}
-use Rattle.drain_union.specs.declared.verdict.UnionVerdict.{UnionVerdict}
-use Rattle.drain_union.specs.declared.verdict.UnionVerdict.TheVariants.{Accepted, Rejected}
+use Rattle.drain_merge.specs.Names.{ℕ, min, List, data_count, raised_count, Grid, Products, Extent, UnionVerdict, Accepted, Rejected, WindowReport}
+use Rattle.std.specs.Prelude.{◌≡◌, ◌-◌, ◌^◌, sum_by}
 use Rattle.drain_rules.specs.Verdicts.{outlet_count}
-use Rattle.drain_union.specs.declared.report.WindowReport.{WindowReport}
 use Rattle.drain_union.specs.declared.verdict.UnionCounts.{UnionCounts}
 
 -- the number, or the greatest of 64 bits

@@ -1,18 +1,11 @@
 -- Reports of boxes in place of those of their windows: merges of merges. These definitions and laws are this project's own.
-use Rattle.std.specs.Prelude.{◌↔◌, ◌⊎◌, List, [], ◌∷◌, map}
-use Rattle.std.specs.List.{Contains, flat_map}
-use Rattle.drain_grid.specs.Grid.{Grid, Products}
-use Rattle.drain_grid.specs.Values.{NoDataNumbers}
-use Rattle.drain_grid.specs.declared.cell.Cell.{Cell}
+use Rattle.std.specs.Prelude.{◌↔◌, ◌⊎◌, ◌∷◌}
+use Rattle.drain_merge.specs.Names.{List, [], map, Contains, flat_map, Grid, Products, NoDataNumbers, Cell, Report, AreWindowsFrom, IsFrom, IsWindowOf, JudgesSome, Window, window_from, Place, WindowReport}
 use Rattle.drain_merge.specs.BoxReports.{IsJoin, IsOfBox}
 use Rattle.drain_merge.specs.MapBoxes.{box_of, IsMapVerdict}
 use Rattle.drain_merge.specs.Merges.{HaveNoData}
 use Rattle.drain_merge.specs.UnionVerdicts.{AreJudgedFrom, IsJudgedFrom, IsRejected, IsVerdictOn, SomeIsRejected, windows_of}
 use Rattle.drain_merge.specs.declared.map_merge.MapVerdict.{MapVerdict}
-use Rattle.drain_union.specs.Reports.{Report}
-use Rattle.drain_union.specs.Windows.{AreWindowsFrom, IsFrom, IsWindowOf, JudgesSome, Window, window_from}
-use Rattle.drain_union.specs.declared.place.Place.{Place}
-use Rattle.drain_union.specs.declared.report.WindowReport.{WindowReport}
 
 -- the report stands for these: it begins where the first of them do, has their no-data numbers, and is rejected only if one
 -- of them is; on each union it is the report of what is shown at its box; and unless one of them is rejected, it is of a

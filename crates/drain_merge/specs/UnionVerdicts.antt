@@ -1,28 +1,16 @@
 -- What the verdict on windows says of their union. These definitions are this project's own.
-use Rattle.std.specs.Prelude.{ℕ, List, ◌++◌, Result, Ok, Err, codes, decimal, ◌≡◌, ◌↔◌, ◌⊎◌, map}
-use Rattle.drain_grid.specs.declared.cell.Cell.{Cell}
+use Rattle.std.specs.Prelude.{◌++◌, ◌≡◌, ◌↔◌, ◌⊎◌}
+use Rattle.drain_merge.specs.Names.{ℕ, List, Result, Ok, Err, codes, decimal, map, Cell, UnionVerdict, Accepted, Rejected, Contains, SharedLabel, Grid, Products, IsFirstFault, Extent, NoDataNumbers, SEAM_DEPTH, Report, IsReportOf, CanMerge, Window, RulesHoldInside, IsFirstInside, AreWindowsOf, WindowReport}
 use Rattle.drain_merge.specs.declared.map_merge.MapVerdict.{MapVerdict}
 use Rattle.drain_merge.specs.declared.merge_verdict.MergeRefusal.{MergeRefusal}
 use Rattle.drain_merge.specs.declared.merge_verdict.MergeRefusal.TheVariants.{NoReports, OtherSide, OtherGrid, OtherNoData, OtherSpacing, OutsideUnion, JudgesNothing, Overlap, LeftOut, SeamsDiffer, SinkLeftOut, SinkNotListed, OutOfMemory}
-use Rattle.drain_union.specs.declared.verdict.UnionVerdict.{UnionVerdict}
-use Rattle.drain_union.specs.declared.verdict.UnionVerdict.TheVariants.{Accepted, Rejected}
 use Rattle.drain_merge.specs.declared.places.Clash.{Clash}
-use Rattle.std.specs.List.{Contains}
 use Rattle.drain_grid.specs.Correct.{IsCorrect}
 use Rattle.drain_grid.specs.declared.rule.Rule.{Rule}
-use Rattle.drain_grid.specs.declared.rule.Rule.TheVariants.{SharedLabel}
-use Rattle.drain_grid.specs.Grid.{Grid, Products}
-use Rattle.drain_grid.specs.GridRules.{IsFirstFault}
 use Rattle.drain_grid.specs.Rule.{IsAnyRule, IsPatchRule}
-use Rattle.drain_grid.specs.Extent.{Extent}
 use Rattle.drain_grid.specs.Unranked.{unranked}
-use Rattle.drain_grid.specs.Values.{NoDataNumbers}
-use Rattle.drain_union.specs.declared.place.TheConstants.{SEAM_DEPTH}
 use Rattle.drain_union.specs.JudgedCounts.{AreCountsInside}
-use Rattle.drain_union.specs.Reports.{Report, IsReportOf, CanMerge}
 use Rattle.drain_union.specs.VerdictLines.{verdict_line}
-use Rattle.drain_union.specs.Windows.{Window, RulesHoldInside, IsFirstInside, AreWindowsOf}
-use Rattle.drain_union.specs.declared.report.WindowReport.{WindowReport}
 use Rattle.drain_merge.specs.Places.{reports_of}
 use Rattle.drain_merge.specs.Merges.{HaveNoData}
 use Rattle.drain_merge.specs.Totals.{AreUnionCounts}

@@ -1,10 +1,6 @@
 -- The first cell of a box that no window judges. These definitions are this project's own.
-use Rattle.std.specs.Prelude.{◌≡◌, ◌≢◌, ℕ, ◌+◌, ◌-◌, ◌<◌, ◌≤◌, ◌^◌, ◌⊎◌, Option, Some, None, List, slice_index}
-use Rattle.std.specs.List.{Contains}
-use Rattle.drain_grid.specs.declared.cell.Cell.{Cell}
-use Rattle.drain_grid.specs.Extent.{IsEarlier}
-use Rattle.drain_union.specs.declared.place.Place.{Place}
-use Rattle.drain_union.specs.Windows.{IsJudgedAt, IsJudgedAtSome, judged_top, judged_left, judged_bottom, judged_right}
+use Rattle.std.specs.Prelude.{◌≡◌, ◌≢◌, ◌+◌, ◌-◌, ◌<◌, ◌≤◌, ◌^◌, ◌⊎◌}
+use Rattle.drain_merge.specs.Names.{ℕ, Option, Some, None, List, slice_index, Contains, Cell, IsEarlier, Place, IsJudgedAt, IsJudgedAtSome, judged_top, judged_left, judged_bottom, judged_right}
 
 -- each row and column of the box is a number of 32 bits
 pub record HasCells (box : Place) : Type 0 where

@@ -1,7 +1,7 @@
 //! Places that lie in a box.
 
-ghost use Rattle.std.specs.Prelude.{◌↔◌, IsTrue};
-ghost use Rattle.drain_union.specs.Joins.{LiesInBox};
+ghost use Rattle.std.specs.Prelude.{◌↔◌};
+ghost use Rattle.drain_merge.specs.Names.{IsTrue, LiesInBox};
 ghost use Rattle.drain_merge.specs.Boxes.{ColsLieIn, RowsLieIn};
 ghost use Rattle.drain_merge.specs.Places.{IsFirstFailing};
 

@@ -1,7 +1,7 @@
 //! The edges of what a place judges.
 
-ghost use Rattle.std.specs.Prelude.{◌≡◌, ◌↔◌, IsTrue};
-ghost use Rattle.drain_union.specs.Windows.{BothJudgeOne, IsJudgedAtSome, JudgesSome, judged_bottom, judged_left, judged_right, judged_top};
+ghost use Rattle.std.specs.Prelude.{◌≡◌, ◌↔◌};
+ghost use Rattle.drain_merge.specs.Names.{IsTrue, BothJudgeOne, IsJudgedAtSome, JudgesSome, judged_bottom, judged_left, judged_right, judged_top};
 
 use drain_grid::Cell;
 use drain_union::Place;

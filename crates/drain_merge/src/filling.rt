@@ -3,9 +3,8 @@
 //! The box's columns are parted where judged columns of a place end. Places are laid from north to south: each has to
 //! begin, in all parts that it takes, where the ones laid there before end.
 
-ghost use Rattle.std.specs.Prelude.{◌≡◌, ◌<◌, ◌≤◌, length, slice_index, IsTrue, IfOk, IfSome};
-ghost use Rattle.std.specs.List.Sorted.{IsNonDecreasing, IsPermutation};
-ghost use Rattle.drain_union.specs.Windows.{judged_top};
+ghost use Rattle.std.specs.Prelude.{◌≡◌, ◌<◌, ◌≤◌};
+ghost use Rattle.drain_merge.specs.Names.{length, slice_index, IsTrue, IfOk, IfSome, IsNonDecreasing, IsPermutation};
 ghost use Rattle.drain_merge.specs.Filling.{AreEndsOf, AreLaid, Fill, IsLaid, IsMoved, ReachAllOver};
 
 use crate::edges::{bottom_of, left_of, right_of, top_of};

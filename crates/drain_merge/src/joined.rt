@@ -1,14 +1,13 @@
 //! The report that the reports of windows make of the smallest box that holds them.
 
-ghost use Rattle.std.specs.Prelude.{◌≡◌, ◌+◌, ◌-◌, ◌<◌, ◌^◌, IfErr, IfOk, OnOk, Some};
-ghost use Rattle.std.specs.List.Sorted.{IsPermutation};
+ghost use Rattle.std.specs.Prelude.{◌≡◌, ◌+◌, ◌-◌, ◌<◌, ◌^◌};
+ghost use Rattle.drain_merge.specs.Names.{IfErr, IfOk, OnOk, Some, IsPermutation, is_accepted, IsSortedByLabel, ShowTheSame};
 ghost use Rattle.drain_merge.specs.BoxReports.{AreJoinedLists, EndFit, IsFilledBox, IsJoin, IsJoinedVerdict, IsJoinOver, IsJoinRefusal, IsListRefusal, IsOfBox, IsSeamRefusal};
 ghost use Rattle.drain_merge.specs.Merges.{FillBox, HaveOneSpacing};
 ghost use Rattle.drain_merge.specs.Places.{places_of};
 ghost use Rattle.drain_merge.specs.Seams.{IsFirstDifference};
 ghost use Rattle.drain_merge.specs.declared.merge_verdict.MergeRefusal.TheVariants.{SeamsDiffer};
 ghost use Rattle.drain_grid.specs.declared.cell.Cell.{Cell as CellOf};
-ghost use Rattle.drain_union.specs.Reports.{is_accepted, IsSortedByLabel, ShowTheSame};
 
 use crate::all_lists::{Lists, all_lists};
 use crate::joined_spacings::joined_spacings;

@@ -1,8 +1,7 @@
 //! How far apart the cells of the rows of a box are, from the windows that fill it.
 
-ghost use Rattle.std.specs.Prelude.{◌≡◌, ◌↔◌, ◌+◌, ◌-◌, ◌<◌, ◌^◌, ℕ, take, IsTrue, IfOk, [], length};
-ghost use Rattle.std.specs.List.{All};
-ghost use Rattle.drain_union.specs.Reports.{spacing_at};
+ghost use Rattle.std.specs.Prelude.{◌≡◌, ◌↔◌, ◌+◌, ◌-◌, ◌<◌, ◌^◌};
+ghost use Rattle.drain_merge.specs.Names.{ℕ, take, IsTrue, IfOk, [], length, All, spacing_at};
 ghost use Rattle.drain_merge.specs.BoxReports.{EndFit, HasRow, IsSpacingOfRow, SpacesBox, spacing_in};
 ghost use Rattle.drain_merge.specs.Merges.{HaveOneSpacing};
 

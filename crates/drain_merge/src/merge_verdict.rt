@@ -1,7 +1,7 @@
 //! The verdict on a union, and why there is none.
 
-ghost use Rattle.std.specs.Prelude.{◌≡◌, ◌↔◌, IsTrue, ◌≤◌, ◌++◌, length, decimal};
-ghost use Rattle.drain_grid.specs.Extent.{IsEarlier};
+ghost use Rattle.std.specs.Prelude.{◌≡◌, ◌↔◌, ◌≤◌, ◌++◌};
+ghost use Rattle.drain_merge.specs.Names.{IsTrue, length, decimal, IsEarlier};
 ghost use Rattle.drain_merge.specs.Seams.{union_fault, ComesBefore, IsFirstOfFaults, IsEarlierFault};
 ghost use Rattle.arrayvec.specs.ArrayString.{array_string_len};
 ghost use Rattle.drain_merge.specs.UnionVerdicts.{cell_text, merge_line, overlap_line, refusal_line};

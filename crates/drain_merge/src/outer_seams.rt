@@ -1,9 +1,7 @@
 //! What windows show along the seams of the box that they fill.
 
-ghost use Rattle.std.specs.Prelude.{◌≡◌, ◌↔◌, ◌+◌, ◌<◌, ℕ, IsTrue, IfOk, length, slice_index_or};
-ghost use Rattle.std.specs.List.{Contains};
-ghost use Rattle.drain_union.specs.Joins.{IsOuter};
-ghost use Rattle.drain_union.specs.declared.place.TheConstants.{SEAM_DEPTH};
+ghost use Rattle.std.specs.Prelude.{◌≡◌, ◌↔◌, ◌+◌, ◌<◌};
+ghost use Rattle.drain_merge.specs.Names.{ℕ, IsTrue, IfOk, length, slice_index_or, Contains, IsOuter, SEAM_DEPTH};
 ghost use Rattle.drain_union.specs.declared.report.Shown.{Shown as ShownOf};
 
 use drain_grid::{Cell, OutOfMemory};

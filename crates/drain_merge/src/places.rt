@@ -1,8 +1,8 @@
 //! Where the windows of a union lie.
 
-ghost use Rattle.std.specs.Prelude.{◌≡◌, map, ◌↔◌, IsTrue};
+ghost use Rattle.std.specs.Prelude.{◌≡◌, ◌↔◌};
+ghost use Rattle.drain_merge.specs.Names.{map, BothJudgeOne, cell_from, JudgesSome, place_from};
 ghost use Rattle.drain_merge.specs.Places.{judged_from, outlet_from, report_from, shown_from, IsFirstClash, IsFirstFailing, IsFirstWith};
-ghost use Rattle.drain_union.specs.Windows.{BothJudgeOne, cell_from, JudgesSome, place_from};
 
 use crate::edges::{both_judge_one, judges_some};
 use drain_grid::Cell;

@@ -1,7 +1,7 @@
 //! What windows show along their seams.
 
-ghost use Rattle.std.specs.Prelude.{◌↔◌, IsTrue};
-ghost use Rattle.std.specs.List.Sorted.{IsPermutation};
+ghost use Rattle.std.specs.Prelude.{◌↔◌};
+ghost use Rattle.drain_merge.specs.Names.{IsTrue, IsPermutation};
 ghost use Rattle.drain_merge.specs.Seams.{AreInRowOrder, Differ, IsFirstDifference, IsFirstDiffering};
 
 use drain_grid::Cell;

@@ -1,12 +1,10 @@
 //! What windows have in common: one grid, one set of no-data numbers, and labels that two outlets share.
 
-ghost use Rattle.std.specs.Prelude.{◌≡◌, ◌↔◌, IfErr, IsTrue, OnOk, ◌<◌, length, slice_index_or};
+ghost use Rattle.std.specs.Prelude.{◌≡◌, ◌↔◌, ◌<◌};
+ghost use Rattle.drain_merge.specs.Names.{IfErr, IsTrue, OnOk, length, slice_index_or, IsPermutation, SharesAt, CountsOn};
 ghost use Rattle.drain_union.specs.declared.report.WindowReport.{WindowReport as WindowReportOf};
 ghost use Rattle.drain_merge.specs.MapBoxes.{HaveGrid, HaveOneGrid, IsGridRefusal};
 ghost use Rattle.drain_merge.specs.Places.{IsFirstFailing};
-ghost use Rattle.std.specs.List.Sorted.{IsPermutation};
-ghost use Rattle.drain_union.specs.Reports.{SharesAt};
-ghost use Rattle.drain_union.specs.UnionGrids.{CountsOn};
 ghost use Rattle.drain_merge.specs.Seams.{AreInOrder, IsFirstSharing, IsLeastSharing, IsEarlierOf};
 
 use crate::merge_verdict::{MergeRefusal, is_earlier};

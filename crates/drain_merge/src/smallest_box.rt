@@ -1,7 +1,7 @@
 //! The smallest box that holds windows.
 
-ghost use Rattle.std.specs.Prelude.{◌≡◌, ◌↔◌, ◌+◌, ◌-◌, ◌^◌, min, IsTrue};
-ghost use Rattle.std.specs.List.{Contains};
+ghost use Rattle.std.specs.Prelude.{◌≡◌, ◌↔◌, ◌+◌, ◌-◌, ◌^◌};
+ghost use Rattle.drain_merge.specs.Names.{min, IsTrue, Contains};
 ghost use Rattle.drain_union.specs.declared.report.WindowReport.{WindowReport as WindowReportOf};
 ghost use Rattle.drain_merge.specs.BoxReports.{EndFit, IsSmallestBox, StopsAt};
 ghost use Rattle.drain_merge.specs.MapBoxes.{bottom_end, greatest_by, least_by, left_of, right_end, top_of};

@@ -3,10 +3,10 @@
 //! Windows side by side share rows and hardly a cell, so what they show along their seams isn't enough. Reports on
 //! different distances can't be merged: no one grid has them all.
 
-ghost use Rattle.std.specs.Prelude.{◌≡◌, ◌↔◌, ◌+◌, ◌<◌, ◌≤◌, ◌^◌, IsTrue, length, ℕ};
+ghost use Rattle.std.specs.Prelude.{◌≡◌, ◌↔◌, ◌+◌, ◌<◌, ◌≤◌, ◌^◌};
+ghost use Rattle.drain_merge.specs.Names.{IsTrue, ℕ, SpacedAlike, spacing_at};
 ghost use Rattle.drain_merge.specs.Merges.{HaveRowsAlike, IsFirstSpacedOther};
 ghost use Rattle.drain_merge.specs.Places.{IsFirstFailing};
-ghost use Rattle.drain_union.specs.Reports.{SpacedAlike, spacing_at};
 
 use drain_grid::Spacing;
 use drain_union::place::end_of;

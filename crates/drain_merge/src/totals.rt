@@ -1,8 +1,7 @@
 //! What all windows of a union count and list, put together.
 
-ghost use Rattle.std.specs.Prelude.{◌≡◌, ◌↔◌, IfErr, IfOk, IsTrue, OnOk, ◌+◌};
-ghost use Rattle.drain_grid.specs.declared.cell.Cell.{Cell};
-ghost use Rattle.drain_grid.specs.CellLists.{is_among};
+ghost use Rattle.std.specs.Prelude.{◌≡◌, ◌↔◌, ◌+◌};
+ghost use Rattle.drain_merge.specs.Names.{IfErr, IfOk, IsTrue, OnOk, Cell, is_among};
 ghost use Rattle.drain_merge.specs.UnionSinks.{IsFirstLeftOut, IsFirstNotListed, IsListedRefusal, IsSinkRefusal, TakeLines, TakeSinks};
 ghost use Rattle.drain_merge.specs.UnionVerdicts.{IsRejected, SomeIsRejected};
 ghost use Rattle.drain_merge.specs.Places.{all_sinks, places_of};

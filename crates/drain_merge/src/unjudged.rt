@@ -1,8 +1,7 @@
 //! The first cell of a box that no window judges.
 
-ghost use Rattle.std.specs.Prelude.{◌≡◌, ◌↔◌, ◌<◌, ◌≤◌, ◌^◌, ◌++◌, ◌∷◌, [], map, length, IsTrue, IfOk};
-ghost use Rattle.std.specs.List.Sorted.{IsNonDecreasing, IsPermutation};
-ghost use Rattle.drain_union.specs.Windows.{judged_bottom, judged_left, judged_right, judged_top};
+ghost use Rattle.std.specs.Prelude.{◌≡◌, ◌↔◌, ◌<◌, ◌≤◌, ◌^◌, ◌++◌, ◌∷◌};
+ghost use Rattle.drain_merge.specs.Names.{[], map, length, IsTrue, IfOk, IsNonDecreasing, IsPermutation, judged_bottom, judged_left, judged_right, judged_top};
 ghost use Rattle.drain_merge.specs.Unjudged.{HasCells, IsFirstUnjudged, IsFirstInRow, IsFirstCrossing, IsNewBetween};
 
 use crate::edges::{bottom_of, is_judged, left_of, right_of, top_of};

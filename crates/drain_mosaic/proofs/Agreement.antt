@@ -1,24 +1,10 @@
 -- The first tile of a list that equals an earlier one, place by place.
-use Rattle.std.proofs.Common.{◌≡◌, ℕ, ◌+◌, ◌<◌, ◌≤◌, Bool, true, false, ◌&&◌, List, length, get_or, take, int_eq, Some, arith, refl, sym, ap, ◌∙◌, below_more, ◌≢◌, ◌*◌, ◌-◌, ℤ, [], inl, inr, nat_abs, subst, zero, suc, ◌∷◌}
-use Rattle.std.proofs.lemmas.Bool.{false≢true, ltb-true, lt-ltb, leb-true, le-leb}
-use Rattle.std.proofs.lemmas.Bool.Decides.{Decides-int_eq}
-use Rattle.std.proofs.lemmas.List.{get_or-take, length-take-le}
-use Rattle.std.proofs.lemmas.Option.{slice_get-get_or, get_or_from_slice_get}
-use Rattle.drain_hgt.specs.Corner.{Corner}
-use Rattle.drain_mosaic.specs.GivenTiles.{IsRepeatedAt, IsFirstRepeated, HasLayoutFault, IsLayout, AreTilingNumbers, AreBoundsOf, layout_fault_order}
-use Rattle.std.specs.Prelude.{◌⊎◌, ◌==◌, cond, nat_le, nat_lt, None}
+use Rattle.drain_mosaic.proofs.Names.{◌≡◌, ℕ, ◌+◌, ◌<◌, ◌≤◌, Bool, true, false, ◌&&◌, List, length, get_or, take, int_eq, Some, arith, refl, sym, ap, ◌∙◌, below_more, ◌≢◌, ◌*◌, ◌-◌, ℤ, [], inl, inr, nat_abs, subst, zero, suc, ◌∷◌, false≢true, ltb-true, lt-ltb, leb-true, le-leb, Decides-int_eq, get_or-take, length-take-le, slice_get-get_or, get_or_from_slice_get, Corner, IsRepeatedAt, IsFirstRepeated, HasLayoutFault, IsLayout, AreTilingNumbers, AreBoundsOf, layout_fault_order, ◌⊎◌, ◌==◌, nat_le, nat_lt, Extent, IsSide, height_from, NoTiles, RepeatedTile, BoxTooLarge, Tiling, tiles_down, tiles_across, top_of, left_of, Any, option_or, Cell, Covers, Tile, ShowsSample, IsValue, sample_over, value_from, first_value, AgreementGivesElevation}
+use Rattle.std.specs.Prelude.{cond, None}
 use Rattle.drain_text.specs.First.{IsFirst, IsBefore}
-use Rattle.drain_grid.specs.Extent.{Extent}
-use Rattle.drain_grid.specs.Grid.{IsSide, height_from}
 use Rattle.drain_mosaic.specs.declared.layout.TheConstants.{MAX_BOX}
 use Rattle.drain_mosaic.specs.declared.layout.LayoutFault.{LayoutFault}
-use Rattle.drain_mosaic.specs.declared.layout.LayoutFault.TheVariants.{NoTiles, RepeatedTile, BoxTooLarge, OutOfMemory}
-use Rattle.drain_mosaic.specs.Tiling.{Tiling, tiles_down, tiles_across, top_of, left_of}
-use Rattle.std.specs.List.{Any}
-use Rattle.std.specs.Option.{option_or}
-use Rattle.drain_grid.specs.declared.cell.Cell.{Cell}
-use Rattle.drain_mosaic.specs.Mosaic.{Covers, Tile, ShowsSample, IsValue, sample_over, value_from, first_value}
-use Rattle.drain_mosaic.specs.Laws.{AgreementGivesElevation}
+use Rattle.drain_mosaic.specs.declared.layout.LayoutFault.TheVariants.{OutOfMemory}
 
 -- the two tiles have the same degrees
 abbrev pub same_tile : Corner → Corner → Bool

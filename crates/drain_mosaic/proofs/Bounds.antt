@@ -1,11 +1,6 @@
 -- The least and the greatest of some numbers, one number more at a time.
-use Rattle.std.proofs.Common.{◌≡◌, ℕ, ◌+◌, ◌<◌, ◌≤◌, ℤ, pos, negsuc, nat_abs, ◌+ℤ◌, ◌-ℤ◌, of_z, to_z, SFits, List, length, get_or, take, map, fold, zero, suc, [], ◌∷◌, ◌*◌, ◌-◌, ◌≤ℤ◌, w16, arith, sym, ap, ◌∙◌}
-use Rattle.std.specs.Int.{int_min, int_max}
-use Rattle.std.proofs.lemmas.Int.{ints, clamps}
-use Rattle.std.proofs.lemmas.List.{get_or-map}
+use Rattle.drain_mosaic.proofs.Names.{◌≡◌, ℕ, ◌+◌, ◌<◌, ◌≤◌, ℤ, pos, negsuc, nat_abs, ◌+ℤ◌, ◌-ℤ◌, of_z, to_z, SFits, List, length, get_or, take, map, fold, zero, suc, [], ◌∷◌, ◌*◌, ◌-◌, ◌≤ℤ◌, w16, arith, sym, ap, ◌∙◌, int_min, int_max, ints, clamps, get_or-map, mul-le-mul_right, Corner, IsWithin}
 use Rattle.std.proofs.lemmas.List.Sums.{fold_more}
-use Rattle.std.proofs.Math.Nat.{mul-le-mul_right}
-use Rattle.drain_hgt.specs.Corner.{Corner, IsWithin}
 
 -- what the code has of a corner is the number in the corner's place
 pub step_is : (get : Corner → ℤ) (names : List Corner) (i : ℕ) (name : Corner) (x : ℤ) → name ≡ get_or names i name → i < length names → x ≡ get name → x ≡ get_or (map get names) i (pos 0)

@@ -1,21 +1,11 @@
 -- One call for each tile, one tile after another.
-use Rattle.std.proofs.Common.{◌≡◌, ◌≢◌, ℕ, zero, suc, ◌+◌, ◌<◌, ◌≤◌, ℤ, List, [], ◌∷◌, ◌++◌, length, map, get_or, set, take, Option, Some, None, Err, IsErrOf, arith, refl, sym, ap, ◌∙◌, inl, inr, subst, IsTrue, MatchOption, below_more}
-use Rattle.std.specs.Prelude.{IsSome}
-use Rattle.std.specs.List.{All}
-use Rattle.std.proofs.lemmas.Bool.{cases_lt}
-use Rattle.std.proofs.lemmas.List.{get_or-set_same, get_or-set_other, take_more}
-use Rattle.drain_device.specs.declared.counts.FaultCounts.{FaultCounts}
-use Rattle.drain_grid.specs.declared.tile.TheConstants.{VOID}
-use Rattle.drain_hgt.specs.declared.input.TileInput.{TileInput}
-use Rattle.drain_mosaic.specs.JoinedRows.{IsLeastOf, first_of}
+use Rattle.drain_mosaic.proofs.Names.{◌≡◌, ◌≢◌, ℕ, zero, suc, ◌+◌, ◌<◌, ◌≤◌, ℤ, List, [], ◌∷◌, ◌++◌, length, map, get_or, set, take, Option, Some, Err, IsErrOf, arith, refl, sym, ap, ◌∙◌, inl, inr, subst, IsTrue, MatchOption, below_more, IsSome, All, cases_lt, take_more, FaultCounts, VOID, TileInput, IsLeastOf, first_of, Stream, end_stream, is_seam, next_stream, AreTold, HasRead, HaveRead, IsPlacedAt, IsRowLaid, IsTileRowLaid, stream_of, streams_of, PlacedRows, ReadFault, WrongLength, ReadFailed, AlreadyFailed}
+use Rattle.std.proofs.Common.{None}
+use Rattle.std.proofs.lemmas.List.{get_or-set_same, get_or-set_other}
 use Rattle.drain_mosaic.proofs.Places.{any_default}
 use Rattle.drain_mosaic.proofs.Laying.{values-more, seam-more, seam-none}
 use Rattle.drain_mosaic.proofs.TileCalls.{read-none, read-so}
-use Rattle.drain_mosaic.specs.Streams.{Stream, end_stream, is_seam, next_stream}
-use Rattle.drain_mosaic.specs.PlacedRows.{AreTold, HasRead, HaveRead, IsPlacedAt, IsRowLaid, IsTileRowLaid, stream_of, streams_of}
-use Rattle.drain_mosaic.specs.declared.placed_rows.PlacedRows.{PlacedRows}
-use Rattle.drain_device.specs.declared.row_source.ReadFault.{ReadFault}
-use Rattle.drain_device.specs.declared.row_source.ReadFault.TheVariants.{WrongLength, ReadFailed, OutOfMemory, AlreadyFailed}
+use Rattle.drain_device.specs.declared.row_source.ReadFault.TheVariants.{OutOfMemory}
 
 -- a call for the tile in this place
 abbrev pub ReadAt : (R : Type 0) → (R → Option (List ℕ)) → (R → FaultCounts) → List PlacedRows → List PlacedRows → List (TileInput R) → List (TileInput R) → ℕ → PlacedRows → TileInput R → Type 0 → Type 0

@@ -1,16 +1,6 @@
 -- The values of a cell, tile by tile.
-use Rattle.std.proofs.Common.{◌≡◌, ℕ, ◌+◌, ◌-◌, ◌<◌, ◌≤◌, ℤ, List, [], length, take, drop, get_or, Option, Some, None, option_map, slice_get, arith, refl, sym, ap, ◌∙◌, inl, inr, subst}
-use Rattle.std.specs.Prelude.{◌⊎◌}
-use Rattle.std.specs.Option.{option_or}
-use Rattle.std.proofs.lemmas.Bool.{cases_lt}
-use Rattle.std.proofs.lemmas.List.{take-append-drop}
-use Rattle.std.proofs.lemmas.Option.{same_Some}
-use Rattle.drain_grid.specs.declared.cell.Cell.{Cell}
-use Rattle.drain_grid.specs.Grid.{height_from}
-use Rattle.drain_hgt.specs.Samples.{tile_sample_at}
-use Rattle.drain_mosaic.specs.Tiling.{Tiling, top_of, left_of, top_left_of}
-use Rattle.drain_mosaic.specs.Mosaic.{Tile, Covers, HasTwoValues, AreTiles, tiles_of, value_from, first_value}
-use Rattle.drain_mosaic.specs.JoinedRows.{AreTwo}
+use Rattle.drain_mosaic.proofs.Names.{◌≡◌, ℕ, ◌+◌, ◌-◌, ◌<◌, ◌≤◌, ℤ, List, [], length, take, drop, get_or, Option, Some, option_map, slice_get, arith, refl, sym, ap, ◌∙◌, inl, inr, subst, ◌⊎◌, option_or, cases_lt, take-append-drop, same_Some, Cell, height_from, tile_sample_at, Tiling, top_of, left_of, top_left_of, Tile, Covers, HasTwoValues, AreTiles, tiles_of, value_from, first_value, AreTwo}
+use Rattle.std.proofs.Common.{None}
 use Rattle.drain_mosaic.proofs.Values.{first_value_push, GivesAnother, two_keep, two_new, two_split}
 use Rattle.drain_mosaic.proofs.Agreement.{covered}
 use Rattle.drain_mosaic.proofs.Joining.{uncovered}

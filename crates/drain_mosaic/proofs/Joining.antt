@@ -1,17 +1,6 @@
 -- One tile more over a row of the mosaic.
-use Rattle.std.proofs.Common.{◌≡◌, ◌≢◌, ℕ, ◌+◌, ◌-◌, ◌<◌, ◌≤◌, ℤ, min, List, [], ◌∷◌, ◌++◌, length, Option, Some, None, arith, refl, sym, ap, ◌∙◌, inl, inr, subst, true, false, int_eq, cond}
-use Rattle.std.specs.Prelude.{◌⊎◌, slice_index_or}
-use Rattle.std.specs.Option.{option_or}
-use Rattle.std.proofs.lemmas.Bool.{false≢true, cases_lt}
-use Rattle.std.proofs.lemmas.Bool.Decides.{Decides-int_eq}
-use Rattle.std.proofs.lemmas.Option.{same_Some}
-use Rattle.drain_grid.specs.declared.cell.Cell.{Cell}
-use Rattle.drain_grid.specs.declared.tile.TheConstants.{VOID}
-use Rattle.drain_grid.specs.Grid.{height_from}
-use Rattle.drain_hgt.specs.Samples.{tile_sample_at}
-use Rattle.drain_mosaic.specs.Tiling.{Tiling, extent_of, top_of, left_of}
-use Rattle.drain_mosaic.specs.Mosaic.{Tile, Covers, HasTwoValues, value_from, first_value}
-use Rattle.drain_mosaic.specs.JoinedRows.{IsLeastOf, ConflictOver, IsLaidOver, IsJoinedRow, first_of, filled}
+use Rattle.drain_mosaic.proofs.Names.{◌≡◌, ◌≢◌, ℕ, ◌+◌, ◌-◌, ◌<◌, ◌≤◌, ℤ, min, List, [], ◌∷◌, ◌++◌, length, Option, Some, arith, refl, sym, ap, ◌∙◌, inl, inr, subst, true, false, int_eq, ◌⊎◌, slice_index_or, option_or, false≢true, cases_lt, Decides-int_eq, same_Some, Cell, VOID, height_from, tile_sample_at, Tiling, extent_of, top_of, left_of, Tile, Covers, HasTwoValues, value_from, first_value, IsLeastOf, ConflictOver, IsLaidOver, IsJoinedRow, first_of, filled}
+use Rattle.std.proofs.Common.{None, cond}
 use Rattle.drain_mosaic.proofs.Agreement.{covered, gives_from}
 use Rattle.drain_mosaic.proofs.Values.{or_none, first_value_push, GivesAnother, two_keep, two_new, two_split}
 

@@ -1,17 +1,8 @@
 -- A row of a mosaic, as far as tiles were laid over it.
-use Rattle.std.proofs.Common.{◌≡◌, ◌≢◌, ℕ, zero, suc, ◌+◌, ◌-◌, ◌<◌, ◌≤◌, ℤ, List, [], ◌∷◌, ◌++◌, length, Option, Some, None, arith, refl, sym, ap, ◌∙◌, inl, inr, subst, true, false, Bool, not, ◌&&◌, ◌||◌, int_eq, cond, MatchOption, IsTrue}
-use Rattle.std.specs.Prelude.{◌⊎◌, slice_index_or, nat_le, nat_lt}
-use Rattle.std.specs.List.{list_any}
-use Rattle.std.proofs.lemmas.Bool.{false≢true, cases_lt, lt-ltb, le-leb, le-ltb, lt-leb, and_left, and_right, and_from, or_from, or_left, or_right}
-use Rattle.std.proofs.lemmas.Bool.Decides.{Decides-int_eq}
+use Rattle.drain_mosaic.proofs.Names.{◌≡◌, ◌≢◌, ℕ, zero, suc, ◌+◌, ◌-◌, ◌<◌, ◌≤◌, ℤ, List, [], ◌∷◌, ◌++◌, length, Option, Some, arith, refl, sym, ap, ◌∙◌, inl, inr, subst, true, false, Bool, not, ◌&&◌, ◌||◌, int_eq, MatchOption, IsTrue, ◌⊎◌, slice_index_or, nat_le, nat_lt, list_any, false≢true, cases_lt, lt-ltb, le-leb, le-ltb, lt-leb, and_left, and_right, and_from, or_from, or_left, or_right, Decides-int_eq, fill_by_all, VOID, IsLeastOf, Conflict, ConflictOver, IsLaidOver, filled, first_of, nth_row, Stream, Frame, is_over, is_across, sample_given, first_sample, in_conflict, is_seam, first_from, mosaic_row, IsTileRowLaid}
+use Rattle.std.proofs.Common.{None, cond}
 use Rattle.std.proofs.lemmas.List.Folds.{list_any-append}
-use Rattle.std.proofs.lemmas.List.FromFn.{fill_by_all}
-use Rattle.drain_grid.specs.declared.tile.TheConstants.{VOID}
-use Rattle.drain_mosaic.specs.JoinedRows.{IsLeastOf, Conflict, ConflictOver, IsLaidOver, filled, first_of}
 use Rattle.drain_mosaic.proofs.Joining.{least_join}
-use Rattle.drain_device.specs.RowSteps.{nth_row}
-use Rattle.drain_mosaic.specs.Streams.{Stream, Frame, is_over, is_across, sample_given, first_sample, in_conflict, is_seam, first_from, mosaic_row}
-use Rattle.drain_mosaic.specs.PlacedRows.{IsTileRowLaid}
 
 -- tests on numbers
 pub eq_void : (z : ℤ) → z ≡ VOID → int_eq z VOID ≡ true

@@ -1,21 +1,7 @@
 -- What a vector keeps whose items were lent whole and written back.
-use Rattle.std.proofs.Common.{◌≡◌, ℕ, ◌<◌, ◌≤◌, ◌^◌, ℤ, List, ◌++◌, length, map, take, drop, Option, Some, None, Ok, Err, IsErrOf, MatchOption, arith, sym, ap, ◌∙◌, subst}
-use Rattle.std.specs.List.{All}
-use Rattle.std.proofs.lemmas.Int.{ints}
-use Rattle.std.proofs.lemmas.List.Elements.{All-same}
-use Rattle.drain_device.specs.declared.counts.FaultCounts.{FaultCounts}
-use Rattle.drain_device.specs.declared.row_source.ReadFault.{ReadFault}
-use Rattle.drain_device.specs.declared.row_source.ReadFault.TheVariants.{ReadFailed}
-use Rattle.drain_device.specs.declared.row_source.Progress.{Progress}
-use Rattle.drain_device.specs.declared.row_source.Progress.TheVariants.{Going, Done, Stopped}
-use Rattle.drain_grid.specs.declared.tile.TheConstants.{VOID}
-use Rattle.drain_grid.specs.Grid.{IsSample}
-use Rattle.drain_grid.proofs.Tallies.{lent_back}
-use Rattle.drain_hgt.specs.declared.input.TileInput.{TileInput}
+use Rattle.drain_mosaic.proofs.Names.{◌≡◌, ℕ, ◌<◌, ◌≤◌, ◌^◌, ℤ, List, ◌++◌, length, map, take, drop, Option, Some, Ok, Err, IsErrOf, MatchOption, arith, sym, ap, ◌∙◌, subst, All, ints, All-same, FaultCounts, ReadFault, ReadFailed, Progress, Going, Done, Stopped, VOID, IsSample, lent_back, TileInput, ArePlacedWithin, HaveRead, IsPlacedWithin, IsRowLaid, streams_of, Stream, PlacedRows}
+use Rattle.std.proofs.Common.{None}
 use Rattle.drain_mosaic.proofs.MosaicSteps.{have-so}
-use Rattle.drain_mosaic.specs.PlacedRows.{ArePlacedWithin, HaveRead, IsPlacedWithin, IsRowLaid, streams_of}
-use Rattle.drain_mosaic.specs.Streams.{Stream}
-use Rattle.drain_mosaic.specs.declared.placed_rows.PlacedRows.{PlacedRows}
 
 -- the n items of a vector were lent, and others came back in their place
 pub record IsLent {X : Type 0} (old held cur : List X) (n : ℕ) : Type 0 where

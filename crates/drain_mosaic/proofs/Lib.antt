@@ -1,3 +1,4 @@
+pub mod Names
 pub mod Bounds
 pub mod Agreement
 pub mod Places

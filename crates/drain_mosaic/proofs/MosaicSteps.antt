@@ -1,38 +1,10 @@
 -- The rows of a new mosaic are those of the bodies that the devices give.
-use Rattle.std.proofs.Common.{◌≡◌, ℕ, ◌-◌, List, [], ◌∷◌, Option, Some, arith, refl, sym, ap, ◌∙◌, subst, zero, suc, ◌+◌, ◌*◌, ◌/◌, ◌<◌, ◌≤◌, ℤ, ◌++◌, length, map, take, drop, inl, inr, ◌≢◌, get_or, None, IsTrue, MatchOption, true, false, cond}
-use Rattle.std.specs.Prelude.{IsSome, slice_index_or}
-use Rattle.std.specs.List.{AllZip, All}
-use Rattle.std.specs.Option.{option_or}
-use Rattle.std.proofs.lemmas.List.Elements.{All-nil, All-cons, All-tail}
-use Rattle.drain_device.specs.RowSteps.{coming_at, nth_row, after_rows, ends_wrong, Coming}
-use Rattle.drain_device.specs.declared.row_source.Progress.{Progress}
-use Rattle.drain_device.specs.declared.row_source.Progress.TheVariants.{Going, Done, Stopped}
-use Rattle.drain_grid.specs.Extent.{Extent}
-use Rattle.drain_grid.specs.declared.cell.Cell.{Cell}
-use Rattle.drain_hgt.specs.declared.input.TileInput.{TileInput}
-use Rattle.drain_hgt.specs.Corner.{Corner}
-use Rattle.drain_hgt.specs.Inputs.{AreBodies}
-use Rattle.drain_hgt.specs.TileRows.{tile_rows}
-use Rattle.drain_mosaic.specs.Tiling.{Tiling, extent_of, top_left_of}
-use Rattle.drain_mosaic.specs.Streams.{Stream, Frame, mosaic_rows, seam_from, wrong_from, cell_at, end_stream, first_from, is_over, is_seam, mosaic_row, next_stream}
-use Rattle.drain_mosaic.specs.GivenTiles.{frame_of, stream_at, tile_streams, given_samples, whole_rows}
-use Rattle.drain_mosaic.specs.PlacedRows.{AreTold, IsAtStart, stream_of, streams_of, HasEnded, HaveEnded, HaveRead, IsRowLaid, first_stopped, if_stopped}
-use Rattle.drain_mosaic.specs.Laws.{NewRowsAreOfBodies, WholeTilesGiveTheirSamples}
-use Rattle.drain_mosaic.specs.declared.placed_rows.PlacedRows.{PlacedRows}
-use Rattle.std.proofs.lemmas.Bool.{cases_lt, lt-ltb, le-ltb}
-use Rattle.std.proofs.lemmas.List.{length-take-le, length-drop, get_or_append_left, get_or-append-add, take_all}
-use Rattle.std.proofs.Math.Nat.{div-eq-sub-div, div-eq_of_lt, div-eq_of_eq-mul_left}
+use Rattle.drain_mosaic.proofs.Names.{◌≡◌, ℕ, ◌-◌, List, [], ◌∷◌, Option, Some, arith, refl, sym, ap, ◌∙◌, subst, zero, suc, ◌+◌, ◌*◌, ◌/◌, ◌<◌, ◌≤◌, ℤ, ◌++◌, length, map, take, drop, inl, inr, ◌≢◌, get_or, IsTrue, MatchOption, true, false, IsSome, slice_index_or, AllZip, All, option_or, All-nil, All-cons, All-tail, coming_at, nth_row, after_rows, ends_wrong, Coming, Progress, Going, Done, Stopped, Extent, Cell, TileInput, Corner, AreBodies, tile_rows, Tiling, extent_of, top_left_of, Stream, Frame, mosaic_rows, seam_from, wrong_from, cell_at, end_stream, first_from, is_over, is_seam, mosaic_row, next_stream, frame_of, stream_at, tile_streams, given_samples, whole_rows, AreTold, IsAtStart, stream_of, streams_of, HasEnded, HaveEnded, HaveRead, IsRowLaid, first_stopped, if_stopped, NewRowsAreOfBodies, WholeTilesGiveTheirSamples, PlacedRows, cases_lt, lt-ltb, le-ltb, length-take-le, length-drop, get_or_append_left, get_or-append-add, take_all, div-eq-sub-div, div-eq_of_lt, div-eq_of_eq-mul_left, VOID, IsSide, IsTile, samples_of, tile_sample_at, tiles_of, FaultCounts, IsLeastOf, Next, End, Wrong}
+use Rattle.std.proofs.Common.{None, cond}
 use Rattle.std.proofs.Math.Seq.{take-add}
-use Rattle.drain_grid.specs.declared.tile.TheConstants.{VOID}
-use Rattle.drain_grid.specs.Grid.{IsSide}
-use Rattle.drain_hgt.specs.Samples.{IsTile, samples_of, tile_sample_at}
-use Rattle.drain_mosaic.specs.Mosaic.{tiles_of}
 use Rattle.drain_hgt.proofs.TileSamples.{samples-append, samples-length}
-use Rattle.drain_device.specs.declared.counts.FaultCounts.{FaultCounts}
-use Rattle.drain_mosaic.specs.JoinedRows.{IsLeastOf}
 use Rattle.drain_mosaic.proofs.Values.{or_assoc, or_none}
 use Rattle.drain_mosaic.proofs.Laying.{first_from-least, row-is}
-use Rattle.drain_device.specs.RowSteps.Coming.{Next, End, Wrong}
 
 -- a stream by its place and what is to come
 stream : Cell → Progress → ℕ → ℕ → List ℕ → Stream

@@ -1,24 +1,7 @@
 -- The only tile of a mosaic.
-use Rattle.std.proofs.Common.{◌≡◌, ℕ, List, [], ◌∷◌, length, get_or, set, Option, arith, refl, subst, zero, suc, ◌<◌, ap, ◌∙◌, ◌+◌, ◌++◌, take, Bool, true, cond, Some, option_map, slice_get, sym, ◌-◌, ◌*◌, ◌≤◌, ℤ, pos, ◌-ℤ◌, ◌≤ℤ◌, nat_abs, map, to_z, of_z, w16, SFits}
-use Rattle.std.specs.List.{All, AllZip}
-use Rattle.drain_hgt.specs.declared.input.TileInput.{TileInput}
-use Rattle.drain_mosaic.specs.PlacedRows.{stream_of, streams_of, ArePlacedWithin, IsPlacedWithin, IsAtStart}
-use Rattle.drain_mosaic.specs.declared.placed_rows.PlacedRows.{PlacedRows}
-use Rattle.std.proofs.lemmas.List.Elements.{All-set, All-push, All-same}
-use Rattle.drain_hgt.specs.Inputs.{names_of}
-use Rattle.drain_hgt.specs.declared.tile_rows.TileRows.{TileRows}
-use Rattle.std.proofs.lemmas.List.{take_more, get_or-map, length-map}
-use Rattle.drain_device.specs.Failing.{full_patience}
-use Rattle.drain_device.specs.declared.row_source.Progress.TheVariants.{Going}
-use Rattle.drain_hgt.specs.Corner.{Corner}
-use Rattle.drain_mosaic.specs.Tiling.{Tiling, top_left_of, least, greatest, west_of, north_of, extent_of, tiles_down, tiles_across}
+use Rattle.drain_mosaic.proofs.Names.{◌≡◌, ℕ, List, [], ◌∷◌, length, get_or, set, Option, arith, refl, subst, zero, suc, ◌<◌, ap, ◌∙◌, ◌+◌, ◌++◌, take, Bool, true, Some, option_map, slice_get, sym, ◌-◌, ◌*◌, ◌≤◌, ℤ, pos, ◌-ℤ◌, ◌≤ℤ◌, nat_abs, map, to_z, of_z, w16, SFits, All, AllZip, TileInput, stream_of, streams_of, ArePlacedWithin, IsPlacedWithin, IsAtStart, PlacedRows, All-set, All-push, All-same, names_of, TileRows, take_more, get_or-map, length-map, full_patience, Going, Corner, Tiling, top_left_of, least, greatest, west_of, north_of, extent_of, tiles_down, tiles_across, ints, to_z-of_z, slice_get_read, Cell, Extent, IsSide, AreTilingNumbers}
+use Rattle.std.proofs.Common.{cond}
 use Rattle.drain_mosaic.proofs.TileRows.{nowhere, place_is}
-use Rattle.std.proofs.lemmas.Int.{ints, to_z-of_z}
-use Rattle.std.proofs.lemmas.Option.{slice_get_read}
-use Rattle.drain_grid.specs.declared.cell.Cell.{Cell}
-use Rattle.drain_grid.specs.Extent.{Extent}
-use Rattle.drain_grid.specs.Grid.{IsSide}
-use Rattle.drain_mosaic.specs.GivenTiles.{AreTilingNumbers}
 use Rattle.drain_mosaic.proofs.Bounds.{least_le, greatest_ge, before_east, before_south, inside_box}
 
 -- what is true of the only element

@@ -1,22 +1,10 @@
 -- The seam that a mosaic's rows report is the first: a row's seams are its cells with two values; rows come in order.
-use Rattle.std.proofs.Common.{◌≡◌, ◌≢◌, ℕ, zero, suc, ◌+◌, ◌<◌, ◌≤◌, ℤ, List, [], ◌∷◌, map, Option, Some, None, Bool, true, false, ◌||◌, int_eq, cond, IsTrue, MatchOption, arith, refl, sym, ap, ◌∙◌, inl, inr, subst}
-use Rattle.std.specs.List.{list_any}
-use Rattle.std.specs.Option.{option_or}
-use Rattle.std.proofs.lemmas.Bool.{false≢true, cases_lt, or_left, or_right}
-use Rattle.std.proofs.lemmas.Bool.Decides.{Decides-int_eq}
-use Rattle.drain_grid.specs.declared.cell.Cell.{Cell}
-use Rattle.drain_grid.specs.declared.tile.TheConstants.{VOID}
-use Rattle.drain_hgt.specs.Corner.{Corner}
-use Rattle.drain_mosaic.specs.Tiling.{Tiling, extent_of}
-use Rattle.drain_mosaic.specs.Mosaic.{ShowsSample, HasTwoValues, IsFirstSeam, IsValue, Tile, TilesAgree, tiles_of, first_value, value_from}
-use Rattle.drain_mosaic.specs.JoinedRows.{AgreeAbove, IsLeastOf, IsSeamAlong}
+use Rattle.drain_mosaic.proofs.Names.{◌≡◌, ◌≢◌, ℕ, zero, suc, ◌+◌, ◌<◌, ◌≤◌, ℤ, List, [], ◌∷◌, map, Option, Some, Bool, true, false, ◌||◌, int_eq, IsTrue, MatchOption, arith, refl, sym, ap, ◌∙◌, inl, inr, subst, list_any, option_or, false≢true, cases_lt, or_left, or_right, Decides-int_eq, Cell, VOID, Corner, Tiling, extent_of, ShowsSample, HasTwoValues, IsFirstSeam, IsValue, Tile, TilesAgree, tiles_of, first_value, value_from, AgreeAbove, IsLeastOf, IsSeamAlong, Stream, cell_at, first_from, first_sample, in_conflict, is_seam, next_stream, sample_given, seam_from, RowsTellSeams, frame_of, given_samples, given_tiles, stream_at, tile_streams}
+use Rattle.std.proofs.Common.{None, cond}
 use Rattle.drain_mosaic.proofs.Agreement.{any_here, any_later, from_gives, gives_from, is_some_first, value_of_first}
 use Rattle.drain_mosaic.proofs.Joining.{data_of_height, height_of_data}
 use Rattle.drain_mosaic.proofs.Rows.{agree_more, first_seam, tiles_agree}
-use Rattle.drain_mosaic.specs.Streams.{Stream, cell_at, first_from, first_sample, in_conflict, is_seam, next_stream, sample_given, seam_from}
 use Rattle.drain_mosaic.proofs.Laying.{conflict-tests, least-same, tests-conflict}
-use Rattle.drain_mosaic.specs.Laws.{RowsTellSeams}
-use Rattle.drain_mosaic.specs.GivenTiles.{frame_of, given_samples, given_tiles, stream_at, tile_streams}
 use Rattle.drain_mosaic.proofs.StreamSteps.{after-cons, after-more, after-nil, stream_after, streams_after}
 use Rattle.drain_mosaic.proofs.RowValues.{first-value, given_tile, stream-value}
 

@@ -1,27 +1,8 @@
 -- The numbers of a row are samples, as far as tiles were laid over it.
-use Rattle.std.proofs.Common.{◌≡◌, ℕ, ◌+◌, ◌-◌, ◌<◌, ◌≤◌, ℤ, List, length, get_or, Option, true, false, int_eq, cond, arith, sym, ◌∙◌, inl, inr, subst, zero, suc, ◌*◌, [], ◌∷◌, Some, None, slice_get, MatchOption, refl, map, ap}
-use Rattle.std.specs.Prelude.{◌⊎◌, slice_index_or}
-use Rattle.std.specs.List.{All}
-use Rattle.std.proofs.lemmas.Bool.{cases_lt, false≢true}
-use Rattle.drain_grid.specs.declared.tile.TheConstants.{VOID}
-use Rattle.drain_grid.specs.Grid.{IsSample, IsSide, height_from}
+use Rattle.drain_mosaic.proofs.Names.{◌≡◌, ℕ, ◌+◌, ◌-◌, ◌<◌, ◌≤◌, ℤ, List, length, get_or, Option, true, false, int_eq, arith, sym, ◌∙◌, inl, inr, subst, zero, suc, ◌*◌, [], ◌∷◌, Some, slice_get, MatchOption, refl, map, ap, ◌⊎◌, slice_index_or, All, cases_lt, false≢true, VOID, IsSample, IsSide, height_from, IsLaidOver, filled, All-nil, All-cons, same_Some, Corner, IsTile, tile_sample_at, Tiling, top_of, left_of, top_left_of, tile_rows, ends_wrong, nth_row, wrong_from, Stream, first_sample, sample_given, RowsTellLengths, RowsAreFirstValues, tile_streams, frame_of, given_samples, stream_at, IsFirstBadLength, option_or, Cell, Tile, tiles_of, first_value, value_from}
+use Rattle.std.proofs.Common.{cond, None}
 use Rattle.drain_mosaic.proofs.Places.{any_default}
-use Rattle.drain_mosaic.specs.JoinedRows.{IsLaidOver, filled}
-use Rattle.std.proofs.lemmas.List.Elements.{All-nil, All-cons}
-use Rattle.std.proofs.lemmas.Option.{same_Some}
-use Rattle.drain_hgt.specs.Corner.{Corner}
-use Rattle.drain_hgt.specs.Samples.{IsTile, tile_sample_at}
-use Rattle.drain_mosaic.specs.Tiling.{Tiling, top_of, left_of, top_left_of}
-use Rattle.drain_hgt.specs.TileRows.{tile_rows}
-use Rattle.drain_device.specs.RowSteps.{ends_wrong, nth_row}
-use Rattle.drain_mosaic.specs.Streams.{wrong_from, Stream, first_sample, sample_given}
-use Rattle.drain_mosaic.specs.Laws.{RowsTellLengths, RowsAreFirstValues}
-use Rattle.drain_mosaic.specs.GivenTiles.{tile_streams, frame_of, given_samples, stream_at}
-use Rattle.drain_hgt.specs.Inputs.{IsFirstBadLength}
 use Rattle.drain_hgt.proofs.TileEnds.{tile_rows_tell_lengths}
-use Rattle.std.specs.Option.{option_or}
-use Rattle.drain_grid.specs.declared.cell.Cell.{Cell}
-use Rattle.drain_mosaic.specs.Mosaic.{Tile, tiles_of, first_value, value_from}
 use Rattle.drain_mosaic.proofs.CellValues.{value_is}
 use Rattle.drain_mosaic.proofs.Joining.{height_of_filled}
 use Rattle.drain_mosaic.proofs.Laying.{over-not, sample-beside, sample-inside, sample-not_over}

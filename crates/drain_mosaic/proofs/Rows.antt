@@ -1,17 +1,7 @@
 -- One row more of the mosaic, and from its rows to the elevation.
-use Rattle.std.proofs.Common.{◌≡◌, ℕ, ◌+◌, ◌-◌, ◌*◌, ◌<◌, ◌≤◌, ℤ, List, ◌++◌, length, take, drop, get_or, Some, None, true, false, int_eq, arith, refl, sym, ap, ◌∙◌, inl, inr, subst}
-use Rattle.std.specs.Prelude.{slice_index_or}
-use Rattle.std.proofs.lemmas.Bool.{cases_lt, false≢true}
-use Rattle.std.proofs.lemmas.Bool.Decides.{Decides-int_eq}
-use Rattle.std.proofs.lemmas.List.{get_or_append_left, get_or-append-add, get_or-take, length-append, length-take-le, length-drop}
-use Rattle.std.proofs.Math.Nat.{mul-le-mul_right}
-use Rattle.drain_grid.specs.declared.tile.TheConstants.{VOID}
-use Rattle.drain_grid.specs.Grid.{Heights, height_from}
-use Rattle.drain_grid.specs.WholeGrid.{elevation_at}
-use Rattle.drain_grid.proofs.Tallies.{written_over}
-use Rattle.drain_mosaic.specs.Tiling.{Tiling, extent_of}
-use Rattle.drain_mosaic.specs.Mosaic.{Tile, HasTwoValues, TilesAgree, IsElevation, IsFirstSeam, first_value}
-use Rattle.drain_mosaic.specs.JoinedRows.{IsSeamAlong, IsJoinedRow, AgreeAbove, AreJoinedRows}
+use Rattle.drain_mosaic.proofs.Names.{◌≡◌, ℕ, ◌+◌, ◌-◌, ◌*◌, ◌<◌, ◌≤◌, ℤ, List, ◌++◌, length, take, drop, get_or, Some, true, false, int_eq, arith, refl, sym, ap, ◌∙◌, inl, inr, subst, slice_index_or, cases_lt, false≢true, Decides-int_eq, get_or_append_left, get_or-append-add, get_or-take, length-take-le, length-drop, mul-le-mul_right, VOID, Heights, height_from, elevation_at, written_over, Tiling, extent_of, Tile, HasTwoValues, TilesAgree, IsElevation, IsFirstSeam, first_value, IsSeamAlong, IsJoinedRow, AgreeAbove, AreJoinedRows}
+use Rattle.std.proofs.Common.{None}
+use Rattle.std.proofs.lemmas.List.{length-append}
 use Rattle.drain_mosaic.proofs.Agreement.{agreement_gives_elevation}
 
 -- a row lies within the rows

@@ -1,15 +1,6 @@
 -- The streams of a mosaic after n rows: each tile goes on while it lies over them.
-use Rattle.std.proofs.Common.{◌≡◌, ℕ, zero, suc, ◌+◌, ◌-◌, ◌<◌, ◌≤◌, ℤ, List, [], ◌∷◌, length, map, max, arith, refl, sym, ap, ◌∙◌, inl, inr, cond}
-use Rattle.std.specs.Prelude.{slice_index_or}
-use Rattle.std.proofs.lemmas.Bool.{cases_lt}
-use Rattle.std.proofs.lemmas.List.FromFn.{get_or-map-range_with_len, length-map-range_with_len}
-use Rattle.drain_grid.specs.declared.tile.TheConstants.{VOID}
-use Rattle.drain_mosaic.specs.Streams.{Stream, Frame, first_sample, mosaic_row, mosaic_rows, next_stream}
-use Rattle.drain_device.specs.RowSteps.{Coming, after_rows, nth_row}
-use Rattle.drain_device.specs.RowSteps.Coming.{Next, End, Wrong}
-use Rattle.drain_mosaic.specs.Tiling.{extent_of}
-use Rattle.drain_mosaic.specs.GivenTiles.{frame_of, tile_streams}
-use Rattle.drain_mosaic.specs.Laws.{RowsAreWhole, RowsEnd}
+use Rattle.drain_mosaic.proofs.Names.{◌≡◌, ℕ, zero, suc, ◌+◌, ◌-◌, ◌<◌, ◌≤◌, ℤ, List, [], ◌∷◌, length, map, max, arith, refl, sym, ap, ◌∙◌, inl, inr, slice_index_or, cases_lt, get_or-map-range_with_len, length-map-range_with_len, VOID, Stream, Frame, first_sample, mosaic_row, mosaic_rows, next_stream, Coming, after_rows, nth_row, Next, End, Wrong, extent_of, frame_of, tile_streams, RowsAreWhole, RowsEnd}
+use Rattle.std.proofs.Common.{cond}
 use Rattle.drain_mosaic.proofs.Laying.{over-is, over-not}
 
 -- a tile after k rows of the mosaic, from this row on

@@ -1,23 +1,9 @@
 -- One call for a tile.
-use Rattle.std.proofs.lemmas.Bool.{false≢true}
-use Rattle.std.proofs.Common.{◌≡◌, ◌≢◌, ℕ, ◌+◌, ◌-◌, ◌<◌, ◌≤◌, ℤ, List, [], length, Option, Some, None, Result, Ok, Err, arith, refl, sym, ap, ◌∙◌, inl, inr, true, false, cond}
-use Rattle.std.specs.Prelude.{◌⊎◌, IsSome, unwrap_or}
-use Rattle.std.proofs.KnownBytes.{Consumes-nil}
-use Rattle.drain_device.specs.declared.counts.FaultCounts.{FaultCounts}
-use Rattle.drain_device.proofs.FaultLists.{PartFails-none, PartFails-same}
-use Rattle.drain_device.specs.RowSteps.{nth_row, after_rows, Coming, Gives, IsEmptyUnlessRow, IsLong, ReadsWithin, StaysEnded, Steps, coming_at, progress_after}
-use Rattle.drain_mosaic.specs.Streams.{Stream, is_over, next_stream}
-use Rattle.drain_mosaic.specs.PlacedRows.{HasRead, IsPlacedAt, stop_of}
-use Rattle.drain_device.specs.RowSteps.Coming.{Wrong}
-use Rattle.drain_hgt.specs.TileRows.{tile_coming, tile_rows}
-use Rattle.drain_mosaic.specs.declared.placed_rows.PlacedRows.{PlacedRows}
-use Rattle.drain_hgt.specs.declared.tile_rows.TileRows.{TileRows}
+use Rattle.drain_mosaic.proofs.Names.{false≢true, ◌≡◌, ◌≢◌, ℕ, ◌+◌, ◌-◌, ◌<◌, ◌≤◌, ℤ, List, [], length, Option, Some, Result, Ok, Err, arith, refl, sym, ap, ◌∙◌, inl, inr, true, false, ◌⊎◌, IsSome, unwrap_or, Consumes-nil, FaultCounts, PartFails-none, PartFails-same, nth_row, after_rows, Coming, Gives, IsEmptyUnlessRow, IsLong, ReadsWithin, StaysEnded, Steps, coming_at, progress_after, Stream, is_over, next_stream, HasRead, IsPlacedAt, stop_of, Wrong, tile_coming, tile_rows, PlacedRows, TileRows, ReadFault, WrongLength, ReadFailed, AlreadyFailed, Progress, Going, Done, Stopped}
+use Rattle.std.proofs.Common.{None, cond}
 use Rattle.drain_device.specs.declared.row_source.RowStep.{RowStep}
 use Rattle.drain_device.specs.declared.row_source.RowStep.TheVariants.{Row, Ended}
-use Rattle.drain_device.specs.declared.row_source.ReadFault.{ReadFault}
-use Rattle.drain_device.specs.declared.row_source.ReadFault.TheVariants.{WrongLength, ReadFailed, OutOfMemory, AlreadyFailed}
-use Rattle.drain_device.specs.declared.row_source.Progress.{Progress}
-use Rattle.drain_device.specs.declared.row_source.Progress.TheVariants.{Going, Done, Stopped}
+use Rattle.drain_device.specs.declared.row_source.ReadFault.TheVariants.{OutOfMemory}
 
 -- a row has room
 pub part-fits : (side : ℕ) (answer : Result RowStep ReadFault) (part : List ℤ) → IsLong side answer part → IsEmptyUnlessRow answer part → (length part ≡ side) ⊎ (part ≡ [])

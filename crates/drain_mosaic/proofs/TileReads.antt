@@ -1,22 +1,9 @@
 -- What the calls of a mosaic's rows read adds up: tile by tile, from the first call on.
-use Rattle.std.proofs.Common.{◌≡◌, ◌↔◌, ℕ, zero, suc, ◌+◌, ◌*◌, ◌<◌, List, [], ◌∷◌, ◌++◌, length, map, get_or, Option, Some, None, MatchOption, arith, refl, sym, ap, ◌∙◌, subst, inl, inr, length-append}
-use Rattle.std.specs.List.{AllZip, Any}
-use Rattle.std.proofs.KnownBytes.{Consumes-trans}
+use Rattle.drain_mosaic.proofs.Names.{◌≡◌, ◌↔◌, ℕ, zero, suc, ◌+◌, ◌*◌, ◌<◌, List, [], ◌∷◌, ◌++◌, length, map, get_or, Option, Some, MatchOption, arith, refl, sym, ap, ◌∙◌, subst, inl, inr, AllZip, Any, Consumes-trans, PartFails, GivesUp, full_patience, ReadsWithin, most_at, FaultCounts, any-cases, any-first, any-later, any-none, gave_up, PartFails-then, TileInput, Corner, TilesTakeAtMost, tile_devices, tile_length, tile_most_bytes, Tiling, AreTold, HasRead, HaveRead, IsAtStart, PlacedRows}
+use Rattle.std.proofs.Common.{None, length-append}
 use Rattle.drain_device.specs.FaultLists.{AnsweredEach, Faults, SomeReadFails}
-use Rattle.drain_device.specs.Failing.{PartFails, GivesUp, full_patience}
 use Rattle.drain_device.specs.Reads.{TakesAtMost}
-use Rattle.drain_device.specs.RowSteps.{ReadsWithin, most_at}
-use Rattle.drain_device.specs.declared.counts.FaultCounts.{FaultCounts}
-use Rattle.drain_device.proofs.FaultLists.{any-cases, any-first, any-later, any-none, gave_up, PartFails-then}
-use Rattle.drain_hgt.specs.declared.input.TileInput.{TileInput}
-use Rattle.drain_hgt.specs.Corner.{Corner}
-use Rattle.drain_hgt.specs.Inputs.{TilesTakeAtMost, tile_devices}
-use Rattle.drain_hgt.specs.Samples.{tile_length}
-use Rattle.drain_hgt.specs.TileRows.{tile_most_bytes}
-use Rattle.drain_mosaic.specs.Tiling.{Tiling}
 use Rattle.drain_mosaic.proofs.TileCalls.{read-none, told-kept}
-use Rattle.drain_mosaic.specs.PlacedRows.{AreTold, HasRead, HaveRead, IsAtStart}
-use Rattle.drain_mosaic.specs.declared.placed_rows.PlacedRows.{PlacedRows}
 
 -- two calls for a tile, the first of which didn't fail
 both-read : (known between after : Option (List ℕ)) (counts counts_between counts_after : FaultCounts) (a b c : PlacedRows) (F G : Type 0) → (F → ⊥) →

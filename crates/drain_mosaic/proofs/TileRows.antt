@@ -1,17 +1,7 @@
 -- The tiles of a layout one by one, and their rows.
-use Rattle.std.proofs.Common.{◌≡◌, ℕ, zero, suc, ◌+◌, ◌-◌, ◌*◌, ◌<◌, ◌≤◌, ℤ, pos, List, [], ◌∷◌, ◌++◌, length, map, take, get_or, Option, Some, None, option_map, slice_get, arith, refl, sym, ap, ◌∙◌, inl, inr, subst}
-use Rattle.std.specs.Prelude.{◌⊎◌, slice_range, slice_index_or}
-use Rattle.std.proofs.lemmas.Bool.{cases_lt}
-use Rattle.std.proofs.lemmas.List.{get_or-map, get_or-take, get_or-drop, length-take-le, length-drop, take_more}
+use Rattle.drain_mosaic.proofs.Names.{◌≡◌, ℕ, zero, suc, ◌+◌, ◌-◌, ◌*◌, ◌<◌, ◌≤◌, ℤ, pos, List, [], ◌∷◌, ◌++◌, length, map, take, get_or, Option, Some, option_map, slice_get, arith, refl, sym, ap, ◌∙◌, inl, inr, subst, ◌⊎◌, slice_range, slice_index_or, cases_lt, get_or-map, get_or-take, get_or-drop, length-take-le, length-drop, take_more, slice_get-get_or, same_Some, mul-le-mul_right, Cell, VOID, Corner, Tiling, extent_of, top_of, top_left_of, Tile, AreTiles, tiles_of, IsLaidOver, IsJoinedRow, first_of}
+use Rattle.std.proofs.Common.{None}
 use Rattle.std.proofs.lemmas.Slice.{between_is}
-use Rattle.std.proofs.lemmas.Option.{slice_get-get_or, same_Some}
-use Rattle.std.proofs.Math.Nat.{mul-le-mul_right}
-use Rattle.drain_grid.specs.declared.cell.Cell.{Cell}
-use Rattle.drain_grid.specs.declared.tile.TheConstants.{VOID}
-use Rattle.drain_hgt.specs.Corner.{Corner}
-use Rattle.drain_mosaic.specs.Tiling.{Tiling, extent_of, top_of, top_left_of}
-use Rattle.drain_mosaic.specs.Mosaic.{Tile, AreTiles, tiles_of}
-use Rattle.drain_mosaic.specs.JoinedRows.{IsLaidOver, IsJoinedRow, first_of}
 use Rattle.drain_mosaic.proofs.Joining.{laid, passed, first_of_none}
 
 -- a tile to read lists of tiles by

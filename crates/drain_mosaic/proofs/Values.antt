@@ -1,15 +1,8 @@
 -- The values of a cell, with one tile more.
-use Rattle.std.proofs.Common.{◌≡◌, ◌≢◌, zero, suc, ℤ, List, [], ◌∷◌, ◌++◌, Option, Some, None, arith, refl, sym, ap, ◌∙◌, inl, inr, true, false, int_eq}
-use Rattle.std.specs.Prelude.{◌⊎◌}
-use Rattle.std.specs.Option.{option_or}
-use Rattle.std.proofs.lemmas.Bool.{false≢true}
-use Rattle.std.proofs.lemmas.Bool.Decides.{Decides-int_eq}
-use Rattle.std.proofs.lemmas.List.{get_or_append_left, length-append}
+use Rattle.drain_mosaic.proofs.Names.{◌≡◌, ◌≢◌, zero, suc, ℤ, List, [], ◌∷◌, ◌++◌, Option, Some, arith, refl, sym, ap, ◌∙◌, inl, inr, true, false, int_eq, ◌⊎◌, option_or, false≢true, Decides-int_eq, get_or_append_left, same_Some, Cell, Tiling, Tile, ShowsSample, IsValue, HasTwoValues, value_from, first_value}
+use Rattle.std.proofs.Common.{None}
+use Rattle.std.proofs.lemmas.List.{length-append}
 use Rattle.std.proofs.lemmas.List.Quantifiers.{Any-push}
-use Rattle.std.proofs.lemmas.Option.{same_Some}
-use Rattle.drain_grid.specs.declared.cell.Cell.{Cell}
-use Rattle.drain_mosaic.specs.Tiling.{Tiling}
-use Rattle.drain_mosaic.specs.Mosaic.{Tile, ShowsSample, IsValue, HasTwoValues, value_from, first_value}
 use Rattle.drain_mosaic.proofs.Agreement.{gives_from, from_gives, value_of_first, is_some_first, any_here, any_later}
 
 pub or_none : {A : Type 0} (o : Option A) → option_or o None ≡ o

@@ -1,21 +1,11 @@
 -- What the bodies of a mosaic's tiles give row by row, whatever their lengths.
-use Rattle.std.specs.Prelude.{ℕ, ◌*◌, ◌/◌, ℤ, List, [], ◌∷◌, length, map, take, ◌≡◌, ◌-◌, Option, None, nat_abs, ◌<◌, ◌≤◌, ◌⊎◌, slice_get, Some}
-use Rattle.drain_device.specs.RowSteps.{Coming, coming_at}
-use Rattle.drain_hgt.specs.Corner.{Corner}
-use Rattle.drain_hgt.specs.Samples.{samples_of}
-use Rattle.drain_hgt.specs.TileRows.{tile_rows}
+use Rattle.std.specs.Prelude.{◌*◌, ◌/◌, ◌∷◌, ◌≡◌, ◌-◌, ◌<◌, ◌≤◌, ◌⊎◌}
+use Rattle.drain_mosaic.specs.Names.{ℕ, ℤ, List, [], length, map, take, Option, None, nat_abs, slice_get, Some, Coming, coming_at, Corner, samples_of, tile_rows, AllZip, option_or, Going, Cell, TileInput, Extent, IsSide}
 use Rattle.drain_mosaic.specs.Tiling.{Tiling, extent_of, top_left_of, west_of, north_of, tiles_down, tiles_across}
 use Rattle.drain_mosaic.specs.Mosaic.{Tile, tiles_of}
 use Rattle.drain_mosaic.specs.Streams.{Stream, Frame, mosaic_rows, seam_from, wrong_from}
-use Rattle.std.specs.List.{AllZip}
-use Rattle.std.specs.Option.{option_or}
-use Rattle.drain_device.specs.declared.row_source.Progress.TheVariants.{Going}
-use Rattle.drain_grid.specs.declared.cell.Cell.{Cell}
-use Rattle.drain_hgt.specs.declared.input.TileInput.{TileInput}
 use Rattle.drain_mosaic.specs.PlacedRows.{AreTold, IsAtStart, first_stopped, streams_of}
 use Rattle.drain_mosaic.specs.declared.mosaic_rows.MosaicRows.{MosaicRows}
-use Rattle.drain_grid.specs.Extent.{Extent}
-use Rattle.drain_grid.specs.Grid.{IsSide}
 use Rattle.drain_hgt.specs.declared.name.TheConstants.{POLE, HALF_TURN}
 use Rattle.drain_mosaic.specs.declared.layout.TheConstants.{MAX_BOX}
 use Rattle.drain_mosaic.specs.declared.layout.LayoutFault.{LayoutFault}

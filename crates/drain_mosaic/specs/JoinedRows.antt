@@ -1,8 +1,6 @@
 -- One row of a mosaic, after some tiles were laid over it.
-use Rattle.std.specs.Prelude.{◌≡◌, ◌≢◌, ◌⊎◌, ◌+◌, ◌-◌, ◌*◌, ◌≤◌, ◌<◌, ℕ, ℤ, min, List, length, slice_index_or, Option, Some, None, MatchOption, if◌then◌else◌}
-use Rattle.std.specs.Ordering.{int_eq}
-use Rattle.drain_grid.specs.declared.tile.TheConstants.{VOID}
-use Rattle.drain_grid.specs.Grid.{height_from}
+use Rattle.std.specs.Prelude.{◌≡◌, ◌≢◌, ◌⊎◌, ◌+◌, ◌-◌, ◌*◌, ◌≤◌, ◌<◌, if◌then◌else◌}
+use Rattle.drain_mosaic.specs.Names.{ℕ, ℤ, min, List, length, slice_index_or, Option, Some, None, MatchOption, int_eq, VOID, height_from}
 use Rattle.drain_mosaic.specs.Tiling.{Tiling, extent_of}
 use Rattle.drain_mosaic.specs.Mosaic.{Tile, HasTwoValues, first_value}
 

@@ -1,15 +1,8 @@
 -- Where tiles agree, the first value is the one value.
-use Rattle.std.specs.Prelude.{List, ◌≡◌, ℕ, ◌<◌, [], length, map, slice_index_or, Option, MatchOption}
+use Rattle.std.specs.Prelude.{◌≡◌, ◌<◌}
+use Rattle.drain_mosaic.specs.Names.{List, ℕ, [], length, map, slice_index_or, Option, MatchOption, All, after_rows, nth_row, End, VOID, height_from, TileInput, AreBodies, IsFirstBadLength, IsTile, samples_of}
 use Rattle.drain_mosaic.specs.Tiling.{Tiling, extent_of}
 use Rattle.drain_mosaic.specs.Mosaic.{Tile, TilesAgree, IsElevation, first_value, tiles_of, IsFirstSeam}
-use Rattle.std.specs.List.{All}
-use Rattle.drain_device.specs.RowSteps.{after_rows, nth_row}
-use Rattle.drain_device.specs.RowSteps.Coming.{End}
-use Rattle.drain_grid.specs.declared.tile.TheConstants.{VOID}
-use Rattle.drain_grid.specs.Grid.{height_from}
-use Rattle.drain_hgt.specs.declared.input.TileInput.{TileInput}
-use Rattle.drain_hgt.specs.Inputs.{AreBodies, IsFirstBadLength}
-use Rattle.drain_hgt.specs.Samples.{IsTile, samples_of}
 use Rattle.drain_mosaic.specs.GivenTiles.{IsLayout, frame_of, given_tiles, mosaic_coming, tile_streams, AreMosaicRowsOf, IsBegun}
 use Rattle.drain_mosaic.specs.Streams.{seam_from, wrong_from}
 use Rattle.drain_mosaic.specs.declared.mosaic_rows.MosaicRows.{MosaicRows}

@@ -1,3 +1,4 @@
+pub mod Names
 pub mod Tiling
 pub mod GivenTiles
 pub mod Mosaic

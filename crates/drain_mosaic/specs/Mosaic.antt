@@ -1,13 +1,7 @@
 -- A mosaic of tiles: which values its cells have (the SRTM HGT documentation).
-use Rattle.std.specs.Prelude.{◌≡◌, ◌≢◌, ◌↔◌, ◌+◌, ◌-◌, ◌*◌, ◌≤◌, ◌<◌, ℤ, List, [], ◌∷◌, length, Option, Some, ◌&&◌, nat_le, nat_lt, None, if◌then◌else◌}
-use Rattle.std.specs.List.{All, Any}
-use Rattle.drain_grid.specs.declared.cell.Cell.{Cell}
-use Rattle.drain_grid.specs.Extent.{IsCellOf, IsEarlier}
-use Rattle.drain_grid.specs.Grid.{height_from}
-use Rattle.drain_hgt.specs.Corner.{Corner}
-use Rattle.drain_hgt.specs.Samples.{tile_sample_at}
+use Rattle.std.specs.Prelude.{◌≡◌, ◌≢◌, ◌↔◌, ◌+◌, ◌-◌, ◌*◌, ◌≤◌, ◌<◌, ◌∷◌, ◌&&◌, if◌then◌else◌}
+use Rattle.drain_mosaic.specs.Names.{ℤ, List, [], length, Option, Some, nat_le, nat_lt, None, All, Any, Cell, IsCellOf, IsEarlier, height_from, Corner, tile_sample_at, option_or}
 use Rattle.drain_mosaic.specs.Tiling.{Tiling, extent_of, top_of, left_of}
-use Rattle.std.specs.Option.{option_or}
 
 -- a named tile and its samples
 pub record Tile : Type 0 where

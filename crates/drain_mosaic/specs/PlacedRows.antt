@@ -1,18 +1,11 @@
 -- The tiles of a mosaic's rows: where they lie, their state, and what was read of each.
-use Rattle.std.specs.Prelude.{◌≡◌, ◌≢◌, ◌+◌, ◌-◌, ◌≤◌, ◌<◌, ℕ, ℤ, IsTrue, List, [], ◌∷◌, length, slice_index_or, Option, Some, None, MatchOption, Result, Ok, Err, IsSome, unwrap_or}
-use Rattle.std.specs.List.{All}
-use Rattle.drain_grid.specs.declared.tile.TheConstants.{VOID}
-use Rattle.drain_hgt.specs.declared.input.TileInput.{TileInput}
-use Rattle.drain_hgt.specs.Corner.{Corner}
-use Rattle.drain_hgt.specs.TileRows.{tile_coming, tile_most_bytes}
+use Rattle.std.specs.Prelude.{◌≡◌, ◌≢◌, ◌+◌, ◌-◌, ◌≤◌, ◌<◌, ◌∷◌}
+use Rattle.drain_mosaic.specs.Names.{ℕ, ℤ, IsTrue, List, [], length, slice_index_or, Option, Some, None, MatchOption, Result, Ok, Err, IsSome, unwrap_or, All, VOID, TileInput, Corner, tile_coming, tile_most_bytes, ReadsWithin, Progress, Going, Done, Stopped}
 use Rattle.drain_device.specs.Failing.{full_patience, PartFails}
-use Rattle.drain_device.specs.RowSteps.{ReadsWithin}
 use Rattle.drain_device.specs.declared.counts.FaultCounts.{FaultCounts}
 use Rattle.drain_device.specs.declared.row_source.ReadFault.{ReadFault}
 use Rattle.drain_device.specs.declared.row_source.ReadFault.TheVariants.{WrongLength, ReadFailed, OutOfMemory, AlreadyFailed}
 use Rattle.drain_device.specs.declared.row_source.RowStep.{RowStep}
-use Rattle.drain_device.specs.declared.row_source.Progress.{Progress}
-use Rattle.drain_device.specs.declared.row_source.Progress.TheVariants.{Going, Done, Stopped}
 use Rattle.drain_mosaic.specs.Tiling.{Tiling, top_left_of}
 use Rattle.drain_mosaic.specs.JoinedRows.{IsLeastOf, filled}
 use Rattle.drain_mosaic.specs.Streams.{Stream, first_sample, in_conflict, is_seam, sample_given}

@@ -1,12 +1,6 @@
 -- What is to come of a mosaic whose tiles come row by row: one step for each row.
-use Rattle.std.specs.Prelude.{ℕ, zero, suc, ◌+◌, ◌-◌, ℤ, Bool, not, ◌&&◌, nat_le, nat_lt, List, [], ◌∷◌, map, slice_index_or, Option, Some, None, if◌then◌else◌}
-use Rattle.std.specs.List.{list_any, range_with_len}
-use Rattle.std.specs.Option.{option_or}
-use Rattle.std.specs.Ordering.{int_eq}
-use Rattle.drain_device.specs.RowSteps.{Coming, after_rows, ends_wrong, nth_row}
-use Rattle.drain_device.specs.RowSteps.Coming.{Next, End}
-use Rattle.drain_grid.specs.declared.cell.Cell.{Cell}
-use Rattle.drain_grid.specs.declared.tile.TheConstants.{VOID}
+use Rattle.std.specs.Prelude.{◌+◌, ◌-◌, ◌&&◌, ◌∷◌, if◌then◌else◌}
+use Rattle.drain_mosaic.specs.Names.{ℕ, zero, suc, ℤ, Bool, not, nat_le, nat_lt, List, [], map, slice_index_or, Option, Some, None, list_any, range_with_len, option_or, int_eq, Coming, after_rows, ends_wrong, nth_row, Next, End, Cell, VOID}
 use Rattle.drain_mosaic.specs.JoinedRows.{filled}
 
 -- a tile's north-west cell, and what is to come of its rows

@@ -1,11 +1,8 @@
 -- The bounding box of some tiles, and where each tile lies in it (the SRTM HGT documentation: adjacent tiles share their edges).
-use Rattle.std.specs.Prelude.{ℕ, ◌+◌, ◌-◌, ◌*◌, ◌/◌, ℤ, pos, ◌*ℤ◌, ◌+ℤ◌, ◌-ℤ◌, nat_abs, List, map, slice_index_or}
-use Rattle.std.specs.List.{fold}
+use Rattle.std.specs.Prelude.{◌+◌, ◌-◌, ◌*◌, ◌/◌, ◌*ℤ◌, ◌+ℤ◌, ◌-ℤ◌}
+use Rattle.drain_mosaic.specs.Names.{ℕ, ℤ, pos, nat_abs, List, map, slice_index_or, fold, Cell, Extent, Corner}
 use Rattle.std.specs.Int.{int_min, int_max}
-use Rattle.drain_grid.specs.declared.cell.Cell.{Cell}
 use Rattle.drain_grid.specs.declared.degree.TheConstants.{UNITS_PER_DEGREE}
-use Rattle.drain_grid.specs.Extent.{Extent}
-use Rattle.drain_hgt.specs.Corner.{Corner}
 
 -- tiles of one side, by their corners
 pub record Tiling : Type 0 where

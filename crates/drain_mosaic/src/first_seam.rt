@@ -2,9 +2,8 @@
 //!
 //! Each cell looks at each tile. This is slow, so `join` uses it only if memory for the mosaic's samples runs out.
 
-ghost use Rattle.std.specs.Prelude.{◌≡◌, ◌↔◌, ◌⊎◌, ◌+◌, ◌-◌, ◌*◌, ◌≤◌, ◌<◌, map, length, IsTrue, MatchOption, None};
-ghost use Rattle.drain_grid.specs.Grid.{height_from};
-ghost use Rattle.drain_hgt.specs.Samples.{tile_sample_at};
+ghost use Rattle.std.specs.Prelude.{◌≡◌, ◌↔◌, ◌⊎◌, ◌+◌, ◌-◌, ◌*◌, ◌≤◌, ◌<◌};
+ghost use Rattle.drain_mosaic.specs.Names.{map, length, IsTrue, MatchOption, None, height_from, tile_sample_at};
 ghost use Rattle.drain_mosaic.specs.Mosaic.{AreTiles, tiles_of, TilesAgree, HasTwoValues, IsFirstSeam};
 ghost use Rattle.drain_mosaic.specs.JoinedRows.{IsSeamAlong, AreTwo};
 

@@ -4,10 +4,9 @@
 //! from north to south has `a * (side - 1) + 1` rows. Source: the SRTM HGT documentation; that a box is at most 8 by 8
 //! tiles is this project's choice.
 
-ghost use Rattle.std.specs.Prelude.{◌≡◌, ◌≢◌, ◌+◌, ◌-◌, ◌*◌, ◌≤◌, ◌<◌, ℕ, map, MatchOption, IfOk, IfErr, IsOk, Some, slice_get, length, option_map, nat_abs, ◌-ℤ◌};
+ghost use Rattle.std.specs.Prelude.{◌≡◌, ◌≢◌, ◌+◌, ◌-◌, ◌*◌, ◌≤◌, ◌<◌, ◌-ℤ◌};
+ghost use Rattle.drain_mosaic.specs.Names.{ℕ, map, MatchOption, IfOk, IfErr, IsOk, Some, slice_get, length, option_map, nat_abs, IsSide, Corner, IsWithin};
 ghost use Rattle.drain_text.specs.First.{IsFirst};
-ghost use Rattle.drain_grid.specs.Grid.{IsSide};
-ghost use Rattle.drain_hgt.specs.Corner.{Corner, IsWithin};
 ghost use Rattle.drain_mosaic.specs.GivenTiles.{HasLayoutFault, IsFirstRepeated, IsLayout, IsRepeatedAt, AreBoundsOf, layout_fault_order};
 ghost use Rattle.drain_mosaic.specs.Tiling.{Tiling, least, greatest, west_of, north_of, extent_of, top_left_of};
 

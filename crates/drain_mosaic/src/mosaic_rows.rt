@@ -3,14 +3,8 @@
 //! A row starts as voids, and the next row of each tile over it fills them; the row of an only tile is read as it is.
 //! So only one row of the mosaic and one row of a tile are in memory, and each tile's device is read a row at a time.
 
-ghost use Rattle.std.specs.Prelude.{◌≡◌, ◌≢◌, ◌≤◌, ◌<◌, ◌^◌, [], None, length, IfOk, IfErr, IfSome, IsErrOf, MatchOption, Ok, OnOk};
-ghost use Rattle.std.specs.List.{All};
-ghost use Rattle.std.specs.Option.{option_or};
-ghost use Rattle.drain_device.specs.RowSteps.{IsEmptyUnlessRow, IsLong, StaysEnded, Steps, progress_after};
-ghost use Rattle.drain_device.specs.declared.row_source.Progress.{Progress};
-ghost use Rattle.drain_grid.specs.declared.tile.TheConstants.{VOID};
-ghost use Rattle.drain_grid.specs.Grid.{IsSample};
-ghost use Rattle.drain_hgt.specs.Inputs.{names_of};
+ghost use Rattle.std.specs.Prelude.{◌≡◌, ◌≢◌, ◌≤◌, ◌<◌, ◌^◌};
+ghost use Rattle.drain_mosaic.specs.Names.{[], None, length, IfOk, IfErr, IfSome, IsErrOf, MatchOption, Ok, OnOk, All, option_or, IsEmptyUnlessRow, IsLong, StaysEnded, Steps, progress_after, Progress, VOID, IsSample, names_of};
 ghost use Rattle.drain_mosaic.specs.Streams.{cell_at};
 ghost use Rattle.drain_mosaic.specs.PlacedRows.{AreTold, ArePlacedWithin, HaveEnded, HaveRead, IsPlacedAt, first_stopped};
 

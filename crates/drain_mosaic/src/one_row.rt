@@ -1,10 +1,7 @@
 //! One row of a mosaic: the row of its only tile, or voids with the rows of its tiles laid over them.
 
-ghost use Rattle.std.specs.Prelude.{◌≡◌, ◌<◌, ◌+◌, ℕ, None, Some, Err, [], ◌∷◌, length, map, IfOk, IfErr, IsErrOf, IsSome, MatchOption};
-ghost use Rattle.std.specs.List.{All};
-ghost use Rattle.drain_grid.specs.declared.tile.TheConstants.{VOID};
-ghost use Rattle.drain_grid.specs.Grid.{IsSample};
-ghost use Rattle.drain_hgt.specs.Inputs.{names_of};
+ghost use Rattle.std.specs.Prelude.{◌≡◌, ◌<◌, ◌+◌, ◌∷◌};
+ghost use Rattle.drain_mosaic.specs.Names.{ℕ, None, Some, Err, [], length, map, IfOk, IfErr, IsErrOf, IsSome, MatchOption, All, VOID, IsSample, names_of};
 ghost use Rattle.drain_mosaic.specs.Streams.{next_stream};
 ghost use Rattle.drain_mosaic.specs.PlacedRows.{AreTold, ArePlacedWithin, HasRead, HaveRead, IsPlacedAt, IsPlacedWithin, IsRowLaid, stop_of, stream_of, streams_of};
 

@@ -1,7 +1,7 @@
 //! Laying a part over a row of numbers; `seams` does the same with the samples of whole tiles.
 
-ghost use Rattle.std.specs.Prelude.{◌≡◌, ◌↔◌, ◌≤◌, ◌<◌, ◌+◌, ℕ, length, EachIndex, IsTrue, slice_index_or};
-ghost use Rattle.drain_grid.specs.declared.tile.TheConstants.{VOID};
+ghost use Rattle.std.specs.Prelude.{◌≡◌, ◌↔◌, ◌≤◌, ◌<◌, ◌+◌};
+ghost use Rattle.drain_mosaic.specs.Names.{ℕ, length, EachIndex, IsTrue, slice_index_or, VOID};
 ghost use Rattle.drain_mosaic.specs.JoinedRows.{ConflictAt, IsLaidOver, IsLeastOf, IsRefusedAt, filled, first_of};
 
 use drain_grid::VOID;

@@ -2,11 +2,8 @@
 //!
 //! A tile of wrong length doesn't end the mosaic: it gives no row from then on, and the others go on.
 
-ghost use Rattle.std.specs.Prelude.{◌≡◌, ◌<◌, ◌+◌, ℕ, None, Some, Err, length, map, IfOk, IfErr, IsErrOf, IsSome, MatchOption};
-ghost use Rattle.std.specs.List.{All};
-ghost use Rattle.drain_grid.specs.declared.tile.TheConstants.{VOID};
-ghost use Rattle.drain_grid.specs.Grid.{IsSample};
-ghost use Rattle.drain_hgt.specs.Inputs.{names_of};
+ghost use Rattle.std.specs.Prelude.{◌≡◌, ◌<◌, ◌+◌};
+ghost use Rattle.drain_mosaic.specs.Names.{ℕ, None, Some, Err, length, map, IfOk, IfErr, IsErrOf, IsSome, MatchOption, All, VOID, IsSample, names_of};
 ghost use Rattle.drain_mosaic.specs.Streams.{end_stream, next_stream};
 ghost use Rattle.drain_mosaic.specs.PlacedRows.{AreTold, ArePlacedWithin, HasRead, HaveEnded, HaveRead, IsPlacedAt, IsRowLaid, IsTileRowLaid, IsPlacedWithin, stop_of, stream_of, streams_of};
 

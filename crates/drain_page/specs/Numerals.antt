@@ -1,10 +1,8 @@
 -- How numbers stand on a page, and which ways down it lists between floats.
-use Rattle.std.specs.Prelude.{◌≡◌, ℤ, ℕ, List, map, Option, option_and_then}
+use Rattle.std.specs.Prelude.{◌≡◌}
+use Rattle.drain_page.specs.Names.{ℤ, ℕ, List, map, Option, option_and_then, IsFloatNumber, IsFloatWord, HeightKind}
 use Rattle.std.specs.Fmt.{signed_decimal}
-use Rattle.drain_floats.specs.Patterns.{IsFloatNumber}
-use Rattle.drain_floats.specs.Words.{IsFloatWord}
 use Rattle.drain_grid.specs.declared.direction.Direction.{Direction}
-use Rattle.drain_grid.specs.declared.height_kind.HeightKind.{HeightKind}
 use Rattle.drain_grid.specs.declared.height_kind.HeightKind.TheVariants.{Whole, Single}
 use Rattle.drain_grid.specs.declared.patch.Patch.{Patch}
 use Rattle.drain_grid.specs.declared.set_product.SetProduct.{SetProduct}

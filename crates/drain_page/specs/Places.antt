@@ -1,7 +1,7 @@
 -- Where the cells of a column and of a row lie. Source: the Esri description of BIL headers (ULXMAP, ULYMAP, XDIM, YDIM).
-use Rattle.std.specs.Prelude.{◌≡◌, ◌+ℤ◌, ◌-ℤ◌, ◌*ℤ◌, ℕ, pos}
+use Rattle.std.specs.Prelude.{◌≡◌, ◌+ℤ◌, ◌-ℤ◌, ◌*ℤ◌}
+use Rattle.drain_page.specs.Names.{ℕ, pos, Tiling, north_of, west_of}
 use Rattle.drain_header.specs.Header.{Fields}
-use Rattle.drain_mosaic.specs.Tiling.{Tiling, north_of, west_of}
 use Rattle.drain_page.specs.Texts.{steps_of}
 use Rattle.drain_page.specs.declared.frame.Coordinate.{Coordinate}
 use Rattle.drain_page.specs.declared.frame.Coordinate.TheVariants.{Degrees, Units}

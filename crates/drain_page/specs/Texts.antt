@@ -1,11 +1,9 @@
 -- How numbers and lines are written on a page.
-use Rattle.std.specs.Prelude.{◌≡◌, ◌≤◌, [], length, ℕ, ◌+◌, ◌-◌, ◌*◌, ◌<◌, ◌++◌, ◌∷◌, List, codes}
+use Rattle.std.specs.Prelude.{◌≡◌, ◌≤◌, ◌+◌, ◌-◌, ◌*◌, ◌<◌, ◌++◌, ◌∷◌}
+use Rattle.drain_page.specs.Names.{[], length, ℕ, List, codes, Tiling, Token, begin_object, key, string, print}
 use Rattle.json.specs.Written.{Written}
-use Rattle.drain_mosaic.specs.Tiling.{Tiling}
 use Rattle.drain_page.specs.declared.degrees.TheConstants.{PLACES}
-use Rattle.json.specs.Token.{Token, begin_object, key, string}
 use Rattle.json.specs.Lex.{tokens}
-use Rattle.json.specs.Print.{print}
 
 -- A JSON text that is being appended.
 

@@ -3,8 +3,8 @@
 //! A step is that from one sample of a tile to the next. A row is `row / steps` degrees south of the north edge, so
 //! `north * steps - row` is its latitude in steps; a column's longitude is `west * steps + col`.
 
-ghost use Rattle.std.specs.Prelude.{◌≡◌, ◌<◌, ◌≤ℤ◌, ◌+ℤ◌, ◌-ℤ◌, ◌*ℤ◌, neg_ℤ, pos};
-ghost use Rattle.drain_mosaic.specs.Tiling.{north_of, west_of};
+ghost use Rattle.std.specs.Prelude.{◌≡◌, ◌<◌, ◌≤ℤ◌, ◌+ℤ◌, ◌-ℤ◌, ◌*ℤ◌};
+ghost use Rattle.drain_page.specs.Names.{neg_ℤ, pos, north_of, west_of};
 ghost use Rattle.drain_page.specs.Texts.{IsRounded, steps_of};
 ghost use Rattle.drain_page.specs.declared.degrees.TheConstants.{MOST_STEPS};
 

@@ -51,8 +51,7 @@ pub struct Words {
 
 /// Where a grid lies, for its page.
 pub trait Frame {
-    ghost use Rattle.std.specs.Prelude.{ℕ};
-    ghost use Rattle.drain_grid.specs.declared.height_kind.HeightKind.{HeightKind};
+    ghost use Rattle.drain_page.specs.Names.{ℕ, HeightKind};
     ghost use Rattle.drain_page.specs.declared.frame.Coordinate.{Coordinate};
 
     /// What numbers of its heights stand for.

@@ -1,7 +1,7 @@
 //! The page as one JSON object.
 
-ghost use Rattle.std.specs.Prelude.{◌≡◌, IfOk, string_bytes};
-ghost use Rattle.drain_answer.specs.OutcomeLines.{outcome_report_line};
+ghost use Rattle.std.specs.Prelude.{◌≡◌};
+ghost use Rattle.drain_page.specs.Names.{IfOk, string_bytes, outcome_report_line};
 ghost use Rattle.drain_page.specs.Texts.{IsAnswerLine};
 
 use crate::answer_object::{Parts, write_parts};

@@ -1,8 +1,8 @@
 //! A JSON object that begins with an answer and is appended token by token: members with their names, and items of a
 //! list. The caller closes what it opens.
 
-ghost use Rattle.std.specs.Prelude.{◌≡◌, IfOk, string_bytes};
-ghost use Rattle.json.specs.Print.{IsPrintable};
+ghost use Rattle.std.specs.Prelude.{◌≡◌};
+ghost use Rattle.drain_page.specs.Names.{IfOk, string_bytes, IsPrintable};
 ghost use Rattle.json.specs.Reads.{token_of};
 ghost use Rattle.drain_page.specs.Texts.{IsJsonLine, answer_head};
 
@@ -20,8 +20,7 @@ pub(crate) struct JsonText {
 }
 
 impl Model for JsonText {
-    ghost use Rattle.std.specs.Prelude.{List, take};
-    ghost use Rattle.json.specs.Token.{Token};
+    ghost use Rattle.drain_page.specs.Names.{List, take, Token};
     ghost use Rattle.drain_page.specs.Texts.{IsBegun};
 
     ghost Value = { List Token };

@@ -1,8 +1,7 @@
 //! Numbers on a page: whole numbers by their digits, floats by the shortest decimals that read as the same floats.
 
-ghost use Rattle.std.specs.Prelude.{◌≡◌, ◌↔◌, IsTrue};
-ghost use Rattle.drain_floats.specs.Patterns.{IsFloatNumber};
-ghost use Rattle.drain_floats.specs.Words.{IsFloatWord};
+ghost use Rattle.std.specs.Prelude.{◌≡◌, ◌↔◌};
+ghost use Rattle.drain_page.specs.Names.{IsTrue, IsFloatNumber, IsFloatWord};
 ghost use Rattle.drain_page.specs.Numerals.{IsWordOf, kind_shown};
 
 use crate::json_text::{JsonText, JsonValue, append_word};

@@ -4,8 +4,8 @@
 //! square across a corner. Else it is shown with its drop and the square of its distance. Ways between floats stand apart
 //! (`float_ways`).
 
-ghost use Rattle.std.specs.Prelude.{◌≡◌, IfOk};
-ghost use Rattle.drain_grid.specs.declared.height_kind.HeightKind.{HeightKind};
+ghost use Rattle.std.specs.Prelude.{◌≡◌};
+ghost use Rattle.drain_page.specs.Names.{IfOk, HeightKind};
 ghost use Rattle.drain_page.specs.Numerals.{cons_down as lower_cons};
 
 use crate::float_ways::{ConsDown, cons_down, push_float_ways, write_float_ways};

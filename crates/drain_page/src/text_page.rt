@@ -1,7 +1,7 @@
 //! The page as a text to read, in ASCII.
 
-ghost use Rattle.std.specs.Prelude.{◌≡◌, ◌++◌, ◌∷◌, ℕ, List, IfOk};
-ghost use Rattle.drain_answer.specs.OutcomeLines.{outcome_report_line};
+ghost use Rattle.std.specs.Prelude.{◌≡◌, ◌++◌, ◌∷◌};
+ghost use Rattle.drain_page.specs.Names.{ℕ, List, IfOk, outcome_report_line};
 
 use crate::facts::Facts;
 use crate::frame::Frame;

@@ -1,8 +1,6 @@
 -- The flows of all numbers of a byte, number by number.
-use Rattle.std.proofs.Common.{◌≡◌, ◌<◌, ◌+◌, ◌∙◌, ℕ, zero, suc, List, [], ◌∷◌, get_or, ap, arith}
-use Rattle.drain_paths.specs.declared.flow.Flow.{Flow}
+use Rattle.drain_paths.proofs.Names.{◌≡◌, ◌<◌, ◌+◌, ◌∙◌, ℕ, zero, suc, List, [], ◌∷◌, get_or, ap, arith, Flow, byte_flow, IsByteTable}
 use Rattle.drain_paths.specs.declared.flow.Flow.TheVariants.{Void}
-use Rattle.drain_paths.specs.Flows.{byte_flow, IsByteTable}
 
 -- those of n numbers, from the first on
 abbrev pub flows_from : ℕ → ℕ → List Flow

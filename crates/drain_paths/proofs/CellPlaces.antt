@@ -1,16 +1,7 @@
 -- Numbers of cells, before and after a write at one.
-use Rattle.std.proofs.Common.{◌≡◌, ◌<◌, ◌++◌, ◌∷◌, ℕ, zero, suc, List, [], length, slice_get, Some, refl, arith, ◌≢◌, ◌∙◌, ◌*◌, ◌+◌, ◌-◌, ◌%◌, inl, inr, get_or, set, get_or-set_other, get_or-set_same, sym, ap}
-use Rattle.std.proofs.Math.Nat.{mul-le-mul_right}
-use Rattle.std.proofs.lemmas.Bool.{cases_lt}
+use Rattle.drain_paths.proofs.Names.{◌≡◌, ◌<◌, ◌++◌, ◌∷◌, ℕ, zero, suc, List, [], length, slice_get, Some, refl, arith, ◌≢◌, ◌∙◌, ◌*◌, ◌+◌, ◌-◌, ◌%◌, inl, inr, get_or, set, get_or-set_other, get_or-set_same, sym, ap, mul-le-mul_right, cases_lt, Cell, IsCellOf, index_of, Extent, cell_at, index_of-below, same_index, DONE, cell_number, IsPutAt, IsPassedOn}
 use Rattle.std.proofs.lemmas.List.{length-set}
 use lib.ListN.{replicate}
-use Rattle.drain_grid.specs.declared.cell.Cell.{Cell}
-use Rattle.drain_grid.specs.Extent.{IsCellOf, index_of, Extent}
-use Rattle.drain_grid.proofs.Runs.{cell_at, index_of-below}
-use Rattle.drain_grid.proofs.Alike.{same_index}
-use Rattle.drain_paths.specs.declared.accumulation.TheConstants.{DONE}
-use Rattle.drain_paths.specs.CellNumbers.{cell_number, IsPutAt}
-use Rattle.drain_paths.specs.Inflows.{IsPassedOn}
 
 -- A list with one element more.
 

@@ -3,25 +3,15 @@
 -- Rule 13: what drains through a cell is the cell itself and what drains through its inflows. Rules 14 and 15 say what
 -- equal labels mean, for a cell and the next one, and for two outlets. At voids both numbers are 0, and at data cells
 -- neither is.
-use Rattle.std.proofs.Common.{◌≡◌, ◌≢◌, ◌∙◌, ℕ, pos, List, IsNone, sym, ap, arith, rules}
-use Rattle.std.specs.Prelude.{◌↔◌}
-use Rattle.drain_grid.specs.declared.cell.Cell.{Cell}
+use Rattle.drain_paths.proofs.Names.{◌≡◌, ◌≢◌, ◌∙◌, ℕ, pos, List, IsNone, sym, ap, arith, rules, ◌↔◌, Cell, IsCellOf, Extent, Grid, Products, IsInside, HasData, upstream_count, ShareBasin, ended_chains, upstream_count-parts, in_grid, cell_number, AllFlowsEnd}
 use Rattle.drain_grid.specs.declared.rule.Rule.{Rule}
 use Rattle.drain_grid.specs.declared.rule.Rule.TheVariants.{Slope, OutletCode, FlatStep, Accumulation, Label, SharedLabel}
 use Rattle.drain_grid.specs.Correct.{IsCorrect}
-use Rattle.drain_grid.specs.Extent.{IsCellOf, Extent}
-use Rattle.drain_grid.specs.Grid.{Grid, Products, IsInside, HasData}
 use Rattle.drain_grid.specs.GridRules.{HoldsAt}
 use Rattle.drain_grid.specs.PatchRules.{flow_rules}
 use Rattle.drain_grid.specs.Product.{default_numbers}
-use Rattle.drain_grid.specs.Run.{upstream_count, ShareBasin}
 use Rattle.drain_grid.specs.Values.{NoDataNumbers}
-use Rattle.drain_grid.proofs.Runs.{ended_chains}
-use Rattle.drain_grid.proofs.Upstream.{upstream_count-parts}
-use Rattle.drain_grid.proofs.Alike.{in_grid}
 use Rattle.drain_grid.proofs.CountRules.{counts_inflows, has_own_label, keeps_label}
-use Rattle.drain_paths.specs.CellNumbers.{cell_number}
-use Rattle.drain_paths.specs.Flows.{AllFlowsEnd}
 use Rattle.drain_paths.specs.Laws.{AreCompleted, AreCountsPresent, AreRouted, CorrectByRouting, CountsKeepRules, IsCountOrLabelRule}
 
 pos-same : (a b : ℕ) → pos a ≡ pos b → a ≡ b

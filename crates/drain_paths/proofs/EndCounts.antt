@@ -1,14 +1,6 @@
 -- How many of the first cells in row order have code 0: one more at each that has, so two of them have two numbers.
-use Rattle.std.proofs.Common.{◌≡◌, ◌≢◌, ◌∙◌, ◌⊎◌, ℕ, ◌+◌, ◌<◌, ◌≤◌, inl, inr, ℤ, pos, Bool, true, false, cond, nat_lt, ◌&&◌, is_some, refl, sym, ap, subst, arith, rules}
-use Rattle.std.specs.Ordering.{int_eq}
-use Rattle.std.proofs.lemmas.Bool.{cases_order, and_from, and_parts, false_from_ne_true, false≢true}
-use Rattle.std.proofs.lemmas.Bool.Decides.{nat_tests}
-use Rattle.drain_grid.specs.declared.cell.Cell.{Cell}
-use Rattle.drain_grid.specs.Extent.{index_of, same_cell, cells}
-use Rattle.drain_grid.specs.Grid.{Grid, Products, IsInside, HasData}
-use Rattle.drain_grid.proofs.CellSums.{sum_by_same, sum_by_add, sum_by_zero, sum_by_cells_same, sum_by_cells_one, same_cell_true, same_cell_self}
-use Rattle.drain_grid.proofs.Alike.{same_index}
-use Rattle.drain_paths.specs.Basins.{is_end, ends_before, end_number}
+use Rattle.drain_paths.proofs.Names.{◌≡◌, ◌≢◌, ◌∙◌, ◌⊎◌, ℕ, ◌+◌, ◌<◌, ◌≤◌, inl, inr, ℤ, pos, Bool, true, false, cond, nat_lt, ◌&&◌, is_some, refl, sym, ap, subst, arith, rules, int_eq, cases_order, and_from, and_parts, false_from_ne_true, false≢true, nat_tests, Cell, index_of, same_cell, cells, Grid, Products, IsInside, HasData, sum_by_same, sum_by_add, sum_by_zero, sum_by_cells_same, sum_by_cells_one, same_cell_true, same_cell_self, same_index, is_end, end_number}
+use Rattle.drain_paths.specs.Basins.{ends_before}
 
 below_yes : (a k : ℕ) → a < k → nat_lt a k ≡ true
 below_yes a k less = grind (arith, nat_tests)

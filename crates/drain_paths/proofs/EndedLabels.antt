@@ -1,15 +1,6 @@
 -- Labels by places where all runs end: a cell without a label leads on, to a cell with the same label and a shorter run.
-use Rattle.std.proofs.Common.{◌≡◌, ◌≢◌, ◌∙◌, ℕ, ◌*◌, ◌<◌, List, Some, get_or, sym, ap, subst}
-use Rattle.drain_grid.specs.Extent.{Extent, IsCellOf}
-use Rattle.drain_grid.specs.Grid.{Grid, Products, IsInside, HasData}
-use Rattle.drain_grid.specs.Run.{next}
-use Rattle.drain_grid.specs.Unranked.{run_steps}
-use Rattle.drain_grid.proofs.Runs.{cell_at, ended-run_end}
-use Rattle.drain_paths.specs.declared.flow.Flow.{Flow}
-use Rattle.drain_paths.specs.declared.flow.Flow.TheVariants.{Void, Ends}
-use Rattle.drain_paths.specs.Basins.{basin_label, end_number}
-use Rattle.drain_paths.specs.CellNumbers.{cell_number, AreNumbersSoFar}
-use Rattle.drain_paths.specs.Flows.{AllFlowsEnd, AreFlowsOf, OfFlows, flow_at}
+use Rattle.drain_paths.proofs.Names.{◌≡◌, ◌≢◌, ◌∙◌, ℕ, ◌*◌, ◌<◌, List, Some, get_or, sym, ap, subst, Extent, IsCellOf, Grid, Products, IsInside, HasData, next, run_steps, cell_at, ended-run_end, Flow, Ends, basin_label, end_number, cell_number, AreNumbersSoFar, AllFlowsEnd, AreFlowsOf, OfFlows, flow_at}
+use Rattle.drain_paths.specs.declared.flow.Flow.TheVariants.{Void}
 use Rattle.drain_paths.proofs.CellPlaces.{cell_of_place}
 use Rattle.drain_paths.proofs.FlowCells.{data_at, zero_of_flow}
 use Rattle.drain_paths.proofs.GridFlows.{grid_of_flows, products_of_flows, are_flows, of_some}

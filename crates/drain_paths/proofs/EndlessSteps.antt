@@ -1,17 +1,7 @@
 -- Steps along a run that doesn't end.
-use Rattle.std.proofs.Common.{nat_lt, true, false, ◌≡◌, ◌≢◌, ◌<◌, ◌≤◌, ◌+◌, ◌++◌, ◌∷◌, ◌∙◌, ℕ, zero, suc, inl, inr, List, [], length, slice_get, Option, Some, None, option_and_then, refl, sym, ap, subst, arith}
-use Rattle.std.specs.Prelude.{min}
-use Rattle.std.proofs.lemmas.Bool.{cases_Bool, cases_order}
-use Rattle.std.proofs.lemmas.Bool.Decides.{nat_tests}
+use Rattle.drain_paths.proofs.Names.{nat_lt, true, false, ◌≡◌, ◌≢◌, ◌<◌, ◌≤◌, ◌+◌, ◌++◌, ◌∷◌, ◌∙◌, ℕ, zero, suc, inl, inr, List, [], length, slice_get, Option, Some, None, option_and_then, refl, sym, ap, subst, arith, min, cases_Bool, cases_order, nat_tests, Cell, Grid, Products, HasData, next, HasData-next, none_some, same_some, IsReached, IsRingFrom, cell_after, told_with, RING_TOLD}
 use Rattle.std.proofs.lemmas.List.{length-append}
 use Rattle.drain_paths.proofs.CellPlaces.{nth_left, nth_seam}
-use Rattle.drain_grid.specs.declared.cell.Cell.{Cell}
-use Rattle.drain_grid.specs.Grid.{Grid, Products, HasData}
-use Rattle.drain_grid.specs.Run.{next}
-use Rattle.drain_grid.proofs.Runs.{HasData-next}
-use Rattle.drain_grid.proofs.Tallies.{none_some, same_some}
-use Rattle.drain_paths.specs.EndlessPaths.{IsReached, IsRingFrom, cell_after, told_with}
-use Rattle.drain_paths.specs.declared.endless_path.TheConstants.{RING_TOLD}
 
 -- one step more
 pub after-more : (g : Grid) (ps : Products) (k : ℕ) (c d e : Cell) → cell_after g ps k c ≡ Some d → next g ps d ≡ Some e → cell_after g ps (suc k) c ≡ Some e

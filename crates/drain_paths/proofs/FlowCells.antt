@@ -1,20 +1,6 @@
 -- What flows say of cells: which have data, which end there, and where each leads.
-use Rattle.std.proofs.Common.{◌≡◌, ◌≢◌, ◌∙◌, ℤ, pos, Bool, true, inl, inr, if◌then◌else◌, List, Option, Some, None, IsSome, IsNone, refl, sym, ap, subst, rules}
-use Rattle.std.specs.Option.{option_map_or}
-use Rattle.std.specs.Ordering.{int_eq}
-use Rattle.std.proofs.lemmas.Bool.{cases_Bool, false≢true}
-use Rattle.drain_grid.specs.declared.cell.Cell.{Cell}
-use Rattle.drain_grid.specs.declared.direction.Direction.{Direction}
-use Rattle.drain_grid.specs.declared.direction.Direction.TheVariants.{East, SouthEast, South, SouthWest, West, NorthWest, North, NorthEast}
-use Rattle.drain_grid.specs.Direction.{named_direction}
-use Rattle.drain_grid.specs.Extent.{IsCellOf, step, Extent}
-use Rattle.drain_grid.specs.Grid.{Grid, Products, IsInside, HasData}
-use Rattle.drain_grid.specs.Run.{next}
-use Rattle.drain_grid.proofs.Tallies.{none_some, void_data}
-use Rattle.drain_paths.specs.declared.flow.Flow.{Flow}
-use Rattle.drain_paths.specs.declared.flow.Flow.TheVariants.{Void, Lost, Ends, ToEast, ToSouthEast, ToSouth, ToSouthWest, ToWest, ToNorthWest, ToNorth, ToNorthEast}
-use Rattle.drain_paths.specs.Flows.{direction_of, flow_to, code_flow, cell_flow, flow_at, AreFlowsOf}
-use Rattle.drain_paths.specs.Walks.{IsKnownFlow, AreKnownFlows}
+use Rattle.drain_paths.proofs.Names.{◌≡◌, ◌≢◌, ◌∙◌, ℤ, pos, Bool, true, inl, inr, if◌then◌else◌, List, Option, Some, None, IsSome, IsNone, refl, sym, ap, subst, rules, option_map_or, int_eq, cases_Bool, false≢true, Cell, Direction, East, SouthEast, South, SouthWest, West, NorthWest, North, NorthEast, named_direction, IsCellOf, step, Extent, Grid, Products, IsInside, HasData, next, none_some, void_data, Flow, Ends, ToEast, ToSouthEast, ToSouth, ToSouthWest, ToWest, ToNorthWest, ToNorth, ToNorthEast, direction_of, flow_to, code_flow, cell_flow, flow_at, AreFlowsOf, IsKnownFlow, AreKnownFlows}
+use Rattle.drain_paths.specs.declared.flow.Flow.TheVariants.{Void, Lost}
 use Rattle.drain_paths.proofs.KnownWays.{AreKnownFlows-grid, stuck_outside, stuck_void, leads_on}
 use Rattle.drain_paths.proofs.NextCells.{next-unnamed, next-of_no_code}
 

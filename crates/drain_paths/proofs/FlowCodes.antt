@@ -1,16 +1,7 @@
 -- What the flow of a cell says of its elevation and its code.
-use Rattle.std.proofs.Common.{◌≡◌, ◌≢◌, ◌∙◌, inl, inr, ℤ, pos, Bool, true, false, if◌then◌else◌, Option, Some, None, refl, sym, ap, subst, rules}
-use Rattle.std.specs.Ordering.{int_eq}
-use Rattle.std.specs.Option.{option_map_or}
-use Rattle.std.proofs.lemmas.Bool.{cases_Bool}
-use Rattle.drain_grid.specs.declared.direction.Direction.{Direction}
-use Rattle.drain_grid.specs.declared.direction.Direction.TheVariants.{East}
-use Rattle.drain_grid.specs.Direction.{Names, named_direction}
-use Rattle.drain_grid.proofs.Tallies.{none_some, same_some}
+use Rattle.drain_paths.proofs.Names.{◌≡◌, ◌≢◌, ◌∙◌, inl, inr, ℤ, pos, Bool, true, false, if◌then◌else◌, Option, Some, None, refl, sym, ap, subst, rules, int_eq, option_map_or, cases_Bool, Direction, East, Names, named_direction, none_some, same_some, Flow, Ends, flow_to, direction_of, code_flow}
 use Rattle.drain_paths.proofs.NextCells.{named_direction-names}
-use Rattle.drain_paths.specs.declared.flow.Flow.{Flow}
-use Rattle.drain_paths.specs.declared.flow.Flow.TheVariants.{Void, Lost, Ends}
-use Rattle.drain_paths.specs.Flows.{flow_to, direction_of, code_flow}
+use Rattle.drain_paths.specs.declared.flow.Flow.TheVariants.{Void, Lost}
 
 direction_of-to : (d : Direction) → direction_of (flow_to d) ≡ Some d
 direction_of-to East = refl

@@ -1,18 +1,6 @@
 -- What walks along flows keep.
-use Rattle.std.proofs.Common.{◌≡◌, ◌≢◌, ◌<◌, ◌+◌, ◌*◌, ◌≤◌, ℕ, ◌∙◌, inl, inr, List, get_or, ◌⊎◌, Some, sym, ap, subst, arith}
-use Rattle.std.proofs.lemmas.Bool.{cases_order}
-use Rattle.drain_grid.specs.declared.cell.Cell.{Cell}
-use Rattle.drain_grid.specs.Unranked.{IsFirstEndless}
-use Rattle.drain_grid.specs.Extent.{IsCellOf, index_of, Extent}
-use Rattle.drain_grid.specs.Grid.{Grid, Products, IsInside, HasData}
-use Rattle.drain_grid.specs.Run.{next, RunEnds}
-use Rattle.drain_grid.proofs.Runs.{HasData-next, index_of-below}
-use Rattle.drain_grid.proofs.Walks.{IsWalk, IsWalk-more, IsWalk-too_long}
-use Rattle.drain_grid.proofs.Tallies.{void_data}
-use Rattle.drain_grid.proofs.Alike.{in_grid, same_index, earlier_index}
-use Rattle.drain_paths.specs.declared.flow.Flow.{Flow}
-use Rattle.drain_paths.specs.declared.flow.Flow.TheVariants.{Void, Ends}
-use Rattle.drain_paths.specs.Walks.{IsKnownFlow, AreKnownFlows}
+use Rattle.drain_paths.proofs.Names.{◌≡◌, ◌≢◌, ◌<◌, ◌+◌, ◌*◌, ◌≤◌, ℕ, ◌∙◌, inl, inr, List, get_or, ◌⊎◌, Some, sym, ap, subst, arith, cases_order, Cell, IsFirstEndless, IsCellOf, index_of, Extent, Grid, Products, IsInside, HasData, next, RunEnds, HasData-next, index_of-below, IsWalk, IsWalk-more, IsWalk-too_long, void_data, in_grid, same_index, earlier_index, Flow, Ends, IsKnownFlow, AreKnownFlows}
+use Rattle.drain_paths.specs.declared.flow.Flow.TheVariants.{Void}
 use Rattle.drain_paths.proofs.KnownWays.{known_at}
 use Rattle.drain_paths.proofs.Shorter.{IsEnded}
 

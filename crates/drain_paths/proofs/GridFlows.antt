@@ -1,17 +1,9 @@
 -- Flows taken row by row are those of the grid: for a caller that takes rows, and then finds which runs end.
-use Rattle.std.proofs.Common.{◌≡◌, ◌<◌, ◌+◌, ◌*◌, ℕ, ◌∙◌, inl, inr, ℤ, pos, List, [], ◌++◌, length, get_or, length-append, sym, ap, arith, Option, Some, None, refl, set, get_or-set_other, get_or-set_same}
-use Rattle.std.proofs.lemmas.Bool.{cases_order, cases_eq}
-use Rattle.std.proofs.lemmas.List.{get_or_append_left, get_or-append-add}
-use Rattle.drain_grid.specs.declared.cell.Cell.{Cell}
-use Rattle.drain_grid.specs.Extent.{index_of, Extent, IsCellOf}
-use Rattle.drain_grid.specs.Grid.{Grid, Products, IsInside, no_sink}
+use Rattle.drain_paths.proofs.Names.{◌≡◌, ◌<◌, ◌+◌, ◌*◌, ℕ, ◌∙◌, inl, inr, ℤ, pos, List, [], ◌++◌, length, get_or, sym, ap, arith, Option, Some, None, refl, set, get_or-set_other, get_or-set_same, cases_order, cases_eq, get_or_append_left, get_or-append-add, Cell, index_of, Extent, IsCellOf, Grid, Products, IsInside, no_sink, in_grid, before_row, same_index, Flow, Ends, ToEast, ToSouthEast, ToSouth, ToSouthWest, ToWest, ToNorthWest, ToNorth, ToNorthEast, cell_flow, flows_of, flow_at, AreFlowsOf, AreFirstFlows, AreRowOf, OfFlows, index_of-below}
+use Rattle.std.proofs.Common.{length-append}
 use Rattle.drain_grid.specs.Spacing.{unit_spacing}
-use Rattle.drain_grid.proofs.Alike.{in_grid, before_row, same_index}
-use Rattle.drain_paths.specs.declared.flow.Flow.{Flow}
-use Rattle.drain_paths.specs.declared.flow.Flow.TheVariants.{Void, Lost, Ends, ToEast, ToSouthEast, ToSouth, ToSouthWest, ToWest, ToNorthWest, ToNorth, ToNorthEast}
-use Rattle.drain_paths.specs.Flows.{cell_flow, flows_of, flow_at, AreFlowsOf, AreFirstFlows, AreRowOf, OfFlows}
+use Rattle.drain_paths.specs.declared.flow.Flow.TheVariants.{Void, Lost}
 use Rattle.drain_paths.proofs.RowFlows.{length-flows_of, get_or-flows_of}
-use Rattle.drain_grid.proofs.Runs.{index_of-below}
 
 -- no row
 pub AreFirstFlows-none : (g : Grid) (ps : Products) (e : Extent) → g.extent ≡ e → AreFirstFlows g ps e 0 []

@@ -1,33 +1,9 @@
 -- How many cells flow into one, from three rows of flows; whole rows.
-use Rattle.std.proofs.Common.{◌≡◌, ◌≢◌, ◌∙◌, ℕ, ◌+◌, inl, inr, cond, Some, sym, ap, subst, arith, ◌-◌, ◌*◌, ◌<◌, ◌≤◌, ◌==◌, pos, Bool, List, [], ◌∷◌, None, slice_index, slice_index_or, if◌then◌else◌, refl}
-use Rattle.std.proofs.lemmas.Bool.{false_from_ne_true, cases_Bool, cases_lt, eq-eqb, ne_eqb}
-use Rattle.drain_grid.specs.declared.cell.Cell.{Cell}
-use Rattle.drain_grid.specs.Extent.{same_cell, IsCellOf, index_of, step, Extent}
-use Rattle.drain_grid.specs.Grid.{Grid, Products, HasData}
-use Rattle.drain_grid.specs.Run.{next}
-use Rattle.drain_grid.proofs.CellSums.{same_cell_true, same_cell_self}
-use Rattle.drain_grid.proofs.HandedOn.{handed_on, handed_one, handed_same}
-use Rattle.drain_grid.proofs.Inflows.{FlowsFrom, HasData-flow, next-flow, flow-next, flow_unique}
-use Rattle.drain_grid.proofs.Lowered.{same_or_not}
+use Rattle.drain_paths.proofs.Names.{◌≡◌, ◌≢◌, ◌∙◌, ℕ, ◌+◌, inl, inr, cond, Some, sym, ap, subst, arith, ◌-◌, ◌*◌, ◌<◌, ◌≤◌, ◌==◌, pos, Bool, List, [], ◌∷◌, None, slice_index, slice_index_or, if◌then◌else◌, refl, false_from_ne_true, cases_Bool, cases_lt, eq-eqb, ne_eqb, Cell, same_cell, IsCellOf, index_of, step, Extent, Grid, Products, HasData, next, same_cell_true, same_cell_self, handed_on, handed_one, handed_same, FlowsFrom, HasData-flow, next-flow, flow-next, flow_unique, same_or_not, sum_by, sum_by-cons, Direction, East, SouthEast, South, SouthWest, West, NorthWest, North, NorthEast, code_of, cols_right, directions, opposite, rows_down, names_fact, step_gives, step_lies, none_some, some_or_none, before_row, Flow, NO_CODE, AreFlowsOf, byte_flow, code_flow, direction_of, flow_at, flow_to, AreKnownFlows, cell_number, AreRowCodes, AreInflows, IsInflowOf, inflow_at, one_if}
 use Rattle.drain_paths.proofs.PassedSums.{passed_add, passed_most, passed_sum}
-use Rattle.std.specs.List.{sum_by}
-use Rattle.std.proofs.lemmas.List.Sums.{sum_by-cons}
-use Rattle.drain_grid.specs.declared.direction.Direction.{Direction}
-use Rattle.drain_grid.specs.declared.direction.Direction.TheVariants.{East, SouthEast, South, SouthWest, West, NorthWest, North, NorthEast}
-use Rattle.drain_grid.specs.Direction.{code_of, cols_right, directions, opposite, rows_down}
-use Rattle.drain_grid.proofs.Codes.{names_fact}
-use Rattle.drain_grid.proofs.Neighbors.{step_gives, step_lies}
-use Rattle.drain_grid.proofs.Tallies.{none_some, some_or_none}
 use Rattle.drain_grid.proofs.ThreeRows.{row_beside, number_beside, number_in_row, three_rows, col_beside, at_ends, place_in_row, place_in_own_row}
-use Rattle.drain_grid.proofs.Alike.{before_row}
-use Rattle.drain_paths.specs.declared.flow.Flow.{Flow}
 use Rattle.drain_paths.specs.declared.flow.Flow.TheVariants.{Void}
-use Rattle.drain_paths.specs.declared.flow.TheConstants.{NO_CODE}
-use Rattle.drain_paths.specs.Flows.{AreFlowsOf, byte_flow, code_flow, direction_of, flow_at, flow_to}
-use Rattle.drain_paths.specs.Walks.{AreKnownFlows}
 use Rattle.drain_paths.proofs.KnownWays.{AreKnownFlows-grid}
-use Rattle.drain_paths.specs.CellNumbers.{cell_number}
-use Rattle.drain_paths.specs.Inflows.{AreRowCodes, AreInflows, IsInflowOf, inflow_at, one_if}
 use Rattle.drain_paths.proofs.FlowCells.{with_height}
 use Rattle.drain_paths.proofs.FlowCodes.{code_flow-says}
 

@@ -1,21 +1,7 @@
 -- Flows that are known, one after another: those of a grid are, and so they are once a cell whose run ends is recorded
 -- as such. And what they say of the way from a cell.
-use Rattle.std.proofs.Common.{◌≡◌, ◌≢◌, ◌<◌, ℕ, ◌∙◌, inl, inr, ℤ, pos, List, length, Option, Some, None, IsSome, IsNone, get_or, set, get_or-set_other, get_or-set_same, refl, sym, ap, subst}
-use Rattle.std.proofs.lemmas.Bool.{cases_eq}
-use Rattle.drain_grid.specs.declared.cell.Cell.{Cell}
-use Rattle.drain_grid.specs.declared.direction.Direction.{Direction}
-use Rattle.drain_grid.specs.declared.direction.Direction.TheVariants.{East, SouthEast, South, SouthWest, West, NorthWest, North, NorthEast}
-use Rattle.drain_grid.specs.Extent.{index_of, step, Extent}
-use Rattle.drain_grid.specs.Grid.{Grid, Products, IsInside, HasData}
-use Rattle.drain_grid.specs.Run.{next, RunEnds}
-use Rattle.drain_grid.proofs.Codes.{code-not_zero, next-named}
-use Rattle.drain_grid.proofs.Tallies.{none_some, void_data}
-use Rattle.drain_grid.proofs.Walks.{EndsAfter-zero}
-use Rattle.drain_grid.proofs.Alike.{in_grid, same_index}
-use Rattle.drain_paths.specs.declared.flow.Flow.{Flow}
-use Rattle.drain_paths.specs.declared.flow.Flow.TheVariants.{Void, Lost, Ends, ToEast, ToSouthEast, ToSouth, ToSouthWest, ToWest, ToNorthWest, ToNorth, ToNorthEast}
-use Rattle.drain_paths.specs.Flows.{direction_of, cell_flow, flow_at, AreFlowsOf}
-use Rattle.drain_paths.specs.Walks.{IsKnownFlow, AreKnownFlows}
+use Rattle.drain_paths.proofs.Names.{◌≡◌, ◌≢◌, ◌<◌, ℕ, ◌∙◌, inl, inr, ℤ, pos, List, length, Option, Some, None, IsSome, IsNone, get_or, set, get_or-set_other, get_or-set_same, refl, sym, ap, subst, cases_eq, Cell, Direction, East, SouthEast, South, SouthWest, West, NorthWest, North, NorthEast, index_of, step, Extent, Grid, Products, IsInside, HasData, next, RunEnds, code-not_zero, next-named, none_some, void_data, EndsAfter-zero, in_grid, same_index, Flow, Ends, ToEast, ToSouthEast, ToSouth, ToSouthWest, ToWest, ToNorthWest, ToNorth, ToNorthEast, direction_of, cell_flow, flow_at, AreFlowsOf, IsKnownFlow, AreKnownFlows}
+use Rattle.drain_paths.specs.declared.flow.Flow.TheVariants.{Void, Lost}
 use Rattle.drain_paths.proofs.NextCells.{next-of_no_code, next-outside, next-void, no_code}
 use Rattle.drain_paths.proofs.FlowCodes.{code_flow-says}
 

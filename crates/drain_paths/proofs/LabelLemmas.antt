@@ -1,17 +1,7 @@
 -- Labels, cell by cell: those of outlets, and of all cells.
-use Rattle.std.proofs.Common.{◌≡◌, ◌≢◌, ◌∙◌, ℕ, ◌+◌, ◌*◌, inl, inr, pos, cond, List, sym, ap, subst, arith}
-use Rattle.std.proofs.lemmas.Bool.{cases_order}
-use Rattle.drain_grid.specs.declared.cell.Cell.{Cell}
-use Rattle.drain_grid.specs.Extent.{index_of, Extent}
-use Rattle.drain_grid.specs.Grid.{Grid, Products, IsInside, HasData}
-use Rattle.drain_grid.specs.Run.{run_end}
-use Rattle.drain_grid.proofs.Runs.{index_of-below, run_end-zero}
-use Rattle.drain_grid.proofs.Lowered.{same_or_not}
-use Rattle.drain_grid.proofs.Walks.{EndsAfter-zero}
-use Rattle.drain_grid.proofs.Alike.{in_grid, same_index}
+use Rattle.drain_paths.proofs.Names.{◌≡◌, ◌≢◌, ◌∙◌, ℕ, ◌+◌, ◌*◌, inl, inr, pos, cond, List, sym, ap, subst, arith, cases_order, Cell, index_of, Extent, Grid, Products, IsInside, HasData, run_end, index_of-below, run_end-zero, same_or_not, EndsAfter-zero, in_grid, same_index, cell_number, IsPutAt, AreNumbersSoFar, AreNumbers, end_number, basin_label, AreEndLabels, AreBasinLabels}
 use Rattle.drain_paths.proofs.SameRuns.{last_data}
-use Rattle.drain_paths.specs.CellNumbers.{cell_number, IsPutAt, AreNumbersSoFar, AreNumbers}
-use Rattle.drain_paths.specs.Basins.{ends_before, end_number, basin_label, AreEndLabels, AreBasinLabels}
+use Rattle.drain_paths.specs.Basins.{ends_before}
 use Rattle.drain_paths.proofs.EndCounts.{ends_before-none, ends_before-more, end_number-some, end_number-one, is_end_yes, is_end_no}
 
 -- no outlet yet

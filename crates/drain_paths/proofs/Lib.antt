@@ -1,3 +1,4 @@
+pub mod Names
 pub mod ByteTable
 pub mod CellPlaces
 pub mod PlacesAhead

@@ -1,14 +1,5 @@
 -- Codes that lead nowhere: such as are no codes, and such as lead outside or to a void.
-use Rattle.std.proofs.Common.{◌≡◌, ◌≢◌, ◌∙◌, inl, inr, ℤ, pos, if◌then◌else◌, Option, Some, None, IsNone, is_some, option_and_then, refl, sym, ap}
-use Rattle.std.proofs.lemmas.Bool.{false≢true}
-use Rattle.drain_grid.specs.declared.cell.Cell.{Cell}
-use Rattle.drain_grid.specs.declared.direction.Direction.{Direction}
-use Rattle.drain_grid.specs.Direction.{IsCode, directions, Names, names, named_direction}
-use Rattle.drain_grid.specs.Extent.{step}
-use Rattle.drain_grid.specs.Grid.{Grid, Products}
-use Rattle.drain_grid.specs.Run.{only_data, next}
-use Rattle.drain_grid.proofs.Codes.{names_fact, named_direction-code, find_passes}
-use Rattle.drain_grid.proofs.Tallies.{none_some}
+use Rattle.drain_paths.proofs.Names.{◌≡◌, ◌≢◌, ◌∙◌, inl, inr, ℤ, pos, if◌then◌else◌, Option, Some, None, IsNone, is_some, option_and_then, refl, sym, ap, false≢true, Cell, Direction, IsCode, directions, Names, names, named_direction, step, Grid, Products, only_data, next, names_fact, named_direction-code, find_passes, none_some}
 
 -- the direction that a number names is named by it
 pub named_direction-names : (n : ℤ) (d : Direction) → named_direction n ≡ Some d → Names n d

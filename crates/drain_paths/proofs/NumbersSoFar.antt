@@ -1,17 +1,5 @@
 -- Numbers that walks find, cell by cell: what a write leaves known, and cells whose run has no end.
-use Rattle.std.proofs.Common.{◌≡◌, ◌≢◌, ◌∙◌, ◌⊎◌, ℕ, zero, suc, ◌-◌, ◌*◌, ◌<◌, ◌≤◌, inl, inr, List, Some, None, sym, ap, subst, arith}
-use Rattle.std.proofs.lemmas.Bool.{cases_eq}
-use Rattle.drain_grid.specs.declared.cell.Cell.{Cell}
-use Rattle.drain_grid.specs.declared.cell.TheConstants.{MAX_LENGTH}
-use Rattle.drain_grid.specs.Unranked.{IsFirstEndless}
-use Rattle.drain_grid.specs.Extent.{IsCellOf, index_of, Extent}
-use Rattle.drain_grid.specs.Grid.{Grid, Products, HasData}
-use Rattle.drain_grid.specs.Run.{next, RunEnds}
-use Rattle.drain_grid.proofs.Alike.{in_grid, earlier_index}
-use Rattle.drain_grid.proofs.Lowered.{same_or_not}
-use Rattle.drain_grid.proofs.Tallies.{none_some, same_some, void_data}
-use Rattle.drain_grid.proofs.Walks.{IsWalk, endless-stuck}
-use Rattle.drain_paths.specs.CellNumbers.{cell_number, IsPutAt, Numbering, IsNumbered, IsNumberBehind, AreNumbersSoFar, AreNumbers}
+use Rattle.drain_paths.proofs.Names.{◌≡◌, ◌≢◌, ◌∙◌, ◌⊎◌, ℕ, zero, suc, ◌-◌, ◌*◌, ◌<◌, ◌≤◌, inl, inr, List, Some, None, sym, ap, subst, arith, cases_eq, Cell, MAX_LENGTH, IsFirstEndless, IsCellOf, index_of, Extent, Grid, Products, HasData, next, RunEnds, in_grid, earlier_index, same_or_not, none_some, same_some, void_data, IsWalk, endless-stuck, cell_number, IsPutAt, Numbering, IsNumbered, IsNumberBehind, AreNumbersSoFar, AreNumbers}
 use Rattle.drain_paths.proofs.Shorter.{RunEnds-walk}
 
 -- what had a number still has one

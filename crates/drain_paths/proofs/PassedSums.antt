@@ -2,19 +2,7 @@
 --
 -- At most eight cells flow in, one from each direction. So the numbers are split by the direction that a cell's code
 -- names: each part has one cell at most that flows in and isn't 0.
-use Rattle.std.proofs.Common.{◌≡◌, ◌∙◌, ℕ, ◌+◌, ◌≤◌, inl, inr, ℤ, Bool, true, false, cond, nat_eq, ◌==◌, List, [], ◌∷◌, length, refl, sym, ap, subst, arith}
-use Rattle.std.specs.List.{sum_by}
-use Rattle.std.proofs.lemmas.Bool.{cases_Bool, false≢true, eqb-true, eq-eqb}
-use Rattle.std.proofs.lemmas.List.Sums.{sum_by-cons}
-use Rattle.drain_grid.specs.declared.cell.Cell.{Cell}
-use Rattle.drain_grid.specs.declared.direction.Direction.{Direction}
-use Rattle.drain_grid.specs.Direction.{directions, order_of, opposite, names}
-use Rattle.drain_grid.specs.Grid.{Grid, Products}
-use Rattle.drain_grid.proofs.CellSums.{sum_by_directions_one, same_place_same}
-use Rattle.drain_grid.proofs.Codes.{names_fact, named_direction-code}
-use Rattle.drain_grid.proofs.HandedOn.{handed_on, handed_none, handed_one, handed_same, handed_sum}
-use Rattle.drain_grid.proofs.Inflows.{FlowsFrom, share_cases, share_flow, opposite_opposite}
-use Rattle.drain_grid.proofs.Tallies.{same_some}
+use Rattle.drain_paths.proofs.Names.{◌≡◌, ◌∙◌, ℕ, ◌+◌, ◌≤◌, inl, inr, ℤ, Bool, true, false, cond, nat_eq, ◌==◌, List, [], ◌∷◌, length, refl, sym, ap, subst, arith, sum_by, cases_Bool, false≢true, eqb-true, eq-eqb, sum_by-cons, Cell, Direction, directions, order_of, opposite, names, Grid, Products, sum_by_directions_one, same_place_same, names_fact, named_direction-code, handed_on, handed_none, handed_one, handed_same, handed_sum, FlowsFrom, share_cases, share_flow, opposite_opposite, same_some}
 
 -- two cells that differ by their columns: they choose between two numbers
 first : Cell

@@ -4,31 +4,8 @@
 -- nothing is still to come. When it passes on, what is still to come falls by its count at the cell to which it leads,
 -- and nowhere else (Shares), and that cell's count rises by as much. At the end all have passed on: a cell that waits
 -- has an inflow that waits, whose run is one step longer, and no run is longer than there are cells.
-use Rattle.std.proofs.Common.{◌≡◌, ◌≢◌, ◌∙◌, ℕ, zero, suc, ◌+◌, ◌*◌, ◌<◌, ◌≤◌, inl, inr, Bool, true, false, cond, nat_eq, ◌&&◌, List, length, Some, None, is_some, refl, sym, ap, subst, arith}
-use Rattle.std.proofs.lemmas.Bool.{cases_Bool, false≢true}
-use Rattle.std.proofs.lemmas.Bool.Decides.{nat_tests}
-use Rattle.std.proofs.lemmas.List.{get_or-map}
-use Rattle.drain_grid.specs.declared.cell.Cell.{Cell}
-use Rattle.drain_grid.specs.declared.direction.Direction.{Direction}
-use Rattle.drain_grid.specs.Unranked.{run_steps}
-use Rattle.drain_grid.specs.Extent.{IsCellOf, index_of, Extent}
-use Rattle.drain_grid.specs.Grid.{Grid, Products, IsInside, HasData}
-use Rattle.drain_grid.specs.Run.{next, drains_through, upstream_count}
-use Rattle.drain_grid.proofs.CellSums.{sum_by_cells_le}
-use Rattle.drain_grid.proofs.Runs.{ended_chains, ended-run_steps, cell_count, index_of-below}
-use Rattle.drain_grid.proofs.HandedOn.{handed_on, handed_none, handed_same, handed_at_least}
-use Rattle.drain_grid.proofs.Inflows.{FlowsFrom, HasData-flow, next-flow, flow-next}
-use Rattle.drain_grid.proofs.Lowered.{same_or_not}
-use Rattle.drain_grid.proofs.Tallies.{none_some, same_some, void_data}
-use Rattle.drain_grid.proofs.Upstream.{upstream_count-parts}
-use Rattle.drain_grid.proofs.Walks.{run_steps-le}
-use Rattle.drain_grid.proofs.Alike.{in_grid}
-use Rattle.drain_paths.specs.declared.flow.Flow.{Flow}
+use Rattle.drain_paths.proofs.Names.{◌≡◌, ◌≢◌, ◌∙◌, ℕ, zero, suc, ◌+◌, ◌*◌, ◌<◌, ◌≤◌, inl, inr, Bool, true, false, cond, nat_eq, ◌&&◌, List, length, Some, None, is_some, refl, sym, ap, subst, arith, cases_Bool, false≢true, nat_tests, get_or-map, Cell, Direction, run_steps, IsCellOf, index_of, Extent, Grid, Products, IsInside, HasData, next, drains_through, upstream_count, sum_by_cells_le, ended_chains, ended-run_steps, cell_count, index_of-below, handed_on, handed_none, handed_same, handed_at_least, FlowsFrom, HasData-flow, next-flow, flow-next, same_or_not, none_some, same_some, void_data, upstream_count-parts, run_steps-le, in_grid, Flow, flow_at, AreFlowsOf, AllFlowsEnd, OfFlows, DONE, cell_number, IsPutAt, one_of, ones_of, has_passed, still, IsPassing, IsPassedOn, StaysAway, AreInflows, AreUpstreamCounts}
 use Rattle.drain_paths.specs.declared.flow.Flow.TheVariants.{Void}
-use Rattle.drain_paths.specs.Flows.{flow_at, AreFlowsOf, AllFlowsEnd, OfFlows}
-use Rattle.drain_paths.specs.declared.accumulation.TheConstants.{DONE}
-use Rattle.drain_paths.specs.CellNumbers.{cell_number, IsPutAt, one_of, ones_of}
-use Rattle.drain_paths.specs.Inflows.{has_passed, still, IsPassing, IsPassedOn, StaysAway, AreInflows, AreUpstreamCounts}
 use Rattle.drain_paths.proofs.FlowCells.{data_at, flow_of_data, flow_of_void}
 use Rattle.drain_paths.proofs.InflowLemmas.{inflows_few, IsMore, share_elsewhere, share_ahead}
 use Rattle.drain_paths.proofs.PassedSums.{passed_most}

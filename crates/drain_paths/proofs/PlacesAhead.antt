@@ -1,22 +1,7 @@
 -- Where a flow leads by places: if all runs end, what the flow of a data cell names is a data cell of the grid, and lies a
 -- fixed number of places on.
-use Rattle.std.proofs.Common.{◌≡◌, ◌≢◌, ◌∙◌, ◌⊎◌, ℕ, zero, suc, ◌+◌, ◌-◌, ◌*◌, ◌<◌, ◌≤◌, inl, inr, List, [], ◌∷◌, Some, None, get_or, refl, sym, ap, subst, arith}
-use Rattle.std.proofs.Math.Nat.{mul-le-mul_right}
-use Rattle.drain_grid.specs.declared.cell.Cell.{Cell}
-use Rattle.drain_grid.specs.declared.direction.Direction.{Direction}
-use Rattle.drain_grid.specs.declared.direction.Direction.TheVariants.{East, SouthEast, South, SouthWest, West, NorthWest, North, NorthEast}
-use Rattle.drain_grid.specs.Direction.{rows_down, cols_right}
-use Rattle.drain_grid.specs.Extent.{IsCellOf, index_of, step, Extent}
-use Rattle.drain_grid.specs.Grid.{Grid, Products, IsInside, HasData}
-use Rattle.drain_grid.specs.Run.{next}
-use Rattle.drain_grid.proofs.Neighbors.{step_lies}
-use Rattle.drain_grid.proofs.Runs.{cell_at, cell_at-index_of, index_of-below}
-use Rattle.drain_grid.proofs.Tallies.{none_some, same_some, some_or_none}
-use Rattle.drain_grid.proofs.Walks.{endless-stuck}
-use Rattle.drain_paths.specs.declared.flow.Flow.{Flow}
-use Rattle.drain_paths.specs.declared.flow.Flow.TheVariants.{Void, Lost, Ends, ToEast, ToSouthEast, ToSouth, ToSouthWest, ToWest, ToNorthWest, ToNorth, ToNorthEast}
-use Rattle.drain_paths.specs.Flows.{direction_of, flow_at, AllFlowsEnd, AreFlowsOf, OfFlows}
-use Rattle.drain_paths.specs.Places.{AreOffsets, IsOffset}
+use Rattle.drain_paths.proofs.Names.{◌≡◌, ◌≢◌, ◌∙◌, ◌⊎◌, ℕ, zero, suc, ◌+◌, ◌-◌, ◌*◌, ◌<◌, ◌≤◌, inl, inr, List, [], ◌∷◌, Some, None, get_or, refl, sym, ap, subst, arith, mul-le-mul_right, Cell, Direction, East, SouthEast, South, SouthWest, West, NorthWest, North, NorthEast, rows_down, cols_right, IsCellOf, index_of, step, Extent, Grid, Products, IsInside, HasData, next, step_lies, cell_at, cell_at-index_of, index_of-below, none_some, same_some, some_or_none, endless-stuck, Flow, Ends, ToEast, ToSouthEast, ToSouth, ToSouthWest, ToWest, ToNorthWest, ToNorth, ToNorthEast, direction_of, flow_at, AllFlowsEnd, AreFlowsOf, OfFlows, AreOffsets, IsOffset}
+use Rattle.drain_paths.specs.declared.flow.Flow.TheVariants.{Void, Lost}
 use Rattle.drain_paths.proofs.CellPlaces.{cell_of_place}
 use Rattle.drain_paths.proofs.FlowCells.{data_at, flow_of_zero, leads_nowhere, leads_outside, leads_to_void, leads_to_data}
 use Rattle.drain_paths.proofs.GridFlows.{grid_of_flows, products_of_flows, are_flows}

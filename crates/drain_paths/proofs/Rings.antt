@@ -2,29 +2,14 @@
 --
 -- Products whose code is 0 at this cell show it. If the walk didn't pass the cell before, its run would end there, after as many steps
 -- as there are cells, and a run that ends makes fewer (passes).
-use Rattle.std.proofs.Common.{◌≡◌, ◌≢◌, ◌<◌, ◌+◌, ◌-◌, ◌∙◌, ℕ, zero, suc, ◌⊎◌, inl, inr, pos, false, if◌then◌else◌, Option, Some, None, option_and_then, refl, sym, ap, subst, arith}
-use Rattle.std.specs.Prelude.{Result, Ok, Err, IfOk, MatchOption}
-use Rattle.std.proofs.lemmas.Bool.{cases_Bool, cases_order}
-use Rattle.drain_grid.specs.declared.cell.Cell.{Cell}
-use Rattle.drain_grid.specs.Unranked.{EndsAfter, run_steps}
-use Rattle.drain_grid.specs.Direction.{named_direction}
-use Rattle.drain_grid.specs.Extent.{same_cell, step}
-use Rattle.drain_grid.specs.Grid.{Grid, Products, HasData}
+use Rattle.drain_paths.proofs.Names.{◌≡◌, ◌≢◌, ◌<◌, ◌+◌, ◌-◌, ◌∙◌, ℕ, zero, suc, ◌⊎◌, inl, inr, pos, false, if◌then◌else◌, Option, Some, None, option_and_then, refl, sym, ap, subst, arith, Result, Ok, Err, IfOk, MatchOption, cases_Bool, cases_order, Cell, EndsAfter, run_steps, named_direction, same_cell, step, Grid, Products, HasData, next, only_data, RunEnds, same_cell_true, same_cell_self, code-not_zero, HasData-next, cell_count, none_some, same_some, Leads, IsWalk, EndsAfter-zero, EndsAfter-next, EndsAfter-before, IsWalk-endless, endless-stuck, IsEndlessPath, IsFarthest, IsLostBy, IsOnNoRing, IsReached, IsRing, IsRingFrom, LeadsOnOrEnds, cell_after, IsKnownWay}
 use Rattle.drain_grid.specs.declared.memory.OutOfMemory.{OutOfMemory}
-use Rattle.drain_grid.specs.Run.{next, only_data, RunEnds}
-use Rattle.drain_grid.proofs.CellSums.{same_cell_true, same_cell_self}
-use Rattle.drain_grid.proofs.Codes.{code-not_zero}
-use Rattle.drain_grid.proofs.Runs.{HasData-next, cell_count}
-use Rattle.drain_grid.proofs.Tallies.{none_some, same_some}
-use Rattle.drain_grid.proofs.Walks.{Leads, IsWalk, EndsAfter-zero, EndsAfter-next, EndsAfter-before, IsWalk-endless, endless-stuck}
 use Rattle.drain_paths.specs.declared.endless_path.EndlessPath.{EndlessPath}
 use Rattle.drain_paths.specs.declared.endless_path.EndlessPath.TheVariants.{Ring, Lost}
 use Rattle.drain_paths.specs.declared.endless_path.LostBy.{LostBy}
 use Rattle.drain_paths.specs.declared.endless_path.LostBy.TheVariants.{NoCode, Outside, Void}
 use Rattle.drain_paths.specs.declared.flow.Way.{Way}
 use Rattle.drain_paths.specs.declared.flow.Way.TheVariants as way
-use Rattle.drain_paths.specs.EndlessPaths.{IsEndlessPath, IsFarthest, IsLostBy, IsOnNoRing, IsReached, IsRing, IsRingFrom, LeadsOnOrEnds, cell_after}
-use Rattle.drain_paths.specs.Walks.{IsKnownWay}
 use Rattle.drain_paths.proofs.EndlessSteps.{HasWalked}
 use Rattle.drain_paths.proofs.NextCells.{next-of_no_code, next-outside, next-void}
 use Rattle.drain_paths.proofs.Shorter.{IsEnded, ended-fewer, RunEnds-walk}

@@ -1,11 +1,7 @@
 -- The flows of a row, place by place.
-use Rattle.std.proofs.Common.{◌≡◌, ◌≢◌, ◌<◌, ◌+◌, ℕ, zero, suc, ◌∙◌, ℤ, pos, Option, None, List, [], ◌∷◌, length, get_or, set, get_or-set_other, get_or-set_same, below_more, refl, sym, ap, arith}
-use Rattle.std.proofs.lemmas.List.{ext_get_or, get_or-map, length-map}
+use Rattle.drain_paths.proofs.Names.{◌≡◌, ◌≢◌, ◌<◌, ◌+◌, ℕ, zero, suc, ◌∙◌, ℤ, pos, Option, None, List, [], ◌∷◌, length, get_or, set, get_or-set_other, get_or-set_same, below_more, refl, sym, ap, arith, ext_get_or, get_or-map, length-map, elevations, height_with, Flow, byte_flow, bytes_flows, cell_flow, flows_of}
 use Rattle.drain_pixels.specs.declared.voids.Voids.{Voids}
-use Rattle.drain_pixels.specs.Ground.{elevations, height_with}
-use Rattle.drain_paths.specs.declared.flow.Flow.{Flow}
 use Rattle.drain_paths.specs.declared.flow.Flow.TheVariants.{Void}
-use Rattle.drain_paths.specs.Flows.{byte_flow, bytes_flows, cell_flow, flows_of}
 
 -- the flow at a place of a row
 abbrev pub place_flow : List (Option ℤ) → List ℤ → ℕ → Flow

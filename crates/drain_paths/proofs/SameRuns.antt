@@ -1,15 +1,6 @@
 -- Flows alone tell where codes lead: if every run ends in one grid with these flows, every run ends in each.
-use Rattle.std.proofs.Common.{◌≡◌, ◌≢◌, ◌⊎◌, ◌∙◌, ◌*◌, ℕ, zero, suc, pos, List, ◌∷◌, Option, Some, None, inl, inr, refl, sym, ap, subst}
-use Rattle.drain_grid.specs.declared.cell.Cell.{Cell}
-use Rattle.drain_grid.specs.declared.direction.Direction.{Direction}
-use Rattle.drain_grid.specs.Extent.{IsCellOf, step, Extent}
-use Rattle.drain_grid.specs.Grid.{Grid, Products, IsInside, HasData}
-use Rattle.drain_grid.specs.Run.{next, continued, steps_from, last_from, run_end, RunEnds}
-use Rattle.drain_grid.proofs.Runs.{HasData-next}
-use Rattle.drain_grid.proofs.Neighbors.{step_lies}
-use Rattle.drain_paths.specs.declared.flow.Flow.{Flow}
+use Rattle.drain_paths.proofs.Names.{◌≡◌, ◌≢◌, ◌⊎◌, ◌∙◌, ◌*◌, ℕ, zero, suc, pos, List, ◌∷◌, Option, Some, None, inl, inr, refl, sym, ap, subst, Cell, Direction, IsCellOf, step, Extent, Grid, Products, IsInside, HasData, next, continued, steps_from, last_from, run_end, RunEnds, HasData-next, step_lies, Flow, direction_of, flow_at, AreFlowsOf, OfFlows, AllFlowsEnd}
 use Rattle.drain_paths.specs.declared.flow.Flow.TheVariants.{Void}
-use Rattle.drain_paths.specs.Flows.{direction_of, flow_at, AreFlowsOf, OfFlows, AllFlowsEnd}
 use Rattle.drain_paths.proofs.FlowCells.{flow_of_data, data_at, flow_of_zero, zero_of_flow, leads_nowhere, leads_outside, leads_to_void, leads_to_data}
 
 void_or : (f : Flow) → (f ≡ Void) ⊎ (f ≢ Void)

@@ -3,17 +3,8 @@
 --
 -- No cell stands twice in such a run, as the run from a later cell is shorter. So each step of the run has one cell of the grid more
 -- in it (room, by induction on the number of steps): as many are in it as it has, and no more than there are.
-use Rattle.std.proofs.Common.{◌≡◌, ℕ, zero, suc, ◌+◌, ◌<◌, ◌≤◌, ◌⊎◌, inl, inr, Bool, true, false, [], ◌∷◌, length, Option, Some, None, refl, sym, ap, subst, arith}
-use Rattle.std.proofs.lemmas.Bool.{false_from_ne_true}
-use Rattle.drain_grid.specs.declared.cell.Cell.{Cell}
-use Rattle.drain_grid.specs.Extent.{index_of}
-use Rattle.drain_grid.specs.Grid.{Grid, Products, HasData}
-use Rattle.drain_grid.specs.Run.{next, steps_from, run, RunEnds}
-use Rattle.drain_grid.specs.Unranked.{run_steps}
+use Rattle.drain_paths.proofs.Names.{◌≡◌, ℕ, zero, suc, ◌+◌, ◌<◌, ◌≤◌, ◌⊎◌, inl, inr, Bool, true, false, [], ◌∷◌, length, Option, Some, None, refl, sym, ap, subst, arith, false_from_ne_true, Cell, index_of, Grid, Products, HasData, next, steps_from, run, RunEnds, run_steps, HasData-next, steps-none, ended-run, ended-run_steps, cell_count, cell_at, index_of-below, cell_at-index_of, tally, tally-le, tally-less, Leads, IsWalk, EndsAfter-next, EndsAfter-before}
 use Rattle.drain_grid.proofs.Chains.{AreChains, IsAlone, GoesOn, stands, stands_self, stands_onward, stands_no_longer}
-use Rattle.drain_grid.proofs.Runs.{HasData-next, steps-none, ended-run, ended-run_steps, cell_count, cell_at, index_of-below, cell_at-index_of}
-use Rattle.drain_grid.proofs.Tallies.{tally, tally-le, tally-less}
-use Rattle.drain_grid.proofs.Walks.{Leads, IsWalk, EndsAfter-next, EndsAfter-before}
 
 -- a data cell whose run ends
 pub record IsEnded (g : Grid) (ps : Products) (c : Cell) : Type 0 where

@@ -1,23 +1,7 @@
 -- Numbers of steps, cell by cell: those of outlets, and that a run makes one more for each step before.
-use Rattle.std.proofs.Common.{◌≡◌, ◌∙◌, ℕ, zero, suc, pos, List, [], ◌∷◌, map, get_or, refl, sym, ap, ◌≢◌, ◌+◌, ◌*◌, ◌<◌, ◌≤◌, inl, inr, length, subst, arith}
-use Rattle.drain_grid.specs.declared.cell.Cell.{Cell}
-use Rattle.drain_grid.specs.Extent.{index_of, Extent}
-use Rattle.drain_grid.specs.Grid.{Grid, Products, Pixels, IsInside}
-use Rattle.drain_grid.specs.WholeGrid.{number_at}
-use Rattle.drain_paths.specs.declared.walk.TheConstants.{UNKNOWN}
-use Rattle.drain_paths.specs.CellNumbers.{cell_number, IsNumberBehind, AreNumbersSoFar}
+use Rattle.drain_paths.proofs.Names.{◌≡◌, ◌∙◌, ℕ, zero, suc, pos, List, [], ◌∷◌, map, get_or, refl, sym, ap, ◌≢◌, ◌+◌, ◌*◌, ◌<◌, ◌≤◌, inl, inr, length, subst, arith, Cell, index_of, Extent, Grid, Products, Pixels, IsInside, number_at, UNKNOWN, cell_number, IsNumberBehind, AreNumbersSoFar, AreRunSteps, first_step, first_steps_of, cases_lt, get_or-map, run_steps, RunEnds, in_grid, index_of-below, IsWalk, IsWalk-ends, IsWalk-too_long, EndsAfter-zero, Flow, Ends, flow_at, AreFlowsOf}
 use Rattle.drain_paths.specs.Ways.{AreRanks}
-use Rattle.drain_paths.specs.Walks.{AreRunSteps, first_step, first_steps_of}
-use Rattle.std.proofs.lemmas.Bool.{cases_lt}
-use Rattle.std.proofs.lemmas.List.{get_or-map}
-use Rattle.drain_grid.specs.Unranked.{run_steps}
-use Rattle.drain_grid.specs.Run.{RunEnds}
-use Rattle.drain_grid.proofs.Alike.{in_grid}
-use Rattle.drain_grid.proofs.Runs.{index_of-below}
-use Rattle.drain_grid.proofs.Walks.{IsWalk, IsWalk-ends, IsWalk-too_long, EndsAfter-zero}
-use Rattle.drain_paths.specs.declared.flow.Flow.{Flow}
-use Rattle.drain_paths.specs.declared.flow.Flow.TheVariants.{Void, Ends}
-use Rattle.drain_paths.specs.Flows.{flow_at, AreFlowsOf}
+use Rattle.drain_paths.specs.declared.flow.Flow.TheVariants.{Void}
 use Rattle.drain_paths.proofs.FlowCells.{data_of_flow, zero_of_flow, flow_of_zero}
 use Rattle.drain_paths.proofs.Shorter.{RunEnds-walk, ended-fewer}
 

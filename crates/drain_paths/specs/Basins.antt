@@ -1,12 +1,8 @@
 -- Labels of basins: the outlets are numbered in row order, and each cell has the number of the outlet where its run
 -- ends.
-use Rattle.std.specs.Prelude.{◌≡◌, ◌≢◌, ◌↔◌, ℕ, ◌+◌, ◌<◌, pos, Bool, ◌&&◌, nat_lt, List, is_some, IsNone}
+use Rattle.std.specs.Prelude.{◌≡◌, ◌≢◌, ◌↔◌, ◌+◌, ◌<◌, ◌&&◌}
+use Rattle.drain_paths.specs.Names.{ℕ, pos, Bool, nat_lt, List, is_some, IsNone, int_eq, Cell, index_of, cells, Extent, Grid, Products, IsInside, HasData, run_end, ShareBasin}
 use Rattle.std.specs.List.{count_by}
-use Rattle.std.specs.Ordering.{int_eq}
-use Rattle.drain_grid.specs.declared.cell.Cell.{Cell}
-use Rattle.drain_grid.specs.Extent.{index_of, cells, Extent}
-use Rattle.drain_grid.specs.Grid.{Grid, Products, IsInside, HasData}
-use Rattle.drain_grid.specs.Run.{run_end, ShareBasin}
 use Rattle.drain_paths.specs.CellNumbers.{cell_number}
 use Rattle.drain_paths.specs.Flows.{AllFlowsEnd}
 

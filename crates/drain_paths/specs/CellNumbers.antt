@@ -1,12 +1,8 @@
 -- Numbers of cells, in row order.
-use Rattle.std.specs.Prelude.{◌≡◌, ◌≢◌, ℕ, List, map, length, slice_index_or, ◌≤◌, ◌*◌, pos, IsNone}
-use Rattle.drain_grid.specs.declared.cell.Cell.{Cell}
-use Rattle.drain_grid.specs.Extent.{IsCellOf, index_of, Extent}
+use Rattle.std.specs.Prelude.{◌≡◌, ◌≢◌, ◌≤◌, ◌*◌}
+use Rattle.drain_paths.specs.Names.{ℕ, List, map, length, slice_index_or, pos, IsNone, Cell, IsCellOf, index_of, Extent, MAX_LENGTH, Grid, Products, IsInside, HasData, RunEnds}
 use Rattle.drain_paths.specs.declared.flow.Flow.{Flow}
 use Rattle.drain_paths.specs.declared.flow.Flow.TheVariants.{Void}
-use Rattle.drain_grid.specs.declared.cell.TheConstants.{MAX_LENGTH}
-use Rattle.drain_grid.specs.Grid.{Grid, Products, IsInside, HasData}
-use Rattle.drain_grid.specs.Run.{RunEnds}
 use Rattle.drain_grid.proofs.Walks.{IsWalk}
 use Rattle.drain_paths.specs.Flows.{AllFlowsEnd}
 

@@ -1,12 +1,7 @@
 -- Where a run without an end leads: to a ring, or to a cell from which it leads nowhere. This project's own terms for
 -- D8.
-use Rattle.std.specs.Prelude.{◌≡◌, ◌≢◌, ◌<◌, ◌≤◌, ◌*◌, ◌⊎◌, ◌++◌, ◌∷◌, [], ℕ, zero, suc, min, nat_lt, if◌then◌else◌, List, length, slice_get, Option, Some, None, IsNone, option_and_then}
-use Rattle.drain_grid.specs.declared.cell.Cell.{Cell}
-use Rattle.drain_grid.specs.declared.direction.Direction.{Direction}
-use Rattle.drain_grid.specs.Direction.{IsCode, Names}
-use Rattle.drain_grid.specs.Extent.{step}
-use Rattle.drain_grid.specs.Grid.{Grid, Products, HasData}
-use Rattle.drain_grid.specs.Run.{next, RunEnds}
+use Rattle.std.specs.Prelude.{◌≡◌, ◌≢◌, ◌<◌, ◌≤◌, ◌*◌, ◌⊎◌, ◌++◌, ◌∷◌, if◌then◌else◌}
+use Rattle.drain_paths.specs.Names.{[], ℕ, zero, suc, min, nat_lt, List, length, slice_get, Option, Some, None, IsNone, option_and_then, Cell, Direction, IsCode, Names, step, Grid, Products, HasData, next, RunEnds}
 use Rattle.drain_paths.specs.declared.endless_path.EndlessPath.{EndlessPath}
 use Rattle.drain_paths.specs.declared.endless_path.EndlessPath.TheVariants.{Ring, Lost}
 use Rattle.drain_paths.specs.declared.endless_path.LostBy.{LostBy}

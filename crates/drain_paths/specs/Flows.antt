@@ -1,16 +1,9 @@
 -- What is kept of each cell to find which runs end: whether it has data, and where its code leads.
-use Rattle.std.specs.Prelude.{◌≡◌, ℕ, ◌*◌, ◌<◌, ℤ, pos, List, length, [], ◌∷◌, Option, Some, None, slice_index_or, if◌then◌else◌, ◌==◌, map}
+use Rattle.std.specs.Prelude.{◌≡◌, ◌*◌, ◌<◌, ◌∷◌, if◌then◌else◌, ◌==◌}
+use Rattle.drain_paths.specs.Names.{ℕ, ℤ, pos, List, length, [], Option, Some, None, slice_index_or, map, int_eq, Cell, Direction, East, SouthEast, South, SouthWest, West, NorthWest, North, NorthEast, named_direction, index_of, Extent, Grid, Products, IsInside, HasData, RunEnds}
 use Rattle.std.specs.Option.{option_map_or}
-use Rattle.std.specs.Ordering.{int_eq}
-use Rattle.drain_grid.specs.declared.cell.Cell.{Cell}
-use Rattle.drain_grid.specs.declared.direction.Direction.{Direction}
-use Rattle.drain_grid.specs.declared.direction.Direction.TheVariants.{East, SouthEast, South, SouthWest, West, NorthWest, North, NorthEast}
-use Rattle.drain_grid.specs.Direction.{named_direction}
-use Rattle.drain_grid.specs.Extent.{index_of, Extent}
-use Rattle.drain_grid.specs.Grid.{Grid, Products, IsInside, HasData}
 use Rattle.drain_paths.specs.declared.flow.Flow.{Flow}
 use Rattle.drain_paths.specs.declared.flow.Flow.TheVariants.{Void, Lost, Ends, ToEast, ToSouthEast, ToSouth, ToSouthWest, ToWest, ToNorthWest, ToNorth, ToNorthEast}
-use Rattle.drain_grid.specs.Run.{RunEnds}
 use Rattle.drain_paths.specs.declared.flow.TheConstants.{NO_CODE}
 
 -- on in this direction

@@ -1,12 +1,6 @@
 -- How many cells flow into a cell.
-use Rattle.std.specs.Prelude.{◌≡◌, ℕ, List, IsNone, ◌+◌, ◌<◌, ◌==◌, slice_index, if◌then◌else◌, ◌≢◌, ◌⊎◌, Bool, true, false, cond, nat_eq, length}
-use Rattle.drain_grid.specs.declared.cell.Cell.{Cell}
-use Rattle.drain_grid.specs.declared.direction.Direction.{Direction}
-use Rattle.drain_grid.specs.declared.direction.Direction.TheVariants.{East, SouthEast, South, SouthWest, West, NorthWest, North, NorthEast}
-use Rattle.drain_grid.specs.Direction.{code_of}
-use Rattle.drain_grid.specs.Grid.{Grid, Products, IsInside, HasData}
-use Rattle.drain_grid.specs.Run.{upstream_count}
-use Rattle.drain_grid.specs.Extent.{Extent, IsCellOf}
+use Rattle.std.specs.Prelude.{◌≡◌, ◌+◌, ◌<◌, ◌==◌, if◌then◌else◌, ◌≢◌, ◌⊎◌}
+use Rattle.drain_paths.specs.Names.{ℕ, List, IsNone, slice_index, Bool, true, false, cond, nat_eq, length, Cell, Direction, East, SouthEast, South, SouthWest, West, NorthWest, North, NorthEast, code_of, Grid, Products, IsInside, HasData, upstream_count, Extent, IsCellOf}
 use Rattle.drain_paths.specs.CellNumbers.{cell_number}
 use Rattle.drain_grid.proofs.HandedOn.{handed_on}
 use Rattle.drain_paths.specs.declared.flow.Flow.{Flow}

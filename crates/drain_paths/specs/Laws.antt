@@ -1,18 +1,14 @@
 -- Counts and labels as products: the rules that they keep, and that products are correct once their heights and
 -- directions are right too.
-use Rattle.std.specs.Prelude.{◌≡◌, ◌≢◌, ◌↔◌, pos, ℕ, List, IsNone}
-use Rattle.drain_grid.specs.declared.cell.Cell.{Cell}
+use Rattle.std.specs.Prelude.{◌≡◌, ◌≢◌, ◌↔◌}
+use Rattle.drain_paths.specs.Names.{pos, ℕ, List, IsNone, Cell, IsCellOf, Extent, Grid, Products, IsInside, HasData, IsFlatCell, IsOutlet, NoDataNumbers}
 use Rattle.drain_grid.specs.Correct.{NeverClimbs, GoesSteepest, IsCorrect}
 use Rattle.drain_grid.specs.declared.rule.Rule.{Rule}
-use Rattle.drain_grid.specs.Extent.{IsCellOf, Extent}
-use Rattle.drain_grid.specs.Grid.{Grid, Products, IsInside, HasData}
 use Rattle.drain_grid.specs.GridRules.{RulesHold}
 use Rattle.drain_grid.specs.PatchRules.{flow_rules}
 use Rattle.drain_grid.specs.Path.{IsLeastSurface}
 use Rattle.drain_grid.specs.Product.{default_numbers}
 use Rattle.drain_grid.specs.Rule.{IsBetween}
-use Rattle.drain_grid.specs.Run.{IsFlatCell, IsOutlet}
-use Rattle.drain_grid.specs.Values.{NoDataNumbers}
 use Rattle.drain_paths.specs.Basins.{AreBasinLabels}
 use Rattle.drain_paths.specs.CellNumbers.{cell_number}
 use Rattle.drain_paths.specs.Inflows.{AreUpstreamCounts}

@@ -1,3 +1,4 @@
+pub mod Names
 pub mod Basins
 pub mod CellNumbers
 pub mod Flows

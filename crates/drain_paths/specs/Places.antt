@@ -1,8 +1,6 @@
 -- Places of cells in row order.
-use Rattle.std.specs.Prelude.{◌≡◌, ℕ, ◌+◌, ◌*◌, ◌<◌, List, Some, slice_index}
-use Rattle.drain_grid.specs.declared.direction.Direction.{Direction}
-use Rattle.drain_grid.specs.Direction.{rows_down, cols_right}
-use Rattle.drain_grid.specs.Extent.{Extent}
+use Rattle.std.specs.Prelude.{◌≡◌, ◌+◌, ◌*◌, ◌<◌}
+use Rattle.drain_paths.specs.Names.{ℕ, List, Some, slice_index, Direction, rows_down, cols_right, Extent}
 use Rattle.drain_paths.specs.declared.flow.Flow.{Flow}
 use Rattle.drain_paths.specs.declared.flow.Flow.TheVariants.{Void, Lost, Ends, ToEast, ToSouthEast, ToSouth, ToSouthWest, ToWest, ToNorthWest, ToNorth, ToNorthEast}
 use Rattle.drain_paths.specs.Flows.{byte_flow, direction_of}

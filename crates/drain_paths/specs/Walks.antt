@@ -1,18 +1,12 @@
 -- What a walk found.
-use Rattle.drain_grid.specs.declared.cell.Cell.{Cell}
-use Rattle.drain_grid.specs.Grid.{Grid, Products, IsInside}
+use Rattle.std.specs.Prelude.{◌+◌, ◌-◌, ◌&&◌, if◌then◌else◌, ◌≡◌, ◌≢◌}
+use Rattle.drain_paths.specs.Names.{Cell, Grid, Products, IsInside, ℕ, List, map, nat_lt, Option, Some, None, IsSome, IsNone, run_steps, Extent, IsCellOf, Direction, IsCode, Names, next, RunEnds}
 use Rattle.drain_grid.proofs.Walks.{IsWalk}
 use Rattle.drain_paths.specs.declared.walk.Ahead.{Ahead}
 use Rattle.drain_paths.specs.CellNumbers.{IsNumbered, Numbering, AreNumbers}
-use Rattle.std.specs.Prelude.{ℕ, List, map, ◌+◌, ◌-◌, ◌&&◌, nat_lt, Option, Some, None, if◌then◌else◌, ◌≡◌, ◌≢◌, IsSome, IsNone}
-use Rattle.drain_grid.specs.Unranked.{run_steps}
-use Rattle.drain_grid.specs.Extent.{Extent, IsCellOf}
 use Rattle.drain_paths.specs.declared.flow.Flow.{Flow}
 use Rattle.drain_paths.specs.declared.flow.Flow.TheVariants.{Ends, Void, Lost}
 use Rattle.drain_paths.specs.declared.walk.TheConstants.{UNKNOWN}
-use Rattle.drain_grid.specs.declared.direction.Direction.{Direction}
-use Rattle.drain_grid.specs.Direction.{IsCode, Names}
-use Rattle.drain_grid.specs.Run.{next, RunEnds}
 use Rattle.drain_paths.specs.declared.flow.Way.{Way}
 use Rattle.drain_paths.specs.declared.flow.Way.TheVariants.{On}
 use Rattle.drain_paths.specs.Flows.{direction_of, flow_at}

@@ -1,10 +1,6 @@
 -- Where codes lead, from elevations and directions only.
-use Rattle.std.specs.Prelude.{◌≡◌, pos, IsNone, ◌≢◌, [], Some, None}
-use Rattle.drain_grid.specs.declared.cell.Cell.{Cell}
-use Rattle.drain_grid.specs.Grid.{Pixels, Heights, Grid, Products, IsInside, HasData}
-use Rattle.drain_grid.specs.WholeGrid.{number_at, grid_of}
-use Rattle.drain_grid.specs.Run.{RunEnds, next}
-use Rattle.drain_grid.specs.Unranked.{run_steps, IsFirstEndless}
+use Rattle.std.specs.Prelude.{◌≡◌, ◌≢◌}
+use Rattle.drain_paths.specs.Names.{pos, IsNone, [], Some, None, Cell, Pixels, Heights, Grid, Products, IsInside, HasData, number_at, grid_of, RunEnds, next, run_steps, IsFirstEndless}
 use Rattle.drain_paths.specs.declared.flow.CertifyRefusal.{CertifyRefusal}
 use Rattle.drain_paths.specs.declared.flow.CertifyRefusal.TheVariants.{NoEnd, OutOfMemory}
 use Rattle.drain_paths.specs.declared.walk.TheConstants.{UNKNOWN}

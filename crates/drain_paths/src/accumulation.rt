@@ -1,9 +1,7 @@
 //! How many cells drain through each cell.
 
-ghost use Rattle.std.specs.Prelude.{◌≡◌, ◌≤◌, ◌<◌, ◌+◌, ◌-◌, ◌*◌, ◌==◌, ℕ, length, vec_len, slice_index, slice_index_or, slice_set, IfOk, if◌then◌else◌, ◌≢◌, ◌^◌};
-ghost use Rattle.drain_grid.specs.declared.cell.Cell.{Cell};
-ghost use Rattle.drain_grid.specs.Direction.{code_of};
-ghost use Rattle.drain_grid.specs.Extent.{IsCellOf};
+ghost use Rattle.std.specs.Prelude.{◌≡◌, ◌≤◌, ◌<◌, ◌+◌, ◌-◌, ◌*◌, ◌==◌, if◌then◌else◌, ◌≢◌, ◌^◌};
+ghost use Rattle.drain_paths.specs.Names.{ℕ, length, vec_len, slice_index, slice_index_or, slice_set, IfOk, Cell, code_of, IsCellOf};
 ghost use Rattle.drain_paths.specs.declared.flow.Flow.TheVariants.{Void};
 ghost use Rattle.drain_paths.specs.declared.flow.TheConstants.{NO_CODE};
 ghost use Rattle.drain_paths.specs.Flows.{OfFlows, AllFlowsEnd, byte_flow, bytes_flows};

@@ -1,9 +1,8 @@
 //! Which outlet or sink each cell drains to, where every run is known to end: a walk looks at no edge and at no void.
 
-ghost use Rattle.std.specs.Prelude.{◌≡◌, ◌≢◌, ◌<◌, ◌≤◌, ◌+◌, ◌*◌, ℕ, IfOk, length, slice_index_or, vec_len};
+ghost use Rattle.std.specs.Prelude.{◌≡◌, ◌≢◌, ◌<◌, ◌≤◌, ◌+◌, ◌*◌};
+ghost use Rattle.drain_paths.specs.Names.{ℕ, IfOk, length, slice_index_or, vec_len, IsCellOf, Cell};
 ghost use Rattle.drain_grid.proofs.Runs.{cell_at};
-ghost use Rattle.drain_grid.specs.Extent.{IsCellOf};
-ghost use Rattle.drain_grid.specs.declared.cell.Cell.{Cell};
 ghost use Rattle.drain_paths.specs.declared.flow.Flow.TheVariants.{Void};
 ghost use Rattle.drain_paths.specs.Basins.{AreBasinLabels, AreEndLabels, basin_label};
 ghost use Rattle.drain_paths.specs.CellNumbers.{AreNumbers, AreNumbersSoFar, cell_number};

@@ -1,11 +1,9 @@
 //! Which way each cell of a grid leads, a byte per cell, taken row by row.
 
-ghost use Rattle.std.specs.Prelude.{◌≡◌, ◌*◌, vec_len, IfOk, ◌<◌, ◌++◌, [], length, All, OnOk, OnErr, slice_index_or};
-ghost use Rattle.drain_grid.specs.Extent.{IsCellOf};
-ghost use Rattle.drain_grid.specs.WholeGrid.{elevation_at, number_at};
+ghost use Rattle.std.specs.Prelude.{◌≡◌, ◌*◌, ◌<◌, ◌++◌};
+ghost use Rattle.drain_paths.specs.Names.{vec_len, IfOk, [], length, All, OnOk, OnErr, slice_index_or, IsCellOf, elevation_at, number_at, IsPixel};
 ghost use Rattle.drain_paths.specs.Flows.{AreFlowsOf, bytes_flows, cell_flow, flows_of};
 ghost use Rattle.drain_paths.specs.Ways.{ground_of, directions_of};
-ghost use Rattle.drain_grid.specs.Values.{IsPixel};
 ghost use Rattle.drain_pixels.specs.Ground.{elevations};
 
 use crate::flow::{Flow, FlowTable, NO_CODE, cell_code, flows_of_codes};

@@ -1,11 +1,8 @@
 //! Numbers a cell: steps, counts or labels, kept as 32 bits.
 
-ghost use Rattle.std.specs.Prelude.{◌≤◌, ◌≡◌, ◌*◌, length, ◌≢◌, ℕ};
-ghost use Rattle.drain_grid.specs.Extent.{IsCellOf};
+ghost use Rattle.std.specs.Prelude.{◌≤◌, ◌≡◌, ◌*◌, ◌≢◌};
+ghost use Rattle.drain_paths.specs.Names.{length, ℕ, IsCellOf, Cell, MAX_LENGTH, Grid, Products};
 ghost use Rattle.drain_paths.specs.CellNumbers.{cell_number, IsPutAt, IsNumberBehind};
-ghost use Rattle.drain_grid.specs.declared.cell.Cell.{Cell};
-ghost use Rattle.drain_grid.specs.declared.cell.TheConstants.{MAX_LENGTH};
-ghost use Rattle.drain_grid.specs.Grid.{Grid, Products};
 
 use drain_grid::{Cell, Shape};
 

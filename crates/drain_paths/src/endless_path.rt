@@ -1,13 +1,9 @@
 //! Where a run without an end leads: to a ring of cells, or to a cell from which it leads nowhere.
 
-ghost use Rattle.std.specs.Prelude.{◌≡◌, ◌*◌, length, MatchOption, IfOk, IfSome, OnOk};
-ghost use Rattle.drain_grid.specs.declared.cell.Cell.{Cell};
-ghost use Rattle.drain_grid.specs.Unranked.{IsFirstEndless};
-ghost use Rattle.drain_grid.specs.Grid.{Grid, Products, HasData};
-ghost use Rattle.drain_grid.specs.Run.{RunEnds};
+ghost use Rattle.std.specs.Prelude.{◌≡◌, ◌*◌};
+ghost use Rattle.drain_paths.specs.Names.{length, MatchOption, IfOk, IfSome, OnOk, Cell, IsFirstEndless, Grid, Products, HasData, RunEnds, IsCellOf};
 ghost use Rattle.drain_paths.specs.Flows.{AreFlowsOf};
 ghost use Rattle.drain_paths.specs.Walks.{AreKnownFlows};
-ghost use Rattle.drain_grid.specs.Extent.{IsCellOf};
 ghost use Rattle.drain_paths.specs.EndlessPaths.{IsEndlessPath, IsFarthest, IsLostBy, IsOnNoRing, IsRing, LeadsOnOrEnds, told_with};
 
 use crate::cell_flows::CellFlows;

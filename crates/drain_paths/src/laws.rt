@@ -3,9 +3,7 @@
 //! A law is a function with an empty body: its contract is the law.
 
 ghost use Rattle.std.specs.Prelude.{◌≡◌};
-ghost use Rattle.drain_grid.specs.declared.cell.Cell.{Cell};
-ghost use Rattle.drain_grid.specs.Grid.{Grid, Products};
-ghost use Rattle.drain_grid.specs.Run.{RunEnds};
+ghost use Rattle.drain_paths.specs.Names.{Cell, Grid, Products, RunEnds};
 ghost use Rattle.drain_paths.specs.declared.endless_path.EndlessPath.{EndlessPath};
 ghost use Rattle.drain_paths.specs.EndlessPaths.{IsEndlessPath};
 ghost use Rattle.drain_paths.specs.Laws.{CountsKeepRules, CorrectByRouting};

@@ -1,10 +1,9 @@
 //! Where the flows of runs that end lead, as places in row order. From each row a direction leads equally far on, and what
 //! it leads to is a data cell: nothing has to be tested.
 
-ghost use Rattle.std.specs.Prelude.{◌≡◌, ◌≢◌, ◌<◌, ◌*◌, ◌↔◌, IsTrue, List, length, slice_index_or, Some};
+ghost use Rattle.std.specs.Prelude.{◌≡◌, ◌≢◌, ◌<◌, ◌*◌, ◌↔◌};
+ghost use Rattle.drain_paths.specs.Names.{IsTrue, List, length, slice_index_or, Some, Extent, next};
 ghost use Rattle.drain_grid.proofs.Runs.{cell_at};
-ghost use Rattle.drain_grid.specs.Extent.{Extent};
-ghost use Rattle.drain_grid.specs.Run.{next};
 ghost use Rattle.drain_paths.specs.declared.flow.Flow.{Flow};
 ghost use Rattle.drain_paths.specs.declared.flow.Flow.TheVariants.{Ends, Void};
 ghost use Rattle.drain_paths.specs.Flows.{AllFlowsEnd, OfFlows, byte_flow};

@@ -1,14 +1,10 @@
 //! The walk along a path, from a cell to the first one that is known, and back.
 
-ghost use Rattle.std.specs.Prelude.{◌≡◌, IfOk, ◌*◌, length, vec_len, IfErr, MatchOption, ◌≢◌, ◌<◌, ◌≤◌, slice_index_or, IfSome};
+ghost use Rattle.std.specs.Prelude.{◌≡◌, ◌*◌, ◌≢◌, ◌<◌, ◌≤◌};
+ghost use Rattle.drain_paths.specs.Names.{IfOk, length, vec_len, IfErr, MatchOption, slice_index_or, IfSome, run_steps, IsFirstEndless, IsCellOf, index_of, Grid, Products, HasData, RunEnds, Cell};
 ghost use Rattle.drain_paths.specs.Walks.{first_step, first_steps_of, AreRunSteps, AreKnownFlows, IsAhead};
-ghost use Rattle.drain_grid.specs.Unranked.{run_steps, IsFirstEndless};
 ghost use Rattle.drain_paths.specs.Ways.{IsRankRefusal};
 ghost use Rattle.drain_paths.specs.Flows.{OfFlows, flow_at};
-ghost use Rattle.drain_grid.specs.Extent.{IsCellOf, index_of};
-ghost use Rattle.drain_grid.specs.Grid.{Grid, Products, HasData};
-ghost use Rattle.drain_grid.specs.Run.{RunEnds};
-ghost use Rattle.drain_grid.specs.declared.cell.Cell.{Cell};
 ghost use Rattle.drain_paths.specs.declared.flow.Flow.TheVariants.{Void};
 ghost use Rattle.drain_paths.specs.CellNumbers.{cell_number, AreNumbers, AreNumbersSoFar};
 

@@ -1,11 +1,7 @@
 //! Where the code of a cell leads, from flows alone.
 
-ghost use Rattle.std.specs.Prelude.{◌≡◌, ◌≢◌, ◌<◌, ◌≤◌, ◌*◌, List, length, slice_index_or, IfSome, Some};
-ghost use Rattle.drain_grid.specs.declared.direction.Direction.{Direction};
-ghost use Rattle.drain_grid.specs.Direction.{rows_down, cols_right};
-ghost use Rattle.drain_grid.specs.Extent.{IsCellOf};
-ghost use Rattle.drain_grid.specs.Grid.{Grid, Products, HasData};
-ghost use Rattle.drain_grid.specs.Run.{next};
+ghost use Rattle.std.specs.Prelude.{◌≡◌, ◌≢◌, ◌<◌, ◌≤◌, ◌*◌};
+ghost use Rattle.drain_paths.specs.Names.{List, length, slice_index_or, IfSome, Some, Direction, rows_down, cols_right, IsCellOf, Grid, Products, HasData, next};
 ghost use Rattle.drain_paths.specs.declared.flow.Flow.{Flow};
 ghost use Rattle.drain_paths.specs.declared.flow.Flow.TheVariants.{Void};
 ghost use Rattle.drain_paths.specs.Flows.{direction_of, flow_at, OfFlows};

@@ -1,8 +1,5 @@
 -- The elevations of numbers of pixels are such numbers, or none.
-use Rattle.std.proofs.Common.{ℤ, Bool, true, false, Option, Some, None, IfSome, List, All, get_or, if◌then◌else◌}
-use Rattle.std.proofs.lemmas.List.Elements.{All-map}
-use Rattle.drain_grid.specs.Values.{IsPixel}
-use Rattle.drain_pixels.specs.Ground.{elevations, height_with, is_void}
+use Rattle.drain_pixels.proofs.Names.{ℤ, Bool, true, false, Option, Some, None, IfSome, List, All, get_or, if◌then◌else◌, All-map, IsPixel, elevations, height_with, is_void}
 use Rattle.drain_pixels.specs.declared.voids.Voids.{Voids}
 
 -- the number, or none

@@ -1,3 +1,4 @@
+pub mod Names
 pub mod StoredLemmas
 pub mod PixelBounds
 pub mod GroundLemmas

@@ -1,18 +1,14 @@
 -- Numbers that are stored in bytes are those of pixels.
-use Rattle.std.proofs.Common.{inl, inr, ℕ, ◌+◌, ◌*◌, ◌<◌, ℤ, pos, List, [], drop, All, arith, subst, sym}
-use Rattle.std.specs.Prelude.{slice_index}
+use Rattle.drain_pixels.proofs.Names.{inl, inr, ℕ, ◌+◌, ◌*◌, ◌<◌, ℤ, pos, List, [], drop, All, arith, subst, sym, slice_index, All-from_get_or, IsPixel, f32_number, i16_number, i32_number, numbers_as, numbers_of, u16_number, u32_number, u8_number}
 use Rattle.std.proofs.lemmas.Bool.{cases_lt, lt-ltb, le-ltb}
 use Rattle.std.proofs.lemmas.Bool.Decides.{nat_tests}
 use Rattle.std.proofs.lemmas.Int.{ints}
 use Rattle.std.proofs.lemmas.List.{get_or-drop}
-use Rattle.std.proofs.lemmas.List.Elements.{All-from_get_or}
 use Rattle.byteorder.specs.Endian.{little_number, twos_complement}
 use Rattle.byteorder.specs.Numbers.{little_from-lt}
 use Rattle.drain_floats.specs.Patterns.{number_of}
-use Rattle.drain_grid.specs.Values.{IsPixel}
 use Rattle.drain_pixels.specs.declared.pixel_row.PixelKind.{PixelKind}
 use Rattle.drain_pixels.specs.declared.pixel_row.PixelKind.TheVariants.{U8, I16, U16, I32, U32, F32, Any}
-use Rattle.drain_pixels.specs.Stored.{f32_number, i16_number, i32_number, numbers_as, numbers_of, u16_number, u32_number, u8_number}
 use Rattle.drain_pixels.proofs.StoredLemmas.{number_at}
 
 -- whole numbers below 256

@@ -1,8 +1,6 @@
 -- Stored pixels: how many there are, and the number at a column.
-use Rattle.std.proofs.Common.{◌≡◌, ℕ, ◌+◌, ◌*◌, ◌/◌, ◌<◌, ◌≤◌, ℤ, pos, List, length, drop, arith}
-use Rattle.std.specs.Prelude.{slice_index_or}
+use Rattle.drain_pixels.proofs.Names.{◌≡◌, ℕ, ◌+◌, ◌*◌, ◌/◌, ◌<◌, ◌≤◌, ℤ, pos, List, length, drop, arith, slice_index_or, f32_number, f32_numbers, i16_number, i16_numbers, i32_number, i32_numbers, numbers_of, u16_number, u16_numbers, u32_number, u32_numbers, u8_number, u8_numbers}
 use Rattle.std.proofs.lemmas.List.FromFn.{get_or-map-range_with_len, length-map-range_with_len}
-use Rattle.drain_pixels.specs.Stored.{f32_number, f32_numbers, i16_number, i16_numbers, i32_number, i32_numbers, numbers_of, u16_number, u16_numbers, u32_number, u32_numbers, u8_number, u8_numbers}
 
 -- as many as there is room for
 pub numbers_len : (n : ℕ) (number : List ℕ → ℤ) (bytes : List ℕ) → length (numbers_of n number bytes) ≡ length bytes / n

@@ -1,9 +1,8 @@
 -- The elevations of a row: numbers, of which some mean a void.
 -- Source: the Esri description of BIL files and their headers (NODATA); that a void is where a pixel is that number, and
 -- where a float is not finite, is this project's own.
-use Rattle.std.specs.Prelude.{ℤ, Bool, false, not, ◌||◌, List, map, Option, Some, None, if◌then◌else◌}
-use Rattle.std.specs.Ordering.{int_eq}
-use Rattle.drain_floats.specs.Patterns.{is_finite}
+use Rattle.std.specs.Prelude.{◌||◌, if◌then◌else◌}
+use Rattle.drain_pixels.specs.Names.{ℤ, Bool, false, not, List, map, Option, Some, None, int_eq, is_finite}
 use Rattle.drain_grid.specs.declared.height_kind.HeightKind.{HeightKind}
 use Rattle.drain_grid.specs.declared.height_kind.HeightKind.TheVariants.{Whole, Single}
 use Rattle.drain_pixels.specs.declared.voids.Voids.{Voids}

@@ -1,6 +1,6 @@
 -- Lanes of a row: unsigned numbers of 16 or 32 bits, converted from whole numbers. At a void, where the lane of the elevation is 0, nothing is known of a product.
-use Rattle.std.specs.Prelude.{◌≡◌, ◌≢◌, ℕ, ◌/◌, ◌%◌, ◌<◌, ℤ, pos, negsuc, neg_ℤ, ◌+ℤ◌, Bool, IsTrue, true, false, not, ◌&&◌, nat_le, int_le, int_lt, min, List, Option, Some, None, slice_index, slice_index_or}
-use Rattle.std.specs.Ordering.{int_eq}
+use Rattle.std.specs.Prelude.{◌≡◌, ◌≢◌, ◌/◌, ◌%◌, ◌<◌, ◌+ℤ◌, ◌&&◌}
+use Rattle.drain_pixels.specs.Names.{ℕ, ℤ, pos, negsuc, neg_ℤ, Bool, IsTrue, true, false, not, nat_le, int_le, int_lt, min, List, Option, Some, None, slice_index, slice_index_or, int_eq}
 use Rattle.drain_pixels.specs.declared.voids.Voids.{Voids}
 use Rattle.drain_pixels.specs.Ground.{height_with}
 

@@ -1,3 +1,4 @@
+pub mod Names
 pub mod Stored
 pub mod Lanes
 pub mod Ground

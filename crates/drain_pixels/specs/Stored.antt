@@ -1,9 +1,9 @@
 -- The numbers of pixels that are stored next to each other.
 -- Source: the Esri description of BIL files and their headers (NBITS, PIXELTYPE, BYTEORDER), of one band
-use Rattle.std.specs.Prelude.{ℕ, ◌*◌, ◌/◌, ℤ, pos, List, length, drop, map}
+use Rattle.std.specs.Prelude.{◌*◌, ◌/◌}
+use Rattle.drain_pixels.specs.Names.{ℕ, ℤ, pos, List, length, drop, map, number_of}
 use Rattle.std.specs.List.{range_with_len}
 use Rattle.byteorder.specs.Endian.{little_number, twos_complement}
-use Rattle.drain_floats.specs.Patterns.{number_of}
 use Rattle.drain_pixels.specs.declared.pixel_row.PixelKind.{PixelKind}
 use Rattle.drain_pixels.specs.declared.pixel_row.PixelKind.TheVariants as kind
 use Rattle.drain_pixels.specs.declared.stored.Pixels.{Pixels}

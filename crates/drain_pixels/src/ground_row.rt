@@ -1,7 +1,7 @@
 //! A row of elevations, in memory that is used again for the next row.
 
-ghost use Rattle.std.specs.Prelude.{◌≡◌, ◌<◌, All, IfSome, None, [], length, slice_index_or};
-ghost use Rattle.drain_grid.specs.Values.{IsPixel};
+ghost use Rattle.std.specs.Prelude.{◌≡◌, ◌<◌};
+ghost use Rattle.drain_pixels.specs.Names.{All, IfSome, None, [], length, slice_index_or, IsPixel};
 ghost use Rattle.drain_pixels.specs.Ground.{elevations};
 ghost use Rattle.drain_pixels.specs.Stored.{numbers_in};
 

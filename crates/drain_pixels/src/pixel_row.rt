@@ -1,7 +1,7 @@
 //! The pixels of one row, in memory that is used again for the next row.
 
-ghost use Rattle.std.specs.Prelude.{◌≡◌, ◌<◌, All, OnErr, OnOk, [], length, pos, slice_index_or};
-ghost use Rattle.drain_grid.specs.Values.{IsPixel};
+ghost use Rattle.std.specs.Prelude.{◌≡◌, ◌<◌};
+ghost use Rattle.drain_pixels.specs.Names.{All, OnErr, OnOk, [], length, pos, slice_index_or, IsPixel};
 ghost use Rattle.drain_pixels.specs.Stored.{numbers_as, numbers_in};
 
 use crate::stored::{
@@ -43,8 +43,7 @@ pub struct PixelRow {
 }
 
 impl Model for PixelRow {
-    ghost use Rattle.std.specs.Prelude.{ℤ, List};
-    ghost use Rattle.drain_grid.specs.Values.{IsPixel};
+    ghost use Rattle.drain_pixels.specs.Names.{ℤ, List, IsPixel};
     ghost use Rattle.drain_pixels.specs.Stored.{numbers_as};
 
     ghost Value = { List ℤ };

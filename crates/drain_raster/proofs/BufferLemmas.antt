@@ -1,17 +1,7 @@
 -- What is at the front of a buffer, pixel by pixel, and lists of zeros.
-use Rattle.std.proofs.Common.{◌≡◌, ℕ, zero, suc, ◌+◌, ◌-◌, ◌*◌, ◌<◌, ◌≤◌, ℤ, List, [], ◌∷◌, ◌++◌, length, map, take, drop, replicate, All, set, refl, arith, sym, ap, subst, ◌∙◌, append_assoc, append-nil, length-append, length-drop}
-use Rattle.std.specs.List.{flat_map, range_with_len}
-use Rattle.std.proofs.lemmas.List.{take_at, map-append, take_more_set}
-use Rattle.std.proofs.lemmas.List.Elements.{All-push}
-use Rattle.std.proofs.lemmas.List.Concat.{flat_map-append}
-use Rattle.std.proofs.lemmas.List.FromFn.{map-range_with_len_more}
-use borrow.Rule.Slice.PartMut.{put_mid}
-use Rattle.drain_device.proofs.PartLemmas.{take-put_mid_part}
-use Rattle.drain_grid.specs.declared.cell.Cell.{Cell}
-use Rattle.drain_grid.specs.Grid.{Pixels}
-use Rattle.drain_grid.specs.Values.{IsPixel}
+use Rattle.drain_raster.proofs.Names.{◌≡◌, ℕ, zero, suc, ◌+◌, ◌-◌, ◌*◌, ◌<◌, ◌≤◌, ℤ, List, [], ◌∷◌, ◌++◌, length, map, take, drop, replicate, set, refl, arith, sym, ap, subst, ◌∙◌, append_assoc, append-nil, flat_map, range_with_len, take_at, map-append, take_more_set, All-push, flat_map-append, map-range_with_len_more, put_mid, take-put_mid_part, Cell, Pixels, IsPixel, cells_bytes, cells_from}
+use Rattle.std.proofs.Common.{All, length-append, length-drop}
 use Rattle.drain_grid.specs.WholeGrid.{number_at}
-use Rattle.drain_raster.specs.Bytes.{cells_bytes, cells_from}
 use Rattle.drain_raster.proofs.CellPlaces.{cell_of, flat_map-rows_more}
 
 -- zeros, and more of them

@@ -1,14 +1,7 @@
 -- Lists of cells, one cell or one row longer.
-use Rattle.std.proofs.Common.{◌≡◌, ℕ, zero, suc, ◌+◌, List, [], ◌∷◌, ◌++◌, length, map, refl, arith, ap, ◌∙◌, append-nil, ◌-◌, ◌*◌, ◌<◌, pos, get_or}
-use Rattle.std.specs.List.{range_with_len, flat_map}
-use Rattle.std.proofs.lemmas.List.{map-append, length-map, get_or-map, get_or_append_left, get_or-append_right, length-append}
-use Rattle.std.proofs.lemmas.List.Concat.{flat_map-append}
-use Rattle.std.proofs.lemmas.List.FromFn.{map-range_with_len_more, length-map-range_with_len, get_or-map-range_with_len}
-use Rattle.drain_grid.specs.declared.cell.Cell.{Cell}
-use Rattle.drain_grid.specs.Extent.{row_cells, Extent, IsCellOf, index_of, cells}
+use Rattle.drain_raster.proofs.Names.{◌≡◌, ℕ, zero, suc, ◌+◌, List, [], ◌∷◌, ◌++◌, length, map, refl, arith, ap, ◌∙◌, append-nil, ◌-◌, ◌*◌, ◌<◌, pos, get_or, range_with_len, flat_map, map-append, length-map, get_or-map, get_or_append_left, get_or-append_right, flat_map-append, map-range_with_len_more, length-map-range_with_len, get_or-map-range_with_len, Cell, row_cells, Extent, IsCellOf, index_of, cells, header_extent, pixel_at, NumbersArePixels}
+use Rattle.std.proofs.lemmas.List.{length-append}
 use Rattle.std.proofs.lemmas.Nat.{mul-add-lt}
-use Rattle.drain_raster.specs.Pixels.{header_extent, pixel_at}
-use Rattle.drain_raster.specs.Laws.{NumbersArePixels}
 
 -- the cell of a row and a column
 abbrev pub cell_of : ℕ → ℕ → Cell

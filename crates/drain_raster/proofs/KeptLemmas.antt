@@ -1,14 +1,8 @@
 -- The numbers that a raster keeps: at each cell, and their range by their bits.
-use Rattle.std.proofs.Common.{◌≡◌, ◌+◌, ◌*◌, ◌^◌, ◌<◌, ℕ, ℤ, pos, List, false, map, length, get_or, arith, ap, ◌∙◌}
+use Rattle.drain_raster.proofs.Names.{◌≡◌, ◌+◌, ◌*◌, ◌^◌, ◌<◌, ℕ, ℤ, pos, List, false, map, length, get_or, arith, ap, ◌∙◌, ints, All-get_or, All-map, Cell, Extent, IsCellOf, index_of, Pixels, CanSpellIn}
 use Rattle.std.specs.List.{All}
-use Rattle.std.proofs.lemmas.Int.{ints}
-use Rattle.std.proofs.lemmas.List.Elements.{All-get_or, All-map}
-use Rattle.drain_grid.specs.declared.cell.Cell.{Cell}
-use Rattle.drain_grid.specs.Extent.{Extent, IsCellOf, index_of}
-use Rattle.drain_grid.specs.Grid.{Pixels}
 use Rattle.drain_grid.specs.WholeGrid.{number_at}
 use Rattle.drain_grid.proofs.Runs.{index_of-below}
-use Rattle.drain_raster.specs.Bytes.{CanSpellIn}
 use Rattle.drain_raster.proofs.CellPlaces.{cell_of}
 
 -- what holds of each number of a raster holds of the number at each cell

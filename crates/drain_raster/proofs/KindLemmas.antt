@@ -1,17 +1,9 @@
 -- Bytes that are kept of a row hold the numbers of its pixels: place by place.
-use Rattle.std.proofs.Common.{◌≡◌, ◌≢◌, refl, ℕ, ◌*◌, ◌/◌, ℤ, pos, true, false, List, [], length, take, drop, arith, sym, ap, ◌∙◌}
-use Rattle.std.proofs.lemmas.List.{ext_get_or}
-use Rattle.std.proofs.Math.Nat.{mul_comm}
-use Rattle.drain_grid.specs.declared.height_kind.HeightKind.TheVariants.{Whole, Single}
-use Rattle.drain_header.specs.declared.header.ByteOrdering.TheVariants.{Least}
-use Rattle.drain_header.specs.Header.{Fields}
+use Rattle.drain_raster.proofs.Names.{◌≡◌, ◌≢◌, refl, ℕ, ◌*◌, ◌/◌, ℤ, pos, true, false, List, [], length, take, drop, arith, sym, ap, ◌∙◌, ext_get_or, mul_comm, Whole, Single, Least, Fields, f32_number, i16_number, i32_number, numbers_as, numbers_of, u16_number, u32_number, u8_number, AreSpelled, pixel_len, pixel_of, packed_len, pixels_of}
 use Rattle.drain_pixels.specs.declared.pixel_row.PixelKind.{PixelKind}
 use Rattle.drain_pixels.specs.declared.pixel_row.PixelKind.TheVariants.{U8, I16, U16, I32, U32, F32, Any}
-use Rattle.drain_pixels.specs.Stored.{f32_number, i16_number, i32_number, numbers_as, numbers_of, u16_number, u32_number, u8_number}
 use Rattle.drain_pixels.proofs.StoredLemmas.{number_at, numbers_len}
 use Rattle.drain_raster.specs.Kinds.{HoldRows, IsKindOf}
-use Rattle.drain_raster.specs.Pixels.{AreSpelled, pixel_len, pixel_of}
-use Rattle.drain_raster.specs.RasterRows.{packed_len, pixels_of}
 use Rattle.drain_raster.proofs.PixelLemmas.{float-so, spelled_as-take, spelled-byte, spelled-so}
 use Rattle.drain_raster.proofs.RasterEnds.{numbers_long}
 use Rattle.drain_raster.proofs.RasterRowLemmas.{numbers_of-at}

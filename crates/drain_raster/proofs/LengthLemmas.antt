@@ -1,20 +1,6 @@
 -- A worked raster: what the definitions say of it, by computation.
-use Rattle.std.proofs.Common.{◌≡◌, ℕ, ℤ, pos, neg_ℤ, true, List, [], ◌∷◌, None, refl, zero, suc, ◌+◌, ◌-◌, ◌*◌, ◌/◌, ◌<◌, ◌≤◌, Bool, ◌++◌, length, replicate, arith, ap, ◌∙◌, length-append}
-use Rattle.drain_grid.specs.Grid.{Pixels}
-use Rattle.drain_header.specs.declared.header.ByteOrdering.{ByteOrdering}
-use Rattle.drain_header.specs.declared.header.ByteOrdering.TheVariants.{Least, Most}
-use Rattle.drain_header.specs.Header.{Fields, AreWithinBounds}
-use Rattle.drain_raster.specs.Pixels.{needed_len, header_extent, raster_of, pixel_len}
-use Rattle.drain_grid.specs.declared.height_kind.HeightKind.{HeightKind}
-use Rattle.drain_grid.specs.declared.height_kind.HeightKind.TheVariants.{Whole}
-use Rattle.drain_raster.specs.Bytes.{raster_bytes, bytes_in, pixel_bytes, cells_bytes, padding_len, bytes_of_row, AreWritten}
-use Rattle.std.specs.List.{flat_map, range_with_len}
-use Rattle.std.proofs.lemmas.List.{length-replicate}
-use Rattle.std.proofs.lemmas.List.FromFn.{length-map-range_with_len}
-use Rattle.std.proofs.Math.Nat.{mul-le-mul}
-use Rattle.byteorder.specs.Numbers.{length-bytes_high_first, length-bytes_low_first}
-use Rattle.drain_grid.specs.declared.cell.Cell.{Cell}
-use Rattle.drain_grid.specs.Extent.{row_cells}
+use Rattle.drain_raster.proofs.Names.{◌≡◌, ℕ, ℤ, pos, neg_ℤ, true, List, [], ◌∷◌, None, refl, zero, suc, ◌+◌, ◌-◌, ◌*◌, ◌/◌, ◌<◌, ◌≤◌, Bool, ◌++◌, length, replicate, arith, ap, ◌∙◌, Pixels, ByteOrdering, Least, Most, Fields, AreWithinBounds, needed_len, header_extent, raster_of, pixel_len, HeightKind, Whole, raster_bytes, bytes_in, pixel_bytes, cells_bytes, padding_len, bytes_of_row, AreWritten, flat_map, range_with_len, length-replicate, length-map-range_with_len, mul-le-mul, length-bytes_high_first, length-bytes_low_first, Cell, row_cells}
+use Rattle.std.proofs.Common.{length-append}
 use Rattle.drain_grid.specs.WholeGrid.{number_at}
 use Rattle.drain_raster.proofs.BufferLemmas.{cells_bytes-same}
 use Rattle.drain_raster.proofs.CellPlaces.{cell_of}

@@ -1,3 +1,4 @@
+pub mod Names
 pub mod LengthLemmas
 pub mod BufferLemmas
 pub mod CellPlaces

@@ -1,25 +1,7 @@
 -- Where the pixels of a row are, and which kind of pixel a header has.
-use Rattle.std.proofs.Common.{◌≡◌, ◌≢◌, ℕ, ◌+◌, ◌-◌, ◌*◌, ◌/◌, ◌<◌, ◌≤◌, inl, inr, ℤ, pos, Bool, true, false, Option, Some, IfSome, List, length, take, drop, refl, arith, rules, sym, ap, ◌∙◌}
-use Rattle.std.proofs.lemmas.Bool.{cases_lt}
-use Rattle.std.proofs.lemmas.List.{length-drop, take_rest}
+use Rattle.drain_raster.proofs.Names.{◌≡◌, ◌≢◌, ℕ, ◌+◌, ◌-◌, ◌*◌, ◌/◌, ◌<◌, ◌≤◌, inl, inr, ℤ, pos, Bool, true, false, Option, Some, IfSome, List, length, take, drop, refl, arith, rules, sym, ap, ◌∙◌, cases_lt, take_rest, ints, to_z-of_z, mul-le-mul_left, mul-le-mul_right, div-mul-le_self, le-div_iff_mul-le, props, little_number, twos_complement, big_from-take, little_from-take, number_of, pattern_of, ∥∥₁_elim, w64, to_z, of_z, HeightKind, Whole, Single, IsPixel, IsNoData, ByteOrdering, Least, Most, Fields, IsPixelSize, pixel_len, needed_len, number_in, spelled_as, spelled_by, pixel_of, pixel_at, AreSpelled, least_number, greatest_number, complement_of, bytes_in, AreWritten}
+use Rattle.std.proofs.lemmas.List.{length-drop}
 use Rattle.std.proofs.lemmas.Grind.{not_there}
-use Rattle.std.proofs.lemmas.Int.{ints, to_z-of_z}
-use Rattle.std.proofs.Math.Nat.{mul-le-mul_left, mul-le-mul_right, div-mul-le_self, le-div_iff_mul-le}
-use Rattle.std.proofs.Props.{props}
-use Rattle.byteorder.specs.Endian.{little_number, twos_complement}
-use Rattle.byteorder.specs.Numbers.{big_from-take, little_from-take}
-use Rattle.drain_floats.specs.Patterns.{number_of, pattern_of}
-use mathlib.Core.Logic.{∥∥₁_elim}
-use mir.Syntax.{w64}
-use mir.Val.{to_z, of_z}
-use Rattle.drain_grid.specs.declared.height_kind.HeightKind.{HeightKind}
-use Rattle.drain_grid.specs.declared.height_kind.HeightKind.TheVariants.{Whole, Single}
-use Rattle.drain_grid.specs.Values.{IsPixel, IsNoData}
-use Rattle.drain_header.specs.declared.header.ByteOrdering.{ByteOrdering}
-use Rattle.drain_header.specs.declared.header.ByteOrdering.TheVariants.{Least, Most}
-use Rattle.drain_header.specs.Header.{Fields, IsPixelSize}
-use Rattle.drain_raster.specs.Pixels.{pixel_len, needed_len, number_in, spelled_as, spelled_by, pixel_of, pixel_at, AreSpelled}
-use Rattle.drain_raster.specs.Bytes.{least_number, greatest_number, complement_of, bytes_in, AreWritten}
 use Rattle.drain_raster.proofs.CellPlaces.{cell_of}
 
 -- a number of this kind, at the place of a pixel, is the pixel's

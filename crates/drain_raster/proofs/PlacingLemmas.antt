@@ -1,9 +1,5 @@
 -- Coordinates of two headers, as a program reads them.
-use Rattle.std.proofs.Common.{◌≡◌, ◌↔◌, ℕ, ◌*◌, ◌≤◌, ℤ, ◌-ℤ◌, Bool, IsTrue, nat_abs, arith, ◌∙◌}
-use Rattle.std.proofs.lemmas.Int.{ints, to_z-of_z}
-use mir.Syntax.{w128}
-use mir.Val.{to_z, of_z}
-use Rattle.drain_header.specs.Header.{IsCoordinate}
+use Rattle.drain_raster.proofs.Names.{◌≡◌, ◌↔◌, ℕ, ◌*◌, ◌≤◌, ℤ, ◌-ℤ◌, Bool, IsTrue, nat_abs, arith, ◌∙◌, ints, to_z-of_z, w128, to_z, of_z, IsCoordinate}
 use Rattle.drain_raster.specs.Placing.{AreWithinPixel}
 
 -- a coordinate goes through 128 bits unchanged

@@ -1,13 +1,6 @@
 -- A raster's rows end wrong exactly where it is short, take the bytes that it needs, and are as long as it has columns: by induction on the rows left.
-use Rattle.std.proofs.Common.{◌≡◌, ◌↔◌, ℕ, zero, suc, ◌+◌, ◌-◌, ◌*◌, ◌<◌, ◌≤◌, ℤ, List, [], length, take, drop, true, false, IsTrue, inl, inr, arith, refl, ap}
-use Rattle.std.proofs.lemmas.Bool.{cases_lt, lt-ltb, le-ltb}
+use Rattle.drain_raster.proofs.Names.{◌≡◌, ◌↔◌, ℕ, zero, suc, ◌+◌, ◌-◌, ◌*◌, ◌<◌, ◌≤◌, ℤ, List, [], length, take, drop, true, false, IsTrue, inl, inr, arith, refl, ap, cases_lt, lt-ltb, le-ltb, after_rows, ends_wrong, nth_row, Wrong, Fields, IsShort, needed_len, pixel_len, pixel_of, bytes_of_rows, raster_numbers_of, packed_len, raster_rows, RasterRowsEnd, RasterRowsTellLengths, RasterRowsTakeWhatIsNeeded}
 use Rattle.std.proofs.lemmas.List.{length-drop}
-use Rattle.drain_device.specs.RowSteps.{after_rows, ends_wrong, nth_row}
-use Rattle.drain_device.specs.RowSteps.Coming.{Wrong}
-use Rattle.drain_header.specs.Header.{Fields}
-use Rattle.drain_raster.specs.Pixels.{IsShort, needed_len, pixel_len, pixel_of}
-use Rattle.drain_raster.specs.RasterRows.{bytes_of_rows, raster_numbers_of, packed_len, raster_rows}
-use Rattle.drain_raster.specs.Laws.{RasterRowsEnd, RasterRowsTellLengths, RasterRowsTakeWhatIsNeeded}
 use Rattle.drain_raster.proofs.PixelLemmas.{packed-fits}
 
 ends : (h : Fields) (left gap : ℕ) (body : List ℕ) → IsTrue (ends_wrong (raster_rows h left gap body)) ↔ (length body < bytes_of_rows h left gap)

@@ -1,25 +1,15 @@
 -- The rows of a raster that isn't short are its pixels: by induction on the rows left.
-use Rattle.std.proofs.Common.{◌≡◌, ℕ, zero, suc, ◌+◌, ◌-◌, ◌*◌, ◌<◌, ◌≤◌, ℤ, pos, List, length, take, drop, arith, refl, ap, ◌∙◌, ◌++◌, Option, Ok, Err, sym, length-append}
+use Rattle.drain_raster.proofs.Names.{◌≡◌, ℕ, zero, suc, ◌+◌, ◌-◌, ◌*◌, ◌<◌, ◌≤◌, ℤ, pos, List, length, take, drop, arith, refl, ap, ◌∙◌, ◌++◌, Option, Ok, Err, sym, le-ltb, lt-ltb, drop-drop, drop-take, take_at, drop_at, mul-le-mul_right, nth_row, Gives, ReadsWithin, coming_at, most_at, RowComes, Fields, IsShort, needed_len, pixel_len, pixel_of, bytes_of_rows, raster_numbers_of, packed_len, raster_rows, pixels_of, pixels_behind, RasterRowsArePixels, Consumes, Next, Wrong, comes-both, padding_len}
+use Rattle.std.proofs.Common.{length-append}
 use Rattle.std.specs.Prelude.{slice_index_or}
-use Rattle.std.proofs.lemmas.Bool.{le-ltb, lt-ltb}
-use Rattle.std.proofs.lemmas.List.{drop-drop, drop-take, length-drop, take_at, drop_at}
-use Rattle.std.proofs.Math.Nat.{mul-le-mul_right}
-use Rattle.drain_device.specs.RowSteps.{nth_row, Gives, ReadsWithin, coming_at, most_at, RowComes}
-use Rattle.drain_header.specs.Header.{Fields}
-use Rattle.drain_raster.specs.Pixels.{IsShort, needed_len, pixel_len, pixel_of}
-use Rattle.drain_raster.specs.RasterRows.{bytes_of_rows, raster_numbers_of, packed_len, raster_rows, pixels_of, pixels_behind}
-use Rattle.drain_raster.specs.Laws.{RasterRowsArePixels}
+use Rattle.std.proofs.lemmas.List.{length-drop}
 use Rattle.drain_raster.proofs.PixelLemmas.{packed-fits, spelled_as-take}
 use Rattle.drain_raster.proofs.RasterEnds.{raster_rows_take_what_is_needed}
-use Rattle.std.specs.Io.KnownBytes.{Consumes}
 use Rattle.drain_device.specs.declared.row_source.RowStep.TheVariants.{Row}
 use Rattle.drain_device.specs.declared.row_source.ReadFault.{ReadFault}
 use Rattle.drain_device.specs.declared.row_source.Progress.{Progress}
 use Rattle.drain_device.specs.declared.row_source.Progress.TheVariants.{Going}
-use Rattle.drain_device.specs.RowSteps.Coming.{Next, Wrong}
-use Rattle.drain_device.proofs.PartLemmas.{comes-both}
 use Rattle.drain_device.proofs.RowLemmas.{gives-row, gives-no_row, within-row}
-use Rattle.drain_raster.specs.Bytes.{padding_len}
 
 -- the number at a place
 pub numbers_of-at : (len : ℕ) (number : List ℕ → ℤ) (n col : ℕ) (d : ℤ) (bytes : List ℕ) → col < n → slice_index_or (raster_numbers_of len number n bytes) col d ≡ number (take len (drop (col * len) bytes))

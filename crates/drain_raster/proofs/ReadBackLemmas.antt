@@ -1,17 +1,7 @@
 -- A raster's bytes hold each pixel at its place, and so read back.
-use Rattle.std.proofs.Common.{◌≡◌, ℕ, zero, suc, ◌+◌, ◌-◌, ◌*◌, ◌<◌, ◌≤◌, ℤ, pos, List, [], ◌∷◌, ◌++◌, length, map, take, drop, get_or, replicate, refl, arith, sym, ap, ◌∙◌, append_assoc, append-nil}
-use Rattle.std.specs.List.{flat_map, range_with_len}
-use Rattle.std.proofs.lemmas.List.{length-replicate, length-drop, take_all, take_more, get_or-drop, drop_at}
-use Rattle.std.proofs.lemmas.List.FromFn.{length-map-range_with_len}
-use Rattle.std.proofs.Math.Seq.{take-add, drop-append-add}
-use Rattle.drain_grid.specs.declared.cell.Cell.{Cell}
-use Rattle.drain_grid.specs.Extent.{Extent, IsCellOf, row_cells}
-use Rattle.drain_grid.specs.Grid.{Pixels}
+use Rattle.drain_raster.proofs.Names.{◌≡◌, ℕ, zero, suc, ◌+◌, ◌-◌, ◌*◌, ◌<◌, ◌≤◌, ℤ, pos, List, [], ◌∷◌, ◌++◌, length, map, take, drop, get_or, replicate, refl, arith, sym, ap, ◌∙◌, append_assoc, append-nil, flat_map, range_with_len, length-replicate, take_all, take_more, get_or-drop, drop_at, length-map-range_with_len, take-add, drop-append-add, Cell, Extent, IsCellOf, row_cells, Pixels, Fields, AreWithinBounds, IsShort, pixel_len, pixel_place, pixel_of, pixel_at, header_extent, CanSpellAll, pixel_bytes, cells_bytes, cells_from, padding_len, bytes_of_row, raster_bytes, BytesReadBack}
+use Rattle.std.proofs.lemmas.List.{length-drop}
 use Rattle.drain_grid.specs.WholeGrid.{number_at}
-use Rattle.drain_header.specs.Header.{Fields, AreWithinBounds}
-use Rattle.drain_raster.specs.Pixels.{IsShort, pixel_len, pixel_place, pixel_of, pixel_at, header_extent}
-use Rattle.drain_raster.specs.Bytes.{CanSpellAll, pixel_bytes, cells_bytes, cells_from, padding_len, bytes_of_row, raster_bytes}
-use Rattle.drain_raster.specs.Laws.{BytesReadBack}
 use Rattle.drain_raster.proofs.BufferLemmas.{cells_bytes-parts, rows-parts}
 use Rattle.drain_raster.proofs.CellPlaces.{cell_of, map-row_cells_more, map-rows_more}
 use Rattle.drain_raster.proofs.LengthLemmas.{length-cells_bytes, length-row, length-lists, length-raster}

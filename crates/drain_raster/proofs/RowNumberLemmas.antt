@@ -1,14 +1,7 @@
 -- The numbers of a row, read in parts: some pixels, and then one more chunk.
-use Rattle.std.proofs.Common.{◌≡◌, ℕ, zero, suc, ◌+◌, ◌-◌, ◌*◌, ◌<◌, ◌≤◌, ℤ, List, [], ◌∷◌, ◌++◌, length, take, drop, All, set, arith, refl, sym, ap, subst, ◌∙◌}
-use Rattle.std.proofs.lemmas.List.{take_all, take_more_set, take-append-le, drop-append-le, drop-drop, length-drop, length-take}
-use Rattle.std.proofs.lemmas.List.Elements.{All-append, All-push}
-use Rattle.std.proofs.Math.Nat.{mul-le-mul}
-use borrow.Rule.Slice.PartMut.{put_mid}
-use Rattle.drain_device.proofs.PartLemmas.{take-put_mid_part}
-use Rattle.drain_grid.specs.Values.{IsPixel}
-use Rattle.drain_header.specs.Header.{Fields, IsPixelSize}
-use Rattle.drain_raster.specs.Pixels.{pixel_len}
-use Rattle.drain_raster.specs.RasterRows.{raster_numbers_of}
+use Rattle.drain_raster.proofs.Names.{◌≡◌, ℕ, zero, suc, ◌+◌, ◌-◌, ◌*◌, ◌<◌, ◌≤◌, ℤ, List, [], ◌∷◌, ◌++◌, length, take, drop, set, arith, refl, sym, ap, subst, ◌∙◌, take_all, take_more_set, take-append-le, drop-append-le, drop-drop, length-take, All-append, All-push, mul-le-mul, put_mid, take-put_mid_part, IsPixel, Fields, IsPixelSize, pixel_len, raster_numbers_of}
+use Rattle.std.proofs.Common.{All}
+use Rattle.std.proofs.lemmas.List.{length-drop}
 use Rattle.drain_raster.proofs.PixelLemmas.{pixel_len-most}
 
 -- the numbers of two parts

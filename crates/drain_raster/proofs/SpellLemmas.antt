@@ -1,20 +1,6 @@
 -- A pixel's bytes encode the number that they were made of.
-use Rattle.std.proofs.Common.{◌≡◌, ℕ, ◌-◌, ◌*◌, ◌/◌, ◌^◌, ◌<◌, ◌≤◌, inl, inr, ℤ, pos, negsuc, ◌-ℤ◌, Bool, true, false, List, ◌++◌, refl, arith, lit<, ap, ◌∙◌}
-use Rattle.std.proofs.lemmas.Bool.{lt-ltb, le-ltb}
-use Rattle.std.proofs.lemmas.Int.{ints}
-use Rattle.std.proofs.Props.{props}
-use mathlib.Core.Logic.{∥∥₁_elim}
-use Rattle.byteorder.specs.Endian.{twos_complement}
-use Rattle.byteorder.specs.Numbers.{big_number-reads_back, little_number-reads_back}
-use Rattle.drain_floats.specs.Patterns.{IsFloatNumber, IsSingle, number_of, pattern_of}
+use Rattle.drain_raster.proofs.Names.{◌≡◌, ℕ, ◌-◌, ◌*◌, ◌/◌, ◌^◌, ◌<◌, ◌≤◌, inl, inr, ℤ, pos, negsuc, ◌-ℤ◌, Bool, true, false, List, ◌++◌, refl, arith, lit<, ap, ◌∙◌, lt-ltb, le-ltb, ints, props, ∥∥₁_elim, twos_complement, big_number-reads_back, little_number-reads_back, IsFloatNumber, IsSingle, number_of, pattern_of, HeightKind, Whole, Single, ByteOrdering, Least, Most, Fields, IsPixelSize, number_in, spelled_as, spelled_by, pixel_of, CanSpell, CanSpellAs, CanSpellIn, complement_of, word_as, bytes_in, pixel_bytes}
 use Rattle.drain_floats.proofs.ReadBack.{read_back}
-use Rattle.drain_grid.specs.declared.height_kind.HeightKind.{HeightKind}
-use Rattle.drain_grid.specs.declared.height_kind.HeightKind.TheVariants.{Whole, Single}
-use Rattle.drain_header.specs.declared.header.ByteOrdering.{ByteOrdering}
-use Rattle.drain_header.specs.declared.header.ByteOrdering.TheVariants.{Least, Most}
-use Rattle.drain_header.specs.Header.{Fields, IsPixelSize}
-use Rattle.drain_raster.specs.Pixels.{number_in, spelled_as, spelled_by, pixel_of}
-use Rattle.drain_raster.specs.Bytes.{CanSpell, CanSpellAs, CanSpellIn, complement_of, word_as, bytes_in, pixel_bytes}
 
 -- the number that a whole number encodes
 abbrev spelled_by_number : Bool → ℕ → ℕ → ℤ

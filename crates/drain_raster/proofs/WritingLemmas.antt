@@ -1,15 +1,8 @@
 -- How the parts of a write add up.
-use Rattle.std.proofs.Common.{◌≡◌, ◌↔◌, ℕ, ◌+◌, ◌-◌, ◌<◌, ◌≤◌, inl, inr, List, [], ◌++◌, length, take, Option, Result, Ok, Err, IsErr, refl, arith, rules, subst, length-append}
-use Rattle.std.proofs.lemmas.Bool.{false≢true}
-use Rattle.std.proofs.lemmas.List.{take-append-le}
-use Rattle.std.proofs.Math.Seq.{take-append-add}
-use Rattle.std.proofs.KnownBytes.{Appends-trans}
-use Rattle.std.specs.Io.KnownBytes.{Appends}
+use Rattle.drain_raster.proofs.Names.{◌≡◌, ◌↔◌, ℕ, ◌+◌, ◌-◌, ◌<◌, ◌≤◌, inl, inr, List, [], ◌++◌, length, take, Option, Result, Ok, Err, IsErr, refl, arith, rules, subst, false≢true, take-append-le, take-append-add, Appends-trans, Appends, full_patience, GivesUpWriting, WriteFails, answered_more, Hands}
+use Rattle.std.proofs.Common.{length-append}
 use Rattle.drain_device.specs.declared.counts.FaultCounts.{FaultCounts}
 use Rattle.drain_device.specs.Counts.{Answered, counted, HandsOver}
-use Rattle.drain_device.specs.Failing.{full_patience, GivesUpWriting, WriteFails}
-use Rattle.drain_device.proofs.PartLemmas.{answered_more}
-use Rattle.drain_raster.specs.RasterRows.{Hands}
 
 -- a call that didn't fail for good met no failure and no stall, and no more interruptions than its patience
 pub went_on : (patience failures interruptions stalls : ℕ) → (GivesUpWriting patience failures interruptions stalls → ⊥) →

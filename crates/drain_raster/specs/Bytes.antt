@@ -1,19 +1,8 @@
 -- The bytes of a raster, and the range of its pixels.
 -- Source: the Esri description of BIL files and their headers (NBITS, PIXELTYPE, BYTEORDER, SKIPBYTES, TOTALROWBYTES),
 -- of one band; IEEE 754 binary32; that bytes without a pixel are zeros is this project's own
-use Rattle.std.specs.Prelude.{◌≡◌, ℕ, ◌-◌, ◌*◌, ◌^◌, ◌<◌, ℤ, pos, negsuc, neg_ℤ, ◌≤ℤ◌, Bool, true, false, List, ◌++◌, map, replicate}
-use Rattle.std.specs.List.{flat_map, range_with_len}
-use Rattle.byteorder.specs.Endian.{big_bytes, little_bytes}
-use Rattle.drain_floats.specs.Patterns.{IsFloatNumber, pattern_of}
-use Rattle.drain_grid.specs.declared.cell.Cell.{Cell}
-use Rattle.drain_grid.specs.declared.height_kind.HeightKind.{HeightKind}
-use Rattle.drain_grid.specs.declared.height_kind.HeightKind.TheVariants.{Whole, Single}
-use Rattle.drain_grid.specs.Extent.{IsCellOf, IsEarlier, row_cells}
-use Rattle.drain_grid.specs.Grid.{Pixels}
-use Rattle.drain_grid.specs.WholeGrid.{number_at}
-use Rattle.drain_header.specs.declared.header.ByteOrdering.{ByteOrdering}
-use Rattle.drain_header.specs.declared.header.ByteOrdering.TheVariants.{Least, Most}
-use Rattle.drain_header.specs.Header.{Fields}
+use Rattle.std.specs.Prelude.{◌≡◌, ◌-◌, ◌*◌, ◌^◌, ◌<◌, ◌≤ℤ◌, ◌++◌}
+use Rattle.drain_raster.specs.Names.{ℕ, ℤ, pos, negsuc, neg_ℤ, Bool, true, false, List, map, replicate, flat_map, range_with_len, big_bytes, little_bytes, IsFloatNumber, pattern_of, Cell, HeightKind, Whole, Single, IsCellOf, IsEarlier, row_cells, Pixels, number_at, ByteOrdering, Least, Most, Fields}
 use Rattle.drain_raster.specs.Pixels.{pixel_len}
 
 -- the least number of n bits, in two's complement if signed

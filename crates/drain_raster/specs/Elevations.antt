@@ -1,10 +1,8 @@
 -- The elevations that a raster's bytes mean.
 -- Source: the Esri description of BIL files and their headers (NODATA), of one band; that a void is where a pixel is that
 -- number, and where a float is not finite, is this project's own.
-use Rattle.std.specs.Prelude.{◌≡◌, ℕ, ◌<◌, ℤ, List, Option, None, slice_index_or}
-use Rattle.drain_device.specs.RowSteps.{nth_row}
-use Rattle.drain_grid.specs.declared.cell.Cell.{Cell}
-use Rattle.drain_header.specs.Header.{Fields, AreWithinBounds}
+use Rattle.std.specs.Prelude.{◌≡◌, ◌<◌}
+use Rattle.drain_raster.specs.Names.{ℕ, ℤ, List, Option, None, slice_index_or, nth_row, Cell, Fields, AreWithinBounds}
 use Rattle.drain_pixels.specs.declared.voids.Voids.{Voids}
 use Rattle.drain_pixels.specs.Ground.{elevations, height_with}
 use Rattle.drain_raster.specs.Pixels.{IsShort, pixel_at}

@@ -1,9 +1,8 @@
 -- The kind of a header's pixels.
-use Rattle.std.specs.Prelude.{◌≡◌, ℕ, List, [], length}
-use Rattle.drain_header.specs.Header.{Fields}
+use Rattle.std.specs.Prelude.{◌≡◌}
+use Rattle.drain_raster.specs.Names.{ℕ, List, [], length, Fields, numbers_as}
 use Rattle.drain_pixels.specs.declared.pixel_row.PixelKind.{PixelKind}
 use Rattle.drain_pixels.specs.declared.pixel_row.PixelKind.TheVariants.{U8, I16, U16, I32, U32, F32, Any}
-use Rattle.drain_pixels.specs.Stored.{numbers_as}
 use Rattle.drain_raster.specs.RasterRows.{packed_len, pixels_of}
 
 -- the bytes of a row of such pixels hold the row's numbers

@@ -1,12 +1,6 @@
 -- A raster's bytes read back, the value of the raster and of a body's rows at a cell, and how rows end.
-use Rattle.std.specs.Prelude.{◌≡◌, ◌↔◌, ◌<◌, ℕ, ℤ, pos, List, [], IsTrue, length, slice_index_or}
-use Rattle.drain_device.specs.RowSteps.{after_rows, ends_wrong, nth_row}
-use Rattle.drain_device.specs.RowSteps.Coming.{Wrong}
-use Rattle.drain_grid.specs.declared.cell.Cell.{Cell}
-use Rattle.drain_grid.specs.Extent.{IsCellOf}
-use Rattle.drain_grid.specs.Grid.{Pixels, ArePixels}
-use Rattle.drain_grid.specs.WholeGrid.{number_at}
-use Rattle.drain_header.specs.Header.{Fields, AreWithinBounds}
+use Rattle.std.specs.Prelude.{◌≡◌, ◌↔◌, ◌<◌}
+use Rattle.drain_raster.specs.Names.{ℕ, ℤ, pos, List, [], IsTrue, length, slice_index_or, after_rows, ends_wrong, nth_row, Wrong, Cell, IsCellOf, Pixels, ArePixels, number_at, Fields, AreWithinBounds}
 use Rattle.drain_raster.specs.Pixels.{IsShort, header_extent, needed_len, pixel_at, raster_of}
 use Rattle.drain_raster.specs.Bytes.{CanSpellAll, raster_bytes}
 use Rattle.drain_raster.specs.RasterRows.{bytes_of_rows, raster_rows}

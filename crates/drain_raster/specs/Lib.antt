@@ -1,3 +1,4 @@
+pub mod Names
 pub mod Pixels
 pub mod Bytes
 pub mod RasterRows

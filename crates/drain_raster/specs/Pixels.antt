@@ -1,19 +1,10 @@
 -- The pixels of a raster's bytes: where they are, and their numbers.
 -- Source: the Esri description of BIL files and their headers (NROWS, NCOLS, NBITS, PIXELTYPE, BYTEORDER, SKIPBYTES,
 -- TOTALROWBYTES), of one band; IEEE 754 binary32
-use Rattle.std.specs.Prelude.{◌≡◌, ℕ, ◌+◌, ◌-◌, ◌*◌, ◌/◌, ◌<◌, ℤ, pos, Bool, true, false, List, length, drop, map, unwrap_or}
-use Rattle.byteorder.specs.Endian.{big_number, little_number, twos_complement}
-use Rattle.drain_floats.specs.Patterns.{number_of}
-use Rattle.drain_grid.specs.declared.cell.Cell.{Cell}
-use Rattle.drain_grid.specs.declared.height_kind.HeightKind.{HeightKind}
-use Rattle.drain_grid.specs.declared.height_kind.HeightKind.TheVariants.{Whole, Single}
+use Rattle.std.specs.Prelude.{◌≡◌, ◌+◌, ◌-◌, ◌*◌, ◌/◌, ◌<◌}
+use Rattle.drain_raster.specs.Names.{ℕ, ℤ, pos, Bool, true, false, List, length, drop, map, unwrap_or, big_number, little_number, twos_complement, number_of, Cell, HeightKind, Whole, Single, Extent, cells, Pixels, ByteOrdering, Least, Most, Fields}
 use Rattle.drain_grid.specs.declared.product.Product.{Product}
-use Rattle.drain_grid.specs.Extent.{Extent, cells}
-use Rattle.drain_grid.specs.Grid.{Pixels}
 use Rattle.drain_grid.specs.Product.{default_no_data}
-use Rattle.drain_header.specs.declared.header.ByteOrdering.{ByteOrdering}
-use Rattle.drain_header.specs.declared.header.ByteOrdering.TheVariants.{Least, Most}
-use Rattle.drain_header.specs.Header.{Fields}
 
 -- how many bytes a pixel takes
 abbrev pub pixel_len : Fields → ℕ

@@ -1,8 +1,8 @@
 -- Where a raster lies on another, by their headers.
 -- Source: the Esri description of BIL files and their headers (ULXMAP, ULYMAP, XDIM, YDIM); how far two rasters that lie
 -- on one another may be apart is this project's own.
-use Rattle.std.specs.Prelude.{ℕ, ◌*◌, ℤ, pos, ◌-ℤ◌, ◌<ℤ◌, nat_abs, ◌≤◌}
-use Rattle.drain_header.specs.Header.{Fields}
+use Rattle.std.specs.Prelude.{◌*◌, ◌-ℤ◌, ◌<ℤ◌, ◌≤◌}
+use Rattle.drain_raster.specs.Names.{ℕ, ℤ, pos, nat_abs, Fields}
 use Rattle.drain_header.specs.declared.header.Place.{Place}
 
 -- the difference of two numbers, taken this often, is no more than the size of a pixel

@@ -1,11 +1,7 @@
 -- What a write of many calls left: the bytes that the sink took, and how its faults decide the patience and the answer.
-use Rattle.std.specs.Prelude.{◌≡◌, ◌↔◌, ℕ, ◌-◌, List, Option, Result, IsErr, zero, suc, ◌+◌, ◌*◌, ℤ, nat_lt, [], ◌∷◌, length, take, drop, if◌then◌else◌}
+use Rattle.std.specs.Prelude.{◌≡◌, ◌↔◌, ◌-◌, ◌+◌, ◌*◌, ◌∷◌, if◌then◌else◌}
+use Rattle.drain_raster.specs.Names.{ℕ, List, Option, Result, IsErr, zero, suc, ℤ, nat_lt, [], length, take, drop, Answered, counted, HandsOver, GivesUpWriting, Coming, coming_at, most_at, Next, End, Wrong, Fields}
 use Rattle.drain_device.specs.declared.counts.FaultCounts.{FaultCounts}
-use Rattle.drain_device.specs.Counts.{Answered, counted, HandsOver}
-use Rattle.drain_device.specs.Failing.{GivesUpWriting}
-use Rattle.drain_device.specs.RowSteps.{Coming, coming_at, most_at}
-use Rattle.drain_device.specs.RowSteps.Coming.{Next, End, Wrong}
-use Rattle.drain_header.specs.Header.{Fields}
 use Rattle.drain_raster.specs.declared.raster_rows.RasterRows.{RasterRows}
 use Rattle.drain_raster.specs.Bytes.{padding_len}
 use Rattle.drain_raster.specs.Pixels.{pixel_len, pixel_of}

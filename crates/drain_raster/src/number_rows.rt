@@ -1,9 +1,7 @@
 //! A row of a raster, read as numbers of 64 bits.
 
-ghost use Rattle.std.specs.Prelude.{◌≡◌, ◌≤◌, ◌*◌, ◌+◌, ℕ, List, length, All, IsErrOf, OnOk};
-ghost use Rattle.drain_device.specs.Failing.{PartFails};
-ghost use Rattle.drain_device.specs.RowSteps.{PartComes, RowComes};
-ghost use Rattle.drain_grid.specs.Values.{IsPixel};
+ghost use Rattle.std.specs.Prelude.{◌≡◌, ◌≤◌, ◌*◌, ◌+◌};
+ghost use Rattle.drain_raster.specs.Names.{ℕ, List, length, All, IsErrOf, OnOk, PartFails, PartComes, RowComes, IsPixel};
 ghost use Rattle.drain_raster.specs.Pixels.{AreSpelled};
 ghost use Rattle.drain_raster.specs.declared.number_rows.TheConstants.{CHUNK_BYTES};
 ghost use Rattle.drain_raster.specs.RasterRows.{raster_numbers_of, packed_len, pixels_behind, pixels_of};

@@ -1,10 +1,7 @@
 //! A row of a raster, read as the bytes of its pixels where they are of a usual kind.
 
-ghost use Rattle.std.specs.Prelude.{◌≡◌, ◌*◌, ◌+◌, ℕ, [], List, length, All, IsErrOf, OnOk};
-ghost use Rattle.drain_device.specs.Failing.{PartFails};
-ghost use Rattle.drain_device.specs.RowSteps.{RowComes};
-ghost use Rattle.drain_grid.specs.Values.{IsPixel};
-ghost use Rattle.drain_pixels.specs.Stored.{numbers_as};
+ghost use Rattle.std.specs.Prelude.{◌≡◌, ◌*◌, ◌+◌};
+ghost use Rattle.drain_raster.specs.Names.{ℕ, [], List, length, All, IsErrOf, OnOk, PartFails, RowComes, IsPixel, numbers_as};
 ghost use Rattle.drain_raster.specs.Kinds.{HoldRows, IsKindOf};
 ghost use Rattle.drain_raster.specs.RasterRows.{packed_len, pixels_behind};
 

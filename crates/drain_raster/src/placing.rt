@@ -1,7 +1,7 @@
 //! Whether one raster lies on another, by their headers.
 
-ghost use Rattle.std.specs.Prelude.{◌≡◌, ◌≤◌, ◌*◌, ◌-ℤ◌, ◌↔◌, IsTrue, nat_abs};
-ghost use Rattle.drain_header.specs.Header.{IsCoordinate};
+ghost use Rattle.std.specs.Prelude.{◌≡◌, ◌≤◌, ◌*◌, ◌-ℤ◌, ◌↔◌};
+ghost use Rattle.drain_raster.specs.Names.{IsTrue, nat_abs, IsCoordinate};
 ghost use Rattle.drain_raster.specs.Placing.{AreWithinPixel, HasPixelSize, LiesOn};
 
 use drain_header::Header;

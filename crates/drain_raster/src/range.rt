@@ -1,7 +1,7 @@
 //! The range of a header's pixels.
 
-ghost use Rattle.std.specs.Prelude.{◌≡◌, ◌<◌, ◌≤ℤ◌, ◌↔◌, IsTrue, MatchOption, All, map, pos, true, false};
-ghost use Rattle.drain_floats.specs.Patterns.{IsFloatNumber};
+ghost use Rattle.std.specs.Prelude.{◌≡◌, ◌<◌, ◌≤ℤ◌, ◌↔◌};
+ghost use Rattle.drain_raster.specs.Names.{IsTrue, MatchOption, All, map, pos, true, false, IsFloatNumber};
 ghost use Rattle.drain_raster.specs.Pixels.{header_extent};
 ghost use Rattle.drain_raster.specs.Bytes.{least_number, greatest_number, CanSpell, CanSpellAll, CanSpellIn, CanSpellTo, IsFirstAlong, IsFirstOutOfRange};
 

@@ -1,10 +1,8 @@
 //! The rows of a raster, one at a time.
 
-ghost use Rattle.std.specs.Prelude.{◌≡◌, ◌≢◌, ◌↔◌, All, IsErrOf, IsTrue};
-ghost use Rattle.drain_device.specs.Failing.{PartFails, full_patience};
-ghost use Rattle.drain_device.specs.RowSteps.{Gives, IsEmptyUnlessRow, IsLong, ReadsWithin, StaysEnded, progress_after};
+ghost use Rattle.std.specs.Prelude.{◌≡◌, ◌≢◌, ◌↔◌};
+ghost use Rattle.drain_raster.specs.Names.{All, IsErrOf, IsTrue, PartFails, full_patience, Gives, IsEmptyUnlessRow, IsLong, ReadsWithin, StaysEnded, progress_after, IsPixel};
 ghost use Rattle.drain_device.specs.declared.row_source.Progress.{Progress};
-ghost use Rattle.drain_grid.specs.Values.{IsPixel};
 ghost use Rattle.drain_raster.specs.Bytes.{padding_len};
 ghost use Rattle.drain_raster.specs.RasterRows.{raster_coming, raster_most_bytes};
 

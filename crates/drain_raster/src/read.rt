@@ -1,9 +1,8 @@
 //! Reading a raster.
 
-ghost use Rattle.std.specs.Prelude.{◌≡◌, ◌↔◌, ◌<◌, ◌≤◌, ◌*◌, ◌+◌, ◌-◌, ◌++◌, [], length, take, map, All, IfOk, OnOk, IsErrOf, unwrap_or, vec_len};
+ghost use Rattle.std.specs.Prelude.{◌≡◌, ◌↔◌, ◌<◌, ◌≤◌, ◌*◌, ◌+◌, ◌-◌, ◌++◌};
+ghost use Rattle.drain_raster.specs.Names.{[], length, take, map, All, IfOk, OnOk, IsErrOf, unwrap_or, vec_len, row_cells, cells, IsPixel, IsNoData};
 ghost use Rattle.std.specs.Vec.{vec_capacity};
-ghost use Rattle.drain_grid.specs.Extent.{row_cells, cells};
-ghost use Rattle.drain_grid.specs.Values.{IsPixel, IsNoData};
 ghost use Rattle.drain_raster.specs.Bytes.{cells_from};
 ghost use Rattle.drain_raster.specs.Elevations.{voids_of};
 ghost use Rattle.drain_raster.specs.Pixels.{AreSpelled, IsShort, default_number, header_extent, needed_len, pixel_at, raster_of};

@@ -1,9 +1,7 @@
 //! What a row's pixels are read into: a vector of numbers, or a row that may keep their bytes.
 
-ghost use Rattle.std.specs.Prelude.{◌≡◌, ◌+◌, ℕ, ℤ, [], List, length, All, IsErrOf, OnOk};
-ghost use Rattle.drain_device.specs.Failing.{PartFails};
-ghost use Rattle.drain_device.specs.RowSteps.{PartComes, RowComes};
-ghost use Rattle.drain_grid.specs.Values.{IsPixel};
+ghost use Rattle.std.specs.Prelude.{◌≡◌, ◌+◌};
+ghost use Rattle.drain_raster.specs.Names.{ℕ, ℤ, [], List, length, All, IsErrOf, OnOk, PartFails, PartComes, RowComes, IsPixel};
 ghost use Rattle.drain_raster.specs.RasterRows.{packed_len, pixels_behind};
 
 use crate::number_rows::read_row;

@@ -1,14 +1,8 @@
 //! Writing a raster.
 
-ghost use Rattle.std.specs.Prelude.{◌≡◌, ◌↔◌, ◌≤◌, ◌<◌, ◌+◌, ◌-◌, ◌*◌, ◌++◌, ℕ, ℤ, List, All, length, take, map, replicate, Err, IsErrOf};
-ghost use Rattle.std.specs.List.{flat_map, range_with_len};
-ghost use Rattle.drain_device.specs.Failing.{full_patience, WriteFails};
-ghost use Rattle.drain_device.specs.Counts.{HandsOver};
-ghost use Rattle.drain_grid.specs.declared.cell.Cell.{Cell};
-ghost use Rattle.drain_grid.specs.Extent.{row_cells};
+ghost use Rattle.std.specs.Prelude.{◌≡◌, ◌↔◌, ◌≤◌, ◌<◌, ◌+◌, ◌-◌, ◌*◌, ◌++◌};
+ghost use Rattle.drain_raster.specs.Names.{ℕ, ℤ, List, All, length, take, map, replicate, Err, IsErrOf, flat_map, range_with_len, full_patience, WriteFails, HandsOver, Cell, row_cells, Pixels, IsPixel};
 ghost use Rattle.drain_grid.specs.declared.cell.TheConstants.{MAX_LENGTH};
-ghost use Rattle.drain_grid.specs.Grid.{Pixels};
-ghost use Rattle.drain_grid.specs.Values.{IsPixel};
 ghost use Rattle.drain_raster.specs.Pixels.{header_extent};
 ghost use Rattle.drain_raster.specs.Bytes.{AreWritten, CanSpellAll, CanSpellAllAs, IsFirstOutOfRange, cells_bytes, cells_from, bytes_of_row, raster_bytes};
 ghost use Rattle.drain_raster.specs.RasterRows.{Hands};

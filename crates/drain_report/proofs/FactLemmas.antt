@@ -1,26 +1,14 @@
 -- The numbers of facts fit 64 bits.
-use Rattle.std.proofs.Common.{◌≡◌, ◌++◌, ℕ, ℤ, pos, Bool, true, false, List, [], ◌∷◌, arith, refl, sym, ap, ◌∙◌, ◌<◌, ◌^◌}
-use Rattle.std.specs.Prelude.{Option, None, Some, IfSome, IsSome, codes, slice_index_or}
+use Rattle.drain_report.proofs.Names.{◌≡◌, ◌++◌, ℕ, ℤ, pos, Bool, true, false, List, [], ◌∷◌, arith, refl, sym, ap, ◌∙◌, ◌<◌, ◌^◌, Option, None, Some, IfSome, IsSome, codes, Cell, Values, AreInRange, NoDataNumbers, IsNoData, IsPixel, UnionVerdict, Accepted, Rejected, Place, UnionGrid, Tiles, Dem, line, IsLong, AreLong, IsNarrow, flag_number, CountsFit, VerdictFits, verdict_line, cell_numbers, IsOutlet, outlet_numbers, other_numbers, IsPlace, place_numbers, IsAuditNoData, nodata_numbers, count_numbers, fault_numbers, GridFits, grid_line, IsPart, part_line, part_numbers, w64, fits_signed_from_abs, ints, Outlet}
+use Rattle.std.specs.Prelude.{slice_index_or}
 use mir.Val.{bool_byte}
-use Rattle.drain_grid.specs.declared.cell.Cell.{Cell}
 use Rattle.drain_grid.specs.Extent.{Extent}
-use Rattle.drain_grid.specs.Values.{Values, AreInRange, NoDataNumbers, IsNoData, IsPixel}
 use Rattle.drain_union.specs.declared.verdict.Fault.{Fault}
 use Rattle.drain_union.specs.declared.verdict.UnionCounts.{UnionCounts}
-use Rattle.drain_union.specs.declared.verdict.UnionVerdict.{UnionVerdict}
-use Rattle.drain_union.specs.declared.verdict.UnionVerdict.TheVariants.{Accepted, Rejected}
 use Rattle.drain_union.specs.declared.place.InnerSides.{InnerSides}
-use Rattle.drain_union.specs.declared.place.Place.{Place}
 use Rattle.drain_union.specs.declared.union_grid.DemPart.{DemPart}
-use Rattle.drain_union.specs.declared.union_grid.UnionGrid.{UnionGrid}
-use Rattle.drain_union.specs.declared.union_grid.UnionGrid.TheVariants.{Tiles, Dem}
-use Rattle.drain_report.specs.Lines.{line, IsLong, AreLong}
-use Rattle.drain_report.specs.Facts.{IsNarrow, flag_number, CountsFit, VerdictFits, verdict_line, cell_numbers, IsOutlet, outlet_numbers, other_numbers, IsPlace, place_numbers, IsAuditNoData, nodata_numbers, count_numbers, fault_numbers, GridFits, grid_line, IsPart, part_line, part_numbers}
-use Rattle.std.specs.Int.{w64}
-use Rattle.std.proofs.lemmas.Int.{fits_signed_from_abs, ints}
 use Rattle.drain_grid.specs.Rule.{rule_number}
 use Rattle.drain_grid.proofs.AllRules.{numbered}
-use Rattle.drain_union.specs.declared.report.Outlet.{Outlet}
 use Rattle.drain_union.specs.SeamValues.{AreOfSeam, seam_values}
 
 -- Facts with the same numbers are the same; a verdict is of one kind.

@@ -1,21 +1,7 @@
 -- Line feeds of a text, and where a fault is: each line has one line feed, its last byte.
-use Rattle.std.proofs.Common.{◌≡◌, ℕ, zero, suc, ◌+◌, ◌<◌, ◌≤◌, inl, inr, Bool, true, false, List, [], ◌∷◌, ◌++◌, ℤ, length, arith, refl, ap, ◌∙◌}
-use Rattle.std.specs.Prelude.{Option, IfSome, codes}
-use Rattle.std.proofs.lemmas.Bool.{cases_Bool}
-use Rattle.std.proofs.lemmas.Bool.Decides.{nat_tests}
-use Rattle.memchr.specs.Find.{Passes, Nowhere, is_byte}
-use Rattle.drain_grid.specs.declared.height_kind.HeightKind.{HeightKind}
-use Rattle.drain_grid.specs.declared.height_kind.HeightKind.TheVariants.{Whole, Single}
-use Rattle.drain_hgt.specs.Corner.{Corner}
-use Rattle.drain_hgt.specs.Name.{name_of, spelled}
-use Rattle.std.specs.Fmt.{signed_decimal}
+use Rattle.drain_report.proofs.Names.{◌≡◌, ℕ, zero, suc, ◌+◌, ◌<◌, ◌≤◌, inl, inr, Bool, true, false, List, [], ◌∷◌, ◌++◌, ℤ, length, arith, refl, ap, ◌∙◌, Option, IfSome, codes, cases_Bool, nat_tests, Passes, Nowhere, is_byte, HeightKind, Whole, Single, Corner, name_of, spelled, signed_decimal, Head, AreLong, IsInk, IsLong, line, spaced, height_word, kind_end, seam_text, spacing_text, tile_line, line_feeds, IsAt, IsPast, IsLineFault, IsListFault, IsEndFault, HasVersion, FaultFits, head_text, version_line, Contents, end_line, report_text}
 use Rattle.drain_report.specs.declared.fault.ReportFault.{ReportFault}
 use Rattle.drain_report.specs.declared.fault.ReportFault.TheVariants.{MissingLine, BadLine, OutOfRange}
-use Rattle.drain_report.specs.declared.head.Head.{Head}
-use Rattle.drain_report.specs.Lines.{AreLong, IsInk, IsLong, line, spaced}
-use Rattle.drain_report.specs.Facts.{height_word, kind_end, seam_text, spacing_text, tile_line}
-use Rattle.drain_report.specs.Faults.{line_feeds, IsAt, IsPast, IsLineFault, IsListFault, IsEndFault, HasVersion, FaultFits}
-use Rattle.drain_report.specs.Contents.{head_text, version_line, Contents, end_line, report_text}
 use Rattle.drain_report.proofs.NumberLemmas.{height_ink, signed_ink}
 use Rattle.drain_report.proofs.TextLemmas.{version_first}
 use Rattle.drain_report.proofs.ListLemmas.{seam_split, tile_split}

@@ -1,3 +1,4 @@
+pub mod Names
 pub mod NumberLemmas
 pub mod ReadLemmas
 pub mod FactLemmas

@@ -1,18 +1,9 @@
 -- Facts that are read one after another, a line each, and facts that are appended.
-use Rattle.std.proofs.Common.{◌≡◌, ◌∷◌, ◌++◌, ℕ, Bool, true, false, List, [], length, take, drop, refl, ap, subst, ◌∙◌, append_assoc, ◌<◌, ◌+◌, zero, suc, ℤ, pos, get_or, arith, sym, to_z, of_z, length-append, append-nil}
-use Rattle.std.specs.Prelude.{Option, Result, Ok, Err, codes}
+use Rattle.drain_report.proofs.Names.{◌≡◌, ◌∷◌, ◌++◌, ℕ, Bool, true, false, List, [], length, take, drop, refl, ap, subst, ◌∙◌, append_assoc, ◌<◌, ◌+◌, zero, suc, ℤ, pos, get_or, arith, sym, to_z, of_z, length-append, append-nil, Option, Result, Ok, Err, codes, Corner, IsOnMap, MeansName, name_of, spelled, tile_line, count_line, height_word, seam_text, drop_more, drop_all, take_more, w64, to_z-of_z, IsLong, AreLong, spaced, all_text, list_text, AllAre}
 use Rattle.drain_hgt.specs.declared.name.NameFault.{NameFault}
-use Rattle.drain_hgt.specs.Corner.{Corner, IsOnMap}
 use Rattle.drain_hgt.specs.Laws.{NameReadsBack, OneName}
-use Rattle.drain_hgt.specs.Name.{MeansName, name_of, spelled}
-use Rattle.drain_report.specs.Facts.{tile_line, count_line, height_word, seam_text}
 use Rattle.drain_report.proofs.NumberLemmas.{front}
-use Rattle.std.proofs.lemmas.List.{drop_more, drop_all, take_more}
 use Rattle.drain_report.proofs.ReadLemmas.{long_at}
-use Rattle.std.specs.Int.{w64}
-use Rattle.std.proofs.lemmas.Int.{to_z-of_z}
-use Rattle.drain_report.specs.Lines.{IsLong, AreLong, spaced}
-use Rattle.drain_report.specs.Contents.{all_text, list_text, AllAre}
 
 -- A tile's name at the front of a text.
 

@@ -1,17 +1,9 @@
 -- A number after a space: where its word ends, and that no other number is written so.
-use Rattle.std.proofs.Common.{◌≡◌, ℕ, zero, suc, ◌<◌, ◌⊎◌, true, false, List, [], ◌∷◌, ◌++◌, ℤ, pos, negsuc, length, take, drop, arith, refl, sym, subst, ap, ◌∙◌, length-append}
-use Rattle.std.specs.Prelude.{slice_index, decimal, not, Option, None, Some, IfSome, Result, Ok, Err, codes}
+use Rattle.drain_report.proofs.Names.{◌≡◌, ℕ, zero, suc, ◌<◌, ◌⊎◌, true, false, List, [], ◌∷◌, ◌++◌, ℤ, pos, negsuc, length, take, drop, arith, refl, sym, subst, ap, ◌∙◌, length-append, slice_index, decimal, not, Option, None, Some, IfSome, Result, Ok, Err, codes, signed_decimal, false≢true, nat_tests, decimal_is_IsNumeral, decimal_nonempty, Passes, Nowhere, is_byte2, IsLong, IsInk, IsWordThen, height_word}
 use Rattle.std.specs.Str.{bytes_eq}
 use Rattle.std.proofs.lemmas.Slice.Eq.{bytes_eq-Decides}
-use Rattle.std.specs.Fmt.{signed_decimal}
 use Rattle.std.specs.Str.Parse.{AllDigits}
-use Rattle.std.proofs.lemmas.Bool.{false≢true}
-use Rattle.std.proofs.lemmas.Bool.Decides.{nat_tests}
-use Rattle.std.proofs.lemmas.Fmt.{decimal_is_IsNumeral, decimal_nonempty}
 use Rattle.std.proofs.lemmas.Str.Parse.{digit_from_value}
-use Rattle.memchr.specs.Find.{Passes, Nowhere, is_byte2}
-use Rattle.drain_report.specs.Lines.{IsLong, IsInk, IsWordThen}
-use Rattle.drain_report.specs.Facts.{height_word}
 
 ink_of_digits : (ds : List ℕ) → AllDigits 10 ds → IsInk ds
 ink_of_digits [] h = tt

@@ -1,8 +1,5 @@
 -- Numbers that are read one after another, and numbers that are appended.
-use Rattle.std.proofs.Common.{◌≡◌, ℕ, zero, suc, ◌+◌, ◌<◌, ◌⊎◌, List, [], ◌∷◌, ◌++◌, ℤ, length, take, get_or, arith, refl, sym, ap, ◌∙◌, length-append, append-nil, append_assoc, rules}
-use Rattle.std.specs.Fmt.{signed_decimal}
-use Rattle.std.proofs.lemmas.List.{take_more}
-use Rattle.drain_report.specs.Lines.{IsLong, AreLong, line, spaced, IsNumberThen}
+use Rattle.drain_report.proofs.Names.{◌≡◌, ℕ, zero, suc, ◌+◌, ◌<◌, ◌⊎◌, List, [], ◌∷◌, ◌++◌, ℤ, length, take, get_or, arith, refl, sym, ap, ◌∙◌, length-append, append-nil, append_assoc, rules, signed_decimal, take_more, IsLong, AreLong, line, spaced, IsNumberThen}
 
 pub spaced-append : (xs ys : List ℤ) → spaced (xs ++ ys) ≡ spaced xs ++ spaced ys
 spaced-append [] ys = refl

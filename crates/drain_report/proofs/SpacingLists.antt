@@ -1,13 +1,6 @@
 -- The list of spacings stands in a text where a spacing is listed, and nowhere else.
-use Rattle.std.proofs.Common.{◌≡◌, ◌↔◌, true, false, ℕ, ◌<◌, ◌^◌, ◌⊎◌, inl, inr, ℤ, pos, List, [], ◌∷◌, ◌++◌, length, get_or, slice_index_or, append_assoc, refl, sym, ap, ◌∙◌, arith}
-use Rattle.std.specs.Prelude.{Option, Some, None, IfSome, IsSome, MatchOption, is_some, codes}
-use Rattle.std.proofs.lemmas.Bool.{false≢true}
-use Rattle.drain_grid.specs.declared.height_kind.HeightKind.{HeightKind}
-use Rattle.drain_grid.specs.declared.height_kind.HeightKind.TheVariants.{Whole, Single}
-use Rattle.drain_grid.specs.Spacing.{Distances, IsDistance, IsSpacing}
-use Rattle.drain_report.specs.Contents.{all_text, list_text, spacings_text}
-use Rattle.drain_report.specs.Facts.{kind_end, spacing_line, spacing_numbers, spacing_text}
-use Rattle.drain_report.specs.Lines.{AreLong, AreNumbersThen, spaced}
+use Rattle.drain_report.proofs.Names.{◌≡◌, ◌↔◌, true, false, ℕ, ◌<◌, ◌^◌, ◌⊎◌, inl, inr, ℤ, pos, List, [], ◌∷◌, ◌++◌, length, get_or, append_assoc, refl, sym, ap, ◌∙◌, arith, Option, Some, None, IfSome, IsSome, MatchOption, is_some, codes, false≢true, HeightKind, Whole, Single, Distances, IsDistance, IsSpacing, all_text, list_text, spacings_text, kind_end, spacing_line, spacing_numbers, spacing_text, AreLong, AreNumbersThen, spaced}
+use Rattle.std.proofs.Common.{slice_index_or}
 use Rattle.drain_report.proofs.FactLemmas.{narrow_long}
 use Rattle.drain_report.proofs.ListLemmas.{exact_from}
 

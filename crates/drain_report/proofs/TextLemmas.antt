@@ -1,21 +1,6 @@
 -- The parts of a text, one after another.
-use Rattle.std.proofs.Common.{◌≡◌, ℕ, pos, Bool, List, [], ◌∷◌, ◌++◌, length, refl, ap, ◌∙◌, append_assoc}
-use Rattle.std.specs.Prelude.{Result, IfOk, MatchResult, OnOk, Ok, Err, codes}
-use Rattle.drain_grid.specs.declared.cell.Cell.{Cell}
-use Rattle.drain_grid.specs.Spacing.{Distances}
-use Rattle.drain_grid.specs.Values.{NoDataNumbers}
-use Rattle.drain_hgt.specs.Corner.{Corner}
-use Rattle.drain_union.specs.declared.verdict.UnionVerdict.{UnionVerdict}
-use Rattle.drain_union.specs.Reports.{Report, is_accepted}
-use Rattle.drain_union.specs.declared.report.Outlet.{Outlet}
-use Rattle.drain_union.specs.declared.place.Place.{Place}
+use Rattle.drain_report.proofs.Names.{◌≡◌, ℕ, pos, Bool, List, [], ◌∷◌, ◌++◌, length, refl, ap, ◌∙◌, append_assoc, Result, IfOk, MatchResult, OnOk, Ok, Err, codes, Cell, Distances, NoDataNumbers, Corner, UnionVerdict, Report, is_accepted, Outlet, Place, UnionGrid, Head, grid_line, nodata_line, outlet_line, place_line, shown_line, sink_line, tile_line, verdict_line, HasVersion, head_text, version_line, all_text, list_text, spacings_text, Contents, end_line, head_of, spaced}
 use Rattle.drain_union.specs.declared.report.Shown.{Shown}
-use Rattle.drain_union.specs.declared.union_grid.UnionGrid.{UnionGrid}
-use Rattle.drain_report.specs.declared.head.Head.{Head}
-use Rattle.drain_report.specs.Facts.{grid_line, nodata_line, outlet_line, place_line, shown_line, sink_line, tile_line, verdict_line}
-use Rattle.drain_report.specs.Faults.{HasVersion}
-use Rattle.drain_report.specs.Contents.{head_text, version_line, all_text, list_text, spacings_text, Contents, end_line, head_of}
-use Rattle.drain_report.specs.Lines.{spaced}
 
 -- parts that were appended
 pub five : (t0 t1 t2 t3 t4 t5 a b c d e : List ℕ) → t1 ≡ t0 ++ a → t2 ≡ t1 ++ b → t3 ≡ t2 ++ c → t4 ≡ t3 ++ d → t5 ≡ t4 ++ e → t5 ≡ t0 ++ (a ++ (b ++ (c ++ (d ++ e))))

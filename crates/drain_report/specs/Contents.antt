@@ -1,13 +1,9 @@
 -- The text of a whole report. The order of its lines is this project's own.
-use Rattle.std.specs.Prelude.{◌<◌, ◌^◌, ℕ, List, ◌++◌, codes, [], ◌∷◌, length}
+use Rattle.std.specs.Prelude.{◌<◌, ◌^◌, ◌++◌, ◌∷◌}
+use Rattle.drain_report.specs.Names.{ℕ, List, codes, [], length, Distances, IsSpacing, Corner, IsOnMap, Report, Agree, UnionGrid, UnionVerdict}
 use Rattle.drain_report.specs.declared.head.Head.{Head}
 use Rattle.drain_report.specs.Facts.{count_line, GridFits, grid_line, IsPlace, place_line, IsAuditNoData, nodata_line, VerdictFits, verdict_line, IsNarrow, sink_line, IsOutlet, outlet_line, IsShown, shown_line, spacing_line, tile_line}
-use Rattle.drain_grid.specs.Spacing.{Distances, IsSpacing}
-use Rattle.drain_hgt.specs.Corner.{Corner, IsOnMap}
-use Rattle.drain_union.specs.Reports.{Report, Agree}
 use Rattle.drain_union.specs.declared.report.WindowReport.{WindowReport}
-use Rattle.drain_union.specs.declared.union_grid.UnionGrid.{UnionGrid}
-use Rattle.drain_union.specs.declared.verdict.UnionVerdict.{UnionVerdict}
 
 -- The first lines of a report.
 

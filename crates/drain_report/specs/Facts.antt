@@ -1,28 +1,20 @@
 -- The facts of a report as numbers, each kind on lines of its own. The order of the numbers is this project's own.
-use Rattle.std.specs.Prelude.{◌≡◌, ◌<◌, ◌^◌, ℕ, ℤ, pos, Bool, Option, Some, None, List, [], ◌∷◌, ◌++◌, codes, if◌then◌else◌}
-use Rattle.std.specs.Fmt.{signed_decimal}
+use Rattle.std.specs.Prelude.{◌≡◌, ◌<◌, ◌^◌, ◌∷◌, ◌++◌, if◌then◌else◌}
+use Rattle.drain_report.specs.Names.{ℕ, ℤ, pos, Bool, Option, Some, None, List, [], codes, signed_decimal, Distances, Values, AreInRange, NoDataNumbers, IsNoData, UnionGrid, rule_number, FitsNumbers, UnionVerdict, Corner, name_of}
 use Rattle.drain_grid.specs.declared.cell.Cell.{Cell}
 use Rattle.drain_grid.specs.declared.height_kind.HeightKind.{HeightKind}
 use Rattle.drain_grid.specs.declared.height_kind.HeightKind.TheVariants.{Whole, Single}
-use Rattle.drain_grid.specs.Spacing.{Distances}
-use Rattle.drain_grid.specs.Values.{Values, AreInRange, NoDataNumbers, IsNoData}
 use Rattle.drain_union.specs.declared.report.Outlet.{Outlet}
 use Rattle.drain_union.specs.declared.report.Shown.{Shown}
 use Rattle.drain_union.specs.declared.place.Place.{Place}
 use Rattle.drain_union.specs.declared.place.InnerSides.{InnerSides}
 use Rattle.drain_union.specs.declared.union_grid.Decimal.{Decimal}
 use Rattle.drain_union.specs.declared.union_grid.DemPart.{DemPart}
-use Rattle.drain_union.specs.declared.union_grid.UnionGrid.{UnionGrid}
 use Rattle.drain_union.specs.declared.union_grid.UnionGrid.TheVariants.{Tiles, Dem}
-use Rattle.drain_grid.specs.Rule.{rule_number}
 use Rattle.drain_union.specs.SeamValues.{AreOfSeam}
-use Rattle.drain_union.specs.Sizes.{FitsNumbers}
 use Rattle.drain_union.specs.declared.verdict.Fault.{Fault}
 use Rattle.drain_union.specs.declared.verdict.UnionCounts.{UnionCounts}
-use Rattle.drain_union.specs.declared.verdict.UnionVerdict.{UnionVerdict}
 use Rattle.drain_union.specs.declared.verdict.UnionVerdict.TheVariants.{Accepted, Rejected}
-use Rattle.drain_hgt.specs.Corner.{Corner}
-use Rattle.drain_hgt.specs.Name.{name_of}
 use Rattle.drain_report.specs.Lines.{IsLong, line, spaced}
 
 -- a row and a column of 32 bits

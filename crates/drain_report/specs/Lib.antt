@@ -1,3 +1,4 @@
+pub mod Names
 pub mod Contents
 pub mod Facts
 pub mod Faults

@@ -1,7 +1,7 @@
 //! The first lines of a report: what it is of, where the window lies, the no-data numbers, and the verdict.
 
-ghost use Rattle.std.specs.Prelude.{◌≡◌, ◌<◌, ℤ, pos, length, get_or, Some, IfSome, ℕ, List, ◌++◌, IfOk, OnOk, MatchResult};
-ghost use Rattle.drain_grid.specs.Values.{IsNoData};
+ghost use Rattle.std.specs.Prelude.{◌≡◌, ◌<◌, ◌++◌};
+ghost use Rattle.drain_report.specs.Names.{ℤ, pos, length, get_or, Some, IfSome, ℕ, List, IfOk, OnOk, MatchResult, IsNoData};
 ghost use Rattle.drain_report.specs.Lines.{AreLong};
 ghost use Rattle.drain_report.specs.Facts.{IsAuditNoData, nodata_numbers, nodata_line};
 ghost use Rattle.drain_report.specs.declared.head.Head.{Head as HeadOf};

@@ -1,7 +1,7 @@
 //! Lines of a report: a word, and numbers with a space before each.
 
-ghost use Rattle.std.specs.Prelude.{◌≡◌, ◌<◌, ◌^◌, ℤ, ℕ, List, ◌∷◌, ◌++◌, ◌+◌, IfSome, IfOk, OnOk, MatchOption, MatchResult, length};
-ghost use Rattle.std.specs.Fmt.{signed_decimal};
+ghost use Rattle.std.specs.Prelude.{◌≡◌, ◌<◌, ◌^◌, ◌∷◌, ◌++◌, ◌+◌};
+ghost use Rattle.drain_report.specs.Names.{ℤ, ℕ, List, IfSome, IfOk, OnOk, MatchOption, MatchResult, length, signed_decimal};
 ghost use Rattle.drain_report.specs.Faults.{IsAt, IsPast, IsLineFault, line_feeds};
 ghost use Rattle.drain_report.specs.Lines.{spaced, line, AreLong, AreNumbersThen, IsLineThen};
 

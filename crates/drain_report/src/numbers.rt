@@ -1,9 +1,9 @@
 //! Numbers of a line: a space before each, and no other way to write it.
 
-ghost use Rattle.std.specs.Prelude.{◌≡◌, ◌<◌, ◌^◌, ℕ, List, [], ◌∷◌, ◌++◌, pos, IfOk, OnOk, MatchResult, ℤ, Some, IfSome, MatchOption};
+ghost use Rattle.std.specs.Prelude.{◌≡◌, ◌<◌, ◌^◌, ◌∷◌, ◌++◌};
+ghost use Rattle.drain_report.specs.Names.{ℕ, List, [], pos, IfOk, OnOk, MatchResult, ℤ, Some, IfSome, MatchOption, signed_decimal};
 ghost use Rattle.drain_report.specs.Faults.{IsAt, IsPast, IsLineFault, line_feeds};
 ghost use Rattle.drain_report.specs.Facts.{count_line};
-ghost use Rattle.std.specs.Fmt.{signed_decimal};
 ghost use Rattle.drain_report.specs.Lines.{IsLong, IsWordThen, IsNumberThen};
 
 use crate::facts::{Fact, read_fact, whole_at};

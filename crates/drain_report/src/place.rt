@@ -1,7 +1,7 @@
 //! The line of a window's place.
 
-ghost use Rattle.std.specs.Prelude.{◌≡◌, drop, length, Some, IfSome};
-ghost use Rattle.drain_union.specs.Sizes.{FitsNumbers};
+ghost use Rattle.std.specs.Prelude.{◌≡◌};
+ghost use Rattle.drain_report.specs.Names.{drop, length, Some, IfSome, FitsNumbers};
 ghost use Rattle.drain_union.specs.declared.place.InnerSides.{InnerSides as SidesOf};
 ghost use Rattle.drain_report.specs.Lines.{AreLong};
 ghost use Rattle.drain_report.specs.Facts.{side_numbers, place_numbers, place_line, IsPlace};

@@ -1,7 +1,7 @@
 //! Reading a report.
 
-ghost use Rattle.std.specs.Prelude.{◌≡◌, ℕ, IfErr, IfOk, OnOk, IsOk, MatchResult};
-ghost use Rattle.drain_union.specs.Reports.{Agree, is_accepted};
+ghost use Rattle.std.specs.Prelude.{◌≡◌};
+ghost use Rattle.drain_report.specs.Names.{ℕ, IfErr, IfOk, OnOk, IsOk, MatchResult, Agree, is_accepted};
 ghost use Rattle.drain_report.specs.Faults.{FaultFits, IsAt, IsEndFault};
 ghost use Rattle.drain_report.specs.Contents.{Contents, ContentsFit, contents_of, end_line, report_text};
 

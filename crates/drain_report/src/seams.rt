@@ -1,9 +1,8 @@
 //! What is shown at the cells of a seam, as lines of a report.
 
-ghost use Rattle.std.specs.Prelude.{◌≡◌, ◌<◌, ◌^◌, ◌∷◌, ◌++◌, ℕ, ℤ, List, Option, Some, IfSome, IfOk, OnOk, MatchOption, MatchResult, length};
-ghost use Rattle.drain_grid.specs.Values.{Values};
+ghost use Rattle.std.specs.Prelude.{◌≡◌, ◌<◌, ◌^◌, ◌∷◌, ◌++◌};
+ghost use Rattle.drain_report.specs.Names.{ℕ, ℤ, List, Option, Some, IfSome, OnOk, MatchOption, length, Values};
 ghost use Rattle.drain_union.specs.declared.report.Shown.{Shown as ShownOf};
-ghost use Rattle.drain_report.specs.Faults.{IsAt, IsPast, IsLineFault};
 ghost use Rattle.drain_report.specs.Lines.{IsLong, AreLong};
 ghost use Rattle.drain_report.specs.Facts.{cell_numbers, height_word, other_numbers, seam_text, shown_line, AreShown, IsShown};
 

@@ -1,9 +1,9 @@
 //! The list of spacings: how far apart the cells of a window's rows are, and a word on each line where heights are floats.
 //! There is none where all cells are square and heights are whole.
 
-ghost use Rattle.std.specs.Prelude.{◌≡◌, ◌<◌, ◌≤◌, ◌^◌, ◌++◌, ℕ, List, Some, IfOk, IfSome, OnOk, MatchOption, MatchResult, codes, length};
+ghost use Rattle.std.specs.Prelude.{◌≡◌, ◌<◌, ◌≤◌, ◌^◌, ◌++◌};
+ghost use Rattle.drain_report.specs.Names.{ℕ, List, Some, IfOk, IfSome, OnOk, MatchOption, MatchResult, codes, length, Distances, IsSpacing};
 ghost use Rattle.drain_grid.specs.declared.height_kind.HeightKind.{HeightKind as KindOf};
-ghost use Rattle.drain_grid.specs.Spacing.{Distances, IsSpacing};
 ghost use Rattle.drain_report.specs.Contents.{SpacingsFit, spacings_text};
 ghost use Rattle.drain_report.specs.Facts.{kind_end, spacing_line, spacing_numbers, spacing_text};
 ghost use Rattle.drain_report.specs.Faults.{IsAt, IsListFault};

@@ -1,8 +1,7 @@
 //! The tiles of a report, by their names.
 
-ghost use Rattle.std.specs.Prelude.{◌≡◌, ℕ, List, ◌++◌, IfSome, MatchOption};
-ghost use Rattle.drain_hgt.specs.Corner.{Corner, IsOnMap};
-ghost use Rattle.drain_hgt.specs.Name.{name_of};
+ghost use Rattle.std.specs.Prelude.{◌≡◌, ◌++◌};
+ghost use Rattle.drain_report.specs.Names.{ℕ, List, IfSome, MatchOption, Corner, IsOnMap, name_of};
 ghost use Rattle.drain_report.specs.Facts.{tile_line};
 
 use crate::facts::ReportLine;

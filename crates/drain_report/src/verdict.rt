@@ -1,9 +1,9 @@
 //! The line of a verdict.
 
-ghost use Rattle.std.specs.Prelude.{◌≡◌, ◌<◌, ◌^◌, ◌++◌, ℕ, List, pos, Some, IfSome, IfOk, OnOk, MatchResult};
+ghost use Rattle.std.specs.Prelude.{◌≡◌, ◌<◌, ◌^◌, ◌++◌};
+ghost use Rattle.drain_report.specs.Names.{ℕ, List, pos, Some, IfSome, IfOk, OnOk, MatchResult, rule_number};
 ghost use Rattle.drain_grid.specs.declared.rule.Rule.{Rule as RuleOf};
 ghost use Rattle.drain_union.specs.declared.verdict.Fault.{Fault as FaultOf};
-ghost use Rattle.drain_grid.specs.Rule.{rule_number};
 ghost use Rattle.drain_report.specs.Faults.{IsAt, IsPast, IsLineFault};
 ghost use Rattle.drain_report.specs.Facts.{IsNarrow, CountsFit, VerdictFits, count_numbers, fault_numbers, verdict_line};
 

@@ -1,7 +1,7 @@
 //! Writing a report.
 
-ghost use Rattle.std.specs.Prelude.{◌≡◌, IfOk, OnOk};
-ghost use Rattle.drain_union.specs.Reports.{Agree};
+ghost use Rattle.std.specs.Prelude.{◌≡◌};
+ghost use Rattle.drain_report.specs.Names.{IfOk, OnOk, Agree};
 ghost use Rattle.drain_report.specs.Contents.{ContentsFit, contents_of, report_text};
 
 use crate::head::{Head, push_head};

@@ -1,19 +1,5 @@
 -- Where all cells are judged, what is found of them is so of the grid.
-use Rattle.std.proofs.Common.{◌≡◌, ℕ, ◌<◌, ◌≤◌, inl, inr, Bool, true, false, IsTrue, refl, sym, subst, arith}
-use Rattle.drain_grid.specs.declared.cell.Cell.{Cell}
-use Rattle.drain_grid.specs.declared.cell.TheConstants.{MAX_LENGTH}
-use Rattle.drain_grid.specs.declared.judged.Rules.{Rules}
-use Rattle.drain_grid.specs.declared.rule.Rule.{Rule}
-use Rattle.drain_grid.specs.Extent.{IsEarlier}
-use Rattle.drain_grid.specs.Grid.{Grid, Products, IsInside}
-use Rattle.drain_grid.specs.GridRules.{HoldsAt}
-use Rattle.drain_grid.specs.RulesAbout.{IsTried, tried}
-use Rattle.drain_rules.specs.declared.walk.Area.{Area}
-use Rattle.drain_rules.specs.declared.walk.Tally.{Tally}
-use Rattle.drain_rules.specs.Areas.{AreSound, IsNewLabelBetween, HasCell, everywhere}
-use Rattle.drain_rules.specs.Compared.{IfCompared, IsTriedIf}
-use Rattle.drain_rules.specs.Labels.{HasNewLabel}
-use Rattle.drain_rules.specs.Rows.{place}
+use Rattle.drain_rules.proofs.Names.{◌≡◌, ℕ, ◌<◌, ◌≤◌, inl, inr, Bool, true, false, IsTrue, refl, sym, subst, arith, Cell, MAX_LENGTH, Rules, Rule, IsEarlier, Grid, Products, IsInside, HoldsAt, IsTried, tried, Area, Tally, AreSound, IsNewLabelBetween, HasCell, everywhere, IfCompared, IsTriedIf, HasNewLabel, place}
 
 -- a cell of a small grid is judged
 in_everywhere : (c : Cell) → c.row ≤ MAX_LENGTH → c.col ≤ MAX_LENGTH → HasCell everywhere c

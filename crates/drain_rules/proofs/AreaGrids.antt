@@ -1,19 +1,6 @@
 -- One row more of the judged area.
-use Rattle.std.proofs.Common.{◌≡◌, ℕ, zero, suc, ◌+◌, ◌-◌, ◌<◌, ◌≤◌, min, ◌⊎◌, inl, inr, Bool, [], ◌∷◌, ◌++◌, refl, sym, ◌∙◌, ap, subst, arith, add-one}
-use Rattle.std.specs.List.{count_by, flat_map, range_with_len}
-use Rattle.std.proofs.lemmas.Bool.{cases_order}
-use Rattle.std.proofs.lemmas.List.Sums.{sum_by-append}
-use Rattle.std.proofs.lemmas.List.{flat_map_more}
-use Rattle.drain_grid.specs.declared.cell.Cell.{Cell}
-use Rattle.drain_grid.specs.declared.rule.Rule.{Rule}
-use Rattle.drain_grid.specs.GridRules.{is_data, is_raised, HoldsAt, IsEarlierPair}
-use Rattle.drain_grid.specs.Grid.{Grid, Products, IsInside}
-use Rattle.drain_grid.specs.PatchRules.{Profile}
-use Rattle.drain_rules.specs.declared.walk.Area.{Area}
-use Rattle.drain_rules.specs.declared.walk.Tally.{Tally}
-use Rattle.drain_rules.specs.Areas.{AreSound, IsAbove, IsAreaTally, IsFaultBetween, CountsAmong, HasCell, HasRow, IsFirstAmong, cells_in_above, row_cells_in}
-use Rattle.drain_rules.specs.Rows.{place}
-use Rattle.drain_rules.specs.Verdicts.{has_outlet_code}
+use Rattle.drain_rules.proofs.Names.{◌≡◌, ℕ, zero, suc, ◌+◌, ◌-◌, ◌<◌, ◌≤◌, min, inl, inr, Bool, [], ◌∷◌, ◌++◌, refl, sym, ◌∙◌, ap, subst, arith, add-one, count_by, flat_map, range_with_len, cases_order, sum_by-append, flat_map_more, Cell, Rule, is_data, is_raised, HoldsAt, IsEarlierPair, Grid, Products, IsInside, Profile, Area, Tally, AreSound, IsAbove, IsAreaTally, IsFaultBetween, CountsAmong, HasCell, HasRow, IsFirstAmong, cells_in_above, row_cells_in, place, has_outlet_code}
+use Rattle.std.proofs.Common.{◌⊎◌}
 
 -- the cells of one row more
 range_with_len-more : (a n : ℕ) → range_with_len a (n + 1) ≡ range_with_len a n ++ (a + n) ∷ []

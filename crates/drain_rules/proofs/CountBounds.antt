@@ -1,12 +1,7 @@
 -- No count of a walk along a row is greater than the cells that it passed, so each count has room for what comes next.
-use Rattle.std.proofs.Common.{◌≡◌, ℕ, ◌+◌, ◌^◌, ◌<◌, ◌≤◌, Bool, true, false, cond, ◌&&◌, int_lt, is_some, unwrap_or, pos, arith}
+use Rattle.drain_rules.proofs.Names.{◌≡◌, ℕ, ◌+◌, ◌^◌, ◌<◌, ◌≤◌, Bool, true, false, cond, int_lt, is_some, unwrap_or, pos, arith, MAX_LENGTH, Patch, Values, Kept, Tally, raised_between, IsAtMost}
+use Rattle.std.proofs.Common.{◌&&◌}
 use Rattle.std.specs.Ordering.{int_eq}
-use Rattle.drain_grid.specs.declared.cell.TheConstants.{MAX_LENGTH}
-use Rattle.drain_grid.specs.declared.patch.Patch.{Patch}
-use Rattle.drain_grid.specs.Values.{Values}
-use Rattle.drain_rules.specs.declared.row_view.Kept.{Kept}
-use Rattle.drain_rules.specs.declared.walk.Tally.{Tally}
-use Rattle.drain_rules.specs.Rows.{raised_between, IsAtMost}
 use Rattle.drain_rules.proofs.KeptCells.{raised_between-fits}
 
 -- the raised cells of a run, with those before it

@@ -1,24 +1,10 @@
 -- Grids that are equal at their cells have the same patches there, so the same rules hold, and as many cells have data, are raised
 -- and are outlets. The elevations and numbers of other cells are seen by no patch: a step stays in the grid.
-use Rattle.std.proofs.Common.{◌≡◌, ◌<◌, Bool, cond, ◌&&◌, map, Option, Some, None, IsSome, option_map, unwrap_or, pos, int_lt, int_eq, is_some, refl, sym, ap, subst, ◌∙◌}
-use Rattle.std.specs.List.{count_by}
-use Rattle.drain_grid.specs.declared.cell.Cell.{Cell}
-use Rattle.drain_grid.specs.declared.direction.Direction.{Direction}
-use Rattle.drain_grid.specs.declared.patch.Patch.{Patch}
-use Rattle.drain_grid.specs.declared.rule.Rule.{Rule}
-use Rattle.drain_grid.specs.declared.rule.Rule.TheVariants.{SharedLabel}
-use Rattle.drain_grid.specs.Direction.{directions}
-use Rattle.drain_grid.specs.Extent.{Extent, IsCellOf, cells, step}
-use Rattle.drain_grid.specs.Values.{Values}
-use Rattle.drain_grid.specs.Grid.{Grid, Products, IsInside, HasData, values_at, patch_at}
-use Rattle.drain_grid.specs.GridRules.{is_data, is_raised, SharedLabelHolds, HoldsAt}
-use Rattle.drain_grid.specs.PatchRules.{Profile, check_rules}
+use Rattle.drain_rules.proofs.Names.{◌≡◌, ◌<◌, Bool, cond, map, Option, Some, None, IsSome, unwrap_or, pos, int_lt, is_some, refl, sym, ap, subst, ◌∙◌, count_by, Cell, Direction, Patch, Rule, SharedLabel, directions, Extent, IsCellOf, cells, step, Values, Grid, Products, IsInside, HasData, values_at, patch_at, is_data, is_raised, SharedLabelHolds, HoldsAt, Profile, check_rules, step_lies, has_outlet_code, counts_of, IsVerdictOf, AreEqual, EqualGridsHaveOneVerdict}
+use Rattle.std.proofs.Common.{◌&&◌, option_map, int_eq}
 use Rattle.drain_grid.proofs.CellSums.{sum_by_cells_same}
-use Rattle.drain_grid.proofs.Neighbors.{step_lies}
 use Rattle.drain_grid.specs.declared.verdict.Verdict.{Verdict}
 use Rattle.drain_grid.specs.declared.verdict.Verdict.TheVariants.{Accepted, Rejected}
-use Rattle.drain_rules.specs.Verdicts.{has_outlet_code, counts_of, IsVerdictOf}
-use Rattle.drain_rules.specs.Laws.{AreEqual, EqualGridsHaveOneVerdict}
 
 -- two functions that are equal at the cell of a step make the same of it
 map_same : (f k : Cell → Values) (o : Option Cell) → ((n : Cell) → o ≡ Some n → f n ≡ k n) → option_map f o ≡ option_map k o

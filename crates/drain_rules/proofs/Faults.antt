@@ -1,26 +1,8 @@
 -- The least fault of a cell: from its patch, and for every rule from the labels so far, to the grid.
-use Rattle.std.proofs.Common.{◌≡◌, ◌↔◌, Bool, true, false, not, IsTrue, Option, Some, None, refl, subst, arith, ◌≢◌, ◌≤◌}
-use Rattle.drain_basin.specs.Admitted.{LabelSet}
-use Rattle.drain_grid.specs.declared.cell.Cell.{Cell}
-use Rattle.drain_grid.specs.declared.rule.Rule.{Rule}
-use Rattle.drain_grid.specs.declared.rule.Rule.TheVariants.{SharedLabel, VoidCell, BadCode, NotLeast, FlatStep, Label}
-use Rattle.drain_grid.specs.declared.patch.Patch.{Patch}
-use Rattle.drain_grid.specs.Rule.{IsAnyRule, IsPatchRule, IsLeastFault, rule_number, IsPresenceRule, IsFillRule, IsFlowRule}
-use Rattle.drain_grid.specs.declared.judged.Judged.{Judged}
-use Rattle.drain_grid.specs.declared.judged.Judged.TheVariants.{Con, ConDir, ConDirAcc, ConDirBas, All, AllWithRanks}
-use Rattle.drain_grid.specs.Judged.{has_bas, has_rnk}
-use Rattle.drain_grid.specs.RulesAbout.{IsPartRule, IsTried}
-use Rattle.drain_grid.specs.Grid.{Grid, Products, IsInside, patch_at, values_at}
-use Rattle.drain_grid.specs.Values.{Values, NoDataNumbers}
-use Rattle.drain_grid.specs.PatchRules.{Profile, surface_rules, flow_rules}
-use Rattle.drain_grid.specs.GridRules.{HoldsAt, SharedLabelHolds}
-use Rattle.drain_rules.specs.Compared.{IfCompared, IsTriedIf, with_labels}
-use Rattle.drain_rules.specs.Labels.{AreLabelsBefore, labelled_profile}
-use Rattle.drain_rules.specs.Laws.{labels-shared}
-use Rattle.drain_grid.proofs.AllRules.{IsFrom, IsAfter, found_first, found_next, numbered}
+use Rattle.drain_rules.proofs.Names.{◌≡◌, Bool, true, false, not, IsTrue, Option, Some, None, refl, subst, arith, ◌≢◌, ◌≤◌, LabelSet, Cell, Rule, SharedLabel, VoidCell, BadCode, NotLeast, FlatStep, Label, Patch, IsAnyRule, IsPatchRule, IsLeastFault, rule_number, IsPresenceRule, IsFillRule, IsFlowRule, Judged, ConDir, ConDirAcc, ConDirBas, AllWithRanks, has_bas, has_rnk, IsPartRule, IsTried, Grid, Products, IsInside, patch_at, values_at, Values, NoDataNumbers, Profile, surface_rules, flow_rules, HoldsAt, SharedLabelHolds, IfCompared, IsTriedIf, with_labels, AreLabelsBefore, labelled_profile, labels-shared, IsFrom, IsAfter, found_first, found_next, numbered, Rules, rules_with}
+use Rattle.std.proofs.Common.{◌↔◌}
+use Rattle.drain_grid.specs.declared.judged.Judged.TheVariants.{Con, All}
 use Rattle.drain_grid.proofs.Profiles.{surface_same, flow_same, surface_same_unranked, level_same, flow_level}
-use Rattle.drain_grid.specs.declared.judged.Rules.{Rules}
-use Rattle.drain_kernel.specs.Rules.{rules_with}
 
 -- rules that hold alike have one least fault
 pub IsLeastFault-same : (Own P Q : Rule → Type 0) (o : Option Rule) → ((r : Rule) → Own r → P r ↔ Q r) →

@@ -1,23 +1,6 @@
 -- One row more of a grid: how many of its cells pass a test; and from rows to the verdict.
-use Rattle.std.proofs.Common.{◌≡◌, ℕ, zero, suc, ◌+◌, ◌<◌, ◌≤◌, ◌*◌, Bool, length, [], ◌∷◌, ◌++◌, refl, sym, ◌∙◌, ap, inl, inr, arith, subst, add-one}
-use Rattle.std.specs.List.{count_by, flat_map, range_with_len}
-use Rattle.std.proofs.lemmas.List.Sums.{sum_by-append, count_by-le-length}
-use Rattle.std.proofs.lemmas.List.{flat_map_more}
-use Rattle.std.proofs.lemmas.List.FromFn.{length-map-range_with_len}
-use Rattle.std.proofs.Math.Nat.{mul-le-mul_right}
-use Rattle.drain_grid.specs.declared.cell.Cell.{Cell}
-use Rattle.drain_grid.specs.declared.rule.Rule.{Rule}
-use Rattle.drain_grid.specs.Rule.{IsFillRule}
-use Rattle.drain_grid.specs.Extent.{row_cells, IsEarlier}
-use Rattle.drain_grid.specs.Grid.{Grid, Products, IsInside}
-use Rattle.drain_grid.specs.GridRules.{is_data, is_raised, HoldsAt, RulesHold, IsEarlierPair, IsFirstFault}
-use Rattle.drain_grid.specs.PatchRules.{Profile, fill_rules}
+use Rattle.drain_rules.proofs.Names.{◌≡◌, ℕ, zero, suc, ◌+◌, ◌<◌, ◌≤◌, ◌*◌, Bool, length, [], ◌∷◌, ◌++◌, refl, sym, ◌∙◌, ap, inl, inr, arith, subst, add-one, count_by, flat_map, range_with_len, sum_by-append, count_by-le-length, flat_map_more, length-map-range_with_len, mul-le-mul_right, Cell, Rule, IsFillRule, row_cells, IsEarlier, Grid, Products, IsInside, is_data, is_raised, HoldsAt, RulesHold, IsEarlierPair, IsFirstFault, Profile, fill_rules, Tally, IsFillVerdict, has_outlet_code, cells_above, CountsAbove, place, HoldAlong, CountsAlong, IsRowFault}
 use Rattle.drain_grid.specs.declared.fill_verdict.FillVerdict.TheVariants as fill
-use Rattle.drain_rules.specs.declared.walk.Tally.{Tally}
-use Rattle.drain_rules.specs.Fill.{IsFillVerdict}
-use Rattle.drain_rules.specs.Verdicts.{has_outlet_code}
-use Rattle.drain_rules.specs.Walks.{cells_above, CountsAbove}
-use Rattle.drain_rules.specs.Rows.{place, HoldAlong, CountsAlong, IsRowFault}
 
 range_with_len-more : (a n : ℕ) → range_with_len a (suc n) ≡ range_with_len a n ++ (a + n) ∷ []
 range_with_len-more a zero = let e : a + 0 ≡ a = omega arith in rw e refl

@@ -1,29 +1,13 @@
 -- An inland cell is closed and has all eight neighbours, each at its place; and it keeps the rules if its numbers and theirs show it.
-use Rattle.std.proofs.Common.{◌≡◌, ◌∙◌, ◌⊎◌, inl, inr, ℕ, ◌+◌, ◌-◌, ◌*◌, ◌<◌, ◌≤◌, ℤ, pos, ◌≤ℤ◌, ◌<ℤ◌, List, Some, None, IsSome, IsNone, IsTrue, unwrap_or, refl, sym, ap, subst, arith, Bool, ◌&&◌, true, false, option_map, if◌then◌else◌}
-use Rattle.std.proofs.Math.Nat.{mul-le-mul_right}
-use Rattle.std.proofs.lemmas.Bool.{cases_order, false≢true}
-use Rattle.std.proofs.lemmas.Int.{ints, clamps}
+use Rattle.drain_rules.proofs.Names.{◌≡◌, ◌∙◌, inl, inr, ℕ, ◌+◌, ◌-◌, ◌*◌, ◌<◌, ◌≤◌, ℤ, pos, ◌≤ℤ◌, ◌<ℤ◌, List, Some, None, IsSome, IsNone, IsTrue, unwrap_or, refl, sym, ap, subst, arith, Bool, true, false, mul-le-mul_right, cases_order, false≢true, ints, clamps, Cell, Direction, East, SouthEast, South, SouthWest, West, NorthWest, North, NorthEast, Patch, BelowGround, OpenRaised, NoSpill, SpillHeight, SpillRank, NotLeast, Names, cols_right, rows_down, Extent, IsCellOf, index_of, step, Grid, Products, height_from, patch_at, values_at, fill_rules, IsFillRule, IsLeastFault, Values, reach, step_gives, step_lies, con_at, fill_grid, fill_products, rnk_at, sample_at, spl_at, square, HasDataAcross, HasPlacesRound, IsInland, IsNoneLower, place_beside}
+use Rattle.std.proofs.Common.{◌⊎◌, ◌&&◌, option_map, if◌then◌else◌}
 use Rattle.std.specs.Int.{int_max}
 use Rattle.std.specs.Ordering.{int_eq}
-use Rattle.drain_grid.specs.declared.cell.Cell.{Cell}
-use Rattle.drain_grid.specs.declared.direction.Direction.{Direction}
-use Rattle.drain_grid.specs.declared.direction.Direction.TheVariants.{East, SouthEast, South, SouthWest, West, NorthWest, North, NorthEast}
-use Rattle.drain_grid.specs.declared.patch.Patch.{Patch}
-use Rattle.drain_grid.specs.declared.rule.Rule.TheVariants.{BelowGround, OpenRaised, NoSpill, SpillHeight, SpillRank, NotLeast}
 use Rattle.drain_grid.specs.declared.tile.TheConstants.{VOID}
-use Rattle.drain_grid.specs.Direction.{Names, cols_right, rows_down}
-use Rattle.drain_grid.specs.Extent.{Extent, IsCellOf, index_of, step}
-use Rattle.drain_grid.specs.Grid.{Grid, Products, height_from, patch_at, values_at}
 use Rattle.drain_grid.specs.Patch.{IsDataNeighbor, IsOpen, height, neighbor}
-use Rattle.drain_grid.specs.PatchRules.{fill_rules}
-use Rattle.drain_grid.specs.Rule.{IsFillRule, IsLeastFault}
-use Rattle.drain_grid.specs.Values.{Values}
-use Rattle.drain_grid.proofs.Neighbors.{reach, step_gives, step_lies}
 use Rattle.drain_grid.proofs.OpenCells.{IsAtGap, open_without_sinks}
 use Rattle.drain_grid.proofs.Patches.{IsOpen-patch_at, cell_shown, neighbor-patch_at}
 use Rattle.drain_fill.proofs.SpillParents.{of_named_neighbor}
-use Rattle.drain_rules.specs.Fill.{con_at, fill_grid, fill_products, rnk_at, sample_at, spl_at, square}
-use Rattle.drain_rules.specs.Places.{HasDataAcross, HasPlacesRound, IsInland, IsNoneLower, place_beside}
 
 -- no neighbour is further on than the one in the south-east
 pub furthest : (side : ℕ) (d : Direction) → rows_down d * side + cols_right d ≤ 2 * side + 2

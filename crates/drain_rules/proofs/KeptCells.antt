@@ -1,19 +1,8 @@
 -- Cleared cells are passed at once: no rule fails at them, and they are no outlets.
-use Rattle.std.proofs.Common.{◌≡◌, ◌≢◌, ℕ, zero, suc, ℤ, ◌+◌, ◌-◌, ◌<◌, ◌≤◌, Bool, cond, ◌&&◌, true, false, is_some, IsSome, pos, Option, Some, None, map, refl, sym, ◌∙◌, ap, subst, arith}
-use Rattle.std.specs.List.{range_with_len}
+use Rattle.drain_rules.proofs.Names.{◌≡◌, ◌≢◌, ℕ, zero, suc, ℤ, ◌+◌, ◌-◌, ◌<◌, ◌≤◌, Bool, cond, true, false, is_some, IsSome, pos, Option, Some, None, map, refl, sym, ◌∙◌, ap, subst, arith, range_with_len, count_by-le-length, sum_by-map-range_with_len_more, length-map-range_with_len, Patch, Judged, Grid, Products, Profile, IsKept, Kept, Tally, shows_raised, raised_between, AreRowPatches, IsAtMost, CountsAlong, IsTriedIf}
+use Rattle.std.proofs.Common.{◌&&◌}
 use Rattle.std.specs.Ordering.{int_eq}
 use Rattle.std.proofs.lemmas.Bool.Decides.{Decides-int_eq}
-use Rattle.std.proofs.lemmas.List.Sums.{count_by-le-length}
-use Rattle.std.proofs.lemmas.List.FromFn.{sum_by-map-range_with_len_more, length-map-range_with_len}
-use Rattle.drain_grid.specs.declared.patch.Patch.{Patch}
-use Rattle.drain_grid.specs.declared.judged.Judged.{Judged}
-use Rattle.drain_grid.specs.Grid.{Grid, Products}
-use Rattle.drain_grid.specs.PatchRules.{Profile}
-use Rattle.drain_kernel.specs.Columns.{IsKept}
-use Rattle.drain_rules.specs.declared.row_view.Kept.{Kept}
-use Rattle.drain_rules.specs.declared.walk.Tally.{Tally}
-use Rattle.drain_rules.specs.Rows.{shows_raised, raised_between, AreRowPatches, IsAtMost, CountsAlong}
-use Rattle.drain_rules.specs.Compared.{IsTriedIf}
 use Rattle.drain_rules.proofs.PassedCells.{IsPassed, no_outlet-holds, passed-more}
 use Rattle.drain_rules.proofs.RowLemmas.{CountsAlong-more}
 

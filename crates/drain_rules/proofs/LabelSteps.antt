@@ -1,18 +1,6 @@
 -- What is kept of outlets, from place to place of a row.
-use Rattle.std.proofs.Common.{◌≡◌, ℕ, ℤ, ◌+◌, ◌↔◌, ◌⊎◌, inl, inr, arith, ◌<◌, ◌≤◌, min}
-use Rattle.std.proofs.lemmas.Bool.{cases_lt}
-use Rattle.drain_basin.specs.Admitted.{IsAdmitted, LabelSet}
-use Rattle.drain_grid.specs.declared.cell.Cell.{Cell}
-use Rattle.drain_grid.specs.Extent.{IsEarlier}
-use Rattle.drain_grid.specs.Values.{Values}
-use Rattle.drain_grid.specs.Grid.{Grid, Products, IsInside, values_at}
-use Rattle.drain_rules.specs.Labels.{IsLabelOf, AreLabelsBefore, IsOutletByCode}
-use Rattle.drain_rules.specs.Laws.{labels-more}
-use Rattle.drain_rules.specs.Rows.{place, AreRowPatches}
-use Rattle.drain_grid.specs.declared.cell.TheConstants.{MAX_LENGTH}
-use Rattle.drain_grid.specs.declared.patch.Patch.{Patch}
-use Rattle.drain_rules.specs.declared.walk.Area.{Area}
-use Rattle.drain_rules.specs.Areas.{HasCell, HasRow, IsOutletCell}
+use Rattle.drain_rules.proofs.Names.{◌≡◌, ℕ, ℤ, ◌+◌, inl, inr, arith, ◌<◌, ◌≤◌, min, cases_lt, IsAdmitted, LabelSet, Cell, IsEarlier, Values, Grid, Products, IsInside, values_at, IsLabelOf, AreLabelsBefore, IsOutletByCode, labels-more, place, AreRowPatches, MAX_LENGTH, Patch, Area, HasCell, HasRow, IsOutletCell}
+use Rattle.std.proofs.Common.{◌↔◌, ◌⊎◌}
 use Rattle.drain_rules.proofs.RowPasses.{begin-passes, end-passes, row-passes, run-passes}
 
 -- The labels of the outlets before a place, as the place goes on in row order.

@@ -1,19 +1,9 @@
 -- Three rows with their lanes: the patch that the lanes show round an inner column is that of the rows.
-use Rattle.std.proofs.Common.{◌≡◌, ℕ, zero, suc, ◌+◌, ◌-◌, ◌≤◌, ◌<◌, Bool, cond, ◌&&◌, IsSome, map, refl, sym, ◌∙◌, ap, arith, false, length, slice_index_or, Some}
-use Rattle.std.specs.List.{count_by, range_with_len}
-use Rattle.std.proofs.lemmas.List.Sums.{sum_by-cons}
-use Rattle.drain_grid.specs.declared.patch.Patch.{Patch}
+use Rattle.drain_rules.proofs.Names.{◌≡◌, ℕ, zero, suc, ◌+◌, ◌-◌, ◌≤◌, ◌<◌, Bool, cond, IsSome, map, refl, sym, ◌∙◌, ap, arith, false, length, slice_index_or, Some, count_by, range_with_len, sum_by-cons, Patch, raised_lanes, AreLanesOf, raised_between, shows_raised, MarkedRow, beside, values_in, west_neighbor, lt-ltb, Direction, East, SouthEast, South, SouthWest, West, NorthWest, North, NorthEast, Values, ThreeRows, patch_in}
+use Rattle.std.proofs.Common.{◌&&◌}
 use Rattle.drain_kernel.specs.declared.lanes.Lanes.{Lanes}
-use Rattle.drain_kernel.specs.Columns.{raised_lanes, AreLanesOf}
 use Rattle.drain_kernel.specs.Laws.{RaisedAreCounted, is_above_ground, LanesShowNumbers}
 use Rattle.drain_kernel.specs.Shown.{Shows, IsInner, IsShown, IsShownAt, IsShownRound}
-use Rattle.drain_rules.specs.Rows.{raised_between, shows_raised, MarkedRow, beside, values_in, west_neighbor}
-use Rattle.std.proofs.lemmas.Bool.{lt-ltb}
-use Rattle.drain_grid.specs.declared.direction.Direction.{Direction}
-use Rattle.drain_grid.specs.declared.direction.Direction.TheVariants.{East, SouthEast, South, SouthWest, West, NorthWest, North, NorthEast}
-use Rattle.drain_grid.specs.Values.{Values}
-use Rattle.drain_rules.specs.declared.three_rows.ThreeRows.{ThreeRows}
-use Rattle.drain_rules.specs.ThreeRows.{patch_in}
 
 -- As many cells are raised by their lanes as by the patches that are shown, where all have data.
 

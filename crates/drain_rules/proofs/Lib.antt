@@ -1,3 +1,4 @@
+pub mod Names
 mod EqualGrids
 pub mod AllCells
 pub mod AreaGrids

@@ -1,14 +1,6 @@
 -- The first fault of the judged rasters at a patch, from the answers on the surface and on where water goes.
-use Rattle.std.proofs.Common.{◌↔◌, Option, None, arith}
-use Rattle.drain_grid.specs.declared.patch.Patch.{Patch}
-use Rattle.drain_grid.specs.declared.rule.Rule.{Rule}
-use Rattle.drain_grid.specs.declared.rule.Rule.TheVariants.{VoidCell, BadCode, BelowGround, OpenRaised, NoSpill, SpillHeight, SpillRank, NotLeast}
-use Rattle.drain_grid.specs.PatchRules.{surface_rules}
-use Rattle.drain_grid.specs.Rule.{IsFillRule, IsLeastFault, IsPresenceRule}
-use Rattle.drain_grid.specs.Values.{NoDataNumbers}
-use Rattle.drain_grid.proofs.AllRules.{IsFrom, found_next}
-use Rattle.drain_grid.specs.declared.judged.Judged.{Judged}
-use Rattle.drain_grid.specs.RulesAbout.{part_rules}
+use Rattle.drain_rules.proofs.Names.{Option, None, arith, Patch, Rule, VoidCell, BadCode, BelowGround, OpenRaised, NoSpill, SpillHeight, SpillRank, NotLeast, surface_rules, IsFillRule, IsLeastFault, IsPresenceRule, NoDataNumbers, IsFrom, found_next, Judged, part_rules}
+use Rattle.std.proofs.Common.{◌↔◌}
 use Rattle.drain_rules.proofs.Faults.{IsLeastFault-same}
 
 -- a rule on the surface says what it says among those about judged rasters

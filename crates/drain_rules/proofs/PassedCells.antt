@@ -1,24 +1,7 @@
 -- One cell more of the judged cells of a row of patches: what holds there, and how many pass a test.
-use Rattle.std.proofs.Common.{◌≡◌, ℕ, ◌+◌, ◌-◌, ◌<◌, ◌≤◌, inl, inr, Bool, cond, ◌&&◌, int_lt, is_some, unwrap_or, pos, None, ap, ◌∙◌, subst, arith}
-use Rattle.std.specs.List.{count_by}
+use Rattle.drain_rules.proofs.Names.{◌≡◌, ℕ, ◌+◌, ◌-◌, ◌<◌, ◌≤◌, inl, inr, Bool, cond, int_lt, is_some, unwrap_or, pos, None, ap, ◌∙◌, subst, arith, count_by, cases_lt, sum_by-map-range_with_len_more, Cell, Judged, Patch, Rule, IsLeastFault, IsPatchRule, is_data, is_raised, HoldsAt, SharedLabelHolds, Grid, Products, IsInside, patch_at, values_at, Profile, Values, Tally, HoldBetween, cells_between, CountsAmong, IsTriedIf, IsOutletByCode, AreRowPatches, place, has_outlet_code}
+use Rattle.std.proofs.Common.{◌&&◌}
 use Rattle.std.specs.Ordering.{int_eq}
-use Rattle.std.proofs.lemmas.Bool.{cases_lt}
-use Rattle.std.proofs.lemmas.List.FromFn.{sum_by-map-range_with_len_more}
-use Rattle.drain_grid.specs.declared.cell.Cell.{Cell}
-use Rattle.drain_grid.specs.declared.judged.Judged.{Judged}
-use Rattle.drain_grid.specs.declared.patch.Patch.{Patch}
-use Rattle.drain_grid.specs.declared.rule.Rule.{Rule}
-use Rattle.drain_grid.specs.Rule.{IsLeastFault, IsPatchRule}
-use Rattle.drain_grid.specs.GridRules.{is_data, is_raised, HoldsAt, SharedLabelHolds}
-use Rattle.drain_grid.specs.Grid.{Grid, Products, IsInside, patch_at, values_at}
-use Rattle.drain_grid.specs.PatchRules.{Profile}
-use Rattle.drain_grid.specs.Values.{Values}
-use Rattle.drain_rules.specs.declared.walk.Tally.{Tally}
-use Rattle.drain_rules.specs.Areas.{HoldBetween, cells_between, CountsAmong}
-use Rattle.drain_rules.specs.Compared.{IsTriedIf}
-use Rattle.drain_rules.specs.Labels.{IsOutletByCode}
-use Rattle.drain_rules.specs.Rows.{AreRowPatches, place}
-use Rattle.drain_rules.specs.Verdicts.{has_outlet_code}
 use Rattle.drain_rules.proofs.Faults.{holds_tried, least-labelled}
 
 -- the cells from one column up to another keep one's own rules, and are counted

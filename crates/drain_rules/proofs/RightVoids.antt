@@ -1,25 +1,10 @@
 -- A void with no-data numbers keeps every rule, and so it is passed: it adds nothing to a count, and is no outlet.
-use Rattle.std.proofs.Common.{◌≡◌, ℕ, ℤ, ◌+◌, ◌<◌, ◌≤◌, cond, ◌&&◌, int_lt, is_some, unwrap_or, IsNone, pos, Bool, true, false, Option, Some, None, refl, arith}
+use Rattle.drain_rules.proofs.Names.{◌≡◌, ℕ, ℤ, ◌+◌, ◌<◌, ◌≤◌, cond, int_lt, is_some, unwrap_or, IsNone, pos, Bool, true, false, Option, Some, None, refl, arith, Dir, Acc, Bas, Rnk, Patch, Rule, VoidCell, Missing, BadCode, BelowGround, OpenRaised, NoSpill, SpillHeight, SpillRank, NotLeast, Slope, OutletCode, FlatStep, Accumulation, Label, SharedLabel, Grid, Products, Profile, Judged, IsBlankPart, part_rules, rules_about, tried, IsBlankWithoutSpill, NoDataNumbers, Values, void_data, Rules, IfJudged, has_acc, has_bas, has_dir, has_rnk, rules_with, Tally, IsBlankVoid, IsRightVoid, AreRowPatches, IsTriedIf}
+use Rattle.std.proofs.Common.{◌&&◌}
 use Rattle.std.specs.Ordering.{int_eq}
-use Rattle.drain_grid.specs.declared.set_product.SetProduct.TheVariants.{Con, Dir, Acc, Bas, Rnk}
-use Rattle.drain_grid.specs.declared.patch.Patch.{Patch}
-use Rattle.drain_grid.specs.declared.rule.Rule.{Rule}
-use Rattle.drain_grid.specs.declared.rule.Rule.TheVariants.{VoidCell, Missing, BadCode, BelowGround, OpenRaised, NoSpill, SpillHeight, SpillRank, NotLeast, Slope, OutletCode, FlatStep, Accumulation, Label, SharedLabel}
-use Rattle.drain_grid.specs.Grid.{Grid, Products}
-use Rattle.drain_grid.specs.PatchRules.{Profile}
-use Rattle.drain_grid.specs.declared.judged.Judged.{Judged}
+use Rattle.drain_grid.specs.declared.set_product.SetProduct.TheVariants.{Con}
 use Rattle.drain_grid.specs.declared.judged.Judged.TheVariants as rasters
-use Rattle.drain_grid.specs.RulesAbout.{IsBlankPart, part_rules, rules_about, tried}
 use Rattle.drain_grid.specs.Unranked.{IsBlankWithoutRank}
-use Rattle.drain_grid.specs.Values.{IsBlankWithoutSpill, NoDataNumbers, Values}
-use Rattle.drain_grid.proofs.Tallies.{void_data}
-use Rattle.drain_grid.specs.declared.judged.Rules.{Rules}
-use Rattle.drain_grid.specs.Judged.{IfJudged, has_acc, has_bas, has_dir, has_rnk}
-use Rattle.drain_kernel.specs.Rules.{rules_with}
-use Rattle.drain_rules.specs.declared.walk.Tally.{Tally}
-use Rattle.drain_rules.specs.Fill.{IsBlankVoid, IsRightVoid}
-use Rattle.drain_rules.specs.Rows.{AreRowPatches}
-use Rattle.drain_rules.specs.Compared.{IsTriedIf}
 use Rattle.drain_rules.proofs.PassedCells.{IsPassed, no_outlet-holds, passed-more}
 use Rattle.drain_rules.proofs.RowLemmas.{along_run}
 

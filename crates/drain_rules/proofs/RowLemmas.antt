@@ -1,22 +1,9 @@
 -- One cell more of a row: what holds along it, and how many of its cells pass a test.
-use Rattle.std.proofs.Common.{◌≡◌, refl, ℕ, zero, suc, ◌+◌, ◌-◌, ◌<◌, ◌≤◌, sym, subst, arith, Bool, cond, ◌&&◌, int_lt, is_some, unwrap_or, pos, None, Some, below_more}
+use Rattle.drain_rules.proofs.Names.{◌≡◌, refl, ℕ, zero, suc, ◌+◌, ◌-◌, ◌<◌, ◌≤◌, sym, subst, arith, Bool, cond, int_lt, is_some, unwrap_or, pos, None, Some, below_more, of_product, per_product, count_by, sum_by-map-range_with_len_more, Cell, Rule, IsLeastFault, row_cells, Values, Grid, Products, values_at, is_data, is_raised, HoldsAt, Profile, Tally, has_outlet_code, place, HoldAlong, CountsAlong, IsRowFault}
+use Rattle.std.proofs.Common.{◌&&◌}
 use Rattle.drain_grid.specs.declared.set_product.SetProduct.{SetProduct}
-use Rattle.drain_grid.specs.PerProduct.{of_product, per_product}
 use Rattle.drain_grid.proofs.ByProduct.{by_set_product}
-use Rattle.std.specs.List.{count_by}
 use Rattle.std.specs.Ordering.{int_eq}
-use Rattle.std.proofs.lemmas.List.FromFn.{sum_by-map-range_with_len_more}
-use Rattle.drain_grid.specs.declared.cell.Cell.{Cell}
-use Rattle.drain_grid.specs.declared.rule.Rule.{Rule}
-use Rattle.drain_grid.specs.Rule.{IsLeastFault}
-use Rattle.drain_grid.specs.Extent.{row_cells}
-use Rattle.drain_grid.specs.Values.{Values}
-use Rattle.drain_grid.specs.Grid.{Grid, Products, values_at}
-use Rattle.drain_grid.specs.GridRules.{is_data, is_raised, HoldsAt}
-use Rattle.drain_grid.specs.PatchRules.{Profile}
-use Rattle.drain_rules.specs.declared.walk.Tally.{Tally}
-use Rattle.drain_rules.specs.Verdicts.{has_outlet_code}
-use Rattle.drain_rules.specs.Rows.{place, HoldAlong, CountsAlong, IsRowFault}
 
 -- What is known of a row of numbers, product by product.
 

@@ -1,33 +1,11 @@
 -- Between two places of one row, or of two rows, lies no judged outlet; and the cells that are passed at once.
-use Rattle.std.proofs.Common.{◌≡◌, ℕ, ◌+◌, ◌<◌, ◌≤◌, ◌↔◌, min, cond, ◌&&◌, int_lt, is_some, unwrap_or, pos, Bool, true, false, IsTrue, Some, None, refl, subst, arith, ◌-◌, inl, inr, map, sym, ap}
+use Rattle.drain_rules.proofs.Names.{◌≡◌, ℕ, ◌+◌, ◌<◌, ◌≤◌, min, cond, int_lt, is_some, unwrap_or, pos, Bool, true, false, IsTrue, Some, None, refl, subst, arith, ◌-◌, inl, inr, map, sym, ap, Judged, Patch, SharedLabel, Grid, Products, patch_at, values_at, SharedLabelHolds, Profile, IsLeastFault, Values, Area, Tally, HoldBetween, IsColumn, IsNewLabelBetween, IsStopAmong, IsCellStop, IsNewLabelHere, IsAreaTally, cells_between, CountsAmong, HasCell, HasRow, IsOutletCell, IfCompared, IsTriedIf, with_labels, IsOutletByCode, AreRowPatches, place, raised_between, range_with_len, cases_lt, Cell, Rule, IsEarlier, void_data, IsKept, Kept, IsRightVoid}
+use Rattle.std.proofs.Common.{◌↔◌, ◌&&◌}
 use Rattle.std.specs.Ordering.{int_eq}
-use Rattle.drain_grid.specs.declared.judged.Judged.{Judged}
-use Rattle.drain_grid.specs.declared.patch.Patch.{Patch}
-use Rattle.drain_grid.specs.declared.rule.Rule.TheVariants.{SharedLabel}
-use Rattle.drain_grid.specs.Grid.{Grid, Products, patch_at, values_at}
-use Rattle.drain_grid.specs.GridRules.{SharedLabelHolds}
-use Rattle.drain_grid.specs.PatchRules.{Profile}
-use Rattle.drain_grid.specs.Rule.{IsLeastFault}
-use Rattle.drain_grid.specs.Values.{Values}
-use Rattle.drain_rules.specs.declared.walk.Area.{Area}
 use Rattle.drain_rules.specs.declared.walk.Stop.{Stop}
 use Rattle.drain_rules.specs.declared.walk.Stop.TheVariants.{Fault, OutOfMemory}
-use Rattle.drain_rules.specs.declared.walk.Tally.{Tally}
-use Rattle.drain_rules.specs.Areas.{HoldBetween, IsColumn, IsNewLabelBetween, IsStopAmong, IsCellStop, IsNewLabelHere, IsAreaTally, cells_between, CountsAmong, HasCell, HasRow, IsOutletCell}
-use Rattle.drain_rules.specs.Compared.{IfCompared, IsTriedIf, with_labels}
-use Rattle.drain_rules.specs.Labels.{IsOutletByCode}
-use Rattle.drain_rules.specs.Rows.{AreRowPatches, place, raised_between}
 use Rattle.drain_rules.proofs.Faults.{if_compared, least-labelled, own_compared}
 use Rattle.drain_rules.proofs.PassedCells.{IsPassed, holds-more, inside-row, passed-more}
-use Rattle.std.specs.List.{range_with_len}
-use Rattle.std.proofs.lemmas.Bool.{cases_lt}
-use Rattle.drain_grid.specs.declared.cell.Cell.{Cell}
-use Rattle.drain_grid.specs.declared.rule.Rule.{Rule}
-use Rattle.drain_grid.specs.Extent.{IsEarlier}
-use Rattle.drain_grid.proofs.Tallies.{void_data}
-use Rattle.drain_kernel.specs.Columns.{IsKept}
-use Rattle.drain_rules.specs.declared.row_view.Kept.{Kept}
-use Rattle.drain_rules.specs.Fill.{IsRightVoid}
 use Rattle.drain_rules.proofs.KeptCells.{passed-kept}
 use Rattle.drain_rules.proofs.RightVoids.{passed-voids}
 

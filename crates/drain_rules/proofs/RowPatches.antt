@@ -1,17 +1,7 @@
 -- The patch of three rows is that of the grid: a neighbour at a time.
-use Rattle.std.proofs.Common.{◌≡◌, ◌∙◌, ◌+◌, ◌-◌, ◌<◌, ◌≤◌, ℕ, ℤ, pos, List, length, drop, slice_index_or, slice_range, get_or-take, get_or-drop, inl, inr, FitsSigned, w16, arith, subst, sym, zero, suc, [], ◌∷◌, Option, Some, None, refl, ap}
-use Rattle.std.proofs.lemmas.Bool.{cases_lt, lt-ltb, le-ltb}
-use Rattle.std.proofs.lemmas.List.{ext_get_or, length-drop, length-take}
-use Rattle.drain_fill.specs.Below.{IsBelowAt}
-use Rattle.drain_grid.specs.Grid.{Grid, Products, patch_at, values_at}
-use Rattle.std.specs.Prelude.{◌&&◌, nat_lt, option_map, if◌then◌else◌}
-use Rattle.drain_grid.specs.declared.cell.Cell.{Cell}
-use Rattle.drain_grid.specs.declared.set_product.SetProduct.TheVariants.{Con, Dir, Acc, Bas, Rnk}
-use Rattle.drain_grid.specs.Extent.{Extent}
-use Rattle.drain_grid.specs.Values.{Values}
-use Rattle.drain_rules.specs.declared.three_rows.ThreeRows.{ThreeRows}
-use Rattle.drain_rules.specs.Rows.{IsNoRow, IsRowOf, MarkedRow, beside, values_in, west_neighbor, place}
-use Rattle.drain_rules.specs.ThreeRows.{AreRowsAround, ThreeRowsShowPatches, patch_in}
+use Rattle.drain_rules.proofs.Names.{◌≡◌, ◌∙◌, ◌+◌, ◌-◌, ◌<◌, ◌≤◌, ℕ, ℤ, pos, List, length, drop, slice_index_or, slice_range, get_or-take, get_or-drop, inl, inr, FitsSigned, w16, arith, subst, sym, zero, suc, [], ◌∷◌, Option, Some, None, refl, ap, cases_lt, lt-ltb, le-ltb, ext_get_or, length-drop, length-take, IsBelowAt, Grid, Products, patch_at, values_at, nat_lt, Cell, Dir, Acc, Bas, Rnk, Extent, Values, ThreeRows, IsNoRow, IsRowOf, MarkedRow, beside, values_in, west_neighbor, place, AreRowsAround, ThreeRowsShowPatches, patch_in}
+use Rattle.std.specs.Prelude.{◌&&◌, option_map, if◌then◌else◌}
+use Rattle.drain_grid.specs.declared.set_product.SetProduct.TheVariants.{Con}
 
 -- The heights of a row, some at a time, in 16 bits each.
 

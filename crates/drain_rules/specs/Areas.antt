@@ -1,18 +1,10 @@
 -- The judged cells of a grid, and what a walk over them finds.
-use Rattle.std.specs.Prelude.{◌≡◌, ℕ, ◌-◌, ◌<◌, ◌≤◌, min, pos, List, map, Some, None, Bool, ◌+◌}
-use Rattle.std.specs.List.{count_by, flat_map, range_with_len}
-use Rattle.drain_grid.specs.declared.cell.Cell.{Cell}
-use Rattle.drain_grid.specs.declared.rule.Rule.{Rule}
-use Rattle.drain_grid.specs.GridRules.{is_data, is_raised, HoldsAt, IsEarlierPair, SharedLabelHolds}
-use Rattle.drain_grid.specs.Grid.{Grid, Products, IsInside, HasData}
-use Rattle.drain_grid.specs.PatchRules.{Profile}
+use Rattle.std.specs.Prelude.{◌≡◌, ◌-◌, ◌<◌, ◌≤◌, ◌+◌}
+use Rattle.drain_rules.specs.Names.{ℕ, min, pos, List, map, Some, None, Bool, count_by, flat_map, range_with_len, Cell, Rule, is_data, is_raised, HoldsAt, IsEarlierPair, SharedLabelHolds, Grid, Products, IsInside, HasData, Profile, Patch, IsLeastFault, rule_number, Values}
 use Rattle.drain_rules.specs.declared.walk.Area.{Area}
 use Rattle.drain_rules.specs.declared.walk.Tally.{Tally}
 use Rattle.drain_rules.specs.Rows.{place, AreRowPatches}
 use Rattle.drain_rules.specs.Verdicts.{has_outlet_code}
-use Rattle.drain_grid.specs.declared.patch.Patch.{Patch}
-use Rattle.drain_grid.specs.Rule.{IsLeastFault, rule_number}
-use Rattle.drain_grid.specs.Values.{Values}
 use Rattle.drain_rules.specs.declared.walk.Stop.{Stop}
 use Rattle.drain_rules.specs.declared.walk.Stop.TheVariants.{Fault, OutOfMemory}
 use Rattle.drain_rules.specs.Compared.{with_labels, IfCompared}

@@ -1,12 +1,7 @@
 -- What is tried where labels are compared, and where they aren't.
-use Rattle.std.specs.Prelude.{Bool, true, false}
+use Rattle.drain_rules.specs.Names.{Bool, true, false, Rule, Profile, IsPatchRule, IsTried, Values}
 use Rattle.drain_grid.specs.declared.judged.Judged.{Judged}
-use Rattle.drain_grid.specs.declared.rule.Rule.{Rule}
 use Rattle.drain_grid.specs.declared.rule.Rule.TheVariants.{SharedLabel}
-use Rattle.drain_grid.specs.PatchRules.{Profile}
-use Rattle.drain_grid.specs.Rule.{IsPatchRule}
-use Rattle.drain_grid.specs.RulesAbout.{IsTried}
-use Rattle.drain_grid.specs.Values.{Values}
 
 -- the rules that are tried: without a comparison all but SharedLabel
 abbrev pub IsTriedIf : Bool → Judged → Rule → Type 0

@@ -1,24 +1,13 @@
 -- What the bytes of a fill input mean: a tile, its conditioned elevations, spill parents and ranks, each row after row,
 -- most significant byte first. The tile is that of the SRTM HGT documentation; the other parts are this project's own.
-use Rattle.std.specs.Prelude.{◌≡◌, ℕ, ◌+◌, ◌*◌, ℤ, pos, List, length, drop, Result, Ok, Err, None, IsNone}
-use Rattle.std.specs.Int.{cast_signed, w16}
+use Rattle.std.specs.Prelude.{◌≡◌, ◌+◌, ◌*◌}
+use Rattle.drain_rules.specs.Names.{ℕ, ℤ, pos, List, length, drop, Result, Ok, Err, None, IsNone, cast_signed, w16, index_of, Extent, height_from, IsSide, Grid, Products, no_sink, data_count, raised_count, RulesHold, IsFirstFault, IsFillRule, IsPatchRule, IsLeastFault, fill_rules, Profile, Patch, IsBlankPart, unit_spacing, Values, IfJudged, has_rnk, Rules}
 use Rattle.byteorder.specs.Endian.{big_number}
-use Rattle.drain_grid.specs.Extent.{index_of, Extent}
-use Rattle.drain_grid.specs.Grid.{height_from, IsSide, Grid, Products, no_sink}
 use Rattle.drain_grid.specs.declared.fill_verdict.FillVerdict.{FillVerdict}
 use Rattle.drain_grid.specs.declared.fill_verdict.FillVerdict.TheVariants.{Accepted, Rejected}
 use Rattle.drain_grid.specs.declared.fill_verdict.FillRefusal.{FillRefusal}
-use Rattle.drain_grid.specs.GridRules.{data_count, raised_count, RulesHold, IsFirstFault}
-use Rattle.drain_grid.specs.Rule.{IsFillRule, IsPatchRule, IsLeastFault}
-use Rattle.drain_grid.specs.PatchRules.{fill_rules, Profile}
 use Rattle.drain_grid.specs.declared.fill_verdict.FillCounts.{FillCounts}
 use Rattle.drain_grid.specs.declared.fill_verdict.FillRefusal.TheVariants.{BadSide, BadLength}
-use Rattle.drain_grid.specs.declared.patch.Patch.{Patch}
-use Rattle.drain_grid.specs.RulesAbout.{IsBlankPart}
-use Rattle.drain_grid.specs.Spacing.{unit_spacing}
-use Rattle.drain_grid.specs.Values.{Values}
-use Rattle.drain_grid.specs.Judged.{IfJudged, has_rnk}
-use Rattle.drain_grid.specs.declared.judged.Rules.{Rules}
 
 -- the number of n bytes, among numbers of n bytes that begin at start
 abbrev pub fill_number_at : List ℕ → ℕ → ℕ → ℕ → ℕ

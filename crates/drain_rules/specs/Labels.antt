@@ -1,16 +1,7 @@
 -- The labels of outlets, as the rule SharedLabel compares them: no outlet has the label of an earlier one.
 -- Source: that each basin has a label of its own is this project's own.
-use Rattle.std.specs.Prelude.{◌≡◌, ℤ, pos, ◌↔◌, IsSome}
-use Rattle.drain_basin.specs.Admitted.{IsAdmitted, LabelSet}
-use Rattle.drain_grid.specs.declared.cell.Cell.{Cell}
-use Rattle.drain_grid.specs.declared.rule.Rule.{Rule}
-use Rattle.drain_grid.specs.declared.judged.Rules.{Rules}
-use Rattle.drain_grid.specs.RulesAbout.{IsTried, tried}
-use Rattle.drain_grid.specs.Extent.{IsEarlier}
-use Rattle.drain_grid.specs.Values.{Values}
-use Rattle.drain_grid.specs.Grid.{Grid, Products, IsInside, HasData}
-use Rattle.drain_grid.specs.PatchRules.{Profile}
-use Rattle.drain_grid.specs.GridRules.{HoldsAt, SharedLabelHolds}
+use Rattle.std.specs.Prelude.{◌≡◌, ◌↔◌}
+use Rattle.drain_rules.specs.Names.{ℤ, pos, IsSome, IsAdmitted, LabelSet, Cell, Rule, Rules, IsTried, tried, IsEarlier, Values, Grid, Products, IsInside, HasData, Profile, HoldsAt, SharedLabelHolds}
 use Rattle.drain_rules.specs.Compared.{with_labels}
 
 -- the values of a data cell with code 0

@@ -1,16 +1,9 @@
 -- What a verdict depends on: the values of a grid and its products at the cells of the grid, and nothing else.
 use Rattle.std.specs.Prelude.{◌≡◌, ◌<◌}
-use Rattle.drain_grid.specs.declared.cell.Cell.{Cell}
-use Rattle.drain_grid.specs.Values.{NoDataNumbers, Values}
-use Rattle.drain_grid.specs.Grid.{Grid, Products, IsInside, values_at}
-use Rattle.drain_grid.specs.declared.verdict.Verdict.{Verdict}
+use Rattle.drain_rules.specs.Names.{Cell, NoDataNumbers, Values, Grid, Products, IsInside, values_at, Verdict, IsAdmitted, LabelSet, MAX_LENGTH, IsEarlier, SharedLabelHolds}
 use Rattle.drain_rules.specs.Verdicts.{IsVerdict}
 use Rattle.std.proofs.Common.{ℕ, ℤ, ◌+◌, ◌≤◌, ◌↔◌, ◌⊎◌, inl, inr, refl, sym, ◌∙◌, ap, subst, arith}
 use Rattle.std.proofs.lemmas.Bool.{cases_lt}
-use Rattle.drain_basin.specs.Admitted.{IsAdmitted, LabelSet}
-use Rattle.drain_grid.specs.declared.cell.TheConstants.{MAX_LENGTH}
-use Rattle.drain_grid.specs.Extent.{IsEarlier}
-use Rattle.drain_grid.specs.GridRules.{SharedLabelHolds}
 use Rattle.drain_rules.specs.Areas.{HasCell, IsOutletCell, everywhere}
 use Rattle.drain_rules.specs.Labels.{IsLabelOf, AreLabelsBefore, HasNoLabel}
 use Rattle.drain_rules.specs.Rows.{place}

@@ -1,3 +1,4 @@
+pub mod Names
 pub mod Areas
 pub mod Fill
 pub mod Compared

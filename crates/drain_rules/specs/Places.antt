@@ -1,9 +1,7 @@
 -- Places in row order on a square, and the cells round one that is on no edge.
-use Rattle.std.specs.Prelude.{◌≡◌, ℕ, ◌+◌, ◌-◌, ◌*◌, ◌<◌, ◌≤◌, ℤ, ◌≤ℤ◌, List, IsSome, slice_index_or}
+use Rattle.std.specs.Prelude.{◌≡◌, ◌+◌, ◌-◌, ◌*◌, ◌<◌, ◌≤◌, ◌≤ℤ◌}
+use Rattle.drain_rules.specs.Names.{ℕ, ℤ, List, IsSome, slice_index_or, order_of, rows_down, cols_right, Grid, Cell}
 use Rattle.drain_grid.specs.declared.direction.Direction.{Direction}
-use Rattle.drain_grid.specs.Direction.{order_of, rows_down, cols_right}
-use Rattle.drain_grid.specs.Grid.{Grid}
-use Rattle.drain_grid.specs.declared.cell.Cell.{Cell}
 use Rattle.drain_rules.specs.Fill.{con_at}
 
 -- each neighbour is this many places after the one in the north-west

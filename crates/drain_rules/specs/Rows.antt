@@ -1,24 +1,11 @@
 -- Rows of numbers, and the patches that three of them show.
-use Rattle.std.specs.Prelude.{◌≡◌, ℕ, ◌<◌, ◌≤◌, ℤ, pos, neg_ℤ, List, [], length, slice_index_or, Option, IfSome, ◌-◌, Bool, ◌&&◌, int_lt, is_some, unwrap_or, map, zero, suc, nat_lt, false, Some, None, if◌then◌else◌}
-use Rattle.std.specs.List.{count_by, All, range_with_len}
-use Rattle.drain_grid.specs.declared.cell.Cell.{Cell}
-use Rattle.drain_grid.specs.declared.rule.Rule.{Rule}
-use Rattle.drain_grid.specs.Rule.{rule_number}
-use Rattle.drain_grid.specs.Extent.{row_cells}
-use Rattle.drain_grid.specs.Grid.{Grid, Products, patch_at, set_number_in}
-use Rattle.drain_grid.specs.GridRules.{is_data, is_raised, HoldsAt}
-use Rattle.drain_grid.specs.PatchRules.{Profile}
+use Rattle.std.specs.Prelude.{◌≡◌, ◌<◌, ◌≤◌, ◌-◌, ◌&&◌, if◌then◌else◌}
+use Rattle.drain_rules.specs.Names.{ℕ, ℤ, pos, neg_ℤ, List, [], length, slice_index_or, Option, IfSome, Bool, int_lt, is_some, unwrap_or, map, zero, suc, nat_lt, false, Some, None, count_by, All, range_with_len, Cell, Rule, rule_number, row_cells, Grid, Products, patch_at, set_number_in, is_data, is_raised, HoldsAt, Profile, Patch, MAX_LENGTH, of_product, per_product, Distances, IsPixel, Values, AreLanesOf}
 use Rattle.drain_rules.specs.declared.walk.Tally.{Tally}
 use Rattle.drain_rules.specs.Verdicts.{has_outlet_code}
-use Rattle.drain_grid.specs.declared.patch.Patch.{Patch}
-use Rattle.drain_grid.specs.declared.cell.TheConstants.{MAX_LENGTH}
 use Rattle.drain_grid.specs.declared.set_product.SetProduct.{SetProduct}
 use Rattle.drain_grid.specs.declared.per_product.PerProduct.{PerProduct}
-use Rattle.drain_grid.specs.PerProduct.{of_product, per_product}
-use Rattle.drain_grid.specs.Spacing.{Distances}
-use Rattle.drain_grid.specs.Values.{IsPixel, Values}
 use Rattle.drain_kernel.specs.declared.lanes.Lanes.{Lanes}
-use Rattle.drain_kernel.specs.Columns.{AreLanesOf}
 
 -- What a walk along one row finds.
 

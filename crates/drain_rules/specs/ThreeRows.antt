@@ -1,7 +1,6 @@
 -- Three rows of a grid in memory: the patch round a column of the middle one, and which rows of a grid they are.
-use Rattle.std.specs.Prelude.{◌≡◌, ℕ, ◌+◌, ◌<◌, [], ◌∷◌, length}
-use Rattle.drain_grid.specs.declared.patch.Patch.{Patch}
-use Rattle.drain_grid.specs.Grid.{Grid, Products}
+use Rattle.std.specs.Prelude.{◌≡◌, ◌+◌, ◌<◌, ◌∷◌}
+use Rattle.drain_rules.specs.Names.{ℕ, [], length, Patch, Grid, Products}
 use Rattle.drain_rules.specs.declared.three_rows.ThreeRows.{ThreeRows}
 use Rattle.drain_rules.specs.Rows.{AreRowPatches, IsNoRow, IsRowOf, values_in, beside, west_neighbor}
 

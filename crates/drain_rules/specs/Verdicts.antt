@@ -1,20 +1,8 @@
 -- The verdict on a grid and its products: the first fault, or the counts of an acceptance.
 -- Source: the rules and the counts are this project's own.
-use Rattle.std.specs.Prelude.{◌≡◌, ℕ, pos, Bool, ◌&&◌, Result, Ok, Err}
-use Rattle.std.specs.List.{count_by}
-use Rattle.std.specs.Ordering.{int_eq}
-use Rattle.drain_grid.specs.declared.cell.Cell.{Cell}
-use Rattle.drain_grid.specs.declared.judged.Rules.{Rules}
-use Rattle.drain_grid.specs.declared.rule.Rule.{Rule}
-use Rattle.drain_grid.specs.Extent.{cells}
-use Rattle.drain_grid.specs.Values.{NoDataNumbers}
-use Rattle.drain_grid.specs.Grid.{Grid, Products}
-use Rattle.drain_grid.specs.GridRules.{is_data, data_count, raised_count, RulesHold, IsFirstFault}
-use Rattle.drain_grid.specs.Rule.{IsAnyRule}
-use Rattle.drain_grid.specs.RulesAbout.{IsTried, tried}
-use Rattle.drain_grid.specs.PatchRules.{Profile, check_rules}
+use Rattle.std.specs.Prelude.{◌≡◌, ◌&&◌}
+use Rattle.drain_rules.specs.Names.{ℕ, pos, Bool, Result, Ok, Err, count_by, int_eq, Cell, Rules, Rule, cells, NoDataNumbers, Grid, Products, is_data, data_count, raised_count, RulesHold, IsFirstFault, IsAnyRule, IsTried, tried, Profile, check_rules, Verdict}
 use Rattle.drain_grid.specs.declared.verdict.Counts.{Counts}
-use Rattle.drain_grid.specs.declared.verdict.Verdict.{Verdict}
 use Rattle.drain_grid.specs.declared.verdict.Verdict.TheVariants.{Accepted, Rejected}
 use Rattle.drain_rules.specs.declared.fill_input.FillInput.{FillInput}
 use Rattle.drain_rules.specs.Fill.{fill_grid, fill_products}

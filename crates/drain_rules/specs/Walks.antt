@@ -1,20 +1,11 @@
 -- What the code's walk over the judged cells of a grid has found.
-use Rattle.std.specs.Prelude.{◌≡◌, ℕ, ◌*◌, List, Bool, true}
-use Rattle.std.specs.List.{count_by, flat_map, range_with_len}
-use Rattle.drain_basin.specs.Admitted.{LabelSet}
-use Rattle.drain_grid.specs.declared.cell.Cell.{Cell}
-use Rattle.drain_grid.specs.declared.cell.TheConstants.{MAX_LENGTH}
-use Rattle.drain_grid.specs.Extent.{row_cells}
-use Rattle.drain_grid.specs.Grid.{Grid, Products}
-use Rattle.drain_grid.specs.GridRules.{is_data, is_raised}
+use Rattle.std.specs.Prelude.{◌≡◌, ◌*◌}
+use Rattle.drain_rules.specs.Names.{ℕ, List, Bool, true, count_by, flat_map, range_with_len, LabelSet, Cell, MAX_LENGTH, row_cells, Grid, Products, is_data, is_raised, Rules, Patch, tried}
 use Rattle.drain_rules.specs.declared.walk.RowOutcome.{RowOutcome}
 use Rattle.drain_rules.specs.declared.walk.RowOutcome.TheVariants.{Sound, Faulty}
 use Rattle.drain_rules.specs.declared.walk.Tally.{Tally}
 use Rattle.drain_rules.specs.Rows.{IsAtMost, AreRowPatches, place}
 use Rattle.drain_rules.specs.Verdicts.{has_outlet_code}
-use Rattle.drain_grid.specs.declared.judged.Rules.{Rules}
-use Rattle.drain_grid.specs.declared.patch.Patch.{Patch}
-use Rattle.drain_grid.specs.RulesAbout.{tried}
 use Rattle.drain_rules.specs.declared.walk.Area.{Area}
 use Rattle.drain_rules.specs.Areas.{IsAreaOutcome, everywhere}
 use Rattle.drain_rules.specs.Compared.{IsTriedIf}

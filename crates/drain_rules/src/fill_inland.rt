@@ -1,12 +1,8 @@
 //! A quick test of rules 4 to 9 at an inland cell: one that is on no edge, and beside no void. It copies no patch, and
 //! reads only the numbers that it compares.
 
-ghost use Rattle.std.specs.Prelude.{◌≡◌, ◌<◌, ◌≤ℤ◌, ◌<ℤ◌, ◌*◌, ◌⊎◌, IsTrue, None};
-ghost use Rattle.std.specs.Int.{int_max};
-ghost use Rattle.drain_grid.specs.Grid.{patch_at};
-ghost use Rattle.drain_grid.specs.PatchRules.{fill_rules};
-ghost use Rattle.drain_grid.specs.Rule.{IsFillRule, IsLeastFault};
-ghost use Rattle.drain_grid.specs.Direction.{Names};
+ghost use Rattle.std.specs.Prelude.{◌≡◌, ◌<◌, ◌≤ℤ◌, ◌<ℤ◌, ◌*◌, ◌⊎◌};
+ghost use Rattle.drain_rules.specs.Names.{IsTrue, None, int_max, patch_at, fill_rules, IsFillRule, IsLeastFault, Names};
 ghost use Rattle.drain_rules.specs.Fill.{con_at, rnk_at, sample_at, spl_at};
 ghost use Rattle.drain_rules.specs.Places.{HasDataAcross, HasPlacesRound, IsInland, IsNoneLower};
 ghost use Rattle.drain_rules.specs.Verdicts.{parts_grid, parts_products};

@@ -1,10 +1,9 @@
 //! The four parts of a fill input, read in place: the tile, its conditioned elevations, spill parents and ranks. Only
 //! the nine cells of one patch are copied.
 
-ghost use Rattle.std.specs.Prelude.{◌≡◌, ◌<◌, ◌≤◌, IsTrue, ◌*◌, length, pos};
-ghost use Rattle.drain_grid.specs.Judged.{IfJudged, has_rnk};
+ghost use Rattle.std.specs.Prelude.{◌≡◌, ◌<◌, ◌≤◌, ◌*◌};
+ghost use Rattle.drain_rules.specs.Names.{IsTrue, length, pos, IfJudged, has_rnk, IsSide};
 ghost use Rattle.drain_rules.specs.Fill.{IsBlankVoid};
-ghost use Rattle.drain_grid.specs.Grid.{IsSide};
 ghost use Rattle.drain_grid.specs.declared.tile.TheConstants.{MAX_SIDE};
 ghost use Rattle.drain_rules.specs.Places.{AreWays};
 
@@ -67,10 +66,8 @@ fn ways(side: usize) -> [usize; 8]
 }
 
 impl<'a> FillInput<'a> {
-    ghost use Rattle.std.specs.Prelude.{◌+◌, ◌↔◌, IsSome};
-    ghost use Rattle.drain_grid.specs.Direction.{cols_right, rows_down};
-    ghost use Rattle.drain_grid.specs.Extent.{IsCellOf, index_of};
-    ghost use Rattle.drain_grid.specs.Grid.{height_from};
+    ghost use Rattle.std.specs.Prelude.{◌+◌, ◌↔◌};
+    ghost use Rattle.drain_rules.specs.Names.{IsSome, cols_right, rows_down, IsCellOf, index_of, height_from};
     ghost use Rattle.drain_rules.specs.Fill.{square, IsFillLength, sample_at, con_at, spl_at, rnk_at};
     ghost use Rattle.drain_rules.specs.Places.{HasPlacesRound, place_beside};
 
@@ -164,8 +161,7 @@ impl<'a> FillInput<'a> {
 }
 
 impl<'a> CellSource for FillInput<'a> {
-    ghost use Rattle.drain_grid.specs.Grid.{values_at};
-    ghost use Rattle.drain_grid.specs.Spacing.{unit_spacing};
+    ghost use Rattle.drain_rules.specs.Names.{values_at, unit_spacing};
     ghost use Rattle.drain_rules.specs.Fill.{square};
     ghost use Rattle.drain_rules.specs.Verdicts.{parts_grid, parts_products};
 

@@ -1,11 +1,9 @@
 //! The check of a fill input: rules 4 to 9 at each cell in row order. An inland cell is tested by its numbers in place,
 //! and any other by its patch, as is one that this test doesn't pass.
 
-ghost use Rattle.std.specs.Prelude.{◌<◌, IfOk, IfErr, IsTrue};
+ghost use Rattle.std.specs.Prelude.{◌<◌};
+ghost use Rattle.drain_rules.specs.Names.{IfOk, IfErr, IsTrue, fill_rules, IsInside, patch_at, IsFillRule, IsLeastFault};
 ghost use Rattle.drain_grid.specs.Path.{IsLeastSurface, ShowsSpillLevels};
-ghost use Rattle.drain_grid.specs.PatchRules.{fill_rules};
-ghost use Rattle.drain_grid.specs.Grid.{IsInside, patch_at};
-ghost use Rattle.drain_grid.specs.Rule.{IsFillRule, IsLeastFault};
 ghost use Rattle.drain_rules.specs.Fill.{fill_grid, fill_products, IsFillAnswer, IsFillVerdict, OnAccepted};
 ghost use Rattle.drain_rules.specs.Verdicts.{parts_grid, parts_products};
 ghost use Rattle.drain_rules.specs.Places.{IsInland};

@@ -1,14 +1,8 @@
 //! What a walk keeps of the outlets that it passes.
 
-ghost use Rattle.std.specs.Prelude.{◌≡◌, ◌↔◌, ◌&&◌, IsTrue, is_some, pos, ◌+◌, ◌<◌, ◌≤◌, ℕ, Bool, true, IfOk, OnOk, OnErr};
-ghost use Rattle.std.specs.Ordering.{int_eq};
+ghost use Rattle.std.specs.Prelude.{◌≡◌, ◌↔◌, ◌&&◌, ◌+◌, ◌<◌, ◌≤◌};
+ghost use Rattle.drain_rules.specs.Names.{IsTrue, is_some, pos, ℕ, Bool, true, IfOk, OnOk, OnErr, int_eq, Cell, MAX_LENGTH, IsEarlier, Grid, Products, IsInside, values_at, SharedLabelHolds, Values};
 ghost use Rattle.drain_rules.specs.Labels.{IsOutletByCode};
-ghost use Rattle.drain_grid.specs.declared.cell.Cell.{Cell};
-ghost use Rattle.drain_grid.specs.declared.cell.TheConstants.{MAX_LENGTH};
-ghost use Rattle.drain_grid.specs.Extent.{IsEarlier};
-ghost use Rattle.drain_grid.specs.Grid.{Grid, Products, IsInside, values_at};
-ghost use Rattle.drain_grid.specs.GridRules.{SharedLabelHolds};
-ghost use Rattle.drain_grid.specs.Values.{Values};
 ghost use Rattle.drain_rules.specs.declared.walk.Area.{Area};
 ghost use Rattle.drain_rules.specs.Areas.{HasCell, IsOutletCell, everywhere};
 ghost use Rattle.drain_rules.specs.Compared.{IfCompared};
@@ -75,8 +69,8 @@ pub trait Labels {
 }
 
 impl Labels for OutletLabels {
-    ghost use Rattle.std.specs.Prelude.{true, refl, ◌↔◌, ◌⊎◌, ℤ};
-    ghost use Rattle.drain_basin.specs.Admitted.{IsAdmitted};
+    ghost use Rattle.std.specs.Prelude.{◌↔◌, ◌⊎◌};
+    ghost use Rattle.drain_rules.specs.Names.{true, refl, ℤ, IsAdmitted};
     ghost use Rattle.drain_rules.specs.Areas.{everywhere};
     ghost use Rattle.drain_rules.specs.Labels.{AreLabelsBefore, HasNoLabel, IsLabelOf};
     ghost use Rattle.drain_rules.specs.Laws.{labels-more, labels-passed, labels-shared};

@@ -1,10 +1,7 @@
 //! The first rule that fails at a cell, of those about some rasters that look at its patch only.
 
-ghost use Rattle.std.specs.Prelude.{◌↔◌, IsTrue};
-ghost use Rattle.drain_grid.specs.Direction.{IsCode};
-ghost use Rattle.drain_grid.specs.PatchRules.{BelowGroundHolds};
-ghost use Rattle.drain_grid.specs.Rule.{IsBetween, IsLeastFault, IsOnly, IsPatchRule, IsPresenceRule};
-ghost use Rattle.drain_grid.specs.RulesAbout.{IsBlankPart, IsCompletePart, part_rules};
+ghost use Rattle.std.specs.Prelude.{◌↔◌};
+ghost use Rattle.drain_rules.specs.Names.{IsTrue, IsCode, BelowGroundHolds, IsBetween, IsLeastFault, IsOnly, IsPatchRule, IsPresenceRule, IsBlankPart, IsCompletePart, part_rules};
 
 use crate::patch_rules::fill_fault;
 use drain_grid::{CellValues, Patch, Rule, Rules};

@@ -1,15 +1,9 @@
 //! The first rule that fails at a cell, of those that look at its patch only.
 
-ghost use Rattle.std.specs.Prelude.{◌≡◌, ◌<◌, ◌≤◌, ℕ, IsTrue, None};
-ghost use Rattle.drain_grid.specs.declared.cell.TheConstants.{MAX_LENGTH};
-ghost use Rattle.drain_grid.specs.declared.patch.Patch.{Patch};
-ghost use Rattle.drain_grid.specs.PatchRules.{BelowGroundHolds, surface_rules};
-ghost use Rattle.drain_grid.specs.Rule.{IsLeastFault, IsPatchRule, IsFillRule, IsOnly, IsPresenceRule};
-ghost use Rattle.drain_kernel.specs.Columns.{IsKept};
-ghost use Rattle.drain_grid.specs.RulesAbout.{tried};
+ghost use Rattle.std.specs.Prelude.{◌≡◌, ◌<◌, ◌≤◌};
+ghost use Rattle.drain_rules.specs.Names.{ℕ, IsTrue, None, MAX_LENGTH, Patch, BelowGroundHolds, surface_rules, IsLeastFault, IsPatchRule, IsFillRule, IsOnly, IsPresenceRule, IsKept, tried, has_rnk};
 ghost use Rattle.drain_rules.specs.Fill.{IsRightVoid};
 ghost use Rattle.drain_rules.specs.Rows.{raised_between};
-ghost use Rattle.drain_grid.specs.Judged.{has_rnk};
 ghost use Rattle.drain_kernel.specs.Rules.{rules_with};
 
 use crate::part_rules::part_fault;

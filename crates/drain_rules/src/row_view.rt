@@ -1,10 +1,7 @@
 //! A row of a grid and its products, as slices of numbers and of marks.
 
-ghost use Rattle.std.specs.Prelude.{◌≡◌, ◌<◌, ◌≤◌, ℕ, false, slice_index_or, ◌↔◌, IfSome, IsTrue, None, option_copied, length, pos};
-ghost use Rattle.drain_fill.specs.Below.{AreRowHeights, IsBelowAt};
-ghost use Rattle.drain_grid.specs.declared.cell.TheConstants.{MAX_LENGTH};
-ghost use Rattle.drain_grid.specs.PerProduct.{of_product, per_product};
-ghost use Rattle.drain_grid.specs.Values.{IsPixel};
+ghost use Rattle.std.specs.Prelude.{◌≡◌, ◌<◌, ◌≤◌, ◌↔◌};
+ghost use Rattle.drain_rules.specs.Names.{ℕ, false, slice_index_or, IfSome, IsTrue, None, option_copied, length, pos, AreRowHeights, IsBelowAt, MAX_LENGTH, of_product, per_product, IsPixel};
 ghost use Rattle.drain_rules.specs.Rows.{values_in, beside, west_neighbor, AreLanesIfAny, AreRowNumbers, grounds};
 
 use crate::screen::{Grounds, cells_above_ground};
@@ -69,8 +66,7 @@ pub struct RowView<'a> {
 }
 
 impl<'a> Model for RowView<'a> {
-    ghost use Rattle.std.specs.Prelude.{option_copied};
-    ghost use Rattle.drain_grid.specs.PerProduct.{of_product, per_product};
+    ghost use Rattle.drain_rules.specs.Names.{option_copied, of_product, per_product};
     ghost use Rattle.drain_rules.specs.Rows.{IsLanedRow};
     ghost use Rattle.drain_rules.specs.Rows.{MarkedRow};
 

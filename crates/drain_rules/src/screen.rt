@@ -1,8 +1,7 @@
 //! How many of a row's first cells are not below their ground, compared sixteen cells at a time.
 
-ghost use Rattle.std.specs.Prelude.{◌≡◌, ◌<◌, ◌≤◌, ◌↔◌, ◌-◌, ℕ, FitsSigned, IsTrue, length, slice_range};
-ghost use Rattle.std.specs.Int.{w16};
-ghost use Rattle.drain_fill.specs.Below.{AreRowHeights, IsBelowAt};
+ghost use Rattle.std.specs.Prelude.{◌≡◌, ◌<◌, ◌≤◌, ◌↔◌, ◌-◌};
+ghost use Rattle.drain_rules.specs.Names.{ℕ, FitsSigned, IsTrue, length, slice_range, w16, AreRowHeights, IsBelowAt};
 ghost use Rattle.drain_rules.specs.Rows.{grounds};
 
 use drain_fill::first_below;

@@ -1,10 +1,9 @@
 //! A row of a grid and its products, with the rows above and below it; and the patch round a column.
 
-ghost use Rattle.std.specs.Prelude.{◌≡◌, ◌≤◌, ◌<◌, ℕ, IsTrue, length};
+ghost use Rattle.std.specs.Prelude.{◌≡◌, ◌≤◌, ◌<◌};
+ghost use Rattle.drain_rules.specs.Names.{ℕ, IsTrue, length, IsKept, AreLanesOf, tried};
 ghost use Rattle.drain_rules.specs.Fill.{IsBlankVoid};
 ghost use Rattle.drain_rules.specs.Rows.{values_in};
-ghost use Rattle.drain_kernel.specs.Columns.{IsKept, AreLanesOf};
-ghost use Rattle.drain_grid.specs.RulesAbout.{tried};
 ghost use Rattle.drain_rules.specs.ThreeRows.{patch_in};
 
 use crate::fill_input::is_blank_void;

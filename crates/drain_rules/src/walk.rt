@@ -1,15 +1,10 @@
 //! The walk over the judged cells: every rule about the judged rasters at each, up to the first fault, with the counts of the cells before it.
 
-ghost use Rattle.std.specs.Prelude.{◌≡◌, ◌↔◌, IsTrue, ◌<◌, ◌⊎◌, ℤ, IfOk, IfErr, OnOk, OnErr, None, ◌+◌, ◌^◌, ◌≤◌, ◌&&◌, if◌then◌else◌, int_lt, is_some, unwrap_or, pos, ◌*◌};
-ghost use Rattle.drain_basin.specs.Admitted.{IsAdmitted};
-ghost use Rattle.drain_grid.specs.declared.cell.TheConstants.{MAX_LENGTH};
-ghost use Rattle.drain_grid.specs.PatchRules.{BelowGroundHolds};
-ghost use Rattle.drain_grid.specs.Rule.{IsLeastFault, IsPatchRule};
-ghost use Rattle.drain_grid.specs.RulesAbout.{tried};
+ghost use Rattle.std.specs.Prelude.{◌≡◌, ◌↔◌, ◌<◌, ◌⊎◌, ◌+◌, ◌^◌, ◌≤◌, ◌&&◌, if◌then◌else◌, ◌*◌};
+ghost use Rattle.drain_rules.specs.Names.{IsTrue, ℤ, IfOk, IfErr, OnOk, OnErr, None, int_lt, is_some, unwrap_or, pos, IsAdmitted, MAX_LENGTH, BelowGroundHolds, IsLeastFault, IsPatchRule, tried, int_eq};
 ghost use Rattle.drain_rules.specs.Compared.{IfCompared, IsTriedIf, with_labels};
 ghost use Rattle.drain_rules.specs.Labels.{HasNoLabel, IsLabelOf, IsOutletByCode, HasNewLabel};
 ghost use Rattle.drain_rules.specs.Areas.{IsCellStop, IsAreaStop, IsAreaTally, OfAreaRow, HasRow, AreSound, IsAreaOutcome};
-ghost use Rattle.std.specs.Ordering.{int_eq};
 ghost use Rattle.drain_rules.specs.Rows.{place, IsAtMost};
 ghost use Rattle.drain_rules.specs.Walks.{IsBounded};
 
@@ -300,10 +295,9 @@ pub struct Walk<L> {
 
 impl Walk<OutletLabels> {
     ghost use Rattle.std.specs.Prelude.{◌≡◌};
-    ghost use Rattle.drain_grid.specs.Grid.{Grid, Products};
+    ghost use Rattle.drain_rules.specs.Names.{Grid, Products, Rules};
     ghost use Rattle.drain_rules.specs.Walks.{IsRightOfAll};
     ghost use Rattle.drain_rules.specs.Verdicts.{IsVerdictBy};
-    ghost use Rattle.drain_grid.specs.declared.judged.Rules.{Rules};
 
     /// A walk over all cells; no row was checked. This takes no memory.
     pub fn new(alloc: Global) -> Walk<OutletLabels>
@@ -336,10 +330,8 @@ impl Walk<OutletLabels> {
 }
 
 impl<L: Labels> Walk<L> {
-    ghost use Rattle.std.specs.Prelude.{◌≡◌, ◌<◌, ◌+◌, OnErr, OnOk};
-    ghost use Rattle.drain_grid.specs.declared.cell.TheConstants.{MAX_LENGTH};
-    ghost use Rattle.drain_grid.specs.declared.judged.Rules.{Rules};
-    ghost use Rattle.drain_grid.specs.Grid.{Grid, Products};
+    ghost use Rattle.std.specs.Prelude.{◌≡◌, ◌<◌, ◌+◌};
+    ghost use Rattle.drain_rules.specs.Names.{OnErr, OnOk, MAX_LENGTH, Rules, Grid, Products};
     ghost use Rattle.drain_rules.specs.Compared.{IfCompared};
     ghost use Rattle.drain_rules.specs.Labels.{HasNewLabel};
     ghost use Rattle.drain_rules.specs.Rows.{place};

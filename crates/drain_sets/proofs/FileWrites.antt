@@ -1,11 +1,9 @@
 -- A file that wasn't called, and the texts of headers, which have some bytes.
-use Rattle.std.proofs.Common.{◌<◌, ℕ, List, length, arith, inl, inr, [], ◌++◌, Option, Some, None, Err, sym, subst, length-append, append-nil}
+use Rattle.drain_sets.proofs.Names.{◌<◌, ℕ, List, length, arith, inl, inr, [], ◌++◌, Err, sym, subst, length-append, append-nil, HeightKind, Whole, Single, Fields, IsTextOf, IsTextOfKind, text_of, pixel_lines, place_lines, nodata_line}
+use Rattle.std.proofs.Common.{Option, Some, None}
 use Rattle.std.specs.Io.KnownBytes.{Appends}
 use Rattle.drain_device.specs.Failing.{Sink, full_patience, GivesUpWriting}
-use Rattle.drain_grid.specs.declared.height_kind.HeightKind.{HeightKind}
-use Rattle.drain_grid.specs.declared.height_kind.HeightKind.TheVariants.{Whole, Single}
-use Rattle.drain_header.specs.Header.{Fields}
-use Rattle.drain_header.specs.Text.{IsTextOf, IsTextOfKind, text_of, shape_lines, pixel_lines, place_lines, nodata_line, line}
+use Rattle.drain_header.specs.Text.{shape_lines, line}
 use Rattle.drain_sets.specs.FileWrites.{WritesFile}
 use Rattle.drain_sets.specs.declared.set_files.SetFault.TheVariants.{OutOfMemory}
 

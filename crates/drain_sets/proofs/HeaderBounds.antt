@@ -1,20 +1,14 @@
 -- The header of a product is within the bounds of a header.
-use Rattle.std.proofs.Common.{◌≡◌, ℕ, ◌*◌, ◌/◌, ◌≤◌, inl, inr, ℤ, Bool, false, refl, sym, subst, arith, rules}
+use Rattle.drain_sets.proofs.Names.{◌≡◌, ℕ, ◌*◌, ◌/◌, ◌≤◌, inl, inr, ℤ, Bool, false, refl, sym, subst, arith, rules, IsFloatNumber, HeightKind, Whole, Single, IsNoData, Fields, IsPixelSize, IsCoordinate, AreWithinBounds, bits_of, header_beside, header_on, no_height}
 use Rattle.std.specs.Prelude.{Option, Some, None, IfSome, unwrap_or}
 use Rattle.std.proofs.Math.Bridge.{le_prop}
 use Rattle.std.proofs.Math.Logic.{∥∥₁_elim}
-use Rattle.drain_floats.specs.Patterns.{IsFloatNumber}
-use Rattle.drain_grid.specs.declared.height_kind.HeightKind.{HeightKind}
-use Rattle.drain_grid.specs.declared.height_kind.HeightKind.TheVariants.{Whole, Single}
 use Rattle.drain_grid.specs.declared.product.Product.{Product}
 use Rattle.drain_grid.specs.declared.product.Product.TheVariants.{Con, Dir, Acc, Bas, Spl, Rnk}
 use Rattle.drain_grid.specs.Product.{default_no_data}
-use Rattle.drain_grid.specs.Values.{IsNoData}
 use Rattle.drain_header.specs.declared.header.ByteOrdering.TheVariants.{Least}
 use Rattle.drain_header.specs.declared.header.Place.{Place}
-use Rattle.drain_header.specs.Header.{Fields, IsPixelSize, IsCoordinate, AreWithinBounds}
 use Rattle.drain_header.proofs.Bounds.{float_known}
-use Rattle.drain_sets.specs.ProductHeaders.{bits_of, header_beside, header_on, no_height}
 
 size_ok : (p : Product) → IsPixelSize (bits_of p)
 size_ok Con = inr (inl refl)

@@ -1,3 +1,4 @@
+pub mod Names
 pub mod FileWrites
 pub mod HeaderBounds
 mod MissingHeaders

@@ -1,10 +1,6 @@
 -- The text of the header of a missing raster has no fault and describes that header, since each text of a header does.
-use Rattle.std.proofs.Common.{◌≡◌, ℕ, List, Result, Ok, Err, IfOk, sym, subst, ◌∙◌}
-use Rattle.drain_header.specs.Faults.{Describes, DescribesOf}
-use Rattle.drain_header.specs.Header.{AreWithinBounds, Fields}
-use Rattle.drain_header.specs.Text.{IsTextOf}
+use Rattle.drain_sets.proofs.Names.{◌≡◌, ℕ, List, Result, Ok, Err, IfOk, sym, subst, ◌∙◌, Describes, DescribesOf, AreWithinBounds, Fields, IsTextOf, kind_of}
 use Rattle.drain_header.proofs.TextReads.{text_reads_back}
-use Rattle.drain_header.specs.Lines.{kind_of}
 use Rattle.drain_sets.specs.Missing.{ReadsAsMap, map_header}
 
 pub reads_as_map : {V E : Type 0} (there : List ℕ) (h map : Fields) (r : Result V E) (items : V → List ℕ) → map ≡ map_header h → AreWithinBounds map → DescribesOf (kind_of there) there h →

@@ -1,11 +1,9 @@
 -- The header of a raster that is missing beside another one, whose pixels are a byte each.
 -- Source: the Esri description of BIL headers; sizes, byte order and the no-data number are this project's own
-use Rattle.std.specs.Prelude.{◌≡◌, ℕ, List, Some, pos, false, Result, Ok, Err}
-use Rattle.drain_grid.specs.declared.height_kind.HeightKind.TheVariants.{Whole}
+use Rattle.std.specs.Prelude.{◌≡◌}
+use Rattle.drain_sets.specs.Names.{ℕ, List, Some, pos, false, Result, Ok, Err, Whole, Least, Fields}
 use Rattle.drain_header.specs.declared.fault.HeaderFault.{HeaderFault}
-use Rattle.drain_header.specs.declared.header.ByteOrdering.TheVariants.{Least}
 use Rattle.drain_header.specs.Faults.{AnswersOf, Describes, DescribesOf}
-use Rattle.drain_header.specs.Header.{Fields}
 use Rattle.drain_header.specs.Text.{text_of}
 use Rattle.drain_header.specs.Lines.{kind_of}
 

@@ -1,13 +1,11 @@
 -- The headers of products on elevations with a header of their own.
 -- Source: the Esri description of BIL headers; sizes, byte order and no-data numbers are this project's own
-use Rattle.std.specs.Prelude.{ℕ, ℤ, pos, ◌*◌, ◌/◌, Bool, true, false, Some, unwrap_or}
+use Rattle.std.specs.Prelude.{◌*◌, ◌/◌}
+use Rattle.drain_sets.specs.Names.{ℕ, ℤ, pos, Bool, true, false, Some, unwrap_or, Whole, Single, Least, Fields}
 use Rattle.drain_grid.specs.declared.height_kind.HeightKind.{HeightKind}
-use Rattle.drain_grid.specs.declared.height_kind.HeightKind.TheVariants.{Whole, Single}
 use Rattle.drain_grid.specs.declared.product.Product.{Product}
 use Rattle.drain_grid.specs.declared.product.Product.TheVariants.{Con, Dir, Acc, Bas, Spl, Rnk}
 use Rattle.drain_grid.specs.Product.{default_no_data}
-use Rattle.drain_header.specs.declared.header.ByteOrdering.TheVariants.{Least}
-use Rattle.drain_header.specs.Header.{Fields}
 
 -- heights have 16 bits, codes 8, counts, labels and ranks 32
 abbrev pub bits_of : Product → ℕ

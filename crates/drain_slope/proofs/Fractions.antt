@@ -1,10 +1,5 @@
 -- What a fraction below the ratio of two distances shows of two drops.
-use Rattle.std.proofs.Common.{ℕ, ℤ, ◌*◌, ◌≤◌, ◌≡◌, pos, ◌≤ℤ◌, arith, refl}
-use Rattle.std.proofs.lemmas.Int.{ints}
-use Rattle.drain_grid.specs.declared.direction.Direction.{Direction}
-use Rattle.drain_grid.specs.Slope.{slope_key}
-use Rattle.drain_grid.specs.Spacing.{Distances, IsSpacing, distance_square, weight_of}
-use Rattle.drain_grid.proofs.Distances.{by_fraction, steeper_across}
+use Rattle.drain_slope.proofs.Names.{ℕ, ℤ, ◌*◌, ◌≤◌, ◌≡◌, pos, ◌≤ℤ◌, arith, refl, ints, Direction, slope_key, Distances, IsSpacing, distance_square, weight_of, by_fraction, steeper_across}
 use Rattle.drain_slope.specs.declared.fraction.Fraction.{Fraction}
 use Rattle.drain_slope.specs.Fractions.{IsBelow}
 use Rattle.drain_slope.proofs.Keys.{not_less_is}

@@ -1,21 +1,7 @@
 -- Keys and steepest ways down: where some key is above 0, the directions with the greatest key are the steepest.
-use Rattle.std.proofs.Common.{◌≡◌, ℕ, zero, suc, ◌+◌, ◌*◌, ◌≤◌, IsTrue, not, ◌<◌, ◌↔◌, ℤ, pos, negsuc, ◌-ℤ◌, ◌*ℤ◌, ◌≤ℤ◌, ◌<ℤ◌, Bool, true, false, ◌&&◌, int_lt, Option, Some, None, is_some, if◌then◌else◌, get_or, refl, sym, ◌∙◌, ap, subst, arith, below_more}
-use Rattle.std.proofs.lemmas.Int.{ints, by_lt_z}
-use Rattle.std.proofs.lemmas.Bool.{false≢true}
-use Rattle.drain_grid.specs.declared.direction.Direction.{Direction}
-use Rattle.drain_grid.specs.declared.direction.Direction.TheVariants.{East}
-use Rattle.drain_grid.specs.declared.patch.Patch.{Patch}
-use Rattle.drain_grid.specs.Direction.{directions, order_of}
-use Rattle.drain_grid.specs.Values.{Values}
+use Rattle.drain_slope.proofs.Names.{◌≡◌, ℕ, zero, suc, ◌+◌, ◌*◌, ◌≤◌, IsTrue, not, ◌<◌, ◌↔◌, ℤ, pos, negsuc, ◌-ℤ◌, ◌*ℤ◌, ◌≤ℤ◌, ◌<ℤ◌, Bool, true, false, ◌&&◌, int_lt, Option, Some, None, is_some, if◌then◌else◌, get_or, refl, sym, ◌∙◌, ap, subst, arith, below_more, ints, by_lt_z, false≢true, Direction, East, Patch, directions, order_of, Values, height_of, slope_key, key_to, IsSteepest, IsFirstSteepest, IsSpacing, distance_square, weight_of, less_complete, less_sound, of_each, of_earlier, drop_of, drop_at, key_at, IsFirstGreatest, IsLowerCon, IsLowerNumber, weight_above_0, steeper_across}
 use Rattle.drain_grid.specs.Patch.{neighbor, IsDataCell, IsLower, IsLowerAt, HasLower}
-use Rattle.drain_grid.specs.HeightKinds.{height_of}
 use Rattle.drain_grid.proofs.SingleHeights.{numbers_order}
-use Rattle.drain_grid.specs.Slope.{slope_key, key_to, IsSteepest, IsFirstSteepest}
-use Rattle.drain_grid.specs.Spacing.{IsSpacing, distance_square, weight_of}
-use Rattle.drain_grid.proofs.Decisions.{less_complete, less_sound}
-use Rattle.drain_grid.proofs.Neighbors.{of_each, of_earlier}
-use Rattle.drain_slope.specs.Key.{drop_of, drop_at, key_at, IsFirstGreatest, IsLowerCon, IsLowerNumber}
-use Rattle.drain_grid.proofs.Distances.{weight_above_0, steeper_across}
 use Rattle.drain_slope.proofs.Places.{place_at}
 
 -- the drop towards a lower neighbour

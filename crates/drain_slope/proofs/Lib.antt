@@ -1,3 +1,4 @@
+pub mod Names
 pub mod Places
 pub mod Keys
 pub mod NamedSlopes

@@ -1,10 +1,5 @@
 -- The direction that the code names decides whether the code leads down a steepest way.
-use Rattle.std.proofs.Common.{◌↔◌, Bool, IsTrue, subst}
-use Rattle.drain_grid.specs.declared.direction.Direction.{Direction}
-use Rattle.drain_grid.specs.declared.patch.Patch.{Patch}
-use Rattle.drain_grid.specs.Direction.{Names}
-use Rattle.drain_grid.specs.Slope.{IsSteepest}
-use Rattle.drain_grid.proofs.Neighbors.{same_direction}
+use Rattle.drain_slope.proofs.Names.{◌↔◌, Bool, IsTrue, subst, Direction, Patch, Names, IsSteepest, same_direction}
 
 -- it does where the named direction is steepest
 pub leads_by_name : (p : Patch) (d : Direction) (steep : Bool) → Names p.here.dir d → IsTrue steep ↔ IsSteepest p d →

@@ -1,9 +1,5 @@
 -- Products of whole numbers: they distribute over sums, and are bounded by their factors.
-use Rattle.std.proofs.Common.{◌≡◌, ℕ, zero, suc, ◌*◌, ◌^◌, ◌≤◌, ◌<◌, ℤ, pos, negsuc, neg_ℤ, ◌+ℤ◌, ◌*ℤ◌, ◌≤ℤ◌, FitsSigned, to_z, of_z, sym, ◌∙◌, ap, subst, arith}
-use Rattle.std.proofs.Math.IntN.{suc_ℤ-*ℤ, *ℤ-negsuc, *ℤ-zero, *ℤ_comm}
-use Rattle.std.specs.Int.{w128}
-use Rattle.std.proofs.lemmas.Int.{ints, to_z-of_z}
-use Rattle.std.proofs.lemmas.Nat.{mul-le}
+use Rattle.drain_slope.proofs.Names.{◌≡◌, ℕ, zero, suc, ◌*◌, ◌^◌, ◌≤◌, ◌<◌, ℤ, pos, negsuc, neg_ℤ, ◌+ℤ◌, ◌*ℤ◌, ◌≤ℤ◌, FitsSigned, to_z, of_z, sym, ◌∙◌, ap, subst, arith, suc_ℤ-*ℤ, *ℤ-negsuc, *ℤ-zero, *ℤ_comm, w128, ints, to_z-of_z, mul-le}
 
 -- one more in the second factor
 mul_suc : (x : ℤ) (n : ℕ) → x *ℤ pos (suc n) ≡ (x *ℤ pos n) +ℤ x

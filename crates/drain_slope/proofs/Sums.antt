@@ -1,16 +1,8 @@
 -- A sum from the greatest shift down: what was added so far, times a power, and the rest, which is less than a few of that power.
-use Rattle.std.proofs.Common.{◌≡◌, ℕ, suc, ◌+◌, ◌*◌, ◌^◌, ◌<◌, ◌≤◌, ◌==◌, ℤ, pos, neg_ℤ, ◌+ℤ◌, ◌*ℤ◌, ◌<ℤ◌, ◌≤ℤ◌, ◌⊎◌, ◌↔◌, Bool, true, false, nat_lt, if◌then◌else◌, inl, inr, refl, sym, ◌∙◌, ap, subst, arith}
-use Rattle.std.proofs.Math.Nat.{two-pow-succ}
+use Rattle.drain_slope.proofs.Names.{◌≡◌, ℕ, suc, ◌+◌, ◌*◌, ◌^◌, ◌<◌, ◌≤◌, ◌==◌, ℤ, pos, neg_ℤ, ◌+ℤ◌, ◌*ℤ◌, ◌<ℤ◌, ◌≤ℤ◌, ◌⊎◌, ◌↔◌, Bool, true, false, nat_lt, if◌then◌else◌, inl, inr, refl, sym, ◌∙◌, ap, subst, arith, two-pow-succ, zero-*ℤ, +ℤ_idr, *ℤ_comm, cases_lt, cases_order, ints, by_lt_z, pow_pos, mul-lt, Term, Sum, term_value, sum_value, IsWithin, AreWithin, AreBelow, AreFrom, number_at, level_of, value_below, rest_of}
 use Rattle.std.proofs.Math.Pow.{pow_mono}
-use Rattle.std.proofs.Math.IntN.{zero-*ℤ, +ℤ_idr, *ℤ_comm}
-use Rattle.std.proofs.lemmas.Bool.{cases_lt, cases_order}
 use Rattle.std.proofs.lemmas.Bool.Decides.{nat_tests}
-use Rattle.std.proofs.lemmas.Int.{ints, by_lt_z}
-use Rattle.std.proofs.lemmas.Nat.{pow_pos, mul-lt}
 use Rattle.drain_slope.proofs.Products.{associates, distributes, mul_high, mul_low, mul_above, mul_below}
-use Rattle.drain_slope.specs.declared.terms.Term.{Term}
-use Rattle.drain_slope.specs.declared.terms.Sum.{Sum}
-use Rattle.drain_slope.specs.Terms.{term_value, sum_value, IsWithin, AreWithin, AreBelow, AreFrom, number_at, level_of, value_below, rest_of}
 
 -- one shift more
 step_term : (s : ℕ) (t : Term) → value_below (suc s) t ≡ (number_at s t *ℤ pos (2 ^ s)) +ℤ value_below s t

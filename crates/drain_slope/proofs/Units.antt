@@ -1,8 +1,5 @@
 -- Heights of like size as whole numbers of one unit, a power of two: their drops compare as these numbers do.
-use Rattle.std.proofs.Common.{◌≡◌, ℕ, suc, ◌+◌, ◌-◌, ◌*◌, ◌^◌, ◌<◌, ◌≤◌, ◌↔◌, Bool, IsTrue, ℤ, pos, negsuc, ◌+ℤ◌, ◌-ℤ◌, ◌*ℤ◌, unsigned_abs, sym, ◌∙◌, ap, subst, arith}
-use Rattle.std.proofs.Math.Nat.{mul-lt-mul_of_pos_right, lt_of_mul-lt-mul_right}
-use Rattle.std.proofs.lemmas.Int.{ints}
-use Rattle.std.proofs.lemmas.Nat.{pow-add, pow_pos, mul-lt}
+use Rattle.drain_slope.proofs.Names.{◌≡◌, ℕ, suc, ◌+◌, ◌-◌, ◌*◌, ◌^◌, ◌<◌, ◌≤◌, ◌↔◌, Bool, IsTrue, ℤ, pos, negsuc, ◌+ℤ◌, ◌-ℤ◌, ◌*ℤ◌, unsigned_abs, sym, ◌∙◌, ap, subst, arith, mul-lt-mul_of_pos_right, lt_of_mul-lt-mul_right, ints, pow-add, pow_pos, mul-lt}
 use Rattle.drain_slope.proofs.Products.{associates, distributes}
 use Rattle.drain_slope.specs.Singles.{ComparesDrops}
 

@@ -1,13 +1,8 @@
 -- The drop and the key of the way in each direction, and the first of the greatest keys.
-use Rattle.std.specs.Prelude.{◌≡◌, ◌<◌, ℤ, pos, ◌-ℤ◌, ◌≤ℤ◌, ◌<ℤ◌, int_lt, ◌&&◌, is_some, Option, Some, None, if◌then◌else◌}
+use Rattle.std.specs.Prelude.{◌≡◌, ◌<◌, ◌-ℤ◌, ◌≤ℤ◌, ◌<ℤ◌, ◌&&◌, if◌then◌else◌}
+use Rattle.drain_slope.specs.Names.{ℤ, pos, int_lt, is_some, Option, Some, None, IsPixel, Values, neighbor, order_of, height_of, slope_key, weight_of}
 use Rattle.drain_grid.specs.declared.direction.Direction.{Direction}
 use Rattle.drain_grid.specs.declared.patch.Patch.{Patch}
-use Rattle.drain_grid.specs.Values.{IsPixel, Values}
-use Rattle.drain_grid.specs.Patch.{neighbor}
-use Rattle.drain_grid.specs.Direction.{order_of}
-use Rattle.drain_grid.specs.HeightKinds.{height_of}
-use Rattle.drain_grid.specs.Slope.{slope_key}
-use Rattle.drain_grid.specs.Spacing.{weight_of}
 
 -- the drop to these values, of floats in units of 2^-149; 0 where they are not those of a lower data cell
 abbrev pub drop_of : Patch → Option Values → ℤ

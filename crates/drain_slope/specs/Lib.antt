@@ -1,3 +1,4 @@
+pub mod Names
 pub mod Key
 pub mod Fractions
 pub mod Terms

@@ -1,6 +1,6 @@
 -- Slopes between heights of single precision, as products across.
-use Rattle.std.specs.Prelude.{ℕ, ◌*◌, ◌<◌, ◌^◌, ℤ, pos, neg_ℤ, ◌-ℤ◌, ◌≤ℤ◌, ◌≡◌, ◌↔◌, Bool, IsTrue}
-use Rattle.drain_grid.specs.HeightKinds.{single_height}
+use Rattle.std.specs.Prelude.{◌*◌, ◌<◌, ◌^◌, ◌-ℤ◌, ◌≤ℤ◌, ◌≡◌, ◌↔◌}
+use Rattle.drain_slope.specs.Names.{ℕ, ℤ, pos, neg_ℤ, Bool, IsTrue, single_height}
 
 -- a number of a height
 pub record IsNumber (n : ℤ) : Type 0 where

@@ -10,14 +10,10 @@
 //! the order among equals and the rules' wording are this project's own.
 #![tactic(auto)]
 
-ghost use Rattle.std.specs.Prelude.{◌≡◌, ◌↔◌, ◌<◌, ◌≤◌, ◌*◌, ◌^◌, ◌<ℤ◌, pos, IsTrue, Some};
-ghost use Rattle.drain_grid.specs.Direction.{Names};
-ghost use Rattle.drain_grid.specs.Patch.{IsDataCell, IsOpen};
+ghost use Rattle.std.specs.Prelude.{◌≡◌, ◌↔◌, ◌<◌, ◌≤◌, ◌*◌, ◌^◌, ◌<ℤ◌};
+ghost use Rattle.drain_slope.specs.Names.{pos, IsTrue, Some, Names, IsDataCell, IsOpen, IsSteepest, IsFirstSteepest, IsSpacing, IsPixel};
 ghost use Rattle.drain_grid.specs.PatchRules.{flow_rules};
 ghost use Rattle.drain_grid.specs.Rule.{IsSlopeRule, IsLeastFault};
-ghost use Rattle.drain_grid.specs.Slope.{IsSteepest, IsFirstSteepest};
-ghost use Rattle.drain_grid.specs.Spacing.{IsSpacing};
-ghost use Rattle.drain_grid.specs.Values.{IsPixel};
 ghost use Rattle.drain_grid.specs.declared.height_kind.HeightKind.{HeightKind};
 ghost use Rattle.drain_slope.specs.Key.{IsFirstGreatest, IsLowerCon, con_below, drop_at, drop_of, key_at};
 

@@ -2,8 +2,8 @@
 //!
 //! Most heights are of like size, and are compared in one unit. Any others are compared by the sign of a sum.
 
-ghost use Rattle.std.specs.Prelude.{◌≡◌, ◌≤◌, ◌<◌, ◌+◌, ◌*◌, ◌^◌, pos, neg_ℤ, ◌-ℤ◌, ◌*ℤ◌, ◌≤ℤ◌};
-ghost use Rattle.drain_grid.specs.HeightKinds.{digits_of, shift_of, single_height};
+ghost use Rattle.std.specs.Prelude.{◌≡◌, ◌≤◌, ◌<◌, ◌+◌, ◌*◌, ◌^◌, ◌-ℤ◌, ◌*ℤ◌, ◌≤ℤ◌};
+ghost use Rattle.drain_slope.specs.Names.{pos, neg_ℤ, digits_of, shift_of, single_height};
 ghost use Rattle.drain_slope.specs.Singles.{ComparesDrops, ComparesSlopes, IsNumber};
 ghost use Rattle.drain_slope.specs.Terms.{IsWithin, term_value};
 

@@ -2,13 +2,7 @@
 --
 -- The bytes of a word are above the space, so no line feed, carriage return, space or tab is among them. A split goes
 -- by recursion along the text up to the first byte that passes.
-use Rattle.std.proofs.Common.{◌≡◌, ℕ, zero, suc, ◌-◌, ◌<◌, Bool, true, false, List, [], ◌∷◌, ◌++◌, length, take, arith, refl, ap, ◌∙◌}
-use Rattle.std.specs.Prelude.{cond, nat_lt, ◌==◌, ◌||◌, filter, map, slice_index}
-use Rattle.std.specs.List.{slice_split, onto_first, list_all}
-use Rattle.std.specs.Str.Lines.{strip_carriage_return}
-use Rattle.std.proofs.lemmas.Bool.{ltb-true, lt-ltb, ne_eqb}
-use Rattle.drain_text.specs.Parts.{is_blank}
-use Rattle.drain_text.specs.Text.{lines_of, words_of}
+use Rattle.drain_text.proofs.Names.{◌≡◌, ℕ, zero, suc, ◌-◌, ◌<◌, Bool, true, false, List, [], ◌∷◌, ◌++◌, length, take, arith, refl, ap, ◌∙◌, cond, nat_lt, ◌==◌, ◌||◌, filter, map, slice_index, slice_split, onto_first, list_all, strip_carriage_return, ltb-true, lt-ltb, ne_eqb, is_blank, lines_of, words_of}
 use Rattle.drain_text.proofs.Digits.{both}
 
 -- each byte is above the space

@@ -1,14 +1,6 @@
 -- The lowest digits of a number, with leading zeros: how many there are, their value, and how they are printed.
-use Rattle.std.proofs.Common.{◌≡◌, ℕ, zero, suc, ◌+◌, ◌*◌, ◌/◌, ◌%◌, ◌^◌, ◌<◌, ◌∷◌, length, arith, refl, sym, ap, ◌∙◌}
-use Rattle.std.specs.Prelude.{decimal}
-use Rattle.std.specs.Char.{digit_value}
-use Rattle.std.specs.Str.Parse.{digits_value, digits_value_after, AllDigits}
-use Rattle.std.proofs.Math.Nat.{pow-suc, mod-lt, one-le-pow}
+use Rattle.drain_text.proofs.Names.{◌≡◌, ℕ, zero, suc, ◌+◌, ◌*◌, ◌/◌, ◌%◌, ◌^◌, ◌<◌, ◌∷◌, length, arith, refl, sym, ap, ◌∙◌, decimal, digit_value, digits_value, digits_value_after, AllDigits, pow-suc, mod-lt, one-le-pow, digit_value_digit, numerals_by_value, tells_digits, decimal-digits_value, last_digits}
 use Rattle.std.proofs.Math.Arith.{mod-mul}
-use Rattle.std.proofs.lemmas.Str.{digit_value_digit}
-use Rattle.std.proofs.lemmas.Str.Parse.{numerals_by_value, tells_digits}
-use Rattle.std.proofs.lemmas.Fmt.{decimal-digits_value}
-use Rattle.drain_text.specs.Text.{last_digits}
 use Rattle.drain_text.proofs.Digits.{value_after_is}
 
 glyph_value : (d : ℕ) → d < 10 → digit_value (48 + d) ≡ d

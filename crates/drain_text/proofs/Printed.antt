@@ -1,13 +1,5 @@
 -- A printed number is a word, and is read as that number.
-use Rattle.std.proofs.Common.{◌≡◌, ℕ, ◌^◌, ◌<◌, ◌≤◌, Bool, true, List, [], ◌∷◌, length, arith, refl, ap, ◌∙◌}
-use Rattle.std.specs.Prelude.{cond, ◌&&◌, Option, Some, None, decimal}
-use Rattle.std.specs.List.{list_all}
-use Rattle.std.specs.Char.{is_ascii_digit}
-use Rattle.std.specs.Str.Parse.{digits_value, AllDigits}
-use Rattle.std.proofs.lemmas.Bool.{le-leb, lt-ltb}
-use Rattle.std.proofs.lemmas.Fmt.{decimal_is_IsNumeral, length-decimal-le}
-use Rattle.std.proofs.lemmas.Str.Parse.{digit_from_value}
-use Rattle.drain_text.specs.Text.{whole_number}
+use Rattle.drain_text.proofs.Names.{◌≡◌, ℕ, ◌^◌, ◌<◌, ◌≤◌, Bool, true, List, [], ◌∷◌, length, arith, refl, ap, ◌∙◌, cond, ◌&&◌, Option, Some, None, decimal, list_all, is_ascii_digit, digits_value, AllDigits, le-leb, lt-ltb, decimal_is_IsNumeral, length-decimal-le, digit_from_value, whole_number}
 use Rattle.drain_text.proofs.Joining.{AllInk, IsWord}
 
 -- digits are ink

@@ -2,16 +2,9 @@
 --
 -- `parts` describes a split from the front: the elements before the first that passes, and the parts of what follows
 -- it. It falls by recursion along the text. Lines and words both follow from it.
-use Rattle.std.proofs.Common.{◌≡◌, ℕ, ◌+◌, ◌<◌, Bool, true, false, List, [], ◌∷◌, length, take, drop, get_or, arith, refl, sym, ap, ◌∙◌}
-use Rattle.std.specs.Prelude.{not, cond, filter, map, nat_lt, ◌==◌}
-use Rattle.std.specs.List.{slice_split, onto_first, prefix_len}
-use Rattle.std.proofs.lemmas.Bool.{lt-ltb}
-use Rattle.std.proofs.lemmas.List.{drop_more, drop_all, take_all, nil_from_length, length-take}
-use Rattle.std.proofs.lemmas.List.Sums.{prefix_len-le-length}
+use Rattle.drain_text.proofs.Names.{◌≡◌, ℕ, ◌+◌, ◌<◌, Bool, true, false, List, [], ◌∷◌, length, take, drop, get_or, arith, refl, sym, ap, ◌∙◌, cond, filter, map, nat_lt, ◌==◌, slice_split, onto_first, prefix_len, lt-ltb, drop_more, drop_all, take_all, nil_from_length, length-take, prefix_len-le-length, strip_carriage_return, lines_of, words_of, is_blank, is_inked}
+use Rattle.std.specs.Prelude.{not}
 use native.Mathlib.Numerals.{one-add}
-use Rattle.std.specs.Str.Lines.{strip_carriage_return}
-use Rattle.drain_text.specs.Text.{lines_of, words_of}
-use Rattle.drain_text.specs.Parts.{is_blank, is_inked}
 
 -- the parts that follow the first, where this is the text from the end of the first part on
 abbrev pub later_parts : {X : Type 0} → (X → Bool) → List X → List (List X)

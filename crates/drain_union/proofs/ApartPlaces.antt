@@ -1,16 +1,6 @@
 -- Places that judge no cell both overlap in their seams: along one direction the judged ones of the one end before those
 -- of the other begin, and each has one, so that both sides there are inner.
-use Rattle.std.proofs.Common.{◌≡◌, ℕ, ◌+◌, ◌-◌, ◌<◌, ◌≤◌, max, ◌⊎◌, inl, inr, Bool, true, false, IsTrue, if◌then◌else◌, refl, sym, ap, ◌∙◌, arith}
-use Rattle.std.proofs.lemmas.Bool.{false≢true}
-use Rattle.drain_grid.specs.declared.cell.Cell.{Cell}
-use Rattle.drain_grid.specs.Extent.{Extent}
-use Rattle.drain_grid.proofs.Decisions.{cases, less_number}
-use Rattle.drain_grid.proofs.Neighbors.{place}
-use Rattle.drain_union.specs.declared.place.Place.{Place}
-use Rattle.drain_union.specs.Windows.{IsJudgedAlong, IsJudgedAt, JudgesSome, BothJudgeOne, in_union, IsPlaceIn, judged_top, judged_left, judged_bottom, judged_right}
-use Rattle.drain_union.specs.Reports.{OverlapInSeams}
-use Rattle.drain_union.specs.Joins.{LiesInBox}
-use Rattle.drain_union.specs.Laws.{JudgedApart}
+use Rattle.drain_union.proofs.Names.{◌≡◌, ℕ, ◌+◌, ◌-◌, ◌<◌, ◌≤◌, max, ◌⊎◌, inl, inr, Bool, true, false, IsTrue, if◌then◌else◌, refl, sym, ap, ◌∙◌, arith, false≢true, Cell, Extent, cases, less_number, place, Place, IsJudgedAlong, IsJudgedAt, JudgesSome, BothJudgeOne, in_union, IsPlaceIn, judged_top, judged_left, judged_bottom, judged_right, OverlapInSeams, LiesInBox, JudgedApart}
 use Rattle.drain_union.proofs.JudgedCounts.{all_of, judged_both, judged_at}
 
 -- a judged cell of the union lies between the edges of the judged rows and columns

@@ -1,15 +1,6 @@
 -- Windows of a map show at a cell what their union shows at a box of it that has the cell; and where windows fill a box,
 -- each cell that it judges is judged in one of them.
-use Rattle.std.proofs.Common.{◌≡◌, ◌+◌, ◌-◌, List, map, refl, sym, ap, subst, ◌∙◌, arith}
-use Rattle.std.specs.List.{Contains}
-use Rattle.drain_grid.specs.declared.cell.Cell.{Cell}
-use Rattle.drain_grid.specs.Extent.{IsCellOf}
-use Rattle.drain_grid.specs.Grid.{Grid, Products, values_at, patch_at}
-use Rattle.drain_grid.proofs.Neighbors.{place}
-use Rattle.drain_union.specs.declared.place.Place.{Place}
-use Rattle.drain_union.specs.declared.place.TheConstants.{SEAM_DEPTH}
-use Rattle.drain_union.specs.Joins.{shown_at, FillPlace}
-use Rattle.drain_union.specs.Windows.{Window, in_union, place_from, window_from, IsFrom, IsJudgedIn, IsPlaceIn, IsWindowOf}
+use Rattle.drain_union.proofs.Names.{◌≡◌, ◌+◌, ◌-◌, List, map, refl, sym, ap, subst, ◌∙◌, arith, Contains, Cell, IsCellOf, Grid, Products, values_at, patch_at, place, Place, SEAM_DEPTH, shown_at, FillPlace, Window, in_union, place_from, window_from, IsFrom, IsJudgedIn, IsPlaceIn, IsWindowOf}
 use Rattle.drain_union.proofs.ReportMerges.{from_map, to_map}
 use Rattle.drain_union.proofs.Unions.{in_grid}
 use Rattle.drain_union.proofs.WindowPatches.{patch_of_window}

@@ -1,14 +1,6 @@
 -- From a judged cell the next one east is judged at the same place, or its column is the end of that place's judged
 -- ones; south likewise.
-use Rattle.std.proofs.Common.{◌≡◌, ℕ, zero, suc, ◌+◌, ◌-◌, ◌<◌, ◌⊎◌, inl, inr, Bool, true, false, IsTrue, List, if◌then◌else◌, refl, ap, ◌∙◌, arith}
-use Rattle.std.proofs.lemmas.Bool.{false≢true}
-use Rattle.drain_grid.specs.declared.cell.Cell.{Cell}
-use Rattle.drain_grid.specs.Extent.{Extent, IsCellOf}
-use Rattle.drain_grid.proofs.Decisions.{cases, less_number}
-use Rattle.drain_grid.proofs.Neighbors.{place}
-use Rattle.drain_union.specs.declared.place.Place.{Place}
-use Rattle.drain_union.specs.Windows.{IsJudgedAtSome, judged_bottom, judged_right, IsCornerRow, IsCornerCol}
-use Rattle.drain_union.specs.Laws.{CornersTellWhole}
+use Rattle.drain_union.proofs.Names.{◌≡◌, ℕ, zero, suc, ◌+◌, ◌-◌, ◌<◌, ◌⊎◌, inl, inr, Bool, true, false, IsTrue, List, if◌then◌else◌, refl, ap, ◌∙◌, arith, false≢true, Cell, Extent, IsCellOf, cases, less_number, place, Place, IsJudgedAtSome, judged_bottom, judged_right, IsCornerRow, IsCornerCol, CornersTellWhole}
 
 -- where a ring takes one from an end, the next step stays before it or comes to it
 at_end : (inner : Bool) (start n k : ℕ) → k < n → (IsTrue inner → k + 1 < n) →

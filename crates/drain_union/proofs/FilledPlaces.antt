@@ -1,15 +1,5 @@
 -- Places in a box that judge each cell that it judges show all of its seams along their own.
-use Rattle.std.proofs.Common.{◌≡◌, ℕ, ◌+◌, ◌-◌, ◌<◌, ◌≤◌, ◌⊎◌, inl, inr, Bool, true, false, IsTrue, List, refl, ap, arith}
-use Rattle.std.specs.List.{Contains}
-use Rattle.std.proofs.lemmas.Bool.{false≢true}
-use Rattle.drain_grid.specs.declared.cell.Cell.{Cell}
-use Rattle.drain_grid.proofs.Decisions.{cases, less_number}
-use Rattle.drain_grid.proofs.Neighbors.{place}
-use Rattle.drain_union.specs.declared.place.Place.{Place}
-use Rattle.drain_union.specs.Joins.{IsOuter, LiesInBox}
-use Rattle.drain_union.specs.JoinLaws.{FillByEdges}
-use Rattle.drain_union.specs.Reports.{IsOnSeam}
-use Rattle.drain_union.specs.Windows.{IsJudgedAlong, IsJudgedAt, IsJudgedAtSome, IsJudgedIn, JudgesSome, in_union}
+use Rattle.drain_union.proofs.Names.{◌≡◌, ℕ, ◌+◌, ◌-◌, ◌<◌, ◌≤◌, ◌⊎◌, inl, inr, Bool, true, false, IsTrue, List, refl, ap, arith, Contains, false≢true, Cell, cases, less_number, place, Place, IsOuter, LiesInBox, FillByEdges, IsOnSeam, IsJudgedAlong, IsJudgedAt, IsJudgedAtSome, IsJudgedIn, JudgesSome, in_union}
 use Rattle.drain_union.proofs.JudgedCounts.{judged_both, judged_at}
 
 -- k is the number itself, or the next one inside where it is on a ring

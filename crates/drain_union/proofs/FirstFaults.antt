@@ -1,17 +1,5 @@
 -- The first faults of windows keep their order in the union, so the least of them is the union's.
-use Rattle.std.proofs.Common.{◌≡◌, ◌+◌, ◌⊎◌, inl, inr, sym, ap, subst, ◌∙◌, arith}
-use Rattle.std.proofs.lemmas.Bool.{cases_order}
-use Rattle.drain_grid.specs.declared.cell.Cell.{Cell}
-use Rattle.drain_grid.specs.declared.rule.Rule.{Rule}
-use Rattle.drain_grid.specs.Extent.{IsEarlier}
-use Rattle.drain_grid.specs.Rule.{IsPatchRule, rule_number}
-use Rattle.drain_grid.specs.Values.{NoDataNumbers}
-use Rattle.drain_grid.specs.Unranked.{unranked}
-use Rattle.drain_grid.specs.GridRules.{HoldsAt, IsEarlierPair}
-use Rattle.drain_grid.proofs.Alike.{cases_earlier, earlier_trans}
-use Rattle.drain_union.specs.declared.place.Place.{Place}
-use Rattle.drain_union.specs.Windows.{Window, in_union, IsJudgedIn, RulesHoldInside, IsNotBefore}
-use Rattle.drain_union.specs.Laws.{LeastFaultIsFirst}
+use Rattle.drain_union.proofs.Names.{◌≡◌, ◌+◌, ◌⊎◌, inl, inr, sym, ap, subst, ◌∙◌, arith, cases_order, Cell, Rule, IsEarlier, IsPatchRule, rule_number, NoDataNumbers, unranked, HoldsAt, IsEarlierPair, cases_earlier, earlier_trans, Place, Window, in_union, IsJudgedIn, RulesHoldInside, IsNotBefore, LeastFaultIsFirst}
 use Rattle.drain_union.proofs.WindowPatches.{there, patch_of_window}
 use Rattle.drain_union.proofs.Unions.{by_patch}
 

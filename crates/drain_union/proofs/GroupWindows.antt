@@ -1,18 +1,6 @@
 -- The report that a group makes is of the window that the group's windows show at the box, and they are windows of each
 -- union of which that one is.
-use Rattle.std.proofs.Common.{◌≡◌, ℕ, ◌⊎◌, Bool, ◌+◌, ◌-◌, ◌<◌, ◌≤◌, inl, inr, List, map, IsTrue, refl, sym, ap, subst, ◌∙◌, arith}
-use Rattle.std.specs.List.{Contains}
-use Rattle.drain_grid.specs.declared.cell.Cell.{Cell}
-use Rattle.drain_grid.specs.Extent.{Extent, IsCellOf}
-use Rattle.drain_grid.specs.Values.{NoDataNumbers}
-use Rattle.drain_grid.specs.Grid.{Grid, Products, IsInside, values_at}
-use Rattle.drain_grid.proofs.Neighbors.{place}
-use Rattle.drain_union.specs.declared.place.Place.{Place}
-use Rattle.drain_union.specs.declared.place.TheConstants.{SEAM_DEPTH}
-use Rattle.drain_union.specs.Joins.{shown_at, IsGroup, LiesInBox}
-use Rattle.drain_union.specs.JoinLaws.{GroupIsOfWindow}
-use Rattle.drain_union.specs.Reports.{IsReportOf, Report}
-use Rattle.drain_union.specs.Windows.{Window, in_union, place_from, window_from, AreWindowsFrom, IsFrom, IsPlaceIn, IsWindowOf, JudgesSome}
+use Rattle.drain_union.proofs.Names.{◌≡◌, ℕ, ◌⊎◌, Bool, ◌+◌, ◌-◌, ◌<◌, ◌≤◌, inl, inr, List, map, IsTrue, refl, sym, ap, subst, ◌∙◌, arith, Contains, Cell, Extent, IsCellOf, NoDataNumbers, Grid, Products, IsInside, values_at, place, Place, SEAM_DEPTH, shown_at, IsGroup, LiesInBox, GroupIsOfWindow, IsReportOf, Report, Window, in_union, place_from, window_from, AreWindowsFrom, IsFrom, IsPlaceIn, IsWindowOf, JudgesSome}
 use Rattle.drain_union.proofs.BoxWindows.{from_same}
 use Rattle.drain_union.proofs.JoinedReports.{join_is_report}
 use Rattle.drain_union.proofs.ReportMerges.{agree, from_map, spaced}

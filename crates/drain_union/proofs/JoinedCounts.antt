@@ -1,13 +1,5 @@
 -- The counts of windows that fill a box, and judge no cell twice, add up to those of the box.
-use Rattle.std.proofs.Common.{◌≡◌, List, map, refl}
-use Rattle.std.specs.List.{Contains}
-use Rattle.drain_grid.specs.declared.cell.Cell.{Cell}
-use Rattle.drain_grid.specs.Grid.{Grid, Products, values_at}
-use Rattle.drain_union.specs.declared.place.Place.{Place}
-use Rattle.drain_union.specs.declared.place.TheConstants.{SEAM_DEPTH}
-use Rattle.drain_union.specs.Joins.{shown_at, FillPlace}
-use Rattle.drain_union.specs.JoinLaws.{JoinAddsUp}
-use Rattle.drain_union.specs.Windows.{Window, in_union, place_from, AreWindowsFrom, IsFrom, IsJudgedAt, IsJudgedIn, IsJudgedInSome, IsPlaceIn}
+use Rattle.drain_union.proofs.Names.{◌≡◌, List, map, refl, Contains, Cell, Grid, Products, values_at, Place, SEAM_DEPTH, shown_at, FillPlace, JoinAddsUp, Window, in_union, place_from, AreWindowsFrom, IsFrom, IsJudgedAt, IsJudgedIn, IsJudgedInSome, IsPlaceIn}
 use Rattle.drain_union.proofs.BoxWindows.{down, up, values_same}
 use Rattle.drain_union.proofs.JudgedCounts.{add_up_data, add_up_raised, add_up_outlets}
 

@@ -1,17 +1,5 @@
 -- The least of the first faults of windows is the first fault of the box that they fill.
-use Rattle.std.proofs.Common.{◌≡◌, ◌⊎◌, List, map, refl, sym, subst}
-use Rattle.std.specs.List.{Contains}
-use Rattle.drain_grid.specs.declared.cell.Cell.{Cell}
-use Rattle.drain_grid.specs.declared.rule.Rule.{Rule}
-use Rattle.drain_grid.specs.Values.{NoDataNumbers}
-use Rattle.drain_grid.specs.Unranked.{unranked}
-use Rattle.drain_grid.specs.Grid.{Grid, Products}
-use Rattle.drain_grid.specs.GridRules.{IsEarlierPair}
-use Rattle.drain_union.specs.declared.place.Place.{Place}
-use Rattle.drain_union.specs.declared.place.TheConstants.{SEAM_DEPTH}
-use Rattle.drain_union.specs.Joins.{shown_at, FillPlace}
-use Rattle.drain_union.specs.JoinLaws.{JoinTellsFault}
-use Rattle.drain_union.specs.Windows.{Window, in_union, place_from, AreWindowsFrom, IsFirstInside, IsFrom, IsNotBefore, IsPlaceIn, RulesHoldInside}
+use Rattle.drain_union.proofs.Names.{◌≡◌, ◌⊎◌, List, map, refl, sym, subst, Contains, Cell, Rule, NoDataNumbers, unranked, Grid, Products, IsEarlierPair, Place, SEAM_DEPTH, shown_at, FillPlace, JoinTellsFault, Window, in_union, place_from, AreWindowsFrom, IsFirstInside, IsFrom, IsNotBefore, IsPlaceIn, RulesHoldInside}
 use Rattle.drain_union.proofs.BoxWindows.{down, up, patch_same}
 use Rattle.drain_union.proofs.FirstFaults.{in_window, moved_earlier}
 use Rattle.drain_union.proofs.Unions.{by_patch}

@@ -1,20 +1,6 @@
 -- The report that the windows of a box make is a report of the box.
-use Rattle.std.proofs.Common.{◌≡◌, ◌↔◌, ℕ, ◌+◌, ◌-◌, ◌<◌, inl, inr, List, map, IsTrue, IsSome, refl, sym, ap, subst, ◌∙◌, arith}
-use Rattle.std.specs.List.{Contains}
-use Rattle.drain_grid.specs.declared.cell.Cell.{Cell}
-use Rattle.drain_grid.specs.Extent.{IsCellOf}
-use Rattle.drain_grid.specs.Values.{Values, NoDataNumbers}
-use Rattle.drain_grid.specs.Grid.{Grid, Products, IsInside, values_at}
-use Rattle.drain_grid.specs.Unranked.{unranked}
-use Rattle.drain_grid.proofs.Neighbors.{place}
-use Rattle.drain_union.specs.declared.place.Place.{Place}
-use Rattle.drain_union.specs.declared.place.TheConstants.{SEAM_DEPTH}
-use Rattle.drain_union.specs.declared.report.Outlet.{Outlet}
+use Rattle.drain_union.proofs.Names.{◌≡◌, ◌↔◌, ℕ, ◌+◌, ◌-◌, ◌<◌, inl, inr, List, map, IsTrue, IsSome, refl, sym, ap, subst, ◌∙◌, arith, Contains, Cell, IsCellOf, Values, NoDataNumbers, Grid, Products, IsInside, values_at, unranked, place, Place, SEAM_DEPTH, Outlet, shown_at, FillPlace, IsJoined, IsOuter, JoinIsReport, IsOnSeam, IsReportOf, ListsOutlets, ListsSeams, ListsSinks, ListsSpacings, Report, Window, in_union, place_from, window_from, AreWindowsFrom, IsFrom, IsJudgedIn, IsJudgedOutlet, IsPlaceIn, IsWindowOf, JudgesSome, RulesHoldInside}
 use Rattle.drain_union.specs.declared.report.Shown.{Shown}
-use Rattle.drain_union.specs.Joins.{shown_at, FillPlace, IsJoined, IsOuter}
-use Rattle.drain_union.specs.JoinLaws.{JoinIsReport}
-use Rattle.drain_union.specs.Reports.{IsOnSeam, IsReportOf, ListsOutlets, ListsSeams, ListsSinks, ListsSpacings, Report}
-use Rattle.drain_union.specs.Windows.{Window, in_union, place_from, window_from, AreWindowsFrom, IsFrom, IsJudgedIn, IsJudgedOutlet, IsPlaceIn, IsWindowOf, JudgesSome, RulesHoldInside}
 use Rattle.drain_union.proofs.BoxWindows as boxes
 use Rattle.drain_union.proofs.FilledPlaces.{near, IsNear}
 use Rattle.drain_union.proofs.ReportMerges.{from_map, to_map}

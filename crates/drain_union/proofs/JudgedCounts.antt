@@ -1,26 +1,13 @@
 -- The counts of windows that judge each cell of a box once, and no other, are the box's. Each judged cell is counted at
 -- the box's cell that it is, so the counts are a sum over windows, their cells and the box's cells; in another order that
 -- is a sum over the box's cells, where one window counts, and of it one cell. A union is a box that judges all its cells.
-use Rattle.std.proofs.Common.{◌≡◌, ◌+◌, ◌-◌, ◌*◌, ◌<◌, ◌≤◌, ap, arith, ◌≢◌, ℕ, zero, suc, inl, inr, pos, Bool, true, false, cond, ◌&&◌, is_some, int_lt, unwrap_or, IsTrue, List, [], ◌∷◌, map, length, slice_index_or, refl, sym, subst, ◌∙◌}
-use Rattle.drain_grid.specs.declared.cell.Cell.{Cell}
-use Rattle.drain_grid.proofs.Neighbors.{place, same_place}
-use Rattle.drain_union.specs.declared.place.Place.{Place}
-use Rattle.drain_union.specs.Windows.{IsJudgedAlong, IsJudgedAt, BothJudgeOne, Window, in_union, IsJudgedIn, IsJudgedInSome, AreWindowsOf, JudgeAll}
-use Rattle.std.specs.Ordering.{int_eq}
-use Rattle.std.specs.List.{AllPairs, Contains, count_by, sum_by, flat_map, range_with_len}
-use Rattle.std.proofs.lemmas.Bool.{false≢true, false_from_ne_true, cases_eq, cases_order}
+use Rattle.drain_union.proofs.Names.{◌≡◌, ◌+◌, ◌-◌, ◌*◌, ◌<◌, ◌≤◌, ap, arith, ◌≢◌, ℕ, zero, suc, inl, inr, pos, Bool, true, false, cond, ◌&&◌, is_some, int_lt, unwrap_or, IsTrue, List, [], ◌∷◌, map, length, slice_index_or, refl, sym, subst, ◌∙◌, Cell, place, same_place, Place, IsJudgedAlong, IsJudgedAt, BothJudgeOne, Window, in_union, IsJudgedIn, IsJudgedInSome, AreWindowsOf, JudgeAll, int_eq, AllPairs, Contains, count_by, sum_by, flat_map, range_with_len, false≢true, false_from_ne_true, cases_eq, cases_order, is_data, is_raised, data_count, raised_count, IsCellOf, same_cell, cells, Extent, Grid, Products, values_at, Values, same_cell_true, same_cell_self, sum_by_same, sum_by_swap, sum_by_zero, CountsAddUp}
 use Rattle.std.proofs.lemmas.List.Concat.{length-flat_map}
 use Rattle.std.proofs.lemmas.List.FromFn.{length-map-range_with_len, length-range_with_len}
 use Rattle.std.proofs.lemmas.List.Sums.{count_by-le-length, sum_by-append, sum_by-cons, sum_by-le}
 use Rattle.std.proofs.lemmas.Nat.{mul-le}
-use Rattle.drain_grid.specs.GridRules.{is_data, is_raised, data_count, raised_count}
-use Rattle.drain_grid.specs.Extent.{IsCellOf, same_cell, cells, Extent}
-use Rattle.drain_grid.specs.Grid.{Grid, Products, values_at}
-use Rattle.drain_grid.specs.Values.{Values}
-use Rattle.drain_grid.proofs.CellSums.{same_cell_true, same_cell_self, sum_by_same, sum_by_swap, sum_by_zero}
 use Rattle.drain_rules.specs.Verdicts.{has_outlet_code, outlet_count}
 use Rattle.drain_union.specs.JudgedCounts.{ring, judged_row, judged_cells, judged_data, judged_raised, judged_outlets}
-use Rattle.drain_union.specs.Laws.{CountsAddUp}
 use Rattle.drain_union.proofs.Unions.{in_grid}
 use Rattle.drain_union.proofs.WindowPatches.{there}
 

@@ -1,27 +1,9 @@
 -- In a sorted list equal labels stand together, so that to look at outlets side by side is enough.
-use Rattle.std.proofs.Common.{◌≡◌, refl, sym, ◌∙◌, arith, ℕ, suc, ◌<◌, true, inl, inr, Some, List, [], ◌∷◌, length, slice_get, subst, zero, ◌+◌, ◌-◌, ◌≤ℤ◌, slice_index_or, ap}
-use Rattle.drain_grid.specs.declared.cell.Cell.{Cell}
-use Rattle.drain_grid.specs.declared.rule.Rule.{Rule}
-use Rattle.drain_grid.specs.declared.rule.Rule.TheVariants.{VoidCell, Missing, SharedLabel}
-use Rattle.drain_grid.specs.Grid.{Grid, Products}
-use Rattle.drain_grid.specs.GridRules.{HoldsAt}
-use Rattle.drain_grid.specs.Rule.{IsPatchRule}
-use Rattle.drain_grid.specs.Unranked.{unranked}
-use Rattle.drain_grid.specs.Values.{NoDataNumbers}
-use Rattle.drain_union.specs.Laws.{FourNumbers, SortedTellsShared, MergeTellsShared}
-use Rattle.drain_union.specs.Reports.{audited, IsSortedByLabel, NoneBesideShares, ShareNoLabel}
-use Rattle.std.proofs.lemmas.Bool.{false≢true, or_cases, cases_order}
+use Rattle.drain_union.proofs.Names.{◌≡◌, refl, sym, ◌∙◌, arith, ℕ, suc, ◌<◌, true, inl, inr, Some, List, [], ◌∷◌, length, slice_get, subst, zero, ◌+◌, ◌-◌, ◌≤ℤ◌, slice_index_or, ap, Cell, Rule, VoidCell, Missing, SharedLabel, Grid, Products, HoldsAt, IsPatchRule, unranked, NoDataNumbers, FourNumbers, SortedTellsShared, MergeTellsShared, audited, IsSortedByLabel, NoneBesideShares, ShareNoLabel, false≢true, or_cases, cases_order, same_cell, same_cell_true, same_cell_self, Contains, ints, get_or_default, Outlet, NoLabelIsShared}
 use Rattle.std.proofs.lemmas.List.Folds.{list_any_at}
 use Rattle.std.proofs.lemmas.Option.{get_or_from_slice_get, slice_get_within}
 use Rattle.drain_grid.specs.declared.sink_line.SinkLine.{SinkLine}
-use Rattle.drain_grid.specs.Extent.{same_cell}
 use Rattle.drain_grid.specs.SinkTexts.{is_listed}
-use Rattle.drain_grid.proofs.CellSums.{same_cell_true, same_cell_self}
-use Rattle.std.specs.List.{Contains}
-use Rattle.std.proofs.lemmas.Int.{ints}
-use Rattle.std.proofs.lemmas.List.{get_or_default}
-use Rattle.drain_union.specs.declared.report.Outlet.{Outlet}
-use Rattle.drain_union.specs.Windows.{NoLabelIsShared}
 
 -- The rules without ranks look at four no-data numbers: so where these four are the same, a rule of a patch holds
 -- with the ones as with the others.

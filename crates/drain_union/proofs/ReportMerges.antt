@@ -1,18 +1,6 @@
 -- Reports that can be merged are on windows that agree, so what they say is said of one union.
-use Rattle.std.proofs.Common.{◌≡◌, ℕ, ◌+◌, ◌<◌, ◌⊎◌, inl, inr, ◌↔◌, List, [], ◌∷◌, length, map, slice_index_or, IsTrue, sym, ap, subst, ◌∙◌, arith}
-use Rattle.std.specs.List.{Contains, AllPairs}
-use Rattle.std.proofs.lemmas.Bool.{cases_order}
-use Rattle.std.proofs.lemmas.List.{get_or_default, get_or-map, length-map}
-use Rattle.drain_grid.specs.declared.cell.Cell.{Cell}
-use Rattle.drain_grid.specs.Extent.{Extent, IsCellOf}
-use Rattle.drain_grid.specs.Values.{NoDataNumbers}
-use Rattle.drain_grid.specs.Grid.{Grid, Products, IsInside, values_at}
+use Rattle.drain_union.proofs.Names.{◌≡◌, ℕ, ◌+◌, ◌<◌, ◌⊎◌, inl, inr, ◌↔◌, List, [], ◌∷◌, length, map, slice_index_or, IsTrue, sym, ap, subst, ◌∙◌, arith, Contains, AllPairs, cases_order, get_or_default, get_or-map, length-map, Cell, Extent, IsCellOf, NoDataNumbers, Grid, Products, IsInside, values_at, Outlet, IsSortedByLabel, NoneBesideShares, ListsOutlets, HoldsAllOf, Report, IsReportOf, OverlapInSeams, ShowTheSame, SpacedAlike, spacing_at, CanMerge, Place, Window, in_union, IsPlaceIn, IsJudgedIn, JudgeAll, RulesHoldInside, NoLabelIsShared, AreLaidIn, OverlapsAgree, SpacingsAgree, AreWindowsOf, MergeIsExact}
 use Rattle.drain_grid.specs.Correct.{IsCorrect}
-use Rattle.drain_union.specs.declared.report.Outlet.{Outlet}
-use Rattle.drain_union.specs.Reports.{IsSortedByLabel, NoneBesideShares, ListsOutlets, HoldsAllOf, Report, IsReportOf, OverlapInSeams, ShowTheSame, SpacedAlike, spacing_at, CanMerge}
-use Rattle.drain_union.specs.declared.place.Place.{Place}
-use Rattle.drain_union.specs.Windows.{Window, in_union, IsPlaceIn, IsJudgedIn, JudgeAll, RulesHoldInside, NoLabelIsShared, AreLaidIn, OverlapsAgree, SpacingsAgree, AreWindowsOf}
-use Rattle.drain_union.specs.Laws.{MergeIsExact}
 use Rattle.drain_union.proofs.JudgedCounts.{one_cell}
 use Rattle.drain_union.proofs.Merges.{merge_tells_shared}
 use Rattle.drain_union.proofs.Unions.{correct_by_windows, windows_make_union}

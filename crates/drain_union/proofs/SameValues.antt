@@ -1,12 +1,7 @@
 -- The derived tests of values pass exactly where these are the same.
-use Rattle.std.proofs.Common.{◌≡◌, Bool, true, ◌&&◌, ℤ, refl, sym, subst, ◌∙◌, false, Option, Some, None, ap}
-use Rattle.std.specs.Ordering.{int_eq}
-use Rattle.std.proofs.lemmas.Bool.{and_parts, and_from, false≢true}
+use Rattle.drain_union.proofs.Names.{◌≡◌, Bool, true, ◌&&◌, ℤ, refl, sym, subst, ◌∙◌, false, Option, Some, None, ap, int_eq, and_parts, and_from, false≢true, NoDataNumbers, Values, audited, AreOfSeam}
 use Rattle.std.proofs.lemmas.Bool.Decides.{Decides-int_eq}
-use Rattle.drain_grid.specs.Values.{NoDataNumbers, Values}
-use Rattle.drain_union.specs.Reports.{audited}
 use Rattle.std.specs.Option.{option_eq}
-use Rattle.drain_union.specs.SeamValues.{AreOfSeam}
 use mathlib.Core.Bool.{beq}
 
 -- The derived tests of numbers of products, and of the no-data numbers of an audit, pass exactly where these are the same.

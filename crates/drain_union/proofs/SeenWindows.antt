@@ -1,17 +1,6 @@
 -- What a list of windows shows at each cell of the map: what one of them shows that has the cell. So a box of the map is a
 -- window too.
-use Rattle.std.proofs.Common.{◌≡◌, ℕ, zero, suc, ◌+◌, ◌-◌, ◌<◌, ◌⊎◌, inl, inr, List, [], ◌∷◌, refl, sym, ap, subst, arith}
-use Rattle.std.specs.List.{Contains}
-use Rattle.drain_grid.specs.declared.cell.Cell.{Cell}
-use Rattle.drain_grid.specs.Extent.{IsCellOf}
-use Rattle.drain_grid.specs.Grid.{Grid, Products, IsInside, values_at}
-use Rattle.drain_grid.specs.Spacing.{Distances, unit_spacing}
-use Rattle.drain_grid.specs.Values.{Values}
-use Rattle.drain_grid.proofs.Decisions.{cases, at_most_number}
-use Rattle.drain_grid.proofs.Neighbors.{place, same_place}
-use Rattle.drain_grid.proofs.PatchDecisions.{is_cell_of}
-use Rattle.drain_union.specs.declared.place.Place.{Place}
-use Rattle.drain_union.specs.Windows.{Window, in_union, OverlapsAgree, SpacingsAgree}
+use Rattle.drain_union.proofs.Names.{◌≡◌, ℕ, zero, suc, ◌+◌, ◌-◌, ◌<◌, ◌⊎◌, inl, inr, List, [], ◌∷◌, refl, sym, ap, subst, arith, Contains, Cell, IsCellOf, Grid, Products, IsInside, values_at, Distances, unit_spacing, Values, cases, at_most_number, place, same_place, is_cell_of, Place, Window, in_union, OverlapsAgree, SpacingsAgree}
 use Rattle.drain_union.proofs.Unions.{nothing}
 
 -- the map's cell lies in the window

@@ -1,25 +1,7 @@
 -- A union is correct where its windows are, and windows that agree make one union.
-use Rattle.std.proofs.Common.{◌≡◌, ℕ, ◌+◌, ◌<◌, ◌⊎◌, inl, inr, false, pos, List, None, IsSome, refl, sym, ap, subst, ◌∙◌, arith}
-use Rattle.std.specs.List.{Contains}
-use Rattle.drain_grid.specs.declared.cell.Cell.{Cell}
-use Rattle.drain_grid.specs.declared.patch.Patch.{Patch}
-use Rattle.drain_grid.specs.declared.rule.Rule.{Rule}
-use Rattle.drain_grid.specs.declared.rule.Rule.TheVariants.{SharedLabel}
-use Rattle.drain_grid.specs.Extent.{Extent, IsCellOf, IsEarlier}
-use Rattle.drain_grid.specs.Spacing.{Distances, unit_spacing}
-use Rattle.drain_grid.specs.Values.{Values, NoDataNumbers}
-use Rattle.drain_grid.specs.Rule.{IsAnyRule, IsPatchRule}
+use Rattle.drain_union.proofs.Names.{◌≡◌, ℕ, ◌+◌, ◌<◌, ◌⊎◌, inl, inr, false, pos, List, None, IsSome, refl, sym, ap, subst, ◌∙◌, arith, Contains, Cell, Patch, Rule, SharedLabel, Extent, IsCellOf, IsEarlier, Distances, unit_spacing, Values, NoDataNumbers, IsAnyRule, IsPatchRule, unranked, Grid, Products, IsInside, HasData, values_at, patch_at, HoldsAt, RulesHold, SharedLabelHolds, cases, is_cell_of, cases_earlier, place, Window, in_union, IsWindowOf, IsJudgedIn, JudgeAll, RulesHoldInside, IsJudgedOutlet, NoLabelIsShared, AreLaidIn, OverlapsAgree, SpacingsAgree, AreWindowsOf, CorrectByWindows, WindowsMakeUnion, WindowRejects}
 use Rattle.drain_grid.specs.PatchRules.{Profile}
-use Rattle.drain_grid.specs.Unranked.{unranked}
-use Rattle.drain_grid.specs.Grid.{Grid, Products, IsInside, HasData, values_at, patch_at}
-use Rattle.drain_grid.specs.GridRules.{HoldsAt, RulesHold, SharedLabelHolds}
-use Rattle.drain_grid.proofs.Decisions.{cases}
 use Rattle.drain_grid.proofs.Exactly.{correct_by_rules_alone}
-use Rattle.drain_grid.proofs.PatchDecisions.{is_cell_of}
-use Rattle.drain_grid.proofs.Alike.{cases_earlier}
-use Rattle.drain_grid.proofs.Neighbors.{place}
-use Rattle.drain_union.specs.Windows.{Window, in_union, IsWindowOf, IsJudgedIn, JudgeAll, RulesHoldInside, IsJudgedOutlet, NoLabelIsShared, AreLaidIn, OverlapsAgree, SpacingsAgree, AreWindowsOf}
-use Rattle.drain_union.specs.Laws.{CorrectByWindows, WindowsMakeUnion, WindowRejects}
 use Rattle.drain_union.proofs.WindowPatches.{there, patch_of_window}
 
 -- a rule of a patch rests on the patch alone

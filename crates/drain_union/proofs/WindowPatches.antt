@@ -1,20 +1,11 @@
 -- At a judged cell each step stays in the window where it stays in the union, and leaves the window only where it
 -- leaves the union.
-use Rattle.std.proofs.Common.{◌≡◌, ◌+◌, ◌-◌, ◌<◌, ◌≤◌, inl, inr, map, Option, Some, None, option_map, refl, sym, ap, subst, ◌∙◌, arith}
-use Rattle.drain_grid.specs.declared.cell.Cell.{Cell}
+use Rattle.drain_union.proofs.Names.{◌≡◌, ◌+◌, ◌-◌, ◌<◌, ◌≤◌, inl, inr, map, Option, Some, None, option_map, refl, sym, ap, subst, ◌∙◌, arith, Cell, Extent, IsCellOf, step, Values, IsInside, values_at, Patch, LiesAt, place, reach, step_gives, step_lies, Place, in_union, IsPlaceIn, IsJudgedIn, PatchOfWindow, OpenInWindow}
 use Rattle.drain_grid.specs.declared.direction.Direction.{Direction}
 use Rattle.drain_grid.specs.Direction.{directions, rows_down, cols_right}
-use Rattle.drain_grid.specs.Extent.{Extent, IsCellOf, step}
-use Rattle.drain_grid.specs.Values.{Values}
-use Rattle.drain_grid.specs.Grid.{IsInside, values_at}
 use Rattle.drain_grid.proofs.Tallies.{none_some}
-use Rattle.drain_grid.specs.declared.patch.Patch.{Patch}
 use Rattle.drain_grid.specs.Patch.{IsOpen}
 use Rattle.drain_grid.proofs.Patches.{IsOpen-patch_at}
-use Rattle.drain_grid.proofs.Neighbors.{LiesAt, place, reach, step_gives, step_lies}
-use Rattle.drain_union.specs.declared.place.Place.{Place}
-use Rattle.drain_union.specs.Windows.{in_union, IsPlaceIn, IsJudgedIn}
-use Rattle.drain_union.specs.Laws.{PatchOfWindow, OpenInWindow}
 
 -- a neighbour of a judged cell that lies in the union lies in the window
 back : (e : Extent) (p : Place) → IsPlaceIn e p → (c : Cell) → IsJudgedIn p c → (d : Direction) (n : Cell) → IsCellOf e n →

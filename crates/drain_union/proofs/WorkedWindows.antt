@@ -1,14 +1,6 @@
 -- For a reviewer: a union of four cells in a column that two windows of three judge, so the premises on places can be
 -- met; and that windows which overlap by one row leave that row unjudged.
-use Rattle.std.proofs.Common.{◌≡◌, ℕ, zero, suc, slice_index_or, ◌+◌, ◌-◌, ◌<◌, inl, inr, Bool, true, false, [], ◌∷◌, refl, sym, ap, subst, arith}
-use Rattle.std.proofs.lemmas.Bool.{false≢true}
-use Rattle.drain_grid.specs.declared.cell.Cell.{Cell}
-use Rattle.drain_grid.specs.Extent.{Extent, IsCellOf}
-use Rattle.drain_grid.proofs.Decisions.{cases, less_number}
-use Rattle.drain_grid.proofs.Neighbors.{place}
-use Rattle.drain_union.specs.declared.place.Place.{Place}
-use Rattle.drain_union.specs.Windows.{in_union, IsPlaceIn, IsJudgedIn, IsJudgedAtSome}
-use Rattle.drain_union.specs.Reports.{OverlapInSeams}
+use Rattle.drain_union.proofs.Names.{◌≡◌, ℕ, zero, suc, slice_index_or, ◌+◌, ◌-◌, ◌<◌, inl, inr, Bool, true, false, [], ◌∷◌, refl, sym, ap, subst, arith, false≢true, Cell, Extent, IsCellOf, cases, less_number, place, Place, in_union, IsPlaceIn, IsJudgedIn, IsJudgedAtSome, OverlapInSeams}
 
 abbrev column : ℕ → Extent
 column rows = record { rows = rows; cols = 1 }

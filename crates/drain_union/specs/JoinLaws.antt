@@ -1,10 +1,6 @@
 -- What joined windows say of the box that they fill. The laws are this project's own.
-use Rattle.std.specs.Prelude.{◌≡◌, ◌⊎◌, IsTrue, List, map}
-use Rattle.std.specs.List.{AllPairs, Contains, sum_by}
-use Rattle.drain_grid.specs.declared.cell.Cell.{Cell}
-use Rattle.drain_grid.specs.declared.rule.Rule.{Rule}
-use Rattle.drain_grid.specs.Grid.{Grid, Products}
-use Rattle.drain_grid.specs.Values.{NoDataNumbers}
+use Rattle.std.specs.Prelude.{◌≡◌, ◌⊎◌}
+use Rattle.drain_union.specs.Names.{IsTrue, List, map, AllPairs, Contains, sum_by, Cell, Rule, Grid, Products, NoDataNumbers}
 use Rattle.drain_union.specs.declared.place.Place.{Place}
 use Rattle.drain_union.specs.declared.place.TheConstants.{SEAM_DEPTH}
 use Rattle.drain_union.specs.Joins.{shown_at, FillPlace, IsGroup, IsJoined, LiesInBox}

@@ -1,10 +1,7 @@
 -- Windows of a map that fill a box of it, and the report that theirs make of the box. These definitions are this
 -- project's own.
-use Rattle.std.specs.Prelude.{◌≡◌, ◌↔◌, ℕ, ◌+◌, ◌≤◌, ◌⊎◌, IsTrue, List, map}
-use Rattle.std.specs.List.{Contains, AllPairs}
-use Rattle.drain_grid.specs.declared.cell.Cell.{Cell}
-use Rattle.drain_grid.specs.Grid.{Grid, Products}
-use Rattle.drain_grid.specs.Values.{NoDataNumbers}
+use Rattle.std.specs.Prelude.{◌≡◌, ◌↔◌, ◌+◌, ◌≤◌, ◌⊎◌}
+use Rattle.drain_union.specs.Names.{ℕ, IsTrue, List, map, Contains, AllPairs, Cell, Grid, Products, NoDataNumbers}
 use Rattle.drain_union.specs.declared.place.Place.{Place}
 use Rattle.drain_union.specs.declared.report.Shown.{Shown}
 use Rattle.drain_union.specs.Reports.{IsOnSeam, IsSortedByLabel, HoldsAllOf, OverlapInSeams, Report, ShowTheSame, SpacedAlike}

@@ -1,11 +1,8 @@
 -- The counts of the judged cells of a window. These definitions are this project's own.
-use Rattle.std.specs.Prelude.{◌≡◌, ℕ, ◌-◌, Bool, if◌then◌else◌, List, map}
-use Rattle.std.specs.List.{count_by, flat_map, range_with_len}
-use Rattle.drain_grid.specs.declared.cell.Cell.{Cell}
-use Rattle.drain_grid.specs.GridRules.{is_data, is_raised}
+use Rattle.std.specs.Prelude.{◌≡◌, ◌-◌, if◌then◌else◌}
+use Rattle.drain_union.specs.Names.{ℕ, Bool, List, map, count_by, flat_map, range_with_len, Cell, is_data, is_raised, has_outlet_code}
 use Rattle.drain_union.specs.declared.verdict.UnionCounts.{UnionCounts}
 use Rattle.drain_rules.specs.Rows.{place}
-use Rattle.drain_rules.specs.Verdicts.{has_outlet_code}
 use Rattle.drain_union.specs.declared.place.Place.{Place}
 use Rattle.drain_union.specs.Windows.{Window}
 

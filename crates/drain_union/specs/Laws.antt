@@ -1,16 +1,7 @@
 -- What windows say of their union. The laws are this project's own.
-use Rattle.std.specs.Prelude.{◌≡◌, ◌↔◌, ◌⊎◌, ℕ, IsTrue, List, map}
-use Rattle.std.specs.List.{AllPairs, Contains, sum_by}
-use Rattle.drain_grid.specs.declared.cell.Cell.{Cell}
-use Rattle.drain_grid.specs.Extent.{Extent, IsCellOf}
-use Rattle.drain_grid.specs.Values.{NoDataNumbers}
-use Rattle.drain_grid.specs.Grid.{Grid, Products, IsOpenCell, patch_at}
-use Rattle.drain_grid.specs.declared.rule.Rule.{Rule}
-use Rattle.drain_grid.specs.Rule.{IsPatchRule}
-use Rattle.drain_grid.specs.Unranked.{unranked}
-use Rattle.drain_grid.specs.GridRules.{IsFirstFault, data_count, raised_count}
+use Rattle.std.specs.Prelude.{◌≡◌, ◌↔◌, ◌⊎◌}
+use Rattle.drain_union.specs.Names.{ℕ, IsTrue, List, map, AllPairs, Contains, sum_by, Cell, Extent, IsCellOf, NoDataNumbers, Grid, Products, IsOpenCell, patch_at, Rule, IsPatchRule, unranked, IsFirstFault, data_count, raised_count, outlet_count}
 use Rattle.drain_grid.specs.Correct.{IsCorrect}
-use Rattle.drain_rules.specs.Verdicts.{outlet_count}
 use Rattle.drain_union.specs.declared.report.Outlet.{Outlet}
 use Rattle.drain_union.specs.Windows.{JudgesSome, BothJudgeOne, Window, in_union, IsJudgedAtSome, IsCornerRow, IsCornerCol, IsPlaceIn, IsWindowOf, IsJudgedIn, JudgeAll, RulesHoldInside, IsFirstInside, IsNotBefore, NoLabelIsShared, AreLaidIn, OverlapsAgree, SpacingsAgree, AreWindowsOf}
 use Rattle.drain_union.specs.JudgedCounts.{judged_data, judged_raised, judged_outlets}

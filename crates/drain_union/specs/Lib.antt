@@ -1,3 +1,4 @@
+pub mod Names
 pub mod Windows
 pub mod JudgedCounts
 pub mod Laws

@@ -1,13 +1,9 @@
 -- What a run on one window reports, and when reports can be put together.
 -- Source: what each tile of a large raster reports is its edge (Barnes 2016); these facts are this project's own.
-use Rattle.std.specs.Prelude.{pos, ◌≡◌, ◌≢◌, ℕ, ◌-◌, min, ◌<◌, ◌≤ℤ◌, ◌↔◌, Option, Some, None, List, length, slice_index_or, ◌+◌, ◌≤◌, ◌⊎◌, Bool, true, IsTrue, map, false}
-use Rattle.drain_grid.specs.Values.{NoDataNumbers}
-use Rattle.std.specs.List.{Contains, AllAdjacentBelow, AllPairs}
-use Rattle.drain_grid.specs.declared.cell.Cell.{Cell}
+use Rattle.std.specs.Prelude.{◌≡◌, ◌≢◌, ◌-◌, ◌<◌, ◌≤ℤ◌, ◌↔◌, ◌+◌, ◌≤◌, ◌⊎◌}
+use Rattle.drain_union.specs.Names.{pos, ℕ, min, Option, Some, None, List, length, slice_index_or, Bool, true, IsTrue, map, false, NoDataNumbers, Contains, AllAdjacentBelow, AllPairs, Cell, Extent, IsCellOf, values_at}
 use Rattle.drain_union.specs.declared.report.Outlet.{Outlet}
 use Rattle.drain_union.specs.Windows.{Window, in_union, IsJudgedOutlet, IsPlaceIn, IsJudgedIn, IsJudgedAtSome, RulesHoldInside}
-use Rattle.drain_grid.specs.Extent.{Extent, IsCellOf}
-use Rattle.drain_grid.specs.Grid.{values_at}
 use Rattle.drain_grid.specs.Spacing.{Distances, unit_spacing}
 use Rattle.drain_union.specs.declared.place.Place.{Place}
 use Rattle.drain_union.specs.declared.report.Shown.{Shown}

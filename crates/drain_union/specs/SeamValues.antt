@@ -1,6 +1,6 @@
 -- The values at a cell of a seam, as an audit has them. That dir takes the place of the ranks is this project's own.
-use Rattle.std.specs.Prelude.{◌≡◌, ℤ, pos, Bool, Option}
-use Rattle.drain_grid.specs.Values.{Values}
+use Rattle.std.specs.Prelude.{◌≡◌}
+use Rattle.drain_union.specs.Names.{ℤ, pos, Bool, Option, Values}
 
 -- with no spill code, and dir in place of the rank
 abbrev pub seam_values : Option ℤ → Bool → ℤ → ℤ → ℤ → ℤ → Values

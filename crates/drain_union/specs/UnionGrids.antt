@@ -1,9 +1,7 @@
 -- The grid whose rows and columns reports count. That parts of a raster are cut at whole pixels, and how far they may be
 -- from there, is this project's own.
-use Rattle.std.specs.Prelude.{◌≡◌, ◌*◌, ℤ, pos, ◌*ℤ◌, ◌+ℤ◌, ◌-ℤ◌}
-use Rattle.drain_grid.specs.declared.cell.TheConstants.{MAX_LENGTH}
-use Rattle.drain_header.specs.Header.{IsCoordinate}
-use Rattle.drain_raster.specs.Placing.{AreWithinPixel}
+use Rattle.std.specs.Prelude.{◌≡◌, ◌*◌, ◌*ℤ◌, ◌+ℤ◌, ◌-ℤ◌}
+use Rattle.drain_union.specs.Names.{ℤ, pos, MAX_LENGTH, IsCoordinate, AreWithinPixel}
 use Rattle.drain_union.specs.declared.union_grid.Decimal.{Decimal}
 use Rattle.drain_union.specs.declared.union_grid.DemPart.{DemPart}
 use Rattle.drain_union.specs.declared.union_grid.UnionGrid.{UnionGrid}

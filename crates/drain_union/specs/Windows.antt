@@ -2,17 +2,8 @@
 -- outermost row or column of a window is its ring: it is looked at, and not judged.
 -- Source: tiles of a raster that is too large for memory, with a ring of cells from their neighbors (Barnes 2016);
 -- which cells are judged is this project's own.
-use Rattle.std.specs.Prelude.{◌≡◌, ℕ, pos, ◌+◌, ◌-◌, ◌<◌, ◌≤◌, ◌^◌, ◌⊎◌, IsTrue, List, if◌then◌else◌, Bool}
-use Rattle.std.specs.List.{Contains}
-use Rattle.drain_grid.specs.declared.cell.Cell.{Cell}
-use Rattle.drain_grid.specs.declared.cell.TheConstants.{MAX_LENGTH}
-use Rattle.drain_grid.specs.declared.rule.Rule.{Rule}
-use Rattle.drain_grid.specs.Extent.{Extent, IsCellOf}
-use Rattle.drain_grid.specs.Values.{NoDataNumbers}
-use Rattle.drain_grid.specs.Grid.{Grid, Products, IsInside, HasData, values_at}
-use Rattle.drain_grid.specs.Rule.{IsPatchRule}
-use Rattle.drain_grid.specs.Unranked.{unranked}
-use Rattle.drain_grid.specs.GridRules.{HoldsAt, IsEarlierPair}
+use Rattle.std.specs.Prelude.{◌≡◌, ◌+◌, ◌-◌, ◌<◌, ◌≤◌, ◌^◌, ◌⊎◌, if◌then◌else◌}
+use Rattle.drain_union.specs.Names.{ℕ, pos, IsTrue, List, Bool, Contains, Cell, MAX_LENGTH, Rule, Extent, IsCellOf, NoDataNumbers, Grid, Products, IsInside, HasData, values_at, IsPatchRule, unranked, HoldsAt, IsEarlierPair}
 use Rattle.drain_union.specs.declared.place.Place.{Place}
 
 -- the union's cell that is the place's cell c

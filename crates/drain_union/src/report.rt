@@ -56,8 +56,7 @@ pub struct AuditNoData {
 }
 
 impl Model for AuditNoData {
-    ghost use Rattle.std.specs.Prelude.{pos};
-    ghost use Rattle.drain_grid.specs.Values.{NoDataNumbers, AreNoDataInRange};
+    ghost use Rattle.drain_union.specs.Names.{pos, NoDataNumbers, AreNoDataInRange};
 
     ghost Value = { NoDataNumbers };
 

@@ -1,7 +1,7 @@
 //! The numbers at a cell of a seam.
 
-ghost use Rattle.std.specs.Prelude.{◌≡◌, ◌↔◌, IfSome, IsSome, IsTrue};
-ghost use Rattle.drain_grid.specs.Values.{AreInRange};
+ghost use Rattle.std.specs.Prelude.{◌≡◌, ◌↔◌};
+ghost use Rattle.drain_union.specs.Names.{IfSome, IsSome, IsTrue, AreInRange};
 ghost use Rattle.drain_union.specs.SeamValues.{AreOfSeam, seam_values};
 
 use drain_grid::CellValues;

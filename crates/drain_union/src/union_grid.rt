@@ -1,9 +1,7 @@
 //! The grid whose rows and columns reports count: that of tiles on the map, or that of a raster of elevations.
 
-ghost use Rattle.std.specs.Prelude.{◌≡◌, ◌≤◌, ◌*◌, ◌↔◌, IsTrue, pos, ◌*ℤ◌, ◌-ℤ◌, nat_abs};
-ghost use Rattle.drain_grid.specs.declared.cell.TheConstants.{MAX_LENGTH};
-ghost use Rattle.drain_header.specs.Header.{IsCoordinate};
-ghost use Rattle.drain_raster.specs.Placing.{AreWithinPixel};
+ghost use Rattle.std.specs.Prelude.{◌≡◌, ◌≤◌, ◌*◌, ◌↔◌, ◌*ℤ◌, ◌-ℤ◌};
+ghost use Rattle.drain_union.specs.Names.{IsTrue, pos, nat_abs, MAX_LENGTH, IsCoordinate, AreWithinPixel};
 ghost use Rattle.drain_union.specs.UnionGrids.{AreCoordinates, AreOfOneRaster, CountsOn, value_of, whole_x, whole_y};
 
 use drain_grid::Cell;

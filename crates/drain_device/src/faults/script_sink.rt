@@ -1,7 +1,7 @@
 //! A scripted sink into a vector.
 
-ghost use Rattle.std.specs.Prelude.{◌≡◌, ◌<◌, ◌≤◌, min, length, IfOk, IsOkUnless, Some, None};
-ghost use Rattle.std.specs.Io.KnownBytes.{WriteAppends};
+ghost use Rattle.std.specs.Prelude.{◌≡◌, ◌<◌, ◌≤◌};
+ghost use Rattle.drain_device.specs.Names.{min, length, IfOk, IsOkUnless, Some, None, WriteAppends};
 ghost use Rattle.drain_device.specs.Counts.{counted, counts_after, stalls_after, no_faults};
 ghost use Rattle.drain_device.specs.Failing.{answer_of, answer_given};
 ghost use Rattle.drain_device.specs.declared.faults.script.SinkAnswer.{SinkAnswer};

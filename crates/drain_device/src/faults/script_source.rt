@@ -1,7 +1,7 @@
 //! A scripted source over the bytes of a slice.
 
-ghost use Rattle.std.specs.Prelude.{◌≡◌, ◌<◌, ◌≤◌, ◌↔◌, min, length, IfOk, IsErrOf, Some};
-ghost use Rattle.std.specs.Io.KnownBytes.{ReadConsumes};
+ghost use Rattle.std.specs.Prelude.{◌≡◌, ◌<◌, ◌≤◌, ◌↔◌};
+ghost use Rattle.drain_device.specs.Names.{min, length, IfOk, IsErrOf, Some, ReadConsumes};
 ghost use Rattle.drain_device.specs.Counts.{counted, counts_after, no_faults};
 ghost use Rattle.drain_device.specs.Failing.{answer_of};
 ghost use Rattle.drain_device.specs.declared.fault.DeviceFault.{DeviceFault};

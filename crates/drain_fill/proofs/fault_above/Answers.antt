@@ -1,8 +1,4 @@
-use Rattle.std.proofs.Common.{refl, Some, None, arith}
-use Rattle.drain_grid.specs.declared.rule.Rule.TheVariants.{OpenRaised, SpillRank, NotLeast}
-use Rattle.drain_grid.specs.PatchRules.{fill_rules}
-use Rattle.std.proofs.lemmas.Bool.{false≢true}
-use Rattle.drain_grid.proofs.AllRules.{holds_alone, fails_alone, found_first, found_next}
+use Rattle.drain_fill.proofs.Names.{refl, Some, None, arith, OpenRaised, SpillRank, NotLeast, fill_rules, false≢true, holds_alone, fails_alone, found_first, found_next}
 use Rattle.drain_fill.proofs.fault_above.Goals as goal
 
 pub returns-in-Some-level_fault : goal.returns-in-Some-level_fault

@@ -1,8 +1,4 @@
-use Rattle.std.proofs.Common.{arith}
-use Rattle.std.proofs.lemmas.Bool.{false≢true}
-use Rattle.drain_grid.specs.declared.rule.Rule.TheVariants.{OpenRaised, SpillRank}
-use Rattle.drain_grid.specs.PatchRules.{fill_rules}
-use Rattle.drain_grid.proofs.AllRules.{holds_alone, found_next}
+use Rattle.drain_fill.proofs.Names.{arith, false≢true, OpenRaised, SpillRank, fill_rules, holds_alone, found_next}
 use Rattle.drain_fill.proofs.level_fault.Goals as goal
 
 pub returns-then-not-is_open : goal.returns-then-not-is_open

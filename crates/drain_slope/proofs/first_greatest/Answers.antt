@@ -1,5 +1,4 @@
-use Rattle.std.proofs.Common.{◌+◌, ◌∙◌, arith, subst, sym}
-use Rattle.std.proofs.lemmas.Bool.{false≢true}
+use Rattle.drain_slope.proofs.Names.{◌+◌, ◌∙◌, arith, subst, sym, false≢true}
 use Rattle.drain_slope.proofs.Keys.{IsGreatestBefore, greatest_taken, greatest_left, first_of_all}
 use Rattle.drain_slope.proofs.first_greatest.Goals.{then-is_steeper, else-is_steeper}
 use Rattle.drain_slope.proofs.first_greatest.Goals as goal

@@ -1,11 +1,6 @@
-use Rattle.std.proofs.Common.{◌≡◌, ℕ, ℤ, pos, ◌-ℤ◌, ◌∙◌, refl, sym, ap, subst, arith, FitsSigned, to_z, of_z}
-use Rattle.std.specs.Int.{w64}
-use Rattle.std.proofs.lemmas.Int.{ints, to_z-of_z}
-use Rattle.drain_grid.specs.HeightKinds.{height_of, single_height}
+use Rattle.drain_slope.proofs.Names.{◌≡◌, ℕ, ℤ, pos, ◌-ℤ◌, ◌∙◌, refl, sym, ap, subst, arith, FitsSigned, to_z, of_z, w64, ints, to_z-of_z, height_of, single_height, IsPixel, IsLowerCon, IsLowerNumber}
 use Rattle.drain_grid.specs.declared.height_kind.HeightKind.{HeightKind}
 use Rattle.drain_grid.specs.declared.height_kind.HeightKind.TheVariants.{Single}
-use Rattle.drain_grid.specs.Values.{IsPixel}
-use Rattle.drain_slope.specs.Key.{IsLowerCon, IsLowerNumber}
 use Rattle.drain_slope.proofs.Keys.{drops_by_con, steeper_than_none, steeper_by_drops, natural_drop}
 use Rattle.drain_slope.proofs.is_steeper_by_heights.Goals as goal
 

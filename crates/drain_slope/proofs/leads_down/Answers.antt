@@ -1,5 +1,4 @@
-use Rattle.std.proofs.Common.{◌↔◌, IsTrue, pos, ◌<ℤ◌, sym, subst}
-use Rattle.drain_slope.specs.Key.{drop_at}
+use Rattle.drain_slope.proofs.Names.{◌↔◌, IsTrue, pos, ◌<ℤ◌, sym, subst, drop_at}
 use Rattle.drain_slope.proofs.Keys.{leads_by_con}
 use Rattle.drain_slope.proofs.leads_down.Goals as goal
 

@@ -1,5 +1,4 @@
-use Rattle.std.proofs.Common.{◌∙◌, sym}
-use Rattle.std.proofs.lemmas.Bool.{false≢true}
+use Rattle.drain_slope.proofs.Names.{◌∙◌, sym, false≢true}
 use Rattle.drain_slope.proofs.Keys.{first_steepest, none_lower, no_drop}
 use Rattle.drain_slope.proofs.steepest.Goals.{else-has_data-via-then-has_data+else-leads_down, else-has_data-via-else-has_data}
 use Rattle.drain_slope.proofs.steepest.Goals as goal

@@ -1,7 +1,6 @@
-use Rattle.std.proofs.Common.{rules, tests}
+use Rattle.drain_args.proofs.Names.{rules, tests, is_side_letter}
 use Rattle.std.proofs.lemmas.Iterator.{YieldsList-from_slice}
 use Rattle.std.proofs.lemmas.Iterator.Search.{all_from_yields_List}
-use Rattle.drain_args.specs.PlaceTexts.{is_side_letter}
 use Rattle.drain_args.proofs.place_texts.are_side_letters.Goals as goal
 
 pub returns : goal.returns

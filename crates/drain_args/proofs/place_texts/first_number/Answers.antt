@@ -1,6 +1,4 @@
-use Rattle.std.proofs.Common.{◌≡◌, ◌∷◌, [], Some, None, ap, sym, ◌∙◌}
-use Rattle.drain_text.specs.Text.{whole_number}
-use Rattle.drain_args.specs.PlaceTexts.{numbers_of}
+use Rattle.drain_args.proofs.Names.{◌≡◌, ◌∷◌, [], Some, None, ap, sym, ◌∙◌, whole_number, numbers_of}
 use Rattle.drain_args.proofs.Commas.{numbers_at_comma, not_two, not_first}
 use Rattle.drain_args.proofs.place_texts.first_number.Goals as goal
 

@@ -1,5 +1,4 @@
-use Rattle.std.proofs.Common.{sym, ap, ◌∙◌}
-use Rattle.drain_text.specs.Text.{whole_number}
+use Rattle.drain_args.proofs.Names.{sym, ap, ◌∙◌, whole_number}
 use Rattle.drain_args.proofs.Commas.{number_of_all}
 use Rattle.drain_args.proofs.place_texts.last_number.Goals as goal
 

@@ -1,10 +1,7 @@
-use Rattle.std.proofs.Common.{◌≡◌, ◌<◌, ◌^◌, get_or, length, arith, sym, ap, ◌∙◌}
-use Rattle.std.specs.Str.Parse.{digits_value}
+use Rattle.drain_args.proofs.Names.{◌≡◌, ◌<◌, ◌^◌, get_or, length, arith, sym, ap, ◌∙◌, digits_value, digit_at, pow-le-pow_right}
 use Rattle.std.proofs.lemmas.Int.Digits.{digits_value-lt, digits_value_more}
 use Rattle.std.proofs.lemmas.List.{take_all}
 use Rattle.std.proofs.lemmas.Str.{digit_value_digit}
-use Rattle.std.proofs.lemmas.Str.Parse.{digit_at}
-use Rattle.std.proofs.Math.Nat.{pow-le-pow_right}
 use Rattle.drain_args.proofs.Decimals.{all_ascii, all_digits}
 use Rattle.drain_args.proofs.spacing_texts.number_of.Goals as goal
 use Rattle.drain_args.proofs.spacing_texts.number_of.Goals.{then-word-gt-MAX_DIGITS-via-then-word-gt-MAX_DIGITS, then-word-gt-MAX_DIGITS-via-else-word-gt-MAX_DIGITS+then-not-are_digits}

@@ -1,7 +1,4 @@
-use Rattle.std.proofs.Common.{◌≡◌, ◌-◌, ◌^◌, min, take, true}
-use Rattle.std.specs.List.{list_all}
-use Rattle.std.specs.Char.{is_ascii_digit}
-use Rattle.std.specs.Str.Parse.{digits_value}
+use Rattle.drain_args.proofs.Names.{◌≡◌, ◌-◌, ◌^◌, min, take, true, list_all, is_ascii_digit, digits_value}
 use Rattle.drain_args.proofs.spacing_texts.number_of.Given as goal
 
 -- the value is that of the digits passed

@@ -1,5 +1,4 @@
-use Rattle.std.proofs.Common.{sym, subst}
-use Rattle.drain_args.specs.SpacingTexts.{IsDecimal}
+use Rattle.drain_args.proofs.Names.{sym, subst, IsDecimal}
 use Rattle.drain_args.proofs.Decimals.{spacing_matched, texts_at_comma}
 use Rattle.drain_args.proofs.spacing_texts.spacing_named.Goals as goal
 

@@ -1,5 +1,4 @@
-use Rattle.std.proofs.Common.{◌-◌, arith}
-use Rattle.std.proofs.Math.Nat.{pow-le-pow_right}
+use Rattle.drain_args.proofs.Names.{◌-◌, arith, pow-le-pow_right}
 use Rattle.drain_args.proofs.spacing_texts.unit_behind.Goals as goal
 
 pub returns-clause-small : goal.returns-clause-small

@@ -1,6 +1,4 @@
-use Rattle.std.proofs.Common.{◌≡◌, ◌↔◌, ◌∙◌, ◌/◌, ◌%◌, ◌*◌, ◌^◌, IsTrue, nat_eq, bit_and, bit_or, ap, arith, subst, unwrap_or}
-use Rattle.std.specs.Int.{bit_at}
-use Rattle.std.proofs.lemmas.Grind.{common_steps}
+use Rattle.drain_basin.proofs.Names.{◌≡◌, ◌↔◌, ◌∙◌, ◌/◌, ◌%◌, ◌*◌, ◌^◌, IsTrue, nat_eq, bit_and, bit_or, ap, arith, subst, unwrap_or, bit_at, common_steps}
 use Rattle.drain_basin.proofs.Bits.{clear_test, high_set}
 use Rattle.drain_basin.proofs.Trees.{tree_put, tree_word}
 use Rattle.drain_basin.proofs.blocks.set_high.Goals as goal

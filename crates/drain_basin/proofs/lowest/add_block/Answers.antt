@@ -1,6 +1,4 @@
-use Rattle.std.proofs.Common.{◌≡◌, ◌*◌, ◌/◌, ◌%◌, ◌^◌, ℕ, List, cond, max, nat_eq, get_or, slice_set, bit_or, subst, sym}
-use Rattle.std.specs.Int.{bit_at}
-use Rattle.drain_basin.specs.Admitted.{low_bit}
+use Rattle.drain_basin.proofs.Names.{◌≡◌, ◌*◌, ◌/◌, ◌%◌, ◌^◌, ℕ, List, cond, max, nat_eq, get_or, slice_set, bit_or, subst, sym, bit_at, low_bit}
 use Rattle.drain_basin.proofs.Bits.{low_added}
 use Rattle.drain_basin.proofs.lowest.add_block.Goals as goal
 

@@ -1,5 +1,4 @@
-use Rattle.std.proofs.Common.{◌∙◌, ap, max}
-use Rattle.drain_basin.specs.Admitted.{high_bit, low_bit}
+use Rattle.drain_basin.proofs.Names.{◌∙◌, ap, max, high_bit, low_bit}
 use Rattle.drain_basin.proofs.Bits.{low_longer, whole}
 use Rattle.drain_basin.proofs.lowest.grow.Goals as goal
 

@@ -1,6 +1,5 @@
 -- Each bit stays, in one of the two; what is left to take falls.
-use Rattle.std.proofs.Common.{◌≡◌, ℕ, length, max}
-use Rattle.drain_basin.specs.Admitted.{high_bit, low_bit}
+use Rattle.drain_basin.proofs.Names.{◌≡◌, ℕ, length, max, high_bit, low_bit}
 use Rattle.drain_basin.proofs.lowest.take_blocks.Given as goal
 
 abbrev pub invariant-loop-block : goal.invariant-loop-block

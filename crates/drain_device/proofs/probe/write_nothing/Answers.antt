@@ -1,7 +1,5 @@
-use Rattle.std.proofs.Common.{arith, inl, inr, refl, ◌∙◌}
-use Rattle.std.proofs.KnownBytes.{Keeps-refl, Keeps-trans}
+use Rattle.drain_device.proofs.Names.{arith, inl, inr, refl, ◌∙◌, Keeps-refl, Keeps-trans, full_patience}
 use Rattle.std.proofs.lemmas.Bool.{false≢true}
-use Rattle.drain_device.specs.Failing.{full_patience}
 use Rattle.drain_device.proofs.PartLemmas.{answered_failure, answered_interruption, nothing_taken, no_stall, goes_on}
 use Rattle.drain_device.proofs.probe.write_nothing.Goals as goal
 

@@ -1,6 +1,4 @@
-use Rattle.std.proofs.Common.{◌≡◌}
-use Rattle.std.specs.Io.KnownBytes.{Keeps}
-use Rattle.drain_device.specs.Counts.{Answered}
+use Rattle.drain_device.proofs.Names.{◌≡◌, Keeps, Answered}
 use Rattle.drain_device.proofs.probe.write_nothing.Given as goal
 
 -- nothing was taken, and each call so far was interrupted

@@ -1,7 +1,5 @@
-use Rattle.std.proofs.Common.{◌++◌, [], arith, length-append}
-use Rattle.std.proofs.lemmas.List.{length-take}
+use Rattle.drain_device.proofs.Names.{◌++◌, [], arith, length-append, length-take, Consumes-nil, Consumes-trans}
 use Rattle.std.proofs.lemmas.Result.{err_from_is_err_and}
-use Rattle.std.proofs.KnownBytes.{Consumes-nil, Consumes-trans}
 use Rattle.drain_device.proofs.FaultLists.{PartFails-none, PartFails-ok, PartFails-then}
 use Rattle.drain_device.proofs.PartLemmas.{fails-later}
 use Rattle.drain_device.proofs.row_bytes.pass_part.Goals as goal

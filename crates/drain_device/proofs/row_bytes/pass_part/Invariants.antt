@@ -1,6 +1,4 @@
-use Rattle.std.proofs.Common.{◌≡◌, ℕ, ◌+◌, List, length}
-use Rattle.std.specs.Io.KnownBytes.{Consumes}
-use Rattle.drain_device.specs.Failing.{PartFails}
+use Rattle.drain_device.proofs.Names.{◌≡◌, ℕ, ◌+◌, List, length, Consumes, PartFails}
 use Rattle.drain_device.proofs.row_bytes.pass_part.Given as goal
 
 -- the skipped bytes came, the rest is left, and no call failed for good

@@ -1,7 +1,4 @@
-use Rattle.std.proofs.Common.{◌+◌, ◌-◌, ◌++◌, ◌≤◌, drop, length, take, arith, refl, length-append}
-use Rattle.std.proofs.lemmas.List.{length-take, take-append-le}
-use Rattle.std.proofs.KnownBytes.{Consumes-trans}
-use Rattle.drain_device.specs.Failing.{full_patience}
+use Rattle.drain_device.proofs.Names.{◌+◌, ◌-◌, ◌++◌, ◌≤◌, drop, length, take, arith, refl, length-append, length-take, take-append-le, Consumes-trans, full_patience}
 use Rattle.drain_device.proofs.PartLemmas.{answered_more, answered_on, bears, gives_up-left, gives_up-full}
 use Rattle.drain_device.proofs.whole_input.read_into.Goals as goal
 

@@ -1,7 +1,4 @@
-use Rattle.std.proofs.Common.{◌-◌, ◌≤◌, vec_len, vec_capacity}
-use Rattle.std.specs.Io.KnownBytes.{Consumes}
-use Rattle.drain_device.specs.Counts.{Answered}
-use Rattle.drain_device.specs.Failing.{full_patience}
+use Rattle.drain_device.proofs.Names.{◌-◌, ◌≤◌, vec_len, vec_capacity, Consumes, Answered, full_patience}
 use Rattle.drain_device.proofs.whole_input.read_into.Given as goal
 
 -- the body holds what came, keeps its room for all, and there were only interruptions, all of them counted

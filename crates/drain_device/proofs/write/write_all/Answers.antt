@@ -1,7 +1,4 @@
-use Rattle.std.proofs.Common.{◌≡◌, ◌+◌, ◌-◌, arith, true, inl, inr, refl, ◌∙◌}
-use Rattle.std.proofs.KnownBytes.{Appends-trans}
-use Rattle.std.proofs.Math.Seq.{take-add}
-use Rattle.std.proofs.lemmas.List.{take_rest}
+use Rattle.drain_device.proofs.Names.{◌≡◌, ◌+◌, ◌-◌, arith, true, inl, inr, refl, ◌∙◌, Appends-trans, take-add, take_rest}
 use Rattle.drain_device.proofs.PartLemmas.{answered_failure, answered_interruption, stalls_after-some}
 use Rattle.drain_device.proofs.write.write_all.Goals as goal
 

@@ -1,6 +1,4 @@
-use Rattle.std.proofs.Common.{◌≡◌, ◌+◌, ◌-◌, ◌≤◌, length, take}
-use Rattle.std.specs.Io.KnownBytes.{Appends}
-use Rattle.drain_device.specs.Counts.{Answered}
+use Rattle.drain_device.proofs.Names.{◌≡◌, ◌+◌, ◌-◌, ◌≤◌, length, take, Appends, Answered}
 use Rattle.drain_device.proofs.write.write_all.Given as goal
 
 -- this many bytes were taken, with only interruptions, all of them counted

@@ -1,7 +1,4 @@
-use Rattle.std.proofs.Common.{arith}
-use Rattle.drain_grid.specs.declared.rule.Rule.TheVariants.{BadCode, BelowGround, OpenRaised, NotLeast, Slope, OutletCode, FlatStep, Accumulation, Label}
-use Rattle.drain_grid.specs.Judged.{has_acc, has_bas, has_dir}
-use Rattle.drain_grid.specs.RulesAbout.{part_rules}
+use Rattle.drain_faults.proofs.Names.{arith, BadCode, BelowGround, OpenRaised, NotLeast, Slope, OutletCode, FlatStep, Accumulation, Label, has_acc, has_bas, has_dir, part_rules}
 use Rattle.drain_faults.proofs.ByRule.{tells_each}
 use Rattle.drain_faults.proofs.PartFlags.{missing_first, told_both, void_cell_first}
 use Rattle.drain_faults.proofs.patch_faults.faults_from.Goals as goal

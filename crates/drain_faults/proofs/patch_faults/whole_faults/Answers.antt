@@ -1,7 +1,4 @@
-use Rattle.std.proofs.Common.{refl, arith}
-use Rattle.drain_grid.specs.declared.rule.Rule.TheVariants.{BelowGround, OpenRaised, NotLeast}
-use Rattle.drain_grid.specs.PatchRules.{BadCodeWithoutSpill, BelowGroundHolds, NotLeastHolds, OpenRaisedWithoutSpill}
-use Rattle.drain_rules.proofs.Faults.{whole}
+use Rattle.drain_faults.proofs.Names.{refl, arith, BelowGround, OpenRaised, NotLeast, BadCodeWithoutSpill, BelowGroundHolds, NotLeastHolds, OpenRaisedWithoutSpill, whole}
 use Rattle.drain_faults.proofs.ByRule.{tells_each}
 use Rattle.drain_faults.proofs.PatchFlags.{tells_not, accumulation_told, bad_code_told, fill_rule_told, flat_step_told, label_told, missing_told, no_spill_holds, outlet_code_told, slope_told, spill_height_holds, spill_rank_holds, void_cell_told}
 use Rattle.drain_faults.proofs.patch_faults.whole_faults.Goals as goal

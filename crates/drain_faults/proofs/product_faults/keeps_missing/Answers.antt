@@ -1,5 +1,4 @@
-use Rattle.std.proofs.Common.{sym, ◌∙◌, refl}
-use Rattle.drain_grid.specs.Judged.{has_product}
+use Rattle.drain_faults.proofs.Names.{sym, ◌∙◌, refl, has_product}
 use Rattle.drain_faults.proofs.ProductParts.{if_judged, unjudged}
 use Rattle.drain_faults.proofs.product_faults.keeps_missing.Goals as goal
 

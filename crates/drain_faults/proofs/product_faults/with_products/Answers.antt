@@ -1,6 +1,4 @@
-use Rattle.drain_grid.specs.PerProduct.{of_product}
-use Rattle.drain_grid.proofs.ByProduct.{by_set_product}
-use Rattle.drain_faults.specs.ByProduct.{IsProductNotedAt}
+use Rattle.drain_faults.proofs.Names.{of_product, by_set_product, IsProductNotedAt}
 use Rattle.drain_faults.proofs.product_faults.with_products.Goals as goal
 
 pub returns : goal.returns

@@ -1,7 +1,4 @@
-use Rattle.std.proofs.Common.{refl, sym, ◌∙◌}
-use Rattle.drain_basin.specs.Admitted.{IsAdmitted}
-use Rattle.drain_rules.specs.Labels.{IsOutletByCode}
-use Rattle.drain_faults.specs.CellFaults.{of_rule, HoldsIfTried}
+use Rattle.drain_faults.proofs.Names.{refl, sym, ◌∙◌, IsAdmitted, IsOutletByCode, of_rule, HoldsIfTried}
 use Rattle.drain_faults.proofs.ByRule.{tells_every}
 use Rattle.drain_faults.proofs.PatchFlags.{tells_not}
 use Rattle.drain_faults.proofs.TriedRules.{told_patch, told_shared, told_untried}

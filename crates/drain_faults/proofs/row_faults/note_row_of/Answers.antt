@@ -1,9 +1,5 @@
-use Rattle.std.proofs.Common.{◌∙◌, ap, arith, inr, subst, ◌+◌}
-use Rattle.drain_grid.specs.declared.patch.Patch.{Patch}
-use Rattle.drain_grid.specs.RulesAbout.{tried}
-use Rattle.drain_rules.specs.Rows.{CountsAlong, place}
+use Rattle.drain_faults.proofs.Names.{◌∙◌, ap, arith, inr, subst, ◌+◌, Patch, tried, CountsAlong, place, CountsAlong-more}
 use Rattle.drain_rules.proofs.KeptCells.{bounds-kept, counted-kept}
-use Rattle.drain_rules.proofs.RowLemmas.{CountsAlong-more}
 use Rattle.drain_rules.proofs.CountBounds.{bounds-next, raised-fit}
 use Rattle.drain_faults.proofs.FaultSteps.{counted_none, counted_voids, none_at_most, found_begins, found_ends, found_new, found_noted, found_passed}
 use Rattle.drain_faults.proofs.MapSteps.{drawn_still, map_begins, map_ends, map_noted, map_passed}

@@ -1,9 +1,6 @@
-use Rattle.std.proofs.Common.{◌-◌, ◌≤◌, ◌↔◌}
+use Rattle.drain_faults.proofs.Names.{◌-◌, ◌≤◌, Grid, Products, IsAtMost, CountsAlong, IsMapOfCells, OfRowDrawn, IsFoundBefore, OfRowFound, OfRowPatches, cells_before}
+use Rattle.std.proofs.Common.{◌↔◌}
 use Rattle.std.specs.Prelude.{IsSome}
-use Rattle.drain_grid.specs.Grid.{Grid, Products}
-use Rattle.drain_rules.specs.Rows.{IsAtMost, CountsAlong}
-use Rattle.drain_faults.specs.FaultMaps.{IsMapOfCells, OfRowDrawn}
-use Rattle.drain_faults.specs.FaultWalks.{IsFoundBefore, OfRowFound, OfRowPatches, cells_before}
 use Rattle.drain_faults.proofs.row_faults.note_row_of.Given as goal
 
 -- what was found, the map and the counts are right of the cells that were passed

@@ -1,6 +1,4 @@
-use Rattle.std.proofs.Common.{arith, false, None}
-use Rattle.std.proofs.lemmas.Bool.{false≢true}
-use Rattle.std.proofs.lemmas.Option.{slice_get_within}
+use Rattle.drain_files.proofs.Names.{arith, false, None, false≢true, slice_get_within}
 use Rattle.drain_files.proofs.PathLemmas.{no_clash_more}
 use Rattle.drain_files.proofs.file_id.first_clash.Goals as goal
 

@@ -1,5 +1,4 @@
-use Rattle.std.proofs.Common.{ℕ, ◌<◌}
-use Rattle.drain_files.specs.FileIds.{Clashes}
+use Rattle.drain_files.proofs.Names.{ℕ, ◌<◌, Clashes}
 use Rattle.drain_files.proofs.file_id.first_clash.Given as goal
 
 -- no output so far clashes

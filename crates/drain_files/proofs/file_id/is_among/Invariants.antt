@@ -1,6 +1,4 @@
-use Rattle.std.proofs.Common.{◌≡◌, ℕ, ◌<◌, Some}
-use Rattle.std.specs.Prelude.{slice_get}
-use Rattle.drain_files.specs.declared.file_id.FileId.{FileId}
+use Rattle.drain_files.proofs.Names.{◌≡◌, ℕ, ◌<◌, Some, slice_get, FileId}
 use Rattle.drain_files.proofs.file_id.is_among.Given as goal
 
 -- no input so far is the file

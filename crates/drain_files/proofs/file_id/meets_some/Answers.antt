@@ -1,6 +1,4 @@
-use Rattle.std.proofs.Common.{arith}
-use Rattle.std.proofs.lemmas.Bool.{false≢true}
-use Rattle.std.proofs.lemmas.Option.{slice_get_within}
+use Rattle.drain_files.proofs.Names.{arith, false≢true, slice_get_within}
 use Rattle.drain_files.proofs.file_id.meets_some.Goals as goal
 
 pub returns : goal.returns

@@ -1,7 +1,4 @@
-use Rattle.std.proofs.Common.{◌≡◌, ℕ, ◌<◌, Some}
-use Rattle.std.specs.Prelude.{slice_get}
-use Rattle.drain_files.specs.FileIds.{Meets}
-use Rattle.drain_files.specs.declared.file_id.Target.{Target}
+use Rattle.drain_files.proofs.Names.{◌≡◌, ℕ, ◌<◌, Some, slice_get, Meets, Target}
 use Rattle.drain_files.proofs.file_id.meets_some.Given as goal
 
 -- the output meets none of the others so far

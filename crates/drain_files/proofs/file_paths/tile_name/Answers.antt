@@ -1,6 +1,4 @@
-use Rattle.std.proofs.Common.{◌+◌, arith}
-use Rattle.std.proofs.lemmas.Bool.{eq-eqb, eqb-true}
-use Rattle.std.proofs.lemmas.List.{take_rest}
+use Rattle.drain_files.proofs.Names.{◌+◌, arith, eq-eqb, eqb-true, take_rest}
 use Rattle.drain_files.proofs.PathLemmas.{whole_path, after_last_slash}
 use Rattle.drain_files.proofs.file_paths.tile_name.Goals as goal
 

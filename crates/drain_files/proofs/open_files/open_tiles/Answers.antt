@@ -1,7 +1,4 @@
-use Rattle.std.proofs.Common.{◌≡◌, ◌++◌, ◌∷◌, [], take, rules}
-use Rattle.std.proofs.lemmas.List.{take_more, map-append}
-use Rattle.drain_hgt.specs.Inputs.{names_of}
-use Rattle.drain_files.specs.FilePaths.{IsLastPart}
+use Rattle.drain_files.proofs.Names.{◌≡◌, ◌++◌, ◌∷◌, [], take, rules, take_more, map-append, names_of, IsLastPart}
 use Rattle.drain_files.proofs.PathLemmas.{AllZip-more}
 use Rattle.drain_files.proofs.open_files.open_tiles.Goals as goal
 

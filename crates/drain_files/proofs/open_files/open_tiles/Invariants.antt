@@ -1,7 +1,4 @@
-use Rattle.std.proofs.Common.{take}
-use Rattle.std.specs.List.{AllZip}
-use Rattle.drain_hgt.specs.Inputs.{names_of}
-use Rattle.drain_files.specs.FilePaths.{IsLastPart}
+use Rattle.drain_files.proofs.Names.{take, AllZip, names_of, IsLastPart}
 use Rattle.drain_files.proofs.open_files.open_tiles.Given as goal
 
 -- the tiles so far have the names of their paths

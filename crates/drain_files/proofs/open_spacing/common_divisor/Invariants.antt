@@ -1,5 +1,4 @@
-use Rattle.std.proofs.Common.{ℕ}
-use Rattle.std.specs.Int.{IsGcd}
+use Rattle.drain_files.proofs.Names.{ℕ, IsGcd}
 use Rattle.drain_files.proofs.open_spacing.common_divisor.Given as goal
 
 -- a common divisor of what is left is one of both sizes

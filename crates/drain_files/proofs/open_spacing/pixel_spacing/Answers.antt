@@ -1,6 +1,4 @@
-use Rattle.std.proofs.Common.{◌≡◌, ◌∙◌, ap, arith, sym}
-use Rattle.std.proofs.lemmas.Int.{ints}
-use Rattle.drain_header.specs.Header.{Fields}
+use Rattle.drain_files.proofs.Names.{◌≡◌, ◌∙◌, ap, arith, sym, ints, Fields}
 use Rattle.drain_files.proofs.LowestTerms.{is_size, pixel_matched}
 use mir.Syntax.{w128}
 use mir.Val.{to_z, of_z}

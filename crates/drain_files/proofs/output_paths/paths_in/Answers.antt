@@ -1,8 +1,7 @@
-use Rattle.std.proofs.Common.{◌≡◌, ◌++◌, ◌∷◌, [], string_bytes, take, rules}
-use Rattle.std.proofs.lemmas.List.{take_more}
+use Rattle.drain_files.proofs.Names.{◌≡◌, ◌++◌, ◌∷◌, [], take, rules, take_more, IsPathOf}
+use Rattle.std.proofs.Common.{string_bytes}
 use Rattle.drain_grid.specs.declared.set_product.SetProduct.TheVariants.{Con}
 use Rattle.drain_sets.specs.declared.set_files.FilePart.TheVariants.{Header}
-use Rattle.drain_files.specs.FilePaths.{IsPathOf}
 use Rattle.drain_files.proofs.PathLemmas.{AllZip-more}
 use Rattle.drain_files.proofs.output_paths.paths_in.Goals as goal
 

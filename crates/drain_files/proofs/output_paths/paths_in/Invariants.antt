@@ -1,7 +1,5 @@
-use Rattle.std.proofs.Common.{◌≡◌, take, vec_len}
-use Rattle.std.specs.List.{AllZip}
+use Rattle.drain_files.proofs.Names.{◌≡◌, take, vec_len, AllZip, IsPathOf}
 use Rattle.std.specs.Prelude.{string_bytes}
-use Rattle.drain_files.specs.FilePaths.{IsPathOf}
 use Rattle.drain_files.proofs.output_paths.paths_in.Given as goal
 
 -- the paths so far are those of the files so far

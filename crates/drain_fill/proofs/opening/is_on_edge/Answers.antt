@@ -1,9 +1,5 @@
-use Rattle.std.proofs.Common.{◌≡◌, None, rules, tests}
+use Rattle.drain_fill.proofs.Names.{◌≡◌, None, rules, tests, any_direction, directions, Direction, neighbor}
 use Rattle.std.proofs.lemmas.Iterator.{cases_from_any, YieldsList-from_slice}
-use Rattle.drain_grid.proofs.Neighbors.{any_direction}
-use Rattle.drain_grid.specs.Direction.{directions}
-use Rattle.drain_grid.specs.declared.direction.Direction.{Direction}
-use Rattle.drain_grid.specs.Patch.{neighbor}
 use Rattle.drain_fill.proofs.opening.is_on_edge.Goals as goal
 
 pub returns : goal.returns

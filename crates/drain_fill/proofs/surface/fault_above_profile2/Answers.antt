@@ -1,5 +1,4 @@
-use Rattle.std.proofs.Common.{sym, ◌∙◌, arith}
-use Rattle.std.proofs.lemmas.Bool.{false≢true}
+use Rattle.drain_fill.proofs.Names.{sym, ◌∙◌, arith, false≢true}
 use Rattle.drain_fill.proofs.SurfaceFaults.{all_above, all_before_least}
 use Rattle.drain_fill.proofs.surface.fault_above_profile2.Goals as goal
 

@@ -1,7 +1,4 @@
-use Rattle.std.proofs.Common.{refl, arith}
-use Rattle.drain_grid.specs.declared.rule.Rule.TheVariants.{BelowGround, NotLeast}
-use Rattle.drain_grid.specs.PatchRules.{surface_rules}
-use Rattle.drain_grid.proofs.AllRules.{holds_alone, found_next}
+use Rattle.drain_fill.proofs.Names.{refl, arith, BelowGround, NotLeast, surface_rules, holds_alone, found_next}
 use Rattle.drain_fill.proofs.surface.fault_profile2.Goals as goal
 
 pub returns-then-is_above_ground : goal.returns-then-is_above_ground

@@ -1,5 +1,4 @@
-use Rattle.std.proofs.Common.{◌∙◌, rules, sym}
-use Rattle.std.proofs.lemmas.Bool.{false≢true}
+use Rattle.drain_filled.proofs.Names.{◌∙◌, rules, sym, false≢true}
 use Rattle.drain_filled.proofs.FirstCon.{no_data_at, one_more_place, same_at}
 use Rattle.drain_filled.proofs.compare.first_other.Goals as goal
 use Rattle.drain_filled.proofs.compare.first_other.Goals.{then-not-is_same_at+else-has_data, else-not-is_same_at}

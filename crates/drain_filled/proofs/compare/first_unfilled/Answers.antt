@@ -1,7 +1,4 @@
-use Rattle.std.proofs.Common.{ℤ, List, sym, subst}
-use Rattle.drain_grid.specs.Path.{IsLeastSurface}
-use Rattle.drain_filled.specs.Compared.{listed_at}
-use Rattle.drain_filled.specs.Sweeps.{IsBetween}
+use Rattle.drain_filled.proofs.Names.{ℤ, List, sym, subst, IsLeastSurface, listed_at, IsBetween}
 use Rattle.drain_filled.proofs.FirstUnfilled.{cells_of, found_unfilled, ground_between}
 use Rattle.drain_filled.proofs.compare.first_unfilled.Goals as goal
 

@@ -1,6 +1,4 @@
-use Rattle.std.proofs.Common.{◌≡◌, ◌<◌, ◌∙◌, ℕ, ℤ, List, Option, None, length, map, get_or, ap, sym, rules, arith}
-use Rattle.std.proofs.lemmas.List.{ext_get_or, get_or-map, length-map}
-use Rattle.drain_filled.specs.ConRows.{mark_of}
+use Rattle.drain_filled.proofs.Names.{◌≡◌, ◌<◌, ◌∙◌, ℕ, ℤ, List, Option, None, length, map, get_or, ap, sym, rules, arith, ext_get_or, get_or-map, length-map, mark_of}
 use Rattle.drain_filled.proofs.FirstCon.{one_more}
 use Rattle.drain_filled.proofs.kept_rows.fill_marks.Goals as goal
 

@@ -1,6 +1,5 @@
 -- The marks of the places that were passed are there.
-use Rattle.std.proofs.Common.{◌≡◌, ◌<◌, ℕ, None, get_or}
-use Rattle.drain_filled.specs.ConRows.{mark_of}
+use Rattle.drain_filled.proofs.Names.{◌≡◌, ◌<◌, ℕ, None, get_or, mark_of}
 use Rattle.drain_filled.proofs.kept_rows.fill_marks.Given as goal
 
 abbrev pub invariant-loop-k : goal.invariant-loop-k

@@ -1,8 +1,5 @@
-use Rattle.std.proofs.Common.{◌∙◌, get_or, pos, rules}
+use Rattle.drain_filled.proofs.Names.{◌∙◌, get_or, pos, rules, SFits, to_z-of_z, ext_get_or}
 use mir.Syntax.{w64}
-use mir.Val.{SFits}
-use Rattle.std.proofs.lemmas.Int.{to_z-of_z}
-use Rattle.std.proofs.lemmas.List.{ext_get_or}
 use Rattle.drain_filled.proofs.FirstCon.{one_more}
 use Rattle.drain_filled.proofs.kept_rows.fill_numbers.Goals as goal
 

@@ -1,12 +1,5 @@
-use Rattle.std.proofs.Common.{◌≡◌, ◌∙◌, ◌*◌, ◌<◌, ℕ, List, [], pos, length, get_or, refl, sym, ap, subst}
+use Rattle.drain_filled.proofs.Names.{◌≡◌, ◌∙◌, ◌*◌, ◌<◌, ℕ, [], pos, length, get_or, sym, ap, subst, to_z-of_z, Extent, index_of, IsLeastSurface, Flooding, IsSurfaceOf, con_at, IsVoided}
 use mir.Syntax.{w64}
-use Rattle.std.proofs.lemmas.Int.{to_z-of_z}
-use Rattle.drain_grid.specs.declared.cell.Cell.{Cell}
-use Rattle.drain_grid.specs.Extent.{Extent, index_of}
-use Rattle.drain_grid.specs.Grid.{Grid, IsInside, height_at}
-use Rattle.drain_grid.specs.Path.{IsLeastSurface}
-use Rattle.drain_flood.specs.Floods.{Flooding, IsSurfaceOf, con_at, mark_at}
-use Rattle.drain_filled.specs.Grounds.{IsVoided}
 use Rattle.drain_filled.proofs.MarkedSurfaces.{ground_between, least_still, surface_of_least, void_there}
 use Rattle.drain_filled.proofs.marked.filled_surface.Goals as goal
 

@@ -1,12 +1,4 @@
-use Rattle.std.proofs.Common.{◌≡◌, ◌∙◌, List, IsSome, inl, inr, refl, sym, subst}
-use Rattle.std.proofs.lemmas.Bool.{false≢true}
-use Rattle.drain_grid.specs.declared.cell.Cell.{Cell}
-use Rattle.drain_grid.specs.declared.sink_line.SinkLine.{SinkLine}
-use Rattle.drain_grid.specs.Extent.{Extent, IsCellOf}
-use Rattle.drain_grid.specs.Grid.{Grid, IsInside}
-use Rattle.drain_flood.specs.declared.layers.TheConstants.{UNREACHED}
-use Rattle.drain_flood.proofs.Cells.{none_or_some}
-use Rattle.drain_filled.specs.Grounds.{DataCells, HasDataCells, data_mark}
+use Rattle.drain_filled.proofs.Names.{◌≡◌, ◌∙◌, List, IsSome, inl, inr, refl, sym, subst, false≢true, Cell, SinkLine, Extent, IsCellOf, Grid, IsInside, UNREACHED, none_or_some, DataCells, HasDataCells, data_mark}
 use Rattle.drain_filled.proofs.Beginning.{is_open_there, opens}
 use Rattle.drain_filled.proofs.marked.mark_of.Goals as goal
 

@@ -1,8 +1,4 @@
-use Rattle.std.proofs.Common.{◌≡◌, ◌∙◌, ◌*◌, length, get_or, sym, ap, subst}
-use Rattle.drain_grid.specs.Extent.{Extent, IsCellOf, index_of}
-use Rattle.drain_grid.proofs.Runs.{index_of-below}
-use Rattle.drain_flood.proofs.Cells.{one_more, same_end, with_next, within}
-use Rattle.drain_filled.specs.Grounds.{IsMarkAt}
+use Rattle.drain_filled.proofs.Names.{◌≡◌, ◌∙◌, ◌*◌, length, get_or, sym, ap, subst, Extent, IsCellOf, index_of, index_of-below, one_more, with_next, within, IsMarkAt}
 use Rattle.drain_filled.proofs.marked.marks_of.Goals as goal
 
 pub loop-place-preserved : goal.loop-place-preserved

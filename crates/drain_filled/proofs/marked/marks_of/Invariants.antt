@@ -1,9 +1,5 @@
 -- The marks so far.
-use Rattle.std.proofs.Common.{◌≡◌, ◌<◌, length, slice_index_or}
-use Rattle.drain_grid.specs.declared.cell.Cell.{Cell}
-use Rattle.drain_grid.specs.Extent.{index_of}
-use Rattle.drain_grid.specs.Grid.{Grid, IsInside}
-use Rattle.drain_filled.specs.Grounds.{HasDataCells, IsMarkAt}
+use Rattle.drain_filled.proofs.Names.{◌≡◌, ◌<◌, length, slice_index_or, Cell, index_of, Grid, IsInside, HasDataCells, IsMarkAt}
 use Rattle.drain_filled.proofs.marked.marks_of.Given as goal
 
 abbrev pub invariant-loop-place : goal.invariant-loop-place

@@ -1,11 +1,7 @@
-use Rattle.std.proofs.Common.{◌≡◌, ◌∙◌, ◌+◌, ◌<◌, ◌≤◌, ℕ, ℤ, pos, List, inl, inr, length, set, get_or, sym, subst, arith, rules}
+use Rattle.drain_filled.proofs.Names.{◌≡◌, ◌∙◌, ◌+◌, ◌<◌, ◌≤◌, ℕ, ℤ, pos, List, inl, inr, length, set, get_or, sym, subst, arith, rules, SFits, cases_order, to_z-of_z, get_or_default, length-set, within, IsVoided}
 use mir.Syntax.{w64}
-use mir.Val.{SFits, to_z, of_z}
-use Rattle.std.proofs.lemmas.Bool.{cases_order}
-use Rattle.std.proofs.lemmas.Int.{to_z-of_z}
-use Rattle.std.proofs.lemmas.List.{get_or_default, get_or-set_other, get_or-set_same, length-set}
-use Rattle.drain_flood.proofs.Cells.{within}
-use Rattle.drain_filled.specs.Grounds.{IsVoided}
+use mir.Val.{to_z, of_z}
+use Rattle.std.proofs.lemmas.List.{get_or-set_other, get_or-set_same}
 use Rattle.drain_filled.proofs.marked.put_voids.Goals as goal
 
 -- one place more

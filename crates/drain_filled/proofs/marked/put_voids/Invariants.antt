@@ -1,6 +1,5 @@
 -- The heights so far; the others are as before.
-use Rattle.std.proofs.Common.{◌≡◌, ℕ, ◌<◌, ◌≤◌, pos, length, slice_index_or}
-use Rattle.drain_filled.specs.Grounds.{IsVoided}
+use Rattle.drain_filled.proofs.Names.{◌≡◌, ℕ, ◌<◌, ◌≤◌, pos, length, slice_index_or, IsVoided}
 use Rattle.drain_filled.proofs.marked.put_voids.Given as goal
 
 abbrev pub invariant-loop-place : goal.invariant-loop-place

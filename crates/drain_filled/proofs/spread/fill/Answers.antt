@@ -1,7 +1,4 @@
-use Rattle.std.proofs.Common.{◌≡◌, ◌∙◌, ℤ, pos, List, get_or, sym, subst}
-use Rattle.drain_grid.specs.Extent.{Extent, index_of}
-use Rattle.drain_grid.specs.Path.{IsLeastSurface}
-use Rattle.drain_flood.specs.Floods.{con_at}
+use Rattle.drain_filled.proofs.Names.{◌≡◌, ◌∙◌, ℤ, pos, List, get_or, sym, subst, Extent, index_of, IsLeastSurface, con_at}
 use Rattle.drain_filled.proofs.spread.fill.Goals as goal
 
 pub returns-clause-least : goal.returns-clause-least

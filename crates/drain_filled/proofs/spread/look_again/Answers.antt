@@ -1,8 +1,6 @@
-use Rattle.std.proofs.Common.{◌≡◌, ◌∙◌, sym, rules}
+use Rattle.drain_filled.proofs.Names.{◌≡◌, ◌∙◌, sym, rules, SFits, to_z-of_z, con_at}
 use mir.Syntax.{w64}
-use mir.Val.{SFits, to_z, of_z}
-use Rattle.std.proofs.lemmas.Int.{to_z-of_z}
-use Rattle.drain_flood.specs.Floods.{con_at}
+use mir.Val.{to_z, of_z}
 use Rattle.drain_filled.proofs.Spreading.{looked_passed, looked_waits, wait_work}
 use Rattle.drain_filled.proofs.spread.look_again.Goals as goal
 

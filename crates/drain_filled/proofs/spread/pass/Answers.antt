@@ -1,9 +1,6 @@
-use Rattle.std.proofs.Common.{◌≡◌, ◌∷◌, ◌++◌, [], ◌∙◌, sym, ap, rules}
+use Rattle.drain_filled.proofs.Names.{◌≡◌, ◌∷◌, ◌++◌, [], ◌∙◌, sym, ap, rules, SFits, to_z-of_z, index_of, con_at}
 use mir.Syntax.{w64}
-use mir.Val.{SFits, to_z, of_z}
-use Rattle.std.proofs.lemmas.Int.{to_z-of_z}
-use Rattle.drain_grid.specs.Extent.{index_of}
-use Rattle.drain_flood.specs.Floods.{con_at}
+use mir.Val.{to_z, of_z}
 use Rattle.drain_filled.proofs.Spreading.{looked_deferred, looked_passed}
 use Rattle.drain_filled.proofs.spread.pass.Goals as goal
 

@@ -1,8 +1,6 @@
-use Rattle.std.proofs.Common.{◌∙◌, sym, subst, rules}
+use Rattle.drain_filled.proofs.Names.{◌∙◌, sym, subst, rules, SFits, to_z-of_z, IsLowest}
 use mir.Syntax.{w64}
-use mir.Val.{SFits, to_z, of_z}
-use Rattle.std.proofs.lemmas.Int.{to_z-of_z}
-use Rattle.drain_filled.specs.Sweeps.{IsLowest}
+use mir.Val.{to_z, of_z}
 use Rattle.drain_filled.proofs.Spreading.{looked_raised, raise_work}
 use Rattle.drain_filled.proofs.spread.raise.Goals as goal
 

@@ -1,6 +1,5 @@
-use Rattle.std.proofs.Common.{◌*◌, ◌<◌, ◌∙◌, sym, subst}
+use Rattle.drain_filled.proofs.Names.{◌*◌, ◌<◌, ◌∙◌, sym, subst, IsSweepOf}
 use Rattle.std.specs.List.{All}
-use Rattle.drain_filled.specs.Sweeps.{IsSweepOf}
 use Rattle.drain_filled.proofs.Ending.{least_at_end}
 use Rattle.drain_filled.proofs.spread.spread.Goals as goal
 

@@ -1,8 +1,6 @@
 -- What holds of the surface still holds; what is left to do falls.
-use Rattle.std.proofs.Common.{◌≡◌, ◌*◌, ◌<◌, [], length}
+use Rattle.drain_filled.proofs.Names.{◌≡◌, ◌*◌, ◌<◌, [], length, Grid, IsSweepOf, left_to_do}
 use Rattle.std.specs.List.{All}
-use Rattle.drain_grid.specs.Grid.{Grid}
-use Rattle.drain_filled.specs.Sweeps.{IsSweepOf, left_to_do}
 use Rattle.drain_filled.proofs.spread.spread.Given as goal
 
 abbrev pub invariant-loop-later : goal.invariant-loop-later

@@ -1,9 +1,4 @@
-use Rattle.std.proofs.Common.{◌≡◌, ◌<◌, ◌*◌, ◌∷◌, ◌++◌, [], ◌∙◌, ℕ, List, Result, Ok, Err, OnOk, length, sym, ap, subst}
-use Rattle.std.proofs.lemmas.Result.{IfOk-weaker}
-use Rattle.drain_grid.specs.Extent.{index_of}
-use Rattle.drain_flood.specs.Floods.{Flooding}
-use Rattle.drain_flood.proofs.Turns.{all_before}
-use Rattle.drain_filled.specs.Sweeps.{IsSweepOf, left_to_do}
+use Rattle.drain_filled.proofs.Names.{◌≡◌, ◌<◌, ◌*◌, ◌∷◌, ◌++◌, [], ◌∙◌, ℕ, List, Result, Ok, Err, OnOk, length, sym, ap, subst, IfOk-weaker, index_of, Flooding, all_before, IsSweepOf, left_to_do}
 use Rattle.drain_filled.proofs.Moving.{next_busy, recalled}
 use Rattle.drain_filled.proofs.Spreading.{last_work}
 use Rattle.drain_filled.proofs.spread.turn.Goals as goal

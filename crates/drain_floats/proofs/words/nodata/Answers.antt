@@ -1,9 +1,5 @@
-use Rattle.std.proofs.Common.{ℤ, Some, sym, ◌∙◌, ap, subst, rules}
-use Rattle.std.specs.Prelude.{option_map}
-use Rattle.std.specs.Int.{w64}
-use Rattle.std.proofs.lemmas.Int.{to_z-of_z}
-use Rattle.drain_floats.specs.Patterns.{IsFloatNumber}
-use Rattle.drain_floats.specs.Words.{float_number}
+use Rattle.drain_floats.proofs.Names.{ℤ, sym, ◌∙◌, ap, subst, rules, option_map, w64, to_z-of_z, IsFloatNumber, float_number}
+use Rattle.std.proofs.Common.{Some}
 use Rattle.drain_floats.proofs.Numbers.{float_number_within}
 use Rattle.drain_floats.proofs.words.nodata.Goals as goal
 

@@ -1,10 +1,6 @@
-use Rattle.std.proofs.Common.{◌≡◌, true, pos, to_z, of_z, refl, sym, ◌∙◌, arith}
-use Rattle.std.specs.Int.{w64}
+use Rattle.drain_floats.proofs.Names.{◌≡◌, true, pos, to_z, of_z, refl, sym, ◌∙◌, arith, w64, false≢true, ints, float_number}
 use Rattle.std.specs.Float.Ieee.{Float, is_nan, to_bits}
 use Rattle.std.specs.Float.Ieee.Float.{nan, inf, fin}
-use Rattle.std.proofs.lemmas.Bool.{false≢true}
-use Rattle.std.proofs.lemmas.Int.{ints}
-use Rattle.drain_floats.specs.Words.{float_number}
 use Rattle.drain_floats.proofs.words.number_of.Goals as goal
 
 -- every NaN is the one

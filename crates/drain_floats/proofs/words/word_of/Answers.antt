@@ -1,14 +1,7 @@
-use Rattle.std.proofs.Common.{◌≡◌, ℕ, [], ◌∷◌, ℤ, pos, of_z, refl, sym, ◌∙◌, ap, subst, arith, rules, inl, inr}
-use Rattle.std.specs.Prelude.{Some, option_map}
-use Rattle.std.specs.Int.{w64}
-use Rattle.std.specs.Float.{binary32}
-use Rattle.std.proofs.lemmas.Int.{ints, to_z-of_z}
+use Rattle.drain_floats.proofs.Names.{◌≡◌, ℕ, [], ◌∷◌, ℤ, pos, of_z, refl, sym, ◌∙◌, ap, subst, arith, rules, inl, inr, option_map, w64, binary32, ints, to_z-of_z, T, of_bits, nan_bits, not, pattern_of, IsSingle, IsFloatNumber, float_number, IsFloatWord}
+use Rattle.std.specs.Prelude.{Some}
 use Rattle.std.proofs.lemmas.Float.Parse.{parse_float_on_literals}
-use lib.Dec.{T}
-use lib.Ieee.{of_bits, to_bits, nan_bits}
-use mathlib.Core.Bool.{not}
-use Rattle.drain_floats.specs.Patterns.{pattern_of, IsSingle, IsFloatNumber}
-use Rattle.drain_floats.specs.Words.{float_number, IsFloatWord}
+use lib.Ieee.{to_bits}
 use Rattle.drain_floats.proofs.Spelling
 use Rattle.drain_floats.proofs.words.word_of.Goals as goal
 use Rattle.drain_floats.proofs.words.word_of.Goals.{After-pattern}

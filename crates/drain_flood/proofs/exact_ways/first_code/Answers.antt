@@ -1,5 +1,4 @@
-use Rattle.std.proofs.Common.{◌∙◌, Some, None, get_or, sym, ap, subst}
-use Rattle.drain_grid.specs.Extent.{Extent, IsCellOf, index_of}
+use Rattle.drain_flood.proofs.Names.{◌∙◌, Some, None, get_or, sym, ap, subst, Extent, IsCellOf, index_of}
 use Rattle.drain_flood.proofs.ExactWays.{code_of_patch}
 use Rattle.drain_flood.proofs.exact_ways.first_code.Goals as goal
 

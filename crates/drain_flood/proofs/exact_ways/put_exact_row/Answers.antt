@@ -1,5 +1,4 @@
-use Rattle.std.proofs.Common.{◌≡◌, ◌∙◌, ◌+◌, ◌*◌, ◌<◌, ◌≤◌, ℕ, refl, sym, ap, subst, arith}
-use Rattle.drain_grid.specs.Extent.{Extent, index_of}
+use Rattle.drain_flood.proofs.Names.{◌≡◌, ◌∙◌, ◌+◌, ◌*◌, ◌<◌, ◌≤◌, ℕ, refl, sym, ap, subst, arith, Extent, index_of}
 use Rattle.drain_flood.proofs.ExactRows.{code_more, before_stays}
 use Rattle.drain_flood.proofs.exact_ways.put_exact_row.Goals as goal
 

@@ -1,10 +1,5 @@
 -- The codes of the row so far.
-use Rattle.std.proofs.Common.{◌≡◌, ℕ, ◌*◌, ◌<◌, slice_index}
-use Rattle.drain_grid.specs.declared.cell.Cell.{Cell}
-use Rattle.drain_grid.specs.Extent.{index_of}
-use Rattle.drain_grid.specs.Grid.{Grid, IsInside}
-use Rattle.drain_flood.specs.Floods.{IsSurfaceOf}
-use Rattle.drain_flood.specs.Ways.{IsCodeAt}
+use Rattle.drain_flood.proofs.Names.{◌≡◌, ℕ, ◌*◌, ◌<◌, slice_index, Cell, index_of, Grid, IsInside, IsSurfaceOf, IsCodeAt}
 use Rattle.drain_flood.proofs.exact_ways.put_exact_row.Given as goal
 
 abbrev pub invariant-loop-col : goal.invariant-loop-col

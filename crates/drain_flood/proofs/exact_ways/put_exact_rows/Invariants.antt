@@ -1,9 +1,5 @@
 -- The codes of the rows so far.
-use Rattle.std.proofs.Common.{◌≡◌}
-use Rattle.drain_grid.specs.Grid.{Grid}
-use Rattle.drain_grid.specs.Spacing.{spacing_of}
-use Rattle.drain_flood.specs.Floods.{IsSurfaceOf}
-use Rattle.drain_flood.specs.Ways.{IsSpaced}
+use Rattle.drain_flood.proofs.Names.{◌≡◌, Grid, spacing_of, IsSurfaceOf, IsSpaced}
 use Rattle.drain_flood.proofs.Laying.{AreRowCodes}
 use Rattle.drain_flood.proofs.exact_ways.put_exact_rows.Given as goal
 

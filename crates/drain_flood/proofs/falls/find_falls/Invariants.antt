@@ -1,6 +1,5 @@
 -- The codes so far.
-use Rattle.std.proofs.Common.{◌≡◌, ℕ, ◌<◌, ◌+◌, length, slice_index}
-use Rattle.drain_flood.specs.Laid.{fall_at}
+use Rattle.drain_flood.proofs.Names.{◌≡◌, ℕ, ◌<◌, ◌+◌, length, slice_index, fall_at}
 use Rattle.drain_flood.proofs.falls.find_falls.Given as goal
 
 abbrev pub invariant-loop-k : goal.invariant-loop-k

@@ -1,6 +1,5 @@
 -- The gaps so far.
-use Rattle.std.proofs.Common.{◌≡◌, ℕ, ◌<◌, length, slice_index}
-use Rattle.drain_flood.specs.declared.falls.TheConstants.{GAP}
+use Rattle.drain_flood.proofs.Names.{◌≡◌, ℕ, ◌<◌, length, slice_index, GAP}
 use Rattle.drain_flood.proofs.falls.lay_gaps.Given as goal
 
 abbrev pub invariant-loop-k : goal.invariant-loop-k

@@ -1,7 +1,5 @@
 -- The lanes so far, between two gaps.
-use Rattle.std.proofs.Common.{◌≡◌, ℕ, ◌<◌, ◌+◌, pos, length, slice_index, slice_index_or}
-use Rattle.drain_flood.specs.declared.falls.TheConstants.{GAP}
-use Rattle.drain_flood.specs.Laid.{IsLane}
+use Rattle.drain_flood.proofs.Names.{◌≡◌, ℕ, ◌<◌, ◌+◌, pos, length, slice_index, slice_index_or, GAP, IsLane}
 use Rattle.drain_flood.proofs.falls.lay_heights.Given as goal
 
 abbrev pub invariant-loop-k : goal.invariant-loop-k

@@ -1,5 +1,4 @@
-use Rattle.std.proofs.Common.{◌∙◌, ◌≤◌, ◌-◌, ◌*◌, ap, subst, pos, slice_index, slice_index_or, ◌+◌, arith}
-use Rattle.drain_flood.specs.Laid.{IsLane}
+use Rattle.drain_flood.proofs.Names.{◌∙◌, ◌≤◌, ◌-◌, ◌*◌, ap, subst, pos, slice_index, slice_index_or, ◌+◌, arith, IsLane}
 use Rattle.drain_flood.proofs.Laying.{laid_row}
 use Rattle.drain_flood.proofs.falls.lay_row.Goals as goal
 

@@ -1,5 +1,4 @@
-use Rattle.std.proofs.Common.{◌∙◌, ◌*◌, ◌+◌, ◌<◌, length, sym, ap, subst}
-use Rattle.drain_flood.specs.Laid.{AreRowLanes}
+use Rattle.drain_flood.proofs.Names.{◌∙◌, ◌*◌, ◌+◌, ◌<◌, length, sym, ap, subst, AreRowLanes}
 use Rattle.drain_flood.proofs.Laying.{row_code}
 use Rattle.drain_flood.proofs.falls.put_row.Goals as goal
 

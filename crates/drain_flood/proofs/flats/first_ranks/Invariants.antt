@@ -1,6 +1,5 @@
 -- The ranks of the cells so far.
-use Rattle.std.proofs.Common.{◌≡◌, ℕ, ◌<◌, length, slice_index_or}
-use Rattle.drain_flood.specs.Flats.{first_rank}
+use Rattle.drain_flood.proofs.Names.{◌≡◌, ℕ, ◌<◌, length, slice_index_or, first_rank}
 use Rattle.drain_flood.proofs.flats.first_ranks.Given as goal
 
 abbrev pub invariant-loop-place : goal.invariant-loop-place

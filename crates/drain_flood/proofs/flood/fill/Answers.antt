@@ -1,5 +1,4 @@
-use Rattle.std.proofs.Common.{sym}
-use Rattle.drain_grid.specs.WholeGrid.{spaced_grid}
+use Rattle.drain_flood.proofs.Names.{sym, spaced_grid}
 use Rattle.drain_flood.proofs.flood.fill.Goals as goal
 
 pub returns-clause-flooded : goal.returns-clause-flooded

@@ -1,6 +1,5 @@
 -- The stacks so far have no item.
-use Rattle.std.proofs.Common.{◌≡◌, [], length}
-use Rattle.std.specs.List.{All}
+use Rattle.drain_flood.proofs.Names.{◌≡◌, [], length, All}
 use Rattle.drain_flood.proofs.level_stacks.empty_stacks.Given as goal
 
 abbrev pub invariant-loop-place : goal.invariant-loop-place

@@ -1,6 +1,4 @@
-use Rattle.std.proofs.Common.{◌≡◌, ◌<◌, length, ap, ◌∙◌, subst, inl, inr, arith, rules}
-use Rattle.std.proofs.lemmas.Bool.{cases_lt}
-use Rattle.drain_flood.specs.Stacks.{stack_at}
+use Rattle.drain_flood.proofs.Names.{◌≡◌, ◌<◌, length, ap, ◌∙◌, subst, inl, inr, arith, rules, cases_lt, stack_at}
 use Rattle.drain_flood.proofs.StackLemmas.{stack_read}
 use Rattle.drain_flood.proofs.level_stacks.first_filled.Goals as goal
 

@@ -1,6 +1,5 @@
 -- No level that was passed has an item.
-use Rattle.std.proofs.Common.{◌≡◌, ℕ, ◌<◌, ◌≤◌, length}
-use Rattle.drain_flood.specs.Stacks.{stack_at}
+use Rattle.drain_flood.proofs.Names.{◌≡◌, ℕ, ◌<◌, ◌≤◌, length, stack_at}
 use Rattle.drain_flood.proofs.level_stacks.first_filled.Given as goal
 
 abbrev pub invariant-loop-place : goal.invariant-loop-place

@@ -1,6 +1,5 @@
 -- The bytes so far, between two gaps.
-use Rattle.std.proofs.Common.{◌≡◌, ◌↔◌, ℕ, ◌<◌, ◌+◌, pos, length, slice_index, slice_index_or}
-use Rattle.drain_flood.specs.declared.layers.TheConstants.{NO_HEIGHT}
+use Rattle.drain_flood.proofs.Names.{◌≡◌, ◌↔◌, ℕ, ◌<◌, ◌+◌, pos, length, slice_index, slice_index_or, NO_HEIGHT}
 use Rattle.drain_flood.proofs.open_cells.mark_data.Given as goal
 
 abbrev pub invariant-loop-k : goal.invariant-loop-k

@@ -1,6 +1,4 @@
-use Rattle.std.proofs.Common.{◌≡◌, ◌+◌, ◌∙◌, subst, arith}
-use Rattle.drain_grid.specs.WholeGrid.{spaced_grid}
-use Rattle.drain_flood.specs.Laid.{AreDataMarks}
+use Rattle.drain_flood.proofs.Names.{◌≡◌, ◌+◌, ◌∙◌, subst, arith, spaced_grid, AreDataMarks}
 use Rattle.drain_flood.proofs.GapMarks.{rows_more}
 use Rattle.drain_flood.proofs.open_cells.mark_rows.Goals as goal
 

@@ -1,8 +1,5 @@
 -- The marks of the rows so far.
-use Rattle.std.proofs.Common.{◌≡◌, ◌+◌, ◌*◌, ℕ, length}
-use Rattle.drain_grid.specs.Spacing.{Distances}
-use Rattle.drain_grid.specs.WholeGrid.{spaced_grid}
-use Rattle.drain_flood.specs.Laid.{AreDataMarks, AreFirstMarks}
+use Rattle.drain_flood.proofs.Names.{◌≡◌, ◌+◌, ◌*◌, ℕ, length, Distances, spaced_grid, AreDataMarks, AreFirstMarks}
 use Rattle.drain_flood.proofs.open_cells.mark_rows.Given as goal
 
 abbrev pub invariant-loop-row : goal.invariant-loop-row

@@ -1,6 +1,5 @@
-use Rattle.std.proofs.Common.{◌+◌, ◌∙◌, false, subst, slice_index, slice_index_or, arith}
+use Rattle.drain_flood.proofs.Names.{◌+◌, ◌∙◌, false, subst, slice_index, slice_index_or, arith, IsMarkOf, least_around}
 use Rattle.std.proofs.lemmas.List.{length-set}
-use Rattle.drain_flood.specs.Laid.{IsMarkOf, least_around}
 use Rattle.drain_flood.proofs.GapMarks.{put_more, put_before}
 use Rattle.drain_flood.proofs.open_cells.put_marks.Goals as goal
 

@@ -1,6 +1,5 @@
 -- The marks so far.
-use Rattle.std.proofs.Common.{◌≡◌, ℕ, ◌<◌, ◌+◌, false, length, slice_index, slice_index_or}
-use Rattle.drain_flood.specs.Laid.{IsMarkOf, least_around}
+use Rattle.drain_flood.proofs.Names.{◌≡◌, ℕ, ◌<◌, ◌+◌, false, length, slice_index, slice_index_or, IsMarkOf, least_around}
 use Rattle.drain_flood.proofs.open_cells.put_marks.Given as goal
 
 abbrev pub invariant-loop-k : goal.invariant-loop-k

@@ -1,6 +1,5 @@
 -- The grounds of the rows so far.
-use Rattle.std.proofs.Common.{◌≡◌, ℕ, ◌<◌, ◌*◌, pos, length, slice_index_or}
-use Rattle.drain_flood.specs.Laid.{IsGround}
+use Rattle.drain_flood.proofs.Names.{◌≡◌, ℕ, ◌<◌, ◌*◌, pos, length, slice_index_or, IsGround}
 use Rattle.drain_flood.proofs.open_cells.put_rows.Given as goal
 
 abbrev pub invariant-loop-row : goal.invariant-loop-row

@@ -1,7 +1,5 @@
-use Rattle.std.proofs.Common.{◌≡◌, ◌∙◌, pos, true, get_or, arith, rules}
+use Rattle.drain_flood.proofs.Names.{◌≡◌, ◌∙◌, pos, true, get_or, arith, rules, SFits, to_z, of_z, to_z-of_z}
 use mir.Syntax.{w16}
-use mir.Val.{SFits, to_z, of_z}
-use Rattle.std.proofs.lemmas.Int.{to_z-of_z}
 use Rattle.drain_flood.proofs.Turning.{busy_passed, busy_waits, wait_work}
 use Rattle.drain_flood.proofs.tracing.look_again.Goals as goal
 

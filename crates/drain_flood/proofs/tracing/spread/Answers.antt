@@ -1,9 +1,5 @@
-use Rattle.std.proofs.Common.{◌≡◌, ◌∙◌, ℤ, ℕ, List, length, sym, ap, subst, arith, rules}
+use Rattle.drain_flood.proofs.Names.{◌≡◌, ◌∙◌, ℤ, ℕ, List, length, sym, ap, subst, arith, rules, SFits, to_z, of_z, to_z-of_z, IsFlooded, IsPopped}
 use mir.Syntax.{w16}
-use mir.Val.{SFits, to_z, of_z}
-use Rattle.std.proofs.lemmas.Int.{to_z-of_z}
-use Rattle.drain_flood.specs.Floods.{IsFlooded}
-use Rattle.drain_flood.specs.Turns.{IsPopped}
 use Rattle.drain_flood.proofs.Looking.{flood_is_done}
 use Rattle.drain_flood.proofs.Turning.{pop_work, turn_rises}
 use Rattle.drain_flood.proofs.tracing.spread.Goals as goal

@@ -1,8 +1,5 @@
 -- What holds of the flood holds at some level; what is left to do falls.
-use Rattle.std.proofs.Common.{◌≡◌, ◌+◌, ℤ, [], length}
-use Rattle.drain_grid.specs.Grid.{Grid}
-use Rattle.drain_flood.specs.declared.layers.TheConstants.{NO_HEIGHT}
-use Rattle.drain_flood.specs.Floods.{unreached, IsFloodOf}
+use Rattle.drain_flood.proofs.Names.{◌≡◌, ◌+◌, ℤ, [], length, Grid, NO_HEIGHT, unreached, IsFloodOf}
 use Rattle.drain_flood.proofs.tracing.spread.Given as goal
 
 abbrev pub invariant-loop-level : goal.invariant-loop-level

@@ -1,10 +1,5 @@
-use Rattle.std.proofs.Common.{◌≡◌, ◌+◌, ◌*◌, ◌<◌, ◌∙◌, [], ◌∷◌, ◌++◌, pos, get_or, length, sym, ap, subst, arith, rules}
+use Rattle.drain_flood.proofs.Names.{◌≡◌, ◌+◌, ◌*◌, ◌<◌, ◌∙◌, [], ◌∷◌, ◌++◌, pos, get_or, length, sym, ap, subst, arith, rules, SFits, to_z, of_z, All, to_z-of_z, length_push, All-push}
 use mir.Syntax.{w16}
-use mir.Val.{SFits, to_z, of_z}
-use Rattle.std.specs.List.{All}
-use Rattle.std.proofs.lemmas.Int.{to_z-of_z}
-use Rattle.std.proofs.lemmas.List.{length_push}
-use Rattle.std.proofs.lemmas.List.Elements.{All-push}
 use Rattle.drain_flood.proofs.Turning.{next_busy, busy_passed, busy_deferred, turn_work}
 use Rattle.drain_flood.proofs.tracing.sweep.Goals as goal
 

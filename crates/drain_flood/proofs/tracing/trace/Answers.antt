@@ -1,10 +1,5 @@
-use Rattle.std.proofs.Common.{◌≡◌, ◌+◌, ◌*◌, ◌<◌, ◌∙◌, [], ◌∷◌, ◌++◌, length, sym, ap, subst, arith, rules}
+use Rattle.drain_flood.proofs.Names.{◌≡◌, ◌+◌, ◌*◌, ◌<◌, ◌∙◌, [], ◌∷◌, ◌++◌, length, sym, ap, subst, arith, rules, to_z, of_z, All, to_z-of_z, length_push, IsFloodOf}
 use mir.Syntax.{w16}
-use mir.Val.{to_z, of_z}
-use Rattle.std.specs.List.{All}
-use Rattle.std.proofs.lemmas.Int.{to_z-of_z}
-use Rattle.std.proofs.lemmas.List.{length_push}
-use Rattle.drain_flood.specs.Floods.{IsFloodOf}
 use Rattle.drain_flood.proofs.Turns.{all_before}
 use Rattle.drain_flood.proofs.Turning.{last_busy}
 use Rattle.drain_flood.proofs.tracing.trace.Goals as goal

@@ -1,8 +1,5 @@
 -- What holds of the flood still holds; what is left to do falls.
-use Rattle.std.proofs.Common.{◌≡◌, ◌+◌, ◌*◌, ◌<◌, ◌≤◌, [], length}
-use Rattle.std.specs.List.{All}
-use Rattle.drain_grid.specs.Grid.{Grid}
-use Rattle.drain_flood.specs.Floods.{unreached, IsFloodOf}
+use Rattle.drain_flood.proofs.Names.{◌≡◌, ◌+◌, ◌*◌, ◌<◌, ◌≤◌, [], length, All, Grid, unreached, IsFloodOf}
 use Rattle.drain_flood.proofs.tracing.trace.Given as goal
 
 abbrev pub invariant-loop-place : goal.invariant-loop-place

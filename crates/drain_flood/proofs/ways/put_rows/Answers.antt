@@ -1,6 +1,4 @@
-use Rattle.std.proofs.Common.{◌≡◌, ◌∙◌, ◌*◌, ◌<◌, ◌≤◌, slice_index, sym, ap, subst, arith}
-use Rattle.drain_grid.specs.Extent.{index_of}
-use Rattle.drain_flood.specs.Ways.{IsCodeAt}
+use Rattle.drain_flood.proofs.Names.{◌≡◌, ◌∙◌, ◌*◌, ◌<◌, ◌≤◌, slice_index, sym, ap, subst, arith, index_of, IsCodeAt}
 use Rattle.drain_flood.proofs.Laying.{row_more, all_rows}
 use Rattle.drain_flood.proofs.ways.put_rows.Goals.{then-is_unit, else-is_unit}
 use Rattle.drain_flood.proofs.ways.put_rows.Goals as goal

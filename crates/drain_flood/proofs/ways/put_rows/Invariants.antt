@@ -1,9 +1,5 @@
 -- The codes of the rows so far.
-use Rattle.std.proofs.Common.{◌≡◌}
-use Rattle.drain_grid.specs.Grid.{Grid}
-use Rattle.drain_grid.specs.Spacing.{spacing_of}
-use Rattle.drain_flood.specs.Floods.{IsFlooded}
-use Rattle.drain_flood.specs.Ways.{IsSpaced}
+use Rattle.drain_flood.proofs.Names.{◌≡◌, Grid, spacing_of, IsFlooded, IsSpaced}
 use Rattle.drain_flood.proofs.Laying.{AreRowCodes}
 use Rattle.drain_flood.proofs.ways.put_rows.Given as goal
 

@@ -1,5 +1,4 @@
-use Rattle.std.proofs.Common.{leb, rules}
-use Rattle.std.proofs.lemmas.List.Sorted.{IsPartitionPoint-from_clause, IsPartitionedBy-leb}
+use Rattle.drain_grid.proofs.Names.{leb, rules, IsPartitionPoint-from_clause, IsPartitionedBy-leb}
 use Rattle.drain_grid.proofs.LineRuns.{run_at_point}
 use Rattle.drain_grid.proofs.numbered_cells.run_of.Goals as goal
 

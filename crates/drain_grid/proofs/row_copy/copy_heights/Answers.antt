@@ -1,5 +1,4 @@
-use Rattle.std.proofs.Common.{◌∙◌, pos, rules}
-use Rattle.std.proofs.lemmas.List.{get_or_default}
+use Rattle.drain_grid.proofs.Names.{◌∙◌, pos, rules, get_or_default}
 use Rattle.drain_grid.proofs.Alike.{copied_more, taken}
 use Rattle.drain_grid.proofs.row_copy.copy_heights.Goals as goal
 

@@ -1,7 +1,4 @@
-use Rattle.std.proofs.Common.{◌≡◌, ◌+◌, ◌≤◌, length}
-use Rattle.drain_text.specs.Text.{lines_of}
-use Rattle.drain_grid.specs.Listings.{listing}
-use Rattle.drain_grid.specs.SinkTexts.{AreNarrow, sink_item, sinks_of}
+use Rattle.drain_grid.proofs.Names.{◌≡◌, ◌+◌, ◌≤◌, length, lines_of, listing, AreNarrow, sink_item, sinks_of}
 use Rattle.drain_grid.proofs.Listings.{after_these}
 use Rattle.drain_grid.proofs.sink_text.read_lines.Given as goal
 

@@ -1,5 +1,4 @@
-use Rattle.std.proofs.Common.{◌≡◌, map, take}
-use Rattle.drain_grid.specs.SinkTexts.{wide_place}
+use Rattle.drain_grid.proofs.Names.{◌≡◌, map, take, wide_place}
 use Rattle.drain_grid.proofs.sinks.places_of.Given as goal
 
 abbrev pub invariant-loop-cell : goal.invariant-loop-cell

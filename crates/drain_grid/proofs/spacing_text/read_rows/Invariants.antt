@@ -1,6 +1,4 @@
-use Rattle.std.proofs.Common.{◌≡◌, ◌+◌, ◌≤◌, length}
-use Rattle.drain_text.specs.Text.{lines_of}
-use Rattle.drain_grid.specs.Listings.{listing}
+use Rattle.drain_grid.proofs.Names.{◌≡◌, ◌+◌, ◌≤◌, length, lines_of, listing}
 use Rattle.drain_grid.specs.SpacingTexts.{spacing_item, spacings_of}
 use Rattle.drain_grid.proofs.Listings.{after_these}
 use Rattle.drain_grid.proofs.spacing_text.read_rows.Given as goal

@@ -1,7 +1,4 @@
-use Rattle.std.proofs.Common.{get_or, arith}
-use Rattle.std.proofs.lemmas.Str.{digit_value_digit}
-use Rattle.std.proofs.lemmas.Str.Parse.{digit_at}
-use Rattle.drain_text.proofs.Digits.{after_more}
+use Rattle.drain_header.proofs.Names.{get_or, arith, digit_value_digit, digit_at, after_more}
 use Rattle.drain_header.proofs.decimal.append_digits.Goals as goal
 
 pub overflow_sub-digit : goal.overflow_sub-digit

@@ -1,10 +1,5 @@
-use Rattle.std.proofs.Common.{◌≡◌, ◌+◌, take, get_or, arith, sym, ap, ◌∙◌, eq-eqb}
-use Rattle.std.proofs.lemmas.Bool.{ne_eqb}
-use Rattle.std.specs.Str.Parse.{digits_value}
-use Rattle.std.proofs.lemmas.Str.{digit_value_digit}
-use Rattle.std.proofs.lemmas.Str.Parse.{digit_at, digits_value-take-le}
-use Rattle.std.proofs.lemmas.Int.Digits.{digits_value_more}
-use Rattle.std.proofs.lemmas.List.{take_all}
+use Rattle.drain_header.proofs.Names.{◌+◌, take, get_or, arith, sym, ap, ◌∙◌, ne_eqb, digits_value, digit_value_digit, digit_at, digits_value-take-le, digits_value_more, take_all}
+use Rattle.std.proofs.Common.{◌≡◌, eq-eqb}
 use Rattle.drain_header.proofs.decimal.are_noughts.Goals as goal
 
 pub loop-digit-preserved : goal.loop-digit-preserved

@@ -1,8 +1,4 @@
-use Rattle.std.proofs.Common.{arith, rules, ap, ◌∙◌}
-use Rattle.std.proofs.lemmas.Int.{to_z-of_z}
-use Rattle.std.specs.Int.{w128}
-use Rattle.std.specs.Prelude.{Some}
-use Rattle.drain_header.specs.Decimals.{parts_of, decimal_from}
+use Rattle.drain_header.proofs.Names.{arith, rules, ap, ◌∙◌, to_z-of_z, w128, Some, parts_of, decimal_from}
 use Rattle.drain_header.proofs.Units.{small_units, great_units, coordinate_is, no_coordinate}
 use Rattle.drain_header.proofs.decimal.coordinate.Goals as goal
 

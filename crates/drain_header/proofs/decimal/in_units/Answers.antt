@@ -1,9 +1,6 @@
-use Rattle.std.proofs.Common.{ℕ, List, ◌+◌, ◌-◌, length, drop, arith, sym, ap, ◌∙◌, refl}
-use Rattle.std.proofs.lemmas.List.{take_rest}
-use Rattle.std.specs.Str.Parse.{digits_value}
-use Rattle.std.specs.Prelude.{◌==◌, ◌&&◌, cond}
-use Rattle.drain_header.specs.Decimals.{parts_of}
-use Rattle.drain_text.proofs.Digits.{take_digits, drop_digits, first_digits, last_digits}
+use Rattle.drain_header.proofs.Names.{◌+◌, ◌-◌, length, drop, arith, sym, ap, ◌∙◌, take_rest, digits_value, ◌==◌, ◌&&◌, cond, parts_of, take_digits, drop_digits, first_digits}
+use Rattle.std.proofs.Common.{ℕ, List, refl}
+use Rattle.drain_text.proofs.Digits.{last_digits}
 use Rattle.drain_header.proofs.Scaling.{scaled}
 use Rattle.drain_header.proofs.decimal.in_units.Goals as goal
 

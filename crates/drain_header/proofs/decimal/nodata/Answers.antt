@@ -1,8 +1,4 @@
-use Rattle.std.proofs.Common.{arith, rules, ap, ◌∙◌}
-use Rattle.std.proofs.lemmas.Int.{to_z-of_z}
-use Rattle.std.specs.Int.{w64}
-use Rattle.std.specs.Prelude.{Some, ◌&&◌}
-use Rattle.drain_header.specs.Decimals.{parts_of, decimal_from, is_small, is_whole}
+use Rattle.drain_header.proofs.Names.{arith, rules, ap, ◌∙◌, to_z-of_z, w64, Some, ◌&&◌, parts_of, decimal_from, is_small, is_whole}
 use Rattle.drain_header.proofs.Units.{small_units, great_units, whole_units, nodata_is, no_nodata, and_false}
 use Rattle.drain_header.proofs.decimal.nodata.Goals as goal
 

@@ -1,6 +1,4 @@
-use Rattle.std.proofs.Common.{arith}
-use Rattle.std.proofs.lemmas.Int.Digits.{digits_value-lt}
-use Rattle.std.proofs.Math.Nat.{pow-le-pow_right}
+use Rattle.drain_header.proofs.Names.{arith, digits_value-lt, pow-le-pow_right}
 use Rattle.drain_header.proofs.decimal.power.Goals as goal
 
 pub overflow_cast-result : goal.overflow_cast-result

@@ -1,8 +1,5 @@
-use Rattle.std.proofs.Common.{ℕ, ℤ, sym, ◌∙◌, subst, arith}
-use Rattle.std.specs.Prelude.{Option, IfSome}
-use Rattle.drain_header.specs.declared.header.Place.{Place}
-use Rattle.drain_header.specs.Header.{IsCoordinate, IsPixelSizeOf}
-use Rattle.drain_header.specs.Finished.{is_pixel_size_of, IsNoDataOf}
+use Rattle.drain_header.proofs.Names.{sym, ◌∙◌, subst, arith, Option, IfSome, Place, IsCoordinate, IsPixelSizeOf, is_pixel_size_of, IsNoDataOf}
+use Rattle.std.proofs.Common.{ℕ, ℤ}
 use Rattle.drain_header.proofs.AnswerMeaning.{pixel_size-true}
 use Rattle.drain_header.proofs.Bounds.{whole_size, float_size, float_sign, whole_nodata, float_nodata_bound, size_taken}
 use Rattle.drain_header.proofs.finish.finish.Goals as goal

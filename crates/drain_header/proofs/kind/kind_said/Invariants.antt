@@ -1,6 +1,5 @@
-use Rattle.std.proofs.Common.{◌≡◌, length}
-use Rattle.drain_text.specs.Text.{lines_of}
-use Rattle.drain_header.specs.Lines.{kind_said}
+use Rattle.drain_header.proofs.Names.{length, lines_of, kind_said}
+use Rattle.std.proofs.Common.{◌≡◌}
 use Rattle.drain_header.proofs.kind.kind_said.Given as goal
 
 -- the lines up to here have no pixel type

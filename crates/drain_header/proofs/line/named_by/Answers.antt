@@ -1,8 +1,5 @@
-use Rattle.std.proofs.Common.{ℕ, List, ◌+◌, drop, get_or, sym, ap, ◌∙◌}
-use Rattle.std.specs.Prelude.{find, cond, Some}
-use Rattle.std.proofs.lemmas.List.{at_drop_more}
-use Rattle.drain_header.specs.declared.key.Key.TheVariants.{Nrows}
-use Rattle.drain_header.specs.Lines.{keys, key_name, reads}
+use Rattle.drain_header.proofs.Names.{◌+◌, drop, get_or, sym, ap, ◌∙◌, find, cond, Some, at_drop_more, Nrows, keys, key_name, reads}
+use Rattle.std.proofs.Common.{ℕ, List}
 use Rattle.drain_header.proofs.line.named_by.Goals as goal
 
 pub loop-key-preserved : goal.loop-key-preserved

@@ -1,6 +1,5 @@
-use Rattle.std.proofs.Common.{◌≡◌, drop}
-use Rattle.std.specs.Prelude.{find}
-use Rattle.drain_header.specs.Lines.{keys, key_name, named_key, reads}
+use Rattle.drain_header.proofs.Names.{drop, find, keys, key_name, named_key, reads}
+use Rattle.std.proofs.Common.{◌≡◌}
 use Rattle.drain_header.proofs.line.named_by.Given as goal
 
 abbrev pub invariant-loop-key : goal.invariant-loop-key

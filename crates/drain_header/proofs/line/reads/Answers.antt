@@ -1,6 +1,5 @@
-use Rattle.std.proofs.Common.{ℕ, List, length, get_or, arith, sym, ap, ◌∙◌}
-use Rattle.std.specs.Char.{to_ascii_uppercase}
-use Rattle.std.proofs.lemmas.List.{get_or-map, length-map}
+use Rattle.drain_header.proofs.Names.{length, get_or, arith, sym, ap, ◌∙◌, to_ascii_uppercase, get_or-map, length-map}
+use Rattle.std.proofs.Common.{ℕ, List}
 use Rattle.drain_header.proofs.Capitals.{reads_same, reads_other}
 use Rattle.drain_header.proofs.line.reads.Goals as goal
 

@@ -1,6 +1,5 @@
-use Rattle.std.proofs.Common.{◌≡◌, ◌+◌, ◌≤◌, length}
-use Rattle.drain_text.specs.Text.{lines_of}
-use Rattle.drain_header.specs.Reading.{nothing, with_lines}
+use Rattle.drain_header.proofs.Names.{◌+◌, ◌≤◌, length, lines_of, nothing, with_lines}
+use Rattle.std.proofs.Common.{◌≡◌}
 use Rattle.drain_header.proofs.lines.read_lines.Given as goal
 
 abbrev pub invariant-loop-seen : goal.invariant-loop-seen

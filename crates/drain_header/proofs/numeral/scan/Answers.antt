@@ -1,8 +1,6 @@
-use Rattle.std.proofs.Common.{arith, sym, ◌∙◌, eq-eqb}
-use Rattle.std.proofs.lemmas.Bool.{ne_eqb}
-use Rattle.std.proofs.Math.Nat.{sub-zero}
+use Rattle.drain_header.proofs.Names.{arith, sym, ◌∙◌, ne_eqb, sub-zero, within}
+use Rattle.std.proofs.Common.{eq-eqb}
 use Rattle.std.specs.Float.Numeral.{scan_numeral}
-use Rattle.drain_text.proofs.Digits.{within}
 use Rattle.drain_header.proofs.numeral.scan.Goals as goal
 
 pub returns-then-byte_at-ne46 : goal.returns-then-byte_at-ne46

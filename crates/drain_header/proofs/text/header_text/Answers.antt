@@ -1,8 +1,6 @@
-use Rattle.std.proofs.Common.{◌≡◌, ℕ, List, [], ◌++◌, sym, ◌∙◌, ap, subst}
-use Rattle.drain_grid.specs.declared.height_kind.HeightKind.{HeightKind}
-use Rattle.drain_grid.specs.declared.height_kind.HeightKind.TheVariants.{Whole, Single}
-use Rattle.drain_header.specs.Header.{Fields}
-use Rattle.drain_header.specs.Text.{shape_lines, pixel_lines, place_lines, nodata_line, IsFloatLine, IsTextOfKind}
+use Rattle.drain_header.proofs.Names.{sym, ◌∙◌, ap, subst, HeightKind, Whole, Single, Fields, nodata_line, IsFloatLine, IsTextOfKind}
+use Rattle.std.proofs.Common.{◌≡◌, ℕ, List, [], ◌++◌}
+use Rattle.drain_header.specs.Text.{shape_lines, pixel_lines, place_lines}
 use Rattle.drain_header.proofs.Bounds.{float_known}
 use Rattle.drain_header.proofs.text.header_text.Goals as goal
 use Rattle.drain_header.proofs.text.header_text.Goals.{in-Whole+in_ok-push_nodata-in-Whole, in-Single+in_ok-push_float-in-Single}

@@ -1,8 +1,5 @@
-use Rattle.std.proofs.Common.{ℕ, ◌++◌, ◌/◌, ◌%◌, ◌∙◌, ap, rules}
-use Rattle.std.specs.Prelude.{decimal, unsigned_abs}
-use Rattle.std.specs.Fmt.{sign_text}
-use Rattle.std.specs.Int.{is_negative, w128}
-use Rattle.std.proofs.lemmas.Int.{to_z-of_z}
+use Rattle.drain_header.proofs.Names.{◌/◌, ◌%◌, ◌∙◌, ap, rules, decimal, unsigned_abs, sign_text, is_negative, w128, to_z-of_z}
+use Rattle.std.proofs.Common.{ℕ, ◌++◌}
 use Rattle.drain_header.proofs.Entries.{degrees_line}
 use Rattle.drain_header.proofs.text.push_degrees.Goals as goal
 

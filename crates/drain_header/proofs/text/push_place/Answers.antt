@@ -1,7 +1,5 @@
-use Rattle.std.proofs.Common.{◌++◌, ◌∙◌, ap, rules}
-use Rattle.std.specs.Int.{w128}
-use Rattle.std.proofs.lemmas.Int.{to_z-of_z}
-use Rattle.drain_header.specs.declared.key.Key.TheVariants.{Ulxmap, Ulymap, Xdim}
+use Rattle.drain_header.proofs.Names.{◌∙◌, ap, rules, w128, to_z-of_z, Ulxmap, Ulymap, Xdim}
+use Rattle.std.proofs.Common.{◌++◌}
 use Rattle.drain_header.specs.Text.{line, places_text}
 use Rattle.drain_header.proofs.Entries.{place_joined}
 use Rattle.drain_header.proofs.text.push_place.Goals as goal

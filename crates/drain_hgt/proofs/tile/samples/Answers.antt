@@ -1,6 +1,5 @@
-use Rattle.std.proofs.Common.{arith, sym, ◌∙◌}
+use Rattle.drain_hgt.proofs.Names.{arith, sym, ◌∙◌, written_over}
 use Rattle.drain_hgt.proofs.Samples.{all_samples}
-use Rattle.drain_grid.proofs.Tallies.{written_over}
 use Rattle.drain_hgt.proofs.tile.samples.Goals as goal
 
 pub returns-clause-samples : goal.returns-clause-samples

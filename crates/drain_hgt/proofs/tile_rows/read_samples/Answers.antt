@@ -1,7 +1,5 @@
-use Rattle.std.proofs.Common.{length, ap, ◌∙◌}
+use Rattle.drain_hgt.proofs.Names.{length, ap, ◌∙◌, IsSample, grown, lent_back}
 use Rattle.std.proofs.lemmas.List.Elements.{All-same}
-use Rattle.drain_grid.specs.Grid.{IsSample}
-use Rattle.drain_grid.proofs.Tallies.{grown, lent_back}
 use Rattle.drain_hgt.proofs.tile_rows.read_samples.Goals as goal
 
 pub returns-clause-counted : goal.returns-clause-counted

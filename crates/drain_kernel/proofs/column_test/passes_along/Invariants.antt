@@ -1,5 +1,4 @@
-use Rattle.std.proofs.Common.{IsTrue}
-use Rattle.drain_kernel.specs.Columns.{Along}
+use Rattle.drain_kernel.proofs.Names.{IsTrue, Along}
 use Rattle.drain_kernel.proofs.column_test.passes_along.Given as goal
 
 -- the columns that were passed pass the test, if none was found that doesn't

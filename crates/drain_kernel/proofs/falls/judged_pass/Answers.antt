@@ -1,5 +1,4 @@
-use Rattle.std.proofs.Common.{sym, ◌∙◌, subst}
-use Rattle.drain_kernel.specs.ConAlone.{FallsWith}
+use Rattle.drain_kernel.proofs.Names.{sym, ◌∙◌, subst, FallsWith}
 use Rattle.drain_kernel.proofs.falls.judged_pass.Goals as goal
 
 pub returns-then-has_dir : goal.returns-then-has_dir

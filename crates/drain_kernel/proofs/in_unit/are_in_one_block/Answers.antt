@@ -1,6 +1,4 @@
-use Rattle.std.proofs.Common.{subst}
-use Rattle.drain_kernel.specs.LaneNumbers.{ThreeLanes}
-use Rattle.drain_kernel.specs.Units.{AreInBlock}
+use Rattle.drain_kernel.proofs.Names.{subst, ThreeLanes, AreInBlock}
 use Rattle.drain_kernel.proofs.Blocks.{one_block}
 use Rattle.drain_kernel.proofs.in_unit.are_in_one_block.Goals as goal
 

@@ -1,9 +1,4 @@
-use Rattle.std.proofs.Common.{ℕ, ◌≡◌, ◌≤◌, ◌<◌, ◌-◌, length, ◌∙◌, ap, subst, arith}
-use Rattle.std.specs.Int.{w64}
-use Rattle.std.proofs.lemmas.Int.{to_z-of_z}
-use Rattle.std.proofs.lemmas.List.{length-set}
-use Rattle.drain_kernel.specs.Shown.{lowered}
-use Rattle.drain_kernel.specs.Units.{IsInUnit, made_offset}
+use Rattle.drain_kernel.proofs.Names.{ℕ, ◌≡◌, ◌≤◌, ◌<◌, ◌-◌, length, ◌∙◌, ap, subst, arith, w64, to_z-of_z, length-set, lowered, IsInUnit, made_offset}
 use Rattle.drain_kernel.proofs.FloatWays.{fits}
 use Rattle.drain_kernel.proofs.UnitWays.{one_more}
 use Rattle.drain_kernel.proofs.in_unit.row_in_unit.Goals as goal

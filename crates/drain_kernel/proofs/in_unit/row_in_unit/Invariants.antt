@@ -1,5 +1,4 @@
-use Rattle.std.proofs.Common.{◌≡◌, ◌≤◌, ◌-◌, length}
-use Rattle.drain_kernel.specs.Units.{AreInUnit}
+use Rattle.drain_kernel.proofs.Names.{◌≡◌, ◌≤◌, ◌-◌, length, AreInUnit}
 use Rattle.drain_kernel.proofs.in_unit.row_in_unit.Given as goal
 
 -- the columns that were passed are in the unit

@@ -1,6 +1,4 @@
-use Rattle.std.proofs.Common.{sym, subst, ap, ◌∙◌}
-use Rattle.drain_kernel.specs.LaneNumbers.{ThreeLanes}
-use Rattle.drain_kernel.specs.Columns.{IsShownIn}
+use Rattle.drain_kernel.proofs.Names.{sym, subst, ap, ◌∙◌, ThreeLanes, IsShownIn}
 use Rattle.drain_kernel.proofs.kept.kept_until.Goals as goal
 
 pub returns-in-Some-clause-kept : goal.returns-in-Some-clause-kept

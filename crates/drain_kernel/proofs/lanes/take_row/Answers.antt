@@ -1,5 +1,4 @@
-use Rattle.std.proofs.Common.{◌≡◌, ◌≢◌, ℕ, ◌<◌, List, length, map, slice_index, sym, ◌∙◌, ap, subst}
-use Rattle.std.proofs.lemmas.List.{length-map}
+use Rattle.drain_kernel.proofs.Names.{◌≡◌, ◌≢◌, ℕ, ◌<◌, List, length, map, slice_index, sym, ◌∙◌, ap, subst, length-map}
 use Rattle.drain_grid.specs.declared.set_product.SetProduct.TheVariants.{Con}
 use Rattle.drain_kernel.proofs.lanes.take_row.Goals as goal
 

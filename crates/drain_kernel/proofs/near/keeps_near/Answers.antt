@@ -1,6 +1,4 @@
-use Rattle.std.proofs.lemmas.Bool.{and_parts, leb-true}
-use Rattle.std.proofs.lemmas.Bool.Decides.{Decides-eqb}
-use Rattle.drain_kernel.specs.Eights.{eight}
+use Rattle.drain_kernel.proofs.Names.{and_parts, leb-true, Decides-eqb, eight}
 use Rattle.drain_kernel.proofs.NearWays.{lies_with, way_with}
 use Rattle.drain_kernel.proofs.near.keeps_near.Goals as goal
 

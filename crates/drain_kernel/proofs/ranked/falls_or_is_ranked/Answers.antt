@@ -1,5 +1,4 @@
-use Rattle.std.proofs.Common.{◌≡◌, ◌||◌, nat_lt, min, true, ◌∙◌, subst}
-use Rattle.drain_kernel.specs.Eights.{eight}
+use Rattle.drain_kernel.proofs.Names.{◌≡◌, ◌||◌, nat_lt, min, true, ◌∙◌, subst, eight}
 use Rattle.drain_kernel.proofs.CappedSums.{falls_or_ranked}
 use Rattle.drain_kernel.proofs.ranked.falls_or_is_ranked.Goals as goal
 

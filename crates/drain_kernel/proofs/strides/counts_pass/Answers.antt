@@ -1,7 +1,4 @@
-use Rattle.std.proofs.Common.{◌≢◌, IsTrue, pos, slice_index, sym, ◌∙◌, ap, subst}
-use Rattle.drain_grid.specs.Judged.{IfJudged}
-use Rattle.drain_kernel.specs.Columns.{HasCountsAt, adds_up_at}
-use Rattle.drain_kernel.specs.LaneNumbers.{ThreeLanes}
+use Rattle.drain_kernel.proofs.Names.{◌≢◌, IsTrue, pos, slice_index, sym, ◌∙◌, ap, subst, IfJudged, HasCountsAt, adds_up_at, ThreeLanes}
 use Rattle.drain_kernel.proofs.VouchedNumbers.{some_sum}
 use Rattle.drain_kernel.proofs.strides.counts_pass.Goals as goal
 

@@ -1,6 +1,4 @@
-use Rattle.std.proofs.Common.{sym, ◌∙◌, subst}
-use Rattle.drain_kernel.specs.Columns.{Along}
-use Rattle.drain_kernel.specs.ConAlone.{PassesWith}
+use Rattle.drain_kernel.proofs.Names.{sym, ◌∙◌, subst, Along, PassesWith}
 use Rattle.drain_kernel.proofs.strides.judged_pass.Goals as goal
 
 pub returns-then-has_dir : goal.returns-then-has_dir

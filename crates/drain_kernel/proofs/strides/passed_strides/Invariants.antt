@@ -1,6 +1,4 @@
-use Rattle.std.proofs.Common.{◌-◌, ◌≤◌}
-use Rattle.drain_kernel.specs.Columns.{Along}
-use Rattle.drain_kernel.specs.ConAlone.{IsClearedAt}
+use Rattle.drain_kernel.proofs.Names.{◌-◌, ◌≤◌, Along, IsClearedAt}
 use Rattle.drain_kernel.proofs.strides.passed_strides.Given as goal
 
 -- the columns that were passed pass all tests

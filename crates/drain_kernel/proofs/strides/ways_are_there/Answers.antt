@@ -1,6 +1,4 @@
-use Rattle.std.proofs.Common.{◌≢◌, ◌≤◌, ℕ, sym, ◌∙◌, ap, subst}
-use Rattle.drain_kernel.specs.LaneNumbers.{ThreeLanes}
-use Rattle.drain_kernel.specs.Shown.{lowered}
+use Rattle.drain_kernel.proofs.Names.{◌≢◌, ◌≤◌, ℕ, sym, ◌∙◌, ap, subst, ThreeLanes, lowered}
 use Rattle.drain_kernel.proofs.VouchedNumbers.{has_way}
 use Rattle.drain_kernel.proofs.strides.ways_are_there.Goals as goal
 

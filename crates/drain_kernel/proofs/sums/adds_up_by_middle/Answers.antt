@@ -1,5 +1,4 @@
-use Rattle.std.proofs.lemmas.Bool.{and_parts, leb-true}
-use Rattle.std.proofs.lemmas.Bool.Decides.{Decides-eqb}
+use Rattle.drain_kernel.proofs.Names.{and_parts, leb-true, Decides-eqb}
 use Rattle.drain_kernel.proofs.CappedSums.{middle_sum_gives}
 use Rattle.drain_kernel.proofs.sums.adds_up_by_middle.Goals as goal
 

@@ -1,6 +1,4 @@
-use Rattle.std.proofs.Common.{◌∙◌, sym}
-use Rattle.std.specs.Int.{w64}
-use Rattle.std.proofs.lemmas.Int.{to_z-of_z}
+use Rattle.drain_kernel.proofs.Names.{◌∙◌, sym, w64, to_z-of_z}
 use Rattle.drain_kernel.proofs.FloatWays.{fits, test_by_products}
 use Rattle.drain_kernel.proofs.ways_down.is_no_steeper.Goals as goal
 

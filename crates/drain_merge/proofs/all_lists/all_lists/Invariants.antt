@@ -1,5 +1,4 @@
-use Rattle.std.proofs.Common.{◌≡◌}
-use Rattle.drain_merge.specs.Places.{all_outlets, all_seams, all_sinks}
+use Rattle.drain_merge.proofs.Names.{◌≡◌, all_outlets, all_seams, all_sinks}
 use Rattle.drain_merge.proofs.all_lists.all_lists.Given as goal
 
 -- the lists of the windows before

@@ -1,5 +1,4 @@
-use Rattle.std.specs.List.{AllWithin}
-use Rattle.drain_union.specs.Joins.{LiesInBox}
+use Rattle.drain_merge.proofs.Names.{AllWithin, LiesInBox}
 use Rattle.drain_merge.proofs.box_places.first_outside.Given as goal
 
 abbrev pub invariant-loop-i : goal.invariant-loop-i

@@ -1,5 +1,4 @@
-use Rattle.std.proofs.Common.{sym, ◌∙◌}
-use Rattle.std.proofs.lemmas.Bool.{false≢true}
+use Rattle.drain_merge.proofs.Names.{sym, ◌∙◌, false≢true}
 use Rattle.drain_merge.proofs.BoxSides.{in_box, rows_in, cols_in}
 use Rattle.drain_merge.proofs.box_places.lies_in_box.Goals as goal
 

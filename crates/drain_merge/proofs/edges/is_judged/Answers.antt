@@ -1,7 +1,4 @@
-use Rattle.std.proofs.Common.{sym, subst, ◌∙◌, arith}
-use Rattle.std.proofs.lemmas.Bool.{false≢true}
-use Rattle.drain_union.specs.declared.place.Place.{Place}
-use Rattle.drain_union.specs.Windows.{IsJudgedAt}
+use Rattle.drain_merge.proofs.Names.{sym, subst, ◌∙◌, arith, false≢true, Place, IsJudgedAt}
 use Rattle.drain_merge.proofs.Elements.{within_more}
 use Rattle.drain_merge.proofs.edges.is_judged.Goals as goal
 

@@ -1,5 +1,4 @@
-use Rattle.std.specs.List.{AllWithin}
-use Rattle.drain_union.specs.Windows.{IsJudgedAt}
+use Rattle.drain_merge.proofs.Names.{AllWithin, IsJudgedAt}
 use Rattle.drain_merge.proofs.edges.is_judged.Given as goal
 
 abbrev pub invariant-loop-place : goal.invariant-loop-place

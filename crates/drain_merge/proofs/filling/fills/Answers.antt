@@ -1,7 +1,4 @@
-use Rattle.std.proofs.Common.{ℕ, List, Option, IfSome, Vec, Global, subst}
-use Rattle.drain_union.specs.declared.place.Place.{Place}
-use Rattle.drain_union.specs.Windows.{judged_bottom, judged_top}
-use Rattle.drain_merge.specs.Filling.{AreEndsOf, AreLaid, ReachAllOver}
+use Rattle.drain_merge.proofs.Names.{ℕ, List, Option, IfSome, Vec, Global, subst, Place, judged_bottom, judged_top, AreEndsOf, AreLaid, ReachAllOver}
 use Rattle.drain_merge.proofs.Filled.{filled}
 use Rattle.drain_merge.proofs.filling.fills.Goals as goal
 

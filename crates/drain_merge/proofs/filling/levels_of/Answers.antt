@@ -1,7 +1,4 @@
-use Rattle.std.proofs.Common.{◌≡◌, ℕ, List, [], ◌∷◌, ◌++◌, ◌+◌, drop, length, take, ap, sym, subst, ◌∙◌, arith}
-use Rattle.std.proofs.lemmas.List.{take_at, take_more}
-use Rattle.drain_union.specs.declared.place.Place.{Place}
-use Rattle.drain_merge.specs.Filling.{AreLaid, IsLaid}
+use Rattle.drain_merge.proofs.Names.{◌≡◌, ℕ, List, [], ◌∷◌, ◌++◌, ◌+◌, drop, length, take, ap, sym, subst, ◌∙◌, arith, take_at, take_more, Place, AreLaid, IsLaid}
 use Rattle.drain_merge.proofs.Layers.{laid_more}
 use Rattle.drain_merge.proofs.filling.levels_of.Goals as goal
 

@@ -1,5 +1,4 @@
-use Rattle.std.proofs.Common.{take}
-use Rattle.drain_merge.specs.Filling.{AreLaid}
+use Rattle.drain_merge.proofs.Names.{take, AreLaid}
 use Rattle.drain_merge.proofs.filling.levels_of.Given as goal
 
 abbrev pub invariant-loop-place : goal.invariant-loop-place

@@ -1,5 +1,4 @@
-use Rattle.std.proofs.Common.{arith, inl, inr}
-use Rattle.drain_grid.proofs.Decisions.{cases, less_number}
+use Rattle.drain_merge.proofs.Names.{arith, inl, inr, cases, less_number}
 use Rattle.drain_merge.proofs.filling.move_levels.Goals as goal
 
 pub returns : goal.returns

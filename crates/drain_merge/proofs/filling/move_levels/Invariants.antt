@@ -1,5 +1,4 @@
-use Rattle.std.proofs.Common.{◌≤◌, max}
-use Rattle.drain_merge.specs.Filling.{IsMoved}
+use Rattle.drain_merge.proofs.Names.{◌≤◌, max, IsMoved}
 use Rattle.drain_merge.proofs.filling.move_levels.Given as goal
 
 abbrev pub invariant-loop-k : goal.invariant-loop-k

@@ -1,6 +1,4 @@
-use Rattle.std.proofs.Common.{Some, None, List, refl, subst}
-use Rattle.drain_union.specs.declared.report.Shown.{Shown}
-use Rattle.drain_merge.specs.Seams.{IsFirstDifference}
+use Rattle.drain_merge.proofs.Names.{Some, None, List, refl, subst, Shown, IsFirstDifference}
 use Rattle.drain_merge.proofs.joined.agreed_seams.Goals as goal
 
 pub returns-in-Some-clause-refusal : goal.returns-in-Some-clause-refusal

@@ -1,5 +1,4 @@
-use Rattle.std.proofs.lemmas.Result.{IfOk-weaker}
-use Rattle.drain_merge.specs.BoxReports.{IsJoin, IsOfBox}
+use Rattle.drain_merge.proofs.Names.{IfOk-weaker, IsJoin, IsOfBox}
 use Rattle.drain_merge.proofs.Trees.{join_stands}
 use Rattle.drain_merge.proofs.joined.join.Goals as goal
 

@@ -1,7 +1,4 @@
-use Rattle.std.proofs.Common.{List, subst}
-use Rattle.std.proofs.lemmas.Result.{IfOk-weaker}
-use Rattle.drain_union.specs.declared.report.WindowReport.{WindowReport}
-use Rattle.drain_merge.specs.BoxReports.{IsFilledBox, IsJoin, IsJoinOver}
+use Rattle.drain_merge.proofs.Names.{List, subst, IfOk-weaker, WindowReport, IsFilledBox, IsJoin, IsJoinOver}
 use Rattle.drain_merge.proofs.MadeJoins.{made_join}
 use Rattle.drain_merge.proofs.joined.joined.Goals as goal
 

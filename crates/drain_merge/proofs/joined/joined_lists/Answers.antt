@@ -1,11 +1,4 @@
-use Rattle.std.proofs.Common.{Some, List, sym, subst}
-use Rattle.std.specs.List.Sorted.{IsPermutation}
-use Rattle.std.proofs.lemmas.Result.{err_from_is_err_and}
-use Rattle.drain_union.specs.Reports.{ShowTheSame}
-use Rattle.drain_union.specs.declared.report.Outlet.{Outlet}
-use Rattle.drain_union.specs.declared.report.Shown.{Shown}
-use Rattle.drain_merge.specs.BoxReports.{IsSeamRefusal}
-use Rattle.drain_merge.specs.Seams.{IsFirstDifference}
+use Rattle.drain_merge.proofs.Names.{Some, List, sym, subst, IsPermutation, err_from_is_err_and, ShowTheSame, Outlet, Shown, IsSeamRefusal, IsFirstDifference}
 use Rattle.drain_merge.proofs.BoxLists.{all_listed}
 use Rattle.drain_merge.proofs.OuterSeams.{AreOuterOf}
 use Rattle.drain_merge.proofs.joined.joined_lists.Goals as goal

@@ -1,6 +1,4 @@
-use Rattle.std.proofs.Common.{Some, subst, sym}
-use Rattle.drain_grid.specs.declared.cell.Cell.{Cell}
-use Rattle.drain_merge.specs.Seams.{IsFirstOfFaults}
+use Rattle.drain_merge.proofs.Names.{Some, subst, sym, Cell, IsFirstOfFaults}
 use Rattle.drain_merge.proofs.BoxCells.{fault_counted}
 use Rattle.drain_merge.proofs.joined.joined_verdict.Goals as goal
 

@@ -1,5 +1,4 @@
-use Rattle.std.proofs.Common.{◌≡◌, []}
-use Rattle.std.specs.List.{AllWithin}
+use Rattle.drain_merge.proofs.Names.{◌≡◌, [], AllWithin}
 use Rattle.drain_merge.proofs.joined_spacings.none_lists.Given as goal
 
 -- the windows before list the spacing of no row

@@ -1,5 +1,4 @@
-use Rattle.std.proofs.Common.{◌≡◌, ℕ, length}
-use Rattle.drain_union.specs.Reports.{spacing_at}
+use Rattle.drain_merge.proofs.Names.{◌≡◌, ℕ, length, spacing_at}
 use Rattle.drain_merge.proofs.joined_spacings.shortened.Given as goal
 
 -- each row is spaced as at first

@@ -1,5 +1,4 @@
-use Rattle.std.specs.List.{AllWithin}
-use Rattle.drain_merge.specs.BoxReports.{HasRow}
+use Rattle.drain_merge.proofs.Names.{AllWithin, HasRow}
 use Rattle.drain_merge.proofs.joined_spacings.spacing_of_row.Given as goal
 
 -- none of the windows before has the row

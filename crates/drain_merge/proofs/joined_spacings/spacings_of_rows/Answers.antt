@@ -1,5 +1,4 @@
-use Rattle.std.proofs.Common.{◌+◌, sym, subst, arith}
-use Rattle.drain_merge.specs.BoxReports.{IsSpacingOfRow}
+use Rattle.drain_merge.proofs.Names.{◌+◌, sym, subst, arith, IsSpacingOfRow}
 use Rattle.drain_merge.proofs.BoxLists.{at_row, one_more}
 use Rattle.drain_merge.proofs.joined_spacings.spacings_of_rows.Goals as goal
 

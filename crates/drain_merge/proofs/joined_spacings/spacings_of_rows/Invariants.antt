@@ -1,6 +1,4 @@
-use Rattle.std.proofs.Common.{◌≡◌, ℕ, ◌+◌, ◌<◌, length, slice_index_or}
-use Rattle.drain_grid.specs.Spacing.{unit_spacing}
-use Rattle.drain_merge.specs.BoxReports.{IsSpacingOfRow}
+use Rattle.drain_merge.proofs.Names.{◌≡◌, ℕ, ◌+◌, ◌<◌, length, slice_index_or, unit_spacing, IsSpacingOfRow}
 use Rattle.drain_merge.proofs.joined_spacings.spacings_of_rows.Given as goal
 
 -- the rows before are listed, each as spaced in some window that has it

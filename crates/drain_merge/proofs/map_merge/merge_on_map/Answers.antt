@@ -1,7 +1,4 @@
-use Rattle.std.proofs.Common.{List, ap, subst, ◌∙◌}
-use Rattle.std.proofs.lemmas.Result.{err_from_is_err_and}
-use Rattle.drain_union.specs.declared.report.WindowReport.{WindowReport}
-use Rattle.drain_merge.specs.MapBoxes.{box_of, HaveOneGrid}
+use Rattle.drain_merge.proofs.Names.{List, ap, subst, ◌∙◌, err_from_is_err_and, WindowReport, box_of, HaveOneGrid}
 use Rattle.drain_merge.proofs.MovedWindows.{map_refusal}
 use Rattle.drain_merge.proofs.TakenSinks.{map_sinks}
 use Rattle.drain_merge.proofs.map_merge.merge_on_map.Goals as goal

@@ -1,11 +1,4 @@
-use Rattle.std.proofs.Common.{inl, inr, List, sym, subst, ap, ◌∙◌}
-use Rattle.std.proofs.lemmas.Bool.{false≢true}
-use Rattle.std.proofs.lemmas.Result.{err_from_is_err_and}
-use Rattle.drain_grid.specs.declared.cell.Cell.{Cell}
-use Rattle.drain_union.specs.declared.report.WindowReport.{WindowReport}
-use Rattle.drain_merge.specs.Places.{all_sinks}
-use Rattle.drain_merge.specs.UnionSinks.{IsSinkRefusal, TakeSinks}
-use Rattle.drain_merge.specs.UnionVerdicts.{SomeIsRejected}
+use Rattle.drain_merge.proofs.Names.{inl, inr, List, sym, subst, ap, ◌∙◌, false≢true, err_from_is_err_and, Cell, WindowReport, all_sinks, IsSinkRefusal, TakeSinks, SomeIsRejected}
 use Rattle.drain_merge.proofs.map_merge.verdict_on.Goals as goal
 
 pub returns-then-is_rejected-clause-taken : goal.returns-then-is_rejected-clause-taken

@@ -1,5 +1,4 @@
-use Rattle.std.proofs.Common.{sym, ◌∙◌}
-use Rattle.std.proofs.lemmas.Bool.{false≢true}
+use Rattle.drain_merge.proofs.Names.{sym, ◌∙◌, false≢true}
 use Rattle.drain_merge.proofs.FirstOfFaults.{second_first, first_first}
 use Rattle.drain_merge.proofs.merge_verdict.earlier_fault.Goals as goal
 

@@ -1,8 +1,4 @@
-use Rattle.std.proofs.Common.{Option, List, subst, arith}
-use Rattle.std.proofs.lemmas.List.{take_all}
-use Rattle.drain_union.specs.declared.verdict.Fault.{Fault}
-use Rattle.drain_union.specs.declared.report.WindowReport.{WindowReport}
-use Rattle.drain_merge.specs.Seams.{IsEarlierFault, IsFirstOfFaults}
+use Rattle.drain_merge.proofs.Names.{Option, List, subst, arith, take_all, Fault, WindowReport, IsEarlierFault, IsFirstOfFaults}
 use Rattle.drain_merge.proofs.FirstOfFaults.{fault_of_next}
 use Rattle.drain_merge.proofs.merge_verdict.first_fault.Goals as goal
 

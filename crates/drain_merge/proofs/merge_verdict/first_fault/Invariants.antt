@@ -1,5 +1,4 @@
-use Rattle.std.proofs.Common.{take}
-use Rattle.drain_merge.specs.Seams.{IsFirstOfFaults}
+use Rattle.drain_merge.proofs.Names.{take, IsFirstOfFaults}
 use Rattle.drain_merge.proofs.merge_verdict.first_fault.Given as goal
 
 abbrev pub invariant-loop-window : goal.invariant-loop-window

@@ -1,5 +1,4 @@
-use Rattle.std.proofs.Common.{sym, ap, ◌∙◌}
-use Rattle.drain_union.specs.declared.report.WindowReport.{WindowReport}
+use Rattle.drain_merge.proofs.Names.{sym, ap, ◌∙◌, WindowReport}
 use Rattle.drain_merge.proofs.merger.check_nodata.Goals as goal
 
 pub returns-in-Some-first_other_nodata-clause-refusal : goal.returns-in-Some-first_other_nodata-clause-refusal

@@ -1,8 +1,4 @@
-use Rattle.std.proofs.Common.{subst}
-use Rattle.std.proofs.lemmas.Result.{IfOk-weaker}
-use Rattle.drain_merge.specs.Merges.{IsMerged}
-use Rattle.drain_union.specs.Sizes.{FitsNumbers}
-use Rattle.drain_merge.specs.UnionVerdicts.{IsUnionVerdict}
+use Rattle.drain_merge.proofs.Names.{subst, IfOk-weaker, IsMerged, FitsNumbers, IsUnionVerdict}
 use Rattle.drain_merge.proofs.MergeMeaning.{union_verdict}
 use Rattle.drain_merge.proofs.merger.merge.Goals as goal
 

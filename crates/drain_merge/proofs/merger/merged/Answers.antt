@@ -1,10 +1,4 @@
-use Rattle.std.proofs.Common.{inl, inr, refl, Some, None, List, subst}
-use Rattle.drain_union.specs.declared.report.Outlet.{Outlet}
-use Rattle.drain_union.specs.declared.report.Shown.{Shown}
-use Rattle.drain_union.specs.declared.report.WindowReport.{WindowReport}
-use Rattle.drain_merge.specs.Merges.{CanBePutTogether}
-use Rattle.drain_merge.specs.Seams.{IsFirstDifference, IsFirstSharing}
-use Rattle.drain_merge.specs.Totals.{AreCountsOf}
+use Rattle.drain_merge.proofs.Names.{inl, inr, refl, Some, None, List, subst, Outlet, Shown, WindowReport, CanBePutTogether, IsFirstDifference, IsFirstSharing, AreCountsOf}
 use Rattle.drain_merge.proofs.merger.merged.Goals as goal
 
 pub returns-in-Some-clause-lists : goal.returns-in-Some-clause-lists

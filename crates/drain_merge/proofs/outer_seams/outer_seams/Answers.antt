@@ -1,7 +1,5 @@
-use Rattle.std.proofs.Common.{◌≡◌, ◌++◌, ◌+◌, ◌∷◌, [], List, Vec, Global, take, length, ap, sym, subst, ◌∙◌, get_or-take, arith}
-use Rattle.std.proofs.lemmas.Bool.{false≢true}
-use Rattle.std.proofs.lemmas.List.{length-take-le, take_all, take_more}
-use Rattle.drain_union.specs.declared.report.Shown.{Shown}
+use Rattle.drain_merge.proofs.Names.{◌≡◌, ◌++◌, ◌+◌, ◌∷◌, [], List, Vec, Global, take, length, ap, sym, subst, ◌∙◌, arith, false≢true, length-take-le, take_all, take_more, Shown}
+use Rattle.std.proofs.Common.{get_or-take}
 use Rattle.drain_merge.proofs.OuterSeams.{AreOuterOf, one_again, one_inside, one_outer}
 use Rattle.drain_merge.proofs.outer_seams.outer_seams.Goals as goal
 use Rattle.drain_merge.proofs.outer_seams.outer_seams.Goals.{then-is_outer+then-not-is_shown_before+in_ok-push, else-is_outer, else-is_outer-via-then-is_outer+else-not-is_shown_before, else-is_outer-via-else-is_outer}

@@ -1,6 +1,4 @@
-use Rattle.std.proofs.Common.{arith}
-use Rattle.drain_union.specs.declared.place.Place.{Place}
-use Rattle.drain_union.specs.Windows.{BothJudgeOne}
+use Rattle.drain_merge.proofs.Names.{arith, Place, BothJudgeOne}
 use Rattle.drain_merge.proofs.FirstOfFaults.{pair_found, pairs_more}
 use Rattle.drain_merge.proofs.places.first_clash.Goals as goal
 

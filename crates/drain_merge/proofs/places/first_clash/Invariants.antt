@@ -1,6 +1,4 @@
-use Rattle.std.proofs.Common.{ℕ, ◌<◌, slice_index_or}
-use Rattle.drain_union.specs.declared.place.Place.{Place}
-use Rattle.drain_union.specs.Windows.{BothJudgeOne}
+use Rattle.drain_merge.proofs.Names.{ℕ, ◌<◌, slice_index_or, Place, BothJudgeOne}
 use Rattle.drain_merge.proofs.places.first_clash.Given as goal
 
 abbrev pub invariant-loop-later : goal.invariant-loop-later

@@ -1,6 +1,4 @@
-use Rattle.std.proofs.Common.{sym, ◌∙◌, arith}
-use Rattle.std.proofs.lemmas.Bool.{false≢true}
-use Rattle.drain_union.specs.Windows.{BothJudgeOne}
+use Rattle.drain_merge.proofs.Names.{sym, ◌∙◌, arith, false≢true, BothJudgeOne}
 use Rattle.drain_merge.proofs.Elements.{within_more}
 use Rattle.drain_merge.proofs.places.first_clashing.Goals as goal
 

@@ -1,5 +1,4 @@
-use Rattle.std.specs.List.{AllWithin}
-use Rattle.drain_union.specs.Windows.{BothJudgeOne}
+use Rattle.drain_merge.proofs.Names.{AllWithin, BothJudgeOne}
 use Rattle.drain_merge.proofs.places.first_clashing.Given as goal
 
 abbrev pub invariant-loop-i : goal.invariant-loop-i

@@ -1,5 +1,4 @@
-use Rattle.std.specs.List.{AllWithin}
-use Rattle.drain_union.specs.Windows.{JudgesSome}
+use Rattle.drain_merge.proofs.Names.{AllWithin, JudgesSome}
 use Rattle.drain_merge.proofs.places.first_idle.Given as goal
 
 abbrev pub invariant-loop-i : goal.invariant-loop-i

@@ -1,9 +1,4 @@
-use Rattle.std.proofs.Common.{slice_set, slice_index_or, pos, ap, ◌∙◌, arith}
-use Rattle.std.proofs.lemmas.List.{get_or_default}
-use Rattle.std.proofs.lemmas.List.Edits.{map_over_more}
-use Rattle.drain_grid.proofs.Neighbors.{place}
-use Rattle.drain_union.specs.declared.report.Outlet.{Outlet}
-use Rattle.drain_merge.specs.Places.{outlet_from}
+use Rattle.drain_merge.proofs.Names.{slice_set, slice_index_or, pos, ap, ◌∙◌, arith, get_or_default, map_over_more, place, Outlet, outlet_from}
 use Rattle.drain_merge.proofs.places.move_outlets.Goals as goal
 
 pub loop-i-preserved : goal.loop-i-preserved

@@ -1,5 +1,4 @@
-use Rattle.std.proofs.Common.{◌≡◌, ◌++◌, map, take, drop}
-use Rattle.drain_merge.specs.Places.{outlet_from}
+use Rattle.drain_merge.proofs.Names.{◌≡◌, ◌++◌, map, take, drop, outlet_from}
 use Rattle.drain_merge.proofs.places.move_outlets.Given as goal
 
 abbrev pub invariant-loop-i : goal.invariant-loop-i

@@ -1,7 +1,4 @@
-use Rattle.std.proofs.Common.{slice_set, ap, ◌∙◌, arith}
-use Rattle.std.proofs.lemmas.List.Edits.{map_over_more}
-use Rattle.drain_union.specs.declared.report.Shown.{Shown}
-use Rattle.drain_merge.specs.Places.{shown_from}
+use Rattle.drain_merge.proofs.Names.{slice_set, ap, ◌∙◌, arith, map_over_more, Shown, shown_from}
 use Rattle.drain_merge.proofs.places.move_seams.Goals as goal
 
 pub loop-i-preserved : goal.loop-i-preserved

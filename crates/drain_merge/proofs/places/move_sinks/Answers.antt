@@ -1,9 +1,4 @@
-use Rattle.std.proofs.Common.{slice_index_or, slice_set, ap, ◌∙◌, arith}
-use Rattle.std.proofs.lemmas.List.{get_or_default}
-use Rattle.std.proofs.lemmas.List.Edits.{map_over_more}
-use Rattle.drain_grid.specs.declared.cell.Cell.{Cell}
-use Rattle.drain_grid.proofs.Neighbors.{place}
-use Rattle.drain_union.specs.Windows.{cell_from}
+use Rattle.drain_merge.proofs.Names.{slice_index_or, slice_set, ap, ◌∙◌, arith, get_or_default, map_over_more, Cell, place, cell_from}
 use Rattle.drain_merge.proofs.places.move_sinks.Goals as goal
 
 pub loop-i-preserved : goal.loop-i-preserved

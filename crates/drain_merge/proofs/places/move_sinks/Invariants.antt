@@ -1,5 +1,4 @@
-use Rattle.std.proofs.Common.{◌≡◌, ◌++◌, map, take, drop}
-use Rattle.drain_union.specs.Windows.{cell_from}
+use Rattle.drain_merge.proofs.Names.{◌≡◌, ◌++◌, map, take, drop, cell_from}
 use Rattle.drain_merge.proofs.places.move_sinks.Given as goal
 
 abbrev pub invariant-loop-i : goal.invariant-loop-i

@@ -1,5 +1,4 @@
-use Rattle.std.proofs.Common.{sym, ◌∙◌}
-use Rattle.drain_grid.proofs.Decisions.{not_both, not_true}
+use Rattle.drain_merge.proofs.Names.{sym, ◌∙◌, not_both, not_true}
 use Rattle.drain_merge.proofs.SameCells.{same_cells}
 use Rattle.drain_merge.proofs.seams.differ.Goals as goal
 

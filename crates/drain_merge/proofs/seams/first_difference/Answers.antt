@@ -1,5 +1,4 @@
-use Rattle.std.proofs.Common.{slice_index_or, sym, subst, Some, None}
-use Rattle.drain_merge.specs.Seams.{IsFirstDifference}
+use Rattle.drain_merge.proofs.Names.{slice_index_or, sym, subst, Some, None, IsFirstDifference}
 use Rattle.drain_merge.proofs.SortedSeams.{none_differ, first_differs, difference_of_permuted}
 use Rattle.drain_merge.proofs.seams.first_difference.Goals as goal
 

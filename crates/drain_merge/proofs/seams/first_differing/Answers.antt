@@ -1,5 +1,4 @@
-use Rattle.std.proofs.Common.{sym, ◌∙◌, arith}
-use Rattle.std.proofs.lemmas.Bool.{false≢true}
+use Rattle.drain_merge.proofs.Names.{sym, ◌∙◌, arith, false≢true}
 use Rattle.drain_merge.proofs.SortedSeams.{none_more}
 use Rattle.drain_merge.proofs.seams.first_differing.Goals as goal
 

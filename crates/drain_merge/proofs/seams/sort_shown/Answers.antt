@@ -1,5 +1,4 @@
-use Rattle.std.proofs.Common.{rules, arith}
-use Rattle.std.proofs.lemmas.List.Sorted.{answers_always}
+use Rattle.drain_merge.proofs.Names.{rules, arith, answers_always}
 use Rattle.drain_merge.proofs.SortedOutlets.{cell_order}
 use Rattle.drain_merge.proofs.seams.sort_shown.Goals as goal
 

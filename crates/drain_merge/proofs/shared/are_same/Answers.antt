@@ -1,6 +1,4 @@
-use Rattle.std.proofs.Common.{◌≡◌, refl, sym, subst, ◌∙◌}
-use Rattle.drain_union.specs.Reports.{audited}
-use Rattle.drain_union.proofs.SameValues.{four_test, same_four, four_pass}
+use Rattle.drain_merge.proofs.Names.{◌≡◌, refl, sym, subst, ◌∙◌, audited, four_test, same_four, four_pass}
 use Rattle.drain_merge.proofs.shared.are_same.Goals as goal
 
 pub returns : goal.returns

@@ -1,5 +1,4 @@
-use Rattle.std.proofs.Common.{◌≡◌}
-use Rattle.std.specs.List.{AllWithin}
+use Rattle.drain_merge.proofs.Names.{◌≡◌, AllWithin}
 use Rattle.drain_merge.proofs.shared.first_other_nodata.Given as goal
 
 abbrev pub invariant-loop-i : goal.invariant-loop-i

@@ -1,9 +1,4 @@
-use Rattle.std.proofs.Common.{◌+◌, Option, sym, subst, ap, ◌∙◌, arith}
-use Rattle.std.proofs.lemmas.Bool.{false≢true}
-use Rattle.std.proofs.lemmas.List.{get_or_default}
-use Rattle.drain_grid.specs.declared.cell.Cell.{Cell}
-use Rattle.drain_union.specs.declared.report.Outlet.{Outlet}
-use Rattle.drain_merge.specs.Seams.{IsLeastSharing}
+use Rattle.drain_merge.proofs.Names.{◌+◌, Option, sym, subst, ap, ◌∙◌, arith, false≢true, get_or_default, Cell, Outlet, IsLeastSharing}
 use Rattle.drain_merge.proofs.SortedOutlets.{least_passed, least_taken, least_at}
 use Rattle.drain_merge.proofs.shared.least_sharing.Goals as goal
 use Rattle.drain_merge.proofs.shared.least_sharing.Goals.{then-shares_at, else-shares_at}

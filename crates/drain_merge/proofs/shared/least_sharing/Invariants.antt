@@ -1,5 +1,4 @@
-use Rattle.std.proofs.Common.{◌<◌, ◌≤◌, length}
-use Rattle.drain_merge.specs.Seams.{IsLeastSharing}
+use Rattle.drain_merge.proofs.Names.{◌<◌, ◌≤◌, length, IsLeastSharing}
 use Rattle.drain_merge.proofs.shared.least_sharing.Given as goal
 
 abbrev pub invariant-loop-place : goal.invariant-loop-place

@@ -1,7 +1,4 @@
-use Rattle.std.proofs.Common.{ℤ, rules, arith}
-use Rattle.std.proofs.lemmas.List.Sorted.{answers_always}
-use Rattle.drain_grid.specs.declared.cell.Cell.{Cell}
-use Rattle.drain_union.specs.declared.report.Outlet.{Outlet}
+use Rattle.drain_merge.proofs.Names.{ℤ, rules, arith, answers_always, Cell, Outlet}
 use Rattle.drain_merge.proofs.SortedOutlets.{outlet_order}
 use Rattle.drain_merge.proofs.shared.sort_outlets.Goals as goal
 

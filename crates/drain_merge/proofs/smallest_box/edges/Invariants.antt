@@ -1,5 +1,4 @@
-use Rattle.std.proofs.Common.{◌≡◌, take}
-use Rattle.drain_merge.specs.MapBoxes.{least_by, greatest_by, top_of, left_of, bottom_end, right_end}
+use Rattle.drain_merge.proofs.Names.{◌≡◌, take, least_by, greatest_by, top_of, left_of, bottom_end, right_end}
 use Rattle.drain_merge.proofs.smallest_box.edges.Given as goal
 
 abbrev pub invariant-loop-window : goal.invariant-loop-window

@@ -1,10 +1,5 @@
-use Rattle.std.proofs.Common.{◌≡◌, ◌↔◌, ℕ, ◌+◌, ◌-◌, ◌^◌, min, IsTrue, Bool, true, false, not, List, refl, sym, subst, ◌∙◌, arith}
-use Rattle.std.specs.List.{Contains}
-use Rattle.std.proofs.lemmas.Bool.{false≢true}
-use Rattle.drain_union.specs.declared.report.WindowReport.{WindowReport}
-use Rattle.drain_merge.specs.BoxReports.{end_at, StopsAt, is_inner_at}
+use Rattle.drain_merge.proofs.Names.{◌≡◌, ◌↔◌, ℕ, ◌+◌, ◌-◌, ◌^◌, min, IsTrue, Bool, true, false, not, List, refl, sym, subst, ◌∙◌, arith, Contains, false≢true, WindowReport, end_at, StopsAt, is_inner_at, North, South, West, East}
 use Rattle.drain_merge.specs.declared.smallest_box.Side.{Side}
-use Rattle.drain_merge.specs.declared.smallest_box.Side.TheVariants.{North, South, West, East}
 use Rattle.drain_merge.proofs.smallest_box.smallest_box.Goals as goal
 
 -- the union ends with some window here at this side

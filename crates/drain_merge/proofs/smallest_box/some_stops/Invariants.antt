@@ -1,5 +1,4 @@
-use Rattle.std.specs.List.{AllWithin}
-use Rattle.drain_merge.specs.BoxReports.{StopsAt}
+use Rattle.drain_merge.proofs.Names.{AllWithin, StopsAt}
 use Rattle.drain_merge.proofs.smallest_box.some_stops.Given as goal
 
 -- the union ends with none of the windows before

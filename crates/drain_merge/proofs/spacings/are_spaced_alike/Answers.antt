@@ -1,6 +1,4 @@
-use Rattle.std.proofs.Common.{◌≡◌, ℕ, ◌+◌, ◌-◌, min, max, sym, ap, ◌∙◌, arith}
-use Rattle.drain_union.specs.declared.place.Place.{Place}
-use Rattle.drain_union.specs.Reports.{Report, spacing_at}
+use Rattle.drain_merge.proofs.Names.{◌≡◌, ℕ, ◌+◌, ◌-◌, min, max, sym, ap, ◌∙◌, arith, Place, Report, spacing_at}
 use Rattle.drain_merge.proofs.SpacedRows.{alike_from, alike_to}
 use Rattle.drain_merge.proofs.spacings.are_spaced_alike.Goals as goal
 

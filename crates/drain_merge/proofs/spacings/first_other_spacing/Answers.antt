@@ -1,6 +1,4 @@
-use Rattle.std.proofs.Common.{arith}
-use Rattle.drain_union.specs.declared.report.WindowReport.{WindowReport}
-use Rattle.drain_merge.specs.Merges.{HaveRowsAlike}
+use Rattle.drain_merge.proofs.Names.{arith, WindowReport, HaveRowsAlike}
 use Rattle.drain_merge.proofs.FirstOfFaults.{pair_found, pairs_more}
 use Rattle.drain_merge.proofs.spacings.first_other_spacing.Goals as goal
 

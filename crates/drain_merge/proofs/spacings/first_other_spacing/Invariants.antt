@@ -1,6 +1,4 @@
-use Rattle.std.proofs.Common.{ℕ, ◌<◌, slice_index_or}
-use Rattle.drain_union.specs.declared.report.WindowReport.{WindowReport}
-use Rattle.drain_merge.specs.Merges.{HaveRowsAlike}
+use Rattle.drain_merge.proofs.Names.{ℕ, ◌<◌, slice_index_or, WindowReport, HaveRowsAlike}
 use Rattle.drain_merge.proofs.spacings.first_other_spacing.Given as goal
 
 abbrev pub invariant-loop-later : goal.invariant-loop-later

@@ -1,5 +1,4 @@
-use Rattle.std.specs.List.{AllWithin}
-use Rattle.drain_merge.specs.Merges.{HaveRowsAlike}
+use Rattle.drain_merge.proofs.Names.{AllWithin, HaveRowsAlike}
 use Rattle.drain_merge.proofs.spacings.first_unlike.Given as goal
 
 abbrev pub invariant-loop-i : goal.invariant-loop-i

@@ -1,5 +1,4 @@
-use Rattle.std.proofs.Common.{◌≡◌, ℕ, ◌+◌, ◌<◌}
-use Rattle.drain_union.specs.Reports.{spacing_at}
+use Rattle.drain_merge.proofs.Names.{◌≡◌, ℕ, ◌+◌, ◌<◌, spacing_at}
 use Rattle.drain_merge.proofs.spacings.same_rows.Given as goal
 
 abbrev pub invariant-loop-k : goal.invariant-loop-k

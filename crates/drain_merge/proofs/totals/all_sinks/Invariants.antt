@@ -1,5 +1,4 @@
-use Rattle.std.proofs.Common.{◌≡◌, take}
-use Rattle.drain_merge.specs.Places.{all_sinks}
+use Rattle.drain_merge.proofs.Names.{◌≡◌, take, all_sinks}
 use Rattle.drain_merge.proofs.totals.all_sinks.Given as goal
 
 abbrev pub invariant-loop-window : goal.invariant-loop-window

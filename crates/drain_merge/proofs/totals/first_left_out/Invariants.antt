@@ -1,6 +1,4 @@
-use Rattle.std.proofs.Common.{◌≡◌, ℕ, ◌<◌, true, Some, slice_get}
-use Rattle.drain_grid.specs.declared.sink_line.SinkLine.{SinkLine}
-use Rattle.drain_grid.specs.CellLists.{is_among}
+use Rattle.drain_merge.proofs.Names.{◌≡◌, ℕ, ◌<◌, true, Some, slice_get, SinkLine, is_among}
 use Rattle.drain_merge.proofs.totals.first_left_out.Given as goal
 
 -- the cells of the lines before are in the set

@@ -1,6 +1,4 @@
-use Rattle.std.proofs.Common.{◌≡◌, ℕ, ◌<◌, true, Some, slice_get}
-use Rattle.drain_grid.specs.declared.cell.Cell.{Cell}
-use Rattle.drain_grid.specs.SinkTexts.{is_listed}
+use Rattle.drain_merge.proofs.Names.{◌≡◌, ℕ, ◌<◌, true, Some, slice_get, Cell, is_listed}
 use Rattle.drain_merge.proofs.totals.first_not_listed.Given as goal
 
 -- the cells before are listed

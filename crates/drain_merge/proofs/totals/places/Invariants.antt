@@ -1,5 +1,4 @@
-use Rattle.std.proofs.Common.{◌≡◌, take}
-use Rattle.drain_merge.specs.Places.{places_of}
+use Rattle.drain_merge.proofs.Names.{◌≡◌, take, places_of}
 use Rattle.drain_merge.proofs.totals.places.Given as goal
 
 abbrev pub invariant-loop-window : goal.invariant-loop-window

@@ -1,8 +1,5 @@
-use Rattle.std.proofs.Common.{◌≡◌, ◌||◌, Bool, true, false, slice_index_or, refl, sym, ap, ◌∙◌, rules}
+use Rattle.drain_merge.proofs.Names.{◌≡◌, ◌||◌, Bool, true, false, slice_index_or, refl, sym, ap, ◌∙◌, rules, Cell, same_cell, place}
 use Rattle.std.proofs.lemmas.List.Folds.{list_any_more}
-use Rattle.drain_grid.specs.declared.cell.Cell.{Cell}
-use Rattle.drain_grid.specs.Extent.{same_cell}
-use Rattle.drain_grid.proofs.Neighbors.{place}
 use Rattle.drain_grid.proofs.CellSets.{inserted}
 use Rattle.drain_merge.proofs.totals.set_of.Goals as goal
 

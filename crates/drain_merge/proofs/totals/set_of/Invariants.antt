@@ -1,6 +1,4 @@
-use Rattle.std.proofs.Common.{◌≡◌, take}
-use Rattle.drain_grid.specs.declared.cell.Cell.{Cell}
-use Rattle.drain_grid.specs.CellLists.{is_among}
+use Rattle.drain_merge.proofs.Names.{◌≡◌, take, Cell, is_among}
 use Rattle.drain_merge.proofs.totals.set_of.Given as goal
 
 -- the set has the cells before

@@ -1,5 +1,4 @@
-use Rattle.std.specs.List.{AllWithin}
-use Rattle.drain_merge.specs.UnionVerdicts.{IsRejected}
+use Rattle.drain_merge.proofs.Names.{AllWithin, IsRejected}
 use Rattle.drain_merge.proofs.totals.some_is_rejected.Given as goal
 
 abbrev pub invariant-loop-window : goal.invariant-loop-window

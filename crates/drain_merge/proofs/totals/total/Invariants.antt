@@ -1,5 +1,4 @@
-use Rattle.std.proofs.Common.{take}
-use Rattle.drain_merge.specs.Totals.{AreCountsOf}
+use Rattle.drain_merge.proofs.Names.{take, AreCountsOf}
 use Rattle.drain_merge.proofs.totals.total.Given as goal
 
 abbrev pub invariant-loop-window : goal.invariant-loop-window

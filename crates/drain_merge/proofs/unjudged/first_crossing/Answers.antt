@@ -1,7 +1,4 @@
-use Rattle.std.proofs.Common.{ℕ, Some, slice_index, sym, subst, ◌∙◌, arith}
-use Rattle.std.proofs.lemmas.Bool.{false≢true}
-use Rattle.drain_union.specs.Windows.{judged_bottom, judged_right, judged_top}
-use Rattle.drain_merge.specs.Unjudged.{IsNewBetween, IsFirstInRow}
+use Rattle.drain_merge.proofs.Names.{ℕ, Some, slice_index, sym, subst, ◌∙◌, arith, false≢true, judged_bottom, judged_right, judged_top, IsNewBetween, IsFirstInRow}
 use Rattle.drain_merge.proofs.CornerCells.{Across, IsJudgedAcross, crossing_found, none_found}
 use Rattle.drain_merge.proofs.NewNumbers.{passed_more}
 use Rattle.drain_merge.proofs.unjudged.first_crossing.Goals as goal

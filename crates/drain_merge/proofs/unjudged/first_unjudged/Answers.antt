@@ -1,5 +1,4 @@
-use Rattle.std.proofs.Common.{ℕ, List, subst}
-use Rattle.drain_merge.specs.Unjudged.{IsFirstCrossing}
+use Rattle.drain_merge.proofs.Names.{ℕ, List, subst, IsFirstCrossing}
 use Rattle.drain_merge.proofs.CornerCells.{first_of_corners}
 use Rattle.drain_merge.proofs.unjudged.first_unjudged.Goals as goal
 

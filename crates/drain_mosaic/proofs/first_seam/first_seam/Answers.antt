@@ -1,5 +1,4 @@
-use Rattle.std.proofs.Common.{map, ap, ◌∙◌, arith}
-use Rattle.drain_mosaic.specs.Mosaic.{tiles_of}
+use Rattle.drain_mosaic.proofs.Names.{map, ap, ◌∙◌, arith, tiles_of}
 use Rattle.drain_mosaic.proofs.Rows.{agree_more, tiles_agree, first_seam}
 use Rattle.drain_mosaic.proofs.first_seam.first_seam.Goals as goal
 

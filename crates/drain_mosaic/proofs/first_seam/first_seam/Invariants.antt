@@ -1,6 +1,4 @@
-use Rattle.std.proofs.Common.{map}
-use Rattle.drain_mosaic.specs.Mosaic.{tiles_of}
-use Rattle.drain_mosaic.specs.JoinedRows.{AgreeAbove}
+use Rattle.drain_mosaic.proofs.Names.{map, tiles_of, AgreeAbove}
 use Rattle.drain_mosaic.proofs.first_seam.first_seam.Given as goal
 
 abbrev pub invariant-loop-row : goal.invariant-loop-row

@@ -1,7 +1,4 @@
-use Rattle.std.proofs.Common.{◌≡◌, ◌*◌, ◌<◌, [], map, length, take, arith, refl, sym, ap, ◌∙◌, subst}
-use Rattle.std.proofs.lemmas.Bool.{false≢true}
-use Rattle.std.proofs.lemmas.List.{length-map, take_all}
-use Rattle.drain_mosaic.specs.Mosaic.{tiles_of, HasTwoValues}
+use Rattle.drain_mosaic.proofs.Names.{◌≡◌, ◌*◌, ◌<◌, [], map, length, take, arith, refl, sym, ap, ◌∙◌, subst, false≢true, length-map, take_all, tiles_of, HasTwoValues}
 use Rattle.drain_mosaic.proofs.TileRows.{item_at, length-tiles_of}
 use Rattle.drain_mosaic.proofs.CellValues.{value_of_tile, two_found, no_two_more}
 use Rattle.drain_mosaic.proofs.first_seam.has_two_values.Goals as goal

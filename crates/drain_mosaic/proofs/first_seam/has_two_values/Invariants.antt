@@ -1,5 +1,4 @@
-use Rattle.std.proofs.Common.{◌≡◌, map, take}
-use Rattle.drain_mosaic.specs.Mosaic.{tiles_of, HasTwoValues, first_value}
+use Rattle.drain_mosaic.proofs.Names.{◌≡◌, map, take, tiles_of, HasTwoValues, first_value}
 use Rattle.drain_mosaic.proofs.first_seam.has_two_values.Given as goal
 
 abbrev pub invariant-loop-i : goal.invariant-loop-i

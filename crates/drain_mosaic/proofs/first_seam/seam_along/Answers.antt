@@ -1,6 +1,4 @@
-use Rattle.std.proofs.Common.{map, arith, ap, ◌∙◌}
-use Rattle.std.proofs.lemmas.Bool.{false≢true}
-use Rattle.drain_mosaic.specs.Mosaic.{tiles_of, HasTwoValues}
+use Rattle.drain_mosaic.proofs.Names.{map, arith, ap, ◌∙◌, false≢true, tiles_of, HasTwoValues}
 use Rattle.drain_mosaic.proofs.Rows.{none_so_far}
 use Rattle.drain_mosaic.proofs.first_seam.seam_along.Goals as goal
 

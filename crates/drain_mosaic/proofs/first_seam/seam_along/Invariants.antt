@@ -1,5 +1,4 @@
-use Rattle.std.proofs.Common.{ℕ, ◌<◌, map}
-use Rattle.drain_mosaic.specs.Mosaic.{tiles_of, HasTwoValues}
+use Rattle.drain_mosaic.proofs.Names.{ℕ, ◌<◌, map, tiles_of, HasTwoValues}
 use Rattle.drain_mosaic.proofs.first_seam.seam_along.Given as goal
 
 abbrev pub invariant-loop-col : goal.invariant-loop-col

@@ -1,5 +1,4 @@
-use Rattle.std.proofs.Common.{◌+ℤ◌, pos, w16, nat_abs, ◌≤◌, arith, ◌∙◌, ap, sym, subst}
-use Rattle.std.proofs.lemmas.Int.{to_z-of_z}
+use Rattle.drain_mosaic.proofs.Names.{◌+ℤ◌, pos, w16, nat_abs, ◌≤◌, arith, ◌∙◌, ap, sym, subst, to_z-of_z}
 use Rattle.drain_mosaic.proofs.Bounds.{fits, past_edge, count, near, near_past}
 use Rattle.drain_mosaic.proofs.layout.bounds_of.Goals as goal
 

@@ -1,5 +1,4 @@
-use Rattle.std.proofs.Common.{arith, inl, inr}
-use Rattle.drain_mosaic.specs.Tiling.{Tiling}
+use Rattle.drain_mosaic.proofs.Names.{arith, inl, inr, Tiling}
 use Rattle.drain_mosaic.proofs.Agreement.{AreNamedOnce, is_some, too_large, sound}
 use Rattle.drain_mosaic.proofs.layout.box_of.Goals.{then-bounds-gt-MAX_BOX-via-then-bounds-gt-MAX_BOX, then-bounds-gt-MAX_BOX-via-else-bounds-gt-MAX_BOX+then-bounds-gt-MAX_BOX-2}
 use Rattle.drain_mosaic.proofs.layout.box_of.Goals as goal

@@ -1,6 +1,4 @@
-use Rattle.std.proofs.Common.{ℕ, ◌<◌}
-use Rattle.drain_hgt.specs.Corner.{Corner}
-use Rattle.drain_mosaic.specs.GivenTiles.{IsRepeatedAt}
+use Rattle.drain_mosaic.proofs.Names.{ℕ, ◌<◌, Corner, IsRepeatedAt}
 use Rattle.drain_mosaic.proofs.layout.first_repeated.Given as goal
 
 abbrev pub invariant-loop-i : goal.invariant-loop-i

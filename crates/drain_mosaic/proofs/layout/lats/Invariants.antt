@@ -1,6 +1,4 @@
-use Rattle.std.proofs.Common.{◌≡◌, take, map, fold, pos, get_or}
-use Rattle.std.specs.Int.{int_min, int_max}
-use Rattle.drain_hgt.specs.Corner.{IsWithin}
+use Rattle.drain_mosaic.proofs.Names.{◌≡◌, take, map, fold, pos, get_or, int_min, int_max, IsWithin}
 use Rattle.drain_mosaic.proofs.layout.lats.Given as goal
 
 abbrev pub invariant-loop-name : goal.invariant-loop-name

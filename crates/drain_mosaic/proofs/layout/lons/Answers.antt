@@ -1,7 +1,4 @@
-use Rattle.std.proofs.Common.{◌≡◌, ◌<◌, length, map, of_z, to_z, w16, arith, subst, sym, ◌∙◌}
-use Rattle.std.proofs.lemmas.List.{length-map}
-use Rattle.std.proofs.lemmas.Int.{to_z-of_z}
-use Rattle.drain_hgt.specs.Corner.{IsWithin}
+use Rattle.drain_mosaic.proofs.Names.{◌≡◌, ◌<◌, length, map, of_z, to_z, w16, arith, subst, sym, ◌∙◌, length-map, to_z-of_z, IsWithin}
 use Rattle.drain_mosaic.proofs.Bounds.{step_is, least_step, greatest_step, within_least, within_greatest}
 use Rattle.drain_mosaic.proofs.layout.lons.Goals as goal
 

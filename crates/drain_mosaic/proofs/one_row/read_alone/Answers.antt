@@ -1,6 +1,5 @@
-use Rattle.std.proofs.Common.{◌≡◌, Result, Ok, Err, IfErr, IsErrOf}
-use Rattle.drain_device.specs.declared.row_source.ReadFault.{ReadFault}
-use Rattle.drain_device.specs.declared.row_source.ReadFault.TheVariants.{ReadFailed, OutOfMemory}
+use Rattle.drain_mosaic.proofs.Names.{◌≡◌, Result, Ok, Err, IfErr, IsErrOf, ReadFault, ReadFailed}
+use Rattle.drain_device.specs.declared.row_source.ReadFault.TheVariants.{OutOfMemory}
 use Rattle.drain_mosaic.proofs.TileCalls.{read-none}
 use Rattle.drain_mosaic.proofs.one_row.read_alone.Goals as goal
 

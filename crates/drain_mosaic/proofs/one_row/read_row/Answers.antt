@@ -1,11 +1,8 @@
-use Rattle.std.proofs.Common.{◌≡◌, ◌+◌, List, None, length, get_or, Result, Ok, Err, IfOk, arith, refl, sym, ap, ◌∙◌, subst}
-use Rattle.drain_device.specs.declared.row_source.ReadFault.TheVariants.{ReadFailed}
-use Rattle.drain_grid.specs.Grid.{IsSample}
+use Rattle.drain_mosaic.proofs.Names.{◌≡◌, ◌+◌, List, length, get_or, Result, Ok, Err, IfOk, arith, refl, sym, ap, ◌∙◌, subst, ReadFailed, IsSample, ArePlacedWithin, IsPlacedAt, IsPlacedWithin, IsRowLaid, Stream}
+use Rattle.std.proofs.Common.{None}
 use Rattle.drain_mosaic.proofs.Places.{all-one, one-stream}
 use Rattle.drain_mosaic.proofs.Calls.{gone-fault, gone-more, gone-start, gone-well}
 use Rattle.drain_mosaic.proofs.Lent.{all_back, as_long, lent, lent-voids}
-use Rattle.drain_mosaic.specs.PlacedRows.{ArePlacedWithin, IsPlacedAt, IsPlacedWithin, IsRowLaid}
-use Rattle.drain_mosaic.specs.Streams.{Stream}
 use Rattle.drain_mosaic.proofs.one_row.read_row.Goals as goal
 
 -- what doesn't depend on the answer

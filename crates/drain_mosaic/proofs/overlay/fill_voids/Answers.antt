@@ -1,8 +1,5 @@
-use Rattle.std.proofs.Common.{◌≡◌, get_or, arith, sym, subst, below_more}
-use Rattle.std.proofs.lemmas.Bool.{and_from, and_parts}
+use Rattle.drain_mosaic.proofs.Names.{◌≡◌, get_or, arith, sym, subst, below_more, and_from, and_parts, VOID, Conflict, ConflictAt}
 use Rattle.std.proofs.lemmas.Grind.{common_steps}
-use Rattle.drain_grid.specs.declared.tile.TheConstants.{VOID}
-use Rattle.drain_mosaic.specs.JoinedRows.{Conflict, ConflictAt}
 use Rattle.drain_mosaic.proofs.overlay.fill_voids.Goals as goal
 
 pub loop-k-preserved : goal.loop-k-preserved

@@ -1,6 +1,4 @@
-use Rattle.std.proofs.Common.{◌≡◌, ◌↔◌, ℕ, ◌<◌, ◌≤◌, IsTrue, get_or}
-use Rattle.drain_grid.specs.declared.tile.TheConstants.{VOID}
-use Rattle.drain_mosaic.specs.JoinedRows.{ConflictAt, filled}
+use Rattle.drain_mosaic.proofs.Names.{◌≡◌, ◌↔◌, ℕ, ◌<◌, ◌≤◌, IsTrue, get_or, VOID, ConflictAt, filled}
 use Rattle.drain_mosaic.proofs.overlay.fill_voids.Given as goal
 
 -- the places so far were filled, and the others are as they were

@@ -1,5 +1,4 @@
-use Rattle.std.proofs.Common.{ℕ, ◌<◌}
-use Rattle.drain_mosaic.specs.JoinedRows.{IsRefusedAt}
+use Rattle.drain_mosaic.proofs.Names.{ℕ, ◌<◌, IsRefusedAt}
 use Rattle.drain_mosaic.proofs.overlay.first_refused.Given as goal
 
 abbrev pub invariant-loop-k : goal.invariant-loop-k

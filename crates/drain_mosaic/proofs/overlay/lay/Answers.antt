@@ -1,6 +1,4 @@
-use Rattle.std.proofs.Common.{◌≡◌, ◌≢◌, ℤ, int_eq, true, false, arith, refl, sym, ◌∙◌, subst, length}
-use Rattle.drain_grid.specs.declared.tile.TheConstants.{VOID}
-use Rattle.drain_mosaic.specs.JoinedRows.{Conflict, ConflictAt, IsLeastOf, IsRefusedAt, filled}
+use Rattle.drain_mosaic.proofs.Names.{◌≡◌, ◌≢◌, ℤ, int_eq, true, false, arith, refl, sym, ◌∙◌, subst, length, VOID, Conflict, ConflictAt, IsLeastOf, IsRefusedAt, filled}
 use Rattle.drain_mosaic.proofs.Laying.{filled-data, filled-over, isnt_int, least-same, ne_int}
 use Rattle.drain_mosaic.proofs.overlay.lay.Goals as goal
 

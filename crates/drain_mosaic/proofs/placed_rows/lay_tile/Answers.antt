@@ -1,12 +1,7 @@
-use Rattle.drain_grid.specs.Grid.{IsSample}
-use Rattle.std.proofs.lemmas.List.Elements.{All-same}
+use Rattle.drain_mosaic.proofs.Names.{IsSample, All-same, ◌≡◌, ℤ, List, [], length, arith, sym, subst, ◌∙◌, ◌⊎◌, stream_of, IsLong}
 use Rattle.drain_mosaic.proofs.RowValues.{laid-samples}
-use Rattle.std.proofs.Common.{◌≡◌, ℤ, List, [], length, arith, sym, subst, ◌∙◌}
-use Rattle.std.specs.Prelude.{◌⊎◌}
 use Rattle.drain_mosaic.proofs.Laying.{tile-laid}
 use Rattle.drain_mosaic.proofs.TileCalls.{part-fits, read-none, tile-goes}
-use Rattle.drain_mosaic.specs.PlacedRows.{stream_of}
-use Rattle.drain_device.specs.RowSteps.{IsLong}
 use Rattle.drain_mosaic.proofs.placed_rows.lay_tile.Goals as goal
 
 pub returns-then-row-tile-clause-read : goal.returns-then-row-tile-clause-read

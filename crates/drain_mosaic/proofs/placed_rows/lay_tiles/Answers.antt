@@ -1,12 +1,6 @@
 use Rattle.drain_mosaic.proofs.Places.{names-kept}
-use Rattle.std.proofs.Common.{refl, ◌≡◌, ◌<◌, arith, sym, subst, ◌∙◌, get_or, take, length, List, MatchOption, Err}
-use Rattle.std.proofs.lemmas.List.{take_all}
-use Rattle.std.proofs.lemmas.List.Elements.{All-set}
+use Rattle.drain_mosaic.proofs.Names.{refl, ◌≡◌, ◌<◌, arith, sym, subst, ◌∙◌, get_or, take, length, List, MatchOption, Err, take_all, All-set, Stream, next_stream, IsRowLaid, IsPlacedWithin, streams_of, PlacedRows, ReadFailed}
 use Rattle.drain_mosaic.proofs.Calls.{gone-start, gone-more, gone-fault, gone-well, found-more, laying-start, laying-more, streams-next, streams-len}
-use Rattle.drain_mosaic.specs.Streams.{Stream, next_stream}
-use Rattle.drain_mosaic.specs.PlacedRows.{IsRowLaid, IsPlacedWithin, streams_of}
-use Rattle.drain_mosaic.specs.declared.placed_rows.PlacedRows.{PlacedRows}
-use Rattle.drain_device.specs.declared.row_source.ReadFault.TheVariants.{ReadFailed}
 use Rattle.drain_mosaic.proofs.placed_rows.lay_tiles.Goals as goal
 
 pub loop-i-init : goal.loop-i-init

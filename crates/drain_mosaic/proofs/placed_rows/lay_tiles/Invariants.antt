@@ -1,8 +1,4 @@
-use Rattle.std.specs.List.{All}
-use Rattle.drain_grid.specs.Grid.{IsSample}
-use Rattle.std.proofs.Common.{◌≡◌, ℕ, ◌<◌, length, MatchOption}
-use Rattle.drain_hgt.specs.Inputs.{names_of}
-use Rattle.drain_mosaic.specs.PlacedRows.{ArePlacedWithin}
+use Rattle.drain_mosaic.proofs.Names.{All, IsSample, ◌≡◌, ℕ, ◌<◌, length, MatchOption, names_of, ArePlacedWithin}
 use Rattle.drain_mosaic.proofs.Calls.{Gone, Laying}
 use Rattle.drain_mosaic.proofs.placed_rows.lay_tiles.Given as goal
 

@@ -1,13 +1,8 @@
-use Rattle.std.proofs.Common.{refl, ◌≡◌, arith, sym, ap, ◌∙◌, get_or, set, Err, None, below_more, get_or-set_other, get_or-set_same}
+use Rattle.drain_mosaic.proofs.Names.{refl, ◌≡◌, arith, sym, ap, ◌∙◌, get_or, set, Err, below_more, Cell, Stream, end_stream, Coming, HasEnded, IsPlacedAt, IsPlacedWithin, stop_of, PlacedRows, ReadFailed}
+use Rattle.std.proofs.Common.{None, get_or-set_other, get_or-set_same}
 use Rattle.drain_mosaic.proofs.Places.{kept, names-kept}
 use Rattle.drain_mosaic.proofs.Calls.{ends-more, streams-next, gone-start, gone-more, gone-fault, gone-well}
 use Rattle.drain_mosaic.proofs.TileCalls.{tile-goes, ended-here, goes-unfailed, stays-no_row, stop-is}
-use Rattle.drain_grid.specs.declared.cell.Cell.{Cell}
-use Rattle.drain_mosaic.specs.Streams.{Stream, end_stream}
-use Rattle.drain_device.specs.RowSteps.{Coming}
-use Rattle.drain_mosaic.specs.PlacedRows.{HasEnded, IsPlacedAt, IsPlacedWithin, stop_of}
-use Rattle.drain_mosaic.specs.declared.placed_rows.PlacedRows.{PlacedRows}
-use Rattle.drain_device.specs.declared.row_source.ReadFault.TheVariants.{ReadFailed}
 use Rattle.drain_mosaic.proofs.placed_rows.read_ends.Goals as goal
 
 abbrev the_stream : Cell → Coming → Stream

@@ -1,10 +1,4 @@
-use Rattle.std.proofs.Common.{◌≡◌, ℕ, ◌<◌, get_or}
-use Rattle.std.specs.List.{All}
-use Rattle.drain_hgt.specs.Inputs.{names_of}
-use Rattle.drain_mosaic.specs.PlacedRows.{AreTold, ArePlacedWithin, HasEnded, IsPlacedAt, stream_of}
-use Rattle.drain_mosaic.specs.Streams.{end_stream}
-use Rattle.drain_hgt.specs.declared.input.TileInput.{TileInput}
-use Rattle.drain_mosaic.specs.declared.placed_rows.PlacedRows.{PlacedRows}
+use Rattle.drain_mosaic.proofs.Names.{◌≡◌, ℕ, ◌<◌, get_or, All, names_of, AreTold, ArePlacedWithin, HasEnded, IsPlacedAt, stream_of, end_stream, TileInput, PlacedRows}
 use Rattle.drain_mosaic.proofs.Calls.{Gone}
 use Rattle.drain_mosaic.proofs.placed_rows.read_ends.Given as goal
 

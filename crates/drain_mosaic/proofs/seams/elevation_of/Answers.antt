@@ -1,8 +1,4 @@
-use Rattle.std.proofs.Common.{◌*◌, ◌+◌, length, map, sym, ap, ◌∙◌, subst, arith}
-use Rattle.drain_grid.specs.Grid.{Heights}
-use Rattle.drain_grid.specs.WholeGrid.{elevation_at}
-use Rattle.drain_mosaic.specs.Tiling.{extent_of}
-use Rattle.drain_mosaic.specs.Mosaic.{tiles_of, IsElevation}
+use Rattle.drain_mosaic.proofs.Names.{◌*◌, ◌+◌, length, map, sym, ap, ◌∙◌, subst, arith, Heights, elevation_at, extent_of, tiles_of, IsElevation}
 use Rattle.drain_mosaic.proofs.Rows.{row_inside, rows_step, length_cut, tiles_agree, is_elevation, first_seam}
 use Rattle.drain_mosaic.proofs.seams.elevation_of.Goals as goal
 

@@ -1,7 +1,4 @@
-use Rattle.std.proofs.Common.{◌≡◌, ◌*◌, length, map}
-use Rattle.drain_mosaic.specs.Tiling.{extent_of}
-use Rattle.drain_mosaic.specs.Mosaic.{tiles_of}
-use Rattle.drain_mosaic.specs.JoinedRows.{AreJoinedRows}
+use Rattle.drain_mosaic.proofs.Names.{◌≡◌, ◌*◌, length, map, extent_of, tiles_of, AreJoinedRows}
 use Rattle.drain_mosaic.proofs.seams.elevation_of.Given as goal
 
 abbrev pub invariant-loop-row : goal.invariant-loop-row

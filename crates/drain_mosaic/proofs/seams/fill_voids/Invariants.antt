@@ -1,6 +1,4 @@
-use Rattle.std.proofs.Common.{◌≡◌, ℕ, ◌<◌, ◌≤◌, get_or}
-use Rattle.drain_grid.specs.declared.tile.TheConstants.{VOID}
-use Rattle.drain_mosaic.specs.JoinedRows.{filled}
+use Rattle.drain_mosaic.proofs.Names.{◌≡◌, ℕ, ◌<◌, ◌≤◌, get_or, VOID, filled}
 use Rattle.drain_mosaic.proofs.seams.fill_voids.Given as goal
 
 abbrev pub invariant-loop-k : goal.invariant-loop-k

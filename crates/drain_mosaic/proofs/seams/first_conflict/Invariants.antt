@@ -1,5 +1,4 @@
-use Rattle.std.proofs.Common.{ℕ, ◌<◌}
-use Rattle.drain_mosaic.specs.JoinedRows.{ConflictAt}
+use Rattle.drain_mosaic.proofs.Names.{ℕ, ◌<◌, ConflictAt}
 use Rattle.drain_mosaic.proofs.seams.first_conflict.Given as goal
 
 abbrev pub invariant-loop-k : goal.invariant-loop-k

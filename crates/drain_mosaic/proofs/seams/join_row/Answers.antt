@@ -1,7 +1,4 @@
-use Rattle.std.proofs.Common.{◌≡◌, ◌*◌, [], map, length, take, arith, sym, ap, ◌∙◌, subst}
-use Rattle.std.proofs.lemmas.List.{length-map, take_all}
-use Rattle.drain_mosaic.specs.Mosaic.{tiles_of}
-use Rattle.drain_mosaic.specs.JoinedRows.{IsJoinedRow}
+use Rattle.drain_mosaic.proofs.Names.{◌≡◌, ◌*◌, [], map, length, take, arith, sym, ap, ◌∙◌, subst, length-map, take_all, tiles_of, IsJoinedRow}
 use Rattle.drain_mosaic.proofs.TileRows.{item_at, length-tiles_of, tile_step}
 use Rattle.drain_mosaic.proofs.seams.join_row.Goals as goal
 

@@ -1,6 +1,4 @@
-use Rattle.std.proofs.Common.{map, take}
-use Rattle.drain_mosaic.specs.Mosaic.{tiles_of}
-use Rattle.drain_mosaic.specs.JoinedRows.{IsJoinedRow}
+use Rattle.drain_mosaic.proofs.Names.{map, take, tiles_of, IsJoinedRow}
 use Rattle.drain_mosaic.proofs.seams.join_row.Given as goal
 
 abbrev pub invariant-loop-i : goal.invariant-loop-i

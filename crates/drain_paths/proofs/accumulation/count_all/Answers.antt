@@ -1,13 +1,5 @@
-use Rattle.std.proofs.Common.{◌≢◌, ◌∙◌, inl, inr, ◌++◌, take, drop, get_or, length, sym, ap, subst, arith, rules}
-use Rattle.std.proofs.lemmas.Bool.{cases_order}
-use Rattle.std.proofs.lemmas.List.{length-map}
-use Rattle.drain_grid.specs.Extent.{index_of}
-use Rattle.drain_grid.proofs.Runs.{index_of-below}
-use Rattle.drain_grid.proofs.Alike.{in_grid}
-use Rattle.drain_grid.proofs.Tallies.{lent_back}
+use Rattle.drain_paths.proofs.Names.{◌≢◌, ◌∙◌, inl, inr, ◌++◌, take, drop, get_or, length, sym, ap, subst, arith, rules, cases_order, length-map, index_of, index_of-below, in_grid, lent_back, cell_number, one_of, IsPassing}
 use Rattle.drain_paths.specs.declared.flow.Flow.TheVariants.{Void}
-use Rattle.drain_paths.specs.CellNumbers.{cell_number, one_of}
-use Rattle.drain_paths.specs.Inflows.{IsPassing}
 use Rattle.drain_paths.proofs.FlowCells.{flow_of_data}
 use Rattle.drain_paths.proofs.PassingLemmas.{IsPassing-start, counts_whole}
 use Rattle.drain_paths.proofs.accumulation.count_all.Goals as goal

@@ -1,11 +1,6 @@
 -- Counts are passed on, and each cell so far waits for an inflow or has passed on.
-use Rattle.std.proofs.Common.{◌≡◌, ◌≢◌, ◌<◌, ◌*◌, length}
-use Rattle.drain_grid.specs.declared.cell.Cell.{Cell}
-use Rattle.drain_grid.specs.Extent.{IsCellOf, index_of}
+use Rattle.drain_paths.proofs.Names.{◌≡◌, ◌≢◌, ◌<◌, ◌*◌, length, Cell, IsCellOf, index_of, flow_at, OfFlows, cell_number, IsPassing}
 use Rattle.drain_paths.specs.declared.flow.Flow.TheVariants.{Void}
-use Rattle.drain_paths.specs.Flows.{flow_at, OfFlows}
-use Rattle.drain_paths.specs.CellNumbers.{cell_number}
-use Rattle.drain_paths.specs.Inflows.{IsPassing}
 use Rattle.drain_paths.proofs.accumulation.count_all.Given as goal
 
 abbrev pub invariant-loop-place : goal.invariant-loop-place

@@ -1,6 +1,4 @@
-use Rattle.std.proofs.Common.{sym, subst}
-use Rattle.drain_paths.specs.Inflows.{AreInflows}
-use Rattle.drain_grid.proofs.Tallies.{lent_back}
+use Rattle.drain_paths.proofs.Names.{sym, subst, AreInflows, lent_back}
 use Rattle.drain_paths.proofs.accumulation.inflows.Goals as goal
 
 pub returns-clause-inflows : goal.returns-clause-inflows

@@ -1,7 +1,6 @@
-use Rattle.std.proofs.Common.{◌≡◌, ◌≢◌, ◌<◌, ◌+◌, ◌-◌, ◌∙◌, get_or, set, get_or-set_other, get_or-set_same, below_more, length, ap, arith}
+use Rattle.drain_paths.proofs.Names.{◌≡◌, ◌≢◌, ◌<◌, ◌+◌, ◌-◌, ◌∙◌, get_or, set, get_or-set_other, get_or-set_same, below_more, length, ap, arith, byte_flow}
 use Rattle.std.proofs.lemmas.List.{length-set}
 use Rattle.drain_paths.specs.declared.flow.Flow.TheVariants.{Void}
-use Rattle.drain_paths.specs.Flows.{byte_flow}
 use Rattle.drain_paths.proofs.accumulation.lay_codes.Goals as goal
 
 pub loop-k-preserved : goal.loop-k-preserved

@@ -1,8 +1,6 @@
 -- The codes so far, between two voids.
-use Rattle.std.proofs.Common.{◌≡◌, ℕ, ◌<◌, ◌+◌, length, slice_index, slice_index_or}
+use Rattle.drain_paths.proofs.Names.{◌≡◌, ℕ, ◌<◌, ◌+◌, length, slice_index, slice_index_or, NO_CODE, byte_flow}
 use Rattle.drain_paths.specs.declared.flow.Flow.TheVariants.{Void}
-use Rattle.drain_paths.specs.declared.flow.TheConstants.{NO_CODE}
-use Rattle.drain_paths.specs.Flows.{byte_flow}
 use Rattle.drain_paths.proofs.accumulation.lay_codes.Given as goal
 
 abbrev pub invariant-loop-k : goal.invariant-loop-k

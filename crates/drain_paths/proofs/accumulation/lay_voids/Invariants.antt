@@ -1,6 +1,5 @@
 -- The voids so far.
-use Rattle.std.proofs.Common.{◌≡◌, ℕ, ◌<◌, length, slice_index}
-use Rattle.drain_paths.specs.declared.flow.TheConstants.{NO_CODE}
+use Rattle.drain_paths.proofs.Names.{◌≡◌, ℕ, ◌<◌, length, slice_index, NO_CODE}
 use Rattle.drain_paths.proofs.accumulation.lay_voids.Given as goal
 
 abbrev pub invariant-loop-k : goal.invariant-loop-k

@@ -1,7 +1,6 @@
 -- The cells so far have theirs.
-use Rattle.std.proofs.Common.{◌≡◌, ◌<◌, ◌*◌, ℕ, length, get_or}
+use Rattle.drain_paths.proofs.Names.{◌≡◌, ◌<◌, ◌*◌, ℕ, length, get_or, one_of}
 use Rattle.drain_paths.specs.declared.flow.Flow.TheVariants.{Void}
-use Rattle.drain_paths.specs.CellNumbers.{one_of}
 use Rattle.drain_paths.proofs.accumulation.ones.Given as goal
 
 abbrev pub invariant-loop-place : goal.invariant-loop-place

@@ -1,10 +1,5 @@
-use Rattle.std.proofs.Common.{◌≡◌, ◌≢◌, ◌<◌, ◌∙◌, get_or, arith, rules, sym, ap, subst}
-use Rattle.drain_grid.proofs.Runs.{cell_at}
-use Rattle.drain_paths.specs.declared.accumulation.TheConstants.{DONE}
-use Rattle.drain_paths.specs.declared.flow.Flow.TheVariants.{Void, Ends}
-use Rattle.drain_paths.specs.CellNumbers.{cell_number}
-use Rattle.drain_paths.specs.Flows.{direction_of, flow_at}
-use Rattle.drain_paths.specs.Inflows.{IsPassedOn}
+use Rattle.drain_paths.proofs.Names.{◌≡◌, ◌≢◌, ◌<◌, ◌∙◌, get_or, arith, rules, sym, ap, subst, cell_at, DONE, Ends, cell_number, direction_of, flow_at, IsPassedOn}
+use Rattle.drain_paths.specs.declared.flow.Flow.TheVariants.{Void}
 use Rattle.drain_paths.proofs.CellPlaces.{IsPassedOn-set, IsPutAt-set, cell_of_place}
 use Rattle.drain_paths.proofs.FlowCells.{data_at, leads_nowhere}
 use Rattle.drain_paths.proofs.PassingLemmas.{IsPassing-last, IsPassing-on, flow_apart, flow_fits, flow_shorter, flow_some, stays_ahead}

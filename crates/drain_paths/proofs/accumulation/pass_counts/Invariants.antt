@@ -1,13 +1,6 @@
 -- Counts are passed on, and only this cell may wait for no inflow without having passed on.
-use Rattle.std.proofs.Common.{◌≡◌, ◌≢◌, ◌*◌, ◌<◌, length, get_or}
-use Rattle.drain_grid.specs.declared.cell.Cell.{Cell}
-use Rattle.drain_grid.specs.Unranked.{run_steps}
-use Rattle.drain_grid.specs.Extent.{IsCellOf}
-use Rattle.drain_grid.proofs.Runs.{cell_at}
+use Rattle.drain_paths.proofs.Names.{◌≡◌, ◌≢◌, ◌*◌, ◌<◌, length, get_or, Cell, run_steps, IsCellOf, cell_at, OfFlows, cell_number, IsPassing, StaysAway}
 use Rattle.drain_paths.specs.declared.flow.Flow.TheVariants.{Void}
-use Rattle.drain_paths.specs.Flows.{OfFlows}
-use Rattle.drain_paths.specs.CellNumbers.{cell_number}
-use Rattle.drain_paths.specs.Inflows.{IsPassing, StaysAway}
 use Rattle.drain_paths.proofs.GridFlows.{grid_of_flows, products_of_flows}
 use Rattle.drain_paths.proofs.accumulation.pass_counts.Given as goal
 

@@ -1,6 +1,5 @@
 -- The inflows so far.
-use Rattle.std.proofs.Common.{◌≡◌, ℕ, ◌<◌, ◌+◌, length, slice_index}
-use Rattle.drain_paths.specs.Inflows.{inflow_at}
+use Rattle.drain_paths.proofs.Names.{◌≡◌, ℕ, ◌<◌, ◌+◌, length, slice_index, inflow_at}
 use Rattle.drain_paths.proofs.accumulation.put_inflows.Given as goal
 
 abbrev pub invariant-loop-k : goal.invariant-loop-k

@@ -1,10 +1,6 @@
 -- The cell that the walk reached has data and the label of the start.
-use Rattle.std.proofs.Common.{◌≡◌, ◌≢◌, ◌<◌, ◌*◌, get_or}
-use Rattle.drain_grid.specs.Unranked.{run_steps}
-use Rattle.drain_grid.proofs.Runs.{cell_at}
+use Rattle.drain_paths.proofs.Names.{◌≡◌, ◌≢◌, ◌<◌, ◌*◌, get_or, run_steps, cell_at, basin_label, OfFlows}
 use Rattle.drain_paths.specs.declared.flow.Flow.TheVariants.{Void}
-use Rattle.drain_paths.specs.Basins.{basin_label}
-use Rattle.drain_paths.specs.Flows.{OfFlows}
 use Rattle.drain_paths.proofs.GridFlows.{grid_of_flows, products_of_flows}
 use Rattle.drain_paths.proofs.basins.label_ahead.Given as goal
 

@@ -1,8 +1,4 @@
-use Rattle.std.proofs.Common.{subst, sym}
-use Rattle.drain_grid.proofs.Tallies.{lent_back}
-use Rattle.drain_paths.specs.Basins.{basin_label}
-use Rattle.drain_paths.specs.CellNumbers.{AreNumbers, AreNumbersSoFar}
-use Rattle.drain_paths.specs.Flows.{AreFlowsOf}
+use Rattle.drain_paths.proofs.Names.{subst, sym, lent_back, basin_label, AreNumbers, AreNumbersSoFar, AreFlowsOf}
 use Rattle.drain_paths.proofs.LabelLemmas.{AreBasinLabels-all, AreNumbersSoFar-ends}
 use Rattle.drain_paths.proofs.basins.label_all.Goals as goal
 

@@ -1,7 +1,4 @@
-use Rattle.std.proofs.Common.{arith}
-use Rattle.drain_grid.proofs.Alike.{in_grid}
-use Rattle.drain_grid.proofs.Runs.{index_of-below}
-use Rattle.drain_paths.specs.Basins.{basin_label}
+use Rattle.drain_paths.proofs.Names.{arith, in_grid, index_of-below, basin_label}
 use Rattle.drain_paths.proofs.FlowCells.{flow_of_data}
 use Rattle.drain_paths.proofs.NumbersSoFar.{AreNumbers-all}
 use Rattle.drain_paths.proofs.basins.label_runs.Goals as goal

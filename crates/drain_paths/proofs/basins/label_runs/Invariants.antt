@@ -1,11 +1,6 @@
 -- The labels so far are right, and each cell that was passed has one.
-use Rattle.std.proofs.Common.{◌≡◌, ◌≢◌, ◌<◌, ◌*◌, length}
-use Rattle.drain_grid.specs.declared.cell.Cell.{Cell}
-use Rattle.drain_grid.specs.Extent.{IsCellOf, index_of}
+use Rattle.drain_paths.proofs.Names.{◌≡◌, ◌≢◌, ◌<◌, ◌*◌, length, Cell, IsCellOf, index_of, basin_label, AreNumbersSoFar, cell_number, OfFlows, flow_at}
 use Rattle.drain_paths.specs.declared.flow.Flow.TheVariants.{Void}
-use Rattle.drain_paths.specs.Basins.{basin_label}
-use Rattle.drain_paths.specs.CellNumbers.{AreNumbersSoFar, cell_number}
-use Rattle.drain_paths.specs.Flows.{OfFlows, flow_at}
 use Rattle.drain_paths.proofs.basins.label_runs.Given as goal
 
 abbrev pub invariant-loop-place : goal.invariant-loop-place

@@ -1,8 +1,5 @@
-use Rattle.std.proofs.Common.{◌≡◌, ◌≢◌, ◌+◌, ◌∙◌, get_or, sym, ap, subst, rules}
-use Rattle.drain_grid.specs.Extent.{IsCellOf, Extent}
-use Rattle.drain_grid.specs.Grid.{IsInside}
-use Rattle.drain_grid.proofs.Runs.{cell_at}
-use Rattle.drain_paths.specs.declared.flow.Flow.TheVariants.{Void, Ends}
+use Rattle.drain_paths.proofs.Names.{◌≡◌, ◌≢◌, ◌+◌, ◌∙◌, get_or, sym, ap, subst, rules, IsCellOf, Extent, IsInside, cell_at, Ends}
+use Rattle.drain_paths.specs.declared.flow.Flow.TheVariants.{Void}
 use Rattle.drain_paths.proofs.CellPlaces.{cell_of_place, IsPutAt-set}
 use Rattle.drain_paths.proofs.FlowCells.{data_at, flow_of_zero, zero_of_flow}
 use Rattle.drain_paths.proofs.LabelLemmas.{AreEndLabels-past, AreEndLabels-put}

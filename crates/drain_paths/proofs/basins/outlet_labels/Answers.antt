@@ -1,7 +1,4 @@
-use Rattle.std.proofs.Common.{◌≡◌, ◌+◌, ◌*◌, ◌∙◌, get_or, length, sym, ap, subst, arith, rules}
-use Rattle.drain_grid.specs.Extent.{index_of}
-use Rattle.drain_grid.proofs.Tallies.{lent_back}
-use Rattle.drain_paths.specs.Basins.{AreEndLabels}
+use Rattle.drain_paths.proofs.Names.{◌≡◌, ◌+◌, ◌*◌, ◌∙◌, get_or, length, sym, ap, subst, arith, rules, index_of, lent_back, AreEndLabels}
 use Rattle.drain_paths.proofs.CellPlaces.{zeros_read}
 use Rattle.drain_paths.proofs.LabelLemmas.{AreEndLabels-none}
 use Rattle.drain_paths.proofs.basins.outlet_labels.Goals as goal

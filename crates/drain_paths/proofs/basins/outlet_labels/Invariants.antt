@@ -1,7 +1,5 @@
 -- The outlets so far are numbered.
-use Rattle.std.proofs.Common.{◌≡◌, ◌≤◌, ◌*◌, length}
-use Rattle.drain_paths.specs.Flows.{OfFlows}
-use Rattle.drain_paths.specs.Basins.{AreEndLabels}
+use Rattle.drain_paths.proofs.Names.{◌≡◌, ◌≤◌, ◌*◌, length, OfFlows, AreEndLabels}
 use Rattle.drain_paths.proofs.basins.outlet_labels.Given as goal
 
 abbrev pub invariant-loop-place : goal.invariant-loop-place

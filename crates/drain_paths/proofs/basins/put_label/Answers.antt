@@ -1,7 +1,4 @@
-use Rattle.std.proofs.Common.{◌≡◌, ◌≢◌, ◌∙◌, ◌⊎◌, inl, inr, get_or, set, rules, sym, ap}
-use Rattle.drain_grid.proofs.Runs.{cell_at}
-use Rattle.drain_paths.specs.Basins.{basin_label}
-use Rattle.drain_paths.specs.CellNumbers.{IsPutAt, cell_number}
+use Rattle.drain_paths.proofs.Names.{◌≡◌, ◌≢◌, ◌∙◌, ◌⊎◌, inl, inr, get_or, set, rules, sym, ap, cell_at, basin_label, IsPutAt, cell_number}
 use Rattle.drain_paths.proofs.CellPlaces.{IsPutAt-set, cell_of_place}
 use Rattle.drain_paths.proofs.EndedLabels.{data_there, same_label, shorter_there, unlabelled_on}
 use Rattle.drain_paths.proofs.NumbersSoFar.{AreNumbersSoFar-put, known_put}

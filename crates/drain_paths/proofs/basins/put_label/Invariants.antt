@@ -1,13 +1,6 @@
 -- The labels so far are right, the cells that were passed have one, and this is that of the cell that the walk reached.
-use Rattle.std.proofs.Common.{◌≡◌, ◌≢◌, ◌<◌, ◌*◌, ◌⊎◌, get_or, length}
-use Rattle.drain_grid.specs.declared.cell.Cell.{Cell}
-use Rattle.drain_grid.specs.Extent.{IsCellOf}
-use Rattle.drain_grid.specs.Unranked.{run_steps}
-use Rattle.drain_grid.proofs.Runs.{cell_at}
+use Rattle.drain_paths.proofs.Names.{◌≡◌, ◌≢◌, ◌<◌, ◌*◌, ◌⊎◌, get_or, length, Cell, IsCellOf, run_steps, cell_at, basin_label, AreNumbersSoFar, cell_number, OfFlows}
 use Rattle.drain_paths.specs.declared.flow.Flow.TheVariants.{Void}
-use Rattle.drain_paths.specs.Basins.{basin_label}
-use Rattle.drain_paths.specs.CellNumbers.{AreNumbersSoFar, cell_number}
-use Rattle.drain_paths.specs.Flows.{OfFlows}
 use Rattle.drain_paths.proofs.GridFlows.{grid_of_flows, products_of_flows}
 use Rattle.drain_paths.proofs.basins.put_label.Given as goal
 

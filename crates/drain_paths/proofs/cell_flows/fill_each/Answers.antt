@@ -1,8 +1,5 @@
-use Rattle.std.proofs.Common.{◌<◌, ◌∙◌, None, ap, get_or, length, of_z, rules, to_z, w64}
+use Rattle.drain_paths.proofs.Names.{◌<◌, ◌∙◌, None, ap, get_or, length, of_z, rules, to_z, w64, length-map, elevations, height_with, cell_flow}
 use Rattle.std.proofs.lemmas.Int.{to_z-of_z}
-use Rattle.std.proofs.lemmas.List.{length-map}
-use Rattle.drain_pixels.specs.Ground.{elevations, height_with}
-use Rattle.drain_paths.specs.Flows.{cell_flow}
 use Rattle.drain_paths.proofs.RowFlows.{flows_more, flows_filled, height-kept}
 use Rattle.drain_paths.proofs.cell_flows.fill_each.Goals as goal
 

@@ -1,7 +1,5 @@
 -- The codes of the cells that were passed have their flows.
-use Rattle.std.proofs.Common.{◌≡◌, ◌<◌, ℕ, get_or}
-use Rattle.drain_pixels.specs.Ground.{elevations}
-use Rattle.drain_paths.specs.Flows.{byte_flow}
+use Rattle.drain_paths.proofs.Names.{◌≡◌, ◌<◌, ℕ, get_or, elevations, byte_flow}
 use Rattle.drain_paths.proofs.RowFlows.{place_flow}
 use Rattle.drain_paths.proofs.cell_flows.fill_each.Given as goal
 

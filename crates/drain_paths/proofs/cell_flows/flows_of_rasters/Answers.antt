@@ -1,8 +1,5 @@
-use Rattle.std.proofs.Common.{◌*◌, ◌∙◌, ap, length-set, refl, subst, sym, arith}
-use Rattle.drain_grid.specs.Extent.{IsCellOf, index_of, Extent}
-use Rattle.drain_grid.specs.WholeGrid.{elevation_at, number_at}
-use Rattle.drain_grid.proofs.Runs.{index_of-below}
-use Rattle.drain_paths.specs.Flows.{cell_flow}
+use Rattle.drain_paths.proofs.Names.{◌*◌, ◌∙◌, ap, refl, subst, sym, arith, IsCellOf, index_of, Extent, elevation_at, number_at, index_of-below, cell_flow}
+use Rattle.std.proofs.Common.{length-set}
 use Rattle.drain_paths.proofs.GridFlows.{HaveFlows-more}
 use Rattle.drain_paths.proofs.cell_flows.flows_of_rasters.Goals as goal
 

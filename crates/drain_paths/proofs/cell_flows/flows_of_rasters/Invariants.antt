@@ -1,7 +1,5 @@
 -- The cells so far have their flows.
-use Rattle.std.proofs.Common.{◌≡◌, ◌*◌, length}
-use Rattle.drain_grid.specs.WholeGrid.{elevation_at, number_at}
-use Rattle.drain_paths.specs.Flows.{cell_flow}
+use Rattle.drain_paths.proofs.Names.{◌≡◌, ◌*◌, length, elevation_at, number_at, cell_flow}
 use Rattle.drain_paths.proofs.GridFlows.{HaveFlows}
 use Rattle.drain_paths.proofs.cell_flows.flows_of_rasters.Given as goal
 

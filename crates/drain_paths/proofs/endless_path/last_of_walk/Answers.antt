@@ -1,6 +1,4 @@
-use Rattle.std.proofs.Common.{◌∙◌, ◌*◌, inl, inr, sym, ap, arith}
-use Rattle.drain_grid.specs.Extent.{Extent}
-use Rattle.drain_paths.specs.EndlessPaths.{cell_after}
+use Rattle.drain_paths.proofs.Names.{◌∙◌, ◌*◌, inl, inr, sym, ap, arith, Extent, cell_after}
 use Rattle.drain_paths.proofs.EndlessSteps.{come-more, come-none, reached-after}
 use Rattle.drain_paths.proofs.Rings.{ends-after}
 use Rattle.drain_paths.proofs.endless_path.last_of_walk.Goals as goal

@@ -1,7 +1,5 @@
 -- The walk has led to a data cell, in as many steps as were counted.
-use Rattle.drain_grid.specs.Extent.{IsCellOf}
-use Rattle.drain_grid.specs.Grid.{Grid, Products, HasData}
-use Rattle.drain_paths.specs.Walks.{AreKnownFlows}
+use Rattle.drain_paths.proofs.Names.{IsCellOf, Grid, Products, HasData, AreKnownFlows}
 use Rattle.drain_paths.proofs.EndlessSteps.{HasCome}
 use Rattle.drain_paths.proofs.endless_path.last_of_walk.Given as goal
 

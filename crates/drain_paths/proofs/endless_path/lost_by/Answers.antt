@@ -1,6 +1,4 @@
-use Rattle.std.proofs.Common.{inl, sym, subst, rules}
-use Rattle.drain_grid.specs.Extent.{IsCellOf, Extent}
-use Rattle.drain_grid.specs.Grid.{IsInside}
+use Rattle.drain_paths.proofs.Names.{inl, sym, subst, rules, IsCellOf, Extent, IsInside}
 use Rattle.drain_paths.proofs.KnownWays.{known_at, leads_on}
 use Rattle.drain_paths.proofs.endless_path.lost_by.Goals as goal
 

@@ -1,10 +1,5 @@
 -- The walk hasn't come back, and the cells that it passed are in the list.
-use Rattle.std.proofs.Common.{◌≡◌, length}
-use Rattle.std.specs.Prelude.{min}
-use Rattle.drain_grid.specs.Extent.{IsCellOf}
-use Rattle.drain_grid.specs.Grid.{Grid, Products, HasData}
-use Rattle.drain_paths.specs.Walks.{AreKnownFlows}
-use Rattle.drain_paths.specs.declared.endless_path.TheConstants.{RING_TOLD}
+use Rattle.drain_paths.proofs.Names.{◌≡◌, length, min, IsCellOf, Grid, Products, HasData, AreKnownFlows, RING_TOLD}
 use Rattle.drain_paths.proofs.EndlessSteps.{ArePassed, HasWalked}
 use Rattle.drain_paths.proofs.endless_path.ring_from.Given as goal
 

@@ -1,7 +1,6 @@
-use Rattle.std.proofs.Common.{◌≡◌, ◌≢◌, ◌<◌, ◌∙◌, length, get_or, set, get_or-set_other, get_or-set_same, below_more, sym, arith}
-use Rattle.std.proofs.lemmas.List.{ext_get_or, get_or-map, length-map, length-set}
+use Rattle.drain_paths.proofs.Names.{◌≡◌, ◌≢◌, ◌<◌, ◌∙◌, length, get_or, set, get_or-set_other, get_or-set_same, below_more, sym, arith, ext_get_or, get_or-map, length-map, byte_flow, bytes_flows}
+use Rattle.std.proofs.lemmas.List.{length-set}
 use Rattle.drain_paths.specs.declared.flow.Flow.TheVariants.{Void}
-use Rattle.drain_paths.specs.Flows.{byte_flow, bytes_flows}
 use Rattle.drain_paths.proofs.flow.flows_of_codes.Goals as goal
 
 pub loop-place-preserved : goal.loop-place-preserved

@@ -1,7 +1,6 @@
 -- The codes so far have their flows.
-use Rattle.std.proofs.Common.{◌≡◌, ◌<◌, ℕ, length, get_or}
+use Rattle.drain_paths.proofs.Names.{◌≡◌, ◌<◌, ℕ, length, get_or, byte_flow}
 use Rattle.drain_paths.specs.declared.flow.Flow.TheVariants.{Void}
-use Rattle.drain_paths.specs.Flows.{byte_flow}
 use Rattle.drain_paths.proofs.flow.flows_of_codes.Given as goal
 
 abbrev pub invariant-loop-place : goal.invariant-loop-place

@@ -1,7 +1,6 @@
 -- The codes so far have the offsets of their flows.
-use Rattle.std.proofs.Common.{◌≡◌, ◌<◌, ℕ, get_or, length}
+use Rattle.drain_paths.proofs.Names.{◌≡◌, ◌<◌, ℕ, get_or, length, lane_of}
 use Rattle.drain_paths.specs.declared.flow.Flow.TheVariants.{Void}
-use Rattle.drain_paths.specs.Places.{lane_of}
 use Rattle.drain_paths.proofs.places.code_offsets.Given as goal
 
 abbrev pub invariant-loop-code : goal.invariant-loop-code

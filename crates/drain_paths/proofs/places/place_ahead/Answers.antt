@@ -1,6 +1,5 @@
-use Rattle.std.proofs.Common.{◌+◌, ◌-◌, ap, arith, get_or}
+use Rattle.drain_paths.proofs.Names.{◌+◌, ◌-◌, ap, arith, get_or, IsOffset}
 use Rattle.drain_paths.specs.declared.flow.Flow.TheVariants.{Void}
-use Rattle.drain_paths.specs.Places.{IsOffset}
 use Rattle.drain_paths.proofs.PlacesAhead.{cols_few, few_on, goes_on_to, not_below}
 use Rattle.drain_paths.proofs.places.place_ahead.Goals as goal
 

@@ -1,8 +1,4 @@
-use Rattle.std.proofs.Common.{subst, sym}
-use Rattle.drain_grid.proofs.Tallies.{lent_back}
-use Rattle.drain_grid.specs.Unranked.{run_steps}
-use Rattle.drain_paths.specs.declared.walk.TheConstants.{UNKNOWN}
-use Rattle.drain_paths.specs.CellNumbers.{AreNumbers, AreNumbersSoFar}
+use Rattle.drain_paths.proofs.Names.{subst, sym, lent_back, run_steps, UNKNOWN, AreNumbers, AreNumbersSoFar}
 use Rattle.drain_paths.proofs.StepLemmas.{AreNumbersSoFar-first}
 use Rattle.drain_paths.proofs.walk.count_steps.Goals as goal
 

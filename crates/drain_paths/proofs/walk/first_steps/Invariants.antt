@@ -1,7 +1,6 @@
 -- The cells so far have theirs.
-use Rattle.std.proofs.Common.{◌≡◌, ◌<◌, ℕ, length, get_or}
+use Rattle.drain_paths.proofs.Names.{◌≡◌, ◌<◌, ℕ, length, get_or, first_step}
 use Rattle.drain_paths.specs.declared.flow.Flow.TheVariants.{Void}
-use Rattle.drain_paths.specs.Walks.{first_step}
 use Rattle.drain_paths.proofs.walk.first_steps.Given as goal
 
 abbrev pub invariant-loop-place : goal.invariant-loop-place

@@ -1,6 +1,4 @@
-use Rattle.std.proofs.Common.{◌≡◌, ◌≢◌, ◌∙◌, subst, sym, arith}
-use Rattle.drain_grid.proofs.Walks.{IsWalk-more, IsWalk-endless}
-use Rattle.drain_paths.specs.CellNumbers.{cell_number}
+use Rattle.drain_paths.proofs.Names.{◌≡◌, ◌≢◌, ◌∙◌, subst, sym, arith, IsWalk-more, IsWalk-endless, cell_number}
 use Rattle.drain_paths.proofs.FlowCells.{data_at}
 use Rattle.drain_paths.proofs.FlowWalks.{too_far}
 use Rattle.drain_paths.proofs.NumbersSoFar.{endless_here, numbered_at}

@@ -1,9 +1,6 @@
 -- These steps lead from the start to here, a data cell.
-use Rattle.std.proofs.Common.{◌≡◌, ◌≢◌}
-use Rattle.drain_grid.specs.Extent.{IsCellOf}
-use Rattle.drain_grid.proofs.Walks.{IsWalk}
+use Rattle.drain_paths.proofs.Names.{◌≡◌, ◌≢◌, IsCellOf, IsWalk, flow_at, OfFlows}
 use Rattle.drain_paths.specs.declared.flow.Flow.TheVariants.{Void}
-use Rattle.drain_paths.specs.Flows.{flow_at, OfFlows}
 use Rattle.drain_paths.proofs.walk.number_ahead.Given as goal
 
 abbrev pub invariant-loop-steps : goal.invariant-loop-steps

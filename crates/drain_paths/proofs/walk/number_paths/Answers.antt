@@ -1,8 +1,4 @@
-use Rattle.std.proofs.Common.{◌≢◌, inl, inr, get_or, sym, subst, arith, rules}
-use Rattle.std.proofs.lemmas.Bool.{cases_order}
-use Rattle.drain_grid.specs.Extent.{index_of}
-use Rattle.drain_grid.proofs.Alike.{in_grid}
-use Rattle.drain_grid.proofs.Runs.{index_of-below}
+use Rattle.drain_paths.proofs.Names.{◌≢◌, inl, inr, get_or, sym, subst, arith, rules, cases_order, index_of, in_grid, index_of-below}
 use Rattle.drain_paths.specs.declared.flow.Flow.TheVariants.{Void}
 use Rattle.drain_paths.proofs.FlowCells.{flow_of_data}
 use Rattle.drain_paths.proofs.NumbersSoFar.{AreNumbers-all, first_endless}

@@ -1,10 +1,6 @@
 -- All known numbers are right, and the data cells so far have one.
-use Rattle.std.proofs.Common.{◌≡◌, ◌≢◌, ◌<◌, ◌*◌, length}
-use Rattle.drain_grid.specs.declared.cell.Cell.{Cell}
-use Rattle.drain_grid.specs.Extent.{IsCellOf, index_of}
+use Rattle.drain_paths.proofs.Names.{◌≡◌, ◌≢◌, ◌<◌, ◌*◌, length, Cell, IsCellOf, index_of, cell_number, AreNumbersSoFar, flow_at, OfFlows}
 use Rattle.drain_paths.specs.declared.flow.Flow.TheVariants.{Void}
-use Rattle.drain_paths.specs.CellNumbers.{cell_number, AreNumbersSoFar}
-use Rattle.drain_paths.specs.Flows.{flow_at, OfFlows}
 use Rattle.drain_paths.proofs.walk.number_paths.Given as goal
 
 abbrev pub invariant-loop-place : goal.invariant-loop-place

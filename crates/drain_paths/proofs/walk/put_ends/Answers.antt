@@ -1,5 +1,4 @@
-use Rattle.std.proofs.Common.{rules, sym, subst}
-use Rattle.drain_paths.specs.Walks.{AreKnownFlows}
+use Rattle.drain_paths.proofs.Names.{rules, sym, subst, AreKnownFlows}
 use Rattle.drain_paths.proofs.KnownWays.{AreKnownFlows-put}
 use Rattle.drain_paths.proofs.Shorter.{IsEnded-next}
 use Rattle.drain_paths.proofs.walk.put_ends.Goals as goal

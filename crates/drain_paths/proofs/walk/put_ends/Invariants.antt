@@ -1,9 +1,5 @@
 -- The flows are known, and the run of this cell ends.
-use Rattle.std.proofs.Common.{◌≡◌, ◌*◌, length}
-use Rattle.drain_grid.specs.Extent.{IsCellOf}
-use Rattle.drain_grid.specs.Grid.{Grid, Products, HasData}
-use Rattle.drain_grid.specs.Run.{RunEnds}
-use Rattle.drain_paths.specs.Walks.{AreKnownFlows}
+use Rattle.drain_paths.proofs.Names.{◌≡◌, ◌*◌, length, IsCellOf, Grid, Products, HasData, RunEnds, AreKnownFlows}
 use Rattle.drain_paths.proofs.FlowWalks.{EndsFrom}
 use Rattle.drain_paths.proofs.walk.put_ends.Given as goal
 

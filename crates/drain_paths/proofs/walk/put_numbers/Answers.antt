@@ -1,9 +1,4 @@
-use Rattle.std.proofs.Common.{◌≡◌, ◌≢◌, ◌+◌, ◌-◌, ◌*◌, ◌≤◌, ℕ, inl, inr, subst, arith, rules}
-use Rattle.std.proofs.lemmas.Bool.{cases_eq}
-use Rattle.drain_grid.specs.declared.cell.TheConstants.{MAX_LENGTH}
-use Rattle.drain_grid.specs.Grid.{Grid, Products}
-use Rattle.drain_grid.proofs.Walks.{IsWalk}
-use Rattle.drain_paths.specs.Flows.{AreFlowsOf}
+use Rattle.drain_paths.proofs.Names.{◌≡◌, ◌≢◌, ◌+◌, ◌-◌, ◌*◌, ◌≤◌, ℕ, inl, inr, subst, arith, rules, cases_eq, MAX_LENGTH, Grid, Products, IsWalk, AreFlowsOf}
 use Rattle.drain_paths.proofs.FlowCells.{data_at}
 use Rattle.drain_paths.proofs.GridFlows.{of_some}
 use Rattle.drain_paths.proofs.NumbersSoFar.{AreNumbersSoFar-put, IsWalk-rest, IsWalk-stuck, known_put, numbered_behind}

@@ -1,11 +1,6 @@
 -- What is left of the walk leads from here, a data cell, and the cells that were passed have their numbers.
-use Rattle.std.proofs.Common.{◌≡◌, ◌≢◌, ◌<◌, ◌-◌, ◌*◌, length}
-use Rattle.drain_grid.specs.declared.cell.Cell.{Cell}
-use Rattle.drain_grid.specs.Extent.{IsCellOf}
-use Rattle.drain_grid.proofs.Walks.{IsWalk}
+use Rattle.drain_paths.proofs.Names.{◌≡◌, ◌≢◌, ◌<◌, ◌-◌, ◌*◌, length, Cell, IsCellOf, IsWalk, cell_number, AreNumbersSoFar, flow_at, OfFlows}
 use Rattle.drain_paths.specs.declared.flow.Flow.TheVariants.{Void}
-use Rattle.drain_paths.specs.CellNumbers.{cell_number, AreNumbersSoFar}
-use Rattle.drain_paths.specs.Flows.{flow_at, OfFlows}
 use Rattle.drain_paths.proofs.walk.put_numbers.Given as goal
 
 abbrev pub invariant-loop-walked : goal.invariant-loop-walked

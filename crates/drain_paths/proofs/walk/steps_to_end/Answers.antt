@@ -1,5 +1,4 @@
-use Rattle.std.proofs.Common.{arith}
-use Rattle.drain_grid.proofs.Walks.{IsWalk-endless, endless-stuck}
+use Rattle.drain_paths.proofs.Names.{arith, IsWalk-endless, endless-stuck}
 use Rattle.drain_paths.proofs.FlowWalks.{HasCome-more, too_far}
 use Rattle.drain_paths.proofs.Shorter.{RunEnds-walk}
 use Rattle.drain_paths.proofs.walk.steps_to_end.Goals as goal

@@ -1,7 +1,5 @@
 -- So many steps lead from the start to here.
-use Rattle.drain_grid.specs.Extent.{IsCellOf}
-use Rattle.drain_grid.specs.Grid.{Grid, Products, HasData}
-use Rattle.drain_paths.specs.Walks.{AreKnownFlows}
+use Rattle.drain_paths.proofs.Names.{IsCellOf, Grid, Products, HasData, AreKnownFlows}
 use Rattle.drain_paths.proofs.FlowWalks.{HasCome}
 use Rattle.drain_paths.proofs.walk.steps_to_end.Given as goal
 

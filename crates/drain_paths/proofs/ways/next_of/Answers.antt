@@ -1,5 +1,4 @@
-use Rattle.std.proofs.Common.{ap}
-use Rattle.drain_paths.specs.Flows.{direction_of}
+use Rattle.drain_paths.proofs.Names.{ap, direction_of}
 use Rattle.drain_paths.proofs.FlowCells.{leads_nowhere}
 use Rattle.drain_paths.proofs.KnownWays.{AreKnownFlows-grid}
 use Rattle.drain_paths.proofs.ways.next_of.Goals as goal

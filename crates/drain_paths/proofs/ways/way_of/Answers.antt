@@ -1,11 +1,4 @@
-use Rattle.std.proofs.Common.{◌≡◌, ◌≢◌, ◌∙◌, ℕ, Option, Some, None, refl, sym, ap, subst, rules}
-use Rattle.drain_grid.specs.declared.cell.Cell.{Cell}
-use Rattle.drain_grid.specs.declared.direction.Direction.{Direction}
-use Rattle.drain_grid.specs.Direction.{rows_down, cols_right}
-use Rattle.drain_grid.specs.Extent.{IsCellOf, step, Extent}
-use Rattle.drain_grid.specs.Grid.{IsInside}
-use Rattle.drain_paths.specs.Flows.{direction_of}
-use Rattle.drain_paths.specs.Walks.{stepped}
+use Rattle.drain_paths.proofs.Names.{◌≡◌, ◌≢◌, ◌∙◌, ℕ, Option, Some, None, refl, sym, ap, subst, rules, Cell, Direction, rows_down, cols_right, IsCellOf, step, Extent, IsInside, direction_of, stepped}
 use Rattle.drain_paths.proofs.KnownWays.{known_at, stuck_nowhere, stuck_outside, stuck_void, leads_on}
 use Rattle.drain_paths.proofs.ways.way_of.Goals as goal
 

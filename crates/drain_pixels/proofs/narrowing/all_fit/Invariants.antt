@@ -1,5 +1,4 @@
-use Rattle.std.proofs.Common.{IsTrue, map}
-use Rattle.drain_pixels.specs.Lanes.{AllFitAt}
+use Rattle.drain_pixels.proofs.Names.{IsTrue, map, AllFitAt}
 use Rattle.drain_pixels.proofs.narrowing.all_fit.Given as goal
 
 -- all fit that were passed, except at voids, if none was found that doesn't

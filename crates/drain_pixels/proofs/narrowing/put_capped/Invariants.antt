@@ -1,5 +1,4 @@
-use Rattle.std.proofs.Common.{◌≡◌, length}
-use Rattle.drain_pixels.specs.Lanes.{AreCapped}
+use Rattle.drain_pixels.proofs.Names.{◌≡◌, length, AreCapped}
 use Rattle.drain_pixels.proofs.narrowing.put_capped.Given as goal
 
 -- the numbers that were passed are there

@@ -1,6 +1,4 @@
-use Rattle.std.proofs.Common.{◌≡◌, IsTrue, length}
-use Rattle.drain_pixels.specs.Ground.{whole_voids}
-use Rattle.drain_pixels.specs.Lanes.{AreGroundLanes}
+use Rattle.drain_pixels.proofs.Names.{◌≡◌, IsTrue, length, whole_voids, AreGroundLanes}
 use Rattle.drain_pixels.proofs.narrowing.put_ground.Given as goal
 
 -- the lanes that were passed are there, if none was found that doesn't fit

@@ -1,5 +1,4 @@
-use Rattle.std.proofs.Common.{◌≡◌, length}
-use Rattle.drain_pixels.specs.Lanes.{AreLower, AreUpper}
+use Rattle.drain_pixels.proofs.Names.{◌≡◌, length, AreLower, AreUpper}
 use Rattle.drain_pixels.proofs.narrowing.put_halves.Given as goal
 
 -- the halves that were passed are there

@@ -1,5 +1,4 @@
-use Rattle.std.proofs.Common.{◌≡◌, IsTrue, length}
-use Rattle.drain_pixels.specs.Lanes.{AllFit, HoldFitting}
+use Rattle.drain_pixels.proofs.Names.{◌≡◌, IsTrue, length, AllFit, HoldFitting}
 use Rattle.drain_pixels.proofs.narrowing.put_narrow.Given as goal
 
 -- the lanes that were passed are there, and all fit if none was found that doesn't

@@ -1,6 +1,4 @@
-use Rattle.std.proofs.Common.{◌≡◌, length}
-use Rattle.drain_pixels.specs.Ground.{single_voids}
-use Rattle.drain_pixels.specs.Lanes.{AreGroundLanes}
+use Rattle.drain_pixels.proofs.Names.{◌≡◌, length, single_voids, AreGroundLanes}
 use Rattle.drain_pixels.proofs.narrowing.put_single_ground.Given as goal
 
 -- the lanes that were passed are there

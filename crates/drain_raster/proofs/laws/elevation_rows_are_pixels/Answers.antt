@@ -1,9 +1,6 @@
-use Rattle.std.proofs.Common.{◌∙◌, ◌<◌, pos, None, subst, sym, ap}
-use Rattle.std.proofs.lemmas.List.{get_or-map}
-use Rattle.drain_device.specs.RowSteps.{nth_row}
+use Rattle.drain_raster.proofs.Names.{◌∙◌, ◌<◌, pos, None, subst, sym, ap, get_or-map, nth_row, raster_rows}
 use Rattle.drain_pixels.specs.Ground.{height_with}
 use Rattle.drain_raster.specs.Elevations.{voids_of}
-use Rattle.drain_raster.specs.RasterRows.{raster_rows}
 use Rattle.drain_raster.proofs.laws.elevation_rows_are_pixels.Goals as goal
 
 pub returns : goal.returns

@@ -1,6 +1,5 @@
-use Rattle.std.proofs.Common.{◌≡◌, take, All}
-use Rattle.drain_grid.specs.Values.{IsPixel}
-use Rattle.drain_raster.specs.RasterRows.{raster_numbers_of}
+use Rattle.drain_raster.proofs.Names.{◌≡◌, take, IsPixel, raster_numbers_of}
+use Rattle.std.proofs.Common.{All}
 use Rattle.drain_raster.proofs.number_rows.put_numbers.Given as goal
 
 -- the numbers that were passed are at the front

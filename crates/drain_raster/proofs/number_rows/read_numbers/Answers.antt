@@ -1,10 +1,7 @@
-use Rattle.std.proofs.Common.{◌≡◌, ◌+◌, ◌-◌, ◌*◌, ◌++◌, [], length, take, drop, refl, arith, sym, ap, ◌∙◌, length-append}
-use Rattle.std.proofs.lemmas.List.{length-take, length-take-le, length-drop}
+use Rattle.drain_raster.proofs.Names.{◌≡◌, ◌+◌, ◌-◌, ◌*◌, ◌++◌, [], length, take, drop, refl, arith, sym, ap, ◌∙◌, length-take, length-take-le, Consumes-trans, PartFails-ok, PartFails-then, fails-later, within-put_mid, raster_numbers_of}
+use Rattle.std.proofs.Common.{length-append}
+use Rattle.std.proofs.lemmas.List.{length-drop}
 use Rattle.std.proofs.lemmas.Result.{err_from_is_err_and}
-use Rattle.std.proofs.KnownBytes.{Consumes-trans}
-use Rattle.drain_device.proofs.FaultLists.{PartFails-ok, PartFails-then}
-use Rattle.drain_device.proofs.PartLemmas.{fails-later, within-put_mid}
-use Rattle.drain_raster.specs.RasterRows.{raster_numbers_of}
 use Rattle.drain_raster.proofs.RowNumberLemmas.{chunk_fits, chunk_long, chunk_put, chunk_within}
 use Rattle.drain_raster.proofs.number_rows.read_numbers.Goals as goal
 

@@ -1,8 +1,5 @@
-use Rattle.std.proofs.Common.{◌≡◌, ℕ, ◌-◌, ◌*◌, ◌≤◌, List, length, take, All}
-use Rattle.std.specs.Io.KnownBytes.{Consumes}
-use Rattle.drain_grid.specs.Values.{IsPixel}
-use Rattle.drain_device.specs.Failing.{PartFails}
-use Rattle.drain_raster.specs.RasterRows.{raster_numbers_of}
+use Rattle.drain_raster.proofs.Names.{◌≡◌, ℕ, ◌-◌, ◌*◌, ◌≤◌, List, length, take, Consumes, IsPixel, PartFails, raster_numbers_of}
+use Rattle.std.proofs.Common.{All}
 use Rattle.drain_raster.proofs.number_rows.read_numbers.Given as goal
 
 -- the numbers that were passed came, and nothing failed for good

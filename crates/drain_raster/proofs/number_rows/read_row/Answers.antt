@@ -1,12 +1,4 @@
-use Rattle.std.proofs.Common.{◌+◌, ◌++◌, [], length, arith, ap, ◌∙◌}
-use Rattle.std.proofs.lemmas.List.{take_at}
-use Rattle.std.proofs.lemmas.List.Elements.{All-same}
-use Rattle.drain_grid.specs.Values.{IsPixel}
-use Rattle.drain_grid.proofs.Tallies.{grown}
-use Rattle.drain_header.specs.Header.{Fields}
-use Rattle.drain_raster.specs.RasterRows.{packed_len, pixels_behind}
-use Rattle.drain_device.proofs.FaultLists.{PartFails-after}
-use Rattle.drain_device.proofs.PartLemmas.{fails-later, row-fails}
+use Rattle.drain_raster.proofs.Names.{◌+◌, ◌++◌, [], length, arith, ap, ◌∙◌, take_at, All-same, IsPixel, grown, Fields, packed_len, pixels_behind, PartFails-after, fails-later, row-fails}
 use Rattle.drain_raster.proofs.RasterRowLemmas.{row-comes}
 use Rattle.drain_raster.proofs.number_rows.read_row.Goals as goal
 

@@ -1,14 +1,7 @@
-use Rattle.std.proofs.Common.{◌+◌, ◌++◌, [], length, arith, ap, ◌∙◌}
-use Rattle.std.proofs.lemmas.List.{take_at}
-use Rattle.drain_pixels.specs.Stored.{numbers_as}
-use Rattle.drain_raster.specs.Pixels.{pixel_len, pixel_of}
-use Rattle.drain_raster.specs.RasterRows.{packed_len, pixels_behind}
-use Rattle.drain_device.proofs.FaultLists.{PartFails-after}
-use Rattle.drain_device.proofs.PartLemmas.{fails-later, row-fails}
+use Rattle.drain_raster.proofs.Names.{◌+◌, ◌++◌, [], length, arith, ap, ◌∙◌, take_at, numbers_as, pixel_len, pixel_of, packed_len, pixels_behind, PartFails-after, fails-later, row-fails, grown}
 use Rattle.drain_raster.proofs.KindLemmas.{none_kept}
 use Rattle.drain_raster.proofs.RasterEnds.{numbers_long}
 use Rattle.drain_raster.proofs.RasterRowLemmas.{row-comes}
-use Rattle.drain_grid.proofs.Tallies.{grown}
 use Rattle.drain_raster.proofs.pixel_rows.read_bytes.Goals as goal
 
 pub returns-in-Err-read_part-clause-row : goal.returns-in-Err-read_part-clause-row

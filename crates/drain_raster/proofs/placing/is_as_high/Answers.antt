@@ -1,5 +1,4 @@
-use Rattle.std.proofs.Common.{◌*◌, ap}
-use Rattle.drain_header.specs.Header.{Fields}
+use Rattle.drain_raster.proofs.Names.{◌*◌, ap, Fields}
 use Rattle.drain_raster.proofs.PlacingLemmas.{coordinate-so, within-so}
 use Rattle.drain_raster.proofs.placing.is_as_high.Goals as goal
 

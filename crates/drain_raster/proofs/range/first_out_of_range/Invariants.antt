@@ -1,5 +1,4 @@
-use Rattle.std.proofs.Common.{ℕ, ◌<◌}
-use Rattle.drain_raster.specs.Bytes.{CanSpellTo}
+use Rattle.drain_raster.proofs.Names.{ℕ, ◌<◌, CanSpellTo}
 use Rattle.drain_raster.proofs.range.first_out_of_range.Given as goal
 
 -- a pixel can encode the numbers of the rows that were passed

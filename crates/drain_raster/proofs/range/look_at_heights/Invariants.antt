@@ -1,6 +1,5 @@
-use Rattle.std.proofs.Common.{take, true}
+use Rattle.drain_raster.proofs.Names.{take, true, CanSpellIn}
 use Rattle.std.specs.List.{All}
-use Rattle.drain_raster.specs.Bytes.{CanSpellIn}
 use Rattle.drain_raster.proofs.range.look_at_heights.Given as goal
 
 -- those that were passed are

@@ -1,5 +1,4 @@
-use Rattle.std.proofs.Common.{◌/◌, refl, ap}
-use Rattle.drain_header.specs.Header.{Fields}
+use Rattle.drain_raster.proofs.Names.{◌/◌, refl, ap, Fields}
 use Rattle.drain_raster.proofs.LengthLemmas.{padding-fits}
 use Rattle.drain_raster.proofs.raster_rows.padding.Goals as goal
 

@@ -1,9 +1,4 @@
-use Rattle.std.proofs.Common.{◌-◌, arith, ap}
-use Rattle.std.proofs.lemmas.List.{length-take}
-use Rattle.std.proofs.lemmas.List.Elements.{All-append}
-use Rattle.drain_grid.specs.Values.{IsPixel}
-use Rattle.drain_header.specs.Header.{Fields}
-use Rattle.drain_raster.specs.Pixels.{pixel_at}
+use Rattle.drain_raster.proofs.Names.{◌-◌, arith, ap, length-take, All-append, IsPixel, Fields, pixel_at}
 use Rattle.drain_raster.proofs.BufferLemmas.{numbers-pushed}
 use Rattle.drain_raster.proofs.read.push_row.Goals as goal
 

@@ -1,8 +1,5 @@
-use Rattle.std.proofs.Common.{◌≡◌, ◌+◌, ◌-◌, ◌≤◌, ◌++◌, map, All, vec_len}
-use Rattle.std.specs.Vec.{vec_capacity}
-use Rattle.drain_grid.specs.Values.{IsPixel}
-use Rattle.drain_raster.specs.Bytes.{cells_from}
-use Rattle.drain_raster.specs.Pixels.{pixel_at}
+use Rattle.drain_raster.proofs.Names.{◌≡◌, ◌+◌, ◌-◌, ◌≤◌, ◌++◌, map, vec_len, vec_capacity, IsPixel, cells_from, pixel_at}
+use Rattle.std.proofs.Common.{All}
 use Rattle.drain_raster.proofs.read.push_row.Given as goal
 
 -- the numbers of the pixels passed come after the others, and there is room for the rest

@@ -1,6 +1,5 @@
-use Rattle.std.proofs.Common.{◌++◌, map, arith, sym, ap, ◌∙◌, length, length-append}
-use Rattle.drain_grid.specs.Extent.{row_cells}
-use Rattle.drain_raster.specs.Pixels.{pixel_at}
+use Rattle.drain_raster.proofs.Names.{◌++◌, map, arith, sym, ap, ◌∙◌, length, row_cells, pixel_at}
+use Rattle.std.proofs.Common.{length-append}
 use Rattle.drain_raster.proofs.CellPlaces.{map-rows_more, length-map-row_cells}
 use Rattle.drain_raster.proofs.read.push_rows.Goals as goal
 

@@ -1,9 +1,5 @@
-use Rattle.std.proofs.Common.{◌≡◌, ◌*◌, ◌≤◌, map, All, vec_len}
-use Rattle.std.specs.List.{range_with_len, flat_map}
-use Rattle.std.specs.Vec.{vec_capacity}
-use Rattle.drain_grid.specs.Extent.{row_cells}
-use Rattle.drain_grid.specs.Values.{IsPixel}
-use Rattle.drain_raster.specs.Pixels.{pixel_at}
+use Rattle.drain_raster.proofs.Names.{◌≡◌, ◌*◌, ◌≤◌, map, vec_len, range_with_len, flat_map, vec_capacity, row_cells, IsPixel, pixel_at}
+use Rattle.std.proofs.Common.{All}
 use Rattle.drain_raster.proofs.read.push_rows.Given as goal
 
 -- the numbers are those of the rows that were passed, and there is room for the rest

@@ -1,6 +1,4 @@
-use Rattle.std.proofs.Common.{true, false}
-use Rattle.drain_grid.specs.declared.height_kind.HeightKind.TheVariants.{Whole}
-use Rattle.drain_header.specs.declared.header.ByteOrdering.TheVariants.{Least, Most}
+use Rattle.drain_raster.proofs.Names.{true, false, Whole, Least, Most}
 use Rattle.drain_raster.proofs.PixelLemmas.{kind-so, spelled-so, spelled-byte, widest}
 use Rattle.drain_raster.proofs.read.push_whole.Goals as goal
 

@@ -1,5 +1,4 @@
-use Rattle.std.proofs.Common.{◌+◌, ◌-◌, ◌<◌, arith, ◌∙◌}
-use Rattle.drain_raster.specs.Pixels.{pixel_at}
+use Rattle.drain_raster.proofs.Names.{◌+◌, ◌-◌, ◌<◌, arith, ◌∙◌, pixel_at}
 use Rattle.drain_raster.proofs.BufferLemmas.{number-put}
 use Rattle.drain_raster.proofs.PixelLemmas.{place-by, pixel-found, pixel-room, pixel-starts, pixel-stored}
 use Rattle.drain_raster.proofs.read.put_numbers.Goals as goal

@@ -1,7 +1,5 @@
-use Rattle.std.proofs.Common.{◌≡◌, ◌-◌, map, take, All}
-use Rattle.drain_grid.specs.Values.{IsPixel}
-use Rattle.drain_raster.specs.Bytes.{cells_from}
-use Rattle.drain_raster.specs.Pixels.{pixel_at}
+use Rattle.drain_raster.proofs.Names.{◌≡◌, ◌-◌, map, take, IsPixel, cells_from, pixel_at}
+use Rattle.std.proofs.Common.{All}
 use Rattle.drain_raster.proofs.read.put_numbers.Given as goal
 
 -- the numbers of the pixels that were passed are at the front

@@ -1,8 +1,5 @@
-use Rattle.std.proofs.Common.{◌≡◌, ◌+◌, ◌-◌, ◌*◌, ◌≤◌, length, take, drop, arith, sym, ap, subst}
-use Rattle.std.proofs.lemmas.List.{length-take, length-drop}
-use Rattle.std.proofs.Math.Nat.{mul-le-mul_right}
-use Rattle.drain_grid.specs.Extent.{IsCellOf}
-use Rattle.drain_grid.specs.Values.{IsPixel}
+use Rattle.drain_raster.proofs.Names.{◌≡◌, ◌+◌, ◌-◌, ◌*◌, ◌≤◌, length, take, drop, arith, sym, ap, subst, length-take, mul-le-mul_right, IsCellOf, IsPixel}
+use Rattle.std.proofs.lemmas.List.{length-drop}
 use Rattle.drain_raster.proofs.BufferLemmas.{put-more}
 use Rattle.drain_raster.proofs.CellPlaces.{cell_of}
 use Rattle.drain_raster.proofs.KeptLemmas.{at_each_cell, number_kept}

@@ -1,5 +1,4 @@
-use Rattle.std.proofs.Common.{◌≡◌, ◌*◌, take}
-use Rattle.drain_raster.specs.Bytes.{cells_bytes, cells_from}
+use Rattle.drain_raster.proofs.Names.{◌≡◌, ◌*◌, take, cells_bytes, cells_from}
 use Rattle.drain_raster.proofs.write.put_kept.Given as goal
 
 -- the pixels that were passed are at the front

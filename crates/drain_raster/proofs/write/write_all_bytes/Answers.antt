@@ -1,7 +1,4 @@
-use Rattle.std.proofs.Common.{◌++◌, ℕ, replicate, ap}
-use Rattle.std.specs.List.{range_with_len, flat_map}
-use Rattle.drain_header.specs.Header.{Fields}
-use Rattle.drain_raster.specs.Bytes.{bytes_of_row, raster_bytes}
+use Rattle.drain_raster.proofs.Names.{◌++◌, ℕ, replicate, ap, range_with_len, flat_map, Fields, bytes_of_row, raster_bytes}
 use Rattle.drain_raster.proofs.WritingLemmas.{Hands-both, Hands-halted}
 use Rattle.drain_raster.proofs.write.write_all_bytes.Goals as goal
 

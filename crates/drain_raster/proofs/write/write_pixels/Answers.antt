@@ -1,5 +1,4 @@
-use Rattle.std.proofs.Common.{◌-◌, ◌*◌, take, arith, ap, ◌∙◌}
-use Rattle.drain_raster.specs.Bytes.{cells_bytes, cells_from}
+use Rattle.drain_raster.proofs.Names.{◌-◌, ◌*◌, take, arith, ap, ◌∙◌, cells_bytes, cells_from}
 use Rattle.drain_raster.proofs.BufferLemmas.{cells_bytes-on, cells_bytes-parts}
 use Rattle.drain_raster.proofs.WritingLemmas.{Hands-more, Hands-ended}
 use Rattle.drain_raster.proofs.write.write_pixels.Goals as goal

@@ -1,7 +1,4 @@
-use Rattle.std.proofs.Common.{◌-◌, ◌≤◌, Ok}
-use Rattle.drain_device.specs.declared.patience.GaveUp.{GaveUp}
-use Rattle.drain_raster.specs.Bytes.{cells_bytes, cells_from}
-use Rattle.drain_raster.specs.RasterRows.{Hands}
+use Rattle.drain_raster.proofs.Names.{◌-◌, ◌≤◌, Ok, GaveUp, cells_bytes, cells_from, Hands}
 use Rattle.drain_raster.proofs.write.write_pixels.Given as goal
 
 -- the pixels that were passed were written

@@ -1,7 +1,6 @@
-use Rattle.std.proofs.Common.{subst}
+use Rattle.drain_raster.proofs.Names.{subst, AreWithinBounds}
 use Rattle.drain_raster.specs.declared.fault.WriteFault.{WriteFault}
 use Rattle.drain_raster.specs.declared.fault.WriteFault.TheVariants.{OutOfRange}
-use Rattle.drain_header.specs.Header.{AreWithinBounds}
 use Rattle.drain_raster.proofs.LengthLemmas.{raster-some}
 use Rattle.drain_raster.proofs.WritingLemmas.{WriteFails-not_begun, nothing-handed}
 use Rattle.drain_raster.proofs.write.write_raster.Goals as goal

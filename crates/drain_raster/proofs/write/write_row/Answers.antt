@@ -1,6 +1,4 @@
-use Rattle.std.proofs.Common.{◌-◌, ◌*◌, ℕ, replicate}
-use Rattle.drain_grid.specs.Extent.{row_cells}
-use Rattle.drain_raster.specs.Bytes.{cells_bytes, bytes_of_row}
+use Rattle.drain_raster.proofs.Names.{◌-◌, ◌*◌, ℕ, replicate, row_cells, cells_bytes, bytes_of_row}
 use Rattle.drain_raster.proofs.LengthLemmas.{row-bytes, padding-fits}
 use Rattle.drain_raster.proofs.PixelLemmas.{pixel_len-most}
 use Rattle.drain_raster.proofs.WritingLemmas.{Hands-both, Hands-halted}

@@ -1,7 +1,4 @@
-use Rattle.std.proofs.Common.{◌+◌, ◌-◌, arith, ap, sym}
-use Rattle.std.specs.List.{range_with_len, flat_map}
-use Rattle.drain_header.specs.Header.{Fields}
-use Rattle.drain_raster.specs.Bytes.{bytes_of_row}
+use Rattle.drain_raster.proofs.Names.{◌+◌, ◌-◌, arith, ap, sym, range_with_len, flat_map, Fields, bytes_of_row}
 use Rattle.drain_raster.proofs.BufferLemmas.{rows-parts}
 use Rattle.drain_raster.proofs.CellPlaces.{flat_map-rows_more}
 use Rattle.drain_raster.proofs.WritingLemmas.{Hands-both, Hands-ended}

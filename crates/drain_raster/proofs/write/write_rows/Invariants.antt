@@ -1,8 +1,4 @@
-use Rattle.std.proofs.Common.{Ok}
-use Rattle.std.specs.List.{range_with_len, flat_map}
-use Rattle.drain_device.specs.declared.patience.GaveUp.{GaveUp}
-use Rattle.drain_raster.specs.Bytes.{bytes_of_row}
-use Rattle.drain_raster.specs.RasterRows.{Hands}
+use Rattle.drain_raster.proofs.Names.{Ok, range_with_len, flat_map, GaveUp, bytes_of_row, Hands}
 use Rattle.drain_raster.proofs.write.write_rows.Given as goal
 
 -- the rows that were passed were written

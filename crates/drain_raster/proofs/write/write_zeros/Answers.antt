@@ -1,5 +1,4 @@
-use Rattle.std.proofs.Common.{◌+◌, ◌-◌, ◌++◌, ℕ, replicate, arith, sym, ap, ◌∙◌}
-use Rattle.std.proofs.lemmas.List.{take-replicate}
+use Rattle.drain_raster.proofs.Names.{◌+◌, ◌-◌, ◌++◌, ℕ, replicate, arith, sym, ap, ◌∙◌, take-replicate}
 use Rattle.drain_raster.specs.declared.write.TheConstants.{ZERO_BYTES}
 use Rattle.drain_raster.proofs.BufferLemmas.{zeros-more, zeros-parts}
 use Rattle.drain_raster.proofs.WritingLemmas.{Hands-start, Hands-more, Hands-ended}

@@ -1,6 +1,4 @@
-use Rattle.std.proofs.Common.{◌-◌, ◌≤◌, Ok, replicate}
-use Rattle.drain_device.specs.declared.patience.GaveUp.{GaveUp}
-use Rattle.drain_raster.specs.RasterRows.{Hands}
+use Rattle.drain_raster.proofs.Names.{◌-◌, ◌≤◌, Ok, replicate, GaveUp, Hands}
 use Rattle.drain_raster.proofs.write.write_zeros.Given as goal
 
 -- n zeros were written

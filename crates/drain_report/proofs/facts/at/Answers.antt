@@ -1,6 +1,4 @@
-use Rattle.std.proofs.Common.{get_or, pos}
-use Rattle.std.specs.Int.{w64}
-use Rattle.std.proofs.lemmas.Int.{to_z-of_z}
+use Rattle.drain_report.proofs.Names.{get_or, pos, w64, to_z-of_z}
 use Rattle.drain_report.proofs.ReadLemmas.{long_at}
 use Rattle.drain_report.proofs.facts.at.Goals as goal
 

@@ -1,7 +1,5 @@
-use Rattle.std.proofs.Common.{◌++◌, ◌∙◌, ap, arith, sym}
-use Rattle.drain_report.specs.Lines.{line}
+use Rattle.drain_report.proofs.Names.{◌++◌, ◌∙◌, ap, arith, sym, line, none_some, same_some}
 use Rattle.drain_report.proofs.facts.read_fact.Goals as goal
-use Rattle.drain_grid.proofs.Tallies.{none_some, same_some}
 
 pub returns-in-Err-clause-back : goal.returns-in-Err-clause-back
 returns-in-Err-clause-back g c = λ x rest fit many is. c.in-Err.ensures.back (g.T.Fact.numbers_of x) rest (many ∙ sym c.requires) is

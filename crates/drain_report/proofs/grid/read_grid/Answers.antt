@@ -1,8 +1,4 @@
-use Rattle.std.proofs.Common.{◌≡◌, pos, ◌∷◌, [], rules, refl, arith, ap}
-use Rattle.std.specs.Prelude.{MatchResult}
-use Rattle.drain_union.specs.declared.union_grid.UnionGrid.TheVariants.{Tiles}
-use Rattle.drain_grid.proofs.Tallies.{none_some, same_some}
-use Rattle.drain_report.specs.Facts.{part_numbers}
+use Rattle.drain_report.proofs.Names.{◌≡◌, pos, ◌∷◌, [], rules, refl, arith, ap, MatchResult, Tiles, none_some, same_some, part_numbers}
 use Rattle.drain_report.proofs.FactLemmas.{by_grid, narrow_long, not_both_grids}
 use Rattle.drain_report.proofs.grid.read_grid.Goals as goal
 

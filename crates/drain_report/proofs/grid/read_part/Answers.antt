@@ -1,5 +1,4 @@
-use Rattle.std.proofs.Common.{ap, refl}
-use Rattle.drain_union.specs.declared.union_grid.UnionGrid.TheVariants.{Dem}
+use Rattle.drain_report.proofs.Names.{ap, refl, Dem}
 use Rattle.drain_report.proofs.FactLemmas.{part_long}
 use Rattle.drain_report.proofs.grid.read_part.Goals as goal
 

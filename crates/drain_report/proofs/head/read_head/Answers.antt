@@ -1,7 +1,4 @@
-use Rattle.std.proofs.Common.{◌++◌, ◌∙◌, ◌<◌, ◌^◌, arith}
-use Rattle.drain_report.specs.Facts.{grid_line, place_line, nodata_line, verdict_line}
-use Rattle.drain_report.specs.Faults.{line_feeds}
-use Rattle.drain_report.specs.Contents.{version_line}
+use Rattle.drain_report.proofs.Names.{◌++◌, ◌∙◌, ◌<◌, ◌^◌, arith, grid_line, place_line, nodata_line, verdict_line, line_feeds, version_line}
 use Rattle.drain_report.proofs.FaultLemmas.{at_two, few_feeds, later, line_fits}
 use Rattle.drain_report.proofs.TextLemmas.{five_split, read_five, same_head}
 use Rattle.drain_report.proofs.head.read_head.Goals as goal

@@ -1,5 +1,4 @@
-use Rattle.std.proofs.Common.{◌++◌, length, take, drop, sym, ap, ◌∙◌}
-use Rattle.std.proofs.lemmas.List.{take_rest, take-append-drop}
+use Rattle.drain_report.proofs.Names.{◌++◌, length, take, drop, sym, ap, ◌∙◌, take_rest, take-append-drop}
 use Rattle.drain_report.proofs.NumberLemmas.{front, differ, no_difference}
 use Rattle.drain_report.proofs.lines.after_word.Goals as goal
 

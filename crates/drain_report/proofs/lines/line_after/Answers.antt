@@ -1,5 +1,4 @@
-use Rattle.std.proofs.Common.{◌∷◌, ◌++◌, ◌∙◌, rules}
-use Rattle.drain_report.specs.Lines.{spaced}
+use Rattle.drain_report.proofs.Names.{◌∷◌, ◌++◌, ◌∙◌, rules, spaced}
 use Rattle.drain_report.proofs.ReadLemmas.{line_split}
 use Rattle.drain_report.proofs.lines.line_after.Goals as goal
 

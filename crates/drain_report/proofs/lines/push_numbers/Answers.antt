@@ -1,7 +1,4 @@
-use Rattle.std.proofs.Common.{◌∷◌, ◌++◌, get_or, pos, ap, ◌∙◌}
-use Rattle.std.specs.Int.{w64}
-use Rattle.std.specs.Fmt.{signed_decimal}
-use Rattle.std.proofs.lemmas.Int.{to_z-of_z}
+use Rattle.drain_report.proofs.Names.{◌∷◌, ◌++◌, get_or, pos, ap, ◌∙◌, w64, signed_decimal, to_z-of_z}
 use Rattle.drain_report.proofs.ReadLemmas.{pushed_more, long_at}
 use Rattle.drain_report.proofs.lines.push_numbers.Goals as goal
 

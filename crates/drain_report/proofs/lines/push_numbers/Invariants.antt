@@ -1,5 +1,4 @@
-use Rattle.std.proofs.Common.{◌≡◌, ◌++◌, take}
-use Rattle.drain_report.specs.Lines.{spaced}
+use Rattle.drain_report.proofs.Names.{◌≡◌, ◌++◌, take, spaced}
 use Rattle.drain_report.proofs.lines.push_numbers.Given as goal
 
 abbrev pub invariant-loop-number : goal.invariant-loop-number

@@ -1,5 +1,4 @@
-use Rattle.std.proofs.Common.{ap, ◌∙◌}
-use Rattle.drain_report.specs.Faults.{line_feeds}
+use Rattle.drain_report.proofs.Names.{ap, ◌∙◌, line_feeds}
 use Rattle.drain_report.proofs.FaultLemmas.{line_feed}
 use Rattle.drain_report.proofs.lines.read_line.Goals as goal
 

@@ -1,8 +1,4 @@
-use Rattle.std.proofs.Common.{◌≡◌, ◌∷◌, ◌+◌, ◌<◌, [], take, sym, ap, ◌∙◌, arith, rules, length}
-use Rattle.std.specs.Int.{w64}
-use Rattle.std.specs.Prelude.{slice_set}
-use Rattle.std.proofs.lemmas.Int.{to_z-of_z}
-use Rattle.std.proofs.lemmas.List.{length-take, take_all, take_more_set}
+use Rattle.drain_report.proofs.Names.{◌≡◌, ◌∷◌, ◌+◌, ◌<◌, [], take, sym, ap, ◌∙◌, arith, rules, length, w64, slice_set, to_z-of_z, length-take, take_all, take_more_set}
 use Rattle.drain_report.proofs.ReadLemmas.{next, none_left, read_more, sound_more, long-append}
 use Rattle.drain_report.proofs.lines.read_numbers.Goals as goal
 

@@ -1,5 +1,4 @@
-use Rattle.std.proofs.Common.{◌≡◌, ◌++◌, ℕ, ℤ, List, take, length}
-use Rattle.drain_report.specs.Lines.{spaced, AreLong, AreNumbersThen}
+use Rattle.drain_report.proofs.Names.{◌≡◌, ◌++◌, ℕ, ℤ, List, take, length, spaced, AreLong, AreNumbersThen}
 use Rattle.drain_report.proofs.ReadLemmas.{IsLeft}
 use Rattle.drain_report.proofs.lines.read_numbers.Given as goal
 

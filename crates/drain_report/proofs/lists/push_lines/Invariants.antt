@@ -1,5 +1,4 @@
-use Rattle.std.proofs.Common.{◌≡◌, ◌++◌, take}
-use Rattle.drain_report.specs.Contents.{AllAre, all_text}
+use Rattle.drain_report.proofs.Names.{◌≡◌, ◌++◌, take, AllAre, all_text}
 use Rattle.drain_report.proofs.lists.push_lines.Given as goal
 
 abbrev pub invariant-loop-item : goal.invariant-loop-item

@@ -1,6 +1,4 @@
-use Rattle.std.proofs.Common.{◌≡◌, ◌<◌, ◌≤◌, ◌^◌, ◌++◌, ℕ, List, length}
-use Rattle.drain_report.specs.Faults.{IsAt}
-use Rattle.drain_report.specs.Contents.{all_text, AllAre}
+use Rattle.drain_report.proofs.Names.{◌≡◌, ◌<◌, ◌≤◌, ◌^◌, ◌++◌, ℕ, List, length, IsAt, all_text, AllAre}
 use Rattle.drain_report.proofs.ListLemmas.{IsToCome}
 use Rattle.drain_report.proofs.lists.read_lines.Given as goal
 

@@ -1,5 +1,4 @@
-use Rattle.std.proofs.Common.{◌++◌, ◌∙◌, length, sym, inl, arith}
-use Rattle.drain_report.specs.Contents.{all_text}
+use Rattle.drain_report.proofs.Names.{◌++◌, ◌∙◌, length, sym, inl, arith, all_text}
 use Rattle.drain_report.proofs.ListLemmas.{list_split, read_list}
 use Rattle.drain_report.proofs.FaultLemmas.{list_later}
 use Rattle.drain_report.proofs.TextLemmas.{match_both, on_both}

@@ -1,9 +1,6 @@
-use Rattle.std.specs.Int.{w64}
-use Rattle.std.specs.Fmt.{signed_decimal}
-use Rattle.std.proofs.lemmas.Int.{to_z-of_z}
+use Rattle.drain_report.proofs.Names.{w64, signed_decimal, to_z-of_z, none_some, same_some}
 use Rattle.drain_report.proofs.NumberLemmas.{signed_ink}
 use Rattle.drain_report.proofs.numbers.first_number.Goals as goal
-use Rattle.drain_grid.proofs.Tallies.{none_some, same_some}
 
 pub returns-in_default-clause-back : goal.returns-in_default-clause-back
 returns-in_default-clause-back c = λ n e rest h.

@@ -1,9 +1,5 @@
-use Rattle.std.proofs.Common.{◌∙◌, arith, sym, ap, refl}
-use Rattle.std.specs.Int.{w64}
-use Rattle.std.specs.Fmt.{signed_decimal}
-use Rattle.std.proofs.lemmas.Fmt.{parse-signed_decimal, IsAscii-signed}
+use Rattle.drain_report.proofs.Names.{◌∙◌, arith, sym, ap, refl, w64, signed_decimal, parse-signed_decimal, IsAscii-signed, to_z-of_z}
 use Rattle.std.proofs.lemmas.Str.{IsUtf8-from_ascii}
-use Rattle.std.proofs.lemmas.Int.{to_z-of_z}
 use Rattle.drain_report.proofs.NumberLemmas.{ok_same, not_both, differ}
 use Rattle.drain_report.proofs.numbers.number.Goals as goal
 

@@ -1,5 +1,4 @@
-use Rattle.std.proofs.Common.{◌-◌, length, take, drop, ◌∙◌}
-use Rattle.std.proofs.lemmas.List.{take_rest}
+use Rattle.drain_report.proofs.Names.{◌-◌, length, take, drop, ◌∙◌, take_rest}
 use Rattle.drain_report.proofs.NumberLemmas.{word_found, word_there}
 use Rattle.drain_report.proofs.numbers.word_after_space.Goals as goal
 

@@ -1,10 +1,4 @@
-use Rattle.std.proofs.Common.{◌∙◌, ◌<◌, ◌^◌, ap, sym, refl, arith}
-use Rattle.std.proofs.lemmas.Bool.{false≢true}
-use Rattle.std.specs.Prelude.{codes}
-use Rattle.drain_report.specs.Contents.{end_line, head_of, head_text, list_text, spacings_text}
-use Rattle.drain_union.specs.Reports.{is_accepted}
-use Rattle.drain_report.specs.Facts.{outlet_line, shown_line, sink_line, tile_line}
-use Rattle.drain_report.specs.Faults.{line_feeds}
+use Rattle.drain_report.proofs.Names.{◌∙◌, ◌<◌, ◌^◌, ap, sym, refl, arith, false≢true, codes, end_line, head_of, head_text, list_text, spacings_text, is_accepted, outlet_line, shown_line, sink_line, tile_line, line_feeds}
 use Rattle.drain_report.proofs.FaultLemmas.{end_fits, few_feeds, from_head, later, list_fits, same_or_later}
 use Rattle.drain_report.proofs.TextLemmas.{contents_with, seven_then, version_first, after_head, after_tiles, after_sinks, after_outlets, behind_tiles_word, read_seven, same_contents, tiles_begin, with_word}
 use Rattle.drain_report.proofs.read.read_report.Goals as goal

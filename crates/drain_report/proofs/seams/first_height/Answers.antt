@@ -1,9 +1,4 @@
-use Rattle.std.proofs.Common.{◌≡◌, ◌∷◌, ◌∙◌, to_z, of_z, ap, sym, rules}
-use Rattle.std.specs.Prelude.{Some}
-use Rattle.std.specs.Int.{w64}
-use Rattle.std.proofs.lemmas.Int.{to_z-of_z}
-use Rattle.drain_grid.proofs.Tallies.{none_some, same_some}
-use Rattle.drain_report.specs.Facts.{height_word}
+use Rattle.drain_report.proofs.Names.{◌≡◌, ◌∷◌, ◌∙◌, to_z, of_z, ap, sym, rules, Some, w64, to_z-of_z, none_some, same_some, height_word}
 use Rattle.drain_report.proofs.NumberLemmas.{height_ink, is_void, by_number, same_bytes, other_bytes}
 use Rattle.drain_report.proofs.seams.first_height.Goals as goal
 

@@ -1,6 +1,4 @@
-use Rattle.std.proofs.Common.{◌∷◌, ◌++◌, ◌∙◌, drop, sym, rules}
-use Rattle.drain_report.specs.Lines.{spaced}
-use Rattle.drain_report.specs.Facts.{cell_numbers, other_numbers}
+use Rattle.drain_report.proofs.Names.{◌∷◌, ◌++◌, ◌∙◌, drop, sym, rules, spaced, cell_numbers, other_numbers}
 use Rattle.drain_report.proofs.FactLemmas.{height_long, narrow_cell_long, others_long}
 use Rattle.drain_report.proofs.ListLemmas.{seam_split}
 use Rattle.drain_report.proofs.seams.seam_after.Goals as goal

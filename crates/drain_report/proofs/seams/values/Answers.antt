@@ -1,9 +1,7 @@
-use Rattle.std.proofs.Common.{arith, get_or, pos, sym, ap, ◌∙◌}
-use Rattle.drain_report.specs.Facts.{other_numbers}
+use Rattle.drain_report.proofs.Names.{arith, get_or, pos, sym, ap, ◌∙◌, other_numbers, none_some, same_some}
 use Rattle.drain_report.proofs.ListLemmas.{five_numbers, held}
 use Rattle.drain_report.proofs.FactLemmas.{if_some, some_of, same_values}
 use Rattle.drain_report.proofs.seams.values.Goals as goal
-use Rattle.drain_grid.proofs.Tallies.{none_some, same_some}
 
 pub returns-in_err-sink-clause-back : goal.returns-in_err-sink-clause-back
 returns-in_err-sink-clause-back c = λ v range z is. absurd (none_some v.sink (c.in_err-sink.ensures.back v.sink (ap (λ ns. get_or ns 0 (pos 0)) is)))

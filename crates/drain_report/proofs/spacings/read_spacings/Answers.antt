@@ -1,7 +1,4 @@
-use Rattle.std.proofs.Common.{◌≡◌, ◌++◌, inl, length, refl, sym, ap, ◌∙◌, arith}
-use Rattle.std.proofs.lemmas.Bool.{eqb-true}
-use Rattle.std.specs.Prelude.{codes, not}
-use Rattle.drain_report.specs.Contents.{spacings_text}
+use Rattle.drain_report.proofs.Names.{◌≡◌, ◌++◌, inl, length, refl, sym, ap, ◌∙◌, arith, eqb-true, codes, not, spacings_text}
 use Rattle.drain_report.proofs.SpacingLists.{listed_text, none_listed, some_listed, word_found, word_missing}
 use Rattle.drain_report.proofs.spacings.read_spacings.Goals as goal
 

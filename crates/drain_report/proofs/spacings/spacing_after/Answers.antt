@@ -1,5 +1,4 @@
-use Rattle.std.proofs.Common.{◌++◌, sym, ◌∙◌}
-use Rattle.drain_report.specs.Facts.{spacing_numbers}
+use Rattle.drain_report.proofs.Names.{◌++◌, sym, ◌∙◌, spacing_numbers}
 use Rattle.drain_report.proofs.SpacingLists.{end_begins, end_first, end_then, numbers_then, spacing_split}
 use Rattle.drain_report.proofs.spacings.spacing_after.Goals as goal
 

@@ -1,5 +1,4 @@
-use Rattle.std.proofs.Common.{◌≡◌, get_or, pos, ap}
-use Rattle.drain_grid.proofs.Tallies.{none_some, same_some}
+use Rattle.drain_report.proofs.Names.{◌≡◌, get_or, pos, ap, none_some, same_some}
 use Rattle.drain_report.proofs.SpacingLists.{height_small, made_of, none_made, same_made, width_small}
 use Rattle.drain_report.proofs.spacings.spacing_of.Goals as goal
 

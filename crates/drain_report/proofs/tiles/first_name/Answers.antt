@@ -1,6 +1,4 @@
-use Rattle.std.proofs.Common.{◌++◌, ◌∙◌, take, drop, ap, sym}
-use Rattle.std.proofs.lemmas.List.{take_rest, take-append-drop}
-use Rattle.drain_hgt.specs.Name.{name_of}
+use Rattle.drain_report.proofs.Names.{◌++◌, ◌∙◌, take, drop, ap, sym, take_rest, take-append-drop, name_of}
 use Rattle.drain_report.proofs.NumberLemmas.{differ, no_difference}
 use Rattle.drain_report.proofs.ListLemmas.{name_front, name_is_read, no_fault, one_tile}
 use Rattle.drain_report.proofs.tiles.first_name.Goals as goal

@@ -1,5 +1,4 @@
-use Rattle.std.proofs.Common.{◌∷◌, ◌++◌, ◌∙◌}
-use Rattle.drain_hgt.specs.Name.{name_of}
+use Rattle.drain_report.proofs.Names.{◌∷◌, ◌++◌, ◌∙◌, name_of}
 use Rattle.drain_report.proofs.ListLemmas.{tile_split}
 use Rattle.drain_report.proofs.tiles.first_tile.Goals as goal
 

@@ -1,5 +1,4 @@
-use Rattle.std.proofs.Common.{ap, refl}
-use Rattle.drain_union.specs.declared.verdict.UnionVerdict.TheVariants.{Rejected}
+use Rattle.drain_report.proofs.Names.{ap, refl, Rejected}
 use Rattle.drain_report.proofs.FactLemmas.{fault_long}
 use Rattle.drain_report.proofs.verdict.read_fault.Goals as goal
 

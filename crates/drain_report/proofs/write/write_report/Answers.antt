@@ -1,8 +1,4 @@
-use Rattle.std.proofs.Common.{◌++◌, ◌∙◌, ap, subst}
-use Rattle.std.specs.Prelude.{codes}
-use Rattle.drain_report.specs.Contents.{contents_of, end_line, head_of, HeadFits, head_text, IsListOf, list_text, SpacingsFit, spacings_text}
-use Rattle.drain_hgt.specs.Corner.{IsOnMap}
-use Rattle.drain_report.specs.Facts.{IsNarrow, IsOutlet, IsShown, outlet_line, shown_line, sink_line, tile_line}
+use Rattle.drain_report.proofs.Names.{◌++◌, ◌∙◌, ap, subst, codes, contents_of, end_line, head_of, HeadFits, head_text, IsListOf, list_text, SpacingsFit, spacings_text, IsOnMap, IsNarrow, IsOutlet, IsShown, outlet_line, shown_line, sink_line, tile_line}
 use Rattle.drain_report.proofs.TextLemmas.{head_with, seven_new}
 use Rattle.drain_report.proofs.write.write_report.Goals as goal
 

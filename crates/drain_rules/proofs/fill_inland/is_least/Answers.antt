@@ -1,6 +1,4 @@
-use Rattle.std.proofs.Common.{◌≡◌, inr, w16, to_z, of_z, subst, ◌∙◌}
-use Rattle.std.proofs.lemmas.Int.{to_z-of_z}
-use Rattle.drain_rules.specs.Places.{IsNoneLower}
+use Rattle.drain_rules.proofs.Names.{◌≡◌, inr, w16, to_z, of_z, subst, ◌∙◌, to_z-of_z, IsNoneLower}
 use Rattle.drain_rules.proofs.fill_inland.is_least.Goals as goal
 
 pub returns-else-con-sample : goal.returns-else-con-sample

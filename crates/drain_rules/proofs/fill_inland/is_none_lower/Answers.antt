@@ -1,10 +1,4 @@
-use Rattle.std.proofs.Common.{◌≡◌, ◌∙◌, ℤ, ◌≤ℤ◌, int_lt, false, w16, to_z, of_z, get_or, ap, arith, below_more}
-use Rattle.std.proofs.lemmas.Int.{ints, to_z-of_z}
-use Rattle.drain_grid.specs.declared.direction.Direction.TheVariants.{East}
-use Rattle.drain_grid.specs.Direction.{directions}
-use Rattle.drain_grid.proofs.Neighbors.{of_each}
-use Rattle.drain_rules.specs.Fill.{con_at}
-use Rattle.drain_rules.specs.Places.{place_beside}
+use Rattle.drain_rules.proofs.Names.{◌≡◌, ◌∙◌, ℤ, ◌≤ℤ◌, int_lt, false, w16, to_z, of_z, get_or, ap, arith, below_more, ints, to_z-of_z, East, directions, of_each, con_at, place_beside}
 use Rattle.drain_rules.proofs.fill_inland.is_none_lower.Goals as goal
 
 not_below : (a b : ℤ) → int_lt a b ≡ false → b ≤ℤ a

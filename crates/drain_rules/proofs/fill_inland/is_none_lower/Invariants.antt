@@ -1,8 +1,4 @@
-use Rattle.std.proofs.Common.{ℕ, ◌<◌, ◌≤ℤ◌, get_or}
-use Rattle.drain_grid.specs.declared.direction.Direction.TheVariants.{East}
-use Rattle.drain_grid.specs.Direction.{directions}
-use Rattle.drain_rules.specs.Fill.{con_at}
-use Rattle.drain_rules.specs.Places.{place_beside}
+use Rattle.drain_rules.proofs.Names.{ℕ, ◌<◌, ◌≤ℤ◌, get_or, East, directions, con_at, place_beside}
 use Rattle.drain_rules.proofs.fill_inland.is_none_lower.Given as goal
 
 -- none of the neighbours that were looked at is lower

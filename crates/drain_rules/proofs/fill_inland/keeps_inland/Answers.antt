@@ -1,5 +1,4 @@
-use Rattle.std.proofs.Common.{sym, subst}
-use Rattle.drain_rules.specs.Places.{HasPlacesRound}
+use Rattle.drain_rules.proofs.Names.{sym, subst, HasPlacesRound}
 use Rattle.drain_rules.proofs.InlandCells.{both_true, keeps_by_tests, places_round}
 use Rattle.drain_rules.proofs.fill_inland.keeps_inland.Goals as goal
 

@@ -1,8 +1,4 @@
-use Rattle.std.proofs.Common.{None, Some, arith}
-use Rattle.drain_grid.specs.Rule.{IsFillRule}
-use Rattle.drain_grid.specs.PatchRules.{fill_rules}
-use Rattle.drain_rules.specs.Verdicts.{parts_grid, parts_products}
-use Rattle.drain_rules.specs.Rows.{place}
+use Rattle.drain_rules.proofs.Names.{None, Some, arith, IsFillRule, fill_rules, parts_grid, parts_products, place}
 use Rattle.drain_rules.proofs.Faults.{IsLeastFault-patch}
 use Rattle.drain_rules.proofs.InlandCells.{both_true, inland_from_columns}
 use Rattle.drain_rules.proofs.RowLemmas.{HoldAlong-more, IsRowFault-cell, CountsAlong-more}

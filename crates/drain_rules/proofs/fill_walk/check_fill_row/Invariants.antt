@@ -1,9 +1,4 @@
-use Rattle.std.proofs.Common.{◌≤◌, ◌+◌, ◌≡◌, ℕ, IsTrue}
-use Rattle.drain_grid.specs.Rule.{IsFillRule}
-use Rattle.drain_grid.specs.PatchRules.{fill_rules}
-use Rattle.drain_rules.specs.Places.{HasDataAcross}
-use Rattle.drain_rules.specs.Verdicts.{parts_grid, parts_products}
-use Rattle.drain_rules.specs.Rows.{HoldAlong, CountsAlong}
+use Rattle.drain_rules.proofs.Names.{◌≤◌, ◌+◌, ◌≡◌, ℕ, IsTrue, IsFillRule, fill_rules, HasDataAcross, parts_grid, parts_products, HoldAlong, CountsAlong}
 use Rattle.drain_rules.proofs.fill_walk.check_fill_row.Given as goal
 
 -- the cells that were passed keep the rules and are counted, and it is known of this column and the one before it where they have data

@@ -1,8 +1,4 @@
-use Rattle.std.proofs.Common.{◌≡◌, arith, below_more}
-use Rattle.drain_grid.specs.Rule.{IsFillRule}
-use Rattle.drain_grid.specs.PatchRules.{fill_rules}
-use Rattle.drain_rules.specs.Verdicts.{parts_grid, parts_products}
-use Rattle.drain_rules.specs.Rows.{HoldAlong}
+use Rattle.drain_rules.proofs.Names.{◌≡◌, arith, below_more, IsFillRule, fill_rules, parts_grid, parts_products, HoldAlong}
 use Rattle.drain_rules.proofs.GridLemmas.{CountsAbove-more, IsFirstFault-row, IsFillVerdict-above, tallies_fit}
 use Rattle.drain_rules.proofs.fill_walk.fill_verdict.Goals as goal
 

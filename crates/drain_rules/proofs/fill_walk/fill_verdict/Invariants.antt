@@ -1,9 +1,4 @@
-use Rattle.std.proofs.Common.{ℕ, ◌<◌}
-use Rattle.drain_grid.specs.Rule.{IsFillRule}
-use Rattle.drain_grid.specs.PatchRules.{fill_rules}
-use Rattle.drain_rules.specs.Verdicts.{parts_grid, parts_products}
-use Rattle.drain_rules.specs.Rows.{HoldAlong}
-use Rattle.drain_rules.specs.Walks.{CountsAbove}
+use Rattle.drain_rules.proofs.Names.{ℕ, ◌<◌, IsFillRule, fill_rules, parts_grid, parts_products, HoldAlong, CountsAbove}
 use Rattle.drain_rules.proofs.fill_walk.fill_verdict.Given as goal
 
 -- the rows that were passed keep the rules and are counted

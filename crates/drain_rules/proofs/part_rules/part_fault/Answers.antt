@@ -1,7 +1,4 @@
-use Rattle.std.proofs.Common.{Some, None, arith}
-use Rattle.drain_grid.specs.declared.rule.Rule.TheVariants.{VoidCell, NotLeast, Label}
-use Rattle.drain_grid.proofs.AllRules.{found_first, found_next}
-use Rattle.drain_grid.specs.RulesAbout.{part_rules}
+use Rattle.drain_rules.proofs.Names.{Some, None, arith, VoidCell, NotLeast, Label, found_first, found_next, part_rules}
 use Rattle.drain_rules.proofs.PartFaults.{fill_to}
 use Rattle.drain_rules.proofs.part_rules.part_fault.Goals as goal
 

@@ -1,7 +1,4 @@
-use Rattle.std.proofs.Common.{arith}
-use Rattle.drain_grid.specs.declared.rule.Rule.TheVariants.{BelowGround, NotLeast}
-use Rattle.drain_grid.specs.PatchRules.{surface_rules}
-use Rattle.drain_grid.proofs.AllRules.{holds_alone, found_next}
+use Rattle.drain_rules.proofs.Names.{arith, BelowGround, NotLeast, surface_rules, holds_alone, found_next}
 use Rattle.drain_rules.proofs.patch_rules.fill_fault.Goals as goal
 
 pub returns-then-is_above : goal.returns-then-is_above

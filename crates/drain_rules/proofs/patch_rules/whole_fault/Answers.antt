@@ -1,6 +1,4 @@
-use Rattle.std.proofs.Common.{Some, None, arith}
-use Rattle.drain_grid.specs.declared.rule.Rule.TheVariants.{VoidCell, NotLeast, OutletCode, FlatStep, Accumulation, Label}
-use Rattle.drain_grid.proofs.AllRules.{found_next}
+use Rattle.drain_rules.proofs.Names.{Some, None, arith, VoidCell, NotLeast, OutletCode, FlatStep, Accumulation, Label, found_next}
 use Rattle.drain_rules.proofs.Faults.{fill_to, flow_to, fault_of_patch, whole}
 use Rattle.drain_rules.proofs.patch_rules.whole_fault.Goals as goal
 

@@ -1,13 +1,5 @@
-use Rattle.std.proofs.Common.{◌≡◌, ℕ, ◌<◌, ap, arith, refl, sym, subst}
+use Rattle.drain_rules.proofs.Names.{◌≡◌, ℕ, ◌<◌, ap, arith, refl, sym, subst, Extent, Grid, Products, patch_at, AllWithRanks, NoDataNumbers, grid_of, products_of, HasNewLabel, AreRowPatches, place, IsVerdict}
 use Rattle.std.proofs.lemmas.Result.{err_from_is_err_and}
-use Rattle.drain_grid.specs.Extent.{Extent}
-use Rattle.drain_grid.specs.Grid.{Grid, Products, patch_at}
-use Rattle.drain_grid.specs.declared.judged.Judged.TheVariants.{AllWithRanks}
-use Rattle.drain_grid.specs.Values.{NoDataNumbers}
-use Rattle.drain_grid.specs.WholeGrid.{grid_of, products_of}
-use Rattle.drain_rules.specs.Labels.{HasNewLabel}
-use Rattle.drain_rules.specs.Rows.{AreRowPatches, place}
-use Rattle.drain_rules.specs.Verdicts.{IsVerdict}
 use Rattle.drain_rules.proofs.raster_walk.walk.Goals as goal
 
 -- the rasters' row is a row of their grid

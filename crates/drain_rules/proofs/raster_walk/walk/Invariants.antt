@@ -1,6 +1,4 @@
-use Rattle.std.proofs.Common.{◌≡◌}
-use Rattle.drain_grid.specs.WholeGrid.{grid_of, products_of}
-use Rattle.drain_rules.specs.Walks.{IsRightOfAll}
+use Rattle.drain_rules.proofs.Names.{◌≡◌, grid_of, products_of, IsRightOfAll}
 use Rattle.drain_rules.proofs.raster_walk.walk.Given as goal
 
 -- the rows that were passed were checked, and what was found is right of them

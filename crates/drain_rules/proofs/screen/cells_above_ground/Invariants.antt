@@ -1,5 +1,4 @@
-use Rattle.std.proofs.Common.{length, ◌-◌, ◌≤◌, ◌<◌, ℕ}
-use Rattle.drain_fill.specs.Below.{IsBelowAt}
+use Rattle.drain_rules.proofs.Names.{length, ◌-◌, ◌≤◌, ◌<◌, ℕ, IsBelowAt}
 use Rattle.drain_rules.proofs.screen.cells_above_ground.Given as goal
 
 abbrev pub invariant-loop-at : goal.invariant-loop-at

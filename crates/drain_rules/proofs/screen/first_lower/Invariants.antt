@@ -1,5 +1,4 @@
-use Rattle.std.proofs.Common.{◌<◌, ℕ}
-use Rattle.drain_fill.specs.Below.{IsBelowAt}
+use Rattle.drain_rules.proofs.Names.{◌<◌, ℕ, IsBelowAt}
 use Rattle.drain_rules.proofs.screen.first_lower.Given as goal
 
 -- none of the places that were passed is below

@@ -1,5 +1,4 @@
-use Rattle.std.proofs.Common.{pos, arith}
-use Rattle.std.proofs.lemmas.List.{ext_get_or}
+use Rattle.drain_rules.proofs.Names.{pos, arith, ext_get_or}
 use Rattle.drain_rules.proofs.screen.narrow.Goals as goal
 
 pub returns-clause-same : goal.returns-clause-same

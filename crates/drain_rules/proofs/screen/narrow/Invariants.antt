@@ -1,5 +1,4 @@
-use Rattle.std.proofs.Common.{◌≡◌, IsTrue, length}
-use Rattle.drain_fill.specs.Below.{AreRowHeights}
+use Rattle.drain_rules.proofs.Names.{◌≡◌, IsTrue, length, AreRowHeights}
 use Rattle.drain_rules.proofs.RowPatches.{ArePut}
 use Rattle.drain_rules.proofs.screen.narrow.Given as goal
 

@@ -1,10 +1,4 @@
-use Rattle.std.proofs.Common.{ℕ, ◌<◌, ◌≤◌, inl, inr, sym, arith, below_more}
-use Rattle.std.proofs.lemmas.Bool.{cases_lt}
-use Rattle.drain_grid.specs.declared.patch.Patch.{Patch}
-use Rattle.drain_grid.specs.PatchRules.{Profile}
-use Rattle.drain_kernel.specs.Columns.{IsKept}
-use Rattle.drain_grid.specs.RulesAbout.{tried}
-use Rattle.drain_rules.specs.ThreeRows.{patch_in}
+use Rattle.drain_rules.proofs.Names.{ℕ, ◌<◌, ◌≤◌, inl, inr, sym, arith, below_more, cases_lt, Patch, Profile, IsKept, tried, patch_in}
 use Rattle.drain_rules.proofs.LanedPatches.{patch_shown, patch_shown_round}
 use Rattle.drain_rules.proofs.three_rows.cleared_until.Goals as goal
 

@@ -1,7 +1,4 @@
-use Rattle.std.proofs.Common.{ℕ, ◌-◌, ◌<◌, ◌≤◌}
-use Rattle.drain_kernel.specs.Columns.{IsKept}
-use Rattle.drain_grid.specs.RulesAbout.{tried}
-use Rattle.drain_rules.specs.ThreeRows.{patch_in}
+use Rattle.drain_rules.proofs.Names.{ℕ, ◌-◌, ◌<◌, ◌≤◌, IsKept, tried, patch_in}
 use Rattle.drain_rules.proofs.three_rows.cleared_until.Given as goal
 
 -- the cells that were passed are cleared

@@ -1,9 +1,5 @@
-use Rattle.std.proofs.Common.{refl, ◌≡◌, ℤ, Bool, Result, Ok, Err, IsTrue, to_z, of_z, w64, arith, sym, ap, ◌∙◌, subst, inl, inr}
-use Rattle.std.specs.Prelude.{◌↔◌, ◌⊎◌, IfOk, OnOk, OnErr, IsOk}
-use Rattle.std.proofs.lemmas.Int.{ints, to_z-of_z}
-use Rattle.drain_basin.specs.Admitted.{IsAdmitted, LabelSet}
-use Rattle.drain_grid.specs.Values.{IsPixel, Values}
-use Rattle.drain_rules.specs.Labels.{IsLabelOf, IsOutletByCode}
+use Rattle.drain_rules.proofs.Names.{refl, ◌≡◌, ℤ, Bool, Result, Ok, Err, IsTrue, to_z, of_z, w64, arith, sym, ap, ◌∙◌, subst, inl, inr, IfOk, OnOk, OnErr, IsOk, ints, to_z-of_z, IsAdmitted, LabelSet, IsPixel, Values, IsLabelOf, IsOutletByCode}
+use Rattle.std.specs.Prelude.{◌↔◌, ◌⊎◌}
 use Rattle.drain_rules.proofs.walk.admits_label.Goals as goal
 
 -- a pixel goes through 64 bits unchanged

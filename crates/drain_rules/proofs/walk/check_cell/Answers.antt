@@ -1,7 +1,4 @@
-use Rattle.std.proofs.Common.{IsTrue}
-use Rattle.drain_grid.specs.Judged.{has_bas}
-use Rattle.drain_grid.specs.RulesAbout.{tried}
-use Rattle.drain_rules.specs.Compared.{IfCompared}
+use Rattle.drain_rules.proofs.Names.{IsTrue, has_bas, tried, IfCompared}
 use Rattle.drain_rules.proofs.Faults.{holds_tried, untried}
 use Rattle.drain_rules.proofs.walk.check_cell.Goals as goal
 use Rattle.drain_rules.proofs.walk.check_cell.Goals.{then-is_new, else-is_new}

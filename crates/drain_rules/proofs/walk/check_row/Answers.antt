@@ -1,11 +1,4 @@
-use Rattle.std.proofs.Common.{◌≡◌, ℕ, ◌+◌, ◌≤◌, min, refl, sym, ◌∙◌, ap, subst, arith}
-use Rattle.drain_grid.specs.declared.cell.TheConstants.{MAX_LENGTH}
-use Rattle.drain_grid.specs.declared.patch.Patch.{Patch}
-use Rattle.drain_grid.specs.RulesAbout.{tried}
-use Rattle.drain_rules.specs.declared.walk.Area.{Area}
-use Rattle.drain_rules.specs.Areas.{HasCell}
-use Rattle.drain_rules.specs.Compared.{IsTriedIf}
-use Rattle.drain_rules.specs.Rows.{place}
+use Rattle.drain_rules.proofs.Names.{◌≡◌, ℕ, ◌+◌, ◌≤◌, min, refl, sym, ◌∙◌, ap, subst, arith, MAX_LENGTH, Patch, tried, Area, HasCell, IsTriedIf, place}
 use Rattle.drain_rules.proofs.CountBounds.{bounds-next, raised-fit}
 use Rattle.drain_rules.proofs.KeptCells.{bounds-kept}
 use Rattle.drain_rules.proofs.LabelSteps.{along-run, to-begin, to-next-row}

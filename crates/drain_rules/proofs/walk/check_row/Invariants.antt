@@ -1,9 +1,4 @@
-use Rattle.std.proofs.Common.{◌≡◌, ◌-◌, ◌≤◌, min}
-use Rattle.drain_grid.specs.Grid.{Grid, Products}
-use Rattle.drain_grid.specs.RulesAbout.{tried}
-use Rattle.drain_rules.specs.Areas.{OfAreaRow}
-use Rattle.drain_rules.specs.Compared.{IsTriedIf}
-use Rattle.drain_rules.specs.Rows.{IsAtMost, place}
+use Rattle.drain_rules.proofs.Names.{◌≡◌, ◌-◌, ◌≤◌, min, Grid, Products, tried, OfAreaRow, IsTriedIf, IsAtMost, place}
 use Rattle.drain_rules.proofs.PassedCells.{IsPassed}
 use Rattle.drain_rules.proofs.walk.check_row.Given as goal
 

@@ -1,7 +1,4 @@
-use Rattle.std.proofs.Common.{◌+◌, arith}
-use Rattle.drain_grid.specs.RulesAbout.{tried}
-use Rattle.drain_rules.specs.Compared.{IsTriedIf}
-use Rattle.drain_rules.specs.Rows.{place}
+use Rattle.drain_rules.proofs.Names.{◌+◌, arith, tried, IsTriedIf, place}
 use Rattle.drain_rules.proofs.AllCells.{new_label-row}
 use Rattle.drain_rules.proofs.AreaGrids.{first-row, sound-more}
 use Rattle.drain_rules.proofs.walk.find_in_row.Goals as goal

@@ -1,8 +1,5 @@
-use Rattle.std.proofs.Common.{rules, subst}
-use Rattle.drain_header.specs.Faults.{DescribesOf}
-use Rattle.drain_header.specs.Header.{AreWithinBounds}
+use Rattle.drain_sets.proofs.Names.{rules, subst, DescribesOf, AreWithinBounds, kind_of}
 use Rattle.drain_sets.proofs.MissingHeaders.{reads_as_map}
-use Rattle.drain_header.specs.Lines.{kind_of}
 use Rattle.drain_sets.proofs.missing.missing_header.Goals as goal
 
 pub returns-in-Ok-clause-reads : goal.returns-in-Ok-clause-reads

@@ -1,8 +1,5 @@
-use Rattle.std.proofs.Common.{rules, ◌*◌, ◌/◌, ◌≤◌, arith, sym, ap, subst, ◌∙◌, w64}
-use Rattle.std.proofs.lemmas.Int.{to_z-of_z}
-use Rattle.drain_floats.specs.Patterns.{IsFloatNumber}
-use Rattle.drain_grid.specs.Values.{IsNoData}
-use Rattle.drain_sets.specs.ProductHeaders.{con_no_data}
+use Rattle.drain_sets.proofs.Names.{rules, ◌*◌, ◌/◌, ◌≤◌, arith, sym, ap, subst, ◌∙◌, to_z-of_z, IsFloatNumber, IsNoData, con_no_data}
+use Rattle.std.proofs.Common.{w64}
 use Rattle.drain_sets.proofs.HeaderBounds.{con_number, packed_fits, packed_holds}
 use Rattle.drain_sets.proofs.HeaderBounds.{con_float}
 use Rattle.drain_sets.proofs.product_headers.con_header_on.Goals as goal

@@ -1,6 +1,5 @@
-use Rattle.std.proofs.Common.{◌∙◌, ◌*◌, ◌/◌, ap, rules, false}
+use Rattle.drain_sets.proofs.Names.{◌∙◌, ◌*◌, ◌/◌, ap, rules, false, to_z-of_z}
 use mir.Syntax.{w64}
-use Rattle.std.proofs.lemmas.Int.{to_z-of_z}
 use Rattle.drain_sets.proofs.HeaderBounds.{product_bounds}
 use Rattle.drain_sets.proofs.product_headers.header_beside.Goals as goal
 

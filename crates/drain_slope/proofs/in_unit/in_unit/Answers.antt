@@ -1,6 +1,4 @@
-use Rattle.std.proofs.Common.{◌*ℤ◌, FitsSigned, ◌∙◌, ap, to_z, of_z}
-use Rattle.std.specs.Int.{w64}
-use Rattle.std.proofs.lemmas.Int.{to_z-of_z}
+use Rattle.drain_slope.proofs.Names.{◌*ℤ◌, FitsSigned, ◌∙◌, ap, to_z, of_z, w64, to_z-of_z}
 use Rattle.drain_slope.proofs.Units.{in_units}
 use Rattle.drain_slope.proofs.in_unit.in_unit.Goals as goal
 

@@ -1,7 +1,4 @@
-use Rattle.std.proofs.Common.{◌≡◌, ◌^◌, ℤ, pos, ◌*ℤ◌, FitsSigned, sym, ◌∙◌, ap, to_z, of_z}
-use Rattle.std.specs.Int.{w64}
-use Rattle.std.proofs.lemmas.Int.{to_z-of_z}
-use Rattle.drain_slope.specs.Terms.{term_value}
+use Rattle.drain_slope.proofs.Names.{◌≡◌, ◌^◌, ℤ, pos, ◌*ℤ◌, FitsSigned, sym, ◌∙◌, ap, to_z, of_z, w64, to_z-of_z, term_value}
 use Rattle.drain_slope.proofs.Units.{drops_in_units}
 use Rattle.drain_slope.proofs.in_unit.is_steeper_in_unit.Goals as goal
 

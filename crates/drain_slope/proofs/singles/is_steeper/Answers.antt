@@ -1,8 +1,4 @@
-use Rattle.std.proofs.Common.{◌≡◌, ℤ, FitsSigned, ◌∙◌, ap, to_z, of_z}
-use Rattle.std.specs.Int.{w64}
-use Rattle.std.proofs.lemmas.Int.{to_z-of_z}
-use Rattle.drain_grid.specs.HeightKinds.{single_height}
-use Rattle.drain_slope.specs.Terms.{term_value}
+use Rattle.drain_slope.proofs.Names.{◌≡◌, ℤ, FitsSigned, ◌∙◌, ap, to_z, of_z, w64, to_z-of_z, single_height, term_value}
 use Rattle.drain_slope.proofs.Units.{same_drops}
 use Rattle.drain_slope.proofs.singles.is_steeper.Goals as goal
 

@@ -1,8 +1,4 @@
-use Rattle.std.proofs.Common.{◌≡◌, ℕ, ◌*◌, ◌<◌, ◌↔◌, Bool, IsTrue, ℤ, pos, neg_ℤ, ◌-ℤ◌, ◌*ℤ◌, ◌<ℤ◌, ◌∙◌, ap, arith, to_z, of_z}
-use Rattle.std.specs.Int.{w128}
-use Rattle.std.proofs.lemmas.Int.{ints}
-use Rattle.drain_slope.specs.declared.terms.Term.{Term}
-use Rattle.drain_slope.specs.Terms.{term_value, sum_value}
+use Rattle.drain_slope.proofs.Names.{◌≡◌, ℕ, ◌*◌, ◌<◌, ◌↔◌, Bool, IsTrue, ℤ, pos, neg_ℤ, ◌-ℤ◌, ◌*ℤ◌, ◌<ℤ◌, ◌∙◌, ap, arith, to_z, of_z, w128, ints, Term, term_value, sum_value}
 use Rattle.drain_slope.proofs.Squares.{products_across, sum_decides}
 use Rattle.drain_slope.proofs.singles.is_steeper_by_terms.Goals as goal
 

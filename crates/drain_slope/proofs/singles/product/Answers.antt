@@ -1,6 +1,4 @@
-use Rattle.std.proofs.Common.{◌≡◌, ◌*ℤ◌, FitsSigned, ◌∙◌, ap, arith, to_z, of_z}
-use Rattle.std.specs.Int.{w128}
-use Rattle.std.proofs.lemmas.Int.{ints, to_z-of_z}
+use Rattle.drain_slope.proofs.Names.{◌≡◌, ◌*ℤ◌, FitsSigned, ◌∙◌, ap, arith, to_z, of_z, w128, ints, to_z-of_z}
 use Rattle.drain_slope.proofs.Squares.{product_value}
 use Rattle.drain_slope.proofs.singles.product.Goals as goal
 

@@ -1,9 +1,4 @@
-use Rattle.std.proofs.Common.{◌≡◌, ℕ, suc, ◌+◌, ◌-◌, ◌<◌, ◌^◌, ℤ, pos, ◌*ℤ◌, ◌+ℤ◌, refl, sym, subst, arith, to_z, of_z}
-use Rattle.std.specs.Int.{w128}
-use Rattle.std.proofs.lemmas.Int.{ints}
-use Rattle.std.proofs.lemmas.Bool.{false≢true}
-use Rattle.drain_slope.specs.declared.terms.Sum.{Sum}
-use Rattle.drain_slope.specs.Terms.{level_of}
+use Rattle.drain_slope.proofs.Names.{◌≡◌, ℕ, suc, ◌+◌, ◌-◌, ◌<◌, ◌^◌, ℤ, pos, ◌*ℤ◌, ◌+ℤ◌, refl, sym, subst, arith, to_z, of_z, w128, ints, false≢true, Sum, level_of}
 use Rattle.drain_slope.proofs.Sums.{IsSplit, split_first, split_next, above_from_head, below_from_head, last_decides}
 use Rattle.drain_slope.proofs.terms.is_above_0.Goals as goal
 

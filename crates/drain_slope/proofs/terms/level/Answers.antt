@@ -1,5 +1,4 @@
-use Rattle.std.proofs.Common.{arith}
-use Rattle.std.proofs.lemmas.Int.{ints}
+use Rattle.drain_slope.proofs.Names.{arith, ints}
 use Rattle.drain_slope.proofs.terms.level.Goals as goal
 
 pub returns-clause-low : goal.returns-clause-low

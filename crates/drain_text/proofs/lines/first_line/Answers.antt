@@ -1,8 +1,5 @@
-use Rattle.std.proofs.Common.{◌∷◌, ◌+◌, length, arith, sym, ap, ◌∙◌, not}
-use Rattle.std.specs.Prelude.{◌==◌}
-use Rattle.std.proofs.lemmas.List.{take_rest}
-use Rattle.std.proofs.lemmas.List.Sums.{prefix_len_is}
-use Rattle.drain_text.specs.Text.{lines_of}
+use Rattle.drain_text.proofs.Names.{◌∷◌, ◌+◌, length, arith, sym, ap, ◌∙◌, ◌==◌, take_rest, prefix_len_is, lines_of}
+use Rattle.std.proofs.Common.{not}
 use Rattle.drain_text.proofs.Splitting.{line_ends, line_alone, not_true, not_false}
 use Rattle.drain_text.proofs.lines.first_line.Goals as goal
 

@@ -1,7 +1,4 @@
-use Rattle.std.proofs.Common.{◌≡◌, ◌-◌, ◌^◌, min, drop, take}
-use Rattle.std.specs.List.{list_all}
-use Rattle.std.specs.Char.{is_ascii_digit}
-use Rattle.std.specs.Str.Parse.{digits_value}
+use Rattle.drain_text.proofs.Names.{◌≡◌, ◌-◌, ◌^◌, min, drop, take, list_all, is_ascii_digit, digits_value}
 use Rattle.drain_text.proofs.numbers.whole_number.Given as goal
 
 abbrev pub invariant-loop-byte : goal.invariant-loop-byte

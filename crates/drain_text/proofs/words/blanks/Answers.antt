@@ -1,6 +1,4 @@
-use Rattle.std.proofs.Common.{arith, sym, ◌∙◌}
-use Rattle.std.proofs.lemmas.List.Sums.{prefix_len_is}
-use Rattle.drain_text.specs.Parts.{is_blank}
+use Rattle.drain_text.proofs.Names.{arith, sym, ◌∙◌, prefix_len_is, is_blank}
 use Rattle.drain_text.proofs.words.blanks.Goals as goal
 
 pub returns-then-not-is_blank : goal.returns-then-not-is_blank

@@ -1,5 +1,4 @@
-use Rattle.std.proofs.Common.{◌≡◌, ℕ, ◌<◌, get_or, true}
-use Rattle.drain_text.specs.Parts.{is_blank}
+use Rattle.drain_text.proofs.Names.{◌≡◌, ℕ, ◌<◌, get_or, true, is_blank}
 use Rattle.drain_text.proofs.words.blanks.Given as goal
 
 abbrev pub invariant-loop-at : goal.invariant-loop-at

@@ -1,10 +1,4 @@
-use Rattle.std.proofs.Common.{◌≡◌, ℕ, List, ◌∷◌, ◌-◌, length, take, drop, arith, sym, ap, ◌∙◌}
-use Rattle.std.proofs.lemmas.Bool.{eqb-true, eqb-false}
-use Rattle.std.proofs.lemmas.List.{take_rest}
-use Rattle.std.proofs.lemmas.List.Sums.{prefix_len-le-length}
-use Rattle.std.specs.List.{prefix_len}
-use Rattle.drain_text.specs.Text.{words_of}
-use Rattle.drain_text.specs.Parts.{is_blank, is_inked}
+use Rattle.drain_text.proofs.Names.{◌≡◌, ℕ, List, ◌∷◌, ◌-◌, length, take, drop, arith, sym, ap, ◌∙◌, eqb-true, eqb-false, take_rest, prefix_len-le-length, prefix_len, words_of, is_blank, is_inked}
 use Rattle.drain_text.proofs.Splitting.{words_of_rest, no_words}
 use Rattle.drain_text.proofs.words.first_word.Goals as goal
 

@@ -1,7 +1,5 @@
-use Rattle.std.proofs.Common.{arith, sym, ap, ◌∙◌}
+use Rattle.drain_text.proofs.Names.{arith, sym, ap, ◌∙◌, prefix_len_is, is_inked}
 use Rattle.std.specs.Prelude.{not}
-use Rattle.std.proofs.lemmas.List.Sums.{prefix_len_is}
-use Rattle.drain_text.specs.Parts.{is_inked}
 use Rattle.drain_text.proofs.words.word_length.Goals as goal
 
 pub returns-then-is_blank : goal.returns-then-is_blank

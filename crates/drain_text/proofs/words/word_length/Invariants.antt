@@ -1,5 +1,4 @@
-use Rattle.std.proofs.Common.{◌≡◌, ℕ, ◌<◌, get_or, true}
-use Rattle.drain_text.specs.Parts.{is_inked}
+use Rattle.drain_text.proofs.Names.{◌≡◌, ℕ, ◌<◌, get_or, true, is_inked}
 use Rattle.drain_text.proofs.words.word_length.Given as goal
 
 abbrev pub invariant-loop-at : goal.invariant-loop-at

@@ -1,5 +1,4 @@
-use Rattle.std.proofs.Common.{◌≡◌, ◌↔◌, ◌∙◌, ℕ, IsTrue, ap, cond, max, nat_eq, subst, sym}
-use Rattle.drain_basin.specs.Admitted.{high_bit, low_bit, set_bit, IsAdmitted, LabelSet}
+use Rattle.drain_basin.proofs.Names.{◌≡◌, ◌↔◌, ◌∙◌, ℕ, IsTrue, ap, cond, max, nat_eq, subst, sym, high_bit, low_bit, set_bit, IsAdmitted, LabelSet}
 use Rattle.drain_basin.proofs.Bits.{low_past, whole}
 use Rattle.drain_basin.proofs.Labels.{adds_high, adds_low, admitted_after, new_where_clear, only_high, only_low, place_of, Adds}
 use Rattle.drain_basin.proofs.outlets.OutletLabels.admit.Goals as goal

@@ -1,7 +1,5 @@
-use Rattle.std.proofs.Common.{rules, arith, inl, inr}
-use Rattle.drain_grid.specs.declared.cell.Cell.{Cell}
-use Rattle.drain_grid.specs.Extent.{IsEarlier}
-use Rattle.drain_rules.specs.Rows.{place}
+use Rattle.drain_faults.proofs.Names.{arith, inl, inr, Cell, IsEarlier, place}
+use Rattle.std.proofs.Common.{rules}
 use Rattle.drain_faults.proofs.fault_walk.FaultWalk.new.Goals as goal
 
 none_earlier : (b : Cell) → IsEarlier b (place 0 0) → ⊥

@@ -1,6 +1,4 @@
-use Rattle.std.proofs.Common.{Some, None, subst}
-use Rattle.drain_rules.specs.Walks.{cells_above}
-use Rattle.drain_faults.specs.Faults.{IsFirstPatch}
+use Rattle.drain_faults.proofs.Names.{Some, None, subst, cells_above, IsFirstPatch}
 use Rattle.drain_faults.proofs.FaultSteps.{counts_are}
 use Rattle.drain_faults.proofs.RowOrder.{all_hold, first_fault}
 use Rattle.drain_faults.proofs.fault_walk.FaultWalk.verdict.Goals as goal

@@ -1,9 +1,5 @@
-use Rattle.std.proofs.Common.{◌≡◌, ◌+◌, ◌<◌, false, true, get_or, below_more, sym, ◌∙◌, arith}
-use Rattle.std.proofs.lemmas.Bool.{false≢true}
-use Rattle.drain_grid.specs.declared.rule.Rule.TheVariants.{VoidCell}
-use Rattle.drain_grid.specs.Rule.{rule_number}
+use Rattle.drain_faults.proofs.Names.{◌≡◌, ◌+◌, ◌<◌, false, true, get_or, below_more, sym, ◌∙◌, arith, false≢true, VoidCell, rule_number, of_rule}
 use Rattle.drain_grid.proofs.AllRules.{rules}
-use Rattle.drain_faults.specs.CellFaults.{of_rule}
 use Rattle.drain_faults.proofs.RulePlaces.{of_each, of_lesser, place_at}
 use Rattle.drain_faults.proofs.per_rule.PerRule+bool.least.Goals as goal
 

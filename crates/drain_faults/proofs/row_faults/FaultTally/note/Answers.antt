@@ -1,8 +1,4 @@
-use Rattle.std.proofs.Common.{◌≡◌, false, arith}
-use Rattle.drain_grid.specs.declared.rule.Rule.TheVariants.{VoidCell, Missing}
-use Rattle.drain_grid.specs.Rule.{IsAnyRule}
-use Rattle.drain_rules.proofs.Faults.{IsLeastFault-same}
-use Rattle.drain_faults.specs.CellFaults.{of_rule, HoldsIfTried}
+use Rattle.drain_faults.proofs.Names.{◌≡◌, false, arith, VoidCell, Missing, IsAnyRule, IsLeastFault-same, of_rule, HoldsIfTried}
 use Rattle.drain_faults.proofs.PatchFlags.{noted_by, tells_iff}
 use Rattle.drain_faults.proofs.TriedRules.{told_here}
 use Rattle.drain_faults.proofs.row_faults.FaultTally.note.Goals as goal

@@ -1,6 +1,5 @@
-use Rattle.std.proofs.Common.{◌≡◌, ◌+◌, ◌∙◌, sym, subst}
+use Rattle.drain_filled.proofs.Names.{◌≡◌, ◌+◌, ◌∙◌, sym, subst, AreFirstCon}
 use Rattle.drain_grid.specs.declared.set_product.SetProduct.TheVariants.{Con}
-use Rattle.drain_filled.specs.ConRows.{AreFirstCon}
 use Rattle.drain_filled.proofs.FirstCon.{AreFirstCon-row, row_marks}
 use Rattle.drain_rows.proofs.WindowLemmas.{on-ok}
 use Rattle.drain_filled.proofs.con_rows.ConRowsRowVisitor.note.Goals as goal

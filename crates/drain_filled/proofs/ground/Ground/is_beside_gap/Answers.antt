@@ -1,9 +1,4 @@
-use Rattle.std.proofs.Common.{◌∙◌, inl, inr, get_or, refl, sym, subst, arith}
-use Rattle.std.proofs.lemmas.Bool.{cases_order, false≢true}
-use Rattle.drain_grid.specs.declared.direction.Direction.TheVariants.{East}
-use Rattle.drain_grid.specs.Direction.{directions}
-use Rattle.drain_grid.proofs.Neighbors.{of_each}
-use Rattle.drain_filled.specs.Grounds.{IsGapBeside}
+use Rattle.drain_filled.proofs.Names.{◌∙◌, inl, inr, get_or, refl, sym, subst, arith, cases_order, false≢true, East, directions, of_each, IsGapBeside}
 use Rattle.drain_filled.proofs.ground.Ground.is_beside_gap.Goals as goal
 
 pub returns-then-is_gap : goal.returns-then-is_gap

@@ -1,8 +1,5 @@
 -- In no direction so far there is a gap.
-use Rattle.std.proofs.Common.{ℕ, ◌<◌, get_or}
-use Rattle.drain_grid.specs.declared.direction.Direction.TheVariants.{East}
-use Rattle.drain_grid.specs.Direction.{directions}
-use Rattle.drain_filled.specs.Grounds.{IsGapBeside}
+use Rattle.drain_filled.proofs.Names.{ℕ, ◌<◌, get_or, East, directions, IsGapBeside}
 use Rattle.drain_filled.proofs.ground.Ground.is_beside_gap.Given as goal
 
 abbrev pub invariant-loop-direction : goal.invariant-loop-direction

@@ -1,6 +1,5 @@
-use Rattle.std.proofs.Common.{◌≡◌, ◌∙◌, sym, rules, w64, to_z, of_z}
-use Rattle.std.proofs.lemmas.Int.{to_z-of_z}
-use Rattle.std.proofs.lemmas.List.Sorted.{first_le_from_greatest}
+use Rattle.drain_filled.proofs.Names.{◌≡◌, ◌∙◌, sym, rules, to_z-of_z, first_le_from_greatest}
+use Rattle.std.proofs.Common.{w64, to_z, of_z}
 use Rattle.std.specs.Ordering.{nat_cmp}
 use Rattle.drain_filled.proofs.Waits.{lowest_pair, taken_pair}
 use Rattle.drain_filled.proofs.height_queue.HeightQueue.pop.Goals as goal

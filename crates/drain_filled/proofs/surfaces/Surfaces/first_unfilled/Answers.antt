@@ -1,8 +1,4 @@
-use Rattle.std.proofs.Common.{◌∙◌, ℤ, pos, List, get_or, ap, sym, subst}
-use Rattle.std.proofs.lemmas.Result.{IfOk-weaker}
-use Rattle.drain_grid.specs.Extent.{index_of}
-use Rattle.drain_filled.specs.Compared.{listed_at}
-use Rattle.drain_filled.specs.Sweeps.{IsBetween}
+use Rattle.drain_filled.proofs.Names.{◌∙◌, ℤ, pos, List, get_or, ap, sym, subst, IfOk-weaker, index_of, listed_at, IsBetween}
 use Rattle.drain_filled.proofs.FirstUnfilled.{con_compared}
 use Rattle.drain_filled.proofs.surfaces.Surfaces.first_unfilled.Goals as goal
 

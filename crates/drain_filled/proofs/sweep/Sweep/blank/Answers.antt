@@ -1,7 +1,5 @@
-use Rattle.std.proofs.Common.{◌≡◌, ◌*◌, ◌<◌, ◌∙◌, ℕ, ℤ, length, sym, ap, subst, arith}
+use Rattle.drain_filled.proofs.Names.{◌≡◌, ◌*◌, ◌<◌, ◌∙◌, ℕ, ℤ, length, sym, ap, subst, arith, All-nil, Extent}
 use Rattle.std.specs.List.{All}
-use Rattle.std.proofs.lemmas.List.Elements.{All-nil}
-use Rattle.drain_grid.specs.Extent.{Extent}
 use Rattle.drain_filled.proofs.sweep.Sweep.blank.Goals as goal
 
 pub invariant_of-result : goal.invariant_of-result

@@ -1,11 +1,6 @@
-use Rattle.std.proofs.Common.{◌≡◌, ◌∙◌, pos, get_or, sym, ap, subst, rules}
+use Rattle.drain_filled.proofs.Names.{◌≡◌, ◌∙◌, pos, get_or, sym, ap, subst, rules, SFits, false≢true, to_z-of_z, IsCellOf, index_of, UNREACHED, con_at, mark_at, Reaches}
 use mir.Syntax.{w64}
-use mir.Val.{SFits, to_z, of_z}
-use Rattle.std.proofs.lemmas.Bool.{false≢true}
-use Rattle.std.proofs.lemmas.Int.{to_z-of_z}
-use Rattle.drain_grid.specs.Extent.{IsCellOf, index_of}
-use Rattle.drain_flood.specs.declared.layers.TheConstants.{UNREACHED}
-use Rattle.drain_flood.specs.Floods.{con_at, mark_at, Reaches}
+use mir.Val.{to_z, of_z}
 use Rattle.drain_filled.proofs.Beginning.{begun_more, begun_passed, is_open_there, opens}
 use Rattle.drain_filled.proofs.sweep.Sweep.lay.Goals as goal
 use Rattle.drain_filled.proofs.sweep.Sweep.lay.Goals.{else-is_unreached-via-then-is_unreached+else-is_open, else-is_unreached-via-else-is_unreached}

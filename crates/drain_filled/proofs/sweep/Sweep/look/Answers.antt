@@ -1,9 +1,6 @@
-use Rattle.std.proofs.Common.{◌≡◌, ◌≤ℤ◌, pos, get_or, inl, inr, subst, ap, ◌∙◌, arith, rules}
+use Rattle.drain_filled.proofs.Names.{◌≡◌, ◌≤ℤ◌, pos, get_or, inl, inr, subst, ap, ◌∙◌, arith, rules, SFits, int_max, ints, to_z-of_z, con_at, Reaches}
 use mir.Syntax.{w64}
-use mir.Val.{SFits, to_z, of_z}
-use Rattle.std.specs.Int.{int_max}
-use Rattle.std.proofs.lemmas.Int.{ints, to_z-of_z}
-use Rattle.drain_flood.specs.Floods.{con_at, Reaches}
+use mir.Val.{to_z, of_z}
 use Rattle.drain_filled.proofs.sweep.Sweep.look.Goals as goal
 use Rattle.drain_filled.proofs.sweep.Sweep.look.Goals.{else-own-height-via-then-own-height+else-not-raises, else-own-height-via-else-own-height}
 

@@ -1,9 +1,7 @@
-use Rattle.std.proofs.Common.{◌≡◌, ◌∙◌, ◌||◌, sym, ap, subst, arith}
+use Rattle.drain_filled.proofs.Names.{◌≡◌, ◌∙◌, ◌||◌, sym, ap, subst, arith, to_z-of_z, IsBusyCell, IsLookedRound}
 use mir.Syntax.{w64}
 use mir.Val.{to_z, of_z}
-use Rattle.std.proofs.lemmas.Int.{to_z-of_z}
 use Rattle.drain_flood.proofs.Looking.{less_more}
-use Rattle.drain_filled.specs.Sweeps.{IsBusyCell, IsLookedRound}
 use Rattle.drain_filled.proofs.Moving.{around_on, around_all}
 use Rattle.drain_filled.proofs.sweep.Sweep.look_around.Goals as goal
 use Rattle.drain_filled.proofs.sweep.Sweep.look_around.Goals.{then-left, else-left}

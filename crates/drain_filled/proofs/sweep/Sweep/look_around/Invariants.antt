@@ -1,8 +1,5 @@
 -- The neighbours in the directions so far were looked at.
-use Rattle.std.proofs.Common.{◌≡◌, ℕ, List}
-use Rattle.drain_grid.specs.Grid.{Grid}
-use Rattle.drain_flood.specs.Turns.{IsLessWork}
-use Rattle.drain_filled.specs.Sweeps.{IsBusyAround, IsBusyCell}
+use Rattle.drain_filled.proofs.Names.{◌≡◌, ℕ, List, Grid, IsLessWork, IsBusyAround, IsBusyCell}
 use Rattle.drain_filled.proofs.sweep.Sweep.look_around.Given as goal
 
 abbrev pub invariant-loop-direction : goal.invariant-loop-direction

@@ -1,7 +1,4 @@
-use Rattle.std.proofs.Common.{◌≡◌, ◌*◌, ◌∙◌, sym, ap, arith}
-use Rattle.drain_grid.specs.Extent.{Extent}
-use Rattle.drain_grid.proofs.Runs.{index_of-below}
-use Rattle.drain_flood.specs.Floods.{Flooding}
+use Rattle.drain_filled.proofs.Names.{◌≡◌, ◌*◌, ◌∙◌, sym, ap, arith, Extent, index_of-below, Flooding}
 use Rattle.drain_filled.proofs.Beginning.{begun_none, between_there}
 use Rattle.drain_filled.proofs.Ending.{begun_is_sweep}
 use Rattle.drain_filled.proofs.sweep.Sweep.start.Goals as goal

@@ -1,9 +1,5 @@
 -- The cells so far are reached if they are open.
-use Rattle.std.proofs.Common.{◌≡◌, pos, slice_index_or}
-use Rattle.drain_grid.specs.Extent.{index_of}
-use Rattle.drain_grid.specs.Grid.{Grid}
-use Rattle.drain_filled.specs.Grounds.{HasDataCells}
-use Rattle.drain_filled.specs.Sweeps.{IsBegun, IsBetween}
+use Rattle.drain_filled.proofs.Names.{◌≡◌, pos, slice_index_or, index_of, Grid, HasDataCells, IsBegun, IsBetween}
 use Rattle.drain_filled.proofs.sweep.Sweep.start.Given as goal
 
 abbrev pub invariant-loop-place : goal.invariant-loop-place

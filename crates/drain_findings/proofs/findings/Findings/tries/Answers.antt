@@ -1,7 +1,5 @@
-use Rattle.std.proofs.Common.{◌≡◌, ◌∙◌, inl, inr, sym, subst, Some, IsTrue}
-use Rattle.drain_grid.specs.Judged.{has_product}
+use Rattle.drain_findings.proofs.Names.{◌≡◌, ◌∙◌, inl, inr, sym, subst, Some, IsTrue, has_product, judged}
 use Rattle.drain_grid.proofs.Tallies.{none_some, same_some}
-use Rattle.drain_findings.specs.LookedAt.{judged}
 use Rattle.drain_findings.proofs.TriedRules.{IsBroken, IsLookedAt, missing, tried_rule, void_cell}
 use Rattle.drain_findings.proofs.UntriedRules.{untried_rule}
 use Rattle.drain_findings.proofs.findings.Findings.tries.Goals as goal

@@ -1,5 +1,4 @@
-use Rattle.std.proofs.Common.{◌≡◌, ◌*◌, ◌∙◌, [], ap, subst, arith}
-use Rattle.drain_flood.specs.Flats.{AreLaid}
+use Rattle.drain_flood.proofs.Names.{◌≡◌, ◌*◌, ◌∙◌, [], ap, subst, arith, AreLaid}
 use Rattle.drain_flood.proofs.flats.Flats.find_low_edges.Goals as goal
 
 pub returns-clause-laid : goal.returns-clause-laid

@@ -1,7 +1,5 @@
 -- The cells so far were looked at.
-use Rattle.std.proofs.Common.{◌≡◌, []}
-use Rattle.drain_grid.specs.Grid.{Grid}
-use Rattle.drain_flood.specs.Flats.{AreLaid}
+use Rattle.drain_flood.proofs.Names.{◌≡◌, [], Grid, AreLaid}
 use Rattle.drain_flood.proofs.flats.Flats.find_low_edges.Given as goal
 
 abbrev pub invariant-loop-place : goal.invariant-loop-place

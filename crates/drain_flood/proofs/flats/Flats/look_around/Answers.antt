@@ -1,9 +1,4 @@
-use Rattle.std.proofs.Common.{◌≡◌, ◌*◌, ◌≤◌, ◌∙◌, sym, ap, subst, get_or, pos, rules}
-use mir.Syntax.{w64}
-use mir.Val.{SFits}
-use Rattle.std.proofs.lemmas.Int.{to_z-of_z}
-use Rattle.drain_grid.specs.Extent.{index_of, Extent}
-use Rattle.drain_flood.specs.declared.level_queue.TheConstants.{MAX_CELLS}
+use Rattle.drain_flood.proofs.Names.{◌≡◌, ◌*◌, ◌≤◌, ◌∙◌, sym, ap, subst, get_or, pos, rules, w64, SFits, to_z-of_z, index_of, Extent, MAX_CELLS}
 use Rattle.drain_flood.proofs.Walking.{walk_none, rank_seen}
 use Rattle.drain_flood.proofs.flats.Flats.look_around.Goals as goal
 

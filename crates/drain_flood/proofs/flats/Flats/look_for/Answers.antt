@@ -1,12 +1,4 @@
-use Rattle.std.proofs.Common.{◌≡◌, ◌+◌, ◌∙◌, [], sym, ap, subst, rules}
-use mir.Syntax.{w64}
-use mir.Val.{SFits, to_z, of_z}
-use Rattle.std.proofs.lemmas.Int.{to_z-of_z}
-use Rattle.drain_grid.specs.Extent.{IsCellOf, index_of}
-use Rattle.drain_flood.specs.declared.layers.TheConstants.{REACHED}
-use Rattle.drain_flood.specs.Floods.{con_at}
-use Rattle.drain_flood.specs.Flats.{way_at, AreLaid, Settles}
-use Rattle.drain_flood.specs.Walks.{IsLowEdgeThere}
+use Rattle.drain_flood.proofs.Names.{◌≡◌, ◌+◌, ◌∙◌, [], sym, ap, subst, rules, w64, SFits, to_z, of_z, to_z-of_z, IsCellOf, index_of, REACHED, con_at, way_at, AreLaid, Settles, IsLowEdgeThere}
 use Rattle.drain_flood.proofs.LowEdges.{looked_coded, looked_none, looked_found, way_seen, level_seen}
 use Rattle.drain_flood.proofs.flats.Flats.look_for.Goals as goal
 

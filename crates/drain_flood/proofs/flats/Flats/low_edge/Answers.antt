@@ -1,8 +1,4 @@
-use Rattle.std.proofs.Common.{MatchOption, subst}
-use mir.Syntax.{w64}
-use Rattle.std.proofs.lemmas.Int.{to_z-of_z}
-use Rattle.drain_grid.specs.declared.direction.Direction.{Direction}
-use Rattle.drain_flood.specs.Walks.{IsLowEdgeThere}
+use Rattle.drain_flood.proofs.Names.{MatchOption, subst, w64, to_z-of_z, Direction, IsLowEdgeThere}
 use Rattle.drain_flood.proofs.flats.Flats.low_edge.Goals as goal
 
 pub returns-then-is_inner : goal.returns-then-is_inner

@@ -1,12 +1,4 @@
-use Rattle.std.proofs.Common.{◌∙◌, inl, inr, get_or, sym, subst, arith}
-use mir.Syntax.{w64}
-use mir.Val.{to_z, of_z}
-use Rattle.std.proofs.lemmas.Bool.{cases_order, false≢true}
-use Rattle.std.proofs.lemmas.Int.{to_z-of_z}
-use Rattle.drain_grid.specs.declared.direction.Direction.TheVariants.{East}
-use Rattle.drain_grid.specs.Direction.{directions}
-use Rattle.drain_grid.proofs.Neighbors.{of_each}
-use Rattle.drain_flood.specs.Walks.{IsLowEdgeThere}
+use Rattle.drain_flood.proofs.Names.{◌∙◌, inl, inr, get_or, sym, subst, arith, w64, to_z, of_z, cases_order, false≢true, to_z-of_z, East, directions, of_each, IsLowEdgeThere}
 use Rattle.drain_flood.proofs.flats.Flats.low_edge_at_edge.Goals as goal
 
 pub loop-direction-preserved : goal.loop-direction-preserved

@@ -1,8 +1,5 @@
 -- In no direction so far there is a low edge.
-use Rattle.std.proofs.Common.{ℕ, ◌<◌, get_or}
-use Rattle.drain_grid.specs.declared.direction.Direction.TheVariants.{East}
-use Rattle.drain_grid.specs.Direction.{directions}
-use Rattle.drain_flood.specs.Walks.{IsLowEdgeThere}
+use Rattle.drain_flood.proofs.Names.{ℕ, ◌<◌, get_or, East, directions, IsLowEdgeThere}
 use Rattle.drain_flood.proofs.flats.Flats.low_edge_at_edge.Given as goal
 
 abbrev pub invariant-loop-direction : goal.invariant-loop-direction

@@ -1,10 +1,4 @@
-use Rattle.std.proofs.Common.{◌∙◌, sym, subst}
-use mir.Syntax.{w64}
-use mir.Val.{to_z, of_z}
-use Rattle.std.proofs.lemmas.Bool.{false≢true}
-use Rattle.std.proofs.lemmas.Int.{to_z-of_z}
-use Rattle.drain_grid.specs.declared.direction.Direction.{Direction}
-use Rattle.drain_flood.specs.Walks.{IsLowEdgeThere}
+use Rattle.drain_flood.proofs.Names.{◌∙◌, sym, subst, w64, to_z, of_z, false≢true, to_z-of_z, Direction, IsLowEdgeThere}
 use Rattle.drain_flood.proofs.Looking.{last_direction}
 use Rattle.drain_flood.proofs.flats.Flats.low_edge_inside.Goals as goal
 

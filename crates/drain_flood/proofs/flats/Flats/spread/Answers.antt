@@ -1,6 +1,4 @@
-use Rattle.std.proofs.Common.{◌≡◌, ◌*◌, ◌≤◌, ◌∙◌, ℕ, sym, ap, subst, arith}
-use Rattle.drain_grid.specs.Extent.{Extent}
-use Rattle.drain_flood.specs.Flats.{AreWaysOnFlats}
+use Rattle.drain_flood.proofs.Names.{◌≡◌, ◌*◌, ◌≤◌, ◌∙◌, ℕ, sym, ap, subst, arith, Extent, AreWaysOnFlats}
 use Rattle.drain_flood.proofs.Settling.{all_are_settled}
 use Rattle.drain_flood.proofs.Walking.{turn}
 use Rattle.drain_flood.proofs.flats.Flats.spread.Goals as goal

@@ -1,7 +1,5 @@
 -- What holds of the ways still holds; what is left to do falls.
-use Rattle.std.proofs.Common.{◌≡◌, ◌+◌, ◌*◌, [], length}
-use Rattle.drain_grid.specs.Grid.{Grid}
-use Rattle.drain_flood.specs.Flats.{wayless, AreLaid}
+use Rattle.drain_flood.proofs.Names.{◌≡◌, ◌+◌, ◌*◌, [], length, Grid, wayless, AreLaid}
 use Rattle.drain_flood.proofs.flats.Flats.spread.Given as goal
 
 abbrev pub invariant-loop-cell : goal.invariant-loop-cell

@@ -1,5 +1,4 @@
-use Rattle.std.proofs.Common.{◌≡◌, ◌*◌, ◌∙◌, length, sym, ap, subst}
-use Rattle.drain_flood.specs.Flats.{AreFirstRanks}
+use Rattle.drain_flood.proofs.Names.{◌≡◌, ◌*◌, ◌∙◌, length, sym, ap, subst, AreFirstRanks}
 use Rattle.drain_flood.proofs.LowEdges.{laid_first}
 use Rattle.drain_flood.proofs.flats.Flats.start.Goals as goal
 

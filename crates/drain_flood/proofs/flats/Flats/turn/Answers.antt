@@ -1,7 +1,4 @@
-use Rattle.std.proofs.Common.{subst}
-use mir.Syntax.{w64}
-use Rattle.std.proofs.lemmas.Int.{to_z-of_z}
-use Rattle.drain_flood.specs.Walks.{IsWalk}
+use Rattle.drain_flood.proofs.Names.{subst, w64, to_z-of_z, IsWalk}
 use Rattle.drain_flood.proofs.Walking.{walk_more, less_more}
 use Rattle.drain_flood.proofs.flats.Flats.turn.Goals as goal
 

@@ -1,9 +1,4 @@
-use Rattle.std.proofs.Common.{◌≡◌, ℕ, List, OnOk, subst}
-use mir.Syntax.{w64}
-use Rattle.std.proofs.lemmas.Int.{to_z-of_z}
-use Rattle.drain_grid.specs.Grid.{Grid}
-use Rattle.drain_flood.specs.Floods.{con_at}
-use Rattle.drain_flood.specs.Walks.{IsWalked, IsPassed}
+use Rattle.drain_flood.proofs.Names.{◌≡◌, ℕ, List, OnOk, subst, w64, to_z-of_z, Grid, con_at, IsWalked, IsPassed}
 use Rattle.drain_flood.proofs.flats.Flats.walk.Goals as goal
 
 pub returns-then-is_inner-clause-around : goal.returns-then-is_inner-clause-around

@@ -1,6 +1,4 @@
-use Rattle.std.proofs.Common.{◌∙◌, sym, arith}
-use mir.Syntax.{w64}
-use Rattle.std.proofs.lemmas.Int.{to_z-of_z}
+use Rattle.drain_flood.proofs.Names.{◌∙◌, sym, arith, w64, to_z-of_z}
 use Rattle.drain_flood.proofs.Walking.{walk_more, walk_all, less_more}
 use Rattle.drain_flood.proofs.flats.Flats.walk_at_edge.Goals as goal
 

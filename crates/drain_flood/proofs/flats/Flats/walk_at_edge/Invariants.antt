@@ -1,8 +1,5 @@
 -- The neighbours in the directions so far were looked at.
-use Rattle.std.proofs.Common.{◌≡◌, ℕ, List}
-use Rattle.drain_grid.specs.Grid.{Grid}
-use Rattle.drain_flood.specs.Floods.{con_at}
-use Rattle.drain_flood.specs.Walks.{IsWalked, IsLessWalk}
+use Rattle.drain_flood.proofs.Names.{◌≡◌, ℕ, List, Grid, con_at, IsWalked, IsLessWalk}
 use Rattle.drain_flood.proofs.flats.Flats.walk_at_edge.Given as goal
 
 abbrev pub invariant-loop-direction : goal.invariant-loop-direction

@@ -1,6 +1,4 @@
-use Rattle.std.proofs.Common.{◌≡◌, ◌∙◌, refl, sym, arith}
-use mir.Syntax.{w64}
-use Rattle.std.proofs.lemmas.Int.{to_z-of_z}
+use Rattle.drain_flood.proofs.Names.{◌≡◌, ◌∙◌, refl, sym, arith, w64, to_z-of_z}
 use Rattle.drain_flood.proofs.Walking.{walk_all}
 use Rattle.drain_flood.proofs.flats.Flats.walk_inside.Goals as goal
 

@@ -1,5 +1,4 @@
-use Rattle.drain_grid.specs.declared.cell.Cell.{Cell}
-use Rattle.drain_flood.specs.Looks.{IsFreshAt}
+use Rattle.drain_flood.proofs.Names.{Cell, IsFreshAt}
 use Rattle.drain_flood.proofs.Looking.{some_of_eight}
 use Rattle.drain_flood.proofs.flood.Flood.has_fresh_beside.Goals as goal
 

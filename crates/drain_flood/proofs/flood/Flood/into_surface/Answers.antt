@@ -1,5 +1,4 @@
-use Rattle.std.proofs.Common.{◌≡◌, ◌∙◌, sym, ap, subst}
-use Rattle.drain_flood.specs.Floods.{IsFlooded}
+use Rattle.drain_flood.proofs.Names.{◌≡◌, ◌∙◌, sym, ap, subst, IsFlooded}
 use Rattle.drain_flood.proofs.Laying.{surface_of, still_flooded}
 use Rattle.drain_flood.proofs.flood.Flood.into_surface.Goals as goal
 

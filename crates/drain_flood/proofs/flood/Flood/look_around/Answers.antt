@@ -1,8 +1,5 @@
-use Rattle.std.proofs.Common.{◌∙◌, IfOk, sym, ap, subst}
+use Rattle.drain_flood.proofs.Names.{◌∙◌, IfOk, sym, ap, subst, to_z-of_z, IsCellOf, index_of, LooksAround}
 use mir.Syntax.{w16}
-use Rattle.std.proofs.lemmas.Int.{to_z-of_z}
-use Rattle.drain_grid.specs.Extent.{IsCellOf, index_of}
-use Rattle.drain_flood.specs.Turns.{LooksAround}
 use Rattle.drain_flood.proofs.Insides.{around_cell}
 use Rattle.drain_flood.proofs.flood.Flood.look_around.Goals as goal
 

@@ -1,11 +1,5 @@
-use Rattle.std.proofs.Common.{◌≡◌, ◌≤ℤ◌, pos, get_or, inl, inr, subst, ap, ◌∙◌, arith, rules}
+use Rattle.drain_flood.proofs.Names.{◌≡◌, ◌≤ℤ◌, pos, get_or, inl, inr, subst, ap, ◌∙◌, arith, rules, SFits, to_z, of_z, int_max, ints, to_z-of_z, step_lies, UNREACHED, con_at, Reaches}
 use mir.Syntax.{w16}
-use mir.Val.{SFits, to_z, of_z}
-use Rattle.std.specs.Int.{int_max}
-use Rattle.std.proofs.lemmas.Int.{ints, to_z-of_z}
-use Rattle.drain_grid.proofs.Neighbors.{step_lies}
-use Rattle.drain_flood.specs.declared.layers.TheConstants.{UNREACHED}
-use Rattle.drain_flood.specs.Floods.{con_at, Reaches}
 use Rattle.drain_flood.proofs.flood.Flood.look_at.Goals as goal
 use Rattle.drain_flood.proofs.flood.Flood.look_at.Goals.{else-ground-level-via-then-ground-level+else-not-raises, else-ground-level-via-else-ground-level}
 

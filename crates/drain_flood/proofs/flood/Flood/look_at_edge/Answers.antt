@@ -1,9 +1,5 @@
-use Rattle.std.proofs.Common.{◌≡◌, ◌∙◌, ◌||◌, sym, ap, subst, arith}
+use Rattle.drain_flood.proofs.Names.{◌≡◌, ◌∙◌, ◌||◌, sym, ap, subst, arith, to_z, of_z, to_z-of_z, IsLookedBefore, IsLookedAround}
 use mir.Syntax.{w16}
-use mir.Val.{to_z, of_z}
-use Rattle.std.proofs.lemmas.Int.{to_z-of_z}
-use Rattle.drain_flood.specs.Looks.{IsLookedBefore}
-use Rattle.drain_flood.specs.Turns.{IsLookedAround}
 use Rattle.drain_flood.proofs.Looking.{around_on, around_all, less_more}
 use Rattle.drain_flood.proofs.flood.Flood.look_at_edge.Goals as goal
 use Rattle.drain_flood.proofs.flood.Flood.look_at_edge.Goals.{then-left, else-left}

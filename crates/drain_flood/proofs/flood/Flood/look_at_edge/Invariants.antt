@@ -1,8 +1,5 @@
 -- The neighbours in the directions so far were looked at.
-use Rattle.std.proofs.Common.{◌≡◌, ℕ, ℤ, List}
-use Rattle.drain_grid.specs.Grid.{Grid}
-use Rattle.drain_flood.specs.Looks.{IsLookedBefore, IsAround}
-use Rattle.drain_flood.specs.Turns.{IsLessWork}
+use Rattle.drain_flood.proofs.Names.{◌≡◌, ℕ, ℤ, List, Grid, IsLookedBefore, IsAround, IsLessWork}
 use Rattle.drain_flood.proofs.flood.Flood.look_at_edge.Given as goal
 
 abbrev pub invariant-loop-direction : goal.invariant-loop-direction

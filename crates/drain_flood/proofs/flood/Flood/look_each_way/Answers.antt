@@ -1,8 +1,5 @@
-use Rattle.std.proofs.Common.{◌≡◌, ◌∙◌, refl, sym, subst, arith}
+use Rattle.drain_flood.proofs.Names.{◌≡◌, ◌∙◌, refl, sym, subst, arith, to_z-of_z, IsLookedBefore, IsLookedAround}
 use mir.Syntax.{w16}
-use Rattle.std.proofs.lemmas.Int.{to_z-of_z}
-use Rattle.drain_flood.specs.Looks.{IsLookedBefore}
-use Rattle.drain_flood.specs.Turns.{IsLookedAround}
 use Rattle.drain_flood.proofs.Looking.{around_none, around_all}
 use Rattle.drain_flood.proofs.flood.Flood.look_each_way.Goals as goal
 

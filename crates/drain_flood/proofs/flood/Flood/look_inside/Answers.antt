@@ -1,7 +1,4 @@
-use Rattle.std.proofs.Common.{◌≡◌, ◌∙◌, sym, subst, ap}
-use Rattle.std.proofs.lemmas.Bool.{false≢true}
-use Rattle.drain_grid.specs.Extent.{IsCellOf, index_of}
-use Rattle.drain_flood.specs.Looks.{IsFreshAt}
+use Rattle.drain_flood.proofs.Names.{◌≡◌, ◌∙◌, sym, subst, ap, false≢true, IsCellOf, index_of, IsFreshAt}
 use Rattle.drain_flood.proofs.Looking.{none_around}
 use Rattle.drain_flood.proofs.flood.Flood.look_inside.Goals as goal
 

@@ -1,5 +1,4 @@
-use Rattle.std.proofs.Common.{◌*◌, ◌<◌, IfSome, subst}
-use Rattle.drain_flood.specs.Floods.{Flooding}
+use Rattle.drain_flood.proofs.Names.{◌*◌, ◌<◌, IfSome, subst, Flooding}
 use Rattle.drain_flood.proofs.Turns.{out_below, out_places}
 use Rattle.drain_flood.proofs.flood.Flood.pop.Goals as goal
 

@@ -1,9 +1,4 @@
-use Rattle.std.proofs.Common.{◌≡◌, ◌<◌, ℕ, List, Contains, length, slice_index, sym, subst, rules}
-use Rattle.std.specs.List.{All}
-use Rattle.drain_flood.specs.declared.layers.TheConstants.{OPEN}
-use Rattle.drain_grid.specs.Spacing.{unit_spacing}
-use Rattle.drain_flood.specs.Laid.{IsOpenPlace}
-use Rattle.drain_flood.specs.Looks.{AreInside}
+use Rattle.drain_flood.proofs.Names.{◌≡◌, ◌<◌, ℕ, List, Contains, length, slice_index, sym, subst, rules, All, OPEN, unit_spacing, IsOpenPlace, AreInside}
 use Rattle.drain_flood.proofs.GapMarks.{marks_inside}
 use Rattle.drain_flood.proofs.Laying.{flood_begins}
 use Rattle.drain_flood.proofs.flood.Flood.start.Goals as goal

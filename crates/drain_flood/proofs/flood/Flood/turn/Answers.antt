@@ -1,9 +1,5 @@
-use Rattle.std.proofs.Common.{◌≡◌, ◌∙◌, ◌||◌, sym, ap, subst}
+use Rattle.drain_flood.proofs.Names.{◌≡◌, ◌∙◌, ◌||◌, sym, ap, subst, to_z-of_z, Cell, Extent, IsCellOf, index_of, IsLook, IsPlaceBeside}
 use mir.Syntax.{w16}
-use Rattle.std.proofs.lemmas.Int.{to_z-of_z}
-use Rattle.drain_grid.specs.declared.cell.Cell.{Cell}
-use Rattle.drain_grid.specs.Extent.{Extent, IsCellOf, index_of}
-use Rattle.drain_flood.specs.Looks.{IsLook, IsPlaceBeside}
 use Rattle.drain_flood.proofs.Insides.{less_turn}
 use Rattle.drain_flood.proofs.Looking.{around_on}
 use Rattle.drain_flood.proofs.flood.Flood.turn.Goals as goal

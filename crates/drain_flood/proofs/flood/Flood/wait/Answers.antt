@@ -1,5 +1,4 @@
-use Rattle.std.proofs.Common.{◌*◌, ◌<◌, sym, subst}
-use Rattle.drain_flood.specs.Floods.{Flooding}
+use Rattle.drain_flood.proofs.Names.{◌*◌, ◌<◌, sym, subst, Flooding}
 use Rattle.drain_flood.proofs.Turns.{put_places}
 use Rattle.drain_flood.proofs.flood.Flood.wait.Goals as goal
 

@@ -1,9 +1,5 @@
-use Rattle.std.proofs.Common.{◌<◌, subst, ap, sym, ◌∙◌, ◌∷◌, set, arith, rules}
-use mir.Val.{SFits}
+use Rattle.drain_flood.proofs.Names.{◌<◌, subst, ap, sym, ◌∙◌, ◌∷◌, set, arith, rules, SFits, to_z-of_z, ABSENT, Waiting}
 use Rattle.std.specs.Int.{w16}
-use Rattle.std.proofs.lemmas.Int.{to_z-of_z}
-use Rattle.drain_flood.specs.declared.level_queue.TheConstants.{ABSENT}
-use Rattle.drain_flood.specs.Turns.{Waiting}
 use Rattle.drain_flood.specs.Ways.{pairs_of}
 use Rattle.drain_flood.proofs.PopLemmas.{nothing_held, nothing_seen, item_below, after_pop}
 use Rattle.drain_flood.proofs.Turning.{rising}

@@ -1,6 +1,5 @@
-use Rattle.std.proofs.Common.{◌∙◌, arith}
+use Rattle.drain_flood.proofs.Names.{◌∙◌, arith, to_z-of_z}
 use Rattle.std.specs.Int.{w16}
-use Rattle.std.proofs.lemmas.Int.{to_z-of_z}
 use Rattle.drain_flood.proofs.PushLemmas.{after_first, after_behind, last_below}
 use Rattle.drain_flood.proofs.Turning.{rising}
 use Rattle.drain_flood.proofs.level_queue.LevelQueue.push.Goals as goal

@@ -1,5 +1,4 @@
-use Rattle.std.proofs.Common.{refl}
-use Rattle.drain_flood.specs.declared.level_queue.TheConstants.{LEVELS}
+use Rattle.drain_flood.proofs.Names.{refl, LEVELS}
 use Rattle.drain_flood.proofs.StackLemmas.{no_items, none_stacked}
 use Rattle.drain_flood.proofs.level_stacks.LevelStacks.new.Goals as goal
 

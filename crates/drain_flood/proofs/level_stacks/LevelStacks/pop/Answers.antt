@@ -1,12 +1,6 @@
-use Rattle.std.proofs.Common.{◌≡◌, ◌<◌, ◌≤ℤ◌, ◌∷◌, ◌∙◌, ℤ, ℕ, List, set, sym, refl, subst, arith, rules}
-use mir.Val.{SFits, to_z, of_z}
+use Rattle.drain_flood.proofs.Names.{◌≡◌, ◌<◌, ◌≤ℤ◌, ◌∷◌, ◌∙◌, ℤ, ℕ, List, set, sym, refl, subst, arith, rules, SFits, to_z, of_z, All, IsPermutation, to_z-of_z, LEVELS, stack_at, level_of}
 use Rattle.std.specs.Int.{w16}
-use Rattle.std.specs.List.{All}
-use Rattle.std.specs.List.Sorted.{IsPermutation}
-use Rattle.std.proofs.lemmas.Int.{to_z-of_z}
-use Rattle.drain_flood.specs.declared.level_queue.TheConstants.{LEVELS}
-use Rattle.drain_flood.specs.Stacks.{stack_at, stacked}
-use Rattle.drain_flood.specs.Ways.{level_of}
+use Rattle.drain_flood.specs.Stacks.{stacked}
 use Rattle.drain_flood.proofs.StackLemmas.{are_stacks, none_left, none_stacked, passed, popped, stack_read}
 use Rattle.drain_flood.proofs.level_stacks.LevelStacks.pop.Goals as goal
 

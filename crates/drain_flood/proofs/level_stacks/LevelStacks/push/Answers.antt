@@ -1,8 +1,6 @@
-use Rattle.std.proofs.Common.{◌≡◌, ◌∷◌, ◌∙◌, ℤ, ℕ, List, set, [], ◌++◌, sym, ap, subst, arith}
+use Rattle.drain_flood.proofs.Names.{◌≡◌, ◌∷◌, ◌∙◌, ℤ, ℕ, List, set, [], ◌++◌, sym, ap, subst, arith, IsPermutation, to_z-of_z, stack_at}
 use Rattle.std.specs.Int.{w16}
-use Rattle.std.specs.List.Sorted.{IsPermutation}
-use Rattle.std.proofs.lemmas.Int.{to_z-of_z}
-use Rattle.drain_flood.specs.Stacks.{stack_at, stacked}
+use Rattle.drain_flood.specs.Stacks.{stacked}
 use Rattle.drain_flood.proofs.StackLemmas.{are_stacks, on_err, pushed, same_stacked, same_stacks, stack_read}
 use Rattle.drain_flood.proofs.level_stacks.LevelStacks.push.Goals as goal
 

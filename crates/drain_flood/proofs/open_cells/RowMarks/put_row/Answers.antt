@@ -1,9 +1,4 @@
-use Rattle.std.proofs.Common.{◌≡◌, ◌∙◌, ◌+◌, ◌*◌, ◌<◌, false, length, drop, slice_index, slice_index_or, sym, ap, subst, rules}
-use Rattle.std.proofs.lemmas.List.{take_at}
-use Rattle.drain_grid.specs.Extent.{index_of}
-use Rattle.drain_grid.specs.SinkTexts.{is_listed}
-use Rattle.drain_grid.proofs.ThreeRows.{place_in_own_row}
-use Rattle.drain_flood.specs.Laid.{AreDataMarks, IsMarkOf, least_around}
+use Rattle.drain_flood.proofs.Names.{◌≡◌, ◌∙◌, ◌+◌, ◌*◌, ◌<◌, false, length, drop, slice_index, slice_index_or, sym, ap, subst, rules, take_at, index_of, is_listed, place_in_own_row, AreDataMarks, IsMarkOf, least_around}
 use Rattle.drain_flood.proofs.GapMarks.{first_mark_is}
 use Rattle.drain_flood.proofs.open_cells.RowMarks.put_row.Goals as goal
 

@@ -1,7 +1,5 @@
-use Rattle.std.proofs.Common.{◌≡◌, ◌+◌, ◌*◌, ◌∙◌, ℤ, List, pos, length, get_or, ap, arith, rules}
-use Rattle.std.proofs.lemmas.List.Elements.{All-same}
+use Rattle.drain_grid.proofs.Names.{◌≡◌, ◌+◌, ◌*◌, ◌∙◌, ℤ, List, pos, length, get_or, ap, arith, rules, All-same, IsSample}
 use Rattle.drain_grid.specs.declared.tile.TheConstants.{VOID}
-use Rattle.drain_grid.specs.Grid.{IsSample}
 use Rattle.drain_grid.proofs.Alike.{lent, row_copied}
 use Rattle.drain_grid.proofs.elevation.Elevation.read_row.Goals as goal
 

@@ -1,6 +1,4 @@
-use Rattle.std.proofs.Common.{◌≡◌, ◌+◌, ◌-◌, length, Some, ap, ◌∙◌, sym, arith}
-use Rattle.std.specs.List.{slice_get}
-use Rattle.drain_grid.specs.OffData.{line_number_at}
+use Rattle.drain_grid.proofs.Names.{◌≡◌, ◌+◌, ◌-◌, length, Some, ap, ◌∙◌, sym, arith, slice_get, line_number_at}
 use Rattle.drain_grid.proofs.LineRuns.{get-numbered, length-numbered}
 use Rattle.drain_grid.proofs.numbered_cells.NumberedCells.get.Goals as goal
 use Rattle.drain_grid.proofs.numbered_cells.NumberedCells.get.Goals.{Start}

@@ -1,5 +1,4 @@
-use Rattle.std.proofs.Common.{◌++◌, ◌∷◌, [], ap, ◌∙◌, arith}
-use Rattle.drain_grid.specs.OffData.{line_number_at, numbered_from}
+use Rattle.drain_grid.proofs.Names.{◌++◌, ◌∷◌, [], ap, ◌∙◌, arith, line_number_at, numbered_from}
 use Rattle.drain_grid.proofs.LineRuns.{numbered-same, numbered-more}
 use Rattle.drain_grid.proofs.numbered_cells.NumberedCells.push.Goals as goal
 

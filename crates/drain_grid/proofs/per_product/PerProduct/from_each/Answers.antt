@@ -1,8 +1,6 @@
-use Rattle.std.proofs.Common.{◌<◌, arith}
+use Rattle.drain_grid.proofs.Names.{◌<◌, arith, SetProduct, rank_of}
 use Rattle.std.proofs.lemmas.Result.{err_from_is_err_and}
-use Rattle.drain_grid.specs.declared.set_product.SetProduct.{SetProduct}
 use Rattle.drain_grid.specs.declared.set_product.SetProduct.TheVariants.{Con, Dir, Acc, Bas, Rnk}
-use Rattle.drain_grid.specs.SetProduct.{rank_of}
 use Rattle.drain_grid.proofs.per_product.PerProduct.from_each.Goals as goal
 
 -- the products before the last

@@ -1,7 +1,5 @@
-use Rattle.std.proofs.Common.{◌≡◌, ◌+◌, ◌*◌, ◌∙◌, pos, length, get_or, ap, arith, rules}
-use Rattle.std.proofs.lemmas.List.Elements.{All-same}
+use Rattle.drain_grid.proofs.Names.{◌≡◌, ◌+◌, ◌*◌, ◌∙◌, pos, length, get_or, ap, arith, rules, All-same, IsPixel}
 use Rattle.drain_grid.specs.Numbers.{numbers_of}
-use Rattle.drain_grid.specs.Values.{IsPixel}
 use Rattle.drain_grid.proofs.Alike.{All-row, lent, row_copied}
 use Rattle.drain_grid.proofs.raster.Raster.read_row.Goals as goal
 

@@ -1,5 +1,4 @@
-use Rattle.std.proofs.Common.{◌<◌, ◌^◌, ◌∙◌, ap, rules}
-use Rattle.drain_grid.specs.SinkTexts.{is_listed}
+use Rattle.drain_grid.proofs.Names.{◌<◌, ◌^◌, ◌∙◌, ap, rules, is_listed}
 use Rattle.drain_grid.proofs.SinkFaults.{listed_by_search}
 use Rattle.drain_grid.proofs.sinks.Sinks.has.Goals as goal
 

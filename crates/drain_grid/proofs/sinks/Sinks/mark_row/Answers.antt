@@ -1,7 +1,4 @@
-use Rattle.std.proofs.Common.{ltb, length, get_or, false, sym, ap, subst, ◌∙◌, rules, arith}
-use Rattle.std.specs.List.Sorted.{IsNonDecreasing}
-use Rattle.std.proofs.lemmas.List.{get_or-replicate, take_all}
-use Rattle.std.proofs.lemmas.List.Sorted.{IsPartitionPoint-from_clause, IsPartitionedBy-ltb}
+use Rattle.drain_grid.proofs.Names.{ltb, length, get_or, false, sym, ap, subst, ◌∙◌, rules, arith, IsNonDecreasing, get_or-replicate, take_all, IsPartitionPoint-from_clause, IsPartitionedBy-ltb}
 use Rattle.drain_grid.proofs.SinkMarks.{AreMarked, from_row, all_marked, none_after, one_more}
 use Rattle.drain_grid.proofs.sinks.Sinks.mark_row.Goals as goal
 

@@ -1,8 +1,5 @@
-use Rattle.std.proofs.Common.{map, ap, ◌∙◌, subst}
-use Rattle.drain_grid.specs.SinkTexts.{wide_place}
-use Rattle.std.specs.List.Sorted.{IsPermutation}
+use Rattle.drain_grid.proofs.Names.{map, ap, ◌∙◌, subst, wide_place, IsPermutation, IsNonDecreasingBy-from_sort}
 use Rattle.std.proofs.lemmas.Simd.{map-map}
-use Rattle.std.proofs.lemmas.List.Sorted.{IsNonDecreasingBy-from_sort}
 use Rattle.drain_grid.proofs.sinks.Sinks.of.Goals as goal
 
 pub invariant_of-result : goal.invariant_of-result

@@ -1,5 +1,4 @@
-use Rattle.std.proofs.Common.{◌≡◌, ◌<◌, ◌≤◌, ℕ, length, get_or}
-use Rattle.drain_grid.specs.Spacing.{Distances, of_kind}
+use Rattle.drain_grid.proofs.Names.{◌≡◌, ◌<◌, ◌≤◌, ℕ, length, get_or, Distances, of_kind}
 use Rattle.drain_grid.proofs.spacings.Spacings.of_kind.Given as goal
 
 -- the rows that were passed have the kind, and the others are as they were

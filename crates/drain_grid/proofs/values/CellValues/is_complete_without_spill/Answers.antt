@@ -1,5 +1,4 @@
-use Rattle.std.proofs.Common.{◌≢◌, rules, refl, sym, ◌∙◌}
-use Rattle.std.proofs.lemmas.Bool.{false≢true}
+use Rattle.drain_grid.proofs.Names.{◌≢◌, rules, refl, sym, ◌∙◌, false≢true}
 use Rattle.drain_grid.proofs.FourAndRank.{complete_and_rank}
 use Rattle.drain_grid.proofs.values.CellValues.is_complete_without_spill.Goals as goal
 

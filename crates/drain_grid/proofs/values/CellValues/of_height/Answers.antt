@@ -1,6 +1,5 @@
 -- Each test checks the range of its number.
-use Rattle.std.proofs.Common.{refl, rules}
-use Rattle.std.proofs.lemmas.Int.{to_z-of_z}
+use Rattle.drain_grid.proofs.Names.{refl, rules, to_z-of_z}
 use Rattle.drain_grid.proofs.values.CellValues.of_height.Goals as goal
 
 pub invariant_of-result : goal.invariant_of-result

@@ -1,8 +1,5 @@
-use Rattle.std.proofs.Common.{arith, refl, sym, ap, ◌∙◌, subst}
-use Rattle.std.proofs.lemmas.Bool.{false≢true}
+use Rattle.drain_hgt.proofs.Names.{arith, refl, sym, ap, ◌∙◌, subst, false≢true, to_ascii_lowercase, MeansName}
 use Rattle.std.specs.Prelude.{map}
-use Rattle.std.specs.Char.{to_ascii_lowercase}
-use Rattle.drain_hgt.specs.Name.{MeansName}
 use Rattle.drain_hgt.proofs.Spelling.{places}
 use Rattle.drain_hgt.proofs.Reading.{meaning, read_as, spelled_again}
 use Rattle.drain_hgt.proofs.name.TileName.parse.Goals as goal

@@ -1,8 +1,4 @@
-use Rattle.std.proofs.Common.{◌≡◌, IsTrue, true, false, slice_index, sym, ◌∙◌, subst}
-use Rattle.drain_kernel.specs.LaneNumbers.{ThreeLanes}
-use Rattle.drain_kernel.specs.Columns.{cons_round, keeps_direction_at}
-use Rattle.drain_kernel.specs.Slopes.{goes_by_fractions, is_whole}
-use Rattle.drain_kernel.specs.Units.{AreInOneBlock}
+use Rattle.drain_kernel.proofs.Names.{◌≡◌, IsTrue, true, false, slice_index, sym, ◌∙◌, subst, ThreeLanes, cons_round, keeps_direction_at, goes_by_fractions, is_whole, AreInOneBlock}
 use Rattle.drain_kernel.proofs.Blocks.{kept_in_block}
 use Rattle.drain_kernel.proofs.in_unit.PlacesTestColumnTest.passes.Goals as goal
 

@@ -1,9 +1,4 @@
-use Rattle.std.proofs.Common.{◌≡◌, ◌-◌, IsTrue, true, false, slice_index, sym, ◌∙◌, subst}
-use Rattle.drain_kernel.specs.Around.{around_in}
-use Rattle.drain_kernel.specs.LaneNumbers.{ThreeLanes}
-use Rattle.drain_kernel.specs.Columns.{keeps_direction_at}
-use Rattle.drain_kernel.specs.Slopes.{goes_by_fractions, is_whole}
-use Rattle.drain_kernel.specs.Units.{AreInOneUnit}
+use Rattle.drain_kernel.proofs.Names.{◌≡◌, ◌-◌, IsTrue, true, false, slice_index, sym, ◌∙◌, subst, around_in, ThreeLanes, keeps_direction_at, goes_by_fractions, is_whole, AreInOneUnit}
 use Rattle.drain_kernel.proofs.UnitWays.{kept_in_unit}
 use Rattle.drain_kernel.proofs.in_unit.UnitTestColumnTest.passes.Goals as goal
 

@@ -1,5 +1,4 @@
-use Rattle.std.proofs.Common.{◌≡◌, ◌≤◌, ◌-◌}
-use Rattle.drain_kernel.specs.Columns.{raised_lanes}
+use Rattle.drain_kernel.proofs.Names.{◌≡◌, ◌≤◌, ◌-◌, raised_lanes}
 use Rattle.drain_kernel.proofs.lane_row.LaneRow.raised_between.Given as goal
 
 -- the columns that were passed are counted

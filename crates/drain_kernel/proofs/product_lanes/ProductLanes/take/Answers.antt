@@ -1,8 +1,4 @@
-use Rattle.std.proofs.Common.{◌≡◌, ℕ, ◌<◌, Bool, true, ◌&&◌, List, length, sym, ◌∙◌, subst, false}
-use Rattle.std.proofs.lemmas.Bool.{and_parts}
-use Rattle.drain_grid.specs.declared.set_product.SetProduct.TheVariants.{Dir, Acc, Bas, Rnk}
-use Rattle.drain_grid.specs.Judged.{IfJudged, has_rnk}
-use Rattle.drain_pixels.specs.Lanes.{AreCapped, AreLower, AreUpper}
+use Rattle.drain_kernel.proofs.Names.{◌≡◌, ℕ, ◌<◌, Bool, true, ◌&&◌, List, length, sym, ◌∙◌, subst, false, and_parts, Dir, Acc, Bas, Rnk, IfJudged, has_rnk, AreCapped, AreLower, AreUpper}
 use Rattle.drain_kernel.proofs.product_lanes.ProductLanes.take.Goals as goal
 
 -- all fit

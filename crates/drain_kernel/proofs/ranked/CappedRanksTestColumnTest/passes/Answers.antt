@@ -1,6 +1,4 @@
-use Rattle.std.proofs.Common.{slice_index, ◌∙◌, ap}
-use Rattle.drain_kernel.specs.Images.{at_most}
-use Rattle.drain_kernel.specs.LaneNumbers.{ThreeLanes}
+use Rattle.drain_kernel.proofs.Names.{slice_index, ◌∙◌, ap, at_most, ThreeLanes}
 use Rattle.drain_kernel.proofs.CappedSums.{ranked_by_capped}
 use Rattle.drain_kernel.proofs.ranked.CappedRanksTestColumnTest.passes.Goals as goal
 

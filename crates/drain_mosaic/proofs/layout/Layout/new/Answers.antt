@@ -1,9 +1,5 @@
-use Rattle.std.proofs.Common.{◌≡◌, List, w16, to_z, of_z, SFits, rules, refl, subst, sym}
-use Rattle.std.proofs.lemmas.Int.{to_z-of_z}
-use Rattle.drain_hgt.specs.Corner.{Corner}
-use Rattle.drain_mosaic.specs.Tiling.{Tiling}
+use Rattle.drain_mosaic.proofs.Names.{◌≡◌, List, w16, to_z, of_z, SFits, rules, refl, subst, sym, to_z-of_z, Corner, Tiling, IsLayout, AreTilingNumbers}
 use Rattle.drain_mosaic.specs.declared.layout.LayoutFault.TheVariants.{OutOfMemory}
-use Rattle.drain_mosaic.specs.GivenTiles.{IsLayout, AreTilingNumbers}
 use Rattle.drain_mosaic.proofs.Agreement.{not_memory, layout_is}
 use Rattle.drain_mosaic.proofs.layout.Layout.new.Goals as goal
 

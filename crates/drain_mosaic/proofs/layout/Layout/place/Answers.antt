@@ -1,6 +1,4 @@
-use Rattle.std.proofs.Common.{◌<◌, length, w8, ◌∙◌, sym, subst}
-use Rattle.std.proofs.lemmas.Int.{to_z-of_z}
-use Rattle.drain_mosaic.specs.Tiling.{Tiling}
+use Rattle.drain_mosaic.proofs.Names.{◌<◌, length, w8, ◌∙◌, sym, subst, to_z-of_z, Tiling}
 use Rattle.drain_mosaic.proofs.Places.{IsPlaced, placed, row_seen, col_seen}
 use Rattle.drain_mosaic.proofs.layout.Layout.place.Goals as goal
 

@@ -1,8 +1,6 @@
-use Rattle.std.proofs.Common.{◌≡◌, ◌∙◌, arith, rules, true, is_ok}
+use Rattle.drain_mosaic.proofs.Names.{◌≡◌, ◌∙◌, arith, rules, true, is_ok, IsPlacedAt, IsPlacedWithin, extent_of}
 use Rattle.drain_mosaic.proofs.Places.{all-more, start-more}
 use Rattle.drain_mosaic.proofs.TileCalls.{at-start}
-use Rattle.drain_mosaic.specs.PlacedRows.{IsPlacedAt, IsPlacedWithin}
-use Rattle.drain_mosaic.specs.Tiling.{extent_of}
 use Rattle.drain_mosaic.proofs.mosaic_rows.MosaicRows.new.Goals as goal
 
 pub loop-i-preserved : goal.loop-i-preserved

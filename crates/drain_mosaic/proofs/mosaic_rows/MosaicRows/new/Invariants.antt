@@ -1,7 +1,4 @@
-use Rattle.std.proofs.Common.{◌≡◌, take, vec_len}
-use Rattle.drain_mosaic.specs.Tiling.{extent_of}
-use Rattle.std.specs.List.{All, AllZip}
-use Rattle.drain_mosaic.specs.PlacedRows.{ArePlacedWithin, IsPlacedAt, IsAtStart}
+use Rattle.drain_mosaic.proofs.Names.{◌≡◌, take, vec_len, extent_of, All, AllZip, ArePlacedWithin, IsPlacedAt, IsAtStart}
 use Rattle.drain_mosaic.proofs.mosaic_rows.MosaicRows.new.Given as goal
 
 -- the tiles that were placed lie within the mosaic

@@ -1,7 +1,4 @@
-use Rattle.std.proofs.Common.{◌≡◌, ℕ, ◌+◌, arith, refl, sym, subst, ap, ◌∙◌}
-use Rattle.std.specs.Option.{option_or}
-use Rattle.drain_mosaic.specs.Streams.{Frame, end_stream, next_stream}
-use Rattle.drain_mosaic.specs.PlacedRows.{ArePlacedWithin, HasEnded, IsPlacedAt, IsPlacedWithin, streams_of}
+use Rattle.drain_mosaic.proofs.Names.{◌≡◌, ℕ, ◌+◌, arith, refl, sym, subst, ap, ◌∙◌, option_or, Frame, end_stream, next_stream, ArePlacedWithin, HasEnded, IsPlacedAt, IsPlacedWithin, streams_of}
 use Rattle.drain_mosaic.proofs.Lent.{all_back, all_lent, as_long, back, done-or-going, found-fits, going-or-done, have-back-err, have-back-ok, laid-by, lent, row-below, stopped-or-done, stopped-or-going, streams-back, within_back}
 use Rattle.drain_mosaic.proofs.MosaicSteps.{mosaic-step, seam-end, seam-step, wrong-end, wrong-row, wrong-stopped}
 use Rattle.drain_mosaic.proofs.mosaic_rows.MosaicRows.next_row.Goals as goal

@@ -1,6 +1,5 @@
-use Rattle.std.proofs.Common.{rules, ◌≡◌, ◌∙◌, arith, ap, sym, get_or}
+use Rattle.drain_mosaic.proofs.Names.{rules, ◌≡◌, ◌∙◌, arith, ap, sym, get_or, PlacedRows}
 use Rattle.drain_mosaic.proofs.MosaicSteps.{stopped-here, stopped-skip}
-use Rattle.drain_mosaic.specs.declared.placed_rows.PlacedRows.{PlacedRows}
 use Rattle.drain_mosaic.proofs.mosaic_rows.MosaicRows.wrong_length.Goals as goal
 
 pub returns-then-is_stopped-clause-told : goal.returns-then-is_stopped-clause-told

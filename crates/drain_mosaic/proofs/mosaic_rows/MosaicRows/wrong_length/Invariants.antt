@@ -1,6 +1,4 @@
-use Rattle.std.proofs.Common.{◌≢◌, ℕ, ◌<◌, get_or}
-use Rattle.drain_mosaic.specs.declared.placed_rows.PlacedRows.{PlacedRows}
-use Rattle.drain_device.specs.declared.row_source.Progress.TheVariants.{Stopped}
+use Rattle.drain_mosaic.proofs.Names.{◌≢◌, ℕ, ◌<◌, get_or, PlacedRows, Stopped}
 use Rattle.drain_mosaic.proofs.mosaic_rows.MosaicRows.wrong_length.Given as goal
 
 -- no tile so far has stopped

@@ -1,5 +1,4 @@
-use Rattle.std.proofs.Common.{◌+◌, sym, subst, arith, rules}
-use Rattle.drain_paths.specs.Walks.{AreKnownFlows}
+use Rattle.drain_paths.proofs.Names.{◌+◌, sym, subst, arith, rules, AreKnownFlows}
 use Rattle.drain_paths.proofs.FlowWalks.{FirstEnd, FirstEnd-none, FirstEnd-pass, FirstEnd-walk, FirstEnd-endless, FirstEnd-all, data_at}
 use Rattle.drain_paths.proofs.KnownWays.{AreKnownFlows-grid}
 use Rattle.drain_paths.proofs.cell_flows.CellFlows.first_endless.Goals as goal

@@ -1,7 +1,5 @@
 -- The flows are known, and the runs of the cells that were passed end.
-use Rattle.std.proofs.Common.{◌≡◌, ◌*◌, length}
-use Rattle.drain_grid.specs.Grid.{Grid, Products}
-use Rattle.drain_paths.specs.Flows.{AreFlowsOf}
+use Rattle.drain_paths.proofs.Names.{◌≡◌, ◌*◌, length, Grid, Products, AreFlowsOf}
 use Rattle.drain_paths.proofs.FlowWalks.{FirstEnd}
 use Rattle.drain_paths.proofs.cell_flows.CellFlows.first_endless.Given as goal
 

@@ -1,7 +1,4 @@
-use Rattle.std.proofs.Common.{◌∙◌, ap, set}
-use Rattle.std.proofs.lemmas.List.{map-set}
-use Rattle.drain_paths.specs.declared.flow.Flow.TheVariants.{Ends}
-use Rattle.drain_paths.specs.Flows.{byte_flow}
+use Rattle.drain_paths.proofs.Names.{◌∙◌, ap, set, map-set, Ends, byte_flow}
 use Rattle.drain_paths.proofs.cell_flows.CellFlows.set_ended.Goals as goal
 
 pub returns : goal.returns

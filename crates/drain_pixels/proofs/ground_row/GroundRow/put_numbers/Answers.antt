@@ -1,5 +1,4 @@
-use Rattle.std.proofs.Common.{All, subst, sym}
-use Rattle.drain_grid.specs.Values.{IsPixel}
+use Rattle.drain_pixels.proofs.Names.{All, subst, sym, IsPixel}
 use Rattle.drain_pixels.proofs.GroundLemmas.{each_pixel}
 use Rattle.drain_pixels.proofs.ground_row.GroundRow.put_numbers.Goals as goal
 

@@ -1,5 +1,4 @@
-use Rattle.std.proofs.Common.{true, false, arith, ◌∙◌}
-use Rattle.std.proofs.lemmas.Int.{ints}
+use Rattle.drain_raster.proofs.Names.{true, false, arith, ◌∙◌, ints}
 use Rattle.drain_raster.proofs.PixelLemmas.{least-so, greatest-so, widest}
 use Rattle.drain_raster.proofs.range.Spelled.by.Goals as goal
 

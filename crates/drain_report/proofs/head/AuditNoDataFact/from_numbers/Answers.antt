@@ -1,9 +1,7 @@
-use Rattle.std.proofs.Common.{get_or, pos, ap, arith}
-use Rattle.std.specs.Prelude.{Some}
+use Rattle.drain_report.proofs.Names.{get_or, pos, ap, arith, Some, none_some, same_some}
 use Rattle.drain_report.proofs.FactLemmas.{nodata_number_long, same_nodata}
 use Rattle.drain_report.proofs.ListLemmas.{four, held, kept}
 use Rattle.drain_report.proofs.head.AuditNoDataFact.from_numbers.Goals as goal
-use Rattle.drain_grid.proofs.Tallies.{none_some, same_some}
 
 pub returns-in_err-con-clause-back : goal.returns-in_err-con-clause-back
 returns-in_err-con-clause-back c = λ n fit is. absurd (none_some n.con (c.in_err-con.ensures.back n.con fit.con (ap (λ ns. get_or ns 0 (pos 0)) is)))

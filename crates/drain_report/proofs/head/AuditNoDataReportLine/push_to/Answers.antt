@@ -1,7 +1,5 @@
-use Rattle.std.proofs.Common.{refl, subst}
+use Rattle.drain_report.proofs.Names.{refl, subst, NoDataNumbers, IsAuditNoData}
 use Rattle.drain_grid.specs.declared.product.Product.TheVariants.{Con, Dir, Acc, Bas}
-use Rattle.drain_grid.specs.Values.{NoDataNumbers}
-use Rattle.drain_report.specs.Facts.{IsAuditNoData}
 use Rattle.drain_report.proofs.TextLemmas.{on_ok}
 use Rattle.drain_report.proofs.head.AuditNoDataReportLine.push_to.Goals as goal
 

@@ -1,9 +1,7 @@
-use Rattle.std.proofs.Common.{get_or, pos, drop, ap}
-use Rattle.std.specs.Prelude.{Some}
+use Rattle.drain_report.proofs.Names.{get_or, pos, drop, ap, Some, none_some, same_some}
 use Rattle.drain_report.proofs.FactLemmas.{corner_of, size_of, corner_narrow, size_narrow, same_place}
 use Rattle.drain_report.proofs.ListLemmas.{four_then}
 use Rattle.drain_report.proofs.place.PlaceFact.from_numbers.Goals as goal
-use Rattle.drain_grid.proofs.Tallies.{none_some, same_some}
 
 pub returns-in_err-corner-clause-back : goal.returns-in_err-corner-clause-back
 returns-in_err-corner-clause-back c = λ p fit is.

@@ -1,9 +1,4 @@
-use Rattle.std.proofs.Common.{◌∷◌, ◌++◌, [], rules, ap, ◌∙◌}
-use Rattle.std.specs.Int.{w64}
-use Rattle.std.specs.Prelude.{codes}
-use Rattle.std.proofs.lemmas.Int.{to_z-of_z}
-use Rattle.drain_report.specs.Lines.{spaced}
-use Rattle.drain_report.specs.Facts.{cell_numbers, flag_number, height_word, other_numbers}
+use Rattle.drain_report.proofs.Names.{◌∷◌, ◌++◌, [], rules, ap, ◌∙◌, w64, codes, to_z-of_z, spaced, cell_numbers, flag_number, height_word, other_numbers}
 use Rattle.drain_report.proofs.FactLemmas.{two_same, five_same, flag_is}
 use Rattle.drain_report.proofs.TextLemmas.{five, on_ok}
 use Rattle.drain_report.proofs.seams.ShownReportLine.push_to.Goals as goal

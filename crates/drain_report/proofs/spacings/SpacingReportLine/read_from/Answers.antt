@@ -1,7 +1,4 @@
-use Rattle.std.proofs.Common.{◌++◌, ◌∙◌, ap, arith, refl, sym}
-use Rattle.drain_grid.proofs.Tallies.{none_some, same_some}
-use Rattle.drain_report.specs.Facts.{spacing_line}
-use Rattle.drain_report.specs.Faults.{line_feeds}
+use Rattle.drain_report.proofs.Names.{◌++◌, ◌∙◌, ap, arith, refl, sym, none_some, same_some, spacing_line, line_feeds}
 use Rattle.drain_report.proofs.FaultLemmas.{spacing_feed}
 use Rattle.drain_report.proofs.spacings.SpacingReportLine.read_from.Goals as goal
 

@@ -1,5 +1,4 @@
-use Rattle.std.proofs.Common.{ap, ◌∙◌}
-use Rattle.drain_report.specs.Faults.{line_feeds}
+use Rattle.drain_report.proofs.Names.{ap, ◌∙◌, line_feeds}
 use Rattle.drain_report.proofs.FaultLemmas.{tile_feed}
 use Rattle.drain_report.proofs.tiles.TileNameReportLine.read_from.Goals as goal
 

@@ -1,8 +1,4 @@
-use Rattle.std.proofs.Common.{◌≡◌, rules, refl, arith, ap}
-use Rattle.std.specs.Prelude.{MatchResult}
-use Rattle.drain_union.specs.declared.verdict.UnionVerdict.TheVariants.{Accepted}
-use Rattle.drain_grid.proofs.Tallies.{none_some, same_some}
-use Rattle.drain_report.specs.Facts.{count_numbers, fault_numbers}
+use Rattle.drain_report.proofs.Names.{◌≡◌, rules, refl, arith, ap, MatchResult, Accepted, none_some, same_some, count_numbers, fault_numbers}
 use Rattle.drain_report.proofs.FactLemmas.{counts_long, by_kind, not_both_kinds}
 use Rattle.drain_report.proofs.verdict.UnionVerdictReportLine.read_from.Goals as goal
 

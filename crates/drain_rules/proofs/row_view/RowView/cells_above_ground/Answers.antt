@@ -1,8 +1,5 @@
-use Rattle.std.proofs.Common.{◌≡◌, ◌<◌, ◌∙◌, length, ap, subst, sym, arith}
-use Rattle.std.proofs.lemmas.List.{length-map}
-use Rattle.drain_fill.specs.Below.{AreRowHeights, IsBelowAt}
+use Rattle.drain_rules.proofs.Names.{◌≡◌, ◌<◌, ◌∙◌, length, ap, subst, sym, arith, length-map, AreRowHeights, IsBelowAt, MarkedRow, grounds}
 use Rattle.drain_grid.specs.declared.set_product.SetProduct.TheVariants.{Con}
-use Rattle.drain_rules.specs.Rows.{MarkedRow, grounds}
 use Rattle.drain_rules.proofs.row_view.RowView.cells_above_ground.Goals as goal
 
 pub cells_above_ground-requires : goal.cells_above_ground-requires

@@ -1,8 +1,6 @@
-use Rattle.std.proofs.Common.{◌≡◌, ◌<◌, pos, ℤ, List, length, All, rules, ap, sym, ◌∙◌, subst, arith}
+use Rattle.drain_rules.proofs.Names.{◌≡◌, ◌<◌, pos, ℤ, List, length, rules, ap, sym, ◌∙◌, subst, arith, of_product, IsPixel, MarkedRow}
+use Rattle.std.proofs.Common.{All}
 use Rattle.std.proofs.lemmas.List.Elements.{All-get_or}
-use Rattle.drain_grid.specs.PerProduct.{of_product}
-use Rattle.drain_grid.specs.Values.{IsPixel}
-use Rattle.drain_rules.specs.Rows.{MarkedRow}
 use Rattle.drain_rules.proofs.RowLemmas.{of_per}
 use Rattle.drain_rules.proofs.row_view.RowView.number.Goals as goal
 

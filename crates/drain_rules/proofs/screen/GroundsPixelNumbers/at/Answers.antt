@@ -1,6 +1,4 @@
-use Rattle.std.proofs.Common.{◌∙◌, Option, ℤ, None, unwrap_or, neg_ℤ, pos, ap, sym, arith, rules, w64}
-use Rattle.std.proofs.lemmas.Int.{to_z-of_z}
-use Rattle.std.proofs.lemmas.List.{get_or-map, length-map}
+use Rattle.drain_rules.proofs.Names.{◌∙◌, Option, ℤ, None, unwrap_or, neg_ℤ, pos, ap, sym, arith, rules, w64, to_z-of_z, get_or-map, length-map}
 use Rattle.drain_rules.proofs.screen.GroundsPixelNumbers.at.Goals as goal
 
 pub returns : goal.returns

@@ -1,5 +1,4 @@
-use Rattle.std.proofs.Common.{arith, ◌∙◌}
-use Rattle.drain_rules.specs.ThreeRows.{patch_in}
+use Rattle.drain_rules.proofs.Names.{arith, ◌∙◌, patch_in}
 use Rattle.drain_rules.proofs.LanedPatches.{raised_counts, row_shown}
 use Rattle.drain_rules.proofs.three_rows.ThreeRowsPatchRow.kept_from.Goals as goal
 

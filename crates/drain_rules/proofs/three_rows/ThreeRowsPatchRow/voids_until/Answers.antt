@@ -1,7 +1,4 @@
-use Rattle.std.proofs.Common.{ℕ, ◌≤◌, arith, below_more}
-use Rattle.drain_grid.specs.RulesAbout.{tried}
-use Rattle.drain_rules.specs.Fill.{IsRightVoid}
-use Rattle.drain_rules.specs.ThreeRows.{patch_in}
+use Rattle.drain_rules.proofs.Names.{ℕ, ◌≤◌, arith, below_more, tried, IsRightVoid, patch_in}
 use Rattle.drain_rules.proofs.RightVoids.{right_void}
 use Rattle.drain_rules.proofs.three_rows.ThreeRowsPatchRow.voids_until.Goals as goal
 

@@ -1,7 +1,4 @@
-use Rattle.std.proofs.Common.{ℕ, ◌-◌, ◌<◌, ◌≤◌}
-use Rattle.drain_grid.specs.RulesAbout.{tried}
-use Rattle.drain_rules.specs.Fill.{IsRightVoid}
-use Rattle.drain_rules.specs.ThreeRows.{patch_in}
+use Rattle.drain_rules.proofs.Names.{ℕ, ◌-◌, ◌<◌, ◌≤◌, tried, IsRightVoid, patch_in}
 use Rattle.drain_rules.proofs.three_rows.ThreeRowsPatchRow.voids_until.Given as goal
 
 -- the columns that were passed show right voids

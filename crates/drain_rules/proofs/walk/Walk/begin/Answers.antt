@@ -1,6 +1,4 @@
-use Rattle.drain_grid.specs.RulesAbout.{tried}
-use Rattle.drain_rules.specs.Compared.{IsTriedIf}
-use Rattle.drain_rules.specs.Rows.{place}
+use Rattle.drain_rules.proofs.Names.{tried, IsTriedIf, place}
 use Rattle.drain_rules.proofs.AreaGrids.{sound-none}
 use Rattle.drain_rules.proofs.walk.Walk.begin.Goals as goal
 

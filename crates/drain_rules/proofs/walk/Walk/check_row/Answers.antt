@@ -1,9 +1,4 @@
-use Rattle.std.proofs.Common.{◌+◌, subst, sym, arith}
-use Rattle.drain_grid.specs.RulesAbout.{tried}
-use Rattle.drain_rules.specs.declared.walk.Area.{Area}
-use Rattle.drain_rules.specs.Areas.{IsAreaOutcome, HasRow}
-use Rattle.drain_rules.specs.Compared.{IsTriedIf}
-use Rattle.drain_rules.specs.Rows.{place}
+use Rattle.drain_rules.proofs.Names.{◌+◌, subst, sym, arith, tried, Area, IsAreaOutcome, HasRow, IsTriedIf, place}
 use Rattle.drain_rules.proofs.AreaGrids.{sound-past}
 use Rattle.drain_rules.proofs.LabelSteps.{over-row}
 use Rattle.drain_rules.proofs.walk.Walk.check_row.Goals as goal

@@ -1,5 +1,4 @@
-use Rattle.std.proofs.Common.{ℕ, subst, sym}
-use Rattle.drain_union.specs.Windows.{IsJudgedAlong}
+use Rattle.drain_union.proofs.Names.{ℕ, subst, sym, IsJudgedAlong}
 use Rattle.drain_union.proofs.JudgedCounts.{judged_both, judged_at}
 use Rattle.drain_union.proofs.place.Place.judges.Goals as goal
 

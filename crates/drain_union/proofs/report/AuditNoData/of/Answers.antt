@@ -1,8 +1,5 @@
-use Rattle.std.proofs.Common.{ℤ, pos, to_z, of_z, sym, subst, arith}
-use Rattle.std.proofs.lemmas.Int.{ints, to_z-of_z}
-use Rattle.std.specs.Int.{w64}
+use Rattle.drain_union.proofs.Names.{ℤ, pos, to_z, of_z, sym, subst, arith, ints, to_z-of_z, w64, AreNoDataInRange, IsNoData}
 use Rattle.drain_grid.specs.declared.product.Product.TheVariants.{Con, Dir, Acc, Bas, Spl, Rnk}
-use Rattle.drain_grid.specs.Values.{AreNoDataInRange, IsNoData}
 use Rattle.drain_union.proofs.report.AuditNoData.of.Goals as goal
 
 -- a number in range is kept in 64 bits

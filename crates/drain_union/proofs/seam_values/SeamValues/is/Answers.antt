@@ -1,5 +1,4 @@
-use Rattle.std.proofs.Common.{◌≡◌, refl, sym, subst, ◌∙◌}
-use Rattle.drain_union.specs.SeamValues.{AreOfSeam}
+use Rattle.drain_union.proofs.Names.{◌≡◌, refl, sym, subst, ◌∙◌, AreOfSeam}
 use Rattle.drain_union.proofs.SameValues.{seam_test, same_seam, seam_pass}
 use Rattle.drain_union.proofs.seam_values.SeamValues.is.Goals as goal
 

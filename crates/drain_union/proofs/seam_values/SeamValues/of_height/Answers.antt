@@ -1,7 +1,4 @@
-use Rattle.std.proofs.Common.{refl, subst}
-use Rattle.std.specs.Int.{w64}
-use Rattle.std.proofs.lemmas.Int.{to_z-of_z}
-use Rattle.drain_grid.specs.Values.{IsPixel}
+use Rattle.drain_union.proofs.Names.{refl, subst, w64, to_z-of_z, IsPixel}
 use Rattle.drain_union.proofs.seam_values.SeamValues.of_height.Goals as goal
 
 pub returns-in-Some-clause-valid : goal.returns-in-Some-clause-valid
