@@ -1,18 +1,13 @@
 -- Where the rules about judged rasters hold everywhere, accumulation among them and without ranks, those on directions and their sums do.
-use Rattle.std.proofs.Common.{◌≡◌, true, false, sym, arith}
-use Rattle.std.proofs.lemmas.Bool.{false≢true}
-use Rattle.drain_grid.specs.declared.judged.Judged.{Judged}
+use Rattle.drain_rows.proofs.Names.{◌≡◌, true, false, sym, arith, false≢true, Judged, Grid, Products, patch_at, IsTried, part_rules, rules_about, NoDataNumbers}
 use Rattle.drain_grid.specs.declared.judged.Judged.TheVariants.{Con, ConDir, ConDirAcc, ConDirBas, All, AllWithRanks}
 use Rattle.drain_grid.specs.declared.patch.Patch.{Patch}
 use Rattle.drain_grid.specs.declared.rule.Rule.{Rule}
 use Rattle.drain_grid.specs.declared.rule.Rule.TheVariants.{Slope, OutletCode, FlatStep, Accumulation, SharedLabel}
-use Rattle.drain_grid.specs.Grid.{Grid, Products, patch_at}
 use Rattle.drain_grid.specs.GridRules.{RulesHold}
 use Rattle.drain_grid.specs.Judged.{has_acc, has_rnk}
 use Rattle.drain_grid.specs.Rule.{IsCountRule, IsFlowRule}
-use Rattle.drain_grid.specs.RulesAbout.{IsTried, part_rules, rules_about}
 use Rattle.drain_grid.specs.Unranked.{level_rules}
-use Rattle.drain_grid.specs.Values.{NoDataNumbers}
 use Rattle.drain_grid.proofs.Profiles.{HoldsAt-patch, RulesHold-level, RulesHold-within}
 
 -- each of these rules says the same without labels

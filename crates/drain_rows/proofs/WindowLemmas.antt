@@ -1,24 +1,14 @@
 -- The window as it moves down the rows.
-use Rattle.std.proofs.Common.{◌≡◌, ℕ, Option, Some, None, Result, Ok, Err, IfErr, OnOk, ◌+◌, ◌<◌, ◌&&◌, ◌||◌, ◌==◌, nat_lt, is_none, true, false, List, [], length, inl, inr, arith, refl, sym, ap, subst, ◌∙◌, ℤ, All}
+use Rattle.drain_rows.proofs.Names.{◌≡◌, ℕ, Option, Some, None, Result, Ok, Err, IfErr, OnOk, ◌+◌, ◌<◌, ◌&&◌, ◌||◌, ◌==◌, nat_lt, is_none, true, false, List, [], length, inl, inr, arith, refl, sym, ap, subst, ◌∙◌, ℤ, IsWalkStop, IsRowsStop, ReadsOn, AreListedVoids, AreVoidsBefore, is_listed_void, AreRowsOf, cases_eq, lt-ltb, le-ltb, Cell, Grid, Products, IsRowOf, MarkedRow, place, AreRowPatches, AreNumbersOf, AreRowNumbers, RowNumbers, blank, is_among, Distances, by_set_product, IsPixel, AreRowsAround, ThreeRowsShowPatches, patch_in, IsMarked}
+use Rattle.std.proofs.Common.{All}
 use Rattle.std.specs.Result.{IsErrAnd}
-use Rattle.drain_rows.specs.GridRows.{IsWalkStop, IsRowsStop, ReadsOn, AreListedVoids, AreVoidsBefore, is_listed_void, AreRowsOf}
 use Rattle.drain_rows.specs.declared.row_visitor.WalkStop.{WalkStop}
 use Rattle.drain_rows.specs.declared.row_visitor.WalkStop.TheVariants.{Source, OutOfMemory}
-use Rattle.std.proofs.lemmas.Bool.{cases_eq, lt-ltb, le-ltb}
 use Rattle.std.proofs.lemmas.Bool.Decides.{nat_tests}
-use Rattle.drain_grid.specs.declared.cell.Cell.{Cell}
-use Rattle.drain_grid.specs.Grid.{Grid, Products}
-use Rattle.drain_rules.specs.Rows.{IsRowOf, MarkedRow, place, AreRowPatches, AreNumbersOf, AreRowNumbers, RowNumbers, blank}
-use Rattle.drain_grid.specs.CellLists.{is_among}
 use Rattle.drain_grid.specs.PerProduct.{of_product}
-use Rattle.drain_grid.specs.Spacing.{Distances}
-use Rattle.drain_grid.proofs.ByProduct.{by_set_product}
-use Rattle.drain_grid.specs.Values.{IsPixel}
 use Rattle.drain_grid.specs.declared.set_product.SetProduct.{SetProduct}
 use Rattle.drain_rules.specs.declared.three_rows.ThreeRows.{ThreeRows}
-use Rattle.drain_rules.specs.ThreeRows.{AreRowsAround, ThreeRowsShowPatches, patch_in}
 use Rattle.drain_grid.specs.declared.sink_line.SinkLine.{SinkLine}
-use Rattle.drain_rows.specs.RowBuffers.{IsMarked}
 
 -- What follows from the clauses of results, and where a walk over rows stops.
 

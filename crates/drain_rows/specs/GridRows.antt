@@ -1,21 +1,13 @@
 -- The rows of a grid and its products, as they come one after another.
-use Rattle.std.specs.Prelude.{◌≡◌, ℕ, ◌+◌, ◌<◌, List, Option, Some, None, Bool, ℤ, false, ◌&&◌, ◌==◌, nat_lt, not, is_none, length, slice_index_or}
-use Rattle.drain_grid.specs.declared.cell.Cell.{Cell}
-use Rattle.drain_grid.specs.declared.sink_line.SinkLine.{SinkLine}
-use Rattle.drain_grid.specs.SinkTexts.{is_listed}
-use Rattle.drain_grid.specs.Extent.{Extent}
-use Rattle.drain_grid.specs.Grid.{Grid, Products, IsInside, HasData}
-use Rattle.drain_rules.specs.Rows.{AreNumbersOf, RowNumbers, blank, AreRowPatches}
+use Rattle.std.specs.Prelude.{◌≡◌, ◌+◌, ◌<◌, ◌&&◌, ◌==◌}
+use Rattle.drain_rows.specs.Names.{ℕ, List, Option, Some, None, Bool, ℤ, false, nat_lt, not, is_none, length, slice_index_or, Cell, SinkLine, is_listed, Extent, Grid, Products, IsInside, HasData, AreNumbersOf, RowNumbers, blank, AreRowPatches, Distances, Rules, is_among}
 use Rattle.drain_rows.specs.declared.row_visitor.WalkStop.{WalkStop}
 use Rattle.drain_rows.specs.declared.row_visitor.WalkStop.TheVariants.{Source, OutOfMemory}
 use Rattle.drain_grid.specs.Run.{RunEnds}
-use Rattle.drain_grid.specs.Spacing.{Distances}
 use Rattle.drain_grid.specs.declared.patch.Patch.{Patch}
-use Rattle.drain_grid.specs.declared.judged.Rules.{Rules}
 use Rattle.drain_rules.specs.declared.walk.Area.{Area}
 use Rattle.drain_rules.specs.declared.walk.Walk.{Walk}
 use Rattle.drain_rules.specs.Walks.{IsRightOf}
-use Rattle.drain_grid.specs.CellLists.{is_among}
 
 -- these are all rows, after the last there is none, the grid's sinks are the listed ones, and its rows are spaced so
 pub record AreRowsOf (g : Grid) (ps : Products) (sinks : List SinkLine) (spacing : ℕ → Distances) (rows : ℕ → RowNumbers) : Type 0 where

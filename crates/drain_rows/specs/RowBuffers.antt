@@ -1,12 +1,9 @@
 -- The meaning of a row in memory.
-use Rattle.std.specs.Prelude.{◌≡◌, ℕ, ◌<◌, false, IsTrue, List, length, slice_index_or}
+use Rattle.std.specs.Prelude.{◌≡◌, ◌<◌}
+use Rattle.drain_rows.specs.Names.{ℕ, false, IsTrue, List, length, slice_index_or, SinkLine, is_listed, Distances, MarkedRow, RowNumbers}
 use Rattle.drain_grid.specs.declared.set_product.SetProduct.{SetProduct}
 use Rattle.drain_grid.specs.PerProduct.{of_product, per_product}
-use Rattle.drain_grid.specs.declared.sink_line.SinkLine.{SinkLine}
-use Rattle.drain_grid.specs.SinkTexts.{is_listed}
-use Rattle.drain_grid.specs.Spacing.{Distances}
 use Rattle.drain_kernel.specs.Columns.{AreLanesOf}
-use Rattle.drain_rules.specs.Rows.{MarkedRow, RowNumbers}
 use Rattle.drain_rows.specs.declared.row_buffer.RowBuffer.{RowBuffer}
 
 -- its numbers as lists

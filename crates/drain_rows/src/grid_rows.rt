@@ -1,7 +1,7 @@
 //! The source of the rows of a grid and its products together.
 
-ghost use Rattle.std.specs.Prelude.{◌≡◌, ℕ, List, length, Option, Some, None, OnOk, IfErr};
-ghost use Rattle.drain_rules.specs.Rows.{RowNumbers, AreRowNumbers};
+ghost use Rattle.std.specs.Prelude.{◌≡◌};
+ghost use Rattle.drain_rows.specs.Names.{ℕ, List, length, Option, Some, None, OnOk, IfErr, RowNumbers, AreRowNumbers};
 ghost use Rattle.drain_rows.specs.GridRows.{IsNext, ReadsOn};
 ghost use Rattle.drain_rows.specs.RowBuffers.{buffer_numbers};
 

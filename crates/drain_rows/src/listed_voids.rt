@@ -1,11 +1,8 @@
 //! Listed sinks that are voids, noted row by row.
 
-ghost use Rattle.std.specs.Prelude.{◌≡◌, ◌<◌, ◌≤◌, ◌||◌, [], false, length, OnOk};
-ghost use Rattle.drain_grid.specs.declared.cell.Cell.{Cell};
-ghost use Rattle.drain_grid.specs.declared.cell.TheConstants.{MAX_LENGTH};
-ghost use Rattle.drain_grid.specs.CellLists.{is_among};
+ghost use Rattle.std.specs.Prelude.{◌≡◌, ◌<◌, ◌≤◌, ◌||◌};
+ghost use Rattle.drain_rows.specs.Names.{[], length, OnOk, Cell, MAX_LENGTH, is_among, same_cell};
 ghost use Rattle.drain_rows.specs.GridRows.{is_listed_void};
-ghost use Rattle.drain_grid.specs.Extent.{same_cell};
 
 use drain_grid::{Cell, OutOfMemory};
 use drain_pixels::GroundRow;
@@ -20,8 +17,7 @@ pub struct ListedVoids {
 }
 
 impl Model for ListedVoids {
-    ghost use Rattle.std.specs.Prelude.{List};
-    ghost use Rattle.drain_grid.specs.declared.cell.Cell.{Cell};
+    ghost use Rattle.drain_rows.specs.Names.{List, Cell};
 
     ghost Value = { List Cell };
 

@@ -1,11 +1,8 @@
 //! A row of a grid and its products in memory that is used again for the next row.
 
-ghost use Rattle.std.specs.Prelude.{◌≡◌, ◌↔◌, ◌||◌, ℕ, [], false, slice_index_or, IsTrue, OnOk, OnErr};
-ghost use Rattle.drain_grid.specs.declared.cell.Cell.{Cell};
-ghost use Rattle.drain_rules.specs.Rows.{AreRowNumbers, blank};
+ghost use Rattle.std.specs.Prelude.{◌≡◌, ◌↔◌, ◌||◌};
+ghost use Rattle.drain_rows.specs.Names.{ℕ, [], false, slice_index_or, IsTrue, OnOk, OnErr, Cell, AreRowNumbers, blank, is_among, spacing_of};
 ghost use Rattle.drain_rows.specs.RowBuffers.{LanesMatch};
-ghost use Rattle.drain_grid.specs.CellLists.{is_among};
-ghost use Rattle.drain_grid.specs.Spacing.{spacing_of};
 ghost use Rattle.drain_rows.specs.GridRows.{is_listed_void};
 
 use crate::listed_voids::ListedVoids;

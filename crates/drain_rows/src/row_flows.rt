@@ -1,10 +1,8 @@
 //! The direction of each cell, noted row by row, and the first path without an end.
 
-ghost use Rattle.std.specs.Prelude.{◌≡◌, ◌*◌, length, MatchOption};
+ghost use Rattle.std.specs.Prelude.{◌≡◌, ◌*◌};
+ghost use Rattle.drain_rows.specs.Names.{length, MatchOption, Grid, Products, Rules, IsVerdictBy};
 ghost use Rattle.drain_grid.specs.Unranked.{IsFirstEndless};
-ghost use Rattle.drain_grid.specs.Grid.{Grid, Products};
-ghost use Rattle.drain_grid.specs.declared.judged.Rules.{Rules};
-ghost use Rattle.drain_rules.specs.Verdicts.{IsVerdictBy};
 ghost use Rattle.drain_paths.specs.Flows.{AreFlowsOf};
 ghost use Rattle.drain_paths.specs.Walks.{AreKnownFlows};
 ghost use Rattle.drain_rows.specs.GridRows.{AllRunsEnd};

@@ -1,12 +1,7 @@
 //! What sees the rows of a grid one after the other.
 
-ghost use Rattle.std.specs.Prelude.{◌≡◌, ◌<◌, ◌+◌, ℕ, Bool, length, OnOk, OnErr};
-ghost use Rattle.drain_grid.specs.declared.cell.TheConstants.{MAX_LENGTH};
-ghost use Rattle.drain_grid.specs.Grid.{Grid, Products};
-ghost use Rattle.drain_grid.specs.declared.judged.Rules.{Rules};
-ghost use Rattle.drain_rules.specs.Rows.{AreRowNumbers};
-ghost use Rattle.drain_rules.specs.ThreeRows.{patch_in};
-ghost use Rattle.drain_rules.specs.Verdicts.{IsVerdictBy};
+ghost use Rattle.std.specs.Prelude.{◌≡◌, ◌<◌, ◌+◌};
+ghost use Rattle.drain_rows.specs.Names.{ℕ, Bool, length, OnOk, OnErr, MAX_LENGTH, Grid, Products, Rules, AreRowNumbers, patch_in, IsVerdictBy};
 ghost use Rattle.drain_rows.specs.RowBuffers.{buffer_numbers};
 ghost use Rattle.drain_rows.specs.GridRows.{OfNotedRow};
 

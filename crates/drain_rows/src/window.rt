@@ -1,12 +1,9 @@
 //! A window of three rows that moves down the rows of a grid.
 
-ghost use Rattle.std.specs.Prelude.{◌≡◌, ◌||◌, [], length, None, IfErr, OnOk};
-ghost use Rattle.drain_grid.specs.declared.cell.Cell.{Cell};
-ghost use Rattle.drain_rules.specs.Rows.{AreRowNumbers, blank};
+ghost use Rattle.std.specs.Prelude.{◌≡◌, ◌||◌};
+ghost use Rattle.drain_rows.specs.Names.{[], length, None, IfErr, OnOk, Cell, AreRowNumbers, blank, is_among, spacing_of};
 ghost use Rattle.drain_rows.specs.GridRows.{IsNext, IsWalkStop, ReadsOn, is_listed_void};
 ghost use Rattle.drain_rows.specs.RowBuffers.{LanesMatch, IsMarked, marked_of, buffer_numbers};
-ghost use Rattle.drain_grid.specs.CellLists.{is_among};
-ghost use Rattle.drain_grid.specs.Spacing.{spacing_of};
 
 use crate::grid_rows::GridRows;
 use crate::listed_voids::ListedVoids;

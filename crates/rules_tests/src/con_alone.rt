@@ -2,7 +2,8 @@
 //! No contract says that they clear most. Worked out by hand from the rules.
 
 use crate::examples::{Part, accepted, equal, rejected};
-use crate::rows_of_numbers::{kept_by_con, level_rows, verdict_by_rows};
+use crate::given_rows::level_rows;
+use crate::rows_of_numbers::{kept_by_con, verdict_by_rows};
 use crate::unasked_ranks::{Change, put};
 use drain_grid::{Judged, Rule, Verdict};
 use drain_rules::Kept;

@@ -4,7 +4,8 @@
 ghost use Rattle.std.specs.Prelude.{◌≡◌, ◌<◌};
 
 use crate::examples::{Part, changed, elevation, products};
-use crate::rows_of_numbers::{COLS, faults_by_rows, level_rows};
+use crate::given_rows::{COLS, level_rows};
+use crate::rows_of_numbers::faults_by_rows;
 use crate::unasked_ranks::put;
 use drain_faults::{FaultWalk, PerRule, RULES, RuleFaults};
 use drain_grid::{

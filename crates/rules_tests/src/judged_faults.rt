@@ -32,57 +32,51 @@ fn expect(
     Ok(())
 }
 
+/// Looks at the walk under each of these lists of rasters: the faults, a cell and its number on the map.
+fn expect_each(
+    rt: &impl Abort,
+    alloc: Global,
+    example: &Given,
+    rows: &[(Judged, &[Told], (usize, u8))],
+) -> Result<(), Fail> {
+    for (judged, expected, cell) in rows {
+        expect(rt, alloc, example, *judged, expected, *cell)?;
+    }
+    Ok(())
+}
+
 /// The cell leads south and no longer east: past its steepest, to another label; two cells have another inflow.
-static ASIDE: [Told; 3] = [
-    (Rule::Slope, 1, (1, 1)),
-    (Rule::Accumulation, 2, (1, 2)),
-    (Rule::Label, 1, (1, 1)),
+const STEEPEST: Told = (Rule::Slope, 1, (1, 1));
+
+const SUMS: Told = (Rule::Accumulation, 2, (1, 2));
+
+const LABEL: Told = (Rule::Label, 1, (1, 1));
+
+static ASIDE: [(Judged, &[Told], (usize, u8)); 4] = [
+    (Judged::Con, &[], (5, 0)),
+    (Judged::ConDir, &[STEEPEST], (5, 10)),
+    (Judged::ConDirAcc, &[STEEPEST, SUMS], (6, 13)),
+    (Judged::ConDirBas, &[STEEPEST, LABEL], (6, 0)),
 ];
 
 #[test]
 fn a_direction_that_leads_aside(rt: HostRuntime) -> Result<(), Fail> {
     let slope = changed_slope(rt.alloc(), Part::Dir, 1, 1, 4)?;
-    let [steepest, sums, label] = ASIDE;
-    expect(&rt, rt.alloc(), &slope, Judged::Con, &[], (5, 0))?;
-    expect(
-        &rt,
-        rt.alloc(),
-        &slope,
-        Judged::ConDir,
-        &[steepest],
-        (5, 10),
-    )?;
-    expect(
-        &rt,
-        rt.alloc(),
-        &slope,
-        Judged::ConDirAcc,
-        &[steepest, sums],
-        (6, 13),
-    )?;
-    expect(
-        &rt,
-        rt.alloc(),
-        &slope,
-        Judged::ConDirBas,
-        &[steepest, label],
-        (6, 0),
-    )
+    expect_each(&rt, rt.alloc(), &slope, &ASIDE)
 }
 
 /// The last row's outlet has the label of the first row's.
-static SHARED: [Told; 2] = [(Rule::Label, 1, (3, 2)), (Rule::SharedLabel, 1, (3, 3))];
+static SHARED: [(Judged, &[Told], (usize, u8)); 2] = [
+    (Judged::ConDirAcc, &[], (15, 0)),
+    (
+        Judged::ConDirBas,
+        &[(Rule::Label, 1, (3, 2)), (Rule::SharedLabel, 1, (3, 3))],
+        (15, 15),
+    ),
+];
 
 #[test]
 fn a_label_of_another_outlet(rt: HostRuntime) -> Result<(), Fail> {
     let slope = changed_slope(rt.alloc(), Part::Bas, 3, 3, 1)?;
-    expect(&rt, rt.alloc(), &slope, Judged::ConDirAcc, &[], (15, 0))?;
-    expect(
-        &rt,
-        rt.alloc(),
-        &slope,
-        Judged::ConDirBas,
-        &SHARED,
-        (15, 15),
-    )
+    expect_each(&rt, rt.alloc(), &slope, &SHARED)
 }

@@ -1,7 +1,8 @@
 //! Which cells of three long rows their lanes clear: no contract says that they clear most.
 
 use crate::examples::{Part, equal};
-use crate::rows_of_numbers::{COLS, is_outlet_by_lanes, kept_by_lanes, level_rows};
+use crate::given_rows::{COLS, level_rows};
+use crate::rows_of_numbers::{is_outlet_by_lanes, kept_by_lanes};
 use crate::unasked_ranks::{Change, put};
 use drain_rules::Kept;
 use std::test::Fail;

@@ -2,7 +2,8 @@
 //! without lanes.
 
 use crate::examples::{Part, accepted, same};
-use crate::rows_of_numbers::{level_rows, verdict_by_rows};
+use crate::given_rows::level_rows;
+use crate::rows_of_numbers::verdict_by_rows;
 use crate::unasked_ranks::put;
 use drain_grid::{Judged, Rule, Verdict};
 use std::alloc::Global;

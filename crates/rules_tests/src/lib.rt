@@ -10,6 +10,8 @@ mod examples;
 #[cfg(test)]
 mod filled_surfaces;
 #[cfg(test)]
+mod given_rows;
+#[cfg(test)]
 mod judged_faults;
 #[cfg(test)]
 mod kept_runs;

@@ -1,7 +1,8 @@
 //! Products with listed sinks. The verdicts were worked out by hand from the rules.
 
 use crate::examples::{accepted, rejected, same, verdict_listing};
-use crate::rows_of_numbers::{COLS, verdict_by_rows};
+use crate::given_rows::COLS;
+use crate::rows_of_numbers::verdict_by_rows;
 use drain_grid::{Judged, Rule, Verdict};
 use std::alloc::Global;
 use std::process::Abort;

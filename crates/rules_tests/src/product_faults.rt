@@ -3,7 +3,8 @@
 
 use crate::every_fault::{Given, example, walk_over};
 use crate::examples::{Part, changed, equal};
-use crate::rows_of_numbers::{faults_by_rows, level_rows};
+use crate::given_rows::level_rows;
+use crate::rows_of_numbers::faults_by_rows;
 use crate::unasked_ranks::put;
 use drain_faults::{FaultWalk, ProductFaults, RuleFaults};
 use drain_grid::{Cell, Judged, SetProduct};

@@ -2,9 +2,10 @@
 //! the verdict is the same. Worked out by hand from the rules.
 
 use crate::examples::{Part, accepted, equal, rejected, same};
+use crate::given_rows::level_rows;
 use crate::kept_runs::{BESIDE, GREAT, level, put_row, put_void};
 use crate::part_rows::{AS_NUMBERS, Kinds};
-use crate::rows_of_numbers::{kept_of_kinds, level_rows, verdict_of_kinds};
+use crate::rows_of_numbers::{kept_of_kinds, verdict_of_kinds};
 use crate::unasked_ranks::{Change, put};
 use drain_grid::{Judged, Rule};
 use drain_pixels::PixelKind::{Any, I16, I32, U8, U16, U32};

@@ -2,159 +2,17 @@
 
 ghost use Rattle.std.specs.Prelude.{◌≡◌, ◌<◌, ◌+◌, OnOk};
 
-use crate::part_rows::{AS_NUMBERS, Ground, Kinds, OF_TILES, PartRow, PartRows};
+use crate::given_rows::{
+    COLS, Given, Numbers, Room, marks_of, numbers_round, rules_about, three_rows,
+};
+use crate::part_rows::{AS_NUMBERS, Ground, Kinds, OF_TILES};
 use drain_basin::OutletLabels;
 use drain_faults::FaultWalk;
-use drain_grid::{Judged, NoData, Rules, Shape, Sinks, Spacing, Verdict, parse_sinks};
-use drain_kernel::{Lanes, Slopes};
-use drain_rules::{Kept, PatchRow, RowView, ThreeRows, Walk};
-use std::alloc::{AllocError, Global};
+use drain_grid::{Judged, Shape, Sinks, Spacing, Verdict, parse_sinks};
+use drain_kernel::Slopes;
+use drain_rules::{Kept, PatchRow, ThreeRows, Walk};
+use std::alloc::Global;
 use std::test::Fail;
-use worked::shafts::Shafts;
-
-/// How many columns there are.
-pub const COLS: u16 = 600;
-
-/// Which columns of each row are listed.
-type Marks = [[bool; 600]; 3];
-
-/// The marks of the rows.
-fn marks_of(sinks: &Sinks) -> Marks {
-    let mut first = [false; 600];
-    sinks.mark_row(0, &mut first);
-    let mut second = [false; 600];
-    sinks.mark_row(1, &mut second);
-    let mut third = [false; 600];
-    sinks.mark_row(2, &mut third);
-    [first, second, third]
-}
-
-/// The numbers of three level rows with no listed cell.
-pub fn level_rows(alloc: Global) -> Result<Vec<i64>, AllocError> {
-    let shafts = Shafts {
-        rows: 3,
-        cols: COLS,
-        listed: &[],
-    };
-    shafts.numbers(alloc)
-}
-
-/// What the rows are made of. The lanes of their numbers are taken, or they aren't.
-#[derive(Clone, Copy)]
-struct Given<'a> {
-    alloc: Global,
-    numbers: &'a [i64],
-    marks: &'a Marks,
-    ground: Ground,
-    kinds: Kinds,
-    judged: Judged,
-    is_laned: bool,
-}
-
-impl<'a> Given<'a> {
-    /// The numbers of a row, none of no row.
-    fn row(&self, row: Option<u8>) -> Result<PartRow, Fail> {
-        let parts = PartRows {
-            numbers: self.numbers,
-            rows: 3,
-            cols: COLS,
-            ground: self.ground,
-        };
-        PartRow::new(self.alloc, parts, row, self.kinds)
-    }
-
-    /// The marks of a row, none of no row.
-    fn marks(&self, row: Option<u8>) -> &'a [bool] {
-        let marks = self.marks;
-        match row {
-            Some(row) if row < 3 => &marks[row as usize],
-            _ => &[],
-        }
-    }
-}
-
-/// A row with those above and below it.
-#[derive(Drop)]
-struct Numbers {
-    above: PartRow,
-    here: PartRow,
-    below: PartRow,
-}
-
-/// The rows above a row and below it, if there are any.
-fn beside(row: u8) -> (Option<u8>, Option<u8>) {
-    (
-        row.checked_sub(1),
-        if row < 2 { Some(row + 1) } else { None },
-    )
-}
-
-/// The numbers of a row with those above and below it.
-fn numbers_round(given: Given<'_>, row: u8) -> Result<Numbers, Fail> {
-    let (above, below) = beside(row);
-    Ok(Numbers {
-        above: given.row(above)?,
-        here: given.row(Some(row))?,
-        below: given.row(below)?,
-    })
-}
-
-/// Room for the lanes of three rows.
-#[derive(Drop)]
-struct Room {
-    above: Lanes,
-    here: Lanes,
-    below: Lanes,
-}
-
-impl Room {
-    /// No row. This takes no memory.
-    fn new(alloc: Global) -> Room {
-        Room {
-            above: Lanes::new(alloc),
-            here: Lanes::new(alloc),
-            below: Lanes::new(alloc),
-        }
-    }
-}
-
-/// A row with its marks, and with its lanes if they are taken; no row has none.
-fn row_view<'a>(
-    given: Given<'a>,
-    numbers: &'a PartRow,
-    slopes: &'a Slopes,
-    row: Option<u8>,
-    lanes: &'a mut Lanes,
-) -> RowView<'a> {
-    let lanes = if given.is_laned && row.is_some() {
-        Some(lanes)
-    } else {
-        None
-    };
-    numbers.view(given.marks(row), slopes, given.judged, lanes)
-}
-
-/// A row with those above and below it.
-fn three_rows<'a>(
-    given: Given<'a>,
-    numbers: &'a Numbers,
-    slopes: &'a Slopes,
-    row: u8,
-    room: &'a mut Room,
-) -> ThreeRows<'a> {
-    let (above, below) = beside(row);
-    ThreeRows {
-        above: row_view(given, &numbers.above, slopes, above, &mut room.above),
-        here: row_view(given, &numbers.here, slopes, Some(row), &mut room.here),
-        below: row_view(given, &numbers.below, slopes, below, &mut room.below),
-    }
-}
-
-/// The rules of a check with the default no-data numbers.
-fn rules_about(judged: Judged) -> Rules {
-    let nodata = NoData::defaults();
-    Rules { nodata, judged }
-}
 
 /// Checks the next row.
 fn check_row(
@@ -167,8 +25,22 @@ fn check_row(
     ensures { OnOk result (walk.new.rows ≡ walk.old.rows + 1) }
 {
     let numbers = numbers_round(given, row)?;
+    check_numbers(walk, given, &numbers, row, room)
+}
+
+/// The same of these numbers.
+fn check_numbers(
+    walk: &mut Walk<OutletLabels>,
+    given: Given<'_>,
+    numbers: &Numbers,
+    row: u8,
+    room: &mut Room,
+) -> Result<(), Fail>
+    requires { walk.old.rows < 3 }
+    ensures { OnOk result (walk.new.rows ≡ walk.old.rows + 1) }
+{
     let slopes = Slopes::of(Spacing::unit());
-    let rows = three_rows(given, &numbers, &slopes, row, room);
+    let rows = three_rows(given, numbers, &slopes, row, room);
     Ok(walk.check_row(&rows, &rules_about(given.judged))?)
 }
 
@@ -196,8 +68,22 @@ fn note_row(walk: &mut FaultWalk, given: Given<'_>, row: u8, room: &mut Room) ->
     ensures { OnOk result (walk.new.rows ≡ walk.old.rows + 1) }
 {
     let numbers = numbers_round(given, row)?;
+    note_numbers(walk, given, &numbers, row, room)
+}
+
+/// The same of these numbers.
+fn note_numbers(
+    walk: &mut FaultWalk,
+    given: Given<'_>,
+    numbers: &Numbers,
+    row: u8,
+    room: &mut Room,
+) -> Result<(), Fail>
+    requires { walk.old.rows < 3 }
+    ensures { OnOk result (walk.new.rows ≡ walk.old.rows + 1) }
+{
     let slopes = Slopes::of(Spacing::unit());
-    let rows = three_rows(given, &numbers, &slopes, row, room);
+    let rows = three_rows(given, numbers, &slopes, row, room);
     Ok(walk.note_row(&rows, &rules_about(given.judged))?)
 }
 
@@ -292,6 +178,11 @@ fn kept_in_row(given: Given<'_>, spacing: Spacing, (row, from): (u8, u32)) -> Re
     let slopes = Slopes::of(spacing);
     let mut room = Room::new(given.alloc);
     let rows = three_rows(given, &numbers, &slopes, row, &mut room);
+    kept_from(given, &rows, from)
+}
+
+/// The same of these rows.
+fn kept_from(given: Given<'_>, rows: &ThreeRows<'_>, from: u32) -> Result<Kept, Fail> {
     if from > rows.cols() {
         return Err("a column".into());
     }

@@ -1,8 +1,9 @@
 //! Which cells of three long rows lanes clear where cells aren't square, or between floats.
 
 use crate::examples::{Part, equal};
+use crate::given_rows::{COLS, level_rows};
 use crate::kept_runs::{level, put_row};
-use crate::rows_of_numbers::{COLS, kept_when_spaced, level_rows};
+use crate::rows_of_numbers::kept_when_spaced;
 use crate::unasked_ranks::put;
 use drain_grid::{HeightKind, Spacing};
 use std::test::Fail;

@@ -2,7 +2,8 @@
 //! the rules.
 
 use crate::examples::{Part, accepted, rejected, same};
-use crate::rows_of_numbers::{COLS, level_rows, verdict_by_rows};
+use crate::given_rows::{COLS, level_rows};
+use crate::rows_of_numbers::verdict_by_rows;
 use drain_grid::{Judged, Rule, Verdict};
 use std::alloc::{AllocError, Global};
 use std::test::Fail;

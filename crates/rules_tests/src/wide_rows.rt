@@ -2,8 +2,9 @@
 //! that on the same cells of tiles, with or without lanes.
 
 use crate::examples::{Part, accepted, same};
+use crate::given_rows::level_rows;
 use crate::part_rows::Ground;
-use crate::rows_of_numbers::{level_rows, verdict_on_ground};
+use crate::rows_of_numbers::verdict_on_ground;
 use crate::unasked_ranks::put;
 use drain_grid::{Judged, Product, Rule, Verdict};
 use drain_pixels::PixelKind;

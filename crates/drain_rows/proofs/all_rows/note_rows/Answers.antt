@@ -1,9 +1,4 @@
-use Rattle.std.proofs.Common.{◌≡◌, None, inl, ◌+◌, ◌<◌, inr, refl, sym, ap, subst, ◌∙◌, arith, rules}
-use Rattle.drain_grid.specs.Extent.{Extent}
-use Rattle.drain_grid.specs.Spacing.{spacing_of}
-use Rattle.drain_rules.specs.Rows.{AreNumbersOf, AreRowNumbers}
-use Rattle.drain_rows.specs.RowBuffers.{LanesMatch, IsMarked, marked_of, buffer_numbers}
-use Rattle.drain_rows.specs.GridRows.{AreVoidsBefore}
+use Rattle.drain_rows.proofs.Names.{◌≡◌, None, inl, ◌+◌, ◌<◌, inr, refl, sym, ap, subst, ◌∙◌, arith, rules, Extent, spacing_of, AreNumbersOf, AreRowNumbers, LanesMatch, IsMarked, marked_of, buffer_numbers, AreVoidsBefore}
 use Rattle.drain_rows.proofs.WindowLemmas.{stops_then, told-of, voids-all, voids-more, voids-none, blank-whole, held-more, row-marked, window-shows}
 use Rattle.drain_rows.proofs.all_rows.note_rows.Goals as goal
 

@@ -1,9 +1,4 @@
-use Rattle.std.proofs.Common.{◌≡◌, ◌+◌, ℕ, None, length}
-use Rattle.drain_grid.specs.Grid.{Grid, Products}
-use Rattle.drain_grid.specs.Spacing.{spacing_of}
-use Rattle.drain_rules.specs.Rows.{AreRowNumbers, RowNumbers}
-use Rattle.drain_rows.specs.GridRows.{OfGrid, ReadsOn, AreVoidsBefore}
-use Rattle.drain_rows.specs.RowBuffers.{LanesMatch, IsMarked, marked_of, buffer_numbers}
+use Rattle.drain_rows.proofs.Names.{◌≡◌, ◌+◌, ℕ, None, length, Grid, Products, spacing_of, AreRowNumbers, RowNumbers, OfGrid, ReadsOn, AreVoidsBefore, LanesMatch, IsMarked, marked_of, buffer_numbers}
 use Rattle.drain_rows.proofs.WindowLemmas.{AreSetProducts}
 use Rattle.drain_rows.proofs.all_rows.note_rows.Given as goal
 

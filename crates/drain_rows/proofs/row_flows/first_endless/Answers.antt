@@ -1,8 +1,6 @@
 -- Where every rule about judged rasters holds, accumulation among them, every path ends.
-use Rattle.std.proofs.Common.{subst, sym, ◌∙◌}
-use Rattle.drain_grid.specs.declared.judged.Judged.{Judged}
+use Rattle.drain_rows.proofs.Names.{subst, sym, ◌∙◌, Judged, IsTried, rules_about}
 use Rattle.drain_grid.specs.declared.verdict.Verdict.{Verdict}
-use Rattle.drain_grid.specs.RulesAbout.{IsTried, rules_about}
 use Rattle.drain_rules.specs.Verdicts.{IsVerdictAmong}
 use Rattle.drain_paths.proofs.KnownWays.{AreKnownFlows-grid}
 use Rattle.drain_rows.proofs.CountedRules.{counts_hold}

@@ -1,6 +1,4 @@
-use Rattle.std.proofs.Common.{rules, ◌||◌, ap, ◌∙◌}
-use Rattle.drain_grid.specs.CellLists.{is_among}
-use Rattle.drain_grid.specs.Extent.{same_cell}
+use Rattle.drain_rows.proofs.Names.{rules, ◌||◌, ap, ◌∙◌, is_among, same_cell}
 use Rattle.drain_grid.proofs.CellSets.{inserted}
 use Rattle.drain_rows.proofs.listed_voids.ListedVoids.note.Goals.{in-Ok, in-Err}
 use Rattle.drain_rows.proofs.listed_voids.ListedVoids.note.Goals as goal

@@ -1,5 +1,4 @@
-use Rattle.std.proofs.Common.{false, inl, inr, refl, ◌∙◌, arith}
-use Rattle.std.proofs.lemmas.Bool.{cases_lt, lt-ltb, le-ltb}
+use Rattle.drain_rows.proofs.Names.{false, inl, inr, refl, ◌∙◌, arith, cases_lt, lt-ltb, le-ltb}
 use Rattle.std.proofs.lemmas.List.{get_or_past}
 use Rattle.drain_rows.proofs.listed_voids.ListedVoids.note_row.Goals as goal
 

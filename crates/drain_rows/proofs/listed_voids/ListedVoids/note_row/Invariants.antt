@@ -1,7 +1,4 @@
-use Rattle.std.proofs.Common.{◌≡◌, ◌||◌, ◌&&◌, nat_lt}
-use Rattle.drain_grid.specs.declared.cell.Cell.{Cell}
-use Rattle.drain_grid.specs.CellLists.{is_among}
-use Rattle.drain_rows.specs.GridRows.{is_listed_void}
+use Rattle.drain_rows.proofs.Names.{◌≡◌, ◌||◌, ◌&&◌, nat_lt, Cell, is_among, is_listed_void}
 use Rattle.drain_rows.proofs.listed_voids.ListedVoids.note_row.Given as goal
 
 -- of the columns that were passed, those that are listed and void are noted

@@ -1,6 +1,5 @@
 -- What holds of each product holds of all.
-use Rattle.std.proofs.Common.{rules}
-use Rattle.drain_grid.proofs.ByProduct.{as_each_held}
+use Rattle.drain_rows.proofs.Names.{rules, as_each_held}
 use Rattle.drain_rows.proofs.row_buffer.RowBuffer.is_even.Goals as goal
 
 pub returns-then-len-4 : goal.returns-then-len-4

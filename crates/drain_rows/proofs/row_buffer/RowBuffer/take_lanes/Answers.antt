@@ -1,7 +1,6 @@
 -- Each product has as many numbers as there are elevations.
-use Rattle.std.proofs.Common.{◌≡◌, length, rules}
-use Rattle.drain_grid.specs.declared.set_product.SetProduct.TheVariants.{Con, Dir, Acc, Bas, Rnk}
-use Rattle.drain_grid.proofs.ByProduct.{by_set_product}
+use Rattle.drain_rows.proofs.Names.{◌≡◌, length, rules, Dir, Acc, Bas, Rnk, by_set_product}
+use Rattle.drain_grid.specs.declared.set_product.SetProduct.TheVariants.{Con}
 use Rattle.drain_rows.proofs.row_buffer.RowBuffer.take_lanes.Goals as goal
 
 pub take-self-requires : goal.take-self-requires

@@ -1,5 +1,4 @@
-use Rattle.std.proofs.Common.{◌+◌, ◌∙◌, sym, subst}
-use Rattle.drain_grid.specs.declared.set_product.SetProduct.TheVariants.{Dir}
+use Rattle.drain_rows.proofs.Names.{◌+◌, ◌∙◌, sym, subst, Dir}
 use Rattle.drain_paths.specs.Flows.{AreFirstFlows}
 use Rattle.drain_paths.proofs.GridFlows.{AreFirstFlows-row}
 use Rattle.drain_rows.proofs.WindowLemmas.{on-ok}

@@ -1,6 +1,4 @@
-use Rattle.std.proofs.Common.{◌+◌, ℕ, length, sym, ◌∙◌, ap, subst}
-use Rattle.drain_rules.specs.Rows.{AreRowPatches}
-use Rattle.drain_rules.specs.ThreeRows.{patch_in}
+use Rattle.drain_rows.proofs.Names.{◌+◌, ℕ, length, sym, ◌∙◌, ap, subst, AreRowPatches, patch_in}
 use Rattle.drain_rows.proofs.WindowLemmas.{on-both-ok}
 use Rattle.drain_rows.proofs.row_visitor.WalkRowVisitor.note.Goals as goal
 
