@@ -3,7 +3,8 @@
 use crate::level_tile::{TILE, four, tile};
 use crate::printed::{Printed, Text, same_bytes, same_line, slow_sink, whole_sink};
 use drain_args::form::Form;
-use drain_cli::runs::run_explain::{ExplainOutput, MapFault, run_explain};
+use drain_cli::runs::explain_opened::run_explain;
+use drain_cli::runs::run_explain::{ExplainOutput, MapFault};
 use drain_device::BodyFault;
 use drain_device::faults::{ScriptSink, Scripted, SinkAnswer};
 use drain_explain::{FileLookup, Mapping};
@@ -105,7 +106,7 @@ fn explain(
     let mut products = JudgedProducts::Four(four(alloc, &[0; 4], &[1, 2, 3, 4])?, Judged::All);
     let status = run_explain(
         alloc,
-        2,
+        &2_u32,
         &mut tiles,
         &Given::plain(&[]),
         &mut products,

@@ -1,35 +1,14 @@
 -- What the status of a check or of an audit says of its answer.
-use Rattle.std.proofs.Common.{ℕ, List, Result, Ok, Err, refl, subst, ◌≡◌, ◌↔◌, IfOk, IfSome, IsSome, arith}
-use Rattle.drain_device.specs.Failing.{Source}
-use Rattle.drain_cli.specs.ExplainRuns.{AreFound}
-use Rattle.drain_explain.specs.Explanations.{AreFindingsIn, IsEndlessIn, answer_in, findings_in}
+use Rattle.drain_cli.proofs.Names.{refl, subst, ◌≡◌, IfOk, IfSome, IsSome, arith, AreFound, AreFindingsIn, IsEndlessIn, answer_in, findings_in, Judged, IsOutcomeIn, Refusal, Inputs, told_by, IsJudgement, answer_status, outcome_status, Verdict, IsAcceptedOutcome, Check, Audit, IfAccepts, IsAcceptance, GroundSet, status_code, refused_above_1, Option}
+use Rattle.std.proofs.Common.{Result, Ok, Err, ◌↔◌}
 use Rattle.drain_explain.specs.Slopes.{slopes_of}
 use Rattle.drain_explain.specs.declared.fault_visitor.Mapping.{Mapping}
 use Rattle.drain_explain.specs.declared.fault_visitor.Mapping.TheVariants.{Drawn}
 use Rattle.drain_explain.specs.declared.findings.Explanation.{Explanation}
-use Rattle.drain_hgt.specs.declared.input.TileInput.{TileInput}
-use Rattle.drain_hgt.specs.Inputs.{TilesTakeAtMost}
 use Rattle.drain_answer.specs.declared.outcome.Outcome.{Outcome}
-use Rattle.drain_grid.specs.declared.judged.Judged.{Judged}
-use Rattle.drain_verdict.specs.Outcomes.{IsOutcomeAnswer, IsOutcomeIn}
-use Rattle.drain_verdict.specs.DemGround.{AreHeadersKept, DemTakesAtMost, DemUses, ForDem}
-use Rattle.drain_sets.specs.declared.raster_input.RasterInput.{RasterInput}
-use Rattle.drain_answer.specs.declared.refusal.Refusal.{Refusal}
 use Rattle.drain_verdict.specs.Given.{Given}
-use Rattle.drain_verdict.specs.Inputs.{Inputs, Encode, Products}
-use Rattle.drain_verdict.specs.Reading.{told_by}
-use Rattle.drain_verdict.specs.Uses.{AreNamesKept, UsesInputs, UsesTold}
-use Rattle.drain_cli.specs.JudgedRuns.{IsDemJudgement, IsJudgement, answer_status, outcome_status}
-use Rattle.drain_grid.specs.declared.verdict.Verdict.{Verdict}
 use Rattle.drain_rules.specs.Verdicts.{IfAccepted}
 use Rattle.drain_answer.specs.declared.outcome.AuditVerdict.{AuditVerdict}
-use Rattle.drain_answer.specs.Outcomes.{IsAcceptedOutcome}
-use Rattle.drain_cli.specs.declared.answer.Answer.TheVariants.{Check, Audit}
-use Rattle.drain_verdict.specs.Answers.{AreCorrectIn, IfAccepts, IsAcceptance}
-use Rattle.drain_verdict.specs.GroundSets.{GroundSet}
-use Rattle.drain_verdict.specs.Headline.{ProductsAreRight}
-use Rattle.drain_answer.specs.Statuses.{status_code}
-use Rattle.drain_answer.proofs.PrintLemmas.{refused_above_1}
 use Rattle.drain_grid.specs.declared.verdict.Verdict.TheVariants as check
 use Rattle.drain_answer.specs.declared.outcome.AuditVerdict.TheVariants as audit
 use Rattle.drain_answer.specs.declared.outcome.Outcome.TheVariants as outcome
@@ -42,24 +21,9 @@ same_told (Ok e) = refl
 same_told (Err refusal) = refl
 
 -- the outcome that is explained, or the refusal, is that for the judged rasters
-pub explained_outcome : {F R P : Type 0} (inputs_of : P → Products R) (devices : List (TileInput R) → P → List R) (judged : Judged) (source : Source R) (side : ℕ) (tiles_old tiles_new : List (TileInput R)) (given : Given) (ps_old ps_new : P) (explained : Result (Explanation F) Refusal) →
-    ((i : Inputs) → Encode source.bytes_left side tiles_old given (inputs_of ps_old) i → IsOutcomeAnswer judged i (answer_in explained)) →
-    UsesInputs inputs_of devices source.bytes_left source.counts side (tiles_old, ps_old) (tiles_new, ps_new) explained →
-    IsJudgement inputs_of devices (IsOutcomeAnswer judged) source side tiles_old tiles_new given ps_old ps_new (answer_in explained)
-explained_outcome inputs_of devices judged source side tiles_old tiles_new given ps_old ps_new explained answer uses = record {
-  answer = answer;
-  uses = subst (UsesTold inputs_of devices (TilesTakeAtMost source.bytes_left side) AreNamesKept source.bytes_left source.counts (tiles_old, ps_old) (tiles_new, ps_new)) (same_told explained) uses;
-}
-
--- the same on a raster of elevations
-pub explained_on_dem : {F R P : Type 0} (inputs_of : P → Products R) (devices : List (RasterInput R) → P → List R) (judged : Judged) (source : Source R) (dem_old dem_new : List (RasterInput R)) (given : Given) (ps_old ps_new : P) (explained : Result (Explanation F) Refusal) →
-    ForDem source.bytes_left dem_old given (inputs_of ps_old) (λ s. IsOutcomeIn judged s (answer_in explained)) →
-    DemUses inputs_of devices source.bytes_left source.counts (dem_old, ps_old) (dem_new, ps_new) explained →
-    IsDemJudgement inputs_of devices (IsOutcomeIn judged) source dem_old dem_new given ps_old ps_new (answer_in explained)
-explained_on_dem inputs_of devices judged source dem_old dem_new given ps_old ps_new explained answer uses = record {
-  answer = answer;
-  uses = subst (UsesTold inputs_of devices (DemTakesAtMost source.bytes_left) AreHeadersKept source.bytes_left source.counts (dem_old, ps_old) (dem_new, ps_new)) (same_told explained) uses;
-}
+pub explained_outcome : {F : Type 0} (For : (GroundSet → Type 0) → Type 0) (Uses : Option Refusal → Type 0) (judged : Judged) (explained : Result (Explanation F) Refusal) →
+    For (λ s. IsOutcomeIn judged s (answer_in explained)) → Uses (told_by explained) → IsJudgement For Uses judged (answer_in explained)
+explained_outcome For Uses judged explained answer uses = record { answer = answer; uses = subst Uses (same_told explained) uses }
 
 -- what every cell showed is found for the answer that is explained
 pub found_of : {F : Type 0} (For : (GroundSet → Type 0) → Type 0) (judged : Judged) (given : Given) (mapping : Mapping) (explained : Result (Explanation F) Refusal) →
@@ -107,17 +71,3 @@ rejected_by_1 (Ok (outcome.Rejected rule row col)) one P holds = (outcome.Reject
 rejected_by_1 (Ok (outcome.NoEnd row col)) one P holds = (outcome.NoEnd row col, (λ accepts. accepts), holds)
 rejected_by_1 (Ok (outcome.NotFilled row col)) one P holds = (outcome.NotFilled row col, (λ accepts. accepts), holds)
 rejected_by_1 (Err refusal) one P holds = absurd (omega (arith, one, refused_above_1 refusal))
-
--- Products that are right are correct.
-pub right_is_correct : (s : GroundSet) → ProductsAreRight s → AreCorrectIn s
-right_is_correct s right = record {
-  voids = right.voids;
-  complete = right.complete;
-  least = right.least_surface;
-  never_climbs = right.never_climbs;
-  steepest = right.steepest;
-  outlets = right.outlets;
-  runs_end = right.runs_end;
-  counts = right.accumulation;
-  labels = right.labels;
-}

@@ -1,3 +1,4 @@
+pub mod Names
 pub mod AnswerLemmas
 pub mod RoundTrips
 pub mod ReadReports

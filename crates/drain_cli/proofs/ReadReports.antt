@@ -1,33 +1,19 @@
 -- What is read of a window's report is the report on that window.
-use Rattle.std.proofs.Common.{◌≡◌, ◌<◌, ◌++◌, List, ℕ, Option, None, Some, Result, Ok, Err, length, refl, sym, ap, ◌∙◌, arith, subst}
-use Rattle.std.specs.Io.KnownBytes.{Consumes, IsAtEnd}
-use Rattle.std.proofs.lemmas.List.{append-nil}
+use Rattle.drain_cli.proofs.Names.{◌≡◌, ◌<◌, ◌++◌, List, ℕ, length, refl, sym, ap, ◌∙◌, arith, subst, Consumes, IsAtEnd, append-nil, status_after, status_code, Status, Failed, ContentsFit, contents_of, report_text, Contents, WindowReport, IsReadable, IsJudgedFrom, IsVerdictInside, UnionVerdict, Accepted, Rejected, input_grid, input_products, nodata_numbers, tiling_of, dem_ground, GroundSet, set_grid, set_numbers, set_products, ReadDemIsJudged, ReadIsJudged}
+use Rattle.std.proofs.Common.{Option, None, Some, Result, Ok, Err}
 use Rattle.drain_device.specs.declared.patience.GaveUp.{GaveUp}
 use Rattle.drain_sets.specs.declared.set_files.SetFault.{SetFault}
-use Rattle.drain_answer.specs.Printing.{status_after}
-use Rattle.drain_answer.specs.Statuses.{status_code}
-use Rattle.drain_answer.specs.declared.outcome.Status.{Status}
-use Rattle.drain_answer.specs.declared.outcome.Status.TheVariants.{Failed}
-use Rattle.drain_report.specs.Contents.{ContentsFit, contents_of, report_text, Contents}
-use Rattle.drain_union.specs.declared.report.WindowReport.{WindowReport}
 use Rattle.drain_union.specs.Reports.{Agree, audited, Report, IsReportOf}
-use Rattle.drain_cli.specs.WindowRuns.{IsReadable, text_of}
-use Rattle.drain_merge.specs.UnionVerdicts.{IsJudgedFrom, IsVerdictInside}
-use Rattle.drain_union.specs.declared.verdict.UnionVerdict.{UnionVerdict}
-use Rattle.drain_union.specs.declared.verdict.UnionVerdict.TheVariants.{Accepted, Rejected}
+use Rattle.drain_cli.specs.WindowRuns.{text_of}
 use Rattle.drain_grid.specs.declared.cell.Cell.{Cell}
 use Rattle.drain_grid.specs.Grid.{Grid, Products}
 use Rattle.drain_grid.specs.Values.{NoDataNumbers}
-use Rattle.drain_verdict.specs.Meaning.{input_grid, input_products, nodata_numbers, tiling_of}
 use Rattle.drain_window.specs.WindowLines.{map_origin}
 use Rattle.drain_window.specs.WindowAnswers.{IsAnswerOn, IsJudgedVerdict}
-use Rattle.drain_verdict.specs.DemGround.{dem_ground}
-use Rattle.drain_verdict.specs.GroundSets.{GroundSet, set_grid, set_numbers, set_products}
 use Rattle.drain_union.specs.Windows.{window_at}
 use Rattle.drain_union.specs.Laws.{FourNumbers}
 use Rattle.drain_union.specs.declared.place.Place.{Place}
 use Rattle.drain_union.specs.declared.place.TheConstants.{SEAM_DEPTH}
-use Rattle.drain_cli.specs.RoundTrip.{ReadDemIsJudged, ReadIsJudged}
 
 -- The text of a report.
 

@@ -1,41 +1,27 @@
 -- A check reads what was written into empty files, and so accepts it.
-use Rattle.std.proofs.Common.{IfOk, ◌≡◌, ℕ, ◌<◌, ◌++◌, List, [], length, true, false, arith, refl, sym, ap, ◌∙◌, take, inl, inr, suc, ◌∷◌, map, slice_index_or, subst}
-use Rattle.std.specs.Prelude.{◌↔◌, nat_le, Option, Some, None, Result, Ok, Err, IsErrOf}
+use Rattle.drain_cli.proofs.Names.{IfOk, ◌≡◌, ℕ, ◌<◌, ◌++◌, List, [], length, true, false, arith, refl, sym, ap, ◌∙◌, take, inl, inr, suc, ◌∷◌, map, slice_index_or, subst, nat_le, IsErrOf, take_all, take-append-drop, length-take-le, length-take, ReadFailed, HeaderFault, Fields, Appends, Sink, Whole, sinks_of, raster_in, IsTextOf, texts_of, WritesFiles, AreMade, AreFilesOf, AreGivenSpacings, MadeIsAccepted, MadeOnDemIsAccepted, spacing_of, AreWrittenAndGiven, WhatIsWrittenIsAccepted, WhatIsWrittenOnDemIsAccepted}
+use Rattle.std.specs.Prelude.{◌↔◌, Option, Some, None, Result, Ok, Err}
 use Rattle.std.proofs.lemmas.Bool.{leb-true, leb-false}
-use Rattle.std.proofs.lemmas.List.{take_all, take-append-drop, length-take-le, length-take}
 use Rattle.drain_device.specs.Reads.{ReadsUpTo, TakesAtMost}
 use Rattle.drain_device.specs.declared.read.BodyFault.{BodyFault}
-use Rattle.drain_device.specs.declared.read.BodyFault.TheVariants.{ReadFailed, OutOfMemory}
+use Rattle.drain_device.specs.declared.read.BodyFault.TheVariants.{OutOfMemory}
 use Rattle.drain_text.specs.First.{IsBefore, IsFirst}
-use Rattle.drain_header.specs.declared.fault.HeaderFault.{HeaderFault}
 use Rattle.drain_header.specs.declared.fault.HeaderFault.TheVariants.{TooLong, RepeatedKey, BadValue, MissingKey, NotOneBand, BadBits, BadPixelType, RowTooShort}
-use Rattle.drain_header.specs.Header.{Fields}
 use Rattle.drain_header.specs.Faults.{fault_order, HasFault, Answers}
 use Rattle.drain_cli.specs.FillRuns.{HeaderOutcome, IsAnswerToldAs, IsToldAs, AnswersHeaderTold}
-use Rattle.std.specs.Io.KnownBytes.{Appends}
-use Rattle.drain_device.specs.Failing.{Sink}
-use Rattle.drain_grid.specs.declared.height_kind.HeightKind.TheVariants.{Whole}
 use Rattle.drain_grid.specs.declared.set_product.SetProduct.{SetProduct}
-use Rattle.drain_grid.specs.SinkTexts.{sinks_of}
 use Rattle.drain_grid.specs.declared.set_product.SetProduct.TheVariants.{Con, Dir, Acc, Bas, Rnk}
 use Rattle.drain_grid.specs.SetProduct.{product_of}
 use Rattle.drain_grid.specs.declared.product_set.ProductSet.{ProductSet}
-use Rattle.drain_grid.specs.WholeGrid.{raster_in}
-use Rattle.drain_header.specs.Text.{IsTextOf}
 use Rattle.drain_mosaic.specs.Tiling.{Tiling}
 use Rattle.drain_raster.specs.Bytes.{raster_bytes}
-use Rattle.drain_verdict.specs.Meaning.{texts_of}
 use Rattle.drain_verdict.specs.Texts.{SetTexts}
 use Rattle.drain_maker.specs.Mosaics.{IsMosaicOf}
 use Rattle.drain_maker.specs.ProductFiles.{header_bytes, made_header, set_bytes}
 use Rattle.drain_sets.specs.ProductHeaders.{header_on}
-use Rattle.drain_sets.specs.FileWrites.{WritesFiles}
-use Rattle.drain_maker.specs.Made.{AreMade}
 use Rattle.drain_grid.specs.declared.product.Product.TheVariants as product
-use Rattle.drain_maker.specs.Accepted.{AreFilesOf, AreGivenSpacings, MadeIsAccepted, MadeOnDemIsAccepted}
-use Rattle.drain_grid.specs.Spacing.{spacing_of}
 use Rattle.drain_verdict.specs.Given.{Given}
-use Rattle.drain_cli.specs.RoundTrip.{AreWrittenAndGiven, WhatIsWrittenIsAccepted, WhatIsWrittenOnDemIsAccepted, files_given}
+use Rattle.drain_cli.specs.RoundTrip.{files_given}
 
 -- The first 65,537 bytes of a text have its answer, and what is left after reading them.
 

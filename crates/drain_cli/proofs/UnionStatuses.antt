@@ -1,17 +1,11 @@
 -- What the status of a merge says of the union.
-use Rattle.std.proofs.Common.{◌≡◌, ◌<◌, inl, inr, List, Result, Ok, Err, IfOk, IfErr, arith}
+use Rattle.drain_cli.proofs.Names.{◌≡◌, ◌<◌, inl, inr, List, IfOk, IfErr, arith, IsUnionVerdict, UnionVerdict, Accepted, Rejected, status_code, WindowReport, IsMergeOutcome, MakeUnion, merge_status, UnionIsCorrect, UnionIsNotCorrect, verdict_status}
+use Rattle.std.proofs.Common.{Result, Ok, Err}
 use Rattle.drain_merge.specs.MapBoxes.{box_of, boxed, HasMapSinks, IsMapRefusal, IsMapVerdict}
-use Rattle.drain_merge.specs.UnionVerdicts.{IsUnionVerdict}
 use Rattle.drain_merge.specs.declared.map_merge.MapVerdict.{MapVerdict}
 use Rattle.drain_merge.specs.declared.merge_verdict.MergeRefusal.{MergeRefusal}
 use Rattle.drain_merge.specs.declared.merge_verdict.MergeRefusal.TheVariants.{NoReports, OtherSide, OtherGrid, OtherNoData, OtherSpacing, OutsideUnion, JudgesNothing, Overlap, LeftOut, SeamsDiffer, SinkLeftOut, SinkNotListed, OutOfMemory}
-use Rattle.drain_union.specs.declared.verdict.UnionVerdict.{UnionVerdict}
-use Rattle.drain_union.specs.declared.verdict.UnionVerdict.TheVariants.{Accepted, Rejected}
 use Rattle.drain_merge.specs.declared.totals.UnionSinks.{UnionSinks}
-use Rattle.drain_answer.specs.Statuses.{status_code}
-use Rattle.drain_union.specs.declared.report.WindowReport.{WindowReport}
-use Rattle.drain_cli.specs.MergeRuns.{IsMergeOutcome, MakeUnion, merge_status, UnionIsCorrect, UnionIsNotCorrect}
-use Rattle.drain_cli.specs.WindowRuns.{verdict_status}
 
 -- a merge answers with an outcome
 pub outcome_is : (sinks : UnionSinks) (ws : List WindowReport) (answer : Result MapVerdict MergeRefusal) → IfOk answer (IsMapVerdict ws) → IfOk answer (λ union. HasMapSinks sinks ws) →

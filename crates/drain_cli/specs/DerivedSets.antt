@@ -1,36 +1,13 @@
 -- How a run of `drain derive` ends: with files that were written, or with the reason why nothing was derived.
-use Rattle.std.specs.Prelude.{◌≡◌, ℕ, List, Result, Ok, Err, IfOk, IfErr, codes}
-use Rattle.drain_answer.specs.AuditLines.{no_end_line}
+use Rattle.std.specs.Prelude.{◌≡◌}
+use Rattle.drain_cli.specs.Names.{ℕ, List, Result, Ok, Err, IfOk, IfErr, codes, no_end_line, Refusal, BadHeader, WrongShape, Misplaced, Derived, DeriveRefusal, Sink, Source, Dir, OpenElevations, Tiles, Dem, made_header, Extent, Fields, names_of, TileInput, SetFault, Tiling, ForAudit, DemUses, ForDem, IsDemInput, dem_audit_devices, as_five, RasterInput, AuditUses, AuditProducts, Prints, refusal_status, Status}
 use Rattle.drain_answer.specs.Lines.{refusal_line}
-use Rattle.drain_answer.specs.declared.refusal.Refusal.{Refusal}
-use Rattle.drain_answer.specs.declared.refusal.Refusal.TheVariants.{BadHeader, WrongShape, Misplaced}
 use Rattle.drain_maker.specs.Derived.{AreDerivedIn, AreDerivedOf, IsDeriveRefusal, IsDeriveRefusalIn, reading_in}
-use Rattle.drain_maker.specs.declared.derivation.Derived.{Derived}
-use Rattle.drain_maker.specs.declared.derivation.DeriveRefusal.{DeriveRefusal}
 use Rattle.drain_maker.specs.declared.derivation.DeriveRefusal.TheVariants.{Refused, NoEnd}
-use Rattle.drain_device.specs.Failing.{Sink, Source}
-use Rattle.drain_grid.specs.declared.product.Product.TheVariants.{Con, Dir}
-use Rattle.drain_files.specs.declared.open_judged.OpenElevations.{OpenElevations}
-use Rattle.drain_files.specs.declared.open_judged.OpenElevations.TheVariants.{Tiles, Dem}
-use Rattle.drain_maker.specs.ProductFiles.{made_header}
-use Rattle.drain_grid.specs.Extent.{Extent}
-use Rattle.drain_header.specs.Header.{Fields}
-use Rattle.drain_hgt.specs.Inputs.{names_of}
-use Rattle.drain_hgt.specs.declared.input.TileInput.{TileInput}
-use Rattle.drain_sets.specs.declared.set_files.SetFault.{SetFault}
+use Rattle.drain_grid.specs.declared.product.Product.TheVariants.{Con}
 use Rattle.drain_verdict.specs.Stages.{IsLayoutOf}
-use Rattle.drain_mosaic.specs.Tiling.{Tiling}
-use Rattle.drain_verdict.specs.Answers.{ForAudit}
-use Rattle.drain_verdict.specs.DemGround.{DemUses, ForDem, IsDemInput, dem_audit_devices}
 use Rattle.drain_verdict.specs.Given.{plain}
-use Rattle.drain_verdict.specs.Inputs.{as_five}
-use Rattle.drain_sets.specs.declared.raster_input.RasterInput.{RasterInput}
-use Rattle.drain_verdict.specs.Uses.{AuditUses}
-use Rattle.drain_sets.specs.declared.raster_input.AuditProducts.{AuditProducts}
-use Rattle.drain_answer.specs.Printing.{Prints}
 use Rattle.drain_cli.specs.MadeSets.{written_line}
-use Rattle.drain_answer.specs.Statuses.{refusal_status}
-use Rattle.drain_answer.specs.declared.outcome.Status.{Status}
 use Rattle.drain_answer.specs.declared.outcome.Status.TheVariants.{Rejected}
 
 -- the line for the result of writing: derived rows=R cols=C

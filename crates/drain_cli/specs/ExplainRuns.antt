@@ -1,74 +1,26 @@
 -- How a run of `drain explain` ends, what it prints, and its status.
-use Rattle.std.specs.Prelude.{◌≡◌, ◌⊎◌, ◌↔◌, ℕ, ◌++◌, List, [], ◌∷◌, Result, Ok, Err, Option, None, Some, IfSome, IsSome, codes, string_bytes}
-use Rattle.drain_cli.specs.OpenedInputs.{ForTiles}
+use Rattle.std.specs.Prelude.{◌≡◌, ◌⊎◌, ◌↔◌, ◌++◌, ◌∷◌}
+use Rattle.drain_cli.specs.Names.{ℕ, List, [], Result, Ok, Err, Option, None, Some, IfSome, IsSome, codes, string_bytes, Drawn, Judged, Fields, made_header, Tiling, GroundSet, Sink, Source, Outcome, Refusal, outcome_report_line, AllWithRanks, as_five, Text, Json, JudgedProducts, Status, Failed, OpenElevations, Tiles, Dem, failure_text, IsOpenFailure, IsAnswerLine, PrintsText}
+use Rattle.drain_cli.specs.OpenedInputs.{ForOpened, UsesOpened}
 use Rattle.drain_explain.specs.Explanations.{AreFindingsIn, IsEndlessIn}
 use Rattle.drain_explain.specs.Slopes.{slopes_of}
 use Rattle.drain_explain.specs.declared.fault_visitor.Mapping.{Mapping}
-use Rattle.drain_explain.specs.declared.fault_visitor.Mapping.TheVariants.{Drawn}
 use Rattle.drain_findings.specs.declared.findings.Findings.{Findings}
 use Rattle.drain_faults.specs.declared.fault_map.FaultMap.{FaultMap}
-use Rattle.drain_grid.specs.declared.judged.Judged.{Judged}
 use Rattle.drain_grid.specs.declared.product.Product.TheVariants as product
-use Rattle.drain_header.specs.Header.{Fields}
-use Rattle.drain_maker.specs.ProductFiles.{made_header}
-use Rattle.drain_mosaic.specs.Tiling.{Tiling}
-use Rattle.drain_verdict.specs.GroundSets.{GroundSet}
-use Rattle.drain_device.specs.Failing.{Sink, Source}
 use Rattle.drain_device.specs.declared.read.BodyFault.TheVariants as body
-use Rattle.drain_hgt.specs.declared.input.TileInput.{TileInput}
-use Rattle.drain_answer.specs.declared.outcome.Outcome.{Outcome}
-use Rattle.drain_answer.specs.declared.refusal.Refusal.{Refusal}
-use Rattle.drain_answer.specs.OutcomeLines.{outcome_report_line}
-use Rattle.drain_grid.specs.declared.judged.Judged.TheVariants.{AllWithRanks}
-use Rattle.drain_verdict.specs.DemGround.{ForDem, dem_audit_devices, dem_check_devices}
 use Rattle.drain_verdict.specs.Given.{Given}
-use Rattle.drain_verdict.specs.Inputs.{Products, as_five}
-use Rattle.drain_verdict.specs.Uses.{devices_of}
-use Rattle.drain_verdict.specs.Outcomes.{IsOutcomeAnswer, IsOutcomeIn}
-use Rattle.drain_sets.specs.declared.raster_input.RasterInput.{RasterInput}
+use Rattle.drain_verdict.specs.Inputs.{Products}
 use Rattle.drain_page.specs.declared.json_page.TheConstants.{OUT_OF_MEMORY_OBJECT}
 use Rattle.drain_args.specs.declared.form.Form.{Form}
-use Rattle.drain_args.specs.declared.form.Form.TheVariants.{Text, Json}
 use Rattle.drain_cli.specs.declared.runs.run_explain.MapFault.{MapFault}
 use Rattle.drain_cli.specs.declared.runs.run_explain.MapFault.TheVariants as map
 use Rattle.drain_cli.specs.declared.runs.run_explain.PageFailure.{PageFailure}
 use Rattle.drain_cli.specs.declared.runs.run_explain.PageFailure.TheVariants as no_page
 use Rattle.drain_cli.specs.declared.runs.run_explain.PageFailure.TheVariants.{Open}
-use Rattle.drain_files.specs.declared.open_judged.JudgedProducts.{JudgedProducts}
 use Rattle.drain_files.specs.declared.open_judged.JudgedProducts.TheVariants as products
-use Rattle.drain_answer.specs.declared.outcome.Status.{Status}
-use Rattle.drain_answer.specs.declared.outcome.Status.TheVariants.{Failed}
-use Rattle.drain_files.specs.declared.open_judged.OpenElevations.{OpenElevations}
-use Rattle.drain_files.specs.declared.open_judged.OpenElevations.TheVariants.{Tiles, Dem}
-use Rattle.drain_cli.specs.JudgedRuns.{IsDemJudgement, IsJudgement, IsPartOutcome, outcome_status}
-use Rattle.drain_answer.specs.Outcomes.{failure_text}
-use Rattle.drain_files.specs.Files.{IsOpenFailure}
-use Rattle.drain_page.specs.Texts.{IsAnswerLine, line_feed}
-use Rattle.drain_answer.specs.Printing.{PrintsText}
-
--- the outcome for the products that were opened: five with ranks, or those of four that are judged
-abbrev pub IsOutcome : {R : Type 0} → Source R → ℕ → List (TileInput R) → List (TileInput R) → Given → JudgedProducts R → JudgedProducts R → Result Outcome Refusal → Type 0
-IsOutcome source side tiles_old tiles_new given (products.Five old) (products.Five new) outcome =
-    IsJudgement (λ ps. ps) devices_of (IsOutcomeAnswer AllWithRanks) source side tiles_old tiles_new given old new outcome
-IsOutcome source side tiles_old tiles_new given (products.Four old judged) (products.Four new then) outcome =
-    IsPartOutcome source judged side tiles_old tiles_new given old new outcome × (then ≡ judged)
-IsOutcome source side tiles_old tiles_new given old new other = ⊥
-
--- the same beside one raster of elevations
-abbrev pub IsDemOutcome : {R : Type 0} → Source R → List (RasterInput R) → List (RasterInput R) → Given → JudgedProducts R → JudgedProducts R → Result Outcome Refusal → Type 0
-IsDemOutcome source dem_old dem_new given (products.Five old) (products.Five new) outcome =
-    IsDemJudgement (λ ps. ps) dem_check_devices (IsOutcomeIn AllWithRanks) source dem_old dem_new given old new outcome
-IsDemOutcome source dem_old dem_new given (products.Four old judged) (products.Four new then) outcome =
-    IsDemJudgement as_five dem_audit_devices (IsOutcomeIn judged) source dem_old dem_new given old new outcome × (then ≡ judged)
-IsDemOutcome source dem_old dem_new given old new other = ⊥
-
--- beside the elevations that were opened
-abbrev pub IsOutcomeOn : {R : Type 0} → Source R → OpenElevations R → OpenElevations R → Given → JudgedProducts R → JudgedProducts R → Result Outcome Refusal → Type 0
-IsOutcomeOn source (Tiles old) (Tiles new) given products_old products_new outcome =
-    IsOutcome source old.side old.tiles.items new.tiles.items given products_old products_new outcome
-IsOutcomeOn source (Dem old) (Dem new) given products_old products_new outcome = IsDemOutcome source old new given products_old products_new outcome
-IsOutcomeOn source (Tiles old) (Dem new) given products_old products_new outcome = ⊥
-IsOutcomeOn source (Dem old) (Tiles new) given products_old products_new outcome = ⊥
+use Rattle.drain_cli.specs.JudgedRuns.{IsOutcomeOf, outcome_status}
+use Rattle.drain_page.specs.Texts.{line_feed}
 
 -- a text begins with the line of its answer; an object is on a line of its own, and its first member is that line
 abbrev pub BeginsWith : Form → List ℕ → List ℕ → Type 0
@@ -171,23 +123,15 @@ pub record IsExplainedRun {F B W : Type 0} (IsAnswer : Result Outcome Refusal �
 abbrev pub place_on_tiles : Tiling → Fields
 place_on_tiles t = made_header t product.Dir
 
--- on tiles
-abbrev pub IsTileExplained : {R B W : Type 0} → Source R → Sink W → (Fields → List ℕ → B → B → Result (Unit {0}) MapFault → Type 0) → ℕ → List (TileInput R) → List (TileInput R) → Given → JudgedProducts R → JudgedProducts R → Mapping → Form → B → W → W → ℕ → Type 0
-IsTileExplained source sink has_saved side tiles_old tiles_new given old new mapping form beside out_old out_new code =
-    IsExplainedRun (IsOutcome source side tiles_old tiles_new given old new)
-    (AreFoundOf (ForTiles source.bytes_left side tiles_old given) old given mapping) place_on_tiles has_saved beside sink out_old out_new form code
+-- how a run on a ground ends, whose map lies at this place of its frame
+abbrev pub IsExplainedAt : {F R B W : Type 0} → (F → Fields) → (Products R → (GroundSet → Type 0) → Type 0) → ((P : Type 0) → (P → Products R) → P → P → Option Refusal → Type 0) → Given → JudgedProducts R → JudgedProducts R → Mapping → (Fields → List ℕ → B → B → Result (Unit {0}) MapFault → Type 0) → B → Sink W → W → W → Form → ℕ → Type 0
+IsExplainedAt place For Uses given old new mapping has_saved beside sink out_old out_new form code =
+    IsExplainedRun (IsOutcomeOf For Uses old new) (AreFoundOf For old given mapping) place has_saved beside sink out_old out_new form code
 
--- on one raster of elevations, as which its map lies
-abbrev pub IsDemExplained : {R B W : Type 0} → Source R → Sink W → (Fields → List ℕ → B → B → Result (Unit {0}) MapFault → Type 0) → List (RasterInput R) → List (RasterInput R) → Given → JudgedProducts R → JudgedProducts R → Mapping → Form → B → W → W → ℕ → Type 0
-IsDemExplained source sink has_saved dem_old dem_new given old new mapping form beside out_old out_new code =
-    IsExplainedRun (IsDemOutcome source dem_old dem_new given old new)
-    (AreFoundOf (ForDem source.bytes_left dem_old given) old given mapping) (λ h. h) has_saved beside sink out_old out_new form code
-
--- beside the elevations that were opened
-abbrev pub IsExplainedOn : {R B W : Type 0} → Source R → Sink W → (Fields → List ℕ → B → B → Result (Unit {0}) MapFault → Type 0) → OpenElevations R → OpenElevations R → Given → JudgedProducts R → JudgedProducts R → Mapping → Form → B → W → W → ℕ → Type 0
-IsExplainedOn source sink has_saved (Tiles old) (Tiles new) given products_old products_new mapping form beside out_old out_new code =
-    IsTileExplained source sink has_saved old.side old.tiles.items new.tiles.items given products_old products_new mapping form beside out_old out_new code
-IsExplainedOn source sink has_saved (Dem old) (Dem new) given products_old products_new mapping form beside out_old out_new code =
-    IsDemExplained source sink has_saved old new given products_old products_new mapping form beside out_old out_new code
-IsExplainedOn source sink has_saved (Tiles old) (Dem new) given products_old products_new mapping form beside out_old out_new code = ⊥
-IsExplainedOn source sink has_saved (Dem old) (Tiles new) given products_old products_new mapping form beside out_old out_new code = ⊥
+-- on the elevations that were opened: tiles, or one raster, as which its map lies
+abbrev pub IsExplainedOn : {R B W : Type 0} → Source R → OpenElevations R → OpenElevations R → Given → JudgedProducts R → JudgedProducts R → Mapping → (Fields → List ℕ → B → B → Result (Unit {0}) MapFault → Type 0) → B → Sink W → W → W → Form → ℕ → Type 0
+IsExplainedOn source (Tiles old) (Tiles new) given products_old products_new mapping has_saved beside sink out_old out_new form code =
+    IsExplainedAt place_on_tiles (ForOpened source.bytes_left (Tiles old) given) (UsesOpened source (Tiles old) (Tiles new)) given products_old products_new mapping has_saved beside sink out_old out_new form code
+IsExplainedOn source (Dem old) (Dem new) given products_old products_new mapping has_saved beside sink out_old out_new form code =
+    IsExplainedAt {F = Fields} (λ h. h) (ForOpened source.bytes_left (Dem old) given) (UsesOpened source (Dem old) (Dem new)) given products_old products_new mapping has_saved beside sink out_old out_new form code
+IsExplainedOn source old new given products_old products_new mapping has_saved beside sink out_old out_new form code = ⊥

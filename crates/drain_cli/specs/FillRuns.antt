@@ -1,16 +1,11 @@
 -- How a run of `drain fill` ends: with the answer to its bytes, or without one as memory ran out or the source failed.
-use Rattle.std.specs.Prelude.{◌≡◌, ◌⊎◌, ℕ, ◌++◌, List, [], ◌∷◌, Option, Some, None, Result, Ok, Err, IfOk, IsErrOf, codes}
-use Rattle.drain_device.specs.Failing.{Source, ReadFails}
+use Rattle.std.specs.Prelude.{◌≡◌, ◌⊎◌, ◌++◌, ◌∷◌}
+use Rattle.drain_cli.specs.Names.{ℕ, List, [], Option, Some, None, Result, Ok, Err, IfOk, IsErrOf, codes, Source, ReadFails, Fields, Answers, fault_text, Status, failure_text, Whole}
 use Rattle.drain_device.specs.declared.read.BodyFault.{BodyFault}
 use Rattle.drain_device.specs.declared.read.BodyFault.TheVariants.{ReadFailed, OutOfMemory}
 use Rattle.drain_header.specs.declared.fault.HeaderFault.{HeaderFault}
-use Rattle.drain_header.specs.Header.{Fields}
-use Rattle.drain_header.specs.Faults.{Answers, fault_text}
 use Rattle.drain_header.specs.Text.{text_of}
-use Rattle.drain_answer.specs.declared.outcome.Status.{Status}
-use Rattle.drain_answer.specs.Outcomes.{failure_text}
 use Rattle.drain_answer.specs.Printing.{line_feed}
-use Rattle.drain_grid.specs.declared.height_kind.HeightKind.TheVariants.{Whole}
 use Rattle.drain_grid.specs.Path.{IsFilled}
 use Rattle.drain_rules.specs.Fill.{fill_grid, fill_products, IsFillAnswer}
 use Rattle.drain_grid.specs.declared.fill_verdict.FillVerdict.{FillVerdict}

@@ -1,13 +1,10 @@
 -- How the first part of a run of `drain merge --report` ends: with the report of a box, or with the reason why there is
 -- none.
-use Rattle.std.specs.Prelude.{◌≡◌, ℕ, List, Result, Ok, Err}
-use Rattle.drain_answer.specs.Printing.{Prints}
+use Rattle.std.specs.Prelude.{◌≡◌}
+use Rattle.drain_cli.specs.Names.{ℕ, List, Result, Ok, Err, Prints, Sink, MergeRefusal, WindowReport}
 use Rattle.drain_cli.specs.MergeRuns.{refused_status}
-use Rattle.drain_device.specs.Failing.{Sink}
 use Rattle.drain_merge.specs.BoxReports.{IsJoin, IsJoinRefusal, IsOfBox}
 use Rattle.drain_merge.specs.UnionVerdicts.{refusal_line}
-use Rattle.drain_merge.specs.declared.merge_verdict.MergeRefusal.{MergeRefusal}
-use Rattle.drain_union.specs.declared.report.WindowReport.{WindowReport}
 
 -- the report that the windows make of their box; or the first refusal
 abbrev pub IsJoinOutcome : List WindowReport → Result WindowReport MergeRefusal → Type 0

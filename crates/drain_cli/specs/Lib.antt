@@ -1,3 +1,4 @@
+pub mod Names
 pub mod JudgedRuns
 pub mod DerivedSets
 pub mod ExplainRuns

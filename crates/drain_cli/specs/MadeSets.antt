@@ -1,44 +1,21 @@
 -- The products made of elevations, and why there are none.
-use Rattle.std.specs.Prelude.{ℕ, ◌++◌, List, Result, Ok, Err, codes, decimal, ◌≡◌, map, Option}
-use Rattle.drain_mosaic.specs.Tiling.{Tiling, extent_of}
-use Rattle.drain_verdict.specs.DemGround.{DemTexts, EncodesDem, dem_devices, dem_ground}
-use Rattle.drain_sets.specs.declared.raster_input.RasterInput.{RasterInput}
+use Rattle.std.specs.Prelude.{◌++◌, ◌≡◌}
+use Rattle.drain_cli.specs.Names.{ℕ, List, Result, Ok, Err, codes, decimal, map, Option, Tiling, extent_of, DemTexts, EncodesDem, dem_devices, dem_ground, RasterInput, refusal_status, Status, Done, Failed, SetFault, WriteFailed, Source, OpenElevations, Tiles, Dem, Whole, made_header, ProductSet, SinkLine, RowSpacings, spacing_of, IsSinkFault, sinks_of, Extent, Heights, Pixels, Fields, TileInput, tile_devices, SomeReadFails, TellTiles, AreGivenSpacings, AreMadeOn, AreOnDemData, IsDemOf, IsDemSinkAnswer, IsGroundRefusal}
 use Rattle.drain_answer.specs.Lines.{refusal_line}
-use Rattle.drain_answer.specs.Statuses.{refusal_status}
-use Rattle.drain_answer.specs.declared.outcome.Status.{Status}
-use Rattle.drain_answer.specs.declared.outcome.Status.TheVariants.{Done, Refused, Failed}
-use Rattle.drain_sets.specs.declared.set_files.SetFault.{SetFault}
-use Rattle.drain_sets.specs.declared.set_files.SetFault.TheVariants.{WriteFailed, OutOfMemory}
+use Rattle.drain_answer.specs.declared.outcome.Status.TheVariants.{Refused}
+use Rattle.drain_sets.specs.declared.set_files.SetFault.TheVariants.{OutOfMemory}
 use Rattle.drain_cli.specs.declared.runs.make_set.NoSet.{NoSet}
 use Rattle.drain_cli.specs.declared.runs.make_set.NoSet.TheVariants.{Ground, Sinks, Spacing, Maker}
 use Rattle.drain_cli.specs.declared.runs.made_spacing.NoSpacing.{NoSpacing}
 use Rattle.drain_cli.specs.declared.runs.made_spacing.NoSpacing.TheVariants as spacing
-use Rattle.drain_device.specs.Failing.{Source}
-use Rattle.drain_files.specs.declared.open_judged.OpenElevations.{OpenElevations}
-use Rattle.drain_files.specs.declared.open_judged.OpenElevations.TheVariants.{Tiles, Dem}
-use Rattle.drain_grid.specs.declared.height_kind.HeightKind.TheVariants.{Whole}
 use Rattle.drain_grid.specs.declared.product.Product.TheVariants.{Con}
-use Rattle.drain_maker.specs.ProductFiles.{made_header}
-use Rattle.drain_grid.specs.declared.product_set.ProductSet.{ProductSet}
-use Rattle.drain_grid.specs.declared.sink_line.SinkLine.{SinkLine}
-use Rattle.drain_grid.specs.Spacing.{RowSpacings, spacing_of}
-use Rattle.drain_grid.specs.SinkTexts.{IsSinkFault, sinks_of}
-use Rattle.drain_grid.specs.Extent.{Extent}
-use Rattle.drain_grid.specs.Grid.{Heights, Pixels}
-use Rattle.drain_header.specs.Header.{Fields}
-use Rattle.drain_hgt.specs.declared.input.TileInput.{TileInput}
-use Rattle.drain_hgt.specs.Inputs.{tile_devices}
 use Rattle.drain_answer.specs.declared.refusal.Refusal.TheVariants.{ReadFailed}
-use Rattle.drain_device.specs.FaultLists.{SomeReadFails}
 use Rattle.drain_verdict.specs.Given.{Given, HasBadSpacing, HasOtherRows, spacings_given}
 use Rattle.drain_sets.specs.GivenSpacings.{GivenSpacing}
 use Rattle.drain_verdict.specs.Inputs.{Inputs}
 use Rattle.drain_verdict.specs.Refusals.{IsOfBodies}
 use Rattle.drain_maker.specs.Mosaics.{IsMosaicOf, IsMosaicRefusal}
-use Rattle.drain_verdict.specs.TileGround.{TellTiles}
 use Rattle.drain_maker.specs.declared.maker.MakeRefusal.{MakeRefusal}
-use Rattle.drain_maker.specs.Accepted.{AreGivenSpacings}
-use Rattle.drain_maker.specs.Dems.{AreMadeOn, AreOnDemData, IsDemOf, IsDemSinkAnswer, IsGroundRefusal}
 use Rattle.drain_maker.specs.Made.{AreMade, AreOnData, IsSinkAnswer}
 use Rattle.drain_grid.specs.declared.sink_text.SinkFault.TheVariants as sink
 use Rattle.drain_answer.specs.declared.refusal.Refusal.TheVariants as refusal

@@ -1,27 +1,19 @@
 -- How a run of `drain merge` ends, and what its status means. The words are this project's own.
-use Rattle.std.specs.Prelude.{◌≡◌, ℕ, List, Option, None, Some, Result, Ok, Err, codes}
+use Rattle.std.specs.Prelude.{◌≡◌}
+use Rattle.drain_cli.specs.Names.{ℕ, List, Option, None, Some, Result, Ok, Err, codes, Grid, SinkFault, AreJudgedFrom, windows_of, MapVerdict, MergeRefusal, SinkLine, AsTaken, Listed, Status, Report, WindowReport}
 use Rattle.drain_answer.specs.Lines.{refusal_line}
 use Rattle.drain_cli.specs.WindowRuns.{verdict_status}
 use Rattle.drain_answer.specs.declared.refusal.Refusal.TheVariants as inputs
 use Rattle.drain_grid.specs.Correct.{IsCorrect}
-use Rattle.drain_grid.specs.Grid.{Grid, Products}
+use Rattle.drain_grid.specs.Grid.{Products}
 use Rattle.drain_grid.specs.Values.{NoDataNumbers}
-use Rattle.drain_grid.specs.declared.sink_text.SinkFault.{SinkFault}
 use Rattle.drain_grid.specs.declared.sink_text.SinkFault.TheVariants as list
 use Rattle.drain_merge.specs.MapBoxes.{box_of, boxed, HasMapSinks, IsMapRefusal, IsMapVerdict}
 use Rattle.drain_merge.specs.Merges.{HaveNoData}
-use Rattle.drain_merge.specs.UnionVerdicts.{AreJudgedFrom, windows_of}
-use Rattle.drain_merge.specs.declared.map_merge.MapVerdict.{MapVerdict}
-use Rattle.drain_merge.specs.declared.merge_verdict.MergeRefusal.{MergeRefusal}
 use Rattle.drain_merge.specs.declared.merge_verdict.MergeRefusal.TheVariants.{OutOfMemory}
-use Rattle.drain_grid.specs.declared.sink_line.SinkLine.{SinkLine}
 use Rattle.drain_merge.specs.declared.totals.UnionSinks.{UnionSinks}
-use Rattle.drain_merge.specs.declared.totals.UnionSinks.TheVariants.{AsTaken, Listed}
-use Rattle.drain_answer.specs.declared.outcome.Status.{Status}
 use Rattle.drain_answer.specs.declared.outcome.Status.TheVariants as status
-use Rattle.drain_union.specs.Reports.{Report}
 use Rattle.drain_union.specs.Windows.{Window, AreWindowsOf}
-use Rattle.drain_union.specs.declared.report.WindowReport.{WindowReport}
 
 -- the verdict on the union, which has these sinks unless a window is rejected; or the first refusal
 abbrev pub IsMergeOutcome : UnionSinks → List WindowReport → Result MapVerdict MergeRefusal → Type 0

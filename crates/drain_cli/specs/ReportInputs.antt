@@ -1,13 +1,10 @@
 -- Why a report can't be read, and the line and the status for it. The words are this project's own.
-use Rattle.std.specs.Prelude.{◌⊎◌, ℕ, List, ◌++◌, codes, decimal}
-use Rattle.std.specs.Io.KnownBytes.{Consumes, IsAtEnd}
+use Rattle.std.specs.Prelude.{◌⊎◌, ◌++◌}
+use Rattle.drain_cli.specs.Names.{ℕ, List, codes, decimal, Consumes, IsAtEnd, Source, GivesUp, full_patience, TakesMoreThan, Status, Failed}
 use Rattle.drain_device.specs.Counts.{Answered}
-use Rattle.drain_device.specs.Failing.{Source, GivesUp, full_patience}
 use Rattle.drain_device.specs.declared.read.BodyFault.TheVariants as body
-use Rattle.drain_files.specs.Files.{TakesMoreThan}
 use Rattle.drain_files.specs.declared.whole_input.TheConstants.{MAX_TEXT_BYTES}
-use Rattle.drain_answer.specs.declared.outcome.Status.{Status}
-use Rattle.drain_answer.specs.declared.outcome.Status.TheVariants.{Refused, Failed}
+use Rattle.drain_answer.specs.declared.outcome.Status.TheVariants.{Refused}
 use Rattle.drain_report.specs.Faults.{FaultFits}
 use Rattle.drain_report.specs.declared.fault.ReportFault.TheVariants.{WrongVersion, MissingLine, BadLine, OutOfRange, AfterEnd, OutOfMemory}
 use Rattle.drain_cli.specs.declared.runs.report_input.BadReport.{BadReport}

@@ -1,34 +1,14 @@
 -- From elevations to products, to files, and to the check of these files: what was made and written is accepted.
-use Rattle.std.specs.Prelude.{◌≡◌, Ok, ℕ, List, [], ◌∷◌, map, Option, Some, Result}
-use Rattle.drain_merge.specs.UnionVerdicts.{IsJudgedFrom}
-use Rattle.drain_report.specs.Contents.{contents_of}
+use Rattle.std.specs.Prelude.{◌≡◌, ◌∷◌}
+use Rattle.drain_cli.specs.Names.{Ok, ℕ, List, [], map, Option, Some, Result, IsJudgedFrom, contents_of, IsDemWindow, IsWindowAnswer, window_in, window_of, Cell, Place, WindowReport, Sink, ProductSet, spacing_of, TileInput, Tiling, Verdict, Refusal, TellTiles, IsAnswer, IsAnswerIn, DemTexts, EncodesDem, dem_ground, RasterInput, Fields, spaced_dem_grid, IsMadeAcceptance, WritesSet, made_header}
 use Rattle.drain_verdict.specs.Given.{Given}
 use Rattle.drain_verdict.specs.Inputs.{Inputs}
 use Rattle.drain_verdict.specs.Texts.{SetTexts}
-use Rattle.drain_window.specs.WindowAnswers.{IsDemWindow, IsWindowAnswer, window_in, window_of}
-use Rattle.drain_grid.specs.declared.cell.Cell.{Cell}
-use Rattle.drain_union.specs.declared.place.Place.{Place}
-use Rattle.drain_union.specs.declared.report.WindowReport.{WindowReport}
 use Rattle.std.specs.List.{All, flat_map}
-use Rattle.drain_device.specs.Failing.{Sink}
-use Rattle.drain_grid.specs.declared.product_set.ProductSet.{ProductSet}
-use Rattle.drain_grid.specs.Spacing.{spacing_of}
 use Rattle.drain_grid.specs.WholeGrid.{products_of, spaced_grid}
 use Rattle.drain_grid.specs.SetProduct.{products}
-use Rattle.drain_hgt.specs.declared.input.TileInput.{TileInput}
-use Rattle.drain_mosaic.specs.Tiling.{Tiling}
-use Rattle.drain_grid.specs.declared.verdict.Verdict.{Verdict}
-use Rattle.drain_answer.specs.declared.refusal.Refusal.{Refusal}
-use Rattle.drain_verdict.specs.TileGround.{TellTiles}
-use Rattle.drain_verdict.specs.Answers.{IsAnswer, IsAnswerIn}
-use Rattle.drain_verdict.specs.DemGround.{DemTexts, EncodesDem, dem_ground}
 use Rattle.drain_verdict.specs.Meaning.{texts_of}
-use Rattle.drain_sets.specs.declared.raster_input.RasterInput.{RasterInput}
 use Rattle.drain_grid.specs.declared.product.Product.TheVariants.{Con}
-use Rattle.drain_header.specs.Header.{Fields}
-use Rattle.drain_maker.specs.Dems.{spaced_dem_grid}
-use Rattle.drain_maker.specs.Accepted.{IsMadeAcceptance}
-use Rattle.drain_maker.specs.ProductFiles.{WritesSet, made_header}
 use Rattle.drain_cli.specs.MadeSets.{IsDemSetOf, IsSetOf}
 
 -- How a run of `drain window` and a run of `drain merge` go together. The law is this project's own.

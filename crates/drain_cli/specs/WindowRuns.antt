@@ -1,33 +1,14 @@
 -- How the first part of a run of `drain window` ends: with what is to be reported, or with the reason why there is none.
-use Rattle.std.specs.Prelude.{ℕ, List, Result, Ok, Err, IfOk, codes, ◌≡◌}
-use Rattle.drain_sets.specs.declared.set_files.SetFault.{SetFault}
-use Rattle.drain_sets.specs.declared.set_files.SetFault.TheVariants.{WriteFailed, OutOfMemory}
-use Rattle.drain_answer.specs.declared.outcome.Status.{Status}
-use Rattle.drain_answer.specs.declared.outcome.Status.TheVariants.{Done, Rejected, Failed, Refused}
-use Rattle.drain_report.specs.Contents.{ContentsFit, contents_of, report_text}
+use Rattle.std.specs.Prelude.{◌≡◌}
+use Rattle.drain_cli.specs.Names.{ℕ, List, Result, Ok, Err, IfOk, codes, SetFault, WriteFailed, Status, Done, Failed, ContentsFit, contents_of, report_text, Agree, WindowReport, Sink, Source, OpenElevations, Cell, TileInput, Prints, refusal_status, ForAudit, DemUses, ForDem, dem_audit_devices, as_five, AuditUses, AuditProducts, RasterInput, as_refused, IsDemWindow, IsOfDem, IsWindowAnswer, WindowRefusal, Place}
+use Rattle.drain_sets.specs.declared.set_files.SetFault.TheVariants.{OutOfMemory}
+use Rattle.drain_answer.specs.declared.outcome.Status.TheVariants.{Rejected, Refused}
 use Rattle.drain_union.specs.VerdictLines.{verdict_line}
 use Rattle.drain_union.specs.declared.verdict.UnionVerdict.{UnionVerdict}
-use Rattle.drain_union.specs.Reports.{Agree}
-use Rattle.drain_union.specs.declared.report.WindowReport.{WindowReport}
-use Rattle.drain_device.specs.Failing.{Sink, Source}
-use Rattle.drain_files.specs.declared.open_judged.OpenElevations.{OpenElevations}
 use Rattle.drain_files.specs.declared.open_judged.OpenElevations.TheVariants as elevations
-use Rattle.drain_grid.specs.declared.cell.Cell.{Cell}
-use Rattle.drain_hgt.specs.declared.input.TileInput.{TileInput}
-use Rattle.drain_answer.specs.Printing.{Prints}
-use Rattle.drain_answer.specs.Statuses.{refusal_status}
-use Rattle.drain_verdict.specs.Answers.{ForAudit}
-use Rattle.drain_verdict.specs.DemGround.{DemUses, ForDem, dem_audit_devices}
 use Rattle.drain_verdict.specs.Given.{Given}
-use Rattle.drain_verdict.specs.Inputs.{as_five}
-use Rattle.drain_verdict.specs.Uses.{AuditUses}
-use Rattle.drain_sets.specs.declared.raster_input.AuditProducts.{AuditProducts}
-use Rattle.drain_sets.specs.declared.raster_input.RasterInput.{RasterInput}
-use Rattle.drain_window.specs.WindowAnswers.{as_refused, IsDemWindow, IsOfDem, IsWindowAnswer}
 use Rattle.drain_window.specs.WindowLines.{refusal_line}
-use Rattle.drain_window.specs.declared.answered.WindowRefusal.{WindowRefusal}
 use Rattle.drain_window.specs.declared.answered.WindowRefusal.TheVariants.{Inputs, OutsideMosaic}
-use Rattle.drain_union.specs.declared.place.Place.{Place}
 use Rattle.drain_union.specs.declared.verdict.UnionVerdict.TheVariants as window
 
 -- The line and the status for a report that was written, or couldn't be. The words are this project's own.

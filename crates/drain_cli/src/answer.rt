@@ -1,8 +1,7 @@
 //! Printing an answer, and its exit status.
 
 ghost use Rattle.std.specs.Prelude.{◌≡◌, ◌<◌};
-ghost use Rattle.drain_answer.specs.Printing.{Prints};
-ghost use Rattle.drain_answer.specs.Statuses.{status_code};
+ghost use Rattle.drain_cli.specs.Names.{Prints, status_code};
 ghost use Rattle.drain_cli.specs.JudgedRuns.{answer_line, answer_status, outcome_status};
 
 use drain_answer::lines::Line;

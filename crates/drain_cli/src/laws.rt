@@ -8,7 +8,7 @@ use drain_device::{ByteSink, ByteSource};
 use drain_maker::laws::{made_is_accepted, made_on_dem_is_accepted};
 use drain_union::laws::four_numbers;
 
-/// What `make_set_given` made and `write_and_place` wrote into empty files is accepted by `check_given` with the same tiles,
+/// What `make_set_given` made and `write_and_place` wrote into empty files is accepted by `check_on` with the same tiles,
 /// sinks and spacing, unless memory runs out or a read fails: for any sources whose bytes are known, and any sinks whose written bytes are
 /// known.
 pub fn what_is_written_is_accepted<R: ByteSource, F: ByteSink>()

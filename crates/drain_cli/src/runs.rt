@@ -1,11 +1,12 @@
 //! A run for each command, over any source and any sink.
 
 pub mod derive_set;
-pub mod explain_dem;
 pub mod explain_files;
+pub mod explain_opened;
 pub mod judge;
 pub mod judge_files;
 pub mod judge_json;
+pub mod judged_outcome;
 pub mod made_spacing;
 pub mod make_set;
 pub mod opened_given;

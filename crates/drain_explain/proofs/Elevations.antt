@@ -1,14 +1,9 @@
 -- The least and the greatest elevation, row by row.
-use Rattle.std.proofs.Common.{◌≡◌, ◌∙◌, ◌⊎◌, inl, inr, ◌≤ℤ◌, ◌<◌, ◌+◌, ℕ, ℤ, List, length, slice_index_or, Option, Some, None, sym, ap, subst, arith}
-use Rattle.std.proofs.lemmas.Bool.{cond_both}
-use Rattle.std.proofs.lemmas.Int.{clamps, ints}
+use Rattle.drain_explain.proofs.Names.{◌≡◌, ◌∙◌, ◌⊎◌, inl, inr, ◌≤ℤ◌, ◌<◌, ◌+◌, ℕ, ℤ, List, length, slice_index_or, Option, Some, None, sym, ap, subst, arith, cond_both, clamps, ints, AreBounds, IsElevationAbove, IsOfRow, IsRange, joined, Grid, Products, AreNumbersOf, RowNumbers, place}
 use Rattle.std.proofs.Math.Nat.{eq-or-lt_of_le}
 use Rattle.std.specs.Int.Signed.{≤ℤ_refl}
 use Rattle.std.specs.Int.RustNames.{int_lt}
-use Rattle.drain_explain.specs.ElevationRanges.{AreBounds, IsElevationAbove, IsOfRow, IsRange, joined}
 use Rattle.drain_findings.specs.declared.elevation_range.ElevationRange.{ElevationRange}
-use Rattle.drain_grid.specs.Grid.{Grid, Products}
-use Rattle.drain_rules.specs.Rows.{AreNumbersOf, RowNumbers, place}
 
 -- one height is the least and the greatest
 pub alone : (z : Option ℤ) (here least greatest : ℤ) → z ≡ Some here → least ≡ here → greatest ≡ here → AreBounds (λ height. z ≡ Some height) (record { least = least; greatest = greatest })

@@ -1,32 +1,18 @@
 -- Notes of faults, row by row.
-use Rattle.std.proofs.Common.{◌≡◌, ◌-◌, ◌≤◌, ◌∷◌, [], ℕ, zero, suc, List, Option, Some, None, slice_get, drop, length, refl, arith, subst, ◌↔◌, ◌+◌, ◌∙◌, is_some, sym, ap}
+use Rattle.drain_explain.proofs.Names.{◌≡◌, ◌-◌, ◌≤◌, ◌∷◌, [], ℕ, zero, suc, List, Option, Some, None, slice_get, drop, length, refl, arith, subst, ◌↔◌, ◌+◌, ◌∙◌, is_some, sym, ap, lines_of, length-drop, IfSome, IsSome, Cell, Grid, Products, Extent, EndlessPath, AreFlowsFor, IsConOutcome, IsOutcome, IsRankOutcome, IsWayOutcome, IsEndlessOn, IsNamed, LeadsAt, AreFaultNotes, false≢true, AreRowPatches, IsMapOf, OfNextRowDrawn, IsElevationAbove, IsRange}
 use Rattle.drain_text.specs.Parts.{IsFirstLine}
-use Rattle.drain_text.specs.Text.{lines_of}
 use Rattle.std.proofs.lemmas.Option.{slice_get_past}
-use Rattle.std.proofs.lemmas.List.{length-drop}
-use Rattle.std.specs.Prelude.{IfSome, IsSome}
 use Rattle.drain_answer.specs.declared.outcome.Outcome.{Outcome}
 use Rattle.drain_answer.specs.declared.outcome.Outcome.TheVariants.{NoEnd}
-use Rattle.drain_grid.specs.declared.cell.Cell.{Cell}
 use Rattle.drain_grid.specs.declared.judged.Judged.{Judged}
 use Rattle.drain_grid.specs.declared.judged.Judged.TheVariants.{Con, AllWithRanks}
-use Rattle.drain_grid.specs.Grid.{Grid, Products}
-use Rattle.drain_grid.specs.Extent.{Extent}
-use Rattle.drain_paths.specs.declared.endless_path.EndlessPath.{EndlessPath}
 use Rattle.drain_paths.specs.declared.flow.Flow.{Flow}
 use Rattle.drain_paths.specs.Walks.{AreKnownFlows}
-use Rattle.drain_verdict.specs.Deciding.{AreFlowsFor}
 use Rattle.drain_grid.specs.Values.{NoDataNumbers}
-use Rattle.drain_verdict.specs.Outcomes.{IsConOutcome, IsOutcome, IsRankOutcome, IsWayOutcome}
-use Rattle.drain_explain.specs.Explanations.{IsEndlessOn, IsNamed, LeadsAt, AreFaultNotes}
-use Rattle.std.proofs.lemmas.Bool.{false≢true}
 use Rattle.drain_grid.specs.declared.patch.Patch.{Patch}
 use Rattle.drain_grid.specs.declared.judged.Rules.{Rules}
-use Rattle.drain_rules.specs.Rows.{AreRowPatches}
 use Rattle.drain_faults.specs.declared.fault_map.FaultMap.{FaultMap}
-use Rattle.drain_faults.specs.FaultMaps.{IsMapOf, OfNextRowDrawn}
 use Rattle.drain_faults.specs.FaultWalks.{IsCountedOf, IsRightTally, OfNextFaultRow, OfNextRowCounted}
-use Rattle.drain_explain.specs.ElevationRanges.{IsElevationAbove, IsRange}
 use Rattle.drain_explain.specs.declared.fault_visitor.FaultVisitor.{FaultVisitor}
 
 -- A list from which some items are dropped: its next item, and what is behind it.

@@ -1,9 +1,8 @@
 -- The least and the greatest elevation, by their numbers, which are ordered as heights are. Source: this project's own.
-use Rattle.std.specs.Prelude.{◌≡◌, ◌<◌, ◌≤ℤ◌, ℕ, ℤ, List, slice_index_or, Option, None, Some}
+use Rattle.std.specs.Prelude.{◌≡◌, ◌<◌, ◌≤ℤ◌}
+use Rattle.drain_explain.specs.Names.{ℕ, ℤ, List, slice_index_or, Option, None, Some, Cell, Grid}
 use Rattle.std.specs.Int.{int_max, int_min}
 use Rattle.drain_findings.specs.declared.elevation_range.ElevationRange.{ElevationRange}
-use Rattle.drain_grid.specs.declared.cell.Cell.{Cell}
-use Rattle.drain_grid.specs.Grid.{Grid}
 
 -- these are the least and the greatest of the numbers of which this holds
 pub record AreBounds (Holds : ℤ → Type 0) (range : ElevationRange) : Type 0 where

@@ -1,27 +1,19 @@
 -- The explanation of an answer. Source: this project's own.
-use Rattle.std.specs.Prelude.{Option, Some, None, ◌≡◌, ◌<◌, ℕ, Result, Ok, Err}
+use Rattle.std.specs.Prelude.{◌≡◌, ◌<◌}
+use Rattle.drain_explain.specs.Names.{Option, Some, None, ℕ, Result, Ok, Err, Grid, Products, HasData, Rules, Refusal, Cell, cells, GroundSet, rules_in, set_grid, set_products}
 use Rattle.drain_explain.specs.ElevationRanges.{IsElevationAbove, IsElevationOf, IsRange}
 use Rattle.drain_findings.specs.declared.findings.Findings.{Findings}
-use Rattle.drain_grid.specs.Grid.{Grid, Products, HasData}
-use Rattle.drain_grid.specs.declared.judged.Rules.{Rules}
 use Rattle.drain_faults.specs.FaultMaps.{IsMapOf, IsMapOfCells}
 use Rattle.drain_faults.specs.FaultWalks.{IsCountedOf, IsRightTally}
 use Rattle.drain_faults.specs.declared.fault_walk.FaultWalk.{FaultWalk}
 use Rattle.drain_explain.specs.declared.fault_visitor.FaultVisitor.{FaultVisitor}
 use Rattle.drain_answer.specs.declared.outcome.Outcome.{Outcome}
 use Rattle.drain_answer.specs.declared.outcome.Outcome.TheVariants.{NoEnd}
-use Rattle.drain_answer.specs.declared.refusal.Refusal.{Refusal}
-use Rattle.drain_grid.specs.declared.cell.Cell.{Cell}
 use Rattle.drain_grid.specs.declared.judged.Judged.{Judged}
-use Rattle.drain_grid.specs.Extent.{cells}
 use Rattle.drain_faults.specs.ByProduct.{AreFaultsByProduct}
 use Rattle.drain_faults.specs.Faults.{AreFaultsOf, IsFirstPatch}
 use Rattle.drain_paths.specs.EndlessPaths.{IsEndlessPath}
 use Rattle.drain_paths.specs.declared.endless_path.EndlessPath.{EndlessPath}
-use Rattle.drain_verdict.specs.Answers.{rules_at}
-use Rattle.drain_verdict.specs.GroundSets.{GroundSet, rules_in, set_grid, set_products}
-use Rattle.drain_verdict.specs.Inputs.{Inputs}
-use Rattle.drain_verdict.specs.Meaning.{input_grid, input_products}
 use Rattle.drain_explain.specs.declared.findings.Explanation.{Explanation}
 use Rattle.drain_explain.specs.declared.seen.Seen.{Seen}
 
@@ -65,10 +57,6 @@ pub record AreFindingsOn {F : Type 0} (under : Rules) (g : Grid) (ps : Products)
 abbrev pub AreFindingsIn : {F : Type 0} → Judged → GroundSet → Findings F → Type 0
 AreFindingsIn judged s f = AreFindingsOn (rules_in judged s) (set_grid s) (set_products s) f
 
--- so of the inputs
-abbrev pub AreFindingsOf : {F : Type 0} → Judged → Inputs → Findings F → Type 0
-AreFindingsOf judged i f = AreFindingsOn (rules_at judged i) (input_grid i) (input_products i) f
-
 -- the outcome names the cell, as one whose path doesn't end
 abbrev pub IsNamed : Outcome → Cell × EndlessPath → Type 0
 IsNamed outcome told = outcome ≡ NoEnd told.0.row told.0.col
@@ -84,10 +72,6 @@ IsEndlessOn g ps outcome told = (outcome ≡ NoEnd told.0.row told.0.col) × IsE
 -- so of the set
 abbrev pub IsEndlessIn : GroundSet → Outcome → Cell × EndlessPath → Type 0
 IsEndlessIn s outcome told = IsEndlessOn (set_grid s) (set_products s) outcome told
-
--- so of the inputs
-abbrev pub IsEndlessOf : Inputs → Outcome → Cell × EndlessPath → Type 0
-IsEndlessOf i outcome told = IsEndlessOn (input_grid i) (input_products i) outcome told
 
 -- the outcome of what was seen
 abbrev pub outcome_in : Result Seen Refusal → Result Outcome Refusal

@@ -1,3 +1,4 @@
+pub mod Names
 pub mod ElevationRanges
 pub mod Explanations
 pub mod RefusalDetails

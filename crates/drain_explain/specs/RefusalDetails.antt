@@ -1,15 +1,13 @@
 -- What an explanation reports of refused inputs: what was expected, and what was found.
-use Rattle.std.specs.Prelude.{◌≡◌, ◌&&◌, ◌-◌, ◌∷◌, ℕ, List, length, take, nat_lt, Some, slice_get, if◌then◌else◌, ◌≢◌, ◌+◌, ◌*◌, ◌<◌, ℤ, [], Ok}
+use Rattle.std.specs.Prelude.{◌≡◌, ◌&&◌, ◌-◌, ◌∷◌, if◌then◌else◌, ◌≢◌, ◌+◌, ◌*◌, ◌<◌}
+use Rattle.drain_explain.specs.Names.{ℕ, List, length, take, nat_lt, Some, slice_get, ℤ, [], Ok, lines_of, words_of, whole_number, Cell, Refusal, Extent, IsDemHeader, GivenSpacing, by_row, IsLayoutOf}
 use Rattle.drain_mosaic.specs.Tiling.{Tiling, extent_of, left_of, top_of, north_edge, spacing_of, west_edge}
 use Rattle.drain_findings.specs.declared.refusal_detail.NotData.TheVariants.{Void, Outside}
 use Rattle.drain_findings.specs.declared.refusal_detail.RefusalDetail.{RefusalDetail}
 use Rattle.drain_findings.specs.declared.refusal_detail.RefusalDetail.TheVariants.{SinkLine, SinkCell, SpacingLine, SpacingRows, Seam, Side, Name, Shape, Position, TileLength, RasterLength, PixelSize, DemLength, Kind}
 use Rattle.drain_findings.specs.declared.refusal_detail.TheConstants.{SHOWN_BYTES}
-use Rattle.drain_text.specs.Text.{lines_of, words_of, whole_number}
-use Rattle.drain_grid.specs.declared.cell.Cell.{Cell}
 use Rattle.drain_grid.specs.declared.tile.TheConstants.{VOID}
 use Rattle.drain_findings.specs.declared.refusal_detail.TileValue.{TileValue}
-use Rattle.drain_answer.specs.declared.refusal.Refusal.{Refusal}
 use Rattle.drain_grid.specs.declared.height_kind.HeightKind.{HeightKind}
 use Rattle.drain_grid.specs.declared.height_kind.HeightKind.TheVariants.{Whole}
 use Rattle.drain_grid.specs.declared.product.Product.{Product}
@@ -19,13 +17,9 @@ use Rattle.drain_header.specs.Header.{Fields}
 use Rattle.drain_header.specs.declared.header.Place.{Place}
 use Rattle.drain_hgt.specs.Corner.{Corner}
 use Rattle.drain_hgt.specs.Samples.{tile_length}
-use Rattle.drain_grid.specs.Extent.{Extent}
 use Rattle.drain_raster.specs.Pixels.{header_extent, needed_len}
-use Rattle.drain_verdict.specs.DemGround.{IsDemHeader}
 use Rattle.drain_header.specs.Lines.{kind_of}
 use Rattle.drain_verdict.specs.Given.{Given}
-use Rattle.drain_sets.specs.GivenSpacings.{GivenSpacing, by_row}
-use Rattle.drain_verdict.specs.Stages.{IsLayoutOf}
 use Rattle.drain_answer.specs.declared.refusal.Refusal.TheVariants as refusal
 use Rattle.drain_grid.specs.declared.product.Product.TheVariants as product
 use Rattle.drain_grid.specs.declared.set_product.SetProduct.TheVariants as held

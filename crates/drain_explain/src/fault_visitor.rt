@@ -1,8 +1,7 @@
 //! The faults of a grid's rows, which also give the verdict.
 
-ghost use Rattle.std.specs.Prelude.{◌≡◌, ◌↔◌, IfOk, IsSome};
-ghost use Rattle.drain_grid.specs.Grid.{Grid, Products};
-ghost use Rattle.drain_grid.specs.declared.judged.Rules.{Rules};
+ghost use Rattle.std.specs.Prelude.{◌≡◌, ◌↔◌};
+ghost use Rattle.drain_explain.specs.Names.{IfOk, IsSome, Grid, Products, Rules};
 ghost use Rattle.drain_explain.specs.Explanations.{AreFaultNotes, IsWalkNoted};
 ghost use Rattle.drain_explain.specs.declared.fault_visitor.Mapping.TheVariants.{Drawn};
 

@@ -1,8 +1,8 @@
 //! What every cell of a grid showed, from the notes of its rows, and where a path without an end leads.
 
-ghost use Rattle.std.specs.Prelude.{◌≡◌, ◌<◌, IfOk, IfSome, ◌↔◌, IsSome};
+ghost use Rattle.std.specs.Prelude.{◌≡◌, ◌<◌, ◌↔◌};
+ghost use Rattle.drain_explain.specs.Names.{IfOk, IfSome, IsSome, Grid, Products};
 ghost use Rattle.drain_explain.specs.Explanations.{IsNamed, LeadsAt, AreFindingsOn, answer_in, findings_in, AreFaultNotes};
-ghost use Rattle.drain_grid.specs.Grid.{Grid, Products};
 ghost use Rattle.drain_paths.specs.Walks.{AreKnownFlows};
 ghost use Rattle.drain_grid.specs.declared.judged.Rules as declared;
 

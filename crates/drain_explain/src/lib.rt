@@ -7,7 +7,6 @@
 
 pub mod elevation_range;
 pub mod explain;
-pub mod explain_dem;
 pub mod fault_visitor;
 pub mod findings;
 pub mod refusal_detail;
@@ -19,8 +18,7 @@ pub use drain_findings::{
     ElevationRange, Extent, Findings, NotData, RefusalDetail, SHOWN_BYTES, Slopes, TileValue,
     judged_product,
 };
-pub use explain::{explain_audit, explain_check};
-pub use explain_dem::{explain_audit_dem, explain_check_dem};
+pub use explain::explain_on;
 pub use fault_visitor::{FaultVisitor, Mapping};
 pub use findings::{Explanation, answer_and_findings};
 pub use refused::{FileLookup, detail_of, detail_of_dem};

@@ -1,9 +1,8 @@
 //! What was expected and found in refused inputs.
 
-ghost use Rattle.std.specs.Prelude.{◌≢◌, ◌↔◌, ◌<◌, IfSome, IsTrue, length, ◌≡◌, ◌-◌, ◌&&◌, nat_lt, option_map, slice_get, take, if◌then◌else◌};
+ghost use Rattle.std.specs.Prelude.{◌≢◌, ◌↔◌, ◌<◌, ◌≡◌, ◌-◌, ◌&&◌, if◌then◌else◌};
+ghost use Rattle.drain_explain.specs.Names.{IfSome, IsTrue, length, nat_lt, option_map, slice_get, take, lines_of, spacing_from};
 ghost use Rattle.drain_explain.specs.RefusalDetails.{IsHeightAt, IsSeamDetail, IsCellDetail, IsLineDetail, IsSpacingLineDetail, IsSpacingRowsDetail};
-ghost use Rattle.drain_text.specs.Text.{lines_of};
-ghost use Rattle.drain_sets.specs.GivenSpacings.{spacing_from};
 
 use crate::refused::FileLookup;
 use drain_findings::{NotData, RefusalDetail, SHOWN_BYTES, TileValue};

@@ -1,11 +1,10 @@
 //! What was expected and found in refused inputs: from the inputs as they were handed in, and a second look at files for
 //! their lengths and the heights at a seam.
 
-ghost use Rattle.std.specs.Prelude.{IfSome, ℕ, ℤ, ◌≡◌};
+ghost use Rattle.std.specs.Prelude.{◌≡◌};
+ghost use Rattle.drain_explain.specs.Names.{IfSome, ℕ, ℤ, names_of, IsLayoutOf};
 ghost use Rattle.drain_explain.specs.RefusalDetails.{AreNeededBytes, IsDemDetailOf, IsDemLengthDetail, IsDetailOf, IsKindDetail, IsNameDetail, IsPixelSizeDetail, IsPositionDetail, IsRasterLengthDetail, IsSetDetail, IsShapeDetail, IsTileLengthDetail, kind_given, place_for, text_given};
 ghost use Rattle.drain_grid.specs.PerProduct.{of_product};
-ghost use Rattle.drain_hgt.specs.Inputs.{names_of};
-ghost use Rattle.drain_verdict.specs.Stages.{IsLayoutOf};
 
 use crate::refusal_detail::{
     seam_detail, sink_cell_detail, sink_line_detail, spacing_line_detail, spacing_rows_detail,

@@ -1,11 +1,9 @@
 //! What is seen of a ground and its products, whatever gives the elevations.
 
-ghost use Rattle.std.specs.Prelude.{◌≡◌, ◌<◌, ◌↔◌, IfOk, IfSome, IsSome};
+ghost use Rattle.std.specs.Prelude.{◌≡◌, ◌<◌, ◌↔◌};
+ghost use Rattle.drain_explain.specs.Names.{IfOk, IfSome, IsSome, AreNotesIn, ForSet, set_grid, IsOutcomeIn, set_devices, UsesSet};
 ghost use Rattle.drain_explain.specs.Explanations.{AreFaultNotes, IsEndlessIn, outcome_in};
 ghost use Rattle.drain_explain.specs.declared.fault_visitor.Mapping.TheVariants.{Drawn};
-ghost use Rattle.drain_verdict.specs.GroundSets.{AreNotesIn, ForSet, set_grid};
-ghost use Rattle.drain_verdict.specs.Outcomes.{IsOutcomeIn};
-ghost use Rattle.drain_verdict.specs.Uses.{set_devices, UsesSet};
 
 use crate::fault_visitor::{FaultVisitor, Mapping};
 use crate::findings::endless_of;
@@ -40,13 +38,13 @@ pub fn see<R: ByteSource, T: GroundInput<R>, P: ProductInputs<R>>(
     mapping: Mapping,
 ) -> Result<Seen, Refusal>
     requires fit { T.fit frame.now inputs.old }
-    ensures answer { ForSet T.terrain (T.means frame.now inputs.old) R.bytes_left given.now (P.inputs products.old) (λ s. IsOutcomeIn judged s (outcome_in result)) }
-    ensures noted { IfOk result (λ seen. ForSet T.terrain (T.means frame.now inputs.old) R.bytes_left given.now (P.inputs products.old)
+    ensures answer { ForSet T.terrain (T.encodes (T.key_of frame.now) inputs.old) R.bytes_left given.now (P.inputs products.old) (λ s. IsOutcomeIn judged s (outcome_in result)) }
+    ensures noted { IfOk result (λ seen. ForSet T.terrain (T.encodes (T.key_of frame.now) inputs.old) R.bytes_left given.now (P.inputs products.old)
         (λ s. (0 < (set_grid s).extent.rows) × AreNotesIn AreFaultNotes judged s seen.notes)) }
-    ensures endless { IfOk result (λ seen. ForSet T.terrain (T.means frame.now inputs.old) R.bytes_left given.now (P.inputs products.old)
+    ensures endless { IfOk result (λ seen. ForSet T.terrain (T.encodes (T.key_of frame.now) inputs.old) R.bytes_left given.now (P.inputs products.old)
         (λ s. IfSome seen.endless (IsEndlessIn s seen.outcome))) }
     ensures drawn { IfOk result (λ seen. IsSome seen.notes.walk.map ↔ (mapping ≡ Drawn)) }
-    ensures uses { UsesSet P.inputs (λ xs ps. set_devices T.devices xs (P.inputs ps)) (T.within frame.now) T.kept R.bytes_left R.counts (inputs.old, products.old) (inputs.new, products.new) result }
+    ensures uses { UsesSet P.inputs (λ xs ps. set_devices T.devices xs (P.inputs ps)) (T.within (T.key_of frame.now)) T.kept R.bytes_left R.counts (inputs.old, products.old) (inputs.new, products.new) result }
 {
     // The laws of what is read.
     T::reading_laws();

@@ -1,58 +1,24 @@
 -- The files of products that were made: no refusal of them applies, and they are accepted.
-use Rattle.std.proofs.Common.{◌≡◌, ℕ, ◌*◌, ◌<◌, ◌≤◌, ℤ, ◌-ℤ◌, nat_abs, pos, get_or, slice_get, inl, inr, List, Option, Some, IsSome, Result, Ok, Err, refl, sym, ap, subst, ◌∙◌, arith}
-use Rattle.drain_grid.specs.declared.cell.Cell.{Cell}
-use Rattle.drain_grid.specs.declared.height_kind.HeightKind.{HeightKind}
+use Rattle.drain_maker.proofs.Names.{◌≡◌, ℕ, ◌*◌, ◌<◌, ◌≤◌, ℤ, ◌-ℤ◌, nat_abs, pos, get_or, inl, inr, List, Option, Some, IsSome, Result, Ok, Err, refl, sym, ap, subst, ◌∙◌, arith, Cell, HeightKind, SetProduct, ProductSet, SinkLine, IsCellOf, index_of, Extent, RulesHold, check_rules, IsAnyRule, IsOffData, default_no_data, Grid, Heights, Pixels, NoDataNumbers, Distances, RowSpacings, spacing_of, unit_spacing, grid_of, number_at, products_of, raster_in, HeaderFault, AnswersOf, DescribesOf, AreWithinBounds, Fields, raster_bytes, ReadBack, BytesReadBack, NumbersArePixels, IsShort, header_extent, pixel_at, AreWithinPixel, LiesOn, Refusal, BadSide, BadName, BoxTooLarge, BadHeader, WrongShape, Misplaced, RasterShort, BadSinkLine, SinkNotData, BadSpacingLine, SpacingRows, ReadFailed, dem_ground, GroundSet, HasShapeIn, IsReadable, set_grid, set_numbers, set_products, Inputs, tiling_of, TilesRefuse, set_of, IsMosaicOf, IsAnswerIn, SetFits, made_header, con_no_data, header_on, dem_elevation, AreRasters, made_numbers, bounds_on}
+use Rattle.std.proofs.Common.{slice_get}
 use Rattle.drain_grid.specs.declared.product.Product.TheVariants as product
-use Rattle.drain_grid.specs.declared.set_product.SetProduct.{SetProduct}
 use Rattle.drain_grid.specs.declared.set_product.SetProduct.TheVariants.{Con, Dir, Acc, Bas, Rnk}
 use Rattle.drain_grid.specs.SetProduct.{product_of}
-use Rattle.drain_grid.specs.declared.product_set.ProductSet.{ProductSet}
-use Rattle.drain_grid.specs.declared.sink_line.SinkLine.{SinkLine}
 use Rattle.drain_grid.specs.SinkTexts.{is_listed, sinks_of}
-use Rattle.drain_grid.specs.Extent.{IsCellOf, index_of, Extent}
-use Rattle.drain_grid.specs.GridRules.{RulesHold}
-use Rattle.drain_grid.specs.PatchRules.{check_rules}
-use Rattle.drain_grid.specs.Rule.{IsAnyRule}
-use Rattle.drain_grid.specs.OffData.{IsOffData}
-use Rattle.drain_grid.specs.Product.{default_no_data}
-use Rattle.drain_grid.specs.Grid.{Grid, Heights, Pixels}
-use Rattle.drain_grid.specs.Values.{NoDataNumbers}
-use Rattle.drain_grid.specs.Spacing.{Distances, RowSpacings, spacing_of, unit_spacing}
-use Rattle.drain_grid.specs.WholeGrid.{grid_of, number_at, products_of, raster_in}
-use Rattle.drain_header.specs.declared.fault.HeaderFault.{HeaderFault}
-use Rattle.drain_header.specs.Faults.{AnswersOf, DescribesOf}
-use Rattle.drain_header.specs.Header.{AreWithinBounds, Fields}
 use Rattle.drain_header.specs.Laws.{TextReadsBack}
-use Rattle.drain_raster.specs.Bytes.{raster_bytes}
-use Rattle.drain_raster.specs.Laws.{ReadBack, BytesReadBack, NumbersArePixels}
-use Rattle.drain_raster.specs.Pixels.{IsShort, header_extent, pixel_at}
-use Rattle.drain_raster.specs.Placing.{AreWithinPixel, LiesOn}
 use Rattle.drain_mosaic.specs.Tiling as tiling
 use Rattle.drain_grid.specs.declared.verdict.Verdict.{Verdict}
 use Rattle.drain_grid.specs.declared.verdict.Verdict.TheVariants.{Accepted, Rejected}
 use Rattle.drain_rules.specs.Verdicts.{counts_of, IsVerdict}
 use Rattle.drain_rules.specs.Laws.{AreEqual, EqualGridsHaveOneVerdict}
-use Rattle.drain_answer.specs.declared.refusal.Refusal.{Refusal}
-use Rattle.drain_answer.specs.declared.refusal.Refusal.TheVariants.{BadSide, BadName, BoxTooLarge, BadHeader, WrongShape, Misplaced, RasterShort, BadSinkLine, SinkNotData, BadSpacingLine, SpacingRows, OutOfMemory, ReadFailed}
-use Rattle.drain_verdict.specs.DemGround.{dem_ground}
-use Rattle.drain_verdict.specs.GroundSets.{GroundSet, HasShapeIn, IsReadable, set_grid, set_numbers, set_products}
+use Rattle.drain_answer.specs.declared.refusal.Refusal.TheVariants.{OutOfMemory}
 use Rattle.drain_verdict.specs.Given.{HasOtherRows}
-use Rattle.drain_verdict.specs.Inputs.{Inputs}
 use Rattle.drain_verdict.specs.Texts.{kind_in, lines_in, nodata_number, set_fields, set_listed, set_number}
-use Rattle.drain_verdict.specs.Meaning.{tiling_of}
-use Rattle.drain_verdict.specs.TileGround.{TilesRefuse, set_of}
-use Rattle.drain_maker.specs.Mosaics.{IsMosaicOf}
-use Rattle.drain_verdict.specs.Answers.{IsAnswerIn}
-use Rattle.drain_maker.specs.ProductFiles.{SetFits, made_header}
-use Rattle.drain_sets.specs.ProductHeaders.{con_no_data, header_on}
-use Rattle.drain_maker.specs.Dems.{dem_elevation}
-use Rattle.drain_maker.specs.Made.{AreRasters, made_numbers}
 use Rattle.drain_maker.specs.Accepted.{AreGivenSpacings, AreNamed, AreFilesOf, IsMadeAcceptance, MadeIsAccepted, MadeOnDemIsAccepted}
 use Rattle.drain_grid.proofs.ByProduct.{none_of_held}
 use Rattle.drain_maker.proofs.FileLemmas.{FitHeaders-set}
 use Rattle.drain_maker.proofs.Placing.{near_by_names, no_way, side_by_readable}
 use Rattle.drain_maker.proofs.MosaicHeaders.{IsSmall, within_bounds, placed}
-use Rattle.drain_sets.proofs.HeaderBounds.{bounds_on}
 
 -- all headers of products have the size and the place of the elevations
 one_size : (h : Fields) (p : SetProduct) → header_extent (header_on h (product_of p)) ≡ header_extent h

@@ -1,23 +1,11 @@
 -- Heights and directions that are right stay so whatever the other products are. Products whose acc, bas and rnk are derived are correct exactly if con and dir are right: each fact about the other
 -- three is one about what is derived.
-use Rattle.std.proofs.Common.{◌≡◌, ◌≢◌, ◌∙◌, ℤ, ◌-ℤ◌, ◌≤ℤ◌, ◌<ℤ◌, inl, inr, Option, Some, option_and_then, refl, sym, ap, subst}
-use Rattle.drain_grid.specs.declared.cell.Cell.{Cell}
+use Rattle.drain_maker.proofs.Names.{◌≡◌, ◌≢◌, ◌∙◌, ℤ, ◌-ℤ◌, ◌≤ℤ◌, ◌<ℤ◌, inl, inr, Option, Some, option_and_then, refl, sym, ap, subst, Cell, IsCorrect, NeverClimbs, step, Grid, Products, Pixels, IsLeastSurface, IsLowerCell, IsSteepestCell, IsFlatCell, IsOutlet, only_data, next, weight_between, NoDataNumbers, rules_from_correct, AreRouted, routed_part, with_counts, AreDerived, with_derived, AreDefaultBut, DerivedCompletes}
 use Rattle.drain_grid.specs.Unranked.{RanksAreSteps}
-use Rattle.drain_grid.specs.Correct.{IsCorrect, NeverClimbs}
 use Rattle.drain_grid.specs.Direction.{named_direction}
-use Rattle.drain_grid.specs.Extent.{step}
-use Rattle.drain_grid.specs.Grid.{Grid, Products, Pixels}
-use Rattle.drain_grid.specs.Path.{IsLeastSurface}
-use Rattle.drain_grid.specs.Run.{IsLowerCell, IsSteepestCell, IsFlatCell, IsOutlet, only_data, next}
 use Rattle.drain_grid.specs.HeightKinds.{height_of}
 use Rattle.drain_grid.specs.Slope.{slope_key}
-use Rattle.drain_grid.specs.Spacing.{weight_between}
-use Rattle.drain_grid.specs.Values.{NoDataNumbers}
 use Rattle.drain_grid.proofs.AllRules.{correct_from_rules}
-use Rattle.drain_grid.proofs.FromCorrect.{rules_from_correct}
-use Rattle.drain_paths.specs.Laws.{AreRouted}
-use Rattle.drain_paths.proofs.Completing.{routed_part, with_counts}
-use Rattle.drain_maker.specs.Derived.{AreDerived, with_derived, AreDefaultBut, DerivedCompletes}
 
 lower : (g : Grid) (ps qs : Products) → ps.con ≡ qs.con → (c n : Cell) → IsLowerCell g ps c n → IsLowerCell g qs c n
 lower g ps qs con c n h = record {

@@ -1,31 +1,10 @@
 -- A raster of elevations in memory: its grid, its cells with data, and what its filled surface shows.
-use Rattle.std.proofs.Common.{◌≡◌, ◌≢◌, ◌∙◌, ◌+◌, ◌<◌, ◌≤◌, ◌≤ℤ◌, ◌<ℤ◌, ◌++◌, ℕ, ℤ, pos, is_some, Bool, true, false, List, [], ◌∷◌, Option, Some, None, IsSome, IsNone, Result, Ok, Err, IfOk, unwrap_or, inl, inr, length, get_or, if◌then◌else◌, refl, sym, subst, arith, le-ltb, lt-ltb}
-use Rattle.std.specs.Int.{int_max}
-use Rattle.std.specs.Ordering.{int_eq}
-use Rattle.std.proofs.lemmas.Bool.{cases_lt, false≢true}
-use Rattle.std.proofs.lemmas.Bool.Decides.{Decides-int_eq}
-use Rattle.std.proofs.lemmas.Int.{ints, clamps, by_lt_z}
-use Rattle.std.proofs.lemmas.List.{get_or_append_left, get_or_push}
-use Rattle.drain_grid.specs.declared.cell.Cell.{Cell}
-use Rattle.drain_grid.specs.declared.height_kind.HeightKind.{HeightKind}
-use Rattle.drain_grid.specs.declared.sink_line.SinkLine.{SinkLine}
-use Rattle.drain_grid.specs.Extent.{IsCellOf, index_of}
-use Rattle.drain_grid.specs.Grid.{Grid, HasData, IsInside, Pixels, height_at}
-use Rattle.drain_grid.specs.OffData.{FoundOffDataIsRight, IsLeastOff, IsOffAnswer}
-use Rattle.drain_grid.specs.Path.{IsPath, NeverRises}
-use Rattle.drain_grid.specs.Spacing.{Distances}
-use Rattle.drain_grid.specs.Values.{IsPixel}
-use Rattle.drain_grid.specs.WholeGrid.{number_at}
+use Rattle.drain_maker.proofs.Names.{◌≡◌, ◌≢◌, ◌∙◌, ◌+◌, ◌<◌, ◌≤◌, ◌≤ℤ◌, ◌<ℤ◌, ◌++◌, ℕ, ℤ, pos, is_some, Bool, true, false, List, [], ◌∷◌, Option, Some, None, IsSome, IsNone, Result, Ok, Err, IfOk, unwrap_or, inl, inr, length, get_or, if◌then◌else◌, refl, sym, subst, arith, int_max, int_eq, cases_lt, false≢true, Decides-int_eq, ints, clamps, by_lt_z, get_or_append_left, get_or_push, Cell, HeightKind, SinkLine, IsCellOf, index_of, Grid, HasData, IsInside, Pixels, height_at, FoundOffDataIsRight, IsLeastOff, IsOffAnswer, IsPath, NeverRises, Distances, IsPixel, number_at, none_or_some, CanSpellAllAs, CanSpellAs, Flooding, IsSurfaceOf, ShowsVoids, con_at, HasHeights, ArePixelHeights, DataCells, HasDataCells, AreOfGround, IsHeightAt, MarksDem, dem_elevation, dem_grid, has_elevation, spaced_dem_grid}
+use Rattle.std.proofs.Common.{le-ltb, lt-ltb}
 use Rattle.drain_grid.proofs.Alike.{same_index}
 use Rattle.drain_grid.proofs.Lowered.{HasData-path}
 use Rattle.drain_grid.proofs.Neighbors.{direction_between, step_gives}
 use Rattle.drain_grid.proofs.Tallies.{void_data}
-use Rattle.drain_flood.proofs.Cells.{none_or_some}
-use Rattle.drain_raster.specs.Bytes.{CanSpellAllAs, CanSpellAs}
-use Rattle.drain_flood.specs.Floods.{Flooding, IsSurfaceOf, ShowsVoids, con_at}
-use Rattle.drain_filled.specs.Compared.{HasHeights}
-use Rattle.drain_filled.specs.Grounds.{ArePixelHeights, DataCells, HasDataCells}
-use Rattle.drain_maker.specs.Dems.{AreOfGround, IsHeightAt, MarksDem, dem_elevation, dem_grid, has_elevation, spaced_dem_grid}
 
 -- the test of a listed cell is whether it has data
 told : (p : Pixels) (sinks : List SinkLine) (c : Cell) →

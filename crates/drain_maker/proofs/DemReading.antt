@@ -1,49 +1,19 @@
 -- A raster of elevations read into memory: its pixels and their range, the elevations that they mean, and its first
 -- refusal.
-use Rattle.std.proofs.Common.{◌≡◌, ◌≢◌, ◌∙◌, ℕ, ◌+◌, ◌-◌, ◌*◌, ◌/◌, ◌^◌, ◌<◌, ◌≤◌, ℤ, pos, Bool, true, false, List, [], ◌∷◌, Option, Some, Err, inl, inr, length, map, slice_index_or, slice_set, take, drop, refl, sym, ap, subst, arith}
-use Rattle.std.specs.Prelude.{slice_index}
+use Rattle.drain_maker.proofs.Names.{◌≡◌, ◌≢◌, ◌∙◌, ℕ, ◌+◌, ◌-◌, ◌*◌, ◌/◌, ◌^◌, ◌<◌, ◌≤◌, ℤ, pos, Bool, true, false, List, [], ◌∷◌, Option, Some, Err, inl, inr, length, map, slice_index_or, take, drop, refl, sym, ap, subst, arith, slice_index, mul-le-mul_right, cases_lt, ints, drop-take, get_or-drop, length-take, Refusal, BadDemHeader, BadPixelSize, DemShort, ReadFailed, ReadFails, SomeReadFails, ReadsUpTo, FaultCounts, SomeReadFails-one, IsFloatNumber, number_of, Cell, HeightKind, Whole, Single, IsCellOf, Pixels, number_at, HeaderFault, AnswersOf, Fields, IsPixelSize, height_with, whole_voids, CanSpell, CanSpellAs, CanSpellIn, NumbersArePixels, IsShort, header_extent, needed_len, number_in, pixel_at, pixel_len, pixel_of, pixel_place, raster_of, spelled_as, spelled_by, HasPixelSize, IsBefore, DemRefuses, DemTexts, EncodesDem, IsDemHeader, IsDemHeaderRefusal, dem_devices, dem_fields, dem_ground, refusal_kind, IsBodyRefusal, IsDemOf, IsGroundRefusal, IsKept, IsRasterOf, kept_number, FitsHeader, con_no_data}
+use Rattle.std.proofs.Common.{slice_set}
 use Rattle.std.proofs.Props.{props}
 use Rattle.std.proofs.Math.Logic.{∥∥₁_elim}
-use Rattle.std.proofs.Math.Nat.{mul-le-mul_right}
-use Rattle.std.proofs.lemmas.Bool.{cases_lt, le-ltb, lt-ltb}
-use Rattle.std.proofs.lemmas.Int.{ints}
-use Rattle.std.proofs.lemmas.List.{drop-take, get_or-drop, length-take}
+use Rattle.std.proofs.lemmas.Bool.{le-ltb, lt-ltb}
 use Rattle.byteorder.specs.Endian.{twos_complement}
 use Rattle.byteorder.specs.Numbers.{big_from-lt, little_from-lt}
-use Rattle.drain_answer.specs.declared.refusal.Refusal.{Refusal}
-use Rattle.drain_answer.specs.declared.refusal.Refusal.TheVariants.{BadDemHeader, BadPixelSize, DemShort, OutOfMemory, ReadFailed}
-use Rattle.drain_device.specs.Failing.{ReadFails}
-use Rattle.drain_device.specs.FaultLists.{SomeReadFails}
-use Rattle.drain_device.specs.Reads.{ReadsUpTo}
-use Rattle.drain_device.specs.declared.counts.FaultCounts.{FaultCounts}
-use Rattle.drain_device.proofs.FaultLists.{SomeReadFails-one}
-use Rattle.drain_floats.specs.Patterns.{IsFloatNumber, number_of}
-use Rattle.drain_grid.specs.declared.cell.Cell.{Cell}
-use Rattle.drain_grid.specs.declared.height_kind.HeightKind.{HeightKind}
-use Rattle.drain_grid.specs.declared.height_kind.HeightKind.TheVariants.{Whole, Single}
-use Rattle.drain_grid.specs.Extent.{IsCellOf}
-use Rattle.drain_grid.specs.Grid.{Pixels}
-use Rattle.drain_grid.specs.WholeGrid.{number_at}
+use Rattle.drain_answer.specs.declared.refusal.Refusal.TheVariants.{OutOfMemory}
 use Rattle.drain_header.specs.declared.header.ByteOrdering.{ByteOrdering}
 use Rattle.drain_header.specs.declared.header.ByteOrdering.TheVariants.{Least, Most}
-use Rattle.drain_header.specs.declared.fault.HeaderFault.{HeaderFault}
-use Rattle.drain_header.specs.Faults.{AnswersOf}
-use Rattle.drain_header.specs.Header.{Fields, IsPixelSize}
-use Rattle.drain_pixels.specs.Ground.{height_with, whole_voids}
-use Rattle.drain_raster.specs.Bytes.{CanSpell, CanSpellAs, CanSpellIn}
 use Rattle.drain_raster.specs.Elevations.{elevation_in}
-use Rattle.drain_raster.specs.Laws.{NumbersArePixels}
-use Rattle.drain_raster.specs.Pixels.{IsShort, header_extent, needed_len, number_in, pixel_at, pixel_len, pixel_of, pixel_place, raster_of, spelled_as, spelled_by}
-use Rattle.drain_raster.specs.Placing.{HasPixelSize}
 use Rattle.drain_raster.proofs.PixelLemmas.{spelled_as-take}
-use Rattle.drain_text.specs.First.{IsBefore}
-use Rattle.drain_verdict.specs.DemGround.{DemRefuses, DemTexts, EncodesDem, IsDemHeader, IsDemHeaderRefusal, dem_devices, dem_fields, dem_ground}
 use Rattle.drain_header.specs.Lines.{kind_of}
-use Rattle.drain_verdict.specs.Ground.{refusal_kind}
 use Rattle.drain_sets.specs.declared.raster_input.RasterInput.{RasterInput}
-use Rattle.drain_maker.specs.Dems.{IsBodyRefusal, IsDemOf, IsGroundRefusal, IsKept, IsRasterOf, kept_number}
-use Rattle.drain_maker.specs.ProductFiles.{FitsHeader}
-use Rattle.drain_sets.specs.ProductHeaders.{con_no_data}
 use Rattle.drain_maker.proofs.KeptNumbers.{kept_height, pattern_number}
 use Rattle.drain_maker.proofs.MosaicAnswers.{reads-front}
 

@@ -1,28 +1,14 @@
 -- Rasters of counts, labels and steps that are right.
-use Rattle.std.proofs.Common.{ℤ, Bool, Option, Some, None, subst, ◌≡◌, Result, Ok, Err, IfOk, IfErr, refl, sym, ◌∙◌, ℕ, pos, List, map, ap, rules}
-use Rattle.drain_grid.specs.declared.cell.Cell.{Cell}
-use Rattle.drain_grid.specs.Grid.{Grid, Products, HasData, Pixels}
-use Rattle.drain_grid.specs.Extent.{Extent}
-use Rattle.drain_grid.specs.Spacing.{Distances}
+use Rattle.drain_maker.proofs.Names.{ℤ, Bool, Option, Some, None, subst, ◌≡◌, Result, Ok, Err, IfOk, IfErr, refl, sym, ◌∙◌, ℕ, pos, List, map, ap, rules, Cell, Grid, Products, HasData, Pixels, Extent, Distances, AreDerived, DerivedByDirections, IsDeriveRefusalIn, IsFlowsRefusal, IsRefusalFor, reading_in, Refusal, GroundSet, IsReadable, IsRefusalIn, set_grid, set_products, UsesSet, UsesTold, no_memory_left, FaultCounts, Product, default_no_data, number_at, upstream_some}
 use Rattle.drain_paths.specs.Basins.{ends_before, AreBasinLabels}
-use Rattle.drain_maker.specs.Derived.{AreDerived, DerivedByDirections, IsDeriveRefusalIn, IsFlowsRefusal, IsRefusalFor, reading_in}
 use Rattle.drain_paths.specs.declared.flow.CertifyRefusal.{CertifyRefusal}
-use Rattle.drain_answer.specs.declared.refusal.Refusal.{Refusal}
 use Rattle.drain_answer.specs.declared.refusal.Refusal.TheVariants.{OutOfMemory}
-use Rattle.drain_verdict.specs.GroundSets.{GroundSet, IsReadable, IsRefusalIn, set_grid, set_products}
 use Rattle.drain_verdict.specs.Inputs.{Products as Given}
-use Rattle.drain_verdict.specs.Uses.{UsesSet, UsesTold}
-use Rattle.drain_verdict.proofs.InputLemmas.{no_memory_left}
-use Rattle.drain_device.specs.declared.counts.FaultCounts.{FaultCounts}
 use Rattle.drain_maker.specs.declared.derivation.DeriveRefusal.{DeriveRefusal}
 use Rattle.drain_maker.specs.declared.derivation.DeriveRefusal.TheVariants.{Refused, NoEnd}
-use Rattle.drain_grid.specs.declared.product.Product.{Product}
 use Rattle.drain_grid.specs.declared.product.Product.TheVariants.{Acc, Bas, Rnk}
-use Rattle.drain_grid.specs.Product.{default_no_data}
-use Rattle.drain_grid.specs.WholeGrid.{number_at}
 use Rattle.drain_paths.specs.CellNumbers.{cell_number}
 use Rattle.drain_paths.specs.Inflows.{AreUpstreamCounts}
-use Rattle.drain_paths.proofs.Completing.{upstream_some}
 use Rattle.drain_paths.proofs.StepLemmas.{number_at-raster}
 use Rattle.drain_paths.specs.Walks.{AreRunSteps}
 use Rattle.drain_paths.specs.declared.flow.CertifyRefusal.TheVariants as certify

@@ -1,38 +1,19 @@
 -- From the writes of single files to those of a set.
-use Rattle.std.proofs.Common.{◌≡◌, ◌<◌, ℕ, ℤ, List, true, false, map, length, arith, ◌↔◌, zero, suc, ◌+◌, ◌≤◌, inl, inr, [], ◌∷◌, ◌++◌, slice_index_or, Option, Some, Result, Ok, Err, IsErrOf, refl, sym, ap, subst, ◌∙◌, length-append, append_assoc, append-nil}
-use Rattle.drain_grid.specs.declared.cell.Cell.{Cell}
-use Rattle.drain_grid.specs.Grid.{Pixels}
-use Rattle.drain_grid.specs.WholeGrid.{raster_in}
-use Rattle.drain_grid.specs.declared.product_set.ProductSet.{ProductSet}
+use Rattle.drain_maker.proofs.Names.{◌≡◌, ◌<◌, ℕ, ℤ, List, true, false, map, length, arith, ◌↔◌, zero, suc, ◌+◌, ◌≤◌, inl, inr, [], ◌∷◌, ◌++◌, slice_index_or, Option, Some, Result, Ok, Err, IsErrOf, refl, sym, ap, subst, ◌∙◌, append_assoc, append-nil, Cell, Pixels, raster_in, ProductSet, HeightKind, Whole, Single, CanSpellAll, IsFirstOutOfRange, raster_bytes, AreMadeSpelled, CanBeWritten, Sink, WriteFails, get_or-map, SetProduct, Fields, IsFloatLine, IsTextOf, IsTextOfKind, text_of, shape_lines, pixel_lines, place_lines, line, Tiling, extent_of, header_extent, Derived, AreCounts, CanSpellAllIn, DerivedFit, FitHeaders, IsDerived, SetFits, WritesSet, derived_raster, file_bytes, made_header, header_on, WritesFile, WritesFiles, any_text-some, no_memory}
+use Rattle.std.proofs.Common.{length-append}
 use Rattle.drain_grid.specs.declared.set_product.SetProduct.TheVariants.{Con, Dir, Acc, Bas, Rnk}
-use Rattle.drain_grid.specs.declared.height_kind.HeightKind.{HeightKind}
-use Rattle.drain_grid.specs.declared.height_kind.HeightKind.TheVariants.{Whole, Single}
-use Rattle.drain_raster.specs.Bytes.{CanSpellAll, IsFirstOutOfRange, raster_bytes}
-use Rattle.drain_maker.specs.Made.{AreMadeSpelled, CanBeWritten}
 use Rattle.std.specs.Prelude.{slice_set}
-use Rattle.drain_device.specs.Failing.{Sink, WriteFails}
 use Rattle.drain_device.specs.Counts.{HandsOver}
-use Rattle.std.proofs.lemmas.List.{get_or-map}
 use Rattle.drain_grid.specs.declared.product.Product.TheVariants as product
-use Rattle.drain_grid.specs.declared.set_product.SetProduct.{SetProduct}
 use Rattle.drain_floats.specs.Words.{IsFloatWord}
 use Rattle.drain_header.specs.declared.key.Key.TheVariants.{Nodata}
-use Rattle.drain_header.specs.Header.{Fields}
-use Rattle.drain_header.specs.Text.{IsFloatLine, IsTextOf, IsTextOfKind, text_of, shape_lines, pixel_lines, place_lines, line}
-use Rattle.drain_mosaic.specs.Tiling.{Tiling, extent_of}
 use Rattle.drain_raster.specs.declared.fault.WriteFault.{WriteFault}
-use Rattle.drain_raster.specs.Pixels.{header_extent}
 use Rattle.drain_sets.specs.declared.set_files.SetFault.{SetFault}
 use Rattle.drain_sets.specs.declared.set_files.SetFault.TheVariants.{WriteFailed, OutOfMemory}
 use Rattle.drain_sets.specs.declared.set_files.SetFile.{SetFile}
 use Rattle.drain_sets.specs.declared.set_files.TheConstants.{SET_FILES, DERIVED_COUNT, DERIVED_FILES}
-use Rattle.drain_maker.specs.declared.derivation.Derived.{Derived}
-use Rattle.drain_maker.specs.Derived.{AreCounts}
-use Rattle.drain_maker.specs.ProductFiles.{CanSpellAllIn, DerivedFit, FitHeaders, IsDerived, SetFits, WritesSet, derived_bytes, derived_raster, file_bytes, made_header, set_bytes}
-use Rattle.drain_sets.specs.ProductHeaders.{header_on}
-use Rattle.drain_sets.specs.FileWrites.{WritesFile, WritesFiles}
+use Rattle.drain_maker.specs.ProductFiles.{derived_bytes, set_bytes}
 use Rattle.drain_maker.proofs.TileLists.{get-seam, set-seam}
-use Rattle.drain_sets.proofs.FileWrites.{any_text-some, no_memory}
 use Rattle.drain_raster.specs.declared.fault.WriteFault.TheVariants as write
 
 -- what can be encoded of each raster of a product set can be of all

@@ -1,23 +1,5 @@
 -- What is kept of the pixels of a raster: numbers that its header's pixels can encode, and that mean the same elevations.
-use Rattle.std.proofs.Common.{◌≡◌, ◌≢◌, ◌∙◌, ℕ, ◌-◌, ◌%◌, ◌<◌, ◌≤◌, ◌||◌, not, nat_lt, ℤ, pos, neg_ℤ, Bool, true, false, Option, Some, None, IfSome, inl, inr, unwrap_or, if◌then◌else◌, refl, sym, ap, subst, arith}
-use Rattle.std.specs.Ordering.{int_eq}
-use Rattle.std.proofs.lemmas.Bool.{false≢true, ltb-true, ltb-false}
-use Rattle.std.proofs.lemmas.Bool.Decides.{Decides-int_eq}
-use Rattle.std.proofs.lemmas.Int.{ints}
-use Rattle.drain_floats.specs.Patterns.{IsFloatNumber, is_finite, number_of}
-use Rattle.drain_grid.specs.declared.height_kind.HeightKind.{HeightKind}
-use Rattle.drain_grid.specs.declared.height_kind.HeightKind.TheVariants.{Whole, Single}
-use Rattle.drain_grid.specs.Extent.{Extent, IsCellOf}
-use Rattle.drain_grid.specs.Grid.{Pixels}
-use Rattle.drain_grid.specs.Values.{IsPixel}
-use Rattle.drain_grid.specs.WholeGrid.{number_at}
-use Rattle.drain_header.specs.Header.{Fields}
-use Rattle.drain_pixels.specs.Ground.{height_with, is_number, whole_voids}
-use Rattle.drain_raster.specs.Bytes.{CanSpell, CanSpellAs}
-use Rattle.drain_maker.specs.Dems.{IsKept, kept_number}
-use Rattle.drain_maker.specs.ProductFiles.{FitsHeader}
-use Rattle.drain_sets.specs.ProductHeaders.{con_no_data, no_height}
-use Rattle.drain_sets.proofs.HeaderBounds.{con_float}
+use Rattle.drain_maker.proofs.Names.{◌≡◌, ◌≢◌, ◌∙◌, ℕ, ◌-◌, ◌%◌, ◌<◌, ◌≤◌, ◌||◌, not, nat_lt, ℤ, pos, neg_ℤ, Bool, true, false, Option, Some, None, IfSome, inl, inr, unwrap_or, if◌then◌else◌, refl, sym, ap, subst, arith, int_eq, false≢true, ltb-true, ltb-false, Decides-int_eq, ints, IsFloatNumber, is_finite, number_of, HeightKind, Whole, Single, Extent, IsCellOf, Pixels, IsPixel, number_at, Fields, height_with, is_number, whole_voids, CanSpell, CanSpellAs, IsKept, kept_number, FitsHeader, con_no_data, no_height, con_float}
 
 -- the number of a pattern of 32 bits is that of a float
 pub pattern_number : (p : ℕ) → p < 4294967296 → IsFloatNumber (number_of p)

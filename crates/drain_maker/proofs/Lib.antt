@@ -1,3 +1,4 @@
+pub mod Names
 mod Acceptance
 mod MosaicHeaders
 mod Placing

@@ -1,39 +1,15 @@
 -- What the stages of tiles alone say of the inputs: their mosaic, or the first refusal of the tiles, in the order of a
 -- check without the products.
-use Rattle.std.proofs.Common.{◌≡◌, is_some, ℕ, true, false, List, length, Option, inl, inr, arith, refl, sym, ◌∙◌, ℤ, Some, None, map, subst, ◌≢◌, ◌+◌, take, ap, ◌<◌}
-use Rattle.std.proofs.lemmas.Bool.{cases_lt, lt-ltb, le-ltb}
-use Rattle.drain_grid.specs.declared.cell.Cell.{Cell}
-use Rattle.drain_grid.specs.declared.sink_line.SinkLine.{SinkLine}
-use Rattle.drain_grid.specs.Grid.{HasData, Heights}
-use Rattle.drain_grid.specs.OffData.{FoundOffDataIsRight, IsLeastOff, IsOffAnswer, has_data}
-use Rattle.drain_grid.specs.WholeGrid.{elevation_at, grid_of}
-use Rattle.drain_grid.specs.Extent.{IsCellOf, Extent, index_of}
-use Rattle.drain_hgt.specs.Samples.{samples_of, IsTile, tile_length}
+use Rattle.drain_maker.proofs.Names.{◌≡◌, is_some, ℕ, true, false, List, length, Option, inl, inr, arith, refl, sym, ◌∙◌, ℤ, Some, None, map, subst, ◌≢◌, ◌+◌, take, ap, ◌<◌, cases_lt, Cell, SinkLine, HasData, Heights, FoundOffDataIsRight, IsLeastOff, IsOffAnswer, has_data, elevation_at, grid_of, IsCellOf, Extent, index_of, samples_of, IsTile, tile_length, Tiling, extent_of, first_value, Refusal, Inputs, set_of, TellTiles, place_among, IsSeamFaultAs, IsSeamRefusal, AreSamplesOf, IsElevationOf, IsOfTiles, StandsOfTiles, IsMosaicOf, IsMosaicRefusal, length-take, take_all, ReadsUpTo, IsFirst, TileInput, names_of, BadSide, BadName, NoTiles, RepeatedTile, BoxTooLarge, BadTileLength, SeamMismatch, ReadFailed, refusal_kind, place_in, input_tiles, tiling_of, IsRefusal, IsLayoutOf, IsLayoutRefusal, IsTileRefusal, told_of_inputs}
+use Rattle.std.proofs.lemmas.Bool.{lt-ltb, le-ltb}
 use Rattle.drain_mosaic.specs.declared.seams.SeamFault.{SeamFault}
-use Rattle.drain_mosaic.specs.Tiling.{Tiling, extent_of}
-use Rattle.drain_mosaic.specs.Mosaic.{first_value}
 use Rattle.drain_mosaic.specs.Laws.{AgreementGivesElevation}
-use Rattle.drain_answer.specs.declared.refusal.Refusal.{Refusal}
-use Rattle.drain_verdict.specs.Inputs.{Inputs}
-use Rattle.drain_verdict.specs.TileGround.{set_of, TellTiles, place_among}
-use Rattle.drain_maker.specs.Mosaics.{IsSeamFaultAs, IsSeamRefusal, AreSamplesOf, IsElevationOf, IsOfTiles, StandsOfTiles, IsMosaicOf, IsMosaicRefusal}
-use Rattle.std.proofs.lemmas.List.{length-take, take_all}
-use Rattle.drain_device.specs.Reads.{ReadsUpTo}
 use Rattle.std.specs.List.{All}
-use Rattle.drain_text.specs.First.{IsFirst}
-use Rattle.drain_hgt.specs.declared.input.TileInput.{TileInput}
 use Rattle.drain_hgt.specs.Laws.{OneName}
-use Rattle.drain_hgt.specs.Inputs.{names_of}
-use Rattle.drain_answer.specs.declared.refusal.Refusal.TheVariants.{BadSide, BadName, NoTiles, RepeatedTile, BoxTooLarge, BadTileLength, SeamMismatch, OutOfMemory, ReadFailed}
-use Rattle.drain_verdict.specs.Ground.{refusal_kind}
-use Rattle.drain_verdict.specs.GroundSets.{place_in}
+use Rattle.drain_answer.specs.declared.refusal.Refusal.TheVariants.{OutOfMemory}
 use Rattle.drain_verdict.specs.Refusals.{Stands, NoneStandsBefore, refusal_order}
-use Rattle.drain_verdict.specs.Meaning.{input_tiles, tiling_of}
-use Rattle.drain_verdict.specs.Answers.{IsRefusal}
-use Rattle.drain_verdict.specs.Stages.{IsLayoutOf, IsLayoutRefusal, IsTileRefusal}
 use Rattle.drain_verdict.proofs.Order.{at_header, at_tile, at_raster, at_seam, at_bad_line, at_off_data, none_more, first_of}
 use Rattle.drain_verdict.proofs.LayoutAnswers.{layout_is, layout_none, layout_refused}
-use Rattle.drain_verdict.proofs.StartAnswers.{told_of_inputs}
 use Rattle.drain_verdict.proofs.TileBodies.{none_of_another_length, first_of_another_length, none_of_two_values, first_of_two_values}
 use Rattle.drain_mosaic.specs.declared.seams.SeamFault.TheVariants as seam
 use Rattle.drain_mosaic.specs.Mosaic as mosaic

@@ -1,17 +1,6 @@
 -- The header of a product of a mosaic is within the bounds of a header, and has the mosaic's place.
-use Rattle.std.proofs.Common.{ℕ, ◌+◌, ◌-◌, ◌*◌, ◌/◌, ◌^◌, ◌≤◌, ℤ, pos, negsuc, nat_abs, ◌-ℤ◌, ◌*ℤ◌, refl, arith}
-use Rattle.std.proofs.lemmas.Int.{ints}
-use Rattle.std.proofs.Math.Nat.{mul-le-mul_right}
+use Rattle.drain_maker.proofs.Names.{ℕ, ◌+◌, ◌-◌, ◌*◌, ◌/◌, ◌^◌, ◌≤◌, ℤ, pos, negsuc, nat_abs, ◌-ℤ◌, ◌*ℤ◌, refl, arith, ints, mul-le-mul_right, Product, default_no_data, IsSide, IsCoordinate, AreWithinBounds, Tiling, west_of, north_of, west_edge, north_edge, tiles_down, tiles_across, IsPlaced, made_header, mosaic_place, bits_of, is_signed, product_bounds}
 use Rattle.drain_grid.specs.declared.degree.TheConstants.{UNITS_PER_DEGREE}
-use Rattle.drain_grid.specs.declared.product.Product.{Product}
-use Rattle.drain_grid.specs.Product.{default_no_data}
-use Rattle.drain_grid.specs.Grid.{IsSide}
-use Rattle.drain_header.specs.Header.{IsCoordinate, AreWithinBounds}
-use Rattle.drain_mosaic.specs.Tiling.{Tiling, west_of, north_of, west_edge, north_edge, tiles_down, tiles_across}
-use Rattle.drain_verdict.specs.TileGround.{IsPlaced}
-use Rattle.drain_maker.specs.ProductFiles.{made_header, mosaic_place}
-use Rattle.drain_sets.specs.ProductHeaders.{bits_of, is_signed}
-use Rattle.drain_sets.proofs.HeaderBounds.{product_bounds}
 use Rattle.drain_maker.proofs.Placing.{IsNear, spacing, no_way}
 
 -- a tiling of at most 8 by 8 tiles of a lawful side, whose edges are degrees

@@ -1,26 +1,8 @@
 -- A raster of elevations in samples of 16 bits: its grid has the cells of the samples' grid, so a flood of the one is a flood
 -- of the other.
-use Rattle.std.proofs.Common.{◌≡◌, ◌∙◌, ◌<◌, ◌*◌, ◌≤ℤ◌, ◌<ℤ◌, ℕ, ℤ, pos, Bool, true, List, Some, None, IsNone, [], length, get_or, if◌then◌else◌, refl, sym, ap, subst, arith}
-use Rattle.std.specs.Int.{int_max}
-use Rattle.std.specs.Ordering.{int_eq}
-use Rattle.std.proofs.lemmas.Bool.Decides.{Decides-int_eq}
-use Rattle.std.proofs.lemmas.Int.{ints, clamps}
-use Rattle.std.proofs.lemmas.List.{get_or_default}
-use Rattle.drain_grid.specs.declared.cell.Cell.{Cell}
-use Rattle.drain_grid.specs.declared.sink_line.SinkLine.{SinkLine}
+use Rattle.drain_maker.proofs.Names.{◌≡◌, ◌∙◌, ◌<◌, ◌*◌, ◌≤ℤ◌, ◌<ℤ◌, ℕ, ℤ, pos, Bool, true, List, Some, None, IsNone, [], length, get_or, if◌then◌else◌, refl, sym, ap, subst, arith, int_max, int_eq, Decides-int_eq, ints, clamps, get_or_default, Cell, SinkLine, Extent, IsCellOf, index_of, step, Grid, Heights, IsInside, Pixels, height_at, Distances, unit_spacing, number_at, spaced_grid, index_of-below, NO_HEIGHT, Flooding, IsFlooded, IsSurfaceOf, con_at, mark_at, HasCellsOf, spaced_dem_grid, AreRoutes, AreNarrowed, IsNarrowed, IsSampleOf}
 use Rattle.drain_grid.specs.declared.tile.TheConstants.{VOID}
-use Rattle.drain_grid.specs.Extent.{Extent, IsCellOf, index_of, step}
-use Rattle.drain_grid.specs.Grid.{Grid, Heights, IsInside, Pixels, height_at}
-use Rattle.drain_grid.specs.Spacing.{Distances, unit_spacing}
-use Rattle.drain_grid.specs.WholeGrid.{number_at, spaced_grid}
-use Rattle.drain_grid.proofs.Runs.{index_of-below}
-use Rattle.drain_flood.specs.declared.layers.TheConstants.{NO_HEIGHT}
-use Rattle.drain_flood.specs.Floods.{Flooding, IsFlooded, IsSurfaceOf, con_at, mark_at}
-use Rattle.drain_filled.specs.Compared.{HasCellsOf}
 use Rattle.drain_filled.proofs.LeastSurfaces.{covers_back, data_there, drains_back, height_there, open_there, turned}
-use Rattle.drain_maker.specs.Dems.{spaced_dem_grid}
-use Rattle.drain_maker.specs.Made.{AreRoutes}
-use Rattle.drain_maker.specs.Narrow.{AreNarrowed, IsNarrowed, IsSampleOf}
 use Rattle.drain_maker.proofs.DemLemmas.{shows_voids, void_is}
 
 -- What holds of a flood of one grid holds of each grid with its cells.

@@ -1,16 +1,8 @@
 -- The place of a mosaic that can be read: bounds of its edges, and the spacing of its samples, rounded down.
-use Rattle.std.proofs.Common.{ℕ, zero, suc, ◌/◌, ◌≤◌, ℤ, pos, negsuc, nat_abs, ◌+ℤ◌, ◌-ℤ◌, ◌*ℤ◌, List, [], ◌∷◌, map, fold, refl, arith}
-use Rattle.std.proofs.lemmas.Int.{ints, clamps}
-use Rattle.std.specs.Int.{int_min, int_max}
-use Rattle.std.specs.List.{All, AllZip}
-use Rattle.std.proofs.lemmas.List.Elements.{All-nil, All-cons, All-head, All-tail}
+use Rattle.drain_maker.proofs.Names.{ℕ, zero, suc, ◌/◌, ◌≤◌, ℤ, pos, negsuc, nat_abs, ◌+ℤ◌, ◌-ℤ◌, ◌*ℤ◌, List, [], ◌∷◌, map, fold, refl, arith, ints, clamps, int_min, int_max, AllZip, All-nil, All-cons, All-head, All-tail, IsSide, Corner, IsWithin, IsOnMap, Tiling, least, greatest, west_of, north_of, AreNames, IsBadName}
+use Rattle.std.specs.List.{All}
 use Rattle.std.proofs.Math.Decide.{dec_lt}
-use Rattle.drain_grid.specs.Grid.{IsSide}
-use Rattle.drain_hgt.specs.Corner.{Corner, IsWithin, IsOnMap}
 use Rattle.drain_hgt.specs.Name.{IsNameOf}
-use Rattle.drain_mosaic.specs.Tiling.{Tiling, least, greatest, west_of, north_of}
-use Rattle.drain_verdict.specs.Inputs.{AreNames}
-use Rattle.drain_verdict.specs.TileGround.{IsBadName}
 
 -- a spacing that is rounded down loses less than the number of steps
 pub spacing : (d n : ℕ) → 1 ≤ n → nat_abs (pos (d / n) *ℤ pos n -ℤ pos d) ≤ n

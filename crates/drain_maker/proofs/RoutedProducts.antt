@@ -3,40 +3,22 @@
 -- con is the filled surface, and dir leads down the steepest way or along flats: so runs end, and with right counts and
 -- labels all is correct. Correct products keep every rule without ranks; the ranks of ways keep rule 12, and are the
 -- no-data number only at voids.
-use Rattle.std.proofs.Common.{◌≡◌, ◌≢◌, ◌∙◌, ℕ, zero, suc, ◌≤◌, ◌*◌, ◌==◌, inl, inr, ℤ, pos, Bool, false, List, [], ◌∷◌, map, get_or, Option, Some, None, IsSome, IsNone, if◌then◌else◌, refl, sym, ap, subst, arith}
-use Rattle.std.proofs.lemmas.Bool.{false_from_ne_true, eqb-true}
-use Rattle.std.proofs.lemmas.List.{get_or-map}
-use Rattle.drain_grid.specs.declared.cell.Cell.{Cell}
+use Rattle.drain_maker.proofs.Names.{◌≡◌, ◌≢◌, ◌∙◌, ℕ, zero, suc, ◌≤◌, ◌*◌, ◌==◌, inl, inr, ℤ, pos, Bool, false, List, [], ◌∷◌, map, get_or, Option, Some, None, IsSome, IsNone, if◌then◌else◌, refl, sym, ap, subst, arith, false_from_ne_true, eqb-true, get_or-map, Cell, IsCorrect, RunsAreSound, GoesSteepest, index_of, Grid, IsInside, HasData, patch_at, HoldsAt, RulesHold, check_rules, flow_rules, VoidCellWithoutSpill, MissingWithoutSpill, IsAnyRule, IsWayRule, IsFlatCell, unranked_from_correct, runs_end, index_of-below, cell_flow, code_flow, AreFlowsOf, byte_flow, bytes_flows, MAX_CELLS, Flooding, IsSurfaceOf, ShowsVoids, AreCompleted, AreRouted, correct_by_routing, AreCountsAndLabels, listed, made_numbers, shown, RoutesEnd, RoutesKeepRules}
 use Rattle.drain_grid.specs.declared.set_product.SetProduct.TheVariants.{Con, Dir, Acc, Bas, Rnk}
 use Rattle.drain_grid.specs.declared.rule.Rule.{Rule}
 use Rattle.drain_grid.specs.declared.rule.Rule.TheVariants.{VoidCell, Missing, BadCode, BelowGround, OpenRaised, NoSpill, SpillHeight, SpillRank, NotLeast, Slope, OutletCode, FlatStep, Accumulation, Label, SharedLabel}
-use Rattle.drain_grid.specs.Correct.{IsCorrect, RunsAreSound, GoesSteepest}
-use Rattle.drain_grid.specs.Extent.{index_of}
-use Rattle.drain_grid.specs.Grid.{Grid, IsInside, HasData, patch_at}
-use Rattle.drain_grid.specs.GridRules.{HoldsAt, RulesHold}
-use Rattle.drain_grid.specs.PatchRules.{check_rules, flow_rules, VoidCellWithoutSpill, MissingWithoutSpill}
-use Rattle.drain_grid.specs.Rule.{IsAnyRule, IsWayRule}
-use Rattle.drain_grid.specs.Run.{IsFlatCell}
 use Rattle.drain_grid.proofs.Codes.{next-named}
 use Rattle.drain_grid.proofs.Decisions.{cases}
-use Rattle.drain_grid.proofs.FromCorrect.{unranked_from_correct}
 use Rattle.drain_grid.proofs.PatchDecisions.{has_lower}
-use Rattle.drain_grid.proofs.Runs.{runs_end, index_of-below}
 use Rattle.drain_grid.proofs.Slopes.{steepest_cell, HasLower-lower_cell}
 use Rattle.drain_paths.specs.declared.flow.Flow.TheVariants.{Void}
-use Rattle.drain_paths.specs.Flows.{cell_flow, code_flow, AreFlowsOf, byte_flow, bytes_flows}
 use Rattle.drain_flood.specs.declared.layers.TheConstants as surface_codes
-use Rattle.drain_flood.specs.declared.level_queue.TheConstants.{MAX_CELLS}
 use Rattle.drain_flood.specs.Flats.{Laying, AreWaysOnFlats, ShowsWays}
-use Rattle.drain_flood.specs.Floods.{Flooding, IsSurfaceOf, ShowsVoids}
 use Rattle.drain_flood.specs.Laws.{ArePresent}
 use Rattle.drain_flood.proofs.Looking.{flood_is_filled}
 use Rattle.drain_flood.proofs.FlatRules.{flats_keep_rules}
 use Rattle.drain_flood.proofs.FlatsPresent.{flats_are_present}
 use Rattle.drain_paths.specs.declared.flow.TheConstants.{NO_CODE}
-use Rattle.drain_paths.specs.Laws.{AreCompleted, AreRouted}
-use Rattle.drain_paths.proofs.Completing.{correct_by_routing}
-use Rattle.drain_maker.specs.Made.{AreCountsAndLabels, listed, made_numbers, shown, RoutesEnd, RoutesKeepRules}
 
 pub pos_at : (xs : List ℕ) (k : ℕ) → get_or (map (λ n. pos n) xs) k (pos 0) ≡ pos (get_or xs k 0)
 pos_at [] k = refl

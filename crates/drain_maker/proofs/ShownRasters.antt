@@ -1,15 +1,7 @@
 -- The rasters show what was computed: so what holds of that holds of them.
-use Rattle.std.proofs.Common.{◌≡◌, ◌∙◌, ℕ, ◌≤◌, ◌*◌, ℤ, pos, List, [], map, refl, sym, ap, subst}
-use Rattle.drain_grid.specs.declared.product.Product.{Product}
+use Rattle.drain_maker.proofs.Names.{◌≡◌, ◌∙◌, ℕ, ◌≤◌, ◌*◌, ℤ, pos, List, [], map, refl, sym, ap, subst, Product, Grid, Products, Pixels, default_no_data, Extent, number_at, AreFlowsOf, bytes_flows, OfFlows, MAX_CELLS, AreCountsAndLabels, AreRightProducts, AreRoutes, SomeRunsEnd, made_numbers, shown}
 use Rattle.drain_grid.specs.declared.product.Product.TheVariants.{Dir, Acc, Bas, Rnk}
-use Rattle.drain_grid.specs.Grid.{Grid, Products, Pixels}
-use Rattle.drain_grid.specs.Product.{default_no_data}
-use Rattle.drain_grid.specs.Extent.{Extent}
-use Rattle.drain_grid.specs.WholeGrid.{number_at}
 use Rattle.drain_paths.specs.declared.flow.Flow.{Flow}
-use Rattle.drain_paths.specs.Flows.{AreFlowsOf, bytes_flows, OfFlows}
-use Rattle.drain_flood.specs.declared.level_queue.TheConstants.{MAX_CELLS}
-use Rattle.drain_maker.specs.Made.{AreCountsAndLabels, AreRightProducts, AreRoutes, SomeRunsEnd, made_numbers, shown}
 use Rattle.drain_maker.proofs.RoutedProducts.{routes_end, routes_keep_rules}
 
 abbrev pub heights : Extent → ℤ → List ℤ → Pixels

@@ -1,25 +1,11 @@
 -- The results of reading some tiles: those read, the one that stopped, and those after it, whose devices weren't
 -- called.
-use Rattle.std.proofs.Common.{◌≡◌, List, [], ◌∷◌, ◌++◌, length, slice_index_or, Some, refl, ap, ◌↔◌, ℕ, ◌+◌, ◌*◌, ◌<◌, ◌⊎◌, inl, inr, ℤ, map, get_or, All, Option, arith, sym, ◌∙◌, length-append, append_assoc, append-nil}
+use Rattle.drain_maker.proofs.Names.{◌≡◌, List, [], ◌∷◌, ◌++◌, length, slice_index_or, Some, refl, ap, ◌↔◌, ℕ, ◌+◌, ◌*◌, ◌<◌, ◌⊎◌, inl, inr, ℤ, map, get_or, Option, arith, sym, ◌∙◌, append_assoc, append-nil, AllZip, map-append, get_or_append_left, All-push, FaultCounts, ReadFails, TakesAtMost, TileInput, Corner, IsTile, samples_of, tile_length, names_of, tile_devices, AreBodies, IsFirstBadLength, Refusal, BadSide, BadName, NoTiles, RepeatedTile, BoxTooLarge, BadHeader, WrongShape, Misplaced, BadTileLength, RasterShort, SeamMismatch, BadSinkLine, SinkNotData, BadSpacingLine, SpacingRows, BadDemHeader, BadPixelSize, DemShort, ReadFailed, SomeReadFails, IsTileRefusal, AreSamplesOf, IsOneTileRefusal, SomeReadFails-none, SomeReadFails-one, SomeReadFails-then, takes-none}
+use Rattle.std.proofs.Common.{All, length-append}
 use Rattle.std.specs.Prelude.{slice_get, slice_set}
-use Rattle.std.specs.List.{AllZip}
 use Rattle.std.proofs.Math.ListN.{set}
-use Rattle.std.proofs.lemmas.List.{map-append, get_or_append_left}
-use Rattle.std.proofs.lemmas.List.Elements.{All-push}
 use Rattle.std.proofs.lemmas.Option.{get_or_from_slice_get}
-use Rattle.drain_device.specs.declared.counts.FaultCounts.{FaultCounts}
-use Rattle.drain_device.specs.Failing.{ReadFails}
-use Rattle.drain_device.specs.Reads.{TakesAtMost}
-use Rattle.drain_hgt.specs.declared.input.TileInput.{TileInput}
-use Rattle.drain_hgt.specs.Corner.{Corner}
-use Rattle.drain_hgt.specs.Samples.{IsTile, samples_of, tile_length}
-use Rattle.drain_hgt.specs.Inputs.{names_of, tile_devices, AreBodies, IsFirstBadLength}
-use Rattle.drain_answer.specs.declared.refusal.Refusal.{Refusal}
-use Rattle.drain_answer.specs.declared.refusal.Refusal.TheVariants.{BadSide, BadName, NoTiles, RepeatedTile, BoxTooLarge, BadHeader, WrongShape, Misplaced, BadTileLength, RasterShort, SeamMismatch, BadSinkLine, SinkNotData, BadSpacingLine, SpacingRows, BadDemHeader, BadPixelSize, DemShort, OutOfMemory, ReadFailed}
-use Rattle.drain_device.specs.FaultLists.{SomeReadFails}
-use Rattle.drain_verdict.specs.Stages.{IsTileRefusal}
-use Rattle.drain_maker.specs.Mosaics.{AreSamplesOf, IsOneTileRefusal}
-use Rattle.drain_device.proofs.FaultLists.{SomeReadFails-none, SomeReadFails-one, SomeReadFails-then, takes-none}
+use Rattle.drain_answer.specs.declared.refusal.Refusal.TheVariants.{OutOfMemory}
 
 -- The place in a list where one part ends and the next begins.
 

@@ -1,38 +1,17 @@
 -- Products that were made and written are accepted: what the files are, and the answer to them.
-use Rattle.std.specs.Prelude.{◌≡◌, ℕ, List, Result, Ok, Err}
-use Rattle.std.specs.List.{AllZip}
-use Rattle.drain_grid.specs.declared.height_kind.HeightKind.{HeightKind}
-use Rattle.drain_grid.specs.declared.height_kind.HeightKind.TheVariants.{Whole}
-use Rattle.drain_grid.specs.declared.product.Product.TheVariants.{Con}
-use Rattle.drain_grid.specs.declared.set_product.SetProduct.{SetProduct}
-use Rattle.drain_grid.specs.SetProduct.{product_of}
-use Rattle.drain_grid.specs.declared.product_set.ProductSet.{ProductSet}
-use Rattle.drain_grid.specs.declared.sink_line.SinkLine.{SinkLine}
-use Rattle.drain_grid.specs.SinkTexts.{sinks_of}
-use Rattle.drain_grid.specs.Grid.{Grid, Pixels, Products, Heights}
-use Rattle.drain_grid.specs.Extent.{Extent}
-use Rattle.drain_grid.specs.Spacing.{RowSpacings, spacing_of}
-use Rattle.drain_grid.specs.WholeGrid.{products_of, raster_in, spaced_grid}
+use Rattle.std.specs.Prelude.{◌≡◌}
+use Rattle.drain_maker.specs.Names.{ℕ, List, Result, Ok, Err, AllZip, HeightKind, Whole, Con, SetProduct, product_of, ProductSet, SinkLine, sinks_of, Grid, Pixels, Products, Heights, Extent, RowSpacings, products_of, raster_in, spaced_grid, Fields, IsTextOf, raster_bytes, Refusal, OutOfMemory, ReadFailed, DemTexts, dem_ground, Inputs, AreNames, texts_of, tiling_of, IsAnswer, IsAnswerIn, header_on}
+use Rattle.drain_grid.specs.Spacing.{spacing_of}
 use Rattle.drain_hgt.specs.Name.{IsNameOf}
-use Rattle.drain_header.specs.Header.{Fields}
-use Rattle.drain_header.specs.Text.{IsTextOf}
-use Rattle.drain_raster.specs.Bytes.{raster_bytes}
 use Rattle.drain_grid.specs.declared.verdict.Verdict.{Verdict}
 use Rattle.drain_grid.specs.declared.verdict.Verdict.TheVariants.{Accepted, Rejected}
 use Rattle.drain_rules.specs.Verdicts.{counts_of}
-use Rattle.drain_answer.specs.declared.refusal.Refusal.{Refusal}
-use Rattle.drain_answer.specs.declared.refusal.Refusal.TheVariants.{OutOfMemory, ReadFailed}
-use Rattle.drain_verdict.specs.DemGround.{DemTexts, dem_ground}
 use Rattle.drain_verdict.specs.Given.{HasBadSpacing, HasOtherRows, row_spacing}
 use Rattle.drain_sets.specs.GivenSpacings.{GivenSpacing}
-use Rattle.drain_verdict.specs.Inputs.{Inputs, AreNames}
-use Rattle.drain_verdict.specs.Meaning.{texts_of, tiling_of}
 use Rattle.drain_verdict.specs.Texts.{SetTexts}
 use Rattle.drain_maker.specs.Dems.{AreMadeOn, IsDemOf, spaced_dem_grid}
 use Rattle.drain_maker.specs.Mosaics.{IsMosaicOf}
-use Rattle.drain_verdict.specs.Answers.{IsAnswer, IsAnswerIn}
 use Rattle.drain_maker.specs.ProductFiles.{made_header}
-use Rattle.drain_sets.specs.ProductHeaders.{header_on}
 use Rattle.drain_maker.specs.Made.{AreMade}
 
 -- if each name names a tile, the corners are those of the named tiles

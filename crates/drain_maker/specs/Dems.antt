@@ -1,34 +1,12 @@
 -- A raster of elevations in memory: the grid that it means, and what is said of listed sinks; and how it is read.
-use Rattle.std.specs.Prelude.{◌≡◌, ℕ, ℤ, ◌&&◌, nat_lt, is_some, if◌then◌else◌, Bool, List, Option, Some, IsSome, Result, Ok, Err}
-use Rattle.drain_answer.specs.declared.refusal.Refusal.{Refusal}
+use Rattle.std.specs.Prelude.{◌≡◌, ◌&&◌, if◌then◌else◌}
+use Rattle.drain_maker.specs.Names.{ℕ, ℤ, nat_lt, is_some, Bool, List, Option, Some, IsSome, Result, Ok, Err, Refusal, is_finite, Cell, HeightKind, Whole, Single, ProductSet, SinkLine, IsCellOf, Grid, HasData, Pixels, height_at, IsFirstOffData, IsOffData, is_listed, Distances, unit_spacing, IsPixel, RulesHold, check_rules, IsAnyRule, nodata_of, number_at, products_of, UNREACHED, Fields, IsShort, header_extent, pixel_at, IsFirst, DemTexts, IsDemHeader, dem_ground, con_no_data}
 use Rattle.drain_answer.specs.declared.refusal.Refusal.TheVariants as refused
-use Rattle.drain_floats.specs.Patterns.{is_finite}
-use Rattle.drain_grid.specs.declared.cell.Cell.{Cell}
-use Rattle.drain_grid.specs.declared.height_kind.HeightKind.{HeightKind}
-use Rattle.drain_grid.specs.declared.height_kind.HeightKind.TheVariants.{Whole, Single}
-use Rattle.drain_grid.specs.declared.product_set.ProductSet.{ProductSet}
-use Rattle.drain_grid.specs.declared.sink_line.SinkLine.{SinkLine}
-use Rattle.drain_grid.specs.Extent.{IsCellOf}
-use Rattle.drain_grid.specs.Grid.{Grid, HasData, Pixels, height_at}
-use Rattle.drain_grid.specs.OffData.{IsFirstOffData, IsOffData}
-use Rattle.drain_grid.specs.SinkTexts.{is_listed}
-use Rattle.drain_grid.specs.Spacing.{Distances, unit_spacing}
-use Rattle.drain_grid.specs.Values.{IsPixel}
-use Rattle.drain_grid.specs.GridRules.{RulesHold}
-use Rattle.drain_grid.specs.PatchRules.{check_rules}
-use Rattle.drain_grid.specs.Rule.{IsAnyRule}
-use Rattle.drain_grid.specs.WholeGrid.{nodata_of, number_at, products_of}
-use Rattle.drain_flood.specs.declared.layers.TheConstants.{UNREACHED}
 use Rattle.drain_filled.specs.Grounds.{DataCells, data_mark}
-use Rattle.drain_header.specs.Header.{Fields}
 use Rattle.drain_pixels.specs.Ground.{height_with, whole_voids}
-use Rattle.drain_raster.specs.Pixels.{IsShort, header_extent, pixel_at}
-use Rattle.drain_text.specs.First.{IsFirst}
-use Rattle.drain_verdict.specs.DemGround.{DemTexts, IsDemHeader, dem_ground}
 use Rattle.drain_verdict.specs.Ground.{Ground, refusal_kind}
 use Rattle.drain_maker.specs.Made.{AreRasters, made_numbers}
 use Rattle.drain_maker.specs.ProductFiles.{SetFits}
-use Rattle.drain_sets.specs.ProductHeaders.{con_no_data}
 use Rattle.drain_maker.specs.declared.maker.MakeRefusal.{MakeRefusal}
 use Rattle.drain_maker.specs.declared.maker.MakeRefusal.TheVariants.{MakerFault, OutOfMemory, SinkNotData}
 

@@ -1,30 +1,13 @@
 -- What follows from the directions of a grid, as rasters.
-use Rattle.std.specs.Prelude.{◌≡◌, ◌≢◌, ◌↔◌, pos, false, IsNone, List, Result, Ok, Err}
-use Rattle.drain_grid.specs.declared.cell.Cell.{Cell}
+use Rattle.std.specs.Prelude.{◌≡◌, ◌≢◌, ◌↔◌}
+use Rattle.drain_maker.specs.Names.{pos, false, IsNone, List, Result, Ok, Err, Cell, Grid, Products, IsInside, HasData, Pixels, ArePixels, default_numbers, Extent, number_at, end_number, AllFlowsEnd, AreFlowsOf, Flow, Refusal, OutOfMemory, GroundSet, IsReadable, IsRefusalIn, set_grid, set_products, Inputs, set_of, IsCorrect, RulesHold, check_rules, IsAnyRule, NoDataNumbers}
 use Rattle.drain_grid.specs.Unranked.{run_steps, IsFirstEndless}
-use Rattle.drain_grid.specs.Grid.{Grid, Products, IsInside, HasData, Pixels, ArePixels}
-use Rattle.drain_grid.specs.Product.{default_numbers}
 use Rattle.drain_grid.specs.Run.{run_end, upstream_count, ShareBasin}
-use Rattle.drain_grid.specs.Extent.{Extent}
-use Rattle.drain_grid.specs.WholeGrid.{number_at}
 use Rattle.drain_maker.specs.ProductFiles.{CanSpellAllIn}
-use Rattle.drain_paths.specs.Basins.{end_number}
-use Rattle.drain_paths.specs.Flows.{AllFlowsEnd, AreFlowsOf}
 use Rattle.drain_maker.specs.declared.derivation.Derived.{Derived}
-use Rattle.drain_paths.specs.declared.flow.Flow.{Flow}
 use Rattle.drain_paths.specs.declared.flow.CertifyRefusal.{CertifyRefusal}
-use Rattle.drain_answer.specs.declared.refusal.Refusal.{Refusal}
-use Rattle.drain_answer.specs.declared.refusal.Refusal.TheVariants.{OutOfMemory}
-use Rattle.drain_verdict.specs.GroundSets.{GroundSet, IsReadable, IsRefusalIn, set_grid, set_products}
-use Rattle.drain_verdict.specs.Inputs.{Inputs}
-use Rattle.drain_verdict.specs.TileGround.{set_of}
 use Rattle.drain_maker.specs.declared.derivation.DeriveRefusal.{DeriveRefusal}
 use Rattle.drain_maker.specs.declared.derivation.DeriveRefusal.TheVariants.{Refused, NoEnd}
-use Rattle.drain_grid.specs.Correct.{IsCorrect}
-use Rattle.drain_grid.specs.GridRules.{RulesHold}
-use Rattle.drain_grid.specs.PatchRules.{check_rules}
-use Rattle.drain_grid.specs.Rule.{IsAnyRule}
-use Rattle.drain_grid.specs.Values.{NoDataNumbers}
 use Rattle.drain_paths.specs.Laws.{AreRouted}
 use Rattle.drain_paths.specs.declared.flow.CertifyRefusal.TheVariants as certify
 

@@ -1,3 +1,4 @@
+pub mod Names
 pub mod ProductFiles
 pub mod Made
 pub mod Accepted

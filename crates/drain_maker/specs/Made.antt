@@ -1,35 +1,11 @@
 -- The products of `make`: of the mosaic's shape, right by every rule, and fit to be written.
-use Rattle.std.specs.Prelude.{◌≡◌, ℕ, List, Result, Ok, Err, ◌*◌, ◌≤◌, ℤ, pos, map, slice_index_or}
-use Rattle.drain_grid.specs.declared.set_product.SetProduct.{SetProduct}
-use Rattle.drain_grid.specs.SetProduct.{product_of}
-use Rattle.drain_grid.specs.declared.product_set.ProductSet.{ProductSet}
-use Rattle.drain_grid.specs.declared.sink_line.SinkLine.{SinkLine}
-use Rattle.drain_grid.specs.OffData.{IsFirstOffData, IsOffData}
-use Rattle.drain_grid.specs.declared.product.Product.TheVariants.{Acc, Bas, Dir, Rnk, Spl}
-use Rattle.drain_grid.specs.Product.{default_no_data, default_numbers}
-use Rattle.drain_grid.specs.Values.{NoDataNumbers}
-use Rattle.drain_grid.specs.Grid.{Heights, ArePixels, Grid, Products}
-use Rattle.drain_grid.specs.Spacing.{Distances}
-use Rattle.drain_grid.specs.WholeGrid.{grid_of, products_of, nodata_of, raster_in, spaced_grid}
-use Rattle.drain_grid.specs.Rule.{IsAnyRule}
-use Rattle.drain_grid.specs.PatchRules.{check_rules}
-use Rattle.drain_grid.specs.GridRules.{RulesHold}
-use Rattle.drain_raster.specs.Bytes.{CanSpellAll}
-use Rattle.drain_mosaic.specs.Tiling.{Tiling}
+use Rattle.std.specs.Prelude.{◌≡◌, ◌*◌, ◌≤◌}
+use Rattle.drain_maker.specs.Names.{ℕ, List, Result, Ok, Err, ℤ, pos, map, slice_index_or, SetProduct, product_of, ProductSet, SinkLine, IsFirstOffData, IsOffData, Acc, Bas, Dir, Rnk, Spl, default_no_data, default_numbers, NoDataNumbers, Heights, ArePixels, Grid, Products, Distances, grid_of, products_of, nodata_of, raster_in, spaced_grid, IsAnyRule, check_rules, RulesHold, CanSpellAll, Tiling, bits_of, is_signed, Cell, IsCorrect, RunsAreSound, index_of, Extent, Flow, AreBasinLabels, AreFlowsOf, bytes_flows, AllFlowsEnd, AreUpstreamCounts, Flooding, IsSurfaceOf, ShowsVoids, con_at}
 use Rattle.drain_maker.specs.declared.maker.MakeRefusal.{MakeRefusal}
 use Rattle.drain_maker.specs.declared.maker.MakeRefusal.TheVariants.{MakerFault, OutOfMemory, SinkNotData}
 use Rattle.drain_maker.specs.ProductFiles.{CanSpellAllIn, made_header}
-use Rattle.drain_sets.specs.ProductHeaders.{bits_of, is_signed}
-use Rattle.drain_grid.specs.declared.cell.Cell.{Cell}
-use Rattle.drain_grid.specs.Correct.{IsCorrect, RunsAreSound}
-use Rattle.drain_grid.specs.Extent.{index_of, Extent}
-use Rattle.drain_paths.specs.declared.flow.Flow.{Flow}
-use Rattle.drain_paths.specs.Basins.{AreBasinLabels}
-use Rattle.drain_paths.specs.Flows.{AreFlowsOf, bytes_flows, AllFlowsEnd}
-use Rattle.drain_paths.specs.Inflows.{AreUpstreamCounts}
 use Rattle.drain_flood.specs.declared.level_queue.TheConstants.{MAX_CELLS}
 use Rattle.drain_flood.specs.Flats.{Laying, AreWaysOnFlats}
-use Rattle.drain_flood.specs.Floods.{Flooding, IsSurfaceOf, ShowsVoids, con_at}
 
 -- all rules of a check hold at every cell of the grid, with the default no-data numbers
 abbrev pub KeepsEveryRule : Grid → ProductSet → Type 0

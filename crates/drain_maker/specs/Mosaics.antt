@@ -1,21 +1,9 @@
 -- What reading only tiles returns: their mosaic, or the first refusal of the tiles.
-use Rattle.std.specs.Prelude.{◌≡◌, ℕ, ℤ, List, map}
+use Rattle.std.specs.Prelude.{◌≡◌}
+use Rattle.drain_maker.specs.Names.{ℕ, ℤ, List, map, Heights, elevation_at, IsTile, samples_of, tiles_of, TilesAgree, IsElevation, IsFirstSeam, Refusal, BadTileLength, SeamMismatch, OutOfMemory, ReadFailed, BadHeader, WrongShape, Misplaced, RasterShort, BadSinkLine, SinkNotData, BadSpacingLine, SpacingRows, Cell, IsCellOf, IsFirst, Tiling, extent_of, Inputs, input_grid, tiling_of, Stands, refusal_order}
 use Rattle.std.specs.List.{All}
-use Rattle.drain_grid.specs.Grid.{Heights}
-use Rattle.drain_grid.specs.WholeGrid.{elevation_at}
 use Rattle.drain_hgt.specs.Corner.{Corner}
-use Rattle.drain_hgt.specs.Samples.{IsTile, samples_of}
 use Rattle.drain_mosaic.specs.declared.seams.SeamFault.{SeamFault}
-use Rattle.drain_mosaic.specs.Mosaic.{tiles_of, TilesAgree, IsElevation, IsFirstSeam}
-use Rattle.drain_answer.specs.declared.refusal.Refusal.{Refusal}
-use Rattle.drain_answer.specs.declared.refusal.Refusal.TheVariants.{BadTileLength, SeamMismatch, OutOfMemory, ReadFailed, BadHeader, WrongShape, Misplaced, RasterShort, BadSinkLine, SinkNotData, BadSpacingLine, SpacingRows}
-use Rattle.drain_grid.specs.declared.cell.Cell.{Cell}
-use Rattle.drain_grid.specs.Extent.{IsCellOf}
-use Rattle.drain_text.specs.First.{IsFirst}
-use Rattle.drain_mosaic.specs.Tiling.{Tiling, extent_of}
-use Rattle.drain_verdict.specs.Inputs.{Inputs}
-use Rattle.drain_verdict.specs.Meaning.{input_grid, tiling_of}
-use Rattle.drain_verdict.specs.Refusals.{Stands, refusal_order}
 use Rattle.drain_mosaic.specs.declared.seams.SeamFault.TheVariants as seam
 use Rattle.drain_mosaic.specs.Tiling as tiling
 

@@ -1,11 +1,8 @@
 -- Elevations of one raster in samples of 16 bits.
-use Rattle.std.specs.Prelude.{◌≡◌, ◌<◌, ℕ, ℤ, pos, List, IsNone, length, slice_index_or}
+use Rattle.std.specs.Prelude.{◌≡◌, ◌<◌}
+use Rattle.drain_maker.specs.Names.{ℕ, ℤ, pos, List, IsNone, length, slice_index_or, Cell, IsCellOf, Heights, Pixels, elevation_at}
 use Rattle.std.specs.Ordering.{int_eq}
-use Rattle.drain_grid.specs.declared.cell.Cell.{Cell}
 use Rattle.drain_grid.specs.declared.tile.TheConstants.{VOID}
-use Rattle.drain_grid.specs.Extent.{IsCellOf}
-use Rattle.drain_grid.specs.Grid.{Heights, Pixels}
-use Rattle.drain_grid.specs.WholeGrid.{elevation_at}
 use Rattle.drain_maker.specs.Dems.{dem_elevation}
 
 -- the sample is the number, and means a void exactly where the number does.

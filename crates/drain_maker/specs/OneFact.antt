@@ -2,12 +2,7 @@
 use Rattle.std.proofs.Common.{◌≡◌, ℤ, ℕ, pos, Bool, inl, inr, ap, arith}
 use Rattle.std.proofs.Props.{props}
 use Rattle.std.proofs.lemmas.Int.{ints}
-use Rattle.drain_floats.specs.Patterns.{IsFloatNumber, IsSingle}
-use Rattle.drain_grid.specs.declared.height_kind.HeightKind.{HeightKind}
-use Rattle.drain_grid.specs.declared.height_kind.HeightKind.TheVariants.{Whole, Single}
-use Rattle.drain_grid.specs.Grid.{Pixels}
-use Rattle.drain_header.specs.Header.{Fields}
-use Rattle.drain_raster.specs.Bytes.{CanSpellAs}
+use Rattle.drain_maker.specs.Names.{IsFloatNumber, IsSingle, HeightKind, Whole, Single, Pixels, Fields, CanSpellAs}
 use Rattle.drain_maker.specs.ProductFiles.{FitsHeader}
 
 float_prop : (n : ℤ) → IsProp (IsFloatNumber n)

@@ -1,29 +1,12 @@
 -- The files of a product set or of derived rasters: the headers of a mosaic's, their bytes, what has to hold so that they
 -- can be written, and that they are.
-use Rattle.std.specs.Prelude.{ℕ, ◌*◌, ◌/◌, Bool, Some, ◌≡◌, List, [], ◌∷◌, Result}
-use Rattle.drain_grid.specs.declared.cell.Cell.{Cell}
-use Rattle.drain_grid.specs.declared.height_kind.HeightKind.TheVariants.{Whole}
+use Rattle.std.specs.Prelude.{◌*◌, ◌/◌, ◌≡◌, ◌∷◌}
+use Rattle.drain_maker.specs.Names.{ℕ, Bool, Some, List, [], Result, Cell, Whole, Con, Acc, Bas, Rnk, default_no_data, Fields, Tiling, west_edge, north_edge, extent_of, flat_map, Sink, ProductSet, SetProduct, IsCellOf, Pixels, number_at, raster_in, product_of, products, IsTextOf, text_of, CanSpellAll, CanSpellIn, raster_bytes, header_extent, WritesFile, WritesFiles, bits_of, con_no_data, header_on, is_signed}
 use Rattle.drain_grid.specs.declared.product.Product.{Product}
-use Rattle.drain_grid.specs.declared.product.Product.TheVariants.{Con, Acc, Bas, Rnk}
-use Rattle.drain_grid.specs.Product.{default_no_data}
 use Rattle.drain_header.specs.declared.header.ByteOrdering.TheVariants.{Least}
 use Rattle.drain_header.specs.declared.header.Place.{Place}
-use Rattle.drain_header.specs.Header.{Fields}
-use Rattle.drain_mosaic.specs.Tiling.{Tiling, west_edge, north_edge, spacing_of, extent_of}
-use Rattle.std.specs.List.{flat_map}
-use Rattle.drain_device.specs.Failing.{Sink}
-use Rattle.drain_grid.specs.declared.product_set.ProductSet.{ProductSet}
-use Rattle.drain_grid.specs.declared.set_product.SetProduct.{SetProduct}
-use Rattle.drain_grid.specs.Extent.{IsCellOf}
-use Rattle.drain_grid.specs.Grid.{Pixels}
-use Rattle.drain_grid.specs.WholeGrid.{number_at, raster_in}
-use Rattle.drain_grid.specs.SetProduct.{product_of, products}
-use Rattle.drain_header.specs.Text.{IsTextOf, text_of}
-use Rattle.drain_raster.specs.Bytes.{CanSpellAll, CanSpellIn, raster_bytes}
-use Rattle.drain_raster.specs.Pixels.{header_extent}
+use Rattle.drain_mosaic.specs.Tiling.{spacing_of}
 use Rattle.drain_maker.specs.declared.derivation.Derived.{Derived}
-use Rattle.drain_sets.specs.FileWrites.{WritesFile, WritesFiles}
-use Rattle.drain_sets.specs.ProductHeaders.{bits_of, con_no_data, header_on, is_signed}
 use Rattle.drain_sets.specs.declared.set_files.FilePart.{FilePart}
 use Rattle.drain_sets.specs.declared.set_files.FilePart.TheVariants.{Header, Raster}
 use Rattle.drain_sets.specs.declared.set_files.SetFile.{SetFile}

@@ -1,18 +1,8 @@
 //! Making products of one raster of elevations of any shape: correct by proof.
 
-ghost use Rattle.std.specs.Prelude.{◌≡◌, ℕ, ◌*◌, IfOk, length, pos, slice_index_or, vec_len};
-ghost use Rattle.drain_grid.specs.Correct.{IsCorrect, RunsAreSound};
-ghost use Rattle.drain_grid.specs.declared.cell.Cell.{Cell};
-ghost use Rattle.drain_grid.specs.Extent.{IsCellOf, index_of};
-ghost use Rattle.drain_grid.specs.GridRules.{RulesHold};
-ghost use Rattle.drain_grid.specs.PatchRules.{check_rules};
-ghost use Rattle.drain_grid.specs.Rule.{IsAnyRule};
-ghost use Rattle.drain_grid.specs.Values.{IsNoData, IsPixel};
-ghost use Rattle.drain_grid.specs.Grid.{ArePixels, Pixels};
-ghost use Rattle.drain_grid.specs.Spacing.{Distances, spacing_of};
-ghost use Rattle.drain_grid.specs.WholeGrid.{nodata_of, number_at, products_of};
-ghost use Rattle.drain_flood.specs.Floods.{IsSurfaceOf, ShowsVoids};
-ghost use Rattle.drain_header.specs.Header.{Fields};
+ghost use Rattle.std.specs.Prelude.{◌≡◌, ◌*◌};
+ghost use Rattle.drain_maker.specs.Names.{ℕ, IfOk, length, pos, slice_index_or, vec_len, IsCorrect, RunsAreSound, Cell, IsCellOf, index_of, RulesHold, check_rules, IsAnyRule, IsNoData, IsPixel, ArePixels, Pixels, Distances, nodata_of, number_at, products_of, IsSurfaceOf, ShowsVoids, Fields};
+ghost use Rattle.drain_grid.specs.Spacing.{spacing_of};
 ghost use Rattle.drain_maker.specs.Dems.{AreOfGround, DemSucceeds, IsDemSinkAnswer, IsHeightAt, IsMarkedBy, MarksDem, dem_elevation, spaced_dem_grid};
 ghost use Rattle.drain_maker.specs.Made.{AreRasters, AreRightProducts, AreRoutes, made_numbers};
 ghost use Rattle.drain_maker.specs.Narrow.{IsNarrowed};

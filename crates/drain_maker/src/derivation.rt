@@ -1,18 +1,10 @@
 //! Directions that are read row by row with their tiles, and what follows from them.
 
-ghost use Rattle.std.specs.Prelude.{◌≡◌, ◌*◌, length, IfOk, IfErr};
+ghost use Rattle.std.specs.Prelude.{◌≡◌, ◌*◌};
+ghost use Rattle.drain_maker.specs.Names.{length, IfOk, IfErr, OfFlows, names_of, extent_of, header_extent, ForAudit, DemUses, ForDem, IsDemInput, dem_audit_devices, IsLayoutOf, ForSet, IsRefusalIn, as_five};
 ghost use Rattle.drain_paths.specs.Ways.{IsRankRefusal};
-ghost use Rattle.drain_paths.specs.Flows.{OfFlows};
 ghost use Rattle.drain_maker.specs.Derived.{AreDerived, AreDerivedIn, AreCounts, AreDerivedOf, HasFlowsIn, IsDeriveRefusal, IsDeriveRefusalIn, IsFlowsRefusal, IsRefusalFor, reading_in};
-ghost use Rattle.drain_hgt.specs.Inputs.{names_of};
-ghost use Rattle.drain_mosaic.specs.Tiling.{extent_of};
-ghost use Rattle.drain_raster.specs.Pixels.{header_extent};
-ghost use Rattle.drain_verdict.specs.Answers.{ForAudit};
-ghost use Rattle.drain_verdict.specs.DemGround.{DemUses, ForDem, IsDemInput, dem_audit_devices};
-ghost use Rattle.drain_verdict.specs.Stages.{IsLayoutOf};
 ghost use Rattle.drain_verdict.specs.Given.{plain};
-ghost use Rattle.drain_verdict.specs.GroundSets.{ForSet, IsRefusalIn};
-ghost use Rattle.drain_verdict.specs.Inputs.{as_five};
 ghost use Rattle.drain_verdict.specs.Uses.{AuditUses, UsesSet, set_devices};
 ghost use Rattle.drain_maker.specs.ProductFiles.{CanBeDerived, DerivedFit};
 
@@ -118,7 +110,7 @@ pub fn derive<R: ByteSource>(
 
 /// The same that follow from directions on one raster of elevations, with its header.
 ///
-/// `dem`, `sinks` and refusals are those of `audit_dem`; all else is as for tiles.
+/// `dem`, `sinks` and refusals are those of an audit over a raster of elevations; all else is as for tiles.
 pub fn derive_dem<R: ByteSource>(
     alloc: Global,
     dem: &mut [RasterInput<R>; 1],
@@ -153,10 +145,10 @@ fn derive_on<R: ByteSource, T: GroundInput<R>>(
     products: &mut AuditProducts<R>,
 ) -> Result<Derived, DeriveRefusal>
     requires fit { T.fit frame.now inputs.old }
-    ensures derived { IfOk result (λ made. ForSet T.terrain (T.means frame.now inputs.old) R.bytes_left (plain sinks.now) (as_five products.old) (λ s. AreDerivedIn s made)) }
+    ensures derived { IfOk result (λ made. ForSet T.terrain (T.encodes (T.key_of frame.now) inputs.old) R.bytes_left (plain sinks.now) (as_five products.old) (λ s. AreDerivedIn s made)) }
     ensures counts { IfOk result (AreCounts (T.extent frame.now)) }
-    ensures err { IfErr result (λ why. ForSet T.terrain (T.means frame.now inputs.old) R.bytes_left (plain sinks.now) (as_five products.old) (λ s. IsDeriveRefusalIn s why)) }
-    ensures uses { UsesSet as_five (λ xs ps. set_devices T.devices xs (as_five ps)) (T.within frame.now) T.kept R.bytes_left R.counts (inputs.old, products.old) (inputs.new, products.new) (reading_in result) }
+    ensures err { IfErr result (λ why. ForSet T.terrain (T.encodes (T.key_of frame.now) inputs.old) R.bytes_left (plain sinks.now) (as_five products.old) (λ s. IsDeriveRefusalIn s why)) }
+    ensures uses { UsesSet as_five (λ xs ps. set_devices T.devices xs (as_five ps)) (T.within (T.key_of frame.now)) T.kept R.bytes_left R.counts (inputs.old, products.old) (inputs.new, products.new) (reading_in result) }
 {
     match flows_on::<R, T>(alloc, frame, sinks, inputs, products) {
         Ok(flows) => derive_flows(alloc, flows, T::shape(frame)),
@@ -215,9 +207,9 @@ fn flows_on<R: ByteSource, T: GroundInput<R>>(
 ) -> Result<CellFlows, Refusal>
     requires fit { T.fit frame.now inputs.old }
     ensures counted { IfOk result (λ flows. length flows ≡ (T.extent frame.now).rows * (T.extent frame.now).cols) }
-    ensures flows { IfOk result (λ flows. ForSet T.terrain (T.means frame.now inputs.old) R.bytes_left (plain sinks.now) (as_five products.old) (λ s. HasFlowsIn s (T.extent frame.now) flows)) }
-    ensures err { IfErr result (λ refusal. ForSet T.terrain (T.means frame.now inputs.old) R.bytes_left (plain sinks.now) (as_five products.old) (λ s. IsRefusalIn s refusal)) }
-    ensures uses { UsesSet as_five (λ xs ps. set_devices T.devices xs (as_five ps)) (T.within frame.now) T.kept R.bytes_left R.counts (inputs.old, products.old) (inputs.new, products.new) result }
+    ensures flows { IfOk result (λ flows. ForSet T.terrain (T.encodes (T.key_of frame.now) inputs.old) R.bytes_left (plain sinks.now) (as_five products.old) (λ s. HasFlowsIn s (T.extent frame.now) flows)) }
+    ensures err { IfErr result (λ refusal. ForSet T.terrain (T.encodes (T.key_of frame.now) inputs.old) R.bytes_left (plain sinks.now) (as_five products.old) (λ s. IsRefusalIn s refusal)) }
+    ensures uses { UsesSet as_five (λ xs ps. set_devices T.devices xs (as_five ps)) (T.within (T.key_of frame.now)) T.kept R.bytes_left R.counts (inputs.old, products.old) (inputs.new, products.new) result }
 {
     // The laws of what the inputs mean.
     T::meaning_laws();

@@ -1,8 +1,6 @@
 //! That each header has a text, also where memory for it was refused. The bodies only show this to the prover.
 
-ghost use Rattle.std.specs.Prelude.{ℕ, IfSome, List};
-ghost use Rattle.drain_floats.specs.Patterns.{IsFloatNumber};
-ghost use Rattle.drain_header.specs.Text.{IsFloatLine, IsTextOf};
+ghost use Rattle.drain_maker.specs.Names.{ℕ, IfSome, List, IsFloatNumber, IsFloatLine, IsTextOf};
 
 use drain_floats::word_of;
 use drain_grid::HeightKind;

@@ -1,11 +1,8 @@
 //! Making products of a mosaic: correct by proof, with headers that can encode them.
 
-ghost use Rattle.std.specs.Prelude.{◌≡◌, IfOk};
-ghost use Rattle.drain_grid.specs.Correct.{IsCorrect, RunsAreSound};
-ghost use Rattle.drain_grid.specs.Product.{default_numbers};
+ghost use Rattle.std.specs.Prelude.{◌≡◌};
+ghost use Rattle.drain_maker.specs.Names.{IfOk, IsCorrect, RunsAreSound, default_numbers, grid_of, products_of, nodata_of, spaced_grid, extent_of};
 ghost use Rattle.drain_grid.specs.Spacing.{spacing_of};
-ghost use Rattle.drain_grid.specs.WholeGrid.{grid_of, products_of, nodata_of, spaced_grid};
-ghost use Rattle.drain_mosaic.specs.Tiling.{extent_of};
 ghost use Rattle.drain_maker.specs.Made.{KeepsEveryRule, CanBeWritten, AreRasters, IsSinkAnswer, Succeeds};
 
 use crate::mosaic::AsElevation;

@@ -1,20 +1,8 @@
 //! The tiles of a maker's run as one elevation raster.
 
-ghost use Rattle.std.specs.Prelude.{◌≡◌, ◌+◌, ◌*◌, ℕ, List, map, length, Some, IfOk, IfErr, IsErrOf};
-ghost use Rattle.drain_grid.specs.Grid.{Heights, IsSide};
-ghost use Rattle.std.specs.List.{AllZip};
-ghost use Rattle.drain_device.specs.Failing.{ReadFails};
-ghost use Rattle.drain_device.specs.Reads.{TakesAtMost};
-ghost use Rattle.drain_hgt.specs.Samples.{IsTile, samples_of, tile_length};
-ghost use Rattle.drain_hgt.specs.Inputs.{names_of, tile_devices, AreBodies, TilesTakeAtMost};
-ghost use Rattle.drain_mosaic.specs.Mosaic.{AreTiles};
-ghost use Rattle.drain_device.specs.FaultLists.{SomeReadFails};
-ghost use Rattle.drain_verdict.specs.Refusals.{IsOfBodies};
-ghost use Rattle.drain_verdict.specs.Stages.{IsTileRefusal};
+ghost use Rattle.std.specs.Prelude.{◌≡◌, ◌+◌, ◌*◌};
+ghost use Rattle.drain_maker.specs.Names.{ℕ, List, map, length, Some, IfOk, IfErr, IsErrOf, Heights, IsSide, AllZip, ReadFails, TakesAtMost, IsTile, samples_of, tile_length, names_of, tile_devices, AreBodies, TilesTakeAtMost, AreTiles, SomeReadFails, IsOfBodies, IsTileRefusal, TellTiles, extent_of, Inputs};
 ghost use Rattle.drain_maker.specs.Mosaics.{AreSamplesOf, IsOneTileRefusal, IsElevationOf, IsSeamFaultAs, IsSeamRefusal, IsMosaicOf, IsMosaicRefusal};
-ghost use Rattle.drain_verdict.specs.TileGround.{TellTiles};
-ghost use Rattle.drain_mosaic.specs.Tiling.{extent_of};
-ghost use Rattle.drain_verdict.specs.Inputs.{Inputs};
 
 use drain_answer::Refusal;
 use drain_device::{BodyFault, ByteSource, read_body};

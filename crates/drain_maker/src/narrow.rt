@@ -1,9 +1,8 @@
 //! Elevations of one raster in samples of 16 bits, as those of tiles are, where all fit: a flood of these is quicker and
 //! takes less memory.
 
-ghost use Rattle.std.specs.Prelude.{◌≡◌, ◌<◌, ◌*◌, pos, length, slice_index_or, IfOk, IfSome, true, vec_len};
-ghost use Rattle.drain_grid.specs.Grid.{ArePixels};
-ghost use Rattle.drain_grid.specs.Values.{IsNoData};
+ghost use Rattle.std.specs.Prelude.{◌≡◌, ◌<◌, ◌*◌};
+ghost use Rattle.drain_maker.specs.Names.{pos, length, slice_index_or, IfOk, IfSome, true, vec_len, ArePixels, IsNoData};
 ghost use Rattle.drain_maker.specs.Narrow.{AreNarrowed, IsNarrowed, IsSampleOf};
 ghost use Rattle.drain_maker.specs.ProductFiles.{CanSpellAllIn};
 

@@ -1,16 +1,10 @@
 //! The header of a product of a mosaic, and writing the files of a set: headers, pixels.
 
-ghost use Rattle.std.specs.Prelude.{◌≡◌, length, map};
-ghost use Rattle.drain_header.specs.Header.{IsCoordinate};
+ghost use Rattle.std.specs.Prelude.{◌≡◌};
+ghost use Rattle.drain_maker.specs.Names.{length, map, IsCoordinate, WritesFile, WritesFiles, header_beside, Pixels, raster_in, SetProduct, text_of};
 ghost use Rattle.drain_maker.specs.ProductFiles.{header_bytes, made_header, mosaic_place, DerivedFit, FitHeaders, IsDerived, SetFits, WritesHeader, WritesSet, derived_bytes, derived_raster, file_bytes};
-ghost use Rattle.drain_sets.specs.FileWrites.{WritesFile, WritesFiles};
-ghost use Rattle.drain_sets.specs.ProductHeaders.{header_beside};
 ghost use Rattle.drain_sets.specs.declared.set_files.TheConstants.{DERIVED_COUNT, FILE_COUNT};
 ghost use Rattle.std.specs.List.{All};
-ghost use Rattle.drain_grid.specs.Grid.{Pixels};
-ghost use Rattle.drain_grid.specs.WholeGrid.{raster_in};
-ghost use Rattle.drain_grid.specs.declared.set_product.SetProduct.{SetProduct};
-ghost use Rattle.drain_header.specs.Text.{text_of};
 ghost use Rattle.drain_raster.specs.Pixels as pixels;
 ghost use Rattle.drain_raster.specs.Bytes.{CanSpellAll, raster_bytes};
 

@@ -1,20 +1,11 @@
 //! The five rasters of an elevation.
 
-ghost use Rattle.std.specs.Prelude.{◌≡◌, ◌*◌, ℕ, ℤ, pos, map, true, false, All, vec_len, IfOk, length, List};
-ghost use Rattle.drain_grid.specs.Product.{default_no_data, default_numbers};
-ghost use Rattle.drain_grid.specs.Grid.{ArePixels, Heights, Grid};
+ghost use Rattle.drain_maker.specs.Names.{ℕ, ℤ, pos, map, true, false, vec_len, IfOk, length, List, default_no_data, default_numbers, ArePixels, Heights, Grid, CanSpellIn, Distances, products_of, nodata_of, spaced_grid, IsFlooded, IsSurfaceOf, ShowsVoids, NO_HEIGHT, AreBasinLabels, bytes_flows, OfFlows, AreUpstreamCounts, SinkLine};
+ghost use Rattle.std.specs.Prelude.{◌≡◌, ◌*◌, All};
 ghost use Rattle.drain_maker.specs.ProductFiles.{CanSpellAllIn};
-ghost use Rattle.drain_raster.specs.Bytes.{CanSpellIn};
-ghost use Rattle.drain_grid.specs.Spacing.{Distances, spacing_of};
-ghost use Rattle.drain_grid.specs.WholeGrid.{products_of, nodata_of, spaced_grid};
-ghost use Rattle.drain_flood.specs.Floods.{IsFlooded, IsSurfaceOf, ShowsVoids};
+ghost use Rattle.drain_grid.specs.Spacing.{spacing_of};
 ghost use Rattle.drain_flood.specs.Ways.{AreFirstCodes, IsSpaced};
-ghost use Rattle.drain_flood.specs.declared.layers.TheConstants.{NO_HEIGHT};
 ghost use Rattle.drain_maker.specs.Made.{AreRoutes, SomeRunsEnd, AreCountsAndLabels, AreRightProducts, AreRasters, AreMadeSpelled};
-ghost use Rattle.drain_paths.specs.Basins.{AreBasinLabels};
-ghost use Rattle.drain_paths.specs.Flows.{bytes_flows, OfFlows};
-ghost use Rattle.drain_paths.specs.Inflows.{AreUpstreamCounts};
-ghost use Rattle.drain_grid.specs.declared.sink_line.SinkLine.{SinkLine};
 
 use crate::laws::routes_keep_rules;
 use crate::mosaic::AsElevation;

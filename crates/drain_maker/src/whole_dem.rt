@@ -1,19 +1,10 @@
 //! One raster of elevations, read whole into memory.
 
-ghost use Rattle.std.specs.Prelude.{◌≡◌, ◌↔◌, ◌*◌, All, pos, map, length, slice_index_or, List, ℕ, Some, IfOk, IfErr, OnOk, IsErrOf};
-ghost use Rattle.drain_device.specs.Failing.{ReadFails};
-ghost use Rattle.drain_device.specs.FaultLists.{SomeReadFails};
-ghost use Rattle.drain_device.specs.Reads.{TakesAtMost};
-ghost use Rattle.drain_grid.specs.declared.cell.Cell.{Cell};
-ghost use Rattle.drain_grid.specs.Extent.{IsCellOf, index_of};
-ghost use Rattle.drain_grid.specs.Values.{IsPixel};
-ghost use Rattle.drain_raster.specs.Pixels.{IsShort, needed_len, raster_of};
-ghost use Rattle.drain_verdict.specs.DemGround.{AreHeadersKept, DemTakesAtMost, DemTexts, EncodesDem, dem_devices, dem_ground};
-ghost use Rattle.drain_verdict.specs.Refusals.{IsOfBodies};
+ghost use Rattle.drain_maker.specs.Names.{pos, map, length, slice_index_or, List, ℕ, Some, IfOk, IfErr, OnOk, IsErrOf, ReadFails, SomeReadFails, TakesAtMost, Cell, IsCellOf, index_of, IsPixel, IsShort, needed_len, raster_of, AreHeadersKept, DemTakesAtMost, DemTexts, EncodesDem, dem_devices, dem_ground, IsOfBodies, con_no_data, no_height};
+ghost use Rattle.std.specs.Prelude.{◌≡◌, ◌↔◌, ◌*◌, All};
 ghost use Rattle.drain_maker.specs.Dems.{IsBodyRefusal, IsDemOf, IsGroundRefusal, IsKept, IsKeptAt, IsRasterOf, kept_number};
 ghost use Rattle.drain_maker.specs.OneFact.{fits_prop};
 ghost use Rattle.drain_maker.specs.ProductFiles.{FitsHeader, marked_header};
-ghost use Rattle.drain_sets.specs.ProductHeaders.{con_no_data, no_height};
 
 use drain_answer::Refusal;
 use drain_device::{BodyFault, ByteSource, read_whole};
@@ -36,8 +27,8 @@ pub struct Dem {
     ghost nodata: { raster.nodata ≡ con_no_data header },
 }
 
-/// The raster of elevations, or the first refusal of `check_dem` that is about it: `BadDemHeader`, `BadPixelSize`;
-/// `DemShort`. `OutOfMemory` and `ReadFailed` come as with `check_dem`. Nothing past the last needed byte is read. Memory
+/// The raster of elevations, or the first refusal of `check_on` that is about it: `BadDemHeader`, `BadPixelSize`;
+/// `DemShort`. `OutOfMemory` and `ReadFailed` come as with `check_on`. Nothing past the last needed byte is read. Memory
 /// grows with the bytes that came; that of the numbers is taken once all did.
 ///
 /// The contract is about the bytes that the source had left, for sources whose bytes are known.

@@ -1,42 +1,15 @@
 -- What an audit finds, and what its verdict means.
-use Rattle.std.proofs.Common.{◌≡◌, ℕ, List, Bool, IsTrue, Option, Some, None, Ok, Err, IfErr, OnOk, refl, subst, ◌≤◌, ◌*◌, ◌↔◌, ◌∙◌, ℤ, pos, IsNone, IsSome, MatchOption, IfOk, is_some, arith, cond, sym, ap}
-use Rattle.drain_device.specs.declared.counts.FaultCounts.{FaultCounts}
-use Rattle.drain_grid.specs.declared.set_product.SetProduct.{SetProduct}
-use Rattle.drain_grid.specs.declared.set_product.SetProduct.TheVariants.{Con, Dir, Acc, Bas, Rnk}
-use Rattle.drain_grid.specs.declared.per_product.PerProduct.{PerProduct}
-use Rattle.drain_grid.specs.PerProduct.{of_product}
-use Rattle.drain_grid.proofs.ByProduct.{by_set_product}
-use Rattle.drain_raster.specs.declared.raster_rows.RasterRows.{RasterRows}
-use Rattle.drain_verdict.specs.Inputs.{as_five, readers_as_five, Inputs}
-use Rattle.drain_verdict.specs.InputReads.{RasterHasRead, RastersHaveRead}
-use Rattle.drain_verdict.specs.Reading.{gave_up, told_by}
-use Rattle.drain_sets.specs.declared.raster_input.AuditProducts.{AuditProducts}
-use Rattle.drain_answer.specs.declared.refusal.Refusal.TheVariants.{OutOfMemory}
+use Rattle.drain_verdict.proofs.Names.{◌≡◌, List, Bool, IsTrue, Some, None, Ok, IfErr, OnOk, refl, subst, ◌≤◌, ◌*◌, ◌↔◌, ◌∙◌, ℤ, pos, IsNone, IsSome, is_some, arith, cond, sym, ap, FaultCounts, SetProduct, Dir, Acc, Bas, Rnk, PerProduct, of_product, by_set_product, RasterRows, as_five, readers_as_five, RasterHasRead, RastersHaveRead, told_by, AuditProducts, OutOfMemory, mul-le-mul_right, false≢true, Cell, Rule, RanksAreSteps, IsFirstEndless, run_steps, with_ranks, with_rank_nodata, unranked, IsCorrect, Grid, IsInside, HoldsAt, CorrectIsLocal, RanksPlayNoPart, check_rules, Extent, IsExtent, NoDataNumbers, run_steps-alike, UNKNOWN, IsVerdictOf, Verdict, AllRunsEnd, IsAcceptance, IsAuditVerdict, IsOfBoth, IsPlainVerdict, certified_nodata, certified_ranks, AuditVerdict, GroundSet, set_grid, set_numbers, set_products}
+use Rattle.std.proofs.Common.{ℕ, Option, Err, MatchOption}
+use Rattle.drain_grid.specs.declared.judged.Judged.TheVariants.{All}
+use Rattle.drain_grid.specs.declared.set_product.SetProduct.TheVariants.{Con}
+use Rattle.drain_verdict.specs.Judgements.{IsJudgementOf}
+use Rattle.drain_verdict.specs.Reading.{gave_up}
+use Rattle.drain_verdict.specs.declared.judgement.Judgement.{Judgement}
 use Rattle.drain_verdict.proofs.InputLemmas.{Answer, Stay, failed_at, some_failed}
-use Rattle.std.specs.Prelude.{Result}
-use Rattle.std.proofs.Math.Nat.{mul-le-mul_right}
-use Rattle.std.proofs.lemmas.Bool.{false≢true}
-use Rattle.drain_grid.specs.declared.cell.Cell.{Cell}
-use Rattle.drain_grid.specs.declared.rule.Rule.{Rule}
-use Rattle.drain_grid.specs.Unranked.{RanksAreSteps, IsFirstEndless, run_steps, with_ranks, with_rank_nodata, unranked}
-use Rattle.drain_grid.specs.Correct.{IsCorrect, RunsAreSound}
-use Rattle.drain_grid.specs.Grid.{Grid, Products, IsInside}
-use Rattle.drain_grid.specs.GridRules.{HoldsAt}
-use Rattle.drain_grid.specs.Laws.{CorrectIsLocal, RanksPlayNoPart, SoundFromCorrect}
-use Rattle.drain_grid.specs.PatchRules.{check_rules}
-use Rattle.drain_grid.specs.Extent.{Extent, IsExtent}
-use Rattle.drain_grid.specs.Values.{NoDataNumbers}
+use Rattle.drain_grid.specs.Grid.{Products}
 use Rattle.drain_grid.proofs.Walks.{run_steps-le}
-use Rattle.drain_grid.proofs.Alike.{run_steps-alike}
-use Rattle.drain_paths.specs.declared.walk.TheConstants.{UNKNOWN}
-use Rattle.drain_rules.specs.Verdicts.{IsVerdictOf}
-use Rattle.drain_grid.specs.declared.verdict.Verdict.{Verdict}
-use Rattle.drain_rows.specs.GridRows.{AllRunsEnd}
-use Rattle.drain_verdict.specs.Answers.{AreReadable, AreCorrect, IfAccepts, IsAcceptance, IsAuditAnswer, IsAuditVerdict, IsOfBoth, IsAnswerWithoutRanks, IsPlainVerdict, certified_nodata, certified_ranks}
-use Rattle.drain_verdict.specs.Meaning.{input_grid, input_products, nodata_numbers}
-use Rattle.drain_answer.specs.declared.outcome.AuditVerdict.{AuditVerdict}
 use Rattle.drain_answer.specs.declared.outcome.AuditVerdict.TheVariants.{Accepted, Rejected, NoEnd}
-use Rattle.drain_answer.specs.declared.refusal.Refusal.{Refusal}
 use Rattle.drain_grid.specs.declared.verdict.Verdict.TheVariants as checked
 
 -- What was read of the devices of an audit's four products: dir's device counts for the ranks too.
@@ -94,6 +67,10 @@ pub both_are : (g : Grid) (ps : Products) (nodata : NoDataNumbers) (verdict : Ve
 both_are g ps nodata verdict (Some c) audit both first is = subst (IsPlainVerdict g ps nodata) (sym both) first
 both_are g ps nodata (checked.Accepted counts) None audit both ends is = subst (IsPlainVerdict g ps nodata) (sym both) (ends, is)
 both_are g ps nodata (checked.Rejected rule row col) None audit both ends is = subst (IsPlainVerdict g ps nodata) (sym both) (ends, is)
+
+-- so of a judgement of a set
+pub plain_of : {W : Type 0} (s : GroundSet) (j : Judgement W) (audit : AuditVerdict) → IsOfBoth j.verdict j.cell audit → IsJudgementOf All s j → IsPlainVerdict (set_grid s) (set_products s) (set_numbers s) audit
+plain_of s j audit both is = both_are (set_grid s) (set_products s) (set_numbers s) j.verdict j.cell audit both is.decided is.verdict
 
 -- it accepts exactly where the products are correct
 pub exactly : CorrectIsLocal → (g : Grid) (ps : Products) (nodata : NoDataNumbers) (audit : AuditVerdict) → IsPlainVerdict g ps nodata audit → IsAcceptance audit ↔ IsCorrect g ps nodata
@@ -154,27 +131,3 @@ as_certified law g ps nodata audit extent is = by_kind audit is
       },
     )
     by_kind (NoEnd row col) is = is
-
--- the same of answers
-pub answer_certified : RanksPlayNoPart → (i : Inputs) (answer : Result AuditVerdict Refusal) → IsAnswerWithoutRanks i answer → IsAuditAnswer i answer
-answer_certified law i (Ok verdict) is = (is.0, as_certified law (input_grid i) (input_products i) (nodata_numbers i) verdict is.1 is.2)
-answer_certified law i (Err refusal) is = is
-
--- a fact of the inputs that follows from an answer that is a verdict
-pub when_given : (Told : Inputs → Type 0) (Fact : AuditVerdict → Inputs → Type 0) → ((verdict : AuditVerdict) (i : Inputs) → IsAnswerWithoutRanks i (Ok verdict) → Fact verdict i) →
-    (result : Result AuditVerdict Refusal) → ((i : Inputs) → Told i → IsAnswerWithoutRanks i result) → IfOk result (λ verdict. (i : Inputs) → Told i → Fact verdict i)
-when_given Told Fact follows (Ok verdict) answer = λ i told. follows verdict i (answer i told)
-when_given Told Fact follows (Err refusal) answer = tt
-
--- a fact that follows from a verdict on correct products holds where the answer accepts
-pub when_audited : (Told Fact : Inputs → Type 0) → CorrectIsLocal → ((i : Inputs) → AreReadable i → AreCorrect i → Fact i) →
-    (result : Result AuditVerdict Refusal) → ((i : Inputs) → Told i → IsAnswerWithoutRanks i result) → IfAccepts result ((i : Inputs) → Told i → Fact i)
-when_audited Told Fact law follows (Ok (Accepted counts)) answer =
-    λ i told. follows i (answer i told).0 ((exactly law (input_grid i) (input_products i) (nodata_numbers i) (Accepted counts) (answer i told).2).0 tt)
-when_audited Told Fact law follows (Ok (Rejected rule row col)) answer = tt
-when_audited Told Fact law follows (Ok (NoEnd row col)) answer = tt
-when_audited Told Fact law follows (Err refusal) answer = tt
-
--- the runs of correct products are sound
-pub sound_of : SoundFromCorrect → (i : Inputs) → AreCorrect i → RunsAreSound (input_grid i) (input_products i)
-sound_of law i correct = law (input_grid i) (input_products i) (nodata_numbers i) correct

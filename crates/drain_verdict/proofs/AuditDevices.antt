@@ -1,20 +1,9 @@
 -- The devices of an audit: con's, which is read for the ranks too, counts once.
-use Rattle.drain_verdict.specs.Inputs.{Products, audit_devices, as_five, four_devices}
-use Rattle.std.proofs.Common.{◌↔◌, ◌⊎◌, ℕ, List, [], ◌∷◌, ◌++◌, map, Option, ◌≡◌, inl, inr, length, Ok, Err, IsErrOf, refl, ap, sym, subst, arith}
-use Rattle.std.proofs.lemmas.List.{map-append, length-map}
-use Rattle.drain_device.specs.declared.counts.FaultCounts.{FaultCounts}
-use Rattle.drain_hgt.specs.declared.input.TileInput.{TileInput}
-use Rattle.drain_hgt.specs.Inputs.{tile_devices, TilesTakeAtMost, names_of}
-use Rattle.drain_device.specs.FaultLists.{SomeReadFails, AnsweredEach, Faults}
-use Rattle.drain_verdict.specs.Uses.{product_devices, devices_of, set_devices}
-use Rattle.drain_device.proofs.FaultLists.{SomeReadFails-then, SomeReadFails-none, takes-none, any-cases, any-either, any-first, any-later, any-left, any-none, any-right, gave_up}
-use Rattle.std.specs.List.{Any}
-use Rattle.std.proofs.lemmas.Bool.{cases_order}
+use Rattle.drain_verdict.proofs.Names.{audit_devices, as_five, four_devices, ◌↔◌, ◌⊎◌, List, [], ◌∷◌, ◌++◌, map, ◌≡◌, inl, inr, length, refl, ap, sym, subst, arith, map-append, length-map, FaultCounts, TileInput, tile_devices, TilesTakeAtMost, names_of, SomeReadFails, AnsweredEach, Faults, product_devices, devices_of, set_devices, SomeReadFails-then, SomeReadFails-none, takes-none, any-cases, any-either, any-first, any-later, any-left, any-none, any-right, Any, cases_order, full_patience, AuditProducts}
+use Rattle.drain_verdict.specs.Inputs.{Products}
+use Rattle.std.proofs.Common.{ℕ, Option}
+use Rattle.drain_device.proofs.FaultLists.{gave_up}
 use Rattle.drain_device.specs.Counts.{Answered}
-use Rattle.drain_device.specs.Failing.{full_patience}
-use Rattle.drain_sets.specs.declared.raster_input.AuditProducts.{AuditProducts}
-use Rattle.drain_answer.specs.declared.refusal.Refusal.{Refusal}
-use Rattle.drain_answer.specs.declared.refusal.Refusal.TheVariants.{ReadFailed}
 
 -- The devices of a check, and what is known of them if only a part was called.
 

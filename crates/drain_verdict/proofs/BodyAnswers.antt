@@ -1,14 +1,6 @@
 -- What a ground and its rasters say of a set: no refusal of their kinds applies, or theirs is the first.
-use Rattle.std.proofs.Common.{◌≡◌, ℕ, ◌+◌, ◌<◌, Some, None, refl, subst}
-use Rattle.drain_answer.specs.declared.refusal.Refusal.{Refusal}
-use Rattle.drain_answer.specs.declared.refusal.Refusal.TheVariants.{RasterShort}
-use Rattle.drain_grid.specs.declared.set_product.SetProduct.{SetProduct}
-use Rattle.drain_grid.specs.SetProduct.{product_of, rank_of}
-use Rattle.drain_grid.proofs.ByProduct.{of_held}
-use Rattle.drain_raster.specs.Pixels.{IsShort}
-use Rattle.drain_verdict.specs.Ground.{IsFirstOwn, IsToldOf, NoneRefusesBefore, refusal_kind}
-use Rattle.drain_verdict.specs.GroundSets.{GroundSet, IsRefusalIn, NoneStandsIn, StandsIn, place_in}
-use Rattle.drain_verdict.specs.Texts.{set_fields}
+use Rattle.drain_verdict.proofs.Names.{◌≡◌, ◌+◌, ◌<◌, Some, None, refl, subst, Refusal, RasterShort, SetProduct, product_of, rank_of, of_held, IsShort, IsFirstOwn, IsToldOf, NoneRefusesBefore, refusal_kind, GroundSet, IsRefusalIn, NoneStandsIn, StandsIn, place_in, set_fields}
+use Rattle.std.proofs.Common.{ℕ}
 use Rattle.drain_verdict.proofs.Order.{IsOwn, at_raster, first_is, first_of, none_more, own_early, own_length, own_values}
 
 -- where a ground alone isn't refused, no refusal of a kind before headers applies

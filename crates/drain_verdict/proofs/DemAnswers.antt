@@ -1,41 +1,10 @@
 -- What the answers to a raster of elevations say, and what they use.
-use Rattle.std.proofs.Common.{◌≡◌, ◌↔◌, ◌∙◌, ℕ, List, ◌∷◌, [], length, map, slice_index_or, Option, Some, None, Ok, Err, IfOk, IfErr, IsErrOf, refl, sym, ap, subst, arith}
-use Rattle.std.specs.Prelude.{Result}
-use Rattle.std.proofs.lemmas.List.{length-map}
-use Rattle.drain_answer.specs.declared.outcome.AuditVerdict.{AuditVerdict}
-use Rattle.drain_answer.specs.declared.outcome.AuditVerdict.TheVariants.{Accepted, Rejected, NoEnd}
-use Rattle.drain_answer.specs.declared.outcome.Outcome.{Outcome}
-use Rattle.drain_answer.specs.declared.refusal.Refusal.{Refusal}
-use Rattle.drain_answer.specs.declared.refusal.Refusal.TheVariants.{BadDemHeader, BadPixelSize, DemShort, ReadFailed}
-use Rattle.drain_device.proofs.FaultLists.{SomeReadFails-iff}
-use Rattle.drain_device.specs.declared.counts.FaultCounts.{FaultCounts}
-use Rattle.drain_grid.specs.Laws.{CorrectFromRules, CorrectIsLocal, RanksPlayNoPart, SoundFromCorrect}
-use Rattle.drain_grid.specs.declared.judged.Judged.{Judged}
-use Rattle.drain_grid.specs.declared.verdict.Verdict.{Verdict}
-use Rattle.drain_grid.specs.declared.verdict.Verdict.TheVariants as checked
-use Rattle.drain_header.specs.Faults.{DescribesOf}
-use Rattle.drain_header.specs.Header.{Fields}
-use Rattle.drain_raster.specs.Placing.{HasPixelSize}
-use Rattle.drain_rules.specs.Verdicts.{IfAccepted}
-use Rattle.drain_text.specs.First.{IsBefore, IsFirst}
-use Rattle.drain_verdict.specs.Answers.{AreCorrectIn, IfAccepts, IsAcceptance, IsAnswerIn, IsAuditIn, IsPlainIn}
-use Rattle.drain_verdict.specs.DemGround.{AreHeadersKept, DemTakesAtMost, DemTexts, DemUses, ElevationIsItsPixels, EncodesDem, HasDemHeader, IsDemHeader, IsDemHeaderRefusal, IsDemInput, dem_audit_devices, dem_check_devices, dem_devices, dem_fields, dem_ground}
+use Rattle.drain_verdict.proofs.Names.{◌≡◌, ◌↔◌, ◌∙◌, List, ◌∷◌, [], length, map, None, IsErrOf, refl, sym, ap, subst, arith, length-map, Refusal, BadDemHeader, BadPixelSize, DemShort, ReadFailed, FaultCounts, DescribesOf, Fields, HasPixelSize, AreHeadersKept, DemTakesAtMost, DemTexts, ElevationIsItsPixels, EncodesDem, HasDemHeader, IsDemHeader, IsDemHeaderRefusal, IsDemInput, dem_audit_devices, dem_check_devices, dem_devices, dem_fields, dem_ground, GroundSet, IsReadable, IsRefusalIn, StandsIn, SetTexts, as_five, UsesTold, AuditProducts, RasterInput, IsToldOf}
+use Rattle.std.proofs.Common.{ℕ, slice_index_or, Option, Err}
 use Rattle.drain_header.specs.Lines.{kind_of}
-use Rattle.drain_verdict.specs.Given.{Given}
-use Rattle.drain_verdict.specs.GroundSets.{EncodeTexts, GroundSet, IsReadable, IsRefusalIn, StandsIn, set_grid, set_numbers, set_products}
-use Rattle.drain_verdict.specs.Texts.{SetTexts}
-use Rattle.drain_verdict.specs.Headline.{ProductsAreRight}
-use Rattle.drain_verdict.specs.Inputs.{Products, as_five}
-use Rattle.drain_verdict.specs.Outcomes.{IsOutcomeIn}
-use Rattle.drain_verdict.specs.Refusals.{IsOfBodies}
-use Rattle.drain_verdict.specs.Uses.{UsesSet, UsesTold, set_devices}
-use Rattle.drain_sets.specs.declared.raster_input.AuditProducts.{AuditProducts}
-use Rattle.drain_sets.specs.declared.raster_input.RasterInput.{RasterInput}
-use Rattle.drain_verdict.proofs.Acceptance.{products_right}
-use Rattle.drain_verdict.proofs.AuditAnswers.{as_certified, exactly}
 use Rattle.drain_verdict.proofs.AuditDevices.{set_devices_of_four}
 use Rattle.drain_verdict.proofs.DemSteps.{dem_framed}
-use Rattle.drain_verdict.proofs.Order.{at_name, at_side, first_of, none_first, none_more}
+use Rattle.drain_verdict.proofs.Order.{at_side, first_of, none_first, none_more, own_length}
 
 -- a raster with what is said to lie on it
 abbrev pub dem_set : DemTexts → SetTexts → GroundSet
@@ -73,64 +42,25 @@ one_header h [] x one is = absurd (omega (arith, one))
 one_header h (input ∷ []) x one is = is
 one_header h (input ∷ other ∷ more) x one is = absurd (omega (arith, one))
 
+-- what holds of an input's header holds of that of the first input, where it is this
+pub at_first : {R : Type 0} (P : List ℕ → Type 0) (xs : List (RasterInput R)) (x : RasterInput R) → x ≡ slice_index_or xs 0 x → P x.header → P (slice_index_or xs 0 x).header
+at_first {R} P xs x is holds = subst (λ (y : RasterInput R). P y.header) is holds
+
 -- What the bytes mean.
 
--- what holds anyway holds of an answer that isn't a refusal
-pub when_any : {V : Type 0} (result : Result V Refusal) {P : Type 0} → P → IfOk result (λ v. P)
-when_any (Ok v) holds = holds
-when_any (Err refusal) holds = tt
+-- if the raster isn't short, its elevations are its pixels
+pub pixels_told : (h : Fields) (d : DemTexts) → IsDemHeader h d.header → IsToldOf (dem_ground d) 5 None → ElevationIsItsPixels d
+pixels_told h d is none = record {
+  described = subst (DescribesOf (kind_of d.header) d.header) is.described.fields is.described;
+  sized = subst (λ (k : Fields). HasPixelSize k.place) is.described.fields is.sized;
+  whole = none DemShort refl;
+  pixels = λ c inside. refl;
+}
 
--- the answer of the rules that ask nothing of ranks is that of an audit
-pub certified : RanksPlayNoPart → (s : GroundSet) (answer : Result AuditVerdict Refusal) → IsPlainIn s answer → IsAuditIn s answer
-certified law s (Ok verdict) is = (is.0, as_certified law (set_grid s) (set_products s) (set_numbers s) verdict is.1 is.2)
-certified law s (Err refusal) is = is
-
--- if the raster is readable, its elevations are its pixels
+-- so they are if it is readable
 pub pixels_are : {R : Type 0} (bl : R → Option (List ℕ)) (dem : List (RasterInput R)) (d : DemTexts) (t : SetTexts) → HasDemHeader dem → EncodesDem bl dem d → IsReadable (dem_set d t) → ElevationIsItsPixels d
 pixels_are bl dem d t header tell readable =
-    let is = dem_framed bl header.0 dem d header.1 tell in
-    record {
-      described = subst (DescribesOf (kind_of d.header) d.header) is.described.fields is.described;
-      sized = subst (λ (k : Fields). HasPixelSize k.place) is.described.fields is.sized;
-      whole = readable DemShort;
-      pixels = λ c inside. refl;
-    }
-
-module _ {R : Type 0} (bl : R → Option (List ℕ)) (dem : List (RasterInput R)) (given : Given) (ps : Products R) where
-  -- what follows from an answer that isn't a refusal
-  pub when_ok : {V : Type 0} (IsThe : GroundSet → Result V Refusal → Type 0) (Fact : V → DemTexts → SetTexts → Type 0) → ((v : V) (d : DemTexts) (t : SetTexts) → EncodesDem bl dem d → IsThe (dem_set d t) (Ok v) → Fact v d t) →
-      (result : Result V Refusal) → ((d : DemTexts) (t : SetTexts) → EncodesDem bl dem d → EncodeTexts bl given ps t → IsThe (dem_set d t) result) →
-      IfOk result (λ v. (d : DemTexts) (t : SetTexts) → EncodesDem bl dem d → EncodeTexts bl given ps t → Fact v d t)
-  when_ok IsThe Fact follows (Ok v) answer = λ d t tell told. follows v d t tell (answer d t tell told)
-  when_ok IsThe Fact follows (Err refusal) answer = tt
-
-  -- the elevations are pixels, where the answer isn't a refusal
-  pub when_read : {V : Type 0} (IsThe : GroundSet → Result V Refusal → Type 0) → ((s : GroundSet) (v : V) → IsThe s (Ok v) → IsReadable s) → (result : Result V Refusal) → IfOk result (λ v. HasDemHeader dem) →
-      ((d : DemTexts) (t : SetTexts) → EncodesDem bl dem d → EncodeTexts bl given ps t → IsThe (dem_set d t) result) →
-      IfOk result (λ v. (d : DemTexts) (t : SetTexts) → EncodesDem bl dem d → EncodeTexts bl given ps t → ElevationIsItsPixels d)
-  when_read IsThe readable (Ok v) header answer = λ d t tell told. pixels_are bl dem d t header tell (readable (dem_set d t) v (answer d t tell told))
-  when_read IsThe readable (Err refusal) header answer = tt
-
-  -- and from a check that accepts
-  pub when_checked : CorrectFromRules → (result : Result Verdict Refusal) → ((d : DemTexts) (t : SetTexts) → EncodesDem bl dem d → EncodeTexts bl given ps t → IsAnswerIn (dem_set d t) result) →
-      IfAccepted result ((d : DemTexts) (t : SetTexts) → EncodesDem bl dem d → EncodeTexts bl given ps t → ProductsAreRight (dem_set d t))
-  when_checked law (Ok (checked.Accepted counts)) answer = λ d t tell told.
-      let s = dem_set d t in
-      let correct = law (set_grid s) (set_products s) (set_numbers s) (answer d t tell told).1.0 in
-      products_right s correct.0 correct.1
-  when_checked law (Ok (checked.Rejected rule row col)) answer = tt
-  when_checked law (Err refusal) answer = tt
-
-  -- and from an audit that accepts
-  pub when_audited : CorrectIsLocal → SoundFromCorrect → (result : Result AuditVerdict Refusal) → ((d : DemTexts) (t : SetTexts) → EncodesDem bl dem d → EncodeTexts bl given ps t → IsPlainIn (dem_set d t) result) →
-      IfAccepts result ((d : DemTexts) (t : SetTexts) → EncodesDem bl dem d → EncodeTexts bl given ps t → ProductsAreRight (dem_set d t))
-  when_audited law sound (Ok (Accepted counts)) answer = λ d t tell told.
-      let s = dem_set d t in
-      let correct = (exactly law (set_grid s) (set_products s) (set_numbers s) (Accepted counts) (answer d t tell told).2).0 tt in
-      products_right s correct (sound (set_grid s) (set_products s) (set_numbers s) correct)
-  when_audited law sound (Ok (Rejected rule row col)) answer = tt
-  when_audited law sound (Ok (NoEnd row col)) answer = tt
-  when_audited law sound (Err refusal) answer = tt
+    pixels_told header.0 d (dem_framed bl header.0 dem d header.1 tell) (λ b kind refuses. readable b ((own_length (dem_set d t) b kind).refuses refuses))
 
 -- What is used.
 

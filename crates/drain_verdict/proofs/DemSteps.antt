@@ -1,29 +1,8 @@
 -- One more row of a raster of elevations, and what its header and its body are to give and have read.
-use Rattle.std.proofs.Common.{◌≡◌, ◌↔◌, ◌∙◌, ℕ, ◌+◌, ◌<◌, ℤ, Bool, false, IsTrue, List, [], ◌∷◌, length, map, slice_index_or, slice_set, Option, Some, None, MatchOption, arith, refl, sym, ap, subst}
-use Rattle.drain_answer.specs.declared.refusal.Refusal.TheVariants.{BadSide, BadName, NoTiles, RepeatedTile, BoxTooLarge, BadDemHeader, BadPixelSize, DemShort}
-use Rattle.drain_device.specs.FaultLists.{SomeReadFails}
-use Rattle.drain_device.specs.Reads.{TakesAtMost}
-use Rattle.drain_device.specs.RowSteps.{Coming, coming_at, nth_row}
-use Rattle.drain_device.specs.declared.counts.FaultCounts.{FaultCounts}
-use Rattle.drain_device.specs.declared.row_source.Progress.TheVariants.{Stopped}
-use Rattle.drain_device.proofs.FaultLists.{SomeReadFails-one, takes-none}
-use Rattle.drain_header.specs.Header.{AreWithinBounds, Fields, header_of}
+use Rattle.drain_verdict.proofs.Names.{◌≡◌, ◌↔◌, ◌∙◌, ◌+◌, ◌<◌, ℤ, Bool, false, IsTrue, List, [], ◌∷◌, length, map, slice_set, Some, None, arith, refl, sym, ap, subst, BadSide, BadName, NoTiles, RepeatedTile, BoxTooLarge, BadDemHeader, BadPixelSize, DemShort, SomeReadFails, TakesAtMost, Coming, coming_at, nth_row, FaultCounts, Stopped, SomeReadFails-one, takes-none, AreWithinBounds, Fields, header_of, RasterRowsEnd, RasterRowsTakeWhatIsNeeded, IsShort, header_extent, needed_len, HasPixelSize, LiesOn, raster_coming, raster_rows, RasterRows, elevations, height_with, length-map, lines_of, DemHasRead, DemRefuses, DemTakesAtMost, DemTexts, EncodesDem, IsDemAfter, IsDemBegun, IsDemHeader, IsDemInput, dem_devices, dem_fields, dem_ground, dem_rows_of, RasterInput, AreGroundRows, GroundToGive, IsLaidOn, IsToldOf, NoneRefusesBefore, ground_row, RasterHasRead, IsRasterBegun, IsAfterTold}
+use Rattle.std.proofs.Common.{ℕ, slice_index_or, Option}
 use Rattle.drain_pixels.specs.declared.voids.Voids.{Voids}
 use Rattle.drain_raster.specs.Elevations.{ElevationRowsArePixels, voids_of}
-use Rattle.drain_raster.specs.Laws.{RasterRowsEnd, RasterRowsTakeWhatIsNeeded}
-use Rattle.drain_raster.specs.Pixels.{IsShort, header_extent, needed_len}
-use Rattle.drain_raster.specs.Placing.{HasPixelSize, LiesOn}
-use Rattle.drain_raster.specs.RasterRows.{raster_coming, raster_rows}
-use Rattle.drain_raster.specs.declared.raster_rows.RasterRows.{RasterRows}
-use Rattle.drain_pixels.specs.Ground.{elevations, height_with}
-use Rattle.std.proofs.lemmas.List.{length-map}
-use Rattle.drain_text.specs.Text.{lines_of}
-use Rattle.drain_verdict.specs.DemGround.{AreHeadersKept, DemHasRead, DemRefuses, DemTakesAtMost, DemTexts, EncodesDem, IsDemAfter, IsDemBegun, IsDemHeader, IsDemInput, dem_devices, dem_fields, dem_ground, dem_rows_of}
-use Rattle.drain_sets.specs.declared.raster_input.RasterInput.{RasterInput}
-use Rattle.drain_verdict.specs.Ground.{AreGroundRows, GroundToGive, IsLaidOn, IsToldOf, NoneRefusesBefore, ground_row}
-use Rattle.drain_verdict.specs.InputReads.{RasterHasRead}
-use Rattle.drain_verdict.specs.InputRows.{IsRasterBegun}
-use Rattle.drain_verdict.specs.ToGive.{IsAfterTold}
 use Rattle.drain_verdict.proofs.Order.{at_seam, at_tile}
 use Rattle.drain_verdict.proofs.RowDevices.{as_one_read, raster_taken}
 use Rattle.drain_verdict.proofs.RowReads.{raster_none, raster_then}

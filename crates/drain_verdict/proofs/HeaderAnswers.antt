@@ -1,27 +1,7 @@
 -- What the stage of the headers says of a set: no refusal of its kind applies, or its refusal is the first.
-use Rattle.std.proofs.Common.{◌≡◌, ◌∙◌, ℕ, List, subst, ◌↔◌, Err, ◌+◌, ◌*◌, ◌<◌, ap, arith, refl, sym, below_more}
-use Rattle.drain_grid.specs.declared.set_product.SetProduct.{SetProduct}
-use Rattle.drain_grid.specs.SetProduct.{product_of, rank_of}
-use Rattle.drain_verdict.specs.Stages.{AreHeadersFor, AreHeadersOf, IsFirstRefusalOf, IsHeaderFor, IsHeaderRefusal}
-use Rattle.drain_answer.specs.declared.refusal.Refusal.{Refusal}
-use Rattle.drain_grid.specs.declared.set_product.SetProduct.TheVariants.{Con, Dir, Acc, Bas, Rnk}
-use Rattle.drain_grid.specs.declared.per_product.PerProduct.{PerProduct}
-use Rattle.drain_grid.specs.PerProduct.{of_product}
-use Rattle.drain_grid.proofs.ByProduct.{of_held}
-use Rattle.drain_header.specs.declared.fault.HeaderFault.{HeaderFault}
-use Rattle.drain_header.specs.Header.{Fields}
-use Rattle.drain_header.specs.Faults.{AnswersOf, DescribesOf}
-use Rattle.drain_raster.specs.Pixels.{header_extent}
-use Rattle.drain_answer.specs.declared.refusal.Refusal.TheVariants.{BadHeader, WrongShape, Misplaced}
-use Rattle.drain_grid.specs.declared.height_kind.HeightKind.{HeightKind}
-use Rattle.drain_grid.specs.Extent.{Extent}
-use Rattle.drain_header.specs.declared.header.Place.{Place}
-use Rattle.drain_text.specs.Text.{lines_of}
-use Rattle.drain_header.specs.Header.{header_of}
-use Rattle.drain_verdict.specs.Ground.{IsLaidOn, refusal_kind}
-use Rattle.drain_verdict.specs.GroundSets.{GroundSet, HasShapeIn, IsRefusalIn, NoneStandsIn, StandsIn, place_in}
-use Rattle.drain_verdict.specs.Texts.{kind_in, set_fields}
-use Rattle.drain_verdict.specs.InputRows.{AreAlike}
+use Rattle.drain_verdict.proofs.Names.{◌≡◌, ◌∙◌, List, subst, ◌↔◌, ◌+◌, ◌*◌, ◌<◌, ap, arith, refl, sym, below_more, SetProduct, product_of, rank_of, AreHeadersFor, AreHeadersOf, IsFirstRefusalOf, IsHeaderFor, IsHeaderRefusal, Refusal, Dir, Acc, Bas, Rnk, PerProduct, of_product, of_held, HeaderFault, Fields, AnswersOf, DescribesOf, header_extent, BadHeader, WrongShape, Misplaced, HeightKind, Extent, Place, lines_of, header_of, IsLaidOn, refusal_kind, GroundSet, HasShapeIn, IsRefusalIn, NoneStandsIn, StandsIn, place_in, kind_in, set_fields, AreAlike}
+use Rattle.std.proofs.Common.{ℕ, Err}
+use Rattle.drain_grid.specs.declared.set_product.SetProduct.TheVariants.{Con}
 use Rattle.drain_verdict.specs.Inputs.{Products}
 use Rattle.drain_verdict.proofs.Order.{at_header, none_more, first_of}
 

@@ -1,31 +1,12 @@
 -- Which product's device failed for good, if each is read only while nothing was refused before.
-use Rattle.std.proofs.Common.{◌≡◌, ◌↔◌, ℕ, List, map, Option, Result, Ok, Err, IfErr, IsErrOf, refl, subst, [], ◌∷◌, Some, None, IsSome, sym, ◌⊎◌, inl, inr, Bool, IsTrue, IfOk, IfSome, ap, ◌∙◌}
-use Rattle.drain_device.specs.declared.counts.FaultCounts.{FaultCounts}
-use Rattle.drain_device.proofs.FaultLists.{SomeReadFails-iff, SomeReadFails-none, takes-none}
-use Rattle.drain_hgt.specs.declared.input.TileInput.{TileInput}
-use Rattle.drain_hgt.specs.Inputs.{TilesTakeAtMost, names_of}
-use Rattle.drain_grid.specs.PerProduct.{of_product}
-use Rattle.drain_verdict.specs.Inputs.{as_five, audit_devices, Products, AreNames}
-use Rattle.drain_verdict.specs.Uses.{devices_of, AreNamesKept, UsesInputs, UsesSet, UsesTold}
-use Rattle.drain_verdict.specs.Refusals.{IsOfBodies}
-use Rattle.drain_sets.specs.declared.raster_input.AuditProducts.{AuditProducts}
-use Rattle.drain_answer.specs.declared.refusal.Refusal.{Refusal}
-use Rattle.drain_answer.specs.declared.refusal.Refusal.TheVariants.{OutOfMemory, ReadFailed}
+use Rattle.drain_verdict.proofs.Names.{◌≡◌, ◌≢◌, ◌↔◌, List, map, Ok, IfErr, IsErrOf, refl, subst, [], ◌∷◌, Some, None, IsSome, sym, ◌⊎◌, inl, inr, Bool, IsTrue, IfSome, ap, ◌∙◌, FaultCounts, SomeReadFails-iff, SomeReadFails-none, takes-none, TileInput, TilesTakeAtMost, names_of, of_product, as_five, audit_devices, AreNames, devices_of, AreNamesKept, UsesInputs, UsesSet, UsesTold, IsOfBodies, AuditProducts, Refusal, OutOfMemory, ReadFailed, AllZip, false≢true, Corner, IsNameOf, NamesGiveCorners, InputsAreTold, PerProduct, SetProduct, by_set_product, Dir, Acc, Bas, Rnk, RasterRows, RasterHasRead, RastersHaveRead, told_by}
+use Rattle.std.proofs.Common.{ℕ, Option, Result, Err, IfOk}
+use Rattle.drain_verdict.specs.Inputs.{Products}
 use Rattle.drain_verdict.proofs.AuditDevices.{devices_of_four, tiles_take_none}
-use Rattle.std.specs.List.{All, AllZip}
-use Rattle.std.proofs.lemmas.Bool.{false≢true}
+use Rattle.std.specs.List.{All}
 use Rattle.std.proofs.lemmas.List.Elements.{All-head, All-tail}
-use Rattle.drain_hgt.specs.Corner.{Corner}
-use Rattle.drain_hgt.specs.Name.{IsNameOf}
-use Rattle.drain_hgt.specs.Laws.{NamesGiveCorners}
-use Rattle.drain_verdict.specs.Laws.{InputsAreTold}
-use Rattle.drain_grid.specs.declared.per_product.PerProduct.{PerProduct}
-use Rattle.drain_grid.specs.declared.set_product.SetProduct.{SetProduct}
-use Rattle.drain_grid.proofs.ByProduct.{by_set_product}
-use Rattle.drain_grid.specs.declared.set_product.SetProduct.TheVariants.{Con, Dir, Acc, Bas, Rnk}
-use Rattle.drain_raster.specs.declared.raster_rows.RasterRows.{RasterRows}
-use Rattle.drain_verdict.specs.InputReads.{RasterHasRead, RastersHaveRead}
-use Rattle.drain_verdict.specs.Reading.{gave_up, told_by}
+use Rattle.drain_grid.specs.declared.set_product.SetProduct.TheVariants.{Con}
+use Rattle.drain_verdict.specs.Reading.{gave_up}
 
 -- How an answer uses its inputs: where none was called, and of four products of which one is read twice.
 
@@ -33,6 +14,11 @@ use Rattle.drain_verdict.specs.Reading.{gave_up, told_by}
 pub told_failed : {T : Type 0} (answer : Result T Refusal) → IsErrOf answer ReadFailed ↔ (told_by answer ≡ Some ReadFailed)
 told_failed (Ok x) = (λ is. absurd (let no = is in cc), λ is. absurd (let no = is in cc))
 told_failed (Err refusal) = (λ is. (let same : refusal ≡ ReadFailed = cc in ap Some same), λ is. (let same : refusal ≡ ReadFailed = cc in ap Err same))
+
+-- no read failed where no refusal of these kinds says so
+pub reads_none : {T : Type 0} (Why : Refusal → Type 0) → ¬ Why ReadFailed → (answer : Result T Refusal) → IfErr answer Why → told_by answer ≢ Some ReadFailed
+reads_none Why not (Ok x) why is = absurd (let no = is in cc)
+reads_none Why not (Err refusal) why is = not (subst Why (let same : refusal ≡ ReadFailed = cc in same) why)
 
 -- an answer about bodies may change the inputs
 pub of_bodies_may : {T : Type 0} (Same : Type 0) (answer : Result T Refusal) → IfErr answer IsOfBodies → IfSome (told_by answer) (λ refusal. ¬ IsOfBodies refusal → Same)

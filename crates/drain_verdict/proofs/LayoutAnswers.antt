@@ -1,37 +1,11 @@
 -- What the stage of the layout says of the inputs: no refusal of its kinds applies, or its refusal is the first.
-use Rattle.std.proofs.Common.{◌≡◌, ℕ, zero, suc, ◌+◌, ◌<◌, ◌≤◌, List, [], ◌∷◌, ◌++◌, length, take, get_or, Some, arith, sym, ap, ◌∙◌, subst, ◌*◌, Bool, true, false, ◌&&◌, cond, slice_get, int_eq, refl, inl, inr, below_more, Ok}
+use Rattle.drain_verdict.proofs.Names.{◌≡◌, zero, suc, ◌+◌, ◌<◌, ◌≤◌, List, [], ◌∷◌, ◌++◌, length, take, get_or, Some, arith, sym, ap, ◌∙◌, subst, ◌*◌, Bool, true, false, ◌&&◌, cond, slice_get, refl, inl, inr, below_more, Ok, is_negative, AllZip, take_more, take_all, length-map, get_or-map, slice_get-get_or, TileInput, Corner, IsNameOf, MeansName, names_of, Stands, NoneStandsBefore, GroundSet, IsRefusalIn, NoneStandsIn, SetTexts, StandsIn, texts_of, tile_ground, place_in, refusal_kind, IsBadName, place_among, tiling_of, IsFirstBadName, IsLayoutOf, IsLayoutRefusal, IsLayoutFault, mul-le-mul_right, Decides-int_eq, Cell, Extent, IsCellOf, IsEarlier, index_of, IsRepeatedAt, IsFirstRepeated, HasLayoutFault, layout_fault_order, IsFirst, IsSide, OneName, Tiling, Refusal, BadSide, BadName, NoTiles, RepeatedTile, BoxTooLarge, OutOfMemory, ReadFailed, Inputs, AreNames, IsRefusal}
+use Rattle.std.proofs.Common.{ℕ, int_eq}
 use Rattle.std.specs.Prelude.{Err, nat_abs}
-use Rattle.std.specs.Int.{is_negative}
-use Rattle.std.specs.List.{AllZip}
-use Rattle.std.proofs.lemmas.List.{take_more, take_all, length-map, get_or-map}
-use Rattle.std.proofs.lemmas.Option.{slice_get-get_or}
-use Rattle.drain_hgt.specs.declared.input.TileInput.{TileInput}
 use Rattle.drain_hgt.specs.declared.name.NameFault.{NameFault}
 use Rattle.drain_hgt.specs.declared.name.NameFault.TheVariants.{BadForm, BadRange}
-use Rattle.drain_hgt.specs.Corner.{Corner}
-use Rattle.drain_hgt.specs.Name.{IsNameOf, MeansName}
-use Rattle.drain_hgt.specs.Inputs.{names_of}
-use Rattle.drain_verdict.specs.Refusals.{Stands, NoneStandsBefore}
-use Rattle.drain_verdict.specs.GroundSets.{place_in}
-use Rattle.drain_verdict.specs.Ground.{refusal_kind}
-use Rattle.drain_verdict.specs.TileGround.{IsBadName, place_among, set_of}
-use Rattle.drain_verdict.specs.Meaning.{tiling_of}
-use Rattle.drain_verdict.specs.Stages.{IsFirstBadName, IsLayoutOf, IsLayoutRefusal, IsLayoutFault}
 use Rattle.std.proofs.Math.Decide.{dec_lt}
-use Rattle.std.proofs.Math.Nat.{mul-le-mul_right}
-use Rattle.std.proofs.lemmas.Bool.Decides.{Decides-int_eq}
-use Rattle.drain_grid.specs.declared.cell.Cell.{Cell}
-use Rattle.drain_grid.specs.Extent.{Extent, IsCellOf, IsEarlier, index_of}
-use Rattle.drain_mosaic.specs.GivenTiles.{IsRepeatedAt, IsFirstRepeated, HasLayoutFault, layout_fault_order}
-use Rattle.drain_text.specs.First.{IsFirst}
-use Rattle.drain_grid.specs.Grid.{IsSide}
-use Rattle.drain_hgt.specs.Laws.{OneName}
 use Rattle.drain_mosaic.specs.declared.layout.LayoutFault.{LayoutFault}
-use Rattle.drain_mosaic.specs.Tiling.{Tiling}
-use Rattle.drain_answer.specs.declared.refusal.Refusal.{Refusal}
-use Rattle.drain_answer.specs.declared.refusal.Refusal.TheVariants.{BadSide, BadName, NoTiles, RepeatedTile, BoxTooLarge, OutOfMemory, ReadFailed}
-use Rattle.drain_verdict.specs.Inputs.{Inputs, AreNames}
-use Rattle.drain_verdict.specs.Answers.{IsRefusal}
 use Rattle.drain_verdict.proofs.Order.{at_side, at_name, at_layout, none_first, none_more, first_of}
 use Rattle.drain_mosaic.specs.declared.layout.LayoutFault.TheVariants as layout
 
@@ -192,11 +166,16 @@ one_list one (n ∷ names) (c ∷ cs) (d ∷ ds) is_c is_d =
 same_corners : OneName → (i : Inputs) → (AreNames i.names → AllZip IsNameOf i.names i.corners) → (corners : List Corner) → AllZip IsNameOf i.names corners → corners ≡ i.corners
 same_corners one i told corners named = one_list one i.names corners i.corners named (told (are_names i.names corners named))
 
+-- tiles with what is said to lie on them
+abbrev pub tile_set : Inputs → SetTexts → GroundSet
+tile_set i texts = record { terrain = tile_ground i; texts = texts }
+
 -- if the side is a tile's and the names are those of tiles, no refusal of the first two kinds applies
-named_none : (i : Inputs) (corners : List Corner) → IsSide i.side → AllZip IsNameOf i.names corners → NoneStandsBefore i 3
-named_none i corners in_range named =
-    none_more (Stands i) 2 (none_more (Stands i) 1 (none_first (set_of i)) (at_side (λ b. ¬ Stands i b) (λ stands. stands in_range) (λ fault no. no)))
-    (at_name (λ b. ¬ Stands i b) (λ k. none_bad_in i.names corners named k) (λ no. no))
+named_none : (i : Inputs) (texts : SetTexts) (corners : List Corner) → IsSide i.side → AllZip IsNameOf i.names corners → NoneStandsIn (tile_set i texts) 3
+named_none i texts corners in_range named =
+    none_more (StandsIn (tile_set i texts)) 2
+    (none_more (StandsIn (tile_set i texts)) 1 (none_first (tile_set i texts)) (at_side (λ b. ¬ StandsIn (tile_set i texts) b) (λ stands. stands in_range) (λ fault no. no)))
+    (at_name (λ b. ¬ StandsIn (tile_set i texts) b) (λ k. none_bad_in i.names corners named k) (λ no. no))
 
 pub layout_is : OneName → (i : Inputs) → (AreNames i.names → AllZip IsNameOf i.names i.corners) → (t : Tiling) → IsLayoutOf i.side i.names t → t ≡ tiling_of i
 layout_is one i told t is =
@@ -207,7 +186,7 @@ layout_is one i told t is =
 pub layout_none : OneName → (i : Inputs) → (AreNames i.names → AllZip IsNameOf i.names i.corners) → (t : Tiling) → IsLayoutOf i.side i.names t → NoneStandsBefore i 4
 layout_none one i told t is =
     let sound : (fault : LayoutFault) → ¬ HasLayoutFault (tiling_of i) fault = subst (λ t. (fault : LayoutFault) → ¬ HasLayoutFault t fault) (layout_is one i told t is) is.sound in
-    none_more (Stands i) 3 (named_none i t.corners is.in_range is.named)
+    none_more (Stands i) 3 (named_none i (texts_of i) t.corners is.in_range is.named)
     (at_layout (λ b. ¬ Stands i b) (sound layout.NoTiles) (λ c. sound (layout.RepeatedTile c)) (sound layout.BoxTooLarge))
 
 -- the fault of the list of tiles is that of the inputs
@@ -216,29 +195,32 @@ first_fault : OneName → (i : Inputs) → (AreNames i.names → AllZip IsNameOf
 first_fault one i told fault is =
     subst (λ corners. IsFirst layout_fault_order (HasLayoutFault (record { side = i.side; corners = corners })) fault) (same_corners one i told is.corners is.named) is.first
 
--- the refusal of a side or of names is the first
-pub layout_refused : OneName → (i : Inputs) → (AreNames i.names → AllZip IsNameOf i.names i.corners) → (refusal : Refusal) → IsLayoutRefusal i.side i.names refusal → IsRefusal i refusal
-layout_refused one i told BadSide bad = first_of (set_of i) (Stands i) 1 0 BadSide refl bad (none_first (set_of i)) (λ b at less. absurd (no_less b at less))
+-- the refusal of a side or of names is the first, whatever is said to lie on the tiles
+pub layout_refuses : OneName → (i : Inputs) (texts : SetTexts) → (AreNames i.names → AllZip IsNameOf i.names i.corners) → (refusal : Refusal) → IsLayoutRefusal i.side i.names refusal → IsRefusalIn (tile_set i texts) refusal
+layout_refuses one i texts told BadSide bad = first_of (tile_set i texts) (StandsIn (tile_set i texts)) 1 0 BadSide refl bad (none_first (tile_set i texts)) (λ b at less. absurd (no_less b at less))
   where
-    no_less : (b : Refusal) → refusal_kind b ≡ 1 → place_in (set_of i) b < 0 → ⊥
+    no_less : (b : Refusal) → refusal_kind b ≡ 1 → place_in (tile_set i texts) b < 0 → ⊥
     no_less b at less = omega arith
-layout_refused one i told (BadName k) bad =
-    first_of (set_of i) (Stands i) 2 k (BadName k) refl bad.1.bad (none_more (Stands i) 1 (none_first (set_of i)) (at_side (λ b. ¬ Stands i b) (λ stands. stands bad.0) (λ fault no. no)))
-    (at_name (λ b. place_in (set_of i) b < k → ¬ Stands i b) (λ j less. bad.1.first j less) (λ less no. no))
-layout_refused one i told NoTiles bad =
+layout_refuses one i texts told (BadName k) bad =
+    first_of (tile_set i texts) (StandsIn (tile_set i texts)) 2 k (BadName k) refl bad.1.bad (none_more (StandsIn (tile_set i texts)) 1 (none_first (tile_set i texts)) (at_side (λ b. ¬ StandsIn (tile_set i texts) b) (λ stands. stands bad.0) (λ fault no. no)))
+    (at_name (λ b. place_in (tile_set i texts) b < k → ¬ StandsIn (tile_set i texts) b) (λ j less. bad.1.first j less) (λ less no. no))
+layout_refuses one i texts told NoTiles bad =
     let first = first_fault one i told layout.NoTiles bad.1 in
-    first_of (set_of i) (Stands i) 3 0 NoTiles refl first.holds (named_none i bad.1.corners bad.0 bad.1.named) (λ b at less. absurd (no_less b at less))
+    first_of (tile_set i texts) (StandsIn (tile_set i texts)) 3 0 NoTiles refl first.holds (named_none i texts bad.1.corners bad.0 bad.1.named) (λ b at less. absurd (no_less b at less))
   where
-    no_less : (b : Refusal) → refusal_kind b ≡ 3 → place_in (set_of i) b < 0 → ⊥
+    no_less : (b : Refusal) → refusal_kind b ≡ 3 → place_in (tile_set i texts) b < 0 → ⊥
     no_less b at less = omega arith
-layout_refused one i told (RepeatedTile c) bad =
+layout_refuses one i texts told (RepeatedTile c) bad =
     let first = first_fault one i told (layout.RepeatedTile c) bad.1 in
-    first_of (set_of i) (Stands i) 3 1 (RepeatedTile c) refl first.holds (named_none i bad.1.corners bad.0 bad.1.named)
-    (at_layout (λ b. place_in (set_of i) b < 1 → ¬ Stands i b) (λ less. first.first layout.NoTiles (inl (omega arith))) (λ d less. absurd (omega arith)) (λ less. absurd (omega arith)))
-layout_refused one i told BoxTooLarge bad =
+    first_of (tile_set i texts) (StandsIn (tile_set i texts)) 3 1 (RepeatedTile c) refl first.holds (named_none i texts bad.1.corners bad.0 bad.1.named)
+    (at_layout (λ b. place_in (tile_set i texts) b < 1 → ¬ StandsIn (tile_set i texts) b) (λ less. first.first layout.NoTiles (inl (omega arith))) (λ d less. absurd (omega arith)) (λ less. absurd (omega arith)))
+layout_refuses one i texts told BoxTooLarge bad =
     let first = first_fault one i told layout.BoxTooLarge bad.1 in
-    first_of (set_of i) (Stands i) 3 2 BoxTooLarge refl first.holds (named_none i bad.1.corners bad.0 bad.1.named)
-    (at_layout (λ b. place_in (set_of i) b < 2 → ¬ Stands i b) (λ less. first.first layout.NoTiles (inl (omega arith))) (λ d less. first.first (layout.RepeatedTile d) (inl (omega arith))) (λ less. absurd (omega arith)))
-layout_refused one i told OutOfMemory bad = tt
-layout_refused one i told ReadFailed bad = tt
-layout_refused one i told refusal bad = absurd bad
+    first_of (tile_set i texts) (StandsIn (tile_set i texts)) 3 2 BoxTooLarge refl first.holds (named_none i texts bad.1.corners bad.0 bad.1.named)
+    (at_layout (λ b. place_in (tile_set i texts) b < 2 → ¬ StandsIn (tile_set i texts) b) (λ less. first.first layout.NoTiles (inl (omega arith))) (λ d less. first.first (layout.RepeatedTile d) (inl (omega arith))) (λ less. absurd (omega arith)))
+layout_refuses one i texts told OutOfMemory bad = tt
+layout_refuses one i texts told ReadFailed bad = tt
+layout_refuses one i texts told refusal bad = absurd bad
+
+pub layout_refused : OneName → (i : Inputs) → (AreNames i.names → AllZip IsNameOf i.names i.corners) → (refusal : Refusal) → IsLayoutRefusal i.side i.names refusal → IsRefusal i refusal
+layout_refused one i told refusal bad = layout_refuses one i (texts_of i) told refusal bad

@@ -1,3 +1,4 @@
+pub mod Names
 mod Acceptance
 pub mod AuditAnswers
 pub mod AuditDevices

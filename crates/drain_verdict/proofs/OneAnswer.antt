@@ -1,49 +1,18 @@
 -- A set on a ground that isn't refused has one answer: no two refusals have one place, no two cells or rules are first,
 -- and an acceptance names the counts.
-use Rattle.std.proofs.Common.{◌≡◌, ◌⊎◌, inl, inr, ◌∙◌, ℕ, ◌+◌, ◌*◌, ◌<◌, List, [], ◌∷◌, Result, Ok, Err, arith, refl, sym, ap, subst}
-use Rattle.std.proofs.lemmas.Bool.{cases_order}
-use Rattle.drain_answer.specs.declared.outcome.AuditVerdict.{AuditVerdict}
+use Rattle.drain_verdict.proofs.Names.{◌≡◌, ◌⊎◌, inl, inr, ◌∙◌, ◌+◌, ◌*◌, ◌<◌, List, [], ◌∷◌, Ok, arith, refl, sym, ap, subst, cases_order, AuditVerdict, Outcome, Refusal, BadHeader, WrongShape, Misplaced, RasterShort, BadSinkLine, SinkNotData, BadSpacingLine, SpacingRows, OutOfMemory, ReadFailed, IsFirstUnfilled, cases_earlier, Cell, Judged, AllWithRanks, Product, Rule, SetProduct, Verdict, Grid, IsFirstFault, Surface, Profile, check_rules, IsAnyRule, rule_number, IsPartRule, IsTried, part_rules, tried, OfSetProduct, place_of, product_of, IsFirstEndless, NoDataNumbers, HeaderFault, HeightKind, AnswersOf, IsVerdict, IsVerdictAmong, IsVerdictBy, IsFirst, IsAnswerIn, IsAuditIn, IsAuditVerdict, certified, certified_nodata, refusal_kind, GroundSet, IsReadable, IsRefusalIn, StandsIn, order_in, place_in, set_grid, set_numbers, set_products, IsConOutcome, IsOutcome, IsOutcomeIn, IsRankOutcome, IsWayOutcome, rules_of, kind_in, IsOfBytes, IsSound}
+use Rattle.std.proofs.Common.{ℕ, Result, Err}
 use Rattle.drain_answer.specs.declared.outcome.AuditVerdict.TheVariants as audited
-use Rattle.drain_answer.specs.declared.outcome.Outcome.{Outcome}
 use Rattle.drain_answer.specs.declared.outcome.Outcome.TheVariants as judged_as
-use Rattle.drain_answer.specs.declared.refusal.Refusal.{Refusal}
-use Rattle.drain_answer.specs.declared.refusal.Refusal.TheVariants.{BadHeader, WrongShape, Misplaced, RasterShort, BadSinkLine, SinkNotData, BadSpacingLine, SpacingRows, OutOfMemory, ReadFailed}
-use Rattle.drain_filled.specs.Compared.{IsFirstUnfilled}
 use Rattle.std.specs.Prelude.{slice_index_or}
-use Rattle.drain_grid.proofs.Alike.{cases_earlier}
 use Rattle.drain_grid.proofs.AllRules.{same_rule}
-use Rattle.drain_grid.specs.declared.cell.Cell.{Cell}
-use Rattle.drain_grid.specs.declared.judged.Judged.{Judged}
-use Rattle.drain_grid.specs.declared.judged.Judged.TheVariants.{Con, ConDir, ConDirAcc, ConDirBas, All, AllWithRanks}
-use Rattle.drain_grid.specs.declared.product.Product.{Product}
+use Rattle.drain_grid.specs.declared.judged.Judged.TheVariants.{Con}
 use Rattle.drain_grid.specs.declared.product.Product.TheVariants as product
-use Rattle.drain_grid.specs.declared.rule.Rule.{Rule}
-use Rattle.drain_grid.specs.declared.set_product.SetProduct.{SetProduct}
 use Rattle.drain_grid.specs.declared.set_product.SetProduct.TheVariants as held
-use Rattle.drain_grid.specs.declared.verdict.Verdict.{Verdict}
 use Rattle.drain_grid.specs.declared.verdict.Verdict.TheVariants as checked
-use Rattle.drain_grid.specs.Grid.{Grid, Products}
-use Rattle.drain_grid.specs.GridRules.{IsFirstFault}
-use Rattle.drain_grid.specs.Path.{Surface}
-use Rattle.drain_grid.specs.PatchRules.{Profile, check_rules}
-use Rattle.drain_grid.specs.Rule.{IsAnyRule, rule_number}
-use Rattle.drain_grid.specs.RulesAbout.{IsPartRule, IsTried, part_rules, tried}
-use Rattle.drain_grid.specs.SetProduct.{OfSetProduct, place_of, product_of}
-use Rattle.drain_grid.specs.Unranked.{IsFirstEndless}
-use Rattle.drain_grid.specs.Values.{NoDataNumbers}
+use Rattle.drain_grid.specs.Grid.{Products}
 use Rattle.drain_header.proofs.OneAnswer as header
-use Rattle.drain_header.specs.declared.fault.HeaderFault.{HeaderFault}
-use Rattle.drain_grid.specs.declared.height_kind.HeightKind.{HeightKind}
-use Rattle.drain_header.specs.Faults.{AnswersOf}
-use Rattle.drain_rules.specs.Verdicts.{IsVerdict, IsVerdictAmong, IsVerdictBy}
-use Rattle.drain_text.specs.First.{IsFirst}
 use Rattle.drain_verdict.proofs.Order.{at_bad_line, at_bad_spacing, at_header, at_off_data, at_raster, at_spacing_rows}
-use Rattle.drain_verdict.specs.Answers.{IsAnswerIn, IsAuditIn, IsAuditVerdict, certified, certified_nodata}
-use Rattle.drain_verdict.specs.Ground.{refusal_kind}
-use Rattle.drain_verdict.specs.GroundSets.{GroundSet, IsReadable, IsRefusalIn, StandsIn, order_in, place_in, set_grid, set_numbers, set_products}
-use Rattle.drain_verdict.specs.Outcomes.{IsConOutcome, IsOutcome, IsOutcomeIn, IsRankOutcome, IsWayOutcome, rules_of}
-use Rattle.drain_verdict.specs.Texts.{kind_in}
-use Rattle.drain_verdict.specs.SameGround.{IsOfBytes, IsSound}
 
 -- The verdict.
 

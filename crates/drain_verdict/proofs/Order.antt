@@ -1,17 +1,6 @@
 -- The order of refusals, kind by kind.
-use Rattle.std.proofs.Common.{◌≡◌, ℕ, ◌+◌, ◌<◌, arith, inl, inr, refl, subst, below_more}
-use Rattle.drain_grid.specs.declared.cell.Cell.{Cell}
-use Rattle.drain_grid.specs.declared.set_product.SetProduct.{SetProduct}
-use Rattle.drain_grid.specs.declared.product.Product.TheVariants.{Spl}
-use Rattle.drain_grid.specs.SetProduct.{product_of}
-use Rattle.drain_grid.proofs.ByProduct.{by_set_product_or_spill}
-use Rattle.drain_text.specs.First.{IsBefore, IsFirst}
-use Rattle.drain_hgt.specs.Corner.{Corner}
-use Rattle.drain_header.specs.declared.fault.HeaderFault.{HeaderFault}
-use Rattle.drain_answer.specs.declared.refusal.Refusal.{Refusal}
-use Rattle.drain_answer.specs.declared.refusal.Refusal.TheVariants.{BadSide, BadName, NoTiles, RepeatedTile, BoxTooLarge, BadHeader, WrongShape, Misplaced, BadTileLength, RasterShort, SeamMismatch, BadSinkLine, SinkNotData, BadSpacingLine, SpacingRows, BadDemHeader, BadPixelSize, DemShort, OutOfMemory, ReadFailed}
-use Rattle.drain_verdict.specs.Ground.{refusal_kind}
-use Rattle.drain_verdict.specs.GroundSets.{GroundSet, IsReadable, IsRefusalIn, NoneStandsIn, StandsIn, order_in, place_in}
+use Rattle.drain_verdict.proofs.Names.{◌≡◌, ◌+◌, ◌<◌, arith, inl, inr, refl, subst, below_more, Cell, SetProduct, Spl, product_of, by_set_product_or_spill, IsBefore, IsFirst, Corner, HeaderFault, Refusal, BadSide, BadName, NoTiles, RepeatedTile, BoxTooLarge, BadHeader, WrongShape, Misplaced, BadTileLength, RasterShort, SeamMismatch, BadSinkLine, SinkNotData, BadSpacingLine, SpacingRows, BadDemHeader, BadPixelSize, DemShort, OutOfMemory, ReadFailed, refusal_kind, GroundSet, IsReadable, IsRefusalIn, NoneStandsIn, StandsIn, order_in, place_in}
+use Rattle.std.proofs.Common.{ℕ}
 
 -- a statement holds of every refusal of a kind where it holds of each that has the kind
 pub at_side : (P : Refusal → Type 0) → P BadSide → ((fault : HeaderFault) → P (BadDemHeader fault)) → (b : Refusal) → refusal_kind b ≡ 1 → P b

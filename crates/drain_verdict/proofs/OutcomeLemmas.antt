@@ -1,36 +1,12 @@
 -- The outcome for judged rasters, from the verdict of the rules about them and from the paths, or from the filled surface.
-use Rattle.std.proofs.Common.{◌≡◌, ◌↔◌, ◌⊎◌, inl, inr, ℕ, false, IsTrue, List, Option, Some, None, Result, Ok, Err, IfOk, IsErrOf, arith, refl, sym, subst, ap}
-use Rattle.std.proofs.lemmas.Bool.{false≢true}
-use Rattle.drain_answer.specs.declared.refusal.Refusal.{Refusal}
-use Rattle.drain_answer.specs.declared.refusal.Refusal.TheVariants.{OutOfMemory, ReadFailed}
-use Rattle.drain_grid.specs.declared.cell.Cell.{Cell}
-use Rattle.drain_grid.specs.declared.rule.Rule.TheVariants.{VoidCell, Missing, BadCode, BelowGround, OpenRaised, NoSpill, SpillHeight, SpillRank, NotLeast, SharedLabel}
-use Rattle.drain_grid.specs.declared.sink_line.SinkLine.{SinkLine}
-use Rattle.drain_grid.specs.Grid.{Grid, Products}
-use Rattle.drain_grid.specs.GridRules.{RulesHold}
-use Rattle.drain_grid.specs.Path.{IsLeastSurface}
-use Rattle.drain_grid.specs.PatchRules.{surface_rules}
-use Rattle.drain_grid.specs.Rule.{IsFillRule}
-use Rattle.drain_grid.specs.Values.{NoDataNumbers}
-use Rattle.drain_grid.specs.declared.judged.Judged.{Judged}
-use Rattle.drain_grid.specs.declared.judged.Judged.TheVariants.{Con, ConDir, ConDirAcc, ConDirBas, All, AllWithRanks}
+use Rattle.drain_verdict.proofs.Names.{◌≡◌, ◌↔◌, ◌⊎◌, inl, inr, false, IsTrue, List, Some, None, Ok, arith, refl, sym, subst, ap, false≢true, Cell, VoidCell, Missing, BadCode, BelowGround, OpenRaised, NoSpill, SpillHeight, SpillRank, NotLeast, SharedLabel, SinkLine, Grid, RulesHold, IsLeastSurface, surface_rules, IsFillRule, NoDataNumbers, Judged, ConDir, ConDirAcc, ConDirBas, AllWithRanks, IsPartRule, IsTried, part_rules, tried, CorrectIsLocal, AllRunsEnd, Counts, Verdict, IsOfSurface, IsOfWays, IsOutcomeOf, IsConOutcome, IsOutcome, IsRankOutcome, IsWayOutcome, rules_of, AreFlowsFor, AreFlowsLeft, IsDecided, IsEndlessCell, Extent, Flow, IsAcceptedOutcome, IsVerdictBy, Outcome}
+use Rattle.std.proofs.Common.{ℕ, Option, Result}
+use Rattle.drain_grid.specs.Grid.{Products}
+use Rattle.drain_grid.specs.declared.judged.Judged.TheVariants.{Con, All}
 use Rattle.drain_grid.specs.Judged.{has_dir, has_rnk}
 use Rattle.drain_laws.specs.PartOf.{PartIsLocal, SurfaceIsPart, AreRight, IsPartOfCorrect, IsRightSurface}
-use Rattle.drain_grid.specs.RulesAbout.{IsPartRule, IsTried, part_rules, tried}
-use Rattle.drain_grid.specs.Laws.{CorrectIsLocal}
-use Rattle.drain_rows.specs.GridRows.{AllRunsEnd}
-use Rattle.drain_grid.specs.declared.verdict.Counts.{Counts}
-use Rattle.drain_grid.specs.declared.verdict.Verdict.{Verdict}
 use Rattle.drain_grid.specs.declared.verdict.Verdict.TheVariants as checked
-use Rattle.drain_verdict.specs.Inputs.{Inputs}
-use Rattle.drain_verdict.specs.Outcomes.{IsOfSurface, IsOfWays, IsOutcomeOf, IsConOutcome, IsOutcome, IsOutcomeAnswer, IsRankOutcome, IsWayOutcome, rules_of}
 use Rattle.drain_laws.proofs.SurfacePart.{at_ground, not_raised}
-use Rattle.drain_verdict.specs.Deciding.{AreFlowsFor, AreFlowsLeft, IsDecided, IsEndlessCell}
-use Rattle.drain_grid.specs.Extent.{Extent}
-use Rattle.drain_paths.specs.declared.flow.Flow.{Flow}
-use Rattle.drain_answer.specs.Outcomes.{IsAcceptedOutcome}
-use Rattle.drain_rules.specs.Verdicts.{IsVerdictBy}
-use Rattle.drain_answer.specs.declared.outcome.Outcome.{Outcome}
 use Rattle.drain_answer.specs.declared.outcome.Outcome.TheVariants.{Accepted, AcceptedSurface, Rejected, NoEnd, NotFilled}
 
 -- the rules about con alone are those on the surface, and more
@@ -148,9 +124,3 @@ exactly whole local surface Con g ps nodata outcome none is = con_exactly surfac
 exactly whole local surface All g ps nodata outcome none is = way_exactly All g ps nodata _ outcome (whole g ps nodata) is
 exactly whole local surface AllWithRanks g ps nodata outcome none is = absurd (false≢true (sym none))
 exactly whole local surface judged g ps nodata outcome none is = way_exactly judged g ps nodata _ outcome (local judged g ps nodata tt) is
-
--- a fact of the inputs that follows from an answer that is an outcome
-pub when_judged : (Told : Inputs → Type 0) (judged : Judged) (Fact : Outcome → Inputs → Type 0) → ((outcome : Outcome) (i : Inputs) → IsOutcomeAnswer judged i (Ok outcome) → Fact outcome i) →
-    (result : Result Outcome Refusal) → ((i : Inputs) → Told i → IsOutcomeAnswer judged i result) → IfOk result (λ outcome. (i : Inputs) → Told i → Fact outcome i)
-when_judged Told judged Fact follows (Ok outcome) answer = λ i told. follows outcome i (answer i told)
-when_judged Told judged Fact follows (Err refusal) answer = tt

@@ -1,16 +1,8 @@
 -- One more call of a raster's rows, after a given number.
-use Rattle.std.proofs.Common.{◌≡◌, ◌↔◌, ◌≤◌, ℕ, zero, suc, ◌+◌, ℤ, List, [], length, Option, Some, None, Ok, Err, refl, sym, ap, subst, ◌∙◌, arith}
-use Rattle.drain_device.specs.RowSteps.{Coming, after_rows, nth_row, Gives, IsEmptyUnlessRow, IsLong, Steps, coming_at, progress_after}
-use Rattle.drain_device.specs.RowSteps.Coming.{Next, End, Wrong}
-use Rattle.drain_device.specs.declared.row_source.RowStep.{RowStep}
-use Rattle.drain_device.specs.declared.row_source.RowStep.TheVariants.{Row, Ended}
+use Rattle.drain_verdict.proofs.Names.{◌≡◌, ◌↔◌, ◌≤◌, zero, suc, ◌+◌, ℤ, List, [], length, Some, None, Ok, refl, sym, ap, subst, ◌∙◌, arith, Coming, after_rows, nth_row, Gives, IsEmptyUnlessRow, IsLong, Steps, coming_at, progress_after, Next, End, Wrong, RowStep, Row, Ended, Progress, Stopped, RasterRows, raster_coming, raster_rows, IsAfterTold, IsNextRow, IsRasterAfter}
+use Rattle.std.proofs.Common.{ℕ, Option, Err}
 use Rattle.drain_device.specs.declared.row_source.ReadFault.{ReadFault}
 use Rattle.drain_device.specs.declared.row_source.ReadFault.TheVariants.{WrongLength}
-use Rattle.drain_device.specs.declared.row_source.Progress.{Progress}
-use Rattle.drain_device.specs.declared.row_source.Progress.TheVariants.{Stopped}
-use Rattle.drain_raster.specs.declared.raster_rows.RasterRows.{RasterRows}
-use Rattle.drain_raster.specs.RasterRows.{raster_coming, raster_rows}
-use Rattle.drain_verdict.specs.ToGive.{IsAfterTold, IsNextRow, IsRasterAfter}
 
 -- of what is to come after n rows this is taken, and this is left
 pub record IsTaken (start : Coming) (n : ℕ) (out : List ℤ) (left : Coming) : Type 0 where

@@ -1,42 +1,12 @@
 -- The answer to the bytes of a set, once all rows are read: the first refusal that applies, or the verdict.
-use Rattle.std.proofs.Common.{◌≡◌, ◌↔◌, ◌+◌, ℕ, List, length, Option, Some, None, refl, sym, ap, subst, ◌∙◌, ◌<◌, pos, [], inl, inr, arith}
-use Rattle.drain_device.specs.RowSteps.{after_rows, nth_row}
-use Rattle.drain_device.specs.RowSteps.Coming.{Wrong}
-use Rattle.drain_device.specs.declared.row_source.Progress.TheVariants.{Stopped}
-use Rattle.drain_grid.specs.declared.per_product.PerProduct.{PerProduct}
-use Rattle.drain_grid.specs.declared.set_product.SetProduct.{SetProduct}
-use Rattle.drain_grid.specs.PerProduct.{of_product}
-use Rattle.drain_grid.specs.Extent.{Extent}
-use Rattle.drain_header.specs.Header.{AreWithinBounds, Fields}
-use Rattle.drain_raster.specs.Laws.{RasterRowsEnd}
+use Rattle.drain_verdict.proofs.Names.{◌≡◌, ◌↔◌, ◌+◌, List, length, Some, None, refl, sym, ap, subst, ◌∙◌, ◌<◌, pos, [], inl, inr, arith, after_rows, nth_row, Wrong, Stopped, PerProduct, SetProduct, of_product, Extent, AreWithinBounds, Fields, RasterRowsEnd, IsShort, raster_rows, RasterRows, Dir, Acc, Bas, Rnk, Spl, set_number_in, OfSetProduct, AreNumbersOf, blank, place, SinkLine, is_listed, Distances, AreRowsOf, IsEven, Refusal, RasterShort, by_set_product, by_set_product_or_spill, of_held, AreGroundRows, GroundToGive, GroundSet, IsRefusalIn, NoneStandsIn, set_grid, set_numbers, set_products, nodata_in, nodata_number, set_fields, set_listed, set_nodata, HasStopped, IsFirstOf, IsShortRefusal, IsToldRefusal, RasterLaws, IsAfter, IsAfterTold, ToGive, given, InputRows}
+use Rattle.std.proofs.Common.{ℕ, Option}
 use Rattle.drain_raster.specs.Pixels as pixels
-use Rattle.drain_raster.specs.Pixels.{IsShort}
-use Rattle.drain_raster.specs.RasterRows.{raster_rows}
-use Rattle.drain_raster.specs.declared.raster_rows.RasterRows.{RasterRows}
-use Rattle.std.specs.Prelude.{slice_index_or, unwrap_or}
-use Rattle.drain_grid.specs.declared.set_product.SetProduct.TheVariants.{Con, Dir, Acc, Bas, Rnk}
-use Rattle.drain_grid.specs.declared.product.Product.TheVariants.{Spl}
-use Rattle.drain_grid.specs.Grid.{set_number_in}
-use Rattle.drain_grid.specs.SetProduct.{OfSetProduct, product_of}
+use Rattle.std.specs.Prelude.{slice_index_or}
+use Rattle.drain_grid.specs.declared.set_product.SetProduct.TheVariants.{Con}
 use Rattle.drain_grid.specs.Product.{default_no_data}
-use Rattle.drain_rules.specs.Rows.{AreNumbersOf, blank, place}
-use Rattle.drain_grid.specs.declared.sink_line.SinkLine.{SinkLine}
-use Rattle.drain_grid.specs.SinkTexts.{is_listed}
-use Rattle.drain_grid.specs.Spacing.{Distances}
-use Rattle.drain_rows.specs.GridRows.{AreRowsOf}
-use Rattle.drain_rows.specs.RowBuffers.{IsEven}
-use Rattle.drain_answer.specs.declared.refusal.Refusal.{Refusal}
-use Rattle.drain_answer.specs.declared.refusal.Refusal.TheVariants.{RasterShort}
-use Rattle.drain_grid.proofs.ByProduct.{by_set_product, by_set_product_or_spill, of_held}
 use Rattle.drain_verdict.specs.Given.{row_spacing}
-use Rattle.drain_verdict.specs.Ground.{AreGroundRows, GroundToGive}
-use Rattle.drain_verdict.specs.GroundSets.{GroundSet, IsRefusalIn, NoneStandsIn, set_grid, set_numbers, set_products}
-use Rattle.drain_verdict.specs.Texts.{nodata_in, nodata_number, set_fields, set_listed, set_nodata}
-use Rattle.drain_verdict.specs.InputRows.{HasStopped, IsFirstOf, IsShortRefusal, IsToldRefusal}
 use Rattle.drain_verdict.specs.Inputs.{Products}
-use Rattle.drain_verdict.specs.Laws.{RasterLaws}
-use Rattle.drain_verdict.specs.ToGive.{IsAfter, IsAfterTold, ToGive, given}
-use Rattle.drain_verdict.specs.declared.input_rows.InputRows.{InputRows}
 use Rattle.drain_verdict.proofs.BodyAnswers.{length_none, length_refused, raster_refused, rasters_none, values_none, values_refused}
 use Rattle.drain_verdict.proofs.RowGiven.{same_numbers}
 use Rattle.drain_verdict.proofs.RowStart.{to_give, is_row_given, row_given}

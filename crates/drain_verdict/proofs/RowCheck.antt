@@ -1,35 +1,12 @@
 -- The answer to a set by rows, from new readers to their last row.
-use Rattle.std.proofs.Common.{◌≡◌, ◌⊎◌, ◌+◌, ◌∙◌, ℕ, Bool, false, inl, inr, List, Option, Some, None, Err, IsErrOf, arith, refl, sym, ap, subst}
-use Rattle.drain_device.specs.declared.counts.FaultCounts.{FaultCounts}
-use Rattle.drain_grid.specs.declared.cell.Cell.{Cell}
-use Rattle.drain_grid.specs.declared.per_product.PerProduct.{PerProduct}
-use Rattle.drain_grid.specs.declared.set_product.SetProduct.{SetProduct}
-use Rattle.drain_grid.specs.PerProduct.{of_product}
-use Rattle.drain_grid.specs.Grid.{Grid}
+use Rattle.drain_verdict.proofs.Names.{◌≡◌, ◌⊎◌, ◌+◌, ◌∙◌, Bool, false, inl, inr, List, Some, None, IsErrOf, arith, refl, sym, ap, subst, FaultCounts, Cell, PerProduct, SetProduct, of_product, Grid, FoundOffDataIsRight, spacing_of, Extent, NoDataNumbers, Fields, IsRowsStop, OfGrid, ReadsOn, AreListedVoids, AreGroundRows, GroundToGive, IsToldOf, AreNotesIn, AreTextsIn, GroundSet, IsReadable, IsRefusalIn, NoneStandsIn, rules_in, set_grid, set_products, nodata_in, HaveBeenRead, Reading, inputs_lent, products_lent, readers, AreBegun, HasStopped, IsToldRefusal, RasterLaws, IsListingOf, IsToldOfLists, Listing, IsOfBodies, refusal_of, AreGiven, HaveCome, IsAfter, Refusal, OutOfMemory, ReadFailed}
+use Rattle.std.proofs.Common.{ℕ, Option, Err}
 use Rattle.drain_grid.specs.Grid as grid
-use Rattle.drain_grid.specs.OffData.{FoundOffDataIsRight}
-use Rattle.drain_grid.specs.Spacing.{spacing_of}
-use Rattle.drain_grid.specs.Extent.{Extent}
-use Rattle.drain_grid.specs.Values.{NoDataNumbers}
-use Rattle.drain_header.specs.Header.{Fields}
 use Rattle.drain_raster.specs.Pixels as pixels
 use Rattle.drain_grid.specs.declared.judged.Rules.{Rules}
 use Rattle.drain_rows.specs.declared.row_visitor.WalkStop.{WalkStop}
 use Rattle.drain_rows.specs.declared.row_visitor.WalkStop.TheVariants.{Source}
 use Rattle.drain_rows.specs.declared.row_visitor.WalkStop.TheVariants as walk_stop
-use Rattle.drain_rows.specs.GridRows.{IsRowsStop, OfGrid, ReadsOn, AreListedVoids}
-use Rattle.drain_verdict.specs.Ground.{AreGroundRows, GroundToGive, IsToldOf}
-use Rattle.drain_verdict.specs.GroundSets.{AreNotesIn, AreTextsIn, GroundSet, IsReadable, IsRefusalIn, NoneStandsIn, rules_in, set_grid, set_products}
-use Rattle.drain_verdict.specs.Texts.{nodata_in}
-use Rattle.drain_verdict.specs.InputReads.{HaveBeenRead, Reading, inputs_lent, products_lent, readers}
-use Rattle.drain_verdict.specs.InputRows.{AreBegun, HasStopped, IsToldRefusal}
-use Rattle.drain_verdict.specs.Laws.{RasterLaws}
-use Rattle.drain_verdict.specs.Listings.{IsListingOf, IsToldOfLists}
-use Rattle.drain_verdict.specs.declared.listings.Listing.{Listing}
-use Rattle.drain_verdict.specs.Refusals.{IsOfBodies, refusal_of}
-use Rattle.drain_verdict.specs.ToGive.{AreGiven, HaveCome, IsAfter}
-use Rattle.drain_answer.specs.declared.refusal.Refusal.{Refusal}
-use Rattle.drain_answer.specs.declared.refusal.Refusal.TheVariants.{OutOfMemory, ReadFailed}
 use Rattle.drain_verdict.proofs.RowAnswers.{nodata_are, rows_of_bytes, told_none, told_refusal, AreAtEnd, at_end}
 use Rattle.drain_verdict.proofs.SpacingAnswers.{lists_none, lists_refused}
 use Rattle.drain_verdict.proofs.RowDevices.{come_none}

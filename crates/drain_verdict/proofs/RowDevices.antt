@@ -1,29 +1,7 @@
 -- What was read of the devices of a set since new readers: how much, and which failed for good.
-use Rattle.std.proofs.Common.{◌≡◌, ◌↔◌, ◌+◌, ℕ, inl, inr, Bool, IsTrue, false, List, [], ◌∷◌, map, Option, Some, None, arith, refl, ap, subst, ◌∙◌}
-use Rattle.std.specs.List.{Any}
-use Rattle.drain_device.specs.FaultLists.{SomeReadFails}
-use Rattle.drain_device.specs.Failing.{ReadFails, PartFails, GivesUp, full_patience}
-use Rattle.drain_device.specs.Reads.{TakesAtMost}
-use Rattle.drain_device.specs.RowSteps.{most_at}
-use Rattle.drain_device.specs.declared.counts.FaultCounts.{FaultCounts}
-use Rattle.drain_device.proofs.FaultLists.{SomeReadFails-iff, SomeReadFails-none, SomeReadFails-one, SomeReadFails-then, any-cases, any-first, any-later, any-none}
-use Rattle.drain_grid.specs.declared.per_product.PerProduct.{PerProduct}
-use Rattle.drain_grid.specs.declared.set_product.SetProduct.{SetProduct}
-use Rattle.drain_grid.specs.declared.set_product.SetProduct.TheVariants.{Con, Dir, Acc, Bas, Rnk}
-use Rattle.drain_grid.specs.PerProduct.{of_product}
-use Rattle.drain_grid.specs.SetProduct.{products}
-use Rattle.drain_header.specs.Header.{AreWithinBounds, Fields}
-use Rattle.drain_raster.specs.Laws.{RasterRowsTakeWhatIsNeeded}
-use Rattle.drain_raster.specs.Pixels.{needed_len}
-use Rattle.drain_raster.specs.RasterRows.{bytes_of_rows, raster_most_bytes}
-use Rattle.drain_raster.specs.declared.raster_rows.RasterRows.{RasterRows}
-use Rattle.drain_verdict.specs.Ground.{GroundToGive}
-use Rattle.drain_verdict.specs.Uses.{BodyTakesAtMost, product_devices, set_devices}
-use Rattle.drain_verdict.specs.InputReads.{InputsHaveRead, RasterHasRead, Reading, elevations_at, inputs_lent, product_body, products_lent, readers}
-use Rattle.drain_verdict.specs.InputRows.{AreBegun, IsRasterBegun}
-use Rattle.drain_verdict.specs.ToGive.{HaveCome, IsAfter}
-use Rattle.drain_answer.specs.declared.refusal.Refusal.{Refusal}
-use Rattle.drain_answer.specs.declared.refusal.Refusal.TheVariants.{ReadFailed}
+use Rattle.drain_verdict.proofs.Names.{◌≡◌, ◌↔◌, ◌+◌, inl, inr, Bool, IsTrue, false, List, [], ◌∷◌, map, Some, None, arith, refl, ap, subst, ◌∙◌, Any, SomeReadFails, ReadFails, PartFails, GivesUp, full_patience, TakesAtMost, most_at, FaultCounts, SomeReadFails-iff, SomeReadFails-none, SomeReadFails-one, SomeReadFails-then, any-cases, any-first, any-later, any-none, PerProduct, SetProduct, Dir, Acc, Bas, Rnk, of_product, products, AreWithinBounds, Fields, RasterRowsTakeWhatIsNeeded, needed_len, bytes_of_rows, raster_most_bytes, RasterRows, GroundToGive, BodyTakesAtMost, product_devices, set_devices, InputsHaveRead, RasterHasRead, Reading, elevations_at, inputs_lent, product_body, products_lent, readers, AreBegun, IsRasterBegun, HaveCome, IsAfter, Refusal, ReadFailed}
+use Rattle.std.proofs.Common.{ℕ, Option}
+use Rattle.drain_grid.specs.declared.set_product.SetProduct.TheVariants.{Con}
 use Rattle.drain_verdict.proofs.AuditDevices.{devices_then}
 use Rattle.drain_verdict.proofs.RowReads.{raster_none}
 

@@ -1,22 +1,10 @@
 -- One more row of all inputs: what came.
-use Rattle.std.proofs.Common.{◌≡◌, ◌⊎◌, ◌≤◌, ◌+◌, ℕ, ℤ, Bool, inl, inr, List, length, Option, Some, None, IfSome, refl, sym, subst, ◌∙◌, arith}
+use Rattle.drain_verdict.proofs.Names.{◌≡◌, ◌⊎◌, ◌≤◌, ◌+◌, ℤ, Bool, inl, inr, List, length, Some, None, IfSome, refl, sym, subst, ◌∙◌, arith, FaultCounts, Coming, SetProduct, Dir, Acc, Bas, Rnk, of_product, IsPixel, GroundToGive, ground_row, AreRowNumbers, RowNumbers, blank, IsNext, IsEven, InputsHaveRead, Reading, AreGiven, HaveCome, IsAfter, IsAfterTold, IsNextRow, ToGive, given, InputRows, Refusal}
+use Rattle.std.proofs.Common.{ℕ, Option}
 use Rattle.std.specs.List.{All}
-use Rattle.drain_device.specs.declared.counts.FaultCounts.{FaultCounts}
-use Rattle.drain_device.specs.RowSteps.{Coming}
 use Rattle.drain_grid.specs.declared.cell.TheConstants.{MAX_LENGTH}
-use Rattle.drain_grid.specs.declared.set_product.SetProduct.{SetProduct}
-use Rattle.drain_grid.specs.declared.set_product.SetProduct.TheVariants.{Con, Dir, Acc, Bas, Rnk}
-use Rattle.drain_grid.specs.PerProduct.{of_product}
-use Rattle.drain_grid.specs.Values.{IsPixel}
-use Rattle.drain_verdict.specs.Ground.{GroundToGive, ground_row}
-use Rattle.drain_rules.specs.Rows.{AreRowNumbers, RowNumbers, blank}
-use Rattle.drain_rows.specs.GridRows.{IsNext}
-use Rattle.drain_rows.specs.RowBuffers.{IsEven}
-use Rattle.drain_verdict.specs.InputReads.{InputsHaveRead, Reading}
+use Rattle.drain_grid.specs.declared.set_product.SetProduct.TheVariants.{Con}
 use Rattle.drain_verdict.specs.Inputs.{Products}
-use Rattle.drain_verdict.specs.ToGive.{AreGiven, HaveCome, IsAfter, IsAfterTold, IsNextRow, ToGive, given}
-use Rattle.drain_verdict.specs.declared.input_rows.InputRows.{InputRows}
-use Rattle.drain_answer.specs.declared.refusal.Refusal.{Refusal}
 
 abbrev made : List (Option ℤ) → List ℤ → List ℤ → List ℤ → List ℤ → List ℤ → RowNumbers
 made z con dir acc bas rnk = record { z = z; products = record { con = con; dir = dir; acc = acc; bas = bas; rnk = rnk } }

@@ -1,17 +1,9 @@
 -- One more row of all inputs: what was read of each device.
-use Rattle.std.proofs.Common.{◌≡◌, ◌↔◌, ◌⊎◌, ℕ, Bool, true, false, inl, inr, IsTrue, List, [], Option, Some, None, refl, ap, subst, sym, ◌∙◌, arith, length-append, ◌++◌}
+use Rattle.drain_verdict.proofs.Names.{◌≡◌, ◌↔◌, ◌⊎◌, Bool, true, false, inl, inr, IsTrue, List, [], Some, None, refl, ap, subst, sym, ◌∙◌, arith, length-append, ◌++◌, FaultCounts, PartFails-none, PartFails-then, PerProduct, of_product, RasterRows, InputsHaveRead, RasterHasRead, RastersHaveRead, Reading, elevations_at, product_body, readers, IsOfReading, InputRows, Refusal, ReadFailed}
+use Rattle.std.proofs.Common.{ℕ, Option}
 use Rattle.std.proofs.KnownBytes.{Consumes-nil, Consumes-trans}
-use Rattle.drain_device.specs.declared.counts.FaultCounts.{FaultCounts}
-use Rattle.drain_device.proofs.FaultLists.{PartFails-none, PartFails-then}
-use Rattle.drain_grid.specs.declared.per_product.PerProduct.{PerProduct}
-use Rattle.drain_grid.specs.PerProduct.{of_product}
-use Rattle.drain_raster.specs.declared.raster_rows.RasterRows.{RasterRows}
-use Rattle.drain_verdict.specs.InputReads.{InputsHaveRead, RasterHasRead, RastersHaveRead, Reading, elevations_at, product_body, readers}
-use Rattle.drain_verdict.specs.Reading.{IsOfReading, gave_up}
+use Rattle.drain_verdict.specs.Reading.{gave_up}
 use Rattle.drain_verdict.specs.Inputs.{Products}
-use Rattle.drain_verdict.specs.declared.input_rows.InputRows.{InputRows}
-use Rattle.drain_answer.specs.declared.refusal.Refusal.{Refusal}
-use Rattle.drain_answer.specs.declared.refusal.Refusal.TheVariants.{ReadFailed}
 use Rattle.drain_verdict.proofs.InputLemmas.{only_failed}
 
 -- a raster that wasn't called

@@ -1,21 +1,8 @@
 -- What new readers of a set are to give: the rows of the bytes.
-use Rattle.std.proofs.Common.{◌≡◌, ℕ, List, length, Option, Some, arith, refl, sym, ap, subst, ◌∙◌, ◌⊎◌, inl, inr}
-use Rattle.drain_device.specs.RowSteps.{coming_at}
-use Rattle.std.proofs.lemmas.Bool.{cases_eq}
-use Rattle.drain_grid.specs.declared.per_product.PerProduct.{PerProduct}
-use Rattle.drain_grid.specs.declared.set_product.SetProduct.{SetProduct}
-use Rattle.drain_grid.specs.declared.set_product.SetProduct.TheVariants.{Con, Dir, Acc, Bas, Rnk}
-use Rattle.drain_grid.specs.PerProduct.{of_product}
-use Rattle.drain_header.specs.Header.{Fields}
-use Rattle.drain_raster.specs.RasterRows.{raster_coming, raster_rows}
-use Rattle.drain_raster.specs.declared.raster_rows.RasterRows.{RasterRows}
-use Rattle.drain_rules.specs.Rows.{RowNumbers, blank}
-use Rattle.drain_verdict.specs.Ground.{GroundToGive}
-use Rattle.drain_verdict.specs.InputRows.{AreBegun, IsRasterBegun}
+use Rattle.drain_verdict.proofs.Names.{◌≡◌, List, length, Some, arith, refl, sym, ap, subst, ◌∙◌, ◌⊎◌, inl, inr, coming_at, cases_eq, PerProduct, SetProduct, Dir, Acc, Bas, Rnk, of_product, Fields, raster_coming, raster_rows, RasterRows, RowNumbers, blank, GroundToGive, AreBegun, IsRasterBegun, AreGiven, IsAfter, IsAfterTold, IsRasterAfter, IsRowGiven, ToGive, given, InputRows, by_set_product}
+use Rattle.std.proofs.Common.{ℕ, Option}
+use Rattle.drain_grid.specs.declared.set_product.SetProduct.TheVariants.{Con}
 use Rattle.drain_verdict.specs.Inputs.{Products}
-use Rattle.drain_verdict.specs.ToGive.{AreGiven, IsAfter, IsAfterTold, IsRasterAfter, IsRowGiven, ToGive, given}
-use Rattle.drain_verdict.specs.declared.input_rows.InputRows.{InputRows}
-use Rattle.drain_grid.proofs.ByProduct.{by_set_product}
 
 -- what a ground and its products are to give
 abbrev pub to_give : GroundToGive → PerProduct Fields → (SetProduct → List ℕ) → ToGive

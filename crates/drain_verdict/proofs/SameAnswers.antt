@@ -1,44 +1,15 @@
 -- Two grounds with the same elevations, neither of which is refused: each answer about the one is one about the other.
-use Rattle.std.proofs.Common.{◌≡◌, ◌≢◌, ◌↔◌, ◌∙◌, ℕ, ℤ, pos, Bool, Option, Some, None, IsSome, is_some, Result, Ok, Err, if◌then◌else◌, refl, sym, ap, subst}
-use Rattle.drain_answer.specs.declared.outcome.AuditVerdict.{AuditVerdict}
+use Rattle.drain_verdict.proofs.Names.{◌≡◌, ◌≢◌, ◌↔◌, ◌∙◌, ℤ, pos, Bool, Some, None, IsSome, is_some, Ok, if◌then◌else◌, refl, sym, ap, subst, AuditVerdict, Outcome, Refusal, BadHeader, WrongShape, Misplaced, RasterShort, BadSinkLine, SinkNotData, BadSpacingLine, SpacingRows, OutOfMemory, ReadFailed, Cell, HeightKind, Judged, AllWithRanks, Product, SetProduct, Verdict, Extent, IsCellOf, check_rules, IsAnyRule, IsPartRule, IsTried, part_rules, tried, OfSetProduct, Distances, is_listed, run_steps, NoDataNumbers, PaddingKeepsFirstEndless, PaddingKeepsRuns, UNKNOWN, AllRunsEnd, IsVerdict, IsVerdictBy, IsBefore, IsFirst, IsAnswerIn, IsAuditIn, IsAuditVerdict, certified, certified_nodata, certified_ranks, Ground, GroundSet, IsReadable, IsRefusalIn, StandsIn, order_in, set_grid, set_numbers, set_products, IsConOutcome, IsOutcome, IsOutcomeIn, IsWayOutcome, rules_of, without_outlets, AreOne, AreOneGround, HaveOneAnswer, HaveOneElevation, HaveOneVerdict, IsOfBytes, IsSound, SetTexts, set_fields, set_listed}
+use Rattle.std.proofs.Common.{ℕ, Option, Result, Err}
 use Rattle.drain_answer.specs.declared.outcome.AuditVerdict.TheVariants as audited
-use Rattle.drain_answer.specs.declared.outcome.Outcome.{Outcome}
 use Rattle.drain_answer.specs.declared.outcome.Outcome.TheVariants as judged_as
-use Rattle.drain_answer.specs.declared.refusal.Refusal.{Refusal}
-use Rattle.drain_answer.specs.declared.refusal.Refusal.TheVariants.{BadHeader, WrongShape, Misplaced, RasterShort, BadSinkLine, SinkNotData, BadSpacingLine, SpacingRows, OutOfMemory, ReadFailed}
-use Rattle.drain_grid.specs.declared.cell.Cell.{Cell}
-use Rattle.drain_grid.specs.declared.height_kind.HeightKind.{HeightKind}
-use Rattle.drain_grid.specs.declared.judged.Judged.{Judged}
-use Rattle.drain_grid.specs.declared.judged.Judged.TheVariants.{Con, ConDir, ConDirAcc, ConDirBas, All, AllWithRanks}
-use Rattle.drain_grid.specs.declared.product.Product.{Product}
+use Rattle.drain_grid.specs.declared.judged.Judged.TheVariants.{Con}
 use Rattle.drain_grid.specs.declared.product.Product.TheVariants as product
-use Rattle.drain_grid.specs.declared.set_product.SetProduct.{SetProduct}
-use Rattle.drain_grid.specs.declared.verdict.Verdict.{Verdict}
 use Rattle.drain_grid.specs.declared.verdict.Verdict.TheVariants as checked
-use Rattle.drain_grid.specs.Extent.{Extent, IsCellOf}
-use Rattle.drain_grid.specs.Grid.{Products, values_at}
-use Rattle.drain_grid.specs.PatchRules.{check_rules}
-use Rattle.drain_grid.specs.Rule.{IsAnyRule}
-use Rattle.drain_grid.specs.RulesAbout.{IsPartRule, IsTried, part_rules, tried}
-use Rattle.drain_grid.specs.SetProduct.{OfSetProduct}
-use Rattle.drain_grid.specs.Spacing.{Distances}
-use Rattle.drain_grid.specs.SinkTexts.{is_listed}
-use Rattle.drain_grid.specs.Unranked.{run_steps}
-use Rattle.drain_grid.specs.Values.{NoDataNumbers, Values}
-use Rattle.drain_laws.specs.Laws.{PaddingKeepsFirstEndless, PaddingKeepsRuns}
-use Rattle.drain_paths.specs.declared.walk.TheConstants.{UNKNOWN}
-use Rattle.drain_rows.specs.GridRows.{AllRunsEnd}
-use Rattle.drain_rules.specs.Verdicts.{IsVerdict, IsVerdictBy}
-use Rattle.drain_text.specs.First.{IsBefore, IsFirst}
+use Rattle.drain_grid.specs.Grid.{Products}
 use Rattle.drain_verdict.proofs.OneAnswer.{audit_is_one, audit_once, check_is_one, outcome_is_one, outcome_once, verdict_once}
 use Rattle.drain_verdict.proofs.SameGrids as grids
-use Rattle.drain_verdict.specs.Answers.{IsAnswerIn, IsAuditIn, IsAuditVerdict, certified, certified_nodata, certified_ranks}
 use Rattle.drain_verdict.specs.Given.{row_spacing}
-use Rattle.drain_verdict.specs.Ground.{Ground}
-use Rattle.drain_verdict.specs.GroundSets.{GroundSet, IsReadable, IsRefusalIn, StandsIn, order_in, set_grid, set_numbers, set_products}
-use Rattle.drain_verdict.specs.Outcomes.{IsConOutcome, IsOutcome, IsOutcomeIn, IsRankOutcome, IsWayOutcome, rules_of, without_outlets}
-use Rattle.drain_verdict.specs.SameGround.{AreOne, AreOneGround, HaveOneAnswer, HaveOneElevation, HaveOneVerdict, IsOfBytes, IsSound}
-use Rattle.drain_verdict.specs.Texts.{SetTexts, set_fields, set_listed}
 
 -- what follows of each product follows of the one that is named
 of_each : (P Q : SetProduct → Type 0) → ((h : SetProduct) → P h → Q h) → (p : Product) → OfSetProduct P p → OfSetProduct Q p

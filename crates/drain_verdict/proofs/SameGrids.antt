@@ -1,32 +1,16 @@
 -- Two grids of one size whose cells show the same values, with their products: what holds of the one holds of the other.
 -- No induction: a patch shows the same, and for paths the one grid is the other, padded by nothing.
-use Rattle.std.proofs.Common.{◌≡◌, ◌∙◌, ℕ, ℤ, pos, Bool, ◌&&◌, cond, List, [], ◌∷◌, length, map, Option, Some, None, IsSome, is_some, option_map, int_lt, unwrap_or, if◌then◌else◌, arith, refl, sym, ap, subst}
-use Rattle.std.specs.List.{count_by}
+use Rattle.drain_verdict.proofs.Names.{◌≡◌, ◌∙◌, ℤ, pos, Bool, ◌&&◌, cond, List, [], ◌∷◌, length, map, Some, None, IsSome, is_some, option_map, int_lt, if◌then◌else◌, arith, refl, sym, ap, subst, count_by, IsFirstUnfilled, Cell, Rule, SharedLabel, Verdict, Extent, IsCellOf, cells, step, Grid, HasData, patch_at, values_at, HoldsAt, IsFirstFault, RulesHold, IsLeastSurface, Surface, Profile, Distances, IsFirstEndless, run_steps, NoDataNumbers, Values, PaddingKeepsFirstEndless, PaddingKeepsRuns, AllRunsEnd, IsVerdictAmong, counts_of}
+use Rattle.std.proofs.Common.{ℕ, Option, unwrap_or}
 use Rattle.std.specs.Ordering.{int_eq}
 use Rattle.drain_filled.proofs.LeastSurfaces.{same_cells_same_surface}
-use Rattle.drain_filled.specs.Compared.{IsFirstUnfilled}
 use Rattle.drain_grid.proofs.CellSums.{sum_by_cells_same}
 use Rattle.drain_grid.proofs.Neighbors.{step_lies}
-use Rattle.drain_grid.specs.declared.cell.Cell.{Cell}
 use Rattle.drain_grid.specs.declared.patch.Patch.{Patch}
-use Rattle.drain_grid.specs.declared.rule.Rule.{Rule}
-use Rattle.drain_grid.specs.declared.rule.Rule.TheVariants.{SharedLabel}
-use Rattle.drain_grid.specs.declared.verdict.Verdict.{Verdict}
 use Rattle.drain_grid.specs.declared.verdict.Verdict.TheVariants.{Accepted, Rejected}
 use Rattle.drain_grid.specs.Direction.{directions}
-use Rattle.drain_grid.specs.Extent.{Extent, IsCellOf, cells, step}
-use Rattle.drain_grid.specs.Grid.{Grid, Products, HasData, patch_at, values_at}
-use Rattle.drain_grid.specs.GridRules.{HoldsAt, IsFirstFault, RulesHold}
-use Rattle.drain_grid.specs.Path.{IsLeastSurface, Surface}
-use Rattle.drain_grid.specs.PatchRules.{Profile}
-use Rattle.drain_grid.specs.Run.{RunEnds}
-use Rattle.drain_grid.specs.Spacing.{Distances}
-use Rattle.drain_grid.specs.Unranked.{IsFirstEndless, run_steps}
-use Rattle.drain_grid.specs.Values.{NoDataNumbers, Values}
-use Rattle.drain_laws.specs.Laws.{PaddingKeepsFirstEndless, PaddingKeepsRuns}
+use Rattle.drain_grid.specs.Grid.{Products}
 use Rattle.drain_laws.specs.Padding.{ArePadded}
-use Rattle.drain_rows.specs.GridRows.{AllRunsEnd}
-use Rattle.drain_rules.specs.Verdicts.{IsVerdictAmong, counts_of}
 
 -- the grid of these
 abbrev pub on : Extent → (Cell → Option ℤ) → (Cell → Bool) → (ℕ → Distances) → Grid

@@ -1,22 +1,8 @@
 -- What a list of sinks says of a set: no refusal of its kinds applies, or its refusal is the first.
-use Rattle.std.proofs.Common.{◌≡◌, ℕ, ◌<◌, is_none, is_some, not, true, false, ℤ, List, length, slice_get, Option, Some, None, Result, Ok, Err, inl, inr, arith, refl, sym, ap, subst, ◌∙◌}
-use Rattle.std.proofs.lemmas.Bool.{cases_lt, lt-ltb, le-ltb}
-use Rattle.std.proofs.lemmas.Bool.Decides.{nat_tests}
+use Rattle.drain_verdict.proofs.Names.{◌≡◌, ◌<◌, is_none, is_some, not, true, false, ℤ, List, length, slice_get, Some, None, Ok, inl, inr, arith, refl, sym, ap, subst, ◌∙◌, cases_lt, lt-ltb, le-ltb, nat_tests, get_or_from_slice_get, slice_get_within, Cell, SinkLine, IsCellOf, same_cell, Extent, HasData, FoundOffDataIsRight, IsFirstOffData, IsLeastLine, IsLeastOff, IsOffAnswer, is_listed, sinks_of, GroundSet, IsReadable, IsRefusalIn, NoneStandsIn, StandsIn, place_in, set_grid, lines_in, set_listed, AreListedVoids, has_data_but, IsBadLine, IsToldOfSinks, Refusal, BadSinkLine, SinkNotData}
+use Rattle.std.proofs.Common.{ℕ, Option, Result, Err}
 use Rattle.std.proofs.lemmas.List.Folds.{list_any_at}
-use Rattle.std.proofs.lemmas.Option.{get_or_from_slice_get, slice_get_within}
-use Rattle.drain_grid.specs.declared.cell.Cell.{Cell}
-use Rattle.drain_grid.specs.declared.sink_line.SinkLine.{SinkLine}
-use Rattle.drain_grid.specs.Extent.{IsCellOf, same_cell, Extent}
-use Rattle.drain_grid.specs.Grid.{HasData}
-use Rattle.drain_grid.specs.OffData.{FoundOffDataIsRight, IsFirstOffData, IsLeastLine, IsLeastOff, IsOffAnswer}
-use Rattle.drain_grid.specs.SinkTexts.{is_listed, sinks_of}
-use Rattle.drain_verdict.specs.GroundSets.{GroundSet, IsReadable, IsRefusalIn, NoneStandsIn, StandsIn, place_in, set_grid}
-use Rattle.drain_verdict.specs.Texts.{lines_in, set_listed}
-use Rattle.drain_rows.specs.GridRows.{AreListedVoids, has_data_but}
-use Rattle.drain_verdict.specs.Stages.{IsBadLine, IsToldOfSinks}
 use Rattle.drain_verdict.specs.declared.stages.SinkListing.{SinkListing}
-use Rattle.drain_answer.specs.declared.refusal.Refusal.{Refusal}
-use Rattle.drain_answer.specs.declared.refusal.Refusal.TheVariants.{BadSinkLine, SinkNotData}
 use Rattle.drain_verdict.proofs.Order.{at_bad_line, at_off_data, first_of, none_more}
 
 -- a cell that a line lists is listed

@@ -1,22 +1,10 @@
 -- What a spacing by row says of a set: no refusal of its kinds applies, or its refusal is the first.
-use Rattle.std.proofs.Common.{◌≡◌, ◌≢◌, ◌∙◌, ℕ, ◌<◌, List, [], length, MatchOption, Option, Some, None, Result, Ok, Err, inl, inr, arith, refl, sym, ap, subst}
-use Rattle.drain_answer.specs.declared.refusal.Refusal.{Refusal}
-use Rattle.drain_answer.specs.declared.refusal.Refusal.TheVariants.{BadSpacingLine, SpacingRows}
-use Rattle.drain_grid.specs.declared.cell.Cell.{Cell}
+use Rattle.drain_verdict.proofs.Names.{◌≡◌, ◌≢◌, ◌∙◌, ◌<◌, List, [], length, Some, None, Ok, inl, inr, arith, refl, sym, ap, subst, Refusal, BadSpacingLine, SpacingRows, Cell, HeightKind, Extent, FoundOffDataIsRight, Distances, RowSpacings, of_kind, spacing_of, unit_spacing, rows_listed, spacing_in, spacings_said, spacings_of, AreListedVoids, Listing, GivenSpacing, by_row, same, spacing_from, GroundSet, IsReadable, IsRefusalIn, NoneStandsIn, StandsIn, place_in, set_grid, AreRowsCounted, IsListedSpacing, IsListingOf, IsTextTold, IsToldOfLists, IsToldOfSpacing}
+use Rattle.std.proofs.Common.{ℕ, MatchOption, Option, Result, Err}
 use Rattle.drain_grid.specs.declared.spacing_text.SpacingInput.{SpacingInput}
 use Rattle.drain_grid.specs.declared.spacing_text.SpacingInput.TheVariants.{Same, ByRow}
-use Rattle.drain_grid.specs.declared.height_kind.HeightKind.{HeightKind}
-use Rattle.drain_grid.specs.Extent.{Extent}
-use Rattle.drain_grid.specs.OffData.{FoundOffDataIsRight}
-use Rattle.drain_grid.specs.Spacing.{Distances, RowSpacings, of_kind, spacing_of, unit_spacing}
-use Rattle.drain_grid.specs.SpacingTexts.{rows_listed, spacing_in, spacings_said, spacings_of}
-use Rattle.drain_rows.specs.GridRows.{AreListedVoids}
-use Rattle.drain_verdict.specs.declared.listings.Listing.{Listing}
 use Rattle.drain_verdict.specs.declared.listings.SpacingListing.{SpacingListing}
 use Rattle.drain_verdict.specs.Given.{HasBadSpacing, HasOtherRows, ListsRows, spacings_given}
-use Rattle.drain_sets.specs.GivenSpacings.{GivenSpacing, by_row, same, spacing_from}
-use Rattle.drain_verdict.specs.GroundSets.{GroundSet, IsReadable, IsRefusalIn, NoneStandsIn, StandsIn, place_in, set_grid}
-use Rattle.drain_verdict.specs.Listings.{AreRowsCounted, IsListedSpacing, IsListingOf, IsTextTold, IsToldOfLists, IsToldOfSpacing}
 use Rattle.drain_verdict.proofs.Order.{at_bad_spacing, at_spacing_rows, first_of, none_more, readable}
 use Rattle.drain_verdict.proofs.SinkAnswers.{sinks_none, sinks_refused}
 

@@ -1,38 +1,12 @@
 -- The stages of the layout and the headers, put together.
-use Rattle.std.proofs.Common.{◌≡◌, ℕ, List, length, Err, IsErrOf, sym, ap, subst, ◌∙◌}
+use Rattle.drain_verdict.proofs.Names.{◌≡◌, List, length, IsErrOf, sym, ap, subst, ◌∙◌, AllZip, length-map, AllZip-long, HeightKind, Extent, SetProduct, PerProduct, product_of, of_product, TileInput, Corner, IsNameOf, OneName, names_of, Place, Fields, Tiling, extent_of, Refusal, ReadFailed, IsLaidOn, NoneRefusesBefore, AreTextsIn, EncodeTexts, ForSet, GroundSet, IsGroundRefusal, IsRefusalIn, NoneStandsIn, Inputs, Encode, input_grid, texts_of, tiling_of, set_of, TellTiles, tile_ground, IsAnswer, RasterTakesAtMost, BodyTakesAtMost, kind_in, AreHeadersFor, IsFirstRefusalOf, IsHeaderRefusal, IsLayoutOf, IsLayoutRefusal, AreHeadersOf}
+use Rattle.std.proofs.Common.{ℕ, Err}
 use Rattle.std.specs.Prelude.{Option}
-use Rattle.std.specs.List.{AllZip}
-use Rattle.std.proofs.lemmas.List.{length-map}
-use Rattle.std.proofs.lemmas.Slice.Zip.{AllZip-long}
-use Rattle.drain_grid.specs.declared.height_kind.HeightKind.{HeightKind}
-use Rattle.drain_grid.specs.Extent.{Extent}
-use Rattle.drain_grid.specs.declared.set_product.SetProduct.{SetProduct}
-use Rattle.drain_grid.specs.declared.per_product.PerProduct.{PerProduct}
-use Rattle.drain_grid.specs.SetProduct.{product_of}
-use Rattle.drain_grid.specs.PerProduct.{of_product}
-use Rattle.drain_hgt.specs.declared.input.TileInput.{TileInput}
-use Rattle.drain_hgt.specs.Corner.{Corner}
-use Rattle.drain_hgt.specs.Name.{IsNameOf}
-use Rattle.drain_hgt.specs.Laws.{OneName}
-use Rattle.drain_hgt.specs.Inputs.{names_of}
-use Rattle.drain_header.specs.declared.header.Place.{Place}
-use Rattle.drain_header.specs.Header.{Fields}
-use Rattle.drain_mosaic.specs.Tiling.{Tiling, extent_of}
-use Rattle.drain_answer.specs.declared.refusal.Refusal.{Refusal}
-use Rattle.drain_answer.specs.declared.refusal.Refusal.TheVariants.{ReadFailed}
 use Rattle.drain_verdict.specs.Given.{Given}
-use Rattle.drain_verdict.specs.Ground.{IsLaidOn, NoneRefusesBefore}
-use Rattle.drain_verdict.specs.GroundSets.{AreTextsIn, EncodeTexts, ForSet, GroundSet, IsRefusalIn, NoneStandsIn}
-use Rattle.drain_verdict.specs.Inputs.{Inputs, Encode, Products}
-use Rattle.drain_verdict.specs.Meaning.{input_grid, texts_of, tiling_of}
-use Rattle.drain_verdict.specs.TileGround.{set_of, TellTiles, tile_ground}
-use Rattle.drain_verdict.specs.Answers.{IsAnswer}
-use Rattle.drain_verdict.specs.Uses.{RasterTakesAtMost, BodyTakesAtMost}
-use Rattle.drain_verdict.specs.Texts.{kind_in}
-use Rattle.drain_verdict.specs.Stages.{AreHeadersFor, IsFirstRefusalOf, IsHeaderRefusal, IsLayoutOf, IsLayoutRefusal, AreHeadersOf}
+use Rattle.drain_verdict.specs.Inputs.{Products}
 use Rattle.drain_verdict.proofs.BodyAnswers.{early_none}
 use Rattle.drain_verdict.proofs.HeaderAnswers.{header_refused, headers_are, headers_none, headers_of_same, told_of_same}
-use Rattle.drain_verdict.proofs.LayoutAnswers.{layout_is, layout_refused}
+use Rattle.drain_verdict.proofs.LayoutAnswers.{layout_is, layout_refused, layout_refuses}
 
 -- a layout has a name for each tile
 pub named_each : {R : Type 0} (tiles : List (TileInput R)) (corners : List Corner) → AllZip IsNameOf (names_of tiles) corners → length tiles ≡ length corners
@@ -70,6 +44,13 @@ pub layout_answer : OneName → {R : Type 0} (bytes_left : R → Option (List �
     Encode bytes_left side tiles given ps i → IsLayoutRefusal side (names_of tiles) refusal → IsAnswer i (Err refusal)
 layout_answer one bytes_left side tiles given ps i refusal tell bad =
     layout_refused one i tell.corners_are refusal
+    (told_of_inputs (λ side names. IsLayoutRefusal side names refusal) i side (names_of tiles) tell.side_is tell.names_are bad)
+
+-- so it is of the ground
+pub layout_first : OneName → {R : Type 0} (bytes_left : R → Option (List ℕ)) (side : ℕ) (tiles : List (TileInput R)) (refusal : Refusal) → IsLayoutRefusal side (names_of tiles) refusal →
+    (i : Inputs) → TellTiles bytes_left side tiles i → IsGroundRefusal (tile_ground i) refusal
+layout_first one bytes_left side tiles refusal bad i tell texts =
+    layout_refuses one i texts tell.corners_are refusal
     (told_of_inputs (λ side names. IsLayoutRefusal side names refusal) i side (names_of tiles) tell.side_is tell.names_are bad)
 
 -- no read failed there

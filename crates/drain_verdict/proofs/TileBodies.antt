@@ -1,23 +1,10 @@
 -- What tiles and seams say of the inputs: which of their refusals apply, and which is the first.
-use Rattle.std.proofs.Common.{◌≡◌, ℕ, zero, suc, ◌<◌, List, [], ◌∷◌, slice_get, Some, None, length, arith, refl, sym, subst, Option, MatchOption}
+use Rattle.drain_verdict.proofs.Names.{◌≡◌, zero, suc, ◌<◌, List, [], ◌∷◌, slice_get, Some, None, length, arith, refl, sym, subst, get_or_from_slice_get, slice_get_within, Cell, index_of, Corner, IsTile, IsFirstBadLength, IsFirstRepeated, IsLayout, given_tiles, TilesAgree, IsFirstSeam, BadTileLength, SeamMismatch, IsToldOf, Inputs, HasBadLength, IsSeamFault, TilesRefuse, place_among, tile_ground, tile_place, input_tiles, tiling_of, TileRowLaws, tile_rows_of}
+use Rattle.std.proofs.Common.{ℕ, Option, MatchOption}
 use Rattle.std.specs.List.{All}
-use Rattle.std.proofs.lemmas.Option.{get_or_from_slice_get, slice_get_within}
-use Rattle.drain_grid.specs.declared.cell.Cell.{Cell}
-use Rattle.drain_grid.specs.Extent.{index_of}
-use Rattle.drain_hgt.specs.Corner.{Corner}
-use Rattle.drain_hgt.specs.Samples.{IsTile}
-use Rattle.drain_hgt.specs.Inputs.{IsFirstBadLength}
 use Rattle.drain_mosaic.specs.Tiling as tiling
 use Rattle.drain_mosaic.specs.Mosaic as mosaic
 use Rattle.drain_mosaic.specs.declared.layout.LayoutFault.TheVariants as layout
-use Rattle.drain_mosaic.specs.GivenTiles.{IsFirstRepeated, IsLayout, given_tiles}
-use Rattle.drain_mosaic.specs.Mosaic.{TilesAgree, IsFirstSeam}
-use Rattle.drain_answer.specs.declared.refusal.Refusal.TheVariants.{BadTileLength, SeamMismatch}
-use Rattle.drain_verdict.specs.Ground.{IsToldOf}
-use Rattle.drain_verdict.specs.Inputs.{Inputs}
-use Rattle.drain_verdict.specs.TileGround.{HasBadLength, IsSeamFault, TilesRefuse, place_among, tile_ground, tile_place}
-use Rattle.drain_verdict.specs.Meaning.{input_tiles, tiling_of}
-use Rattle.drain_verdict.specs.TileRows.{TileRowLaws, tile_rows_of}
 use Rattle.drain_verdict.proofs.Order.{at_seam, at_tile}
 use Rattle.drain_verdict.proofs.LayoutAnswers.{place_of_tile, earlier_by_index}
 

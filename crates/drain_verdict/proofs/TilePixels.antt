@@ -1,33 +1,14 @@
 -- A tile's samples as the pixels of a raster: its own bytes are such pixels, and the raster has the tile's elevations.
-use Rattle.std.proofs.Common.{◌≡◌, ◌∙◌, ℕ, zero, suc, ◌+◌, ◌-◌, ◌*◌, ◌/◌, ◌<◌, ◌≤◌, ℤ, pos, Bool, ◌+ℤ◌, ◌-ℤ◌, nat_abs, nat_le, nat_lt, ◌&&◌, if◌then◌else◌, true, List, [], ◌∷◌, length, drop, map, Option, Some, None, arith, refl, sym, ap, subst}
-use Rattle.std.proofs.lemmas.Bool.{le-leb, lt-ltb}
+use Rattle.drain_verdict.proofs.Names.{◌≡◌, ◌∙◌, zero, suc, ◌+◌, ◌-◌, ◌*◌, ◌/◌, ◌<◌, ◌≤◌, ℤ, pos, Bool, ◌+ℤ◌, ◌-ℤ◌, nat_le, nat_lt, ◌&&◌, if◌then◌else◌, true, List, [], ◌∷◌, length, drop, map, Some, None, arith, refl, sym, ap, subst, le-leb, lt-ltb, int_max, int_min, Cell, HeightKind, VOID, Extent, IsCellOf, height_from, Fields, Corner, samples_of, tile_sample_at, first_value, Tiling, extent_of, left_of, top_of, height_with, pixel_at, spelled_as, spelled_by, place, dem_fields, IsTileHeader, SamplesAreElevations, TilesAreRasters}
+use Rattle.std.proofs.Common.{ℕ, nat_abs, Option}
 use Rattle.std.proofs.lemmas.Int.{ints}
 use Rattle.std.proofs.lemmas.Nat.{mul-add-lt}
-use Rattle.std.specs.Int.{int_max, int_min}
 use Rattle.std.specs.Option.{option_or}
 use Rattle.std.specs.Prelude.{slice_index_or}
-use Rattle.drain_grid.specs.declared.cell.Cell.{Cell}
-use Rattle.drain_grid.specs.declared.height_kind.HeightKind.{HeightKind}
-use Rattle.drain_grid.specs.declared.tile.TheConstants.{VOID}
-use Rattle.drain_grid.specs.Extent.{Extent, IsCellOf}
-use Rattle.drain_grid.specs.Grid.{IsSide, height_from}
 use Rattle.drain_header.specs.declared.header.ByteOrdering.{ByteOrdering}
 use Rattle.drain_header.specs.declared.header.ByteOrdering.TheVariants.{Most}
-use Rattle.drain_header.specs.Header.{Fields}
-use Rattle.drain_hgt.specs.Corner.{Corner}
-use Rattle.drain_hgt.specs.Samples.{IsTile, samples_of, tile_sample_at}
 use Rattle.drain_mosaic.proofs.Agreement.{all_true}
 use Rattle.drain_mosaic.specs.Mosaic as mosaic
-use Rattle.drain_mosaic.specs.Mosaic.{first_value, value_from}
-use Rattle.drain_mosaic.specs.Tiling.{Tiling, extent_of, left_of, top_of}
-use Rattle.drain_pixels.specs.Ground.{height_with}
-use Rattle.drain_raster.specs.Pixels.{pixel_at, spelled_as, spelled_by}
-use Rattle.drain_rules.specs.Rows.{place}
-use Rattle.drain_verdict.specs.DemGround.{DemTexts, dem_fields, dem_ground}
-use Rattle.drain_verdict.specs.Ground.{Ground}
-use Rattle.drain_verdict.specs.Inputs.{Inputs}
-use Rattle.drain_verdict.specs.SameGround.{HasSamplesOf, HaveOneElevation, IsTileHeader, SamplesAreElevations, TilesAreRasters}
-use Rattle.drain_verdict.specs.TileGround.{tile_ground}
 
 -- the k-th sample is the number of the k-th pair of bytes
 sample_is : (bytes : List ℕ) (k : ℕ) → 2 * k + 1 < length bytes →

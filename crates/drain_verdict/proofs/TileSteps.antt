@@ -1,39 +1,12 @@
 -- One more row of a mosaic, and what tiles are to give and have read.
-use Rattle.std.proofs.Common.{◌≡◌, ◌<◌, ◌+◌, ◌≤◌, ℕ, ℤ, Bool, false, IsTrue, List, length, Option, Some, None, Ok, arith, refl, sym, ap, subst, ◌∙◌, slice_get, map}
-use Rattle.std.proofs.lemmas.List.{get_or-map, length-map}
-use Rattle.std.proofs.lemmas.Slice.Zip.{AllZip-long}
-use Rattle.drain_device.specs.FaultLists.{SomeReadFails}
-use Rattle.drain_device.specs.RowSteps.{Coming, after_rows, coming_at, nth_row, IsEmptyUnlessRow, IsLong, Steps}
-use Rattle.drain_device.specs.RowSteps.Coming.{Next, End, Wrong}
-use Rattle.drain_device.specs.declared.counts.FaultCounts.{FaultCounts}
-use Rattle.drain_device.specs.declared.row_source.Progress.{Progress}
-use Rattle.drain_device.specs.declared.row_source.Progress.TheVariants.{Stopped}
-use Rattle.drain_device.specs.declared.row_source.RowStep.{RowStep}
-use Rattle.drain_device.specs.declared.row_source.RowStep.TheVariants.{Row, Ended}
+use Rattle.drain_verdict.proofs.Names.{◌≡◌, ◌<◌, ◌+◌, ◌≤◌, ℤ, Bool, false, IsTrue, List, length, Some, None, Ok, arith, refl, sym, ap, subst, ◌∙◌, slice_get, map, get_or-map, length-map, AllZip-long, SomeReadFails, Coming, after_rows, coming_at, nth_row, IsEmptyUnlessRow, Steps, Next, End, Wrong, FaultCounts, Progress, Stopped, RowStep, Row, Ended, VOID, AgreementGivesElevation, OneName, TilesTakeAtMost, names_of, tile_devices, TileInput, IsToldAtEnd, coming_of, seam_to_tell, wrong_to_tell, mosaic_coming, NewRowsAreOfBodies, Tile, TilesAgree, first_value, Corner, Cell, BadTileLength, SeamMismatch, Tiling, extent_of, elevations, height_with, whole_voids, place, AreGroundRows, GroundToGive, IsLaidOn, IsToldOf, NoneRefusesBefore, AreOneElevation, Inputs, input_tiles, set_of, TellTiles, IsPlaced, tile_ground, IsLayoutOf, tiling_of, IsMosaicAfter, IsMosaicBegun, IsMosaicOneMore, IsTilingOf, TileRowLaws, TilesHaveRead, tile_rows_of}
+use Rattle.std.proofs.Common.{ℕ, Option}
+use Rattle.std.proofs.Math.IntN.{ℤ_discrete}
 use Rattle.drain_grid.specs.declared.height_kind.HeightKind.TheVariants.{Whole}
-use Rattle.drain_grid.specs.declared.tile.TheConstants.{VOID}
-use Rattle.drain_hgt.specs.Laws.{OneName}
-use Rattle.drain_hgt.specs.Inputs.{TilesTakeAtMost, names_of, tile_devices}
-use Rattle.drain_hgt.specs.declared.input.TileInput.{TileInput}
-use Rattle.drain_mosaic.specs.GivenTiles.{IsToldAtEnd, coming_of, seam_to_tell, wrong_to_tell, mosaic_coming}
-use Rattle.drain_mosaic.specs.Laws.{NewRowsAreOfBodies}
-use Rattle.drain_mosaic.specs.Mosaic.{Tile, first_value}
 use Rattle.drain_mosaic.specs.PlacedRows.{AreTold, HaveRead, first_stopped}
-use Rattle.drain_hgt.specs.Corner.{Corner}
-use Rattle.drain_grid.specs.declared.cell.Cell.{Cell}
-use Rattle.drain_answer.specs.declared.refusal.Refusal.TheVariants.{BadTileLength, SeamMismatch}
-use Rattle.drain_mosaic.specs.Tiling.{Tiling, extent_of}
 use Rattle.drain_mosaic.specs.declared.mosaic_rows.MosaicRows.{MosaicRows}
 use Rattle.drain_mosaic.proofs.TileReads.{reads-fail, reads-none, reads-told, reads-then, reads-within}
 use Rattle.drain_mosaic.proofs.MosaicSteps.{have-so}
-use Rattle.drain_pixels.specs.Ground.{elevations, height_with, whole_voids}
-use Rattle.drain_rules.specs.Rows.{place}
-use Rattle.drain_verdict.specs.Ground.{AreGroundRows, GroundToGive, IsLaidOn, IsToldOf, NoneRefusesBefore}
-use Rattle.drain_verdict.specs.Inputs.{Inputs}
-use Rattle.drain_verdict.specs.TileGround.{set_of, TellTiles, IsPlaced, tile_ground}
-use Rattle.drain_verdict.specs.Stages.{IsLayoutOf}
-use Rattle.drain_verdict.specs.Meaning.{tiling_of}
-use Rattle.drain_verdict.specs.TileRows.{IsMosaicAfter, IsMosaicBegun, IsMosaicOneMore, IsTilingOf, TileRowLaws, TilesHaveRead, tile_rows_of}
 use Rattle.drain_verdict.proofs.LayoutAnswers.{layout_is, layout_none}
 use Rattle.drain_verdict.proofs.Order.{own_early}
 use Rattle.drain_verdict.proofs.RasterSteps.{IsTaken, row_taken, end_taken}
@@ -122,6 +95,16 @@ mosaic_starts bl law t m tiles i tell is begun =
       wrong_is = mosaic.wrong_is;
       at_end = λ m none. absurd (omega (arith, none));
     }
+
+same_value : (v w : ℤ) → ¬ (¬ (v ≡ w)) → v ≡ w
+same_value v w h = elim (ℤ_discrete v w) [ yes same ↦ same | no differ ↦ absurd (h differ) ]
+
+-- if no seam has two values, the tiles agree on one elevation raster
+pub tiles_agree : AgreementGivesElevation → (i : Inputs) → IsToldOf (tile_ground i) 7 None → AreOneElevation i
+tiles_agree law i none = record { tiles_agree = agree; elevation = law (tiling_of i) (input_tiles i) agree }
+  where
+    agree : TilesAgree (tiling_of i) (input_tiles i)
+    agree c v w inside is_v is_w = same_value v w (λ differ. none (SeamMismatch c) refl (inside, record { one = v; other = w; is_one = is_v; is_other = is_w; differ = differ }))
 
 -- the rows of tiles of the right length are those of the ground
 pub tiles_rows : TileRowLaws → (t : Tiling) (i : Inputs) → IsTilingOf t i → IsToldOf (tile_ground i) 5 None → AreGroundRows (tile_ground i) (tile_rows_of i)

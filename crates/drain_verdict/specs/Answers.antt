@@ -1,27 +1,12 @@
 -- The answer to the bytes: the first refusal that applies, else the verdict; and what an acceptance means.
-use Rattle.std.specs.Prelude.{ℕ, Result, Ok, Err, ◌≡◌, ℤ, pos, is_some, List, Option, Some, None, if◌then◌else◌}
-use Rattle.drain_grid.specs.Grid.{Grid, Products}
-use Rattle.drain_grid.specs.declared.verdict.Verdict.{Verdict}
-use Rattle.drain_grid.specs.PatchRules.{check_rules}
-use Rattle.drain_rules.specs.Verdicts.{IsVerdictOf, IsVerdict}
-use Rattle.drain_grid.specs.declared.judged.Judged.{Judged}
-use Rattle.drain_grid.specs.declared.judged.Rules.{Rules}
-use Rattle.drain_answer.specs.declared.refusal.Refusal.{Refusal}
+use Rattle.std.specs.Prelude.{◌≡◌, if◌then◌else◌}
+use Rattle.drain_verdict.specs.Names.{ℕ, Result, Ok, Err, ℤ, pos, is_some, List, Option, Some, None, Grid, Products, Verdict, check_rules, IsVerdictOf, IsVerdict, Judged, Rules, Refusal, Cell, run_steps, with_ranks, with_rank_nodata, IsFirstEndless, unranked, IsCorrect, NoDataNumbers, TileInput, AllRunsEnd, AuditProducts, AuditVerdict}
 use Rattle.drain_verdict.specs.Given.{Given}
 use Rattle.drain_verdict.specs.Inputs.{Inputs, as_five, Encode}
-use Rattle.drain_verdict.specs.GroundSets.{AreNotesIn, GroundSet, IsReadable, IsRefusalIn, rules_in, set_grid, set_numbers, set_products}
+use Rattle.drain_verdict.specs.GroundSets.{GroundSet, IsReadable, IsRefusalIn, rules_in, set_grid, set_numbers, set_products}
 use Rattle.drain_verdict.specs.Meaning.{input_grid, input_products, nodata_numbers}
 use Rattle.drain_verdict.specs.TileGround.{set_of}
-use Rattle.drain_grid.specs.declared.cell.Cell.{Cell}
-use Rattle.drain_grid.specs.Unranked.{run_steps, with_ranks, with_rank_nodata, IsFirstEndless, unranked}
-use Rattle.drain_grid.specs.Correct.{IsCorrect}
-use Rattle.drain_grid.specs.Extent.{IsExtent}
-use Rattle.drain_grid.specs.Values.{NoDataNumbers}
-use Rattle.drain_hgt.specs.declared.input.TileInput.{TileInput}
-use Rattle.drain_rows.specs.GridRows.{AllRunsEnd}
 use Rattle.drain_paths.specs.declared.walk.TheConstants.{UNKNOWN}
-use Rattle.drain_sets.specs.declared.raster_input.AuditProducts.{AuditProducts}
-use Rattle.drain_answer.specs.declared.outcome.AuditVerdict.{AuditVerdict}
 use Rattle.drain_answer.specs.declared.outcome.AuditVerdict.TheVariants.{Accepted, Rejected, NoEnd}
 use Rattle.drain_grid.specs.declared.verdict.Verdict.TheVariants as checked
 
@@ -44,10 +29,6 @@ IsAnswer i answer = IsAnswerIn (set_of i) answer
 -- the rules about judged rasters of the inputs
 abbrev pub rules_at : Judged → Inputs → Rules
 rules_at judged i = rules_in judged (set_of i)
-
--- notes of a grid's rows that are of all rows of the inputs' grid, under these rules
-abbrev pub AreNotesOf : {K : Type 0} → (Rules → Grid → Products → ℕ → K → Type 0) → Judged → Inputs → K → Type 0
-AreNotesOf are_of judged i notes = AreNotesIn are_of judged (set_of i) notes
 
 -- What an audit answers: whether four products are correct, with ranks of its own in place of a certificate.
 -- Source: correct products are in the words of the literature; that paths without an end come first is our own.
@@ -83,13 +64,6 @@ abbrev pub IsPlainVerdict : Grid → Products → NoDataNumbers → AuditVerdict
 IsPlainVerdict g ps nodata (NoEnd row col) = IsFirstEndless g ps (record { row = row; col = col })
 IsPlainVerdict g ps nodata (Accepted counts) = AllRunsEnd g ps × IsVerdictOf (unranked nodata) g ps (checked.Accepted counts)
 IsPlainVerdict g ps nodata (Rejected rule row col) = AllRunsEnd g ps × IsVerdictOf (unranked nodata) g ps (checked.Rejected rule row col)
-
-abbrev pub IsPlainIn : GroundSet → Result AuditVerdict Refusal → Type 0
-IsPlainIn s (Ok verdict) = IsReadable s × IsExtent (set_grid s).extent × IsPlainVerdict (set_grid s) (set_products s) (set_numbers s) verdict
-IsPlainIn s (Err refusal) = IsRefusalIn s refusal
-
-abbrev pub IsAnswerWithoutRanks : Inputs → Result AuditVerdict Refusal → Type 0
-IsAnswerWithoutRanks i answer = IsPlainIn (set_of i) answer
 
 -- the verdict of the rules, and the first path without an end, if there is one, make this one
 abbrev pub IsOfBoth : Verdict → Option Cell → AuditVerdict → Type 0

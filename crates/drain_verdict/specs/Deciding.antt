@@ -1,18 +1,9 @@
 -- What decides besides the rules about judged rasters.
-use Rattle.std.specs.Prelude.{◌≡◌, ◌*◌, List, length, Option, None, MatchOption}
-use Rattle.drain_filled.specs.Compared.{IsFirstUnfilled}
-use Rattle.drain_grid.specs.declared.cell.Cell.{Cell}
-use Rattle.drain_grid.specs.declared.judged.Judged.{Judged}
-use Rattle.drain_grid.specs.declared.judged.Judged.TheVariants.{Con, ConDir, ConDirAcc, ConDirBas, All, AllWithRanks}
-use Rattle.drain_grid.specs.declared.verdict.Verdict.{Verdict}
+use Rattle.std.specs.Prelude.{◌≡◌, ◌*◌}
+use Rattle.drain_verdict.specs.Names.{List, length, Option, None, MatchOption, IsFirstUnfilled, Cell, Judged, ConDir, ConDirAcc, ConDirBas, AllWithRanks, Verdict, IsFirstEndless, Grid, Products, IsLeastSurface, Extent, Flow, AllRunsEnd}
+use Rattle.drain_grid.specs.declared.judged.Judged.TheVariants.{Con, All}
 use Rattle.drain_grid.specs.declared.verdict.Verdict.TheVariants.{Accepted, Rejected}
-use Rattle.drain_grid.specs.Unranked.{IsFirstEndless}
-use Rattle.drain_grid.specs.Grid.{Grid, Products}
-use Rattle.drain_grid.specs.Path.{IsLeastSurface}
-use Rattle.drain_grid.specs.Extent.{Extent}
-use Rattle.drain_paths.specs.declared.flow.Flow.{Flow}
 use Rattle.drain_paths.specs.Walks.{AreKnownFlows}
-use Rattle.drain_rows.specs.GridRows.{AllRunsEnd}
 
 -- of rasters with directions the first cell whose path doesn't end, none if all end
 abbrev pub IsEndlessCell : Grid → Products → Option Cell → Type 0

@@ -1,32 +1,16 @@
 -- The ground of one raster of elevations: what its header and its body mean, and what a reader of its rows is to give.
 -- Which refusals there are, and their order, is this project's own.
-use Rattle.std.specs.Prelude.{◌≡◌, ℕ, ℤ, List, [], ◌∷◌, ◌++◌, length, map, Option, Some, None, Bool, IsTrue, Result, Err}
-use Rattle.drain_answer.specs.declared.refusal.Refusal.{Refusal}
-use Rattle.drain_answer.specs.declared.refusal.Refusal.TheVariants.{BadDemHeader, BadPixelSize, DemShort}
-use Rattle.drain_device.specs.Reads.{TakesAtMost}
-use Rattle.drain_device.specs.declared.counts.FaultCounts.{FaultCounts}
-use Rattle.drain_grid.specs.declared.cell.Cell.{Cell}
-use Rattle.drain_grid.specs.Extent.{IsCellOf}
-use Rattle.drain_header.specs.Faults.{AnswersOf, DescribesOf}
-use Rattle.drain_header.specs.Header.{AreWithinBounds, Fields, fields_of, header_of}
+use Rattle.std.specs.Prelude.{◌≡◌, ◌∷◌, ◌++◌}
+use Rattle.drain_verdict.specs.Names.{ℕ, List, [], length, map, Option, Some, None, Bool, IsTrue, Result, Err, Refusal, BadDemHeader, BadPixelSize, DemShort, TakesAtMost, FaultCounts, Cell, IsCellOf, AnswersOf, DescribesOf, AreWithinBounds, Fields, fields_of, header_of, RasterRows, Voids, IsShort, header_extent, needed_len, HasPixelSize, LiesOn, raster_rows, lines_of, RasterInput, AuditProducts}
 use Rattle.drain_header.specs.Lines.{kind_of}
-use Rattle.drain_raster.specs.declared.raster_rows.RasterRows.{RasterRows}
-use Rattle.drain_pixels.specs.declared.voids.Voids.{Voids}
 use Rattle.drain_raster.specs.Elevations.{elevation_in, voids_of}
-use Rattle.drain_raster.specs.Pixels.{IsShort, header_extent, needed_len}
-use Rattle.drain_raster.specs.Placing.{HasPixelSize, LiesOn}
-use Rattle.drain_raster.specs.RasterRows.{raster_rows}
-use Rattle.drain_text.specs.Text.{lines_of}
-use Rattle.drain_sets.specs.declared.raster_input.RasterInput.{RasterInput}
 use Rattle.drain_verdict.specs.Given.{Given}
 use Rattle.drain_verdict.specs.Ground.{Ground, GroundToGive}
-use Rattle.drain_verdict.specs.GroundSets.{EncodeTexts, ForSet, GroundSet}
-use Rattle.drain_verdict.specs.Texts.{SetTexts}
+use Rattle.drain_verdict.specs.GroundSets.{ForSet, ForTexts, GroundSet}
 use Rattle.drain_verdict.specs.InputReads.{RasterHasRead}
 use Rattle.drain_verdict.specs.InputRows.{IsRasterBegun}
 use Rattle.drain_verdict.specs.Inputs.{Products, four_devices}
 use Rattle.drain_verdict.specs.Uses.{UsesSet, set_devices}
-use Rattle.drain_sets.specs.declared.raster_input.AuditProducts.{AuditProducts}
 use Rattle.drain_verdict.specs.ToGive.{IsAfterTold}
 
 -- the header and the body of a raster of elevations
@@ -103,7 +87,7 @@ ForDem bytes_left dem given ps Fact = ForSet dem_ground (EncodesDem bytes_left d
 
 -- the fact holds of the raster of the call
 abbrev pub ForDemTexts : {R : Type 0} → (R → Option (List ℕ)) → List (RasterInput R) → Given → Products R → (DemTexts → Type 0) → Type 0
-ForDemTexts bytes_left dem given ps Fact = (d : DemTexts) (t : SetTexts) → EncodesDem bytes_left dem d → EncodeTexts bytes_left given ps t → Fact d
+ForDemTexts bytes_left dem given ps Fact = ForTexts (EncodesDem bytes_left dem) bytes_left given ps Fact
 
 -- the header is what its text says, and the elevation of each cell is the pixel that the bytes mean, none where that means
 -- a void

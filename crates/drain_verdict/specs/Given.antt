@@ -1,10 +1,6 @@
 -- What is given beside the rasters: a list of sinks, and how far apart cells are.
-use Rattle.std.specs.Prelude.{◌≡◌, ◌≢◌, ℕ, List, [], length, Result, Ok, Err}
-use Rattle.drain_grid.specs.Extent.{Extent}
-use Rattle.drain_grid.specs.declared.height_kind.HeightKind.{HeightKind}
-use Rattle.drain_grid.specs.Spacing.{Distances, RowSpacings, of_kind, unit_spacing}
-use Rattle.drain_grid.specs.SpacingTexts.{rows_listed, spacing_in, spacings_of}
-use Rattle.drain_sets.specs.GivenSpacings.{GivenSpacing, by_row, same}
+use Rattle.std.specs.Prelude.{◌≡◌, ◌≢◌}
+use Rattle.drain_verdict.specs.Names.{ℕ, List, [], length, Result, Ok, Err, Extent, HeightKind, Distances, RowSpacings, of_kind, unit_spacing, rows_listed, spacing_in, spacings_of, GivenSpacing, by_row, same}
 
 -- the list of sinks, and how far apart cells are
 pub record Given : Type 0 where

@@ -1,16 +1,7 @@
 -- What the bytes of a ground mean: where it lies, how high it is, and why it is refused. A ground is whatever gives the
 -- elevations: tiles, or a raster of them. Source: this project's own.
-use Rattle.std.specs.Prelude.{◌≡◌, ◌↔◌, ℕ, ◌<◌, ℤ, List, [], length, slice_index_or, Option, Some, None}
-use Rattle.drain_answer.specs.declared.refusal.Refusal.{Refusal}
-use Rattle.drain_answer.specs.declared.refusal.Refusal.TheVariants.{BadSide, BadName, NoTiles, RepeatedTile, BoxTooLarge, BadHeader, WrongShape, Misplaced, BadTileLength, RasterShort, SeamMismatch, BadSinkLine, SinkNotData, BadSpacingLine, SpacingRows, BadDemHeader, BadPixelSize, DemShort, OutOfMemory, ReadFailed}
-use Rattle.drain_device.specs.RowSteps.{Coming, nth_row}
-use Rattle.drain_grid.specs.declared.cell.Cell.{Cell}
-use Rattle.drain_grid.specs.declared.height_kind.HeightKind.{HeightKind}
-use Rattle.drain_grid.specs.Extent.{Extent}
-use Rattle.drain_header.specs.declared.header.Place.{Place}
-use Rattle.drain_pixels.specs.declared.voids.Voids.{Voids}
-use Rattle.drain_pixels.specs.Ground.{elevations}
-use Rattle.drain_rules.specs.Rows.{place}
+use Rattle.std.specs.Prelude.{◌≡◌, ◌↔◌, ◌<◌}
+use Rattle.drain_verdict.specs.Names.{ℕ, ℤ, List, [], length, slice_index_or, Option, Some, None, Refusal, BadSide, BadName, NoTiles, RepeatedTile, BoxTooLarge, BadHeader, WrongShape, Misplaced, BadTileLength, RasterShort, SeamMismatch, BadSinkLine, SinkNotData, BadSpacingLine, SpacingRows, BadDemHeader, BadPixelSize, DemShort, OutOfMemory, ReadFailed, Coming, nth_row, Cell, HeightKind, Extent, Place, Voids, elevations, place}
 
 -- its size; its elevations, and what their numbers stand for; which places a raster may have that lies on it; which of its own refusals apply; and the
 -- place of each of these among those of its kind

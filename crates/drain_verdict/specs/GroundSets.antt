@@ -1,22 +1,7 @@
 -- A ground with a list of sinks, its spacing and its products: what their bytes mean, and why they are refused.
-use Rattle.std.specs.Prelude.{◌≡◌, ℕ, ◌+◌, ◌*◌, ◌<◌, List, Option, Some, Result, Ok, Err}
-use Rattle.drain_answer.specs.declared.refusal.Refusal.{Refusal}
-use Rattle.drain_answer.specs.declared.refusal.Refusal.TheVariants.{BadHeader, WrongShape, Misplaced, RasterShort, BadSinkLine, SinkNotData, BadSpacingLine, SpacingRows, OutOfMemory, ReadFailed}
-use Rattle.drain_grid.specs.declared.height_kind.HeightKind.{HeightKind}
-use Rattle.drain_grid.specs.declared.judged.Judged.{Judged}
-use Rattle.drain_grid.specs.declared.judged.Rules.{Rules}
-use Rattle.drain_grid.specs.declared.per_product.PerProduct.{PerProduct}
-use Rattle.drain_grid.specs.declared.set_product.SetProduct.{SetProduct}
+use Rattle.std.specs.Prelude.{◌≡◌, ◌+◌, ◌*◌, ◌<◌}
+use Rattle.drain_verdict.specs.Names.{ℕ, List, Option, Some, Result, Ok, Err, Refusal, BadHeader, WrongShape, Misplaced, RasterShort, BadSinkLine, SinkNotData, BadSpacingLine, SpacingRows, OutOfMemory, ReadFailed, HeightKind, Judged, Rules, PerProduct, SetProduct, IsOffData, of_product, OfSetProduct, place_of, sinks_of, NoDataNumbers, AnswersOf, Fields, header_extent, IsShort, IsFirst}
 use Rattle.drain_grid.specs.Grid as grid
-use Rattle.drain_grid.specs.OffData.{IsOffData}
-use Rattle.drain_grid.specs.PerProduct.{of_product}
-use Rattle.drain_grid.specs.SetProduct.{OfSetProduct, place_of}
-use Rattle.drain_grid.specs.SinkTexts.{sinks_of}
-use Rattle.drain_grid.specs.Values.{NoDataNumbers}
-use Rattle.drain_header.specs.Faults.{AnswersOf}
-use Rattle.drain_header.specs.Header.{Fields}
-use Rattle.drain_raster.specs.Pixels.{header_extent, IsShort}
-use Rattle.drain_text.specs.First.{IsFirst}
 use Rattle.drain_verdict.specs.Given.{Given, HasBadSpacing, HasOtherRows}
 use Rattle.drain_verdict.specs.Ground.{Ground, refusal_kind}
 use Rattle.drain_verdict.specs.Inputs.{Products}
@@ -37,6 +22,10 @@ pub record EncodeTexts {R : Type 0} (bytes_left : R → Option (List ℕ)) (give
 abbrev pub ForSet : {X R : Type 0} → (X → Ground) → (X → Type 0) → (R → Option (List ℕ)) → Given → Products R → (GroundSet → Type 0) → Type 0
 ForSet {X} terrain Means bytes_left given ps Fact =
     (x : X) (t : SetTexts) → Means x → EncodeTexts bytes_left given ps t → Fact (record { terrain = terrain x; texts = t })
+
+-- the fact holds of what the inputs of the call mean, where the texts too are known
+abbrev pub ForTexts : {X R : Type 0} → (X → Type 0) → (R → Option (List ℕ)) → Given → Products R → (X → Type 0) → Type 0
+ForTexts {X} Means bytes_left given ps Fact = (x : X) (t : SetTexts) → Means x → EncodeTexts bytes_left given ps t → Fact x
 
 -- What the bytes mean.
 
@@ -106,6 +95,10 @@ abbrev pub IsRefusalIn : GroundSet → Refusal → Type 0
 IsRefusalIn s OutOfMemory = Unit {0}
 IsRefusalIn s ReadFailed = Unit {0}
 IsRefusalIn s refusal = IsFirst (order_in s) (StandsIn s) refusal
+
+-- so it is of the ground, whatever is said to lie on it
+abbrev pub IsGroundRefusal : Ground → Refusal → Type 0
+IsGroundRefusal g refusal = (t : SetTexts) → IsRefusalIn (record { terrain = g; texts = t }) refusal
 
 -- the set is read to the end: no refusal applies, or this is the first
 abbrev pub IsReadIn : GroundSet → Result (Unit {0}) Refusal → Type 0

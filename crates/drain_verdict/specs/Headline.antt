@@ -1,15 +1,7 @@
 -- What an acceptance means, a fact each.
-use Rattle.std.specs.Prelude.{◌≡◌, pos, ◌↔◌, ℕ, List, Option, IsNone, Result}
-use Rattle.drain_grid.specs.declared.cell.Cell.{Cell}
-use Rattle.drain_grid.specs.Grid.{IsInside, HasData}
-use Rattle.drain_grid.specs.Path.{IsLeastSurface}
+use Rattle.std.specs.Prelude.{◌≡◌, ◌↔◌}
+use Rattle.drain_verdict.specs.Names.{pos, ℕ, List, Option, IsNone, Result, Cell, IsInside, HasData, IsLeastSurface, IsBlankAt, IsCompleteAt, NeverClimbs, GoesSteepest, TileInput, TilesAgree, IsElevation, Verdict, IfAccepted, Refusal}
 use Rattle.drain_grid.specs.Run.{IsFlatCell, IsOutlet, run, run_end, RunEnds, VisitsOnce, upstream_count, ShareBasin}
-use Rattle.drain_grid.specs.Correct.{IsBlankAt, IsCompleteAt, NeverClimbs, GoesSteepest}
-use Rattle.drain_hgt.specs.declared.input.TileInput.{TileInput}
-use Rattle.drain_mosaic.specs.Mosaic.{TilesAgree, IsElevation}
-use Rattle.drain_grid.specs.declared.verdict.Verdict.{Verdict}
-use Rattle.drain_rules.specs.Verdicts.{IfAccepted}
-use Rattle.drain_answer.specs.declared.refusal.Refusal.{Refusal}
 use Rattle.drain_verdict.specs.Given.{Given}
 use Rattle.drain_verdict.specs.Inputs.{Inputs, Encode, Products}
 use Rattle.drain_verdict.specs.GroundSets.{GroundSet, set_grid, set_numbers, set_products}
@@ -31,6 +23,11 @@ TilesAreOne i = TilesAgree (tiling_of i) (input_tiles i)
 -- the elevation of each cell is its one value in the tiles, and it is void if it has none
 abbrev pub ElevationIsTheirs : Inputs → Type 0
 ElevationIsTheirs i = IsElevation (tiling_of i) (input_tiles i) (input_grid i).elevation
+
+-- the tiles agree on one elevation raster, which the grid has
+pub record AreOneElevation (i : Inputs) : Type 0 where
+  pub tiles_agree : TilesAreOne i
+  pub elevation : ElevationIsTheirs i
 
 -- what an acceptance means of the products of a set, a sentence a field
 pub record ProductsAreRight (s : GroundSet) : Type 0 where

@@ -1,17 +1,8 @@
 -- What was read of a ground and its products between two of their rows, and which device failed for good.
-use Rattle.std.specs.Prelude.{◌≡◌, ℕ, ◌⊎◌, ◌↔◌, List, Option, Some, Bool, IsTrue}
-use Rattle.drain_device.specs.Failing.{PartFails}
-use Rattle.drain_device.specs.RowSteps.{ReadsWithin}
-use Rattle.drain_device.specs.declared.counts.FaultCounts.{FaultCounts}
-use Rattle.drain_grid.specs.declared.set_product.SetProduct.{SetProduct}
-use Rattle.drain_grid.specs.declared.per_product.PerProduct.{PerProduct}
-use Rattle.drain_grid.specs.PerProduct.{of_product}
-use Rattle.drain_raster.specs.declared.raster_rows.RasterRows.{RasterRows}
-use Rattle.drain_raster.specs.RasterRows.{raster_most_bytes}
+use Rattle.std.specs.Prelude.{◌≡◌, ◌⊎◌, ◌↔◌}
+use Rattle.drain_verdict.specs.Names.{ℕ, List, Option, Some, Bool, IsTrue, PartFails, ReadsWithin, FaultCounts, SetProduct, PerProduct, of_product, RasterRows, raster_most_bytes, Refusal, ReadFailed}
 use Rattle.drain_verdict.specs.Inputs.{Products}
 use Rattle.drain_verdict.specs.declared.input_rows.InputRows.{InputRows}
-use Rattle.drain_answer.specs.declared.refusal.Refusal.{Refusal}
-use Rattle.drain_answer.specs.declared.refusal.Refusal.TheVariants.{ReadFailed}
 use Rattle.drain_verdict.specs.Reading.{IsOfReading}
 
 -- calls for a raster: its device gave at most what was to be read, less what still is; this number of its faults was

@@ -1,18 +1,9 @@
 -- Readers of a set's rows at their start, and what they report once all rows are read.
-use Rattle.std.specs.Prelude.{◌≡◌, ◌<◌, ◌⊎◌, Option, Some, None, MatchOption}
-use Rattle.drain_device.specs.Failing.{full_patience}
-use Rattle.drain_device.specs.declared.row_source.Progress.TheVariants.{Going, Stopped}
-use Rattle.drain_grid.specs.declared.per_product.PerProduct.{PerProduct}
-use Rattle.drain_grid.specs.declared.set_product.SetProduct.{SetProduct}
-use Rattle.drain_grid.specs.PerProduct.{of_product}
-use Rattle.drain_grid.specs.SetProduct.{OfSetProduct, rank_of}
-use Rattle.drain_header.specs.Header.{AreWithinBounds, Fields}
-use Rattle.drain_raster.specs.declared.raster_rows.RasterRows.{RasterRows}
+use Rattle.std.specs.Prelude.{◌≡◌, ◌<◌, ◌⊎◌}
+use Rattle.drain_verdict.specs.Names.{Option, Some, None, MatchOption, full_patience, Going, Stopped, PerProduct, SetProduct, of_product, OfSetProduct, rank_of, AreWithinBounds, Fields, RasterRows, Refusal, RasterShort}
 use Rattle.drain_verdict.specs.Ground.{Ground, IsToldOf}
 use Rattle.drain_verdict.specs.Inputs.{Products}
 use Rattle.drain_verdict.specs.declared.input_rows.InputRows.{InputRows}
-use Rattle.drain_answer.specs.declared.refusal.Refusal.{Refusal}
-use Rattle.drain_answer.specs.declared.refusal.Refusal.TheVariants.{RasterShort}
 
 -- the first row of a raster with this header is to come
 pub record IsRasterBegun (h : Fields) (raster : RasterRows) : Type 0 where

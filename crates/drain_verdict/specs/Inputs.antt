@@ -1,17 +1,8 @@
 -- The bytes that a check is about.
-use Rattle.std.specs.Prelude.{◌≡◌, ℕ, List, Option, Some, [], ◌∷◌, ◌++◌}
-use Rattle.std.specs.List.{All, AllZip}
-use Rattle.drain_grid.specs.declared.set_product.SetProduct.{SetProduct}
-use Rattle.drain_grid.specs.declared.per_product.PerProduct.{PerProduct}
-use Rattle.drain_grid.specs.PerProduct.{of_product}
-use Rattle.drain_hgt.specs.declared.input.TileInput.{TileInput}
-use Rattle.drain_hgt.specs.Corner.{Corner}
-use Rattle.drain_hgt.specs.Name.{IsNameOf}
-use Rattle.drain_hgt.specs.Inputs.{names_of, AreBodies, tile_devices}
+use Rattle.std.specs.Prelude.{◌≡◌, ◌∷◌, ◌++◌}
+use Rattle.drain_verdict.specs.Names.{ℕ, List, Option, Some, [], AllZip, SetProduct, PerProduct, of_product, TileInput, Corner, IsNameOf, names_of, AreBodies, tile_devices, RasterInput, RasterRows, AuditProducts}
+use Rattle.std.specs.List.{All}
 use Rattle.drain_verdict.specs.Given.{Given}
-use Rattle.drain_sets.specs.declared.raster_input.RasterInput.{RasterInput}
-use Rattle.drain_raster.specs.declared.raster_rows.RasterRows.{RasterRows}
-use Rattle.drain_sets.specs.declared.raster_input.AuditProducts.{AuditProducts}
 
 -- the side, the names of the tiles, which tiles they name, the tiles' bodies, the list of sinks and how far apart cells are,
 -- and each product's header and body

@@ -1,13 +1,7 @@
 -- What is said of the judged rasters of a set.
-use Rattle.std.specs.Prelude.{Result, Ok, Err}
-use Rattle.drain_answer.specs.declared.refusal.Refusal.{Refusal}
-use Rattle.drain_grid.specs.declared.judged.Judged.{Judged}
-use Rattle.drain_grid.specs.Extent.{IsExtent}
-use Rattle.drain_rules.specs.Verdicts.{IsVerdictBy}
+use Rattle.drain_verdict.specs.Names.{Result, Ok, Err, Refusal, Judged, IsExtent, IsVerdictBy}
 use Rattle.drain_verdict.specs.Deciding.{IsDecided}
-use Rattle.drain_verdict.specs.Inputs.{Inputs}
 use Rattle.drain_verdict.specs.GroundSets.{GroundSet, IsReadable, IsRefusalIn, rules_in, set_grid, set_products}
-use Rattle.drain_verdict.specs.TileGround.{set_of}
 use Rattle.drain_verdict.specs.declared.judgement.Judgement.{Judgement}
 
 -- no refusal applies, the grid has a size, the verdict is that of the rules about the judged rasters, and the cell decides besides
@@ -21,7 +15,3 @@ pub record IsJudgementOf {W : Type 0} (judged : Judged) (s : GroundSet) (j : Jud
 abbrev pub IsJudgementIn : {W : Type 0} → Judged → GroundSet → Result (Judgement W) Refusal → Type 0
 IsJudgementIn judged s (Ok j) = IsJudgementOf judged s j
 IsJudgementIn judged s (Err refusal) = IsRefusalIn s refusal
-
--- so of the inputs
-abbrev pub IsJudgement : {W : Type 0} → Judged → Inputs → Result (Judgement W) Refusal → Type 0
-IsJudgement judged i answer = IsJudgementIn judged (set_of i) answer

@@ -1,9 +1,6 @@
 -- What the contracts of a check rest on.
-use Rattle.std.specs.Prelude.{ℕ, List, Option, IsSome}
+use Rattle.drain_verdict.specs.Names.{ℕ, List, Option, IsSome, SetProduct, TileInput, of_product}
 use Rattle.std.specs.List.{All}
-use Rattle.drain_grid.specs.declared.set_product.SetProduct.{SetProduct}
-use Rattle.drain_hgt.specs.declared.input.TileInput.{TileInput}
-use Rattle.drain_grid.specs.PerProduct.{of_product}
 use Rattle.drain_verdict.specs.Given.{Given}
 use Rattle.drain_verdict.specs.Inputs.{Inputs, Encode, Products}
 use Rattle.drain_raster.specs.Laws.{RasterRowsArePixels, RasterRowsEnd}

@@ -1,16 +1,9 @@
 -- What is listed beside the rasters, and why it is refused.
-use Rattle.std.specs.Prelude.{◌≡◌, ◌≢◌, ◌⊎◌, ℕ, List, length, MatchOption, Option, Some, None}
-use Rattle.drain_answer.specs.declared.refusal.Refusal.{Refusal}
-use Rattle.drain_answer.specs.declared.refusal.Refusal.TheVariants.{BadSpacingLine, SpacingRows}
-use Rattle.drain_grid.specs.declared.cell.Cell.{Cell}
-use Rattle.drain_grid.specs.declared.height_kind.HeightKind.{HeightKind}
-use Rattle.drain_grid.specs.Extent.{Extent}
-use Rattle.drain_grid.specs.SinkTexts.{sinks_of}
-use Rattle.drain_grid.specs.Spacing.{RowSpacings, spacing_of}
+use Rattle.std.specs.Prelude.{◌≡◌, ◌≢◌, ◌⊎◌}
+use Rattle.drain_verdict.specs.Names.{ℕ, List, length, MatchOption, Option, Some, None, Refusal, BadSpacingLine, SpacingRows, Cell, HeightKind, Extent, sinks_of, RowSpacings, spacing_of, GivenSpacing, by_row, same}
 use Rattle.drain_verdict.specs.declared.listings.Listing.{Listing}
 use Rattle.drain_verdict.specs.declared.listings.SpacingListing.{SpacingListing}
-use Rattle.drain_verdict.specs.Given.{Given, HasBadSpacing, ListsRows, row_spacing, spacings_given}
-use Rattle.drain_sets.specs.GivenSpacings.{GivenSpacing, by_row, same}
+use Rattle.drain_verdict.specs.Given.{Given, HasBadSpacing, ListsRows, row_spacing}
 use Rattle.drain_verdict.specs.Stages.{IsBadLine, IsToldOfSinks}
 use Rattle.drain_verdict.specs.Texts.{lines_in}
 

@@ -1,16 +1,7 @@
 -- What the bytes of a check mean: tiles, a grid, its products, and their no-data numbers.
-use Rattle.std.specs.Prelude.{ℤ, List, map}
-use Rattle.drain_grid.specs.declared.cell.Cell.{Cell}
-use Rattle.drain_grid.specs.declared.set_product.SetProduct.{SetProduct}
-use Rattle.drain_grid.specs.declared.sink_line.SinkLine.{SinkLine}
-use Rattle.drain_grid.specs.declared.height_kind.HeightKind.TheVariants.{Whole}
+use Rattle.drain_verdict.specs.Names.{ℤ, List, map, Cell, SetProduct, SinkLine, Whole, NoDataNumbers, Fields, samples_of, first_value, Tiling, extent_of}
 use Rattle.drain_grid.specs.Grid as grid
-use Rattle.drain_grid.specs.Values.{NoDataNumbers}
-use Rattle.drain_header.specs.Header.{Fields}
-use Rattle.drain_hgt.specs.Samples.{samples_of}
 use Rattle.drain_mosaic.specs.Mosaic as mosaic
-use Rattle.drain_mosaic.specs.Mosaic.{first_value}
-use Rattle.drain_mosaic.specs.Tiling.{Tiling, extent_of}
 use Rattle.drain_verdict.specs.Inputs.{Inputs}
 use Rattle.drain_verdict.specs.Texts.{SetTexts, grid_on, set_fields, set_listed, set_nodata, set_number, text_numbers, text_products}
 

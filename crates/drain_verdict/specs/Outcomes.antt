@@ -1,30 +1,16 @@
 -- The outcome for judged rasters, and the answer with it.
-use Rattle.std.specs.Prelude.{◌≡◌, Result, Ok, Err, Bool, true, false, Option, Some, None}
-use Rattle.drain_answer.specs.declared.outcome.Outcome.{Outcome}
+use Rattle.std.specs.Prelude.{◌≡◌}
+use Rattle.drain_verdict.specs.Names.{Result, Ok, Err, Bool, true, false, Option, Some, None, Outcome, Refusal, IsFirstUnfilled, Judged, ConDir, ConDirAcc, ConDirBas, AllWithRanks, Rules, IsFirstEndless, Grid, Products, IsFirstFault, RulesHold, IsLeastSurface, NoDataNumbers, AllRunsEnd, IsVerdictBy, Cell, Verdict, has_dir}
 use Rattle.drain_answer.specs.declared.outcome.Outcome.TheVariants.{Accepted, AcceptedSurface, Rejected, NoEnd, NotFilled}
-use Rattle.drain_answer.specs.declared.refusal.Refusal.{Refusal}
-use Rattle.drain_filled.specs.Compared.{IsFirstUnfilled}
-use Rattle.drain_grid.specs.declared.judged.Judged.{Judged}
-use Rattle.drain_grid.specs.declared.judged.Judged.TheVariants.{Con, ConDir, ConDirAcc, ConDirBas, All, AllWithRanks}
-use Rattle.drain_grid.specs.declared.judged.Rules.{Rules}
-use Rattle.drain_grid.specs.Unranked.{IsFirstEndless}
-use Rattle.drain_grid.specs.Grid.{Grid, Products}
-use Rattle.drain_grid.specs.GridRules.{IsFirstFault, RulesHold}
-use Rattle.drain_grid.specs.Path.{IsLeastSurface}
+use Rattle.drain_grid.specs.declared.judged.Judged.TheVariants.{Con, All}
 use Rattle.drain_grid.specs.RulesAbout.{IsPartRule, part_rules}
-use Rattle.drain_grid.specs.Values.{NoDataNumbers}
 use Rattle.drain_laws.specs.PartOf.{AreRight}
-use Rattle.drain_rows.specs.GridRows.{AllRunsEnd}
 use Rattle.drain_rules.specs.Fill.{fill_counts}
-use Rattle.drain_rules.specs.Verdicts.{IsVerdictBy}
 use Rattle.drain_verdict.specs.GroundSets.{GroundSet, IsReadable, IsRefusalIn, set_grid, set_numbers, set_products}
 use Rattle.drain_verdict.specs.Inputs.{Inputs}
 use Rattle.drain_verdict.specs.TileGround.{set_of}
-use Rattle.drain_grid.specs.declared.cell.Cell.{Cell}
 use Rattle.drain_grid.specs.declared.fill_verdict.FillCounts.{FillCounts}
 use Rattle.drain_grid.specs.declared.verdict.Counts.{Counts}
-use Rattle.drain_grid.specs.declared.verdict.Verdict.{Verdict}
-use Rattle.drain_grid.specs.Judged.{has_dir}
 use Rattle.drain_grid.specs.declared.verdict.Verdict.TheVariants as checked
 
 -- the rules about these rasters

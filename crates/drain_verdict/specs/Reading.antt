@@ -1,7 +1,6 @@
 -- What an answer says of reading.
-use Rattle.std.specs.Prelude.{◌≡◌, ◌⊎◌, Option, Some, None, MatchOption, Bool, true, false, Result, Ok, Err}
-use Rattle.drain_answer.specs.declared.refusal.Refusal.{Refusal}
-use Rattle.drain_answer.specs.declared.refusal.Refusal.TheVariants.{OutOfMemory, ReadFailed}
+use Rattle.std.specs.Prelude.{◌≡◌, ◌⊎◌}
+use Rattle.drain_verdict.specs.Names.{Option, Some, None, MatchOption, Bool, true, false, Result, Ok, Err, Refusal, OutOfMemory, ReadFailed}
 
 -- the refusal of an answer
 abbrev pub told_by : {T : Type 0} → Result T Refusal → Option Refusal

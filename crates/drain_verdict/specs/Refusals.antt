@@ -1,9 +1,6 @@
 -- What each refusal of a check says of the bytes, and the order in which refusals are reported: those of the tiles' ground
 -- with its products.
-use Rattle.std.specs.Prelude.{ℕ}
-use Rattle.drain_answer.specs.declared.refusal.Refusal.{Refusal}
-use Rattle.drain_answer.specs.declared.refusal.Refusal.TheVariants.{BadTileLength, RasterShort, SeamMismatch, BadSinkLine, SinkNotData, BadSpacingLine, SpacingRows, DemShort, OutOfMemory, ReadFailed}
-use Rattle.drain_grid.specs.declared.set_product.SetProduct.{SetProduct}
+use Rattle.drain_verdict.specs.Names.{ℕ, Refusal, BadTileLength, RasterShort, SeamMismatch, BadSinkLine, SinkNotData, BadSpacingLine, SpacingRows, DemShort, OutOfMemory, ReadFailed, SetProduct}
 use Rattle.drain_rows.specs.declared.row_visitor.WalkStop.{WalkStop}
 use Rattle.drain_rows.specs.declared.row_visitor.WalkStop.TheVariants as walk_stop
 use Rattle.drain_verdict.specs.GroundSets.{HasShapeIn, NoneStandsIn, StandsIn, order_in}

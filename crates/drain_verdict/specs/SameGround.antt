@@ -1,23 +1,7 @@
 -- Two grounds that say the same, as a tile and a raster with its samples: both get one answer.
-use Rattle.std.specs.Prelude.{◌≡◌, ◌↔◌, ℕ, ◌*◌, ◌<◌, Bool, true, List, [], ◌∷◌, Option, Some, Result, Ok, Err}
-use Rattle.drain_answer.specs.declared.outcome.AuditVerdict.{AuditVerdict}
-use Rattle.drain_answer.specs.declared.outcome.Outcome.{Outcome}
-use Rattle.drain_answer.specs.declared.refusal.Refusal.{Refusal}
-use Rattle.drain_answer.specs.declared.refusal.Refusal.TheVariants.{OutOfMemory, ReadFailed}
-use Rattle.drain_grid.specs.declared.cell.Cell.{Cell}
-use Rattle.drain_grid.specs.declared.judged.Judged.{Judged}
-use Rattle.drain_grid.specs.declared.set_product.SetProduct.{SetProduct}
-use Rattle.drain_grid.specs.declared.tile.TheConstants.{VOID}
-use Rattle.drain_grid.specs.declared.verdict.Verdict.{Verdict}
-use Rattle.drain_grid.specs.declared.height_kind.HeightKind.TheVariants.{Whole}
-use Rattle.drain_grid.specs.Extent.{IsCellOf}
-use Rattle.drain_grid.specs.Grid.{IsSide}
+use Rattle.std.specs.Prelude.{◌≡◌, ◌↔◌, ◌*◌, ◌<◌, ◌∷◌}
+use Rattle.drain_verdict.specs.Names.{ℕ, true, List, [], Some, Result, Ok, Err, AuditVerdict, Outcome, Refusal, OutOfMemory, ReadFailed, Cell, Judged, SetProduct, VOID, Verdict, Whole, IsCellOf, IsSide, Fields, Corner, IsTile, samples_of, tile_sample_at, pixel_at, place}
 use Rattle.drain_header.specs.declared.header.ByteOrdering.TheVariants.{Most}
-use Rattle.drain_header.specs.Header.{Fields}
-use Rattle.drain_hgt.specs.Corner.{Corner}
-use Rattle.drain_hgt.specs.Samples.{IsTile, samples_of, tile_sample_at}
-use Rattle.drain_raster.specs.Pixels.{pixel_at}
-use Rattle.drain_rules.specs.Rows.{place}
 use Rattle.drain_verdict.specs.Answers.{IsAnswerIn, IsAuditIn}
 use Rattle.drain_verdict.specs.DemGround.{DemTexts, dem_fields, dem_ground}
 use Rattle.drain_verdict.specs.Ground.{Ground}

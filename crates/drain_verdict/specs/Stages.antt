@@ -1,31 +1,8 @@
 -- What the stages of a check find: the layout, the headers and the tiles; or the first refusal of their kind.
-use Rattle.std.specs.Prelude.{◌≡◌, ℕ, List, length, Option, Some, None, Result, Ok, Err, ◌<◌, slice_get}
-use Rattle.drain_grid.specs.declared.cell.Cell.{Cell}
-use Rattle.drain_grid.specs.declared.sink_line.SinkLine.{SinkLine}
-use Rattle.drain_grid.specs.declared.height_kind.HeightKind.{HeightKind}
-use Rattle.drain_grid.specs.Extent.{Extent}
-use Rattle.drain_grid.specs.OffData.{IsLeastLine, IsLeastOff}
-use Rattle.drain_rows.specs.GridRows.{has_data_but}
+use Rattle.std.specs.Prelude.{◌≡◌, ◌<◌}
+use Rattle.drain_verdict.specs.Names.{ℕ, List, length, Option, Some, None, Result, Ok, Err, slice_get, Cell, SinkLine, HeightKind, Extent, IsLeastLine, IsLeastOff, has_data_but, Refusal, BadSinkLine, SinkNotData, BadSide, BadName, NoTiles, RepeatedTile, BoxTooLarge, BadHeader, WrongShape, Misplaced, BadTileLength, OutOfMemory, ReadFailed, AllZip, SetProduct, PerProduct, IsFirst, IsSide, of_product, product_of, rank_of, Corner, IsNameOf, IsFirstBadLength, Place, Fields, AnswersOf, DescribesOf, header_extent, LayoutFault, HasLayoutFault, layout_fault_order}
 use Rattle.drain_verdict.specs.declared.stages.SinkListing.{SinkListing}
-use Rattle.drain_answer.specs.declared.refusal.Refusal.{Refusal}
-use Rattle.drain_answer.specs.declared.refusal.Refusal.TheVariants.{BadSinkLine, SinkNotData, BadSide, BadName, NoTiles, RepeatedTile, BoxTooLarge, BadHeader, WrongShape, Misplaced, BadTileLength, OutOfMemory, ReadFailed}
-use Rattle.std.specs.List.{AllZip}
-use Rattle.drain_grid.specs.declared.set_product.SetProduct.{SetProduct}
 use Rattle.drain_grid.specs.declared.product.Product.{Product}
-use Rattle.drain_grid.specs.declared.per_product.PerProduct.{PerProduct}
-use Rattle.drain_text.specs.First.{IsFirst}
-use Rattle.drain_grid.specs.Grid.{IsSide}
-use Rattle.drain_grid.specs.PerProduct.{of_product}
-use Rattle.drain_grid.specs.SetProduct.{product_of, rank_of}
-use Rattle.drain_hgt.specs.Corner.{Corner}
-use Rattle.drain_hgt.specs.Name.{IsNameOf}
-use Rattle.drain_hgt.specs.Inputs.{IsFirstBadLength}
-use Rattle.drain_header.specs.declared.header.Place.{Place}
-use Rattle.drain_header.specs.Header.{Fields}
-use Rattle.drain_header.specs.Faults.{AnswersOf, DescribesOf}
-use Rattle.drain_raster.specs.Pixels.{header_extent}
-use Rattle.drain_mosaic.specs.declared.layout.LayoutFault.{LayoutFault}
-use Rattle.drain_mosaic.specs.GivenTiles.{HasLayoutFault, layout_fault_order}
 use Rattle.drain_verdict.specs.Inputs.{Products}
 use Rattle.drain_verdict.specs.Texts.{kind_in}
 use Rattle.drain_verdict.specs.TileGround.{IsBadName}

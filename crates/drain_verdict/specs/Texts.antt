@@ -1,23 +1,9 @@
 -- What lies on a ground: a list of sinks, how far apart cells are, and each product's header and raster; and what these
 -- texts mean.
-use Rattle.std.specs.Prelude.{ℕ, ℤ, List, [], unwrap_or, Option, Result, Ok, Err}
-use Rattle.drain_grid.specs.declared.cell.Cell.{Cell}
-use Rattle.drain_grid.specs.declared.per_product.PerProduct.{PerProduct}
-use Rattle.drain_grid.specs.declared.set_product.SetProduct.{SetProduct}
-use Rattle.drain_grid.specs.declared.sink_line.SinkLine.{SinkLine}
-use Rattle.drain_grid.specs.declared.height_kind.HeightKind.{HeightKind}
-use Rattle.drain_grid.specs.declared.height_kind.HeightKind.TheVariants.{Whole}
+use Rattle.drain_verdict.specs.Names.{ℕ, ℤ, List, [], unwrap_or, Option, Result, Ok, Err, Cell, PerProduct, SetProduct, SinkLine, HeightKind, Whole, Extent, of_product, product_of, is_listed, sinks_of, NoDataNumbers, Fields, fields_of, default_number, pixel_at, lines_of}
 use Rattle.drain_grid.specs.declared.set_product.SetProduct.TheVariants.{Con}
-use Rattle.drain_grid.specs.Extent.{Extent}
 use Rattle.drain_grid.specs.Grid as grid
-use Rattle.drain_grid.specs.PerProduct.{of_product}
 use Rattle.drain_grid.specs.Product.{held_numbers}
-use Rattle.drain_grid.specs.SetProduct.{product_of}
-use Rattle.drain_grid.specs.SinkTexts.{is_listed, sinks_of}
-use Rattle.drain_grid.specs.Values.{NoDataNumbers}
-use Rattle.drain_header.specs.Header.{Fields, fields_of}
-use Rattle.drain_raster.specs.Pixels.{default_number, pixel_at}
-use Rattle.drain_text.specs.Text.{lines_of}
 use Rattle.drain_verdict.specs.Given.{Given, row_spacing}
 
 -- the list of sinks and how far apart cells are, and each product's header and body

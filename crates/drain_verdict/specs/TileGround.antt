@@ -1,23 +1,8 @@
 -- The ground of tiles: what their names and bodies mean. Which refusals there are, and their order, is this project's own.
-use Rattle.std.specs.Prelude.{◌≡◌, ℕ, suc, ◌-◌, ◌*◌, ◌^◌, ℤ, pos, ◌-ℤ◌, ◌*ℤ◌, nat_abs, ◌≤◌, ◌&&◌, List, [], ◌∷◌, slice_get, Option, Some, if◌then◌else◌}
-use Rattle.std.specs.List.{AllZip}
+use Rattle.std.specs.Prelude.{◌≡◌, ◌-◌, ◌*◌, ◌^◌, ◌-ℤ◌, ◌*ℤ◌, ◌≤◌, ◌&&◌, ◌∷◌, if◌then◌else◌}
+use Rattle.drain_verdict.specs.Names.{ℕ, suc, ℤ, pos, nat_abs, List, [], slice_get, Option, Some, AllZip, Refusal, BadSide, BadName, NoTiles, RepeatedTile, BoxTooLarge, BadTileLength, SeamMismatch, Whole, Cell, IsCellOf, index_of, IsSide, Place, Corner, TileInput, names_of, AreBodies, IsNameOf, IsTile, LayoutFault, HasLayoutFault, HasTwoValues, first_value}
 use Rattle.std.specs.Ordering.{int_eq}
-use Rattle.drain_answer.specs.declared.refusal.Refusal.{Refusal}
-use Rattle.drain_answer.specs.declared.refusal.Refusal.TheVariants.{BadSide, BadName, NoTiles, RepeatedTile, BoxTooLarge, BadTileLength, SeamMismatch}
-use Rattle.drain_grid.specs.declared.height_kind.HeightKind.TheVariants.{Whole}
-use Rattle.drain_grid.specs.declared.cell.Cell.{Cell}
 use Rattle.drain_grid.specs.declared.degree.TheConstants.{UNITS_PER_DEGREE}
-use Rattle.drain_grid.specs.Extent.{IsCellOf, index_of}
-use Rattle.drain_grid.specs.Grid.{IsSide}
-use Rattle.drain_header.specs.declared.header.Place.{Place}
-use Rattle.drain_hgt.specs.Corner.{Corner}
-use Rattle.drain_hgt.specs.declared.input.TileInput.{TileInput}
-use Rattle.drain_hgt.specs.Inputs.{names_of, AreBodies}
-use Rattle.drain_hgt.specs.Name.{IsNameOf}
-use Rattle.drain_hgt.specs.Samples.{IsTile}
-use Rattle.drain_mosaic.specs.declared.layout.LayoutFault.{LayoutFault}
-use Rattle.drain_mosaic.specs.GivenTiles.{HasLayoutFault}
-use Rattle.drain_mosaic.specs.Mosaic.{HasTwoValues, first_value}
 use Rattle.drain_mosaic.specs.Tiling as tiling
 use Rattle.drain_verdict.specs.Ground.{Ground}
 use Rattle.drain_verdict.specs.GroundSets.{GroundSet}

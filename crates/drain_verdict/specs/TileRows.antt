@@ -1,14 +1,7 @@
 -- What a reader of tiles is to give, and what it has read.
-use Rattle.std.specs.Prelude.{◌≡◌, ℕ, ◌+◌, ℤ, List, length, Option, Some, Bool, IsTrue}
-use Rattle.drain_device.specs.RowSteps.{after_rows, nth_row}
-use Rattle.drain_device.specs.RowSteps.Coming.{End}
-use Rattle.drain_device.specs.declared.counts.FaultCounts.{FaultCounts}
-use Rattle.drain_grid.specs.declared.tile.TheConstants.{VOID}
-use Rattle.drain_hgt.specs.declared.input.TileInput.{TileInput}
-use Rattle.drain_hgt.specs.Inputs.{names_of}
-use Rattle.drain_pixels.specs.Ground.{whole_voids}
+use Rattle.std.specs.Prelude.{◌≡◌, ◌+◌}
+use Rattle.drain_verdict.specs.Names.{ℕ, ℤ, List, length, Option, Some, Bool, IsTrue, after_rows, nth_row, End, FaultCounts, VOID, TileInput, names_of, whole_voids, IsBegun, IsLayout, IsToldAtEnd, coming_of, frame_of, mosaic_coming, seam_to_tell, tile_streams, wrong_to_tell}
 use Rattle.drain_mosaic.specs.declared.mosaic_rows.MosaicRows.{MosaicRows}
-use Rattle.drain_mosaic.specs.GivenTiles.{IsBegun, IsLayout, IsToldAtEnd, coming_of, frame_of, mosaic_coming, seam_to_tell, tile_streams, wrong_to_tell}
 use Rattle.drain_mosaic.specs.Laws.{RowsAreFirstValues, RowsAreWhole, RowsEnd, RowsTellLengths, RowsTellSeams, WholeTilesGiveTheirSamples}
 use Rattle.drain_mosaic.specs.PlacedRows.{AreTold, HaveRead}
 use Rattle.drain_mosaic.specs.Streams.{seam_from, wrong_from}

@@ -1,16 +1,7 @@
 -- What a ground and its products are to give, row by row.
-use Rattle.std.specs.Prelude.{◌≡◌, ℕ, ◌+◌, ℤ, List, Option, None, MatchOption, ◌↔◌, Bool}
-use Rattle.drain_device.specs.RowSteps.{Coming, after_rows, nth_row}
-use Rattle.drain_device.specs.RowSteps.Coming.{Wrong}
-use Rattle.drain_device.specs.declared.counts.FaultCounts.{FaultCounts}
-use Rattle.drain_device.specs.declared.row_source.Progress.TheVariants.{Stopped}
-use Rattle.drain_grid.specs.declared.set_product.SetProduct.{SetProduct}
-use Rattle.drain_grid.specs.PerProduct.{of_product, per_product}
-use Rattle.drain_raster.specs.declared.raster_rows.RasterRows.{RasterRows}
-use Rattle.drain_raster.specs.RasterRows.{raster_coming}
-use Rattle.drain_rules.specs.Rows.{RowNumbers, blank}
+use Rattle.std.specs.Prelude.{◌≡◌, ◌+◌, ◌↔◌}
+use Rattle.drain_verdict.specs.Names.{ℕ, ℤ, List, Option, None, MatchOption, Bool, Coming, after_rows, nth_row, Wrong, FaultCounts, Stopped, SetProduct, of_product, per_product, RasterRows, raster_coming, RowNumbers, blank, Refusal}
 use Rattle.drain_rows.specs.RowBuffers.{IsEven}
-use Rattle.drain_answer.specs.declared.refusal.Refusal.{Refusal}
 use Rattle.drain_verdict.specs.Ground.{GroundToGive, ground_row}
 use Rattle.drain_verdict.specs.InputReads.{InputsHaveRead, Reading, inputs_lent, products_lent, readers}
 use Rattle.drain_verdict.specs.Inputs.{Products}

@@ -1,22 +1,9 @@
 -- How an answer uses its inputs.
-use Rattle.std.specs.Prelude.{ℕ, List, map, ◌++◌, Option, Some, ◌≡◌, Result, IfSome}
-use Rattle.drain_device.specs.Reads.{TakesAtMost}
-use Rattle.drain_grid.specs.declared.set_product.SetProduct.{SetProduct}
-use Rattle.drain_grid.specs.PerProduct.{of_product}
-use Rattle.drain_grid.specs.SetProduct.{products}
-use Rattle.drain_text.specs.Text.{lines_of}
-use Rattle.drain_hgt.specs.declared.input.TileInput.{TileInput}
-use Rattle.drain_hgt.specs.Inputs.{tile_devices, names_of, TilesTakeAtMost}
-use Rattle.drain_header.specs.Header.{Fields, header_of}
-use Rattle.drain_raster.specs.Pixels.{needed_len}
+use Rattle.std.specs.Prelude.{◌++◌, ◌≡◌}
+use Rattle.drain_verdict.specs.Names.{ℕ, List, map, Option, Some, Result, IfSome, TakesAtMost, SetProduct, of_product, products, lines_of, TileInput, tile_devices, names_of, TilesTakeAtMost, Fields, header_of, needed_len, SomeReadFails, FaultCounts, AuditProducts, Refusal, ReadFailed}
 use Rattle.drain_verdict.specs.Inputs.{Products, audit_devices, as_five}
-use Rattle.drain_device.specs.FaultLists.{SomeReadFails}
-use Rattle.drain_device.specs.declared.counts.FaultCounts.{FaultCounts}
 use Rattle.drain_verdict.specs.Reading.{told_by}
 use Rattle.drain_verdict.specs.Refusals.{IsOfBodies}
-use Rattle.drain_sets.specs.declared.raster_input.AuditProducts.{AuditProducts}
-use Rattle.drain_answer.specs.declared.refusal.Refusal.{Refusal}
-use Rattle.drain_answer.specs.declared.refusal.Refusal.TheVariants.{ReadFailed}
 
 -- The devices of a check, and how far it reads from them.
 

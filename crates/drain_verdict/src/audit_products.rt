@@ -1,14 +1,8 @@
 //! The four products of an audit. Its rules ignore ranks, so dir's rows take their place.
 
-ghost use Rattle.std.specs.Prelude.{◌≡◌, ℕ, OnOk, IfErr, Err};
+ghost use Rattle.std.specs.Prelude.{◌≡◌};
+ghost use Rattle.drain_verdict.specs.Names.{ℕ, OnOk, IfErr, Err, Coming, Progress, SetProduct, PerProduct, of_product, IsPixel, RasterRows};
 ghost use Rattle.std.specs.List.{All};
-ghost use Rattle.drain_device.specs.RowSteps.{Coming};
-ghost use Rattle.drain_device.specs.declared.row_source.Progress.{Progress};
-ghost use Rattle.drain_grid.specs.declared.set_product.SetProduct.{SetProduct};
-ghost use Rattle.drain_grid.specs.declared.per_product.PerProduct.{PerProduct};
-ghost use Rattle.drain_grid.specs.PerProduct.{of_product};
-ghost use Rattle.drain_grid.specs.Values.{IsPixel};
-ghost use Rattle.drain_raster.specs.declared.raster_rows.RasterRows.{RasterRows};
 ghost use Rattle.drain_verdict.specs.InputReads.{RastersHaveRead};
 ghost use Rattle.drain_verdict.specs.InputRows.{AreAlike, IsFirstProduct, IsRasterBegun};
 ghost use Rattle.drain_verdict.specs.Inputs.{Products, readers_as_five};

@@ -1,8 +1,7 @@
 //! The five products of a check, each with a reader of its own.
 
 ghost use Rattle.std.specs.Prelude.{◌≡◌};
-ghost use Rattle.drain_device.specs.declared.row_source.Progress.{Progress};
-ghost use Rattle.drain_grid.specs.PerProduct.{of_product};
+ghost use Rattle.drain_verdict.specs.Names.{Progress, of_product};
 ghost use Rattle.drain_verdict.specs.InputRows.{IsFirstProduct};
 
 use crate::audit_products::ProductInputs;

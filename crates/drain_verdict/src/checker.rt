@@ -1,21 +1,24 @@
-//! The check of products against the tiles that they were made from: from the bytes of devices to the answer.
+//! The check of products against the tiles or the raster of elevations that they were made from: from the bytes of devices
+//! to the answer.
 //!
 //! `judgement.rt` says how the answer is found; here is what it means.
 
+ghost use Rattle.drain_verdict.specs.Names.{IfAccepted, IfOk};
 ghost use Rattle.drain_verdict.specs.Given.{plain};
+ghost use Rattle.drain_verdict.specs.GroundSets.{ForSet, ForTexts};
 ghost use Rattle.drain_verdict.specs.Inputs.{Inputs, Encode};
-ghost use Rattle.drain_verdict.specs.Answers.{IsAnswer};
-ghost use Rattle.drain_verdict.specs.Headline.{AcceptedMeans, IsRight};
-ghost use Rattle.drain_verdict.specs.Uses.{CheckUses};
+ghost use Rattle.drain_verdict.specs.Answers.{IsAnswer, IsAnswerIn};
+ghost use Rattle.drain_verdict.specs.Headline.{AcceptedMeans, IsRight, ProductsAreRight};
+ghost use Rattle.drain_verdict.specs.Uses.{CheckUses, UsesSet, set_devices};
 
 use crate::given::Given;
-use crate::judgement::judge_tiles;
+use crate::ground::GroundInput;
+use crate::judgement::judge_on;
 use drain_answer::Refusal;
 use drain_device::ByteSource;
 use drain_grid::laws::correct_from_rules;
 use drain_grid::{Judged, Verdict};
 use drain_hgt::TileInput;
-use drain_mosaic::laws::agreement_gives_elevation;
 use drain_sets::Products;
 use std::alloc::Global;
 
@@ -47,49 +50,42 @@ pub fn check<R: ByteSource>(
     // How far it reads, when a read fails, and what is unchanged.
     ensures uses { CheckUses R.bytes_left R.counts side (tiles.old, products.old) (tiles.new, products.new) result }
 {
-    check_given(alloc, side, tiles, &Given::plain(sinks), products)
+    check_on::<R, TileInput<R>>(alloc, &side, tiles, &Given::plain(sinks), products)
 }
 
-/// The verdict on products of the tiles, whose cells are as far apart as given, or the first refusal.
+/// The verdict on products of a ground, or the first refusal.
 ///
-/// `given` has the list of sinks of `check`, and says how far apart cells are: all alike, or by a text with a line
-/// `WIDTH HEIGHT` for each row from the north, two whole numbers from 1 to 2^30; empty lines don't count. Refusals are
-/// those of `check`, and after them `BadSpacingLine` with the first bad line of such a text, counted from 1, and
-/// `SpacingRows` with the number of its rows, if the mosaic has another number of them.
-pub fn check_given<R: ByteSource>(
+/// `inputs` are tiles, and `key` the number of samples along an edge of each; or one raster of elevations, its header and
+/// its body, without a key. `given` has the list of sinks of `check`, and says how far apart cells are: all alike, or by a
+/// text with a line `WIDTH HEIGHT` for each row from the north, two whole numbers from 1 to 2^30; empty lines don't count.
+/// Refusals are those of `check`, of a raster `BadDemHeader` and `BadPixelSize` first and `DemShort` in the place of
+/// `BadTileLength`; and after them `BadSpacingLine` with the first bad line of such a text, counted from 1, and
+/// `SpacingRows` with the number of its rows, if the ground has another number of them. Of a raster of elevations nothing
+/// past the last needed byte is read.
+pub fn check_on<R: ByteSource, T: GroundInput<R>>(
     alloc: Global,
-    side: u32,
-    tiles: &mut [TileInput<R>],
+    key: &T::Key,
+    inputs: &mut [T],
     given: &Given,
     products: &mut Products<R>,
 ) -> Result<Verdict, Refusal>
-    // Unless memory ran out or a read failed, the answer is that of the bytes.
-    ensures answer { (inputs : Inputs) → Encode R.bytes_left side tiles.old given.now products.old inputs → IsAnswer inputs result }
+    requires admitted { T.admits inputs.old }
 
-    // Whenever it accepts, the inputs are right: `IsRight` has a field for each sentence.
-    ensures right { AcceptedMeans IsRight R.bytes_left side tiles.old given.now products.old result }
+    // Unless memory ran out or a read failed, the answer is that of the bytes.
+    ensures answer { ForSet T.terrain (T.encodes key.now inputs.old) R.bytes_left given.now products.old (λ s. IsAnswerIn s result) }
+
+    // If it gives a verdict, the elevations are those of the inputs.
+    ensures elevation { IfOk result (λ verdict. ForTexts (T.encodes key.now inputs.old) R.bytes_left given.now products.old T.is_told) }
+
+    // Whenever it accepts, the products are right: `ProductsAreRight` has a field for each sentence.
+    ensures right { IfAccepted result (ForSet T.terrain (T.encodes key.now inputs.old) R.bytes_left given.now products.old ProductsAreRight) }
 
     // How far it reads, when a read fails, and what is unchanged.
-    ensures uses { CheckUses R.bytes_left R.counts side (tiles.old, products.old) (tiles.new, products.new) result }
+    ensures uses { UsesSet (λ ps. ps) (λ xs ps. set_devices T.devices xs ps) (T.within key.now) T.kept R.bytes_left R.counts (inputs.old, products.old) (inputs.new, products.new) result }
 {
-    // The laws that turn rules kept at every cell into correct products, and first values into the one elevation.
+    // The law that turns rules kept at every cell into correct products.
     correct_from_rules();
-    agreement_gives_elevation();
-    answer_of(alloc, side, tiles, given, products)
-}
-
-/// The answer to the bytes.
-fn answer_of<R: ByteSource>(
-    alloc: Global,
-    side: u32,
-    tiles: &mut [TileInput<R>],
-    given: &Given,
-    products: &mut Products<R>,
-) -> Result<Verdict, Refusal>
-    ensures answer { (inputs : Inputs) → Encode R.bytes_left side tiles.old given.now products.old inputs → IsAnswer inputs result }
-    ensures uses { CheckUses R.bytes_left R.counts side (tiles.old, products.old) (tiles.new, products.new) result }
-{
     let ranked = Judged::AllWithRanks;
-    let judgement = judge_tiles(alloc, side, tiles, given, products, ranked)?;
+    let judgement = judge_on::<R, T, Products<R>>(alloc, key, inputs, given, products, ranked)?;
     Ok(judgement.verdict)
 }

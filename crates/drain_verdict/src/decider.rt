@@ -1,18 +1,11 @@
 //! What decides beside the rules of the patches: directions followed to their ends, ranks, or the filled surface.
 
-ghost use Rattle.std.specs.Prelude.{List, ◌≡◌, IfOk, MatchOption, Ok, IfErr};
-ghost use Rattle.drain_grid.specs.Grid.{Grid, Products};
-ghost use Rattle.drain_grid.specs.Extent.{Extent};
+ghost use Rattle.std.specs.Prelude.{◌≡◌};
+ghost use Rattle.drain_verdict.specs.Names.{List, IfOk, MatchOption, Ok, IfErr, Grid, Products, Extent};
 ghost use Rattle.drain_grid.specs.declared.judged.Judged as declared;
-ghost use Rattle.drain_paths.specs.declared.flow.Flow.{Flow};
+ghost use Rattle.drain_verdict.specs.Names.{Flow, sinks_of, SinkLine, IsFirstUnfilled, RulesHold, surface_rules, IsLeastSurface};
 ghost use Rattle.drain_filled.specs.ConRows.{AreFirstCon, HasSinks};
-ghost use Rattle.drain_grid.specs.SinkTexts.{sinks_of};
 ghost use Rattle.drain_grid.specs.declared.judged.Judged.TheVariants.{Con};
-ghost use Rattle.drain_grid.specs.declared.sink_line.SinkLine.{SinkLine};
-ghost use Rattle.drain_filled.specs.Compared.{IsFirstUnfilled};
-ghost use Rattle.drain_grid.specs.GridRules.{RulesHold};
-ghost use Rattle.drain_grid.specs.PatchRules.{surface_rules};
-ghost use Rattle.drain_grid.specs.Path.{IsLeastSurface};
 ghost use Rattle.drain_grid.specs.Rule.{IsFillRule};
 ghost use Rattle.drain_paths.specs.Ways.{ground_of, directions_of, AreRanks, IsRankRefusal};
 
@@ -35,12 +28,9 @@ pub struct Decided {
 
 /// What is kept of all rows and, with the verdict of the rules, decides.
 pub trait Decider: RowVisitor {
-    ghost use Rattle.std.specs.Prelude.{◌≡◌, IfOk, Ok};
+    ghost use Rattle.std.specs.Prelude.{◌≡◌};
+    ghost use Rattle.drain_verdict.specs.Names.{IfOk, Ok, sinks_of, Rules, SinkLine, IsVerdictBy};
     ghost use Rattle.drain_filled.specs.ConRows.{HasSinks};
-    ghost use Rattle.drain_grid.specs.SinkTexts.{sinks_of};
-    ghost use Rattle.drain_grid.specs.declared.judged.Rules.{Rules};
-    ghost use Rattle.drain_grid.specs.declared.sink_line.SinkLine.{SinkLine};
-    ghost use Rattle.drain_rules.specs.Verdicts.{IsVerdictBy};
     ghost use Rattle.drain_verdict.specs.Deciding.{IsDecided};
 
     /// It decides of these rasters.
@@ -73,8 +63,8 @@ pub trait Decider: RowVisitor {
 
 /// The flows are then known to be those of the grid, except for cells whose paths were found to end.
 impl Decider for CellFlows {
-    ghost use Rattle.std.specs.Prelude.{◌≡◌, false, IsTrue};
-    ghost use Rattle.drain_grid.specs.Judged.{has_dir, has_rnk};
+    ghost use Rattle.std.specs.Prelude.{◌≡◌};
+    ghost use Rattle.drain_verdict.specs.Names.{false, IsTrue, has_dir, has_rnk};
     ghost use Rattle.drain_verdict.specs.Deciding.{AreFlowsLeft};
 
     ghost decides = { λ judged. IsTrue (has_dir judged) × has_rnk judged ≡ false };
@@ -126,7 +116,7 @@ impl RowVisitor for RanksDecide {
 
 impl Decider for RanksDecide {
     ghost use Rattle.std.specs.Prelude.{◌≡◌};
-    ghost use Rattle.drain_grid.specs.declared.judged.Judged.TheVariants.{AllWithRanks};
+    ghost use Rattle.drain_verdict.specs.Names.{AllWithRanks};
 
     ghost decides = { λ judged. judged ≡ AllWithRanks };
 

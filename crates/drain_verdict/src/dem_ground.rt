@@ -1,11 +1,11 @@
 //! The ground of one raster of elevations: its frame is its header, and its rows are its pixels.
+//!
+//! It has up to 28,801 rows and columns. Heights are whole numbers or floats in any unit, con's in the same. A cell is void
+//! where its pixel is the no-data number of the header, or a float that isn't finite.
 
-ghost use Rattle.std.specs.Prelude.{◌≡◌, ◌+◌, ◌≤◌, ℕ, length, IfErr, IfOk, IfSome, IsTrue, None, OnOk};
+ghost use Rattle.std.specs.Prelude.{◌≡◌, ◌+◌, ◌≤◌};
+ghost use Rattle.drain_verdict.specs.Names.{ℕ, length, IfErr, IfOk, IfSome, IsTrue, None, OnOk, Coming, nth_row, MAX_LENGTH, IsPixel, elevations};
 ghost use Rattle.std.specs.List.{All};
-ghost use Rattle.drain_device.specs.RowSteps.{Coming, nth_row};
-ghost use Rattle.drain_grid.specs.declared.cell.TheConstants.{MAX_LENGTH};
-ghost use Rattle.drain_grid.specs.Values.{IsPixel};
-ghost use Rattle.drain_pixels.specs.Ground.{elevations};
 ghost use Rattle.drain_verdict.specs.DemGround.{IsDemHeader, IsDemHeaderRefusal};
 ghost use Rattle.drain_verdict.specs.InputReads.{RasterHasRead};
 ghost use Rattle.drain_verdict.specs.Reading.{IsOfReading, gave_up, told_by};
@@ -34,9 +34,11 @@ pub struct DemRows {
 }
 
 impl<R: ByteSource> GroundInput<R> for RasterInput<R> {
-    ghost use Rattle.drain_raster.specs.Pixels.{header_extent};
-    ghost use Rattle.drain_raster.specs.Placing.{LiesOn};
-    ghost use Rattle.drain_verdict.specs.DemGround.{AreHeadersKept, DemHasRead, DemTakesAtMost, DemTexts, EncodesDem, IsDemAfter, IsDemBegun, IsDemHeader, IsDemInput, dem_devices, dem_ground, dem_rows_of};
+    ghost use Rattle.std.specs.Prelude.{◌≡◌};
+    ghost use Rattle.drain_verdict.specs.Names.{length, header_extent, LiesOn};
+    ghost use Rattle.drain_verdict.specs.DemGround.{AreHeadersKept, DemHasRead, DemTakesAtMost, DemTexts, ElevationIsItsPixels, EncodesDem, IsDemAfter, IsDemBegun, IsDemHeader, IsDemInput, dem_devices, dem_ground, dem_rows_of};
+
+    type Key = ();
 
     type Frame = Header;
 
@@ -46,7 +48,15 @@ impl<R: ByteSource> GroundInput<R> for RasterInput<R> {
 
     ghost terrain = { dem_ground };
 
+    ghost is_told = { ElevationIsItsPixels };
+
+    ghost admits = { λ inputs. length inputs ≡ 1 };
+
+    ghost encodes = { λ key inputs texts. EncodesDem R.bytes_left inputs texts };
+
     ghost rows_of = { dem_rows_of };
+
+    ghost key_of = { λ header. tt };
 
     ghost framed = { λ header texts. IsDemHeader header texts.header };
 
@@ -60,8 +70,6 @@ impl<R: ByteSource> GroundInput<R> for RasterInput<R> {
 
     ghost fit = { λ header inputs. IsDemInput header inputs };
 
-    ghost means = { λ header inputs texts. EncodesDem R.bytes_left inputs texts };
-
     ghost begun = { λ header rows. IsDemBegun header rows.raster rows.voids };
 
     ghost count = { λ rows. 1 };
@@ -70,11 +78,15 @@ impl<R: ByteSource> GroundInput<R> for RasterInput<R> {
 
     ghost has_read = { λ start now failed. DemHasRead R.bytes_left R.counts (start.0.raster, start.1) (now.0.raster, now.1) failed };
 
-    ghost within = { λ header old new. DemTakesAtMost R.bytes_left old new };
+    ghost within = { λ key old new. DemTakesAtMost R.bytes_left old new };
 
     ghost kept = { AreHeadersKept };
 
     ghost devices = { dem_devices };
+
+    fn frame(_alloc: Global, _key: &(), inputs: &[RasterInput<R>]) -> Result<Header, Refusal> {
+        dem_header(&inputs[0])
+    }
 
     fn height_kind(header: &Header) -> HeightKind {
         header.kind

@@ -4,31 +4,21 @@ ghost use Rattle.std.specs.Prelude.{◌≡◌, IfOk};
 ghost use Rattle.drain_grid.specs.Grid as grid;
 ghost use Rattle.drain_grid.specs.Grid.{Grid};
 ghost use Rattle.drain_grid.specs.declared.judged.Rules as declared;
-ghost use Rattle.drain_hgt.specs.Inputs.{names_of};
-ghost use Rattle.drain_mosaic.specs.Tiling.{extent_of};
-ghost use Rattle.drain_verdict.specs.Answers.{AreNotesOf};
 ghost use Rattle.drain_verdict.specs.Deciding.{AreFlowsFor};
-ghost use Rattle.drain_verdict.specs.GroundSets.{AreNotesIn, ForSet, set_grid, set_products};
-ghost use Rattle.drain_verdict.specs.Uses.{devices_of, set_devices, UsesInputs, UsesSet};
-ghost use Rattle.drain_verdict.specs.Inputs.{Inputs, Encode};
-ghost use Rattle.drain_verdict.specs.Judgements.{IsJudgement, IsJudgementIn};
-ghost use Rattle.drain_verdict.specs.Meaning.{input_grid, input_products};
-ghost use Rattle.drain_verdict.specs.Stages.{IsLayoutOf};
+ghost use Rattle.drain_verdict.specs.GroundSets.{AreNotesIn, ForSet, ForTexts, set_grid, set_products};
+ghost use Rattle.drain_verdict.specs.Uses.{set_devices, UsesSet};
+ghost use Rattle.drain_verdict.specs.Judgements.{IsJudgementIn};
 
 use crate::audit_products::ProductInputs;
 use crate::decider::{Decider, RanksDecide};
 use crate::given::Given;
 use crate::ground::GroundInput;
 use crate::read_set::read_set;
-use crate::stages::layout_of;
 use drain_answer::Refusal;
 use drain_basin::OutletLabels;
 use drain_device::ByteSource;
 use drain_filled::ConRows;
 use drain_grid::{Cell, Judged, OutOfMemory, Verdict};
-use drain_hgt::TileInput;
-use drain_hgt::laws::one_name;
-use drain_mosaic::Layout;
 use drain_paths::CellFlows;
 use drain_rows::{BothVisitors, VerdictVisitor};
 use drain_rules::Walk;
@@ -44,49 +34,26 @@ pub struct Judgement<W> {
     pub walk: W,
 }
 
-/// Judges inputs of these tiles by the walk that stops at the first fault. See `check` for the order of refusals.
-pub(crate) fn judge_tiles<R: ByteSource, P: ProductInputs<R>>(
+/// Judges these inputs by the walk that stops at the first fault. See `check` for the order of refusals.
+pub(crate) fn judge_on<R: ByteSource, T: GroundInput<R>, P: ProductInputs<R>>(
     alloc: Global,
-    side: u32,
-    tiles: &mut [TileInput<R>],
+    key: &T::Key,
+    inputs: &mut [T],
     given: &Given,
     products: &mut P,
     judged: Judged,
 ) -> Result<Judgement<Walk<OutletLabels>>, Refusal>
-    ensures answer { (inputs : Inputs) → Encode R.bytes_left side tiles.old given.now (P.inputs products.old) inputs → IsJudgement judged inputs result }
-    ensures uses { UsesInputs P.inputs (λ ts ps. devices_of ts (P.inputs ps)) R.bytes_left R.counts side (tiles.old, products.old) (tiles.new, products.new) result }
+    requires admitted { T.admits inputs.old }
+    ensures answer { ForSet T.terrain (T.encodes key.now inputs.old) R.bytes_left given.now (P.inputs products.old) (λ s. IsJudgementIn judged s result) }
+    ensures elevation { IfOk result (λ judgement. ForTexts (T.encodes key.now inputs.old) R.bytes_left given.now (P.inputs products.old) T.is_told) }
+    ensures uses { UsesSet P.inputs (λ xs ps. set_devices T.devices xs (P.inputs ps)) (T.within key.now) T.kept R.bytes_left R.counts (inputs.old, products.old) (inputs.new, products.new) result }
 {
-    // The law that bytes name one tile.
-    one_name();
-    let layout = layout_of(alloc, side, tiles)?;
+    // The laws of what the inputs mean and of what is read of them.
+    T::meaning_laws();
+    T::reading_laws();
+    let frame = T::frame(alloc, key, inputs)?;
     let walk = Walk::new(alloc);
-    judge(alloc, &layout, given, tiles, products, judged, walk)
-}
-
-/// Judges inputs of this mosaic, or returns the first refusal: the headers of its products, the bytes of its tiles and
-/// rasters, a list of sinks and a spacing by row. The walk sees each row of the grid, and gives the verdict of the rules.
-///
-/// Of con alone the filled surface decides besides, of rasters with directions the paths, and with ranks nothing. See
-/// `check` for the order of refusals, and for how far it reads.
-pub fn judge<R: ByteSource, P: ProductInputs<R>, W: VerdictVisitor + Drop>(
-    alloc: Global,
-    layout: &Layout,
-    given: &Given,
-    tiles: &mut [TileInput<R>],
-    products: &mut P,
-    judged: Judged,
-    walk: W,
-) -> Result<Judgement<W>, Refusal>
-    requires laid { IsLayoutOf layout.now.side (names_of tiles.old) layout.now }
-    requires uncounted { W.counts 0 walk }
-    requires unnoted { (rules : declared.Rules) (g : Grid) (ps : grid.Products) → W.are_of rules g ps 0 walk }
-    ensures answer { (inputs : Inputs) → Encode R.bytes_left layout.now.side tiles.old given.now (P.inputs products.old) inputs → IsJudgement judged inputs result }
-    ensures lasting { IfOk result (λ judgement. W.lasting judgement.walk ≡ W.lasting walk) }
-    ensures noted { IfOk result (λ judgement. (inputs : Inputs) → Encode R.bytes_left layout.now.side tiles.old given.now (P.inputs products.old) inputs → AreNotesOf W.are_of judged inputs judgement.walk) }
-    ensures flows { IfOk result (λ judgement. (inputs : Inputs) → Encode R.bytes_left layout.now.side tiles.old given.now (P.inputs products.old) inputs → AreFlowsFor judged (input_grid inputs) (input_products inputs) (extent_of layout.now) judgement.flows) }
-    ensures uses { UsesInputs P.inputs (λ ts ps. devices_of ts (P.inputs ps)) R.bytes_left R.counts layout.now.side (tiles.old, products.old) (tiles.new, products.new) result }
-{
-    judge_set::<R, TileInput<R>, P, W>(alloc, layout, given, tiles, products, judged, walk)
+    judge_set::<R, T, P, Walk<OutletLabels>>(alloc, &frame, given, inputs, products, judged, walk)
 }
 
 /// Judges a ground with this frame from these inputs, or returns the first refusal: the headers of its products, the bytes
@@ -107,12 +74,12 @@ pub fn judge_set<R: ByteSource, T: GroundInput<R>, P: ProductInputs<R>, W: Verdi
     requires fit { T.fit frame.now inputs.old }
     requires uncounted { W.counts 0 walk }
     requires unnoted { (rules : declared.Rules) (g : Grid) (ps : grid.Products) → W.are_of rules g ps 0 walk }
-    ensures answer { ForSet T.terrain (T.means frame.now inputs.old) R.bytes_left given.now (P.inputs products.old) (λ s. IsJudgementIn judged s result) }
+    ensures answer { ForSet T.terrain (T.encodes (T.key_of frame.now) inputs.old) R.bytes_left given.now (P.inputs products.old) (λ s. IsJudgementIn judged s result) }
     ensures lasting { IfOk result (λ judgement. W.lasting judgement.walk ≡ W.lasting walk) }
-    ensures noted { IfOk result (λ judgement. ForSet T.terrain (T.means frame.now inputs.old) R.bytes_left given.now (P.inputs products.old) (λ s. AreNotesIn W.are_of judged s judgement.walk)) }
-    ensures flows { IfOk result (λ judgement. ForSet T.terrain (T.means frame.now inputs.old) R.bytes_left given.now (P.inputs products.old)
+    ensures noted { IfOk result (λ judgement. ForSet T.terrain (T.encodes (T.key_of frame.now) inputs.old) R.bytes_left given.now (P.inputs products.old) (λ s. AreNotesIn W.are_of judged s judgement.walk)) }
+    ensures flows { IfOk result (λ judgement. ForSet T.terrain (T.encodes (T.key_of frame.now) inputs.old) R.bytes_left given.now (P.inputs products.old)
         (λ s. AreFlowsFor judged (set_grid s) (set_products s) (T.extent frame.now) judgement.flows)) }
-    ensures uses { UsesSet P.inputs (λ xs ps. set_devices T.devices xs (P.inputs ps)) (T.within frame.now) T.kept R.bytes_left R.counts (inputs.old, products.old) (inputs.new, products.new) result }
+    ensures uses { UsesSet P.inputs (λ xs ps. set_devices T.devices xs (P.inputs ps)) (T.within (T.key_of frame.now)) T.kept R.bytes_left R.counts (inputs.old, products.old) (inputs.new, products.new) result }
 {
     match judged {
         Judged::Con => {
@@ -147,12 +114,12 @@ fn judge_by<
     requires fit { T.fit frame.now inputs.old }
     requires uncounted { W.counts 0 walk }
     requires unnoted { (rules : declared.Rules) (g : Grid) (ps : grid.Products) → W.are_of rules g ps 0 walk }
-    ensures answer { ForSet T.terrain (T.means frame.now inputs.old) R.bytes_left given.now (P.inputs products.old) (λ s. IsJudgementIn judged s result) }
+    ensures answer { ForSet T.terrain (T.encodes (T.key_of frame.now) inputs.old) R.bytes_left given.now (P.inputs products.old) (λ s. IsJudgementIn judged s result) }
     ensures lasting { IfOk result (λ judgement. W.lasting judgement.walk ≡ W.lasting walk) }
-    ensures noted { IfOk result (λ judgement. ForSet T.terrain (T.means frame.now inputs.old) R.bytes_left given.now (P.inputs products.old) (λ s. AreNotesIn W.are_of judged s judgement.walk)) }
-    ensures flows { IfOk result (λ judgement. ForSet T.terrain (T.means frame.now inputs.old) R.bytes_left given.now (P.inputs products.old)
+    ensures noted { IfOk result (λ judgement. ForSet T.terrain (T.encodes (T.key_of frame.now) inputs.old) R.bytes_left given.now (P.inputs products.old) (λ s. AreNotesIn W.are_of judged s judgement.walk)) }
+    ensures flows { IfOk result (λ judgement. ForSet T.terrain (T.encodes (T.key_of frame.now) inputs.old) R.bytes_left given.now (P.inputs products.old)
         (λ s. D.leave (set_grid s) (set_products s) (T.extent frame.now) judgement.flows)) }
-    ensures uses { UsesSet P.inputs (λ xs ps. set_devices T.devices xs (P.inputs ps)) (T.within frame.now) T.kept R.bytes_left R.counts (inputs.old, products.old) (inputs.new, products.new) result }
+    ensures uses { UsesSet P.inputs (λ xs ps. set_devices T.devices xs (P.inputs ps)) (T.within (T.key_of frame.now)) T.kept R.bytes_left R.counts (inputs.old, products.old) (inputs.new, products.new) result }
 {
     // The laws of what the inputs mean.
     T::meaning_laws();

@@ -6,7 +6,6 @@ pub mod auditor;
 mod check_products;
 pub mod checker;
 pub mod decider;
-pub mod dem_auditor;
 mod dem_ground;
 pub mod given;
 pub mod ground;
@@ -22,10 +21,9 @@ pub mod read_set;
 pub mod stages;
 mod tile_ground;
 
-pub use auditor::{audit, audit_given};
-pub use checker::{check, check_given};
+pub use auditor::{audit, audit_on};
+pub use checker::{check, check_on};
 pub use decider::certify;
-pub use dem_auditor::{audit_dem, audit_part_dem, check_dem};
 pub use dem_ground::dem_header;
 pub use drain_answer::{AuditVerdict, Outcome, Refusal, audit_report, fill_report, report};
 pub use drain_grid::{
@@ -35,5 +33,5 @@ pub use drain_paths::CertifyRefusal;
 pub use drain_rules::check_fill;
 pub use drain_sets::{AuditProducts, Products, RasterInput};
 pub use given::Given;
-pub use judgement::{Judgement, judge};
-pub use part_auditor::audit_part;
+pub use judgement::Judgement;
+pub use part_auditor::audit_part_on;

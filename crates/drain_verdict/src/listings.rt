@@ -3,10 +3,8 @@
 //! A text with a bad line is refused only after the last row, so that earlier refusals come first. During the walk it
 //! lists no sink, or unit spacing.
 
-ghost use Rattle.std.specs.Prelude.{◌≡◌, ◌≢◌, ℕ, Err, IfOk, IfSome, Some};
-ghost use Rattle.drain_grid.specs.Spacing.{of_kind, spacing_of};
-ghost use Rattle.drain_grid.specs.SpacingTexts.{spacing_in};
-ghost use Rattle.drain_sets.specs.GivenSpacings.{spacing_from};
+ghost use Rattle.std.specs.Prelude.{◌≡◌, ◌≢◌};
+ghost use Rattle.drain_verdict.specs.Names.{ℕ, Err, IfOk, IfSome, Some, of_kind, spacing_of, spacing_in, spacing_from};
 ghost use Rattle.drain_verdict.specs.Listings.{AreRowsCounted, IsListedSpacing, IsListingOf, IsToldOfLists, IsToldOfSpacing};
 ghost use Rattle.drain_verdict.specs.Refusals.{IsOfBodies};
 

@@ -1,11 +1,8 @@
 //! Reads the next row of each product. After the last row there are no numbers; a reader keeps its fault.
 
-ghost use Rattle.std.specs.Prelude.{◌≡◌, ◌≤◌, ℕ, Err, IfErr, IsTrue, OnOk, length};
+ghost use Rattle.std.specs.Prelude.{◌≡◌, ◌≤◌};
+ghost use Rattle.drain_verdict.specs.Names.{ℕ, Err, IfErr, IsTrue, OnOk, length, Coming, SetProduct, of_product, IsPixel};
 ghost use Rattle.std.specs.List.{All};
-ghost use Rattle.drain_device.specs.RowSteps.{Coming};
-ghost use Rattle.drain_grid.specs.declared.set_product.SetProduct.{SetProduct};
-ghost use Rattle.drain_grid.specs.PerProduct.{of_product};
-ghost use Rattle.drain_grid.specs.Values.{IsPixel};
 ghost use Rattle.drain_verdict.specs.InputReads.{RasterHasRead, RastersHaveRead};
 ghost use Rattle.drain_verdict.specs.Reading.{IsOfReading, gave_up, told_by};
 ghost use Rattle.drain_verdict.specs.ToGive.{IsAfterTold, IsNextRow};

@@ -1,68 +1,56 @@
-//! The audit of some rasters against the tiles that they were made from.
+//! The audit of some rasters against the tiles or the raster of elevations that they were made from.
 
-ghost use Rattle.std.specs.Prelude.{◌≡◌, ◌↔◌, false, IfOk};
-ghost use Rattle.drain_answer.specs.Outcomes.{IsAcceptedOutcome};
-ghost use Rattle.drain_grid.specs.Judged.{has_rnk};
-ghost use Rattle.drain_verdict.specs.Answers.{ForAudit};
-ghost use Rattle.drain_verdict.specs.Outcomes.{AreJudgedRight, IsOutcomeAnswer};
-ghost use Rattle.drain_verdict.specs.Uses.{AuditUses};
+ghost use Rattle.std.specs.Prelude.{◌≡◌, ◌↔◌};
+ghost use Rattle.drain_verdict.specs.Names.{false, IfOk, IsAcceptedOutcome, has_rnk};
+ghost use Rattle.drain_verdict.specs.GroundSets.{ForSet, ForTexts};
+ghost use Rattle.drain_verdict.specs.Outcomes.{AreRightIn, IsOutcomeIn};
+ghost use Rattle.drain_verdict.specs.Uses.{UsesSet, set_devices};
 
+use crate::audit_products::ProductInputs;
 use crate::given::Given;
-use crate::judgement::judge_tiles;
+use crate::ground::GroundInput;
+use crate::judgement::judge_on;
 use crate::outcome::outcome_of;
 use drain_answer::{Outcome, Refusal};
 use drain_device::ByteSource;
 use drain_grid::Judged;
 use drain_grid::laws::correct_is_local;
-use drain_hgt::TileInput;
 use drain_laws::parts::{part_is_local, surface_is_part};
-use drain_sets::AuditProducts;
 use std::alloc::Global;
 
-/// Whether the judged rasters are right, or the first refusal: some are if they are part of a correct set.
+/// Whether judged rasters of a ground are right, or the first refusal: some are if they are part of a correct set.
 ///
-/// `side`, `tiles` and `given` are those of an audit, and so are the refusals, of the judged rasters in their order. Of
-/// a raster that isn't judged no number matters; it may be a source of ones, a byte for each cell. If no refusal applies:
+/// `key` and `inputs` are those of the ground, `given` and refusals those of an audit, of the judged rasters in their order.
+/// Of a raster that isn't judged no number matters; it may be a source of ones, a byte for each cell. If no refusal applies:
 /// `NoEnd` with the first data cell in row order whose path reaches no code 0, if directions are judged; else `Rejected`
 /// with the first fault of the rules about the judged rasters; of con alone `NotFilled` with the first cell where it is
 /// below the filled surface; else an acceptance. Memory: a byte for each cell, the labels of outlets and three rows; of
 /// con alone the elevations, con and a flood. Of con alone lanes clear no cell where dir is 0, which costs time.
-pub fn audit_part<R: ByteSource>(
+pub fn audit_part_on<R: ByteSource, T: GroundInput<R>, P: ProductInputs<R>>(
     alloc: Global,
-    side: u32,
-    tiles: &mut [TileInput<R>],
+    key: &T::Key,
+    inputs: &mut [T],
     given: &Given,
-    products: &mut AuditProducts<R>,
+    products: &mut P,
     judged: Judged,
 ) -> Result<Outcome, Refusal>
+    requires admitted { T.admits inputs.old }
+
     // Unless memory ran out or a read failed, the answer is that of the bytes.
-    ensures answer { ForAudit R.bytes_left side tiles.old given.now products.old (λ inputs. IsOutcomeAnswer judged inputs result) }
+    ensures answer { ForSet T.terrain (T.encodes key.now inputs.old) R.bytes_left given.now (P.inputs products.old) (λ s. IsOutcomeIn judged s result) }
 
-    // If it gives an outcome, it accepts exactly if the judged rasters are right; ranks are none of these.
-    ensures exactly { has_rnk judged ≡ false → IfOk result (λ outcome. ForAudit R.bytes_left side tiles.old given.now products.old (λ inputs. IsAcceptedOutcome outcome ↔ AreJudgedRight judged inputs)) }
+    // If it gives an outcome, the elevations are those of the inputs, and it accepts exactly if the judged rasters are right;
+    // ranks are none of these.
+    ensures elevation { IfOk result (λ outcome. ForTexts (T.encodes key.now inputs.old) R.bytes_left given.now (P.inputs products.old) T.is_told) }
+    ensures exactly { has_rnk judged ≡ false → IfOk result (λ outcome. ForSet T.terrain (T.encodes key.now inputs.old) R.bytes_left given.now (P.inputs products.old) (λ s. IsAcceptedOutcome outcome ↔ AreRightIn judged s)) }
 
-    // How far it reads, when a read fails, and what is unchanged: as for an audit.
-    ensures uses { AuditUses R.bytes_left R.counts side (tiles.old, products.old) (tiles.new, products.new) result }
+    // How far it reads, when a read fails, and what is unchanged.
+    ensures uses { UsesSet P.inputs (λ xs ps. set_devices T.devices xs (P.inputs ps)) (T.within key.now) T.kept R.bytes_left R.counts (inputs.old, products.old) (inputs.new, products.new) result }
 {
     // The laws that an acceptance rests on.
     correct_is_local();
     part_is_local();
     surface_is_part();
-    answer_of(alloc, side, tiles, given, products, judged)
-}
-
-/// The answer to the bytes.
-fn answer_of<R: ByteSource>(
-    alloc: Global,
-    side: u32,
-    tiles: &mut [TileInput<R>],
-    given: &Given,
-    products: &mut AuditProducts<R>,
-    judged: Judged,
-) -> Result<Outcome, Refusal>
-    ensures answer { ForAudit R.bytes_left side tiles.old given.now products.old (λ inputs. IsOutcomeAnswer judged inputs result) }
-    ensures uses { AuditUses R.bytes_left R.counts side (tiles.old, products.old) (tiles.new, products.new) result }
-{
-    let judgement = judge_tiles(alloc, side, tiles, given, products, judged)?;
+    let judgement = judge_on::<R, T, P>(alloc, key, inputs, given, products, judged)?;
     Ok(outcome_of(judged, &judgement.verdict, judgement.cell))
 }

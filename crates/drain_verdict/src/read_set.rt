@@ -5,18 +5,14 @@
 //! list of sinks and a spacing by row, in this order. Each row is shown to a visitor; what it has seen decides nothing
 //! here. No device is called before every header is right.
 
-ghost use Rattle.std.specs.Prelude.{◌≡◌, ℕ, length, map, IfErr, IsErrOf, OnOk};
-ghost use Rattle.drain_device.specs.FaultLists.{SomeReadFails};
+ghost use Rattle.std.specs.Prelude.{◌≡◌};
+ghost use Rattle.drain_verdict.specs.Names.{length, map, IfErr, IsErrOf, OnOk, SomeReadFails};
 ghost use Rattle.drain_grid.specs.declared.judged.Rules as declared;
-ghost use Rattle.drain_grid.specs.declared.per_product.PerProduct.{PerProduct};
-ghost use Rattle.drain_grid.specs.declared.set_product.SetProduct.{SetProduct};
+ghost use Rattle.drain_verdict.specs.Names.{PerProduct, SetProduct};
 ghost use Rattle.drain_grid.specs.Grid as grid;
-ghost use Rattle.drain_grid.specs.Grid.{Grid};
-ghost use Rattle.drain_grid.specs.PerProduct.{of_product};
-ghost use Rattle.drain_header.specs.Header.{Fields};
-ghost use Rattle.drain_raster.specs.Pixels.{header_extent};
-ghost use Rattle.drain_verdict.specs.GroundSets.{AreNotesIn, AreTextsIn, EncodeTexts, ForRead, ForSet, IsReadIn};
-ghost use Rattle.drain_verdict.specs.Texts.{SetTexts, nodata_in};
+ghost use Rattle.drain_verdict.specs.Names.{Grid, of_product, Fields, header_extent};
+ghost use Rattle.drain_verdict.specs.GroundSets.{AreNotesIn, ForRead, ForSet, IsReadIn};
+ghost use Rattle.drain_verdict.specs.Texts.{nodata_in};
 ghost use Rattle.drain_verdict.specs.InputReads.{HaveBeenRead, as_read, with_rasters};
 ghost use Rattle.drain_verdict.specs.InputRows.{AreAlike, AreBegun};
 ghost use Rattle.drain_verdict.specs.Listings.{IsListingOf};
@@ -57,10 +53,10 @@ pub fn read_set<R: ByteSource, T: GroundInput<R>, P: ProductInputs<R>, K: RowVis
     requires fit { T.fit frame.now inputs.old }
     requires uncounted { K.counts 0 notes.old }
     requires unnoted { (rules : declared.Rules) (g : Grid) (ps : grid.Products) → K.are_of rules g ps 0 notes.old }
-    ensures answer { ForSet T.terrain (T.means frame.now inputs.old) R.bytes_left given.now (P.inputs products.old) (λ s. IsReadIn s result) }
+    ensures answer { ForSet T.terrain (T.encodes (T.key_of frame.now) inputs.old) R.bytes_left given.now (P.inputs products.old) (λ s. IsReadIn s result) }
     ensures lasting { OnOk result (K.lasting notes.new ≡ K.lasting notes.old) }
-    ensures noted { OnOk result (ForSet T.terrain (T.means frame.now inputs.old) R.bytes_left given.now (P.inputs products.old) (λ s. AreNotesIn K.are_of judged s notes.new)) }
-    ensures uses { UsesSet P.inputs (λ xs ps. set_devices T.devices xs (P.inputs ps)) (T.within frame.now) T.kept R.bytes_left R.counts (inputs.old, products.old) (inputs.new, products.new) result }
+    ensures noted { OnOk result (ForSet T.terrain (T.encodes (T.key_of frame.now) inputs.old) R.bytes_left given.now (P.inputs products.old) (λ s. AreNotesIn K.are_of judged s notes.new)) }
+    ensures uses { UsesSet P.inputs (λ xs ps. set_devices T.devices xs (P.inputs ps)) (T.within (T.key_of frame.now)) T.kept R.bytes_left R.counts (inputs.old, products.old) (inputs.new, products.new) result }
 {
     // The laws of what the inputs mean and of what is read of them.
     T::meaning_laws();
@@ -87,10 +83,10 @@ fn read_bodies<R: ByteSource, T: GroundInput<R>, P: ProductInputs<R>, K: RowVisi
     requires alike { AreAlike (P.inputs products.old) headers }
     requires uncounted { K.counts 0 notes.old }
     requires unnoted { (rules : declared.Rules) (g : Grid) (ps : grid.Products) → K.are_of rules g ps 0 notes.old }
-    ensures answer { ForRead T.terrain (λ x. T.means frame.now inputs.old x × T.framed frame.now x) R.bytes_left headers (P.inputs products.old) (λ t. t.given ≡ given.now) (λ s. IsReadIn s result) }
+    ensures answer { ForRead T.terrain (λ x. T.encodes (T.key_of frame.now) inputs.old x × T.framed frame.now x) R.bytes_left headers (P.inputs products.old) (λ t. t.given ≡ given.now) (λ s. IsReadIn s result) }
     ensures lasting { OnOk result (K.lasting notes.new ≡ K.lasting notes.old) }
-    ensures noted { OnOk result (ForRead T.terrain (λ x. T.means frame.now inputs.old x × T.framed frame.now x) R.bytes_left headers (P.inputs products.old) (λ t. t.given ≡ given.now) (λ s. AreNotesIn K.are_of judged s notes.new)) }
-    ensures inputs_within { T.within frame.now inputs.old inputs.new }
+    ensures noted { OnOk result (ForRead T.terrain (λ x. T.encodes (T.key_of frame.now) inputs.old x × T.framed frame.now x) R.bytes_left headers (P.inputs products.old) (λ t. t.given ≡ given.now) (λ s. AreNotesIn K.are_of judged s notes.new)) }
+    ensures inputs_within { T.within (T.key_of frame.now) inputs.old inputs.new }
     ensures rasters_within { (p : SetProduct) → BodyTakesAtMost R.bytes_left (of_product headers p) (P.inputs products.old) (P.inputs products.new) p }
     ensures faults { SomeReadFails (map R.counts (set_devices T.devices inputs.old (P.inputs products.old))) (map R.counts (set_devices T.devices inputs.new (P.inputs products.new))) (IsErrOf result Refusal.ReadFailed) }
     ensures kept { T.kept inputs.old inputs.new }
@@ -129,12 +125,12 @@ fn read_rows<R: ByteSource, T: GroundInput<R>, P: ProductInputs<R>, K: RowVisito
     requires unnoted { (rules : declared.Rules) (g : Grid) (ps : grid.Products) → K.are_of rules g ps 0 notes.old }
     ensures answer { (hs : PerProduct Fields) → AreBegun (T.begun frame.now) hs (with_rasters P.readers rows.old) → rules.now.nodata ≡ nodata_in hs
         → ((p : SetProduct) → header_extent (of_product hs p) ≡ T.extent frame.now)
-        → ForRead T.terrain (λ x. T.means frame.now inputs.old x × T.framed frame.now x) R.bytes_left hs (P.inputs products.old)
+        → ForRead T.terrain (λ x. T.encodes (T.key_of frame.now) inputs.old x × T.framed frame.now x) R.bytes_left hs (P.inputs products.old)
         (λ t. IsListingOf (T.kind frame.now) listing.now t.given) (λ s. IsReadIn s result) }
     ensures lasting { OnOk result (K.lasting notes.new ≡ K.lasting notes.old) }
     ensures noted { OnOk result ((hs : PerProduct Fields) → AreBegun (T.begun frame.now) hs (with_rasters P.readers rows.old) → rules.now.nodata ≡ nodata_in hs
         → ((p : SetProduct) → header_extent (of_product hs p) ≡ T.extent frame.now)
-        → ForRead T.terrain (λ x. T.means frame.now inputs.old x × T.framed frame.now x) R.bytes_left hs (P.inputs products.old)
+        → ForRead T.terrain (λ x. T.encodes (T.key_of frame.now) inputs.old x × T.framed frame.now x) R.bytes_left hs (P.inputs products.old)
         (λ t. IsListingOf (T.kind frame.now) listing.now t.given) (λ s. AreNotesIn K.are_of rules.now.judged s notes.new)) }
     ensures reads { HaveBeenRead T.has_read R.bytes_left R.counts (as_read P.readers P.inputs (rows.old, inputs.old, products.old)) (as_read P.readers P.inputs (rows.new, inputs.new, products.new)) (IsErrOf result Refusal.ReadFailed) }
     ensures of_bodies { IfErr result IsOfBodies }

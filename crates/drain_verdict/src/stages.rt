@@ -1,16 +1,10 @@
 //! What is read before the rows: the list of sinks, the headers, the tiles' places and the layout; each with its refusals.
 
-ghost use Rattle.std.specs.Prelude.{◌≡◌, IfOk, ◌≢◌, Some, IfSome, ◌↔◌, IsTrue, IfErr};
-ghost use Rattle.drain_grid.specs.SinkTexts.{sinks_of};
+ghost use Rattle.std.specs.Prelude.{◌≡◌, ◌≢◌, ◌↔◌};
+ghost use Rattle.drain_verdict.specs.Names.{IfOk, Some, IfSome, IsTrue, IfErr, sinks_of, header_extent, product_of, of_product, AllZip, IsNameOf, names_of};
 ghost use Rattle.drain_verdict.specs.Texts.{kind_in, lines_in, nodata_in};
 ghost use Rattle.drain_verdict.specs.Stages.{IsBadLine, IsToldOfSinks, IsHeaderFor, IsHeaderRefusal, AreHeadersOf, IsFirstRefusalOf, IsLayoutOf, IsLayoutRefusal, IsNameRefusal, IsLayoutFaultAs};
 ghost use Rattle.drain_verdict.specs.Refusals.{IsOfBodies};
-ghost use Rattle.drain_raster.specs.Pixels.{header_extent};
-ghost use Rattle.drain_grid.specs.SetProduct.{product_of};
-ghost use Rattle.drain_grid.specs.PerProduct.{of_product};
-ghost use Rattle.std.specs.List.{AllZip};
-ghost use Rattle.drain_hgt.specs.Name.{IsNameOf};
-ghost use Rattle.drain_hgt.specs.Inputs.{names_of};
 
 use crate::ground::GroundInput;
 use drain_answer::Refusal;

@@ -1,24 +1,23 @@
 //! The ground of tiles: its frame is their layout, and its rows are those of their mosaic.
 
-ghost use Rattle.std.specs.Prelude.{◌≡◌, ◌≢◌, ◌≤◌, ◌+◌, ℕ, List, length, None, Some, IfErr, IsTrue, OnOk, IfSome};
+ghost use Rattle.std.specs.Prelude.{◌≡◌, ◌≢◌, ◌≤◌, ◌+◌};
+ghost use Rattle.drain_verdict.specs.Names.{ℕ, length, None, Some, OnOk, IfSome, MAX_LENGTH, IsSample, IsPixel};
 ghost use Rattle.std.specs.List.{All};
-ghost use Rattle.drain_grid.specs.declared.cell.TheConstants.{MAX_LENGTH};
-ghost use Rattle.drain_grid.specs.Grid.{IsSample};
-ghost use Rattle.drain_grid.specs.Values.{IsPixel};
-ghost use Rattle.drain_verdict.specs.Ground.{GroundToGive, IsToldOf, ground_row};
+ghost use Rattle.drain_verdict.specs.Ground.{GroundToGive, ground_row};
 ghost use Rattle.drain_verdict.specs.Reading.{IsOfReading, gave_up, told_by};
 ghost use Rattle.drain_verdict.specs.TileRows.{IsMosaicAfter, IsMosaicOneMore, TilesHaveRead};
 
 use crate::ground::GroundInput;
 use crate::laws::tile_row_laws;
 use crate::placing::is_placed;
+use crate::stages::layout_of;
 use drain_answer::Refusal;
 use drain_device::{ByteSource, ReadFault};
 use drain_grid::{HeightKind, OutOfMemory, Shape};
 use drain_header::Header;
 use drain_hgt::TileInput;
 use drain_hgt::laws::one_name;
-use drain_mosaic::laws::new_rows_are_of_bodies;
+use drain_mosaic::laws::{agreement_gives_elevation, new_rows_are_of_bodies};
 use drain_mosaic::{Layout, MosaicRows};
 use drain_pixels::{GroundRow, Voids};
 use std::alloc::Global;
@@ -31,15 +30,16 @@ pub struct NarrowRows {
 }
 
 impl<R: ByteSource> GroundInput<R> for TileInput<R> {
-    ghost use Rattle.std.specs.Prelude.{◌≡◌, length};
-    ghost use Rattle.drain_grid.specs.declared.height_kind.HeightKind.{HeightKind};
-    ghost use Rattle.drain_hgt.specs.Inputs.{TilesTakeAtMost, names_of, tile_devices};
-    ghost use Rattle.drain_mosaic.specs.Tiling.{extent_of};
+    ghost use Rattle.std.specs.Prelude.{◌≡◌};
+    ghost use Rattle.drain_verdict.specs.Names.{length, HeightKind, TilesTakeAtMost, names_of, tile_devices, extent_of};
+    ghost use Rattle.drain_verdict.specs.Headline.{AreOneElevation};
     ghost use Rattle.drain_verdict.specs.Inputs.{Inputs};
     ghost use Rattle.drain_verdict.specs.Stages.{IsLayoutOf};
     ghost use Rattle.drain_verdict.specs.TileGround.{TellTiles, IsPlaced, tile_ground};
     ghost use Rattle.drain_verdict.specs.TileRows.{IsMosaicAfter, IsMosaicBegun, IsTilingOf, TilesHaveRead, tile_rows_of};
     ghost use Rattle.drain_verdict.specs.Uses.{AreNamesKept};
+
+    type Key = u32;
 
     type Frame = Layout;
 
@@ -49,7 +49,15 @@ impl<R: ByteSource> GroundInput<R> for TileInput<R> {
 
     ghost terrain = { tile_ground };
 
+    ghost is_told = { AreOneElevation };
+
+    ghost admits = { λ tiles. Unit {0} };
+
+    ghost encodes = { λ side tiles inputs. TellTiles R.bytes_left side tiles inputs };
+
     ghost rows_of = { tile_rows_of };
+
+    ghost key_of = { λ layout. layout.side };
 
     ghost framed = { λ layout inputs. IsTilingOf layout inputs };
 
@@ -63,8 +71,6 @@ impl<R: ByteSource> GroundInput<R> for TileInput<R> {
 
     ghost fit = { λ layout tiles. IsLayoutOf layout.side (names_of tiles) layout };
 
-    ghost means = { λ layout tiles inputs. TellTiles R.bytes_left layout.side tiles inputs };
-
     ghost begun = { λ layout rows. IsMosaicBegun layout rows.mosaic };
 
     ghost count = { λ rows. length rows.mosaic.tiles.items };
@@ -73,11 +79,17 @@ impl<R: ByteSource> GroundInput<R> for TileInput<R> {
 
     ghost has_read = { λ start now failed. TilesHaveRead R.bytes_left R.counts (start.0.mosaic, start.1) (now.0.mosaic, now.1) failed };
 
-    ghost within = { λ layout old new. TilesTakeAtMost R.bytes_left layout.side old new };
+    ghost within = { λ side old new. TilesTakeAtMost R.bytes_left side old new };
 
     ghost kept = { AreNamesKept };
 
     ghost devices = { tile_devices };
+
+    fn frame(alloc: Global, side: &u32, tiles: &[TileInput<R>]) -> Result<Layout, Refusal> {
+        // The law that bytes name one tile.
+        one_name();
+        layout_of(alloc, *side, tiles)
+    }
 
     fn height_kind(_layout: &Layout) -> HeightKind {
         HeightKind::Whole
@@ -128,6 +140,7 @@ impl<R: ByteSource> GroundInput<R> for TileInput<R> {
         one_name();
         new_rows_are_of_bodies::<R>();
         tile_row_laws();
+        agreement_gives_elevation();
     }
 
     fn reading_laws() {}

@@ -1,27 +1,8 @@
 -- A window that was cut out of a grid: its judged cells are those of an area of the grid, with the same patches.
-use Rattle.std.proofs.Common.{◌≡◌, ℕ, ◌+◌, ◌-◌, ◌<◌, ◌≤◌, min, inl, inr, Bool, true, false, IsTrue, List, map, refl, sym, ◌∙◌, ap, subst, arith}
-use Rattle.std.specs.List.{flat_map, range_with_len}
-use Rattle.drain_grid.specs.declared.cell.Cell.{Cell}
-use Rattle.drain_grid.specs.declared.rule.Rule.{Rule}
-use Rattle.drain_grid.specs.Extent.{IsCellOf, IsEarlier}
-use Rattle.drain_grid.specs.Grid.{Grid, Products}
-use Rattle.drain_grid.specs.GridRules.{HoldsAt, IsEarlierPair}
-use Rattle.drain_grid.specs.Rule.{IsPatchRule}
-use Rattle.drain_grid.specs.Unranked.{unranked}
-use Rattle.drain_grid.specs.Values.{NoDataNumbers}
-use Rattle.drain_grid.proofs.Neighbors.{same_place}
-use Rattle.drain_rules.specs.declared.walk.RowOutcome.TheVariants.{Sound, Faulty}
-use Rattle.drain_union.specs.declared.report.Outlet.{Outlet}
-use Rattle.drain_union.specs.declared.place.Place.{Place}
-use Rattle.drain_union.specs.declared.place.TheConstants.{SEAM_DEPTH}
-use Rattle.drain_union.specs.Windows.{cut_grid, cut_products, window_at, Window, in_union, moved, IsFirstInside, IsJudgedIn, IsJudgedOutlet, IsPlaceIn, IsWindowOf, RulesHoldInside}
-use Rattle.drain_union.specs.Reports.{IsOnSeam}
+use Rattle.drain_window.proofs.Names.{◌≡◌, ℕ, ◌+◌, ◌-◌, ◌<◌, ◌≤◌, min, inl, inr, Bool, true, false, IsTrue, List, map, refl, sym, ◌∙◌, ap, subst, arith, flat_map, range_with_len, Cell, Rule, IsCellOf, IsEarlier, Grid, Products, HoldsAt, IsEarlierPair, IsPatchRule, unranked, NoDataNumbers, same_place, Sound, Faulty, Outlet, Place, SEAM_DEPTH, cut_grid, cut_products, window_at, Window, in_union, moved, IsFirstInside, IsJudgedIn, IsJudgedOutlet, IsPlaceIn, IsWindowOf, RulesHoldInside, IsOnSeam, IsAbove, CountsAmong, HasCell, IsFirstAmong, IsBefore, IsOutletAt, judged_area, ring_of, row_cells_of, WalkJudgesWindow, WalkListsSeams}
 use Rattle.drain_union.proofs.Unions.{by_patch}
 use Rattle.drain_union.proofs.WindowPatches.{patch_of_window, there}
-use Rattle.drain_rules.specs.Areas.{IsAbove, CountsAmong, HasCell, IsFirstAmong}
 use Rattle.drain_rules.specs.Rows.{place}
-use Rattle.drain_window.specs.JudgedAreas.{IsBefore, IsOutletAt, judged_area, ring_of, row_cells_of}
-use Rattle.drain_window.specs.Laws.{WalkJudgesWindow, WalkListsSeams}
 
 -- behind the ring of a first row, and before that of a last one
 after_ring : (b : Bool) (first at : ℕ) → (IsTrue b → 0 < at) → first + ring_of b ≤ first + at

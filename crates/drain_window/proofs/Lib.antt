@@ -1,3 +1,4 @@
+pub mod Names
 pub mod JudgedWindows
 pub mod RowLists
 pub mod SeamCells

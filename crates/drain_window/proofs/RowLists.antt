@@ -1,16 +1,10 @@
 -- A list of the first rows' spacings, of which the last one is that of all rows after it.
-use Rattle.std.proofs.Common.{◌≡◌, ℕ, zero, suc, ◌+◌, ◌-◌, ◌<◌, ◌≤◌, min, inl, inr, List, [], ◌∷◌, ◌++◌, length, slice_index_or, length-append, refl, sym, ap, subst, ◌∙◌, arith}
-use Rattle.std.proofs.lemmas.Bool.{cases_lt}
-use Rattle.std.proofs.lemmas.List.{get_or_append_left, get_or-append-add}
+use Rattle.drain_window.proofs.Names.{◌≡◌, ℕ, zero, suc, ◌+◌, ◌-◌, ◌<◌, ◌≤◌, min, inl, inr, List, [], ◌∷◌, ◌++◌, length, slice_index_or, length-append, refl, sym, ap, subst, ◌∙◌, arith, cases_lt, get_or_append_left, get_or-append-add, Distances, of_kind, unit_spacing, Place, spacing_from, AreAlikeTo, AreRowsOf, IsEnough, last_spacing}
 use Rattle.drain_grid.specs.declared.height_kind.HeightKind.{HeightKind}
 use Rattle.drain_grid.specs.declared.spacing_text.SpacingInput.{SpacingInput}
 use Rattle.drain_grid.specs.declared.spacing_text.SpacingInput.TheVariants.{Same, ByRow}
-use Rattle.drain_grid.specs.Spacing.{Distances, of_kind, unit_spacing}
 use Rattle.drain_grid.specs.SpacingTexts.{spacing_said}
-use Rattle.drain_union.specs.declared.place.Place.{Place}
 use Rattle.drain_verdict.specs.Given.{Given, row_spacing}
-use Rattle.drain_sets.specs.GivenSpacings.{spacing_from}
-use Rattle.drain_window.specs.JudgedRows.{AreAlikeTo, AreRowsOf, IsEnough, last_spacing}
 
 -- what is said and what is given have one spacing of rows
 pub said_given : (kind : HeightKind) (input : SpacingInput) (row : ℕ) → of_kind kind (spacing_said input row) ≡ row_spacing kind (spacing_from input) row

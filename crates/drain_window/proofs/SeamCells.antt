@@ -1,16 +1,6 @@
 -- One cell more of a row of the box, and one row more of the grid: what is listed of the seams.
-use Rattle.std.proofs.Common.{◌≡◌, ℕ, ◌+◌, ◌-◌, ◌<◌, ◌≤◌, ◌⊎◌, inl, inr, [], ◌∷◌, ◌++◌, List, sym, ◌∙◌, subst, arith}
-use Rattle.std.specs.List.{Contains}
-use Rattle.std.proofs.lemmas.Bool.{cases_lt}
-use Rattle.std.proofs.lemmas.List.Elements.{Contains-append_left, Contains-push, Contains-push_cases}
-use Rattle.drain_grid.specs.declared.cell.Cell.{Cell}
-use Rattle.drain_grid.specs.Grid.{Grid, Products}
+use Rattle.drain_window.proofs.Names.{◌≡◌, ℕ, ◌+◌, ◌-◌, ◌<◌, ◌≤◌, ◌⊎◌, inl, inr, [], ◌∷◌, ◌++◌, List, sym, ◌∙◌, subst, arith, Contains, cases_lt, Contains-append_left, Contains-push, Contains-push_cases, Cell, Grid, Products, Place, SEAM_DEPTH, Shown, IsOnSeam, AddsSeams, IsSeamAbove, IsSeamBefore, IsShownAt, ListsSeamsAbove}
 use Rattle.drain_rules.specs.Rows.{place}
-use Rattle.drain_union.specs.declared.place.Place.{Place}
-use Rattle.drain_union.specs.declared.place.TheConstants.{SEAM_DEPTH}
-use Rattle.drain_union.specs.declared.report.Shown.{Shown}
-use Rattle.drain_union.specs.Reports.{IsOnSeam}
-use Rattle.drain_window.specs.SeamRows.{AddsSeams, IsSeamAbove, IsSeamBefore, IsShownAt, ListsSeamsAbove}
 
 -- nothing is shown before the first column
 pub seams-none : (origin : Cell) (p : Place) (g : Grid) (ps : Products) (row : ℕ) (xs : List Shown) → AddsSeams origin p g ps row 0 xs xs

@@ -1,18 +1,8 @@
 -- The lines that a window judges are its listed sinks.
-use Rattle.std.proofs.Common.{◌≡◌, ℕ, zero, suc, ◌+◌, inl, inr, Some, List, [], ◌∷◌, ◌++◌, length, slice_get, below_more, sym, ap, subst, ◌∙◌, arith}
-use Rattle.std.specs.List.{Contains}
-use Rattle.std.proofs.lemmas.List.Elements.{Contains-append_left, Contains-append_right, Contains-append_cases}
-use Rattle.drain_grid.specs.declared.cell.Cell.{Cell}
+use Rattle.drain_window.proofs.Names.{◌≡◌, ℕ, zero, suc, ◌+◌, inl, inr, Some, List, [], ◌∷◌, ◌++◌, length, slice_get, below_more, sym, ap, subst, ◌∙◌, arith, Contains, Contains-append_left, Contains-append_right, Contains-append_cases, Cell, Grid, Products, is_listed, same_place, Place, window_at, IsJudgedAt, in_union, moved, ListsSinks, AreLinesInside, union_cell}
 use Rattle.drain_grid.specs.declared.sink_line.SinkLine.{SinkLine}
-use Rattle.drain_grid.specs.Grid.{Grid, Products}
-use Rattle.drain_grid.specs.SinkTexts.{is_listed}
-use Rattle.drain_grid.proofs.Neighbors.{same_place}
 use Rattle.drain_window.proofs.JudgedWindows.{judged_moved, moved_judged}
-use Rattle.drain_union.specs.declared.place.Place.{Place}
 use Rattle.drain_union.proofs.Merges.{line_of, listed_there}
-use Rattle.drain_union.specs.Windows.{window_at, IsJudgedAt, in_union, moved}
-use Rattle.drain_union.specs.Reports.{ListsSinks}
-use Rattle.drain_window.specs.JudgedAreas.{AreLinesInside, union_cell}
 
 -- a cell of a place, and of the place in the union
 moved_cell : (origin : Cell) (p : Place) (c : Cell) → union_cell origin (in_union p c) ≡ in_union (moved origin p) c

@@ -1,50 +1,17 @@
 -- From the notes of all rows to the report on a window, and the verdict.
-use Rattle.std.proofs.Common.{◌≡◌, ℕ, Option, Some, List, Result, Ok, Err, sym, subst, ◌+◌, ◌-◌, ◌<◌, ◌≤◌, true, false, refl, ap, arith}
-use Rattle.drain_answer.specs.declared.refusal.Refusal.{Refusal}
-use Rattle.drain_answer.specs.declared.refusal.Refusal.TheVariants.{BoxTooLarge}
+use Rattle.drain_window.proofs.Names.{◌≡◌, ℕ, Option, Some, List, Result, Ok, Err, sym, subst, ◌+◌, ◌-◌, ◌<◌, ◌≤◌, true, false, refl, ap, arith, BoxTooLarge, Tiling, DemUses, dem_audit_devices, dem_check_devices, as_five, audit_devices, AreNamesKept, AuditUses, UsesInputs, devices_of, RasterInput, dem_four_used, four_used, no_memory_left, Report, audited, IsSortedByLabel, ListsOutlets, IsReportOf, ListsSeams, ListsSinks, ListsSpacings, WindowReport, UnionVerdict, as_refused, IsWithTiles, WindowRefusal, Distances, Cell, Rule, Grid, Products, unranked, same_place, NoDataNumbers, IsPatchRule, Sound, Faulty, Tally, Outlet, Place, SEAM_DEPTH, Shown, window_at, moved, IsFirstInside, IsPlaceIn, RulesHoldInside, IsAreaOutcome, AreListed, judged_area, IsOfWindow, ListsJudged, WalkJudgesWindow, WalkListsSeams, ListsSeamsAbove}
 use Rattle.drain_device.specs.declared.counts.FaultCounts.{FaultCounts}
 use Rattle.drain_hgt.specs.declared.input.TileInput.{TileInput}
 use Rattle.drain_hgt.specs.Inputs.{TilesTakeAtMost}
-use Rattle.drain_mosaic.specs.Tiling.{Tiling}
-use Rattle.drain_verdict.specs.DemGround.{DemUses, dem_audit_devices, dem_check_devices}
-use Rattle.drain_verdict.specs.Inputs.{as_five, audit_devices}
-use Rattle.drain_verdict.specs.Uses.{AreNamesKept, AuditUses, UsesInputs, devices_of}
-use Rattle.drain_sets.specs.declared.raster_input.RasterInput.{RasterInput}
-use Rattle.drain_verdict.proofs.DemAnswers.{dem_four_used}
-use Rattle.drain_verdict.proofs.InputLemmas.{four_used, no_memory_left}
 use Rattle.drain_sets.specs.declared.raster_input.AuditProducts.{AuditProducts}
-use Rattle.drain_union.specs.Reports.{Report, audited, IsSortedByLabel, ListsOutlets, IsReportOf, ListsSeams, ListsSinks, ListsSpacings}
-use Rattle.drain_union.specs.declared.report.WindowReport.{WindowReport}
-use Rattle.drain_union.specs.declared.verdict.UnionVerdict.{UnionVerdict}
-use Rattle.drain_window.specs.WindowAnswers.{as_refused, IsWithTiles}
-use Rattle.drain_window.specs.declared.answered.WindowRefusal.{WindowRefusal}
 use Rattle.drain_window.specs.declared.answered.WindowRefusal.TheVariants.{Inputs as OfInputs, OutsideMosaic}
 use Rattle.std.specs.List.Sorted.{IsPermutation}
 use Rattle.std.proofs.lemmas.List.Sorted.{Contains-permutation, IsPermutation-sym}
-use Rattle.drain_grid.specs.Spacing.{Distances}
-use Rattle.drain_grid.specs.declared.cell.Cell.{Cell}
-use Rattle.drain_grid.specs.declared.rule.Rule.{Rule}
-use Rattle.drain_grid.specs.Grid.{Grid, Products}
-use Rattle.drain_grid.specs.Unranked.{unranked}
-use Rattle.drain_grid.proofs.Neighbors.{same_place}
-use Rattle.drain_grid.specs.Values.{NoDataNumbers}
 use Rattle.drain_grid.specs.declared.judged.Judged.TheVariants.{All}
-use Rattle.drain_grid.specs.Rule.{IsPatchRule}
-use Rattle.drain_rules.specs.declared.walk.RowOutcome.TheVariants.{Sound, Faulty}
-use Rattle.drain_rules.specs.declared.walk.Tally.{Tally}
-use Rattle.drain_union.specs.declared.report.Outlet.{Outlet}
-use Rattle.drain_union.specs.declared.place.Place.{Place}
-use Rattle.drain_union.specs.declared.place.TheConstants.{SEAM_DEPTH}
-use Rattle.drain_union.specs.declared.report.Shown.{Shown}
-use Rattle.drain_union.specs.Windows.{window_at, moved, IsFirstInside, IsPlaceIn, RulesHoldInside}
 use Rattle.drain_union.specs.Laws.{FourNumbers}
 use Rattle.drain_rules.specs.declared.walk.Area.{Area}
 use Rattle.drain_rules.specs.declared.walk.Walk.{Walk}
-use Rattle.drain_rules.specs.Areas.{IsAreaOutcome}
 use Rattle.drain_rules.specs.Rows.{place}
-use Rattle.drain_window.specs.JudgedAreas.{AreListed, judged_area}
-use Rattle.drain_window.specs.Laws.{IsOfWindow, ListsJudged, WalkJudgesWindow, WalkListsSeams}
-use Rattle.drain_window.specs.SeamRows.{ListsSeamsAbove}
 use Rattle.drain_window.specs.WindowWalks.{IsSeamWalkOf, IsWindowWalkOf}
 use Rattle.drain_window.specs.declared.listed_outlets.ListedOutlets.{ListedOutlets}
 use Rattle.drain_window.specs.declared.seam_walk.SeamWalk.{SeamWalk}

@@ -1,40 +1,18 @@
 -- What follows from the answer to the inputs.
-use Rattle.std.proofs.Common.{◌≡◌, ℕ, zero, suc, ◌+◌, ◌-◌, cond, refl, sym, ap, ◌∙◌, arith, Result, Ok, Err, IfOk, IsErrOf, subst, List, Option}
-use Rattle.std.specs.List.{sum_by, range_with_len}
+use Rattle.drain_window.proofs.Names.{◌≡◌, ℕ, zero, suc, ◌+◌, ◌-◌, cond, refl, sym, ap, ◌∙◌, arith, Result, Ok, Err, IfOk, IsErrOf, subst, List, Option, sum_by, range_with_len, Cell, is_data, is_raised, Grid, Products, Tally, UnionVerdict, Place, window_at, in_union, IsFirstInside, IsOrigin, IsPlaceIn, CountsAmong, cells_in, judged_area, row_cells_of, BoxTooLarge, ReadFailed, Rule, Tiling, ForDem, GroundSet, set_grid, set_numbers, set_products, RasterInput, input_grid, input_products, nodata_numbers, tiling_of, WindowReport, Report, Agree, map_origin, IfRejected, IsAnswerOn, IsDemWindow, IsJudgedVerdict, IsWindowAnswer, IsWindowIn, IsWithTiles, window_in, window_of, WindowRefusal}
 use Rattle.std.proofs.lemmas.List.Sums.{sum_by-cons}
-use Rattle.drain_grid.specs.declared.cell.Cell.{Cell}
-use Rattle.drain_grid.specs.GridRules.{is_data, is_raised}
-use Rattle.drain_grid.specs.Grid.{Grid, Products}
 use Rattle.drain_grid.proofs.CellSums.{sum_by_same}
 use Rattle.drain_grid.proofs.Neighbors.{place}
-use Rattle.drain_rules.specs.declared.walk.Tally.{Tally}
 use Rattle.drain_union.specs.declared.verdict.UnionCounts.{UnionCounts}
-use Rattle.drain_union.specs.declared.verdict.UnionVerdict.{UnionVerdict}
 use Rattle.drain_union.specs.declared.verdict.UnionVerdict.TheVariants.{Accepted, Rejected}
 use Rattle.drain_rules.specs.Verdicts.{has_outlet_code}
-use Rattle.drain_union.specs.declared.place.Place.{Place}
-use Rattle.drain_union.specs.Windows.{window_at, in_union, IsFirstInside, IsOrigin, IsPlaceIn}
 use Rattle.drain_union.specs.JudgedCounts.{AreCountsInside, judged_cells, ring}
 use Rattle.drain_union.proofs.JudgedCounts.{by_rows, sum_by_map, sum_by_flat_map}
-use Rattle.drain_rules.specs.Areas.{CountsAmong}
-use Rattle.drain_window.specs.JudgedAreas.{cells_in, judged_area, row_cells_of}
-use Rattle.drain_answer.specs.declared.refusal.Refusal.TheVariants.{BoxTooLarge, ReadFailed}
-use Rattle.drain_grid.specs.declared.rule.Rule.{Rule}
-use Rattle.drain_mosaic.specs.Tiling.{Tiling}
 use Rattle.drain_verdict.specs.Answers.{AreReadable}
-use Rattle.drain_verdict.specs.DemGround.{ForDem}
 use Rattle.drain_verdict.specs.Given.{Given}
-use Rattle.drain_verdict.specs.GroundSets.{GroundSet, set_grid, set_numbers, set_products}
 use Rattle.drain_verdict.specs.Inputs.{Inputs, Products as AllProducts}
 use Rattle.drain_verdict.specs.TileGround.{set_of}
-use Rattle.drain_sets.specs.declared.raster_input.RasterInput.{RasterInput}
-use Rattle.drain_verdict.specs.Meaning.{input_grid, input_products, nodata_numbers, tiling_of}
-use Rattle.drain_union.specs.declared.report.WindowReport.{WindowReport}
 use Rattle.drain_union.specs.declared.union_grid.UnionGrid.{UnionGrid}
-use Rattle.drain_union.specs.Reports.{Report, Agree}
-use Rattle.drain_window.specs.WindowLines.{map_origin}
-use Rattle.drain_window.specs.WindowAnswers.{IfRejected, IsAnswerOn, IsDemWindow, IsJudgedVerdict, IsWindowAnswer, IsWindowIn, IsWithTiles, window_in, window_of}
-use Rattle.drain_window.specs.declared.answered.WindowRefusal.{WindowRefusal}
 use Rattle.drain_window.specs.declared.answered.WindowRefusal.TheVariants.{Inputs as OfInputs, OutsideMosaic}
 
 -- The cells of a judged area are those that its place judges, each one row and column further than the place begins. So

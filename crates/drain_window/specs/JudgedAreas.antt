@@ -1,18 +1,7 @@
 -- The cells of a place that are judged, and how their outlets are listed. Source: this project's own.
-use Rattle.std.specs.Prelude.{◌≡◌, ℕ, ◌+◌, ◌-◌, Bool, if◌then◌else◌, pos, ◌↔◌, ◌⊎◌, List, map, ◌<◌, Some, slice_get}
-use Rattle.std.specs.List.{Contains, flat_map, range_with_len}
-use Rattle.drain_grid.specs.declared.cell.Cell.{Cell}
-use Rattle.drain_grid.specs.Extent.{IsEarlier}
-use Rattle.drain_grid.specs.Grid.{Grid, Products, HasData}
-use Rattle.drain_grid.specs.Values.{Values}
-use Rattle.drain_rules.specs.declared.walk.Area.{Area}
-use Rattle.drain_rules.specs.Areas.{HasCell}
-use Rattle.drain_rules.specs.Labels.{IsOutletByCode}
-use Rattle.drain_rules.specs.Rows.{place}
-use Rattle.drain_union.specs.declared.report.Outlet.{Outlet}
-use Rattle.drain_union.specs.declared.place.Place.{Place}
+use Rattle.std.specs.Prelude.{◌≡◌, ◌+◌, ◌-◌, if◌then◌else◌, ◌↔◌, ◌⊎◌, ◌<◌}
+use Rattle.drain_window.specs.Names.{ℕ, Bool, pos, List, map, Some, slice_get, Contains, flat_map, range_with_len, Cell, IsEarlier, Grid, Products, HasData, Values, Area, HasCell, IsOutletByCode, place, Outlet, Place, IsJudgedAt}
 use Rattle.drain_grid.specs.declared.sink_line.SinkLine.{SinkLine}
-use Rattle.drain_union.specs.Windows.{IsJudgedAt}
 
 -- 1 for an inner side, where the ring lies
 abbrev pub ring_of : Bool → ℕ

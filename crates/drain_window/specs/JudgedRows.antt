@@ -1,8 +1,6 @@
 -- How far apart the cells of the rows of a place are, as they are listed. Source: this project's own.
-use Rattle.std.specs.Prelude.{◌≡◌, ℕ, zero, suc, ◌+◌, ◌<◌, ◌≤◌, List}
-use Rattle.drain_grid.specs.Spacing.{Distances, unit_spacing}
-use Rattle.drain_union.specs.declared.place.Place.{Place}
-use Rattle.drain_union.specs.Reports.{spacing_at}
+use Rattle.std.specs.Prelude.{◌≡◌, ◌+◌, ◌<◌, ◌≤◌}
+use Rattle.drain_window.specs.Names.{ℕ, zero, suc, List, Distances, unit_spacing, Place, spacing_at}
 
 -- the list gives the spacing of each row of the place in a grid whose rows are spaced so
 abbrev pub AreRowsOf : (ℕ → Distances) → Place → List Distances → Type 0

@@ -1,28 +1,12 @@
 -- What a walk over all rows of a grid says of a window that was cut out of it. The laws are this project's own.
-use Rattle.std.specs.Prelude.{◌≡◌, List}
-use Rattle.std.specs.List.{Contains}
-use Rattle.drain_grid.specs.declared.cell.Cell.{Cell}
-use Rattle.drain_grid.specs.Grid.{Grid, Products, IsInside, values_at}
-use Rattle.drain_grid.specs.Rule.{IsPatchRule}
-use Rattle.drain_grid.specs.Unranked.{unranked}
-use Rattle.drain_grid.specs.Values.{NoDataNumbers, Values}
+use Rattle.std.specs.Prelude.{◌≡◌}
+use Rattle.drain_window.specs.Names.{List, Contains, Cell, Grid, Products, IsInside, values_at, IsPatchRule, unranked, NoDataNumbers, Values, IsAreaOutcome, CountsAmong, HasCell, IsOutletCell, place, Outlet, Place, SEAM_DEPTH, Shown, window_at, Window, in_union, IsFirstInside, IsJudgedOutlet, IsPlaceIn, RulesHoldInside, ListsSeams, IsEarlier, Area, IsOutletByCode}
 use Rattle.drain_rules.specs.declared.walk.RowOutcome.{RowOutcome}
 use Rattle.drain_rules.specs.declared.walk.RowOutcome.TheVariants.{Sound, Faulty}
-use Rattle.drain_rules.specs.Areas.{IsAreaOutcome, CountsAmong, HasCell, IsOutletCell}
-use Rattle.drain_rules.specs.Rows.{place}
-use Rattle.drain_union.specs.declared.report.Outlet.{Outlet}
-use Rattle.drain_union.specs.declared.place.Place.{Place}
-use Rattle.drain_union.specs.declared.place.TheConstants.{SEAM_DEPTH}
-use Rattle.drain_union.specs.declared.report.Shown.{Shown}
-use Rattle.drain_union.specs.Windows.{window_at, Window, in_union, IsFirstInside, IsJudgedOutlet, IsPlaceIn, RulesHoldInside}
-use Rattle.drain_union.specs.Reports.{ListsSeams}
 use Rattle.drain_window.specs.JudgedAreas.{AreListed, cells_in, judged_area, AddsOutlet, IsBefore, IsOutletAt, Lists, cell_from}
 use Rattle.drain_window.specs.SeamRows.{ListsSeamsAbove}
 use Rattle.std.proofs.Common.{ℕ, ◌+◌, ◌↔◌, inl, inr, false, IsTrue, refl, sym, ◌∙◌, ap, subst, arith}
-use Rattle.drain_grid.specs.Extent.{IsEarlier}
-use Rattle.drain_rules.specs.declared.walk.Area.{Area}
 use Rattle.drain_rules.specs.Laws.{earlier-more, earlier-still}
-use Rattle.drain_rules.specs.Labels.{IsOutletByCode}
 
 -- the list holds the label and the union's cell of each outlet that the window judges, and nothing else, in any order
 pub record ListsJudged (w : Window) (xs : List Outlet) : Type 0 where

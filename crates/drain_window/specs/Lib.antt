@@ -1,3 +1,4 @@
+pub mod Names
 pub mod JudgedAreas
 pub mod JudgedRows
 pub mod Laws

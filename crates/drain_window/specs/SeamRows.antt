@@ -1,16 +1,7 @@
 -- What a window shows along its seams, as rows of the grid come.
-use Rattle.std.specs.Prelude.{◌≡◌, ℕ, ◌+◌, ◌<◌, ◌≤◌, ◌↔◌, ◌⊎◌, List}
-use Rattle.std.specs.List.{Contains}
-use Rattle.drain_grid.specs.declared.cell.Cell.{Cell}
-use Rattle.drain_grid.specs.declared.cell.TheConstants.{MAX_LENGTH}
+use Rattle.std.specs.Prelude.{◌≡◌, ◌+◌, ◌<◌, ◌≤◌, ◌↔◌, ◌⊎◌}
+use Rattle.drain_window.specs.Names.{ℕ, List, Contains, Cell, MAX_LENGTH, Grid, Products, values_at, AreRowPatches, place, Place, SEAM_DEPTH, Shown, IsOnSeam, in_union, moved}
 use Rattle.drain_grid.specs.declared.patch.Patch.{Patch}
-use Rattle.drain_grid.specs.Grid.{Grid, Products, values_at}
-use Rattle.drain_rules.specs.Rows.{AreRowPatches, place}
-use Rattle.drain_union.specs.declared.place.Place.{Place}
-use Rattle.drain_union.specs.declared.place.TheConstants.{SEAM_DEPTH}
-use Rattle.drain_union.specs.declared.report.Shown.{Shown}
-use Rattle.drain_union.specs.Reports.{IsOnSeam}
-use Rattle.drain_union.specs.Windows.{in_union, moved}
 
 -- its box ends within the greatest rows and columns of a grid
 pub record EndsInRange (p : Place) : Type 0 where

@@ -1,31 +1,16 @@
 -- What a run on one window answers. Source: this project's own.
-use Rattle.std.specs.Prelude.{◌≡◌, List, [], Result, Ok, Err}
+use Rattle.std.specs.Prelude.{◌≡◌}
+use Rattle.drain_window.specs.Names.{List, [], Result, Ok, Err, Cell, Grid, Products, NoDataNumbers, Tiling, AreReadable, IsRefusal, Fields, IsDemInput, GroundSet, IsReadable, IsRefusalIn, set_grid, set_numbers, set_products, Inputs, input_grid, input_products, nodata_numbers, tiling_of, Place, WindowReport, SEAM_DEPTH, value_of, window_at, Window, IsFirstInside, IsOrigin, IsPlaceIn, RulesHoldInside, audited, Report, IsReportOf}
 use Rattle.drain_answer.specs.declared.refusal.Refusal.{Refusal}
 use Rattle.drain_answer.specs.declared.refusal.Refusal.TheVariants.{BoxTooLarge, OutOfMemory}
-use Rattle.drain_grid.specs.declared.cell.Cell.{Cell}
 use Rattle.drain_grid.specs.declared.rule.Rule.{Rule}
-use Rattle.drain_grid.specs.Grid.{Grid, Products}
-use Rattle.drain_grid.specs.Values.{NoDataNumbers}
-use Rattle.drain_mosaic.specs.Tiling.{Tiling}
-use Rattle.drain_verdict.specs.Answers.{AreReadable, IsRefusal}
-use Rattle.drain_header.specs.Header.{Fields}
 use Rattle.drain_header.specs.declared.header.Place.{Place as HeaderPlace}
-use Rattle.drain_verdict.specs.DemGround.{IsDemInput}
-use Rattle.drain_verdict.specs.GroundSets.{GroundSet, IsReadable, IsRefusalIn, set_grid, set_numbers, set_products}
-use Rattle.drain_verdict.specs.Inputs.{Inputs}
 use Rattle.drain_sets.specs.declared.raster_input.RasterInput.{RasterInput}
-use Rattle.drain_verdict.specs.Meaning.{input_grid, input_products, nodata_numbers, tiling_of}
-use Rattle.drain_union.specs.declared.place.Place.{Place}
-use Rattle.drain_union.specs.declared.report.WindowReport.{WindowReport}
-use Rattle.drain_union.specs.declared.place.TheConstants.{SEAM_DEPTH}
 use Rattle.drain_union.specs.declared.union_grid.DemPart.{DemPart}
 use Rattle.drain_union.specs.declared.union_grid.UnionGrid.TheVariants.{Tiles, Dem}
-use Rattle.drain_union.specs.UnionGrids.{value_of}
 use Rattle.drain_union.specs.declared.verdict.UnionVerdict.{UnionVerdict}
 use Rattle.drain_union.specs.declared.verdict.UnionVerdict.TheVariants.{Accepted, Rejected}
-use Rattle.drain_union.specs.Windows.{window_at, Window, IsFirstInside, IsOrigin, IsPlaceIn, RulesHoldInside}
 use Rattle.drain_union.specs.JudgedCounts.{AreCountsInside}
-use Rattle.drain_union.specs.Reports.{audited, Report, IsReportOf}
 use Rattle.drain_window.specs.WindowLines.{map_origin}
 use Rattle.drain_window.specs.declared.answered.WindowRefusal.{WindowRefusal}
 use Rattle.drain_window.specs.declared.answered.WindowRefusal.TheVariants.{Inputs as OfInputs, OutsideMosaic}

@@ -1,13 +1,10 @@
 -- The line for the answer to a window. Its words are this project's own.
-use Rattle.std.specs.Prelude.{ℕ, List, Result, Ok, Err, codes, ◌-◌, ◌*◌, pos, neg_ℤ, ◌-ℤ◌, nat_abs}
+use Rattle.std.specs.Prelude.{◌-◌, ◌*◌, ◌-ℤ◌}
+use Rattle.drain_window.specs.Names.{ℕ, List, Result, Ok, Err, codes, pos, neg_ℤ, nat_abs, WindowReport, Cell, POLE, HALF_TURN, Tiling, north_of, west_of}
 use Rattle.drain_answer.specs.Lines.{refusal_line as inputs_line}
 use Rattle.drain_union.specs.VerdictLines.{verdict_line}
-use Rattle.drain_union.specs.declared.report.WindowReport.{WindowReport}
 use Rattle.drain_window.specs.declared.answered.WindowRefusal.{WindowRefusal}
 use Rattle.drain_window.specs.declared.answered.WindowRefusal.TheVariants.{Inputs, OutsideMosaic}
-use Rattle.drain_grid.specs.declared.cell.Cell.{Cell}
-use Rattle.drain_hgt.specs.declared.name.TheConstants.{POLE, HALF_TURN}
-use Rattle.drain_mosaic.specs.Tiling.{Tiling, north_of, west_of}
 
 -- the line of a refusal; a box that doesn't fit has a name of its own
 abbrev pub refusal_line : WindowRefusal → List ℕ

@@ -1,7 +1,6 @@
 -- What was noted of the rows of a mosaic, for the window at a place of it.
 use Rattle.std.specs.Prelude.{◌≡◌}
-use Rattle.drain_grid.specs.declared.cell.Cell.{Cell}
-use Rattle.drain_union.specs.declared.place.Place.{Place}
+use Rattle.drain_window.specs.Names.{Cell, Place}
 use Rattle.drain_window.specs.JudgedAreas.{judged_area}
 use Rattle.drain_window.specs.declared.listed_outlets.ListedOutlets.{ListedOutlets}
 use Rattle.drain_window.specs.declared.seam_walk.SeamWalk.{SeamWalk}

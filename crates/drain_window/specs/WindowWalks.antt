@@ -1,15 +1,9 @@
 -- What the walk over the judged cells of a window has found.
-use Rattle.std.specs.Prelude.{◌≡◌, ℕ, ◌+◌, ◌<◌, ◌≤◌}
-use Rattle.drain_grid.specs.declared.judged.Rules.{Rules}
-use Rattle.drain_grid.specs.Grid.{Grid, Products}
+use Rattle.std.specs.Prelude.{◌≡◌, ◌+◌, ◌<◌, ◌≤◌}
+use Rattle.drain_window.specs.Names.{ℕ, Rules, Grid, Products, IsPatchRule, unranked, NoDataNumbers, IsAreaOutcome, place}
 use Rattle.drain_window.specs.declared.seam_walk.SeamWalk.{SeamWalk}
 use Rattle.drain_window.specs.SeamRows.{ListsSeamsAbove}
-use Rattle.drain_grid.specs.Rule.{IsPatchRule}
-use Rattle.drain_grid.specs.Unranked.{unranked}
-use Rattle.drain_grid.specs.Values.{NoDataNumbers}
 use Rattle.drain_rules.specs.declared.walk.Walk.{Walk}
-use Rattle.drain_rules.specs.Areas.{IsAreaOutcome}
-use Rattle.drain_rules.specs.Rows.{place}
 use Rattle.drain_window.specs.JudgedAreas.{AreListed}
 use Rattle.drain_window.specs.declared.listed_outlets.ListedOutlets.{ListedOutlets}
 

@@ -1,17 +1,14 @@
 //! The answer from what was noted of the rows.
 
-ghost use Rattle.std.specs.Prelude.{◌≡◌, ◌<◌, IsTrue, IfSome};
+ghost use Rattle.std.specs.Prelude.{◌≡◌, ◌<◌};
+ghost use Rattle.drain_window.specs.Names.{IsTrue, IfSome, Grid, Products, NoDataNumbers, window_at, IsOrigin, IsPlaceIn, IsSortedByLabel, ListsSinks, ListsSpacings, Agree};
 ghost use Rattle.drain_window.specs.WindowLines.{refusal_line, window_line};
 ghost use Rattle.std.specs.List.Sorted.{IsPermutation};
-ghost use Rattle.drain_grid.specs.Grid.{Grid, Products};
-ghost use Rattle.drain_grid.specs.Values.{NoDataNumbers};
 ghost use Rattle.drain_grid.specs.declared.judged.Judged.TheVariants.{All};
 ghost use Rattle.drain_window.specs.WindowAnswers.{IsAnswerOn};
 ghost use Rattle.drain_window.specs.WindowNotes.{AreOfWindow};
 ghost use Rattle.drain_window.specs.SeamRows.{EndsInRange};
 ghost use Rattle.drain_window.specs.WindowWalks.{IsSeamWalkOf, IsWindowWalkOf};
-ghost use Rattle.drain_union.specs.Windows.{window_at, IsOrigin, IsPlaceIn};
-ghost use Rattle.drain_union.specs.Reports.{IsSortedByLabel, ListsSinks, ListsSpacings, Agree};
 
 use crate::judged_area::judged_area;
 use crate::laws::{walk_judges_window, walk_lists_seams};

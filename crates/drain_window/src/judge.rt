@@ -1,17 +1,10 @@
 //! One window of a union, from the bytes of its tiles and products.
 
-ghost use Rattle.std.specs.Prelude.{◌≡◌, IfOk, ◌≤◌, ◌*◌, ◌-◌, ◌-ℤ◌, nat_abs, Ok};
-ghost use Rattle.drain_grid.specs.Grid.{IsSide};
-ghost use Rattle.drain_hgt.specs.declared.name.TheConstants.{HALF_TURN};
+ghost use Rattle.std.specs.Prelude.{◌≡◌, ◌≤◌, ◌*◌, ◌-◌, ◌-ℤ◌};
+ghost use Rattle.drain_window.specs.Names.{IfOk, nat_abs, Ok, IsSide, HALF_TURN, ForAudit, nodata_numbers, SEAM_DEPTH, audited, IsReportOf, Agree, IsFirstInside, IsOrigin, AuditUses};
 ghost use Rattle.drain_window.specs.WindowLines.{map_origin};
 ghost use Rattle.drain_hgt.specs.Inputs.{names_of};
-ghost use Rattle.drain_verdict.specs.Answers.{ForAudit};
-ghost use Rattle.drain_verdict.specs.Meaning.{nodata_numbers};
 ghost use Rattle.drain_verdict.specs.Stages.{IsLayoutOf};
-ghost use Rattle.drain_union.specs.declared.place.TheConstants.{SEAM_DEPTH};
-ghost use Rattle.drain_union.specs.Reports.{audited, IsReportOf, Agree};
-ghost use Rattle.drain_union.specs.Windows.{IsFirstInside, IsOrigin};
-ghost use Rattle.drain_verdict.specs.Uses.{AuditUses};
 ghost use Rattle.drain_window.specs.WindowAnswers.{as_refused, IfRejected, IsWindowAnswer, IsWithTiles, window_of};
 
 use crate::answered::WindowRefusal;

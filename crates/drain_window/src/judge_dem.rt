@@ -1,14 +1,7 @@
 //! One window of a union that is a raster of elevations, from the bytes of a part of it and of the part's products.
 
-ghost use Rattle.std.specs.Prelude.{◌≡◌, ◌≤◌, IfOk, pos};
-ghost use Rattle.drain_header.specs.Header.{IsCoordinate};
-ghost use Rattle.drain_union.specs.declared.place.TheConstants.{SEAM_DEPTH};
-ghost use Rattle.drain_union.specs.Reports.{audited, IsReportOf, Agree};
-ghost use Rattle.drain_union.specs.UnionGrids.{value_of};
-ghost use Rattle.drain_union.specs.Windows.{IsFirstInside};
-ghost use Rattle.drain_verdict.specs.DemGround.{DemUses, ForDem, dem_audit_devices};
-ghost use Rattle.drain_verdict.specs.GroundSets.{set_numbers};
-ghost use Rattle.drain_verdict.specs.Inputs.{as_five};
+ghost use Rattle.std.specs.Prelude.{◌≡◌, ◌≤◌};
+ghost use Rattle.drain_window.specs.Names.{IfOk, pos, IsCoordinate, SEAM_DEPTH, audited, IsReportOf, Agree, value_of, IsFirstInside, DemUses, ForDem, dem_audit_devices, set_numbers, as_five};
 ghost use Rattle.drain_window.specs.WindowAnswers.{as_refused, IfRejected, IsDemWindow, IsOfDem, IsPartOf, window_in};
 
 use crate::answered::WindowRefusal;

@@ -1,11 +1,7 @@
 //! One window of a union, from the bytes of a ground, wherever its elevations come from, and of its products.
 
-ghost use Rattle.std.specs.Prelude.{◌≡◌, IfOk};
-ghost use Rattle.drain_verdict.specs.GroundSets.{ForSet};
-ghost use Rattle.drain_verdict.specs.Inputs.{as_five};
-ghost use Rattle.drain_verdict.specs.Uses.{UsesSet, set_devices};
-ghost use Rattle.drain_union.specs.Reports.{Agree};
-ghost use Rattle.drain_union.specs.Windows.{IsOrigin, IsPlaceIn};
+ghost use Rattle.std.specs.Prelude.{◌≡◌};
+ghost use Rattle.drain_window.specs.Names.{IfOk, ForSet, as_five, UsesSet, set_devices, Agree, IsOrigin, IsPlaceIn};
 ghost use Rattle.drain_window.specs.WindowAnswers.{as_refused, IsPlacedAnswer, IsWindowIn};
 
 use crate::answered::{WindowRefusal, answered};
@@ -36,8 +32,8 @@ pub(crate) fn judge_ground<R: ByteSource, T: GroundInput<R>>(
     place: &Place,
 ) -> Result<(UnionVerdict, Report), WindowRefusal>
     requires fit { T.fit frame.now inputs.old }
-    ensures answer { ForSet T.terrain (T.means frame.now inputs.old) R.bytes_left given.now (as_five products.old) (λ s. IsWindowIn origin place.now s result) }
-    ensures uses { UsesSet as_five (λ xs ps. set_devices T.devices xs (as_five ps)) (T.within frame.now) T.kept R.bytes_left R.counts (inputs.old, products.old) (inputs.new, products.new) (as_refused result) }
+    ensures answer { ForSet T.terrain (T.encodes (T.key_of frame.now) inputs.old) R.bytes_left given.now (as_five products.old) (λ s. IsWindowIn origin place.now s result) }
+    ensures uses { UsesSet as_five (λ xs ps. set_devices T.devices xs (as_five ps)) (T.within (T.key_of frame.now)) T.kept R.bytes_left R.counts (inputs.old, products.old) (inputs.new, products.new) (as_refused result) }
     ensures agree { IfOk result (λ a. Agree a.0 a.1) }
 {
     // The laws of what the inputs mean, and of what is read of them.
@@ -65,8 +61,8 @@ fn judge_placed<R: ByteSource, T: GroundInput<R>>(
     requires fit { T.fit frame.now inputs.old }
     requires moved { IsOrigin origin }
     requires placed { IsPlaceIn (T.extent frame.now) place.now }
-    ensures answer { ForSet T.terrain (T.means frame.now inputs.old) R.bytes_left given.now (as_five products.old) (λ s. IsPlacedAnswer origin place.now s result) }
-    ensures uses { UsesSet as_five (λ xs ps. set_devices T.devices xs (as_five ps)) (T.within frame.now) T.kept R.bytes_left R.counts (inputs.old, products.old) (inputs.new, products.new) result }
+    ensures answer { ForSet T.terrain (T.encodes (T.key_of frame.now) inputs.old) R.bytes_left given.now (as_five products.old) (λ s. IsPlacedAnswer origin place.now s result) }
+    ensures uses { UsesSet as_five (λ xs ps. set_devices T.devices xs (as_five ps)) (T.within (T.key_of frame.now)) T.kept R.bytes_left R.counts (inputs.old, products.old) (inputs.new, products.new) result }
     ensures agree { IfOk result (λ a. Agree a.0 a.1) }
 {
     // The laws of what the inputs mean.

@@ -1,13 +1,11 @@
 //! The judged cells of a window.
 
-ghost use Rattle.std.specs.Prelude.{◌≡◌, IfOk, length};
+ghost use Rattle.std.specs.Prelude.{◌≡◌};
+ghost use Rattle.drain_window.specs.Names.{IfOk, length, Grid, Products, window_at, IsJudgedAt, IsOrigin, ListsSinks};
 ghost use Rattle.drain_window.specs.JudgedAreas.{judged_area, AreLinesInside, union_cell};
 ghost use Rattle.drain_window.specs.SeamRows.{EndsInRange};
-ghost use Rattle.drain_grid.specs.Grid.{Grid, Products};
 ghost use Rattle.drain_grid.specs.SinkTexts.{is_listed, sinks_of};
 ghost use Rattle.drain_verdict.specs.Texts.{lines_in};
-ghost use Rattle.drain_union.specs.Windows.{window_at, IsJudgedAt, IsOrigin};
-ghost use Rattle.drain_union.specs.Reports.{ListsSinks};
 
 use drain_grid::{Cell, OutOfMemory, Sinks, parse_sinks};
 use drain_rules::Area;

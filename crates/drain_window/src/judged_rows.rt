@@ -1,7 +1,7 @@
 //! How far apart the cells of a window's rows are, as its report lists it.
 
-ghost use Rattle.std.specs.Prelude.{◌≡◌, ◌<◌, ◌≤◌, ℕ, IfOk};
-ghost use Rattle.drain_grid.specs.Spacing.{spacing_of};
+ghost use Rattle.std.specs.Prelude.{◌≡◌, ◌<◌, ◌≤◌};
+ghost use Rattle.drain_window.specs.Names.{IfOk, spacing_of};
 ghost use Rattle.drain_verdict.specs.Given.{row_spacing};
 ghost use Rattle.drain_sets.specs.GivenSpacings.{spacing_from};
 ghost use Rattle.drain_window.specs.JudgedRows.{AreRowsOf, IsEnough};

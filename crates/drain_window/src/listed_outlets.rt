@@ -1,8 +1,7 @@
 //! The outlets of the judged cells of a window, listed as a walk passes them.
 
-ghost use Rattle.std.specs.Prelude.{◌+◌, ◌<◌, ◌^◌, OnErr, OnOk};
-ghost use Rattle.drain_grid.specs.declared.cell.TheConstants.{MAX_LENGTH};
-ghost use Rattle.drain_rules.specs.Labels.{IsOutletByCode};
+ghost use Rattle.std.specs.Prelude.{◌+◌, ◌<◌, ◌^◌};
+ghost use Rattle.drain_window.specs.Names.{OnErr, OnOk, MAX_LENGTH, IsOutletByCode};
 ghost use Rattle.drain_window.specs.JudgedAreas.{Lists};
 
 use drain_grid::{Cell, CellValues, OutOfMemory};
@@ -23,8 +22,8 @@ pub struct ListedOutlets {
 }
 
 impl ListedOutlets {
-    ghost use Rattle.std.specs.Prelude.{◌≡◌, ◌+◌, ◌<◌, ◌^◌, []};
-    ghost use Rattle.drain_grid.specs.declared.cell.TheConstants.{MAX_LENGTH};
+    ghost use Rattle.std.specs.Prelude.{◌≡◌, ◌+◌, ◌<◌, ◌^◌};
+    ghost use Rattle.drain_window.specs.Names.{[], MAX_LENGTH};
 
     /// No outlet was passed. This takes no memory.
     pub fn new(alloc: Global, area: Area, origin: Cell) -> ListedOutlets

@@ -1,12 +1,9 @@
 //! What a window shows along its seams, noted row by row.
 
-ghost use Rattle.std.specs.Prelude.{◌≡◌, ◌<◌, ◌≤◌, ◌+◌, ℕ, [], OnOk};
-ghost use Rattle.drain_grid.specs.declared.cell.TheConstants.{MAX_LENGTH};
+ghost use Rattle.std.specs.Prelude.{◌≡◌, ◌<◌, ◌≤◌, ◌+◌};
+ghost use Rattle.drain_window.specs.Names.{ℕ, [], OnOk, MAX_LENGTH, IsOrigin, Grid, Products, IsOnSeam};
 ghost use Rattle.drain_window.specs.SeamRows.{AddsSeams, EndsInRange, ListsSeamsAbove, OfSeamRow};
-ghost use Rattle.drain_union.specs.Windows.{IsOrigin};
-ghost use Rattle.drain_grid.specs.Grid.{Grid, Products};
 ghost use Rattle.drain_rules.specs.Rows.{AreRowPatches, place as cell_at};
-ghost use Rattle.drain_union.specs.Reports.{IsOnSeam};
 
 use drain_grid::{Cell, NoData, OutOfMemory, Rules};
 use drain_rows::{RowBuffer, RowVisitor};
@@ -28,13 +25,9 @@ pub struct SeamWalk {
 }
 
 impl SeamWalk {
-    ghost use Rattle.std.specs.Prelude.{ℕ, ◌≡◌, ◌<◌, ◌+◌, OnOk};
-    ghost use Rattle.drain_grid.specs.declared.cell.TheConstants.{MAX_LENGTH};
-    ghost use Rattle.drain_grid.specs.declared.judged.Rules.{Rules};
-    ghost use Rattle.drain_grid.specs.Grid.{Grid, Products};
-    ghost use Rattle.drain_rules.specs.Rows.{AreRowPatches};
+    ghost use Rattle.std.specs.Prelude.{◌≡◌, ◌<◌, ◌+◌};
+    ghost use Rattle.drain_window.specs.Names.{ℕ, OnOk, MAX_LENGTH, Rules, Grid, Products, AreRowPatches, IsOrigin};
     ghost use Rattle.drain_window.specs.SeamRows.{EndsInRange};
-    ghost use Rattle.drain_union.specs.Windows.{IsOrigin};
     ghost use Rattle.drain_window.specs.WindowWalks.{IsSeamWalkOf};
 
     /// No row was passed. This takes no memory.

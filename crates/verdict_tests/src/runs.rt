@@ -6,7 +6,7 @@ use drain_answer::lines::Line;
 use drain_device::ByteSource;
 use drain_hgt::TileInput;
 use drain_verdict::{
-    AuditProducts, Given, Products, audit, audit_given, audit_report, check, check_given, report,
+    AuditProducts, Given, Products, audit, audit_on, audit_report, check, check_on, report,
 };
 use std::alloc::{AllocError, Global};
 use std::test::Fail;
@@ -91,10 +91,10 @@ pub fn told_given(
     let mut tiles = tiles(alloc, example.tiles(), AtOnce)?;
     let mut five = products(alloc, ConHeaded::by_itself(example), AtOnce)?;
     Ok(match asked {
-        Checked::Check => report(&check_given(alloc, side, &mut tiles, given, &mut five)),
+        Checked::Check => report(&check_on(alloc, &side, tiles.as_mut_slice(), given, &mut five)),
         Checked::Audit => {
             let mut four = without_ranks(five);
-            audit_report(&audit_given(alloc, side, &mut tiles, given, &mut four))
+            audit_report(&audit_on(alloc, &side, tiles.as_mut_slice(), given, &mut four))
         }
     })
 }

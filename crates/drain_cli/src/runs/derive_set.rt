@@ -1,14 +1,8 @@
 //! What `derive` derives, and its files.
 
-ghost use Rattle.std.specs.Prelude.{◌≡◌, IfOk, length, Result};
-ghost use Rattle.drain_header.specs.Header.{Fields};
-ghost use Rattle.drain_maker.specs.ProductFiles.{CanBeDerived, DerivedFit};
-ghost use Rattle.drain_sets.specs.declared.set_files.TheConstants.{DERIVED_COUNT};
-ghost use Rattle.drain_answer.specs.AuditLines.{no_end_line};
+ghost use Rattle.std.specs.Prelude.{◌≡◌};
+ghost use Rattle.drain_cli.specs.Names.{IfOk, length, Result, Fields, CanBeDerived, DerivedFit, DERIVED_COUNT, no_end_line, Derived, DeriveRefusal, Tiling};
 ghost use Rattle.drain_cli.specs.DerivedSets.{IsDemDerivation, IsDerivation, IsDerivedRun, IsSetHandedOver, none_line, none_status, told_of_dir, with_header};
-ghost use Rattle.drain_maker.specs.declared.derivation.Derived.{Derived};
-ghost use Rattle.drain_maker.specs.declared.derivation.DeriveRefusal.{DeriveRefusal};
-ghost use Rattle.drain_mosaic.specs.Tiling.{Tiling};
 
 use crate::runs::run_explain::headers_of_four;
 use crate::runs::slips::{OtherShape, other_shape};

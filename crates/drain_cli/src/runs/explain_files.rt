@@ -1,11 +1,10 @@
 //! Explaining the products of a folder: its files are opened as for a check or an audit, and opened again for details.
 
-ghost use Rattle.std.specs.Prelude.{◌≡◌, ◌↔◌, length, IfOk, IsSome, IsTrue, Some};
-ghost use Rattle.drain_args.specs.declared.form.Form.TheVariants.{Json};
-ghost use Rattle.drain_explain.specs.declared.fault_visitor.Mapping.TheVariants.{Drawn};
+ghost use Rattle.std.specs.Prelude.{◌≡◌, ◌↔◌};
+ghost use Rattle.drain_cli.specs.Names.{length, IfOk, IsSome, IsTrue, Some, Json, Drawn};
 ghost use Rattle.drain_grid.specs.declared.judged.Judged as grid;
 
-use crate::runs::explain_dem::run_explain_on;
+use crate::runs::explain_opened::run_explain_on;
 use crate::runs::judge_files::print_usage_error;
 use crate::runs::run_explain;
 use crate::runs::run_explain::{ExplainOutput, MapFault, PageFailure, print_page_failure};

@@ -2,9 +2,9 @@
 //!
 //! As a check does, `make` reports a bad text of widths after all else: until then cells are square.
 
-ghost use Rattle.std.specs.Prelude.{◌≡◌, IfOk, IfErr, IfSome, None};
+ghost use Rattle.std.specs.Prelude.{◌≡◌};
+ghost use Rattle.drain_cli.specs.Names.{IfOk, IfErr, IfSome, None, AreGivenSpacings};
 ghost use Rattle.drain_cli.specs.MadeSets.{AreSaidSpacings, IsNoSpacing, no_spacing_line, no_spacing_status};
-ghost use Rattle.drain_maker.specs.Accepted.{AreGivenSpacings};
 
 use drain_answer::Refusal;
 use drain_answer::lines::{Line, refusal_line, words};

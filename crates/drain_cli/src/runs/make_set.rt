@@ -1,18 +1,11 @@
 //! What `make` makes, and its files.
 
-ghost use Rattle.std.specs.Prelude.{◌≡◌, [], IfOk, None, length, map, IfErr, OnOk};
-ghost use Rattle.drain_maker.specs.ProductFiles.{SetFits, made_header};
-ghost use Rattle.drain_sets.specs.declared.set_files.TheConstants.{FILE_COUNT};
-ghost use Rattle.drain_device.specs.FaultLists.{SomeReadFails};
-ghost use Rattle.drain_hgt.specs.Inputs.{names_of, tile_devices, TilesTakeAtMost};
+ghost use Rattle.std.specs.Prelude.{◌≡◌};
+ghost use Rattle.drain_cli.specs.Names.{[], IfOk, None, length, map, IfErr, OnOk, SetFits, made_header, FILE_COUNT, SomeReadFails, names_of, tile_devices, TilesTakeAtMost, AreElevationsOf, Prints, IsSpacingOf, AreHeadersKept, DemTakesAtMost, dem_devices};
 ghost use Rattle.drain_cli.specs.declared.runs.make_set.NoSet.{NoSet};
 ghost use Rattle.drain_cli.specs.MadeSets.{IsDemSetOf, IsNoDemSet, IsNoSet, IsSetOf, IsSetOn, no_set_line, no_set_status};
 ghost use Rattle.drain_cli.specs.OpenedInputs.{given_in};
-ghost use Rattle.drain_files.specs.Files.{AreElevationsOf};
-ghost use Rattle.drain_answer.specs.Printing.{Prints};
-ghost use Rattle.drain_files.specs.OpenSpacings.{IsSpacingOf};
 ghost use Rattle.drain_verdict.specs.Given.{plain};
-ghost use Rattle.drain_verdict.specs.DemGround.{AreHeadersKept, DemTakesAtMost, dem_devices};
 
 use crate::runs::made_spacing;
 use crate::runs::made_spacing::{MadeSpacing, NoSpacing, spacing_to_make};

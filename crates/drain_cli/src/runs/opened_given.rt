@@ -1,7 +1,7 @@
 //! What is given beside the rasters of opened files.
 
 ghost use Rattle.std.specs.Prelude.{◌≡◌};
-ghost use Rattle.drain_files.specs.OpenSpacings.{spacing_opened};
+ghost use Rattle.drain_cli.specs.Names.{spacing_opened};
 
 use drain_files::open_spacing::OpenSpacing;
 use drain_verdict::Given;

@@ -1,11 +1,8 @@
 //! Reading the report of one window.
 
-ghost use Rattle.std.specs.Prelude.{◌≡◌, ◌≤◌, ◌++◌, IfErr, IfOk, MatchResult, OnOk, Some, codes, decimal, length};
-ghost use Rattle.std.specs.Io.KnownBytes.{Consumes, IsAtEnd};
+ghost use Rattle.std.specs.Prelude.{◌≡◌, ◌≤◌, ◌++◌};
+ghost use Rattle.drain_cli.specs.Names.{IfErr, IfOk, MatchResult, OnOk, Some, codes, decimal, length, Consumes, IsAtEnd, Prints, ContentsFit, contents_of, Agree};
 ghost use Rattle.arrayvec.specs.ArrayString.{array_string_len};
-ghost use Rattle.drain_answer.specs.Printing.{Prints};
-ghost use Rattle.drain_report.specs.Contents.{ContentsFit, contents_of};
-ghost use Rattle.drain_union.specs.Reports.{Agree};
 ghost use Rattle.drain_union.specs.declared.report.WindowReport.{WindowReport as WindowReportOf};
 ghost use Rattle.drain_cli.specs.ReportInputs.{fault_line, fault_status, IsBadReport};
 ghost use Rattle.drain_cli.specs.WindowRuns.{text_of};

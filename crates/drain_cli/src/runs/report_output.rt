@@ -1,10 +1,7 @@
 //! The last part of a run that makes a report: it is written and gets its name, and the verdict is printed.
 
-ghost use Rattle.std.specs.Prelude.{◌≡◌, IfOk, length, vec_len, Result};
-ghost use Rattle.drain_files.specs.Files.{IsNamed};
-ghost use Rattle.drain_sets.specs.FileWrites.{WritesFile};
-ghost use Rattle.drain_sets.specs.declared.set_files.SetFault.{SetFault};
-ghost use Rattle.drain_answer.specs.Printing.{Prints};
+ghost use Rattle.std.specs.Prelude.{◌≡◌};
+ghost use Rattle.drain_cli.specs.Names.{IfOk, length, vec_len, Result, IsNamed, WritesFile, SetFault, Prints};
 ghost use Rattle.drain_cli.specs.WindowRuns.{IsReadable, reported_line, reported_status, text_of, verdict_status};
 
 use drain_answer::lines::{Line, words};

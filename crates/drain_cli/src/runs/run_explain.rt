@@ -1,10 +1,8 @@
-//! A run of `explain` on tiles: the answer, its page and its map.
+//! A run of `explain`: the answer, its page and its map.
 
-ghost use Rattle.std.specs.Prelude.{◌≡◌, ◌++◌, ℕ, List, IfOk, Ok, codes, string_bytes, Result};
-ghost use Rattle.drain_cli.specs.ExplainRuns.{AreFoundOf, Explains, IsFailureObject, IsNoPage, IsNoPageLine, IsOutcome, IsSaved, IsTileExplained, no_page_answer, no_page_of, place_on_tiles};
-ghost use Rattle.drain_cli.specs.OpenedInputs.{ForTiles};
-ghost use Rattle.drain_header.specs.Header.{Fields};
-ghost use Rattle.drain_answer.specs.Printing.{PrintsText};
+ghost use Rattle.std.specs.Prelude.{◌≡◌, ◌++◌};
+ghost use Rattle.drain_cli.specs.Names.{ℕ, List, IfOk, Ok, codes, string_bytes, Result, Fields, PrintsText};
+ghost use Rattle.drain_cli.specs.ExplainRuns.{Explains, IsFailureObject, IsNoPage, IsNoPageLine, IsSaved, no_page_answer, no_page_of, place_on_tiles};
 ghost use Rattle.drain_cli.specs.declared.runs.run_explain.MapFault.{MapFault};
 
 use crate::answer::outcome_status;
@@ -12,22 +10,18 @@ use drain_answer::outcome::Status;
 use drain_answer::print::{print_failure, print_text};
 use drain_args::form::Form;
 use drain_args::requests::{DemArgs, TileArgs};
-use drain_device::{BodyFault, ByteSink, ByteSource, Patience, Reader, read_full};
-use drain_explain::{
-    FileLookup, Findings, Mapping, RefusalDetail, answer_and_findings, detail_of, explain_audit,
-    explain_check,
-};
+use drain_device::{BodyFault, ByteSink, Patience, Reader, read_full};
+use drain_explain::Findings;
 use drain_files::file_paths::{dem_path, raster_path};
 use drain_files::open_failure::print_open_failure;
 use drain_files::open_judged::JudgedProducts;
 use drain_grid::{PerProduct, Product};
 use drain_header::Header;
-use drain_hgt::TileInput;
 use drain_maker::product_header;
 use drain_mosaic::Layout;
 use drain_page::{Facts, Frame, OUT_OF_MEMORY_OBJECT, failure_json, page_json, page_text};
 use drain_sets::FilePart;
-use drain_verdict::{AuditProducts, Given, Outcome, Refusal};
+use drain_verdict::AuditProducts;
 use std::alloc::{AllocError, Global};
 use std::fs;
 use std::fs::File;
@@ -287,69 +281,6 @@ fn print_page<F: Frame, W: ByteSink>(alloc: Global, facts: &Facts<F>, form: Form
             Ok(page) => print_text(out, page.as_bytes(), status),
             Err(_) => print_page_failure(alloc, &PageFailure::OutOfMemory, form, out),
         },
-    }
-}
-
-/// Explains the answer of a check or of an audit: prints a page that begins with its line, and returns its exit status.
-///
-/// It reads and reports what `run_check` or `run_audit` does, at the same times. A map is saved before the page is
-/// printed. The status is 3 if memory is refused for the page, the map can't be saved, or the page can't be written.
-pub fn run_explain<R: ByteSource, B: ExplainOutput + FileLookup, W: ByteSink>(
-    alloc: Global,
-    side: u32,
-    tiles: &mut [TileInput<R>],
-    given: &Given,
-    products: &mut JudgedProducts<R>,
-    mapping: Mapping,
-    form: Form,
-    beside: &mut B,
-    out: &mut W,
-) -> u8
-    ensures run { IsTileExplained R.ByteSource W.ByteSink B.ExplainOutput.has_saved side tiles.old tiles.new given.now products.old products.new mapping form beside.new out.old out.new result }
-{
-    let (answer, findings) = explain_products(alloc, side, tiles, given, products, mapping);
-    let refusal = match refusal_of(&answer) {
-        Some(refusal) => {
-            let headers = headers_of(products);
-            detail_of(alloc, refusal, side, tiles, &headers, given, beside)
-        }
-        None => None,
-    };
-    let facts = Facts {
-        answer,
-        refusal,
-        findings,
-    };
-    explain(alloc, &facts, form, beside, out)
-}
-
-/// The answer to the products, and what is wrong with them.
-fn explain_products<R: ByteSource>(
-    alloc: Global,
-    side: u32,
-    tiles: &mut [TileInput<R>],
-    given: &Given,
-    products: &mut JudgedProducts<R>,
-    mapping: Mapping,
-) -> (Result<Outcome, Refusal>, Option<Findings<Layout>>)
-    ensures answer { IsOutcome R.ByteSource side tiles.old tiles.new given.now products.old products.new result.0 }
-    ensures found { AreFoundOf (ForTiles R.bytes_left side tiles.old given.now) products.old given.now mapping result.0 result.1 }
-{
-    match products {
-        JudgedProducts::Five(five) => {
-            answer_and_findings(explain_check(alloc, side, tiles, given, five, mapping))
-        }
-        JudgedProducts::Four(four, judged) => answer_and_findings(explain_audit(
-            alloc, side, tiles, given, four, *judged, mapping,
-        )),
-    }
-}
-
-/// Why there is no outcome.
-pub(crate) fn refusal_of(answer: &Result<Outcome, Refusal>) -> Option<Refusal> {
-    match answer {
-        Err(refusal) => Some(*refusal),
-        Ok(_) => None,
     }
 }
 

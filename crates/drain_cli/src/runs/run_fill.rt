@@ -1,10 +1,8 @@
 //! A run of `drain fill`: a fill input is read, checked, and its answer printed.
 
 ghost use Rattle.std.specs.Prelude.{◌≡◌, ◌+◌, ◌*◌};
-ghost use Rattle.drain_device.specs.Reads.{TakesAtMost};
-ghost use Rattle.drain_grid.specs.Grid.{IsSide};
+ghost use Rattle.drain_cli.specs.Names.{TakesAtMost, IsSide, Prints};
 ghost use Rattle.drain_cli.specs.FillRuns.{FillOutcome, IsFillOutcome, IsFilledIfTold, outcome_line, outcome_status};
-ghost use Rattle.drain_answer.specs.Printing.{Prints};
 
 use drain_answer::lines::{Line, words};
 use drain_answer::outcome::Status;

@@ -1,11 +1,9 @@
 //! A run of `drain header`: the text of a header is read, and the header written in this program's own form.
 
+ghost use Rattle.std.specs.Prelude.{◌≡◌, ◌+◌, ◌++◌};
+ghost use Rattle.drain_cli.specs.Names.{IfOk, codes, TakesAtMost, fault_text, PrintsText};
 ghost use Rattle.drain_grid.specs.declared.height_kind.HeightKind.{HeightKind};
-ghost use Rattle.std.specs.Prelude.{◌≡◌, IfOk, ◌+◌, ◌++◌, codes};
-ghost use Rattle.drain_device.specs.Reads.{TakesAtMost};
-ghost use Rattle.drain_header.specs.Faults.{fault_text};
 ghost use Rattle.drain_cli.specs.FillRuns.{HeaderOutcome, IsHeaderOutcome, IsWholeOutcome, IsToldAs, IsAnswerToldAs, header_printed, header_status};
-ghost use Rattle.drain_answer.specs.Printing.{PrintsText};
 
 use drain_answer::lines::{Line, words};
 use drain_answer::outcome::Status;

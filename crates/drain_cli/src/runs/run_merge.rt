@@ -1,14 +1,7 @@
 //! A run of `drain merge`: reports are put together, and the verdict on the union is printed.
 
-ghost use Rattle.std.specs.Prelude.{◌≡◌, IfErr, IfOk, List, OnOk, Ok, Result, length, vec_len};
-ghost use Rattle.drain_grid.specs.SinkTexts.{IsSinkFault, sinks_of};
-ghost use Rattle.drain_grid.specs.declared.sink_line.SinkLine.{SinkLine};
-ghost use Rattle.drain_grid.specs.declared.sink_text.SinkFault.{SinkFault};
-ghost use Rattle.drain_merge.specs.UnionVerdicts.{merge_line};
-ghost use Rattle.drain_merge.specs.declared.map_merge.MapVerdict.{MapVerdict};
-ghost use Rattle.drain_merge.specs.declared.merge_verdict.MergeRefusal.{MergeRefusal};
-ghost use Rattle.drain_merge.specs.declared.totals.UnionSinks.TheVariants.{Listed};
-ghost use Rattle.drain_answer.specs.Printing.{Prints};
+ghost use Rattle.std.specs.Prelude.{◌≡◌};
+ghost use Rattle.drain_cli.specs.Names.{IfErr, IfOk, List, OnOk, Ok, Result, length, vec_len, IsSinkFault, sinks_of, SinkLine, SinkFault, merge_line, MapVerdict, MergeRefusal, Listed, Prints};
 ghost use Rattle.drain_cli.specs.MergeRuns.{AreSinksAt, IsMergeOutcome, list_line, list_status, MakeUnion, merge_status, refused_status, UnionIsCorrect, UnionIsNotCorrect};
 
 use crate::runs::report_input::read_or_print;

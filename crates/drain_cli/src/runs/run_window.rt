@@ -1,11 +1,10 @@
 //! The first part of a run of `drain window`: the window is judged.
 
-ghost use Rattle.std.specs.Prelude.{◌≡◌, ◌++◌, ◌⊎◌, IfSome, Result};
+ghost use Rattle.std.specs.Prelude.{◌≡◌, ◌++◌, ◌⊎◌};
+ghost use Rattle.drain_cli.specs.Names.{IfSome, Result, WindowRefusal, WindowReport};
 ghost use Rattle.drain_files.specs.FilePaths.{header_ending, raster_ending};
 ghost use Rattle.drain_cli.specs.OpenedInputs.{given_in};
 ghost use Rattle.drain_cli.specs.WindowRuns.{IsDemWindowOutcome, IsWindowHandedOver, IsWindowOutcome, IsWindowRun, refusal_code};
-ghost use Rattle.drain_window.specs.declared.answered.WindowRefusal.{WindowRefusal};
-ghost use Rattle.drain_union.specs.declared.report.WindowReport.{WindowReport};
 
 use crate::runs::opened_given::given_of;
 use crate::runs::report_output::{report_path, write_at};

@@ -1,16 +1,11 @@
 //! The last part of a run of `drain make` or `drain derive`: the files are written and get their names, and the result is
 //! printed.
 
-ghost use Rattle.std.specs.Prelude.{◌≡◌, ◌++◌, ◌≤◌, length, Result, codes, decimal};
+ghost use Rattle.std.specs.Prelude.{◌≡◌, ◌++◌, ◌≤◌};
+ghost use Rattle.drain_cli.specs.Names.{length, Result, codes, decimal, IsNamed, DerivedFit, SetFits, WritesSet, derived_bytes, WritesFiles, SetFault, DERIVED_COUNT, FILE_COUNT, Prints};
 ghost use Rattle.drain_cli.specs.DerivedSets.{derived_line};
 ghost use Rattle.drain_cli.specs.MadeSets.{made_line, written_line, written_status};
-ghost use Rattle.drain_files.specs.Files.{IsNamed};
-ghost use Rattle.drain_maker.specs.ProductFiles.{DerivedFit, SetFits, WritesSet, derived_bytes};
-ghost use Rattle.drain_sets.specs.FileWrites.{WritesFiles};
-ghost use Rattle.drain_sets.specs.declared.set_files.SetFault.{SetFault};
-ghost use Rattle.drain_sets.specs.declared.set_files.TheConstants.{DERIVED_COUNT, FILE_COUNT};
 ghost use Rattle.drain_raster.specs.Pixels.{header_extent};
-ghost use Rattle.drain_answer.specs.Printing.{Prints};
 
 use drain_answer::lines::{Line, push_number, words};
 use drain_answer::outcome::Status;

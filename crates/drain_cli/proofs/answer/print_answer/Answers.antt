@@ -1,5 +1,4 @@
-use Rattle.drain_cli.specs.JudgedRuns.{answer_status}
-use Rattle.drain_answer.proofs.PrintLemmas.{status_stood}
+use Rattle.drain_cli.proofs.Names.{answer_status, status_stood}
 use Rattle.drain_cli.proofs.answer.print_answer.Goals as goal
 
 pub returns-clause-answered : goal.returns-clause-answered

@@ -1,5 +1,4 @@
-use Rattle.std.proofs.Common.{arith}
-use Rattle.std.proofs.lemmas.Int.{ints}
+use Rattle.drain_explain.proofs.Names.{arith, ints}
 use Rattle.drain_explain.proofs.Elevations.{alone}
 use Rattle.drain_explain.proofs.elevation_range.range_at.Goals as goal
 

@@ -1,5 +1,4 @@
-use Rattle.std.proofs.Common.{◌≡◌, ◌+◌, arith, length, subst, sym, Some}
-use Rattle.drain_explain.specs.ElevationRanges.{IsOfRow, IsRange}
+use Rattle.drain_explain.proofs.Names.{◌≡◌, ◌+◌, arith, length, subst, sym, Some, IsOfRow, IsRange}
 use Rattle.drain_explain.proofs.Elevations.{column_more}
 use Rattle.drain_explain.proofs.elevation_range.range_of.Goals as goal
 

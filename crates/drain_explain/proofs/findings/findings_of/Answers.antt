@@ -1,7 +1,6 @@
-use Rattle.std.proofs.Common.{subst}
+use Rattle.drain_explain.proofs.Names.{subst, IsMapOfCells}
 use Rattle.drain_rules.specs.Walks.{cells_above}
 use Rattle.drain_faults.specs.ByProduct.{AreFaultsByProduct}
-use Rattle.drain_faults.specs.FaultMaps.{IsMapOfCells}
 use Rattle.drain_faults.specs.Faults.{AreFaultsOf, IsFirstPatch}
 use Rattle.drain_explain.proofs.findings.findings_of.Goals as goal
 

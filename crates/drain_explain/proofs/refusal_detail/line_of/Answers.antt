@@ -1,5 +1,4 @@
-use Rattle.std.proofs.Common.{◌≡◌, ◌∙◌, sym, ◌-◌, ◌+◌, suc, option_map, arith}
-use Rattle.drain_text.specs.Text.{lines_of}
+use Rattle.drain_explain.proofs.Names.{◌≡◌, ◌∙◌, sym, ◌-◌, ◌+◌, suc, option_map, arith, lines_of}
 use Rattle.drain_explain.proofs.Noting.{begins, next_of, none_behind, same_place}
 use Rattle.drain_explain.proofs.refusal_detail.line_of.Goals as goal
 

@@ -1,5 +1,4 @@
-use Rattle.std.proofs.Common.{◌≡◌, ◌-◌, drop}
-use Rattle.drain_text.specs.Text.{lines_of}
+use Rattle.drain_explain.proofs.Names.{◌≡◌, ◌-◌, drop, lines_of}
 use Rattle.drain_explain.proofs.refusal_detail.line_of.Given as goal
 
 -- the rest has the lines behind those passed

@@ -1,6 +1,4 @@
-use Rattle.std.proofs.Common.{ℕ, ◌<◌}
-use Rattle.std.specs.Prelude.{IfSome}
-use Rattle.drain_explain.specs.RefusalDetails.{IsHeightAt}
+use Rattle.drain_explain.proofs.Names.{ℕ, ◌<◌, IfSome, IsHeightAt}
 use Rattle.drain_explain.proofs.refusal_detail.seam_detail.Given as goal
 
 -- the first height is that of a tile before

@@ -1,5 +1,4 @@
-use Rattle.std.proofs.Common.{sym, arith}
-use Rattle.std.proofs.lemmas.List.{take_all, length-take-le}
+use Rattle.drain_explain.proofs.Names.{sym, arith, take_all, length-take-le}
 use Rattle.drain_findings.specs.declared.refusal_detail.TheConstants.{SHOWN_BYTES}
 use Rattle.drain_explain.proofs.refusal_detail.shown_of.Goals as goal
 

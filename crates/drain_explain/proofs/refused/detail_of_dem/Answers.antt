@@ -1,19 +1,13 @@
-use Rattle.std.proofs.Common.{◌≡◌, Option, Some, None, ℕ, List, ap, refl, rules, subst}
-use Rattle.std.specs.Prelude.{IfSome, ◌≢◌}
+use Rattle.drain_explain.proofs.Names.{◌≡◌, Option, Some, None, ℕ, List, ap, refl, rules, subst, IfSome, ◌≢◌, BadHeader, BadPixelSize, DemShort, IsDemDetailOf, IsSetDetail, OfDem, Extent, Fields, IsDemHeader}
 use Rattle.drain_answer.specs.declared.refusal.Refusal.{Refusal}
-use Rattle.drain_answer.specs.declared.refusal.Refusal.TheVariants.{BadHeader, BadPixelSize, DemShort}
-use Rattle.drain_explain.specs.RefusalDetails.{IsDemDetailOf, IsSetDetail, OfDem}
 use Rattle.drain_findings.specs.declared.refusal_detail.RefusalDetail.{RefusalDetail}
 use Rattle.drain_grid.specs.declared.height_kind.HeightKind.{HeightKind}
 use Rattle.drain_grid.specs.declared.product.Product.{Product}
 use Rattle.drain_grid.specs.declared.set_product.SetProduct.{SetProduct}
-use Rattle.drain_grid.specs.Extent.{Extent}
 use Rattle.drain_grid.specs.PerProduct.{of_product}
 use Rattle.drain_header.specs.declared.fault.HeaderFault.{HeaderFault}
 use Rattle.drain_header.specs.declared.header.Place.{Place}
-use Rattle.drain_header.specs.Header.{Fields}
 use Rattle.drain_raster.specs.Pixels.{header_extent}
-use Rattle.drain_verdict.specs.DemGround.{IsDemHeader}
 use Rattle.drain_verdict.specs.Given.{Given}
 use Rattle.drain_explain.proofs.refused.detail_of_dem.Goals as goal
 

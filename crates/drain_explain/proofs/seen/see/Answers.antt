@@ -1,20 +1,13 @@
-use Rattle.std.proofs.Common.{Err, sym, subst}
-use Rattle.std.proofs.lemmas.Result.{err_from_is_err_and}
-use Rattle.drain_grid.specs.Extent.{Extent}
-use Rattle.drain_verdict.specs.Deciding.{AreFlowsFor}
-use Rattle.drain_verdict.specs.GroundSets.{GroundSet, set_grid, set_numbers, set_products}
-use Rattle.drain_verdict.specs.Uses.{set_devices}
+use Rattle.drain_explain.proofs.Names.{Err, sym, subst, err_from_is_err_and, Extent, AreFlowsFor, GroundSet, set_grid, set_numbers, set_products, set_devices, no_memory_left, set_uses_none, OutOfMemory}
 use Rattle.drain_verdict.proofs.OutcomeLemmas.{outcome_is}
-use Rattle.drain_verdict.proofs.InputLemmas.{no_memory_left, set_uses_none}
-use Rattle.drain_answer.specs.declared.refusal.Refusal.TheVariants.{OutOfMemory}
 use Rattle.drain_explain.proofs.Noting.{endless-told}
 use Rattle.drain_explain.proofs.seen.see.Goals as goal
 
 pub returns-in-Err-clause-uses : goal.returns-in-Err-clause-uses
 returns-in-Err-clause-uses g c =
     let inputs = g.P.ProductInputs.inputs in
-    set_uses_none {T = Unit {0}} inputs (λ xs ps. set_devices g.T.GroundInput.devices xs (inputs ps)) (g.T.GroundInput.within c.args.frame.now) g.T.GroundInput.kept g.R.ByteSource.bytes_left g.R.ByteSource.counts
-    c.args.inputs.now c.args.products.now (Err OutOfMemory) (c.reading_laws.ensures.none_within c.args.frame.now c.args.inputs.now) (c.reading_laws.ensures.none_kept c.args.inputs.now) (λ is. cc)
+    set_uses_none {T = Unit {0}} inputs (λ xs ps. set_devices g.T.GroundInput.devices xs (inputs ps)) (g.T.GroundInput.within (g.T.GroundInput.key_of c.args.frame.now)) g.T.GroundInput.kept g.R.ByteSource.bytes_left g.R.ByteSource.counts
+    c.args.inputs.now c.args.products.now (Err OutOfMemory) (c.reading_laws.ensures.none_within (g.T.GroundInput.key_of c.args.frame.now) c.args.inputs.now) (c.reading_laws.ensures.none_kept c.args.inputs.now) (λ is. cc)
 
 pub returns-in_err-judgement-clause-answer : goal.returns-in_err-judgement-clause-answer
 returns-in_err-judgement-clause-answer g c = λ x t means tell.
@@ -32,7 +25,7 @@ returns-clause-uses g c = c.in_ok-judgement.ensures.uses
 pub returns-in-Err-endless_of-clause-uses : goal.returns-in-Err-endless_of-clause-uses
 returns-in-Err-endless_of-clause-uses g c =
     let inputs = g.P.ProductInputs.inputs in
-    no_memory_left inputs (λ xs ps. set_devices g.T.GroundInput.devices xs (inputs ps)) (g.T.GroundInput.within c.args.frame.now) g.T.GroundInput.kept g.R.ByteSource.bytes_left g.R.ByteSource.counts
+    no_memory_left inputs (λ xs ps. set_devices g.T.GroundInput.devices xs (inputs ps)) (g.T.GroundInput.within (g.T.GroundInput.key_of c.args.frame.now)) g.T.GroundInput.kept g.R.ByteSource.bytes_left g.R.ByteSource.counts
     (c.args.inputs.now, c.args.products.now) (c.judge_set.new.inputs, c.judge_set.new.products) c.in_ok-judgement.ensures.uses
 
 pub returns-clause-answer : goal.returns-clause-answer

@@ -1,12 +1,5 @@
-use Rattle.std.proofs.Common.{◌≡◌, ◌≤◌, ◌*◌, ◌∙◌, pos, get_or, sym, ap, arith}
+use Rattle.drain_maker.proofs.Names.{◌≡◌, ◌≤◌, ◌*◌, ◌∙◌, pos, get_or, sym, ap, arith, Extent, index_of, Pixels, spacing_of, MAX_CELLS, bytes_flows, header_extent, spaced_dem_grid}
 use Rattle.drain_grid.specs.declared.set_product.SetProduct.TheVariants.{Con, Dir, Acc, Bas, Rnk}
-use Rattle.drain_grid.specs.Extent.{Extent, index_of}
-use Rattle.drain_grid.specs.Grid.{Pixels}
-use Rattle.drain_grid.specs.Spacing.{spacing_of}
-use Rattle.drain_flood.specs.declared.level_queue.TheConstants.{MAX_CELLS}
-use Rattle.drain_paths.specs.Flows.{bytes_flows}
-use Rattle.drain_raster.specs.Pixels.{header_extent}
-use Rattle.drain_maker.specs.Dems.{spaced_dem_grid}
 use Rattle.drain_maker.proofs.DemLemmas.{con_spelled, of_ground}
 use Rattle.drain_maker.proofs.ShownRasters.{ended, heights, right}
 use Rattle.drain_maker.proofs.dem.build_dem.Goals as goal

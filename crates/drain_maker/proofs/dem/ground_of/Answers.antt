@@ -1,9 +1,4 @@
-use Rattle.std.proofs.Common.{◌≡◌, ◌∙◌, ◌*◌, [], length, get_or, sym, ap, subst}
-use Rattle.drain_grid.specs.Extent.{Extent, IsCellOf, index_of}
-use Rattle.drain_grid.proofs.Runs.{index_of-below}
-use Rattle.drain_flood.proofs.Cells.{one_more, with_next, within}
-use Rattle.drain_filled.specs.Grounds.{DataCells}
-use Rattle.drain_maker.specs.Dems.{IsMarkedBy, dem_grid}
+use Rattle.drain_maker.proofs.Names.{◌≡◌, ◌∙◌, ◌*◌, [], length, get_or, sym, ap, subst, Extent, IsCellOf, index_of, index_of-below, one_more, with_next, within, DataCells, IsMarkedBy, dem_grid}
 use Rattle.drain_maker.proofs.dem.ground_of.Goals as goal
 
 pub loop-place-preserved : goal.loop-place-preserved

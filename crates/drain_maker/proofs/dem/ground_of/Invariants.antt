@@ -1,8 +1,5 @@
 -- The marks so far.
-use Rattle.std.proofs.Common.{◌≡◌, ◌<◌, length, slice_index_or}
-use Rattle.drain_grid.specs.declared.cell.Cell.{Cell}
-use Rattle.drain_grid.specs.Extent.{IsCellOf, index_of}
-use Rattle.drain_maker.specs.Dems.{IsMarkedBy}
+use Rattle.drain_maker.proofs.Names.{◌≡◌, ◌<◌, length, slice_index_or, Cell, IsCellOf, index_of, IsMarkedBy}
 use Rattle.drain_maker.proofs.dem.ground_of.Given as goal
 
 abbrev pub invariant-loop-place : goal.invariant-loop-place

@@ -1,12 +1,6 @@
-use Rattle.std.proofs.Common.{◌≡◌, ◌∙◌, ◌+◌, ◌*◌, pos, length, get_or, sym, ap, subst, rules}
+use Rattle.drain_maker.proofs.Names.{◌≡◌, ◌∙◌, ◌+◌, ◌*◌, pos, length, get_or, sym, ap, subst, rules, SFits, to_z-of_z, Extent, IsCellOf, index_of, index_of-below, within, IsHeightAt}
 use mir.Syntax.{w64}
-use mir.Val.{SFits}
-use Rattle.std.proofs.lemmas.Int.{to_z-of_z}
 use Rattle.std.proofs.lemmas.List.{length-append}
-use Rattle.drain_grid.specs.Extent.{Extent, IsCellOf, index_of}
-use Rattle.drain_grid.proofs.Runs.{index_of-below}
-use Rattle.drain_flood.proofs.Cells.{within}
-use Rattle.drain_maker.specs.Dems.{IsHeightAt}
 use Rattle.drain_maker.proofs.DemLemmas.{with_height}
 use Rattle.drain_maker.proofs.dem.heights_of.Goals as goal
 

@@ -1,8 +1,5 @@
 -- The numbers so far.
-use Rattle.std.proofs.Common.{◌≡◌, ◌<◌, pos, length, slice_index_or}
-use Rattle.drain_grid.specs.declared.cell.Cell.{Cell}
-use Rattle.drain_grid.specs.Extent.{IsCellOf, index_of}
-use Rattle.drain_maker.specs.Dems.{IsHeightAt}
+use Rattle.drain_maker.proofs.Names.{◌≡◌, ◌<◌, pos, length, slice_index_or, Cell, IsCellOf, index_of, IsHeightAt}
 use Rattle.drain_maker.proofs.dem.heights_of.Given as goal
 
 abbrev pub invariant-loop-place : goal.invariant-loop-place

@@ -1,9 +1,4 @@
-use Rattle.std.proofs.Common.{◌≡◌, ◌∙◌, refl, sym, ap, subst}
-use Rattle.drain_grid.specs.Grid.{Pixels}
-use Rattle.drain_grid.specs.Spacing.{spacing_of}
-use Rattle.drain_grid.specs.WholeGrid.{spaced_grid}
-use Rattle.drain_maker.specs.Dems.{spaced_dem_grid}
-use Rattle.drain_maker.specs.Made.{AreRoutes}
+use Rattle.drain_maker.proofs.Names.{◌≡◌, ◌∙◌, refl, sym, ap, subst, Pixels, spacing_of, spaced_grid, spaced_dem_grid, AreRoutes}
 use Rattle.drain_maker.proofs.NarrowDems.{flooded_there, narrow_routes, narrowed_cells}
 use Rattle.drain_maker.proofs.dem.route_narrow.Goals as goal
 

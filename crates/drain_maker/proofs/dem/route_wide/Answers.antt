@@ -1,8 +1,4 @@
-use Rattle.std.proofs.Common.{refl, sym, ap, subst}
-use Rattle.drain_grid.specs.Grid.{Pixels}
-use Rattle.drain_grid.specs.Spacing.{spacing_of}
-use Rattle.drain_maker.specs.Dems.{spaced_dem_grid}
-use Rattle.drain_maker.specs.Made.{AreRoutes}
+use Rattle.drain_maker.proofs.Names.{refl, sym, ap, subst, Pixels, spacing_of, spaced_dem_grid, AreRoutes}
 use Rattle.drain_maker.proofs.dem.route_wide.Goals as goal
 
 pub returns-clause-routes : goal.returns-clause-routes

@@ -1,12 +1,5 @@
-use Rattle.std.proofs.Common.{◌≡◌, ◌∙◌, ℕ, sym, subst, rules}
+use Rattle.drain_maker.proofs.Names.{◌≡◌, ◌∙◌, ℕ, sym, subst, rules, SFits, to_z, of_z, to_z-of_z, IfOk-weaker, Distances, IsPixel, IsSurfaceOf, ShowsVoids, spaced_dem_grid}
 use mir.Syntax.{w64}
-use mir.Val.{SFits, to_z, of_z}
-use Rattle.std.proofs.lemmas.Int.{to_z-of_z}
-use Rattle.std.proofs.lemmas.Result.{IfOk-weaker}
-use Rattle.drain_grid.specs.Spacing.{Distances}
-use Rattle.drain_grid.specs.Values.{IsPixel}
-use Rattle.drain_flood.specs.Floods.{IsSurfaceOf, ShowsVoids}
-use Rattle.drain_maker.specs.Dems.{spaced_dem_grid}
 use Rattle.drain_maker.proofs.DemLemmas.{both_ok, cells_of, heights_are, pixels_are, shows_voids, void_is_pixel}
 use Rattle.drain_maker.proofs.dem.surface_of.Goals as goal
 

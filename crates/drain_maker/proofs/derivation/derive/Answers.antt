@@ -1,13 +1,5 @@
-use Rattle.std.proofs.Common.{None, Ok, Err, subst}
-use Rattle.drain_mosaic.specs.Tiling.{Tiling}
+use Rattle.drain_maker.proofs.Names.{None, Ok, Err, subst, Tiling, audit_devices, as_five, told_by, AuditUses, at_side, layout_answer, layout_reads_none, of_tiles, four_used, uses_none, Derived, AreDerivedIn, IsDeriveRefusalIn, reading_in}
 use Rattle.drain_verdict.specs.Given.{plain}
-use Rattle.drain_verdict.specs.Inputs.{audit_devices, as_five}
-use Rattle.drain_verdict.specs.Reading.{told_by}
-use Rattle.drain_verdict.specs.Uses.{AuditUses}
-use Rattle.drain_verdict.proofs.StartAnswers.{at_side, layout_answer, layout_reads_none, of_tiles}
-use Rattle.drain_verdict.proofs.InputLemmas.{four_used, uses_none}
-use Rattle.drain_maker.specs.declared.derivation.Derived.{Derived}
-use Rattle.drain_maker.specs.Derived.{AreDerivedIn, IsDeriveRefusalIn, reading_in}
 use Rattle.drain_maker.proofs.DerivedRasters.{same_reading}
 use Rattle.drain_maker.proofs.derivation.derive.Goals as goal
 

@@ -1,13 +1,5 @@
-use Rattle.std.proofs.Common.{None, Err, refl, subst}
-use Rattle.drain_header.specs.Header.{Fields}
-use Rattle.drain_verdict.specs.DemGround.{AreHeadersKept, DemTakesAtMost, DemUses, dem_audit_devices}
-use Rattle.drain_verdict.specs.Inputs.{as_five}
-use Rattle.drain_verdict.specs.Reading.{told_by}
-use Rattle.drain_verdict.proofs.DemAnswers.{dem_four_used, header_answer, header_reads_none, refused_text}
+use Rattle.drain_maker.proofs.Names.{None, Err, refl, subst, Fields, AreHeadersKept, DemTakesAtMost, DemUses, dem_audit_devices, as_five, told_by, dem_four_used, header_answer, header_reads_none, refused_text, set_uses_none, Derived, reading_in}
 use Rattle.drain_verdict.proofs.DemSteps.{dem_takes_none}
-use Rattle.drain_verdict.proofs.InputLemmas.{set_uses_none}
-use Rattle.drain_maker.specs.declared.derivation.Derived.{Derived}
-use Rattle.drain_maker.specs.Derived.{reading_in}
 use Rattle.drain_maker.proofs.DerivedRasters.{same_reading}
 use Rattle.drain_maker.proofs.derivation.derive_dem.Goals as goal
 

@@ -1,6 +1,4 @@
-use Rattle.std.proofs.Common.{◌∙◌, sym, subst}
-use Rattle.std.proofs.lemmas.Result.{IfErr-weaker, IfOk-weaker}
-use Rattle.drain_paths.specs.Flows.{AreFlowsOf}
+use Rattle.drain_maker.proofs.Names.{◌∙◌, sym, subst, IfErr-weaker, IfOk-weaker, AreFlowsOf}
 use Rattle.drain_maker.proofs.derivation.derive_flows.Goals as goal
 
 pub returns-in-Ok-clause-derived : goal.returns-in-Ok-clause-derived

@@ -1,5 +1,4 @@
-use Rattle.std.proofs.Common.{ap}
-use Rattle.drain_grid.specs.Grid.{Pixels}
+use Rattle.drain_maker.proofs.Names.{ap, Pixels}
 use Rattle.drain_maker.proofs.DerivedRasters.{AreDerived-rasters}
 use Rattle.drain_maker.proofs.derivation.derive_from_flows.Goals as goal
 

@@ -1,8 +1,4 @@
-use Rattle.std.proofs.Common.{sym, subst}
-use Rattle.std.proofs.lemmas.Result.{IfErr-weaker, IfOk-weaker}
-use Rattle.drain_grid.specs.Extent.{Extent}
-use Rattle.drain_paths.specs.Flows.{AreFlowsOf}
-use Rattle.drain_verdict.specs.GroundSets.{GroundSet, set_grid, set_products}
+use Rattle.drain_maker.proofs.Names.{sym, subst, IfErr-weaker, IfOk-weaker, Extent, AreFlowsOf, GroundSet, set_grid, set_products}
 use Rattle.drain_maker.proofs.DerivedRasters.{derive_refusal}
 use Rattle.drain_maker.proofs.derivation.derive_on.Goals as goal
 

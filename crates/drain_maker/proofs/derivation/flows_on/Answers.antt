@@ -1,11 +1,5 @@
-use Rattle.std.proofs.Common.{refl, sym, subst}
-use Rattle.std.proofs.lemmas.Result.{err_from_is_err_and}
-use Rattle.drain_grid.specs.Extent.{Extent}
-use Rattle.drain_paths.specs.Flows.{AreFirstFlows, AreFlowsOf}
+use Rattle.drain_maker.proofs.Names.{refl, sym, subst, err_from_is_err_and, Extent, AreFirstFlows, AreFlowsOf, EncodeTexts, GroundSet, set_grid, set_products, as_five, set_devices}
 use Rattle.drain_paths.proofs.GridFlows.{AreFirstFlows-none, AreFlowsOf-all}
-use Rattle.drain_verdict.specs.GroundSets.{EncodeTexts, GroundSet, set_grid, set_products}
-use Rattle.drain_verdict.specs.Inputs.{as_five}
-use Rattle.drain_verdict.specs.Uses.{set_devices}
 use Rattle.drain_maker.proofs.DerivedRasters.{counted_uses, if_same, of_memory_says_nothing}
 use Rattle.drain_maker.proofs.derivation.flows_on.Goals as goal
 
@@ -38,5 +32,5 @@ returns-clause-err g c = of_memory_says_nothing c.counted.result _ c.counted.ens
 
 pub returns-clause-uses : goal.returns-clause-uses
 returns-clause-uses g c =
-    counted_uses as_five (λ xs ps. set_devices g.T.GroundInput.devices xs (as_five ps)) (g.T.GroundInput.within c.args.frame.now) g.T.GroundInput.kept g.R.ByteSource.bytes_left g.R.ByteSource.counts
+    counted_uses as_five (λ xs ps. set_devices g.T.GroundInput.devices xs (as_five ps)) (g.T.GroundInput.within (g.T.GroundInput.key_of c.args.frame.now)) g.T.GroundInput.kept g.R.ByteSource.bytes_left g.R.ByteSource.counts
     (c.args.inputs.now, c.args.products.now) (c.read_set.new.inputs, c.read_set.new.products) c.counted.result c.counted.ensures.err c.in_ok-read_set.ensures.uses

@@ -1,5 +1,4 @@
-use Rattle.std.proofs.Common.{[], refl, rules}
-use Rattle.std.proofs.lemmas.Int.{to_z-of_z}
+use Rattle.drain_maker.proofs.Names.{[], refl, rules, to_z-of_z}
 use mir.Syntax.{w64}
 use Rattle.drain_maker.proofs.FileLemmas.{some_line}
 use Rattle.drain_maker.proofs.header_texts.has_line.Goals as goal

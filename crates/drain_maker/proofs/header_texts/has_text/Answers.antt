@@ -1,6 +1,4 @@
-use Rattle.std.proofs.Common.{◌∙◌, ℕ, List, sym, ap, subst}
-use Rattle.drain_header.specs.Header.{Fields}
-use Rattle.drain_header.specs.Text.{IsFloatLine}
+use Rattle.drain_maker.proofs.Names.{◌∙◌, ℕ, List, sym, ap, subst, Fields, IsFloatLine}
 use Rattle.drain_header.proofs.Bounds.{float_known}
 use Rattle.drain_maker.proofs.FileLemmas.{some_text}
 use Rattle.drain_maker.proofs.header_texts.has_text.Goals as goal

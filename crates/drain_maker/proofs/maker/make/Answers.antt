@@ -1,9 +1,4 @@
-use Rattle.std.proofs.Common.{IfOk, subst}
-use Rattle.drain_grid.specs.Correct.{IsCorrect, RunsAreSound}
-use Rattle.drain_grid.specs.Grid.{Grid}
-use Rattle.drain_grid.specs.Product.{default_numbers}
-use Rattle.drain_grid.specs.WholeGrid.{products_of}
-use Rattle.drain_maker.specs.Made.{KeepsEveryRule}
+use Rattle.drain_maker.proofs.Names.{IfOk, subst, IsCorrect, RunsAreSound, Grid, default_numbers, products_of, KeepsEveryRule}
 use Rattle.drain_maker.proofs.UnitSpacing.{on_unit}
 use Rattle.drain_maker.proofs.maker.make.Goals as goal
 

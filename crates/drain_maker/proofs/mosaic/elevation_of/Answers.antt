@@ -1,6 +1,4 @@
-use Rattle.std.proofs.Common.{Err, map, refl, ap, subst}
-use Rattle.drain_grid.specs.WholeGrid.{elevation_at}
-use Rattle.drain_mosaic.specs.Mosaic.{tiles_of, TilesAgree, IsElevation, IsFirstSeam}
+use Rattle.drain_maker.proofs.Names.{Err, map, refl, ap, subst, elevation_at, tiles_of, TilesAgree, IsElevation, IsFirstSeam}
 use Rattle.drain_maker.proofs.MosaicAnswers.{fault_refused}
 use Rattle.drain_maker.proofs.mosaic.elevation_of.Goals as goal
 

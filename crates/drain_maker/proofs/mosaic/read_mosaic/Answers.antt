@@ -1,10 +1,6 @@
-use Rattle.std.proofs.Common.{map}
-use Rattle.std.proofs.lemmas.Result.{err_from_is_err_and}
+use Rattle.drain_maker.proofs.Names.{map, err_from_is_err_and, SomeReadFails-none, tile_devices, named_each, layout_reads_none}
 use Rattle.drain_verdict.proofs.AuditDevices.{tiles_take_none}
-use Rattle.drain_device.proofs.FaultLists.{SomeReadFails-none}
-use Rattle.drain_hgt.specs.Inputs.{tile_devices}
 use Rattle.drain_maker.proofs.MosaicAnswers.{layout_told, laid_out, tile_told, seam_told, mosaic_told}
-use Rattle.drain_verdict.proofs.StartAnswers.{named_each, layout_reads_none}
 use Rattle.drain_maker.proofs.mosaic.read_mosaic.Goals as goal
 
 pub returns-in_err-layout-clause-refusal : goal.returns-in_err-layout-clause-refusal

@@ -1,5 +1,4 @@
-use Rattle.std.proofs.Common.{length, ap, sym, ◌∙◌}
-use Rattle.drain_hgt.specs.Samples.{tile_length, samples_of}
+use Rattle.drain_maker.proofs.Names.{length, ap, sym, ◌∙◌, tile_length, samples_of}
 use Rattle.drain_maker.proofs.MosaicAnswers.{length-is, tile-samples}
 use Rattle.drain_maker.proofs.mosaic.read_one.Goals as goal
 

@@ -1,7 +1,5 @@
-use Rattle.std.proofs.Common.{◌≡◌, ◌++◌, ◌∷◌, [], map, slice_index_or, Err, arith, refl, rules, ap, ◌∙◌}
-use Rattle.std.proofs.lemmas.List.{map-append}
-use Rattle.drain_answer.specs.declared.refusal.Refusal.TheVariants.{OutOfMemory, ReadFailed}
-use Rattle.drain_device.proofs.FaultLists.{SomeReadFails-iff}
+use Rattle.drain_maker.proofs.Names.{◌≡◌, ◌++◌, ◌∷◌, [], map, slice_index_or, Err, arith, refl, rules, ap, ◌∙◌, map-append, ReadFailed, SomeReadFails-iff}
+use Rattle.drain_answer.specs.declared.refusal.Refusal.TheVariants.{OutOfMemory}
 use Rattle.drain_maker.proofs.TileLists.{so_far-none, so_far-more, so_far-stop, so_far-all}
 use Rattle.drain_maker.proofs.mosaic.read_tiles.Goals as goal
 

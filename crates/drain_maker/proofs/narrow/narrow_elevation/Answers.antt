@@ -1,9 +1,5 @@
-use Rattle.std.proofs.Common.{◌≡◌, ◌∙◌, IfSome, sym, ap, subst, rules}
+use Rattle.drain_maker.proofs.Names.{◌≡◌, ◌∙◌, IfSome, sym, ap, subst, rules, SFits, to_z, of_z, to_z-of_z, Heights, AreNarrowed}
 use mir.Syntax.{w64}
-use mir.Val.{SFits, to_z, of_z}
-use Rattle.std.proofs.lemmas.Int.{to_z-of_z}
-use Rattle.drain_grid.specs.Grid.{Heights}
-use Rattle.drain_maker.specs.Narrow.{AreNarrowed}
 use Rattle.drain_maker.proofs.NarrowDems.{narrowed}
 use Rattle.drain_maker.proofs.narrow.narrow_elevation.Goals as goal
 

@@ -1,9 +1,6 @@
-use Rattle.std.proofs.Common.{◌∙◌, ◌<◌, ◌+◌, ◌++◌, ◌∷◌, [], ℕ, pos, length, get_or, sym, ap, subst, rules, below_more}
-use mir.Syntax.{w16, w64}
-use mir.Val.{SFits, to_z, of_z}
-use Rattle.std.proofs.lemmas.Int.{to_z-of_z}
-use Rattle.std.proofs.lemmas.List.{get_or_append_left, get_or_push, length-append}
-use Rattle.drain_maker.specs.Narrow.{IsSampleOf}
+use Rattle.drain_maker.proofs.Names.{◌∙◌, ◌<◌, ◌+◌, ◌++◌, ◌∷◌, [], ℕ, pos, length, get_or, sym, ap, subst, rules, below_more, w16, SFits, to_z, of_z, to_z-of_z, get_or_append_left, get_or_push, IsSampleOf}
+use mir.Syntax.{w64}
+use Rattle.std.proofs.lemmas.List.{length-append}
 use Rattle.drain_maker.proofs.narrow.narrow_samples.Goals as goal
 
 pub loop-place-preserved : goal.loop-place-preserved

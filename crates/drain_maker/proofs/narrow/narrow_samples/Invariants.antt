@@ -1,6 +1,5 @@
 -- The samples so far.
-use Rattle.std.proofs.Common.{◌≡◌, ◌<◌, ℕ, pos, length, slice_index_or}
-use Rattle.drain_maker.specs.Narrow.{IsSampleOf}
+use Rattle.drain_maker.proofs.Names.{◌≡◌, ◌<◌, ℕ, pos, length, slice_index_or, IsSampleOf}
 use Rattle.drain_maker.proofs.narrow.narrow_samples.Given as goal
 
 abbrev pub invariant-loop-place : goal.invariant-loop-place

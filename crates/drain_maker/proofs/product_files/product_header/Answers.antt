@@ -1,7 +1,5 @@
-use Rattle.std.proofs.Common.{◌≡◌, ◌∙◌, ◌*◌, ◌/◌, ap, rules}
+use Rattle.drain_maker.proofs.Names.{◌≡◌, ◌∙◌, ◌*◌, ◌/◌, ap, rules, to_z-of_z, product_bounds}
 use mir.Syntax.{w64}
-use Rattle.std.proofs.lemmas.Int.{to_z-of_z}
-use Rattle.drain_sets.proofs.HeaderBounds.{product_bounds}
 use Rattle.drain_maker.proofs.product_files.product_header.Goals as goal
 
 pub invariant_of-result : goal.invariant_of-result

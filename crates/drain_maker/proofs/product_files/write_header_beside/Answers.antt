@@ -1,5 +1,4 @@
-use Rattle.std.proofs.Common.{List, ℕ, subst}
-use Rattle.drain_sets.specs.FileWrites.{WritesFile}
+use Rattle.drain_maker.proofs.Names.{List, ℕ, subst, WritesFile}
 use Rattle.drain_maker.proofs.product_files.write_header_beside.Goals as goal
 
 -- such a header is of whole heights, so it has one text

@@ -1,7 +1,4 @@
-use Rattle.std.proofs.Common.{◌<◌, [], length, map, Ok, Err, arith}
-use Rattle.std.proofs.lemmas.List.{length-map}
-use Rattle.std.proofs.lemmas.Result.{err_from_is_err_and}
-use Rattle.drain_maker.specs.ProductFiles.{file_bytes}
+use Rattle.drain_maker.proofs.Names.{◌<◌, [], length, map, Ok, Err, arith, length-map, err_from_is_err_and, file_bytes}
 use Rattle.drain_maker.proofs.FileLemmas.{so_far-none, so_far-more, so_far-stop, so_far-all, WritesFile-listed}
 use Rattle.drain_maker.proofs.product_files.write_listed.Goals as goal
 

@@ -1,5 +1,4 @@
-use Rattle.std.proofs.Common.{map}
-use Rattle.drain_maker.specs.ProductFiles.{file_bytes}
+use Rattle.drain_maker.proofs.Names.{map, file_bytes}
 use Rattle.drain_maker.proofs.FileLemmas.{WritesSoFar}
 use Rattle.drain_maker.proofs.product_files.write_listed.Given as goal
 

@@ -1,9 +1,4 @@
-use Rattle.std.proofs.Common.{◌∙◌, ap, sym}
-use Rattle.std.proofs.lemmas.Result.{IfOk-weaker}
-use Rattle.drain_grid.specs.Product.{default_numbers}
-use Rattle.drain_grid.specs.Spacing.{spacing_of}
-use Rattle.drain_grid.specs.WholeGrid.{products_of, spaced_grid}
-use Rattle.drain_maker.specs.Made.{AreRightProducts}
+use Rattle.drain_maker.proofs.Names.{◌∙◌, ap, sym, IfOk-weaker, default_numbers, spacing_of, products_of, spaced_grid, AreRightProducts}
 use Rattle.drain_maker.proofs.products.build.Goals as goal
 
 pub build_on-requires : goal.build_on-requires

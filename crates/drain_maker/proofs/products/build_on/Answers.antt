@@ -1,9 +1,4 @@
-use Rattle.std.proofs.Common.{◌≤◌, ◌*◌, ◌∙◌, refl, sym, ap, arith}
-use Rattle.drain_grid.specs.Spacing.{spacing_of}
-use Rattle.drain_grid.specs.WholeGrid.{spaced_grid}
-use Rattle.drain_flood.specs.declared.layers.TheConstants.{NO_HEIGHT}
-use Rattle.drain_flood.specs.declared.level_queue.TheConstants.{MAX_CELLS}
-use Rattle.drain_paths.specs.Flows.{bytes_flows}
+use Rattle.drain_maker.proofs.Names.{◌≤◌, ◌*◌, ◌∙◌, refl, sym, ap, arith, spacing_of, spaced_grid, NO_HEIGHT, MAX_CELLS, bytes_flows}
 use Rattle.drain_maker.proofs.ShownRasters.{ended, right}
 use Rattle.drain_maker.proofs.products.build_on.Goals as goal
 

@@ -1,5 +1,4 @@
-use Rattle.drain_paths.specs.Flows.{bytes_flows}
-use Rattle.drain_paths.proofs.SameRuns.{all_end}
+use Rattle.drain_maker.proofs.Names.{bytes_flows, all_end}
 use Rattle.drain_maker.proofs.products.label_ended.Goals as goal
 
 pub label_ended_codes-requires-clause-ends : goal.label_ended_codes-requires-clause-ends

@@ -1,8 +1,5 @@
-use Rattle.std.proofs.Common.{pos, true, rules, subst}
+use Rattle.drain_maker.proofs.Names.{pos, true, rules, subst, take_all, All-more, CanSpellIn}
 use Rattle.std.specs.List.{All}
-use Rattle.std.proofs.lemmas.List.{take_all}
-use Rattle.std.proofs.lemmas.List.Elements.{All-more}
-use Rattle.drain_raster.specs.Bytes.{CanSpellIn}
 use Rattle.drain_maker.proofs.products.look_at_each.Goals as goal
 
 pub loop-place-preserved : goal.loop-place-preserved

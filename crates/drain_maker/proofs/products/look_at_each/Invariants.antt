@@ -1,6 +1,5 @@
-use Rattle.std.proofs.Common.{take, true}
+use Rattle.drain_maker.proofs.Names.{take, true, CanSpellIn}
 use Rattle.std.specs.List.{All}
-use Rattle.drain_raster.specs.Bytes.{CanSpellIn}
 use Rattle.drain_maker.proofs.products.look_at_each.Given as goal
 
 abbrev pub invariant-loop-place : goal.invariant-loop-place

@@ -1,7 +1,5 @@
-use Rattle.std.proofs.Common.{◌<◌, ℕ, pos, false, map, length, get_or, rules}
+use Rattle.drain_maker.proofs.Names.{◌<◌, ℕ, pos, false, map, length, get_or, rules, CanSpellIn, are_spelled, at_each_cell}
 use Rattle.std.specs.List.{All}
-use Rattle.drain_raster.specs.Bytes.{CanSpellIn}
-use Rattle.drain_raster.proofs.KeptLemmas.{are_spelled, at_each_cell}
 use Rattle.drain_maker.proofs.products.raster_of_counts.Goals as goal
 
 pub returns-clause-spelled : goal.returns-clause-spelled

@@ -1,11 +1,5 @@
-use Rattle.std.proofs.Common.{◌≡◌, ◌∙◌, sym}
-use Rattle.std.proofs.lemmas.Result.{IfOk-weaker}
-use Rattle.drain_grid.specs.Grid.{Grid}
-use Rattle.drain_grid.specs.Spacing.{spacing_of}
-use Rattle.drain_flood.specs.declared.layers.TheConstants.{NO_HEIGHT}
-use Rattle.drain_flood.specs.Floods.{IsFlooded}
+use Rattle.drain_maker.proofs.Names.{◌≡◌, ◌∙◌, sym, IfOk-weaker, Grid, spacing_of, NO_HEIGHT, IsFlooded, AreRoutes}
 use Rattle.drain_flood.specs.Ways.{IsSpaced}
-use Rattle.drain_maker.specs.Made.{AreRoutes}
 use Rattle.drain_maker.proofs.products.route_flooded.Goals as goal
 
 pub returns-clause-routes : goal.returns-clause-routes

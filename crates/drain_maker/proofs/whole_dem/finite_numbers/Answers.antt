@@ -1,14 +1,7 @@
-use Rattle.std.proofs.Common.{◌≡◌, ◌∙◌, ◌+◌, ◌*◌, All, pos, length, get_or, sym, ap, subst, rules}
+use Rattle.drain_maker.proofs.Names.{◌≡◌, ◌∙◌, ◌+◌, ◌*◌, pos, length, get_or, sym, ap, subst, rules, SFits, to_z, of_z, to_z-of_z, All-push, Extent, IsCellOf, index_of, IsPixel, index_of-below, within, IsKeptAt}
+use Rattle.std.proofs.Common.{All}
 use mir.Syntax.{w64}
-use mir.Val.{SFits, to_z, of_z}
-use Rattle.std.proofs.lemmas.Int.{to_z-of_z}
 use Rattle.std.proofs.lemmas.List.{length-append}
-use Rattle.std.proofs.lemmas.List.Elements.{All-push}
-use Rattle.drain_grid.specs.Extent.{Extent, IsCellOf, index_of}
-use Rattle.drain_grid.specs.Values.{IsPixel}
-use Rattle.drain_grid.proofs.Runs.{index_of-below}
-use Rattle.drain_flood.proofs.Cells.{within}
-use Rattle.drain_maker.specs.Dems.{IsKeptAt}
 use Rattle.drain_maker.proofs.DemLemmas.{with_height}
 use Rattle.drain_maker.proofs.whole_dem.finite_numbers.Goals as goal
 

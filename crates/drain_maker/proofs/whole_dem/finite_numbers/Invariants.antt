@@ -1,9 +1,6 @@
 -- The numbers so far.
-use Rattle.std.proofs.Common.{◌≡◌, ◌<◌, All, pos, length, slice_index_or}
-use Rattle.drain_grid.specs.declared.cell.Cell.{Cell}
-use Rattle.drain_grid.specs.Extent.{IsCellOf, index_of}
-use Rattle.drain_grid.specs.Values.{IsPixel}
-use Rattle.drain_maker.specs.Dems.{IsKeptAt}
+use Rattle.drain_maker.proofs.Names.{◌≡◌, ◌<◌, pos, length, slice_index_or, Cell, IsCellOf, index_of, IsPixel, IsKeptAt}
+use Rattle.std.proofs.Common.{All}
 use Rattle.drain_maker.proofs.whole_dem.finite_numbers.Given as goal
 
 abbrev pub invariant-loop-place : goal.invariant-loop-place

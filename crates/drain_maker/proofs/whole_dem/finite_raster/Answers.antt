@@ -1,9 +1,5 @@
-use Rattle.std.proofs.Common.{◌≡◌, ◌∙◌, pos, get_or, ap, rules}
+use Rattle.drain_maker.proofs.Names.{◌≡◌, ◌∙◌, pos, get_or, ap, rules, to_z-of_z, Extent, index_of, Pixels, number_at}
 use mir.Syntax.{w64}
-use Rattle.std.proofs.lemmas.Int.{to_z-of_z}
-use Rattle.drain_grid.specs.Extent.{Extent, index_of}
-use Rattle.drain_grid.specs.Grid.{Pixels}
-use Rattle.drain_grid.specs.WholeGrid.{number_at}
 use Rattle.drain_maker.proofs.whole_dem.finite_raster.Goals as goal
 
 pub returns : goal.returns

@@ -1,12 +1,5 @@
-use Rattle.std.proofs.Common.{◌∙◌, sym, ap, subst, rules}
+use Rattle.drain_maker.proofs.Names.{◌∙◌, sym, ap, subst, rules, SFits, to_z, of_z, to_z-of_z, is_finite, Single, IsPixel, number_at, kept_number}
 use mir.Syntax.{w64}
-use mir.Val.{SFits, to_z, of_z}
-use Rattle.std.proofs.lemmas.Int.{to_z-of_z}
-use Rattle.drain_floats.specs.Patterns.{is_finite}
-use Rattle.drain_grid.specs.declared.height_kind.HeightKind.TheVariants.{Single}
-use Rattle.drain_grid.specs.Values.{IsPixel}
-use Rattle.drain_grid.specs.WholeGrid.{number_at}
-use Rattle.drain_maker.specs.Dems.{kept_number}
 use Rattle.drain_maker.proofs.KeptNumbers.{either_pixel}
 use Rattle.drain_maker.proofs.whole_dem.kept_at.Goals as goal
 

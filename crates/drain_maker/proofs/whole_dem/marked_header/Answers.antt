@@ -1,10 +1,5 @@
-use Rattle.std.proofs.Common.{rules, sym, ap, subst, ◌∙◌, w64}
-use Rattle.std.proofs.lemmas.Int.{to_z-of_z}
-use Rattle.drain_floats.specs.Patterns.{IsFloatNumber}
-use Rattle.drain_grid.specs.Values.{IsNoData}
-use Rattle.drain_sets.specs.ProductHeaders.{con_no_data}
-use Rattle.drain_sets.proofs.HeaderBounds.{con_number}
-use Rattle.drain_sets.proofs.HeaderBounds.{con_float}
+use Rattle.drain_maker.proofs.Names.{rules, sym, ap, subst, ◌∙◌, to_z-of_z, IsFloatNumber, IsNoData, con_no_data, con_number, con_float}
+use Rattle.std.proofs.Common.{w64}
 use Rattle.drain_maker.proofs.whole_dem.marked_header.Goals as goal
 
 pub invariant_of-result : goal.invariant_of-result

@@ -1,8 +1,4 @@
-use Rattle.std.proofs.Common.{◌≡◌, ◌∙◌, ap, subst}
-use Rattle.drain_grid.specs.Grid.{Pixels}
-use Rattle.drain_header.specs.Header.{Fields}
-use Rattle.drain_maker.specs.Dems.{IsKept}
-use Rattle.drain_sets.specs.ProductHeaders.{con_no_data, no_height}
+use Rattle.drain_maker.proofs.Names.{◌≡◌, ◌∙◌, ap, subst, Pixels, Fields, IsKept, con_no_data, no_height}
 use Rattle.drain_maker.proofs.DemReading.{raster_kept}
 use Rattle.drain_maker.proofs.KeptNumbers.{fits_kept, float_pixel, void_float}
 use Rattle.drain_maker.proofs.whole_dem.marked_raster.Goals as goal

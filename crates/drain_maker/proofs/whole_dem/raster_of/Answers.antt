@@ -1,12 +1,5 @@
-use Rattle.std.proofs.Common.{◌≡◌, ◌<◌, ◌∙◌, ℕ, ap, rules, subst}
-use Rattle.std.specs.Prelude.{slice_index}
-use Rattle.std.proofs.lemmas.Result.{IfOk-weaker}
-use Rattle.drain_grid.specs.declared.height_kind.HeightKind.TheVariants.{Single}
+use Rattle.drain_maker.proofs.Names.{◌≡◌, ◌<◌, ◌∙◌, ℕ, ap, rules, subst, slice_index, IfOk-weaker, Single, Fields, IsPixelSize, default_number, raster_of, FitsHeader, no_height}
 use Rattle.drain_grid.specs.declared.product.Product.TheVariants.{Con}
-use Rattle.drain_header.specs.Header.{Fields, IsPixelSize}
-use Rattle.drain_raster.specs.Pixels.{default_number, raster_of}
-use Rattle.drain_maker.specs.ProductFiles.{FitsHeader}
-use Rattle.drain_sets.specs.ProductHeaders.{no_height}
 use Rattle.drain_maker.proofs.DemReading.{fits_header}
 use Rattle.drain_maker.proofs.whole_dem.raster_of.Goals as goal
 

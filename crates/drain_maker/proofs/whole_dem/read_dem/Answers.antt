@@ -1,9 +1,4 @@
-use Rattle.std.proofs.Common.{◌≡◌, Err, ap, map, rules}
-use Rattle.std.proofs.lemmas.Result.{err_from_is_err_and}
-use Rattle.drain_device.proofs.FaultLists.{SomeReadFails-iff, SomeReadFails-none}
-use Rattle.drain_answer.specs.declared.refusal.Refusal.TheVariants.{ReadFailed}
-use Rattle.drain_verdict.specs.DemGround.{dem_devices}
-use Rattle.drain_verdict.proofs.DemAnswers.{header_reads_none, refused_text}
+use Rattle.drain_maker.proofs.Names.{◌≡◌, Err, ap, map, rules, err_from_is_err_and, SomeReadFails-iff, SomeReadFails-none, ReadFailed, dem_devices, header_reads_none, refused_text}
 use Rattle.drain_maker.proofs.DemReading.{body_refused, dem_read, header_refused, one_fails, told_header, told_one}
 use Rattle.drain_maker.proofs.whole_dem.read_dem.Goals as goal
 

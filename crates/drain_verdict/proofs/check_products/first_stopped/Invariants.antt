@@ -1,8 +1,4 @@
-use Rattle.std.proofs.Common.{◌≡◌, ◌<◌}
-use Rattle.drain_device.specs.declared.row_source.Progress.TheVariants.{Stopped}
-use Rattle.drain_grid.specs.declared.set_product.SetProduct.{SetProduct}
-use Rattle.drain_grid.specs.SetProduct.{rank_of}
-use Rattle.drain_grid.specs.PerProduct.{of_product}
+use Rattle.drain_verdict.proofs.Names.{◌≡◌, ◌<◌, Stopped, SetProduct, rank_of, of_product}
 use Rattle.drain_verdict.proofs.check_products.first_stopped.Given as goal
 
 abbrev pub invariant-loop-product : goal.invariant-loop-product

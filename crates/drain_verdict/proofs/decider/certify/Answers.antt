@@ -1,9 +1,5 @@
-use Rattle.std.proofs.Common.{◌≡◌, ◌∙◌, ℤ, List, ap, map, of_z, pos, rules, subst, sym, to_z, w64}
-use Rattle.drain_grid.specs.Grid.{Grid, Products}
-use Rattle.drain_grid.specs.Extent.{Extent}
-use Rattle.drain_paths.specs.declared.flow.Flow.{Flow}
-use Rattle.drain_paths.specs.declared.walk.TheConstants.{UNKNOWN}
-use Rattle.drain_paths.specs.Flows.{AreFlowsOf}
+use Rattle.drain_verdict.proofs.Names.{◌≡◌, ◌∙◌, ℤ, List, ap, map, of_z, pos, rules, subst, sym, to_z, w64, Grid, Extent, Flow, UNKNOWN, AreFlowsOf}
+use Rattle.drain_grid.specs.Grid.{Products}
 use Rattle.drain_paths.specs.Ways.{IsRankRefusal, ground_of, directions_of}
 use Rattle.drain_paths.proofs.StepLemmas.{AreRanks-steps}
 use Rattle.drain_verdict.proofs.decider.certify.Goals as goal

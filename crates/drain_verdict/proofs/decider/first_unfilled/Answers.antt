@@ -1,7 +1,5 @@
-use Rattle.std.proofs.Common.{subst}
-use Rattle.std.proofs.lemmas.Result.{IfOk-weaker}
+use Rattle.drain_verdict.proofs.Names.{subst, IfOk-weaker, sinks_of}
 use Rattle.drain_filled.specs.ConRows.{HasSinks}
-use Rattle.drain_grid.specs.SinkTexts.{sinks_of}
 use Rattle.drain_verdict.proofs.OutcomeLemmas.{same_listed}
 use Rattle.drain_verdict.proofs.decider.first_unfilled.Goals as goal
 

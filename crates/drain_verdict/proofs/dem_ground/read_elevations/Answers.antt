@@ -1,6 +1,4 @@
-use Rattle.std.proofs.Common.{ap, arith, length}
-use Rattle.std.proofs.lemmas.List.{length-map}
-use Rattle.drain_pixels.specs.Ground.{height_with}
+use Rattle.drain_verdict.proofs.Names.{ap, arith, length, length-map, height_with}
 use Rattle.drain_verdict.proofs.dem_ground.read_elevations.Goals as goal
 
 pub returns-clause-narrow : goal.returns-clause-narrow

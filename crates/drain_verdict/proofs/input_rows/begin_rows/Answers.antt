@@ -1,7 +1,4 @@
-use Rattle.std.proofs.Common.{rules}
-use Rattle.drain_grid.proofs.ByProduct.{by_set_product}
-use Rattle.drain_grid.specs.PerProduct.{of_product}
-use Rattle.drain_header.specs.Header.{AreWithinBounds}
+use Rattle.drain_verdict.proofs.Names.{rules, by_set_product, of_product, AreWithinBounds}
 use Rattle.drain_verdict.proofs.input_rows.begin_rows.Goals as goal
 
 pub returns-clause-begun : goal.returns-clause-begun

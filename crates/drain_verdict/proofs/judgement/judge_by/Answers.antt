@@ -1,12 +1,5 @@
-use Rattle.std.proofs.Common.{◌∙◌, Ok, Err, refl, sym, ap, subst, rules}
-use Rattle.std.proofs.lemmas.Result.{err_from_is_err_and}
-use Rattle.drain_answer.specs.declared.refusal.Refusal.TheVariants.{OutOfMemory}
-use Rattle.drain_grid.specs.Extent.{Extent, IsExtent}
-use Rattle.drain_grid.specs.SinkTexts.{sinks_of}
+use Rattle.drain_verdict.proofs.Names.{◌∙◌, refl, sym, ap, subst, rules, err_from_is_err_and, Extent, IsExtent, sinks_of, GroundSet, rules_in, set_grid, set_products, set_listed, set_devices}
 use Rattle.drain_verdict.specs.Given.{Given}
-use Rattle.drain_verdict.specs.GroundSets.{GroundSet, rules_in, set_grid, set_products}
-use Rattle.drain_verdict.specs.Texts.{set_listed}
-use Rattle.drain_verdict.specs.Uses.{set_devices}
 use Rattle.drain_verdict.proofs.SinkAnswers.{listed_ok}
 use Rattle.drain_verdict.proofs.InputLemmas.{no_memory_left}
 use Rattle.drain_verdict.proofs.judgement.judge_by.Goals as goal
@@ -61,5 +54,5 @@ returns-in-Ok-clause-uses g c = c.in_ok-read_set.ensures.uses
 pub returns-in-Err-clause-uses : goal.returns-in-Err-clause-uses
 returns-in-Err-clause-uses g c =
     let inputs = g.P.ProductInputs.inputs in
-    no_memory_left inputs (λ xs ps. set_devices g.T.GroundInput.devices xs (inputs ps)) (g.T.GroundInput.within c.args.frame.now) g.T.GroundInput.kept g.R.ByteSource.bytes_left g.R.ByteSource.counts
+    no_memory_left inputs (λ xs ps. set_devices g.T.GroundInput.devices xs (inputs ps)) (g.T.GroundInput.within (g.T.GroundInput.key_of c.args.frame.now)) g.T.GroundInput.kept g.R.ByteSource.bytes_left g.R.ByteSource.counts
     (c.args.inputs.now, c.args.products.now) (c.read_set.new.inputs, c.read_set.new.products) c.in_ok-read_set.ensures.uses

@@ -1,5 +1,4 @@
-use Rattle.std.proofs.lemmas.Result.{IfOk-weaker}
-use Rattle.drain_verdict.specs.GroundSets.{GroundSet, set_grid, set_products}
+use Rattle.drain_verdict.proofs.Names.{IfOk-weaker, GroundSet, set_grid, set_products}
 use Rattle.drain_verdict.proofs.OutcomeLemmas.{flows_left}
 use Rattle.drain_verdict.proofs.judgement.judge_set.Goals as goal
 

@@ -1,6 +1,4 @@
-use Rattle.std.proofs.Common.{subst}
-use Rattle.drain_verdict.specs.declared.listings.Listing.{Listing}
-use Rattle.drain_verdict.specs.Listings.{IsListingOf}
+use Rattle.drain_verdict.proofs.Names.{subst, Listing, IsListingOf}
 use Rattle.drain_verdict.proofs.listings.listing_of.Goals as goal
 
 pub returns : goal.returns

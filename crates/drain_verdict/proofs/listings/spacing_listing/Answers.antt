@@ -1,10 +1,7 @@
-use Rattle.std.proofs.Common.{◌∙◌, Option, ap, subst, sym}
+use Rattle.drain_verdict.proofs.Names.{◌∙◌, ap, subst, sym, Distances, of_kind, IsSpacingFault, spacing_in, spacing_from, IsTextTold}
+use Rattle.std.proofs.Common.{Option}
 use Rattle.drain_grid.specs.declared.spacing_text.SpacingFault.{SpacingFault}
-use Rattle.drain_grid.specs.Spacing.{Distances, of_kind}
-use Rattle.drain_grid.specs.SpacingTexts.{IsSpacingFault, spacing_in}
 use Rattle.drain_verdict.specs.Given.{HasBadSpacing}
-use Rattle.drain_sets.specs.GivenSpacings.{spacing_from}
-use Rattle.drain_verdict.specs.Listings.{IsTextTold}
 use Rattle.std.specs.Prelude.{ℕ}
 use Rattle.drain_verdict.proofs.SpacingAnswers.{said_is, text_told}
 use Rattle.drain_verdict.proofs.listings.spacing_listing.Goals as goal

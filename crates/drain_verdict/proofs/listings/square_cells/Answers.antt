@@ -1,5 +1,4 @@
-use Rattle.std.proofs.Common.{◌∙◌, [], ap}
-use Rattle.drain_grid.specs.Spacing.{Distances, RowSpacings, of_kind, spacing_of}
+use Rattle.drain_verdict.proofs.Names.{◌∙◌, [], ap, Distances, RowSpacings, of_kind, spacing_of}
 use Rattle.drain_verdict.proofs.SpacingAnswers.{unit_there}
 use Rattle.drain_verdict.proofs.listings.square_cells.Goals as goal
 

@@ -1,5 +1,4 @@
-use Rattle.std.proofs.Common.{◌≡◌, ap, arith, length, rules}
-use Rattle.drain_device.specs.declared.row_source.Progress.TheVariants.{Stopped}
+use Rattle.drain_verdict.proofs.Names.{◌≡◌, ap, arith, length, rules, Stopped}
 use Rattle.drain_verdict.proofs.RasterSteps.{took, found_short, narrow, was_short}
 use Rattle.drain_verdict.proofs.next_rows.read_raster.Goals as goal
 

@@ -1,16 +1,10 @@
-use Rattle.std.proofs.Common.{◌≡◌, subst, sym}
-use Rattle.std.proofs.lemmas.Result.{err_from_is_err_and}
-use Rattle.drain_grid.specs.declared.height_kind.HeightKind.{HeightKind}
-use Rattle.drain_answer.specs.declared.refusal.Refusal.TheVariants.{ReadFailed}
-use Rattle.drain_rows.proofs.WindowLemmas.{on-ok}
-use Rattle.drain_verdict.specs.InputReads.{as_read}
-use Rattle.drain_verdict.specs.Listings.{IsListingOf}
+use Rattle.drain_verdict.proofs.Names.{◌≡◌, subst, sym, err_from_is_err_and, HeightKind, ReadFailed, on-ok, as_read, IsListingOf}
 use Rattle.drain_verdict.proofs.AuditDevices.{devices_none}
 use Rattle.drain_verdict.proofs.RowDevices.{bodies_taken, devices_fail}
 use Rattle.drain_verdict.proofs.read_set.read_bodies.Goals as goal
 
 pub returns-in_err-rows-clause-inputs_within : goal.returns-in_err-rows-clause-inputs_within
-returns-in_err-rows-clause-inputs_within g c = c.reading_laws.ensures.none_within c.args.frame.now c.args.inputs.now
+returns-in_err-rows-clause-inputs_within g c = c.reading_laws.ensures.none_within (g.T.GroundInput.key_of c.args.frame.now) c.args.inputs.now
 
 pub returns-in_err-rows-clause-kept : goal.returns-in_err-rows-clause-kept
 returns-in_err-rows-clause-kept g c = c.reading_laws.ensures.none_kept c.args.inputs.now
@@ -22,7 +16,7 @@ returns-in_err-rows-clause-faults g c =
     (λ is. let wants = c.in_err-rows.ensures.no_memory in let other : c.in_err-rows.field-0.0 ≡ ReadFailed = cc in cc))
 
 pub returns-in-Err-clause-inputs_within : goal.returns-in-Err-clause-inputs_within
-returns-in-Err-clause-inputs_within g c = c.reading_laws.ensures.none_within c.args.frame.now c.args.inputs.now
+returns-in-Err-clause-inputs_within g c = c.reading_laws.ensures.none_within (g.T.GroundInput.key_of c.args.frame.now) c.args.inputs.now
 
 pub returns-in-Err-clause-kept : goal.returns-in-Err-clause-kept
 returns-in-Err-clause-kept g c = c.reading_laws.ensures.none_kept c.args.inputs.now

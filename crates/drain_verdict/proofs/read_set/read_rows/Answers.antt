@@ -1,11 +1,4 @@
-use Rattle.std.proofs.Common.{◌≡◌, ◌+◌, ap, subst, sym, None, Some, ◌∙◌}
-use Rattle.drain_grid.specs.declared.height_kind.HeightKind.{HeightKind}
-use Rattle.drain_grid.specs.Extent.{Extent}
-use Rattle.drain_answer.specs.declared.refusal.Refusal.TheVariants.{ReadFailed}
-use Rattle.drain_verdict.specs.Listings.{IsListingOf}
-use Rattle.drain_verdict.specs.GroundSets.{GroundSet}
-use Rattle.drain_verdict.specs.InputReads.{as_read}
-use Rattle.drain_verdict.specs.Refusals.{refusal_of}
+use Rattle.drain_verdict.proofs.Names.{◌≡◌, ◌+◌, ap, subst, sym, None, Some, ◌∙◌, HeightKind, Extent, ReadFailed, IsListingOf, GroundSet, as_read, refusal_of}
 use Rattle.drain_verdict.proofs.RowCheck.{all_read, came, ground_asked, none_stands, notes_hold, of_call, of_reading_answers, of_reading_bodies, refusal_answers, refused, lists_answer}
 use Rattle.drain_verdict.proofs.read_set.read_rows.Goals as goal
 

@@ -1,7 +1,5 @@
-use Rattle.std.proofs.Common.{take, subst, sym, ◌+◌, Err}
-use Rattle.std.specs.List.{AllZip}
-use Rattle.drain_hgt.specs.Name.{IsNameOf, MeansName}
-use Rattle.drain_hgt.specs.Inputs.{names_of}
+use Rattle.drain_verdict.proofs.Names.{take, subst, sym, ◌+◌, AllZip, IsNameOf, MeansName, names_of}
+use Rattle.std.proofs.Common.{Err}
 use Rattle.drain_verdict.proofs.LayoutAnswers.{named_more, named_all, first_bad}
 use Rattle.drain_verdict.proofs.stages.read_names.Goals as goal
 

@@ -1,5 +1,4 @@
-use Rattle.std.proofs.Common.{ap, Ok, rules}
-use Rattle.drain_device.specs.declared.row_source.RowStep.{RowStep}
+use Rattle.drain_verdict.proofs.Names.{ap, Ok, rules, RowStep}
 use Rattle.drain_verdict.proofs.RasterSteps.{narrow}
 use Rattle.drain_verdict.proofs.TileSteps.{mosaic_more}
 use Rattle.drain_verdict.proofs.tile_ground.read_samples.Goals as goal

@@ -1,8 +1,4 @@
-use Rattle.std.proofs.Common.{◌∙◌, true, false, refl, sym, ap, subst}
-use Rattle.drain_union.specs.declared.place.Place.{Place}
-use Rattle.drain_union.specs.declared.place.TheConstants.{SEAM_DEPTH}
-use Rattle.drain_union.specs.Windows.{window_at}
-use Rattle.drain_union.specs.Reports.{audited, IsReportOf}
+use Rattle.drain_window.proofs.Names.{◌∙◌, true, false, refl, sym, ap, subst, Place, SEAM_DEPTH, window_at, audited, IsReportOf}
 use Rattle.drain_window.proofs.WindowVerdicts.{counts_inside}
 use Rattle.drain_window.proofs.WindowReports.{fault_in_window, nodata_is, of_window, report_faulty, report_sound, seams_are}
 use Rattle.drain_window.proofs.answered.answered.Goals as goal

@@ -1,13 +1,6 @@
-use Rattle.std.proofs.Common.{◌∙◌, None, Ok, Err, ap, subst}
-use Rattle.drain_grid.specs.declared.cell.Cell.{Cell}
-use Rattle.drain_verdict.specs.Inputs.{as_five}
-use Rattle.drain_verdict.specs.Meaning.{input_grid, input_products, nodata_numbers}
-use Rattle.drain_verdict.proofs.StartAnswers.{layout_of_inputs, of_tiles}
-use Rattle.drain_verdict.proofs.InputLemmas.{four_used}
+use Rattle.drain_window.proofs.Names.{◌∙◌, None, Ok, Err, ap, subst, Cell, as_five, input_grid, input_products, nodata_numbers, layout_of_inputs, of_tiles, four_used, map_origin, IsAnswerOn, IsWindowIn}
 use Rattle.drain_window.proofs.WindowReports.{refused, with_tiles_uses}
 use Rattle.drain_window.proofs.WindowVerdicts.{refused_answer, with_tiles_agree, with_tiles_answer}
-use Rattle.drain_window.specs.WindowLines.{map_origin}
-use Rattle.drain_window.specs.WindowAnswers.{IsAnswerOn, IsWindowIn}
 use Rattle.drain_window.proofs.judge.answer_in.Goals as goal
 
 pub returns-in-Ok-clause-answer : goal.returns-in-Ok-clause-answer

@@ -1,7 +1,4 @@
-use Rattle.std.proofs.Common.{Err}
-use Rattle.drain_verdict.specs.Inputs.{audit_devices, as_five}
-use Rattle.drain_verdict.proofs.StartAnswers.{at_side, laid, layout_answer, layout_reads_none}
-use Rattle.drain_verdict.proofs.InputLemmas.{uses_none}
+use Rattle.drain_window.proofs.Names.{Err, audit_devices, as_five, at_side, laid, layout_answer, layout_reads_none, uses_none}
 use Rattle.drain_window.proofs.judge.answer_of.Goals as goal
 
 pub returns-in-Err-clause-answer : goal.returns-in-Err-clause-answer

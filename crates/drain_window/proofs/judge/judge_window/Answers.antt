@@ -1,9 +1,4 @@
-use Rattle.std.proofs.Common.{◌≡◌}
-use Rattle.drain_verdict.specs.Inputs.{as_five, Encode}
-use Rattle.drain_verdict.specs.Meaning.{nodata_numbers}
-use Rattle.drain_union.specs.declared.place.TheConstants.{SEAM_DEPTH}
-use Rattle.drain_union.specs.Reports.{audited, IsReportOf}
-use Rattle.drain_window.specs.WindowAnswers.{window_of}
+use Rattle.drain_window.proofs.Names.{◌≡◌, as_five, Encode, nodata_numbers, SEAM_DEPTH, audited, IsReportOf, window_of}
 use Rattle.drain_window.proofs.WindowVerdicts.{first_of, when_answered}
 use Rattle.drain_window.proofs.judge.judge_window.Goals as goal
 

@@ -1,9 +1,5 @@
-use Rattle.std.proofs.Common.{None, Err, refl}
-use Rattle.drain_verdict.proofs.DemAnswers.{dem_four_used, header_answer, header_reads_none, refused_text}
+use Rattle.drain_window.proofs.Names.{None, Err, refl, dem_four_used, header_answer, header_reads_none, refused_text, set_uses_none, AreHeadersKept, DemTakesAtMost, dem_audit_devices, as_five}
 use Rattle.drain_verdict.proofs.DemSteps.{dem_takes_none}
-use Rattle.drain_verdict.proofs.InputLemmas.{set_uses_none}
-use Rattle.drain_verdict.specs.DemGround.{AreHeadersKept, DemTakesAtMost, dem_audit_devices}
-use Rattle.drain_verdict.specs.Inputs.{as_five}
 use Rattle.drain_window.proofs.WindowReports.{dem_refused}
 use Rattle.drain_window.proofs.judge_dem.answer_of.Goals as goal
 

@@ -1,9 +1,4 @@
-use Rattle.std.proofs.Common.{◌≡◌}
-use Rattle.drain_verdict.specs.GroundSets.{set_numbers}
-use Rattle.drain_verdict.specs.Inputs.{as_five}
-use Rattle.drain_union.specs.declared.place.TheConstants.{SEAM_DEPTH}
-use Rattle.drain_union.specs.Reports.{audited, IsReportOf}
-use Rattle.drain_window.specs.WindowAnswers.{window_in}
+use Rattle.drain_window.proofs.Names.{◌≡◌, set_numbers, as_five, SEAM_DEPTH, audited, IsReportOf, window_in}
 use Rattle.drain_window.proofs.WindowVerdicts.{dem_answered, dem_first}
 use Rattle.drain_window.proofs.judge_dem.judge_window_dem.Goals as goal
 

@@ -1,15 +1,5 @@
-use Rattle.std.proofs.Common.{◌≡◌, ◌<◌, ◌∙◌, sym, ap, subst, arith, rules}
-use Rattle.std.proofs.lemmas.Result.{err_from_is_err_and}
-use Rattle.drain_grid.specs.Extent.{Extent, IsExtent}
-use Rattle.drain_grid.specs.SinkTexts.{is_listed, sinks_of}
-use Rattle.drain_verdict.proofs.InputLemmas.{no_memory_left}
+use Rattle.drain_window.proofs.Names.{◌≡◌, ◌<◌, ◌∙◌, sym, ap, subst, arith, rules, err_from_is_err_and, Extent, IsExtent, is_listed, sinks_of, no_memory_left, spacing_from, GroundSet, set_grid, set_numbers, set_products, as_five, lines_in, set_devices, IsPlaceIn}
 use Rattle.drain_verdict.specs.Given.{Given}
-use Rattle.drain_sets.specs.GivenSpacings.{spacing_from}
-use Rattle.drain_verdict.specs.GroundSets.{GroundSet, set_grid, set_numbers, set_products}
-use Rattle.drain_verdict.specs.Inputs.{as_five}
-use Rattle.drain_verdict.specs.Texts.{lines_in}
-use Rattle.drain_verdict.specs.Uses.{set_devices}
-use Rattle.drain_union.specs.Windows.{IsPlaceIn}
 use Rattle.drain_window.proofs.RowLists.{as_given}
 use Rattle.drain_window.proofs.judge_ground.judge_placed.Goals as goal
 
@@ -52,15 +42,15 @@ returns-in-Some-clause-uses g c = c.in_ok-read_set.ensures.uses
 
 pub returns-in-None-clause-uses : goal.returns-in-None-clause-uses
 returns-in-None-clause-uses g c =
-    no_memory_left as_five (λ xs ps. set_devices g.T.GroundInput.devices xs (as_five ps)) (g.T.GroundInput.within c.args.frame.now) g.T.GroundInput.kept g.R.ByteSource.bytes_left g.R.ByteSource.counts
+    no_memory_left as_five (λ xs ps. set_devices g.T.GroundInput.devices xs (as_five ps)) (g.T.GroundInput.within (g.T.GroundInput.key_of c.args.frame.now)) g.T.GroundInput.kept g.R.ByteSource.bytes_left g.R.ByteSource.counts
     (c.args.inputs.now, c.args.products.now) (c.read_set.new.inputs, c.read_set.new.products) c.in_ok-read_set.ensures.uses
 
 pub returns-in_default-clause-uses : goal.returns-in_default-clause-uses
 returns-in_default-clause-uses g c =
-    no_memory_left as_five (λ xs ps. set_devices g.T.GroundInput.devices xs (as_five ps)) (g.T.GroundInput.within c.args.frame.now) g.T.GroundInput.kept g.R.ByteSource.bytes_left g.R.ByteSource.counts
+    no_memory_left as_five (λ xs ps. set_devices g.T.GroundInput.devices xs (as_five ps)) (g.T.GroundInput.within (g.T.GroundInput.key_of c.args.frame.now)) g.T.GroundInput.kept g.R.ByteSource.bytes_left g.R.ByteSource.counts
     (c.args.inputs.now, c.args.products.now) (c.read_set.new.inputs, c.read_set.new.products) c.in_ok-read_set.ensures.uses
 
 pub returns-in_default-judged_spacings-clause-uses : goal.returns-in_default-judged_spacings-clause-uses
 returns-in_default-judged_spacings-clause-uses g c =
-    no_memory_left as_five (λ xs ps. set_devices g.T.GroundInput.devices xs (as_five ps)) (g.T.GroundInput.within c.args.frame.now) g.T.GroundInput.kept g.R.ByteSource.bytes_left g.R.ByteSource.counts
+    no_memory_left as_five (λ xs ps. set_devices g.T.GroundInput.devices xs (as_five ps)) (g.T.GroundInput.within (g.T.GroundInput.key_of c.args.frame.now)) g.T.GroundInput.kept g.R.ByteSource.bytes_left g.R.ByteSource.counts
     (c.args.inputs.now, c.args.products.now) (c.read_set.new.inputs, c.read_set.new.products) c.in_ok-read_set.ensures.uses

@@ -1,11 +1,4 @@
-use Rattle.std.proofs.Common.{◌≡◌, length, ap, ◌∙◌}
-use Rattle.std.proofs.lemmas.Result.{IfOk-weaker}
-use Rattle.drain_grid.specs.Grid.{Grid, Products}
-use Rattle.drain_grid.specs.SinkTexts.{is_listed, sinks_of}
-use Rattle.drain_verdict.specs.Texts.{lines_in}
-use Rattle.drain_union.specs.Windows.{window_at}
-use Rattle.drain_union.specs.Reports.{ListsSinks}
-use Rattle.drain_window.specs.JudgedAreas.{AreLinesInside}
+use Rattle.drain_window.proofs.Names.{◌≡◌, length, ap, ◌∙◌, IfOk-weaker, Grid, Products, is_listed, sinks_of, lines_in, window_at, ListsSinks, AreLinesInside}
 use Rattle.drain_window.proofs.SinkLists.{lists_sinks}
 use Rattle.drain_window.proofs.judged_area.judged_sinks.Goals as goal
 

@@ -1,6 +1,4 @@
-use Rattle.std.proofs.Common.{◌≡◌, length, sym, subst, ◌∙◌, arith}
-use Rattle.std.proofs.lemmas.Bool.{false≢true}
-use Rattle.drain_window.specs.JudgedAreas.{AreLinesInside}
+use Rattle.drain_window.proofs.Names.{◌≡◌, length, sym, subst, ◌∙◌, arith, false≢true, AreLinesInside}
 use Rattle.drain_window.proofs.SinkLists.{line_added, line_skipped}
 use Rattle.drain_window.proofs.judged_area.sinks_inside.Goals.{then-judges+in_ok-push, else-judges}
 use Rattle.drain_window.proofs.judged_area.sinks_inside.Goals as goal

@@ -1,9 +1,5 @@
-use Rattle.std.proofs.Common.{ℕ, ap, sym, ◌∙◌, ◌+◌}
-use Rattle.std.proofs.lemmas.Result.{IfOk-weaker}
-use Rattle.drain_grid.specs.Spacing.{Distances, of_kind}
+use Rattle.drain_window.proofs.Names.{ℕ, ap, sym, ◌∙◌, ◌+◌, IfOk-weaker, Distances, of_kind, spacing_from, AreRowsOf}
 use Rattle.drain_verdict.specs.Given.{row_spacing}
-use Rattle.drain_sets.specs.GivenSpacings.{spacing_from}
-use Rattle.drain_window.specs.JudgedRows.{AreRowsOf}
 use Rattle.drain_window.proofs.RowLists.{said_given}
 use Rattle.drain_window.proofs.judged_rows.judged_spacings.Goals as goal
 

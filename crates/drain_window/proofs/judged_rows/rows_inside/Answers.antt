@@ -1,5 +1,4 @@
-use Rattle.std.proofs.Common.{◌≡◌, subst, arith}
-use Rattle.drain_grid.specs.Spacing.{spacing_of}
+use Rattle.drain_window.proofs.Names.{◌≡◌, subst, arith, spacing_of}
 use Rattle.drain_window.proofs.RowLists.{are_rows, AreFirst, first_more, first_none}
 use Rattle.drain_window.proofs.judged_rows.rows_inside.Goals as goal
 

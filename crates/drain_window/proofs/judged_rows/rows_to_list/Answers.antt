@@ -1,5 +1,4 @@
-use Rattle.std.proofs.Common.{◌≡◌, ◌<◌, sym, subst, arith}
-use Rattle.drain_grid.specs.Spacing.{spacing_of}
+use Rattle.drain_window.proofs.Names.{◌≡◌, ◌<◌, sym, subst, arith, spacing_of}
 use Rattle.drain_window.proofs.RowLists.{listed_anew, listed_as_last, none_so_far}
 use Rattle.drain_window.proofs.judged_rows.rows_to_list.Goals.{then-not-same_spacing, else-not-same_spacing}
 use Rattle.drain_window.proofs.judged_rows.rows_to_list.Goals as goal

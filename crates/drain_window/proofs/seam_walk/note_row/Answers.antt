@@ -1,6 +1,4 @@
-use Rattle.std.proofs.Common.{◌≡◌, ◌+◌, ◌-◌, sym, subst, arith}
-use Rattle.std.proofs.lemmas.Result.{on_ok_weaker}
-use Rattle.drain_rules.specs.Rows.{AreRowPatches}
+use Rattle.drain_window.proofs.Names.{◌≡◌, ◌+◌, ◌-◌, sym, subst, arith, on_ok_weaker, AreRowPatches}
 use Rattle.drain_window.proofs.SeamCells.{above-more, above-past}
 use Rattle.drain_window.proofs.seam_walk.note_row.Goals as goal
 use Rattle.drain_window.proofs.seam_walk.note_row.Goals.{then-row-top-via-then-row-top, then-row-top-via-else-row-top+then-row-top-2}

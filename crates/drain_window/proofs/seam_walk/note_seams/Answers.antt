@@ -1,9 +1,6 @@
-use Rattle.std.proofs.Common.{ℕ, false, ◌≡◌, ◌+◌, ◌<◌, ◌∙◌, refl, ap, subst, arith}
+use Rattle.drain_window.proofs.Names.{ℕ, false, ◌≡◌, ◌+◌, ◌<◌, ◌∙◌, refl, ap, subst, arith, SEAM_DEPTH, IsOnSeam, AddsSeams}
 use Rattle.drain_grid.specs.declared.patch.Patch.{Patch}
 use Rattle.drain_rules.specs.Rows.{place}
-use Rattle.drain_union.specs.declared.place.TheConstants.{SEAM_DEPTH}
-use Rattle.drain_union.specs.Reports.{IsOnSeam}
-use Rattle.drain_window.specs.SeamRows.{AddsSeams}
 use Rattle.drain_window.proofs.SeamCells.{seams-more, seams-none, seams-past}
 use Rattle.drain_window.proofs.seam_walk.note_seams.Goals as goal
 use Rattle.drain_window.proofs.seam_walk.note_seams.Goals.{then-is_on_seam+in-Some+in_ok-push, else-is_on_seam}

@@ -1,6 +1,4 @@
-use Rattle.std.proofs.Common.{◌-◌, ◌≤◌}
-use Rattle.drain_grid.specs.Grid.{Grid, Products}
-use Rattle.drain_window.specs.SeamRows.{AddsSeams, OfSeamRow}
+use Rattle.drain_window.proofs.Names.{◌-◌, ◌≤◌, Grid, Products, AddsSeams, OfSeamRow}
 use Rattle.drain_window.proofs.seam_walk.note_seams.Given as goal
 
 abbrev pub decreases-loop-col : goal.decreases-loop-col

@@ -1,5 +1,4 @@
-use Rattle.drain_answer.proofs.PrintLemmas.{status_stood}
-use Rattle.drain_cli.specs.JudgedRuns.{outcome_status}
+use Rattle.drain_cli.proofs.Names.{status_stood, outcome_status}
 use Rattle.drain_cli.proofs.runs.judge_json.print_object.Goals as goal
 
 pub returns-in-Ok-clause-answered : goal.returns-in-Ok-clause-answered

@@ -1,10 +1,6 @@
-use Rattle.std.proofs.Common.{Ok, ◌≡◌, ◌∙◌, rules, subst, sym}
-use Rattle.drain_device.proofs.FaultLists.{SomeReadFails-iff}
-use Rattle.drain_grid.specs.declared.height_kind.HeightKind.TheVariants.{Whole}
-use Rattle.drain_grid.specs.Extent.{Extent}
-use Rattle.drain_grid.specs.SinkTexts.{IsSinkFault, sinks_of}
+use Rattle.drain_cli.proofs.Names.{◌≡◌, ◌∙◌, rules, subst, sym, SomeReadFails-iff, Whole, Extent, IsSinkFault, sinks_of, AreGivenSpacings}
+use Rattle.std.proofs.Common.{Ok}
 use Rattle.drain_maker.proofs.FileLemmas.{FitHeaders-set}
-use Rattle.drain_maker.specs.Accepted.{AreGivenSpacings}
 use Rattle.drain_verdict.specs.Given.{Given}
 use Rattle.drain_cli.proofs.runs.make_set.read_and_make.Goals as goal
 

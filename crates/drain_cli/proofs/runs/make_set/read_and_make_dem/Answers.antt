@@ -1,19 +1,10 @@
-use Rattle.std.proofs.Common.{ℤ, IfSome, Ok, Option, ◌≡◌, ◌∙◌, ap, rules, subst}
-use Rattle.drain_cli.specs.MadeSets.{IsNoSpacing}
+use Rattle.drain_cli.proofs.Names.{ℤ, IfSome, ◌≡◌, ◌∙◌, ap, rules, subst, IsNoSpacing, SomeReadFails-iff, HeightKind, Extent, IsSinkFault, sinks_of, spacing_of, products_of, Fields, AreGivenSpacings, made_numbers}
+use Rattle.std.proofs.Common.{Ok, Option}
 use Rattle.drain_cli.specs.declared.runs.made_spacing.NoSpacing.{NoSpacing}
-use Rattle.drain_device.proofs.FaultLists.{SomeReadFails-iff}
-use Rattle.drain_grid.specs.declared.height_kind.HeightKind.{HeightKind}
-use Rattle.drain_grid.specs.Extent.{Extent}
 use Rattle.drain_grid.specs.GridRules.{RulesHold}
 use Rattle.drain_grid.specs.PatchRules.{check_rules}
 use Rattle.drain_grid.specs.Rule.{IsAnyRule}
-use Rattle.drain_grid.specs.SinkTexts.{IsSinkFault, sinks_of}
-use Rattle.drain_grid.specs.Spacing.{spacing_of}
-use Rattle.drain_grid.specs.WholeGrid.{products_of}
-use Rattle.drain_header.specs.Header.{Fields}
-use Rattle.drain_maker.specs.Accepted.{AreGivenSpacings}
 use Rattle.drain_maker.specs.Dems.{spaced_dem_grid}
-use Rattle.drain_maker.specs.Made.{made_numbers}
 use Rattle.drain_verdict.specs.Given.{Given}
 use Rattle.drain_cli.proofs.runs.make_set.read_and_make_dem.Goals as goal
 

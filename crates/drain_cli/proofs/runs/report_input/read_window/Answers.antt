@@ -1,5 +1,4 @@
-use Rattle.std.proofs.Common.{ap, ◌∙◌}
-use Rattle.drain_report.specs.Contents.{contents_of}
+use Rattle.drain_cli.proofs.Names.{ap, ◌∙◌, contents_of}
 use Rattle.drain_cli.specs.ReportInputs.{fault_status}
 use Rattle.drain_cli.specs.WindowRuns.{text_of}
 use Rattle.drain_cli.specs.declared.runs.report_input.BadReport.TheVariants.{NoText}

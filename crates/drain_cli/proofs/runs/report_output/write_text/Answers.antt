@@ -1,6 +1,5 @@
-use Rattle.std.proofs.Common.{List, ℕ, sym, subst, ◌∙◌}
+use Rattle.drain_cli.proofs.Names.{List, ℕ, sym, subst, ◌∙◌, WritesFile}
 use Rattle.drain_sets.proofs.FileWrites.{no_memory}
-use Rattle.drain_sets.specs.FileWrites.{WritesFile}
 use Rattle.drain_cli.proofs.ReadReports.{readable, some_text, text_is}
 use Rattle.drain_cli.proofs.runs.report_output.write_text.Goals as goal
 

@@ -1,12 +1,7 @@
-use Rattle.std.proofs.Common.{◌≡◌, ◌∙◌, Result, Ok, Err, IfOk, subst}
-use Rattle.drain_grid.specs.declared.height_kind.HeightKind.{HeightKind}
-use Rattle.drain_grid.specs.declared.height_kind.HeightKind.TheVariants.{Whole}
-use Rattle.drain_header.specs.declared.fault.HeaderFault.{HeaderFault}
-use Rattle.drain_header.specs.Header.{Fields}
-use Rattle.drain_header.specs.Text.{IsTextOfKind}
+use Rattle.drain_cli.proofs.Names.{◌≡◌, ◌∙◌, IfOk, subst, HeightKind, Whole, HeaderFault, Fields, IsTextOfKind, PrintsText-same, Prints-same}
+use Rattle.std.proofs.Common.{Result, Ok, Err}
 use Rattle.drain_device.specs.declared.read.BodyFault.TheVariants.{OutOfMemory}
 use Rattle.drain_cli.proofs.RoundTrips.{told_header, told_no_memory, told_fault}
-use Rattle.drain_answer.proofs.PrintLemmas.{PrintsText-same, Prints-same}
 use Rattle.drain_cli.proofs.runs.run_header.print_answer.Goals as goal
 
 pub returns-in-Ok-header_text : goal.returns-in-Ok-header_text

@@ -1,9 +1,4 @@
-use Rattle.std.proofs.Common.{◌∙◌, arith, subst}
-use Rattle.drain_answer.proofs.PrintLemmas.{Prints-same, status_stood}
-use Rattle.drain_answer.specs.Printing.{Prints}
-use Rattle.drain_answer.specs.declared.outcome.Status.{Status}
-use Rattle.drain_merge.specs.UnionVerdicts.{merge_line}
-use Rattle.drain_cli.specs.MergeRuns.{merge_status}
+use Rattle.drain_cli.proofs.Names.{◌∙◌, arith, subst, Prints-same, status_stood, Prints, Status, merge_line, merge_status}
 use Rattle.drain_cli.proofs.UnionStatuses.{of_accepted, of_one, of_rejected, outcome_is}
 use Rattle.drain_cli.proofs.runs.run_merge.merge_and_print.Goals as goal
 

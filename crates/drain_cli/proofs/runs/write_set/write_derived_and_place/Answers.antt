@@ -1,8 +1,5 @@
-use Rattle.std.proofs.Common.{subst}
-use Rattle.drain_answer.specs.Printing.{Prints}
-use Rattle.drain_grid.specs.Extent.{Extent}
+use Rattle.drain_cli.proofs.Names.{subst, Prints, Extent, written_status}
 use Rattle.drain_cli.specs.DerivedSets.{derived_line}
-use Rattle.drain_cli.specs.MadeSets.{written_status}
 use Rattle.drain_cli.proofs.runs.write_set.write_derived_and_place.Goals as goal
 
 pub returns : goal.returns

@@ -1,5 +1,4 @@
-use Rattle.std.proofs.Common.{◌+◌, refl, subst, sym}
-use Rattle.drain_explain.specs.ElevationRanges.{IsElevationAbove, IsRange}
+use Rattle.drain_explain.proofs.Names.{◌+◌, refl, subst, sym, IsElevationAbove, IsRange}
 use Rattle.drain_explain.proofs.Elevations.{row_more}
 use Rattle.drain_explain.proofs.Noting.{notes-more, still_drawn}
 use Rattle.drain_rows.specs.RowBuffers.{buffer_numbers}

@@ -1,10 +1,4 @@
-use Rattle.std.proofs.Common.{◌≡◌, refl, subst, sym}
-use Rattle.drain_device.specs.Failing.{full_patience}
-use Rattle.drain_device.specs.declared.row_source.Progress.TheVariants.{Going}
-use Rattle.drain_grid.proofs.ByProduct.{by_set_product}
-use Rattle.drain_header.specs.Header.{Fields}
-use Rattle.drain_raster.specs.declared.raster_rows.RasterRows.{RasterRows}
-use Rattle.drain_verdict.specs.InputRows.{IsRasterBegun}
+use Rattle.drain_verdict.proofs.Names.{◌≡◌, refl, subst, sym, full_patience, Going, by_set_product, Fields, RasterRows, IsRasterBegun}
 use Rattle.drain_verdict.proofs.audit_products.AuditProductsProductInputs.begin.Goals as goal
 
 -- a new reader is one of its header

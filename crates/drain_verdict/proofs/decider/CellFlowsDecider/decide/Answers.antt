@@ -1,6 +1,4 @@
-use Rattle.std.proofs.Common.{◌∙◌, subst}
-use Rattle.drain_grid.specs.Extent.{Extent}
-use Rattle.drain_paths.specs.Flows.{AreFirstFlows}
+use Rattle.drain_verdict.proofs.Names.{◌∙◌, subst, Extent, AreFirstFlows}
 use Rattle.drain_paths.proofs.GridFlows.{AreFlowsOf-all}
 use Rattle.drain_verdict.proofs.OutcomeLemmas.{decided_by_flows}
 use Rattle.drain_verdict.proofs.decider.CellFlowsDecider.decide.Goals as goal

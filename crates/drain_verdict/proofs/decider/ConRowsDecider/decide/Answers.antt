@@ -1,12 +1,6 @@
-use Rattle.std.proofs.Common.{◌∙◌, sym, subst}
+use Rattle.drain_verdict.proofs.Names.{◌∙◌, sym, subst, IsFirstUnfilled, Judged, IsLeastSurface, IsPartRule, IsTried, part_rules, rules_about, IsVerdictAmong, IsDecided, IsUnfilledCell}
 use Rattle.std.specs.Prelude.{MatchOption}
-use Rattle.drain_filled.specs.Compared.{IsFirstUnfilled}
-use Rattle.drain_grid.specs.declared.judged.Judged.{Judged}
 use Rattle.drain_grid.specs.declared.judged.Judged.TheVariants.{Con}
-use Rattle.drain_grid.specs.Path.{IsLeastSurface}
-use Rattle.drain_grid.specs.RulesAbout.{IsPartRule, IsTried, part_rules, rules_about}
-use Rattle.drain_rules.specs.Verdicts.{IsVerdictAmong}
-use Rattle.drain_verdict.specs.Deciding.{IsDecided, IsUnfilledCell}
 use Rattle.drain_verdict.proofs.OutcomeLemmas.{con_keeps}
 use Rattle.drain_verdict.proofs.decider.ConRowsDecider.decide.Goals as goal
 use Rattle.drain_verdict.proofs.decider.ConRowsDecider.decide.Goals.{in-Rejected, in-Accepted+in_ok-cell-in-Accepted}

@@ -1,14 +1,6 @@
-use Rattle.std.proofs.Common.{◌+◌, ◌∙◌, Some, None, ap, inl, inr, sym}
-use Rattle.std.proofs.lemmas.Bool.{false≢true}
+use Rattle.drain_verdict.proofs.Names.{◌+◌, ◌∙◌, Some, None, ap, inl, inr, sym, false≢true, Dir, Acc, Bas, Rnk, of_product, per_product, IsPixel, RowNumbers, buffer_numbers, as_read, with_rasters, by_set_product, told-of}
 use Rattle.std.specs.List.{All}
-use Rattle.drain_grid.specs.declared.set_product.SetProduct.TheVariants.{Con, Dir, Acc, Bas, Rnk}
-use Rattle.drain_grid.specs.PerProduct.{of_product, per_product}
-use Rattle.drain_grid.specs.Values.{IsPixel}
-use Rattle.drain_rules.specs.Rows.{RowNumbers}
-use Rattle.drain_rows.specs.RowBuffers.{buffer_numbers}
-use Rattle.drain_verdict.specs.InputReads.{as_read, with_rasters}
-use Rattle.drain_grid.proofs.ByProduct.{by_set_product}
-use Rattle.drain_rows.proofs.WindowLemmas.{told-of}
+use Rattle.drain_grid.specs.declared.set_product.SetProduct.TheVariants.{Con}
 use Rattle.drain_verdict.proofs.RowGiven.{IsKept, come_more, come_refused, kept_numbers, next_given}
 use Rattle.drain_verdict.proofs.RowReads.{by_ground, by_rasters, one_read, rasters_none, reads_then}
 use Rattle.drain_verdict.proofs.input_rows.InputRowsRowsGridRows.read_row.Goals.{then-not-is_even, else-not-is_even}

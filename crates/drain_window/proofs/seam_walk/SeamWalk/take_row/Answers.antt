@@ -1,5 +1,4 @@
-use Rattle.std.proofs.Common.{◌+◌, refl, ap, subst, sym}
-use Rattle.drain_rules.specs.Rows.{AreRowPatches}
+use Rattle.drain_window.proofs.Names.{◌+◌, refl, ap, subst, sym, AreRowPatches}
 use Rattle.drain_window.proofs.seam_walk.SeamWalk.take_row.Goals as goal
 
 pub returns-clause-right : goal.returns-clause-right
