@@ -418,6 +418,8 @@ int main(int argc, char **argv) {
     test_kinds();
     test_headers();
     test_dem(argv[5]);
+    test_request_layout();
+    test_requests(argv[5]);
     test_refusals();
     test_null();
     test_long_headers();

@@ -1,5 +1,5 @@
-/* What the tests of libdrain share: the files that library.c has read, how it judges, and the tests of library_calls.c and
- * library_dem.c. */
+/* What the tests of libdrain share: the files that library.c has read, how it judges, and the tests of library_calls.c,
+ * library_dem.c and library_requests.c. */
 #ifndef LIBRARY_H
 #define LIBRARY_H
 
@@ -38,5 +38,7 @@ void test_arrays(const char *line);
 void test_kinds(void);
 void test_headers(void);
 void test_dem(const char *line);
+void test_request_layout(void);
+void test_requests(const char *line);
 
 #endif

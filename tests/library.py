@@ -42,6 +42,51 @@ def is_layout_right(drain: judge.Drain) -> bool:
     )
 
 
+def is_request_layout_right(drain: judge.Drain) -> bool:
+    """Whether the library writes the numbers of a request where Request has them, over odd bytes."""
+    odd = ctypes.create_string_buffer(b"\x5b" * 512, 512)
+    request = judge.Request.from_buffer(odd)
+    size = drain._library.drain_request_layout(ctypes.byref(request))
+    texts = [(72, request.sinks), (104, request.spacing.widths)]
+    for place, pair in [(24, request.dem), *((128 + 48 * n, raster) for n, raster in enumerate(request.rasters))]:
+        texts += [(place, pair.text), (place + 24, pair.data)]
+    numbers = (request.side, request.has_dem, request.spacing.width, request.spacing.height, request.judged)
+    return (
+        numbers == (0, 4, 96, 100, 368)
+        and request.tile_count == 0
+        and all(text.length == 0 and text.missing == place + 16 for place, text in texts)
+        and size == ctypes.sizeof(judge.Request) == 376
+        and odd.raw[size:] == b"\x5b" * (512 - size)
+    )
+
+
+def are_requests_right(drain: judge.Drain) -> bool:
+    """A request with tiles and a raster is over the raster; ranks are explained; NULL is seen in sinks and tiles."""
+    con, dir_, (header, counts), bas = read_rasters()
+    derived = [bytearray(4 * SIDE * SIDE) for _ in range(3)]
+    drain.derive(SIDE, [TILE], dir_, *derived)
+    header = header[:header.index(b"NODATA")]
+    five = dict(zip(judge.CHECKED, (con, dir_, *((header, bytes(numbers)) for numbers in derived))))
+    tiles, drawn = judge.Ground(SIDE, [TILE]), bytearray(b"x" * (SIDE * SIDE))
+    ranked = judge.Request(tiles, five)
+    explained, faults = drain.explain_request(ranked, drawn)
+    both = judge.Request(judge.Ground(SIDE, [TILE], (b"", b"")), five)
+    null_sinks, null_tile = judge.Request(tiles, five), judge.Request(tiles, five)
+    null_sinks.sinks = judge.Bytes(None, 7)
+    null_tile.tiles[0].data = judge.Bytes(None, 3)
+    unread = judge.Request(tiles, {name: five[name] for name in ("con", "dir")})
+    unread.rasters[4].data = judge.Bytes(None, 9)
+    accepted = "accepted rows=51 cols=51 data=2601 raised=59 outlets=10"
+    return (
+        (drain.judge(ranked).line, explained.line) == (accepted, accepted)
+        and not any(drawn)
+        and not any(bytes(faults))
+        and drain.judge(both).line == "refused BadHeader dem MissingKey NROWS"
+        and drain.judge(null_sinks).line == drain.judge(null_tile).line == "refused NullBytes"
+        and drain.judge(unread).line == accepted
+    )
+
+
 def is_rejection_right(drain: judge.Drain) -> bool:
     """acc counts one cell too many at row 3, column 7. That cell flows south, so no earlier one is wrong by rule 13."""
     con, dir_, (header, counts), bas = read_rasters()
@@ -212,18 +257,17 @@ def is_version_right(drain: judge.Drain) -> bool:
 
 def line_with(drain: judge.Drain, data: judge.Bytes) -> str:
     """The line of an audit that is passed these bytes for the pixels of bas."""
-    tile = judge.Pair(TILE[0].encode(), TILE[1])
-    rasters = (judge.Pair * 4)(*(judge.Pair(*raster) for raster in read_rasters()))
-    rasters[3].data = data
-    raw = judge.RawAnswer()
-    drain._library.drain_audit(SIDE, tile, 1, b"", 0, rasters, raw)
-    return raw.line.decode("ascii")
+    request = judge.Request(judge.Ground(SIDE, [TILE]), judge.named(judge.AUDITED, read_rasters()))
+    request.rasters[3].data = data
+    return drain.judge(request).line
 
 
 def main(path: str) -> int:
     drain = judge.Drain(path)
     tests = {
         "where members lie": is_layout_right(drain),
+        "where members of a request lie": is_request_layout_right(drain),
+        "requests": are_requests_right(drain),
         "a rejection": is_rejection_right(drain),
         "choices of rasters": are_choices_right(drain),
         "an explanation": is_explanation_right(drain),

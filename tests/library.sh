@@ -19,7 +19,7 @@ compiler=$(command -v cc) || compiler=$(dirname "$(readlink -f "$(command -v rt)
 words=(-O2 -Wall -Wextra -Werror -I crates/drain_c/include)
 "$compiler" -std=c11 -pedantic "${words[@]}" -o "$scratch/judge" "$examples/judge.c" "$library" || exit 1
 "$compiler" -shared -o "$scratch/libdrain.so" -Wl,--whole-archive "$library" -Wl,--no-whole-archive || exit 1
-"$compiler" -std=c11 "${words[@]}" -pthread -Wl,--wrap=malloc,--wrap=realloc,--wrap=free -o "$scratch/library" tests/library.c tests/library_calls.c tests/library_dem.c "$library" || exit 1
+"$compiler" -std=c11 "${words[@]}" -pthread -Wl,--wrap=malloc,--wrap=realloc,--wrap=free -o "$scratch/library" tests/library.c tests/library_calls.c tests/library_dem.c tests/library_requests.c "$library" || exit 1
 
 # Adds one test: its name, and whether it passed.
 add() {

@@ -79,7 +79,9 @@ def test_arguments_that_are_none(given: dict[str, Any], reason: str) -> None:
 class StandIn:
     """A shared object that accepts anything, of a version, with the places of members that it gives."""
 
-    def __init__(self, version: str, answer: tuple[int, ...], faults: tuple[int, ...]) -> None:
+    def __init__(
+        self, version: str, answer: tuple[int, ...], faults: tuple[int, ...], request: dict[int, int]
+    ) -> None:
         def put(at: int, content: bytes) -> None:
             ctypes.memmove(at, content, len(content))
 
@@ -92,11 +94,15 @@ class StandIn:
 
         self.drain_version = lambda at, size: put(at, version.encode() + b"\0") or len(version)
         self.drain_answer_layout, self.drain_faults_layout = layout(answer), layout(faults)
-        self.drain_explain_dem, self.drain_derive_dem = explain, lambda *places: 3
+        words = [request.get(place, 0) for place in range(0, 376, 4)]
+        self.drain_request_layout = layout((request[-1], *words))
+        self.drain_explain_request, self.drain_derive_request = explain, lambda *places: 3
 
 
 # Of drain.h: the size, then the places of status, rule, row, col and line; the size, and that of a rule's three numbers.
 ANSWER, FAULTS = (180, 0, 4, 8, 12, 16), (180, 0, 4, 8, 12)
+# Of a request: what stands in each place, and the size.
+REQUEST = {place: place for place in (4, 96, 100, 368, 40, 64, 88, 120, *range(144, 368, 24))} | {-1: 376}
 
 
 @pytest.mark.parametrize(
@@ -104,6 +110,7 @@ ANSWER, FAULTS = (180, 0, 4, 8, 12, 16), (180, 0, 4, 8, 12)
     [
         ({}, True), ({"version": ("0.", "1.")}, False), ({"version": ("logic ", "logic 0")}, False), ({"needed": {"sse4_2", "no_such_word"}}, False),
         ({"answer": (184, *ANSWER[1:])}, False), ({"answer": (180, 0, 8, 4, 12, 16)}, False), ({"faults": (192, *FAULTS[1:])}, False),
+        ({"request": REQUEST | {-1: 368}}, False), ({"request": REQUEST | {368: 372}}, False), ({"request": REQUEST | {40: 32}}, False),
     ],
 )  # fmt: skip
 def test_a_library_of_another_version_or_processor_judges_nothing(
@@ -113,7 +120,7 @@ def test_a_library_of_another_version_or_processor_judges_nothing(
     (tmp_path / "drain").symlink_to(os.path.realpath(Program().path))
     (tmp_path / "libdrain.so").write_bytes(b"")
     version = Program().version.removeprefix("drain ").replace(*other.get("version", ("", "")))
-    one = StandIn(version, other.get("answer", ANSWER), other.get("faults", FAULTS))
+    one = StandIn(version, other.get("answer", ANSWER), other.get("faults", FAULTS), other.get("request", REQUEST))
     monkeypatch.setattr(library.ctypes, "CDLL", lambda path: one)
     monkeypatch.setattr(library, "NEEDED", other.get("needed", {"fpu"}))
     verdict = drain_gis.audit(SLOPE, **WRONG, program=str(tmp_path / "drain"))

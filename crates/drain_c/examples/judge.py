@@ -33,7 +33,7 @@ class Pair(ctypes.Structure):
 
     _fields_ = [("text", Bytes), ("data", Bytes)]
 
-    def __init__(self, text: bytes, data: bytes) -> None:
+    def __init__(self, text: bytes = b"", data: bytes = b"") -> None:
         super().__init__(Bytes(text), Bytes(data))
 
 
@@ -44,6 +44,42 @@ class Spacing(ctypes.Structure):
 
     def __init__(self, width: int = 0, height: int = 0, widths: bytes = b"") -> None:
         super().__init__(width, height, Bytes(widths))
+
+
+class Request(ctypes.Structure):
+    """drain_request. What it points to lives as long as this object."""
+
+    _fields_ = [
+        ("side", ctypes.c_uint32),
+        ("has_dem", ctypes.c_uint32),
+        ("tiles", ctypes.POINTER(Pair)),
+        ("tile_count", ctypes.c_size_t),
+        ("dem", Pair),
+        ("sinks", Bytes),
+        ("spacing", Spacing),
+        ("rasters", Pair * len(CHECKED)),
+        ("judged", ctypes.c_uint32),
+    ]
+
+    def __init__(self, ground: Ground, rasters: Mapping[str, tuple[bytes, bytes]], sinks: bytes = b"",
+                 spacing: Spacing | None = None) -> None:
+        """Asks about rasters, by name, each a header and pixels. Without a spacing cells are square."""
+        four = [Pair(*rasters.get(name, (b"", b""))) for name in CHECKED]
+        judged = sum(1 << CHECKED.index(name) for name in rasters)
+        count = len(ground.tiles)
+        tiles = (Pair * max(count, 1))(*(Pair(name.encode(), samples) for name, samples in ground.tiles))
+        has_dem, dem = ground.dem is not None, Pair(*(ground.dem or (b"", b"")))
+        super().__init__(ground.side, has_dem, tiles, count, dem, Bytes(sinks), spacing or Spacing(1, 1),
+                         (Pair * len(CHECKED))(*four), judged)
+
+
+@dataclass(frozen=True)
+class Ground:
+    """Elevations: tiles of a side, each a name and samples, or one raster, a header and pixels."""
+
+    side: int = 0
+    tiles: Sequence[tuple[str, bytes]] = ()
+    dem: tuple[bytes, bytes] | None = None
 
 
 class RawAnswer(ctypes.Structure):
@@ -80,31 +116,14 @@ class Drain:
 
     def __init__(self, path: str) -> None:
         self._library = ctypes.CDLL(path)
-        given = [
-            ctypes.c_uint32, ctypes.POINTER(Pair), ctypes.c_size_t, ctypes.c_char_p, ctypes.c_size_t, ctypes.c_void_p,
-        ]
-        answer = ctypes.POINTER(RawAnswer)
-        self._library.drain_audit.argtypes = [*given, answer]
-        self._library.drain_check.argtypes = [*given, answer]
-        self._library.drain_audit_only.argtypes = [*given, ctypes.c_uint32, answer]
-        explained = [ctypes.c_uint32, ctypes.c_void_p, ctypes.c_size_t, ctypes.POINTER(Faults), answer]
-        self._library.drain_explain.argtypes = [*given, *explained]
-        spaced = [*given[:5], ctypes.POINTER(Spacing), given[5]]
-        self._library.drain_audit_only_spaced.argtypes = [*spaced, ctypes.c_uint32, answer]
-        self._library.drain_explain_spaced.argtypes = [*spaced, *explained]
-        rasters = [ctypes.c_void_p, ctypes.c_size_t] * 3
-        self._library.drain_derive.argtypes = [*given[:3], ctypes.POINTER(Pair), *rasters, answer]
-        over_dem = [ctypes.POINTER(Pair), *given[3:]]
-        self._library.drain_audit_dem.argtypes = [*over_dem, answer]
-        self._library.drain_check_dem.argtypes = [*over_dem, answer]
-        self._library.drain_audit_only_dem.argtypes = [*over_dem, ctypes.c_uint32, answer]
-        self._library.drain_explain_dem.argtypes = [*over_dem, *explained]
-        self._library.drain_audit_only_dem_spaced.argtypes = [over_dem[0], *spaced[3:], ctypes.c_uint32, answer]
-        self._library.drain_explain_dem_spaced.argtypes = [over_dem[0], *spaced[3:], *explained]
-        self._library.drain_derive_dem.argtypes = [ctypes.POINTER(Pair), ctypes.POINTER(Pair), *rasters, answer]
-        for name in ("audit", "check", "audit_only", "explain", "derive"):
-            for end in ("", "_dem", *(("_spaced", "_dem_spaced") if name in ("audit_only", "explain") else ())):
-                getattr(self._library, f"drain_{name}{end}").restype = ctypes.c_uint32
+        given, answer = ctypes.POINTER(Request), ctypes.POINTER(RawAnswer)
+        for name, kinds in (
+            ("judge", []),
+            ("explain_request", [ctypes.c_void_p, ctypes.c_size_t, ctypes.POINTER(Faults)]),
+            ("derive_request", [ctypes.c_void_p, ctypes.c_size_t] * 3),
+        ):
+            call = getattr(self._library, f"drain_{name}")
+            call.restype, call.argtypes = ctypes.c_uint32, [given, *kinds, answer]
         self._library.drain_version.argtypes = [ctypes.c_char_p, ctypes.c_size_t]
         self._library.drain_version.restype = ctypes.c_size_t
 
@@ -114,100 +133,81 @@ class Drain:
         self._library.drain_version(text, 256)
         return text.value.decode("ascii")
 
+    def judge(self, request: Request) -> Answer:
+        """The verdict on the rasters of a request."""
+        raw = RawAnswer()
+        self._library.drain_judge(request, raw)
+        return answer_of(raw)
+
+    def explain_request(self, request: Request, fault_map) -> tuple[Answer, Faults]:
+        """The same with what explains it. fault_map: a bytearray or an array of a byte for each cell, to be written."""
+        raw, faults = RawAnswer(), Faults()
+        cells = memoryview(fault_map).nbytes
+        self._library.drain_explain_request(request, (ctypes.c_uint8 * cells).from_buffer(fault_map), cells, faults, raw)
+        return answer_of(raw), faults
+
+    def derive_request(self, request: Request, *rasters) -> Answer:
+        """Writes acc, bas and rnk of directions into three arrays of an unsigned number of 32 bits for each cell."""
+        raw, places = RawAnswer(), []
+        for numbers in rasters:
+            count = memoryview(numbers).nbytes // 4
+            places += [(ctypes.c_uint32 * count).from_buffer(numbers), count]
+        self._library.drain_derive_request(request, *places, raw)
+        return answer_of(raw)
+
     def audit(self, side: int, tiles: Sequence[tuple[str, bytes]], rasters: Sequence[tuple[bytes, bytes]],
               sinks: bytes = b"") -> Answer:
-        """Audits con, dir, acc and bas, each a header and pixels, for tiles, each a name and samples."""
-        return self._call(self._library.drain_audit, len(AUDITED), ground_of(side, tiles), rasters, sinks)
+        """Audits con, dir, acc and bas for tiles, each a name and samples."""
+        return self.judge(Request(Ground(side, tiles), named(AUDITED, rasters), sinks))
 
     def audit_only(self, side: int, tiles: Sequence[tuple[str, bytes]], rasters: Mapping[str, tuple[bytes, bytes]],
                    sinks: bytes = b"", spacing: Spacing | None = None) -> Answer:
-        """Audits some rasters, by name: con, con and dir, these with acc or with bas, or all four. Without a spacing
-        cells are square."""
-        return self._judge("audit_only", ground_of(side, tiles), rasters, sinks, spacing)
+        """Audits some rasters, by name: con, con and dir, these with acc or with bas, or all four."""
+        return self.judge(Request(Ground(side, tiles), rasters, sinks, spacing))
 
     def explain(self, side: int, tiles: Sequence[tuple[str, bytes]], rasters: Mapping[str, tuple[bytes, bytes]],
                 fault_map, sinks: bytes = b"", spacing: Spacing | None = None) -> tuple[Answer, Faults]:
-        """The same with what explains it. fault_map: a bytearray or an array of a byte for each cell, to be written."""
-        return self._explain("explain", ground_of(side, tiles), rasters, fault_map, sinks, spacing)
+        """The same with what explains it."""
+        return self.explain_request(Request(Ground(side, tiles), rasters, sinks, spacing), fault_map)
 
     def derive(self, side: int, tiles: Sequence[tuple[str, bytes]], directions: tuple[bytes, bytes],
                *rasters) -> Answer:
-        """Writes acc, bas and rnk of directions into three arrays of an unsigned number of 32 bits for each cell."""
-        return self._derive(self._library.drain_derive, ground_of(side, tiles), directions, rasters)
+        """Writes acc, bas and rnk of directions."""
+        return self.derive_request(Request(Ground(side, tiles), {"dir": directions}), *rasters)
 
     def check(self, side: int, tiles: Sequence[tuple[str, bytes]], rasters: Sequence[tuple[bytes, bytes]],
               sinks: bytes = b"") -> Answer:
         """Checks con, dir, acc, bas and rnk."""
-        return self._call(self._library.drain_check, len(CHECKED), ground_of(side, tiles), rasters, sinks)
+        return self.judge(Request(Ground(side, tiles), named(CHECKED, rasters), sinks))
 
     def audit_dem(self, dem: tuple[bytes, bytes], rasters: Sequence[tuple[bytes, bytes]], sinks: bytes = b"") -> Answer:
-        """Audits con, dir, acc and bas for one raster of elevations, each a header and pixels."""
-        return self._call(self._library.drain_audit_dem, len(AUDITED), (Pair(*dem),), rasters, sinks)
+        """Audits con, dir, acc and bas for one raster of elevations."""
+        return self.judge(Request(Ground(dem=dem), named(AUDITED, rasters), sinks))
 
     def audit_only_dem(self, dem: tuple[bytes, bytes], rasters: Mapping[str, tuple[bytes, bytes]],
                        sinks: bytes = b"", spacing: Spacing | None = None) -> Answer:
-        """Audits some rasters for one raster of elevations, by name, as audit_only does for tiles."""
-        return self._judge("audit_only_dem", (Pair(*dem),), rasters, sinks, spacing)
+        """Audits some rasters, by name, for one raster of elevations."""
+        return self.judge(Request(Ground(dem=dem), rasters, sinks, spacing))
 
     def explain_dem(self, dem: tuple[bytes, bytes], rasters: Mapping[str, tuple[bytes, bytes]], fault_map,
                     sinks: bytes = b"", spacing: Spacing | None = None) -> tuple[Answer, Faults]:
-        """The same with what explains it, as explain does for tiles."""
-        return self._explain("explain_dem", (Pair(*dem),), rasters, fault_map, sinks, spacing)
+        """The same with what explains it."""
+        return self.explain_request(Request(Ground(dem=dem), rasters, sinks, spacing), fault_map)
 
     def derive_dem(self, dem: tuple[bytes, bytes], directions: tuple[bytes, bytes], *rasters) -> Answer:
-        """Writes acc, bas and rnk of directions on one raster of elevations, as derive does for tiles."""
-        return self._derive(self._library.drain_derive_dem, (Pair(*dem),), directions, rasters)
+        """Writes acc, bas and rnk of directions on one raster of elevations."""
+        return self.derive_request(Request(Ground(dem=dem), {"dir": directions}), *rasters)
 
     def check_dem(self, dem: tuple[bytes, bytes], rasters: Sequence[tuple[bytes, bytes]], sinks: bytes = b"") -> Answer:
         """Checks con, dir, acc, bas and rnk for one raster of elevations."""
-        return self._call(self._library.drain_check_dem, len(CHECKED), (Pair(*dem),), rasters, sinks)
-
-    def _explain(self, name: str, ground: tuple, rasters: Mapping[str, tuple[bytes, bytes]], fault_map, sinks: bytes,
-                 spacing: Spacing | None) -> tuple[Answer, Faults]:
-        cells = memoryview(fault_map).nbytes
-        place = (ctypes.c_uint8 * cells).from_buffer(fault_map)
-        faults = Faults()
-        return self._judge(name, ground, rasters, sinks, spacing, place, cells, ctypes.byref(faults)), faults
-
-    def _judge(self, name: str, ground: tuple, rasters: Mapping[str, tuple[bytes, bytes]], sinks: bytes,
-               spacing: Spacing | None, *more) -> Answer:
-        """The answer about some rasters of the call with this name, or of its twin that takes a spacing."""
-        if spacing is not None:
-            name += "_spaced"
-        judged = sum(1 << AUDITED.index(raster) for raster in rasters)
-        four = [rasters.get(raster, (b"", b"")) for raster in AUDITED]
-        function = getattr(self._library, f"drain_{name}")
-        return self._call(function, len(AUDITED), ground, four, sinks, judged, *more, spacing=spacing)
-
-    @staticmethod
-    def _derive(function, ground: tuple, directions: tuple[bytes, bytes], rasters: Sequence) -> Answer:
-        places = []
-        for numbers in rasters:
-            count = memoryview(numbers).nbytes // 4
-            places += [(ctypes.c_uint32 * count).from_buffer(numbers), count]
-        raw = RawAnswer()
-        function(*ground, Pair(*directions), *places, raw)
-        return answer_of(raw)
-
-    @staticmethod
-    def _call(function, count: int, ground: tuple, rasters: Sequence[tuple[bytes, bytes]], sinks: bytes,
-              *more, spacing: Spacing | None = None) -> Answer:
-        if len(rasters) != count:
-            raise ValueError(f"{count} rasters are needed")
-        products = (Pair * count)(*(Pair(header, pixels) for header, pixels in rasters))
-        raw = RawAnswer()
-        function(*ground, sinks, len(sinks), *([] if spacing is None else [spacing]), products, *more, raw)
-        return answer_of(raw)
+        return self.judge(Request(Ground(dem=dem), named(CHECKED, rasters), sinks))
 
 
-def ground_of(side: int, tiles: Sequence[tuple[str, bytes]]) -> tuple:
-    """The arguments that give the elevations of tiles."""
-    return side, tiles_of(tiles), len(tiles)
-
-
-def tiles_of(tiles: Sequence[tuple[str, bytes]]) -> ctypes.Array:
-    """The tiles for C. An array of none still has an address, which C needs."""
-    return (Pair * max(len(tiles), 1))(*(Pair(name.encode(), samples) for name, samples in tiles))
+def named(names: Sequence[str], rasters: Sequence[tuple[bytes, bytes]]) -> dict[str, tuple[bytes, bytes]]:
+    """The rasters by name."""
+    if len(rasters) != len(names):
+        raise ValueError(f"{len(names)} rasters are needed")
+    return dict(zip(names, rasters))
 
 
 def answer_of(raw: RawAnswer) -> Answer:

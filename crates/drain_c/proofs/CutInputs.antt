@@ -1,33 +1,10 @@
 -- Inputs of a call with the first bytes of each header: of tiles, and of one raster of elevations, whose own header may be
 -- too long as well. The answer to them is the answer to the inputs.
-use Rattle.std.proofs.Common.{◌≡◌, ℕ, ◌↔◌, List, take, arith, inl, inr, refl, ap, subst, ◌∙◌}
-use Rattle.std.specs.Prelude.{slice_get, Some, Result, Ok, Err}
-use Rattle.drain_answer.specs.declared.refusal.Refusal.{Refusal}
-use Rattle.drain_answer.specs.declared.refusal.Refusal.TheVariants.{BadSide, BadTileLength, BadDemHeader, OutOfMemory, ReadFailed}
-use Rattle.drain_c.specs.GivenDem.{DemInputs, dem_set}
+use Rattle.drain_c.proofs.Names.{◌≡◌, ℕ, ◌↔◌, List, take, arith, inl, inr, refl, ap, subst, ◌∙◌, slice_get, Refusal, BadSide, BadTileLength, BadDemHeader, OutOfMemory, ReadFailed, CallInputs, DemInputs, dem_set, of_dem, of_tiles, set_in, answer_in, Judged, TooLong, Corner, IsFirst, IsAnswerIn, DemTexts, dem_ground, kind_of, GroundSet, IsReadable, IsRefusalIn, StandsIn, order_in, Inputs, IsOutcomeIn, HasBadLength, TilesRefuse, set_of, tile_ground, tile_place, header_answer}
+use Rattle.std.specs.Prelude.{Some, Result, Ok, Err}
 use Rattle.drain_c.proofs.LongHeaders.{IsLong, SameRefusals, cut_texts, own, long_fault, refusal_kept, same_texts, set_on, short_or_long, too_long}
-use Rattle.drain_explain.specs.Explanations.{answer_in}
-use Rattle.drain_grid.specs.declared.judged.Judged.{Judged}
-use Rattle.drain_header.specs.declared.fault.HeaderFault.TheVariants.{TooLong}
-use Rattle.drain_hgt.specs.Corner.{Corner}
 use Rattle.drain_hgt.specs.Samples.{IsTile}
-use Rattle.drain_text.specs.First.{IsFirst}
-use Rattle.drain_verdict.specs.Answers.{IsAnswerIn, IsAuditIn}
-use Rattle.drain_verdict.specs.DemGround.{DemTexts, dem_ground}
-use Rattle.drain_header.specs.Lines.{kind_of}
-use Rattle.drain_verdict.specs.GroundSets.{GroundSet, IsReadable, IsRefusalIn, StandsIn, order_in}
-use Rattle.drain_verdict.specs.Inputs.{Inputs}
 use Rattle.drain_verdict.specs.Meaning.{texts_of}
-use Rattle.drain_verdict.specs.Outcomes.{IsOutcomeIn}
-use Rattle.drain_verdict.specs.TileGround.{HasBadLength, TilesRefuse, set_of, tile_ground, tile_place}
-use Rattle.drain_verdict.proofs.DemAnswers.{header_answer}
-
--- inputs of one kind, which are sets; and what is known of those with the first bytes of each header
-pub record Cut (A : Type 0) : Type 1 where
-  pub set : A → GroundSet
-  pub first_bytes : A → A
-  pub refusal_kept : (a : A) (refusal : Refusal) → IsRefusalIn (set (first_bytes a)) refusal → IsRefusalIn (set a) refusal
-  pub same : (a : A) → IsReadable (set (first_bytes a)) → first_bytes a ≡ a
 
 -- answers to sets: a verdict on readable ones alone, else the first refusal that applies
 pub record AreAnswers {V : Type 0} (Is : GroundSet → Result V Refusal → Type 0) : Type 1 where
@@ -35,25 +12,15 @@ pub record AreAnswers {V : Type 0} (Is : GroundSet → Result V Refusal → Type
   pub refused : (s : GroundSet) (refusal : Refusal) → Is s (Err refusal) → IsRefusalIn s refusal
   pub refuses : (s : GroundSet) (refusal : Refusal) → IsRefusalIn s refusal → Is s (Err refusal)
 
--- so are those of an audit, of a check, and of an audit of some rasters
-pub audits : AreAnswers IsAuditIn
-audits = record { readable = λ s v is. is.0; refused = λ s refusal is. is; refuses = λ s refusal is. is }
-
+-- so are those of a check, of judged rasters, and of these with what explains it
 pub checks : AreAnswers IsAnswerIn
 checks = record { readable = λ s v is. is.0; refused = λ s refusal is. is; refuses = λ s refusal is. is }
 
 pub outcomes : (judged : Judged) → AreAnswers (IsOutcomeIn judged)
 outcomes judged = record { readable = λ s v is. is.0; refused = λ s refusal is. is; refuses = λ s refusal is. is }
 
--- and of one with what explains it
 pub explanations : {F : Type 0} (judged : Judged) → AreAnswers (λ s answer. IsOutcomeIn judged s (answer_in {F = F} answer))
 explanations judged = record { readable = λ s v is. is.0; refused = λ s refusal is. is; refuses = λ s refusal is. is }
-
--- the answer to the first bytes is the answer to the inputs
-pub answer_kept : {A V : Type 0} (c : Cut A) (Is : GroundSet → Result V Refusal → Type 0) → AreAnswers Is → (answer : Result V Refusal) (a : A) →
-    Is (c.set (c.first_bytes a)) answer → Is (c.set a) answer
-answer_kept c Is are (Ok v) a is = subst (λ b. Is (c.set b) (Ok v)) (c.same a (are.readable (c.set (c.first_bytes a)) v is)) is
-answer_kept c Is are (Err refusal) a is = are.refuses (c.set a) refusal (c.refusal_kept a refusal (are.refused (c.set (c.first_bytes a)) refusal is))
 
 -- Tiles.
 
@@ -90,18 +57,10 @@ places i refusal = refl
 abbrev pub tile_refusals : (i : Inputs) → SameRefusals (tile_ground i)
 tile_refusals i = record { Refuses = TilesRefuse (cut_tiles i); among = tile_place (cut_tiles i); applies = applies i; places = places i }
 
-pub same_tiles : (i : Inputs) → IsReadable (set_of (cut_tiles i)) → cut_tiles i ≡ i
+same_tiles : (i : Inputs) → IsReadable (set_of (cut_tiles i)) → cut_tiles i ≡ i
 same_tiles i readable =
     ap (λ t. record { side = i.side; names = i.names; corners = i.corners; tiles = i.tiles; given = t.given; header = t.header; raster = t.raster })
     (same_texts (tile_ground i) (tile_refusals i) (texts_of i) readable)
-
-abbrev pub tile_cut : Cut Inputs
-tile_cut = record {
-  set = set_of;
-  first_bytes = cut_tiles;
-  refusal_kept = λ i refusal is. refusal_kept (tile_ground i) (tile_refusals i) (texts_of i) refusal is;
-  same = same_tiles;
-}
 
 -- One raster of elevations.
 
@@ -128,14 +87,14 @@ refused_long i long OutOfMemory is = tt
 refused_long i long ReadFailed is = tt
 refused_long i long refusal is = of_long i long refusal is
 
-pub dem_refusal_kept : (i : DemInputs) (refusal : Refusal) → IsRefusalIn (dem_set (cut_dem i)) refusal → IsRefusalIn (dem_set i) refusal
+dem_refusal_kept : (i : DemInputs) (refusal : Refusal) → IsRefusalIn (dem_set (cut_dem i)) refusal → IsRefusalIn (dem_set i) refusal
 dem_refusal_kept i refusal is = elim (short_or_long i.dem.header) [
   | inl kept ↦ refusal_kept (dem_ground i.dem) (own (dem_ground i.dem)) i.texts refusal
       (subst (λ header. IsRefusalIn (set_on (dem_ground (with_header i header)) (cut_texts i.texts)) refusal) kept is)
   | inr long ↦ refused_long i long refusal is
 ]
 
-pub same_dem : (i : DemInputs) → IsReadable (dem_set (cut_dem i)) → cut_dem i ≡ i
+same_dem : (i : DemInputs) → IsReadable (dem_set (cut_dem i)) → cut_dem i ≡ i
 same_dem i readable = elim (short_or_long i.dem.header) [
   | inl kept ↦ (
       let short : IsReadable (set_on (dem_ground i.dem) (cut_texts i.texts)) =
@@ -145,5 +104,24 @@ same_dem i readable = elim (short_or_long i.dem.header) [
   | inr long ↦ absurd (readable (BadDemHeader TooLong) (long_refused i long))
 ]
 
-abbrev pub dem_cut : Cut DemInputs
-dem_cut = record { set = dem_set; first_bytes = cut_dem; refusal_kept = dem_refusal_kept; same = same_dem }
+-- Either.
+
+-- the inputs with the first bytes of each header
+abbrev pub first_bytes : CallInputs → CallInputs
+first_bytes (of_tiles i) = of_tiles (cut_tiles i)
+first_bytes (of_dem i) = of_dem (cut_dem i)
+
+pub cut_refusal_kept : (i : CallInputs) (refusal : Refusal) → IsRefusalIn (set_in (first_bytes i)) refusal → IsRefusalIn (set_in i) refusal
+cut_refusal_kept (of_tiles i) refusal is = refusal_kept (tile_ground i) (tile_refusals i) (texts_of i) refusal is
+cut_refusal_kept (of_dem i) refusal is = dem_refusal_kept i refusal is
+
+-- where they are readable, they are the inputs
+pub same : (i : CallInputs) → IsReadable (set_in (first_bytes i)) → first_bytes i ≡ i
+same (of_tiles i) readable = ap (λ j. of_tiles j) (same_tiles i readable)
+same (of_dem i) readable = ap (λ j. of_dem j) (same_dem i readable)
+
+-- the answer to them is the answer to the inputs
+pub answer_kept : {V : Type 0} (Is : GroundSet → Result V Refusal → Type 0) → AreAnswers Is → (answer : Result V Refusal) (i : CallInputs) →
+    Is (set_in (first_bytes i)) answer → Is (set_in i) answer
+answer_kept Is are (Ok v) i is = subst (λ j. Is (set_in j) (Ok v)) (same i (are.readable (set_in (first_bytes i)) v is)) is
+answer_kept Is are (Err refusal) i is = are.refuses (set_in i) refusal (cut_refusal_kept i refusal (are.refused (set_in (first_bytes i)) refusal is))

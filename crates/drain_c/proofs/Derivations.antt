@@ -1,38 +1,28 @@
 -- What follows from the directions of sources follows from those of the bytes of a call, and what is shown of it too.
-use Rattle.std.proofs.Common.{◌≡◌, ◌≢◌, ℕ, zero, suc, ◌*◌, ◌/◌, ◌%◌, ◌≤◌, ◌<◌, ℤ, pos, Bool, true, false, List, [], ◌∷◌, length, map, get_or, Result, Ok, Err, IfOk, IfErr, IsTrue, IsFalse, arith, refl, sym, ap, subst, ◌∙◌}
+use Rattle.drain_c.proofs.Names.{◌≡◌, ◌≢◌, ℕ, zero, suc, ◌*◌, ◌/◌, ◌%◌, ◌≤◌, ◌<◌, ℤ, pos, Bool, true, false, List, [], ◌∷◌, length, map, get_or, IfOk, IfErr, IsTrue, IsFalse, arith, refl, sym, ap, subst, ◌∙◌, Answer, Call, CallInputs, OfCall, set_in, outcome_found, status_only, Reports, ShowsAnswer, ShowsBadRaster, IsCellOf, Extent, Pixels, GroundSet, set_grid, set_products}
+use Rattle.std.proofs.Common.{Result, Ok, Err}
 use Rattle.std.proofs.Math.Nat.{div-lt_iff_lt-mul}
-use Rattle.drain_c.specs.declared.answer.Answer.{Answer}
 use Rattle.drain_c.specs.Derived.{AreDerivedNumbers, AreNumbersOf, IsDerivation, ReportsDerivation, ShowsDerivation, derived_found, derived_line, have_cells, outcome_for, raster_of, shape_line, told_of_dir}
-use Rattle.drain_c.specs.Found.{outcome_found, status_only}
-use Rattle.drain_c.specs.Shown.{Reports, ShowsAnswer, ShowsBadRaster}
-use Rattle.drain_c.proofs.CutInputs.{Cut}
-use Rattle.drain_c.proofs.Spelling.{Call}
+use Rattle.drain_c.proofs.CutInputs.{cut_refusal_kept, first_bytes, same}
+use Rattle.drain_c.proofs.Spelling.{AreSources}
 use Rattle.drain_c.proofs.Statuses.{from_two}
-use Rattle.drain_grid.specs.Extent.{IsCellOf, Extent}
 use Rattle.drain_grid.specs.Product.{default_numbers}
-use Rattle.drain_grid.specs.Grid.{Pixels}
 use Rattle.drain_maker.specs.Derived.{AreDerivedIn, IsDeriveRefusalIn, AreCounts, AreDerived}
 use Rattle.drain_maker.specs.declared.derivation.DeriveRefusal.{DeriveRefusal}
 use Rattle.drain_maker.specs.declared.derivation.DeriveRefusal.TheVariants.{Refused, NoEnd}
 use Rattle.drain_maker.specs.declared.derivation.Derived.{Derived}
-use Rattle.drain_verdict.specs.GroundSets.{GroundSet, set_grid, set_products}
 
-pub derived_of_bytes : {A : Type 0} (c : Cut A) (call : Call c) (d : Derived) → call.For (λ a. AreDerivedIn (c.set a) d) → (a : A) → call.Of a → AreDerivedIn (c.set a) d
-derived_of_bytes c call d fact a of =
-    let is : AreDerivedIn (c.set (c.first_bytes a)) d = call.of_sources (λ b. AreDerivedIn (c.set b) d) fact a of in
-    subst (λ b. AreDerivedIn (c.set b) d) (c.same a is.0) is
+pub derived_of_bytes : (call : Call) (For : (CallInputs → Type 0) → Type 0) → AreSources call For → (d : Derived) → For (λ i. AreDerivedIn (set_in i) d) → OfCall call (λ i. AreDerivedIn (set_in i) d)
+derived_of_bytes call For sources d fact i of =
+    let is : AreDerivedIn (set_in (first_bytes i)) d = sources (λ j. AreDerivedIn (set_in j) d) fact i of in
+    subst (λ j. AreDerivedIn (set_in j) d) (same i is.0) is
 
--- what is known of sources from which something follows is known of the bytes
-pub fact_of_derived : {A : Type 0} (c : Cut A) (call : Call c) (d : Derived) (Fact : A → Type 0) → call.For (λ a. AreDerivedIn (c.set a) d) → call.For Fact → (a : A) → call.Of a → Fact a
-fact_of_derived c call d Fact derived fact a of =
-    subst Fact (c.same a (call.of_sources (λ b. AreDerivedIn (c.set b) d) derived a of).0) (call.of_sources Fact fact a of)
+why_kept : (i : CallInputs) (why : DeriveRefusal) → IsDeriveRefusalIn (set_in (first_bytes i)) why → IsDeriveRefusalIn (set_in i) why
+why_kept i (Refused refusal) is = cut_refusal_kept i refusal is
+why_kept i (NoEnd row col) is = subst (λ j. IsDeriveRefusalIn (set_in j) (NoEnd row col)) (same i is.0) is
 
-why_kept : {A : Type 0} (c : Cut A) (a : A) (why : DeriveRefusal) → IsDeriveRefusalIn (c.set (c.first_bytes a)) why → IsDeriveRefusalIn (c.set a) why
-why_kept c a (Refused refusal) is = c.refusal_kept a refusal is
-why_kept c a (NoEnd row col) is = subst (λ b. IsDeriveRefusalIn (c.set b) (NoEnd row col)) (c.same a is.0) is
-
-pub why_of_bytes : {A : Type 0} (c : Cut A) (call : Call c) (why : DeriveRefusal) → call.For (λ a. IsDeriveRefusalIn (c.set a) why) → (a : A) → call.Of a → IsDeriveRefusalIn (c.set a) why
-why_of_bytes c call why fact a of = why_kept c a why (call.of_sources (λ b. IsDeriveRefusalIn (c.set b) why) fact a of)
+pub why_of_bytes : (call : Call) (For : (CallInputs → Type 0) → Type 0) → AreSources call For → (why : DeriveRefusal) → For (λ i. IsDeriveRefusalIn (set_in i) why) → OfCall call (λ i. IsDeriveRefusalIn (set_in i) why)
+why_of_bytes call For sources why fact i of = why_kept i why (sources (λ j. IsDeriveRefusalIn (set_in j) why) fact i of)
 
 -- the cell in a place of row order
 pub cell_inside : (e : Extent) (cols place : ℕ) → cols ≡ e.cols → place < e.rows * e.cols → IsCellOf e (record { row = place / cols; col = place % cols })
@@ -82,12 +72,12 @@ reports_derived s e d acc bas rnk shown extent is fit misfit =
     (reports_either s e (have_cells e acc bas rnk) shown (is.0, is.1.ends) fit misfit)
 
 -- the answer to inputs, which are sets
-pub reports : {A : Type 0} (set : A → GroundSet) (Of : A → Type 0) (answer : Result (Extent × Derived) DeriveRefusal) (old new : List ℕ × List ℕ × List ℕ) (shown : Answer) → IfOk answer (λ made. AreCounts made.0 made.1) →
-    IfOk answer (λ made. (a : A) → Of a → AreDerivedIn (set a) made.1) → IfErr answer (λ why. (a : A) → Of a → IsDeriveRefusalIn (set a) why) → ShowsDerivation answer old new shown →
-    (a : A) → Of a → ReportsDerivation (set a) old.0 old.1 old.2 shown
-reports set Of (Ok made) old new shown counts derived err shows a of =
-    reports_derived (set a) made.0 made.1 old.0 old.1 old.2 shown (sym counts.acc.extent) (derived a of) (λ fit. (shows.0 fit).0) (λ misfit. (shows.1 misfit).0)
-reports set Of (Err why) old new shown counts derived err shows a of = record { value = Err why; is = err a of; shows = shows.0 }
+pub reports : (call : Call) (answer : Result (Extent × Derived) DeriveRefusal) (old new : List ℕ × List ℕ × List ℕ) (shown : Answer) → IfOk answer (λ made. AreCounts made.0 made.1) →
+    IfOk answer (λ made. OfCall call (λ i. AreDerivedIn (set_in i) made.1)) → IfErr answer (λ why. OfCall call (λ i. IsDeriveRefusalIn (set_in i) why)) → ShowsDerivation answer old new shown →
+    OfCall call (λ i. ReportsDerivation (set_in i) old.0 old.1 old.2 shown)
+reports call (Ok made) old new shown counts derived err shows i of =
+    reports_derived (set_in i) made.0 made.1 old.0 old.1 old.2 shown (sym counts.acc.extent) (derived i of) (λ fit. (shows.0 fit).0) (λ misfit. (shows.1 misfit).0)
+reports call (Err why) old new shown counts derived err shows i of = record { value = Err why; is = err i of; shows = shows.0 }
 
 numbers_either : (s : GroundSet) (made : Extent × Derived) (b : Bool) (new : List ℕ × List ℕ × List ℕ) (shown : Answer) → AreDerivedIn s made.1 →
     (IsTrue b → AreNumbersOf made.1 new.0 new.1 new.2) → (IsFalse b → ShowsBadRaster shown) → shown.status ≡ 0 → AreDerivedNumbers s new.0 new.1 new.2
@@ -106,11 +96,11 @@ at_zero (Err why) old new shown shows none fact =
     absurd (omega (arith, none_status why, is, none))
 
 -- and what is written then follows from the inputs
-pub numbers : {A : Type 0} (set : A → GroundSet) (Of : A → Type 0) (answer : Result (Extent × Derived) DeriveRefusal) (old new : List ℕ × List ℕ × List ℕ) (shown : Answer) →
-    IfOk answer (λ made. (a : A) → Of a → AreDerivedIn (set a) made.1) → ShowsDerivation answer old new shown → shown.status ≡ 0 → (a : A) → Of a → AreDerivedNumbers (set a) new.0 new.1 new.2
-numbers set Of (Ok made) old new shown derived shows none a of =
-    numbers_either (set a) made (have_cells made.0 old.0 old.1 old.2) new shown (derived a of) (λ fit. (shows.0 fit).1) (λ misfit. (shows.1 misfit).0) none
-numbers set Of (Err why) old new shown derived shows none a of = absurd (at_zero {P = ⊥} (Err why) old new shown shows none tt)
+pub numbers : (call : Call) (answer : Result (Extent × Derived) DeriveRefusal) (old new : List ℕ × List ℕ × List ℕ) (shown : Answer) →
+    IfOk answer (λ made. OfCall call (λ i. AreDerivedIn (set_in i) made.1)) → ShowsDerivation answer old new shown → shown.status ≡ 0 → OfCall call (λ i. AreDerivedNumbers (set_in i) new.0 new.1 new.2)
+numbers call (Ok made) old new shown derived shows none i of =
+    numbers_either (set_in i) made (have_cells made.0 old.0 old.1 old.2) new shown (derived i of) (λ fit. (shows.0 fit).1) (λ misfit. (shows.1 misfit).0) none
+numbers call (Err why) old new shown derived shows none i of = absurd (at_zero {P = ⊥} (Err why) old new shown shows none tt)
 
 unwritten_either : (e : Extent) (b : Bool) (old new : List ℕ × List ℕ × List ℕ) (shown : Answer) → (IsTrue b → ShowsAnswer (status_only 0) (shape_line e) shown) →
     (IsFalse b → (new.0 ≡ old.0) × (new.1 ≡ old.1) × (new.2 ≡ old.2)) → shown.status ≢ 0 → (new.0 ≡ old.0) × (new.1 ≡ old.1) × (new.2 ≡ old.2)

@@ -1,28 +1,19 @@
 -- What is shown of an explanation is what the rules of its set say. The map that was drawn has a byte for each cell, so it
 -- has the length of its memory exactly where this has.
-use Rattle.std.proofs.Common.{◌≡◌, ℕ, suc, ◌*◌, ◌==◌, ◌<◌, ◌≤◌, Bool, true, false, List, [], ◌∷◌, length, Option, Some, None, Result, Ok, Err, IfOk, IsSome, IsTrue, IsFalse, arith, refl, sym, ap, subst, ◌∙◌}
+use Rattle.drain_c.proofs.Names.{◌≡◌, ℕ, suc, ◌*◌, ◌==◌, ◌<◌, ◌≤◌, Bool, true, false, List, [], ◌∷◌, length, Option, None, IfOk, IsSome, IsTrue, IsFalse, arith, refl, sym, ap, subst, ◌∙◌, Outcome, Refusal, Answer, AreFoundIn, Call, Explains, IsMap, OfCall, outcome_in, set_in, explained_of, AreFindingsIn, answer_in, ReportsMapped, ShowsExplained, ShowsExplanation, fits, has_map_length, mapped_found, mapped_line, outcome_found, refusal_found, Reports, ShowsBadMap, ShowsOutcome, Judged, cells, row_cells, Extent, Grid, GroundSet, rules_in, set_grid, set_products, IsOutcomeIn}
+use Rattle.std.proofs.Common.{Some, Result, Ok, Err}
 use Rattle.std.proofs.lemmas.List.FromFn.{length-map-range_with_len}
-use Rattle.drain_answer.specs.declared.outcome.Outcome.{Outcome}
 use Rattle.drain_answer.specs.declared.outcome.Outcome.TheVariants.{Accepted, AcceptedSurface, Rejected, NoEnd, NotFilled}
-use Rattle.drain_answer.specs.declared.refusal.Refusal.{Refusal}
-use Rattle.drain_c.specs.declared.answer.Answer.{Answer}
 use Rattle.drain_c.specs.declared.faults.Faults.{Faults}
-use Rattle.drain_c.specs.Explained.{Explains, IsMap, ReportsMapped, ShowsExplained, ShowsExplanation, fits, has_map_length, mapped_found, mapped_line}
-use Rattle.drain_c.specs.Found.{outcome_found, refusal_found}
-use Rattle.drain_c.specs.Shown.{Reports, ShowsBadMap, ShowsOutcome}
 use Rattle.drain_c.proofs.Statuses.{from_two}
+use Rattle.drain_c.specs.declared.explain.Explained.{Explained}
 use Rattle.drain_explain.specs.declared.findings.Explanation.{Explanation}
-use Rattle.drain_explain.specs.Explanations.{AreFindingsIn, answer_in}
 use Rattle.drain_faults.specs.declared.fault_map.FaultMap.{FaultMap}
 use Rattle.drain_faults.specs.FaultMaps.{AreMapPixels, IsMapOfCells}
 use Rattle.drain_grid.specs.declared.cell.Cell.{Cell}
-use Rattle.drain_grid.specs.declared.judged.Judged.{Judged}
 use Rattle.drain_grid.specs.declared.judged.Rules.{Rules}
-use Rattle.drain_grid.specs.Extent.{cells, row_cells, Extent}
-use Rattle.drain_grid.specs.Grid.{Grid, Products}
+use Rattle.drain_grid.specs.Grid.{Products}
 use Rattle.drain_raster.proofs.LengthLemmas.{length-lists}
-use Rattle.drain_verdict.specs.GroundSets.{GroundSet, rules_in, set_grid, set_products}
-use Rattle.drain_verdict.specs.Outcomes.{IsOutcomeIn}
 
 -- as many numbers as cells
 map_length : (rules : Rules) (g : Grid) (ps : Products) (cs : List Cell) (ns : List ℕ) → AreMapPixels rules g ps cs ns → length ns ≡ length cs
@@ -45,20 +36,20 @@ reports_either : (judged : Judged) (s : GroundSet) (outcome : Outcome) (b : Bool
 reports_either judged s outcome true shown is fit misfit = record { value = Ok outcome; is = is; shows = fit refl }
 reports_either judged s outcome false shown is fit misfit = record { value = Ok outcome; is = is; shows = misfit refl }
 
-reports_drawn : {F : Type 0} (judged : Judged) (s : GroundSet) (e : Explanation F) (memory : List ℕ) (shown : Answer) → IsOutcomeIn judged s (Ok e.outcome) → AreFindingsIn judged s e.findings →
-    IsSome e.findings.map → (IsTrue (fits e.findings.map memory) → ShowsOutcome (Ok e.outcome) shown) → (IsFalse (fits e.findings.map memory) → ShowsBadMap shown) →
+reports_drawn : (judged : Judged) (s : GroundSet) (e : Explained) (memory : List ℕ) (shown : Answer) → IsOutcomeIn judged s (Ok e.outcome) → AreFoundIn judged s e →
+    IsSome e.map → (IsTrue (fits e.map memory) → ShowsOutcome (Ok e.outcome) shown) → (IsFalse (fits e.map memory) → ShowsBadMap shown) →
     ReportsMapped judged s memory shown
 reports_drawn judged s e memory shown is found some fit misfit =
-    let same : fits e.findings.map memory ≡ has_map_length s memory = same_fit judged s e.findings.map memory some found.map in
-    subst (λ b. Reports (IsOutcomeIn judged s) (mapped_found b) (mapped_line b) shown) same (reports_either judged s e.outcome (fits e.findings.map memory) shown is fit misfit)
+    let same : fits e.map memory ≡ has_map_length s memory = same_fit judged s e.map memory some found.map in
+    subst (λ b. Reports (IsOutcomeIn judged s) (mapped_found b) (mapped_line b) shown) same (reports_either judged s e.outcome (fits e.map memory) shown is fit misfit)
 
 -- the answer to inputs, which are sets
-pub reports : {F A : Type 0} (judged : Judged) (set : A → GroundSet) (Of : A → Type 0) (explained : Result (Explanation F) Refusal) (memory new : List ℕ) (old_faults faults : Faults) (shown : Answer) →
-    ((a : A) → Of a → IsOutcomeIn judged (set a) (answer_in explained)) → IfOk explained (λ e. (a : A) → Of a → AreFindingsIn judged (set a) e.findings) → IfOk explained (λ e. IsSome e.findings.map) →
-    ShowsExplained explained (memory, old_faults) (new, faults) shown → (a : A) → Of a → ReportsMapped judged (set a) memory shown
-reports judged set Of (Ok e) memory new old_faults faults shown is found some shows a of =
-    reports_drawn judged (set a) e memory shown (is a of) (found a of) some (λ fit. (shows.0 fit).answer_is) (λ misfit. (shows.1 misfit).0)
-reports judged set Of (Err refusal) memory new old_faults faults shown is found some shows a of = record { value = Err refusal; is = is a of; shows = shows.0 }
+pub reports : (call : Call) (explained : Result Explained Refusal) (memory new : List ℕ) (old_faults faults : Faults) (shown : Answer) →
+    OfCall call (λ i. IsOutcomeIn call.judged (set_in i) (outcome_in explained)) → IfOk explained (λ e. OfCall call (λ i. AreFoundIn call.judged (set_in i) e)) → IfOk explained (λ e. IsSome e.map) →
+    ShowsExplained explained (memory, old_faults) (new, faults) shown → OfCall call (λ i. ReportsMapped call.judged (set_in i) memory shown)
+reports call (Ok e) memory new old_faults faults shown is found some shows = λ i of.
+    reports_drawn call.judged (set_in i) e memory shown (is i of) (found i of) some (λ fit. (shows.0 fit).answer_is) (λ misfit. (shows.1 misfit).0)
+reports call (Err refusal) memory new old_faults faults shown is found some shows = λ i of. record { value = Err refusal; is = is i of; shows = shows.0 }
 
 map_kept : (judged : Judged) (s : GroundSet) (drawn : Option FaultMap) (map : List ℕ) → IsMap drawn map →
     IsMapOfCells (rules_in judged s) (set_grid s) (set_products s) (cells (set_grid s).extent) drawn →
@@ -66,13 +57,13 @@ map_kept : (judged : Judged) (s : GroundSet) (drawn : Option FaultMap) (map : Li
 map_kept judged s None map is are = absurd is
 map_kept judged s (Some drawn) map is are = subst (AreMapPixels (rules_in judged s) (set_grid s) (set_products s) (cells (set_grid s).extent)) (sym is) are
 
-explains_drawn : {F : Type 0} (judged : Judged) (s : GroundSet) (e : Explanation F) (map : List ℕ) (faults : Faults) (shown : Answer) → AreFindingsIn judged s e.findings →
+explains_drawn : (judged : Judged) (s : GroundSet) (e : Explained) (map : List ℕ) (faults : Faults) (shown : Answer) → AreFoundIn judged s e →
     ShowsExplanation e map faults shown → Explains judged s faults map
 explains_drawn judged s e map faults shown found shows = record {
-  by_rule = e.findings.by_rule;
+  by_rule = e.by_rule;
   each_rule = found.each_rule;
   shown = shows.faults_are;
-  map_is = map_kept judged s e.findings.map map shows.map_is found.map;
+  map_is = map_kept judged s e.map map shows.map_is found.map;
 }
 
 -- the status of an outcome is below 2
@@ -83,7 +74,7 @@ below_two_of (Rejected rule row col) status is = omega arith
 below_two_of (NoEnd row col) status is = omega arith
 below_two_of (NotFilled row col) status is = omega arith
 
-explains_either : {F : Type 0} (judged : Judged) (s : GroundSet) (e : Explanation F) (b : Bool) (map : List ℕ) (faults : Faults) (shown : Answer) → AreFindingsIn judged s e.findings →
+explains_either : (judged : Judged) (s : GroundSet) (e : Explained) (b : Bool) (map : List ℕ) (faults : Faults) (shown : Answer) → AreFoundIn judged s e →
     (IsTrue b → ShowsExplanation e map faults shown) → (IsFalse b → ShowsBadMap shown) → shown.status < 2 → Explains judged s faults map
 explains_either judged s e true map faults shown found fit misfit below = explains_drawn judged s e map faults shown found (fit refl)
 explains_either judged s e false map faults shown found fit misfit below = (let two : shown.status ≡ 2 = (misfit refl).status_is in absurd (omega arith))
@@ -95,20 +86,20 @@ not_refused refusal shown shows below =
     omega (arith, from_two refusal, is, below)
 
 -- with such a status what is written explains the inputs
-pub explains : {F A : Type 0} (judged : Judged) (set : A → GroundSet) (Of : A → Type 0) (explained : Result (Explanation F) Refusal) (memory map : List ℕ) (old_faults faults : Faults) (shown : Answer) →
-    IfOk explained (λ e. (a : A) → Of a → AreFindingsIn judged (set a) e.findings) → ShowsExplained explained (memory, old_faults) (map, faults) shown →
-    shown.status < 2 → (a : A) → Of a → Explains judged (set a) faults map
-explains judged set Of (Ok e) memory map old_faults faults shown found shows below a of =
-    explains_either judged (set a) e (fits e.findings.map memory) map faults shown (found a of) shows.0 (λ misfit. (shows.1 misfit).0) below
-explains judged set Of (Err refusal) memory map old_faults faults shown found shows below a of = absurd (not_refused refusal shown shows.0 below)
+pub explains : (call : Call) (explained : Result Explained Refusal) (memory map : List ℕ) (old_faults faults : Faults) (shown : Answer) →
+    IfOk explained (λ e. OfCall call (λ i. AreFoundIn call.judged (set_in i) e)) → ShowsExplained explained (memory, old_faults) (map, faults) shown →
+    shown.status < 2 → OfCall call (λ i. Explains call.judged (set_in i) faults map)
+explains call (Ok e) memory map old_faults faults shown found shows below = λ i of.
+    explains_either call.judged (set_in i) e (fits e.map memory) map faults shown (found i of) shows.0 (λ misfit. (shows.1 misfit).0) below
+explains call (Err refusal) memory map old_faults faults shown found shows below = absurd (not_refused refusal shown shows.0 below)
 
 -- and what holds with an outcome holds
-pub below_two : {F P : Type 0} (explained : Result (Explanation F) Refusal) (memory map : List ℕ) (old_faults faults : Faults) (shown : Answer) →
+pub below_two : {P : Type 0} (explained : Result Explained Refusal) (memory map : List ℕ) (old_faults faults : Faults) (shown : Answer) →
     ShowsExplained explained (memory, old_faults) (map, faults) shown → shown.status < 2 → IfOk explained (λ e. P) → P
 below_two (Ok e) memory map old_faults faults shown shows below fact = fact
 below_two (Err refusal) memory map old_faults faults shown shows below fact = absurd (not_refused refusal shown shows.0 below)
 
-unwritten_either : {F : Type 0} (e : Explanation F) (b : Bool) (memory map : List ℕ) (old_faults faults : Faults) (shown : Answer) → (IsTrue b → ShowsExplanation e map faults shown) →
+unwritten_either : (e : Explained) (b : Bool) (memory map : List ℕ) (old_faults faults : Faults) (shown : Answer) → (IsTrue b → ShowsExplanation e map faults shown) →
     (IsFalse b → ShowsBadMap shown × (map ≡ memory) × (faults ≡ old_faults)) → 2 ≤ shown.status → (map ≡ memory) × (faults ≡ old_faults)
 unwritten_either e true memory map old_faults faults shown fit misfit from =
     let below : shown.status < 2 = below_two_of e.outcome shown.status (fit refl).answer_is.status_is in
@@ -116,7 +107,23 @@ unwritten_either e true memory map old_faults faults shown fit misfit from =
 unwritten_either e false memory map old_faults faults shown fit misfit from = ((misfit refl).1, (misfit refl).2)
 
 -- with another nothing is written
-pub unwritten : {F : Type 0} (explained : Result (Explanation F) Refusal) (memory map : List ℕ) (old_faults faults : Faults) (shown : Answer) →
+pub unwritten : (explained : Result Explained Refusal) (memory map : List ℕ) (old_faults faults : Faults) (shown : Answer) →
     ShowsExplained explained (memory, old_faults) (map, faults) shown → 2 ≤ shown.status → (map ≡ memory) × (faults ≡ old_faults)
-unwritten (Ok e) memory map old_faults faults shown shows from = unwritten_either e (fits e.findings.map memory) memory map old_faults faults shown shows.0 shows.1 from
+unwritten (Ok e) memory map old_faults faults shown shows from = unwritten_either e (fits e.map memory) memory map old_faults faults shown shows.0 shows.1 from
 unwritten (Err refusal) memory map old_faults faults shown shows from = (shows.1, shows.2)
+
+-- What a verdict gives is what C is told of it.
+
+found_in : {F : Type 0} (judged : Judged) (s : GroundSet) (e : Explanation F) → AreFindingsIn judged s e.findings → AreFoundIn judged s (record { outcome = e.outcome; by_rule = e.findings.by_rule; map = e.findings.map })
+found_in judged s e found = record { each_rule = found.each_rule; map = found.map }
+
+-- the answer, what was found and the map, without what C isn't told
+pub record Tells (call : Call) (told : Result Explained Refusal) : Type 0 where
+  pub answer : OfCall call (λ i. IsOutcomeIn call.judged (set_in i) (outcome_in told))
+  pub explained : IfOk told (λ e. OfCall call (λ i. AreFoundIn call.judged (set_in i) e))
+  pub drawn : IfOk told (λ e. IsSome e.map)
+
+pub tells : {F : Type 0} (call : Call) (given : Result (Explanation F) Refusal) → OfCall call (λ i. IsOutcomeIn call.judged (set_in i) (answer_in given)) →
+    IfOk given (λ e. OfCall call (λ i. AreFindingsIn call.judged (set_in i) e.findings)) → IfOk given (λ e. IsSome e.findings.map) → Tells call (explained_of given)
+tells call (Ok e) is found drawn = record { answer = is; explained = λ i of. found_in call.judged (set_in i) e (found i of); drawn = drawn }
+tells call (Err refusal) is found drawn = record { answer = is; explained = tt; drawn = tt }

@@ -1,14 +1,13 @@
 -- Inputs that are the bytes of a call: each part is read off them, and each name gives its corner.
-use Rattle.std.proofs.Common.{◌≡◌, ℕ, List, [], ◌∷◌, map, refl, subst, sym}
+use Rattle.drain_c.proofs.Names.{◌≡◌, ℕ, List, [], ◌∷◌, map, refl, subst, sym, judged_raster, AreOfElevations, CallInputs, Elevations, RasterTexts, of_dem, of_tiles, Corner, AreNames, SetProduct}
 use Rattle.std.specs.List.{AllZip}
 use Rattle.std.proofs.lemmas.List.Elements.{All-head, All-tail}
-use Rattle.drain_c.specs.Judged.{judged_raster}
-use Rattle.drain_c.specs.Laws.{BytesAreDemInputs, BytesAreInputs, BytesAreJudgedDemInputs, BytesAreJudgedInputs}
+use Rattle.drain_c.specs.declared.call.Elevations.TheVariants.{Tiles, Dem}
+use Rattle.drain_c.specs.Laws.{BytesAreInputs}
 use Rattle.drain_c.proofs.MissingRasters.{missing_beside}
-use Rattle.drain_hgt.specs.Corner.{Corner}
 use Rattle.drain_hgt.specs.Name.{IsNameOf}
 use Rattle.drain_hgt.specs.Laws.{NamesGiveCorners}
-use Rattle.drain_verdict.specs.Inputs.{AreNames}
+use Rattle.drain_verdict.specs.Given.{Given}
 
 -- names that name tiles name those that the function gives
 corners_named : (corner_of : List ℕ → Corner) → ((bytes : List ℕ) (c : Corner) → IsNameOf bytes c → corner_of bytes ≡ c) →
@@ -19,46 +18,39 @@ corners_named corner_of gives (name ∷ names) all =
     let here : (c : Corner) × IsNameOf name c = All-head P name names all in
     (subst (IsNameOf name) (sym (gives name here.0 here.1)) here.1, corners_named corner_of gives names (All-tail P name names all))
 
-pub bytes_are_inputs : NamesGiveCorners → BytesAreInputs
-bytes_are_inputs corner side tiles given raster = (
-  record {
+-- over elevations of either kind
+over_elevations : NamesGiveCorners → (elevations : Elevations) (given : Given) (raster : SetProduct → RasterTexts) → (i : CallInputs) × AreOfElevations elevations given raster i
+over_elevations corner (Tiles side tiles) given raster = (
+  of_tiles (record {
     side = side;
-    names = map (λ t. t.name.bytes.now) tiles;
-    corners = map corner.0 (map (λ t. t.name.bytes.now) tiles);
-    tiles = map (λ t. t.samples.bytes.now) tiles;
+    names = map (λ t. t.name.bytes.now) tiles.now;
+    corners = map corner.0 (map (λ t. t.name.bytes.now) tiles.now);
+    tiles = map (λ t. t.samples.bytes.now) tiles.now;
     given = given;
     header = λ p. (raster p).header;
     raster = λ p. (raster p).pixels;
-  },
+  }),
   record {
     side_is = refl;
     names_are = refl;
-    corners_are = corners_named corner.0 corner.1 (map (λ t. t.name.bytes.now) tiles);
+    corners_are = corners_named corner.0 corner.1 (map (λ t. t.name.bytes.now) tiles.now);
     tiles_are = refl;
     given_are = refl;
     headers_are = λ p. refl;
     rasters_are = λ p. refl;
   },
 )
-
-pub bytes_are_dem_inputs : BytesAreDemInputs
-bytes_are_dem_inputs dem given raster = (
-  record {
+over_elevations corner (Dem dem) given raster = (
+  of_dem (record {
     dem = record { header = dem.header.bytes.now; body = dem.pixels.bytes.now };
     texts = record { given = given; header = λ p. (raster p).header; raster = λ p. (raster p).pixels };
-  },
+  }),
   record { dem_header_is = refl; dem_body_is = refl; given_are = refl; headers_are = λ p. refl; rasters_are = λ p. refl },
 )
 
--- where some rasters are judged: under a header that is right beside con
-pub bytes_are_judged_inputs : NamesGiveCorners → BytesAreJudgedInputs
-bytes_are_judged_inputs corner side tiles given judged ps =
-    let header = missing_beside ps.con.header.bytes.now in
-    let found = bytes_are_inputs corner side tiles given (judged_raster judged ps header.0) in
-    (found.0, record { header = header.0; header_is = header.1; bytes_are = found.1 })
-
-pub bytes_are_judged_dem_inputs : BytesAreJudgedDemInputs
-bytes_are_judged_dem_inputs dem given judged ps =
-    let header = missing_beside ps.con.header.bytes.now in
-    let found = bytes_are_dem_inputs dem given (judged_raster judged ps header.0) in
+-- under a header that is right beside con
+pub bytes_are_inputs : NamesGiveCorners → BytesAreInputs
+bytes_are_inputs corner call =
+    let header = missing_beside call.rasters.con.header.bytes.now in
+    let found = over_elevations corner call.elevations call.given (judged_raster call.judged call.rasters header.0) in
     (found.0, record { header = header.0; header_is = header.1; bytes_are = found.1 })

@@ -1,4 +1,4 @@
-pub mod Choices
+pub mod Names
 pub mod CutInputs
 pub mod Derivations
 pub mod Explained
@@ -7,3 +7,4 @@ pub mod LongHeaders
 pub mod MissingRasters
 pub mod Spelling
 pub mod Statuses
+pub mod Told

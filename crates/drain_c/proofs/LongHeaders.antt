@@ -1,28 +1,17 @@
 -- A header of more than 65,536 bytes is refused for its length, and so are its first 65,537 bytes: a set with these in the
 -- place of the headers of products has the answer of the whole set, whatever ground they lie on.
-use Rattle.std.proofs.Common.{◌≡◌, ℕ, ◌*◌, ◌<◌, ◌≤◌, ◌↔◌, List, length, true, false, arith, refl, sym, ap, subst, take, inl, inr}
-use Rattle.std.specs.Prelude.{◌⊎◌, nat_le, Err}
+use Rattle.drain_c.proofs.Names.{◌≡◌, ℕ, ◌*◌, ◌<◌, ◌≤◌, ◌↔◌, List, length, true, false, arith, refl, sym, ap, subst, take, inl, inr, ◌⊎◌, nat_le, take_all, length-take-le, Refusal, BadHeader, WrongShape, Misplaced, RasterShort, BadSinkLine, SinkNotData, BadSpacingLine, SpacingRows, OutOfMemory, ReadFailed, SetProduct, IsBefore, IsFirst, HeaderFault, TooLong, fields_of, fault_order, HasFaultOf, AnswersOf, GroundSet, IsReadable, IsRefusalIn, StandsIn, order_in, SetTexts, kind_in}
+use Rattle.std.specs.Prelude.{Err}
 use Rattle.std.proofs.Math.Path.{fun_ext}
 use Rattle.std.proofs.lemmas.Bool.{leb-true, leb-false}
-use Rattle.std.proofs.lemmas.List.{take_all, length-take-le}
-use Rattle.drain_answer.specs.declared.refusal.Refusal.{Refusal}
-use Rattle.drain_answer.specs.declared.refusal.Refusal.TheVariants.{BadHeader, WrongShape, Misplaced, RasterShort, BadSinkLine, SinkNotData, BadSpacingLine, SpacingRows, OutOfMemory, ReadFailed}
 use Rattle.drain_grid.specs.declared.height_kind.HeightKind.{HeightKind}
 use Rattle.drain_grid.specs.declared.product.Product.{Product}
 use Rattle.drain_grid.specs.declared.product.Product.TheVariants as product
-use Rattle.drain_grid.specs.declared.set_product.SetProduct.{SetProduct}
 use Rattle.drain_grid.specs.declared.set_product.SetProduct.TheVariants as held
 use Rattle.drain_grid.specs.SetProduct.{OfSetProduct, product_of, place_of}
-use Rattle.drain_text.specs.First.{IsBefore, IsFirst}
 use Rattle.drain_text.specs.Text.{lines_of}
-use Rattle.drain_header.specs.declared.fault.HeaderFault.{HeaderFault}
-use Rattle.drain_header.specs.declared.fault.HeaderFault.TheVariants.{TooLong}
-use Rattle.drain_header.specs.Header.{fields_of}
-use Rattle.drain_header.specs.Faults.{fault_order, HasFaultOf, AnswersOf}
 use Rattle.drain_raster.specs.Pixels.{header_extent, IsShort}
 use Rattle.drain_verdict.specs.Ground.{Ground, refusal_kind}
-use Rattle.drain_verdict.specs.GroundSets.{GroundSet, IsReadable, IsRefusalIn, StandsIn, order_in}
-use Rattle.drain_verdict.specs.Texts.{SetTexts, kind_in}
 
 -- Texts.
 

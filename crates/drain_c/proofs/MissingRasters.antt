@@ -1,24 +1,15 @@
 -- A raster that isn't judged has con's pixels under the header of a missing raster. Beside the first 65,537 bytes of con's
 -- header that is the first bytes of the one beside the whole: con's header is these bytes, and a map's header has fewer;
 -- or both are too long, and copied.
-use Rattle.std.proofs.Common.{◌≡◌, ℕ, ◌<◌, List, length, take, Option, Result, Ok, Err, inl, inr, refl, sym, ap, subst, ◌∙◌}
-use Rattle.drain_c.specs.declared.given.AuditBytes.{AuditBytes}
-use Rattle.drain_c.specs.Given.{as_passed}
-use Rattle.drain_c.specs.Sources.{AreJudgedOf, IsJudgedOf, IsRasterOf}
+use Rattle.drain_c.proofs.Names.{◌≡◌, ℕ, ◌<◌, List, [], if◌then◌else◌, false, length, take, Option, inl, inr, refl, sym, ap, subst, ◌∙◌, AreJudgedOf, IsJudgedOf, IsRasterOf, as_passed, judged_raster, raster_or_missing, CheckBytes, Judged, AllWithRanks, has_dir, has_acc, has_bas, has_rnk, SetProduct, of_product, HeaderFault, TooLong, AnswersOf, Fields, kind_of, as_five}
+use Rattle.std.proofs.Common.{Result, Ok, Err}
 use Rattle.drain_c.proofs.LongHeaders.{IsLong, short_or_long}
-use Rattle.drain_grid.specs.declared.judged.Judged.{Judged}
 use Rattle.drain_grid.specs.declared.set_product.SetProduct.TheVariants.{Con, Dir, Acc, Bas, Rnk}
-use Rattle.drain_grid.specs.Judged.{has_dir, has_acc, has_bas}
-use Rattle.drain_header.specs.declared.fault.HeaderFault.{HeaderFault}
-use Rattle.drain_header.specs.declared.fault.HeaderFault.TheVariants.{TooLong}
-use Rattle.drain_header.specs.Faults.{AnswersOf}
-use Rattle.drain_header.specs.Header.{Fields}
 use Rattle.drain_header.proofs.AnswerFunction.{answer_of}
 use Rattle.drain_header.proofs.AnswerMeaning.{answer_is}
 use Rattle.drain_header.proofs.OneAnswer.{one_answer_of}
-use Rattle.drain_header.specs.Lines.{kind_of}
 use Rattle.drain_sets.specs.declared.raster_input.AuditProducts.{AuditProducts}
-use Rattle.drain_verdict.specs.Inputs.{as_five}
+use Rattle.drain_verdict.specs.Inputs.{Products}
 use Rattle.drain_sets.specs.Missing.{IsMissingText, ReadsAsMap, missing_text}
 
 -- beside each text there is one
@@ -63,11 +54,20 @@ of_first_bytes there text found is found_is reads = elim (short_or_long there) [
 ]
 
 -- each product has its raster
-pub judged_rasters : {R : Type 0} (bytes_left : R → Option (List ℕ)) (judged : Judged) (given : AuditBytes) (ps : AuditProducts R) → IsRasterOf bytes_left (as_passed given.con) ps.con →
+pub four_judged : {R : Type 0} (bytes_left : R → Option (List ℕ)) (judged : Judged) (given : CheckBytes) (ps : AuditProducts R) → has_rnk judged ≡ false → IsRasterOf bytes_left (as_passed given.con) ps.con →
     IsJudgedOf bytes_left (has_dir judged) given.dir given.con ps.dir → IsJudgedOf bytes_left (has_acc judged) given.acc given.con ps.acc →
     IsJudgedOf bytes_left (has_bas judged) given.bas given.con ps.bas → AreJudgedOf bytes_left judged given (as_five ps)
-judged_rasters bytes_left judged given ps con dir acc bas header is Con = con
-judged_rasters bytes_left judged given ps con dir acc bas header is Dir = dir header is
-judged_rasters bytes_left judged given ps con dir acc bas header is Acc = acc header is
-judged_rasters bytes_left judged given ps con dir acc bas header is Bas = bas header is
-judged_rasters bytes_left judged given ps con dir acc bas header is Rnk = dir header is
+four_judged bytes_left judged given ps none con dir acc bas header is Con = con
+four_judged bytes_left judged given ps none con dir acc bas header is Dir = dir header is
+four_judged bytes_left judged given ps none con dir acc bas header is Acc = acc header is
+four_judged bytes_left judged given ps none con dir acc bas header is Bas = bas header is
+four_judged bytes_left judged given ps none con dir acc bas header is Rnk =
+    subst (λ b. IsRasterOf bytes_left (if b then as_passed given.rnk else raster_or_missing (has_dir judged) given.dir given.con header) ps.dir) (sym none) (dir header is)
+
+pub five_judged : {R : Type 0} (bytes_left : R → Option (List ℕ)) (given : CheckBytes) (ps : Products R) → ((p : SetProduct) → IsRasterOf bytes_left (judged_raster AllWithRanks given [] p) (of_product ps p)) →
+    AreJudgedOf bytes_left AllWithRanks given ps
+five_judged bytes_left given ps are header is Con = are Con
+five_judged bytes_left given ps are header is Dir = are Dir
+five_judged bytes_left given ps are header is Acc = are Acc
+five_judged bytes_left given ps are header is Bas = are Bas
+five_judged bytes_left given ps are header is Rnk = are Rnk

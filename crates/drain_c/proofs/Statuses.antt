@@ -1,18 +1,8 @@
 -- What the status of an answer says of it.
-use Rattle.std.proofs.Common.{◌≡◌, ℕ, ◌<◌, ◌≤◌, ◌↔◌, Result, Ok, Err, IfOk, arith, refl, sym, ◌∙◌}
-use Rattle.drain_answer.specs.declared.outcome.AuditVerdict.{AuditVerdict}
-use Rattle.drain_answer.specs.declared.outcome.AuditVerdict.TheVariants.{Accepted, Rejected, NoEnd}
-use Rattle.drain_answer.specs.declared.outcome.Outcome.{Outcome}
-use Rattle.drain_answer.specs.declared.outcome.Outcome.TheVariants as judged
-use Rattle.drain_answer.specs.declared.refusal.Refusal.{Refusal}
-use Rattle.drain_answer.specs.declared.refusal.Refusal.TheVariants.{OutOfMemory, ReadFailed}
-use Rattle.drain_answer.specs.Outcomes.{IsAcceptedOutcome}
+use Rattle.drain_c.proofs.Names.{◌≡◌, ℕ, ◌<◌, ◌≤◌, ◌↔◌, IfOk, arith, refl, sym, ◌∙◌, Outcome, Refusal, OutOfMemory, ReadFailed, IsAcceptedOutcome, outcome_found, refusal_found}
+use Rattle.std.proofs.Common.{Result, Ok, Err}
+use Rattle.drain_answer.specs.declared.outcome.Outcome.TheVariants.{Accepted, AcceptedSurface, Rejected, NoEnd, NotFilled}
 use Rattle.drain_c.specs.declared.found.Found.{Found}
-use Rattle.drain_c.specs.Found.{audit_found, check_found, outcome_found, refusal_found}
-use Rattle.drain_grid.specs.declared.verdict.Verdict.{Verdict}
-use Rattle.drain_grid.specs.declared.verdict.Verdict.TheVariants as checked
-use Rattle.drain_rules.specs.Verdicts.{IfAccepted}
-use Rattle.drain_verdict.specs.Answers.{IsAcceptance}
 
 -- a refusal has a status from 2 on
 pub from_two : (refusal : Refusal) → 2 ≤ (refusal_found refusal).status
@@ -39,28 +29,18 @@ exactly found Accepts are Of Right (Ok v) status is below fact a of =
     ((λ zero. (fact a of).0 ((are.accepted v).0 (sym is ∙ zero))), (λ right. is ∙ (are.accepted v).1 ((fact a of).1 right)))
 exactly found Accepts are Of Right (Err refusal) status is below fact a of = absurd (omega (arith, are.refused refusal))
 
--- those of an audit
-audit_accepted : (v : AuditVerdict) → ((audit_found (Ok v)).status ≡ 0) ↔ IsAcceptance v
-audit_accepted (Accepted counts) = ((λ zero. tt), (λ is. refl))
-audit_accepted (Rejected rule row col) = ((λ zero. absurd (omega (arith, zero))), (λ is. absurd is))
-audit_accepted (NoEnd row col) = ((λ zero. absurd (omega (arith, zero))), (λ is. absurd is))
-
-pub audit_statuses : AreStatuses audit_found IsAcceptance
-audit_statuses = record { refused = from_two; accepted = audit_accepted }
-
--- of an audit of some rasters
+-- those of outcomes
 outcome_accepted : (o : Outcome) → ((outcome_found (Ok o)).status ≡ 0) ↔ IsAcceptedOutcome o
-outcome_accepted (judged.Accepted counts) = ((λ zero. tt), (λ is. refl))
-outcome_accepted (judged.AcceptedSurface counts) = ((λ zero. tt), (λ is. refl))
-outcome_accepted (judged.Rejected rule row col) = ((λ zero. absurd (omega (arith, zero))), (λ is. absurd is))
-outcome_accepted (judged.NoEnd row col) = ((λ zero. absurd (omega (arith, zero))), (λ is. absurd is))
-outcome_accepted (judged.NotFilled row col) = ((λ zero. absurd (omega (arith, zero))), (λ is. absurd is))
+outcome_accepted (Accepted counts) = ((λ zero. tt), (λ is. refl))
+outcome_accepted (AcceptedSurface counts) = ((λ zero. tt), (λ is. refl))
+outcome_accepted (Rejected rule row col) = ((λ zero. absurd (omega (arith, zero))), (λ is. absurd is))
+outcome_accepted (NoEnd row col) = ((λ zero. absurd (omega (arith, zero))), (λ is. absurd is))
+outcome_accepted (NotFilled row col) = ((λ zero. absurd (omega (arith, zero))), (λ is. absurd is))
 
 pub outcome_statuses : AreStatuses outcome_found IsAcceptedOutcome
 outcome_statuses = record { refused = from_two; accepted = outcome_accepted }
 
--- of a check: 0 is that of an acceptance, of which the fact holds
-pub at_zero : {P : Type 0} (answer : Result Verdict Refusal) (status : ℕ) → status ≡ (check_found answer).status → status ≡ 0 → IfAccepted answer P → P
-at_zero (Ok (checked.Accepted counts)) status is zero fact = fact
-at_zero (Ok (checked.Rejected rule row col)) status is zero fact = absurd (omega arith)
+-- 0 is that of an acceptance, of which the fact holds
+pub at_zero : {P : Type 0} (answer : Result Outcome Refusal) (status : ℕ) → status ≡ (outcome_found answer).status → status ≡ 0 → IfOk answer (λ o. IsAcceptedOutcome o → P) → P
+at_zero (Ok o) status is zero fact = fact ((outcome_accepted o).0 (sym is ∙ zero))
 at_zero (Err refusal) status is zero fact = absurd (omega (arith, from_two refusal))

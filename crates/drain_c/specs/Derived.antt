@@ -1,30 +1,18 @@
 -- What follows from the directions of a call, as C reads it.
-use Rattle.std.specs.Prelude.{◌≡◌, ℕ, ◌++◌, ◌*◌, ◌==◌, ◌&&◌, length, Bool, if◌then◌else◌, ℤ, pos, List, map, codes, decimal, Result, Ok, Err, IsTrue, IsFalse}
-use Rattle.drain_answer.specs.OutcomeLines.{outcome_report_line}
-use Rattle.drain_answer.specs.declared.outcome.Outcome.{Outcome}
+use Rattle.std.specs.Prelude.{◌≡◌, ◌++◌, ◌*◌, ◌==◌, ◌&&◌, if◌then◌else◌}
+use Rattle.drain_c.specs.Names.{ℕ, length, Bool, ℤ, pos, List, map, codes, decimal, Result, Ok, Err, IsTrue, IsFalse, outcome_report_line, Outcome, Refusal, BadHeader, WrongShape, Misplaced, RasterShort, Extent, IsDeriveRefusalIn, AreDerived, GroundSet, IsReadable, set_grid, set_products}
 use Rattle.drain_answer.specs.declared.outcome.Outcome.TheVariants as outcome
-use Rattle.drain_answer.specs.declared.refusal.Refusal.{Refusal}
-use Rattle.drain_answer.specs.declared.refusal.Refusal.TheVariants.{BadHeader, WrongShape, Misplaced, RasterShort}
 use Rattle.drain_c.specs.declared.answer.Answer.{Answer}
 use Rattle.drain_c.specs.declared.found.Found.{Found}
-use Rattle.drain_c.specs.declared.given.AuditBytes.{AuditBytes}
-use Rattle.drain_c.specs.declared.given.RasterBytes.{RasterBytes}
 use Rattle.drain_c.specs.Found.{outcome_found, status_only}
 use Rattle.drain_c.specs.Shown.{Reports, ShowsAnswer, ShowsBadRaster, ShowsOutcome}
 use Rattle.drain_grid.specs.declared.product.Product.TheVariants.{Con, Dir}
 use Rattle.drain_grid.specs.Product.{default_numbers}
 use Rattle.drain_grid.specs.Grid.{Pixels}
-use Rattle.drain_grid.specs.Extent.{Extent}
-use Rattle.drain_maker.specs.Derived.{IsDeriveRefusalIn, AreDerived}
 use Rattle.drain_maker.specs.declared.derivation.Derived.{Derived}
 use Rattle.drain_maker.specs.declared.derivation.DeriveRefusal.{DeriveRefusal}
 use Rattle.drain_maker.specs.declared.derivation.DeriveRefusal.TheVariants.{Refused, NoEnd}
 use Rattle.drain_paths.specs.Flows.{AllFlowsEnd}
-use Rattle.drain_verdict.specs.GroundSets.{GroundSet, IsReadable, set_grid, set_products}
-
--- the directions, also in the place of acc and bas, and a raster in the place of con
-abbrev pub directions_beside : RasterBytes → RasterBytes → AuditBytes
-directions_beside con dir = record { con = con; dir = dir; acc = dir; bas = dir }
 
 -- these numbers in row order, as a raster of the set's grid
 abbrev pub raster_of : GroundSet → ℤ → List ℕ → Pixels

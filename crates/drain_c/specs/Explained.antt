@@ -1,25 +1,17 @@
 -- What explains an answer, as C reads it: the cells at which each rule fails, and a map.
-use Rattle.std.specs.Prelude.{◌≡◌, ℕ, ◌*◌, ◌==◌, Bool, false, if◌then◌else◌, List, length, codes, Option, Some, None, Result, Ok, Err, IsTrue, IsFalse}
-use Rattle.drain_answer.specs.declared.outcome.Outcome.{Outcome}
-use Rattle.drain_answer.specs.declared.refusal.Refusal.{Refusal}
-use Rattle.drain_answer.specs.Lines.{refusal_line}
-use Rattle.drain_answer.specs.OutcomeLines.{outcome_line}
+use Rattle.std.specs.Prelude.{◌≡◌, ◌*◌, ◌==◌, if◌then◌else◌}
+use Rattle.drain_c.specs.Names.{ℕ, Bool, false, List, length, codes, Option, Some, None, Result, Ok, Err, IsTrue, IsFalse, Outcome, Refusal, refusal_line, outcome_line, PerRule, RuleFaults, Judged, cells, GroundSet, rules_in, set_grid, set_products, IsOutcomeIn}
 use Rattle.drain_c.specs.declared.answer.Answer.{Answer}
 use Rattle.drain_c.specs.declared.faults.Faults.{Faults}
 use Rattle.drain_c.specs.declared.found.Found.{Found}
 use Rattle.drain_c.specs.Faults.{ShowsFaults}
 use Rattle.drain_c.specs.Found.{outcome_found, refusal_found, status_only}
 use Rattle.drain_c.specs.Shown.{Reports, ShowsBadMap, ShowsOutcome}
+use Rattle.drain_c.specs.declared.explain.Explained.{Explained}
 use Rattle.drain_explain.specs.declared.findings.Explanation.{Explanation}
-use Rattle.drain_faults.specs.declared.per_rule.PerRule.{PerRule}
-use Rattle.drain_faults.specs.declared.patch_faults.RuleFaults.{RuleFaults}
 use Rattle.drain_faults.specs.declared.fault_map.FaultMap.{FaultMap}
-use Rattle.drain_faults.specs.FaultMaps.{AreMapPixels}
+use Rattle.drain_faults.specs.FaultMaps.{AreMapPixels, IsMapOfCells}
 use Rattle.drain_faults.specs.Faults.{AreFaultsOf}
-use Rattle.drain_grid.specs.declared.judged.Judged.{Judged}
-use Rattle.drain_grid.specs.Extent.{cells}
-use Rattle.drain_verdict.specs.GroundSets.{GroundSet, rules_in, set_grid, set_products}
-use Rattle.drain_verdict.specs.Outcomes.{IsOutcomeIn}
 
 -- of the rules about judged rasters of the set: the cells at which each fails, and for each cell of the grid the number of
 -- the least that fails there
@@ -28,6 +20,21 @@ pub record Explains (judged : Judged) (s : GroundSet) (faults : Faults) (map : L
   pub each_rule : AreFaultsOf (rules_in judged s) (set_grid s) (set_products s) (cells (set_grid s).extent) by_rule
   pub shown : ShowsFaults by_rule faults
   pub map_is : AreMapPixels (rules_in judged s) (set_grid s) (set_products s) (cells (set_grid s).extent) map
+
+-- the same of what was found: these cells of each rule, and a map if one is drawn
+pub record AreFoundIn (judged : Judged) (s : GroundSet) (e : Explained) : Type 0 where
+  pub each_rule : AreFaultsOf (rules_in judged s) (set_grid s) (set_products s) (cells (set_grid s).extent) e.by_rule
+  pub map : IsMapOfCells (rules_in judged s) (set_grid s) (set_products s) (cells (set_grid s).extent) e.map
+
+-- the answer that is explained
+abbrev pub outcome_in : Result Explained Refusal → Result Outcome Refusal
+outcome_in (Ok e) = Ok e.outcome
+outcome_in (Err refusal) = Err refusal
+
+-- an explanation without what C isn't told
+abbrev pub explained_of : {F : Type 0} → Result (Explanation F) Refusal → Result Explained Refusal
+explained_of (Ok e) = Ok (record { outcome = e.outcome; by_rule = e.findings.by_rule; map = e.findings.map })
+explained_of (Err refusal) = Err refusal
 
 -- the memory for a map has a byte for each cell
 abbrev pub has_map_length : GroundSet → List ℕ → Bool
@@ -57,14 +64,14 @@ IsMap None map = ⊥
 IsMap (Some drawn) map = map ≡ drawn.pixels.items
 
 -- what is written of an outcome with what explains it
-pub record ShowsExplanation {F : Type 0} (e : Explanation F) (map : List ℕ) (faults : Faults) (shown : Answer) : Type 0 where
+pub record ShowsExplanation (e : Explained) (map : List ℕ) (faults : Faults) (shown : Answer) : Type 0 where
   pub answer_is : ShowsOutcome (Ok e.outcome) shown
-  pub faults_are : ShowsFaults e.findings.by_rule faults
-  pub map_is : IsMap e.findings.map map
+  pub faults_are : ShowsFaults e.by_rule faults
+  pub map_is : IsMap e.map map
 
 -- what is written of an answer with what explains it: of an outcome whose map hasn't the length of its memory, or of a
 -- refusal, no map and no faults
-abbrev pub ShowsExplained : {F : Type 0} → Result (Explanation F) Refusal → (List ℕ × Faults) → (List ℕ × Faults) → Answer → Type 0
+abbrev pub ShowsExplained : Result Explained Refusal → (List ℕ × Faults) → (List ℕ × Faults) → Answer → Type 0
 ShowsExplained (Ok e) old new shown =
-    (IsTrue (fits e.findings.map old.0) → ShowsExplanation e new.0 new.1 shown) × (IsFalse (fits e.findings.map old.0) → ShowsBadMap shown × (new.0 ≡ old.0) × (new.1 ≡ old.1))
+    (IsTrue (fits e.map old.0) → ShowsExplanation e new.0 new.1 shown) × (IsFalse (fits e.map old.0) → ShowsBadMap shown × (new.0 ≡ old.0) × (new.1 ≡ old.1))
 ShowsExplained (Err refusal) old new shown = ShowsOutcome (Err refusal) shown × (new.0 ≡ old.0) × (new.1 ≡ old.1)

@@ -1,13 +1,10 @@
 -- At which cells rules fail, as C reads it.
-use Rattle.std.specs.Prelude.{◌≡◌, ℕ, ◌-◌, Option, Some, None, slice_get}
+use Rattle.std.specs.Prelude.{◌≡◌, ◌-◌}
+use Rattle.drain_c.specs.Names.{ℕ, Option, Some, None, slice_get, PerRule, RuleFaults, Rule, rule_number}
 use Rattle.drain_c.specs.declared.faults.FaultCells.{FaultCells}
 use Rattle.drain_c.specs.declared.faults.Faults.{Faults}
-use Rattle.drain_faults.specs.declared.per_rule.PerRule.{PerRule}
-use Rattle.drain_faults.specs.declared.patch_faults.RuleFaults.{RuleFaults}
 use Rattle.drain_faults.specs.CellFaults.{of_rule}
 use Rattle.drain_grid.specs.declared.cell.Cell.{Cell}
-use Rattle.drain_grid.specs.declared.rule.Rule.{Rule}
-use Rattle.drain_grid.specs.Rule.{rule_number}
 
 -- how many cells, and the first, zeros where there is none
 abbrev pub with_first : ℕ → Option Cell → FaultCells

@@ -1,15 +1,14 @@
--- The bytes that a call passes in, and what a fact of them is.
-use Rattle.std.specs.Prelude.{◌≡◌, ℕ, List, map}
-use Rattle.std.specs.List.{AllZip}
+-- The bytes that a call passes in, and which inputs they are: tiles or one raster of elevations, and what is said to lie on
+-- them.
+use Rattle.std.specs.Prelude.{◌≡◌}
+use Rattle.drain_c.specs.Names.{ℕ, List, map, AllZip, SetProduct, Inputs, AreNames, DemTexts, ElevationIsItsPixels, ElevationIsTheirs, GroundSet, TilesAreOne, dem_ground, set_of}
 use Rattle.drain_c.specs.declared.given.TileBytes.{TileBytes}
 use Rattle.drain_c.specs.declared.given.RasterBytes.{RasterBytes}
-use Rattle.drain_c.specs.declared.given.AuditBytes.{AuditBytes}
-use Rattle.drain_c.specs.declared.given.CheckBytes.{CheckBytes}
-use Rattle.drain_grid.specs.declared.set_product.SetProduct.{SetProduct}
-use Rattle.drain_grid.specs.declared.set_product.SetProduct.TheVariants.{Con, Dir, Acc, Bas, Rnk}
+use Rattle.drain_c.specs.declared.call.Elevations.{Elevations}
+use Rattle.drain_c.specs.declared.call.Elevations.TheVariants.{Tiles, Dem}
 use Rattle.drain_hgt.specs.Name.{IsNameOf}
 use Rattle.drain_verdict.specs.Given.{Given}
-use Rattle.drain_verdict.specs.Inputs.{Inputs, AreNames}
+use Rattle.drain_verdict.specs.Texts.{SetTexts}
 
 -- the text of a raster's header, and the bytes of its pixels
 pub record RasterTexts : Type 0 where
@@ -19,21 +18,6 @@ pub record RasterTexts : Type 0 where
 -- those that are passed
 abbrev pub as_passed : RasterBytes → RasterTexts
 as_passed raster = record { header = raster.header.bytes.now; pixels = raster.pixels.bytes.now }
-
--- the raster of a product; dir stands in the place of ranks, which an audit doesn't read
-abbrev pub audit_raster : AuditBytes → SetProduct → RasterTexts
-audit_raster ps Con = as_passed ps.con
-audit_raster ps Dir = as_passed ps.dir
-audit_raster ps Acc = as_passed ps.acc
-audit_raster ps Bas = as_passed ps.bas
-audit_raster ps Rnk = as_passed ps.dir
-
-abbrev pub check_raster : CheckBytes → SetProduct → RasterTexts
-check_raster ps Con = as_passed ps.con
-check_raster ps Dir = as_passed ps.dir
-check_raster ps Acc = as_passed ps.acc
-check_raster ps Bas = as_passed ps.bas
-check_raster ps Rnk = as_passed ps.rnk
 
 -- the inputs are these bytes; which tiles the names name is a function of the names
 pub record AreOfBytes (side : ℕ) (tiles : List TileBytes) (given : Given) (raster : SetProduct → RasterTexts) (i : Inputs) : Type 0 where
@@ -45,6 +29,40 @@ pub record AreOfBytes (side : ℕ) (tiles : List TileBytes) (given : Given) (ras
   pub headers_are : (p : SetProduct) → i.header p ≡ (raster p).header
   pub rasters_are : (p : SetProduct) → i.raster p ≡ (raster p).pixels
 
--- the fact holds of the inputs that are these bytes
-abbrev pub OfBytes : ℕ → List TileBytes → Given → (SetProduct → RasterTexts) → (Inputs → Type 0) → Type 0
-OfBytes side tiles given raster Fact = (i : Inputs) → AreOfBytes side tiles given raster i → Fact i
+-- a raster of elevations, and what is said to lie on it
+pub record DemInputs : Type 0 where
+  pub dem : DemTexts
+  pub texts : SetTexts
+
+-- its ground, and what is said to lie on it
+abbrev pub dem_set : DemInputs → GroundSet
+dem_set i = record { terrain = dem_ground i.dem; texts = i.texts }
+
+-- the inputs over a raster of elevations are these bytes
+pub record AreOfDem (dem : RasterBytes) (given : Given) (raster : SetProduct → RasterTexts) (i : DemInputs) : Type 0 where
+  pub dem_header_is : i.dem.header ≡ dem.header.bytes.now
+  pub dem_body_is : i.dem.body ≡ dem.pixels.bytes.now
+  pub given_are : i.texts.given ≡ given
+  pub headers_are : (p : SetProduct) → i.texts.header p ≡ (raster p).header
+  pub rasters_are : (p : SetProduct) → i.texts.raster p ≡ (raster p).pixels
+
+-- either of them
+pub data CallInputs : Type 0 where
+  of_tiles : Inputs → CallInputs
+  of_dem : DemInputs → CallInputs
+
+-- their ground, and what is said to lie on it
+abbrev pub set_in : CallInputs → GroundSet
+set_in (of_tiles i) = set_of i
+set_in (of_dem i) = dem_set i
+
+-- the tiles agree, and each cell has their elevation; or each has that of its pixel
+abbrev pub IsElevationTold : CallInputs → Type 0
+IsElevationTold (of_tiles i) = TilesAreOne i × ElevationIsTheirs i
+IsElevationTold (of_dem i) = ElevationIsItsPixels i.dem
+
+-- the inputs are of the kind of these elevations, and are these bytes
+abbrev pub AreOfElevations : Elevations → Given → (SetProduct → RasterTexts) → CallInputs → Type 0
+AreOfElevations (Tiles side tiles) given raster (of_tiles i) = AreOfBytes side tiles.now given raster i
+AreOfElevations (Dem dem) given raster (of_dem i) = AreOfDem dem given raster i
+AreOfElevations elevations given raster i = ⊥

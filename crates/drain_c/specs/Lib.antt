@@ -1,12 +1,13 @@
+pub mod Names
 pub mod Given
-pub mod GivenDem
-pub mod Judged
 pub mod Whole
+pub mod Spacings
+pub mod Calls
 pub mod Sources
 pub mod Faults
 pub mod Found
 pub mod Shown
 pub mod Explained
 pub mod Derived
+pub mod Requests
 pub mod Laws
-pub mod Spacings

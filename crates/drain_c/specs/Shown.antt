@@ -1,11 +1,12 @@
 -- What an answer shows to C.
-use Rattle.std.specs.Prelude.{◌≡◌, ℕ, ◌-◌, List, ◌++◌, length, replicate, codes, Result}
+use Rattle.std.specs.Prelude.{◌≡◌, ◌-◌, ◌++◌}
+use Rattle.drain_c.specs.Names.{ℕ, List, length, replicate, codes, Result, Ok, Err, outcome_report_line, Outcome, Refusal}
+use Rattle.drain_answer.specs.declared.outcome.Outcome.TheVariants.{Accepted, Rejected}
 use Rattle.drain_c.specs.declared.answer.Answer.{Answer}
 use Rattle.drain_c.specs.declared.found.Found.{Found}
 use Rattle.drain_c.specs.Found.{outcome_found, status_only}
-use Rattle.drain_answer.specs.OutcomeLines.{outcome_report_line}
-use Rattle.drain_answer.specs.declared.outcome.Outcome.{Outcome}
-use Rattle.drain_answer.specs.declared.refusal.Refusal.{Refusal}
+use Rattle.drain_grid.specs.declared.verdict.Verdict.{Verdict}
+use Rattle.drain_grid.specs.declared.verdict.Verdict.TheVariants as checked
 
 -- these numbers, and this line with zeros behind it
 pub record ShowsAnswer (found : Found) (line : List ℕ) (shown : Answer) : Type 0 where
@@ -19,7 +20,7 @@ pub record ShowsAnswer (found : Found) (line : List ℕ) (shown : Answer) : Type
 abbrev pub ShowsMissing : Answer → Type 0
 ShowsMissing shown = ShowsAnswer (status_only 2) (codes "refused NullBytes") shown
 
--- that the number names no rasters that can be judged: status 2, and the name of the refusal
+-- that the number names no rasters that can be judged, or that no spacing is passed
 abbrev pub ShowsBadChoice : Answer → Type 0
 ShowsBadChoice shown = ShowsAnswer (status_only 2) (codes "refused BadChoice") shown
 
@@ -31,7 +32,7 @@ ShowsBadMap shown = ShowsAnswer (status_only 2) (codes "refused BadMapLength") s
 abbrev pub ShowsBadRaster : Answer → Type 0
 ShowsBadRaster shown = ShowsAnswer (status_only 2) (codes "refused BadRasterLength") shown
 
--- the answer of an audit of some rasters
+-- the answer about the judged rasters
 abbrev pub ShowsOutcome : Result Outcome Refusal → Answer → Type 0
 ShowsOutcome answer shown = ShowsAnswer (outcome_found answer) (outcome_report_line answer) shown
 
@@ -40,3 +41,9 @@ pub record Reports {A : Type 0} (Is : A → Type 0) (found : A → Found) (line 
   pub value : A
   pub is : Is value
   pub shows : ShowsAnswer (found value) (line value) shown
+
+-- the answer of a check as that of an audit
+abbrev pub outcome_from : Result Verdict Refusal → Result Outcome Refusal
+outcome_from (Ok (checked.Accepted counts)) = Ok (Accepted counts)
+outcome_from (Ok (checked.Rejected rule row col)) = Ok (Rejected rule row col)
+outcome_from (Err refusal) = Err refusal

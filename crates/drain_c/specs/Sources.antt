@@ -1,18 +1,14 @@
 -- The bytes of a call as sources.
-use Rattle.std.specs.Prelude.{◌≡◌, ℕ, Bool, List, take, Option, Some}
-use Rattle.std.specs.List.{AllZip}
+use Rattle.std.specs.Prelude.{◌≡◌}
+use Rattle.drain_c.specs.Names.{ℕ, Bool, List, take, Option, Some, AllZip, Judged, SetProduct, Products, IsMissingText}
 use Rattle.drain_c.specs.declared.given.TileBytes.{TileBytes}
 use Rattle.drain_c.specs.declared.given.RasterBytes.{RasterBytes}
-use Rattle.drain_c.specs.declared.given.AuditBytes.{AuditBytes}
+use Rattle.drain_c.specs.declared.given.CheckBytes.{CheckBytes}
 use Rattle.drain_c.specs.Given.{RasterTexts}
-use Rattle.drain_c.specs.Judged.{judged_raster, missing_raster, raster_or_missing}
-use Rattle.drain_grid.specs.declared.judged.Judged.{Judged}
-use Rattle.drain_grid.specs.declared.set_product.SetProduct.{SetProduct}
+use Rattle.drain_c.specs.Calls.{judged_raster, missing_raster, raster_or_missing}
 use Rattle.drain_grid.specs.PerProduct.{of_product}
 use Rattle.drain_hgt.specs.declared.input.TileInput.{TileInput}
 use Rattle.drain_sets.specs.declared.raster_input.RasterInput.{RasterInput}
-use Rattle.drain_verdict.specs.Inputs.{Products}
-use Rattle.drain_sets.specs.Missing.{IsMissingText}
 
 -- the tile has this name, and its source these samples
 abbrev pub IsTileOf : {R : Type 0} → (R → Option (List ℕ)) → TileBytes → TileInput R → Type 0
@@ -39,6 +35,6 @@ IsJudgedOf bytes_left is_judged given con raster =
     (header : List ℕ) → IsMissingText con.header.bytes.now header → IsRasterOf bytes_left (raster_or_missing is_judged given con header) raster
 
 -- so is that of each product
-abbrev pub AreJudgedOf : {R : Type 0} → (R → Option (List ℕ)) → Judged → AuditBytes → Products R → Type 0
+abbrev pub AreJudgedOf : {R : Type 0} → (R → Option (List ℕ)) → Judged → CheckBytes → Products R → Type 0
 AreJudgedOf bytes_left judged given ps =
     (header : List ℕ) → IsMissingText given.con.header.bytes.now header → AreRastersOf bytes_left (judged_raster judged given header) ps

@@ -1,9 +1,9 @@
 -- How far apart cells are, as C passes it.
-use Rattle.std.specs.Prelude.{ℕ, Bool, ◌==◌, ◌&&◌, length, nat_lt, nat_le, Option, Some, None, if◌then◌else◌}
+use Rattle.std.specs.Prelude.{◌==◌, ◌&&◌, if◌then◌else◌}
+use Rattle.drain_c.specs.Names.{ℕ, Bool, length, nat_lt, nat_le, Option, Some, None, GivenSpacing, by_row, same}
 use Rattle.drain_c.specs.declared.given.GivenBytes.{GivenBytes}
 use Rattle.drain_c.specs.declared.given.SpacingBytes.{SpacingBytes}
 use Rattle.drain_grid.specs.declared.height_kind.HeightKind.TheVariants.{Whole}
-use Rattle.drain_sets.specs.GivenSpacings.{GivenSpacing, by_row, same}
 
 -- from 1 to 2 ^ 30
 abbrev pub is_distance : ℕ → Bool

@@ -1,43 +1,34 @@
 -- Whether the bytes of a call are whole: none are missing, for which C had NULL.
-use Rattle.std.specs.Prelude.{Bool, List, ◌==◌, ◌&&◌}
-use Rattle.std.specs.List.{list_all}
+use Rattle.std.specs.Prelude.{◌==◌, ◌&&◌, ◌||◌}
+use Rattle.drain_c.specs.Names.{Bool, List, not, list_all, Judged, has_dir, has_acc, has_bas, has_rnk}
+use Rattle.drain_c.specs.declared.call.Elevations.{Elevations}
+use Rattle.drain_c.specs.declared.call.Elevations.TheVariants.{Tiles, Dem}
+use Rattle.drain_c.specs.declared.given.GivenBytes.{GivenBytes}
 use Rattle.drain_c.specs.declared.given.TileBytes.{TileBytes}
 use Rattle.drain_c.specs.declared.given.RasterBytes.{RasterBytes}
-use Rattle.drain_c.specs.declared.given.AuditBytes.{AuditBytes}
 use Rattle.drain_c.specs.declared.given.CheckBytes.{CheckBytes}
-use Rattle.drain_c.specs.declared.given.SpacingBytes.{SpacingBytes}
+
+-- a text is there
+abbrev pub is_text_whole : GivenBytes → Bool
+is_text_whole text = text.missing == 0
 
 -- a tile has its name and its samples, a raster its header and its pixels
 abbrev pub is_tile_whole : TileBytes → Bool
-is_tile_whole tile = tile.name.missing == 0 && tile.samples.missing == 0
+is_tile_whole tile = is_text_whole tile.name && is_text_whole tile.samples
 
 abbrev pub is_raster_whole : RasterBytes → Bool
-is_raster_whole raster = raster.header.missing == 0 && raster.pixels.missing == 0
+is_raster_whole raster = is_text_whole raster.header && is_text_whole raster.pixels
 
+-- so do all tiles, or the raster of elevations
 abbrev pub are_tiles_whole : List TileBytes → Bool
 are_tiles_whole tiles = list_all is_tile_whole tiles
 
--- a spacing has its text
-abbrev pub is_spacing_whole : SpacingBytes → Bool
-is_spacing_whole spacing = spacing.widths.missing == 0
+abbrev pub are_elevations_whole : Elevations → Bool
+are_elevations_whole (Tiles side tiles) = are_tiles_whole tiles.now
+are_elevations_whole (Dem dem) = is_raster_whole dem
 
--- each raster of an audit is whole, and of a check
-abbrev pub are_four_whole : AuditBytes → Bool
-are_four_whole ps = is_raster_whole ps.con && is_raster_whole ps.dir && is_raster_whole ps.acc && is_raster_whole ps.bas
-
-abbrev pub are_five_whole : CheckBytes → Bool
-are_five_whole ps = is_raster_whole ps.con && is_raster_whole ps.dir && is_raster_whole ps.acc && is_raster_whole ps.bas && is_raster_whole ps.rnk
-
--- with the tiles
-abbrev pub is_audit_whole : List TileBytes → AuditBytes → Bool
-is_audit_whole tiles ps = are_tiles_whole tiles && are_four_whole ps
-
-abbrev pub is_check_whole : List TileBytes → CheckBytes → Bool
-is_check_whole tiles ps = are_tiles_whole tiles && are_five_whole ps
-
--- with the raster of elevations
-abbrev pub is_dem_audit_whole : RasterBytes → AuditBytes → Bool
-is_dem_audit_whole dem ps = is_raster_whole dem && are_four_whole ps
-
-abbrev pub is_dem_check_whole : RasterBytes → CheckBytes → Bool
-is_dem_check_whole dem ps = is_raster_whole dem && are_five_whole ps
+-- so do the rasters that are judged
+abbrev pub are_rasters_whole : Judged → CheckBytes → Bool
+are_rasters_whole judged ps =
+    is_raster_whole ps.con && (not (has_dir judged) || is_raster_whole ps.dir) && (not (has_acc judged) || is_raster_whole ps.acc) && (not (has_bas judged) || is_raster_whole ps.bas)
+    && (not (has_rnk judged) || is_raster_whole ps.rnk)

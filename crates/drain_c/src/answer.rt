@@ -1,15 +1,12 @@
 //! An answer as C reads it: numbers, and the line that the program prints.
 
-ghost use Rattle.std.specs.Prelude.{◌≡◌, ◌-◌, ◌≤◌, ◌++◌, length, replicate};
-ghost use Rattle.drain_answer.specs.AuditLines.{audit_report_line};
-ghost use Rattle.drain_answer.specs.Lines.{report_line};
-ghost use Rattle.drain_c.specs.Found.{audit_found, check_found};
+ghost use Rattle.std.specs.Prelude.{◌≡◌, ◌-◌, ◌≤◌, ◌++◌};
+ghost use Rattle.drain_c.specs.Names.{length, replicate};
 ghost use Rattle.drain_c.specs.Shown.{ShowsAnswer, ShowsBadChoice, ShowsBadMap, ShowsBadRaster, ShowsMissing, ShowsOutcome};
 
-use crate::found::{Found, audit_found, check_found, outcome_found, status_only};
-use drain_answer::{audit_report, outcome_report, report};
-use drain_grid::Verdict;
-use drain_verdict::{AuditVerdict, Outcome, Refusal};
+use crate::found::{Found, outcome_found, status_only};
+use drain_answer::outcome_report;
+use drain_verdict::{Outcome, Refusal};
 
 /// How many bytes an answer has for its line: 160 at most, and zeros behind it.
 pub const LINE_SIZE: usize = 164;
@@ -46,7 +43,7 @@ pub fn show_missing(answer: &mut Answer)
     show(answer, status_only(2), "refused NullBytes");
 }
 
-/// Says that a number names no rasters that can be judged.
+/// Says that a number names no rasters that can be judged, or that no spacing is passed.
 pub fn show_bad_choice(answer: &mut Answer)
     ensures { ShowsBadChoice answer.new }
 {
@@ -67,21 +64,7 @@ pub fn show_bad_raster(answer: &mut Answer)
     show(answer, status_only(2), "refused BadRasterLength");
 }
 
-/// Writes the answer of an audit.
-pub fn show_audit(judged: &Result<AuditVerdict, Refusal>, answer: &mut Answer)
-    ensures { ShowsAnswer (audit_found judged.now) (audit_report_line judged.now) answer.new }
-{
-    show(answer, audit_found(judged), audit_report(judged).as_str());
-}
-
-/// Writes the answer of a check.
-pub fn show_check(judged: &Result<Verdict, Refusal>, answer: &mut Answer)
-    ensures { ShowsAnswer (check_found judged.now) (report_line judged.now) answer.new }
-{
-    show(answer, check_found(judged), report(judged).as_str());
-}
-
-/// Writes the answer of an audit of some rasters.
+/// Writes the answer about the judged rasters.
 pub fn show_outcome(outcome: &Result<Outcome, Refusal>, answer: &mut Answer)
     ensures { ShowsOutcome outcome.now answer.new }
 {

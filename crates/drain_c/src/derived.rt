@@ -1,77 +1,60 @@
 //! What follows from the directions of a call, and its numbers as C reads them.
 
-ghost use Rattle.std.specs.Prelude.{◌≡◌, ◌*◌, ◌<◌, [], false, length, map, pos, slice_index_or, IfErr, IfOk};
-ghost use Rattle.drain_c.specs.Derived.{directions_beside};
-ghost use Rattle.drain_c.specs.Given.{OfBytes, audit_raster};
-ghost use Rattle.drain_c.specs.GivenDem.{OfDemBytes, dem_set};
-ghost use Rattle.drain_maker.specs.Derived.{AreDerivedIn, AreDerivedOf, IsDeriveRefusal, IsDeriveRefusalIn, AreCounts, IsCounts};
+ghost use Rattle.std.specs.Prelude.{◌≡◌, ◌*◌, ◌<◌};
+ghost use Rattle.drain_c.specs.Names.{false, length, map, pos, slice_index_or, IfErr, IfOk, AreDerivedIn, IsDeriveRefusalIn, AreCounts, IsCounts};
+ghost use Rattle.drain_c.specs.Calls.{OfCall, plain_call};
+ghost use Rattle.drain_c.specs.Given.{IsElevationTold, set_in};
 ghost use Rattle.drain_raster.specs.Bytes.{CanSpellIn};
-ghost use Rattle.drain_verdict.specs.Given.{plain};
-ghost use Rattle.drain_verdict.specs.DemGround.{ElevationIsItsPixels};
 
-use crate::given::{AuditBytes, RasterBytes, TileBytes};
-use crate::sources::{audit_inputs, raster_input, tile_inputs};
-use drain_grid::{Cell, Raster, Shape};
+use crate::call::{Call, Elevations};
+use crate::sources::{four_inputs, raster_input, tile_inputs};
+use drain_grid::{Cell, Judged, Raster, Shape};
 use drain_maker::{DeriveRefusal, Derived, derive, derive_dem};
+use drain_mosaic::laws::agreement_gives_elevation;
 use drain_raster::shape;
 use std::alloc::Global;
 
-/// The directions, also in the place of acc and bas, and a raster in the place of con: of these no number matters.
-pub fn directions_beside<'a>(con: &RasterBytes<'a>, dir: &RasterBytes<'a>) -> AuditBytes<'a>
-    ensures { result ≡ directions_beside con.now dir.now }
+/// What follows from the directions of a call, whichever rasters it judges, or why nothing does.
+pub fn derive_rasters<'a>(alloc: Global, call: &Call<'a>) -> Result<(Shape, Derived), DeriveRefusal>
+    ensures derived { IfOk result (λ made. OfCall (plain_call call.now) (λ i. AreDerivedIn (set_in i) made.1)) }
+    ensures elevation { IfOk result (λ made. OfCall (plain_call call.now) IsElevationTold) }
+    ensures counts { IfOk result (λ made. AreCounts made.0 made.1) }
+    ensures err { IfErr result (λ why. OfCall (plain_call call.now) (λ i. IsDeriveRefusalIn (set_in i) why)) }
 {
-    AuditBytes {
-        con: *con,
-        dir: *dir,
-        acc: *dir,
-        bas: *dir,
+    // The law that the elevations rest on.
+    agreement_gives_elevation();
+    answer_of(alloc, call)
+}
+
+/// The same without a word about elevations.
+fn answer_of<'a>(alloc: Global, call: &Call<'a>) -> Result<(Shape, Derived), DeriveRefusal>
+    ensures derived { IfOk result (λ made. OfCall (plain_call call.now) (λ i. AreDerivedIn (set_in i) made.1)) }
+    ensures counts { IfOk result (λ made. AreCounts made.0 made.1) }
+    ensures err { IfErr result (λ why. OfCall (plain_call call.now) (λ i. IsDeriveRefusalIn (set_in i) why)) }
+{
+    let mut four = match four_inputs(alloc, Judged::All, &call.rasters) {
+        Ok(four) => four,
+        Err(refusal) => return Err(DeriveRefusal::Refused(refusal)),
+    };
+    match &call.elevations {
+        Elevations::Tiles { side, tiles } => {
+            let mut owned = match tile_inputs(alloc, tiles) {
+                Ok(owned) => owned,
+                Err(refusal) => return Err(DeriveRefusal::Refused(refusal)),
+            };
+            let sources = owned.as_mut_slice();
+            let (layout, derived) = derive(alloc, *side, sources, &[], &mut four)?;
+            Ok((layout.shape(), derived))
+        }
+        Elevations::Dem(dem) => {
+            let mut dem = match raster_input(alloc, dem) {
+                Ok(dem) => [dem],
+                Err(refusal) => return Err(DeriveRefusal::Refused(refusal)),
+            };
+            let (header, derived) = derive_dem(alloc, &mut dem, &[], &mut four)?;
+            Ok((shape(&header), derived))
+        }
     }
-}
-
-/// What follows from the directions on tiles.
-pub fn derive_rasters<'a>(
-    alloc: Global,
-    side: u32,
-    tiles: &[TileBytes<'a>],
-    products: &AuditBytes<'a>,
-) -> Result<(Shape, Derived), DeriveRefusal>
-    ensures derived { IfOk result (λ made. OfBytes side tiles.now (plain []) (audit_raster products.now) (λ inputs. AreDerivedOf inputs made.1)) }
-    ensures counts { IfOk result (λ made. AreCounts made.0 made.1) }
-    ensures err { IfErr result (λ why. OfBytes side tiles.now (plain []) (audit_raster products.now) (λ inputs. IsDeriveRefusal inputs why)) }
-{
-    let mut tiles = match tile_inputs(alloc, tiles) {
-        Ok(tiles) => tiles,
-        Err(refusal) => return Err(DeriveRefusal::Refused(refusal)),
-    };
-    let mut products = match audit_inputs(alloc, products) {
-        Ok(products) => products,
-        Err(refusal) => return Err(DeriveRefusal::Refused(refusal)),
-    };
-    let (layout, derived) = derive(alloc, side, tiles.as_mut_slice(), &[], &mut products)?;
-    Ok((layout.shape(), derived))
-}
-
-/// What follows from the directions on one raster of elevations.
-pub fn derive_dem_rasters<'a>(
-    alloc: Global,
-    dem: &RasterBytes<'a>,
-    products: &AuditBytes<'a>,
-) -> Result<(Shape, Derived), DeriveRefusal>
-    ensures derived { IfOk result (λ made. OfDemBytes dem.now (plain []) (audit_raster products.now) (λ inputs. AreDerivedIn (dem_set inputs) made.1)) }
-    ensures elevation { IfOk result (λ made. OfDemBytes dem.now (plain []) (audit_raster products.now) (λ inputs. ElevationIsItsPixels inputs.dem)) }
-    ensures counts { IfOk result (λ made. AreCounts made.0 made.1) }
-    ensures err { IfErr result (λ why. OfDemBytes dem.now (plain []) (audit_raster products.now) (λ inputs. IsDeriveRefusalIn (dem_set inputs) why)) }
-{
-    let mut dem = match raster_input(alloc, dem) {
-        Ok(dem) => [dem],
-        Err(refusal) => return Err(DeriveRefusal::Refused(refusal)),
-    };
-    let mut products = match audit_inputs(alloc, products) {
-        Ok(products) => products,
-        Err(refusal) => return Err(DeriveRefusal::Refused(refusal)),
-    };
-    let (header, derived) = derive_dem(alloc, &mut dem, &[], &mut products)?;
-    Ok((shape(&header), derived))
 }
 
 /// Writes the numbers of a raster, in row order.

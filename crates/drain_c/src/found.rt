@@ -1,10 +1,10 @@
 //! An answer in numbers: its status, and where a rule fails.
 
 ghost use Rattle.std.specs.Prelude.{◌≡◌};
-ghost use Rattle.drain_c.specs.Found.{audit_found, check_found, outcome_found, place_found, refusal_found, rejection_found, status_only};
+ghost use Rattle.drain_c.specs.Found.{outcome_found, place_found, refusal_found, rejection_found, status_only};
 
-use drain_grid::{Rule, Verdict};
-use drain_verdict::{AuditVerdict, Outcome, Refusal};
+use drain_grid::Rule;
+use drain_verdict::{Outcome, Refusal};
 
 /// The status, as the program exits with it; of a rejection the number of the rule that fails, and the cell. What an
 /// answer lacks is 0.
@@ -16,19 +16,7 @@ pub struct Found {
     pub col: u32,
 }
 
-/// The numbers of the answer of an audit. A run without an end is of no rule: rule 0.
-pub fn audit_found(answer: &Result<AuditVerdict, Refusal>) -> Found
-    ensures { result ≡ audit_found answer.now }
-{
-    match answer {
-        Ok(AuditVerdict::Accepted(_)) => status_only(0),
-        Ok(AuditVerdict::Rejected { rule, row, col }) => rejection_found(*rule, *row, *col),
-        Ok(AuditVerdict::NoEnd { row, col }) => place_found(*row, *col),
-        Err(refusal) => refusal_found(*refusal),
-    }
-}
-
-/// The numbers of the answer of an audit of some rasters. A path without an end is of no rule, and neither is a cell that
+/// The numbers of the answer about the judged rasters. A path without an end is of no rule, and neither is a cell that
 /// isn't filled: rule 0.
 pub fn outcome_found(answer: &Result<Outcome, Refusal>) -> Found
     ensures { result ≡ outcome_found answer.now }
@@ -39,17 +27,6 @@ pub fn outcome_found(answer: &Result<Outcome, Refusal>) -> Found
         Ok(Outcome::Rejected { rule, row, col }) => rejection_found(*rule, *row, *col),
         Ok(Outcome::NoEnd { row, col }) => place_found(*row, *col),
         Ok(Outcome::NotFilled { row, col }) => place_found(*row, *col),
-        Err(refusal) => refusal_found(*refusal),
-    }
-}
-
-/// The numbers of the answer of a check.
-pub fn check_found(answer: &Result<Verdict, Refusal>) -> Found
-    ensures { result ≡ check_found answer.now }
-{
-    match answer {
-        Ok(Verdict::Accepted(_)) => status_only(0),
-        Ok(Verdict::Rejected { rule, row, col }) => rejection_found(*rule, *row, *col),
         Err(refusal) => refusal_found(*refusal),
     }
 }

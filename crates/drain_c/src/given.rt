@@ -23,17 +23,8 @@ pub struct RasterBytes<'a> {
     pub pixels: GivenBytes<'a>,
 }
 
-/// The four rasters of an audit.
+/// The five rasters of a set. Those that aren't judged aren't read.
 #[derive(Clone, Copy)]
-#[repr(C)]
-pub struct AuditBytes<'a> {
-    pub con: RasterBytes<'a>,
-    pub dir: RasterBytes<'a>,
-    pub acc: RasterBytes<'a>,
-    pub bas: RasterBytes<'a>,
-}
-
-/// The five rasters of a check: those of an audit, and ranks.
 #[repr(C)]
 pub struct CheckBytes<'a> {
     pub con: RasterBytes<'a>,
@@ -50,4 +41,19 @@ pub struct SpacingBytes<'a> {
     pub width: u32,
     pub height: u32,
     pub widths: GivenBytes<'a>,
+}
+
+/// What C asks: over tiles of a side or, where `has_dem` isn't 0, over one raster of elevations; with a list of sinks and
+/// how far apart cells are; the rasters, and the number of those that are judged.
+#[derive(Clone, Copy)]
+#[repr(C)]
+pub struct Request<'a> {
+    pub side: u32,
+    pub has_dem: u32,
+    pub tiles: &'a [TileBytes<'a>],
+    pub dem: RasterBytes<'a>,
+    pub sinks: GivenBytes<'a>,
+    pub spacing: SpacingBytes<'a>,
+    pub rasters: CheckBytes<'a>,
+    pub judged: u32,
 }

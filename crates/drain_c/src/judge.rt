@@ -1,98 +1,81 @@
-//! The answers of audits and of a check to the bytes of a call.
+//! The answer to the bytes of a call, over tiles or one raster of elevations.
 
-ghost use Rattle.std.specs.Prelude.{◌≡◌, ◌↔◌, IfOk, IsSome, false};
-ghost use Rattle.drain_c.specs.Given.{OfBytes, audit_raster, check_raster};
-ghost use Rattle.drain_c.specs.Judged.{OfJudgedBytes};
-ghost use Rattle.drain_answer.specs.Outcomes.{IsAcceptedOutcome};
-ghost use Rattle.drain_explain.specs.Explanations.{AreFindingsOf, answer_in};
-ghost use Rattle.drain_grid.specs.Judged.{has_rnk};
-ghost use Rattle.drain_rules.specs.Verdicts.{IfAccepted};
-ghost use Rattle.drain_verdict.specs.Answers.{IsAnswer, AreCorrect, IsAcceptance, IsAuditAnswer};
-ghost use Rattle.drain_verdict.specs.Headline.{IsRight, TilesAreOne, ElevationIsTheirs};
-ghost use Rattle.drain_verdict.specs.Outcomes.{AreJudgedRight, IsOutcomeAnswer};
+ghost use Rattle.std.specs.Prelude.{◌≡◌, ◌↔◌};
+ghost use Rattle.drain_c.specs.Names.{false, IfOk, IsAcceptedOutcome, IsTrue, has_rnk, AreRightIn, IsOutcomeIn, ProductsAreRight};
+ghost use Rattle.drain_c.specs.Calls.{OfCall};
+ghost use Rattle.drain_c.specs.Given.{IsElevationTold, set_in};
+ghost use Rattle.drain_c.specs.Shown.{outcome_from};
 
-use crate::given::{AuditBytes, CheckBytes, TileBytes};
-use crate::sources::{audit_inputs, check_inputs, judged_inputs, tile_inputs};
-use drain_explain::{Explanation, Mapping, explain_audit};
-use drain_grid::{Judged, Verdict};
-use drain_mosaic::Layout;
-use drain_verdict::{AuditVerdict, Given, Outcome, Refusal, audit_given, audit_part, check_given};
+use crate::call::{Call, Elevations};
+use crate::sources::{five_inputs, four_inputs, raster_input, tile_inputs};
+use drain_grid::Verdict;
+use drain_grid::laws::{correct_from_rules, correct_is_local};
+use drain_laws::parts::{part_is_local, surface_is_part};
+use drain_mosaic::laws::agreement_gives_elevation;
+use drain_verdict::{Outcome, Refusal, audit_part_on, check_on};
 use std::alloc::Global;
 
-/// The answer of an audit.
-pub fn judge_audit<'a>(
-    alloc: Global,
-    side: u32,
-    tiles: &[TileBytes<'a>],
-    given: &Given,
-    products: &AuditBytes<'a>,
-) -> Result<AuditVerdict, Refusal>
-    ensures answer { OfBytes side tiles.now given.now (audit_raster products.now) (λ inputs. IsAuditAnswer inputs result) }
-    ensures exactly { IfOk result (λ verdict. OfBytes side tiles.now given.now (audit_raster products.now) (λ inputs. IsAcceptance verdict ↔ AreCorrect inputs)) }
-    ensures tiles_agree { IfOk result (λ verdict. OfBytes side tiles.now given.now (audit_raster products.now) TilesAreOne) }
-    ensures elevation { IfOk result (λ verdict. OfBytes side tiles.now given.now (audit_raster products.now) ElevationIsTheirs) }
+/// The outcome for the judged rasters, or the first refusal.
+pub fn judge<'a>(alloc: Global, call: &Call<'a>) -> Result<Outcome, Refusal>
+    ensures answer { OfCall call.now (λ i. IsOutcomeIn call.now.judged (set_in i) result) }
+
+    // With an outcome it is known where the elevations come from. It accepts exactly if the judged rasters are right, or,
+    // with ranks, only if they are.
+    ensures elevation { IfOk result (λ outcome. OfCall call.now IsElevationTold) }
+    ensures exactly { has_rnk call.now.judged ≡ false → IfOk result (λ outcome. OfCall call.now (λ i. IsAcceptedOutcome outcome ↔ AreRightIn call.now.judged (set_in i))) }
+    ensures right { IsTrue (has_rnk call.now.judged) → IfOk result (λ outcome. IsAcceptedOutcome outcome → OfCall call.now (λ i. ProductsAreRight (set_in i))) }
 {
-    let mut tiles = tile_inputs(alloc, tiles)?;
-    let mut products = audit_inputs(alloc, products)?;
-    audit_given(alloc, side, tiles.as_mut_slice(), given, &mut products)
+    // The laws that an acceptance and the elevations rest on.
+    correct_is_local();
+    part_is_local();
+    surface_is_part();
+    correct_from_rules();
+    agreement_gives_elevation();
+    answer_of(alloc, call)
 }
 
-/// The answer of an audit of some rasters.
-pub fn judge_some<'a>(
-    alloc: Global,
-    side: u32,
-    tiles: &[TileBytes<'a>],
-    given: &Given,
-    products: &AuditBytes<'a>,
-    judged: Judged,
-) -> Result<Outcome, Refusal>
-    ensures answer { OfJudgedBytes side tiles.now given.now judged products.now (λ inputs. IsOutcomeAnswer judged inputs result) }
-    ensures exactly { has_rnk judged ≡ false → IfOk result (λ outcome. OfJudgedBytes side tiles.now given.now judged products.now (λ inputs. IsAcceptedOutcome outcome ↔ AreJudgedRight judged inputs)) }
+/// The answer to the bytes.
+fn answer_of<'a>(alloc: Global, call: &Call<'a>) -> Result<Outcome, Refusal>
+    ensures { OfCall call.now (λ i. IsOutcomeIn call.now.judged (set_in i) result) }
 {
-    let mut tiles = tile_inputs(alloc, tiles)?;
-    let mut products = judged_inputs(alloc, judged, products)?;
-    audit_part(
-        alloc,
-        side,
-        tiles.as_mut_slice(),
-        given,
-        &mut products,
-        judged,
-    )
+    let is_ranked = call.judged.has_rnk();
+    match &call.elevations {
+        Elevations::Tiles { side, tiles } => {
+            let mut owned = tile_inputs(alloc, tiles)?;
+            let sources = owned.as_mut_slice();
+            if is_ranked {
+                let mut five = five_inputs(alloc, &call.rasters)?;
+                return outcome_from(check_on(alloc, side, sources, &call.given, &mut five));
+            }
+            let mut four = four_inputs(alloc, call.judged, &call.rasters)?;
+            audit_part_on(alloc, side, sources, &call.given, &mut four, call.judged)
+        }
+        Elevations::Dem(dem) => {
+            let mut dem = [raster_input(alloc, dem)?];
+            if is_ranked {
+                let mut dem_five = five_inputs(alloc, &call.rasters)?;
+                return outcome_from(check_on(alloc, &(), &mut dem, &call.given, &mut dem_five));
+            }
+            let mut dem_four = four_inputs(alloc, call.judged, &call.rasters)?;
+            audit_part_on(
+                alloc,
+                &(),
+                &mut dem,
+                &call.given,
+                &mut dem_four,
+                call.judged,
+            )
+        }
+    }
 }
 
-/// The answer of an audit of some rasters with what explains it, and a map.
-pub fn judge_explained<'a>(
-    alloc: Global,
-    side: u32,
-    tiles: &[TileBytes<'a>],
-    given: &Given,
-    products: &AuditBytes<'a>,
-    judged: Judged,
-) -> Result<Explanation<Layout>, Refusal>
-    ensures answer { OfJudgedBytes side tiles.now given.now judged products.now (λ inputs. IsOutcomeAnswer judged inputs (answer_in result)) }
-    ensures explained { IfOk result (λ e. OfJudgedBytes side tiles.now given.now judged products.now (λ inputs. AreFindingsOf judged inputs e.findings)) }
-    ensures drawn { IfOk result (λ e. IsSome e.findings.map) }
+/// The answer of a check as that of an audit.
+fn outcome_from(answer: Result<Verdict, Refusal>) -> Result<Outcome, Refusal>
+    ensures { result ≡ outcome_from answer }
 {
-    let mut tiles = tile_inputs(alloc, tiles)?;
-    let mut rasters = judged_inputs(alloc, judged, products)?;
-    let tiles = tiles.as_mut_slice();
-    let mapping = Mapping::Drawn;
-    explain_audit(alloc, side, tiles, given, &mut rasters, judged, mapping)
-}
-
-/// The answer of a check.
-pub fn judge_check<'a>(
-    alloc: Global,
-    side: u32,
-    tiles: &[TileBytes<'a>],
-    given: &Given,
-    products: &CheckBytes<'a>,
-) -> Result<Verdict, Refusal>
-    ensures answer { OfBytes side tiles.now given.now (check_raster products.now) (λ inputs. IsAnswer inputs result) }
-    ensures right { IfAccepted result (OfBytes side tiles.now given.now (check_raster products.now) IsRight) }
-{
-    let mut tiles = tile_inputs(alloc, tiles)?;
-    let mut products = check_inputs(alloc, products)?;
-    check_given(alloc, side, tiles.as_mut_slice(), given, &mut products)
+    match answer {
+        Ok(Verdict::Accepted(counts)) => Ok(Outcome::Accepted(counts)),
+        Ok(Verdict::Rejected { rule, row, col }) => Ok(Outcome::Rejected { rule, row, col }),
+        Err(refusal) => Err(refusal),
+    }
 }

@@ -1,10 +1,12 @@
-//! Where the members of an answer and of faults lie, for a caller with a declaration of its own.
+//! Where the members of an answer, of faults and of a request lie, for a caller with a declaration of its own.
 
-ghost use Rattle.std.specs.Prelude.{◌≡◌, ◌+◌, ◌*◌, ◌<◌, map, replicate};
-ghost use Rattle.std.specs.List.{range_with_len};
+ghost use Rattle.std.specs.Prelude.{◌≡◌, ◌+◌, ◌*◌, ◌<◌};
+ghost use Rattle.drain_c.specs.Names.{map, replicate, range_with_len};
+ghost use Rattle.drain_c.specs.Requests.{HasPlaces, IsRasterAt, IsTextAt};
 
 use crate::answer::Answer;
 use crate::faults::{FaultCells, Faults};
+use crate::given::{CheckBytes, GivenBytes, RasterBytes, Request, SpacingBytes};
 
 /// Writes to each number of an answer its place in the struct, in bytes, and 255 to each byte of the line: the size of
 /// the struct.
@@ -59,5 +61,56 @@ fn place(rule: u32) -> FaultCells
         cells: 12 * rule,
         row: 12 * rule + 4,
         col: 12 * rule + 8,
+    }
+}
+
+/// Writes to each number of a request its place in the struct, in bytes, but 0 to each length: the size of the struct.
+#[unsafe(no_mangle)]
+pub extern "C" fn drain_request_layout<'a>(request: &mut Request<'a>) -> usize
+    ensures places { HasPlaces request.new }
+    ensures size { result ≡ 376 }
+{
+    *request = Request {
+        side: 0,
+        has_dem: 4,
+        tiles: &[],
+        dem: raster_at(24),
+        sinks: text_at(72),
+        spacing: SpacingBytes {
+            width: 96,
+            height: 100,
+            widths: text_at(104),
+        },
+        rasters: CheckBytes {
+            con: raster_at(128),
+            dir: raster_at(176),
+            acc: raster_at(224),
+            bas: raster_at(272),
+            rnk: raster_at(320),
+        },
+        judged: 368,
+    };
+    size_of::<Request>()
+}
+
+/// The places of a raster that lies here.
+fn raster_at<'a>(place: usize) -> RasterBytes<'a>
+    requires { place < 376 }
+    ensures { IsRasterAt place result }
+{
+    RasterBytes {
+        header: text_at(place),
+        pixels: text_at(place + 24),
+    }
+}
+
+/// The place of the number of missing bytes where bytes lie here, of which there are none.
+fn text_at<'a>(place: usize) -> GivenBytes<'a>
+    requires { place < 400 }
+    ensures { IsTextAt place result }
+{
+    GivenBytes {
+        bytes: &[],
+        missing: place + 16,
     }
 }

@@ -1,10 +1,10 @@
-//! Writing what follows from directions, or why nothing does, over tiles or one raster of elevations.
+//! Writing what follows from directions, or why nothing does.
 
-ghost use Rattle.std.specs.Prelude.{◌≡◌, ◌*◌, ◌==◌, ◌&&◌, length, map, pos, IfOk, IsFalse, IsTrue};
+ghost use Rattle.std.specs.Prelude.{◌≡◌, ◌*◌, ◌==◌, ◌&&◌};
+ghost use Rattle.drain_c.specs.Names.{IfOk, IsFalse, IsTrue, AreCounts};
 ghost use Rattle.drain_c.specs.Derived.{AreNumbersOf, ShowsDerivation, have_cells, outcome_for, shape_line, told_of_dir};
 ghost use Rattle.drain_c.specs.Found.{status_only};
 ghost use Rattle.drain_c.specs.Shown.{ShowsAnswer, ShowsBadRaster};
-ghost use Rattle.drain_maker.specs.Derived.{AreCounts};
 
 use crate::answer::{Answer, show, show_bad_raster, show_outcome};
 use crate::derived::write_numbers;

@@ -1,12 +1,13 @@
-//! The bytes of a call as the sources that an audit and a check read. Names are copied, and so are headers, the first
+//! The bytes of a call as the sources that verdicts read. Names are copied, and so are headers, the first
 //! 65,537 bytes of a longer one; samples and pixels are not.
 
-ghost use Rattle.std.specs.Prelude.{◌≡◌, take, IfOk, IfErr};
-ghost use Rattle.drain_c.specs.Given.{as_passed, audit_raster, check_raster};
-ghost use Rattle.drain_c.specs.Sources.{AreJudgedOf, AreTilesOf, AreRastersOf, IsJudgedOf, IsMissingOf, IsRasterOf, IsTileOf};
-ghost use Rattle.drain_verdict.specs.Inputs.{as_five};
+ghost use Rattle.std.specs.Prelude.{◌≡◌};
+ghost use Rattle.drain_c.specs.Names.{false, take, IfOk, IfErr, as_five, has_rnk};
+ghost use Rattle.drain_c.specs.Given.{as_passed};
+ghost use Rattle.drain_c.specs.Sources.{AreJudgedOf, AreTilesOf, IsJudgedOf, IsMissingOf, IsRasterOf, IsTileOf};
+ghost use Rattle.drain_grid.specs.declared.judged.Judged.TheVariants.{AllWithRanks};
 
-use crate::given::{AuditBytes, CheckBytes, RasterBytes, TileBytes};
+use crate::given::{CheckBytes, RasterBytes, TileBytes};
 use drain_device::{ByteList, ByteSource, SliceSource};
 use drain_grid::Judged;
 use drain_header::MAX_HEADER_BYTES;
@@ -80,29 +81,13 @@ fn byte_list(alloc: Global, bytes: &[u8]) -> Result<ByteList, Refusal>
     }
 }
 
-/// The four rasters of an audit.
-pub fn audit_inputs<'a>(
-    alloc: Global,
-    given: &AuditBytes<'a>,
-) -> Result<AuditProducts<SliceSource<'a>>, Refusal>
-    ensures same { IfOk result (λ products. AreRastersOf ⟦<SliceSource<'a> as ByteSource>⟧.bytes_left (audit_raster given.now) (as_five products)) }
-    ensures memory { IfErr result (λ refusal. refusal ≡ Refusal.OutOfMemory) }
-{
-    Ok(AuditProducts {
-        con: raster_input(alloc, &given.con)?,
-        dir: raster_input(alloc, &given.dir)?,
-        acc: raster_input(alloc, &given.acc)?,
-        bas: raster_input(alloc, &given.bas)?,
-    })
-}
-
 /// The four rasters of an audit of which these are judged: con, and con's pixels in the place of each other that isn't.
-pub fn judged_inputs<'a>(
+pub fn four_inputs<'a>(
     alloc: Global,
     judged: Judged,
-    given: &AuditBytes<'a>,
+    given: &CheckBytes<'a>,
 ) -> Result<AuditProducts<SliceSource<'a>>, Refusal>
-    ensures same { IfOk result (λ products. AreJudgedOf ⟦<SliceSource<'a> as ByteSource>⟧.bytes_left judged given.now (as_five products)) }
+    ensures same { has_rnk judged ≡ false → IfOk result (λ products. AreJudgedOf ⟦<SliceSource<'a> as ByteSource>⟧.bytes_left judged given.now (as_five products)) }
     ensures memory { IfErr result (λ refusal. refusal ≡ Refusal.OutOfMemory) }
 {
     let con = &given.con;
@@ -147,11 +132,11 @@ fn missing_input<'a>(
 }
 
 /// The five rasters of a check.
-pub fn check_inputs<'a>(
+pub fn five_inputs<'a>(
     alloc: Global,
     given: &CheckBytes<'a>,
 ) -> Result<Products<SliceSource<'a>>, Refusal>
-    ensures same { IfOk result (λ products. AreRastersOf ⟦<SliceSource<'a> as ByteSource>⟧.bytes_left (check_raster given.now) products) }
+    ensures same { IfOk result (λ products. AreJudgedOf ⟦<SliceSource<'a> as ByteSource>⟧.bytes_left AllWithRanks given.now products) }
     ensures memory { IfErr result (λ refusal. refusal ≡ Refusal.OutOfMemory) }
 {
     Ok(Products {

@@ -1,8 +1,8 @@
 //! How far apart cells are, as C passes it.
 
-ghost use Rattle.std.specs.Prelude.{◌≡◌, option_map};
+ghost use Rattle.std.specs.Prelude.{◌≡◌};
+ghost use Rattle.drain_c.specs.Names.{option_map, spacing_from};
 ghost use Rattle.drain_c.specs.Spacings.{is_no_text, spacing_passed};
-ghost use Rattle.drain_sets.specs.GivenSpacings.{spacing_from};
 
 use crate::given::{GivenBytes, SpacingBytes};
 use drain_grid::{Spacing, SpacingInput};

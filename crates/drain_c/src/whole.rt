@@ -1,62 +1,38 @@
 //! Whether the bytes of a call are whole: none are missing, for which C had NULL.
 
 ghost use Rattle.std.specs.Prelude.{◌≡◌};
-ghost use Rattle.drain_c.specs.Whole.{are_five_whole, are_four_whole, are_tiles_whole, is_audit_whole, is_check_whole, is_dem_audit_whole, is_dem_check_whole, is_raster_whole, is_spacing_whole, is_tile_whole};
+ghost use Rattle.drain_c.specs.Whole.{are_elevations_whole, are_rasters_whole, are_tiles_whole, is_raster_whole, is_text_whole, is_tile_whole};
 
-use crate::given::{AuditBytes, CheckBytes, RasterBytes, SpacingBytes, TileBytes};
+use crate::call::Elevations;
+use crate::given::{CheckBytes, GivenBytes, RasterBytes, TileBytes};
+use drain_grid::Judged;
 
-/// Whether the bytes of an audit are whole.
-pub fn is_audit_whole(tiles: &[TileBytes], given: &AuditBytes) -> bool
-    ensures { result ≡ is_audit_whole tiles.now given.now }
+/// Whether the bytes of all tiles are whole, or those of the raster of elevations.
+pub fn are_elevations_whole(elevations: &Elevations) -> bool
+    ensures { result ≡ are_elevations_whole elevations.now }
 {
-    are_tiles_whole(tiles) && are_four_whole(given)
+    match elevations {
+        Elevations::Tiles { tiles, .. } => are_tiles_whole(tiles),
+        Elevations::Dem(dem) => is_raster_whole(dem),
+    }
 }
 
-/// Whether the bytes of a check are whole.
-pub fn is_check_whole(tiles: &[TileBytes], given: &CheckBytes) -> bool
-    ensures { result ≡ is_check_whole tiles.now given.now }
-{
-    are_tiles_whole(tiles) && are_five_whole(given)
-}
-
-/// Whether the bytes of an audit over one raster of elevations are whole.
-pub fn is_dem_audit_whole(dem: &RasterBytes, given: &AuditBytes) -> bool
-    ensures { result ≡ is_dem_audit_whole dem.now given.now }
-{
-    is_raster_whole(dem) && are_four_whole(given)
-}
-
-/// Whether the bytes of a check over one raster of elevations are whole.
-pub fn is_dem_check_whole(dem: &RasterBytes, given: &CheckBytes) -> bool
-    ensures { result ≡ is_dem_check_whole dem.now given.now }
-{
-    is_raster_whole(dem) && are_five_whole(given)
-}
-
-/// Whether the bytes of a spacing are whole.
-pub fn is_spacing_whole(spacing: &SpacingBytes) -> bool
-    ensures { result ≡ is_spacing_whole spacing.now }
-{
-    spacing.widths.missing == 0
-}
-
-fn are_four_whole(given: &AuditBytes) -> bool
-    ensures { result ≡ are_four_whole given.now }
+/// Whether the bytes of the rasters that are judged are.
+pub fn are_rasters_whole(judged: Judged, given: &CheckBytes) -> bool
+    ensures { result ≡ are_rasters_whole judged given.now }
 {
     is_raster_whole(&given.con)
-        && is_raster_whole(&given.dir)
-        && is_raster_whole(&given.acc)
-        && is_raster_whole(&given.bas)
+        && (!judged.has_dir() || is_raster_whole(&given.dir))
+        && (!judged.has_acc() || is_raster_whole(&given.acc))
+        && (!judged.has_bas() || is_raster_whole(&given.bas))
+        && (!judged.has_rnk() || is_raster_whole(&given.rnk))
 }
 
-fn are_five_whole(given: &CheckBytes) -> bool
-    ensures { result ≡ are_five_whole given.now }
+/// Whether those of a raster are.
+pub fn is_raster_whole(raster: &RasterBytes) -> bool
+    ensures { result ≡ is_raster_whole raster.now }
 {
-    is_raster_whole(&given.con)
-        && is_raster_whole(&given.dir)
-        && is_raster_whole(&given.acc)
-        && is_raster_whole(&given.bas)
-        && is_raster_whole(&given.rnk)
+    is_text_whole(&raster.header) && is_text_whole(&raster.pixels)
 }
 
 fn are_tiles_whole(tiles: &[TileBytes]) -> bool
@@ -68,11 +44,12 @@ fn are_tiles_whole(tiles: &[TileBytes]) -> bool
 fn is_tile_whole(tile: &TileBytes) -> bool
     ensures { result ≡ is_tile_whole tile.now }
 {
-    tile.name.missing == 0 && tile.samples.missing == 0
+    is_text_whole(&tile.name) && is_text_whole(&tile.samples)
 }
 
-fn is_raster_whole(raster: &RasterBytes) -> bool
-    ensures { result ≡ is_raster_whole raster.now }
+/// Whether a text is there.
+pub fn is_text_whole(text: &GivenBytes) -> bool
+    ensures { result ≡ is_text_whole text.now }
 {
-    raster.header.missing == 0 && raster.pixels.missing == 0
+    text.missing == 0
 }

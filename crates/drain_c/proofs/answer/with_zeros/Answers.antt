@@ -1,5 +1,4 @@
-use Rattle.std.proofs.Common.{◌++◌, length, ap}
-use Rattle.std.proofs.lemmas.List.{drop-replicate}
+use Rattle.drain_c.proofs.Names.{◌++◌, length, ap, drop-replicate}
 use Rattle.drain_c.proofs.answer.with_zeros.Goals as goal
 
 pub returns : goal.returns

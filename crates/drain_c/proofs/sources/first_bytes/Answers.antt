@@ -1,5 +1,4 @@
-use Rattle.std.proofs.Common.{arith, sym}
-use Rattle.std.proofs.lemmas.List.{take_all}
+use Rattle.drain_c.proofs.Names.{arith, sym, take_all}
 use Rattle.drain_c.proofs.sources.first_bytes.Goals as goal
 
 pub returns-then-header-le-MAX_HEADER_BYTES : goal.returns-then-header-le-MAX_HEADER_BYTES

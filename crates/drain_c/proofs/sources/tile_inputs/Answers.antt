@@ -1,5 +1,4 @@
-use Rattle.std.proofs.Common.{◌≡◌, ◌++◌, ◌∷◌, [], arith, rules}
-use Rattle.drain_device.specs.contracts.slice_source.SliceSourceByteSource.TheImpl.{bytes_left-value}
+use Rattle.drain_c.proofs.Names.{◌≡◌, ◌++◌, ◌∷◌, [], arith, rules, bytes_left-value}
 use Rattle.drain_c.proofs.Spelling.{one_tile_more}
 use Rattle.drain_c.proofs.sources.tile_inputs.Goals as goal
 

@@ -1,6 +1,4 @@
-use Rattle.std.proofs.Common.{take}
-use Rattle.drain_device.specs.contracts.slice_source.SliceSourceByteSource.TheImpl.{bytes_left-value}
-use Rattle.drain_c.specs.Sources.{AreTilesOf}
+use Rattle.drain_c.proofs.Names.{take, bytes_left-value, AreTilesOf}
 use Rattle.drain_c.proofs.sources.tile_inputs.Given as goal
 
 -- the tiles before this one are taken

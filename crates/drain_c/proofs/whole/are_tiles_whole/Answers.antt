@@ -1,7 +1,6 @@
-use Rattle.std.proofs.Common.{rules, tests}
+use Rattle.drain_c.proofs.Names.{rules, tests, is_tile_whole}
 use Rattle.std.proofs.lemmas.Iterator.{YieldsList-from_slice}
 use Rattle.std.proofs.lemmas.Iterator.Search.{all_from_yields_List}
-use Rattle.drain_c.specs.Whole.{is_tile_whole}
 use Rattle.drain_c.proofs.whole.are_tiles_whole.Goals as goal
 
 pub returns : goal.returns
