@@ -26,7 +26,7 @@ CRATES ?=
 
 # The program and its record build/drain.proved, with the library; nothing is done where they fit the sources, by their sums.
 build/drain: FORCE
-	@tools/build_program.py --library build/libdrain.a drain $@
+	@tools/build.py $@ build/libdrain.a
 
 build/drain.1: build/drain tools/man_page.py
 	@tools/man_page.py build/drain >$@
@@ -35,11 +35,11 @@ build/drain.bash: build/drain tools/completions.py
 	@tools/completions.py build/drain >$@
 
 build/libdrain.a: FORCE
-	@tools/build_library.sh $@
+	@tools/build.py $@
 
 # The program for x86-64-v3, of the same proved sources.
-build/drain-v3: build/drain
-	@tools/build_v3.sh $@
+build/drain-v3: FORCE
+	@tools/build.py build/drain build/libdrain.a $@
 
 # What gcc links of the proved objects and archive.
 build/drain-static: build/drain-v3
@@ -72,13 +72,13 @@ install-companion:
 	@tools/man_page.py companion/drain-gis >build/drain-gis.1
 	install -D -m 644 build/drain-gis.1 "$(DESTDIR)$(PREFIX)/share/man/man1/drain-gis.1"
 
-dist: build/drain build/drain-static build/libdrain.so.0
+dist: build/drain-static build/libdrain.so.0
 	@tools/dist.sh build/drain build/drain-static build/libdrain.so.0 build/release
 
 deb: build/drain build/libdrain.so.0
 	@tools/deb.sh build/drain build/libdrain.so.0 build/release
 
-wheel: build/drain build/drain-static build/libdrain.so.0
+wheel: build/drain-static build/libdrain.so.0
 	@companion/build_wheel.sh build/drain build/drain-static build/libdrain.so.0 build/release
 
 plugin:

@@ -34,8 +34,8 @@ tests/gate_tools.py
 tools/check_docs.py
 tools/check_layout.sh""".splitlines()
 PROOFS = ["rt ci", "tools/record_proof.sh build/drain SUM"]
-PROVERS = """tools/build_library.sh build/libdrain.a .
-tools/build_v3.sh build/drain-v3 .
+PROVERS = """tools/build.py --over . build/libdrain.a
+tools/build.py --over . build/drain-v3
 tools/try_named_edits.py --gate""".splitlines()
 TESTS = """tests/program/run.sh build/drain
 tools/static_program.sh build/drain build/drain-static

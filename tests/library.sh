@@ -3,7 +3,7 @@
 # on arguments that are refused, and compares lines and statuses; then tests/library.c, which refuses memory at each
 # request, and tests/library.py.
 # Needs a compiler of C and Python 3.
-# Usage: tests/library.sh LIBRARY    (build/libdrain.a, as tools/build_library.sh makes it)
+# Usage: tests/library.sh LIBRARY    (build/libdrain.a, as tools/build.py makes it)
 set -u
 library=$(realpath "$1")
 cd "$(dirname "$0")/.."

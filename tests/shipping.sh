@@ -48,14 +48,14 @@ mkdir "$scratch/build"
 cp "$build/drain" "$build/drain.proved" "$scratch/build/"
 drain=$scratch/build/drain
 holds 'make of a program that is built needs no toolchain' \
-    ends 0 'Unchanged since' env PATH=/usr/bin:/bin "$top/tools/build_program.py" drain "$drain"
+    ends 0 'Unchanged since' env PATH=/usr/bin:/bin "$top/tools/build.py" "$drain"
 drain_v3=$drain-v3
 static=-
 if [ -f "$build/drain.o" ] && [ -f "$build/drain-v3.o" ] && command -v gcc >/dev/null; then
     cp "$build/drain.o" "$build"/drain-v3{,.o,.proved} "$scratch/build/"
     static=$scratch/build/drain-static
     holds 'a program for x86-64-v3 that is built needs no toolchain' \
-        ends 0 'Unchanged since' env PATH=/usr/bin:/bin "$top/tools/build_v3.sh" "$drain_v3"
+        ends 0 'Unchanged since' env PATH=/usr/bin:/bin "$top/tools/build.py" "$drain_v3"
     holds 'its record has the processor' grep -qx 'cpu      x86-64-v3' "$drain_v3.proved"
     holds 'it was proved of the same sources' cmp <(grep '^sources' "$drain.proved") <(grep '^sources' "$drain_v3.proved")
     holds 'a static program is linked' "$top/tools/static_program.sh" "$drain" "$static"
@@ -329,15 +329,12 @@ copy=$scratch/copy
 mkdir -p "$copy"
 cp -r "$top/tools" "$copy/"
 (cd "$top" && find crates.txt HANDLES crates/*/src crates/*/specs crates/*/proofs crates/*/include -type f -print0 | xargs -0 cp --parents -t "$copy")
-cat >"$copy/tools/build_program.py" <<PY
+cat >"$copy/tools/build.py" <<PY
 #!/bin/sh
-# A stand-in: build_program.py --anew [--v3] drain TARGET
-put() { cp '$drain'\$1 "\$2\$1" && cp '$drain'\$1.proved "\$2\$1.proved"; }
-case \$* in
-    '--anew drain '*) put '' "\$3" ;;
-    '--anew --v3 drain '*) put '' "\$4" && put -v3 "\$4" ;;
-    *) exit 1 ;;
-esac
+# A stand-in: build.py --anew FOLDER/drain [FOLDER/drain-v3]
+[ "\$1" = --anew ] && [ \$# -le 3 ] || exit 1
+shift
+for target; do cp "$scratch/build/\${target##*/}" "\$target" && cp "$scratch/build/\${target##*/}.proved" "\$target.proved" || exit 1; done
 PY
 program_line="program  $(printf '0%.0s' {1..64})"
 holds 'PROVED of this program' ends 0 'the same bytes: ' "$copy/tools/same.sh" "$release/PROVED"

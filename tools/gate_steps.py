@@ -62,8 +62,8 @@ def steps_of(places: int, provers: int) -> list[Step]:
     other = "crates/drain/out/drain.by-rattle"
     static = "build/drain.o gcc build/drain-static"
     return [
-        Step("tools/build_library.sh build/libdrain.a .", makes="build/libdrain.a", provers=1),
-        Step("tools/build_v3.sh build/drain-v3 .", wants="build/drain.o", makes="build/drain-v3.o", provers=1),
+        Step("tools/build.py --over . build/libdrain.a", makes="build/libdrain.a", provers=1),
+        Step("tools/build.py --over . build/drain-v3", wants="build/drain.o", makes="build/drain-v3.o", provers=1),
         # A little lower in priority: much lower ones stand still where other work fills the machine.
         Step("nice -n 3 tools/try_named_edits.py --gate", places=0, provers=provers),
         Step("tests/program/run.sh build/drain", places=half),

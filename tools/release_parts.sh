@@ -38,7 +38,7 @@ take_program() {
 take_v3() {
     local program=$1-v3
     "$top/tools/is_proved.sh" "$program" || exit 1
-    [ "$(value_of cpu "$program.proved")" = x86-64-v3 ] || refuse "$program was not built for x86-64-v3: run tools/build_v3.sh"
+    [ "$(value_of cpu "$program.proved")" = x86-64-v3 ] || refuse "$program was not built for x86-64-v3: run tools/build.py"
     [ "$(value_of kit "$program.proved")" = "$(value_of kit "$room/PROVED")" ] || refuse "$program was built by another toolchain than $1"
     install -m 755 "$program" "$room/drain-v3"
     [ "$(sum_of "$room/drain-v3")" = "$(value_of program "$program.proved")" ] || refuse "$program changed while it was copied"

@@ -35,7 +35,7 @@ here=$("$top/tools/sources_sum.sh")
 [ "$here" = "$sources" ] || other_sources "$here"
 
 # Nothing is taken that an earlier proof kept on this machine.
-"$top/tools/build_program.py" --anew ${sum_v3:+--v3} drain "$scratch/drain"
+"$top/tools/build.py" --anew "$scratch/drain" ${sum_v3:+"$scratch/drain-v3"}
 here=$(value_of sources "$scratch/drain.proved")
 [ "$here" = "$sources" ] || other_sources "$here"
 

@@ -24,7 +24,7 @@ refuse() {
 sum_of() { sha256sum <"$1" | cut -d ' ' -f 1; }
 
 for file in "$program" "$program.o" "$program-v3" "$program-v3.o"; do
-    [ -f "$file" ] || refuse "$file is not there: tools/build_program.py --anew --v3 drain build/drain makes all that the static program is linked from"
+    [ -f "$file" ] || refuse "$file is not there: tools/build.py build/drain build/drain-v3 makes all that the static program is linked from"
 done
 for tool in rt gcc objcopy; do
     command -v "$tool" >/dev/null || refuse "a static program needs $tool on the PATH"
