@@ -135,7 +135,8 @@ class Gate(Copies):
             for file in ROOT.glob(pattern):
                 self.write(self.top / file.relative_to(ROOT), STAND_IN)
         self.write(self.top / "tools/sources_sum.sh", PROVED_SOURCES)
-        self.copy("tools/gate.sh", "tools/gate_steps.py")
+        self.copy("tools/gate.sh", "tools/gate_proofs.py", "tools/gate_steps.py")
+        self.write(self.top / "crates.txt", (ROOT / "crates.txt").read_text(encoding="utf-8"))
         for program in ("rt", "gcc"):
             self.write(self.bin / program, STAND_IN)
         for name in ("drain", "drain.o"):
@@ -250,6 +251,28 @@ class Gate(Copies):
         self.assertEqual(steps[-1], "rt ci")
 
 
+# What `rt ci` prints as it proves a crate and the tests of another, and then fails.
+CI = """#!/bin/sh
+printf '%s\\n' 'rt: a proved' '== b_tests' 'rt: b_tests proved' 'rt: b_tests: its tests are proved' 'rt: c NOT PROVED'
+exit 1
+"""
+
+
+class Proofs(Copies):
+    """tools/gate_proofs.py with a stand-in for rt."""
+
+    def test_how_far_the_proofs_are(self) -> None:
+        self.copy("tools/gate_proofs.py")
+        self.write(self.top / "crates.txt", "a: x  # one\nb_tests staticlib: a\n# none: a\nc: a b\n")
+        for name, lines in (("a", 1), ("b_tests", 2), ("c", 3)):
+            self.write(self.top / f"crates/{name}/src/lib.rt", "\n" * lines)
+        self.write(self.bin / "rt", CI)
+        ended = self.run_there("tools/gate_proofs.py")
+        said = [line for line in ended.stdout.splitlines() if line.startswith("proved: ")]
+        self.assertEqual(said, [f"proved: {number} of 3 crates in 0 minutes, about 0 left" for number in (1, 2)])
+        self.assertEqual((ended.returncode, ended.stdout.count("\n")), (1, 7))
+
+
 # A step that writes when it begins and ends, and takes a moment.
 SLOW = """#!/bin/sh
 echo "begins $1" >>LOG
@@ -318,7 +341,7 @@ class Beside(Copies):
             self.assertRegex(lines[at + 2], rf"{name} took \d+ s, of processors \d+ s and \d+ s of the system$")
         left = [line for line in lines if line.startswith("steps left: ")]
         self.assertEqual([line[12] for line in left], list("210"))
-        self.assertRegex(left[0], "^steps left: 2, of which run: .*slow [abc]; .*slow [abc]$")
+        self.assertRegex(left[0], "^steps left: 2, about 1 minutes, of which run: .*slow [abc]; .*slow [abc]$")
 
     def test_one_that_fails_comes_last_and_stops_no_other(self) -> None:
         steps = [Step(f"{self.slow} a a", makes="x"), Step(f"{self.slow} b"), Step(f"{self.slow} c", wants="x")]

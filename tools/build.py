@@ -36,7 +36,7 @@ TOOLS = TOP / "tools"
 BYTES_OF_A_CHECK = 5 << 30
 # The last line of a proof may have these words and no others: they say what was trusted, and which code the proof is of.
 PROVED = re.compile(
-    r"^logic=proved functions=(\d+)( (sum|native|logic-built|libraries-built|statements|incremental|target|cpu)=\S+)+$", re.M
+    r"^logic=proved functions=(\d+)( (axioms|target|cpu|sum|native|logic-built|libraries-built|statements|incremental)=\S+)+$", re.M
 )
 # Where rt keeps what was proved, in a crate's folder.
 KEPT = ("--incremental", "out/incremental")
@@ -249,7 +249,9 @@ def prove_all(prover: Prover, tops: dict[str, list[Path]], made: dict[Path, Path
                 idle = lanes - sum(jobs for _, jobs in running.values())
                 if idle <= 0:
                     break
-                jobs = max(1, idle - (len(ready) - at - 1))
+                # The crate that most others wait for has a second job at any rate.
+                is_first = chain[it[0]] >= max(chain[name] for name, _ in [*work, *running.values()])
+                jobs = max(1 + is_first, idle - (len(ready) - at - 1))
                 work.remove(it)
                 running[begin(*it, jobs)] = it[0], jobs
             for done in wait(running, timeout=1, return_when=FIRST_COMPLETED).done:

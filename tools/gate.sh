@@ -2,7 +2,7 @@
 # The merge gate: what documents name is there; tests of the gate's scripts; the layout of sources; every proof from nothing and the tests
 # (rt ci); then, side by side (tools/gate_steps.py), a part of the wrong bodies (tools/gate_edits.py), libdrain, the program and its own tests, the
 # documents' examples, a first run, releases, the companion, windows, and tests with memory refused.
-# Each step from rt ci on ends with a line of its seconds: on the clock, and of processors.
+# Each step from the proofs on ends with a line of its seconds: on the clock, and of processors; and it says how long the others take.
 # Usage: tools/gate.sh
 #     FAST=1    leaves all proofs out, and tests with the build/drain that is there: for changes of Python or documents. It is not the gate.
 set -euo pipefail
@@ -37,7 +37,7 @@ if [ "$held" -lt "$(nproc)" ]; then
     export RT_JOBS=$held
 fi
 sources=$(tools/sources_sum.sh)
-time rt ci
+time tools/gate_proofs.py
 [ "$(tools/sources_sum.sh)" = "$sources" ] || {
     echo 'the sources changed while they were proved: run this again' >&2
     exit 1

@@ -11,6 +11,7 @@ Usage: tools/gate_steps.py [--fast]    (--fast: without provers, and without the
 
 import argparse
 import dataclasses
+import math
 import os
 import re
 import shutil
@@ -41,6 +42,8 @@ class Step:
     places: int = 1
     # How many provers it starts at once, each with its memory; read as RT_JOBS.
     provers: int = 0
+    # About how many seconds of processors it takes.
+    work: int = 60
 
     def waits_for(self, other: "Step") -> bool:
         return bool(other.makes) and other.makes in [*self.wants.split(), *self.after.split()]
@@ -62,26 +65,26 @@ def steps_of(places: int, provers: int) -> list[Step]:
     other = "crates/drain/out/drain.by-rattle"
     static = "build/drain.o gcc build/drain-static"
     return [
-        Step("tools/build.py --over . build/libdrain.a", makes="build/libdrain.a", provers=1),
-        Step("tools/build.py --over . build/drain-v3", wants="build/drain.o", makes="build/drain-v3.o", provers=1),
+        Step("tools/build.py --over . build/libdrain.a", makes="build/libdrain.a", provers=1, work=300),
+        Step("tools/build.py --over . build/drain-v3", wants="build/drain.o", makes="build/drain-v3.o", provers=1, work=300),
         # A little lower in priority: much lower ones stand still where other work fills the machine.
-        Step("nice -n 3 tools/try_named_edits.py --gate", places=0, provers=provers),
-        Step("tests/program/run.sh build/drain", places=half),
+        Step("nice -n 3 tools/try_named_edits.py --gate", places=0, provers=provers, work=1100),
+        Step("tests/program/run.sh build/drain", places=half, work=330),
         Step(
             "tools/static_program.sh build/drain build/drain-static",
             wants="build/drain.o gcc rt build/drain-v3.o",
             makes="build/drain-static",
         ),
-        Step("tests/program/run.sh build/drain-static", wants=static, places=half),
+        Step("tests/program/run.sh build/drain-static", wants=static, places=half, work=140),
         Step(
             "tools/shared_library.sh build/libdrain.a build/libdrain.so.0",
             wants="build/libdrain.a",
             makes="build/libdrain.so.0",
         ),
-        Step("tests/companion.sh build/drain", after="build/libdrain.so.0", places=two),
-        Step("tests/continent.sh build/drain", places=two),
-        Step("tests/first_run.sh build/drain", wants="rt"),
-        Step("tests/shipping.sh build", after="build/libdrain.a build/drain-v3.o"),
+        Step("tests/companion.sh build/drain", after="build/libdrain.so.0", places=two, work=600),
+        Step("tests/continent.sh build/drain", places=two, work=200),
+        Step("tests/first_run.sh build/drain", wants="rt", work=100),
+        Step("tests/shipping.sh build", after="build/libdrain.a build/drain-v3.o", work=200),
         Step("tests/library.sh build/libdrain.a", wants="build/libdrain.a"),
         Step(f"tests/refused_memory.sh {CRATES}", wants="crates/cli_tests/out/cli_tests", places=two),
         # What Rattle's own compiler made of the same proved code, where rt ci left it: it answers as the rules say, and as
@@ -139,6 +142,7 @@ class Gate:
     def __init__(self, steps: list[Step], places: int, provers: int, folder: Path) -> None:
         self.waiting, self.places, self.provers, self.folder = list(steps), places, provers, folder
         self.running: dict[Future[Ended], Step] = {}
+        self.began: dict[Step, float] = {}
         self.failed: list[Step] = []
 
     def file_of(self, step: Step) -> Path:
@@ -173,6 +177,7 @@ class Gate:
                 continue
             self.waiting.remove(step)
             self.say(f"begins: {step.command}")
+            self.began[step] = time.monotonic()
             self.running[pool.submit(run_step, step, self.file_of(step))] = step
 
     def end(self, future: Future[Ended]) -> None:
@@ -188,7 +193,15 @@ class Gate:
             self.show(step)
             self.say(f"{step.command} {seconds}")
         still = "; ".join(each.command for each in self.running.values())
-        self.say(f"steps left: {len(self.waiting) + len(self.running)}{still and f', of which run: {still}'}")
+        left = f", about {self.minutes_left()} minutes, of which run: {still}" if still else ""
+        self.say(f"steps left: {len(self.waiting) + len(self.running)}{left}")
+
+    def minutes_left(self) -> int:
+        """About how many minutes the steps take that wait or run."""
+        now = time.monotonic()
+        run = {step: (now - self.began[step]) * max(1, step.places) for step in self.running.values()}
+        work = sum(max(0, step.work - run.get(step, 0)) for step in [*self.waiting, *self.running.values()])
+        return math.ceil(work / self.places / 60)
 
     def run(self) -> bool:
         """Runs all steps, and returns whether all passed."""
