@@ -1,7 +1,7 @@
 //! Opening the files to be checked: the tiles in the order given, or the header and the raster of elevations; then each
 //! product's header, which is read whole, and raster; then the list of sinks and the text of widths, which are read whole.
 
-ghost use Rattle.std.specs.Prelude.{◌≡◌, [], IfOk, None};
+ghost use Rattle.std.specs.Prelude.{◌≡◌, [], IfOk, None, Ok};
 ghost use Rattle.drain_files.specs.Files.{AreElevationsOf, AreOf, AreTilesOf};
 ghost use Rattle.drain_files.specs.OpenSpacings.{IsSpacingOf};
 
@@ -68,15 +68,41 @@ pub fn open_judged<'a>(
     ensures spacing { IfOk result (λ files. IsSpacingOf args.now.spacing files.elevations files.spacing) }
 {
     let elevations = open_elevations(opener, &args.elevations)?;
-    let products = open_products(opener, args.folder, judged, progress)?;
-    let sinks = list_at(opener, args.sinks)?;
-    let spacing = open_spacing(opener, &args.spacing, &elevations)?;
+    let products = open_products(opener, args.folder, judged, progress);
+    let (elevations, products) = with(elevations, products)?;
+    let lists = open_lists(opener, args, &elevations);
+    let ((elevations, products), (sinks, spacing)) = with((elevations, products), lists)?;
     Ok(OpenFiles {
         elevations,
         products,
         sinks,
         spacing,
     })
+}
+
+/// What was opened before with what was opened now, or why that couldn't be. Here the first is dropped by one call; where
+/// its type is known each way out of a function takes the steps of each of its members, in the proof too.
+fn with<A: Drop, B>(before: A, now: Result<B, OpenFault>) -> Result<(A, B), OpenFault>
+    ensures { IfOk result (λ both. (both.0 ≡ before) × (now ≡ Ok both.1)) }
+{
+    match now {
+        Ok(now) => Ok((before, now)),
+        Err(fault) => Err(fault),
+    }
+}
+
+/// Opens the list of sinks and the spacing.
+fn open_lists<'a>(
+    opener: &mut Opener<'_>,
+    args: &ProductArgs<'_, Elevations<'_>>,
+    elevations: &OpenElevations<InputFile<'a>>,
+) -> Result<(Vec<u8>, OpenSpacing), OpenFault>
+    ensures sinks { args.now.sinks ≡ None → IfOk result (λ lists. lists.0.items ≡ []) }
+    ensures spacing { IfOk result (λ lists. IsSpacingOf args.now.spacing elevations.now lists.1) }
+{
+    let sinks = list_at(opener, args.sinks)?;
+    let spacing = open_spacing(opener, &args.spacing, elevations)?;
+    Ok((sinks, spacing))
 }
 
 /// Opens the tiles, or the one raster of elevations.
@@ -127,10 +153,11 @@ pub fn open_audited<'a>(
     ensures spacing { IfOk result (λ files. IsSpacingOf args.now.spacing files.elevations files.spacing) }
 {
     let elevations = open_elevations(opener, &args.elevations)?;
-    let mut products = open_four(opener, args.folder, Judged::All)?;
+    let products = open_four(opener, args.folder, Judged::All);
+    let (elevations, mut products) = with(elevations, products)?;
     count_con(&mut products.con, progress);
-    let sinks = list_at(opener, args.sinks)?;
-    let spacing = open_spacing(opener, &args.spacing, &elevations)?;
+    let lists = open_lists(opener, args, &elevations);
+    let ((elevations, products), (sinks, spacing)) = with((elevations, products), lists)?;
     Ok(OpenFiles {
         elevations,
         products,
@@ -149,14 +176,20 @@ pub fn open_directions<'a>(
     ensures sinks { args.now.sinks ≡ None → IfOk result (λ files. files.sinks.items ≡ []) }
 {
     let elevations = open_elevations(opener, &args.elevations)?;
-    let dir = open_product(opener, args.folder, Product::Dir)?;
-    let con = missing_con(opener.alloc(), &elevations, &dir)?;
-    let acc = missing_like(opener.alloc(), &dir)?;
-    let bas = missing_like(opener.alloc(), &dir)?;
-    let sinks = list_at(opener, args.sinks)?;
+    let dir = open_product(opener, args.folder, Product::Dir);
+    let (elevations, dir) = with(elevations, dir)?;
+    let con = missing_con(opener.alloc(), &elevations, &dir);
+    let ((elevations, dir), con) = with((elevations, dir), con)?;
+    let acc = missing_like(opener.alloc(), &dir);
+    let ((elevations, dir, con), acc) = with((elevations, dir, con), acc)?;
+    let bas = missing_like(opener.alloc(), &dir);
+    let ((elevations, dir, con, acc), bas) = with((elevations, dir, con, acc), bas)?;
+    let sinks = list_at(opener, args.sinks);
+    let products = AuditProducts { con, dir, acc, bas };
+    let ((elevations, products), sinks) = with((elevations, products), sinks)?;
     Ok(OpenFiles {
         elevations,
-        products: AuditProducts { con, dir, acc, bas },
+        products,
         sinks,
         spacing: OpenSpacing::Same(Spacing::unit()),
     })
@@ -187,9 +220,12 @@ fn open_four<'a>(
     judged: Judged,
 ) -> Result<AuditProducts<InputFile<'a>>, OpenFault> {
     let con = open_product(opener, folder, Product::Con)?;
-    let dir = open_or(opener, folder, SetProduct::Dir, judged, &con)?;
-    let acc = open_or(opener, folder, SetProduct::Acc, judged, &con)?;
-    let bas = open_or(opener, folder, SetProduct::Bas, judged, &con)?;
+    let dir = open_or(opener, folder, SetProduct::Dir, judged, &con);
+    let (con, dir) = with(con, dir)?;
+    let acc = open_or(opener, folder, SetProduct::Acc, judged, &con);
+    let ((con, dir), acc) = with((con, dir), acc)?;
+    let bas = open_or(opener, folder, SetProduct::Bas, judged, &con);
+    let ((con, dir, acc), bas) = with((con, dir, acc), bas)?;
     Ok(AuditProducts { con, dir, acc, bas })
 }
 
@@ -268,8 +304,8 @@ fn with_ranks<'a>(
     folder: &str,
     four: AuditProducts<InputFile<'a>>,
 ) -> Result<Products<InputFile<'a>>, OpenFault> {
-    let rnk = open_product(opener, folder, Product::Rnk)?;
-    let AuditProducts { con, dir, acc, bas } = four;
+    let rnk = open_product(opener, folder, Product::Rnk);
+    let (AuditProducts { con, dir, acc, bas }, rnk) = with(four, rnk)?;
     Ok(PerProduct {
         con,
         dir,

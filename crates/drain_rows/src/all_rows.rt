@@ -43,9 +43,10 @@ pub fn visit_rows<T, P, S: GridRows<T, P>, K: RowVisitor>(
     ensures stops { IfErr result (IsRowsStop S.has_read (source.old, tiles.old, products.old) (source.new, tiles.new, products.new)
         (OfGrid (S.gives (source.old, tiles.old, products.old)) shape sinks.now (spacing_of spacings.now) (K.wants rules.now) ⊎ ¬ (sinks.now ≡ []))) }
 {
-    let mut window = Window::new(alloc);
-    visit_in(
-        alloc,
+    // An array is dropped by one call, in few steps of a proof; each of a window's many members takes its own.
+    let mut window = [Window::new(alloc)];
+    let mut voids = ListedVoids::new(alloc);
+    note_rows(
         shape,
         sinks,
         spacings,
@@ -54,39 +55,8 @@ pub fn visit_rows<T, P, S: GridRows<T, P>, K: RowVisitor>(
         tiles,
         products,
         notes,
-        &mut window,
-    )
-}
-
-/// The same in an empty window.
-fn visit_in<T, P, S: GridRows<T, P>, K: RowVisitor>(
-    alloc: Global,
-    shape: Shape,
-    sinks: &Sinks,
-    spacings: &Spacings,
-    rules: &Rules,
-    source: &mut S,
-    tiles: &mut [T],
-    products: &mut P,
-    notes: &mut K,
-    window: &mut Window,
-) -> Result<ListedVoids, WalkStop<S::Stop>>
-    requires counted { length tiles.old ≡ S.count source.old }
-    requires uncounted { K.counts 0 notes.old }
-    requires unnoted { (g : Grid) (ps : Products) → K.are_of rules.now g ps 0 notes.old }
-    requires here { buffer_numbers window.old.here ≡ blank }
-    requires here_lanes { LanesMatch window.old.here }
-    ensures voids { IfOk result (λ voids. OfGrid (S.gives (source.old, tiles.old, products.old)) shape sinks.now (spacing_of spacings.now) (λ g ps. AreListedVoids g voids)) }
-    ensures noted { OnOk result (OfGrid (S.gives (source.old, tiles.old, products.old)) shape sinks.now (spacing_of spacings.now) (λ g ps. K.are_of rules.now g ps g.extent.rows notes.new)) }
-    ensures lasting { OnOk result (K.lasting notes.new ≡ K.lasting notes.old) }
-    ensures given { OnOk result ((rows : ℕ → RowNumbers) → S.gives (source.old, tiles.old, products.old) rows 0 → S.gives (source.new, tiles.new, products.new) rows (shape.rows + 1)) }
-    ensures reads { OnOk result (ReadsOn S.has_read (source.old, tiles.old, products.old) (source.new, tiles.new, products.new) (shape.rows + 1) None) }
-    ensures stops { IfErr result (IsRowsStop S.has_read (source.old, tiles.old, products.old) (source.new, tiles.new, products.new)
-        (OfGrid (S.gives (source.old, tiles.old, products.old)) shape sinks.now (spacing_of spacings.now) (K.wants rules.now) ⊎ ¬ (sinks.now ≡ []))) }
-{
-    let mut voids = ListedVoids::new(alloc);
-    note_rows(
-        shape, sinks, spacings, rules, source, tiles, products, notes, window, &mut voids,
+        &mut window[0],
+        &mut voids,
     )?;
     Ok(voids)
 }

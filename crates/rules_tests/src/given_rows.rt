@@ -69,13 +69,8 @@ impl<'a> Given<'a> {
     }
 }
 
-/// A row with those above and below it.
-#[derive(Drop)]
-pub(crate) struct Numbers {
-    above: PartRow,
-    here: PartRow,
-    below: PartRow,
-}
+/// The row above, a row, and the one below.
+pub(crate) type Numbers = [PartRow; 3];
 
 /// The rows above a row and below it, if there are any.
 fn beside(row: u8) -> (Option<u8>, Option<u8>) {
@@ -85,31 +80,22 @@ fn beside(row: u8) -> (Option<u8>, Option<u8>) {
     )
 }
 
+/// What was made before with what was made now, or why that couldn't be. Here the first is dropped by one call; where its
+/// type is known each way out of a function takes the steps of each of its members, in the proof too.
+fn with<A: Drop, B>(before: A, now: Result<B, Fail>) -> Result<(A, B), Fail> {
+    match now {
+        Ok(now) => Ok((before, now)),
+        Err(fault) => Err(fault),
+    }
+}
+
 /// The numbers of a row with those above and below it.
 pub(crate) fn numbers_round(given: Given<'_>, row: u8) -> Result<Numbers, Fail> {
     let (above, below) = beside(row);
-    numbers_from(given, given.row(above)?, row, below)
-}
-
-/// The same where those above are known.
-fn numbers_from(
-    given: Given<'_>,
-    above: PartRow,
-    row: u8,
-    below: Option<u8>,
-) -> Result<Numbers, Fail> {
-    numbers_down_to(given, above, given.row(Some(row))?, below)
-}
-
-/// The same where only those below are not known.
-fn numbers_down_to(
-    given: Given<'_>,
-    above: PartRow,
-    here: PartRow,
-    below: Option<u8>,
-) -> Result<Numbers, Fail> {
-    let below = given.row(below)?;
-    Ok(Numbers { above, here, below })
+    let above = given.row(above)?;
+    let (above, here) = with(above, given.row(Some(row)))?;
+    let ((above, here), below) = with((above, here), given.row(below))?;
+    Ok([above, here, below])
 }
 
 /// Room for the lanes of three rows.
@@ -157,9 +143,9 @@ pub(crate) fn three_rows<'a>(
 ) -> ThreeRows<'a> {
     let (above, below) = beside(row);
     ThreeRows {
-        above: row_view(given, &numbers.above, slopes, above, &mut room.above),
-        here: row_view(given, &numbers.here, slopes, Some(row), &mut room.here),
-        below: row_view(given, &numbers.below, slopes, below, &mut room.below),
+        above: row_view(given, &numbers[0], slopes, above, &mut room.above),
+        here: row_view(given, &numbers[1], slopes, Some(row), &mut room.here),
+        below: row_view(given, &numbers[2], slopes, below, &mut room.below),
     }
 }
 
