@@ -1,7 +1,8 @@
 -- Inputs of a call with the first bytes of each header: of tiles, and of one raster of elevations, whose own header may be
 -- too long as well. The answer to them is the answer to the inputs.
-use Rattle.drain_c.proofs.Names.{◌≡◌, ℕ, ◌↔◌, List, take, arith, inl, inr, refl, ap, subst, ◌∙◌, slice_get, Refusal, BadSide, BadTileLength, BadDemHeader, OutOfMemory, ReadFailed, CallInputs, DemInputs, dem_set, of_dem, of_tiles, set_in, answer_in, Judged, TooLong, Corner, IsFirst, IsAnswerIn, DemTexts, dem_ground, kind_of, GroundSet, IsReadable, IsRefusalIn, StandsIn, order_in, Inputs, IsOutcomeIn, HasBadLength, TilesRefuse, set_of, tile_ground, tile_place, header_answer}
+use Rattle.drain_c.proofs.Names.{◌≡◌, ℕ, ◌↔◌, List, take, arith, inl, inr, refl, ap, subst, ◌∙◌, slice_get, Refusal, BadSide, BadTileLength, BadDemHeader, OutOfMemory, ReadFailed, CallInputs, DemInputs, dem_set, of_dem, of_tiles, set_in, Judged, Outcome, TooLong, Corner, IsFirst, DemTexts, dem_ground, kind_of, GroundSet, IsReadable, IsRefusalIn, StandsIn, order_in, Inputs, IsOutcomeIn, HasBadLength, TilesRefuse, set_of, tile_ground, tile_place, header_answer}
 use Rattle.std.specs.Prelude.{Some, Result, Ok, Err}
+use Rattle.drain_c.specs.Questions.{outcome_by}
 use Rattle.drain_c.proofs.LongHeaders.{IsLong, SameRefusals, cut_texts, own, long_fault, refusal_kept, same_texts, set_on, short_or_long, too_long}
 use Rattle.drain_hgt.specs.Samples.{IsTile}
 use Rattle.drain_verdict.specs.Meaning.{texts_of}
@@ -12,15 +13,9 @@ pub record AreAnswers {V : Type 0} (Is : GroundSet → Result V Refusal → Type
   pub refused : (s : GroundSet) (refusal : Refusal) → Is s (Err refusal) → IsRefusalIn s refusal
   pub refuses : (s : GroundSet) (refusal : Refusal) → IsRefusalIn s refusal → Is s (Err refusal)
 
--- so are those of a check, of judged rasters, and of these with what explains it
-pub checks : AreAnswers IsAnswerIn
-checks = record { readable = λ s v is. is.0; refused = λ s refusal is. is; refuses = λ s refusal is. is }
-
-pub outcomes : (judged : Judged) → AreAnswers (IsOutcomeIn judged)
-outcomes judged = record { readable = λ s v is. is.0; refused = λ s refusal is. is; refuses = λ s refusal is. is }
-
-pub explanations : {F : Type 0} (judged : Judged) → AreAnswers (λ s answer. IsOutcomeIn judged s (answer_in {F = F} answer))
-explanations judged = record { readable = λ s v is. is.0; refused = λ s refusal is. is; refuses = λ s refusal is. is }
+-- so are those with an outcome for judged rasters
+pub answers_by : {A : Type 0} (judged : Judged) (outcome : A → Outcome) → AreAnswers (λ s answer. IsOutcomeIn judged s (outcome_by outcome answer))
+answers_by judged outcome = record { readable = λ s v is. is.0; refused = λ s refusal is. is; refuses = λ s refusal is. is }
 
 -- Tiles.
 

@@ -1,6 +1,6 @@
 -- What is shown of an explanation is what the rules of its set say. The map that was drawn has a byte for each cell, so it
 -- has the length of its memory exactly where this has.
-use Rattle.drain_c.proofs.Names.{◌≡◌, ℕ, suc, ◌*◌, ◌==◌, ◌<◌, ◌≤◌, Bool, true, false, List, [], ◌∷◌, length, Option, None, IfOk, IsSome, IsTrue, IsFalse, arith, refl, sym, ap, subst, ◌∙◌, Outcome, Refusal, Answer, AreFoundIn, Call, Explains, IsMap, OfCall, outcome_in, set_in, explained_of, AreFindingsIn, answer_in, ReportsMapped, ShowsExplained, ShowsExplanation, fits, has_map_length, mapped_found, mapped_line, outcome_found, refusal_found, Reports, ShowsBadMap, ShowsOutcome, Judged, cells, row_cells, Extent, Grid, GroundSet, rules_in, set_grid, set_products, IsOutcomeIn}
+use Rattle.drain_c.proofs.Names.{◌≡◌, ℕ, suc, ◌*◌, ◌==◌, ◌<◌, ◌≤◌, Bool, true, false, List, [], ◌∷◌, length, Option, None, IfOk, IsSome, IsTrue, IsFalse, arith, refl, sym, ap, subst, ◌∙◌, Outcome, Refusal, Answer, AreFoundIn, Call, Explains, IsMap, OfCall, outcome_in, set_in, explained_of, answer_in, ReportsMapped, ShowsExplained, ShowsExplanation, fits, has_map_length, mapped_found, mapped_line, outcome_found, refusal_found, Reports, ShowsBadMap, ShowsOutcome, Judged, cells, row_cells, Extent, Grid, GroundSet, rules_in, set_grid, set_products, IsOutcomeIn}
 use Rattle.std.proofs.Common.{Some, Result, Ok, Err}
 use Rattle.std.proofs.lemmas.List.FromFn.{length-map-range_with_len}
 use Rattle.drain_answer.specs.declared.outcome.Outcome.TheVariants.{Accepted, AcceptedSurface, Rejected, NoEnd, NotFilled}
@@ -112,18 +112,13 @@ pub unwritten : (explained : Result Explained Refusal) (memory map : List ℕ) (
 unwritten (Ok e) memory map old_faults faults shown shows from = unwritten_either e (fits e.map memory) memory map old_faults faults shown shows.0 shows.1 from
 unwritten (Err refusal) memory map old_faults faults shown shows from = (shows.1, shows.2)
 
--- What a verdict gives is what C is told of it.
+-- An explanation without what C isn't told.
 
-found_in : {F : Type 0} (judged : Judged) (s : GroundSet) (e : Explanation F) → AreFindingsIn judged s e.findings → AreFoundIn judged s (record { outcome = e.outcome; by_rule = e.findings.by_rule; map = e.findings.map })
-found_in judged s e found = record { each_rule = found.each_rule; map = found.map }
+pub outcome_kept : {F : Type 0} (answer : Result (Explanation F) Refusal) → outcome_in (explained_of answer) ≡ answer_in answer
+outcome_kept (Ok e) = refl
+outcome_kept (Err refusal) = refl
 
--- the answer, what was found and the map, without what C isn't told
-pub record Tells (call : Call) (told : Result Explained Refusal) : Type 0 where
-  pub answer : OfCall call (λ i. IsOutcomeIn call.judged (set_in i) (outcome_in told))
-  pub explained : IfOk told (λ e. OfCall call (λ i. AreFoundIn call.judged (set_in i) e))
-  pub drawn : IfOk told (λ e. IsSome e.map)
-
-pub tells : {F : Type 0} (call : Call) (given : Result (Explanation F) Refusal) → OfCall call (λ i. IsOutcomeIn call.judged (set_in i) (answer_in given)) →
-    IfOk given (λ e. OfCall call (λ i. AreFindingsIn call.judged (set_in i) e.findings)) → IfOk given (λ e. IsSome e.findings.map) → Tells call (explained_of given)
-tells call (Ok e) is found drawn = record { answer = is; explained = λ i of. found_in call.judged (set_in i) e (found i of); drawn = drawn }
-tells call (Err refusal) is found drawn = record { answer = is; explained = tt; drawn = tt }
+pub explained_kept : {F : Type 0} (answer : Result (Explanation F) Refusal) (P : Explanation F → Type 0) (Q : Explained → Type 0) →
+    ((e : Explanation F) → P e → Q (record { outcome = e.outcome; by_rule = e.findings.by_rule; map = e.findings.map })) → IfOk answer P → IfOk (explained_of answer) Q
+explained_kept (Ok e) P Q turn holds = turn e holds
+explained_kept (Err refusal) P Q turn holds = tt

@@ -7,7 +7,7 @@ pub use Rattle.drain_c.specs.Calls.{AreOfCall, OfCall, call_of, judged_raster, r
 pub use Rattle.drain_c.specs.Explained.{AreFoundIn, Explains, IsMap, ReportsMapped, ShowsExplained, ShowsExplanation, explained_of, fits, has_map_length, mapped_found, mapped_line, outcome_in}
 pub use Rattle.drain_c.specs.Found.{outcome_found, refusal_found, status_only}
 pub use Rattle.drain_c.specs.Given.{AreOfElevations, CallInputs, DemInputs, IsElevationTold, RasterTexts, as_passed, dem_set, of_dem, of_tiles, set_in}
-pub use Rattle.drain_c.specs.Shown.{Reports, ShowsAnswer, ShowsBadMap, ShowsBadRaster, ShowsOutcome, outcome_from}
+pub use Rattle.drain_c.specs.Shown.{Reports, ShowsAnswer, ShowsBadMap, ShowsBadRaster, ShowsOutcome}
 pub use Rattle.drain_c.specs.Sources.{AreJudgedOf, AreRastersOf, AreTilesOf, IsJudgedOf, IsRasterOf, IsTileOf}
 pub use Rattle.drain_c.specs.Whole.{is_tile_whole}
 pub use Rattle.drain_c.specs.declared.answer.Answer.{Answer}
@@ -41,5 +41,5 @@ pub use Rattle.drain_verdict.specs.Texts.{SetTexts, kind_in}
 pub use Rattle.drain_verdict.specs.TileGround.{HasBadLength, TilesRefuse, set_of, tile_ground, tile_place}
 pub use Rattle.std.proofs.Common.{Bool, IfErr, IfOk, IfSome, IsFalse, IsSome, IsTrue, List, None, Option, [], ap, arith, false, get_or, if◌then◌else◌, inl, inr, length, map, pos, refl, rules, subst, suc, sym, take, tests, true, zero, ℕ, ℤ, ◌%◌, ◌*◌, ◌++◌, ◌+◌, ◌/◌, ◌<◌, ◌==◌, ◌↔◌, ◌∙◌, ◌∷◌, ◌≡◌, ◌≢◌, ◌≤◌}
 pub use Rattle.std.proofs.lemmas.List.{drop-replicate, length-take-le, take_all, take_more}
-pub use Rattle.std.proofs.lemmas.Result.{IfOk-weaker, err_from_is_err_and}
+pub use Rattle.std.proofs.lemmas.Result.{IfErr-weaker, IfOk-weaker, err_from_is_err_and}
 pub use Rattle.std.specs.Prelude.{nat_le, slice_get, ◌⊎◌}

@@ -1,15 +1,19 @@
 -- What an audit and a check say of the sources of a call holds of the bytes of the call.
-use Rattle.drain_c.proofs.Names.{◌≡◌, ℕ, ◌+◌, ◌<◌, List, [], ◌∷◌, ◌++◌, length, map, take, get_or, Option, IfOk, refl, sym, ap, subst, ◌∙◌, take_more, AreOfElevations, Call, CallInputs, DemInputs, Elevations, OfCall, RasterTexts, as_passed, judged_raster, of_dem, of_tiles, set_in, IsTileOf, AreTilesOf, AreRastersOf, AreJudgedOf, IsRasterOf, SetProduct, Refusal, DemTexts, EncodesDem, EncodeTexts, GroundSet, ForCheck, Inputs, Encode, SetTexts}
+use Rattle.drain_c.proofs.Names.{◌≡◌, ℕ, ◌+◌, ◌<◌, List, [], ◌∷◌, ◌++◌, length, map, take, get_or, Option, IfOk, refl, sym, ap, subst, ◌∙◌, take_more, AreOfElevations, Call, CallInputs, DemInputs, Elevations, OfCall, RasterTexts, as_passed, judged_raster, of_dem, of_tiles, set_in, IsTileOf, AreTilesOf, AreRastersOf, AreJudgedOf, IsRasterOf, SetProduct, Refusal, DemTexts, EncodesDem, EncodeTexts, GroundSet, IfOk-weaker, IsOutcomeIn, Judged, Outcome, dem_ground, tile_ground, ForCheck, Inputs, Encode, SetTexts}
 use Rattle.std.proofs.Common.{Some, Result, Ok, Err}
 use Rattle.std.proofs.lemmas.Slice.Zip.{all_zipped_more}
 use Rattle.drain_c.specs.declared.given.TileBytes.{TileBytes}
 use Rattle.drain_c.specs.declared.call.Elevations.TheVariants.{Tiles, Dem}
-use Rattle.drain_c.proofs.CutInputs.{AreAnswers, answer_kept, cut_dem, cut_tiles, first_bytes, same}
+use Rattle.drain_c.specs.Questions.{IsAnswerTo, outcome_by}
+use Rattle.drain_c.proofs.CutInputs.{AreAnswers, answer_kept, answers_by, cut_dem, cut_tiles, first_bytes, same}
 use Rattle.drain_hgt.specs.declared.input.TileInput.{TileInput}
 use Rattle.drain_hgt.specs.Inputs.{names_of, AreBodies}
 use Rattle.drain_verdict.specs.Given.{Given}
 use Rattle.drain_verdict.specs.Inputs.{Products}
 use Rattle.drain_sets.specs.declared.raster_input.RasterInput.{RasterInput}
+use Rattle.drain_verdict.proofs.StartAnswers.{of_tiles as of_tiles_set}
+use Rattle.drain_verdict.specs.GroundSets.{ForSet}
+use Rattle.drain_verdict.specs.TileGround.{TellTiles}
 
 -- A fact of the sources of a call is one of the inputs with the first bytes of each header. For: what a fact of the sources
 -- is.
@@ -27,6 +31,14 @@ pub fact_of_bytes : {V : Type 0} (call : Call) (For : (CallInputs → Type 0) �
 fact_of_bytes call For sources Is are Fact (Ok v) is fact = λ i of.
     subst (Fact v) (same i (are.readable (set_in (first_bytes i)) v (sources (λ j. Is (set_in j) (Ok v)) is i of))) (sources (Fact v) fact i of)
 fact_of_bytes call For sources Is are Fact (Err refusal) is fact = tt
+
+-- what an answer says of the sources, it says of the call
+answered : {A : Type 0} (call : Call) (outcome : A → Outcome) (Says : Judged → GroundSet → A → Type 0) (answer : Result A Refusal) (For : (CallInputs → Type 0) → Type 0) → AreSources call For →
+    For (λ i. IsOutcomeIn call.judged (set_in i) (outcome_by outcome answer)) → IfOk answer (λ a. For (λ i. Says call.judged (set_in i) a)) → IsAnswerTo call outcome Says answer
+answered call outcome Says answer For sources is says = record {
+  outcome_is = answer_of_bytes call For sources (λ s answer. IsOutcomeIn call.judged s (outcome_by outcome answer)) (answers_by call.judged outcome) answer is;
+  says = fact_of_bytes call For sources (λ s answer. IsOutcomeIn call.judged s (outcome_by outcome answer)) (answers_by call.judged outcome) (λ a i. Says call.judged (set_in i) a) answer is says;
+}
 
 -- Tiles.
 
@@ -90,6 +102,15 @@ tile_sources bytes_left call side tiles ps has are Fact fact (of_tiles i) of =
 tile_sources bytes_left call side tiles ps has are Fact fact (of_dem i) of =
     absurd (not_dem bytes_left call.elevations side tiles call.given (judged_raster call.judged call.rasters of.header) i has of.bytes_are)
 
+pub answered_on_tiles : {A R : Type 0} (bytes_left : R → Option (List ℕ)) (call : Call) (side : ℕ) (tiles : List (TileInput R)) (ps : Products R) →
+    HasTiles bytes_left call.elevations side tiles → AreJudgedOf bytes_left call.judged call.rasters ps → (outcome : A → Outcome) (Says : Judged → GroundSet → A → Type 0) (answer : Result A Refusal) →
+    ForSet tile_ground (TellTiles bytes_left side tiles) bytes_left call.given ps (λ s. IsOutcomeIn call.judged s (outcome_by outcome answer)) →
+    IfOk answer (λ a. ForSet tile_ground (TellTiles bytes_left side tiles) bytes_left call.given ps (λ s. Says call.judged s a)) → IsAnswerTo call outcome Says answer
+answered_on_tiles bytes_left call side tiles ps has are outcome Says answer is says =
+    answered call outcome Says answer (ForTiles bytes_left side tiles call.given ps) (tile_sources bytes_left call side tiles ps has are)
+    (of_tiles_set bytes_left side tiles call.given ps (λ s. IsOutcomeIn call.judged s (outcome_by outcome answer)) is)
+    (IfOk-weaker answer _ _ (λ a. of_tiles_set bytes_left side tiles call.given ps (λ s. Says call.judged s a)) says)
+
 -- One raster of elevations.
 
 -- a raster alone
@@ -130,3 +151,10 @@ dem_sources bytes_left call dem ps has are Fact fact (of_dem i) of =
     dem_told bytes_left call.elevations call.given (judged_raster call.judged call.rasters of.header) dem ps has (are of.header of.header_is) Fact fact i of.bytes_are
 dem_sources bytes_left call dem ps has are Fact fact (of_tiles i) of =
     absurd (not_tiles bytes_left call.elevations dem call.given (judged_raster call.judged call.rasters of.header) i has of.bytes_are)
+
+pub answered_on_dem : {A R : Type 0} (bytes_left : R → Option (List ℕ)) (call : Call) (dem : RasterInput R) (ps : Products R) →
+    HasDem bytes_left call.elevations dem → AreJudgedOf bytes_left call.judged call.rasters ps → (outcome : A → Outcome) (Says : Judged → GroundSet → A → Type 0) (answer : Result A Refusal) →
+    ForSet dem_ground (EncodesDem bytes_left (one_dem dem)) bytes_left call.given ps (λ s. IsOutcomeIn call.judged s (outcome_by outcome answer)) →
+    IfOk answer (λ a. ForSet dem_ground (EncodesDem bytes_left (one_dem dem)) bytes_left call.given ps (λ s. Says call.judged s a)) → IsAnswerTo call outcome Says answer
+answered_on_dem bytes_left call dem ps has are outcome Says answer is says =
+    answered call outcome Says answer (ForDemInputs bytes_left (one_dem dem) call.given ps) (dem_sources bytes_left call dem ps has are) is says

@@ -1,49 +1,21 @@
 -- What the answer to a call tells of its inputs.
-use Rattle.drain_c.proofs.Names.{◌≡◌, ◌↔◌, false, true, List, IfOk, IsTrue, refl, subst, sym, IsAnswerIn, outcome_from, Call, CallInputs, IsElevationTold, OfCall, of_dem, of_tiles, set_in, Judged, has_rnk, AllWithRanks, Outcome, Refusal, IsAcceptedOutcome, AreRightIn, IsOutcomeIn, ProductsAreRight, GroundSet, IsReadable, set_grid, set_numbers, set_products, HeaderFault, Fields, AnswersOf, kind_of, ℕ, ℤ, BadPixelSize, DemShort, BadDemHeader}
+use Rattle.drain_c.proofs.Names.{◌≡◌, ◌↔◌, false, true, List, IfOk, IsTrue, refl, subst, sym, Call, CallInputs, IsElevationTold, OfCall, of_dem, of_tiles, set_in, Judged, has_rnk, AllWithRanks, Outcome, Refusal, IsAcceptedOutcome, AreRightIn, IsOutcomeIn, ProductsAreRight, GroundSet, IsReadable, set_grid, set_numbers, set_products, HeaderFault, Fields, AnswersOf, kind_of, ℕ, ℤ, BadPixelSize, DemShort, BadDemHeader}
 use Rattle.std.proofs.Common.{Result, Ok, Err, ◌<ℤ◌, arith, negsuc, pos, suc, zero}
 use Rattle.std.proofs.lemmas.Int.{ints}
+use Rattle.drain_c.specs.Questions.{outcome_by}
 use Rattle.drain_answer.specs.declared.outcome.Outcome.TheVariants.{Accepted, AcceptedSurface, Rejected, NoEnd, NotFilled}
-use Rattle.std.proofs.Math.IntN.{ℤ_discrete}
-use Rattle.drain_answer.specs.declared.refusal.Refusal.TheVariants.{SeamMismatch}
-use Rattle.drain_grid.specs.Correct.{IsCorrect, RunsAreSound}
 use Rattle.drain_grid.specs.Laws.{CorrectFromRules, CorrectIsLocal}
-use Rattle.drain_grid.specs.declared.verdict.Verdict.{Verdict}
-use Rattle.drain_grid.specs.declared.verdict.Verdict.TheVariants as checked
 use Rattle.drain_header.proofs.AnswerFunction.{answer_of}
 use Rattle.drain_header.proofs.AnswerMeaning.{answer_is}
 use Rattle.drain_header.specs.Faults.{DescribesOf}
 use Rattle.drain_laws.specs.PartOf.{PartIsLocal, SurfaceIsPart}
 use Rattle.drain_mosaic.specs.Laws.{AgreementGivesElevation}
+use Rattle.drain_verdict.proofs.Acceptance.{products_right}
+use Rattle.drain_verdict.proofs.Order.{own_values}
 use Rattle.drain_verdict.proofs.OutcomeLemmas as outcomes
+use Rattle.drain_verdict.proofs.TileSteps.{tiles_agree}
 use Rattle.drain_verdict.specs.DemGround.{fields_in}
-use Rattle.drain_verdict.specs.Headline.{TilesAreOne}
-use Rattle.drain_verdict.specs.Inputs.{Inputs}
-use Rattle.drain_verdict.specs.Meaning.{input_tiles, tiling_of}
 use Rattle.drain_verdict.specs.TileGround.{set_of}
-
-same_value : (v w : ℤ) → ¬ (¬ (v ≡ w)) → v ≡ w
-same_value v w twice = elim (ℤ_discrete v w) [ yes same ↦ same | no differ ↦ absurd (twice differ) ]
-
--- tiles of which no refusal applies agree
-tiles_agree : (i : Inputs) → IsReadable (set_of i) → TilesAreOne i
-tiles_agree i readable c v w inside is_v is_w =
-    same_value v w (λ differ. readable (SeamMismatch c) (inside, record { one = v; other = w; is_one = is_v; is_other = is_w; differ = differ }))
-
--- correct products whose runs are sound are right
-products_right : (s : GroundSet) → IsCorrect (set_grid s) (set_products s) (set_numbers s) → RunsAreSound (set_grid s) (set_products s) → ProductsAreRight s
-products_right s correct sound = record {
-  least_surface = correct.least;
-  never_climbs = correct.never_climbs;
-  steepest = correct.steepest;
-  outlets = correct.outlets;
-  runs_end = correct.runs_end;
-  runs_end_at_outlets = λ c has. (sound c has).at_outlet;
-  runs_visit_once = λ c has. (sound c has).once;
-  accumulation = correct.counts;
-  labels = correct.labels;
-  voids = correct.voids;
-  complete = correct.complete;
-}
 
 -- a header without a fault is described
 described_of : (text : List ℕ) (answer : Result Fields HeaderFault) → AnswersOf (kind_of text) text answer → ((fault : HeaderFault) → ¬ AnswersOf (kind_of text) text (Err fault)) →
@@ -59,7 +31,9 @@ positive (negsuc n) twice = absurd (twice (λ less. omega (arith, ints, less)))
 
 -- where no refusal applies, it is known where the elevations come from
 told_of : AgreementGivesElevation → (i : CallInputs) → IsReadable (set_in i) → IsElevationTold i
-told_of law (of_tiles i) readable = (tiles_agree i readable, law (tiling_of i) (input_tiles i) (tiles_agree i readable))
+told_of law (of_tiles i) readable =
+    let one = tiles_agree law i (λ b kind refuses. readable b ((own_values (set_of i) b kind).refuses refuses)) in
+    (one.tiles_agree, one.elevation)
 told_of law (of_dem i) readable = record {
   described = described_of i.dem.header (answer_of (kind_of i.dem.header) i.dem.header) (answer_is (kind_of i.dem.header) i.dem.header) (λ fault. readable (BadDemHeader fault));
   sized = record {
@@ -81,6 +55,11 @@ pub elevation_told : {V : Type 0} → AgreementGivesElevation → (call : Call) 
     OfCall call (λ i. Is (set_in i) answer) → IfOk answer (λ v. OfCall call IsElevationTold)
 elevation_told law call Is readable (Ok v) is = λ i of. told_of law i (readable (set_in i) v (is i of))
 elevation_told law call Is readable (Err refusal) is = tt
+
+-- an outcome is that in itself
+pub itself : (answer : Result Outcome Refusal) → outcome_by (λ outcome. outcome) answer ≡ answer
+itself (Ok outcome) = refl
+itself (Err refusal) = refl
 
 -- an outcome accepts exactly if the judged rasters are right
 pub exactly_right : CorrectIsLocal → PartIsLocal → SurfaceIsPart → (call : Call) (answer : Result Outcome Refusal) → OfCall call (λ i. IsOutcomeIn call.judged (set_in i) answer) → has_rnk call.judged ≡ false →
@@ -114,12 +93,3 @@ all_ranked judged is = cc
 -- what holds where ranks are judged
 pub if_ranked : (P : Judged → Type 0) (judged : Judged) → has_rnk judged ≡ true → P AllWithRanks → P judged
 if_ranked P judged is holds = subst P (sym (all_ranked judged is)) holds
-
-as_outcome : (s : GroundSet) (answer : Result Verdict Refusal) → IsAnswerIn s answer → IsOutcomeIn AllWithRanks s (outcome_from answer)
-as_outcome s (Ok (checked.Accepted counts)) is = is
-as_outcome s (Ok (checked.Rejected rule row col)) is = is
-as_outcome s (Err refusal) is = is
-
--- the answer of a check is that of an audit with ranks
-pub checked_outcome : (call : Call) → has_rnk call.judged ≡ true → (answer : Result Verdict Refusal) → OfCall call (λ i. IsAnswerIn (set_in i) answer) → OfCall call (λ i. IsOutcomeIn call.judged (set_in i) (outcome_from answer))
-checked_outcome call ranked answer is i of = if_ranked (λ judged. IsOutcomeIn judged (set_in i) (outcome_from answer)) call.judged ranked (as_outcome (set_in i) answer (is i of))

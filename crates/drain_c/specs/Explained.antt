@@ -6,6 +6,7 @@ use Rattle.drain_c.specs.declared.faults.Faults.{Faults}
 use Rattle.drain_c.specs.declared.found.Found.{Found}
 use Rattle.drain_c.specs.Faults.{ShowsFaults}
 use Rattle.drain_c.specs.Found.{outcome_found, refusal_found, status_only}
+use Rattle.drain_c.specs.Questions.{outcome_by}
 use Rattle.drain_c.specs.Shown.{Reports, ShowsBadMap, ShowsOutcome}
 use Rattle.drain_c.specs.declared.explain.Explained.{Explained}
 use Rattle.drain_explain.specs.declared.findings.Explanation.{Explanation}
@@ -28,8 +29,7 @@ pub record AreFoundIn (judged : Judged) (s : GroundSet) (e : Explained) : Type 0
 
 -- the answer that is explained
 abbrev pub outcome_in : Result Explained Refusal → Result Outcome Refusal
-outcome_in (Ok e) = Ok e.outcome
-outcome_in (Err refusal) = Err refusal
+outcome_in = outcome_by (λ e. e.outcome)
 
 -- an explanation without what C isn't told
 abbrev pub explained_of : {F : Type 0} → Result (Explanation F) Refusal → Result Explained Refusal

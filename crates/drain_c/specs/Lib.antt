@@ -6,6 +6,7 @@ pub mod Calls
 pub mod Sources
 pub mod Faults
 pub mod Found
+pub mod Questions
 pub mod Shown
 pub mod Explained
 pub mod Derived

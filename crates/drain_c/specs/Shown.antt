@@ -1,12 +1,9 @@
 -- What an answer shows to C.
 use Rattle.std.specs.Prelude.{◌≡◌, ◌-◌, ◌++◌}
-use Rattle.drain_c.specs.Names.{ℕ, List, length, replicate, codes, Result, Ok, Err, outcome_report_line, Outcome, Refusal}
-use Rattle.drain_answer.specs.declared.outcome.Outcome.TheVariants.{Accepted, Rejected}
+use Rattle.drain_c.specs.Names.{ℕ, List, length, replicate, codes, Result, outcome_report_line, Outcome, Refusal}
 use Rattle.drain_c.specs.declared.answer.Answer.{Answer}
 use Rattle.drain_c.specs.declared.found.Found.{Found}
 use Rattle.drain_c.specs.Found.{outcome_found, status_only}
-use Rattle.drain_grid.specs.declared.verdict.Verdict.{Verdict}
-use Rattle.drain_grid.specs.declared.verdict.Verdict.TheVariants as checked
 
 -- these numbers, and this line with zeros behind it
 pub record ShowsAnswer (found : Found) (line : List ℕ) (shown : Answer) : Type 0 where
@@ -41,9 +38,3 @@ pub record Reports {A : Type 0} (Is : A → Type 0) (found : A → Found) (line 
   pub value : A
   pub is : Is value
   pub shows : ShowsAnswer (found value) (line value) shown
-
--- the answer of a check as that of an audit
-abbrev pub outcome_from : Result Verdict Refusal → Result Outcome Refusal
-outcome_from (Ok (checked.Accepted counts)) = Ok (Accepted counts)
-outcome_from (Ok (checked.Rejected rule row col)) = Ok (Rejected rule row col)
-outcome_from (Err refusal) = Err refusal

@@ -1,17 +1,22 @@
 //! What follows from the directions of a call, and its numbers as C reads them.
 
 ghost use Rattle.std.specs.Prelude.{◌≡◌, ◌*◌, ◌<◌};
-ghost use Rattle.drain_c.specs.Names.{false, length, map, pos, slice_index_or, IfErr, IfOk, AreDerivedIn, IsDeriveRefusalIn, AreCounts, IsCounts};
+ghost use Rattle.drain_c.specs.Names.{[], as_five, false, length, map, pos, slice_index_or, IfErr, IfOk, AreDerivedIn, IsDeriveRefusalIn, AreCounts, IsCounts};
 ghost use Rattle.drain_c.specs.Calls.{OfCall, plain_call};
 ghost use Rattle.drain_c.specs.Given.{IsElevationTold, set_in};
+ghost use Rattle.drain_verdict.specs.Given.{plain};
+ghost use Rattle.drain_verdict.specs.GroundSets.{ForSet};
 ghost use Rattle.drain_raster.specs.Bytes.{CanSpellIn};
 
 use crate::call::{Call, Elevations};
 use crate::sources::{four_inputs, raster_input, tile_inputs};
+use drain_device::{ByteSource, SliceSource};
 use drain_grid::{Cell, Judged, Raster, Shape};
-use drain_maker::{DeriveRefusal, Derived, derive, derive_dem};
+use drain_hgt::TileInput;
+use drain_maker::{DeriveRefusal, Derived, derive_on};
 use drain_mosaic::laws::agreement_gives_elevation;
-use drain_raster::shape;
+use drain_verdict::ground::GroundInput;
+use drain_verdict::{AuditProducts, RasterInput};
 use std::alloc::Global;
 
 /// What follows from the directions of a call, whichever rasters it judges, or why nothing does.
@@ -43,17 +48,33 @@ fn answer_of<'a>(alloc: Global, call: &Call<'a>) -> Result<(Shape, Derived), Der
                 Err(refusal) => return Err(DeriveRefusal::Refused(refusal)),
             };
             let sources = owned.as_mut_slice();
-            let (layout, derived) = derive(alloc, *side, sources, &[], &mut four)?;
-            Ok((layout.shape(), derived))
+            derived_on::<TileInput<SliceSource<'a>>>(alloc, side, sources, &mut four)
         }
         Elevations::Dem(dem) => {
             let mut dem = match raster_input(alloc, dem) {
                 Ok(dem) => [dem],
                 Err(refusal) => return Err(DeriveRefusal::Refused(refusal)),
             };
-            let (header, derived) = derive_dem(alloc, &mut dem, &[], &mut four)?;
-            Ok((shape(&header), derived))
+            derived_on::<RasterInput<SliceSource<'a>>>(alloc, &(), &mut dem, &mut four)
         }
+    }
+}
+
+/// What follows from directions on a ground, with its rows and columns.
+fn derived_on<'a, T: GroundInput<SliceSource<'a>>>(
+    alloc: Global,
+    key: &T::Key,
+    inputs: &mut [T],
+    products: &mut AuditProducts<SliceSource<'a>>,
+) -> Result<(Shape, Derived), DeriveRefusal>
+    requires admitted { T.admits inputs.old }
+    ensures derived { IfOk result (λ made. ForSet T.terrain (T.encodes key.now inputs.old) ⟦<SliceSource<'a> as ByteSource>⟧.bytes_left (plain []) (as_five products.old) (λ s. AreDerivedIn s made.1)) }
+    ensures counts { IfOk result (λ made. AreCounts made.0 made.1) }
+    ensures err { IfErr result (λ why. ForSet T.terrain (T.encodes key.now inputs.old) ⟦<SliceSource<'a> as ByteSource>⟧.bytes_left (plain []) (as_five products.old) (λ s. IsDeriveRefusalIn s why)) }
+{
+    match derive_on::<SliceSource<'a>, T>(alloc, key, inputs, &[], products) {
+        Ok((frame, derived)) => Ok((T::shape(&frame), derived)),
+        Err(why) => Err(why),
     }
 }
 

@@ -6,12 +6,16 @@ ghost use Rattle.drain_c.specs.Calls.{OfCall};
 ghost use Rattle.drain_c.specs.Explained.{AreFoundIn, explained_of, outcome_in};
 ghost use Rattle.drain_c.specs.Given.{IsElevationTold, set_in};
 
-use crate::call::{Call, Elevations};
-use crate::sources::{five_inputs, four_inputs, raster_input, tile_inputs};
+use crate::call::Call;
+use crate::question::{Question, answer_to};
+use drain_device::ByteSource;
 use drain_explain::{Explanation, Mapping, explain_on};
 use drain_faults::{FaultMap, PerRule, RuleFaults};
+use drain_grid::Judged;
 use drain_mosaic::laws::agreement_gives_elevation;
-use drain_verdict::{Outcome, Refusal};
+use drain_verdict::audit_products::ProductInputs;
+use drain_verdict::ground::GroundInput;
+use drain_verdict::{Given, Outcome, Refusal};
 use std::alloc::Global;
 
 /// An outcome with the cells at which each rule fails, and a map.
@@ -31,47 +35,34 @@ pub fn explain<'a>(alloc: Global, call: &Call<'a>) -> Result<Explained, Refusal>
 {
     // The law that the elevations rest on.
     agreement_gives_elevation();
-    answer_of(alloc, call)
+    answer_to::<Explaining>(alloc, call)
 }
 
-/// The answer to the bytes.
-fn answer_of<'a>(alloc: Global, call: &Call<'a>) -> Result<Explained, Refusal>
-    ensures answer { OfCall call.now (λ i. IsOutcomeIn call.now.judged (set_in i) (outcome_in result)) }
-    ensures explained { IfOk result (λ e. OfCall call.now (λ i. AreFoundIn call.now.judged (set_in i) e)) }
-    ensures drawn { IfOk result (λ e. IsSome e.map) }
-{
-    let is_ranked = call.judged.has_rnk();
-    let (given, judged, drawn) = (&call.given, call.judged, Mapping::Drawn);
-    match &call.elevations {
-        Elevations::Tiles { side, tiles } => {
-            let mut owned = tile_inputs(alloc, tiles)?;
-            let sources = owned.as_mut_slice();
-            if is_ranked {
-                let mut five = five_inputs(alloc, &call.rasters)?;
-                return explained_of(explain_on(
-                    alloc, side, sources, given, &mut five, judged, drawn,
-                ));
-            }
-            let mut four = four_inputs(alloc, judged, &call.rasters)?;
-            explained_of(explain_on(alloc, side, sources, given, &mut four, judged, drawn))
-        }
-        Elevations::Dem(dem) => {
-            let mut dem = [raster_input(alloc, dem)?];
-            if is_ranked {
-                let mut dem_five = five_inputs(alloc, &call.rasters)?;
-                return explained_of(explain_on(
-                    alloc,
-                    &(),
-                    &mut dem,
-                    given,
-                    &mut dem_five,
-                    judged,
-                    drawn,
-                ));
-            }
-            let mut dem_four = four_inputs(alloc, judged, &call.rasters)?;
-            explained_of(explain_on(alloc, &(), &mut dem, given, &mut dem_four, judged, drawn))
-        }
+/// The question for an outcome with what explains it, and a map.
+struct Explaining;
+
+impl Question for Explaining {
+    ghost use Rattle.drain_c.specs.Names.{IsSome};
+    ghost use Rattle.drain_c.specs.Explained.{AreFoundIn};
+
+    type Answer = Explained;
+
+    ghost outcome = { λ e. e.outcome };
+
+    ghost says = { AreFoundIn };
+
+    ghost holds = { λ e. IsSome e.map };
+
+    fn answer<R: ByteSource, T: GroundInput<R>, P: ProductInputs<R>>(
+        alloc: Global,
+        key: &T::Key,
+        inputs: &mut [T],
+        given: &Given,
+        products: &mut P,
+        judged: Judged,
+    ) -> Result<Explained, Refusal> {
+        let drawn = Mapping::Drawn;
+        explained_of(explain_on::<R, T, P>(alloc, key, inputs, given, products, judged, drawn))
     }
 }
 

@@ -4,15 +4,17 @@ ghost use Rattle.std.specs.Prelude.{◌≡◌, ◌↔◌};
 ghost use Rattle.drain_c.specs.Names.{false, IfOk, IsAcceptedOutcome, IsTrue, has_rnk, AreRightIn, IsOutcomeIn, ProductsAreRight};
 ghost use Rattle.drain_c.specs.Calls.{OfCall};
 ghost use Rattle.drain_c.specs.Given.{IsElevationTold, set_in};
-ghost use Rattle.drain_c.specs.Shown.{outcome_from};
 
-use crate::call::{Call, Elevations};
-use crate::sources::{five_inputs, four_inputs, raster_input, tile_inputs};
-use drain_grid::Verdict;
+use crate::call::Call;
+use crate::question::{Question, answer_to};
+use drain_device::ByteSource;
+use drain_grid::Judged;
 use drain_grid::laws::{correct_from_rules, correct_is_local};
 use drain_laws::parts::{part_is_local, surface_is_part};
 use drain_mosaic::laws::agreement_gives_elevation;
-use drain_verdict::{Outcome, Refusal, audit_part_on, check_on};
+use drain_verdict::audit_products::ProductInputs;
+use drain_verdict::ground::GroundInput;
+use drain_verdict::{Given, Outcome, Refusal, audit_part_on};
 use std::alloc::Global;
 
 /// The outcome for the judged rasters, or the first refusal.
@@ -31,51 +33,29 @@ pub fn judge<'a>(alloc: Global, call: &Call<'a>) -> Result<Outcome, Refusal>
     surface_is_part();
     correct_from_rules();
     agreement_gives_elevation();
-    answer_of(alloc, call)
+    answer_to::<Judging>(alloc, call)
 }
 
-/// The answer to the bytes.
-fn answer_of<'a>(alloc: Global, call: &Call<'a>) -> Result<Outcome, Refusal>
-    ensures { OfCall call.now (λ i. IsOutcomeIn call.now.judged (set_in i) result) }
-{
-    let is_ranked = call.judged.has_rnk();
-    match &call.elevations {
-        Elevations::Tiles { side, tiles } => {
-            let mut owned = tile_inputs(alloc, tiles)?;
-            let sources = owned.as_mut_slice();
-            if is_ranked {
-                let mut five = five_inputs(alloc, &call.rasters)?;
-                return outcome_from(check_on(alloc, side, sources, &call.given, &mut five));
-            }
-            let mut four = four_inputs(alloc, call.judged, &call.rasters)?;
-            audit_part_on(alloc, side, sources, &call.given, &mut four, call.judged)
-        }
-        Elevations::Dem(dem) => {
-            let mut dem = [raster_input(alloc, dem)?];
-            if is_ranked {
-                let mut dem_five = five_inputs(alloc, &call.rasters)?;
-                return outcome_from(check_on(alloc, &(), &mut dem, &call.given, &mut dem_five));
-            }
-            let mut dem_four = four_inputs(alloc, call.judged, &call.rasters)?;
-            audit_part_on(
-                alloc,
-                &(),
-                &mut dem,
-                &call.given,
-                &mut dem_four,
-                call.judged,
-            )
-        }
-    }
-}
+/// The question for an outcome alone.
+struct Judging;
 
-/// The answer of a check as that of an audit.
-fn outcome_from(answer: Result<Verdict, Refusal>) -> Result<Outcome, Refusal>
-    ensures { result ≡ outcome_from answer }
-{
-    match answer {
-        Ok(Verdict::Accepted(counts)) => Ok(Outcome::Accepted(counts)),
-        Ok(Verdict::Rejected { rule, row, col }) => Ok(Outcome::Rejected { rule, row, col }),
-        Err(refusal) => Err(refusal),
+impl Question for Judging {
+    type Answer = Outcome;
+
+    ghost outcome = { λ outcome. outcome };
+
+    ghost says = { λ judged s outcome. Unit {0} };
+
+    ghost holds = { λ outcome. Unit {0} };
+
+    fn answer<R: ByteSource, T: GroundInput<R>, P: ProductInputs<R>>(
+        alloc: Global,
+        key: &T::Key,
+        inputs: &mut [T],
+        given: &Given,
+        products: &mut P,
+        judged: Judged,
+    ) -> Result<Outcome, Refusal> {
+        audit_part_on::<R, T, P>(alloc, key, inputs, given, products, judged)
     }
 }

@@ -16,6 +16,7 @@ pub mod given;
 mod judge;
 pub mod laws;
 pub mod layout;
+mod question;
 mod show_derived;
 mod show_explained;
 mod sources;

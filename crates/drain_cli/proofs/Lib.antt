@@ -4,3 +4,4 @@ pub mod RoundTrips
 pub mod ReadReports
 pub mod UnionStatuses
 pub mod RankedOutcomes
+pub mod DerivedRuns

@@ -43,7 +43,7 @@ pub use Rattle.drain_hgt.specs.Inputs.{TilesTakeAtMost, names_of, tile_devices}
 pub use Rattle.drain_hgt.specs.declared.input.TileInput.{TileInput}
 pub use Rattle.drain_maker.specs.Accepted.{AreGivenSpacings, IsMadeAcceptance}
 pub use Rattle.drain_maker.specs.Dems.{AreMadeOn, AreOnDemData, IsDemOf, IsDemSinkAnswer, IsGroundRefusal, spaced_dem_grid}
-pub use Rattle.drain_maker.specs.ProductFiles.{CanBeDerived, DerivedFit, SetFits, WritesSet, derived_bytes, made_header}
+pub use Rattle.drain_maker.specs.ProductFiles.{DerivedFit, SetFits, WritesSet, derived_bytes, made_header}
 pub use Rattle.drain_maker.specs.declared.derivation.DeriveRefusal.{DeriveRefusal}
 pub use Rattle.drain_maker.specs.declared.derivation.Derived.{Derived}
 pub use Rattle.drain_merge.specs.UnionVerdicts.{AreJudgedFrom, IsJudgedFrom, merge_line, windows_of}

@@ -19,6 +19,7 @@ use Rattle.drain_hgt.specs.Corner.{Corner}
 use Rattle.drain_hgt.specs.Samples.{tile_length}
 use Rattle.drain_raster.specs.Pixels.{header_extent, needed_len}
 use Rattle.drain_header.specs.Lines.{kind_of}
+use Rattle.drain_sets.specs.declared.raster_input.RasterInput.{RasterInput}
 use Rattle.drain_verdict.specs.Given.{Given}
 use Rattle.drain_answer.specs.declared.refusal.Refusal.TheVariants as refusal
 use Rattle.drain_grid.specs.declared.product.Product.TheVariants as product
@@ -196,3 +197,8 @@ IsDemDetailOf text texts given refusal.BadPixelSize detail = IsPixelSizeDetail t
 IsDemDetailOf text texts given refusal.DemShort detail = IsDemLengthDetail text detail
 IsDemDetailOf text texts given (refusal.BadHeader p fault) detail = OfDem text (λ h. IsKindDetail h.kind p (text_given texts p) detail)
 IsDemDetailOf text texts given other detail = OfDem text (λ h. IsSetDetail h.kind (header_extent h) h.place texts given other detail)
+
+-- so of the header of one raster
+abbrev pub IsDetailOfDem : {R : Type 0} → List (RasterInput R) → (SetProduct → List ℕ) → Given → Refusal → RefusalDetail → Type 0
+IsDetailOfDem (dem ∷ []) texts given refusal detail = IsDemDetailOf dem.header texts given refusal detail
+IsDetailOfDem inputs texts given refusal detail = ⊥

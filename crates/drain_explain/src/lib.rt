@@ -21,4 +21,4 @@ pub use drain_findings::{
 pub use explain::explain_on;
 pub use fault_visitor::{FaultVisitor, Mapping};
 pub use findings::{Explanation, answer_and_findings};
-pub use refused::{FileLookup, detail_of, detail_of_dem};
+pub use refused::{ExplainedInput, FileLookup};

@@ -10,6 +10,7 @@ use crate::refusal_detail::{
     seam_detail, sink_cell_detail, sink_line_detail, spacing_line_detail, spacing_rows_detail,
 };
 use drain_answer::Refusal;
+use drain_device::ByteSource;
 use drain_findings::{Extent, RefusalDetail};
 use drain_grid::{HeightKind, PerProduct, Product, Shape};
 use drain_header::{HeaderFault, Place, kind_said, parse_header_of};
@@ -17,6 +18,7 @@ use drain_hgt::tile::tile_length;
 use drain_hgt::{TileInput, TileName};
 use drain_mosaic::Layout;
 use drain_raster::{needed_len, shape};
+use drain_verdict::ground::GroundInput;
 use drain_verdict::stages::layout_of;
 use drain_verdict::{Given, RasterInput, dem_header};
 use std::alloc::Global;
@@ -40,9 +42,73 @@ pub trait FileLookup {
         ensures { IfSome result (λ metres. shows self.old place start metres) };
 }
 
-/// The details of a refusal beyond its line, of these inputs. None if there are none, memory runs out, or a file can't be
-/// looked at again.
-pub fn detail_of<R, L: FileLookup>(
+/// Inputs of a ground, of whose refusals more is said than their line.
+pub trait ExplainedInput<R: ByteSource>: GroundInput<R> {
+    ghost use Rattle.drain_explain.specs.Names.{List, ℕ, ℤ, IfSome, Refusal};
+    ghost use Rattle.drain_findings.specs.declared.refusal_detail.RefusalDetail.{RefusalDetail};
+    ghost use Rattle.drain_grid.specs.declared.set_product.SetProduct.{SetProduct};
+    ghost use Rattle.drain_grid.specs.PerProduct.{of_product};
+    ghost use Rattle.drain_verdict.specs.Given.{Given};
+
+    /// These are details of a refusal: by the inputs and their key, the headers of products, what is given beside, and the
+    /// heights that a look at files gives.
+    ghost are_details: { {L : Type 0} → (L → ℕ → ℕ → ℤ → Type 0) → Self.Key → List Self → (SetProduct → List ℕ) → Given → Refusal → RefusalDetail → Type 0 };
+
+    /// The details of a refusal. None if there are none, memory runs out, or a file can't be looked at again.
+    fn detail_of<L: FileLookup>(
+        alloc: Global,
+        refusal: Refusal,
+        key: &Self::Key,
+        inputs: &[Self],
+        headers: &PerProduct<&[u8]>,
+        given: &Given,
+        look: &mut L,
+    ) -> Option<RefusalDetail>
+        ensures { IfSome result (are_details L.shows key.now inputs.now (λ p. (of_product headers.now p).now) given.now refusal) };
+}
+
+impl<R: ByteSource> ExplainedInput<R> for TileInput<R> {
+    ghost use Rattle.drain_explain.specs.Names.{names_of};
+    ghost use Rattle.drain_explain.specs.RefusalDetails.{IsDetailOf};
+
+    ghost are_details = { λ shows side tiles texts given refusal detail. IsDetailOf shows side (names_of tiles) texts given refusal detail };
+
+    fn detail_of<L: FileLookup>(
+        alloc: Global,
+        refusal: Refusal,
+        side: &u32,
+        tiles: &[TileInput<R>],
+        headers: &PerProduct<&[u8]>,
+        given: &Given,
+        look: &mut L,
+    ) -> Option<RefusalDetail> {
+        tiles_detail(alloc, refusal, *side, tiles, headers, given, look)
+    }
+}
+
+impl<R: ByteSource> ExplainedInput<R> for RasterInput<R> {
+    ghost use Rattle.drain_explain.specs.RefusalDetails.{IsDetailOfDem};
+
+    ghost are_details = { λ shows key inputs texts given refusal detail. IsDetailOfDem inputs texts given refusal detail };
+
+    fn detail_of<L: FileLookup>(
+        alloc: Global,
+        refusal: Refusal,
+        _key: &(),
+        inputs: &[RasterInput<R>],
+        headers: &PerProduct<&[u8]>,
+        given: &Given,
+        look: &mut L,
+    ) -> Option<RefusalDetail> {
+        let [dem] = inputs else {
+            return None;
+        };
+        dem_detail(alloc, refusal, dem, headers, given, look)
+    }
+}
+
+/// The details of a refusal of tiles, and of what lies on their mosaic.
+fn tiles_detail<R, L: FileLookup>(
     alloc: Global,
     refusal: Refusal,
     side: u32,
@@ -70,8 +136,8 @@ pub fn detail_of<R, L: FileLookup>(
     }
 }
 
-/// The same of these inputs with one raster of elevations.
-pub fn detail_of_dem<R, L: FileLookup>(
+/// The details of a refusal of one raster of elevations, and of what lies on it.
+fn dem_detail<R, L: FileLookup>(
     alloc: Global,
     refusal: Refusal,
     dem: &RasterInput<R>,

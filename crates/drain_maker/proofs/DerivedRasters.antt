@@ -90,11 +90,6 @@ pub derive_refusal : (s : GroundSet) (why : DeriveRefusal) → IsReadable s → 
 derive_refusal s (Refused refusal) readable is = subst (IsRefusalIn s) (sym is) tt
 derive_refusal s (NoEnd row col) readable first = (readable, first)
 
--- what it says of the reading, whatever would have been made
-pub same_reading : (A B : Type 0) (why : DeriveRefusal) → reading_in {T = A} (Err why) ≡ reading_in {T = B} (Err why)
-same_reading A B (Refused refusal) = refl
-same_reading A B (NoEnd row col) = refl
-
 -- the raster of a product with these numbers
 abbrev pub counts_raster : Extent → Product → List ℕ → Pixels
 counts_raster e p numbers = record { extent = e; nodata = default_no_data p; numbers = map (λ n. pos n) numbers }

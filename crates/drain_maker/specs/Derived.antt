@@ -1,6 +1,6 @@
 -- What follows from the directions of a grid, as rasters.
 use Rattle.std.specs.Prelude.{◌≡◌, ◌≢◌, ◌↔◌}
-use Rattle.drain_maker.specs.Names.{pos, false, IsNone, List, Result, Ok, Err, Cell, Grid, Products, IsInside, HasData, Pixels, ArePixels, default_numbers, Extent, number_at, end_number, AllFlowsEnd, AreFlowsOf, Flow, Refusal, OutOfMemory, GroundSet, IsReadable, IsRefusalIn, set_grid, set_products, Inputs, set_of, IsCorrect, RulesHold, check_rules, IsAnyRule, NoDataNumbers}
+use Rattle.drain_maker.specs.Names.{pos, false, IsNone, List, Result, Ok, Err, Cell, Grid, Products, IsInside, HasData, Pixels, ArePixels, default_numbers, Extent, number_at, end_number, AllFlowsEnd, AreFlowsOf, Flow, Refusal, OutOfMemory, GroundSet, IsReadable, IsRefusalIn, set_grid, set_products, IsCorrect, RulesHold, check_rules, IsAnyRule, NoDataNumbers}
 use Rattle.drain_grid.specs.Unranked.{run_steps, IsFirstEndless}
 use Rattle.drain_grid.specs.Run.{run_end, upstream_count, ShareBasin}
 use Rattle.drain_maker.specs.ProductFiles.{CanSpellAllIn}
@@ -51,10 +51,6 @@ pub record AreCounts (e : Extent) (d : Derived) : Type 0 where
 abbrev pub AreDerivedIn : GroundSet → Derived → Type 0
 AreDerivedIn s d = IsReadable s × AreDerived (set_grid s) (set_products s) d.acc d.bas d.rnk
 
--- so of these inputs
-abbrev pub AreDerivedOf : Inputs → Derived → Type 0
-AreDerivedOf i d = AreDerivedIn (set_of i) d
-
 -- no refusal applies to this set, and these are the flows of its grid
 abbrev pub HasFlowsIn : GroundSet → Extent → List Flow → Type 0
 HasFlowsIn s e flows = IsReadable s × AreFlowsOf (set_grid s) (set_products s) e flows
@@ -74,15 +70,15 @@ abbrev pub IsDeriveRefusalIn : GroundSet → DeriveRefusal → Type 0
 IsDeriveRefusalIn s (Refused refusal) = IsRefusalIn s refusal
 IsDeriveRefusalIn s (NoEnd row col) = IsReadable s × IsFirstEndless (set_grid s) (set_products s) (record { row = row; col = col })
 
--- so of these inputs
-abbrev pub IsDeriveRefusal : Inputs → DeriveRefusal → Type 0
-IsDeriveRefusal i why = IsDeriveRefusalIn (set_of i) why
+-- what is said of the reading where nothing is derived: a run without an end is found once all was read
+abbrev pub reading_of : DeriveRefusal → Result (Unit {0}) Refusal
+reading_of (Refused refusal) = Err refusal
+reading_of (NoEnd row col) = Ok tt
 
--- what the answer says of the reading: a run without an end is found once all was read
+-- what the answer says of it
 abbrev pub reading_in : {T : Type 0} → Result T DeriveRefusal → Result (Unit {0}) Refusal
 reading_in (Ok made) = Ok tt
-reading_in (Err (Refused refusal)) = Err refusal
-reading_in (Err (NoEnd row col)) = Ok tt
+reading_in (Err why) = reading_of why
 
 -- Rasters that follow from directions, as products: that nothing else is left to be right.
 

@@ -104,10 +104,6 @@ pub record DerivedFit (h : Fields) (d : Derived) : Type 0 where
   pub bas : FitsHeader (header_on h Bas) d.bas
   pub rnk : FitsHeader (header_on h Rnk) d.rnk
 
--- and on a mosaic, where con's header stands for that of elevations
-abbrev pub CanBeDerived : Tiling → Derived → Type 0
-CanBeDerived t d = DerivedFit (made_header t Con) d
-
 -- the bytes of a product's two files: the text of its header, and the bytes of its raster
 abbrev pub bytes_of_both : Fields → Pixels → List (List ℕ) → List (List ℕ)
 bytes_of_both h r more = text_of h ∷ raster_bytes h r ∷ more

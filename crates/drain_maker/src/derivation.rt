@@ -1,26 +1,20 @@
-//! Directions that are read row by row with their tiles, and what follows from them.
+//! Directions that are read row by row with their elevations, and what follows from them.
 
 ghost use Rattle.std.specs.Prelude.{◌≡◌, ◌*◌};
-ghost use Rattle.drain_maker.specs.Names.{length, IfOk, IfErr, OfFlows, names_of, extent_of, header_extent, ForAudit, DemUses, ForDem, IsDemInput, dem_audit_devices, IsLayoutOf, ForSet, IsRefusalIn, as_five};
+ghost use Rattle.drain_maker.specs.Names.{length, IfOk, IfErr, OfFlows, ForSet, IsRefusalIn, as_five};
 ghost use Rattle.drain_paths.specs.Ways.{IsRankRefusal};
-ghost use Rattle.drain_maker.specs.Derived.{AreDerived, AreDerivedIn, AreCounts, AreDerivedOf, HasFlowsIn, IsDeriveRefusal, IsDeriveRefusalIn, IsFlowsRefusal, IsRefusalFor, reading_in};
+ghost use Rattle.drain_maker.specs.Derived.{AreDerived, AreDerivedIn, AreCounts, HasFlowsIn, IsDeriveRefusalIn, IsFlowsRefusal, IsRefusalFor, reading_in};
 ghost use Rattle.drain_verdict.specs.Given.{plain};
-ghost use Rattle.drain_verdict.specs.Uses.{AuditUses, UsesSet, set_devices};
-ghost use Rattle.drain_maker.specs.ProductFiles.{CanBeDerived, DerivedFit};
+ghost use Rattle.drain_verdict.specs.Uses.{UsesSet, set_devices};
 
 use crate::products::raster_of_counts;
 use drain_answer::Refusal;
 use drain_device::ByteSource;
 use drain_grid::{Judged, OutOfMemory, Product, Raster, Shape};
-use drain_header::Header;
-use drain_hgt::TileInput;
-use drain_hgt::laws::one_name;
-use drain_mosaic::Layout;
 use drain_paths::{CellFlows, CertifyRefusal, Flow, accumulate, count_steps, label_ended};
 use drain_verdict::ground::GroundInput;
 use drain_verdict::read_set::read_set;
-use drain_verdict::stages::layout_of;
-use drain_verdict::{AuditProducts, Given, RasterInput, dem_header};
+use drain_verdict::{AuditProducts, Given};
 use std::alloc::Global;
 use thiserror::Error;
 
@@ -74,70 +68,44 @@ pub enum DeriveRefusal {
     NoEnd { row: u32, col: u32 },
 }
 
-/// Accumulation, labels and ranks that follow from the directions of a mosaic, with its layout.
+/// Accumulation, labels and ranks that follow from directions on a ground, with its frame: of tiles their layout, of one
+/// raster its header.
 ///
-/// `side`, `tiles`, `sinks` and `products` are those of an audit, and so are the refusals. Tiles say which cells are
-/// voids, and dir says the rest: no number of con, acc or bas matters, no listed sink, and not how far apart cells are. If no refusal applies:
-/// `NoEnd` with the first data cell in row order whose path reaches no code 0, exactly if there is one. Memory: 14 bytes
-/// for each cell of the mosaic.
-pub fn derive<R: ByteSource>(
+/// `key` and `inputs` are those of the ground, `sinks` and `products` those of an audit, and so are the refusals. The inputs
+/// say which cells are voids, and dir says the rest: no number of con, acc or bas matters, no listed sink, and not how far
+/// apart cells are. If no refusal applies: `NoEnd` with the first data cell in row order whose path reaches no code 0,
+/// exactly if there is one. Memory: 14 bytes for each cell of the ground.
+pub fn derive_on<R: ByteSource, T: GroundInput<R>>(
     alloc: Global,
-    side: u32,
-    tiles: &mut [TileInput<R>],
+    key: &T::Key,
+    inputs: &mut [T],
     sinks: &[u8],
     products: &mut AuditProducts<R>,
-) -> Result<(Layout, Derived), DeriveRefusal>
-    ensures layout { IfOk result (λ made. IsLayoutOf side (names_of tiles.old) made.0) }
-    ensures derived { IfOk result (λ made. ForAudit R.bytes_left side tiles.old (plain sinks.now) products.old (λ inputs. AreDerivedOf inputs made.1)) }
-    ensures counts { IfOk result (λ made. AreCounts (extent_of made.0) made.1) }
-    ensures written { IfOk result (λ made. CanBeDerived made.0 made.1) }
-    ensures err { IfErr result (λ why. ForAudit R.bytes_left side tiles.old (plain sinks.now) products.old (λ inputs. IsDeriveRefusal inputs why)) }
+) -> Result<(T::Frame, Derived), DeriveRefusal>
+    requires admitted { T.admits inputs.old }
+    ensures frame { IfOk result (λ made. T.fit made.0 inputs.old) }
+    ensures keyed { IfOk result (λ made. T.key_of made.0 ≡ key.now) }
+    ensures derived { IfOk result (λ made. ForSet T.terrain (T.encodes key.now inputs.old) R.bytes_left (plain sinks.now) (as_five products.old) (λ s. AreDerivedIn s made.1)) }
+    ensures counts { IfOk result (λ made. AreCounts (T.extent made.0) made.1) }
+    ensures err { IfErr result (λ why. ForSet T.terrain (T.encodes key.now inputs.old) R.bytes_left (plain sinks.now) (as_five products.old) (λ s. IsDeriveRefusalIn s why)) }
 
     // How far it reads, when a read fails, and what is unchanged: as for an audit.
-    ensures uses { AuditUses R.bytes_left R.counts side (tiles.old, products.old) (tiles.new, products.new) (reading_in result) }
+    ensures uses { UsesSet as_five (λ xs ps. set_devices T.devices xs (as_five ps)) (T.within key.now) T.kept R.bytes_left R.counts (inputs.old, products.old) (inputs.new, products.new) (reading_in result) }
 {
-    // The law that bytes name one tile.
-    one_name();
-    let layout = match layout_of(alloc, side, tiles) {
-        Ok(layout) => layout,
+    // The laws of what is read of the inputs.
+    T::reading_laws();
+    let frame = match T::frame(alloc, key, inputs) {
+        Ok(frame) => frame,
         Err(refusal) => return Err(DeriveRefusal::Refused(refusal)),
     };
-    match derive_on::<R, TileInput<R>>(alloc, &layout, sinks, tiles, products) {
-        Ok(derived) => Ok((layout, derived)),
-        Err(why) => Err(why),
-    }
-}
-
-/// The same that follow from directions on one raster of elevations, with its header.
-///
-/// `dem`, `sinks` and refusals are those of an audit over a raster of elevations; all else is as for tiles.
-pub fn derive_dem<R: ByteSource>(
-    alloc: Global,
-    dem: &mut [RasterInput<R>; 1],
-    sinks: &[u8],
-    products: &mut AuditProducts<R>,
-) -> Result<(Header, Derived), DeriveRefusal>
-    ensures header { IfOk result (λ made. IsDemInput made.0 dem.old) }
-    ensures derived { IfOk result (λ made. ForDem R.bytes_left dem.old (plain sinks.now) (as_five products.old) (λ s. AreDerivedIn s made.1)) }
-    ensures counts { IfOk result (λ made. AreCounts (header_extent made.0) made.1) }
-    ensures written { IfOk result (λ made. DerivedFit made.0 made.1) }
-    ensures err { IfErr result (λ why. ForDem R.bytes_left dem.old (plain sinks.now) (as_five products.old) (λ s. IsDeriveRefusalIn s why)) }
-
-    // How far it reads, when a read fails, and what is unchanged: as for an audit.
-    ensures uses { DemUses as_five dem_audit_devices R.bytes_left R.counts (dem.old, products.old) (dem.new, products.new) (reading_in result) }
-{
-    let header = match dem_header(&dem[0]) {
-        Ok(header) => header,
-        Err(refusal) => return Err(DeriveRefusal::Refused(refusal)),
-    };
-    match derive_on::<R, RasterInput<R>>(alloc, &header, sinks, dem, products) {
-        Ok(derived) => Ok((header, derived)),
+    match derive_in::<R, T>(alloc, &frame, sinks, inputs, products) {
+        Ok(derived) => Ok((frame, derived)),
         Err(why) => Err(why),
     }
 }
 
 /// What follows from dir on a ground with this frame.
-fn derive_on<R: ByteSource, T: GroundInput<R>>(
+fn derive_in<R: ByteSource, T: GroundInput<R>>(
     alloc: Global,
     frame: &T::Frame,
     sinks: &[u8],

@@ -16,7 +16,7 @@ mod products;
 pub mod whole_dem;
 
 pub use dem::{AsRaster, make_dem};
-pub use derivation::{DeriveRefusal, Derived, derive, derive_dem, derive_from_flows};
+pub use derivation::{DeriveRefusal, Derived, derive_from_flows, derive_on};
 pub use drain_flood::LevelQueue;
 pub use drain_sets::{
     DERIVED_COUNT, DERIVED_FILES, FILE_COUNT, FilePart, Follow, SET_FILES, SetFault, SetFile,

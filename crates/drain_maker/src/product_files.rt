@@ -124,8 +124,8 @@ pub fn write_files<F: ByteSink>(
 
 /// Writes the files of derived rasters, one after the other. The first that can't be written ends it.
 ///
-/// Headers are those of `header_on`. `derive_dem` returns a header and rasters that can be written, and so does `derive`
-/// with con's header for its layout.
+/// Headers are those of `header_on`. What `derive_on` returns can be written: on one raster with its header, on tiles with
+/// con's header for their layout.
 pub fn write_derived<F: ByteSink>(
     alloc: Global,
     elevations: &Header,

@@ -1,5 +1,5 @@
 pub mod Names
-mod Acceptance
+pub mod Acceptance
 pub mod AuditAnswers
 pub mod AuditDevices
 pub mod BodyAnswers
@@ -19,7 +19,7 @@ pub mod SinkAnswers
 pub mod SpacingAnswers
 pub mod StartAnswers
 pub mod TileBodies
-mod TileSteps
+pub mod TileSteps
 pub mod DemSteps
 pub mod DemAnswers
 pub mod OneAnswer

@@ -3,7 +3,7 @@
 use crate::derived::{NONE, numbers, same};
 use drain_device::{ByteList, SliceSource};
 use drain_hgt::TileInput;
-use drain_maker::{DeriveRefusal, Derived, derive};
+use drain_maker::{DeriveRefusal, Derived, derive_on};
 use drain_verdict::{AuditProducts, RasterInput, Refusal};
 use std::alloc::{AllocError, Global};
 use std::test::Fail;
@@ -43,7 +43,7 @@ fn derived_of(alloc: Global, codes: &[u8]) -> Result<Result<Derived, DeriveRefus
     let body = SliceSource::new(&TILE);
     let mut tiles = [TileInput { name, body }];
     let mut read = products(alloc, codes)?;
-    match derive(alloc, 2, &mut tiles, &[], &mut read) {
+    match derive_on(alloc, &2, &mut tiles, &[], &mut read) {
         Ok((_, derived)) => Ok(Ok(derived)),
         Err(refusal) => Ok(Err(refusal)),
     }

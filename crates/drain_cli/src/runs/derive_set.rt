@@ -1,8 +1,11 @@
 //! What `derive` derives, and its files.
 
 ghost use Rattle.std.specs.Prelude.{◌≡◌};
-ghost use Rattle.drain_cli.specs.Names.{IfOk, length, Result, Fields, CanBeDerived, DerivedFit, DERIVED_COUNT, no_end_line, Derived, DeriveRefusal, Tiling};
-ghost use Rattle.drain_cli.specs.DerivedSets.{IsDemDerivation, IsDerivation, IsDerivedRun, IsSetHandedOver, none_line, none_status, told_of_dir, with_header};
+ghost use Rattle.drain_cli.specs.Names.{IfOk, length, DerivedFit, DERIVED_COUNT, no_end_line, ForSet};
+ghost use Rattle.drain_cli.specs.DerivedSets.{IsDerivedOn, IsDerivedRun, IsSetHandedOver, none_line, none_status, told_of_dir, with_header};
+ghost use Rattle.drain_cli.specs.OpenedInputs.{UsesGround};
+ghost use Rattle.drain_maker.specs.Derived.{AreCounts};
+ghost use Rattle.drain_verdict.specs.Given.{plain};
 
 use crate::runs::run_explain::headers_of_four;
 use crate::runs::slips::{OtherShape, other_shape};
@@ -22,9 +25,10 @@ use drain_files::outputs::{Failure, Outputs};
 use drain_grid::Product;
 use drain_header::Header;
 use drain_hgt::TileInput;
-use drain_maker::{DeriveRefusal, Derived, derive, derive_dem, product_header};
+use drain_maker::{DeriveRefusal, Derived, derive_on, product_header};
 use drain_mosaic::Layout;
 use drain_sets::DERIVED_FILES;
+use drain_verdict::ground::GroundInput;
 use drain_verdict::{AuditProducts, AuditVerdict, RasterInput, Refusal};
 use std::alloc::Global;
 
@@ -83,17 +87,18 @@ pub fn derive_opened<R: ByteSource, W: ByteSink>(
     let products = &mut files.products;
     match &mut files.elevations {
         OpenElevations::Tiles(OpenTiles { side, tiles }) => {
-            let set = derive_set(alloc, *side, tiles.as_mut_slice(), sinks, products, out);
-            with_header(set)
+            let tiles = tiles.as_mut_slice();
+            with_header(derive_set::<R, TileInput<R>, W>(alloc, side, tiles, sinks, products, out))
         }
-        OpenElevations::Dem(dem) => derive_dem_set(alloc, dem, sinks, products, out),
+        OpenElevations::Dem(dem) => {
+            derive_set::<R, RasterInput<R>, W>(alloc, &(), dem, sinks, products, out)
+        }
     }
 }
 
 /// What was derived on a mosaic, with con's header on it.
 fn with_header(set: Result<(Layout, Derived), u8>) -> Result<(Header, Derived), u8>
-    ensures header { result ≡ with_header set }
-    ensures written { IfOk set (λ derived. CanBeDerived derived.0 derived.1) → IfOk result (λ derived. DerivedFit derived.0 derived.1) }
+    ensures { result ≡ with_header set }
 {
     match set {
         Ok((layout, derived)) => Ok((product_header(&layout, Product::Con), derived)),
@@ -130,42 +135,25 @@ fn write_at(
     status
 }
 
-/// Reads tiles and directions, and computes accumulation, labels and ranks of these. If they can't be computed, it
-/// prints why and returns the exit status: 1 for `rejected NoEnd`, 2 for a refusal, 3 for `failed OutOfMemory` and
-/// `failed ReadFailed`, and if the line can't be written.
+/// Reads a ground and directions, and computes accumulation, labels and ranks of these; with them comes the ground's frame.
+/// If they can't be computed, it prints why and returns the exit status: 1 for `rejected NoEnd`, 2 for a refusal, 3 for
+/// `failed OutOfMemory` and `failed ReadFailed`, and if the line can't be written.
 ///
 /// Of the products only dir matters; a refusal of con's header names dir's, since con is to have the same header.
-pub fn derive_set<R: ByteSource, W: ByteSink>(
+pub fn derive_set<R: ByteSource, T: GroundInput<R>, W: ByteSink>(
     alloc: Global,
-    side: u32,
-    tiles: &mut [TileInput<R>],
+    key: &T::Key,
+    inputs: &mut [T],
     sinks: &[u8],
     products: &mut AuditProducts<R>,
     out: &mut W,
-) -> Result<(Layout, Derived), u8>
-    ensures run { (outcome : Result (Tiling × Derived) DeriveRefusal)
-        × IsDerivation R.ByteSource side tiles.old tiles.new sinks.now products.old products.new outcome
-        × IsSetHandedOver W.ByteSink out.old out.new outcome result }
-    ensures written { IfOk result (λ set. CanBeDerived set.0 set.1) }
+) -> Result<(T::Frame, Derived), u8>
+    requires admitted { T.admits inputs.old }
+    ensures run { IsDerivedOn (ForSet T.terrain (T.encodes key.now inputs.old) R.bytes_left (plain sinks.now)) (UsesGround T.devices (T.within key.now) T.kept R.bytes_left R.counts inputs.old inputs.new)
+        (λ frame. T.fit frame inputs.old × (T.key_of frame ≡ key.now)) W.ByteSink products.old products.new out.old out.new result }
+    ensures counts { IfOk result (λ set. AreCounts (T.extent set.0) set.1) }
 {
-    let derivation = derive(alloc, side, tiles, sinks, products);
-    or_print(derivation, out)
-}
-
-/// The same of directions on one raster of elevations, with its header.
-pub fn derive_dem_set<R: ByteSource, W: ByteSink>(
-    alloc: Global,
-    dem: &mut [RasterInput<R>; 1],
-    sinks: &[u8],
-    products: &mut AuditProducts<R>,
-    out: &mut W,
-) -> Result<(Header, Derived), u8>
-    ensures run { (outcome : Result (Fields × Derived) DeriveRefusal)
-        × IsDemDerivation R.ByteSource dem.old dem.new sinks.now products.old products.new outcome
-        × IsSetHandedOver W.ByteSink out.old out.new outcome result }
-    ensures written { IfOk result (λ set. DerivedFit set.0 set.1) }
-{
-    let derivation = derive_dem(alloc, dem, sinks, products);
+    let derivation = derive_on::<R, T>(alloc, key, inputs, sinks, products);
     or_print(derivation, out)
 }
 

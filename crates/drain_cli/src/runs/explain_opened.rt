@@ -10,58 +10,15 @@ use crate::runs::run_explain::{ExplainOutput, MapFrame, explain, headers_of};
 use drain_args::form::Form;
 use drain_device::{ByteSink, ByteSource};
 use drain_explain::{
-    FileLookup, Findings, Mapping, RefusalDetail, answer_and_findings, detail_of, detail_of_dem,
-    explain_on,
+    ExplainedInput, FileLookup, Findings, Mapping, answer_and_findings, explain_on,
 };
 use drain_files::open_judged::{JudgedProducts, OpenElevations, OpenFiles, OpenTiles};
-use drain_grid::{Judged, PerProduct};
+use drain_grid::Judged;
 use drain_hgt::TileInput;
 use drain_page::Facts;
 use drain_verdict::ground::GroundInput;
 use drain_verdict::{AuditProducts, Given, Outcome, Products, RasterInput, Refusal};
 use std::alloc::Global;
-
-/// Inputs of a ground, of whose refusals something is said.
-pub trait ExplainedInput<R: ByteSource>: GroundInput<R> {
-    /// What was expected and found where this refusal applies, if that is known.
-    fn detail<L: FileLookup>(
-        alloc: Global,
-        refusal: Refusal,
-        key: &Self::Key,
-        inputs: &[Self],
-        headers: &PerProduct<&[u8]>,
-        given: &Given,
-        look: &mut L,
-    ) -> Option<RefusalDetail>;
-}
-
-impl<R: ByteSource> ExplainedInput<R> for TileInput<R> {
-    fn detail<L: FileLookup>(
-        alloc: Global,
-        refusal: Refusal,
-        side: &u32,
-        tiles: &[TileInput<R>],
-        headers: &PerProduct<&[u8]>,
-        given: &Given,
-        look: &mut L,
-    ) -> Option<RefusalDetail> {
-        detail_of(alloc, refusal, *side, tiles, headers, given, look)
-    }
-}
-
-impl<R: ByteSource> ExplainedInput<R> for RasterInput<R> {
-    fn detail<L: FileLookup>(
-        alloc: Global,
-        refusal: Refusal,
-        _key: &(),
-        inputs: &[RasterInput<R>],
-        headers: &PerProduct<&[u8]>,
-        given: &Given,
-        look: &mut L,
-    ) -> Option<RefusalDetail> {
-        detail_of_dem(alloc, refusal, inputs.first()?, headers, given, look)
-    }
-}
 
 /// Explains the answer to the products that were opened beside their elevations, and returns the exit status.
 pub fn run_explain_on<R: ByteSource, B: ExplainOutput + FileLookup, W: ByteSink>(
@@ -129,7 +86,7 @@ where
     let refusal = match refusal_of(&answer) {
         Some(refusal) => {
             let headers = headers_of(products);
-            T::detail(alloc, refusal, key, inputs, &headers, given, beside)
+            T::detail_of(alloc, refusal, key, inputs, &headers, given, beside)
         }
         None => None,
     };

@@ -1,21 +1,33 @@
-use Rattle.drain_maker.proofs.Names.{sym, subst, IfErr-weaker, IfOk-weaker, Extent, AreFlowsOf, GroundSet, set_grid, set_products}
-use Rattle.drain_maker.proofs.DerivedRasters.{derive_refusal}
+use Rattle.drain_maker.proofs.Names.{◌≡◌, Some, None, Err, ap, sym, subst, UsesTold, as_five, set_devices, set_uses_none, told_by}
+use Rattle.drain_answer.specs.declared.refusal.Refusal.TheVariants.{ReadFailed}
+use Rattle.drain_maker.specs.Derived.{reading_of}
 use Rattle.drain_maker.proofs.derivation.derive_on.Goals as goal
 
-pub returns-in-Ok-clause-derived : goal.returns-in-Ok-clause-derived
-returns-in-Ok-clause-derived g c =
-    IfOk-weaker c.derive_flows.result _ _ (λ made derived x t means tell.
-    (let s : GroundSet = record { terrain = g.T.GroundInput.terrain x; texts = t } in
-    let flows = c.in-Ok.ensures.flows x t means tell in (
-      flows.0,
-      derived (set_grid s) (set_products s)
-          (subst (λ (e : Extent). AreFlowsOf (set_grid s) (set_products s) e c.in-Ok.flows) (sym c.shape.ensures) flows.1),
-    ))) c.derive_flows.ensures.derived
+pub returns-in-Err-clause-err : goal.returns-in-Err-clause-err
+returns-in-Err-clause-err g c = λ x t means tell. c.in-Err.ensures.refusal x means t
 
-pub returns-in-Ok-clause-err : goal.returns-in-Ok-clause-err
-returns-in-Ok-clause-err g c =
-    IfErr-weaker c.derive_flows.result _ _ (λ why told x t means tell.
-    (let s : GroundSet = record { terrain = g.T.GroundInput.terrain x; texts = t } in
-    let flows = c.in-Ok.ensures.flows x t means tell in
-    derive_refusal s why flows.0 (told (set_grid s) (set_products s)
-    (subst (λ (e : Extent). AreFlowsOf (set_grid s) (set_products s) e c.in-Ok.flows) (sym c.shape.ensures) flows.1)))) c.derive_flows.ensures.err
+pub returns-in-Err-clause-uses : goal.returns-in-Err-clause-uses
+returns-in-Err-clause-uses g c =
+    set_uses_none {T = Unit {0}} as_five (λ xs ps. set_devices g.T.GroundInput.devices xs (as_five ps)) (g.T.GroundInput.within c.args.key.now) g.T.GroundInput.kept g.R.ByteSource.bytes_left g.R.ByteSource.counts
+    c.args.inputs.now c.args.products.now (Err c.in-Err.refusal) (c.reading_laws.ensures.none_within c.args.key.now c.args.inputs.now) (c.reading_laws.ensures.none_kept c.args.inputs.now)
+    (λ is. c.in-Err.ensures.no_read (let same : c.in-Err.refusal ≡ ReadFailed = cc in ap Some same))
+
+pub returns-in-Ok-derive_in-clause-derived : goal.returns-in-Ok-derive_in-clause-derived
+returns-in-Ok-derive_in-clause-derived g c = λ x t means tell.
+    c.in-Ok-derive_in.ensures.derived x t (subst (λ key. g.T.GroundInput.encodes key c.args.inputs.now x) (sym c.in-Ok.ensures.keyed) means) tell
+
+pub returns-in-Ok-derive_in-clause-uses : goal.returns-in-Ok-derive_in-clause-uses
+returns-in-Ok-derive_in-clause-uses g c =
+    subst (λ key. UsesTold as_five (λ xs ps. set_devices g.T.GroundInput.devices xs (as_five ps)) (g.T.GroundInput.within key) g.T.GroundInput.kept g.R.ByteSource.bytes_left g.R.ByteSource.counts
+    (c.args.inputs.now, c.args.products.now) (c.derive_in.new.inputs, c.derive_in.new.products) None)
+    c.in-Ok.ensures.keyed c.in-Ok-derive_in.ensures.uses
+
+pub returns-in-Err-derive_in-clause-err : goal.returns-in-Err-derive_in-clause-err
+returns-in-Err-derive_in-clause-err g c = λ x t means tell.
+    c.in-Err-derive_in.ensures.err x t (subst (λ key. g.T.GroundInput.encodes key c.args.inputs.now x) (sym c.in-Ok.ensures.keyed) means) tell
+
+pub returns-in-Err-derive_in-clause-uses : goal.returns-in-Err-derive_in-clause-uses
+returns-in-Err-derive_in-clause-uses g c =
+    subst (λ key. UsesTold as_five (λ xs ps. set_devices g.T.GroundInput.devices xs (as_five ps)) (g.T.GroundInput.within key) g.T.GroundInput.kept g.R.ByteSource.bytes_left g.R.ByteSource.counts
+    (c.args.inputs.now, c.args.products.now) (c.derive_in.new.inputs, c.derive_in.new.products) (told_by (reading_of c.in-Err-derive_in.why)))
+    c.in-Ok.ensures.keyed c.in-Err-derive_in.ensures.uses

@@ -9,7 +9,7 @@ use Rattle.drain_header.specs.declared.fault.HeaderFault.{HeaderFault}
 use Rattle.drain_header.specs.declared.header.Place.{Place}
 use Rattle.drain_raster.specs.Pixels.{header_extent}
 use Rattle.drain_verdict.specs.Given.{Given}
-use Rattle.drain_explain.proofs.refused.detail_of_dem.Goals as goal
+use Rattle.drain_explain.proofs.refused.dem_detail.Goals as goal
 
 -- a refusal that isn't of the raster's header or body, nor of a product's header, has the details of a set
 of_set : (text : List ℕ) (texts : SetProduct → List ℕ) (given : Given) (r : Refusal) (detail : RefusalDetail) → r ≢ BadPixelSize → r ≢ DemShort → ((p : Product) (fault : HeaderFault) → r ≢ BadHeader p fault) →
