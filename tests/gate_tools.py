@@ -572,5 +572,87 @@ class Record(Copies):
         self.assertEqual(self.recorded(self.sum())[0], f"commit   {head}-changed")
 
 
+# The toolchain: rt says where it is, and rattle writes what it is to make and says that it proved it.
+KIT_RT = "#!/bin/sh\ncase $1 in doc) echo KIT/page ;; version) echo kit ;; esac\n"
+KIT_RATTLE = """#!/bin/sh
+line=$*
+while [ "$1" != -o ]; do shift; done
+case $2 in *.rlib) mkdir -p "$2" ;; *) echo compiled >"$2" ;; esac
+echo "$line" >>"$LOG"
+echo "logic=proved functions=3 sum=0 native=nat logic-built=trusted$MORE"
+"""
+KIT_LINK = """#!/bin/sh
+while [ "$1" != -o ]; do shift; done
+echo linked >"$2"
+"""
+
+
+class Built(Copies):
+    """tools/build.py with a stand-in for the toolchain, and three crates: high and drain are above low."""
+
+    def setUp(self) -> None:
+        super().setUp()
+        self.copy("tools/build.py", "tools/is_proved.sh", "tools/record_proof.sh", "tools/sources_sum.sh")
+        self.write(self.top / "crates.txt", "low: std_of_kit\nhigh: low\nother: low\ndrain: high low  # the program\n")
+        self.write(self.top / "HANDLES")
+        for name in ("low", "high", "other", "drain"):
+            self.write(self.top / f"crates/{name}/src/{'main' if name == 'drain' else 'lib'}.rt", name)
+        self.write(self.bin / "rt", KIT_RT.replace("KIT", str(self.bin)))
+        self.write(self.bin / "KIT-ID", "kit")
+        self.write(self.bin / "bin/rattle", KIT_RATTLE)
+        self.write(self.bin / "bin/rattle-link", KIT_LINK)
+
+    def build(self, *words: str, **more: str) -> tuple[int, str, list[list[str]]]:
+        """The status, what was printed, and the words of each call of rattle."""
+        self.log.write_text("")
+        ended = self.run_there("tools/build.py", *words, **more)
+        return ended.returncode, ended.stdout + ended.stderr, [line.split() for line in self.log.read_text().splitlines()]
+
+    def crates(self, calls: list[list[str]]) -> list[str]:
+        return [call[call.index("--crate-name") + 1] for call in calls]
+
+    def test_all_below_is_proved_once(self) -> None:
+        status, said, calls = self.build("build/drain")
+        self.assertEqual((status, self.crates(calls)), (0, ["low", "high", "drain"]))
+        self.assertIn("Proved and built in 0 seconds: build/drain\n", said)
+        self.assertTrue(all("out/incremental" in call and "--statements" not in call for call in calls))
+        self.assertEqual((self.top / "build/drain").read_text(), "linked\n")
+        self.assertEqual((self.top / "build/drain.o").read_text(), "compiled\n")
+        self.assertEqual(self.build("build/drain")[1:], ("Unchanged since it was proved and built: build/drain\n", []))
+
+    def test_what_changed_and_what_is_above_is_proved_again(self) -> None:
+        self.build("build/drain")
+        for changed, proved in (("drain/src/main", ["drain"]), ("high/src/lib", ["high", "drain"]), ("low/specs/a", ["low", "high", "drain"])):
+            with self.subTest(changed):
+                self.write(self.top / f"crates/{changed}.rt", "changed")
+                self.assertEqual(self.crates(self.build("build/drain")[2]), proved)
+        self.assertEqual(self.crates(self.build("--anew", "build/drain")[2]), ["low", "high", "drain"])
+
+    def test_from_nothing(self) -> None:
+        _, _, calls = self.build("--anew", "build/drain-v3")
+        self.assertEqual(["--statements" in call for call in calls], [True, True, False])
+        self.assertFalse(any("--incremental" in call for call in calls))
+        self.assertEqual(calls[2][calls[2].index("--cpu") + 1], "x86-64-v3")
+        self.assertIn("cpu      x86-64-v3\n", (self.top / "build/drain-v3.proved").read_text())
+        self.assertFalse(list((self.top / "build/libraries").iterdir()))
+
+    def test_over_what_was_proved_there(self) -> None:
+        status, _, calls = self.build("--over", ".", "build/drain")
+        self.assertEqual((status, self.crates(calls)), (0, ["drain"]))
+        self.assertIn(f"high={self.top}/crates/high/out/rlib/high.rlib", calls[0])
+
+    def test_no_proof_leaves_the_old_program(self) -> None:
+        self.build("build/drain")
+        self.write(self.top / "crates/drain/src/main.rt", "changed")
+        for more in (" foreign=1", " bugs=1", " may-abort", " main=Wait"):
+            status, said, _ = self.build("build/drain", MORE=more)
+            self.assertEqual((status, (self.top / "build/drain").read_text()), (1, "linked\n"))
+            self.assertIn("drain:\n", said)
+        self.assertEqual(self.build("build/drain", MORE=" axioms=3")[0], 0)
+
+    def test_a_target_that_is_none(self) -> None:
+        self.assertEqual(self.build("build/other")[0::2], (2, []))
+
+
 if __name__ == "__main__":
     unittest.main()

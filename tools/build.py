@@ -2,9 +2,9 @@
 """Proves what is built and all below it, and builds it: the program, the program for x86-64-v3, the library for C.
 
 Crates are proved side by side, those with the longest chain of others above them first; where a processor would be idle,
-the first gets it too. What is proved is kept in crates/*/out, where rt keeps its work too, and what was kept there is
-taken. With --anew nothing is taken or kept. With --over nothing below what is built is proved: `rt ci` did so just now, in
-that folder.
+the first gets it too. What is proved is kept in crates/*/out, where rt keeps its work too, and libraries in
+build/libraries; what was kept is taken where its sources and those below are the same. With --anew nothing is taken or
+kept. With --over nothing below what is built is proved: `rt ci` did so just now, in that folder.
 
 Each TARGET ends in what is built: drain, drain-v3 or libdrain.a. Beside it come the record of its proof, TARGET.proved, and
 of a program the object that it was linked from, TARGET.o. Nothing is done where these fit the sources.
@@ -19,6 +19,7 @@ import contextlib
 import dataclasses
 import fcntl
 import functools
+import hashlib
 import os
 import re
 import shutil
@@ -38,8 +39,11 @@ BYTES_OF_A_CHECK = 5 << 30
 PROVED = re.compile(
     r"^logic=proved functions=(\d+)( (axioms|target|cpu|sum|native|logic-built|libraries-built|statements|incremental)=\S+)+$", re.M
 )
-# Where rt keeps what was proved, in a crate's folder.
+# Where rt keeps what was proved, in a crate's folder; and where libraries are kept here.
 KEPT = ("--incremental", "out/incremental")
+LIBRARIES = TOP / "build/libraries"
+# What the prover reads of a crate.
+PARTS = ("src", "specs", "proofs")
 
 
 class NotProved(Exception):
@@ -144,13 +148,25 @@ def run_kit(words: list[str | Path], what: str = "", cwd: Path = TOP, given: str
 class Prover:
     """Calls of rattle over libraries that are proved: in a folder of their own, or where `rt ci` left them."""
 
-    def __init__(self, uses: dict[str, list[str]], scratch: Path, over: Path | None, keeps: bool) -> None:
-        self.uses, self.scratch, self.over, self.keeps = uses, scratch, over, keeps
+    def __init__(self, uses: dict[str, list[str]], libraries: Path, over: Path | None, keeps: bool) -> None:
+        self.uses, self.libraries, self.over, self.keeps = uses, libraries, over, keeps
+        self.key = functools.cache(self.sum_of)
+
+    def sum_of(self, crate: str) -> str:
+        """A sum of all that decides what a library is: its sources, those below, and the toolchain."""
+        found = hashlib.sha256(repr([(kit() / "KIT-ID").read_text(), self.uses[crate]]).encode())
+        folder = TOP / "crates" / crate
+        for file in sorted(it for part in PARTS for it in (folder / part).rglob("*") if it.is_file()):
+            found.update(hashlib.sha256(str(file.relative_to(folder)).encode()).digest())
+            found.update(hashlib.sha256(file.read_bytes()).digest())
+        for low in self.uses[crate]:
+            found.update((self.key(low) if low in self.uses else low).encode())
+        return found.hexdigest()
 
     def rlib(self, name: str) -> Path:
         if name not in self.uses:
             return kit() / "rlibs" / f"{name}.rlib"
-        return (self.over / "crates" / name / "out/rlib" if self.over else self.scratch) / f"{name}.rlib"
+        return (self.over / "crates" / name / "out/rlib" if self.over else self.libraries) / f"{name}.rlib"
 
     def build(self, crate: str, made: Path, root: str, *words: str) -> int:
         """Proves a crate and writes what is made of it. Returns how many functions were proved."""
@@ -170,9 +186,16 @@ class Prover:
         return int(proved[1])
 
     def prove(self, crate: str, jobs: int) -> int:
-        """Proves a library."""
-        words = KEPT if self.keeps else ["--statements"]
-        return self.build(crate, self.rlib(crate), "src/lib.rt", "--jobs", str(jobs), *words)
+        """Proves a library, unless the one that is kept is of these sources."""
+        if not self.keeps:
+            return self.build(crate, self.rlib(crate), "src/lib.rt", "--jobs", str(jobs), "--statements")
+        kept, key = self.libraries / f"{crate}.key", self.key(crate)
+        if kept.is_file() and kept.read_text().split()[0] == key and self.rlib(crate).is_dir():
+            return int(kept.read_text().split()[1])
+        kept.unlink(missing_ok=True)
+        functions = self.build(crate, self.rlib(crate), "src/lib.rt", "--jobs", str(jobs), *KEPT)
+        kept.write_text(f"{key} {functions}\n")
+        return functions
 
     def compile(self, product: Product, made: Path, jobs: int) -> int:
         """Proves the crate of what is built, and compiles it."""
@@ -269,16 +292,16 @@ def build(targets: list[Path], over: Path | None, keeps: bool) -> None:
         tops.setdefault(PRODUCTS[target.name].crate, []).append(target)
     libraries = 0 if over else len(with_all_below({*tops}, uses)) - len(tops)
     progress = Progress(libraries + len(targets))
-    print(f"Proving {progress.crates} crates: LONG with 4 processors the first time ...", flush=True)
+    print(f"Proving {progress.crates} crates: half an hour or more with 4 processors the first time ...", flush=True)
     proved_sum = sources_sum()
-    (TOP / "build").mkdir(exist_ok=True)
+    LIBRARIES.mkdir(parents=True, exist_ok=True)
     with tempfile.TemporaryDirectory(dir=TOP / "build", prefix="proving-") as folder:
         scratch = Path(folder)
         made = {target: scratch / target.name / PRODUCTS[target.name].made for target in targets}
         for file in made.values():
             file.parent.mkdir()
         try:
-            prove_all(Prover(uses, scratch, over, keeps), tops, made, progress)
+            prove_all(Prover(uses, LIBRARIES if keeps else scratch, over, keeps), tops, made, progress)
         finally:
             progress.end()
         if sources_sum() != proved_sum:
