@@ -129,17 +129,23 @@ impl PartRow {
         kinds: Kinds,
     ) -> Result<PartRow, Fail> {
         let numbers = parts.row_of(Part::Elevations, row).unwrap_or(&[]);
-        let z = ground_row(alloc, parts.ground, numbers)?;
-        if z.len() > 28801 {
+        let z = [ground_row(alloc, parts.ground, numbers)?];
+        let count = z[0].len();
+        if count > 28801 {
             return Err("a row".into());
         }
-        let count = z.len();
         let [con, dir, acc, bas, rnk] = kinds;
-        let con = parts.product_of(alloc, (Part::Con, con), row, count)?;
-        let dir = parts.product_of(alloc, (Part::Dir, dir), row, count)?;
-        let acc = parts.product_of(alloc, (Part::Acc, acc), row, count)?;
-        let bas = parts.product_of(alloc, (Part::Bas, bas), row, count)?;
+        // In arrays, which are dropped by one call: each way out would take the steps of every member.
+        let con = [parts.product_of(alloc, (Part::Con, con), row, count)?];
+        let dir = [parts.product_of(alloc, (Part::Dir, dir), row, count)?];
+        let acc = [parts.product_of(alloc, (Part::Acc, acc), row, count)?];
+        let bas = [parts.product_of(alloc, (Part::Bas, bas), row, count)?];
         let rnk = parts.product_of(alloc, (Part::Rnk, rnk), row, count)?;
+        let [z] = z;
+        let [con] = con;
+        let [dir] = dir;
+        let [acc] = acc;
+        let [bas] = bas;
         Ok(part_row(z, con, dir, acc, bas, rnk))
     }
 
