@@ -598,7 +598,6 @@ class Built(Copies):
         for name in ("low", "high", "other", "drain"):
             self.write(self.top / f"crates/{name}/src/{'main' if name == 'drain' else 'lib'}.rt", name)
         self.write(self.bin / "rt", KIT_RT.replace("KIT", str(self.bin)))
-        self.write(self.bin / "KIT-ID", "kit")
         self.write(self.bin / "bin/rattle", KIT_RATTLE)
         self.write(self.bin / "bin/rattle-link", KIT_LINK)
 

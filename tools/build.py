@@ -68,9 +68,14 @@ PRODUCTS = {
 
 
 @functools.cache
+def rt_says(word: str) -> str:
+    """What the toolchain prints at a word."""
+    return subprocess.run(["rt", word], check=True, capture_output=True, text=True).stdout.strip()
+
+
 def kit() -> Path:
     """The toolchain's folder."""
-    return Path(subprocess.run(["rt", "doc"], check=True, capture_output=True, text=True).stdout.strip()).parent
+    return Path(rt_says("doc")).parent
 
 
 def read_crates() -> dict[str, list[str]]:
@@ -154,7 +159,7 @@ class Prover:
 
     def sum_of(self, crate: str) -> str:
         """A sum of all that decides what a library is: its sources, those below, and the toolchain."""
-        found = hashlib.sha256(repr([(kit() / "KIT-ID").read_text(), self.uses[crate]]).encode())
+        found = hashlib.sha256(repr([rt_says("version"), self.uses[crate]]).encode())
         folder = TOP / "crates" / crate
         for file in sorted(it for part in PARTS for it in (folder / part).rglob("*") if it.is_file()):
             found.update(hashlib.sha256(str(file.relative_to(folder)).encode()).digest())
