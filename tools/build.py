@@ -277,9 +277,7 @@ def prove_all(prover: Prover, tops: dict[str, list[Path]], made: dict[Path, Path
                 idle = lanes - sum(jobs for _, jobs in running.values())
                 if idle <= 0:
                     break
-                # The crate that most others wait for has a second job at any rate.
-                is_first = chain[it[0]] >= max(chain[name] for name, _ in [*work, *running.values()])
-                jobs = max(1 + is_first, idle - (len(ready) - at - 1))
+                jobs = max(1, idle - (len(ready) - at - 1))
                 work.remove(it)
                 running[begin(*it, jobs)] = it[0], jobs
             for done in wait(running, timeout=1, return_when=FIRST_COMPLETED).done:
