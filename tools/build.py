@@ -295,7 +295,7 @@ def build(targets: list[Path], over: Path | None, keeps: bool) -> None:
         tops.setdefault(PRODUCTS[target.name].crate, []).append(target)
     libraries = 0 if over else len(with_all_below({*tops}, uses)) - len(tops)
     progress = Progress(libraries + len(targets))
-    print(f"Proving {progress.crates} crates: some 40 minutes with 4 processors the first time ...", flush=True)
+    print(f"Proving {progress.crates} crates: 40 to 50 minutes with 4 processors the first time ...", flush=True)
     proved_sum = sources_sum()
     LIBRARIES.mkdir(parents=True, exist_ok=True)
     with tempfile.TemporaryDirectory(dir=TOP / "build", prefix="proving-") as folder:
