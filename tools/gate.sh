@@ -30,14 +30,11 @@ tools/check_docs.py
 tools/check_layout.sh
 [ -z "$fast" ] || exec tools/gate_steps.py --fast
 
-# As many checks side by side as there are processors, and 5 GiB of memory for each. rt gives a check more jobs where a processor would be idle.
-held=$(awk '/MemAvailable/ { print int($2 / 5242880) }' /proc/meminfo)
-if [ "$held" -lt "$(nproc)" ]; then
-    [ "$held" -ge 1 ] || held=1
-    export RT_JOBS=$held
-fi
+# A check a processor, as many as memory holds at 5 GiB each (those seen took up to 2). Left to itself rt reckons their memory
+# by the lines of all crates below, and leaves half of the processors idle.
+jobs=$(awk -v most="$(nproc)" '/MemAvailable/ { held = int($2 / 5242880); print held < 1 ? 1 : held < most ? held : most }' /proc/meminfo)
 sources=$(tools/sources_sum.sh)
-time tools/gate_proofs.py
+time RT_JOBS=$jobs tools/gate_proofs.py
 [ "$(tools/sources_sum.sh)" = "$sources" ] || {
     echo 'the sources changed while they were proved: run this again' >&2
     exit 1
