@@ -2,13 +2,13 @@
 --
 -- The heights are the least surface of the grid. Each other least surface is equal to it at data cells. So the first data cell
 -- where the lists differ is the first one where the surface isn't filled.
-use Rattle.drain_filled.proofs.Names.{◌≡◌, ◌≤ℤ◌, ◌*◌, ◌∙◌, ℕ, ℤ, pos, ◌==◌, Bool, inl, inr, List, refl, sym, ap, subst, arith, Option, Some, None, IsSome, IsNone, MatchOption, unwrap_or, if◌then◌else◌, cases_eq, eq-eqb, ne_eqb, false≢true, ints, Cell, BelowGround, SinkLine, Extent, IsCellOf, Grid, HasData, IsInside, Products, height_at, IsLeastSurface, Surface, earlier_index, con_below, levels, index_of-below, UNREACHED, none_or_some, listed_at, AreOneBefore, HasMark, IsFirstOther, HasCellsOf, HasHeights, IsFirstUnfilled, HasSinks, IsGroundAndCon, mark_of, DataCells, HasDataCells, data_mark, listed_grid, IsBetween}
+use Rattle.drain_filled.proofs.Names.{AreOneBefore, HasCellsOf, HasHeights, HasMark, IsFirstOther, IsFirstUnfilled, HasSinks, IsGroundAndCon, mark_of, DataCells, HasDataCells, data_mark, listed_grid, none_or_some, IsBetween, listed_at, UNREACHED, earlier_index, con_below, levels, index_of-below, Extent, IsCellOf, Grid, HasData, IsInside, Products, height_at, IsLeastSurface, Surface, Cell, BelowGround, SinkLine, Bool, IsNone, IsSome, List, MatchOption, None, Option, Some, ap, arith, if◌then◌else◌, inl, inr, pos, refl, subst, sym, unwrap_or, ℕ, ℤ, ◌*◌, ◌==◌, ◌∙◌, ◌≡◌, ◌≤ℤ◌, cases_eq, eq-eqb, false≢true, ne_eqb, ints}
 use Rattle.drain_grid.specs.GridRules.{RulesHold}
 use Rattle.drain_grid.specs.PatchRules.{surface_rules}
 use Rattle.drain_grid.specs.Rule.{IsFillRule}
 use Rattle.drain_filled.proofs.LeastSurfaces.{one_least_surface, same_cells_same_surface}
 
-its_own : (g : Grid) → HasCellsOf g g
+pub its_own : (g : Grid) → HasCellsOf g g
 its_own g = record { extent = refl; elevation = λ c inside. refl; sink = λ c inside. refl }
 
 module _ (g : Grid) (s : Surface) (w : DataCells) (sinks : List SinkLine) (con least : List ℤ) (cells : HasDataCells g w sinks)

@@ -1,11 +1,6 @@
 pub mod Names
-pub mod Beginning
-pub mod Ending
+pub mod OpenGrounds
 pub mod FirstCon
 pub mod FirstUnfilled
 pub mod LeastSurfaces
 pub mod MarkedSurfaces
-pub mod Moving
-pub mod Spreading
-pub mod Sweeping
-pub mod Waits

@@ -1,5 +1,5 @@
 -- A least surface with the marks of its cells is a surface from which ways are found; between pixels it has pixels' numbers.
-use Rattle.drain_filled.proofs.Names.{◌≡◌, ◌≢◌, ◌∙◌, ◌*◌, ◌<◌, ◌≤ℤ◌, ℕ, ℤ, pos, List, [], ◌∷◌, length, get_or, refl, sym, ap, subst, arith, ints, Cell, Extent, index_of, Grid, HasData, IsInside, height_at, IsLeastSurface, NeverRises, Surface, least_at_open, least_beside, AreNeighbors-lies, step_lies, index_of-below, UNREACHED, Flooding, IsSurfaceOf, con_at, mark_at, HasHeights, ArePixelHeights, DataCells, IsMarkAt, IsVoided, data_mark, IsBetween}
+use Rattle.drain_filled.proofs.Names.{HasHeights, ArePixelHeights, DataCells, IsVoided, data_mark, Flooding, IsBetween, IsSurfaceOf, con_at, mark_at, UNREACHED, least_at_open, least_beside, AreNeighbors-lies, step_lies, index_of-below, Extent, index_of, Grid, HasData, IsInside, height_at, IsLeastSurface, NeverRises, Surface, Cell, List, [], ap, arith, get_or, length, pos, refl, subst, sym, ℕ, ℤ, ◌*◌, ◌<◌, ◌∙◌, ◌∷◌, ◌≡◌, ◌≢◌, ◌≤ℤ◌, ints}
 use Rattle.drain_grid.specs.declared.values.TheConstants.{LEAST_PIXEL, GREATEST_PIXEL}
 use Rattle.drain_grid.specs.Values.{IsPixel}
 use Rattle.drain_filled.proofs.LeastSurfaces.{same_cells_same_surface}
@@ -32,21 +32,24 @@ ground_between g e xs extent heights = record {
     same_at_most : (a b : ℤ) → a ≡ b → a ≤ℤ b
     same_at_most a b same = omega (arith, ints, same)
 
--- a least surface and its marks
-pub surface_of_least : (g : Grid) (f : Flooding) → length f.con ≡ g.extent.rows * g.extent.cols → length f.mark ≡ g.extent.rows * g.extent.cols →
-    IsLeastSurface g (con_at g.extent f) → ((c : Cell) → IsInside g c → IsMarkAt g c (mark_at g.extent f c)) → IsSurfaceOf g f
-surface_of_least g f con mark least marks = record {
-  counted = record { con = con; mark = mark };
-  voids = λ c inside void. (marks c inside).void void;
+-- a surface with other heights, if these are the least surface too
+pub surface_of_least : (g : Grid) (old new : Flooding) → IsSurfaceOf g old → length new.con ≡ g.extent.rows * g.extent.cols → new.mark ≡ old.mark →
+    IsLeastSurface g (con_at g.extent new) → IsSurfaceOf g new
+surface_of_least g old new is con mark least = record {
+  counted = record { con = con; mark = ap length mark ∙ is.counted.mark };
+  voids = λ c inside void. same c ∙ is.voids c inside void;
   opened = λ c is_open. record {
-    con = least_at_open g (con_at g.extent f) least c (record { inside = is_open.0; is_data = is_open.1.0 }) is_open;
-    mark = (marks c is_open.0).opened is_open;
+    con = least_at_open g (con_at g.extent new) least c (record { inside = is_open.0; is_data = is_open.1.0 }) is_open;
+    mark = same c ∙ (is.opened c is_open).mark;
   };
-  closed = λ c here shut. (marks c here.inside).closed here shut;
+  closed = λ c here shut. same c ∙ is.closed c here shut;
   covers = least.covers;
   drains = least.drains;
-  least = λ c n d here there leads. least_beside g (con_at g.extent f) least c n here there (AreNeighbors-lies c n d (step_lies g.extent c n d leads).1);
+  least = λ c n d here there leads. least_beside g (con_at g.extent new) least c n here there (AreNeighbors-lies c n d (step_lies g.extent c n d leads).1);
 }
+  where
+    same : (c : Cell) → mark_at g.extent new c ≡ mark_at g.extent old c
+    same c = ap (λ xs. get_or xs (index_of g.extent c) 0) mark
 
 -- voids get their number, and the heights of data cells stay
 module _ (g : Grid) (w : DataCells) (old new : List ℤ) (void : ℤ) (extent : g.extent ≡ w.extent) (long : length old ≡ w.extent.rows * w.extent.cols)

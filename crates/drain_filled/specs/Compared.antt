@@ -1,11 +1,7 @@
 -- Two lists of heights in row order, compared at the data cells of a grid.
 use Rattle.std.specs.Prelude.{◌≡◌, ◌≢◌, ◌<◌}
-use Rattle.drain_filled.specs.Names.{ℕ, ℤ, pos, List, slice_index_or, Cell, IsCellOf, index_of, IsEarlier, Extent, Grid, HasData, IsInside, IsLeastSurface, Surface, UNREACHED}
+use Rattle.drain_filled.specs.Names.{ℕ, ℤ, pos, List, slice_index_or, Cell, IsCellOf, index_of, IsEarlier, Grid, HasData, IsInside, IsLeastSurface, Surface, UNREACHED, listed_at}
 use Rattle.drain_filled.specs.Grounds.{DataCells, data_mark}
-
--- the number at a cell's place in a list in row order
-abbrev pub listed_at : Extent → List ℤ → Cell → ℤ
-listed_at e numbers c = slice_index_or numbers (index_of e c) (pos 0)
 
 -- the cell has data
 pub record HasMark (w : DataCells) (c : Cell) : Type 0 where

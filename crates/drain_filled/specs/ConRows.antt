@@ -3,7 +3,7 @@ use Rattle.std.specs.Prelude.{◌≡◌, ◌*◌, ◌<◌, ◌++◌}
 use Rattle.drain_filled.specs.Names.{ℕ, ℤ, pos, List, Option, Some, None, length, map, slice_index_or, Cell, SinkLine, index_of, Grid, Products, IsInside, is_listed, UNREACHED, VOID}
 use Rattle.drain_filled.specs.Grounds.{DataCells, data_mark}
 
--- the mark of a cell with this elevation: before a sweep no data cell is reached
+-- the mark of a cell with this elevation: before a flood no data cell is reached
 abbrev pub mark_of : Option ℤ → ℕ
 mark_of None = VOID
 mark_of (Some z) = UNREACHED

@@ -1,6 +1,6 @@
 -- Which cells of a grid have data, in memory; and the grid that it is with a number at each of them.
 use Rattle.std.specs.Prelude.{◌≡◌, ◌≢◌, ◌==◌, if◌then◌else◌}
-use Rattle.drain_filled.specs.Names.{ℕ, ℤ, pos, List, Option, Some, None, IsNone, slice_index_or, Cell, Direction, SinkLine, Extent, index_of, step, Grid, HasData, IsInside, IsOpenCell, height_at, is_listed, IsPixel, OPEN, REACHED, UNREACHED, VOID}
+use Rattle.drain_filled.specs.Names.{ℕ, ℤ, pos, List, Option, Some, None, IsNone, slice_index_or, Cell, Direction, SinkLine, Extent, index_of, step, Grid, HasData, IsInside, height_at, is_listed, IsPixel, UNREACHED}
 use Rattle.drain_grid.specs.Spacing.{unit_spacing}
 
 -- a mark for each cell, in row order: that of an unreached cell where there is data, another at voids
@@ -35,12 +35,6 @@ pub record HasDataCells (g : Grid) (w : DataCells) (sinks : List SinkLine) : Typ
 -- each elevation is a number that some pixel encodes
 abbrev pub ArePixelHeights : Grid → Type 0
 ArePixelHeights g = (c : Cell) → HasData g c → IsPixel (height_at g c)
-
--- the mark of a cell on a filled surface: of an open cell, of a closed one, or of a void
-pub record IsMarkAt (g : Grid) (c : Cell) (mark : ℕ) : Type 0 where
-  pub void : IsNone (g.elevation c) → mark ≡ VOID
-  pub opened : IsOpenCell g c → mark ≡ OPEN
-  pub closed : HasData g c → ¬ IsOpenCell g c → mark ≡ REACHED
 
 -- a height of a cell with this mark became another: it stays where there is data if it is a pixel's number, and is the number
 -- of a void elsewhere

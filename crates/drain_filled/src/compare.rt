@@ -1,13 +1,12 @@
 //! The first cell where a surface isn't the filled one.
 
 ghost use Rattle.std.specs.Prelude.{◌≡◌, ◌↔◌, ◌*◌, ◌<◌};
-ghost use Rattle.drain_filled.specs.Names.{length, IfOk, IsTrue, MatchOption, pos, slice_index_or, Cell, Grid, IsLeastSurface, Surface};
-ghost use Rattle.drain_filled.specs.Compared.{AreOneBefore, IsFirstOther, HasCellsOf, HasHeights, IsFirstUnfilled, listed_at};
+ghost use Rattle.drain_filled.specs.Names.{length, IfOk, IsTrue, MatchOption, pos, slice_index_or, Cell, Grid, IsBetween, IsLeastSurface, Surface, listed_at};
+ghost use Rattle.drain_filled.specs.Compared.{AreOneBefore, IsFirstOther, HasCellsOf, HasHeights, IsFirstUnfilled};
 ghost use Rattle.drain_filled.specs.Grounds.{HasDataCells, listed_grid};
-ghost use Rattle.drain_filled.specs.Sweeps.{IsBetween};
 
+use crate::first_marks::fill;
 use crate::ground::Ground;
-use crate::spread::fill;
 use drain_grid::{Cell, OutOfMemory, Sinks};
 use std::alloc::Global;
 
@@ -30,7 +29,8 @@ pub fn first_unfilled(
     ensures between { IfOk result (λ found. (g : Grid) (s : Surface) → HasDataCells g ground.now sinks.now → IsBetween g (λ c. listed_at ground.now.extent elevation.now c) → HasHeights g s con.now → MatchOption found (IsLeastSurface g s) (IsFirstUnfilled g s)) }
 {
     let heights = copied(alloc, elevation)?;
-    let least = fill(alloc, ground, heights, sinks)?;
+    let flood = fill(alloc, ground, heights, sinks)?;
+    let (least, _marks) = flood.into_parts();
     Ok(first_other(ground, con, &least))
 }
 

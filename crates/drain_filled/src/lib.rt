@@ -2,17 +2,14 @@
 //! until it drains: it was the filled one if nothing had to be raised, and else the first cell that was names the fault.
 #![tactic(auto)]
 
-mod around;
 pub mod compare;
 pub mod con_rows;
+mod first_marks;
 pub mod ground;
-mod height_queue;
 mod kept_rows;
 pub mod laws;
 pub mod marked;
-mod spread;
 pub mod surfaces;
-mod sweep;
 
 pub use compare::first_unfilled;
 pub use con_rows::ConRows;

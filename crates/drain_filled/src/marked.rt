@@ -1,16 +1,16 @@
 //! The filled surface of a ground with the marks of its cells, from which ways are found.
 
 ghost use Rattle.std.specs.Prelude.{◌≡◌, ◌*◌, ◌<◌};
-ghost use Rattle.drain_filled.specs.Names.{ℕ, IfOk, IsNone, length, pos, slice_index_or, Cell, IsCellOf, index_of, Grid, IsInside, height_at, IsPixel, IsSurfaceOf, con_at};
+ghost use Rattle.drain_filled.specs.Names.{ℕ, IfOk, IsNone, length, pos, slice_index_or, Cell, Grid, IsInside, height_at, IsPixel, IsSurfaceOf, con_at};
 ghost use Rattle.drain_filled.specs.Compared.{HasHeights};
-ghost use Rattle.drain_filled.specs.Grounds.{ArePixelHeights, HasDataCells, IsMarkAt, IsVoided};
+ghost use Rattle.drain_filled.specs.Grounds.{ArePixelHeights, HasDataCells, IsVoided};
 
+use crate::first_marks::fill;
 use crate::ground::Ground;
-use crate::spread::fill;
-use drain_flood::layers::{OPEN, REACHED, UNREACHED, VOID};
+use drain_flood::layers::UNREACHED;
 use drain_flood::{Surface, WideHeights};
 use drain_grid::values::{GREATEST_PIXEL, LEAST_PIXEL};
-use drain_grid::{Cell, OutOfMemory, Sinks};
+use drain_grid::{OutOfMemory, Sinks};
 use std::alloc::Global;
 
 /// The filled surface of a ground, with this number at each void.
@@ -32,38 +32,10 @@ pub fn filled_surface(
 {
     let shape = ground.shape();
     let _cells = shape.cells();
-    let marks = marks_of(alloc, ground, sinks)?;
-    let mut con = fill(alloc, ground, elevation, sinks)?;
+    let flood = fill(alloc, ground, elevation, sinks)?;
+    let (mut con, marks) = flood.into_parts();
     put_voids(ground, void, &mut con);
     Ok(Surface::new(shape, WideHeights::new(con), marks))
-}
-
-/// The mark of each cell, in row order: of an open cell, of a closed one, or of a void.
-fn marks_of(alloc: Global, ground: &Ground, sinks: &Sinks) -> Result<Vec<u8>, OutOfMemory>
-    ensures counted { IfOk result (λ marks. length marks.items ≡ ground.now.extent.rows * ground.now.extent.cols) }
-    ensures marks { IfOk result (λ marks. (g : Grid) → HasDataCells g ground.now sinks.now → (c : Cell) → IsInside g c → IsMarkAt g c (slice_index_or marks.items (index_of g.extent c) 0)) }
-{
-    let shape = ground.shape();
-    let mut marks = Vec::with_capacity(alloc, shape.cells())?;
-    for place in 0..shape.cells() {
-        marks.push(mark_of(ground, sinks, shape.cell(place)))?;
-    }
-    Ok(marks)
-}
-
-/// The mark of a cell.
-fn mark_of(ground: &Ground, sinks: &Sinks, cell: Cell) -> u8
-    requires inside { IsCellOf ground.now.extent cell }
-    ensures mark { (g : Grid) → HasDataCells g ground.now sinks.now → IsMarkAt g cell result }
-{
-    if !ground.has_data(cell) {
-        return VOID;
-    }
-    if ground.is_open(sinks, cell) {
-        OPEN
-    } else {
-        REACHED
-    }
 }
 
 /// Puts this number at each cell without data. Heights that are pixels stay.

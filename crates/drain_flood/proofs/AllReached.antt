@@ -1,11 +1,8 @@
--- If the trail is empty and no cell waits, every data cell is reached: going east from it leads to an open cell, since
--- the last column is on the edge, and every open cell is reached.
-use Rattle.drain_flood.proofs.Names.{◌≡◌, ℕ, zero, suc, ◌+◌, ◌-◌, ◌<◌, inl, inr, ℤ, List, [], Option, Some, None, option_map, Contains, refl, sym, subst, arith, cases_eq, Cell, Direction, East, opposite, step, Grid, HasData, IsOpenCell, IsGap, step_lies, step_back, OPEN, UNREACHED, Flooding, mark_at, IsReachedCell, IsFloodOf, AllAreReached}
-use Rattle.drain_grid.proofs.OpenCells.{IsOpenAmong-gap, gap_from_void}
+-- If the trail is empty and no cell waits, every data cell is reached: going east from it leads to an open cell, since the last
+-- column is on the edge, and every open cell is reached. So the surface is the least that covers the ground and drains.
+use Rattle.drain_flood.proofs.Names.{Flooding, IsFilledFrom, IsHeld, IsReachedCell, con_at, mark_at, AllAreReached, FloodIsDone, IsAtEnd, UNREACHED, step_back, least_at_open, least_beside, AreNeighbors-lies, step_lies, IsOpenAmong-gap, gap_from_void, opposite, index_of, step, Grid, HasData, IsGap, IsLeastSurface, Surface, Cell, Direction, East, Contains, List, None, Option, Some, [], arith, inl, inr, option_map, refl, subst, suc, sym, zero, ℕ, ◌+◌, ◌-◌, ◌<◌, ◌≡◌, cases_eq}
 use Rattle.drain_flood.proofs.Cells.{none_or_some}
-
-outlet_reached : (code : ℕ) → code ≡ OPEN → code ≡ UNREACHED → ⊥
-outlet_reached code outlet fresh = absurd (omega arith)
+use Rattle.drain_flood.proofs.Reaching.{open_reached}
 
 -- nothing is in an empty list
 pub none_in : {X : Type 0} (xs : List X) (x : X) → xs ≡ [] → Contains xs x → ⊥
@@ -13,23 +10,24 @@ none_in xs x empty held =
     let in_none : Contains [] x = subst (λ ys. Contains ys x) empty held in
     absurd (omega (arith, in_none.1))
 
-module _ (g : Grid) (f : Flooding) (level : ℤ) (flood : IsFloodOf g f level []) (no_ahead : f.ahead ≡ []) (no_waiting : f.waiting ≡ []) where
-  open_reached : (c : Cell) → HasData g c → IsOpenCell g c → IsReachedCell g f c
-  open_reached c here is_open = record { here = here; code = outlet_reached (mark_at g.extent f c) (flood.opened c is_open).mark }
+module _ (g : Grid) (first : Surface) (f : Flooding) (end : IsAtEnd g first f) where
+  none_held : (c : Cell) → IsHeld g.extent f [] c → ⊥
+  none_held c (inl busy) = none_in [] (index_of g.extent c) refl busy
+  none_held c (inr (inl on)) = none_in f.ahead (index_of g.extent c) end.no_ahead on
+  none_held c (inr (inr waits)) = none_in f.waiting _ end.no_waiting waits
 
   -- a data cell next to a gap is open
   gap_reached : (c : Cell) (d : Direction) → HasData g c → IsGap (option_map g.elevation (step g.extent c d)) → IsReachedCell g f c
-  gap_reached c d here gap = open_reached c here (here.inside, IsOpenAmong-gap (g.elevation c) (g.sink c) _ here.is_data (d, gap))
+  gap_reached c d here gap = record {
+    here = here;
+    code = open_reached (mark_at g.extent f c) (end.flood.marks.opened c (here.inside, IsOpenAmong-gap (g.elevation c) (g.sink c) _ here.is_data (d, gap)));
+  }
 
   -- a data cell next to a reached one is reached
   beside_reached : (c n : Cell) (d : Direction) → HasData g c → IsReachedCell g f n → step g.extent n d ≡ Some c → IsReachedCell g f c
   beside_reached c n d here beside leads =
       elim (cases_eq (mark_at g.extent f c) UNREACHED) [
-        | inl fresh ↦ (let kept = flood.frontier n c d beside (record { here = here; code = fresh }) leads in
-            elim kept.held [
-              | inl looked ↦ absurd (none_in f.ahead _ no_ahead looked)
-              | inr waits ↦ absurd (none_in f.waiting _ no_waiting waits.0)
-            ])
+        | inl fresh ↦ absurd (none_held n (end.flood.held n c d beside (record { here = here; code = fresh }) leads))
         | inr code ↦ record { here = here; code = code }
       ]
 
@@ -63,5 +61,34 @@ module _ (g : Grid) (f : Flooding) (level : ℤ) (flood : IsFloodOf g f level []
       let below : c.col < g.extent.cols = here.inside.col in
       from_east (g.extent.cols - suc c.col) c (omega (arith, below)) here
 
+  -- so the surface is the least that covers the ground and drains
+  least_at_end : IsLeastSurface g (con_at g.extent f)
+  least_at_end = record {
+    covers = end.flood.between.covers;
+    drains = λ c here. (let way = end.flood.drains c (every_cell c here) in (way.rest, way.path, way.falls));
+    least = λ t covers drains c here. end.flood.between.low t covers drains c here;
+  }
+
+  pub done : IsFilledFrom g first f
+  done = record {
+    surface = record {
+      counted = end.flood.counted;
+      voids = end.flood.marks.voids;
+      opened = λ c is_open. record {
+        con = least_at_open g (con_at g.extent f) least_at_end c (record { inside = is_open.0; is_data = is_open.1.0 }) is_open;
+        mark = end.flood.marks.opened c is_open;
+      };
+      closed = λ c here shut. end.flood.marks.closed c (every_cell c here) shut;
+      covers = least_at_end.covers;
+      drains = least_at_end.drains;
+      least = λ c n d here there leads. least_beside g (con_at g.extent f) least_at_end c n here there (AreNeighbors-lies c n d (step_lies g.extent c n d leads).1);
+    };
+    voids = end.flood.voids;
+  }
+
 pub all_are_reached : AllAreReached
-all_are_reached g f level flood no_ahead no_waiting c here = every_cell g f level flood no_ahead no_waiting c here
+all_are_reached g first f end c here = every_cell g first f end c here
+
+-- so the grid is filled
+pub flood_is_done : FloodIsDone
+flood_is_done g first f end = done g first f end

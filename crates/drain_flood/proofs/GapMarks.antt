@@ -1,5 +1,5 @@
 -- Bytes around a cell: the least of them is 0 where the cell is beside a gap.
-use Rattle.drain_flood.proofs.Names.{◌≡◌, ◌∙◌, ◌↔◌, ◌⊎◌, ◌+◌, ◌-◌, ◌*◌, ◌<◌, ◌≤◌, ℕ, ℤ, pos, min, inl, inr, List, length, slice_index, slice_index_or, Bool, true, false, if◌then◌else◌, IsTrue, Option, Some, None, get_or, set, get_or-set_other, get_or-set_same, IsNone, option_map, refl, sym, ap, subst, arith, All, int_eq, cases_eq, cases_lt, false≢true, Decides-int_eq, All-get_or, Cell, Direction, East, SouthEast, South, SouthWest, West, NorthWest, North, NorthEast, cols_right, rows_down, IsCellOf, index_of, step, Grid, Heights, IsInside, IsSample, height_from, IsGap, is_listed, Distances, SinkLine, index_of-below, elevation_at, sample_at, sample_row, spaced_grid, before_row, place, step_gives, step_lies, none_some, some_or_none, void_data, at_ends, place_in_row, col_beside, number_beside, number_in_row, row_beside, three_rows, NO_HEIGHT, OPEN, VOID, AreDataMarks, AreFirstMarks, AreGrounds, IsFirstMark, IsGround, IsMarkOf, least_around, AreInside, IsClosed, IsInnerPlace}
+use Rattle.drain_flood.proofs.Names.{HasFirstMarks, IsFirstMark, AreDataMarks, AreFirstMarks, AreGrounds, IsGround, IsMarkOf, least_around, AreInside, IsClosed, IsInnerPlace, NO_HEIGHT, OPEN, VOID, before_row, place, step_gives, step_lies, index_of-below, none_some, some_or_none, void_data, at_ends, col_beside, number_beside, number_in_row, place_in_row, row_beside, three_rows, cols_right, rows_down, Extent, IsCellOf, index_of, step, Grid, Heights, IsInside, IsSample, height_from, IsGap, is_listed, Distances, elevation_at, sample_at, sample_row, spaced_grid, Cell, Direction, East, North, NorthEast, NorthWest, South, SouthEast, SouthWest, West, SinkLine, Bool, IsNone, IsTrue, List, None, Option, Some, ap, arith, false, get_or, get_or-set_other, get_or-set_same, if◌then◌else◌, inl, inr, length, min, option_map, pos, refl, set, slice_index, slice_index_or, subst, sym, true, ℕ, ℤ, ◌*◌, ◌+◌, ◌-◌, ◌<◌, ◌↔◌, ◌∙◌, ◌≡◌, ◌≤◌, ◌⊎◌, cases_eq, cases_lt, false≢true, Decides-int_eq, All-get_or, All, int_eq}
 use Rattle.std.proofs.lemmas.List.FromFn.{get_or-map-range_with_len, length-map-range_with_len}
 use Rattle.drain_flood.proofs.Cells.{none_or_some}
 use Rattle.drain_flood.proofs.Insides.{cell_there}
@@ -137,12 +137,12 @@ first_mark_is spacing h sinks c above here below listed put inside in_above in_h
 
 -- Closed cells, which are beside no gap, aren't on the edge of the grid.
 
-no_gap_inner : (h : Heights) (c : Cell) → (((d : Direction) × IsGap (option_map (elevation_at h) (step h.extent c d))) → ⊥) → IsInnerPlace h.extent c
-no_gap_inner h c away =
+no_gap_inner : (g : Grid) (c : Cell) → (((d : Direction) × IsGap (option_map g.elevation (step g.extent c d))) → ⊥) → IsInnerPlace g.extent c
+no_gap_inner g c away =
     let north_west = there NorthWest in
     let south_east = there SouthEast in
-    let before = step_lies h.extent c north_west.0 NorthWest north_west.1 in
-    let after = step_lies h.extent c south_east.0 SouthEast south_east.1 in
+    let before = step_lies g.extent c north_west.0 NorthWest north_west.1 in
+    let after = step_lies g.extent c south_east.0 SouthEast south_east.1 in
     let up = before.1.0 in
     let left = before.1.1 in
     let down = after.1.0 in
@@ -151,10 +151,10 @@ no_gap_inner h c away =
     let col = after.0.col in
     record { north = omega (arith, up); west = omega (arith, left); south = omega (arith, down, row); east = omega (arith, right, col) }
   where
-    there : (d : Direction) → (n : Cell) × (step h.extent c d ≡ Some n)
+    there : (d : Direction) → (n : Cell) × (step g.extent c d ≡ Some n)
     there d =
-        elim (some_or_none (step h.extent c d)) [
-          | inl none ↦ absurd (away (d, subst (λ o. IsGap (option_map (elevation_at h) o)) (sym none) tt))
+        elim (some_or_none (step g.extent c d)) [
+          | inl none ↦ absurd (away (d, subst (λ o. IsGap (option_map g.elevation o)) (sym none) tt))
           | inr found ↦ found
         ]
 
@@ -166,18 +166,19 @@ no_open : (mark : ℕ) → IsClosed mark → mark ≡ OPEN → ⊥
 no_open mark (inl reached) is_open = omega (arith, reached, is_open)
 no_open mark (inr fresh) is_open = omega (arith, fresh, is_open)
 
-pub marks_inside : (spacing : ℕ → Distances) (h : Heights) (sinks : List SinkLine) (marks : List ℕ) → AreFirstMarks (spaced_grid spacing h sinks) h.extent.rows marks → AreInside h.extent marks
-marks_inside spacing h sinks marks are place less closed =
-    let at = cell_there h.extent place less in
-    let first = are at.0 at.1 at.1.row in
-    let code : IsClosed (slice_index_or marks (index_of h.extent at.0) 0) = subst (λ k. IsClosed (slice_index_or marks k 0)) at.2 closed in (
+pub marks_inside : (g : Grid) (e : Extent) (marks : List ℕ) → HasFirstMarks g e marks → AreInside e marks
+marks_inside g e marks are =
+    subst (λ x. AreInside x marks) are.extent (λ place less closed.
+    (let at = cell_there g.extent place less in
+    let first = are.each at.0 at.1 in
+    let code : IsClosed (slice_index_or marks (index_of g.extent at.0) 0) = subst (λ k. IsClosed (slice_index_or marks k 0)) at.2 closed in (
       at.0,
-      elim (none_or_some (elevation_at h at.0)) [
+      elim (none_or_some (g.elevation at.0)) [
         | inl none ↦ absurd (no_void _ code (first.void none))
-        | inr some ↦ no_gap_inner h at.0 (λ gap. no_open _ code (first.opened (at.1, (some, inr gap))))
+        | inr some ↦ no_gap_inner g at.0 (λ gap. no_open _ code (first.opened (at.1, (some, inr gap))))
       ],
       at.2,
-    )
+    )))
 
 -- Rows of bytes as they are laid.
 

@@ -1,5 +1,5 @@
 -- Cells that aren't on the edge of the grid: which start closed, what keeps them known, and their neighbours' places.
-use Rattle.drain_flood.proofs.Names.{◌≡◌, ◌∙◌, ℕ, ◌+◌, ◌-◌, ◌*◌, ◌/◌, ◌%◌, ◌<◌, inl, inr, Bool, List, [], ◌∷◌, ◌++◌, ℤ, Result, Ok, Err, IfOk, append-nil, refl, sym, ap, subst, arith, All, cases_eq, div_below, div-add-mod', All-contains, Contains-push, Cell, Direction, Extent, IsCellOf, index_of, Grid, same_index, Flooding, IsInnerPlace, IsInnerAt, IsPlaceBeside, IsLook, IsLookedBefore, IsNextTurn, IsLessWork, IsLookedAround, LooksAround, rows_down, cols_right}
+use Rattle.drain_flood.proofs.Names.{Flooding, IsInnerAt, IsInnerPlace, IsLook, IsLookedAround, IsLookedBefore, IsPlaceBeside, LooksAround, IsLessWork, IsNextTurn, same_index, place, cols_right, rows_down, Extent, IsCellOf, index_of, Grid, Surface, Cell, Direction, Bool, Err, IfOk, List, Ok, Option, Result, [], ap, append-nil, arith, inl, inr, refl, subst, sym, ℕ, ℤ, ◌%◌, ◌*◌, ◌++◌, ◌+◌, ◌-◌, ◌/◌, ◌<◌, ◌∙◌, ◌∷◌, ◌≡◌, cases_eq, All-contains, Contains-push, div-add-mod', div_below, All}
 use Rattle.drain_flood.proofs.Looking.{inner_beside, less_more}
 
 -- the cell at a place
@@ -50,10 +50,10 @@ less_turn e first old new place next d level raises more (c, inner, at) beside l
 
 -- a look around the cell of a place is one around the place
 pub around_cell : {E : Type 0} (r : Result Bool E) (e : Extent) (old new : Flooding) (place : ℕ) (cell : Cell) (level : ℤ) (raises : Bool) → IsCellOf e cell → index_of e cell ≡ place →
-    IfOk r (λ left. (g : Grid) (stand : ℤ) (busy : List ℕ) → g.extent ≡ e → IsLookedBefore g old stand busy cell level raises → IsLookedAround g new stand busy cell level raises left) →
+    IfOk r (λ left. (g : Grid) (first : Surface) (stand : Option ℤ) (busy : List ℕ) → g.extent ≡ e → IsLookedBefore g first old stand busy cell level raises → IsLookedAround g first new stand busy cell level raises left) →
     IfOk r (LooksAround e old new place level raises)
-around_cell (Ok left) e old new place cell level raises inside is told = λ g stand busy c same at before.
+around_cell (Ok left) e old new place cell level raises inside is told = λ g first stand busy c same at before.
     (let one : cell ≡ c = same_index g.extent cell c (subst (λ x. IsCellOf x cell) (sym same) inside) before.reached.here.inside (ap (λ x. index_of x cell) same ∙ is ∙ at) in
-    subst (λ x. IsLookedAround g new stand busy x level raises left) one
-    (told g stand busy same (subst (λ x. IsLookedBefore g old stand busy x level raises) (sym one) before)))
+    subst (λ x. IsLookedAround g first new stand busy x level raises left) one
+    (told g first stand busy same (subst (λ x. IsLookedBefore g first old stand busy x level raises) (sym one) before)))
 around_cell (Err x) e old new place cell level raises inside is told = tt

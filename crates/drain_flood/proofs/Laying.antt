@@ -1,7 +1,8 @@
 -- The start of a flood: the open cells are reached, each at its ground.
-use Rattle.drain_flood.proofs.Names.{[], List, ℕ, ℤ, ◌≡◌, ◌∙◌, ◌+◌, ◌-◌, ◌*◌, ◌<◌, ◌≤◌, ◌==◌, inl, inr, pos, length, slice_index, slice_index_or, if◌then◌else◌, sym, ap, subst, arith, ◌≤ℤ◌, ◌<ℤ◌, Bool, true, false, IsSome, unwrap_or, Some, None, Contains, refl, div-add-mod', All, int_max, int_eq, cases_lt, cases_eq, false≢true, Decides-int_eq, ints, clamps, by_lt_z, All-nil, All-weaker, Cell, SinkLine, Extent, index_of, IsCellOf, Grid, HasData, Heights, IsInside, IsOpenCell, IsSample, height_at, height_from, Distances, unit_spacing, sample_at, spaced_grid, before_row, cases, open_cell, cell_at, index_of-below, three_rows, at_ends, place_in_row, place_in_own_row, GAP, NO_HEIGHT, OPEN, UNREACHED, VOID, Flooding, con_at, mark_at, IsAhead, IsFlooded, IsFloodOf, IsOpenIn, IsReachedCell, IsWaiting, AreFirstMarks, AreGrounds, AreRowLanes, IsFirstMark, IsGround, IsLane, IsOpenPlace, fall_at, AreFirstCodes, IsCodeAt}
+use Rattle.drain_flood.proofs.Names.{Flooding, HasFirstMarks, IsBetween, IsFilledFrom, IsFirstMark, IsFloodOf, IsFlooded, IsReachedCell, IsReachedPair, IsReachedPlace, listed_at, mark_at, AreFirstMarks, AreGrounds, AreRowLanes, IsGround, IsLane, IsOpenPlace, fall_at, AreFirstCodes, IsCodeAt, GAP, NO_HEIGHT, OPEN, VOID, before_row, cases, place, open_cell, cell_at, index_of-below, none_some, at_ends, place_in_own_row, place_in_row, three_rows, Extent, IsCellOf, index_of, Grid, HasData, Heights, IsInside, IsOpenCell, IsSample, height_at, height_from, Distances, unit_spacing, sample_at, spaced_grid, Cell, SinkLine, Bool, Contains, IsSome, List, None, Some, [], ap, arith, false, if◌then◌else◌, inl, inr, length, pos, refl, slice_index, slice_index_or, subst, sym, true, unwrap_or, ℕ, ℤ, ◌*◌, ◌+◌, ◌-◌, ◌<ℤ◌, ◌<◌, ◌==◌, ◌∙◌, ◌≡◌, ◌≤ℤ◌, ◌≤◌, cases_eq, cases_lt, false≢true, Decides-int_eq, by_lt_z, ints, All-nil, All-weaker, div-add-mod', All, int_eq}
 use Rattle.std.proofs.Math.Nat.{div-lt_iff_lt-mul, mod-lt}
 use Rattle.drain_flood.proofs.Cells.{none_or_some}
+use Rattle.drain_flood.proofs.Reaching.{open_reached}
 use Rattle.drain_flood.proofs.GapMarks.{void_is_none}
 use Rattle.drain_flood.proofs.SteepestWays.{code_from_lanes, fall_small}
 
@@ -78,18 +79,6 @@ all_rows g f row dirs counted most each = record {
     within : (own rows row : ℕ) → own < rows → rows ≤ row → own < row
     within own rows row less most = omega (arith, less, most)
 
-open_differs : (code : ℕ) → code ≡ OPEN → code ≡ VOID → ⊥
-open_differs code is void = absurd (omega arith)
-
-outlet_reached : (code : ℕ) → code ≡ OPEN → code ≡ UNREACHED → ⊥
-outlet_reached code outlet fresh = absurd (omega arith)
-
-at_most : (z : ℤ) → NO_HEIGHT <ℤ z → NO_HEIGHT ≤ℤ z
-at_most z above = omega (arith, ints)
-
-under_max : (con z other : ℤ) → con ≡ z → con ≤ℤ int_max z other
-under_max con z other is = omega (arith, ints, clamps)
-
 over : (con z : ℤ) → con ≡ z → z ≤ℤ con
 over con z is = omega (arith, ints)
 
@@ -123,40 +112,15 @@ cell_of_place e k less =
     no_cols : (rows cols k : ℕ) → cols ≡ 0 → k < rows * cols → ⊥
     no_cols rows cols k none less = let zero : k < rows * 0 = subst (λ n. k < rows * n) none less in absurd (omega (arith, zero))
 
--- with its grounds and first marks, and with all open cells on the trail, a flood is at a level below all ground
-module _ (spacing : ℕ → Distances) (h : Heights) (sinks : List SinkLine) (f : Flooding) (grounds : AreGrounds h f.con) (mark_long : length f.mark ≡ h.extent.rows * h.extent.cols)
-    (marks : AreFirstMarks (spaced_grid spacing h sinks) h.extent.rows f.mark) where
-  abbrev g : Grid
-  g = spaced_grid spacing h sinks
-
-  below : (c : Cell) → IsInside g c → index_of g.extent c < g.extent.rows * g.extent.cols
-  below c inside = index_of-below g.extent c inside
-
-  ground_at : (c : Cell) → IsInside g c → IsGround h (index_of g.extent c) (con_at g.extent f c)
-  ground_at c inside = grounds.each (index_of g.extent c) (below c inside)
+-- with its first marks, with all open cells on the trail and with heights between the ground and the filled surface a flood
+-- begins
+module _ (g : Grid) (e : Extent) (f : Flooding) (marks : HasFirstMarks g e f.mark) (between : IsBetween g (listed_at e f.con))
+    (con_long : length f.con ≡ e.rows * e.cols) (mark_long : length f.mark ≡ e.rows * e.cols) where
+  cells : e.rows * e.cols ≡ g.extent.rows * g.extent.cols
+  cells = ap (λ (x : Extent). x.rows * x.cols) (sym marks.extent)
 
   mark_of : (c : Cell) → IsInside g c → IsFirstMark g c (mark_at g.extent f c)
-  mark_of c inside = marks c inside inside.row
-
-  height_is : (c : Cell) → HasData g c → (height_at g c ≡ sample_at h c) × (NO_HEIGHT <ℤ sample_at h c)
-  height_is c here =
-      let ground = ground_at c here.inside in
-      height_of (sample_at h c) (subst IsSample ground.value ground.in_range) here.is_data
-
-  at_ground : (c : Cell) → HasData g c → con_at g.extent f c ≡ height_at g c
-  at_ground c here = (ground_at c here.inside).value ∙ sym (height_is c here).0
-
-  heights : (c : Cell) → HasData g c → NO_HEIGHT <ℤ height_at g c
-  heights c here = let is = height_is c here in subst (λ z. NO_HEIGHT <ℤ z) (sym is.0) is.1
-
-  not_below : (c : Cell) → HasData g c → NO_HEIGHT ≤ℤ con_at g.extent f c
-  not_below c here = subst (λ z. NO_HEIGHT ≤ℤ z) (sym (at_ground c here)) (at_most (height_at g c) (heights c here))
-
-  opened : (c : Cell) → IsOpenCell g c → IsOpenIn g f c
-  opened c is_open = record {
-    con = at_ground c (record { inside = is_open.0; is_data = is_open.1.0 });
-    mark = (mark_of c is_open.0).opened is_open;
-  }
+  mark_of c inside = marks.each c inside
 
   reached_open : (c : Cell) → IsReachedCell g f c → IsOpenCell g c
   reached_open c reached =
@@ -165,9 +129,9 @@ module _ (spacing : ℕ → Distances) (h : Heights) (sinks : List SinkLine) (f 
         | inr closed ↦ absurd (reached.code ((mark_of c reached.here.inside).closed reached.here closed))
       ]
 
-  ahead : (place : ℕ) → IsOpenPlace f.mark place → IsAhead g f NO_HEIGHT place
+  ahead : (place : ℕ) → IsOpenPlace f.mark place → IsReachedPlace g f place
   ahead place is =
-      let there = cell_of_place g.extent place (subst (λ n. place < n) mark_long is.within) in
+      let there = cell_of_place g.extent place (subst (λ n. place < n) (mark_long ∙ cells) is.within) in
       let c : Cell = cell_at g.extent place in
       let code : mark_at g.extent f c ≡ OPEN = ap (λ k. slice_index f.mark k) (sym there.1) ∙ is.code in
       let here : HasData g c = record {
@@ -179,28 +143,65 @@ module _ (spacing : ℕ → Distances) (h : Heights) (sinks : List SinkLine) (f 
       } in
       record {
         cell = c;
-        reached = record { here = here; code = outlet_reached (mark_at g.extent f c) code };
+        reached = record { here = here; code = open_reached (mark_at g.extent f c) code };
         place_is = there.1;
-        not_below = not_below c here;
       }
+    where
+      open_differs : (code : ℕ) → code ≡ OPEN → code ≡ VOID → ⊥
+      open_differs code is void = absurd (omega arith)
 
   pub flood_begins : ((place : ℕ) → place < length f.mark → slice_index f.mark place ≡ OPEN → Contains f.ahead place) → All (IsOpenPlace f.mark) f.ahead → f.waiting ≡ [] →
-      IsFloodOf g f NO_HEIGHT []
+      IsFloodOf g (listed_at e f.con) f None []
   flood_begins all open_alone no_waiting = record {
-    counted = record { con = grounds.counted; mark = mark_long };
-    voids = λ c inside void. record { con = (ground_at c inside).value ∙ (void_is_none (sample_at h c)).1 void; mark = (mark_of c inside).void void };
-    heights = heights;
-    ground = λ c fresh. at_ground c fresh.here;
-    opened = opened;
-    closed = λ c reached shut. absurd (shut (reached_open c reached));
-    covers = λ c reached. over (con_at g.extent f c) (height_at g c) (at_ground c reached.here);
-    drains = λ c reached. record { rest = []; path = reached_open c reached; falls = tt; reached = tt };
-    least = λ c n d at_c at_n leads. under_max (con_at g.extent f c) (height_at g c) (con_at g.extent f n) (at_ground c at_c.here);
-    capped = λ c reached. under_max (con_at g.extent f c) (height_at g c) NO_HEIGHT (at_ground c reached.here);
-    frontier = λ c n d at_c at_n leads. record {
-      not_below = not_below c at_c.here;
-      held = inl (all (index_of g.extent c) (subst (λ n. index_of g.extent c < n) (sym mark_long) (below c at_c.here.inside)) (opened c (reached_open c at_c)).mark);
+    counted = record { con = con_long ∙ cells; mark = mark_long ∙ cells };
+    marks = record {
+      voids = λ c inside void. (mark_of c inside).void void;
+      opened = λ c is_open. (mark_of c is_open.0).opened is_open;
+      closed = λ c reached shut. absurd (shut (reached_open c reached));
     };
-    waiting = subst (All (IsWaiting g f NO_HEIGHT)) (sym no_waiting) (All-nil (IsWaiting g f NO_HEIGHT));
-    ahead = All-weaker (IsOpenPlace f.mark) (IsAhead g f NO_HEIGHT) ahead f.ahead open_alone;
+    voids = λ c inside void. ap (λ (x : Extent). listed_at x f.con c) marks.extent;
+    between = subst (λ (x : Extent). IsBetween g (listed_at x f.con)) (sym marks.extent) between;
+    drains = λ c reached. record { rest = []; path = reached_open c reached; falls = tt; reached = tt };
+    held = λ c n d at_c at_n leads.
+        inr (inl (all (index_of g.extent c) (subst (λ n. index_of g.extent c < n) (sym (mark_long ∙ cells)) (index_of-below g.extent c at_c.here.inside))
+        ((mark_of c at_c.here.inside).opened (reached_open c at_c))));
+    floor = λ level is. absurd (none_some level is);
+    busy_places = All-nil (IsReachedPlace g f);
+    ahead = All-weaker (IsOpenPlace f.mark) (IsReachedPlace g f) ahead f.ahead open_alone;
+    waiting = subst (All (IsReachedPair g f)) (sym no_waiting) (All-nil (IsReachedPair g f));
   }
+
+-- The grounds of tiles, from which they are flooded.
+module _ (spacing : ℕ → Distances) (h : Heights) (sinks : List SinkLine) (con : List ℤ) (grounds : AreGrounds h con) where
+  abbrev g : Grid
+  g = spaced_grid spacing h sinks
+
+  ground_at : (c : Cell) → IsInside g c → IsGround h (index_of g.extent c) (listed_at h.extent con c)
+  ground_at c inside = grounds.each (index_of g.extent c) (index_of-below g.extent c inside)
+
+  height_is : (c : Cell) → HasData g c → (height_at g c ≡ sample_at h c) × (NO_HEIGHT <ℤ sample_at h c)
+  height_is c here =
+      let ground = ground_at c here.inside in
+      height_of (sample_at h c) (subst IsSample ground.value ground.in_range) here.is_data
+
+  at_ground : (c : Cell) → HasData g c → listed_at h.extent con c ≡ height_at g c
+  at_ground c here = (ground_at c here.inside).value ∙ sym (height_is c here).0
+
+  -- they are between themselves and the filled surface
+  pub grounds_between : IsBetween g (listed_at h.extent con)
+  grounds_between = record {
+    covers = λ c here. over (listed_at h.extent con c) (height_at g c) (at_ground c here);
+    low = λ t covers drains c here. subst (λ z. z ≤ℤ t c) (sym (at_ground c here)) (covers c here);
+  }
+
+  -- the filled surface has the height of a void at voids, which is below all ground
+  pub grounds_flooded : (f : Flooding) → IsFilledFrom g (listed_at h.extent con) f → IsFlooded g f
+  grounds_flooded f filled = record {
+    surface = filled.surface;
+    blank = λ c inside void. filled.voids c inside void ∙ (ground_at c inside).value ∙ (void_is_none (sample_at h c)).1 void;
+    heights = λ c here. (let is = height_is c here in subst (λ z. NO_HEIGHT <ℤ z) (sym is.0) is.1);
+  }
+
+-- the first marks of all rows
+pub marks_of_rows : (g : Grid) (marks : List ℕ) → AreFirstMarks g g.extent.rows marks → HasFirstMarks g g.extent marks
+marks_of_rows g marks are = record { extent = refl; each = λ c inside. are c inside inside.row }

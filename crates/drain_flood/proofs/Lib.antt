@@ -5,9 +5,9 @@ pub mod PopLemmas
 pub mod PushLemmas
 pub mod QueueLemmas
 pub mod StackLemmas
+pub mod Waits
 pub mod Turning
 pub mod Cells
-pub mod Levels
 pub mod Reaching
 pub mod AllReached
 pub mod Turns

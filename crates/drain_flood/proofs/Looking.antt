@@ -1,8 +1,7 @@
 -- The neighbours of a cell, direction by direction.
-use Rattle.drain_flood.proofs.Names.{◌≡◌, ℕ, ◌+◌, ◌-◌, ◌*◌, ◌<◌, ◌≤◌, ap, arith, ℤ, pos, ◌≤ℤ◌, List, [], ◌∷◌, ◌≢◌, ◌∙◌, ◌⊎◌, ◌↔◌, inl, inr, ◌<ℤ◌, Bool, true, false, IsTrue, ◌||◌, get_or, length, refl, sym, subst, Cell, Direction, East, SouthEast, South, SouthWest, West, NorthWest, North, NorthEast, rows_down, cols_right, directions, IsCellOf, index_of, Extent, place, reach, step_gives, direction_between, of_each, IsInnerPlace, IsPlaceBeside, IsFreshAt, IsLook, IsAround, IsLookedBefore, PassesLook, int_max, ints, clamps, Grid, Products, height_at, IsPath, NeverRises, IsFilled, AreLevels, HasData-path, Flooding, con_at, IsSurfaceOf, mark_at, unreached, IsUnreached, Reaches, IsReachedFrom, FloodIsDone, FloodIsFilled, cases_order, or_left, or_right, same_some, length_push, IsLessWork, IsLookedAround}
+use Rattle.drain_flood.proofs.Names.{Flooding, IsReachedFrom, IsSurfaceOf, IsUnreached, con_at, mark_at, unreached, FloodIsFilled, IsAround, IsFreshAt, IsInnerPlace, IsLook, IsLookedAround, IsLookedBefore, IsPlaceBeside, PassesLook, IsLessWork, AreLevels, HasData-path, direction_between, of_each, place, reach, step_gives, same_some, cols_right, directions, rows_down, Extent, IsCellOf, index_of, Grid, Products, height_at, IsFilled, IsPath, NeverRises, Surface, Cell, Direction, East, North, NorthEast, NorthWest, South, SouthEast, SouthWest, West, Bool, IsTrue, List, Option, Some, [], ap, arith, false, get_or, inl, inr, length, pos, refl, subst, sym, true, ℕ, ℤ, ◌*◌, ◌+◌, ◌-◌, ◌<◌, ◌||◌, ◌↔◌, ◌∙◌, ◌∷◌, ◌≡◌, ◌≤ℤ◌, ◌≤◌, ◌⊎◌, cases_order, or_left, or_right, clamps, ints, length_push, int_max}
 use Rattle.drain_grid.proofs.SpillPaths.{SpillPath, path_here, path_onward, IsFilled-paths}
-use Rattle.drain_flood.proofs.AllReached.{all_are_reached}
-use Rattle.drain_flood.proofs.Reaching.{kept_by_reaching, outlet_reached}
+use Rattle.drain_flood.proofs.Reaching.{from_kept, kept_by_reaching, outlet_reached, was_fresh}
 
 -- Away from the edge of the grid the place of a neighbour is found by adding.
 
@@ -42,24 +41,7 @@ last_direction P a b c d e f g NorthWest held = absurd (f held)
 last_direction P a b c d e f g North held = absurd (g held)
 last_direction P a b c d e f g NorthEast held = held
 
--- A flood that is done has made the filled surface.
-
-pub flood_is_done : FloodIsDone
-flood_is_done g f level flood no_ahead no_waiting =
-    let all = all_are_reached g f level flood no_ahead no_waiting in
-    record {
-      surface = record {
-        counted = flood.counted;
-        voids = λ c inside none. (flood.voids c inside none).mark;
-        opened = flood.opened;
-        covers = λ c here. flood.covers c (all c here);
-        drains = λ c here. (let way = flood.drains c (all c here) in (way.rest, way.path, way.falls));
-        closed = λ c here shut. flood.closed c (all c here) shut;
-        least = λ c n d here there leads. flood.least c n d (all c here) (all n there) leads;
-      };
-      blank = λ c inside none. (flood.voids c inside none).con;
-      heights = flood.heights;
-    }
+-- A surface is the filled one.
 
 -- the ground below it, the next cell of its path no higher, and no lower way out there: the greater of the two
 both : (con z next : ℤ) → z ≤ℤ con → next ≤ℤ con → con ≤ℤ int_max z next → con ≡ int_max z next
@@ -99,53 +81,44 @@ module _ (g : Grid) (f : Flooding) (flooded : IsSurfaceOf g f) where
 pub flood_is_filled : FloodIsFilled
 flood_is_filled g f flooded = is_filled g f flooded
 
-or_true_left : (a b : Bool) → a ≡ true → (a || b) ≡ true
-or_true_left a b h = or_left a b h
-
-or_true_right : (a b : Bool) → b ≡ true → (a || b) ≡ true
-or_true_right a b h = or_right a b h
+-- The neighbours of a cell, direction by direction.
 
 -- before the first direction
-pub around_none : (g : Grid) (f : Flooding) (stand : ℤ) (busy : List ℕ) (c : Cell) (level : ℤ) (raises : Bool) →
-    IsLookedBefore g f stand busy c level raises → IsAround g f stand busy c level raises false 0
-around_none g f stand busy c level raises before = record { before = before; passed = λ i less. absurd (omega (arith, less)) }
+pub around_none : (g : Grid) (first : Surface) (f : Flooding) (stand : Option ℤ) (busy : List ℕ) (c : Cell) (level : ℤ) (raises : Bool) →
+    IsLookedBefore g first f stand busy c level raises → IsAround g first f stand busy c level raises false 0
+around_none g first f stand busy c level raises before = record { before = before; passed = λ i less. absurd (omega (arith, less)) }
 
 -- what was passed stays passed if no more is unreached
-passed_still : (g : Grid) (old new : Flooding) (c : Cell) (level : ℤ) (raises left more : Bool) (d : Direction) →
-    ((n : Cell) → IsUnreached g new n → IsUnreached g old n) → PassesLook g old c level raises left d → PassesLook g new c level raises (left || more) d
-passed_still g old new c level raises left more d fewer passes n fresh there =
+passed_still : (g : Grid) (old new : Flooding) (c : Cell) (raises left more : Bool) (d : Direction) →
+    ((n : Cell) → IsUnreached g new n → IsUnreached g old n) → PassesLook g old c raises left d → PassesLook g new c raises (left || more) d
+passed_still g old new c raises left more d fewer passes n fresh there =
     let was = passes n (fewer n fresh) there in
-    (or_true_left left more was.0, was.1, was.2)
+    (or_left left more was.0, was.1)
 
 -- one direction more
-pub around_more : (g : Grid) (old new : Flooding) (stand : ℤ) (busy : List ℕ) (c : Cell) (level : ℤ) (raises left more : Bool) (k : ℕ) →
-    IsAround g old stand busy c level raises left k → IsLook g.extent old new c (get_or directions k East) level raises more →
-    IsAround g new stand busy c level raises (left || more) (k + 1)
-around_more g old new stand busy c level raises left true k around (n, leaves) = record {
-  before = subst (λ f. IsLookedBefore g f stand busy c level raises) (sym leaves.same) around.before;
+pub around_more : (g : Grid) (first : Surface) (old new : Flooding) (stand : Option ℤ) (busy : List ℕ) (c : Cell) (level : ℤ) (raises left more : Bool) (k : ℕ) →
+    IsAround g first old stand busy c level raises left k → IsLook g.extent old new c (get_or directions k East) level raises more →
+    IsAround g first new stand busy c level raises (left || more) (k + 1)
+around_more g first old new stand busy c level raises left true k around (n, leaves) = record {
+  before = subst (λ f. IsLookedBefore g first f stand busy c level raises) (sym leaves.same) around.before;
   passed = λ i less. elim (cases_order i k) [
-    | inl here ↦ subst (λ j. PassesLook g new c level raises (left || true) (get_or directions j East)) (sym here)
-        (λ m fresh there.
-        (let one : m ≡ n = same_some m n (sym there ∙ leaves.is.there) in
-        let data_m : IsUnreached g old m = subst (λ f. IsUnreached g f m) leaves.same fresh in
-        let ground : con_at g.extent old n ≡ height_at g n = subst (λ x. con_at g.extent old x ≡ height_at g x) one (around.before.flood.ground m data_m) in
-        (or_true_right left true refl, subst (λ x. height_at g x <ℤ level) (sym one) (subst (λ z. z <ℤ level) ground leaves.lower), leaves.unraised)))
-    | inr (inl before) ↦ passed_still g old new c level raises left true (get_or directions i East) (λ m fresh. subst (λ f. IsUnreached g f m) leaves.same fresh) (around.passed i before)
+    | inl here ↦ (λ m fresh there. (or_right left true refl, leaves.unraised))
+    | inr (inl before) ↦ passed_still g old new c raises left true (get_or directions i East) (λ m fresh. subst (λ f. IsUnreached g f m) leaves.same fresh) (around.passed i before)
     | inr (inr after) ↦ absurd (omega (arith, less, after))
   ];
 }
-around_more g old new stand busy c level raises left false k around (inl passes) = record {
-  before = subst (λ f. IsLookedBefore g f stand busy c level raises) (sym passes.same) around.before;
+around_more g first old new stand busy c level raises left false k around (inl passes) = record {
+  before = subst (λ f. IsLookedBefore g first f stand busy c level raises) (sym passes.same) around.before;
   passed = λ i less. elim (cases_order i k) [
-    | inl here ↦ subst (λ j. PassesLook g new c level raises (left || false) (get_or directions j East)) (sym here)
+    | inl here ↦ subst (λ j. PassesLook g new c raises (left || false) (get_or directions j East)) (sym here)
         (λ m fresh there.
         (let was : IsUnreached g old m = subst (λ f. IsUnreached g f m) passes.same fresh in
         absurd (passes.none m (record { there = there; fresh = was.code }))))
-    | inr (inl before) ↦ passed_still g old new c level raises left false (get_or directions i East) (λ m fresh. subst (λ f. IsUnreached g f m) passes.same fresh) (around.passed i before)
+    | inr (inl before) ↦ passed_still g old new c raises left false (get_or directions i East) (λ m fresh. subst (λ f. IsUnreached g f m) passes.same fresh) (around.passed i before)
     | inr (inr after) ↦ absurd (omega (arith, less, after))
   ];
 }
-around_more g old new stand busy c level raises left false k around (inr (n, takes)) =
+around_more g first old new stand busy c level raises left false k around (inr (n, takes)) =
     let before = around.before in
     let d = get_or directions k East in
     let con : ℤ = int_max (con_at g.extent old n) level in
@@ -156,43 +129,36 @@ around_more g old new stand busy c level raises left false k around (inr (n, tak
       con_is = ap (int_max (con_at g.extent old n)) (sym before.con);
       raises = elim takes.may [
         | inl down ↦ inl (subst (λ z. z ≤ℤ con_at g.extent old n) (sym before.con) down)
-        | inr raised ↦ inr (before.con ∙ before.at_level raised)
+        | inr raised ↦ inr (subst (λ z. stand ≡ Some z) (sym before.con) (before.at_level raised))
       ];
     } in
     let reaches = takes.reaches in
-    let after = kept_by_reaching g old new stand busy c n d con before.flood from reaches in
-    let differ : c ≢ n = λ same. before.reached.code (ap (mark_at g.extent old) same ∙ takes.is.fresh) in
-    let fewer : (m : Cell) → IsUnreached g new m → IsUnreached g old m = λ m fresh. was_fresh g old new n con reaches m fresh in
+    let kept = from_kept g first old new stand busy c n d con before.flood from reaches in
+    let fewer : (m : Cell) → IsUnreached g new m → IsUnreached g old m = was_fresh g first old new stand busy c n d con before.flood from reaches in
     record {
       before = record {
-        flood = after;
-        reached = record { here = before.reached.here; code = λ h. before.reached.code (sym (reaches.mark_same c before.reached.here.inside differ) ∙ h) };
-        con = reaches.con_same c before.reached.here.inside differ ∙ before.con;
+        flood = kept_by_reaching g first old new stand busy c n d con before.flood from reaches;
+        reached = kept.0;
+        con = kept.1 ∙ before.con;
         at_level = before.at_level;
       };
       passed = λ i less. elim (cases_order i k) [
-        | inl here ↦ subst (λ j. PassesLook g new c level raises (left || false) (get_or directions j East)) (sym here)
+        | inl here ↦ subst (λ j. PassesLook g new c raises (left || false) (get_or directions j East)) (sym here)
             (λ m fresh there.
             (let one : m ≡ n = same_some m n (sym there ∙ takes.is.there) in
             absurd (outlet_reached (mark_at g.extent new n) reaches.mark_there (ap (mark_at g.extent new) (sym one) ∙ fresh.code))))
-        | inr (inl earlier) ↦ passed_still g old new c level raises left false (get_or directions i East) fewer (around.passed i earlier)
+        | inr (inl earlier) ↦ passed_still g old new c raises left false (get_or directions i East) fewer (around.passed i earlier)
         | inr (inr later) ↦ absurd (omega (arith, less, later))
       ];
     }
-  where
-    was_fresh : (g : Grid) (old new : Flooding) (n : Cell) (con : ℤ) → Reaches g.extent old new n con →
-        (m : Cell) → IsUnreached g new m → IsUnreached g old m
-    was_fresh g old new n con reaches m fresh =
-        let differ : m ≢ n = λ same. outlet_reached (mark_at g.extent new n) reaches.mark_there (ap (mark_at g.extent new) (sym same) ∙ fresh.code) in
-        record { here = fresh.here; code = sym (reaches.mark_same m fresh.here.inside differ) ∙ fresh.code }
 
 -- one direction more, as the code does it
-pub around_on : (g : Grid) (e : Extent) (old new : Flooding) (stand : ℤ) (busy : List ℕ) (c : Cell) (level : ℤ) (raises left more after : Bool) (k : ℕ) →
-    g.extent ≡ e → after ≡ (left || more) → IsAround g old stand busy c level raises left k →
-    IsLook e old new c (get_or directions k East) level raises more → IsAround g new stand busy c level raises after (k + 1)
-around_on g e old new stand busy c level raises left more after k extent after_is around look =
-    subst (λ b. IsAround g new stand busy c level raises b (k + 1)) (sym after_is)
-    (around_more g old new stand busy c level raises left more k around
+pub around_on : (g : Grid) (first : Surface) (e : Extent) (old new : Flooding) (stand : Option ℤ) (busy : List ℕ) (c : Cell) (level : ℤ) (raises left more after : Bool) (k : ℕ) →
+    g.extent ≡ e → after ≡ (left || more) → IsAround g first old stand busy c level raises left k →
+    IsLook e old new c (get_or directions k East) level raises more → IsAround g first new stand busy c level raises after (k + 1)
+around_on g first e old new stand busy c level raises left more after k extent after_is around look =
+    subst (λ b. IsAround g first new stand busy c level raises b (k + 1)) (sym after_is)
+    (around_more g first old new stand busy c level raises left more k around
     (subst (λ x. IsLook x old new c (get_or directions k East) level raises more) (sym extent) look))
 
 -- what is done in a direction leaves no more to do
@@ -216,23 +182,20 @@ less_more e first old new c d level raises false less (inr (n, takes)) =
     balance a b c x y z one more is = omega arith
 
 -- after the last direction all neighbours were looked at
-pub around_all : (g : Grid) (f : Flooding) (stand : ℤ) (busy : List ℕ) (c : Cell) (level : ℤ) (raises left : Bool) (k : ℕ) → k ≡ 8 →
-    IsAround g f stand busy c level raises left k → IsLookedAround g f stand busy c level raises left
-around_all g f stand busy c level raises left k last around = record {
-  flood = around.before.flood;
-  reached = around.before.reached;
-  con = around.before.con;
-  beside = λ n d. of_each (PassesLook g f c level raises left) k last around.passed d n;
+pub around_all : (g : Grid) (first : Surface) (f : Flooding) (stand : Option ℤ) (busy : List ℕ) (c : Cell) (level : ℤ) (raises left : Bool) (k : ℕ) → k ≡ 8 →
+    IsAround g first f stand busy c level raises left k → IsLookedAround g first f stand busy c level raises left
+around_all g first f stand busy c level raises left k last around = record {
+  before = around.before;
+  passed = λ d. of_each (PassesLook g f c raises left) k last around.passed d;
 }
 
 -- no neighbour is unreached
-pub none_around : (g : Grid) (f : Flooding) (stand : ℤ) (busy : List ℕ) (c : Cell) (level : ℤ) (raises : Bool) → ((d : Direction) (n : Cell) → IsFreshAt g.extent f c d n → ⊥) →
-    IsLookedBefore g f stand busy c level raises → IsLookedAround g f stand busy c level raises false
-none_around g f stand busy c level raises none before = record {
-  flood = before.flood;
-  reached = before.reached;
-  con = before.con;
-  beside = λ n d fresh there. absurd (none d n (record { there = there; fresh = fresh.code }));
+pub none_around : (g : Grid) (first : Surface) (f : Flooding) (stand : Option ℤ) (busy : List ℕ) (c : Cell) (level : ℤ) (raises : Bool) →
+    ((d : Direction) (n : Cell) → IsFreshAt g.extent f c d n → ⊥) →
+    IsLookedBefore g first f stand busy c level raises → IsLookedAround g first f stand busy c level raises false
+none_around g first f stand busy c level raises none before = record {
+  before = before;
+  passed = λ d n fresh there. absurd (none d n (record { there = there; fresh = fresh.code }));
 }
 
 either : (a b : Bool) → IsTrue (a || b) → IsTrue a ⊎ IsTrue b

@@ -1,11 +1,11 @@
 -- The names that this crate's proofs cite, passed on from one place. Declares nothing.
 pub use Rattle.drain_flood.specs.Flats.{AreFirstRanks, AreLaid, AreWaysOnFlats, HasWay, IsBlankWay, IsDown, IsFlat, IsLookedFor, IsOnFlat, IsSettled, IsSettledFrom, IsToLook, Laying, Settles, ShowsWays, first_rank, rank_at, way_at, wayless}
-pub use Rattle.drain_flood.specs.Floods.{Flooding, HasDescent, IsAhead, IsBlankIn, IsCounted, IsFloodOf, IsFlooded, IsKeptCell, IsOpenIn, IsReachedCell, IsReachedFrom, IsSurfaceOf, IsUnreached, IsWaiting, Reaches, con_at, mark_at, unreached}
-pub use Rattle.drain_flood.specs.Laid.{AreDataMarks, AreFirstMarks, AreGrounds, AreRowLanes, IsFirstMark, IsGround, IsLane, IsMarkOf, IsOpenPlace, fall_at, first_across, first_along, is_steeper, least_across, least_along, least_around, level_of_lane}
-pub use Rattle.drain_flood.specs.Laws.{AllAreReached, AllAreSettled, FlatsArePresent, FlatsKeepRules, FloodIsDone, FloodIsFilled, FloodShowsVoids, KeptByReaching, KeptBySettling, SurfaceKeepsRules, TakenOfALevel}
-pub use Rattle.drain_flood.specs.Looks.{AreInside, IsAround, IsClosed, IsFreshAt, IsInnerAt, IsInnerPlace, IsLook, IsLookedBefore, IsPlaceBeside, PassesLook}
+pub use Rattle.drain_flood.specs.Floods.{Flooding, HasDescent, HasFirstMarks, HasFloor, HasMarks, IsBetween, IsFilledFrom, IsFirstMark, IsFloodOf, IsFlooded, IsHeld, IsReachedCell, IsReachedFrom, IsReachedPair, IsReachedPlace, IsSurfaceOf, IsUnreached, Reaches, con_at, listed_at, mark_at, unreached}
+pub use Rattle.drain_flood.specs.Laid.{AreDataMarks, AreFirstMarks, AreGrounds, AreRowLanes, IsGround, IsLane, IsMarkOf, IsOpenPlace, fall_at, first_across, first_along, is_steeper, least_across, least_along, least_around, level_of_lane}
+pub use Rattle.drain_flood.specs.Laws.{AllAreReached, AllAreSettled, FlatsArePresent, FlatsKeepRules, FloodIsDone, FloodIsFilled, FloodShowsVoids, IsAtEnd, KeptByReaching, KeptBySettling, SurfaceKeepsRules}
+pub use Rattle.drain_flood.specs.Looks.{AreInside, IsAround, IsClosed, IsFreshAt, IsInnerAt, IsInnerPlace, IsLook, IsLookedAround, IsLookedBefore, IsPlaceBeside, LooksAround, PassesLook}
 pub use Rattle.drain_flood.specs.Stacks.{AreStacks, stack_at}
-pub use Rattle.drain_flood.specs.Turns.{Holds, IsLeftWaiting, IsLessWork, IsLookedAround, IsNextTurn, IsOut, IsPopped, IsPut, LooksAround, Rises, Waiting, with_lists}
+pub use Rattle.drain_flood.specs.Turns.{Holds, IsLeftWaiting, IsLessWork, IsNextTurn, IsOut, IsPopped, IsPut, Rises, Waiting, with_lists}
 pub use Rattle.drain_flood.specs.Walks.{IsLessWalk, IsLowEdgeThere, IsNextPlace, IsPassed, IsWalk, IsWalked, NoneAt, with_ahead}
 pub use Rattle.drain_flood.specs.Ways.{AreFirstCodes, AreLinked, IsChain, IsCodeAt, IsLinked, IsLowerNeighbor, IsSpaced, IsWayDown, chain, key_down, last_or, level_of, marked_grid, marked_products, pairs_at, pairs_from, way_code}
 pub use Rattle.drain_flood.specs.declared.falls.TheConstants.{GAP}
@@ -14,9 +14,10 @@ pub use Rattle.drain_flood.specs.declared.level_queue.TheConstants.{ABSENT, END,
 pub use Rattle.drain_grid.proofs.Alike.{before_row, same_index}
 pub use Rattle.drain_grid.proofs.Decisions.{cases}
 pub use Rattle.drain_grid.proofs.Inflows.{opposite_opposite, step_back}
-pub use Rattle.drain_grid.proofs.Lowered.{AreLevels, HasData-path, same_or_not}
+pub use Rattle.drain_grid.proofs.Lowered.{AreLevels, HasData-path, least_at_open, least_beside, same_or_not}
 pub use Rattle.drain_grid.proofs.Neighbors.{AreNeighbors-lies, direction_between, of_each, place, reach, step_gives, step_lies}
 pub use Rattle.drain_grid.proofs.PatchDecisions.{open_cell}
+pub use Rattle.drain_grid.proofs.OpenCells.{IsOpenAmong-gap, gap_from_void}
 pub use Rattle.drain_grid.proofs.Patches.{IsOpen-patch_at, cell_shown, shown_cell}
 pub use Rattle.drain_grid.proofs.Runs.{cell_at, index_of-below}
 pub use Rattle.drain_grid.proofs.Tallies.{none_some, same_some, some_or_none, void_data}
@@ -29,7 +30,7 @@ pub use Rattle.drain_grid.specs.HeightKinds.{height_of}
 pub use Rattle.drain_grid.specs.Open.{IsGap}
 pub use Rattle.drain_grid.specs.Patch.{HasLower, IsLower}
 pub use Rattle.drain_grid.specs.PatchRules.{BadCodeWithoutSpill, BelowGroundHolds, FlatStepHolds, NotLeastHolds, OpenRaisedWithoutSpill, OutletCodeHolds, SlopeHolds, flow_rules, surface_rules}
-pub use Rattle.drain_grid.specs.Path.{Drains, IsFilled, IsPath, NeverRises}
+pub use Rattle.drain_grid.specs.Path.{CoversGround, Drains, IsFilled, IsLeastSurface, IsPath, NeverRises, Surface}
 pub use Rattle.drain_grid.specs.Rule.{IsFillRule, IsWayRule}
 pub use Rattle.drain_grid.specs.SinkTexts.{is_listed}
 pub use Rattle.drain_grid.specs.Slope.{IsFirstSteepest, IsSteepest, key_to, slope_key}
@@ -48,8 +49,9 @@ pub use Rattle.std.proofs.lemmas.Bool.Decides.{Decides-int_eq, Decides-ltb, nat_
 pub use Rattle.std.proofs.lemmas.Int.{by_lt_z, clamps, ints, to_z-of_z}
 pub use Rattle.std.proofs.lemmas.List.{drop-append-le, get_or-map, get_or_append_left, get_or_default, get_or_past, get_or_push, get_or_read, length-append, length-map, length_push, map-set, map_push, take_at}
 pub use Rattle.std.proofs.lemmas.List.Elements.{All-append, All-cons, All-contains, All-get_or, All-head, All-map, All-nil, All-push, All-tail, All-weaker, Contains-append_cases, Contains-append_left, Contains-append_right, Contains-get_or, Contains-push, Contains-push_cases}
-pub use Rattle.std.proofs.lemmas.List.Sorted.{All-permutation, Contains-permutation, IsPermutation-middle, IsPermutation-sym, length_permutation}
+pub use Rattle.std.proofs.lemmas.List.Sorted.{All-permutation, Contains-permutation, IsPermutation-map, IsPermutation-middle, IsPermutation-sym, first_le_from_greatest, length_permutation}
 pub use Rattle.std.proofs.lemmas.List.Sums.{count_by-le-length, sum_by-le, sum_by-set}
+pub use Rattle.std.proofs.lemmas.Result.{IfOk-weaker}
 pub use Rattle.std.proofs.lemmas.Nat.{div-add-mod', div_below, mul-le, mul-lt}
 pub use Rattle.std.specs.Int.{int_max}
 pub use Rattle.std.specs.List.{All, AllByRecursion, sum_by}

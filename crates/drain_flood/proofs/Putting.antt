@@ -1,5 +1,5 @@
 -- Numbers that are written at one place: the numbers of each cell afterwards.
-use Rattle.drain_flood.proofs.Names.{◌≡◌, ◌≢◌, ℕ, ◌+◌, ◌*◌, ◌<◌, ◌∙◌, ℤ, pos, ◌==◌, cond, List, [], ◌∷◌, ◌++◌, length, set, get_or, count_by, refl, sym, ap, subst, arith, get_or-set_other, get_or-set_same, ne_eqb, sum_by-set, Cell, IsCellOf, index_of, Extent, index_of-below, same_index, REACHED, UNREACHED, Flooding, mark_at, Reaches}
+use Rattle.drain_flood.proofs.Names.{Flooding, Reaches, mark_at, REACHED, UNREACHED, same_index, place, index_of-below, Extent, IsCellOf, index_of, Cell, List, [], ap, arith, cond, count_by, get_or, get_or-set_other, get_or-set_same, length, pos, refl, set, subst, sym, ℕ, ℤ, ◌*◌, ◌++◌, ◌+◌, ◌<◌, ◌==◌, ◌∙◌, ◌∷◌, ◌≡◌, ◌≢◌, ne_eqb, sum_by-set}
 use Rattle.std.proofs.lemmas.Bool.{eq-eqb}
 use Rattle.std.proofs.lemmas.List.{length-set}
 
@@ -54,29 +54,28 @@ put_reaches e old new place n con inside at con_long mark_long fresh con_is mark
     reached_differs mark reached fresh = absurd (omega arith)
 
 -- the same of the parts of what is seen as a flood
-pub put_reaches_seen : (now : Flooding) (e : Extent) (cons : List ℤ) (marks trail more : List ℕ) (waiting : List (ℤ × ℕ)) →
+pub put_reaches_seen : (now : Flooding) (e : Extent) (cons news : List ℤ) (marks trail more : List ℕ) (waiting : List (ℤ × ℕ)) →
     record { extent = e; con = cons; mark = marks; ahead = trail; waiting = waiting } ≡ now →
-    (place : ℕ) (n : Cell) (con put : ℤ) → IsCellOf now.extent n → place ≡ index_of e n →
+    (place : ℕ) (n : Cell) (con : ℤ) → IsCellOf now.extent n → place ≡ index_of e n →
     length cons ≡ e.rows * e.cols → length marks ≡ e.rows * e.cols →
-    mark_at now.extent now n ≡ UNREACHED → put ≡ con → more ≡ trail ++ place ∷ [] →
-    Reaches now.extent now (record { extent = e; con = set cons place put; mark = set marks place REACHED; ahead = more; waiting = waiting }) n con
-put_reaches_seen now e cons marks trail more waiting view place n con put inside at con_long mark_long fresh put_is pushed =
+    mark_at now.extent now n ≡ UNREACHED → news ≡ set cons place con → more ≡ trail ++ place ∷ [] →
+    Reaches now.extent now (record { extent = e; con = news; mark = set marks place REACHED; ahead = more; waiting = waiting }) n con
+put_reaches_seen now e cons news marks trail more waiting view place n con inside at con_long mark_long fresh put pushed =
     let old : Flooding = record { extent = e; con = cons; mark = marks; ahead = trail; waiting = waiting } in
-    let new : Flooding = record { extent = e; con = set cons place put; mark = set marks place REACHED; ahead = more; waiting = waiting } in
+    let new : Flooding = record { extent = e; con = news; mark = set marks place REACHED; ahead = more; waiting = waiting } in
     subst (λ s. IsCellOf s.extent n → mark_at s.extent s n ≡ UNREACHED → Reaches s.extent s new n con) view
-    (λ inside_e fresh_e. put_reaches e old new place n con inside_e at con_long mark_long fresh_e
-    (ap (λ z. set cons place z) put_is) refl pushed refl)
+    (λ inside_e fresh_e. put_reaches e old new place n con inside_e at con_long mark_long fresh_e put refl pushed refl)
     inside fresh
 
 -- the same at a place, whichever cell is there
-pub put_reaches_at : (now : Flooding) (e : Extent) (cons : List ℤ) (marks trail more : List ℕ) (waiting : List (ℤ × ℕ)) →
+pub put_reaches_at : (now : Flooding) (e : Extent) (cons news : List ℤ) (marks trail more : List ℕ) (waiting : List (ℤ × ℕ)) →
     record { extent = e; con = cons; mark = marks; ahead = trail; waiting = waiting } ≡ now →
-    (place : ℕ) (con put : ℤ) →
+    (place : ℕ) (con : ℤ) →
     length cons ≡ e.rows * e.cols → length marks ≡ e.rows * e.cols →
-    get_or now.mark place 0 ≡ UNREACHED → put ≡ con → more ≡ trail ++ place ∷ [] →
+    get_or now.mark place 0 ≡ UNREACHED → news ≡ set cons place con → more ≡ trail ++ place ∷ [] →
     (n : Cell) → IsCellOf now.extent n → place ≡ index_of now.extent n →
-    Reaches now.extent now (record { extent = e; con = set cons place put; mark = set marks place REACHED; ahead = more; waiting = waiting }) n con
-put_reaches_at now e cons marks trail more waiting view place con put con_long mark_long fresh put_is pushed n inside at =
+    Reaches now.extent now (record { extent = e; con = news; mark = set marks place REACHED; ahead = more; waiting = waiting }) n con
+put_reaches_at now e cons news marks trail more waiting view place con con_long mark_long fresh put pushed n inside at =
     let extent : now.extent ≡ e = ap (λ (f : Flooding). f.extent) (sym view) in
-    put_reaches_seen now e cons marks trail more waiting view place n con put inside (at ∙ ap (λ x. index_of x n) extent)
-    con_long mark_long (ap (λ k. get_or now.mark k 0) (sym at) ∙ fresh) put_is pushed
+    put_reaches_seen now e cons news marks trail more waiting view place n con inside (at ∙ ap (λ x. index_of x n) extent)
+    con_long mark_long (ap (λ k. get_or now.mark k 0) (sym at) ∙ fresh) put pushed

@@ -1,47 +1,7 @@
 -- What holds while flats get their ways still holds after one more cell is settled.
-use Rattle.drain_flood.proofs.Names.{ℕ, inl, inr, ℤ, ◌≤ℤ◌, [], ◌∷◌, Contains, sym, ap, subst, arith, ◌≡◌, ◌+◌, ◌*◌, ◌<◌, ◌≤◌, List, Some, ◌≢◌, ◌∙◌, ◌++◌, IsNone, refl, append_assoc, All, ints, by_lt_z, All-cons, All-head, All-tail, All-weaker, All-push, Contains-append_left, Contains-push, index_of, step, con_at, IsWaiting, IsAhead, Flooding, TakenOfALevel, AllAreSettled, KeptBySettling, with_lists, cases_eq, Cell, Direction, opposite, code_of, Grid, HasData, IsInside, IsPath, NeverRises, Drains, step_back, HasData-path, same_or_not, direction_between, step_gives, index_of-below, REACHED, VOID, Laying, way_at, rank_at, wayless, IsSettled, IsFlat, AreLaid, AreWaysOnFlats, IsBlankWay, HasWay, IsLookedFor, IsToLook, Settles, IsSettledFrom, East}
-use Rattle.drain_flood.proofs.Turns.{relisted, cons_cases, head_in, tail_in}
+use Rattle.drain_flood.proofs.Names.{AreLaid, AreWaysOnFlats, HasWay, IsBlankWay, IsFlat, IsLookedFor, IsSettled, IsSettledFrom, IsToLook, Laying, Settles, rank_at, way_at, wayless, Flooding, con_at, AllAreSettled, KeptBySettling, REACHED, VOID, step_back, HasData-path, same_or_not, direction_between, place, step_gives, index_of-below, code_of, opposite, index_of, step, Grid, HasData, IsInside, Drains, IsPath, NeverRises, Cell, Direction, East, Contains, IsNone, List, Some, [], ap, append_assoc, arith, inl, inr, refl, subst, sym, ℕ, ℤ, ◌*◌, ◌++◌, ◌+◌, ◌<◌, ◌∙◌, ◌∷◌, ◌≡◌, ◌≢◌, ◌≤ℤ◌, ◌≤◌, cases_eq, by_lt_z, ints, All-push, All-weaker, Contains-append_left, Contains-push, All}
 use Rattle.drain_flood.proofs.AllReached.{none_in}
 use Rattle.drain_flood.proofs.Cells.{none_or_some}
-
--- Cells that wait at one level may be taken together: each goes on the trail.
-
-pub taken_of_a_level : TakenOfALevel
-taken_of_a_level g f level place rest is flood =
-    let all : All (IsWaiting g f level) ((level, place) ∷ rest) = subst (All (IsWaiting g f level)) is flood.waiting in
-    let first : IsWaiting g f level (level, place) = All-head (IsWaiting g f level) (level, place) rest all in
-    relisted g f level level [] [] (place ∷ f.ahead) rest flood (omega (arith, ints))
-    (λ c n d at_c at_n leads.
-    (let kept = flood.frontier c n d at_c at_n leads in record {
-      not_below = kept.not_below;
-      held = elim kept.held [
-        | inl looked ↦ inl (tail_in place (index_of g.extent c) f.ahead looked)
-        | inr waits ↦
-            elim (cons_cases (level, place) rest (con_at g.extent f c, index_of g.extent c) (subst (λ xs. Contains xs (con_at g.extent f c, index_of g.extent c)) is waits.0)) [
-              | inl here ↦ inl (subst (λ k. Contains (place ∷ f.ahead) k) (ap (λ (p : ℤ × ℕ). p.1) here) (head_in place f.ahead))
-              | inr later ↦ inr (later, waits.1)
-            ]
-      ];
-    }))
-    (All-weaker (IsWaiting g f level) (IsWaiting g (with_lists f (place ∷ f.ahead) rest) level) (λ p waits. record {
-      cell = waits.cell;
-      reached = record { here = waits.reached.here; code = waits.reached.code };
-      place = waits.place;
-      con = waits.con;
-      not_below = waits.not_below;
-    }) rest (All-tail (IsWaiting g f level) (level, place) rest all))
-    (All-cons (IsAhead g (with_lists f (place ∷ f.ahead) rest) level) place f.ahead (record {
-      cell = first.cell;
-      reached = record { here = first.reached.here; code = first.reached.code };
-      place_is = first.place;
-      not_below = subst (λ z. level ≤ℤ z) (sym first.con) (omega (arith, ints));
-    })
-    (All-weaker (IsAhead g f level) (IsAhead g (with_lists f (place ∷ f.ahead) rest) level) (λ k at. record {
-      cell = at.cell;
-      reached = record { here = at.reached.here; code = at.reached.code };
-      place_is = at.place_is;
-      not_below = at.not_below;
-    }) f.ahead flood.ahead))
 
 -- If every cell was looked at and the trail is empty, every data cell of a surface that drains has its way. By
 -- induction along the path that never rises: its last cell is open, so it has its way. A cell before a settled one has

@@ -1,5 +1,5 @@
 -- One turn of a trace: a cell is taken from the trail, its neighbours are looked at, and it is left.
-use Rattle.drain_flood.proofs.Names.{◌≡◌, ℕ, zero, suc, ◌+◌, ◌-◌, ◌<◌, ℤ, ◌<ℤ◌, List, ◌++◌, length, get_or, pos, refl, inl, inr, arith, ◌∙◌, ◌≤ℤ◌, Bool, true, false, [], ◌∷◌, Contains, sym, ap, subst, cases_lt, false≢true, ints, length-append, All, All-permutation, Contains-permutation, length_permutation, Rises, with_lists, IsOut, IsNextTurn, IsLeftWaiting, IsLessWork, IsLookedAround, IsPopped, LooksAround, level_of, pairs_at, pairs_from, All-head, All-cons, Cell, index_of, Grid, IsInside, height_at, same_index, Flooding, con_at, unreached, IsWaiting, IsAhead, IsFloodOf}
+use Rattle.drain_flood.proofs.Names.{Flooding, IsFloodOf, IsReachedPair, IsReachedPlace, unreached, IsLookedAround, LooksAround, IsLeftWaiting, IsLessWork, IsNextTurn, IsOut, IsPopped, Rises, with_lists, level_of, pairs_at, pairs_from, place, index_of, Grid, IsInside, Surface, Cell, Bool, Contains, List, Option, Some, [], ap, arith, false, get_or, inl, inr, length, pos, refl, subst, suc, sym, true, zero, ℕ, ℤ, ◌++◌, ◌+◌, ◌-◌, ◌<ℤ◌, ◌<◌, ◌∙◌, ◌∷◌, ◌≡◌, cases_lt, false≢true, ints, length-append, All-cons, All-head, All-permutation, Contains-permutation, length_permutation, All}
 use Rattle.std.proofs.Math.ListN.{get_or-append}
 use Rattle.std.proofs.Math.Seq.{get_or-append_right}
 use Rattle.drain_flood.specs.Ways.{items_at, pairs_of}
@@ -37,35 +37,24 @@ pub rising : (firsts behind : List ℕ) → Rises (pairs_of firsts behind)
 unfolding pairs_of
 rising firsts behind = rising_from (items_at firsts behind) (length firsts) 0
 
-module _ (g : Grid) (stand level : ℤ) (later : List ℕ) (place : ℕ) (c : Cell) (inside : IsInside g c) (at : place ≡ index_of g.extent c) (raises : Bool) where
+module _ (g : Grid) (first : Surface) (stand : Option ℤ) (level : ℤ) (later : List ℕ) (place : ℕ) (c : Cell) (inside : IsInside g c) (at : place ≡ index_of g.extent c) (raises : Bool) where
   -- nothing was left
-  pub passed : (f : Flooding) → IsLookedAround g f stand (place ∷ later) c level raises false → IsFloodOf g f stand later
-  passed f around =
-      left g f stand later place c f.waiting inside at around.flood (λ p held. held) around.flood.waiting
-      (λ n d fresh there. absurd (false≢true (around.beside n d fresh there).0))
-
-  -- nothing is left if the cell raised all
-  pub raised : (f : Flooding) (seen : Bool) → raises ≡ true → IsLookedAround g f stand (place ∷ later) c level raises seen → IsFloodOf g f stand later
-  raised f seen raises_all around =
-      left g f stand later place c f.waiting inside at around.flood (λ p held. held) around.flood.waiting
-      (λ n d fresh there. absurd (false≢true (sym (around.beside n d fresh there).2 ∙ raises_all)))
+  pub passed : (f : Flooding) (seen : Bool) → (seen ≡ true → raises ≡ false → ⊥) → IsLookedAround g first f stand (place ∷ later) c level raises seen →
+      IsFloodOf g first f stand later
+  passed f seen none around =
+      left g first f stand later place c f.waiting inside at around.before.flood (λ p held. held) around.before.flood.waiting
+      (λ n d fresh there. (let was = around.passed d n fresh there in absurd (none was.0 was.1)))
 
   -- a lower cell was left, and the cell waits
-  pub waits : (old new : Flooding) (seen : Bool) → IsLookedAround g old stand (place ∷ later) c level raises seen → IsLeftWaiting old new level place → IsFloodOf g new stand later
+  pub waits : (old new : Flooding) (seen : Bool) → IsLookedAround g first old stand (place ∷ later) c level raises seen → IsLeftWaiting old new level place →
+      IsFloodOf g first new stand later
   waits old new seen around waiting =
-      subst (λ f. IsFloodOf g f stand later) (sym waiting.rest)
-      (left g old stand later place c new.waiting inside at around.flood keeps all
-      (λ n d fresh there. (subst (λ z. Contains new.waiting (z, place)) (sym around.con) has, subst (λ z. height_at g n <ℤ z) (sym around.con) (around.beside n d fresh there).1)))
+      subst (λ f. IsFloodOf g first f stand later) (sym waiting.rest)
+      (left g first old stand later place c new.waiting inside at around.before.flood keeps all
+      (λ n d fresh there. subst (λ z. Contains new.waiting (z, place)) (sym around.before.con) has))
     where
-      first : IsAhead g old stand place
-      first = All-head (IsAhead g old stand) place (later ++ old.ahead) around.flood.ahead
-
-      low : stand ≤ℤ level
-      low = subst (λ z. stand ≤ℤ z) around.con
-          (subst (λ x. stand ≤ℤ con_at g.extent old x) (sym (same_index g.extent c first.cell inside first.reached.here.inside (sym at ∙ first.place_is))) first.not_below)
-
-      this_waits : IsWaiting g old stand (level, place)
-      this_waits = record { cell = c; reached = around.reached; place = at; con = around.con; not_below = low }
+      this_waits : IsReachedPair g old (level, place)
+      this_waits = record { cell = c; reached = around.before.reached; place_is = at; con = around.before.con }
 
       has : Contains new.waiting (level, place)
       has = Contains-permutation ((level, place) ∷ old.waiting) new.waiting _ waiting.put (head_in (level, place) old.waiting)
@@ -73,26 +62,26 @@ module _ (g : Grid) (stand level : ℤ) (later : List ℕ) (place : ℕ) (c : Ce
       keeps : (p : ℤ × ℕ) → Contains old.waiting p → Contains new.waiting p
       keeps p held = Contains-permutation ((level, place) ∷ old.waiting) new.waiting p waiting.put (tail_in (level, place) p old.waiting held)
 
-      all : All (IsWaiting g old stand) new.waiting
-      all = All-permutation (IsWaiting g old stand) ((level, place) ∷ old.waiting) new.waiting waiting.put
-          (All-cons (IsWaiting g old stand) (level, place) old.waiting this_waits around.flood.waiting)
+      all : All (IsReachedPair g old) new.waiting
+      all = All-permutation (IsReachedPair g old) ((level, place) ∷ old.waiting) new.waiting waiting.put
+          (All-cons (IsReachedPair g old) (level, place) old.waiting this_waits around.before.flood.waiting)
 
 -- the next place of the trail is busy
-pub next_busy : (g : Grid) (old new : Flooding) (stand : ℤ) (later : List ℕ) (place : ℕ) (c : Cell) → IsFloodOf g old stand later → IsNextTurn old new c →
-    place ≡ index_of old.extent c → IsFloodOf g new stand (place ∷ later)
-next_busy g old new stand later place c flood next at =
-    subst (λ f. IsFloodOf g f stand (place ∷ later)) (sym next.rest)
-    (taken g old stand later place new.ahead (subst (λ k. IsOut k old.ahead new.ahead) (sym at) next.out) flood)
+pub next_busy : (g : Grid) (first : Surface) (old new : Flooding) (stand : Option ℤ) (later : List ℕ) (place : ℕ) (c : Cell) → IsFloodOf g first old stand later →
+    IsNextTurn old new c → place ≡ index_of old.extent c → IsFloodOf g first new stand (place ∷ later)
+next_busy g first old new stand later place c flood next at =
+    subst (λ f. IsFloodOf g first f stand (place ∷ later)) (sym next.rest)
+    (taken g first old stand later place new.ahead (subst (λ k. IsOut k old.ahead new.ahead) (sym at) next.out) flood)
 
 -- a busy place, around which a call looked
-module _ (g : Grid) (s1 s2 : Flooding) (stand level : ℤ) (later : List ℕ) (place : ℕ) (raises seen : Bool) (e1 : g.extent ≡ s1.extent)
-    (is : level ≡ get_or s1.con place (pos 0)) (at_level : raises ≡ true → level ≡ stand) (looks : LooksAround s1.extent s1 s2 place level raises seen)
-    (flood : IsFloodOf g s1 stand (place ∷ later)) where
-  busy : IsAhead g s1 stand place
-  busy = All-head (IsAhead g s1 stand) place (later ++ s1.ahead) flood.ahead
+module _ (g : Grid) (first : Surface) (s1 s2 : Flooding) (stand : Option ℤ) (level : ℤ) (later : List ℕ) (place : ℕ) (raises seen : Bool) (e1 : g.extent ≡ s1.extent)
+    (is : level ≡ get_or s1.con place (pos 0)) (at_level : raises ≡ true → stand ≡ Some level) (looks : LooksAround s1.extent s1 s2 place level raises seen)
+    (flood : IsFloodOf g first s1 stand (place ∷ later)) where
+  busy : IsReachedPlace g s1 place
+  busy = All-head (IsReachedPlace g s1) place later flood.busy_places
 
-  looked : IsLookedAround g s2 stand (place ∷ later) busy.cell level raises seen
-  looked = looks g stand (place ∷ later) busy.cell e1 busy.place_is (record {
+  looked : IsLookedAround g first s2 stand (place ∷ later) busy.cell level raises seen
+  looked = looks g first stand (place ∷ later) busy.cell e1 busy.place_is (record {
     flood = flood;
     reached = busy.reached;
     con = sym (is ∙ ap (λ k. get_or s1.con k (pos 0)) busy.place_is);
@@ -100,22 +89,25 @@ module _ (g : Grid) (s1 s2 : Flooding) (stand level : ℤ) (later : List ℕ) (p
   })
 
   -- none of its neighbours was left
-  pub busy_passed : seen ≡ false → IsFloodOf g s2 stand later
-  busy_passed none =
-      passed g stand level later place busy.cell busy.reached.here.inside busy.place_is raises s2
-      (subst (IsLookedAround g s2 stand (place ∷ later) busy.cell level raises) none looked)
+  pub busy_passed : (seen ≡ true → raises ≡ false → ⊥) → IsFloodOf g first s2 stand later
+  busy_passed none = passed g first stand level later place busy.cell busy.reached.here.inside busy.place_is raises s2 seen none looked
 
   -- or a lower one was, and it waits
-  pub busy_waits : (s3 : Flooding) → IsLeftWaiting s2 s3 level place → IsFloodOf g s3 stand later
-  busy_waits s3 waiting = waits g stand level later place busy.cell busy.reached.here.inside busy.place_is raises s2 s3 seen looked waiting
+  pub busy_waits : (s3 : Flooding) → IsLeftWaiting s2 s3 level place → IsFloodOf g first s3 stand later
+  busy_waits s3 waiting = waits g first stand level later place busy.cell busy.reached.here.inside busy.place_is raises s2 s3 seen looked waiting
 
   -- or it is for later
-  pub busy_deferred : (after : List ℕ) → after ≡ later ++ place ∷ [] → IsFloodOf g s2 stand after
-  busy_deferred after grown = subst (IsFloodOf g s2 stand) (sym grown) (deferred g s2 stand later place looked.flood)
+  pub busy_deferred : (after : List ℕ) → after ≡ later ++ place ∷ [] → IsFloodOf g first s2 stand after
+  busy_deferred after grown = subst (IsFloodOf g first s2 stand) (sym grown) (deferred g first s2 stand later place looked.before.flood)
+
+-- what isn't seen isn't
+pub unseen : (seen raises : Bool) → seen ≡ false → seen ≡ true → raises ≡ false → ⊥
+unseen seen raises none is unraised = false≢true (sym none ∙ is)
 
 -- the last cell for later is busy
-pub last_busy : (g : Grid) (s : Flooding) (stand : ℤ) (later rest : List ℕ) (place : ℕ) → later ≡ rest ++ place ∷ [] → IsFloodOf g s stand later → IsFloodOf g s stand (place ∷ rest)
-last_busy g s stand later rest place is flood = recalled g s stand rest place (subst (IsFloodOf g s stand) is flood)
+pub last_busy : (g : Grid) (first : Surface) (s : Flooding) (stand : Option ℤ) (later rest : List ℕ) (place : ℕ) → later ≡ rest ++ place ∷ [] →
+    IsFloodOf g first s stand later → IsFloodOf g first s stand (place ∷ rest)
+last_busy g first s stand later rest place is flood = recalled g first s stand rest place (subst (IsFloodOf g first s stand) is flood)
 
 -- how much is left to do after a turn
 next_work : (old new : Flooding) (c : Cell) → IsNextTurn old new c →
@@ -150,15 +142,13 @@ pop_work s0 s1 level place popped =
     (ap (λ (f : Flooding). unreached f + length f.ahead) popped.rest, omega (arith, long))
 
 -- the flood rises to the level of a lowest waiting cell, and its unreached neighbours are raised
-pub turn_rises : (g : Grid) (s0 s1 s2 : Flooding) (stand level : ℤ) (place : ℕ) (seen : Bool) → g.extent ≡ s1.extent → IsPopped s0 s1 level place → s0.ahead ≡ [] →
-    LooksAround s1.extent s1 s2 place level true seen → IsFloodOf g s0 stand [] → IsFloodOf g s2 level []
-turn_rises g s0 s1 s2 stand level place seen e1 popped done looks flood =
+pub turn_rises : (g : Grid) (first : Surface) (s0 s1 s2 : Flooding) (stand : Option ℤ) (level : ℤ) (place : ℕ) (seen : Bool) → g.extent ≡ s1.extent → IsPopped s0 s1 level place →
+    s0.ahead ≡ [] → LooksAround s1.extent s1 s2 place level true seen → IsFloodOf g first s0 stand [] → IsFloodOf g first s2 (Some level) []
+turn_rises g first s0 s1 s2 stand level place seen e1 popped done looks flood =
     let is_new : with_lists s0 [] s1.waiting ≡ s1 = ap (λ xs. with_lists s0 xs s1.waiting) (sym done) ∙ sym popped.rest in
-    let now : IsFloodOf g s1 level (place ∷ []) = subst (λ f. IsFloodOf g f level (place ∷ [])) is_new
-    (risen g s0 stand level place s1.waiting done popped.out popped.lowest flood) in
-    let was = All-head (IsWaiting g s0 stand) (level, place) s1.waiting (All-permutation (IsWaiting g s0 stand) s0.waiting _ popped.out flood.waiting) in
-    let con : get_or s0.con place (pos 0) ≡ level = ap (λ k. get_or s0.con k (pos 0)) was.place ∙ was.con in
+    let now : IsFloodOf g first s1 (Some level) (place ∷ []) = subst (λ f. IsFloodOf g first f (Some level) (place ∷ [])) is_new
+    (risen g first s0 stand level place s1.waiting done popped.out popped.lowest flood) in
+    let was = All-head (IsReachedPair g s0) (level, place) s1.waiting (All-permutation (IsReachedPair g s0) s0.waiting _ popped.out flood.waiting) in
+    let con : get_or s0.con place (pos 0) ≡ level = ap (λ k. get_or s0.con k (pos 0)) was.place_is ∙ was.con in
     let is : level ≡ get_or s1.con place (pos 0) = sym con ∙ ap (λ f. get_or f.con place (pos 0)) is_new in
-    let held = busy g s1 s2 level level [] place true seen e1 is (λ h. refl) looks now in
-    raised g level level [] place held.cell held.reached.here.inside held.place_is true s2 seen refl
-    (looked g s1 s2 level level [] place true seen e1 is (λ h. refl) looks now)
+    busy_passed g first s1 s2 (Some level) level [] place true seen e1 is (λ h. refl) looks now (λ is_seen raises. false≢true (sym raises))

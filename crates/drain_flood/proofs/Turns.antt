@@ -1,8 +1,7 @@
 -- From one cell to the next: a cell whose neighbours were looked at is left, or waits, and a lowest waiting one is
 -- taken.
-use Rattle.drain_flood.proofs.Names.{◌≡◌, ℕ, zero, suc, ◌<◌, ◌∙◌, ◌⊎◌, inl, inr, ℤ, ◌≤ℤ◌, ◌<ℤ◌, List, [], ◌∷◌, ◌++◌, Option, Some, None, Result, Ok, Err, MatchOption, IfSome, OnOk, OnErr, Contains, get_or, refl, sym, ap, subst, arith, All, IsPermutation, All-permutation, Contains-permutation, ints, All-nil, All-cons, All-head, All-tail, All-append, All-weaker, All-contains, Contains-append_left, Contains-append_right, Contains-append_cases, Contains-get_or, Cell, Direction, index_of, step, Grid, IsInside, height_at, same_index, with_lists, IsOut, Flooding, con_at, IsReachedCell, IsUnreached, IsKeptCell, IsWaiting, IsAhead, IsFloodOf}
+use Rattle.drain_flood.proofs.Names.{Flooding, HasFloor, IsFloodOf, IsHeld, IsReachedCell, IsReachedPair, IsReachedPlace, IsUnreached, con_at, IsOut, with_lists, same_index, place, same_some, index_of, step, Grid, IsInside, Surface, Cell, Direction, Contains, Err, IfSome, List, MatchOption, None, Ok, OnErr, OnOk, Option, Result, Some, [], ap, arith, get_or, inl, inr, refl, subst, suc, sym, zero, ℕ, ℤ, ◌++◌, ◌<◌, ◌∙◌, ◌∷◌, ◌≡◌, ◌≤ℤ◌, ◌⊎◌, ints, All-append, All-cons, All-contains, All-head, All-nil, All-push, All-tail, All-weaker, Contains-append_cases, Contains-append_left, Contains-append_right, Contains-get_or, Contains-push, Contains-push_cases, All-permutation, Contains-permutation, All, IsPermutation}
 use Rattle.drain_flood.proofs.AllReached.{none_in}
-use Rattle.drain_flood.proofs.Levels.{cap_rises}
 
 -- in a list with something in front, it is that or in the rest
 pub cons_cases : {X : Type 0} (x : X) (xs : List X) (y : X) → Contains (x ∷ xs) y → (x ≡ y) ⊎ Contains xs y
@@ -15,32 +14,48 @@ head_in x xs = (0, omega arith, refl)
 pub tail_in : {X : Type 0} (x y : X) (xs : List X) → Contains xs y → Contains (x ∷ xs) y
 tail_in x y xs (k, less, is) = (suc k, omega (arith, less), is)
 
--- if each reached cell with an unreached neighbour is kept, and what is kept is reached, the flood goes on with other
--- lists and at another level
-pub relisted : (g : Grid) (f : Flooding) (level higher : ℤ) (busy other : List ℕ) (ahead : List ℕ) (waiting : List (ℤ × ℕ)) →
-    IsFloodOf g f level busy → level ≤ℤ higher →
-    ((c n : Cell) (d : Direction) → IsReachedCell g f c → IsUnreached g f n → step g.extent c d ≡ Some n → IsKeptCell g (with_lists f ahead waiting) higher other c n) →
-    All (IsWaiting g (with_lists f ahead waiting) higher) waiting → All (IsAhead g (with_lists f ahead waiting) higher) (other ++ ahead) →
-    IsFloodOf g (with_lists f ahead waiting) higher other
-relisted g f level higher busy other ahead waiting flood rises kept waits among = record {
+-- Other lists.
+
+same_place : (g : Grid) (f : Flooding) (ahead : List ℕ) (waiting : List (ℤ × ℕ)) (place : ℕ) → IsReachedPlace g f place → IsReachedPlace g (with_lists f ahead waiting) place
+same_place g f ahead waiting place is = record { cell = is.cell; reached = record { here = is.reached.here; code = is.reached.code }; place_is = is.place_is }
+
+same_pair : (g : Grid) (f : Flooding) (ahead : List ℕ) (waiting : List (ℤ × ℕ)) (pair : ℤ × ℕ) → IsReachedPair g f pair → IsReachedPair g (with_lists f ahead waiting) pair
+same_pair g f ahead waiting pair is = record {
+  cell = is.cell;
+  reached = record { here = is.reached.here; code = is.reached.code };
+  place_is = is.place_is;
+  con = is.con;
+}
+
+-- a flood goes on with other lists and stands at another level, if each reached cell with an unreached neighbour is still held and
+-- isn't below the level
+pub relisted : (g : Grid) (first : Surface) (f : Flooding) (stand higher : Option ℤ) (busy other ahead : List ℕ) (waiting : List (ℤ × ℕ)) →
+    IsFloodOf g first f stand busy →
+    ((c n : Cell) (d : Direction) → IsReachedCell g f c → IsUnreached g f n → step g.extent c d ≡ Some n → IsHeld g.extent f busy c → IsHeld g.extent (with_lists f ahead waiting) other c) →
+    ((level : ℤ) → higher ≡ Some level → HasFloor g f level) →
+    All (IsReachedPlace g f) other → All (IsReachedPlace g f) ahead → All (IsReachedPair g f) waiting →
+    IsFloodOf g first (with_lists f ahead waiting) higher other
+relisted g first f stand higher busy other ahead waiting flood held floor at_other at_ahead at_waiting = record {
   counted = record { con = flood.counted.con; mark = flood.counted.mark };
-  voids = λ c inside void. (let blank = flood.voids c inside void in record { con = blank.con; mark = blank.mark });
-  heights = flood.heights;
-  ground = λ c left. flood.ground c (record { here = left.here; code = left.code });
-  opened = λ c is_open. (let at = flood.opened c is_open in record { con = at.con; mark = at.mark });
-  closed = λ c reached shut. flood.closed c (record { here = reached.here; code = reached.code }) shut;
-  covers = λ c reached. flood.covers c (record { here = reached.here; code = reached.code });
+  marks = record {
+    voids = flood.marks.voids;
+    opened = flood.marks.opened;
+    closed = λ c reached shut. flood.marks.closed c (record { here = reached.here; code = reached.code }) shut;
+  };
+  voids = flood.voids;
+  between = record { covers = flood.between.covers; low = flood.between.low };
   drains = λ c reached.
       (let way = flood.drains c (record { here = reached.here; code = reached.code }) in
       record { rest = way.rest; path = way.path; falls = way.falls; reached = way.reached });
-  least = λ c n d at_c at_n leads.
-      flood.least c n d (record { here = at_c.here; code = at_c.code }) (record { here = at_n.here; code = at_n.code }) leads;
-  capped = λ c reached.
-      cap_rises (con_at g.extent f c) (height_at g c) level higher (flood.capped c (record { here = reached.here; code = reached.code })) rises;
-  frontier = λ c n d at_c at_n leads.
-      kept c n d (record { here = at_c.here; code = at_c.code }) (record { here = at_n.here; code = at_n.code }) leads;
-  waiting = waits;
-  ahead = among;
+  held = λ c n d at_c at_n leads.
+      (let was_c : IsReachedCell g f c = record { here = at_c.here; code = at_c.code } in
+      let was_n : IsUnreached g f n = record { here = at_n.here; code = at_n.code } in
+      held c n d was_c was_n leads (flood.held c n d was_c was_n leads));
+  floor = λ level at c n d at_c at_n leads.
+      floor level at c n d (record { here = at_c.here; code = at_c.code }) (record { here = at_n.here; code = at_n.code }) leads;
+  busy_places = All-weaker (IsReachedPlace g f) (IsReachedPlace g (with_lists f ahead waiting)) (same_place g f ahead waiting) other at_other;
+  ahead = All-weaker (IsReachedPlace g f) (IsReachedPlace g (with_lists f ahead waiting)) (same_place g f ahead waiting) ahead at_ahead;
+  waiting = All-weaker (IsReachedPair g f) (IsReachedPair g (with_lists f ahead waiting)) (same_pair g f ahead waiting) waiting at_waiting;
 }
 
 -- what is taken out of a list was in it, next to all that is left
@@ -75,171 +90,116 @@ all_moved P xs ys there each = λ k d less. All-contains P xs (get_or ys k d) ea
 pub all_before : (P : ℕ → Type 0) (xs ys : List ℕ) (last : ℕ) → xs ≡ ys ++ last ∷ [] → All P xs → All P ys
 all_before P xs ys last is each = all_moved P xs ys (λ k held. subst (λ zs. Contains zs k) (sym is) (Contains-append_left ys (last ∷ []) k held)) each
 
--- the flood goes on with other busy cells and another trail, if they are the same together
-pub rebusied : (g : Grid) (f : Flooding) (level : ℤ) (busy other ahead : List ℕ) → IsFloodOf g f level busy →
-    ((k : ℕ) → Contains (busy ++ f.ahead) k → Contains (other ++ ahead) k) → ((k : ℕ) → Contains (other ++ ahead) k → Contains (busy ++ f.ahead) k) →
-    IsFloodOf g (with_lists f ahead f.waiting) level other
-rebusied g f level busy other ahead flood there back =
-    relisted g f level level busy other ahead f.waiting flood (omega (arith, ints))
-    (λ c n d at_c at_n leads.
-    (let kept = flood.frontier c n d at_c at_n leads in record {
-      not_below = kept.not_below;
-      held = elim kept.held [
-        | inl looked ↦ inl (there (index_of g.extent c) looked)
-        | inr waits ↦ inr waits
-      ];
-    }))
-    (All-weaker (IsWaiting g f level) (IsWaiting g (with_lists f ahead f.waiting) level) (λ p waits. record {
-      cell = waits.cell;
-      reached = record { here = waits.reached.here; code = waits.reached.code };
-      place = waits.place;
-      con = waits.con;
-      not_below = waits.not_below;
-    }) f.waiting flood.waiting)
-    (All-weaker (IsAhead g f level) (IsAhead g (with_lists f ahead f.waiting) level) (λ k at. record {
-      cell = at.cell;
-      reached = record { here = at.reached.here; code = at.reached.code };
-      place_is = at.place_is;
-      not_below = at.not_below;
-    }) (other ++ ahead) (all_moved (IsAhead g f level) (busy ++ f.ahead) (other ++ ahead) back flood.ahead))
-
 -- some cell of the trail is taken, and is busy
-pub taken : (g : Grid) (f : Flooding) (level : ℤ) (later : List ℕ) (place : ℕ) (rest : List ℕ) → IsOut place f.ahead rest → IsFloodOf g f level later →
-    IsFloodOf g (with_lists f rest f.waiting) level (place ∷ later)
-taken g f level later place rest out flood = rebusied g f level later (place ∷ later) rest flood there back
+pub taken : (g : Grid) (first : Surface) (f : Flooding) (stand : Option ℤ) (later : List ℕ) (place : ℕ) (rest : List ℕ) → IsOut place f.ahead rest →
+    IsFloodOf g first f stand later → IsFloodOf g first (with_lists f rest f.waiting) stand (place ∷ later)
+taken g first f stand later place rest out flood =
+    let all : All (IsReachedPlace g f) (place ∷ rest) = out_all place f.ahead rest out (IsReachedPlace g f) flood.ahead in
+    relisted g first f stand stand later (place ∷ later) rest f.waiting flood
+    (λ b n d at_b at_n leads held. elim held [
+      | inl busy ↦ inl (tail_in place (index_of g.extent b) later busy)
+      | inr (inl on) ↦ by_place (index_of g.extent b) (out_has place f.ahead rest out (index_of g.extent b) on)
+      | inr (inr waits) ↦ inr (inr waits)
+    ])
+    flood.floor
+    (All-cons (IsReachedPlace g f) place later (All-head (IsReachedPlace g f) place rest all) flood.busy_places)
+    (All-tail (IsReachedPlace g f) place rest all) flood.waiting
   where
-    there : (k : ℕ) → Contains (later ++ f.ahead) k → Contains (place ∷ later ++ rest) k
-    there k held = elim (Contains-append_cases later f.ahead k held) [
-      | inl early ↦ tail_in place k (later ++ rest) (Contains-append_left later rest k early)
-      | inr late ↦ elim (cons_cases place rest k (out_has place f.ahead rest out k late)) [
-        | inl here ↦ subst (λ x. Contains (place ∷ later ++ rest) x) here (head_in place (later ++ rest))
-        | inr after ↦ tail_in place k (later ++ rest) (Contains-append_right later rest k after)
+    by_place : {W : Type 0} (k : ℕ) → Contains (place ∷ rest) k → Contains (place ∷ later) k ⊎ (Contains rest k ⊎ W)
+    by_place k held = elim (cons_cases place rest k held) [
+      | inl same ↦ inl (subst (λ x. Contains (place ∷ later) x) same (head_in place later))
+      | inr on ↦ inr (inl on)
+    ]
+
+-- other busy cells, if they are the same together
+rebusied : (g : Grid) (first : Surface) (f : Flooding) (stand : Option ℤ) (busy other : List ℕ) → IsFloodOf g first f stand busy →
+    ((k : ℕ) → Contains busy k → Contains other k) → All (IsReachedPlace g f) other → IsFloodOf g first f stand other
+rebusied g first f stand busy other flood there all =
+    relisted g first f stand stand busy other f.ahead f.waiting flood
+    (λ b n d at_b at_n leads held. elim held [
+      | inl was ↦ inl (there (index_of g.extent b) was)
+      | inr listed ↦ inr listed
+    ])
+    flood.floor all flood.ahead flood.waiting
+
+-- a busy cell is for later
+pub deferred : (g : Grid) (first : Surface) (f : Flooding) (stand : Option ℤ) (later : List ℕ) (place : ℕ) → IsFloodOf g first f stand (place ∷ later) →
+    IsFloodOf g first f stand (later ++ place ∷ [])
+deferred g first f stand later place flood =
+    rebusied g first f stand (place ∷ later) (later ++ place ∷ []) flood
+    (λ k held. elim (cons_cases place later k held) [
+      | inl same ↦ subst (Contains (later ++ place ∷ [])) same (Contains-push later place)
+      | inr on ↦ Contains-append_left later (place ∷ []) k on
+    ])
+    (All-push (IsReachedPlace g f) later place (All-tail (IsReachedPlace g f) place later flood.busy_places) (All-head (IsReachedPlace g f) place later flood.busy_places))
+
+-- the last cell for later is busy
+pub recalled : (g : Grid) (first : Surface) (f : Flooding) (stand : Option ℤ) (later : List ℕ) (place : ℕ) → IsFloodOf g first f stand (later ++ place ∷ []) →
+    IsFloodOf g first f stand (place ∷ later)
+recalled g first f stand later place flood =
+    rebusied g first f stand (later ++ place ∷ []) (place ∷ later) flood
+    (λ k held. elim (Contains-push_cases later place k held) [
+      | inl on ↦ tail_in place k later on
+      | inr same ↦ subst (Contains (place ∷ later)) same (head_in place later)
+    ])
+    (All-cons (IsReachedPlace g f) place later
+    (All-contains (IsReachedPlace g f) (later ++ place ∷ []) place flood.busy_places (Contains-push later place))
+    (all_before (IsReachedPlace g f) (later ++ place ∷ []) later place refl flood.busy_places))
+
+-- a busy cell is left if none of its neighbours is unreached, or if it waits
+pub left : (g : Grid) (first : Surface) (f : Flooding) (stand : Option ℤ) (later : List ℕ) (place : ℕ) (c : Cell) (waiting : List (ℤ × ℕ)) → IsInside g c →
+    place ≡ index_of g.extent c → IsFloodOf g first f stand (place ∷ later) → ((p : ℤ × ℕ) → Contains f.waiting p → Contains waiting p) →
+    All (IsReachedPair g f) waiting →
+    ((n : Cell) (d : Direction) → IsUnreached g f n → step g.extent c d ≡ Some n → Contains waiting (con_at g.extent f c, place)) →
+    IsFloodOf g first (with_lists f f.ahead waiting) stand later
+left g first f stand later place c waiting inside at flood more waits beside =
+    relisted g first f stand stand (place ∷ later) later f.ahead waiting flood
+    (λ b n d at_b at_n leads held. elim held [
+      | inl busy ↦ elim (cons_cases place later (index_of g.extent b) busy) [
+        | inl here ↦
+            (let same : c ≡ b = same_index g.extent c b inside at_b.here.inside (sym at ∙ here) in
+            inr (inr (subst (λ x. Contains waiting (con_at g.extent f x, index_of g.extent x)) same
+            (subst (λ k. Contains waiting (con_at g.extent f c, k)) at (beside n d at_n (ap (λ x. step g.extent x d) same ∙ leads))))))
+        | inr on ↦ inl on
       ]
+      | inr (inl on) ↦ inr (inl on)
+      | inr (inr waited) ↦ inr (inr (more _ waited))
+    ])
+    flood.floor (All-tail (IsReachedPlace g f) place later flood.busy_places) flood.ahead waits
+
+-- if the trail is empty, a lowest waiting cell is taken: nothing else is held, so no reached cell with an unreached neighbour is
+-- below it, and the flood stands at its level
+pub risen : (g : Grid) (first : Surface) (f : Flooding) (stand : Option ℤ) (higher : ℤ) (place : ℕ) (rest : List (ℤ × ℕ)) → f.ahead ≡ [] →
+    IsPermutation f.waiting ((higher, place) ∷ rest) → All (λ (p : ℤ × ℕ). higher ≤ℤ p.0) rest → IsFloodOf g first f stand [] →
+    IsFloodOf g first (with_lists f [] rest) (Some higher) (place ∷ [])
+risen g first f stand higher place rest no_ahead out behind flood =
+    relisted g first f stand (Some higher) [] (place ∷ []) [] rest flood
+    (λ b n d at_b at_n leads held. elim (cons_cases (higher, place) rest (con_at g.extent f b, index_of g.extent b) (waits b held)) [
+      | inl here ↦ inl (subst (Contains (place ∷ [])) (ap (λ (p : ℤ × ℕ). p.1) here) (head_in place []))
+      | inr on ↦ inr (inr on)
+    ])
+    (λ level is b n d at_b at_n leads.
+    subst (λ z. z ≤ℤ con_at g.extent f b) (same_some higher level is) (floor_at (con_at g.extent f b, index_of g.extent b) (waits b (flood.held b n d at_b at_n leads))))
+    (All-cons (IsReachedPlace g f) place [] (record { cell = taken_pair.cell; reached = taken_pair.reached; place_is = taken_pair.place_is }) (All-nil (IsReachedPlace g f)))
+    (All-nil (IsReachedPlace g f)) (All-tail (IsReachedPair g f) (higher, place) rest all)
+  where
+    all : All (IsReachedPair g f) ((higher, place) ∷ rest)
+    all = All-permutation (IsReachedPair g f) f.waiting ((higher, place) ∷ rest) out flood.waiting
+
+    taken_pair : IsReachedPair g f (higher, place)
+    taken_pair = All-head (IsReachedPair g f) (higher, place) rest all
+
+    -- each that is held waits
+    waits : (b : Cell) → IsHeld g.extent f [] b → Contains ((higher, place) ∷ rest) (con_at g.extent f b, index_of g.extent b)
+    waits b (inl busy) = absurd (none_in [] (index_of g.extent b) refl busy)
+    waits b (inr (inl on)) = absurd (none_in f.ahead (index_of g.extent b) no_ahead on)
+    waits b (inr (inr waiting)) = Contains-permutation f.waiting ((higher, place) ∷ rest) _ out waiting
+
+    floor_at : (pair : ℤ × ℕ) → Contains ((higher, place) ∷ rest) pair → higher ≤ℤ pair.0
+    floor_at pair held = elim (cons_cases (higher, place) rest pair held) [
+      | inl same ↦ subst (λ (p : ℤ × ℕ). higher ≤ℤ p.0) same (omega (arith, ints))
+      | inr on ↦ All-contains (λ (p : ℤ × ℕ). higher ≤ℤ p.0) rest pair behind on
     ]
-
-    was : (k : ℕ) → Contains (place ∷ rest) k → Contains f.ahead k
-    was k held = All-contains (λ x. Contains f.ahead x) (place ∷ rest) k
-        (out_all place f.ahead rest out (λ x. Contains f.ahead x) (λ j d less. Contains-get_or f.ahead j d less)) held
-
-    back : (k : ℕ) → Contains (place ∷ later ++ rest) k → Contains (later ++ f.ahead) k
-    back k held = elim (cons_cases place (later ++ rest) k held) [
-      | inl here ↦ Contains-append_right later f.ahead k (was k (subst (λ x. Contains (place ∷ rest) x) here (head_in place rest)))
-      | inr other ↦ elim (Contains-append_cases later rest k other) [
-        | inl early ↦ Contains-append_left later f.ahead k early
-        | inr late ↦ Contains-append_right later f.ahead k (was k (tail_in place k rest late))
-      ]
-    ]
-
--- a busy cell may be the first or the last of them
-module _ (later : List ℕ) (place : ℕ) (ahead : List ℕ) where
-  to_end : (k : ℕ) → Contains (place ∷ later ++ ahead) k → Contains ((later ++ place ∷ []) ++ ahead) k
-  to_end k held = elim (cons_cases place (later ++ ahead) k held) [
-    | inl here ↦ Contains-append_left (later ++ place ∷ []) ahead k
-        (Contains-append_right later (place ∷ []) k (subst (λ x. Contains (place ∷ []) x) here (head_in place [])))
-    | inr other ↦ elim (Contains-append_cases later ahead k other) [
-      | inl early ↦ Contains-append_left (later ++ place ∷ []) ahead k (Contains-append_left later (place ∷ []) k early)
-      | inr late ↦ Contains-append_right (later ++ place ∷ []) ahead k late
-    ]
-  ]
-
-  to_front : (k : ℕ) → Contains ((later ++ place ∷ []) ++ ahead) k → Contains (place ∷ later ++ ahead) k
-  to_front k held = elim (Contains-append_cases (later ++ place ∷ []) ahead k held) [
-    | inl busy ↦ elim (Contains-append_cases later (place ∷ []) k busy) [
-      | inl early ↦ tail_in place k (later ++ ahead) (Contains-append_left later ahead k early)
-      | inr last ↦ elim (cons_cases place [] k last) [
-        | inl here ↦ subst (λ x. Contains (place ∷ later ++ ahead) x) here (head_in place (later ++ ahead))
-        | inr none ↦ absurd (none_in [] k refl none)
-      ]
-    ]
-    | inr late ↦ tail_in place k (later ++ ahead) (Contains-append_right later ahead k late)
-  ]
-
-pub deferred : (g : Grid) (f : Flooding) (level : ℤ) (later : List ℕ) (place : ℕ) → IsFloodOf g f level (place ∷ later) → IsFloodOf g f level (later ++ place ∷ [])
-deferred g f level later place flood =
-    rebusied g f level (place ∷ later) (later ++ place ∷ []) f.ahead flood (to_end later place f.ahead) (to_front later place f.ahead)
-
-pub recalled : (g : Grid) (f : Flooding) (level : ℤ) (later : List ℕ) (place : ℕ) → IsFloodOf g f level (later ++ place ∷ []) → IsFloodOf g f level (place ∷ later)
-recalled g f level later place flood =
-    rebusied g f level (later ++ place ∷ []) (place ∷ later) f.ahead flood (to_front later place f.ahead) (to_end later place f.ahead)
-
--- a cell whose neighbours were looked at is left: none is unreached, or it waits
-pub left : (g : Grid) (f : Flooding) (level : ℤ) (later : List ℕ) (place : ℕ) (c : Cell) (waiting : List (ℤ × ℕ)) → IsInside g c → place ≡ index_of g.extent c →
-    IsFloodOf g f level (place ∷ later) → ((p : ℤ × ℕ) → Contains f.waiting p → Contains waiting p) → All (IsWaiting g f level) waiting →
-    ((n : Cell) (d : Direction) → IsUnreached g f n → step g.extent c d ≡ Some n →
-    Contains waiting (con_at g.extent f c, place) × (height_at g n <ℤ con_at g.extent f c)) →
-    IsFloodOf g (with_lists f f.ahead waiting) level later
-left g f level later place c waiting inside at flood more waits beside =
-    relisted g f level level (place ∷ later) later f.ahead waiting flood (omega (arith, ints))
-    (λ b n d at_b at_n leads.
-    (let kept = flood.frontier b n d at_b at_n leads in record {
-      not_below = kept.not_below;
-      held = elim kept.held [
-        | inl looked ↦
-            elim (cons_cases place (later ++ f.ahead) (index_of g.extent b) looked) [
-              | inl here ↦ (let same : c ≡ b = same_index g.extent c b inside at_b.here.inside (sym at ∙ here) in
-                  let from_c : step g.extent c d ≡ Some n = subst (λ x. step g.extent x d ≡ Some n) (sym same) leads in
-                  let held = beside n d at_n from_c in
-                  inr (
-                    subst (λ x. Contains waiting (con_at g.extent f x, index_of g.extent x)) same
-                        (subst (λ k. Contains waiting (con_at g.extent f c, k)) at held.0),
-                    subst (λ x. height_at g n <ℤ con_at g.extent f x) same held.1,
-                  ))
-              | inr ahead ↦ inl ahead
-            ]
-        | inr waited ↦ inr (more _ waited.0, waited.1)
-      ];
-    }))
-    (All-weaker (IsWaiting g f level) (IsWaiting g (with_lists f f.ahead waiting) level) (λ p is. record {
-      cell = is.cell;
-      reached = record { here = is.reached.here; code = is.reached.code };
-      place = is.place;
-      con = is.con;
-      not_below = is.not_below;
-    }) waiting waits)
-    (All-weaker (IsAhead g f level) (IsAhead g (with_lists f f.ahead waiting) level) (λ k is. record {
-      cell = is.cell;
-      reached = record { here = is.reached.here; code = is.reached.code };
-      place_is = is.place_is;
-      not_below = is.not_below;
-    }) (later ++ f.ahead) (All-tail (IsAhead g f level) place (later ++ f.ahead) flood.ahead))
-
--- if the trail is empty, a lowest waiting cell is taken, and the flood rises to its level
-pub risen : (g : Grid) (f : Flooding) (level higher : ℤ) (place : ℕ) (rest : List (ℤ × ℕ)) → f.ahead ≡ [] → IsPermutation f.waiting ((higher, place) ∷ rest) →
-    All (λ (p : ℤ × ℕ). higher ≤ℤ p.0) rest → IsFloodOf g f level [] → IsFloodOf g (with_lists f [] rest) higher (place ∷ [])
-risen g f level higher place rest no_ahead out behind flood =
-    let all : All (IsWaiting g f level) ((higher, place) ∷ rest) = All-permutation (IsWaiting g f level) f.waiting ((higher, place) ∷ rest) out flood.waiting in
-    let first : IsWaiting g f level (higher, place) = All-head (IsWaiting g f level) (higher, place) rest all in
-    relisted g f level higher [] (place ∷ []) [] rest flood first.not_below
-    (λ c n d at_c at_n leads.
-    (let kept = flood.frontier c n d at_c at_n leads in
-    elim kept.held [
-      | inl looked ↦ absurd (none_in f.ahead _ no_ahead looked)
-      | inr waits ↦
-          elim (cons_cases (higher, place) rest (con_at g.extent f c, index_of g.extent c) (Contains-permutation f.waiting ((higher, place) ∷ rest) _ out waits.0)) [
-            | inl here ↦ record {
-              not_below = subst (λ z. higher ≤ℤ z) (ap (λ (p : ℤ × ℕ). p.0) here) (omega (arith, ints));
-              held = inl (subst (λ k. Contains (place ∷ []) k) (ap (λ (p : ℤ × ℕ). p.1) here) (head_in place []));
-            }
-            | inr later ↦ record {
-              not_below = All-contains (λ p. higher ≤ℤ p.0) rest (con_at g.extent f c, index_of g.extent c) behind later;
-              held = inr (later, waits.1);
-            }
-          ]
-    ]))
-    (λ k d less.
-    (let waits = All-tail (IsWaiting g f level) (higher, place) rest all k d less in record {
-      cell = waits.cell;
-      reached = record { here = waits.reached.here; code = waits.reached.code };
-      place = waits.place;
-      con = waits.con;
-      not_below = behind k d less;
-    }))
-    (All-cons (IsAhead g (with_lists f [] rest) higher) place [] (record {
-      cell = first.cell;
-      reached = record { here = first.reached.here; code = first.reached.code };
-      place_is = first.place;
-      not_below = subst (λ z. higher ≤ℤ z) (sym first.con) (omega (arith, ints));
-    }) (All-nil (IsAhead g (with_lists f [] rest) higher)))
 
 -- What waits are places of cells, whatever is put and taken out.
 

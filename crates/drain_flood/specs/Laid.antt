@@ -1,7 +1,7 @@
 -- Lanes of heights for the first ways down, and the beginning of a flood: the ground and the first mark of each cell.
 use Rattle.std.specs.Prelude.{◌≡◌, ◌+◌, ◌<◌, ◌-◌, ◌*◌, ◌/◌, ◌+ℤ◌, ◌<ℤ◌, ◌==◌, ◌∷◌, if◌then◌else◌, ◌≢◌, ◌↔◌, ◌⊎◌}
-use Rattle.drain_flood.specs.Names.{ℕ, ℤ, pos, Bool, nat_lt, min, List, [], slice_index, slice_index_or, length, IsNone, IsTrue, Cell, IsCellOf, index_of, Extent, Grid, HasData, Heights, IsInside, IsOpenCell, IsSample, elevation_at}
-use Rattle.drain_flood.specs.Floods.{Flooding, con_at}
+use Rattle.drain_flood.specs.Names.{ℕ, ℤ, pos, Bool, nat_lt, min, List, [], slice_index, slice_index_or, length, IsNone, IsTrue, Cell, IsCellOf, index_of, Extent, Grid, Heights, IsInside, IsSample, elevation_at}
+use Rattle.drain_flood.specs.Floods.{Flooding, IsFirstMark, con_at}
 use Rattle.drain_flood.specs.declared.layers.TheConstants.{NO_HEIGHT, OPEN, UNREACHED, VOID}
 use Rattle.drain_flood.specs.declared.falls.TheConstants.{GAP}
 
@@ -86,12 +86,6 @@ pub record IsMarkOf (own : ℕ) (listed : Bool) (least mark : ℕ) : Type 0 wher
   pub void : own ≡ 0 → mark ≡ VOID
   pub opened : own ≢ 0 → IsTrue listed ⊎ (least ≡ 0) → mark ≡ OPEN
   pub closed : own ≢ 0 → ¬ (IsTrue listed ⊎ (least ≡ 0)) → mark ≡ UNREACHED
-
--- the first mark of a cell: only an open cell is reached
-pub record IsFirstMark (g : Grid) (c : Cell) (mark : ℕ) : Type 0 where
-  pub void : IsNone (g.elevation c) → mark ≡ VOID
-  pub opened : IsOpenCell g c → mark ≡ OPEN
-  pub closed : HasData g c → ¬ IsOpenCell g c → mark ≡ UNREACHED
 
 -- those of the cells of the first rows
 abbrev pub AreFirstMarks : Grid → ℕ → List ℕ → Type 0

@@ -1,32 +1,36 @@
 -- What the definitions of a flood say together.
-use Rattle.std.specs.Prelude.{◌≢◌, ◌≡◌, ◌*◌, ◌≤◌, ◌∷◌}
-use Rattle.drain_flood.specs.Names.{IsNone, ℤ, ℕ, List, [], Cell, Direction, Grid, Products, HasData, IsInside, patch_at, Drains, IsFilled}
+use Rattle.std.specs.Prelude.{◌≢◌, ◌≡◌, ◌*◌, ◌≤◌}
+use Rattle.drain_flood.specs.Names.{IsNone, ℤ, ℕ, List, [], Option, Cell, Direction, Grid, Products, HasData, IsInside, patch_at, Drains, IsFilled, Surface}
 use Rattle.drain_grid.specs.GridRules.{RulesHold}
 use Rattle.drain_grid.specs.PatchRules.{flow_rules, surface_rules, BadCodeWithoutSpill}
 use Rattle.drain_grid.specs.Product.{default_numbers}
 use Rattle.drain_flood.specs.declared.layers.TheConstants.{NO_HEIGHT}
 use Rattle.drain_flood.specs.declared.level_queue.TheConstants.{MAX_CELLS}
 use Rattle.drain_grid.specs.Rule.{IsFillRule, IsWayRule}
-use Rattle.drain_flood.specs.Turns.{with_lists}
 use Rattle.drain_flood.specs.Flats.{Laying, AreLaid, IsSettledFrom, Settles, AreWaysOnFlats, ShowsWays}
-use Rattle.drain_flood.specs.Floods.{con_at, Flooding, IsFloodOf, IsReachedCell, IsReachedFrom, Reaches, IsFlooded, IsSurfaceOf, ShowsVoids}
+use Rattle.drain_flood.specs.Floods.{con_at, Flooding, IsFloodOf, IsReachedCell, IsReachedFrom, Reaches, IsFilledFrom, IsFlooded, IsSurfaceOf, ShowsVoids}
 
 -- what holds of a flood still holds after one more cell is reached
 abbrev pub KeptByReaching : Type 0
 KeptByReaching =
-    (g : Grid) (old new : Flooding) (level : ℤ) (busy : List ℕ) (c n : Cell) (d : Direction) (con : ℤ) →
-    IsFloodOf g old level busy → IsReachedFrom g old level c d n con → Reaches g.extent old new n con →
-    IsFloodOf g new level busy
+    (g : Grid) (first : Surface) (old new : Flooding) (stand : Option ℤ) (busy : List ℕ) (c n : Cell) (d : Direction) (con : ℤ) →
+    IsFloodOf g first old stand busy → IsReachedFrom g old stand c d n con → Reaches g.extent old new n con →
+    IsFloodOf g first new stand busy
 
--- if the trail is empty and no cell waits, every data cell is reached
+-- nothing is left to do in a flood: the trail is empty and no cell waits
+pub record IsAtEnd (g : Grid) (first : Surface) (f : Flooding) : Type 0 where
+  pub stand : Option ℤ
+  pub flood : IsFloodOf g first f stand []
+  pub no_ahead : f.ahead ≡ []
+  pub no_waiting : f.waiting ≡ []
+
+-- then every data cell is reached
 abbrev pub AllAreReached : Type 0
-AllAreReached =
-    (g : Grid) (f : Flooding) (level : ℤ) → IsFloodOf g f level [] → f.ahead ≡ [] → f.waiting ≡ [] → (c : Cell) → HasData g c → IsReachedCell g f c
+AllAreReached = (g : Grid) (first : Surface) (f : Flooding) → IsAtEnd g first f → (c : Cell) → HasData g c → IsReachedCell g f c
 
--- then the grid is flooded
+-- and the grid is filled
 abbrev pub FloodIsDone : Type 0
-FloodIsDone =
-    (g : Grid) (f : Flooding) (level : ℤ) → IsFloodOf g f level [] → f.ahead ≡ [] → f.waiting ≡ [] → IsFlooded g f
+FloodIsDone = (g : Grid) (first : Surface) (f : Flooding) → IsAtEnd g first f → IsFilledFrom g first f
 
 -- a surface of a grid is the filled one: the spill level of each data cell, and the least surface that covers the ground
 -- and drains
@@ -55,12 +59,6 @@ FlatsKeepRules =
 abbrev pub SurfaceKeepsRules : Type 0
 SurfaceKeepsRules =
     (g : Grid) (f : Flooding) (ps : Products) → IsSurfaceOf g f → ((c : Cell) → ps.con c ≡ con_at g.extent f c) → RulesHold surface_rules IsFillRule g ps
-
--- a batch: one more cell that waits at the flood's level may be taken, whatever else is on the trail
-abbrev pub TakenOfALevel : Type 0
-TakenOfALevel =
-    (g : Grid) (f : Flooding) (level : ℤ) (place : ℕ) (rest : List (ℤ × ℕ)) → f.waiting ≡ (level, place) ∷ rest → IsFloodOf g f level [] →
-    IsFloodOf g (with_lists f (place ∷ f.ahead) rest) level []
 
 -- no ground of a flooded grid is as low as the height of a void, so its height is that of a void exactly at voids
 abbrev pub FloodShowsVoids : Type 0

@@ -1,6 +1,6 @@
 -- The neighbours of a cell: what is done with each, and what holds before and after.
 use Rattle.std.specs.Prelude.{◌≡◌, ◌+◌, ◌*◌, ◌<◌, ◌⊎◌, ◌≤ℤ◌, ◌<ℤ◌}
-use Rattle.drain_flood.specs.Names.{ℕ, ℤ, Bool, true, false, List, Some, get_or, slice_index_or, int_max, Cell, Direction, East, directions, index_of, step, Extent, Grid, height_at}
+use Rattle.drain_flood.specs.Names.{ℕ, ℤ, Bool, true, false, List, Option, Some, get_or, slice_index_or, int_max, Cell, Direction, East, directions, index_of, step, Extent, Grid, Surface}
 use Rattle.drain_flood.specs.declared.layers.TheConstants.{REACHED, UNREACHED}
 use Rattle.drain_flood.specs.Floods.{Flooding, con_at, mark_at, IsReachedCell, IsUnreached, IsFloodOf, Reaches}
 
@@ -55,20 +55,29 @@ abbrev pub IsLook : Extent → Flooding → Flooding → Cell → Direction → 
 IsLook e old new c d level raises true = (n : Cell) × Leaves e old new c d level raises n
 IsLook e old new c d level raises false = Passes e old new c d ⊎ ((n : Cell) × Takes e old new c d level raises n)
 
--- a cell whose neighbours are to be looked at: reached, with this conditioned elevation; it raises only at the flood's
--- level
-pub record IsLookedBefore (g : Grid) (f : Flooding) (stand : ℤ) (busy : List ℕ) (c : Cell) (level : ℤ) (raises : Bool) : Type 0 where
-  pub flood : IsFloodOf g f stand busy
+-- a cell whose neighbours are to be looked at: reached, with this conditioned elevation; it raises only where the flood stands
+pub record IsLookedBefore (g : Grid) (first : Surface) (f : Flooding) (stand : Option ℤ) (busy : List ℕ) (c : Cell) (level : ℤ) (raises : Bool) : Type 0 where
+  pub flood : IsFloodOf g first f stand busy
   pub reached : IsReachedCell g f c
   pub con : con_at g.extent f c ≡ level
-  pub at_level : raises ≡ true → level ≡ stand
+  pub at_level : raises ≡ true → stand ≡ Some level
 
--- an unreached neighbour in a direction was left, and is lower
-abbrev pub PassesLook : Grid → Flooding → Cell → ℤ → Bool → Bool → Direction → Type 0
-PassesLook g f c level raises left d =
-    (n : Cell) → IsUnreached g f n → step g.extent c d ≡ Some n → (left ≡ true) × (height_at g n <ℤ level) × (raises ≡ false)
+-- an unreached neighbour in a direction was left, as it isn't to be raised
+abbrev pub PassesLook : Grid → Flooding → Cell → Bool → Bool → Direction → Type 0
+PassesLook g f c raises left d = (n : Cell) → IsUnreached g f n → step g.extent c d ≡ Some n → (left ≡ true) × (raises ≡ false)
 
 -- a cell whose neighbours in the first k directions were looked at
-pub record IsAround (g : Grid) (f : Flooding) (stand : ℤ) (busy : List ℕ) (c : Cell) (level : ℤ) (raises : Bool) (left : Bool) (k : ℕ) : Type 0 where
-  pub before : IsLookedBefore g f stand busy c level raises
-  pub passed : (i : ℕ) → i < k → PassesLook g f c level raises left (get_or directions i East)
+pub record IsAround (g : Grid) (first : Surface) (f : Flooding) (stand : Option ℤ) (busy : List ℕ) (c : Cell) (level : ℤ) (raises left : Bool) (k : ℕ) : Type 0 where
+  pub before : IsLookedBefore g first f stand busy c level raises
+  pub passed : (i : ℕ) → i < k → PassesLook g f c raises left (get_or directions i East)
+
+-- the neighbours of a cell were looked at
+pub record IsLookedAround (g : Grid) (first : Surface) (f : Flooding) (stand : Option ℤ) (busy : List ℕ) (c : Cell) (level : ℤ) (raises left : Bool) : Type 0 where
+  pub before : IsLookedBefore g first f stand busy c level raises
+  pub passed : (d : Direction) → PassesLook g f c raises left d
+
+-- what a look around the cell at a place comes to
+abbrev pub LooksAround : Extent → Flooding → Flooding → ℕ → ℤ → Bool → Bool → Type 0
+LooksAround e old new place level raises left =
+    (g : Grid) (first : Surface) (stand : Option ℤ) (busy : List ℕ) (c : Cell) → g.extent ≡ e → place ≡ index_of g.extent c →
+    IsLookedBefore g first old stand busy c level raises → IsLookedAround g first new stand busy c level raises left

@@ -1,10 +1,10 @@
 -- What each call does to a flood under way.
 use Rattle.std.specs.Prelude.{◌≡◌, ◌≤◌, ◌<◌, ◌≤ℤ◌, ◌<ℤ◌, ◌∷◌, ◌++◌, ◌*◌, ◌+◌}
-use Rattle.drain_flood.specs.Names.{ℕ, ℤ, List, Contains, length, get_or, Bool, true, false, [], Some, IsPermutation, Extent, IsCellOf, index_of, step, Cell, Direction, Grid, height_at}
+use Rattle.drain_flood.specs.Names.{ℕ, ℤ, List, Contains, length, get_or, [], IsPermutation, Extent, IsCellOf, index_of, Cell}
 use Rattle.std.specs.List.{All}
 use Rattle.drain_flood.specs.declared.level_queue.TheConstants.{MAX_CELLS}
-use Rattle.drain_flood.specs.Floods.{Flooding, con_at, unreached, IsUnreached, IsFloodOf, IsReachedCell}
-use Rattle.drain_flood.specs.Looks.{AreInside, IsLookedBefore}
+use Rattle.drain_flood.specs.Floods.{Flooding, unreached}
+use Rattle.drain_flood.specs.Looks.{AreInside}
 
 -- Pairs of a level and an item, by rising level: the contents of a queue of levels.
 
@@ -89,16 +89,3 @@ pub record IsLessWork (old new : Flooding) : Type 0 where
   pub fewer : unreached new ≤ unreached old
   pub same : unreached new + length new.ahead ≡ unreached old + length old.ahead
   pub waiting : new.waiting ≡ old.waiting
-
--- the neighbours of a cell were looked at: an unreached one was left, and is lower
-pub record IsLookedAround (g : Grid) (f : Flooding) (stand : ℤ) (busy : List ℕ) (c : Cell) (level : ℤ) (raises left : Bool) : Type 0 where
-  pub flood : IsFloodOf g f stand busy
-  pub reached : IsReachedCell g f c
-  pub con : con_at g.extent f c ≡ level
-  pub beside : (n : Cell) (d : Direction) → IsUnreached g f n → step g.extent c d ≡ Some n → (left ≡ true) × (height_at g n <ℤ level) × (raises ≡ false)
-
--- what a look around the cell at a place comes to
-abbrev pub LooksAround : Extent → Flooding → Flooding → ℕ → ℤ → Bool → Bool → Type 0
-LooksAround e old new place level raises left =
-    (g : Grid) (stand : ℤ) (busy : List ℕ) (c : Cell) → g.extent ≡ e → place ≡ index_of g.extent c → IsLookedBefore g old stand busy c level raises →
-    IsLookedAround g new stand busy c level raises left

@@ -6,25 +6,27 @@
 //! known beforehand, and no side is tested.
 
 ghost use Rattle.std.specs.Prelude.{◌≡◌, ◌↔◌, ◌+◌, ◌*◌, ◌<◌};
-ghost use Rattle.drain_flood.specs.Names.{ℕ, ℤ, List, IfOk, OnOk, IsTrue, get_or, Cell, Direction, East, directions, IsCellOf, index_of, Grid};
+ghost use Rattle.drain_flood.specs.Names.{ℕ, ℤ, List, Option, IfOk, OnOk, IsTrue, get_or, Cell, Direction, East, directions, IsCellOf, index_of, Grid, Surface};
 ghost use Rattle.drain_flood.specs.Floods.{Flooding};
-ghost use Rattle.drain_flood.specs.Looks.{IsAround, IsFreshAt, IsInnerAt, IsLook, IsLookedBefore, IsPlaceBeside};
-ghost use Rattle.drain_flood.specs.Turns.{IsLessWork, IsLookedAround, LooksAround};
+ghost use Rattle.drain_flood.specs.Looks.{IsAround, IsFreshAt, IsInnerAt, IsLook, IsLookedAround, IsLookedBefore, IsPlaceBeside, LooksAround};
+ghost use Rattle.drain_flood.specs.Turns.{IsLessWork};
 
 use crate::flood::Flood;
+use crate::heights::Heights;
 use crate::places::{beside, beside_inner};
 use drain_grid::{Cell, Direction, OutOfMemory, Shape};
 
-impl Flood {
+impl<H: Heights> Flood<H> {
     /// Reaches the unreached neighbours of the cell at a place; lower ones only if it raises them. Returns whether a lower
     /// one was left.
     pub(crate) fn look_around(
         &mut self,
         place: usize,
-        level: i16,
+        level: i64,
         raises: bool,
     ) -> Result<bool, OutOfMemory>
         requires below { place < self.old.extent.rows * self.old.extent.cols }
+        requires holds { H.holds level }
         ensures extent { self.new.extent ≡ self.old.extent }
         ensures work { OnOk result (IsLessWork self.old self.new) }
         ensures around { IfOk result (LooksAround self.old.extent self.old self.new place level raises) }
@@ -38,8 +40,9 @@ impl Flood {
 
     /// The same for a cell that isn't on the edge of the grid.
     #[inline(always)]
-    fn look_inside(&mut self, place: usize, level: i16, raises: bool) -> Result<bool, OutOfMemory>
+    fn look_inside(&mut self, place: usize, level: i64, raises: bool) -> Result<bool, OutOfMemory>
         requires inner { IsInnerAt self.old.extent place }
+        requires holds { H.holds level }
         ensures extent { self.new.extent ≡ self.old.extent }
         ensures work { OnOk result (IsLessWork self.old self.new) }
         ensures around { IfOk result (LooksAround self.old.extent self.old self.new place level raises) }
@@ -81,8 +84,9 @@ impl Flood {
 
     /// Looks in all directions from such a cell, one after the other. Apart, so that the test before it is short.
     #[inline(never)]
-    fn look_each_way(&mut self, place: usize, level: i16, raises: bool) -> Result<bool, OutOfMemory>
+    fn look_each_way(&mut self, place: usize, level: i64, raises: bool) -> Result<bool, OutOfMemory>
         requires inner { IsInnerAt self.old.extent place }
+        requires holds { H.holds level }
         ensures extent { self.new.extent ≡ self.old.extent }
         ensures work { OnOk result (IsLessWork self.old self.new) }
         ensures around { IfOk result (LooksAround self.old.extent self.old self.new place level raises) }
@@ -106,15 +110,16 @@ impl Flood {
         shape: Shape,
         place: usize,
         direction: Direction,
-        level: i16,
+        level: i64,
         raises: bool,
         left: bool,
     ) -> Result<bool, OutOfMemory>
         requires same { shape ≡ self.old.extent }
         requires inner { IsInnerAt self.old.extent place }
+        requires holds { H.holds level }
         ensures extent { self.new.extent ≡ self.old.extent }
         ensures work { OnOk result ((first : Flooding) → IsLessWork first self.old → IsLessWork first self.new) }
-        ensures around { IfOk result (λ after. (g : Grid) (stand : ℤ) (busy : List ℕ) (k : ℕ) (c : Cell) → g.extent ≡ self.old.extent → place ≡ index_of g.extent c → direction ≡ get_or directions k East → IsAround g self.old stand busy c level raises left k → IsAround g self.new stand busy c level raises after (k + 1)) }
+        ensures around { IfOk result (λ after. (g : Grid) (first : Surface) (stand : Option ℤ) (busy : List ℕ) (k : ℕ) (c : Cell) → g.extent ≡ self.old.extent → place ≡ index_of g.extent c → direction ≡ get_or directions k East → IsAround g first self.old stand busy c level raises left k → IsAround g first self.new stand busy c level raises after (k + 1)) }
     {
         let next = beside_inner(shape, place, direction);
         let more = self.look_at(next, level, raises)?;
@@ -123,11 +128,12 @@ impl Flood {
 
     /// Looks around a cell anywhere.
     #[inline(never)]
-    fn look_at_edge(&mut self, cell: Cell, level: i16, raises: bool) -> Result<bool, OutOfMemory>
+    fn look_at_edge(&mut self, cell: Cell, level: i64, raises: bool) -> Result<bool, OutOfMemory>
         requires inside { IsCellOf self.old.extent cell }
+        requires holds { H.holds level }
         ensures extent { self.new.extent ≡ self.old.extent }
         ensures work { OnOk result (IsLessWork self.old self.new) }
-        ensures around { IfOk result (λ left. (g : Grid) (stand : ℤ) (busy : List ℕ) → g.extent ≡ self.old.extent → IsLookedBefore g self.old stand busy cell level raises → IsLookedAround g self.new stand busy cell level raises left) }
+        ensures around { IfOk result (λ left. (g : Grid) (first : Surface) (stand : Option ℤ) (busy : List ℕ) → g.extent ≡ self.old.extent → IsLookedBefore g first self.old stand busy cell level raises → IsLookedAround g first self.new stand busy cell level raises left) }
     {
         let mut left = false;
         for direction in Direction::ALL {
@@ -142,10 +148,11 @@ impl Flood {
         &mut self,
         cell: Cell,
         direction: Direction,
-        level: i16,
+        level: i64,
         raises: bool,
     ) -> Result<bool, OutOfMemory>
         requires inside { IsCellOf self.old.extent cell }
+        requires holds { H.holds level }
         ensures extent { self.new.extent ≡ self.old.extent }
         ensures look { IfOk result (IsLook self.old.extent self.old self.new cell direction level raises) }
     {
@@ -158,8 +165,9 @@ impl Flood {
     /// Reaches the neighbour at a place, if it isn't reached; a lower one only if the cell raises it. Returns whether a
     /// lower one was left.
     #[inline(always)]
-    fn look_at(&mut self, next: usize, level: i16, raises: bool) -> Result<bool, OutOfMemory>
+    fn look_at(&mut self, next: usize, level: i64, raises: bool) -> Result<bool, OutOfMemory>
         requires below { next < self.old.extent.rows * self.old.extent.cols }
+        requires holds { H.holds level }
         ensures extent { self.new.extent ≡ self.old.extent }
         ensures look { IfOk result (λ left. (c : Cell) (d : Direction) → IsPlaceBeside self.old.extent c d next → IsLook self.old.extent self.old self.new c d level raises left) }
     {

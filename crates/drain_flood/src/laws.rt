@@ -4,7 +4,7 @@
 
 ghost use Rattle.std.specs.Prelude.{◌≡◌, pos, neg_ℤ};
 ghost use Rattle.drain_flood.specs.declared.level_queue.TheConstants.{MAX_CELLS};
-ghost use Rattle.drain_flood.specs.Laws.{KeptByReaching, AllAreReached, FloodIsDone, FloodIsFilled, KeptBySettling, AllAreSettled, FlatsKeepRules, SurfaceKeepsRules, TakenOfALevel, FlatsArePresent, FloodShowsVoids};
+ghost use Rattle.drain_flood.specs.Laws.{KeptByReaching, AllAreReached, FloodIsDone, FloodIsFilled, KeptBySettling, AllAreSettled, FlatsKeepRules, SurfaceKeepsRules, FlatsArePresent, FloodShowsVoids};
 
 use crate::layers::{NO_HEIGHT, NO_RANK, OPEN, REACHED, UNREACHED, VOID};
 
@@ -32,7 +32,7 @@ pub fn all_are_reached()
     ensures { AllAreReached }
 {}
 
-/// Then the grid is flooded.
+/// Then the grid is filled.
 pub fn flood_is_done()
     ensures { FloodIsDone }
 {}
@@ -60,11 +60,6 @@ pub fn flats_keep_rules()
 /// A filled surface keeps rules 4, 5 and 9 at every cell.
 pub fn surface_keeps_rules()
     ensures { SurfaceKeepsRules }
-{}
-
-/// One more cell that waits at the flood's level may be taken, whatever else is on the trail.
-pub fn taken_of_a_level()
-    ensures { TakenOfALevel }
 {}
 
 /// The height of a flooded grid is that of a void exactly at voids.

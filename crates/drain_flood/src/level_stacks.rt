@@ -17,7 +17,7 @@ use std::marker::Model;
 
 /// Items, each at a level. Its model is the list of them with their levels, in no order that a clause tells.
 #[derive(Drop)]
-pub(crate) struct LevelStacks {
+pub struct LevelStacks {
     stacks: Vec<Vec<u32>>,
     /// No level below this place has an item.
     lowest: usize,

@@ -9,6 +9,7 @@ mod falls;
 mod flat_steps;
 pub mod flats;
 pub mod flood;
+mod height_queue;
 pub mod heights;
 pub mod laws;
 pub mod layers;
@@ -22,7 +23,7 @@ mod tracing;
 pub mod ways;
 
 pub use flats::{CodesAndRanks, Flats, ways_on_flats};
-pub use flood::{Flood, fill};
-pub use heights::{HeightList, WideHeights};
+pub use flood::{Flood, fill, fill_heights};
+pub use heights::{HeightList, Heights, WideHeights};
 pub use level_queue::LevelQueue;
 pub use surface::Surface;

@@ -10,8 +10,10 @@ ghost use Rattle.std.specs.Prelude.{◌≡◌, ◌↔◌, ◌≤◌, ◌<◌, �
 ghost use Rattle.drain_grid.specs.declared.sink_line.SinkLine.{SinkLine};
 ghost use Rattle.drain_grid.specs.SinkTexts.{is_listed};
 ghost use Rattle.drain_flood.specs.declared.level_queue.TheConstants.{MAX_CELLS};
-ghost use Rattle.drain_flood.specs.Laid.{AreDataMarks, AreFirstMarks, AreGrounds, IsFirstMark, IsMarkOf, IsOpenPlace, around_in, least_across, least_along, least_around};
+ghost use Rattle.drain_flood.specs.Floods.{IsFirstMark};
+ghost use Rattle.drain_flood.specs.Laid.{AreDataMarks, AreFirstMarks, AreGrounds, IsMarkOf, IsOpenPlace, around_in, least_across, least_along, least_around};
 
+use crate::heights::narrow;
 use crate::layers::{NO_HEIGHT, OPEN, UNREACHED, VOID, heights, marks, no_places};
 use drain_grid::{Elevation, OutOfMemory, Sinks};
 use std::alloc::Global;
@@ -57,16 +59,6 @@ fn put_samples(samples: &[i64], start: usize, con: &mut [i16])
     for k in 0..samples.len() {
         con[start + k] = narrow(samples[k]);
     }
-}
-
-/// A sample in 16 bits.
-#[inline(always)]
-fn narrow(sample: i64) -> i16
-    requires { IsSample sample }
-    ensures value { result ≡ sample }
-    ensures sample { IsSample result }
-{
-    sample as i16
 }
 
 /// The first mark of each cell, from its ground: that of a void, of an open cell, or of a cell that isn't reached.

@@ -76,7 +76,7 @@ pub(crate) fn flooded(
     elevation: &Elevation,
     sinks: &Sinks,
     follow: &mut impl Follow,
-) -> Result<Flood, OutOfMemory>
+) -> Result<Flood<Vec<i16>>, OutOfMemory>
     ensures extent { IfOk result (λ flood. flood.extent ≡ elevation.now.extent) }
     ensures flooded { IfOk result (λ flood. (spacing : ℕ → Distances) → IsFlooded (spaced_grid spacing elevation.now sinks.now) flood) }
 {
@@ -87,7 +87,7 @@ pub(crate) fn flooded(
 /// Gives each cell of a flooded grid its way. What only the flood needs is freed first.
 pub(crate) fn route_flooded(
     alloc: Global,
-    flood: Flood,
+    flood: Flood<Vec<i16>>,
     spacings: &Spacings,
     follow: &mut impl Follow,
 ) -> Result<Routes<Vec<i16>>, OutOfMemory>
@@ -199,7 +199,7 @@ pub(crate) fn build<E: AsElevation + Drop>(
 #[tactic(auto, using(crate::proofs::FileLemmas::each_spelled))]
 fn build_on(
     alloc: Global,
-    flood: Flood,
+    flood: Flood<Vec<i16>>,
     spacings: &Spacings,
     follow: &mut impl Follow,
 ) -> Result<ProductSet, OutOfMemory>

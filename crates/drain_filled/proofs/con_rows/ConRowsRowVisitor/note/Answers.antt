@@ -1,4 +1,4 @@
-use Rattle.drain_filled.proofs.Names.{◌≡◌, ◌+◌, ◌∙◌, sym, subst, AreFirstCon}
+use Rattle.drain_filled.proofs.Names.{◌+◌, ◌∙◌, sym, subst, AreFirstCon}
 use Rattle.drain_grid.specs.declared.set_product.SetProduct.TheVariants.{Con}
 use Rattle.drain_filled.proofs.FirstCon.{AreFirstCon-row, row_marks}
 use Rattle.drain_rows.proofs.WindowLemmas.{on-ok}
