@@ -1,5 +1,5 @@
 -- What an acceptance means follows from the answer.
-use Rattle.drain_verdict.proofs.Names.{◌↔◌, List, Ok, IsCorrect, RunsAreSound, CorrectFromRules, CorrectIsLocal, SoundFromCorrect, check_rules, Verdict, IfAccepted, IsVerdictOf, AuditVerdict, Refusal, Ground, ForSet, GroundSet, set_grid, set_numbers, set_products, AreOneElevation, IfAccepts, IsPlainVerdict, IsRight, ProductsAreRight, Inputs, set_of}
+use Rattle.drain_verdict.proofs.Names.{List, Ok, IsCorrect, RunsAreSound, CorrectFromRules, CorrectIsLocal, SoundFromCorrect, check_rules, Verdict, IfAccepted, IsVerdictOf, AuditVerdict, Refusal, Ground, ForSet, GroundSet, set_grid, set_numbers, set_products, AreOneElevation, IfAccepts, IsPlainVerdict, IsRight, ProductsAreRight, Inputs, set_of}
 use Rattle.std.proofs.Common.{ℕ, Option, Err, IfOk}
 use Rattle.std.specs.Prelude.{Result}
 use Rattle.drain_answer.specs.declared.outcome.AuditVerdict.TheVariants as audited

@@ -1,5 +1,5 @@
 -- What the answers to a raster of elevations say, and what they use.
-use Rattle.drain_verdict.proofs.Names.{◌≡◌, ◌↔◌, ◌∙◌, List, ◌∷◌, [], length, map, None, IsErrOf, refl, sym, ap, subst, arith, length-map, Refusal, BadDemHeader, BadPixelSize, DemShort, ReadFailed, FaultCounts, DescribesOf, Fields, HasPixelSize, AreHeadersKept, DemTakesAtMost, DemTexts, ElevationIsItsPixels, EncodesDem, HasDemHeader, IsDemHeader, IsDemHeaderRefusal, IsDemInput, dem_audit_devices, dem_check_devices, dem_devices, dem_fields, dem_ground, GroundSet, IsReadable, IsRefusalIn, StandsIn, SetTexts, as_five, UsesTold, AuditProducts, RasterInput, IsToldOf}
+use Rattle.drain_verdict.proofs.Names.{◌≡◌, List, ◌∷◌, [], length, map, None, IsErrOf, refl, sym, ap, subst, arith, length-map, Refusal, BadDemHeader, BadPixelSize, DemShort, ReadFailed, FaultCounts, DescribesOf, Fields, HasPixelSize, AreHeadersKept, DemTakesAtMost, DemTexts, ElevationIsItsPixels, EncodesDem, HasDemHeader, IsDemHeader, IsDemHeaderRefusal, IsDemInput, dem_audit_devices, dem_check_devices, dem_devices, dem_fields, dem_ground, GroundSet, IsReadable, IsRefusalIn, StandsIn, SetTexts, as_five, UsesTold, AuditProducts, RasterInput, IsToldOf}
 use Rattle.std.proofs.Common.{ℕ, slice_index_or, Option, Err}
 use Rattle.drain_header.specs.Lines.{kind_of}
 use Rattle.drain_verdict.proofs.AuditDevices.{set_devices_of_four}

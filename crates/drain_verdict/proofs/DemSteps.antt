@@ -1,5 +1,5 @@
 -- One more row of a raster of elevations, and what its header and its body are to give and have read.
-use Rattle.drain_verdict.proofs.Names.{◌≡◌, ◌↔◌, ◌∙◌, ◌+◌, ◌<◌, ℤ, Bool, false, IsTrue, List, [], ◌∷◌, length, map, slice_set, Some, None, arith, refl, sym, ap, subst, BadSide, BadName, NoTiles, RepeatedTile, BoxTooLarge, BadDemHeader, BadPixelSize, DemShort, SomeReadFails, TakesAtMost, Coming, coming_at, nth_row, FaultCounts, Stopped, SomeReadFails-one, takes-none, AreWithinBounds, Fields, header_of, RasterRowsEnd, RasterRowsTakeWhatIsNeeded, IsShort, header_extent, needed_len, HasPixelSize, LiesOn, raster_coming, raster_rows, RasterRows, elevations, height_with, length-map, lines_of, DemHasRead, DemRefuses, DemTakesAtMost, DemTexts, EncodesDem, IsDemAfter, IsDemBegun, IsDemHeader, IsDemInput, dem_devices, dem_fields, dem_ground, dem_rows_of, RasterInput, AreGroundRows, GroundToGive, IsLaidOn, IsToldOf, NoneRefusesBefore, ground_row, RasterHasRead, IsRasterBegun, IsAfterTold}
+use Rattle.drain_verdict.proofs.Names.{◌≡◌, ◌↔◌, ◌∙◌, ◌+◌, ℤ, Bool, false, IsTrue, List, [], ◌∷◌, length, map, slice_set, Some, None, arith, refl, sym, ap, subst, BadSide, BadName, NoTiles, RepeatedTile, BoxTooLarge, BadDemHeader, BadPixelSize, DemShort, SomeReadFails, TakesAtMost, Coming, coming_at, nth_row, FaultCounts, Stopped, SomeReadFails-one, takes-none, AreWithinBounds, Fields, header_of, RasterRowsEnd, RasterRowsTakeWhatIsNeeded, IsShort, header_extent, needed_len, HasPixelSize, LiesOn, raster_coming, raster_rows, RasterRows, elevations, height_with, length-map, lines_of, DemHasRead, DemRefuses, DemTakesAtMost, DemTexts, EncodesDem, IsDemAfter, IsDemBegun, IsDemHeader, IsDemInput, dem_devices, dem_fields, dem_ground, dem_rows_of, RasterInput, AreGroundRows, GroundToGive, IsLaidOn, IsToldOf, NoneRefusesBefore, ground_row, RasterHasRead, IsRasterBegun, IsAfterTold}
 use Rattle.std.proofs.Common.{ℕ, slice_index_or, Option}
 use Rattle.drain_pixels.specs.declared.voids.Voids.{Voids}
 use Rattle.drain_raster.specs.Elevations.{ElevationRowsArePixels, voids_of}

@@ -1,6 +1,6 @@
 -- A set on a ground that isn't refused has one answer: no two refusals have one place, no two cells or rules are first,
 -- and an acceptance names the counts.
-use Rattle.drain_verdict.proofs.Names.{◌≡◌, ◌⊎◌, inl, inr, ◌∙◌, ◌+◌, ◌*◌, ◌<◌, List, [], ◌∷◌, Ok, arith, refl, sym, ap, subst, cases_order, AuditVerdict, Outcome, Refusal, BadHeader, WrongShape, Misplaced, RasterShort, BadSinkLine, SinkNotData, BadSpacingLine, SpacingRows, OutOfMemory, ReadFailed, IsFirstUnfilled, cases_earlier, Cell, Judged, AllWithRanks, Product, Rule, SetProduct, Verdict, Grid, IsFirstFault, Surface, Profile, check_rules, IsAnyRule, rule_number, IsPartRule, IsTried, part_rules, tried, OfSetProduct, place_of, product_of, IsFirstEndless, NoDataNumbers, HeaderFault, HeightKind, AnswersOf, IsVerdict, IsVerdictAmong, IsVerdictBy, IsFirst, IsAnswerIn, IsAuditIn, IsAuditVerdict, certified, certified_nodata, refusal_kind, GroundSet, IsReadable, IsRefusalIn, StandsIn, order_in, place_in, set_grid, set_numbers, set_products, IsConOutcome, IsOutcome, IsOutcomeIn, IsRankOutcome, IsWayOutcome, rules_of, kind_in, IsOfBytes, IsSound}
+use Rattle.drain_verdict.proofs.Names.{◌≡◌, inl, inr, ◌∙◌, ◌<◌, List, [], ◌∷◌, Ok, arith, refl, sym, ap, subst, cases_order, AuditVerdict, Outcome, Refusal, BadHeader, WrongShape, Misplaced, RasterShort, BadSinkLine, SinkNotData, BadSpacingLine, SpacingRows, OutOfMemory, ReadFailed, IsFirstUnfilled, cases_earlier, Cell, Judged, AllWithRanks, Product, Rule, SetProduct, Verdict, Grid, IsFirstFault, Surface, Profile, check_rules, IsAnyRule, rule_number, IsPartRule, IsTried, part_rules, tried, OfSetProduct, place_of, product_of, IsFirstEndless, NoDataNumbers, HeaderFault, HeightKind, AnswersOf, IsVerdict, IsVerdictAmong, IsVerdictBy, IsFirst, IsAnswerIn, IsAuditIn, IsAuditVerdict, certified, certified_nodata, refusal_kind, GroundSet, IsReadable, IsRefusalIn, StandsIn, order_in, place_in, set_grid, set_numbers, set_products, IsConOutcome, IsOutcome, IsOutcomeIn, IsRankOutcome, IsWayOutcome, rules_of, kind_in, IsOfBytes, IsSound}
 use Rattle.std.proofs.Common.{ℕ, Result, Err}
 use Rattle.drain_answer.specs.declared.outcome.AuditVerdict.TheVariants as audited
 use Rattle.drain_answer.specs.declared.outcome.Outcome.TheVariants as judged_as

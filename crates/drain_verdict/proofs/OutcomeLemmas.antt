@@ -1,6 +1,6 @@
 -- The outcome for judged rasters, from the verdict of the rules about them and from the paths, or from the filled surface.
-use Rattle.drain_verdict.proofs.Names.{◌≡◌, ◌↔◌, ◌⊎◌, inl, inr, false, IsTrue, List, Some, None, Ok, arith, refl, sym, subst, ap, false≢true, Cell, VoidCell, Missing, BadCode, BelowGround, OpenRaised, NoSpill, SpillHeight, SpillRank, NotLeast, SharedLabel, SinkLine, Grid, RulesHold, IsLeastSurface, surface_rules, IsFillRule, NoDataNumbers, Judged, ConDir, ConDirAcc, ConDirBas, AllWithRanks, IsPartRule, IsTried, part_rules, tried, CorrectIsLocal, AllRunsEnd, Counts, Verdict, IsOfSurface, IsOfWays, IsOutcomeOf, IsConOutcome, IsOutcome, IsRankOutcome, IsWayOutcome, rules_of, AreFlowsFor, AreFlowsLeft, IsDecided, IsEndlessCell, Extent, Flow, IsAcceptedOutcome, IsVerdictBy, Outcome}
-use Rattle.std.proofs.Common.{ℕ, Option, Result}
+use Rattle.drain_verdict.proofs.Names.{◌≡◌, ◌↔◌, ◌⊎◌, inl, inr, false, IsTrue, List, Some, None, arith, refl, sym, subst, ap, false≢true, Cell, VoidCell, Missing, BadCode, BelowGround, OpenRaised, NoSpill, SpillHeight, SpillRank, NotLeast, SharedLabel, Grid, RulesHold, IsLeastSurface, surface_rules, IsFillRule, NoDataNumbers, Judged, ConDir, ConDirAcc, ConDirBas, AllWithRanks, IsPartRule, IsTried, part_rules, tried, CorrectIsLocal, AllRunsEnd, Counts, Verdict, IsOfSurface, IsOfWays, IsOutcomeOf, IsConOutcome, IsOutcome, IsRankOutcome, IsWayOutcome, rules_of, AreFlowsFor, AreFlowsLeft, IsDecided, IsEndlessCell, Extent, Flow, IsAcceptedOutcome, IsVerdictBy, Outcome}
+use Rattle.std.proofs.Common.{Option}
 use Rattle.drain_grid.specs.Grid.{Products}
 use Rattle.drain_grid.specs.declared.judged.Judged.TheVariants.{Con, All}
 use Rattle.drain_grid.specs.Judged.{has_dir, has_rnk}
@@ -65,10 +65,6 @@ flows_left judged g ps extent flows (inl is) left = subst (λ (j : Judged). AreF
 flows_left judged g ps extent flows (inr (inl is)) left = subst (λ (j : Judged). AreFlowsFor j g ps extent flows) (sym is) left
 flows_left judged g ps extent flows (inr (inr (inl is))) left = subst (λ (j : Judged). AreFlowsFor j g ps extent flows) (sym is) left
 flows_left judged g ps extent flows (inr (inr (inr is))) left = subst (λ (j : Judged). AreFlowsFor j g ps extent flows) (sym is) left
-
--- a list is of one list of sinks
-pub same_listed : (lines : Result (List SinkLine) ℕ) (a b : List SinkLine) → lines ≡ Ok a → lines ≡ Ok b → a ≡ b
-same_listed lines a b is_a is_b = cc
 
 -- the rules about con hold of a right surface
 con_holds : (g : Grid) (ps : Products) (nodata : NoDataNumbers) → IsRightSurface g ps nodata → RulesHold (part_rules Con nodata) (IsPartRule Con) g ps

@@ -1,5 +1,5 @@
 -- Two grounds with the same elevations, neither of which is refused: each answer about the one is one about the other.
-use Rattle.drain_verdict.proofs.Names.{◌≡◌, ◌≢◌, ◌↔◌, ◌∙◌, ℤ, pos, Bool, Some, None, IsSome, is_some, Ok, if◌then◌else◌, refl, sym, ap, subst, AuditVerdict, Outcome, Refusal, BadHeader, WrongShape, Misplaced, RasterShort, BadSinkLine, SinkNotData, BadSpacingLine, SpacingRows, OutOfMemory, ReadFailed, Cell, HeightKind, Judged, AllWithRanks, Product, SetProduct, Verdict, Extent, IsCellOf, check_rules, IsAnyRule, IsPartRule, IsTried, part_rules, tried, OfSetProduct, Distances, is_listed, run_steps, NoDataNumbers, PaddingKeepsFirstEndless, PaddingKeepsRuns, UNKNOWN, AllRunsEnd, IsVerdict, IsVerdictBy, IsBefore, IsFirst, IsAnswerIn, IsAuditIn, IsAuditVerdict, certified, certified_nodata, certified_ranks, Ground, GroundSet, IsReadable, IsRefusalIn, StandsIn, order_in, set_grid, set_numbers, set_products, IsConOutcome, IsOutcome, IsOutcomeIn, IsWayOutcome, rules_of, without_outlets, AreOne, AreOneGround, HaveOneAnswer, HaveOneElevation, HaveOneVerdict, IsOfBytes, IsSound, SetTexts, set_fields, set_listed}
+use Rattle.drain_verdict.proofs.Names.{◌≡◌, ◌↔◌, ◌∙◌, ℤ, pos, Bool, Some, None, IsSome, is_some, Ok, if◌then◌else◌, refl, sym, ap, subst, AuditVerdict, Outcome, Refusal, BadHeader, WrongShape, Misplaced, RasterShort, BadSinkLine, SinkNotData, BadSpacingLine, SpacingRows, OutOfMemory, ReadFailed, Cell, HeightKind, Judged, AllWithRanks, Product, SetProduct, Verdict, Extent, IsCellOf, check_rules, IsAnyRule, IsPartRule, IsTried, part_rules, tried, OfSetProduct, Distances, is_listed, run_steps, NoDataNumbers, PaddingKeepsFirstEndless, PaddingKeepsRuns, UNKNOWN, AllRunsEnd, IsVerdict, IsVerdictBy, IsBefore, IsFirst, IsAnswerIn, IsAuditIn, IsAuditVerdict, certified, certified_nodata, certified_ranks, Ground, GroundSet, IsReadable, IsRefusalIn, StandsIn, order_in, set_grid, set_numbers, set_products, IsConOutcome, IsOutcome, IsOutcomeIn, IsWayOutcome, rules_of, without_outlets, AreOne, AreOneGround, HaveOneAnswer, HaveOneElevation, HaveOneVerdict, IsOfBytes, IsSound, SetTexts, set_fields, set_listed}
 use Rattle.std.proofs.Common.{ℕ, Option, Result, Err}
 use Rattle.drain_answer.specs.declared.outcome.AuditVerdict.TheVariants as audited
 use Rattle.drain_answer.specs.declared.outcome.Outcome.TheVariants as judged_as

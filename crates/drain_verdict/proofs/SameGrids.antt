@@ -1,6 +1,6 @@
 -- Two grids of one size whose cells show the same values, with their products: what holds of the one holds of the other.
 -- No induction: a patch shows the same, and for paths the one grid is the other, padded by nothing.
-use Rattle.drain_verdict.proofs.Names.{◌≡◌, ◌∙◌, ℤ, pos, Bool, ◌&&◌, cond, List, [], ◌∷◌, length, map, Some, None, IsSome, is_some, option_map, int_lt, if◌then◌else◌, arith, refl, sym, ap, subst, count_by, IsFirstUnfilled, Cell, Rule, SharedLabel, Verdict, Extent, IsCellOf, cells, step, Grid, HasData, patch_at, values_at, HoldsAt, IsFirstFault, RulesHold, IsLeastSurface, Surface, Profile, Distances, IsFirstEndless, run_steps, NoDataNumbers, Values, PaddingKeepsFirstEndless, PaddingKeepsRuns, AllRunsEnd, IsVerdictAmong, counts_of}
+use Rattle.drain_verdict.proofs.Names.{◌≡◌, ◌∙◌, ℤ, pos, Bool, ◌&&◌, cond, List, [], ◌∷◌, length, map, Some, None, IsSome, is_some, option_map, int_lt, arith, refl, sym, ap, subst, count_by, IsFirstUnfilled, Cell, Rule, SharedLabel, Verdict, Extent, IsCellOf, cells, step, Grid, HasData, patch_at, values_at, HoldsAt, IsFirstFault, RulesHold, IsLeastSurface, Surface, Profile, Distances, IsFirstEndless, run_steps, NoDataNumbers, Values, PaddingKeepsFirstEndless, PaddingKeepsRuns, AllRunsEnd, IsVerdictAmong, counts_of}
 use Rattle.std.proofs.Common.{ℕ, Option, unwrap_or}
 use Rattle.std.specs.Ordering.{int_eq}
 use Rattle.drain_filled.proofs.LeastSurfaces.{same_cells_same_surface}

@@ -1,5 +1,5 @@
 -- What a list of sinks says of a set: no refusal of its kinds applies, or its refusal is the first.
-use Rattle.drain_verdict.proofs.Names.{◌≡◌, ◌<◌, is_none, is_some, not, true, false, ℤ, List, length, slice_get, Some, None, Ok, inl, inr, arith, refl, sym, ap, subst, ◌∙◌, cases_lt, lt-ltb, le-ltb, nat_tests, get_or_from_slice_get, slice_get_within, Cell, SinkLine, IsCellOf, same_cell, Extent, HasData, FoundOffDataIsRight, IsFirstOffData, IsLeastLine, IsLeastOff, IsOffAnswer, is_listed, sinks_of, GroundSet, IsReadable, IsRefusalIn, NoneStandsIn, StandsIn, place_in, set_grid, lines_in, set_listed, AreListedVoids, has_data_but, IsBadLine, IsToldOfSinks, Refusal, BadSinkLine, SinkNotData}
+use Rattle.drain_verdict.proofs.Names.{◌≡◌, ◌<◌, is_none, is_some, not, true, false, ℤ, List, length, slice_get, Some, None, Ok, inl, inr, arith, refl, sym, ap, subst, ◌∙◌, cases_lt, lt-ltb, le-ltb, nat_tests, get_or_from_slice_get, slice_get_within, Cell, SinkLine, IsCellOf, same_cell, Extent, HasData, FoundOffDataIsRight, IsFirstOffData, IsLeastLine, IsLeastOff, IsOffAnswer, is_listed, sinks_of, GroundSet, IsRefusalIn, NoneStandsIn, StandsIn, place_in, set_grid, set_listed, AreListedVoids, has_data_but, IsBadLine, IsToldOfSinks, Refusal, BadSinkLine, SinkNotData}
 use Rattle.std.proofs.Common.{ℕ, Option, Result, Err}
 use Rattle.std.proofs.lemmas.List.Folds.{list_any_at}
 use Rattle.drain_verdict.specs.declared.stages.SinkListing.{SinkListing}
@@ -82,11 +82,3 @@ module _ (set : GroundSet) (listing : SinkListing) (e : Extent) (voids : List Ce
   sinks_none law told none =
       let never : IsOffAnswer (set_grid set) (set_listed set.texts) None = off_is law None told.1 in
       none_more (StandsIn set) 9 (lines_none told.0 none) (at_off_data (λ b. ¬ StandsIn set b) (λ n stands. never n stands))
-
--- a list that isn't refused is one of sinks
-pub listed_ok : (set : GroundSet) → IsReadable set → sinks_of set.texts.given.sinks ≡ Ok (set_listed set.texts)
-listed_ok set readable = by_lines (sinks_of set.texts.given.sinks) (λ n is. readable (BadSinkLine n) is)
-  where
-    by_lines : (lines : Result (List SinkLine) ℕ) → ((n : ℕ) → lines ≡ Err n → ⊥) → lines ≡ Ok (lines_in lines)
-    by_lines (Ok sinks) good = refl
-    by_lines (Err n) good = absurd (good n refl)

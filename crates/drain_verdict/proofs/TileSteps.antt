@@ -1,5 +1,5 @@
 -- One more row of a mosaic, and what tiles are to give and have read.
-use Rattle.drain_verdict.proofs.Names.{◌≡◌, ◌<◌, ◌+◌, ◌≤◌, ℤ, Bool, false, IsTrue, List, length, Some, None, Ok, arith, refl, sym, ap, subst, ◌∙◌, slice_get, map, get_or-map, length-map, AllZip-long, SomeReadFails, Coming, after_rows, coming_at, nth_row, IsEmptyUnlessRow, Steps, Next, End, Wrong, FaultCounts, Progress, Stopped, RowStep, Row, Ended, VOID, AgreementGivesElevation, OneName, TilesTakeAtMost, names_of, tile_devices, TileInput, IsToldAtEnd, coming_of, seam_to_tell, wrong_to_tell, mosaic_coming, NewRowsAreOfBodies, Tile, TilesAgree, first_value, Corner, Cell, BadTileLength, SeamMismatch, Tiling, extent_of, elevations, height_with, whole_voids, place, AreGroundRows, GroundToGive, IsLaidOn, IsToldOf, NoneRefusesBefore, AreOneElevation, Inputs, input_tiles, set_of, TellTiles, IsPlaced, tile_ground, IsLayoutOf, tiling_of, IsMosaicAfter, IsMosaicBegun, IsMosaicOneMore, IsTilingOf, TileRowLaws, TilesHaveRead, tile_rows_of}
+use Rattle.drain_verdict.proofs.Names.{◌≡◌, ◌<◌, ◌+◌, ℤ, Bool, false, IsTrue, List, length, Some, None, Ok, arith, refl, sym, ap, subst, ◌∙◌, slice_get, map, get_or-map, length-map, AllZip-long, SomeReadFails, Coming, after_rows, coming_at, nth_row, IsEmptyUnlessRow, Steps, Next, End, Wrong, FaultCounts, Progress, Stopped, RowStep, Row, Ended, VOID, AgreementGivesElevation, OneName, TilesTakeAtMost, names_of, tile_devices, TileInput, IsToldAtEnd, coming_of, seam_to_tell, wrong_to_tell, mosaic_coming, NewRowsAreOfBodies, Tile, TilesAgree, first_value, Corner, Cell, BadTileLength, SeamMismatch, Tiling, extent_of, elevations, height_with, whole_voids, place, AreGroundRows, GroundToGive, IsLaidOn, IsToldOf, NoneRefusesBefore, AreOneElevation, Inputs, input_tiles, set_of, TellTiles, IsPlaced, tile_ground, IsLayoutOf, tiling_of, IsMosaicAfter, IsMosaicBegun, IsMosaicOneMore, IsTilingOf, TileRowLaws, TilesHaveRead, tile_rows_of}
 use Rattle.std.proofs.Common.{ℕ, Option}
 use Rattle.std.proofs.Math.IntN.{ℤ_discrete}
 use Rattle.drain_grid.specs.declared.height_kind.HeightKind.TheVariants.{Whole}

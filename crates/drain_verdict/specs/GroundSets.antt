@@ -101,8 +101,8 @@ abbrev pub IsGroundRefusal : Ground → Refusal → Type 0
 IsGroundRefusal g refusal = (t : SetTexts) → IsRefusalIn (record { terrain = g; texts = t }) refusal
 
 -- the set is read to the end: no refusal applies, or this is the first
-abbrev pub IsReadIn : GroundSet → Result (Unit {0}) Refusal → Type 0
-IsReadIn s (Ok done) = IsReadable s
+abbrev pub IsReadIn : {T : Type 0} → GroundSet → Result T Refusal → Type 0
+IsReadIn s (Ok read) = IsReadable s
 IsReadIn s (Err refusal) = IsRefusalIn s refusal
 
 -- notes of a grid's rows that are of all rows of the set's grid, under these rules

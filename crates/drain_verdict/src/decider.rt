@@ -1,18 +1,16 @@
 //! What decides beside the rules of the patches: directions followed to their ends, ranks, or the filled surface.
 
 ghost use Rattle.std.specs.Prelude.{◌≡◌};
-ghost use Rattle.drain_verdict.specs.Names.{List, IfOk, MatchOption, Ok, IfErr, Grid, Products, Extent};
+ghost use Rattle.drain_verdict.specs.Names.{List, IfOk, MatchOption, IfErr, Grid, Products, Extent};
 ghost use Rattle.drain_grid.specs.declared.judged.Judged as declared;
-ghost use Rattle.drain_verdict.specs.Names.{Flow, sinks_of, SinkLine, IsFirstUnfilled, RulesHold, surface_rules, IsLeastSurface};
+ghost use Rattle.drain_verdict.specs.Names.{Flow, IsFirstUnfilled, RulesHold, surface_rules, IsLeastSurface};
 ghost use Rattle.drain_filled.specs.ConRows.{AreFirstCon, HasSinks};
 ghost use Rattle.drain_grid.specs.declared.judged.Judged.TheVariants.{Con};
 ghost use Rattle.drain_grid.specs.Rule.{IsFillRule};
 ghost use Rattle.drain_paths.specs.Ways.{ground_of, directions_of, AreRanks, IsRankRefusal};
 
 use drain_filled::ConRows;
-use drain_grid::{
-    Cell, Elevation, Judged, OutOfMemory, Raster, Rules, Shape, Verdict, parse_sinks,
-};
+use drain_grid::{Cell, Elevation, Judged, OutOfMemory, Raster, Rules, Shape, Sinks, Verdict};
 use drain_paths::{CellFlows, CertifyRefusal, UNKNOWN, count_steps, flows_of_rasters};
 use drain_rows::{RowBuffer, RowVisitor, first_endless};
 use drain_rules::ThreeRows;
@@ -29,7 +27,7 @@ pub struct Decided {
 /// What is kept of all rows and, with the verdict of the rules, decides.
 pub trait Decider: RowVisitor {
     ghost use Rattle.std.specs.Prelude.{◌≡◌};
-    ghost use Rattle.drain_verdict.specs.Names.{IfOk, Ok, sinks_of, Rules, SinkLine, IsVerdictBy};
+    ghost use Rattle.drain_verdict.specs.Names.{IfOk, Rules, IsVerdictBy};
     ghost use Rattle.drain_filled.specs.ConRows.{HasSinks};
     ghost use Rattle.drain_verdict.specs.Deciding.{IsDecided};
 
@@ -44,18 +42,18 @@ pub trait Decider: RowVisitor {
         ensures uncounted { Self.counts 0 result }
         ensures unnoted { (rules : Rules) (g : Grid) (ps : Products) → Self.are_of rules g ps 0 result };
 
-    /// The cell that decides on the grid of this shape, all of whose rows are noted. `sinks` is the list of its sinks,
-    /// and `verdict` that of the rules about the judged rasters.
+    /// The cell that decides on the grid of this shape, all of whose rows are noted. `sinks` are its sinks, and `verdict`
+    /// is that of the rules about the judged rasters.
     fn decide(
         self,
         alloc: Global,
         shape: Shape,
-        sinks: &[u8],
+        sinks: &Sinks,
         judged: Judged,
         verdict: &Verdict,
     ) -> Result<Decided, OutOfMemory>
-        ensures cell { IfOk result (λ decided. (rules : Rules) (listed : List SinkLine) (g : Grid) (ps : Products)
-            → decides judged → rules.judged ≡ judged → g.extent ≡ shape → sinks_of sinks.now ≡ Ok listed → HasSinks g listed
+        ensures cell { IfOk result (λ decided. (rules : Rules) (g : Grid) (ps : Products)
+            → decides judged → rules.judged ≡ judged → g.extent ≡ shape → HasSinks g sinks.now
             → Self.are_of rules g ps shape.rows self → IsVerdictBy rules g ps verdict.now → IsDecided judged g ps verdict.now decided.cell) }
         ensures flows { IfOk result (λ decided. (rules : Rules) (g : Grid) (ps : Products)
             → g.extent ≡ shape → Self.are_of rules g ps shape.rows self → leave g ps shape decided.flows) };
@@ -79,7 +77,7 @@ impl Decider for CellFlows {
         self,
         _alloc: Global,
         shape: Shape,
-        _sinks: &[u8],
+        _sinks: &Sinks,
         judged: Judged,
         verdict: &Verdict,
     ) -> Result<Decided, OutOfMemory> {
@@ -130,7 +128,7 @@ impl Decider for RanksDecide {
         self,
         alloc: Global,
         _shape: Shape,
-        _sinks: &[u8],
+        _sinks: &Sinks,
         _judged: Judged,
         _verdict: &Verdict,
     ) -> Result<Decided, OutOfMemory> {
@@ -157,7 +155,7 @@ impl Decider for ConRows {
         self,
         alloc: Global,
         shape: Shape,
-        sinks: &[u8],
+        sinks: &Sinks,
         _judged: Judged,
         verdict: &Verdict,
     ) -> Result<Decided, OutOfMemory> {
@@ -177,18 +175,15 @@ fn first_unfilled(
     alloc: Global,
     rows: ConRows,
     shape: Shape,
-    sinks: &[u8],
+    sinks: &Sinks,
 ) -> Result<Option<Cell>, OutOfMemory>
-    ensures first { IfOk result (λ cell. (listed : List SinkLine) (g : Grid) (ps : Products) → g.extent ≡ shape → sinks_of sinks.now ≡ Ok listed → HasSinks g listed → AreFirstCon g ps shape.rows rows → RulesHold surface_rules IsFillRule g ps → MatchOption cell (IsLeastSurface g ps.con) (IsFirstUnfilled g ps.con)) }
+    ensures first { IfOk result (λ cell. (g : Grid) (ps : Products) → g.extent ≡ shape → HasSinks g sinks.now → AreFirstCon g ps shape.rows rows → RulesHold surface_rules IsFillRule g ps → MatchOption cell (IsLeastSurface g ps.con) (IsFirstUnfilled g ps.con)) }
 {
-    // The list has no bad line: the rows were read, so it wasn't refused. Of each cell there is a number.
-    let Ok(listed) = parse_sinks(alloc, sinks) else {
-        return Err(OutOfMemory);
-    };
+    // Of each cell there is a number.
     let Some(both) = rows.into_parts(shape) else {
         return Err(OutOfMemory);
     };
-    both.first_unfilled(alloc, &listed)
+    both.first_unfilled(alloc, sinks)
 }
 
 /// Ranks that fall at each step along the codes: for each data cell the number of steps to its path's end, for voids

@@ -127,7 +127,7 @@ fn judge_by<
         first: D::begin(alloc),
         second: walk,
     };
-    read_set::<R, T, P, BothVisitors<D, W>>(
+    let listing = read_set::<R, T, P, BothVisitors<D, W>>(
         alloc, frame, given, inputs, products, judged, &mut both,
     )?;
     let shape = T::shape(frame);
@@ -136,7 +136,7 @@ fn judge_by<
         first: decider,
         second: walk,
     } = both;
-    match decider.decide(alloc, shape, given.sinks, judged, &verdict) {
+    match decider.decide(alloc, shape, &listing.sinks.sinks, judged, &verdict) {
         Ok(decided) => Ok(Judgement {
             verdict,
             cell: decided.cell,

@@ -6,7 +6,7 @@
 //! here. No device is called before every header is right.
 
 ghost use Rattle.std.specs.Prelude.{◌≡◌};
-ghost use Rattle.drain_verdict.specs.Names.{length, map, IfErr, IsErrOf, OnOk, SomeReadFails};
+ghost use Rattle.drain_verdict.specs.Names.{length, map, IfOk, IfErr, IsErrOf, OnOk, SomeReadFails};
 ghost use Rattle.drain_grid.specs.declared.judged.Rules as declared;
 ghost use Rattle.drain_verdict.specs.Names.{PerProduct, SetProduct};
 ghost use Rattle.drain_grid.specs.Grid as grid;
@@ -37,8 +37,8 @@ use drain_rows::{RowVisitor, WalkStop, visit_rows};
 use std::alloc::Global;
 
 /// Reads a ground with this frame from these inputs: the headers of its products, the bytes of the inputs and of rasters,
-/// a list of sinks and a spacing by row. Shows the visitor each row of the grid, under the rules about judged rasters, or
-/// returns the first refusal.
+/// a list of sinks and a spacing by row. Shows the visitor each row of the grid, under the rules about judged rasters, and
+/// returns what is listed, or the first refusal.
 ///
 /// See `check` for the order of refusals, and for how far it reads.
 pub fn read_set<R: ByteSource, T: GroundInput<R>, P: ProductInputs<R>, K: RowVisitor>(
@@ -49,11 +49,12 @@ pub fn read_set<R: ByteSource, T: GroundInput<R>, P: ProductInputs<R>, K: RowVis
     products: &mut P,
     judged: Judged,
     notes: &mut K,
-) -> Result<(), Refusal>
+) -> Result<Listing, Refusal>
     requires fit { T.fit frame.now inputs.old }
     requires uncounted { K.counts 0 notes.old }
     requires unnoted { (rules : declared.Rules) (g : Grid) (ps : grid.Products) → K.are_of rules g ps 0 notes.old }
     ensures answer { ForSet T.terrain (T.encodes (T.key_of frame.now) inputs.old) R.bytes_left given.now (P.inputs products.old) (λ s. IsReadIn s result) }
+    ensures listed { IfOk result (λ listing. IsListingOf (T.kind frame.now) listing given.now) }
     ensures lasting { OnOk result (K.lasting notes.new ≡ K.lasting notes.old) }
     ensures noted { OnOk result (ForSet T.terrain (T.encodes (T.key_of frame.now) inputs.old) R.bytes_left given.now (P.inputs products.old) (λ s. AreNotesIn K.are_of judged s notes.new)) }
     ensures uses { UsesSet P.inputs (λ xs ps. set_devices T.devices xs (P.inputs ps)) (T.within (T.key_of frame.now)) T.kept R.bytes_left R.counts (inputs.old, products.old) (inputs.new, products.new) result }
@@ -77,13 +78,14 @@ fn read_bodies<R: ByteSource, T: GroundInput<R>, P: ProductInputs<R>, K: RowVisi
     products: &mut P,
     judged: Judged,
     notes: &mut K,
-) -> Result<(), Refusal>
+) -> Result<Listing, Refusal>
     requires fit { T.fit frame.now inputs.old }
     requires shapes { (p : SetProduct) → header_extent (of_product headers p) ≡ T.extent frame.now }
     requires alike { AreAlike (P.inputs products.old) headers }
     requires uncounted { K.counts 0 notes.old }
     requires unnoted { (rules : declared.Rules) (g : Grid) (ps : grid.Products) → K.are_of rules g ps 0 notes.old }
     ensures answer { ForRead T.terrain (λ x. T.encodes (T.key_of frame.now) inputs.old x × T.framed frame.now x) R.bytes_left headers (P.inputs products.old) (λ t. t.given ≡ given.now) (λ s. IsReadIn s result) }
+    ensures listed { IfOk result (λ listing. IsListingOf (T.kind frame.now) listing given.now) }
     ensures lasting { OnOk result (K.lasting notes.new ≡ K.lasting notes.old) }
     ensures noted { OnOk result (ForRead T.terrain (λ x. T.encodes (T.key_of frame.now) inputs.old x × T.framed frame.now x) R.bytes_left headers (P.inputs products.old) (λ t. t.given ≡ given.now) (λ s. AreNotesIn K.are_of judged s notes.new)) }
     ensures inputs_within { T.within (T.key_of frame.now) inputs.old inputs.new }
@@ -104,21 +106,22 @@ fn read_bodies<R: ByteSource, T: GroundInput<R>, P: ProductInputs<R>, K: RowVisi
     let rules = Rules { nodata, judged };
     let mut rows = begin_rows::<R, T, P>(alloc, frame, headers, products)?;
     read_rows::<R, T, P, K>(
-        alloc, frame, &listing, &rules, &mut rows, inputs, products, notes,
+        alloc, frame, listing, &rules, &mut rows, inputs, products, notes,
     )
 }
 
-/// Reads the rows of new readers to the last, or returns the refusal that they report then, or that of the lists.
+/// Reads the rows of new readers to the last, and returns what is listed, or the refusal that they report then, or that of
+/// the lists.
 fn read_rows<R: ByteSource, T: GroundInput<R>, P: ProductInputs<R>, K: RowVisitor>(
     alloc: Global,
     frame: &T::Frame,
-    listing: &Listing,
+    listing: Listing,
     rules: &Rules,
     rows: &mut InputRows<R, T::Rows>,
     inputs: &mut [T],
     products: &mut P,
     notes: &mut K,
-) -> Result<(), Refusal>
+) -> Result<Listing, Refusal>
     requires sized { length inputs.old ≡ T.size frame.now }
     requires counted { T.count rows.old.elevations ≡ T.size frame.now }
     requires uncounted { K.counts 0 notes.old }
@@ -126,12 +129,13 @@ fn read_rows<R: ByteSource, T: GroundInput<R>, P: ProductInputs<R>, K: RowVisito
     ensures answer { (hs : PerProduct Fields) → AreBegun (T.begun frame.now) hs (with_rasters P.readers rows.old) → rules.now.nodata ≡ nodata_in hs
         → ((p : SetProduct) → header_extent (of_product hs p) ≡ T.extent frame.now)
         → ForRead T.terrain (λ x. T.encodes (T.key_of frame.now) inputs.old x × T.framed frame.now x) R.bytes_left hs (P.inputs products.old)
-        (λ t. IsListingOf (T.kind frame.now) listing.now t.given) (λ s. IsReadIn s result) }
+        (λ t. IsListingOf (T.kind frame.now) listing t.given) (λ s. IsReadIn s result) }
+    ensures listed { IfOk result (λ same. same ≡ listing) }
     ensures lasting { OnOk result (K.lasting notes.new ≡ K.lasting notes.old) }
     ensures noted { OnOk result ((hs : PerProduct Fields) → AreBegun (T.begun frame.now) hs (with_rasters P.readers rows.old) → rules.now.nodata ≡ nodata_in hs
         → ((p : SetProduct) → header_extent (of_product hs p) ≡ T.extent frame.now)
         → ForRead T.terrain (λ x. T.encodes (T.key_of frame.now) inputs.old x × T.framed frame.now x) R.bytes_left hs (P.inputs products.old)
-        (λ t. IsListingOf (T.kind frame.now) listing.now t.given) (λ s. AreNotesIn K.are_of rules.now.judged s notes.new)) }
+        (λ t. IsListingOf (T.kind frame.now) listing t.given) (λ s. AreNotesIn K.are_of rules.now.judged s notes.new)) }
     ensures reads { HaveBeenRead T.has_read R.bytes_left R.counts (as_read P.readers P.inputs (rows.old, inputs.old, products.old)) (as_read P.readers P.inputs (rows.new, inputs.new, products.new)) (IsErrOf result Refusal.ReadFailed) }
     ensures of_bodies { IfErr result IsOfBodies }
 {
@@ -159,9 +163,9 @@ fn read_rows<R: ByteSource, T: GroundInput<R>, P: ProductInputs<R>, K: RowVisito
     if let Some(refusal) = refusal_of_rows::<R, T, P>(frame, rows, products) {
         return Err(refusal);
     }
-    match listing_refusal(listing, shape, &voids) {
+    match listing_refusal(&listing, shape, &voids) {
         Some(refusal) => Err(refusal),
-        None => Ok(()),
+        None => Ok(listing),
     }
 }
 

@@ -6,7 +6,7 @@ pub use Rattle.drain_grid.specs.Grid.{Grid, Products}
 pub use Rattle.drain_grid.specs.GridRules.{HoldsAt, IsEarlierPair, is_data, is_raised}
 pub use Rattle.drain_grid.specs.Rule.{IsPatchRule}
 pub use Rattle.drain_grid.specs.SinkTexts.{is_listed, sinks_of}
-pub use Rattle.drain_grid.specs.Spacing.{Distances, of_kind, spacing_of, unit_spacing}
+pub use Rattle.drain_grid.specs.Spacing.{Distances, spacing_of, unit_spacing}
 pub use Rattle.drain_grid.specs.Unranked.{unranked}
 pub use Rattle.drain_grid.specs.Values.{NoDataNumbers}
 pub use Rattle.drain_grid.specs.declared.cell.Cell.{Cell}
@@ -16,7 +16,6 @@ pub use Rattle.drain_rules.specs.Areas.{CountsAmong, HasCell, IsAbove, IsAreaOut
 pub use Rattle.drain_rules.specs.Rows.{AreRowPatches}
 pub use Rattle.drain_rules.specs.declared.walk.RowOutcome.TheVariants.{Faulty, Sound}
 pub use Rattle.drain_rules.specs.declared.walk.Tally.{Tally}
-pub use Rattle.drain_sets.specs.GivenSpacings.{spacing_from}
 pub use Rattle.drain_sets.specs.declared.raster_input.RasterInput.{RasterInput}
 pub use Rattle.drain_union.specs.Reports.{Agree, IsOnSeam, IsReportOf, IsSortedByLabel, ListsOutlets, ListsSeams, ListsSinks, ListsSpacings, Report, audited}
 pub use Rattle.drain_union.specs.Windows.{IsFirstInside, IsJudgedAt, IsJudgedIn, IsJudgedOutlet, IsOrigin, IsPlaceIn, IsWindowOf, RulesHoldInside, Window, cut_grid, cut_products, in_union, moved, window_at}
@@ -46,5 +45,5 @@ pub use Rattle.std.proofs.Common.{Bool, Err, IfOk, IsErrOf, IsTrue, List, None, 
 pub use Rattle.std.proofs.lemmas.Bool.{cases_lt, false≢true}
 pub use Rattle.std.proofs.lemmas.List.{get_or-append-add, get_or_append_left, take_more}
 pub use Rattle.std.proofs.lemmas.List.Elements.{Contains-append_cases, Contains-append_left, Contains-append_right, Contains-push, Contains-push_cases}
-pub use Rattle.std.proofs.lemmas.Result.{IfOk-weaker, err_from_is_err_and, on_ok_weaker}
+pub use Rattle.std.proofs.lemmas.Result.{err_from_is_err_and, on_ok_weaker}
 pub use Rattle.std.specs.List.{Contains, flat_map, range_with_len, sum_by}

@@ -1,22 +1,9 @@
 -- A list of the first rows' spacings, of which the last one is that of all rows after it.
-use Rattle.drain_window.proofs.Names.{◌≡◌, ℕ, zero, suc, ◌+◌, ◌-◌, ◌<◌, ◌≤◌, min, inl, inr, List, [], ◌∷◌, ◌++◌, length, slice_index_or, length-append, refl, sym, ap, subst, ◌∙◌, arith, cases_lt, get_or_append_left, get_or-append-add, Distances, of_kind, unit_spacing, Place, spacing_from, AreAlikeTo, AreRowsOf, IsEnough, last_spacing}
-use Rattle.drain_grid.specs.declared.height_kind.HeightKind.{HeightKind}
-use Rattle.drain_grid.specs.declared.spacing_text.SpacingInput.{SpacingInput}
-use Rattle.drain_grid.specs.declared.spacing_text.SpacingInput.TheVariants.{Same, ByRow}
-use Rattle.drain_grid.specs.SpacingTexts.{spacing_said}
-use Rattle.drain_verdict.specs.Given.{Given, row_spacing}
+use Rattle.drain_window.proofs.Names.{◌≡◌, ℕ, zero, suc, ◌+◌, ◌-◌, ◌<◌, ◌≤◌, min, inl, inr, List, [], ◌∷◌, ◌++◌, length, slice_index_or, length-append, refl, sym, ap, ◌∙◌, arith, cases_lt, get_or_append_left, get_or-append-add, Distances, unit_spacing, Place, AreAlikeTo, AreRowsOf, IsEnough, last_spacing}
 
--- what is said and what is given have one spacing of rows
-pub said_given : (kind : HeightKind) (input : SpacingInput) (row : ℕ) → of_kind kind (spacing_said input row) ≡ row_spacing kind (spacing_from input) row
-said_given kind (Same s) row = refl
-said_given kind (ByRow text) row = refl
-
--- the rows of what is given are those of the grid
-pub as_given : (kind here : HeightKind) (call given : Given) (p : Place) (listed : List Distances) → here ≡ kind → given ≡ call →
-    AreRowsOf (row_spacing kind call.spacing) p listed → AreRowsOf (row_spacing here given.spacing) p listed
-as_given kind here call given p listed is same are =
-    subst (λ (k : HeightKind). AreRowsOf (row_spacing k given.spacing) p listed) (sym is)
-    (subst (λ (g : Given). AreRowsOf (row_spacing kind g.spacing) p listed) (sym same) are)
+-- rows of one spacing are of another that is the same in each row
+pub as_spaced : (spacing other : ℕ → Distances) (p : Place) (listed : List Distances) → ((row : ℕ) → spacing row ≡ other row) → AreRowsOf spacing p listed → AreRowsOf other p listed
+as_spaced spacing other p listed same are row below = sym (same (p.top + row)) ∙ are row below
 
 -- one row more was looked at: it is as the last one listed, or is listed
 alike_more : (spacing : ℕ → Distances) (p : Place) (rows end : ℕ) → AreAlikeTo spacing p rows end →

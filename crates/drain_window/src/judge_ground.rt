@@ -73,7 +73,7 @@ fn judge_placed<R: ByteSource, T: GroundInput<R>>(
         first: SeamWalk::new(alloc, *place, origin),
         second: Walk::begin(ListedOutlets::new(alloc, judged_area(place), origin)),
     };
-    read_set::<R, T, AuditProducts<R>, BothVisitors<SeamWalk, Walk<ListedOutlets>>>(
+    let listing = read_set::<R, T, AuditProducts<R>, BothVisitors<SeamWalk, Walk<ListedOutlets>>>(
         alloc,
         frame,
         given,
@@ -86,10 +86,10 @@ fn judge_placed<R: ByteSource, T: GroundInput<R>>(
         first: seams,
         second: walk,
     } = notes;
-    let Ok(sinks) = judged_sinks(alloc, given.sinks, place, origin) else {
+    let Ok(sinks) = judged_sinks(alloc, &listing.sinks.sinks, place, origin) else {
         return Err(Refusal::OutOfMemory);
     };
-    let Ok(spacings) = judged_spacings(alloc, &given.spacing, T::height_kind(frame), place) else {
+    let Ok(spacings) = judged_spacings(alloc, &listing.spacing.spacings, place) else {
         return Err(Refusal::OutOfMemory);
     };
     match answered(alloc, place, origin, walk, seams, sinks, spacings) {

@@ -1,13 +1,11 @@
 //! The judged cells of a window.
 
 ghost use Rattle.std.specs.Prelude.{◌≡◌};
-ghost use Rattle.drain_window.specs.Names.{IfOk, length, Grid, Products, window_at, IsJudgedAt, IsOrigin, ListsSinks};
+ghost use Rattle.drain_window.specs.Names.{IfOk, length, IsJudgedAt, IsOrigin};
 ghost use Rattle.drain_window.specs.JudgedAreas.{judged_area, AreLinesInside, union_cell};
 ghost use Rattle.drain_window.specs.SeamRows.{EndsInRange};
-ghost use Rattle.drain_grid.specs.SinkTexts.{is_listed, sinks_of};
-ghost use Rattle.drain_verdict.specs.Texts.{lines_in};
 
-use drain_grid::{Cell, OutOfMemory, Sinks, parse_sinks};
+use drain_grid::{Cell, OutOfMemory, Sinks};
 use drain_rules::Area;
 use drain_union::Place;
 use std::alloc::Global;
@@ -28,26 +26,9 @@ pub(crate) fn judged_area(place: &Place) -> Area
     }
 }
 
-/// The union's cells of the sinks in this list that the window at this place of a mosaic judges; the mosaic begins at
-/// the union's cell `origin`. A list that isn't one, which was refused before, is out of memory here.
+/// The union's cells of these sinks that the window at this place of a mosaic judges; the mosaic begins at the union's
+/// cell `origin`.
 pub(crate) fn judged_sinks(
-    alloc: Global,
-    list: &[u8],
-    place: &Place,
-    origin: Cell,
-) -> Result<Vec<Cell>, OutOfMemory>
-    requires placed { EndsInRange place.now }
-    requires moved { IsOrigin origin }
-    ensures { IfOk result (λ cells. (g : Grid) (ps : Products) → g.sink ≡ is_listed (lines_in (sinks_of list.now)) → ListsSinks (window_at origin place.now g ps) cells.items) }
-{
-    match parse_sinks(alloc, list) {
-        Ok(sinks) => sinks_inside(alloc, &sinks, place, origin),
-        Err(_) => Err(OutOfMemory),
-    }
-}
-
-/// The union's cells of the lines of this list that the window judges.
-fn sinks_inside(
     alloc: Global,
     sinks: &Sinks,
     place: &Place,

@@ -1,4 +1,4 @@
-use Rattle.drain_verdict.proofs.Names.{◌≡◌, subst, sym, err_from_is_err_and, HeightKind, ReadFailed, on-ok, as_read, IsListingOf}
+use Rattle.drain_verdict.proofs.Names.{◌≡◌, subst, sym, err_from_is_err_and, IfOk-weaker, HeightKind, ReadFailed, on-ok, as_read, IsListingOf, Listing}
 use Rattle.drain_verdict.proofs.AuditDevices.{devices_none}
 use Rattle.drain_verdict.proofs.RowDevices.{bodies_taken, devices_fail}
 use Rattle.drain_verdict.proofs.read_set.read_bodies.Goals as goal
@@ -34,6 +34,11 @@ pub returns-clause-answer : goal.returns-clause-answer
 returns-clause-answer g c = λ x t means texts given none.
     let listed = subst (IsListingOf (g.T.GroundInput.kind c.args.frame.now) c.in-Ok.listing) (sym given) (subst (λ (k : HeightKind). IsListingOf k c.in-Ok.listing c.args.given.now) c.height_kind.ensures c.in-Ok.ensures) in
     c.read_rows.ensures.answer c.args.headers c.in_ok-rows.ensures.begun c.nodata_of-nodata.ensures c.requires.shapes x t means texts listed none
+
+pub returns-clause-listed : goal.returns-clause-listed
+returns-clause-listed g c =
+    let listed = subst (λ (k : HeightKind). IsListingOf k c.in-Ok.listing c.args.given.now) c.height_kind.ensures c.in-Ok.ensures in
+    IfOk-weaker c.read_rows.result _ _ (λ l same. subst (λ (x : Listing). IsListingOf (g.T.GroundInput.kind c.args.frame.now) x c.args.given.now) (sym same) listed) c.read_rows.ensures.listed
 
 pub returns-clause-noted : goal.returns-clause-noted
 returns-clause-noted g c =

@@ -1,4 +1,4 @@
-use Rattle.drain_verdict.proofs.Names.{err_from_is_err_and, SomeReadFails-iff, on-ok, set_devices}
+use Rattle.drain_verdict.proofs.Names.{err_from_is_err_and, SomeReadFails-iff, Listing, on-ok, set_devices}
 use Rattle.std.proofs.Common.{Err}
 use Rattle.drain_verdict.proofs.HeaderAnswers.{alike, headers_of_same, told_of_same}
 use Rattle.drain_verdict.proofs.InputLemmas.{of_bodies_may, set_uses_none, told_failed}
@@ -17,7 +17,7 @@ pub returns-in_err-headers-clause-uses : goal.returns-in_err-headers-clause-uses
 returns-in_err-headers-clause-uses g c =
     let told = err_from_is_err_and c.from_residual.result c.from_residual.ensures.1 in
     let inputs = g.P.ProductInputs.inputs in
-    rw (told.1, told.2) (set_uses_none {T = Unit {0}} inputs (λ xs ps. set_devices g.T.GroundInput.devices xs (inputs ps)) (g.T.GroundInput.within (g.T.GroundInput.key_of c.args.frame.now)) g.T.GroundInput.kept g.R.ByteSource.bytes_left g.R.ByteSource.counts
+    rw (told.1, told.2) (set_uses_none {T = Listing} inputs (λ xs ps. set_devices g.T.GroundInput.devices xs (inputs ps)) (g.T.GroundInput.within (g.T.GroundInput.key_of c.args.frame.now)) g.T.GroundInput.kept g.R.ByteSource.bytes_left g.R.ByteSource.counts
     c.args.inputs.now c.args.products.now (Err c.in_err-headers.field-0.0) (c.reading_laws.ensures.none_within (g.T.GroundInput.key_of c.args.frame.now) c.args.inputs.now) (c.reading_laws.ensures.none_kept c.args.inputs.now)
     (header_reads_none _ _ _ _ _ c.in_err-headers.ensures.refusal))
 

@@ -1,15 +1,18 @@
-use Rattle.drain_window.proofs.Names.{ℕ, ap, sym, ◌∙◌, ◌+◌, IfOk-weaker, Distances, of_kind, spacing_from, AreRowsOf}
-use Rattle.drain_verdict.specs.Given.{row_spacing}
-use Rattle.drain_window.proofs.RowLists.{said_given}
+use Rattle.drain_window.proofs.Names.{◌≡◌, subst, arith, spacing_of}
+use Rattle.drain_window.proofs.RowLists.{are_rows, AreFirst, first_more, first_none}
 use Rattle.drain_window.proofs.judged_rows.judged_spacings.Goals as goal
 
-pub returns-in-Ok : goal.returns-in-Ok
-returns-in-Ok c =
-    let p = c.args.place.now in
-    let input = c.args.spacing.now in
-    let kind = c.args.kind in
-    IfOk-weaker c.rows_inside.result _
-    (λ listed. AreRowsOf (row_spacing kind (spacing_from input)) p listed.items)
-    (λ listed are row below.
-    sym (c.of_kind-spacings.ensures.rows (p.top + row) ∙ ap (λ (f : ℕ → Distances). of_kind kind (f (p.top + row))) c.in-Ok.ensures.spacing ∙ said_given kind input (p.top + row)) ∙ are row below)
-    c.rows_inside.ensures
+pub loop-row-init : goal.loop-row-init
+loop-row-init c = rw (c.new-listed.ensures.items) (first_none (spacing_of c.args.spacings.now) c.args.place.now)
+
+pub loop-row-preserved : goal.loop-row-preserved
+loop-row-preserved c =
+    rw (c.in_ok-push.ensures.items)
+    (first_more (spacing_of c.args.spacings.now) c.args.place.now c.loop-row.row c.loop-row.listed.items c.of_row.result c.of_row.ensures c.loop-row.invariant)
+
+pub returns : goal.returns
+returns c =
+    let sp = spacing_of c.args.spacings.now in
+    let all : c.loop-row.row ≡ c.rows_to_list-row-end.result = omega (arith, c.loop-row-test.false, c.loop-row.auto.row-end) in
+    are_rows sp c.args.place.now c.rows_to_list-row-end.result c.loop-row.listed.items c.rows_to_list-row-end.ensures.enough
+    (subst (λ n. AreFirst sp c.args.place.now n c.loop-row.listed.items) all c.loop-row.invariant)

@@ -4,7 +4,7 @@ use Rattle.drain_verdict.proofs.OutcomeLemmas.{decided_by_flows}
 use Rattle.drain_verdict.proofs.decider.CellFlowsDecider.decide.Goals as goal
 
 pub returns-clause-cell : goal.returns-clause-cell
-returns-clause-cell c = λ rules listed g ps decides same extent is sinks flows verdict.
+returns-clause-cell c = λ rules g ps decides same extent sinks flows verdict.
     let all = subst (λ (e : Extent). AreFirstFlows g ps e c.args.shape.rows c.args.self) extent flows in
     decided_by_flows c.args.judged g ps c.args.verdict.now c.first_endless-cell.result decides.0 decides.1
     (c.first_endless-cell.ensures.first rules g ps same verdict all.counted (AreFlowsOf-all g ps c.args.shape c.args.self all))

@@ -7,7 +7,7 @@ use Rattle.drain_verdict.proofs.decider.ConRowsDecider.decide.Goals.{in-Rejected
 
 -- a fault of the rules decides, and else the first cell that isn't filled
 pub returns-clause-cell : goal.returns-clause-cell
-returns-clause-cell c = λ rules listed g ps is_con same extent is sinks rows verdict.
+returns-clause-cell c = λ rules g ps is_con same extent sinks rows verdict.
     let about : IsVerdictAmong (part_rules Con rules.nodata) (IsPartRule Con) g ps c.args.verdict.now =
     subst (λ (j : Judged). IsVerdictAmong (rules_about j rules.nodata) (IsTried j) g ps c.args.verdict.now) (same ∙ is_con) verdict in
     let unfilled : IsUnfilledCell g ps c.args.verdict.now c.match-verdict.cell =
@@ -16,6 +16,6 @@ returns-clause-cell c = λ rules listed g ps is_con same extent is sinks rows ve
       | in-Accepted+in_ok-cell-in-Accepted w ↦
           (let holds = subst (IsVerdictAmong (part_rules Con rules.nodata) (IsPartRule Con) g ps) w.in-Accepted.is about in
           rw w.in-Accepted.is (subst (λ cell. MatchOption cell (IsLeastSurface g ps.con) (IsFirstUnfilled g ps.con)) (sym w.cell-is)
-          (w.in_ok-cell-in-Accepted.ensures.first listed g ps extent is sinks rows (con_keeps g ps rules.nodata holds.0))))
+          (w.in_ok-cell-in-Accepted.ensures.first g ps extent sinks rows (con_keeps g ps rules.nodata holds.0))))
     ] in
     subst (λ (j : Judged). IsDecided j g ps c.args.verdict.now c.match-verdict.cell) (sym is_con) unfilled
