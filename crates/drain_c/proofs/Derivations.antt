@@ -2,7 +2,8 @@
 use Rattle.drain_c.proofs.Names.{◌≡◌, ◌≢◌, ℕ, zero, suc, ◌*◌, ◌/◌, ◌%◌, ◌≤◌, ◌<◌, ℤ, pos, Bool, true, false, List, [], ◌∷◌, length, map, get_or, IfOk, IfErr, IsTrue, IsFalse, arith, refl, sym, ap, subst, ◌∙◌, Answer, Call, CallInputs, OfCall, set_in, outcome_found, status_only, Reports, ShowsAnswer, ShowsBadRaster, IsCellOf, Extent, Pixels, GroundSet, set_grid, set_products}
 use Rattle.std.proofs.Common.{Result, Ok, Err}
 use Rattle.std.proofs.Math.Nat.{div-lt_iff_lt-mul}
-use Rattle.drain_c.specs.Derived.{AreDerivedNumbers, AreNumbersOf, IsDerivation, ReportsDerivation, ShowsDerivation, derived_found, derived_line, have_cells, outcome_for, raster_of, shape_line, told_of_dir}
+use Rattle.drain_c.specs.Derived.{AreDerivedNumbers, AreNumbersOf, IsDerivation, ReportsDerivation, ShowsDerivation, derived_found, derived_line, have_cells, raster_of, shape_line}
+use Rattle.drain_maker.specs.Derived.{naming_dir, outcome_for}
 use Rattle.drain_c.proofs.CutInputs.{cut_refusal_kept, first_bytes, same}
 use Rattle.drain_c.proofs.Spelling.{AreSources}
 use Rattle.drain_c.proofs.Statuses.{from_two}
@@ -85,7 +86,7 @@ numbers_either s made true new shown is fit misfit none = derived_numbers s made
 numbers_either s made false new shown is fit misfit none = (let two : shown.status ≡ 2 = (misfit refl).status_is in absurd (omega arith))
 
 none_status : (why : DeriveRefusal) → 1 ≤ (outcome_found (outcome_for why)).status
-none_status (Refused refusal) = (let from = from_two (told_of_dir refusal) in omega arith)
+none_status (Refused refusal) = (let from = from_two (naming_dir refusal) in omega arith)
 none_status (NoEnd row col) = omega arith
 
 -- status 0 is that of something that follows

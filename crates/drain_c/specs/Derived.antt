@@ -1,17 +1,15 @@
 -- What follows from the directions of a call, as C reads it.
 use Rattle.std.specs.Prelude.{◌≡◌, ◌++◌, ◌*◌, ◌==◌, ◌&&◌, if◌then◌else◌}
-use Rattle.drain_c.specs.Names.{ℕ, length, Bool, ℤ, pos, List, map, codes, decimal, Result, Ok, Err, IsTrue, IsFalse, outcome_report_line, Outcome, Refusal, BadHeader, WrongShape, Misplaced, RasterShort, Extent, IsDeriveRefusalIn, AreDerived, GroundSet, IsReadable, set_grid, set_products}
-use Rattle.drain_answer.specs.declared.outcome.Outcome.TheVariants as outcome
+use Rattle.drain_c.specs.Names.{ℕ, length, Bool, ℤ, pos, List, map, codes, decimal, Result, Ok, Err, IsTrue, IsFalse, outcome_report_line, Outcome, Extent, IsDeriveRefusalIn, AreDerived, GroundSet, IsReadable, set_grid, set_products}
 use Rattle.drain_c.specs.declared.answer.Answer.{Answer}
 use Rattle.drain_c.specs.declared.found.Found.{Found}
 use Rattle.drain_c.specs.Found.{outcome_found, status_only}
 use Rattle.drain_c.specs.Shown.{Reports, ShowsAnswer, ShowsBadRaster, ShowsOutcome}
-use Rattle.drain_grid.specs.declared.product.Product.TheVariants.{Con, Dir}
 use Rattle.drain_grid.specs.Product.{default_numbers}
 use Rattle.drain_grid.specs.Grid.{Pixels}
 use Rattle.drain_maker.specs.declared.derivation.Derived.{Derived}
 use Rattle.drain_maker.specs.declared.derivation.DeriveRefusal.{DeriveRefusal}
-use Rattle.drain_maker.specs.declared.derivation.DeriveRefusal.TheVariants.{Refused, NoEnd}
+use Rattle.drain_maker.specs.Derived.{outcome_for}
 use Rattle.drain_paths.specs.Flows.{AllFlowsEnd}
 
 -- these numbers in row order, as a raster of the set's grid
@@ -37,22 +35,9 @@ abbrev pub IsDerivation : GroundSet → Result (Unit {0}) DeriveRefusal → Type
 IsDerivation s (Ok done) = IsReadable s × AllFlowsEnd (set_grid s) (set_products s)
 IsDerivation s (Err why) = IsDeriveRefusalIn s why
 
--- a refusal of con's raster, which is dir's, names dir
-abbrev pub told_of_dir : Refusal → Refusal
-told_of_dir (BadHeader Con fault) = BadHeader Dir fault
-told_of_dir (WrongShape Con) = WrongShape Dir
-told_of_dir (Misplaced Con) = Misplaced Dir
-told_of_dir (RasterShort Con) = RasterShort Dir
-told_of_dir refusal = refusal
-
 -- rows and columns of what follows
 abbrev pub shape_line : Extent → List ℕ
 shape_line e = codes "derived rows=" ++ decimal e.rows ++ codes " cols=" ++ decimal e.cols
-
--- why nothing follows, as the answer of an audit
-abbrev pub outcome_for : DeriveRefusal → Result Outcome Refusal
-outcome_for (Refused refusal) = Err (told_of_dir refusal)
-outcome_for (NoEnd row col) = Ok (outcome.NoEnd row col)
 
 -- the numbers and the line of what follows, if the memory for it has its length, or of the reason why nothing does
 abbrev pub derived_found : Bool → Result (Unit {0}) DeriveRefusal → Found

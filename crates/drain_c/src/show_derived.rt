@@ -2,7 +2,7 @@
 
 ghost use Rattle.std.specs.Prelude.{◌≡◌, ◌*◌, ◌==◌, ◌&&◌};
 ghost use Rattle.drain_c.specs.Names.{IfOk, IsFalse, IsTrue, AreCounts};
-ghost use Rattle.drain_c.specs.Derived.{AreNumbersOf, ShowsDerivation, have_cells, outcome_for, shape_line, told_of_dir};
+ghost use Rattle.drain_c.specs.Derived.{AreNumbersOf, ShowsDerivation, have_cells, shape_line};
 ghost use Rattle.drain_c.specs.Found.{status_only};
 ghost use Rattle.drain_c.specs.Shown.{ShowsAnswer, ShowsBadRaster};
 
@@ -10,9 +10,8 @@ use crate::answer::{Answer, show, show_bad_raster, show_outcome};
 use crate::derived::write_numbers;
 use crate::found::status_only;
 use drain_answer::lines::{Line, push_number, words};
-use drain_grid::{Product, Shape};
+use drain_grid::Shape;
 use drain_maker::{DeriveRefusal, Derived};
-use drain_verdict::{Outcome, Refusal};
 
 /// Writes what follows, or why nothing does.
 pub fn show_derivation(
@@ -27,7 +26,7 @@ pub fn show_derivation(
 {
     match derivation {
         Ok((shape, derived)) => show_derived(*shape, derived, acc, bas, rnk, answer),
-        Err(why) => show_outcome(&outcome_for(why), answer),
+        Err(why) => show_outcome(&why.outcome(), answer),
     }
 }
 
@@ -64,30 +63,4 @@ fn shape_line(shape: Shape) -> Line
     line.push_str(" cols=");
     push_number(&mut line, shape.cols());
     line
-}
-
-/// Why nothing follows, as the answer of an audit.
-fn outcome_for(why: &DeriveRefusal) -> Result<Outcome, Refusal>
-    ensures { result ≡ outcome_for why.now }
-{
-    match why {
-        DeriveRefusal::Refused(refusal) => Err(told_of_dir(*refusal)),
-        DeriveRefusal::NoEnd { row, col } => Ok(Outcome::NoEnd {
-            row: *row,
-            col: *col,
-        }),
-    }
-}
-
-/// The refusal, which names dir where it named con.
-fn told_of_dir(refusal: Refusal) -> Refusal
-    ensures { result ≡ told_of_dir refusal }
-{
-    match refusal {
-        Refusal::BadHeader(Product::Con, fault) => Refusal::BadHeader(Product::Dir, fault),
-        Refusal::WrongShape(Product::Con) => Refusal::WrongShape(Product::Dir),
-        Refusal::Misplaced(Product::Con) => Refusal::Misplaced(Product::Dir),
-        Refusal::RasterShort(Product::Con) => Refusal::RasterShort(Product::Dir),
-        refusal => refusal,
-    }
 }

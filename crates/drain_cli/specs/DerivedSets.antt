@@ -1,37 +1,18 @@
 -- How a run of `drain derive` ends: with files that were written, or with the reason why nothing was derived.
 use Rattle.std.specs.Prelude.{◌≡◌}
-use Rattle.drain_cli.specs.Names.{ℕ, List, Option, Result, Ok, Err, IfOk, IfErr, codes, no_end_line, Refusal, BadHeader, WrongShape, Misplaced, Derived, DeriveRefusal, Sink, Source, Dir, OpenElevations, Tiles, Dem, made_header, Extent, Fields, names_of, SetFault, Tiling, GroundSet, IsDemInput, as_five, told_by, AuditProducts, Prints, refusal_status, Status}
+use Rattle.drain_cli.specs.Names.{ℕ, List, Option, Result, Ok, Err, IfOk, IfErr, codes, outcome_report_line, Refusal, Derived, DeriveRefusal, Sink, Source, Dir, OpenElevations, Tiles, Dem, made_header, Extent, Fields, names_of, SetFault, Tiling, GroundSet, IsDemInput, as_five, told_by, AuditProducts, Prints}
 use Rattle.drain_cli.specs.OpenedInputs.{ForOpened, UsesOpened}
-use Rattle.drain_answer.specs.Lines.{refusal_line}
-use Rattle.drain_maker.specs.Derived.{AreDerivedIn, IsDeriveRefusalIn, reading_in}
-use Rattle.drain_maker.specs.declared.derivation.DeriveRefusal.TheVariants.{Refused, NoEnd}
+use Rattle.drain_cli.specs.JudgedRuns.{outcome_status}
+use Rattle.drain_maker.specs.Derived.{AreDerivedIn, IsDeriveRefusalIn, outcome_for, reading_in}
 use Rattle.drain_grid.specs.declared.product.Product.TheVariants.{Con}
 use Rattle.drain_verdict.specs.Stages.{IsLayoutOf}
 use Rattle.drain_verdict.specs.Given.{plain}
 use Rattle.drain_verdict.specs.Inputs.{Products}
 use Rattle.drain_cli.specs.MadeSets.{written_line}
-use Rattle.drain_answer.specs.declared.outcome.Status.TheVariants.{Rejected}
 
 -- the line for the result of writing: derived rows=R cols=C
 abbrev pub derived_line : Extent → Result (Unit {0}) SetFault → List ℕ
 derived_line = written_line (codes "derived rows=")
-
--- a refusal of con's header, which is dir's, names dir
-abbrev pub told_of_dir : Refusal → Refusal
-told_of_dir (BadHeader Con fault) = BadHeader Dir fault
-told_of_dir (WrongShape Con) = WrongShape Dir
-told_of_dir (Misplaced Con) = Misplaced Dir
-told_of_dir refusal = refusal
-
--- the line that says why nothing was derived
-abbrev pub none_line : DeriveRefusal → List ℕ
-none_line (Refused refusal) = refusal_line (told_of_dir refusal)
-none_line (NoEnd row col) = no_end_line row col
-
--- its status: rejected if a path doesn't end, else that of the refusal
-abbrev pub none_status : DeriveRefusal → Status
-none_status (Refused refusal) = refusal_status refusal
-none_status (NoEnd row col) = Rejected
 
 -- what follows from directions on the ground that is judged, or the first reason why nothing does; they are read as by an
 -- audit
@@ -44,7 +25,7 @@ pub record IsDerivation {F R : Type 0} (For : Products R → (GroundSet → Type
 -- what was derived is returned, and nothing printed; or the reason is printed, and its status returned
 abbrev pub IsSetHandedOver : {F W : Type 0} → Sink W → W → W → Result (F × Derived) DeriveRefusal → Result (F × Derived) ℕ → Type 0
 IsSetHandedOver sink old new (Ok set) result = (result ≡ Ok set) × (new ≡ old)
-IsSetHandedOver sink old new (Err why) result = (code : ℕ) × (result ≡ Err code) × Prints sink old new (none_line why) (none_status why) code
+IsSetHandedOver sink old new (Err why) result = (code : ℕ) × (result ≡ Err code) × Prints sink old new (outcome_report_line (outcome_for why)) (outcome_status (outcome_for why)) code
 
 -- what was derived on a mosaic, with con's header on it
 abbrev pub with_header : Result (Tiling × Derived) ℕ → Result (Fields × Derived) ℕ

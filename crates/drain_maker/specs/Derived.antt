@@ -10,6 +10,10 @@ use Rattle.drain_maker.specs.declared.derivation.DeriveRefusal.{DeriveRefusal}
 use Rattle.drain_maker.specs.declared.derivation.DeriveRefusal.TheVariants.{Refused, NoEnd}
 use Rattle.drain_paths.specs.Laws.{AreRouted}
 use Rattle.drain_paths.specs.declared.flow.CertifyRefusal.TheVariants as certify
+use Rattle.drain_answer.specs.declared.outcome.Outcome.{Outcome}
+use Rattle.drain_answer.specs.declared.outcome.Outcome.TheVariants as outcome
+use Rattle.drain_answer.specs.declared.refusal.Refusal.TheVariants.{BadHeader, WrongShape, Misplaced, RasterShort}
+use Rattle.drain_grid.specs.declared.product.Product.TheVariants.{Con, Dir}
 
 -- every run ends. At each data cell acc is the number of data cells that drain through it, bas the number of the outlet
 -- where its run ends, in row order from 1, and rnk the number of steps of its run; so labels are equal exactly where
@@ -111,3 +115,17 @@ abbrev pub DerivedByDirections : Type 0
 DerivedByDirections =
     (g h : Grid) (ps qs : Products) (acc bas rnk : Pixels) → g.extent ≡ h.extent → g.elevation ≡ h.elevation → ps.dir ≡ qs.dir →
     AreDerived g ps acc bas rnk → AreDerived h qs acc bas rnk
+
+-- Why nothing follows, as the answer of an audit.
+
+-- a refusal of con's raster, which is dir's, names dir
+abbrev pub naming_dir : Refusal → Refusal
+naming_dir (BadHeader Con fault) = BadHeader Dir fault
+naming_dir (WrongShape Con) = WrongShape Dir
+naming_dir (Misplaced Con) = Misplaced Dir
+naming_dir (RasterShort Con) = RasterShort Dir
+naming_dir refusal = refusal
+
+abbrev pub outcome_for : DeriveRefusal → Result Outcome Refusal
+outcome_for (Refused refusal) = Err (naming_dir refusal)
+outcome_for (NoEnd row col) = Ok (outcome.NoEnd row col)

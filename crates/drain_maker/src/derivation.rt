@@ -3,12 +3,12 @@
 ghost use Rattle.std.specs.Prelude.{◌≡◌, ◌*◌};
 ghost use Rattle.drain_maker.specs.Names.{length, IfOk, IfErr, OfFlows, ForSet, IsRefusalIn, as_five};
 ghost use Rattle.drain_paths.specs.Ways.{IsRankRefusal};
-ghost use Rattle.drain_maker.specs.Derived.{AreDerived, AreDerivedIn, AreCounts, HasFlowsIn, IsDeriveRefusalIn, IsFlowsRefusal, IsRefusalFor, reading_in};
+ghost use Rattle.drain_maker.specs.Derived.{AreDerived, AreDerivedIn, AreCounts, HasFlowsIn, IsDeriveRefusalIn, IsFlowsRefusal, IsRefusalFor, naming_dir, outcome_for, reading_in};
 ghost use Rattle.drain_verdict.specs.Given.{plain};
 ghost use Rattle.drain_verdict.specs.Uses.{UsesSet, set_devices};
 
 use crate::products::raster_of_counts;
-use drain_answer::Refusal;
+use drain_answer::{Outcome, Refusal};
 use drain_device::ByteSource;
 use drain_grid::{Judged, OutOfMemory, Product, Raster, Shape};
 use drain_paths::{CellFlows, CertifyRefusal, Flow, accumulate, count_steps, label_ended};
@@ -66,6 +66,34 @@ pub enum DeriveRefusal {
     /// The first data cell in row order whose path reaches no code 0.
     #[error("a path doesn't end")]
     NoEnd { row: u32, col: u32 },
+}
+
+impl DeriveRefusal {
+    /// The reason as the answer of an audit. A refusal names dir where it would name con, whose raster is dir's.
+    pub fn outcome(&self) -> Result<Outcome, Refusal>
+        ensures { result ≡ outcome_for self.now }
+    {
+        match self {
+            DeriveRefusal::Refused(refusal) => Err(naming_dir(*refusal)),
+            DeriveRefusal::NoEnd { row, col } => Ok(Outcome::NoEnd {
+                row: *row,
+                col: *col,
+            }),
+        }
+    }
+}
+
+/// The refusal, which names dir where it named con.
+fn naming_dir(refusal: Refusal) -> Refusal
+    ensures { result ≡ naming_dir refusal }
+{
+    match refusal {
+        Refusal::BadHeader(Product::Con, fault) => Refusal::BadHeader(Product::Dir, fault),
+        Refusal::WrongShape(Product::Con) => Refusal::WrongShape(Product::Dir),
+        Refusal::Misplaced(Product::Con) => Refusal::Misplaced(Product::Dir),
+        Refusal::RasterShort(Product::Con) => Refusal::RasterShort(Product::Dir),
+        refusal => refusal,
+    }
 }
 
 /// Accumulation, labels and ranks that follow from directions on a ground, with its frame: of tiles their layout, of one

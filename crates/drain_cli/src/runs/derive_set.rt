@@ -1,18 +1,17 @@
 //! What `derive` derives, and its files.
 
 ghost use Rattle.std.specs.Prelude.{◌≡◌};
-ghost use Rattle.drain_cli.specs.Names.{IfOk, length, DerivedFit, DERIVED_COUNT, no_end_line, ForSet};
-ghost use Rattle.drain_cli.specs.DerivedSets.{IsDerivedOn, IsDerivedRun, IsSetHandedOver, none_line, none_status, told_of_dir, with_header};
+ghost use Rattle.drain_cli.specs.Names.{IfOk, length, DerivedFit, DERIVED_COUNT, ForSet};
+ghost use Rattle.drain_cli.specs.DerivedSets.{IsDerivedOn, IsDerivedRun, IsSetHandedOver, with_header};
 ghost use Rattle.drain_cli.specs.OpenedInputs.{UsesGround};
 ghost use Rattle.drain_maker.specs.Derived.{AreCounts};
 ghost use Rattle.drain_verdict.specs.Given.{plain};
 
+use crate::answer::outcome_status;
 use crate::runs::run_explain::headers_of_four;
 use crate::runs::slips::{OtherShape, other_shape};
 use crate::runs::write_set::write_derived_and_place;
-use drain_answer::audit_report;
-use drain_answer::lines::{Line, refusal_line};
-use drain_answer::outcome::Status;
+use drain_answer::outcome_report;
 use drain_answer::print::print_line;
 use drain_args::requests::{DeriveArgs, Elevations, ProductArgs};
 use drain_device::{ByteSink, ByteSource};
@@ -29,7 +28,7 @@ use drain_maker::{DeriveRefusal, Derived, derive_on, product_header};
 use drain_mosaic::Layout;
 use drain_sets::DERIVED_FILES;
 use drain_verdict::ground::GroundInput;
-use drain_verdict::{AuditProducts, AuditVerdict, RasterInput, Refusal};
+use drain_verdict::{AuditProducts, RasterInput};
 use std::alloc::Global;
 
 /// Derives rasters of the directions in a folder, writes them into another, and returns the exit status. The files are
@@ -166,46 +165,9 @@ fn or_print<F, W: ByteSink>(
 {
     match derivation {
         Ok(set) => Ok(set),
-        Err(why) => Err(print_line(out, &line_of(&why), status_of(&why))),
-    }
-}
-
-/// The line that says why nothing was derived.
-fn line_of(why: &DeriveRefusal) -> Line
-    ensures { result.bytes ≡ none_line why.now }
-{
-    match why {
-        DeriveRefusal::Refused(refusal) => refusal_line(told_of_dir(*refusal)),
-        DeriveRefusal::NoEnd { row, col } => no_end_line(*row, *col),
-    }
-}
-
-/// The line of a cell whose path doesn't end, as in an audit.
-fn no_end_line(row: u32, col: u32) -> Line
-    ensures { result.bytes ≡ no_end_line row col }
-{
-    let answer: Result<AuditVerdict, Refusal> = Ok(AuditVerdict::NoEnd { row, col });
-    audit_report(&answer)
-}
-
-/// The refusal, which names dir where it named con.
-fn told_of_dir(refusal: Refusal) -> Refusal
-    ensures { result ≡ told_of_dir refusal }
-{
-    match refusal {
-        Refusal::BadHeader(Product::Con, fault) => Refusal::BadHeader(Product::Dir, fault),
-        Refusal::WrongShape(Product::Con) => Refusal::WrongShape(Product::Dir),
-        Refusal::Misplaced(Product::Con) => Refusal::Misplaced(Product::Dir),
-        refusal => refusal,
-    }
-}
-
-/// Its exit status.
-fn status_of(why: &DeriveRefusal) -> Status
-    ensures { result ≡ none_status why.now }
-{
-    match why {
-        DeriveRefusal::Refused(refusal) => Status::of_refusal(*refusal),
-        DeriveRefusal::NoEnd { .. } => Status::Rejected,
+        Err(why) => {
+            let outcome = why.outcome();
+            Err(print_line(out, &outcome_report(&outcome), outcome_status(&outcome)))
+        }
     }
 }
