@@ -1,7 +1,8 @@
 -- What the status of a merge says of the union.
 use Rattle.drain_cli.proofs.Names.{◌≡◌, ◌<◌, inl, inr, List, IfOk, IfErr, arith, IsUnionVerdict, UnionVerdict, Accepted, Rejected, status_code, WindowReport, IsMergeOutcome, MakeUnion, merge_status, UnionIsCorrect, UnionIsNotCorrect, verdict_status}
 use Rattle.std.proofs.Common.{Result, Ok, Err}
-use Rattle.drain_merge.specs.MapBoxes.{box_of, boxed, HasMapSinks, IsMapRefusal, IsMapVerdict}
+use Rattle.drain_merge.specs.BoxReports.{box_of}
+use Rattle.drain_merge.specs.MapBoxes.{HasMapSinks, IsMapRefusal, IsMapVerdict}
 use Rattle.drain_merge.specs.declared.map_merge.MapVerdict.{MapVerdict}
 use Rattle.drain_merge.specs.declared.merge_verdict.MergeRefusal.{MergeRefusal}
 use Rattle.drain_merge.specs.declared.merge_verdict.MergeRefusal.TheVariants.{NoReports, OtherSide, OtherGrid, OtherNoData, OtherSpacing, OutsideUnion, JudgesNothing, Overlap, LeftOut, SeamsDiffer, SinkLeftOut, SinkNotListed, OutOfMemory}
@@ -29,15 +30,15 @@ refused_above_1 (SinkLeftOut n) = omega arith
 refused_above_1 (SinkNotListed c) = omega arith
 refused_above_1 OutOfMemory = omega arith
 
-correct_if : (ws : List WindowReport) (v : UnionVerdict) → IsUnionVerdict (box_of ws).size (boxed ws) v → status_code (verdict_status v) ≡ 0 → UnionIsCorrect ws
+correct_if : (ws : List WindowReport) (v : UnionVerdict) → IsUnionVerdict (box_of ws) ws v → status_code (verdict_status v) ≡ 0 → UnionIsCorrect ws
 correct_if ws (Accepted counts) is zero = (is.nodata, is.one_nodata, λ window_of from u ps size are. ((is.means window_of from).exactly u ps size are).0 tt)
 correct_if ws (Rejected fault) is zero = absurd (omega (arith, zero))
 
-not_correct_if : (ws : List WindowReport) (v : UnionVerdict) → IsUnionVerdict (box_of ws).size (boxed ws) v → status_code (verdict_status v) ≡ 1 → UnionIsNotCorrect ws
+not_correct_if : (ws : List WindowReport) (v : UnionVerdict) → IsUnionVerdict (box_of ws) ws v → status_code (verdict_status v) ≡ 1 → UnionIsNotCorrect ws
 not_correct_if ws (Accepted counts) is one = absurd (omega (arith, one))
 not_correct_if ws (Rejected fault) is one = (is.nodata, is.one_nodata, λ window_of from u ps size are. ((is.means window_of from).exactly u ps size are).1)
 
-one_if : (ws : List WindowReport) (v : UnionVerdict) → IsUnionVerdict (box_of ws).size (boxed ws) v → status_code (verdict_status v) ≡ 0 → MakeUnion ws
+one_if : (ws : List WindowReport) (v : UnionVerdict) → IsUnionVerdict (box_of ws) ws v → status_code (verdict_status v) ≡ 0 → MakeUnion ws
 one_if ws (Accepted counts) is zero = λ window_of from.
     elim ((is.means window_of from).one_union) [ inl some ↦ absurd (is.none tt some) | inr union ↦ union ]
 one_if ws (Rejected fault) is zero = absurd (omega (arith, zero))

@@ -8,12 +8,13 @@ use Rattle.drain_grid.specs.Correct.{IsCorrect}
 use Rattle.drain_grid.specs.Grid.{Products}
 use Rattle.drain_grid.specs.Values.{NoDataNumbers}
 use Rattle.drain_grid.specs.declared.sink_text.SinkFault.TheVariants as list
-use Rattle.drain_merge.specs.MapBoxes.{box_of, boxed, HasMapSinks, IsMapRefusal, IsMapVerdict}
+use Rattle.drain_merge.specs.BoxReports.{box_of}
+use Rattle.drain_merge.specs.MapBoxes.{HasMapSinks, IsMapRefusal, IsMapVerdict}
 use Rattle.drain_merge.specs.Merges.{HaveNoData}
 use Rattle.drain_merge.specs.declared.merge_verdict.MergeRefusal.TheVariants.{OutOfMemory}
 use Rattle.drain_merge.specs.declared.totals.UnionSinks.{UnionSinks}
 use Rattle.drain_answer.specs.declared.outcome.Status.TheVariants as status
-use Rattle.drain_union.specs.Windows.{Window, AreWindowsOf}
+use Rattle.drain_union.specs.Windows.{Window, AreWindowsFrom}
 
 -- the verdict on the union, which has these sinks unless a window is rejected; or the first refusal
 abbrev pub IsMergeOutcome : UnionSinks → List WindowReport → Result MapVerdict MergeRefusal → Type 0
@@ -33,9 +34,9 @@ merge_status (Err refusal) = refused_status refusal
 -- this holds of the products of each union whose windows are reported, with the no-data numbers of the reports
 abbrev pub OfUnion : List WindowReport → (NoDataNumbers → Grid → Products → Type 0) → Type 0
 OfUnion windows Fact =
-    (nodata : NoDataNumbers) × HaveNoData nodata (boxed windows)
-    × ((window_of : Report → Window) → AreJudgedFrom window_of (boxed windows) → (u : Grid) (ps : Products) →
-    u.extent ≡ (box_of windows).size → AreWindowsOf u ps (windows_of window_of (boxed windows)) → Fact nodata u ps)
+    (nodata : NoDataNumbers) × HaveNoData nodata windows
+    × ((window_of : Report → Window) → AreJudgedFrom window_of windows → (u : Grid) (ps : Products) →
+    u.extent ≡ (box_of windows).size → AreWindowsFrom (box_of windows).origin u ps (windows_of window_of windows) → Fact nodata u ps)
 
 -- they are correct
 abbrev pub UnionIsCorrect : List WindowReport → Type 0
@@ -48,8 +49,8 @@ UnionIsNotCorrect windows = OfUnion windows (λ nodata u ps. ¬ IsCorrect u ps n
 -- whatever windows the reports are of, there is a union of which they are the windows
 abbrev pub MakeUnion : List WindowReport → Type 0
 MakeUnion windows =
-    (window_of : Report → Window) → AreJudgedFrom window_of (boxed windows) →
-    (u : Grid) × (ps : Products) × (u.extent ≡ (box_of windows).size) × AreWindowsOf u ps (windows_of window_of (boxed windows))
+    (window_of : Report → Window) → AreJudgedFrom window_of windows →
+    (u : Grid) × (ps : Products) × (u.extent ≡ (box_of windows).size) × AreWindowsFrom (box_of windows).origin u ps (windows_of window_of windows)
 
 -- the line of a fault of the union's list of sinks
 abbrev pub list_line : SinkFault → List ℕ

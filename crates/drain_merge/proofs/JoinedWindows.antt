@@ -1,8 +1,8 @@
 -- Windows that fill the smallest box that holds them: where the box lies in each union of which they are windows, and that
 -- the report that theirs make is of what the union shows there.
-use Rattle.drain_merge.proofs.Names.{◌≡◌, ◌↔◌, ℕ, ◌+◌, ◌-◌, ◌^◌, ◌<◌, ◌≤◌, min, max, ◌⊎◌, inl, inr, Bool, List, [], ◌∷◌, length, slice_index_or, map, fold, IsTrue, refl, sym, ap, subst, ◌∙◌, arith, Contains, cases_Bool, false_from_ne_true, false≢true, All-contains, Contains-get_or, Cell, Grid, Products, NoDataNumbers, cases, less_number, Place, SEAM_DEPTH, WindowReport, UnionVerdict, Accepted, Rejected, FillPlace, IsJoined, LiesInBox, shown_at, is_accepted, IsReportOf, Report, AreWindowsFrom, in_union, IsFrom, IsPlaceIn, JudgesSome, place_from, RulesHoldInside, Window, from_inside, join_is_report, to_map, IsJoin, greatest_by, least_by, left_of, top_of, places_of, reports_of, AreJudgedFrom, IsVerdictInside, windows_of, North, South, West, East}
+use Rattle.drain_merge.proofs.Names.{◌≡◌, ◌↔◌, ℕ, ◌+◌, ◌-◌, ◌^◌, ◌<◌, ◌≤◌, min, max, ◌⊎◌, inl, inr, Bool, List, [], ◌∷◌, slice_index_or, map, fold, IsTrue, refl, sym, ap, subst, ◌∙◌, arith, Contains, cases_Bool, false_from_ne_true, false≢true, All-contains, Contains-get_or, Cell, Grid, Products, NoDataNumbers, cases, less_number, Place, SEAM_DEPTH, WindowReport, UnionVerdict, Accepted, Rejected, FillPlace, IsJoined, LiesInBox, shown_at, is_accepted, IsReportOf, Report, AreWindowsFrom, in_union, IsFrom, IsPlaceIn, JudgesSome, place_from, RulesHoldInside, Window, from_inside, join_is_report, to_map, IsJoinUpTo, UnionBox, bottom_end, greatest_by, least_by, left_of, right_end, top_of, places_of, reports_of, AreJudgedFrom, IsVerdictInside, windows_of, North, South, West, East}
 use Rattle.drain_union.proofs.FilledPlaces.{fill_by_edges, inside}
-use Rattle.drain_merge.proofs.JudgedWindows.{at_places, from_reports, to_window}
+use Rattle.drain_merge.proofs.JudgedWindows.{at_places, from_reports, some_window, to_window}
 use Rattle.drain_merge.proofs.SortedSeams.{first_one, later_one, same_places}
 
 -- the least and the greatest number are that of some window, unless they are the one to begin with
@@ -27,33 +27,29 @@ greatest_is f m (v ∷ ws) =
     ]
 
 -- along one direction: the box begins where some window does, and ends where some window does, at a number of 32 bits
-module _ (start size : WindowReport → ℕ) (ws : List WindowReport) (from count : ℕ) (first : from ≡ least_by start ws)
-    (last : count ≡ min (greatest_by (λ w. start w + size w) ws) (2 ^ 32 - 1) - least_by start ws)
+module _ (last : ℕ) (most_last : last ≤ 2 ^ 32) (start size : WindowReport → ℕ) (ws : List WindowReport) (from count : ℕ) (first : from ≡ least_by start ws)
+    (till : count ≡ min (min (greatest_by (λ w. start w + size w) ws) last - least_by start ws) (2 ^ 32 - 1))
     (within : (w : WindowReport) → Contains ws w → (from ≤ start w) × (start w + size w ≤ from + count)) (w : WindowReport) (has : Contains ws w)
     (some : 0 < size w) where
   some_count : 0 < count
   some_count = omega (arith, (within w has).0, (within w has).1, some)
 
-  short : from + count < 2 ^ 32
-  short = omega (arith, some_count, first, last)
+  short : (from + count ≤ 2 ^ 32) × (count < 2 ^ 32)
+  short = (omega (arith, some_count, first, till, most_last), omega (arith, till))
 
   starts : (v : WindowReport) × Contains ws v × (start v ≡ from)
   starts =
       elim (least_is start (2 ^ 32 - 1) ws) [
-        | inl none ↦ absurd (omega (arith, none, some_count, last))
+        | inl none ↦ (w, has, omega (arith, none, first, (within w has).0, (within w has).1, some, short.0))
         | inr found ↦ (found.0, found.1, found.2 ∙ sym first)
       ]
 
   ends : (v : WindowReport) × Contains ws v × (start v + size v ≡ from + count)
   ends =
       elim (greatest_is (λ v. start v + size v) 0 ws) [
-        | inl none ↦ absurd (omega (arith, none, some_count, last))
-        | inr found ↦ (found.0, found.1, omega (arith, found.2, (within found.0 found.1).1, some_count, first, last))
+        | inl none ↦ absurd (omega (arith, none, some_count, till))
+        | inr found ↦ (found.0, found.1, omega (arith, found.2, (within found.0 found.1).1, some_count, first, till))
       ]
-
-some_window : (ws : List WindowReport) → 0 < length ws → (w : WindowReport) × Contains ws w
-some_window [] some = absurd (omega arith)
-some_window (w ∷ ws) some = (w, first_one w ws)
 
 -- the report says that the rules hold exactly where the verdict accepts
 agrees : (n : NoDataNumbers) (w : Window) (v : UnionVerdict) (b : Bool) → (IsTrue b ↔ RulesHoldInside n w) → IsVerdictInside n w v → b ≡ is_accepted v
@@ -61,7 +57,7 @@ agrees n w (Accepted counts) b tells inside = tells.1 inside.0
 agrees n w (Rejected fault) b tells inside =
     false_from_ne_true b (λ is. inside.fails (tells.0 is fault.cell fault.rule inside.judged inside.is_own))
 
-module _ (ws : List WindowReport) (j : WindowReport) (is : IsJoin ws j) where
+module _ (last : ℕ) (most_last : last ≤ 2 ^ 32) (ws : List WindowReport) (j : WindowReport) (is : IsJoinUpTo last ws j) where
   abbrev box : Place
   box = j.report.place
 
@@ -80,24 +76,42 @@ module _ (ws : List WindowReport) (j : WindowReport) (is : IsJoin ws j) where
   in_cols : (w : WindowReport) → Contains ws w → (box.left ≤ left_of w) × (left_of w + w.report.place.extent.cols ≤ box.left + box.extent.cols)
   in_cols w has = ((lies w has).cols_from, (lies w has).cols_to)
 
+  abbrev rows : WindowReport → ℕ
+  rows w = w.report.place.extent.rows
+
+  abbrev cols : WindowReport → ℕ
+  cols w = w.report.place.extent.cols
+
+  top : box.top ≡ least_by top_of ws
+  top = ap (λ (b : UnionBox). b.origin.row) is.box.bounds
+
+  left : box.left ≡ least_by left_of ws
+  left = ap (λ (b : UnionBox). b.origin.col) is.box.bounds
+
+  rows_till : box.extent.rows ≡ min (min (greatest_by bottom_end ws) last - least_by top_of ws) (2 ^ 32 - 1)
+  rows_till = ap (λ (b : UnionBox). b.size.rows) is.box.bounds
+
+  cols_till : box.extent.cols ≡ min (min (greatest_by right_end ws) last - least_by left_of ws) (2 ^ 32 - 1)
+  cols_till = ap (λ (b : UnionBox). b.size.cols) is.box.bounds
+
   row_starts : (v : WindowReport) × Contains ws v × (v.report.place.top ≡ box.top)
-  row_starts = starts top_of (λ w. w.report.place.extent.rows) ws box.top box.extent.rows is.box.top is.box.rows in_rows one.0 one.1 (omega (arith, one_judges.1.inside.row))
+  row_starts = starts last most_last top_of rows ws box.top box.extent.rows top rows_till in_rows one.0 one.1 (omega (arith, one_judges.1.inside.row))
 
   row_ends : (v : WindowReport) × Contains ws v × (v.report.place.top + v.report.place.extent.rows ≡ box.top + box.extent.rows)
-  row_ends = ends top_of (λ w. w.report.place.extent.rows) ws box.top box.extent.rows is.box.top is.box.rows in_rows one.0 one.1 (omega (arith, one_judges.1.inside.row))
+  row_ends = ends last most_last top_of rows ws box.top box.extent.rows top rows_till in_rows one.0 one.1 (omega (arith, one_judges.1.inside.row))
 
   col_starts : (v : WindowReport) × Contains ws v × (v.report.place.left ≡ box.left)
-  col_starts = starts left_of (λ w. w.report.place.extent.cols) ws box.left box.extent.cols is.box.left is.box.cols in_cols one.0 one.1 (omega (arith, one_judges.1.inside.col))
+  col_starts = starts last most_last left_of cols ws box.left box.extent.cols left cols_till in_cols one.0 one.1 (omega (arith, one_judges.1.inside.col))
 
   col_ends : (v : WindowReport) × Contains ws v × (v.report.place.left + v.report.place.extent.cols ≡ box.left + box.extent.cols)
-  col_ends = ends left_of (λ w. w.report.place.extent.cols) ws box.left box.extent.cols is.box.left is.box.cols in_cols one.0 one.1 (omega (arith, one_judges.1.inside.col))
+  col_ends = ends last most_last left_of cols ws box.left box.extent.cols left cols_till in_cols one.0 one.1 (omega (arith, one_judges.1.inside.col))
 
   -- rows and columns are numbers of 32 bits
-  pub short_rows : box.top + box.extent.rows < 2 ^ 32
-  short_rows = short top_of (λ w. w.report.place.extent.rows) ws box.top box.extent.rows is.box.top is.box.rows in_rows one.0 one.1 (omega (arith, one_judges.1.inside.row))
+  pub short_rows : (box.top + box.extent.rows ≤ 2 ^ 32) × (box.extent.rows < 2 ^ 32)
+  short_rows = short last most_last top_of rows ws box.top box.extent.rows top rows_till in_rows one.0 one.1 (omega (arith, one_judges.1.inside.row))
 
-  pub short_cols : box.left + box.extent.cols < 2 ^ 32
-  short_cols = short left_of (λ w. w.report.place.extent.cols) ws box.left box.extent.cols is.box.left is.box.cols in_cols one.0 one.1 (omega (arith, one_judges.1.inside.col))
+  pub short_cols : (box.left + box.extent.cols ≤ 2 ^ 32) × (box.extent.cols < 2 ^ 32)
+  short_cols = short last most_last left_of cols ws box.left box.extent.cols left cols_till in_cols one.0 one.1 (omega (arith, one_judges.1.inside.col))
 
   -- the box begins where the first windows do
   pub begins : (origin : Cell) → IsFrom origin box ↔ ((w : WindowReport) → Contains ws w → IsFrom origin w.report.place)

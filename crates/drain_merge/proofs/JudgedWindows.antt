@@ -1,5 +1,5 @@
 -- What is reported of windows says where they lie, whether the rules hold in them, and what they count.
-use Rattle.drain_merge.proofs.Names.{◌≡◌, ℕ, ◌+◌, ◌-◌, ◌^◌, ◌<◌, min, zero, suc, ◌⊎◌, inl, inr, Option, Some, None, List, [], ◌∷◌, length, slice_index_or, map, IsTrue, refl, sym, ap, subst, ◌∙◌, arith, All, AllPairs, Contains, sum_by, get_or-map, length-map, All-contains, Contains-get_or, Cell, IsCellOf, IsEarlierPair, NoDataNumbers, place, none_some, same_some, Place, SEAM_DEPTH, WindowReport, Fault, UnionVerdict, Accepted, Rejected, LiesInBox, judged_data, judged_raised, judged_outlets, OverlapInSeams, Report, ShowTheSame, BothJudgeOne, in_union, IsFirstInside, IsNotBefore, JudgesSome, RulesHoldInside, Window, apart_in_box, listed_same, sum_by_map, from_map, to_map, HaveNoData, all_seams, places_of, reports_of, cell_there, fault_in, IsFirstOfFaults, union_fault, data_cells_in, data_cells_of, outlets_in, outlets_of, raised_in, raised_of, AreJudgedFrom, IsRejected, IsVerdictInside, SomeIsRejected, windows_of}
+use Rattle.drain_merge.proofs.Names.{◌≡◌, ℕ, ◌+◌, ◌-◌, ◌^◌, ◌<◌, ◌≤◌, min, zero, suc, ◌⊎◌, inl, inr, Option, Some, None, List, [], ◌∷◌, length, slice_index_or, map, IsTrue, refl, sym, ap, subst, ◌∙◌, arith, All, AllPairs, Contains, sum_by, get_or-map, length-map, All-contains, Contains-get_or, Cell, IsCellOf, IsEarlierPair, NoDataNumbers, place, none_some, same_some, Place, SEAM_DEPTH, WindowReport, Fault, UnionVerdict, Accepted, Rejected, LiesInBox, judged_data, judged_raised, judged_outlets, OverlapInSeams, Report, ShowTheSame, BothJudgeOne, in_union, IsFirstInside, IsNotBefore, JudgesSome, RulesHoldInside, Window, apart_in_box, listed_same, sum_by_map, from_map, to_map, HaveNoData, all_seams, places_of, reports_of, cell_there, fault_in, IsFirstOfFaults, union_fault, data_cells_in, data_cells_of, outlets_in, outlets_of, raised_in, raised_of, AreJudgedFrom, IsRejected, IsVerdictInside, SomeIsRejected, windows_of}
 use Rattle.drain_merge.proofs.SortedSeams.{first_one, in_flat, later_one}
 
 -- what holds of what any two of a list are mapped to holds of any two of the mapped list, and the other way round
@@ -15,6 +15,11 @@ pairs_back f R xs all i j d before below =
     let long : length (map f xs) ≡ length xs = length-map xs f in
     subst (λ a. R a (f (slice_index_or xs j d))) (get_or-map f xs i d (f d) (omega arith))
     (subst (R (slice_index_or (map f xs) i (f d))) (get_or-map f xs j d (f d) below) (all i j (f d) before (omega arith)))
+
+-- a list that isn't empty has a window
+pub some_window : (ws : List WindowReport) → 0 < length ws → (w : WindowReport) × Contains ws w
+some_window [] some = absurd (omega arith)
+some_window (w ∷ ws) some = (w, first_one w ws)
 
 -- an element of the reports is a window's
 pub from_reports : (ws : List WindowReport) (r : Report) → Contains (reports_of ws) r → (j : WindowReport) × Contains ws j × (j.report ≡ r)
@@ -60,7 +65,7 @@ holds_inside n w p (Accepted counts) is inside = inside.0
 holds_inside n w p (Rejected fault) is inside = absurd (none_some _ (sym is))
 
 -- the cell that a report names is the union's, where its place ends at numbers of 32 bits
-pub there_is : (p : Place) (c : Cell) → p.top + p.extent.rows < 2 ^ 32 → p.left + p.extent.cols < 2 ^ 32 → IsCellOf p.extent c → cell_there p c ≡ in_union p c
+pub there_is : (p : Place) (c : Cell) → p.top + p.extent.rows ≤ 2 ^ 32 → p.left + p.extent.cols ≤ 2 ^ 32 → IsCellOf p.extent c → cell_there p c ≡ in_union p c
 there_is p c short_rows short_cols inside =
     let in_row : c.row < p.extent.rows = inside.row in
     let in_col : c.col < p.extent.cols = inside.col in

@@ -1,8 +1,10 @@
 -- What is made of windows that fill a box is the report of a join.
-use Rattle.drain_merge.proofs.Names.{◌≡◌, ◌⊎◌, inl, inr, ◌+◌, ◌-◌, true, IsTrue, None, List, slice_index_or, refl, sym, ap, subst, ◌∙◌, arith, All, Contains, false≢true, All-contains, Cell, NoDataNumbers, none_some, HoldsOuterSeams, IsJoined, Agree, is_accepted, Report, ShowTheSame, SpacedAlike, spacing_at, Place, SEAM_DEPTH, Outlet, WindowReport, UnionVerdict, Accepted, Rejected, from_map, to_map, IsJoin, IsJoinedVerdict, IsJoinOver, IsSmallestBox, HaveGrid, FillBox, HaveNoData, HaveOneNoData, HaveOneSpacing, all_seams, places_of, reports_of, fault_in, SomeIsRejected}
+use Rattle.drain_merge.proofs.Names.{◌≡◌, ◌⊎◌, ℕ, ◌^◌, inl, inr, ◌+◌, ◌-◌, true, IsTrue, None, List, refl, sym, ap, subst, ◌∙◌, arith, All, Contains, false≢true, All-contains, Cell, NoDataNumbers, none_some, HoldsOuterSeams, IsJoined, Agree, is_accepted, Report, ShowTheSame, SpacedAlike, spacing_at, Place, SEAM_DEPTH, Outlet, WindowReport, UnionVerdict, Accepted, Rejected, from_map, to_map, IsJoinUpTo, IsJoinedVerdict, IsJoinOver, IsSmallestBox, box_of, whole_box, HaveGrid, FillBox, HaveNoData, all_seams, places_of, reports_of, fault_in, SomeIsRejected}
 use Rattle.drain_union.specs.declared.union_grid.UnionGrid.{UnionGrid}
-use Rattle.drain_merge.proofs.JudgedWindows.{from_reports, some_rejected}
+use Rattle.drain_merge.specs.MapBoxes.{IsWholeJoin}
+use Rattle.drain_merge.proofs.JudgedWindows.{from_reports, some_rejected, some_window}
 use Rattle.drain_merge.proofs.SortedSeams.{from_flat, in_flat}
+use Rattle.drain_merge.proofs.WholeBoxes.{whole_is_smallest}
 
 -- an accepted verdict has no fault, and a verdict without one is accepted
 accepted_if : (p : Place) (v : UnionVerdict) → fault_in p v ≡ None → is_accepted v ≡ true
@@ -88,17 +90,22 @@ module _ (p : Place) (ws : List WindowReport) (j : WindowReport) (over : IsJoinO
   agree_or_rejected (Accepted counts) same is = inr (over.lists (over.holds ∙ ap is_accepted (sym same))).agree
   agree_or_rejected (Rejected fault) same is = inl (some_rejected ws _ is)
 
-  pub made_join : IsSmallestBox ws p → FillBox p (places_of ws) → HaveOneSpacing ws → HaveOneNoData ws →
-      ((d : WindowReport) → HaveGrid (slice_index_or ws 0 d).grid ws) → IsJoin ws j
-  made_join smallest fills one one_nodata grids = record {
+  pub made_join : (last : ℕ) → IsSmallestBox last ws p → IsJoinUpTo last ws j
+  made_join last smallest = record {
     some = over.some;
-    one_grid = subst (λ (g : UnionGrid). HaveGrid g ws) (sym (over.grid j)) (grids j);
-    one_nodata = subst (λ (n : NoDataNumbers). HaveNoData n ws) (sym (over.nodata j ∙ one_nodata.1 0 j over.some)) one_nodata.1;
-    spaced = one;
-    box = subst (IsSmallestBox ws) (sym over.place) smallest;
-    fills = subst (λ (box : Place). FillBox box (places_of ws)) (sym over.place) fills;
+    one_grid = subst (λ (g : UnionGrid). HaveGrid g ws) (sym (over.grid j)) (over.make.alike.grid j);
+    one_nodata = subst (λ (n : NoDataNumbers). HaveNoData n ws) (sym (over.nodata j ∙ over.make.alike.nodata.1 0 j over.some)) over.make.alike.nodata.1;
+    spaced = over.make.alike.spaced;
+    box = subst (IsSmallestBox last ws) (sym over.place) smallest;
+    fills = subst (λ (box : Place). FillBox box (places_of ws)) (sym over.place) over.make.fills;
     agree = agree_or_rejected j.verdict refl over.verdict;
     made = λ agree. joined p ws j over agree;
     holds = over.holds;
     verdict = subst (λ (box : Place). IsJoinedVerdict box ws j.verdict) (sym over.place) over.verdict;
   }
+
+-- of a box without an inner side too
+pub whole_join : (ws : List WindowReport) (j : WindowReport) → IsWholeJoin ws j → IsJoinUpTo (2 ^ 32) ws j
+whole_join ws j over =
+    let one = some_window ws over.some in
+    made_join (whole_box (box_of ws)) ws j over (2 ^ 32) (whole_is_smallest (box_of ws) ws over.make.fills one.0 one.1 (2 ^ 32) refl)

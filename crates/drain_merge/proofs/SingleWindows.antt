@@ -1,18 +1,18 @@
 -- The report of a window stands for itself: what a union shows at its place is what the window shows.
-use Rattle.drain_merge.proofs.Names.{◌≡◌, ℕ, zero, suc, inl, inr, List, [], ◌∷◌, IsTrue, refl, sym, ap, subst, ◌∙◌, arith, Contains, sum_by, sum_by-cons, Contains-get_or, Cell, Rule, Grid, Products, IsEarlierPair, earlier_differs, Place, SEAM_DEPTH, Outlet, WindowReport, UnionVerdict, Accepted, Rejected, judged_data, judged_outlets, judged_raised, FillPlace, IsJoined, IsOuter, shown_at, IsReportOf, Report, SpacedAlike, spacing_at, AreWindowsFrom, in_union, IsFirstInside, IsFrom, IsJudgedIn, IsNotBefore, IsPlaceIn, IsWindowOf, JudgesSome, place_from, Window, window_from, join_adds_up, join_tells_fault, join_is_report, one_cell, WindowStands, IsJudgedFrom, IsVerdictInside}
+use Rattle.drain_merge.proofs.Names.{◌≡◌, ℕ, zero, suc, inl, inr, List, [], ◌∷◌, IsTrue, refl, sym, ap, subst, ◌∙◌, arith, Contains, sum_by, sum_by-cons, Contains-get_or, Cell, Rule, Grid, Products, IsEarlierPair, earlier_differs, Place, SEAM_DEPTH, Outlet, WindowReport, UnionVerdict, Accepted, Rejected, judged_data, judged_outlets, judged_raised, FillPlace, IsJoined, IsOuter, shown_at, IsReportOf, Report, SpacedAlike, spacing_at, AreWindowsFrom, in_union, IsFirstInside, IsFrom, IsJudgedIn, IsNotBefore, IsPlaceIn, IsWindowOf, JudgesSome, place_from, Window, window_from, join_adds_up, join_tells_fault, join_is_report, one_cell, WindowStands, IsJudgedFrom, IsRejected, IsVerdictInside}
 use Rattle.drain_merge.proofs.SortedSeams.{first_one}
 
 -- the one element of a list
-only_one : {X : Type 0} (x y : X) → Contains (x ∷ []) y → x ≡ y
+pub only_one : {X : Type 0} (x y : X) → Contains (x ∷ []) y → x ≡ y
 only_one x y (zero, below, is) = is
 only_one x y (suc k, below, is) = absurd (omega (arith, below))
 
 -- no pair comes before itself
-not_itself : (c : Cell) (r : Rule) → ¬ IsEarlierPair c r c r
+pub not_itself : (c : Cell) (r : Rule) → ¬ IsEarlierPair c r c r
 not_itself c r (inl before) = earlier_differs c c before refl
 not_itself c r (inr alike) = omega (arith, alike.1)
 
-sum_of_one : {X : Type 0} (f : X → ℕ) (x : X) → f x ≡ sum_by f (x ∷ [])
+pub sum_of_one : {X : Type 0} (f : X → ℕ) (x : X) → f x ≡ sum_by f (x ∷ [])
 sum_of_one f x = omega (arith, sum_by-cons f x [])
 
 -- a place fills itself
@@ -94,7 +94,10 @@ window_stands j some = record {
     (λ all. all j (first_one j [])),
   );
   nodata = λ i d below. ap (λ (x : WindowReport). x.report.nodata) (sym (only_one j _ (Contains-get_or (j ∷ []) i d below)));
-  rejected = λ rejected. (j, first_one j [], rejected);
+  rejected = (
+    (λ rejected. (j, first_one j [], rejected)),
+    (λ some. subst (λ (w : WindowReport). IsRejected w.verdict) (sym (only_one j some.0 some.1)) some.2),
+  );
   of_box = λ origin window_of judged u ps from are.
       (let is = judged j (first_one j []) in (
         record {

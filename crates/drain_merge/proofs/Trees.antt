@@ -1,19 +1,26 @@
 -- A report that joins windows stands for theirs, and so does one that joins such reports.
-use Rattle.drain_merge.proofs.Names.{◌≡◌, ◌↔◌, inl, inr, None, List, slice_index_or, IsTrue, subst, ◌∙◌, Contains, All-contains, Contains-get_or, Cell, Grid, Products, NoDataNumbers, Place, SEAM_DEPTH, WindowReport, UnionVerdict, Accepted, Rejected, IsGroup, LiesInBox, shown_at, Report, ShowTheSame, SpacedAlike, AreWindowsFrom, IsFrom, IsWindowOf, Window, window_from, are_windows, corner, from_corner, own_shown, own_window, from_map, IsJoin, IsJoinedVerdict, IsOfBox, HaveNoData, all_seams, reports_of, IsFirstOfFaults, all_behind, EachStandsFor, JoinsStandForAll, JoinStands, StandsFor, AreJudgedFrom, IsJudgedFrom, IsRejected, SomeIsRejected, windows_of}
+use Rattle.drain_merge.proofs.Names.{◌≡◌, ◌↔◌, ℕ, ◌-◌, ◌^◌, ◌≤◌, arith, inl, inr, None, List, slice_index_or, IsTrue, subst, ◌∙◌, Contains, All-contains, Contains-get_or, Cell, Grid, Products, NoDataNumbers, Place, SEAM_DEPTH, WindowReport, UnionVerdict, Accepted, Rejected, IsGroup, LiesInBox, shown_at, Report, ShowTheSame, SpacedAlike, AreWindowsFrom, IsFrom, IsWindowOf, Window, window_from, are_windows, corner, from_corner, own_shown, own_window, from_map, IsJoinUpTo, IsJoinedVerdict, IsOfBox, HaveNoData, all_seams, reports_of, IsFirstOfFaults, all_behind, EachStandsFor, JoinsStandForAll, JoinStands, MergeOfJoins, StandsFor, AreTaken, HasMapSinks, IsEnd, IsMapVerdict, IsWholeJoin, UnionSinks, box_at, box_of, ap, AreJudgedFrom, IsJudgedFrom, IsRejected, SomeIsRejected, windows_of}
 use Rattle.drain_union.proofs.SeenWindows.{grid_at, products_at, window_at_box}
+use Rattle.drain_merge.specs.declared.map_merge.MapVerdict.{MapVerdict}
 use Rattle.drain_merge.proofs.JoinedVerdicts.{join_of_box}
 use Rattle.drain_merge.proofs.JoinedWindows as joined
 use Rattle.drain_merge.proofs.JudgedWindows.{agree, faulty, from_window, overlaps, pairs_map, says_so, some_or_none, some_rejected, to_window}
+use Rattle.drain_merge.proofs.MadeJoins.{whole_join}
 use Rattle.drain_merge.proofs.SortedSeams.{from_flat, in_flat}
+use Rattle.drain_merge.proofs.WholeUnions.{union_sinks, union_verdict}
 
 -- A joined report stands for the windows.
 
--- it is rejected only if one of them is
+-- it is rejected exactly if one of them is
 rejected_for : (p : Place) (ws : List WindowReport) (v : UnionVerdict) → IsJoinedVerdict p ws v → IsRejected v → SomeIsRejected ws
 rejected_for p ws (Accepted counts) told never = absurd never
 rejected_for p ws (Rejected fault) told rejected = some_rejected ws _ told
 
-module _ (ws : List WindowReport) (j : WindowReport) (is : IsJoin ws j) (none : IsFirstOfFaults ws None) (window_of : Report → Window)
+rejected_with : (p : Place) (ws : List WindowReport) (v : UnionVerdict) → IsJoinedVerdict p ws v → SomeIsRejected ws → IsRejected v
+rejected_with p ws (Accepted counts) told some = absurd (faulty some.0.report.place some.0.verdict some.2 (told.0 some.0 some.1))
+rejected_with p ws (Rejected fault) told some = tt
+
+module _ (last : ℕ) (most_last : last ≤ 2 ^ 32) (ws : List WindowReport) (j : WindowReport) (is : IsJoinUpTo last ws j) (none : IsFirstOfFaults ws None) (window_of : Report → Window)
     (judged : AreJudgedFrom window_of ws) where
   abbrev box : Place
   box = j.report.place
@@ -33,18 +40,18 @@ module _ (ws : List WindowReport) (j : WindowReport) (is : IsJoin ws j) (none : 
   group = record {
     lie = λ r has.
         (let w = from_map (λ (x : WindowReport). x.report) ws r has in
-        subst (λ (q : Report). LiesInBox box q.place) w.2 (joined.lies ws j is w.0 w.1));
-    one_nodata = joined.one_nodata ws j is;
+        subst (λ (q : Report). LiesInBox box q.place) w.2 (joined.lies last most_last ws j is w.0 w.1));
+    one_nodata = joined.one_nodata last most_last ws j is;
     spaced = pairs_map (λ (w : WindowReport). w.report) SpacedAlike ws is.spaced;
-    fills = joined.filled_by_reports ws j is;
-    overlaps = overlaps box ws (joined.lies ws j is) is.fills.some is.fills.apart;
+    fills = joined.filled_by_reports last most_last ws j is;
+    overlaps = overlaps box ws (joined.lies last most_last ws j is) is.fills.some is.fills.apart;
     agree = agree ws same;
-    made = joined.made ws j is window_of judged;
+    made = joined.made last most_last ws j is window_of judged;
   }
 
   theirs : (origin : Cell) (u : Grid) (ps : Products) → IsFrom origin box → IsWindowOf u ps (window_from origin (window_at_box box windows)) →
       AreWindowsFrom origin u ps windows
-  theirs = are_windows j.report.nodata (reports_of ws) window_of j.report (joined.of_windows ws j is window_of judged) holds group
+  theirs = are_windows j.report.nodata (reports_of ws) window_of j.report (joined.of_windows last most_last ws j is window_of judged) holds group
 
   -- it is of the window that theirs make, which is what that window shows of itself at the box
   of_one : IsJudgedFrom (window_at_box box windows) j
@@ -52,22 +59,26 @@ module _ (ws : List WindowReport) (j : WindowReport) (is : IsJoin ws j) (none : 
       let g = grid_at box windows in
       let ps = products_at box windows in
       subst (λ (w : Window). IsJudgedFrom w j) (own_shown box windows)
-      (join_of_box ws j is (corner box) window_of judged g ps (from_corner box) (theirs (corner box) g ps (from_corner box) (own_window box windows))).0
+      (join_of_box last most_last ws j is (corner box) window_of judged g ps (from_corner box) (theirs (corner box) g ps (from_corner box) (own_window box windows))).0
+
+pub box_stands : (last : ℕ) → last ≤ 2 ^ 32 → (ws : List WindowReport) (j : WindowReport) → IsJoinUpTo last ws j →
+    StandsFor ws (λ window_of. window_at_box j.report.place (windows_of window_of ws)) j
+box_stands last most_last ws j is = record {
+  begins = joined.begins last most_last ws j is;
+  nodata = is.one_nodata;
+  rejected = (
+    rejected_for j.report.place ws j.verdict is.verdict,
+    (λ some. rejected_with j.report.place ws j.verdict is.verdict some),
+  );
+  of_box = join_of_box last most_last ws j is;
+  one = elim (some_or_none ws) [
+    | inl some ↦ inl some
+    | inr none ↦ inr (λ window_of judged. (of_one last most_last ws j is none window_of judged, theirs last most_last ws j is none window_of judged))
+  ];
+}
 
 pub join_stands : JoinStands
-join_stands = (
-  window_at_box,
-  λ ws j is. record {
-    begins = joined.begins ws j is;
-    nodata = is.one_nodata;
-    rejected = rejected_for j.report.place ws j.verdict is.verdict;
-    of_box = join_of_box ws j is;
-    one = elim (some_or_none ws) [
-      | inl some ↦ inl some
-      | inr none ↦ inr (λ window_of judged. (of_one ws j is none window_of judged, theirs ws j is none window_of judged))
-    ];
-  },
-)
+join_stands = (window_at_box, λ ws j is. box_stands (2 ^ 32 - 1) (omega arith) ws j is)
 
 -- A report that stands for reports stands for all that these stand for.
 
@@ -101,7 +112,7 @@ module _ (joined : List WindowReport) (windows_behind : Place → List WindowRep
 
   pub rejected_behind : (j : WindowReport) → Contains joined j → IsRejected j.verdict → SomeIsRejected all
   rejected_behind j has rejected =
-      let some = (each j has).rejected rejected in
+      let some = (each j has).rejected.0 rejected in
       (some.0, among j has some.0 some.1, some.2)
 
   module _ (window_of : Report → Window) (judged : AreJudgedFrom window_of all) where
@@ -178,10 +189,36 @@ joins_stand_for_all joined windows_behind made each top made_top is = record {
   begins = all_begin joined windows_behind made each top made_top is;
   nodata = nodata_behind joined windows_behind made each top.report.nodata
       (λ j has. All-contains (λ (x : WindowReport). x.report.nodata ≡ top.report.nodata) joined j is.nodata has);
-  rejected = λ rejected. (let j = is.rejected rejected in rejected_behind joined windows_behind made each j.0 j.1 j.2);
+  rejected = (
+    (λ rejected. (let j = is.rejected.0 rejected in rejected_behind joined windows_behind made each j.0 j.1 j.2)),
+    (λ some.
+        (let j = from_all joined windows_behind made each some.0 some.1 in
+        is.rejected.1 (j.0, j.1, (each j.0 j.1).rejected.1 (some.0, j.2, some.2)))),
+  );
   of_box = all_of_box joined windows_behind made each top made_top is;
   one = elim (some_or_none (all_behind windows_behind joined)) [
     | inl some ↦ inl some
     | inr none ↦ inr (all_made joined windows_behind made each top made_top is none)
   ];
 }
+
+-- The verdict on a union from the report of all of it is one on all that this stands for: on its windows, and, where they are
+-- joined ones, on theirs.
+module _ (ws : List WindowReport) (whole : WindowReport) (over : IsWholeJoin ws whole) where
+  stands : StandsFor ws (λ window_of. window_at_box whole.report.place (windows_of window_of ws)) whole
+  stands = box_stands (2 ^ 32) (omega arith) ws whole (whole_join ws whole over)
+
+  pub map_verdict : (m : MapVerdict) → IsEnd whole m → IsMapVerdict ws m
+  map_verdict m end = record {
+    one_grid = over.make.alike.grid;
+    bounds = end.bounds ∙ ap box_at over.place;
+    verdict = union_verdict (box_of ws) ws _ whole over.place stands m.verdict end.verdict;
+  }
+
+  pub map_sinks : (sinks : UnionSinks) → AreTaken sinks whole → HasMapSinks sinks ws
+  map_sinks = union_sinks (box_of ws) ws _ whole over.place stands
+
+pub merge_of_joins : MergeOfJoins
+merge_of_joins joined windows_behind made each m (whole, over, end) =
+    union_verdict (box_of joined) (all_behind windows_behind joined) _ whole over.place
+    (joins_stand_for_all joined windows_behind made each whole _ (stands joined whole over)) m.verdict end.verdict

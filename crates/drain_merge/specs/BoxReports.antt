@@ -1,21 +1,67 @@
 -- The report that the reports of windows make of the smallest box that holds them. These definitions are this project's
 -- own.
 use Rattle.std.specs.Prelude.{◌≡◌, ◌↔◌, ◌⊎◌, ◌+◌, ◌-◌, ◌<◌, ◌≤◌, ◌^◌}
-use Rattle.drain_merge.specs.Names.{ℕ, min, IsTrue, Bool, false, List, [], Some, None, length, slice_index_or, All, Contains, Grid, Products, Cell, IsJoined, IsOuter, shown_at, Agree, IsSortedByLabel, Report, ShowTheSame, spacing_at, AreWindowsFrom, in_union, IsFrom, IsWindowOf, Window, window_from, Place, SEAM_DEPTH, WindowReport, Outlet, Shown, UnionVerdict, Accepted, Rejected}
+use Rattle.drain_merge.specs.Names.{ℕ, min, max, fold, IsTrue, Bool, false, List, None, Some, length, slice_index_or, All, Contains, Grid, Products, Cell, IsJoined, IsOuter, shown_at, Agree, IsSortedByLabel, Report, ShowTheSame, spacing_at, AreWindowsFrom, in_union, IsFrom, IsWindowOf, Window, window_from, Place, SEAM_DEPTH, WindowReport, Outlet, Shown, UnionVerdict, Accepted, Rejected}
 use Rattle.drain_grid.specs.Spacing.{Distances}
-use Rattle.drain_merge.specs.MapBoxes.{bottom_end, greatest_by, HaveGrid, IsGridRefusal, least_by, left_of, right_end, top_of}
-use Rattle.drain_merge.specs.Merges.{AreOfOneUnion, FillBox, HaveNoData, HaveOneNoData, HaveOneSpacing, IsNoDataRefusal, IsPlaceRefusal, IsSpacingRefusal}
+use Rattle.drain_merge.specs.Merges.{FillBox, HaveGrid, HaveNoData, HaveOneSpacing, IsBoxRefusal, MakeBox}
 use Rattle.drain_merge.specs.Places.{all_outlets, all_seams, all_sinks, places_of, reports_of}
 use Rattle.drain_merge.specs.Seams.{IsFirstDifference, IsFirstOfFaults}
 use Rattle.drain_merge.specs.Totals.{AreCountsOf}
 use Rattle.drain_merge.specs.UnionVerdicts.{AreJudgedFrom, IsJudgedFrom, SomeIsRejected, windows_of}
 use Rattle.drain_merge.specs.declared.all_lists.Lists.{Lists}
 use Rattle.drain_merge.specs.declared.merge_verdict.MergeRefusal.{MergeRefusal}
-use Rattle.drain_merge.specs.declared.merge_verdict.MergeRefusal.TheVariants.{NoReports, OtherSide, OtherGrid, OtherNoData, OtherSpacing, OutsideUnion, JudgesNothing, Overlap, LeftOut, SeamsDiffer, SinkLeftOut, SinkNotListed, OutOfMemory}
+use Rattle.drain_merge.specs.declared.merge_verdict.MergeRefusal.TheVariants.{SeamsDiffer, OutOfMemory}
 use Rattle.drain_merge.specs.declared.smallest_box.Side.{Side}
 use Rattle.drain_merge.specs.declared.smallest_box.Side.TheVariants.{North, South, West, East}
+use Rattle.drain_merge.specs.declared.smallest_box.UnionBox.{UnionBox}
 
 -- The smallest box that holds windows.
+
+-- the least and the greatest number that windows have
+abbrev pub least_by : (WindowReport → ℕ) → List WindowReport → ℕ
+least_by f windows = fold (λ m w. min m (f w)) (2 ^ 32 - 1) windows
+
+abbrev pub greatest_by : (WindowReport → ℕ) → List WindowReport → ℕ
+greatest_by f windows = fold (λ m w. max (f w) m) 0 windows
+
+abbrev pub top_of : WindowReport → ℕ
+top_of w = w.report.place.top
+
+abbrev pub left_of : WindowReport → ℕ
+left_of w = w.report.place.left
+
+-- one more than the last row and the last column
+abbrev pub bottom_end : WindowReport → ℕ
+bottom_end w = w.report.place.top + w.report.place.extent.rows
+
+abbrev pub right_end : WindowReport → ℕ
+right_end w = w.report.place.left + w.report.place.extent.cols
+
+-- the smallest box that holds the windows, up to this end of rows and columns
+abbrev pub box_within : ℕ → List WindowReport → UnionBox
+box_within last windows = record {
+  origin = record { row = least_by top_of windows; col = least_by left_of windows };
+  size = record {
+    rows = min (min (greatest_by bottom_end windows) last - least_by top_of windows) (2 ^ 32 - 1);
+    cols = min (min (greatest_by right_end windows) last - least_by left_of windows) (2 ^ 32 - 1);
+  };
+}
+
+-- up to the last row and column of 32 bits
+abbrev pub box_of : List WindowReport → UnionBox
+box_of windows = box_within (2 ^ 32) windows
+
+-- the box that lies here, and the place of a box without an inner side
+abbrev pub box_at : Place → UnionBox
+box_at p = record { origin = record { row = p.top; col = p.left }; size = p.extent }
+
+abbrev pub whole_box : UnionBox → Place
+whole_box b = record {
+  top = b.origin.row;
+  left = b.origin.col;
+  extent = b.size;
+  inner = record { north = false; south = false; west = false; east = false };
+}
 
 -- the row or column on which the place begins, or one more than that on which it ends, at this side
 abbrev pub end_at : Side → Place → ℕ
@@ -34,19 +80,10 @@ is_inner_at East p = p.inner.east
 abbrev pub StopsAt : Side → ℕ → WindowReport → Type 0
 StopsAt side at w = (end_at side w.report.place ≡ at) × (is_inner_at side w.report.place ≡ false)
 
--- the box ends where the outermost windows do, at most at the greatest number of 32 bits, and the union ends with it on a
--- side where it does with one of these
-pub record IsSmallestBox (windows : List WindowReport) (p : Place) : Type 0 where
-  pub top : p.top ≡ least_by top_of windows
-  pub left : p.left ≡ least_by left_of windows
-  pub rows : p.extent.rows ≡ min (greatest_by bottom_end windows) (2 ^ 32 - 1) - least_by top_of windows
-  pub cols : p.extent.cols ≡ min (greatest_by right_end windows) (2 ^ 32 - 1) - least_by left_of windows
+-- it is the smallest box up to this end, and the union ends with it on a side where it does with one of the windows there
+pub record IsSmallestBox (last : ℕ) (windows : List WindowReport) (p : Place) : Type 0 where
+  pub bounds : box_at p ≡ box_within last windows
   pub sides : (s : Side) → (is_inner_at s p ≡ false) ↔ ((w : WindowReport) × Contains windows w × StopsAt s (end_at s p) w)
-
--- one more than its last row, and than its last column, is a number of 32 bits
-pub record EndFit (p : Place) : Type 0 where
-  pub rows : p.top + p.extent.rows < 2 ^ 32
-  pub cols : p.left + p.extent.cols < 2 ^ 32
 
 -- What a report of a box lists.
 
@@ -91,13 +128,6 @@ IsSeamRefusal windows (SeamsDiffer c) = IsFirstDifference (all_seams windows) (S
 IsSeamRefusal windows OutOfMemory = Unit {0}
 IsSeamRefusal windows other = ⊥
 
--- why windows that fill a box make no report of it
-abbrev pub IsListRefusal : List WindowReport → MergeRefusal → Type 0
-IsListRefusal windows NoReports = windows ≡ []
-IsListRefusal windows (SeamsDiffer c) = IsFirstOfFaults windows None × IsFirstDifference (all_seams windows) (Some c)
-IsListRefusal windows OutOfMemory = Unit {0}
-IsListRefusal windows other = ⊥
-
 -- The report.
 
 -- the first fault of the windows, counted from the box's first cell; or the sums of their counts
@@ -106,16 +136,10 @@ IsJoinedVerdict p windows (Accepted counts) = IsFirstOfFaults windows None × Ar
 IsJoinedVerdict p windows (Rejected fault) =
     IsFirstOfFaults windows (Some (record { cell = in_union p fault.cell; rule = fault.rule }))
 
--- windows of one grid, with one set of no-data numbers and one spacing, fill this box, the smallest that holds them
-pub record IsFilledBox (windows : List WindowReport) (p : Place) : Type 0 where
-  pub grids : (d : WindowReport) → HaveGrid (slice_index_or windows 0 d).grid windows
-  pub alike : AreOfOneUnion windows
-  pub smallest : IsSmallestBox windows p
-  pub ends : EndFit p
-  pub fills : FillBox p (places_of windows)
-
--- the lists, the counts or the fault, and the spacing of the rows, of windows that fill this box
+-- windows of one union, at least one, fill this box, and this has their grid, their no-data numbers, the spacing of the
+-- rows, the counts or the fault, and the lists
 pub record IsJoinOver (p : Place) (windows : List WindowReport) (j : WindowReport) : Type 0 where
+  pub make : MakeBox p windows
   pub some : 0 < length windows
   pub grid : (d : WindowReport) → j.grid ≡ (slice_index_or windows 0 d).grid
   pub nodata : (d : WindowReport) → j.report.nodata ≡ (slice_index_or windows 0 d).report.nodata
@@ -126,18 +150,23 @@ pub record IsJoinOver (p : Place) (windows : List WindowReport) (j : WindowRepor
   pub lists : IsTrue j.report.holds → AreListed p windows j.report
 
 -- windows, at least one, of one grid, with one set of no-data numbers and one spacing, fill the smallest box that holds
--- them, agree along their seams unless one is rejected, and this is the report and the verdict that theirs make of it
-pub record IsJoin (windows : List WindowReport) (j : WindowReport) : Type 0 where
+-- them, up to this end of rows and columns, agree along their seams unless one is rejected, and this is the report and the
+-- verdict that theirs make of it
+pub record IsJoinUpTo (last : ℕ) (windows : List WindowReport) (j : WindowReport) : Type 0 where
   pub some : 0 < length windows
   pub one_grid : HaveGrid j.grid windows
   pub one_nodata : HaveNoData j.report.nodata windows
   pub spaced : HaveOneSpacing windows
-  pub box : IsSmallestBox windows j.report.place
+  pub box : IsSmallestBox last windows j.report.place
   pub fills : FillBox j.report.place (places_of windows)
   pub agree : SomeIsRejected windows ⊎ ShowTheSame (all_seams windows) (all_seams windows)
   pub made : All (λ w. Agree w.verdict w.report) windows → IsJoined SEAM_DEPTH j.report.place j.report.nodata (reports_of windows) j.report
   pub holds : Agree j.verdict j.report
   pub verdict : IsJoinedVerdict j.report.place windows j.verdict
+
+-- a box that is joined ends before the last row and column of 32 bits
+abbrev pub IsJoin : List WindowReport → WindowReport → Type 0
+IsJoin windows j = IsJoinUpTo (2 ^ 32 - 1) windows j
 
 -- on each union that begins at this cell of the map and of which these are windows, it is the report and the verdict on
 -- what the union shows at the box, which is a window of it
@@ -147,20 +176,6 @@ IsOfBox windows j =
     IsFrom origin j.report.place → AreWindowsFrom origin u ps (windows_of window_of windows) →
     IsJudgedFrom (shown_at origin j.report.place u ps) j × IsWindowOf u ps (window_from origin (shown_at origin j.report.place u ps))
 
--- why windows make no report of a box: each refusal where it is said, and where no earlier one is
+-- why windows make no report of the smallest box that holds them
 abbrev pub IsJoinRefusal : List WindowReport → MergeRefusal → Type 0
-IsJoinRefusal windows OutOfMemory = Unit {0}
-IsJoinRefusal windows (OtherSide k) = IsGridRefusal windows (OtherSide k)
-IsJoinRefusal windows (OtherGrid k) = IsGridRefusal windows (OtherGrid k)
-IsJoinRefusal windows NoReports = IsNoDataRefusal windows NoReports
-IsJoinRefusal windows (OtherNoData k) = IsNoDataRefusal windows (OtherNoData k)
-IsJoinRefusal windows (OtherSpacing k) = HaveOneNoData windows × IsSpacingRefusal windows (OtherSpacing k)
-IsJoinRefusal windows (OutsideUnion k) = AreOfOneUnion windows × ((p : Place) × IsSmallestBox windows p × IsPlaceRefusal p (places_of windows) (OutsideUnion k))
-IsJoinRefusal windows (JudgesNothing k) = AreOfOneUnion windows × ((p : Place) × IsSmallestBox windows p × IsPlaceRefusal p (places_of windows) (JudgesNothing k))
-IsJoinRefusal windows (Overlap clash) = AreOfOneUnion windows × ((p : Place) × IsSmallestBox windows p × IsPlaceRefusal p (places_of windows) (Overlap clash))
-IsJoinRefusal windows (LeftOut c) = AreOfOneUnion windows × ((p : Place) × IsSmallestBox windows p × IsPlaceRefusal p (places_of windows) (LeftOut c))
-IsJoinRefusal windows (SeamsDiffer c) =
-    AreOfOneUnion windows × ((p : Place) × IsSmallestBox windows p × FillBox p (places_of windows)) × IsFirstOfFaults windows None
-    × IsFirstDifference (all_seams windows) (Some c)
-IsJoinRefusal windows (SinkLeftOut n) = ⊥
-IsJoinRefusal windows (SinkNotListed c) = ⊥
+IsJoinRefusal windows refusal = (p : Place) × IsSmallestBox (2 ^ 32 - 1) windows p × IsBoxRefusal p windows refusal

@@ -5,9 +5,9 @@ pub mod Totals
 pub mod UnionSinks
 pub mod Merges
 pub mod UnionVerdicts
-pub mod MapBoxes
 pub mod Boxes
 pub mod Unjudged
 pub mod Filling
 pub mod BoxReports
+pub mod MapBoxes
 pub mod Trees

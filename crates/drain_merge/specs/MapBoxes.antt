@@ -1,111 +1,88 @@
--- The box on a map that holds windows, and the verdict on it. These definitions are this project's own.
-use Rattle.std.specs.Prelude.{◌≡◌, ◌+◌, ◌-◌, ◌^◌, ◌⊎◌, ◌≤◌}
-use Rattle.drain_merge.specs.Names.{ℕ, min, max, Some, List, map, fold, slice_index_or, All, Contains, Grid, Products, Extent, Report, Window, window_from, AreWindowsOf, WindowReport, CountsOn, UnionVerdict, Cell}
-use Rattle.drain_union.specs.declared.union_grid.DemPart.{DemPart}
-use Rattle.drain_union.specs.declared.union_grid.UnionGrid.{UnionGrid}
-use Rattle.drain_union.specs.declared.union_grid.UnionGrid.TheVariants.{Tiles, Dem}
+-- The verdict on windows that lie on a map, from one report of the box that they fill. These definitions are this project's
+-- own.
+use Rattle.std.specs.Prelude.{◌≡◌, ◌⊎◌}
+use Rattle.drain_merge.specs.Names.{Some, None, List, map, Grid, Products, AreWindowsFrom, Report, Window, WindowReport, UnionVerdict, Accepted, Rejected, Cell, cell_from, Outlet, SharedLabel}
+use Rattle.drain_union.specs.declared.verdict.UnionCounts.{UnionCounts}
 use Rattle.drain_merge.specs.declared.map_merge.MapVerdict.{MapVerdict}
-use Rattle.drain_merge.specs.declared.map_merge.UnionBox.{UnionBox}
 use Rattle.drain_merge.specs.declared.merge_verdict.MergeRefusal.{MergeRefusal}
-use Rattle.drain_merge.specs.declared.merge_verdict.MergeRefusal.TheVariants.{OtherSide, OtherGrid, OutOfMemory}
+use Rattle.drain_merge.specs.declared.merge_verdict.MergeRefusal.TheVariants.{LeftOut, SeamsDiffer}
 use Rattle.drain_merge.specs.declared.totals.UnionSinks.{UnionSinks}
-use Rattle.drain_merge.specs.Merges.{IsMergeRefusal}
-use Rattle.drain_merge.specs.Places.{all_sinks, judged_from, IsFirstFailing}
+use Rattle.drain_merge.specs.BoxReports.{box_at, box_of, IsJoinOver, whole_box}
+use Rattle.drain_merge.specs.Merges.{HaveOneGrid, IsBoxRefusal}
+use Rattle.drain_merge.specs.Seams.{IsFirstSharing}
 use Rattle.drain_merge.specs.UnionSinks.{HasSinks, IsSinkRefusal, TakeSinks}
-use Rattle.drain_merge.specs.UnionVerdicts.{AreJudgedFrom, IsUnionVerdict, SomeIsRejected, windows_of, IsJudgedFrom}
+use Rattle.drain_merge.specs.UnionVerdicts.{AreJudgedFrom, IsUnionVerdict, SomeIsRejected, windows_of}
 
--- the least and the greatest number that windows have
-abbrev pub least_by : (WindowReport → ℕ) → List WindowReport → ℕ
-least_by f windows = fold (λ m w. min m (f w)) (2 ^ 32 - 1) windows
+-- The end of a merge.
 
-abbrev pub greatest_by : (WindowReport → ℕ) → List WindowReport → ℕ
-greatest_by f windows = fold (λ m w. max (f w) m) 0 windows
+-- these counts, or the first label that two outlets share, at a cell counted from this one
+abbrev pub IsByLabels : Cell → UnionCounts → List Outlet → UnionVerdict → Type 0
+IsByLabels origin counts outlets (Accepted same) = (same ≡ counts) × IsFirstSharing outlets None
+IsByLabels origin counts outlets (Rejected fault) =
+    (c : Cell) × (fault ≡ record { cell = cell_from origin c; rule = SharedLabel }) × IsFirstSharing outlets (Some c)
 
-abbrev pub top_of : WindowReport → ℕ
-top_of w = w.report.place.top
+-- the verdict on a union, of which a report has this verdict: where it accepts, labels decide
+abbrev pub IsEndOf : UnionVerdict → Report → UnionVerdict → Type 0
+IsEndOf (Accepted counts) r v = IsByLabels (box_at r.place).origin counts r.outlets v
+IsEndOf (Rejected fault) r v = v ≡ Rejected fault
 
-abbrev pub left_of : WindowReport → ℕ
-left_of w = w.report.place.left
+-- and its box
+pub record IsEnd (whole : WindowReport) (m : MapVerdict) : Type 0 where
+  pub bounds : m.bounds ≡ box_at whole.report.place
+  pub verdict : IsEndOf whole.verdict whole.report m.verdict
 
--- one more than the last row and the last column
-abbrev pub bottom_end : WindowReport → ℕ
-bottom_end w = w.report.place.top + w.report.place.extent.rows
+-- the sinks of a report, counted from the first cell of its box
+abbrev pub sinks_in : Report → List Cell
+sinks_in r = map (cell_from (box_at r.place).origin) r.sinks
 
-abbrev pub right_end : WindowReport → ℕ
-right_end w = w.report.place.left + w.report.place.extent.cols
+-- where a report accepts, the windows took the sinks of the union
+abbrev pub AreTakenBy : UnionVerdict → UnionSinks → List Cell → Type 0
+AreTakenBy (Accepted counts) sinks taken = TakeSinks sinks taken
+AreTakenBy (Rejected fault) sinks taken = Unit {0}
 
--- the smallest box that holds the windows
-abbrev pub box_of : List WindowReport → UnionBox
-box_of windows = record {
-  origin = record { row = least_by top_of windows; col = least_by left_of windows };
-  size = record {
-    rows = min (greatest_by bottom_end windows - least_by top_of windows) (2 ^ 32 - 1);
-    cols = min (greatest_by right_end windows - least_by left_of windows) (2 ^ 32 - 1);
-  };
-}
+abbrev pub AreTaken : UnionSinks → WindowReport → Type 0
+AreTaken sinks whole = AreTakenBy whole.verdict sinks (sinks_in whole.report)
 
--- the windows, counted from the first cell of their box
-abbrev pub boxed : List WindowReport → List WindowReport
-boxed windows = map (judged_from (box_of windows).origin) windows
+-- else why they are refused
+abbrev pub IsTakenRefusal : UnionVerdict → UnionSinks → List Cell → MergeRefusal → Type 0
+IsTakenRefusal (Accepted counts) sinks taken refusal = IsSinkRefusal sinks taken refusal
+IsTakenRefusal (Rejected fault) sinks taken refusal = ⊥
 
--- rows and columns of all windows count on one grid
-abbrev pub HaveGrid : UnionGrid → List WindowReport → Type 0
-HaveGrid grid windows = All (λ w. CountsOn grid w.grid) windows
+abbrev pub IsEndRefusal : UnionSinks → WindowReport → MergeRefusal → Type 0
+IsEndRefusal sinks whole refusal = IsTakenRefusal whole.verdict sinks (sinks_in whole.report) refusal
 
-abbrev pub HaveOneGrid : List WindowReport → Type 0
-HaveOneGrid windows = (grid : UnionGrid) × HaveGrid grid windows
+-- The merge.
 
--- the first window has this grid, and this is the first whose rows and columns count on another
-abbrev pub IsFirstOther : List WindowReport → UnionGrid → ℕ → Type 0
-IsFirstOther windows grid k =
-    ((d : WindowReport) → (slice_index_or windows 0 d).grid ≡ grid) × IsFirstFailing (λ w. CountsOn grid w.grid) windows (Some k)
+-- the windows make this report of the smallest box that holds them, of which no side is inner
+abbrev pub IsWholeJoin : List WindowReport → WindowReport → Type 0
+IsWholeJoin windows whole = IsJoinOver (whole_box (box_of windows)) windows whole
 
--- why windows are refused for their grids: the first is of tiles, or of a raster
-abbrev pub IsGridRefusal : List WindowReport → MergeRefusal → Type 0
-IsGridRefusal windows (OtherSide k) = (side : ℕ) × IsFirstOther windows (Tiles side) k
-IsGridRefusal windows (OtherGrid k) = (part : DemPart) × IsFirstOther windows (Dem part) k
-IsGridRefusal windows other = ⊥
+-- and this is its end
+abbrev pub IsWhole : List WindowReport → MapVerdict → Type 0
+IsWhole windows m = (whole : WindowReport) × IsWholeJoin windows whole × IsEnd whole m
 
 -- the verdict is that on the box, and the windows lie on one grid
 pub record IsMapVerdict (windows : List WindowReport) (m : MapVerdict) : Type 0 where
   pub one_grid : HaveOneGrid windows
   pub bounds : m.bounds ≡ box_of windows
-  pub verdict : IsUnionVerdict (box_of windows).size (boxed windows) m.verdict
-
--- unless a window is rejected the windows took the sinks of the union
-abbrev pub AreTaken : UnionSinks → List WindowReport → Type 0
-AreTaken sinks windows = SomeIsRejected windows ⊎ ((¬ SomeIsRejected windows) × TakeSinks sinks (all_sinks windows))
+  pub verdict : IsUnionVerdict (box_of windows) windows m.verdict
 
 -- unless a window is rejected, each union of which these are the windows has these sinks
 abbrev pub HasMapSinks : UnionSinks → List WindowReport → Type 0
 HasMapSinks sinks windows =
-    SomeIsRejected (boxed windows)
-    ⊎ ((window_of : Report → Window) → AreJudgedFrom window_of (boxed windows) → (u : Grid) (ps : Products) →
-    u.extent ≡ (box_of windows).size → AreWindowsOf u ps (windows_of window_of (boxed windows)) → HasSinks sinks u)
+    SomeIsRejected windows
+    ⊎ ((window_of : Report → Window) → AreJudgedFrom window_of windows → (u : Grid) (ps : Products) → u.extent ≡ (box_of windows).size →
+    AreWindowsFrom (box_of windows).origin u ps (windows_of window_of windows) → HasSinks sinks u)
 
--- why windows of a union of this size are refused: by their reports, or, where they have a verdict and none is rejected,
--- for their sinks
-abbrev pub IsBoxRefusal : Extent → UnionSinks → List WindowReport → MergeRefusal → Type 0
-IsBoxRefusal e sinks windows refusal =
-    IsMergeRefusal e windows refusal
-    ⊎ (((v : UnionVerdict) × IsUnionVerdict e windows v) × (¬ SomeIsRejected windows) × IsSinkRefusal sinks (all_sinks windows) refusal)
+-- a refusal whose cell counts from this one
+abbrev pub refusal_from : Cell → MergeRefusal → MergeRefusal
+refusal_from origin (LeftOut c) = LeftOut (cell_from origin c)
+refusal_from origin (SeamsDiffer c) = SeamsDiffer (cell_from origin c)
+refusal_from origin other = other
 
--- a refusal of windows on a map is one for their grids, or one on the box, unless memory runs out
+-- why windows on a map have no verdict: they make no report of the box, whose first cell cells of refusals count from; or
+-- they do, it accepts, and the union has other sinks
 abbrev pub IsMapRefusal : UnionSinks → List WindowReport → MergeRefusal → Type 0
-IsMapRefusal sinks windows OutOfMemory = Unit {0}
 IsMapRefusal sinks windows refusal =
-    IsGridRefusal windows refusal ⊎ (HaveOneGrid windows × IsBoxRefusal (box_of windows).size sinks (boxed windows) refusal)
-
--- What the box on a map has to do with the windows there. The laws are this project's own.
-
--- what is reported of a window of a map is, counted from a cell before it, so of the window counted from there
-abbrev pub JudgedFromMap : Type 0
-JudgedFromMap =
-    (origin : Cell) (w : Window) (j : WindowReport) → IsJudgedFrom w j → origin.row ≤ j.report.place.top → origin.col ≤ j.report.place.left →
-    IsJudgedFrom (window_from origin w) (judged_from origin j)
-
--- no window begins before the box that holds them all
-abbrev pub BoxBegins : Type 0
-BoxBegins =
-    (windows : List WindowReport) (j : WindowReport) → Contains windows j →
-    ((box_of windows).origin.row ≤ j.report.place.top) × ((box_of windows).origin.col ≤ j.report.place.left)
+    ((other : MergeRefusal) × IsBoxRefusal (whole_box (box_of windows)) windows other × (refusal ≡ refusal_from (box_of windows).origin other))
+    ⊎ ((whole : WindowReport) × IsWholeJoin windows whole × IsEndRefusal sinks whole refusal)

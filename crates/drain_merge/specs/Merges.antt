@@ -1,12 +1,22 @@
--- What a merge of windows returns, in words of its lists. These definitions are this project's own.
-use Rattle.std.specs.Prelude.{◌≡◌, ◌⊎◌, ◌<◌}
-use Rattle.drain_merge.specs.Names.{false, ℕ, Option, length, Some, None, List, [], slice_index_or, All, AllPairs, Cell, SharedLabel, Extent, NoDataNumbers, Place, SpacedAlike, LiesInBox, BothJudgeOne, JudgesSome, IsJudgedAt, IsJudgedAtSome, WindowReport, Fault, UnionVerdict, Accepted, Rejected}
+-- Windows of one union that fill a box, and why windows don't. These definitions are this project's own.
+use Rattle.std.specs.Prelude.{◌≡◌, ◌<◌}
+use Rattle.drain_merge.specs.Names.{ℕ, Option, length, Some, None, List, [], slice_index_or, All, AllPairs, Cell, NoDataNumbers, Place, SpacedAlike, LiesInBox, BothJudgeOne, JudgesSome, IsJudgedAt, IsJudgedAtSome, CountsOn, WindowReport}
+use Rattle.drain_union.specs.declared.union_grid.DemPart.{DemPart}
+use Rattle.drain_union.specs.declared.union_grid.UnionGrid.{UnionGrid}
+use Rattle.drain_union.specs.declared.union_grid.UnionGrid.TheVariants.{Tiles, Dem}
 use Rattle.drain_merge.specs.declared.merge_verdict.MergeRefusal.{MergeRefusal}
 use Rattle.drain_merge.specs.declared.merge_verdict.MergeRefusal.TheVariants.{NoReports, OtherSide, OtherGrid, OtherNoData, OtherSpacing, OutsideUnion, JudgesNothing, Overlap, LeftOut, SeamsDiffer, SinkLeftOut, SinkNotListed, OutOfMemory}
-use Rattle.drain_merge.specs.Seams.{IsFirstOfFaults, IsFirstDifference, IsFirstSharing}
+use Rattle.drain_merge.specs.Seams.{IsFirstOfFaults, IsFirstDifference}
 use Rattle.drain_merge.specs.Unjudged.{IsFirstUnjudged}
-use Rattle.drain_merge.specs.Places.{places_of, all_outlets, all_seams, IsFirstFailing, IsFirstClash}
-use Rattle.drain_merge.specs.Totals.{AreCountsOf}
+use Rattle.drain_merge.specs.Places.{places_of, all_seams, IsFirstFailing, IsFirstClash}
+
+-- rows and columns of all windows count on this grid
+abbrev pub HaveGrid : UnionGrid → List WindowReport → Type 0
+HaveGrid grid windows = All (λ w. CountsOn grid w.grid) windows
+
+-- on that of the first one
+abbrev pub HaveOneGrid : List WindowReport → Type 0
+HaveOneGrid windows = (d : WindowReport) → HaveGrid (slice_index_or windows 0 d).grid windows
 
 -- all windows have these no-data numbers
 abbrev pub HaveNoData : NoDataNumbers → List WindowReport → Type 0
@@ -40,12 +50,10 @@ IsFirstSpacedOther windows (Some k) =
     × ((i j : ℕ) (d : WindowReport) → i < j → j < k → HaveRowsAlike (slice_index_or windows i d) (slice_index_or windows j d))
 
 -- what windows of one union have in common
-abbrev pub AreOfOneUnion : List WindowReport → Type 0
-AreOfOneUnion windows = HaveOneNoData windows × HaveOneSpacing windows
-
--- the box that a union of this size is
-abbrev pub whole_box : Extent → Place
-whole_box e = record { top = 0; left = 0; extent = e; inner = record { north = false; south = false; west = false; east = false } }
+pub record AreOfOneUnion (windows : List WindowReport) : Type 0 where
+  pub grid : HaveOneGrid windows
+  pub nodata : HaveOneNoData windows
+  pub spaced : HaveOneSpacing windows
 
 -- the places lie in the box, judge a cell each, none in common, and judge each cell that it judges
 pub record FillBox (box : Place) (places : List Place) : Type 0 where
@@ -53,6 +61,22 @@ pub record FillBox (box : Place) (places : List Place) : Type 0 where
   pub some : All JudgesSome places
   pub apart : AllPairs (λ p q. ¬ BothJudgeOne p q) places
   pub whole : (c : Cell) → IsJudgedAt box c → IsJudgedAtSome places c
+
+-- windows of one union fill the box
+pub record MakeBox (box : Place) (windows : List WindowReport) : Type 0 where
+  pub alike : AreOfOneUnion windows
+  pub fills : FillBox box (places_of windows)
+
+-- the first window has this grid, and this is the first whose rows and columns count on another
+abbrev pub IsFirstOther : List WindowReport → UnionGrid → ℕ → Type 0
+IsFirstOther windows grid k =
+    ((d : WindowReport) → (slice_index_or windows 0 d).grid ≡ grid) × IsFirstFailing (λ w. CountsOn grid w.grid) windows (Some k)
+
+-- why windows are refused for their grids: the first is of tiles, or of a raster
+abbrev pub IsGridRefusal : List WindowReport → MergeRefusal → Type 0
+IsGridRefusal windows (OtherSide k) = (side : ℕ) × IsFirstOther windows (Tiles side) k
+IsGridRefusal windows (OtherGrid k) = (part : DemPart) × IsFirstOther windows (Dem part) k
+IsGridRefusal windows other = ⊥
 
 -- why windows are refused for their no-data numbers: the list is empty, or this is the first window that has other
 -- numbers than the first one
@@ -77,36 +101,18 @@ IsPlaceRefusal box places (LeftOut c) =
 IsPlaceRefusal box places OutOfMemory = Unit {0}
 IsPlaceRefusal box places other = ⊥
 
--- why windows are refused: each refusal where it is said, and where no earlier one is
-abbrev pub IsMergeRefusal : Extent → List WindowReport → MergeRefusal → Type 0
-IsMergeRefusal e windows (SeamsDiffer c) =
-    AreOfOneUnion windows × FillBox (whole_box e) (places_of windows) × IsFirstOfFaults windows None × IsFirstDifference (all_seams windows) (Some c)
-IsMergeRefusal e windows OutOfMemory = AreOfOneUnion windows
-IsMergeRefusal e windows NoReports = IsNoDataRefusal windows NoReports
-IsMergeRefusal e windows (OtherSide k) = ⊥
-IsMergeRefusal e windows (OtherGrid k) = ⊥
-IsMergeRefusal e windows (SinkLeftOut n) = ⊥
-IsMergeRefusal e windows (SinkNotListed c) = ⊥
-IsMergeRefusal e windows (OtherNoData k) = IsNoDataRefusal windows (OtherNoData k)
-IsMergeRefusal e windows (OtherSpacing k) = HaveOneNoData windows × IsSpacingRefusal windows (OtherSpacing k)
-IsMergeRefusal e windows (OutsideUnion k) = AreOfOneUnion windows × IsPlaceRefusal (whole_box e) (places_of windows) (OutsideUnion k)
-IsMergeRefusal e windows (JudgesNothing k) = AreOfOneUnion windows × IsPlaceRefusal (whole_box e) (places_of windows) (JudgesNothing k)
-IsMergeRefusal e windows (Overlap clash) = AreOfOneUnion windows × IsPlaceRefusal (whole_box e) (places_of windows) (Overlap clash)
-IsMergeRefusal e windows (LeftOut c) = AreOfOneUnion windows × IsPlaceRefusal (whole_box e) (places_of windows) (LeftOut c)
-
--- windows of one union fill it, and this is the first fault of one
-abbrev pub CanBePutTogether : Extent → List WindowReport → Option Fault → Type 0
-CanBePutTogether e windows first = AreOfOneUnion windows × FillBox (whole_box e) (places_of windows) × IsFirstOfFaults windows first
-
--- the verdict in words of the lists: the first fault of a window; else the first cell of an outlet with the label of one
--- at an earlier cell; else the counts
-abbrev pub IsListVerdict : Extent → List WindowReport → UnionVerdict → Type 0
-IsListVerdict e windows (Accepted counts) =
-    IsFirstOfFaults windows None × IsFirstDifference (all_seams windows) None × IsFirstSharing (all_outlets windows) None × AreCountsOf e windows counts
-IsListVerdict e windows (Rejected fault) =
-    IsFirstOfFaults windows (Some fault)
-    ⊎ (IsFirstOfFaults windows None × IsFirstDifference (all_seams windows) None × (fault.rule ≡ SharedLabel)
-    × IsFirstSharing (all_outlets windows) (Some fault.cell))
-
-abbrev pub IsMerged : Extent → List WindowReport → UnionVerdict → Type 0
-IsMerged e windows v = AreOfOneUnion windows × FillBox (whole_box e) (places_of windows) × IsListVerdict e windows v
+-- why windows make no report of a box: each refusal where it is said, and where no earlier one is
+abbrev pub IsBoxRefusal : Place → List WindowReport → MergeRefusal → Type 0
+IsBoxRefusal box windows OutOfMemory = Unit {0}
+IsBoxRefusal box windows (OtherSide k) = IsGridRefusal windows (OtherSide k)
+IsBoxRefusal box windows (OtherGrid k) = IsGridRefusal windows (OtherGrid k)
+IsBoxRefusal box windows NoReports = IsNoDataRefusal windows NoReports
+IsBoxRefusal box windows (OtherNoData k) = HaveOneGrid windows × IsNoDataRefusal windows (OtherNoData k)
+IsBoxRefusal box windows (OtherSpacing k) = HaveOneGrid windows × HaveOneNoData windows × IsSpacingRefusal windows (OtherSpacing k)
+IsBoxRefusal box windows (OutsideUnion k) = AreOfOneUnion windows × IsPlaceRefusal box (places_of windows) (OutsideUnion k)
+IsBoxRefusal box windows (JudgesNothing k) = AreOfOneUnion windows × IsPlaceRefusal box (places_of windows) (JudgesNothing k)
+IsBoxRefusal box windows (Overlap clash) = AreOfOneUnion windows × IsPlaceRefusal box (places_of windows) (Overlap clash)
+IsBoxRefusal box windows (LeftOut c) = AreOfOneUnion windows × IsPlaceRefusal box (places_of windows) (LeftOut c)
+IsBoxRefusal box windows (SeamsDiffer c) = MakeBox box windows × IsFirstOfFaults windows None × IsFirstDifference (all_seams windows) (Some c)
+IsBoxRefusal box windows (SinkLeftOut n) = ⊥
+IsBoxRefusal box windows (SinkNotListed c) = ⊥

@@ -7,9 +7,9 @@ pub use Rattle.drain_grid.specs.Values.{NoDataNumbers}
 pub use Rattle.drain_grid.specs.declared.cell.Cell.{Cell}
 pub use Rattle.drain_grid.specs.declared.rule.Rule.TheVariants.{SharedLabel}
 pub use Rattle.drain_union.specs.Joins.{IsJoined, IsOuter, LiesInBox, shown_at}
-pub use Rattle.drain_union.specs.Reports.{Agree, CanMerge, IsReportOf, IsSortedByLabel, Report, ShareNoLabel, SharesAt, ShowTheSame, SpacedAlike, is_accepted, spacing_at}
+pub use Rattle.drain_union.specs.Reports.{Agree, IsReportOf, IsSortedByLabel, Report, ShareNoLabel, SharesAt, ShowTheSame, SpacedAlike, is_accepted, spacing_at}
 pub use Rattle.drain_union.specs.UnionGrids.{CountsOn}
-pub use Rattle.drain_union.specs.Windows.{AreWindowsFrom, AreWindowsOf, BothJudgeOne, IsFirstInside, IsFrom, IsJudgedAt, IsJudgedAtSome, IsWindowOf, JudgesSome, RulesHoldInside, Window, cell_from, in_union, judged_bottom, judged_left, judged_right, judged_top, place_from, window_from}
+pub use Rattle.drain_union.specs.Windows.{AreWindowsFrom, BothJudgeOne, IsFirstInside, IsFrom, IsJudgedAt, IsJudgedAtSome, IsWindowOf, JudgesSome, RulesHoldInside, Window, cell_from, in_union, judged_bottom, judged_left, judged_right, judged_top, window_from}
 pub use Rattle.drain_union.specs.declared.place.Place.{Place}
 pub use Rattle.drain_union.specs.declared.place.TheConstants.{SEAM_DEPTH}
 pub use Rattle.drain_union.specs.declared.report.Outlet.{Outlet}

@@ -1,6 +1,6 @@
 -- When places of windows make a union. These definitions are this project's own.
 use Rattle.std.specs.Prelude.{◌<◌}
-use Rattle.drain_merge.specs.Names.{List, map, ℕ, Option, Some, None, length, slice_index_or, flat_map, All, AllPairs, AllWithin, HoldsAt, Cell, Outlet, Place, Shown, Report, WindowReport, BothJudgeOne, cell_from, place_from}
+use Rattle.drain_merge.specs.Names.{List, map, ℕ, Option, Some, None, length, slice_index_or, flat_map, All, AllPairs, AllWithin, HoldsAt, Cell, Outlet, Place, Shown, Report, WindowReport, BothJudgeOne}
 use Rattle.drain_merge.specs.declared.places.Clash.{Clash}
 
 -- What the windows of a union report. These definitions are this project's own.
@@ -41,25 +41,3 @@ IsFirstClash places None = AllPairs (λ p q. ¬ BothJudgeOne p q) places
 IsFirstClash places (Some clash) =
     (clash.earlier < clash.later) × (clash.later < length places)
     × ((d : Place) → BothJudgeOne (slice_index_or places clash.earlier d) (slice_index_or places clash.later d))
-
--- What a window reports, with rows and columns counted from another cell. These definitions are this project's own.
-
-abbrev pub outlet_from : Cell → Outlet → Outlet
-outlet_from origin x = record { label = x.label; cell = cell_from origin x.cell }
-
-abbrev pub shown_from : Cell → Shown → Shown
-shown_from origin x = record { cell = cell_from origin x.cell; values = x.values }
-
-abbrev pub report_from : Cell → Report → Report
-report_from origin r = record {
-  place = place_from origin r.place;
-  spacings = r.spacings;
-  nodata = r.nodata;
-  holds = r.holds;
-  outlets = map (outlet_from origin) r.outlets;
-  seams = map (shown_from origin) r.seams;
-  sinks = map (cell_from origin) r.sinks;
-}
-
-abbrev pub judged_from : Cell → WindowReport → WindowReport
-judged_from origin j = record { grid = j.grid; tiles = j.tiles; verdict = j.verdict; report = report_from origin j.report }

@@ -1,19 +1,19 @@
 -- Reports of boxes in place of those of their windows: merges of merges. These definitions and laws are this project's own.
 use Rattle.std.specs.Prelude.{◌↔◌, ◌⊎◌, ◌∷◌}
-use Rattle.drain_merge.specs.Names.{List, [], map, Contains, flat_map, Grid, Products, NoDataNumbers, Cell, Report, AreWindowsFrom, IsFrom, IsWindowOf, JudgesSome, Window, window_from, Place, WindowReport}
-use Rattle.drain_merge.specs.BoxReports.{IsJoin, IsOfBox}
-use Rattle.drain_merge.specs.MapBoxes.{box_of, IsMapVerdict}
+use Rattle.drain_merge.specs.Names.{List, [], Contains, flat_map, Grid, Products, Cell, Report, AreWindowsFrom, IsFrom, IsWindowOf, JudgesSome, Window, window_from, Place, WindowReport}
+use Rattle.drain_merge.specs.BoxReports.{box_of, IsJoin, IsOfBox}
+use Rattle.drain_merge.specs.MapBoxes.{IsWhole}
 use Rattle.drain_merge.specs.Merges.{HaveNoData}
-use Rattle.drain_merge.specs.UnionVerdicts.{AreJudgedFrom, IsJudgedFrom, IsRejected, IsVerdictOn, SomeIsRejected, windows_of}
+use Rattle.drain_merge.specs.UnionVerdicts.{AreJudgedFrom, IsJudgedFrom, IsRejected, IsUnionVerdict, SomeIsRejected, windows_of}
 use Rattle.drain_merge.specs.declared.map_merge.MapVerdict.{MapVerdict}
 
--- the report stands for these: it begins where the first of them do, has their no-data numbers, and is rejected only if one
+-- the report stands for these: it begins where the first of them do, has their no-data numbers, and is rejected exactly if one
 -- of them is; on each union it is the report of what is shown at its box; and unless one of them is rejected, it is of a
 -- window that is made of theirs, and each union of which this is a window has theirs as windows
 pub record StandsFor (windows : List WindowReport) (made : (Report → Window) → Window) (j : WindowReport) : Type 0 where
   pub begins : (origin : Cell) → IsFrom origin j.report.place ↔ ((w : WindowReport) → Contains windows w → IsFrom origin w.report.place)
   pub nodata : HaveNoData j.report.nodata windows
-  pub rejected : IsRejected j.verdict → SomeIsRejected windows
+  pub rejected : IsRejected j.verdict ↔ SomeIsRejected windows
   pub of_box : IsOfBox windows j
   pub one : SomeIsRejected windows
       ⊎ ((window_of : Report → Window) → AreJudgedFrom window_of windows → IsJudgedFrom (made window_of) j
@@ -51,8 +51,5 @@ JoinsStandForAll =
 abbrev pub MergeOfJoins : Type 0
 MergeOfJoins =
     (joined : List WindowReport) (windows_behind : Place → List WindowReport) (made : Place → (Report → Window) → Window) →
-    EachStandsFor windows_behind made joined → (m : MapVerdict) → IsMapVerdict joined m →
-    (window_of : Report → Window) → AreJudgedFrom window_of (all_behind windows_behind joined) →
-    (nodata : NoDataNumbers) × HaveNoData nodata (all_behind windows_behind joined)
-    × IsVerdictOn (box_of joined).size nodata (all_behind windows_behind joined)
-    (map (window_from (box_of joined).origin) (windows_of window_of (all_behind windows_behind joined))) m.verdict
+    EachStandsFor windows_behind made joined → (m : MapVerdict) → IsWhole joined m →
+    IsUnionVerdict (box_of joined) (all_behind windows_behind joined) m.verdict

@@ -1,10 +1,11 @@
 -- What the verdict on windows says of their union. These definitions are this project's own.
 use Rattle.std.specs.Prelude.{◌++◌, ◌≡◌, ◌↔◌, ◌⊎◌}
-use Rattle.drain_merge.specs.Names.{ℕ, List, Result, Ok, Err, codes, decimal, map, Cell, UnionVerdict, Accepted, Rejected, Contains, SharedLabel, Grid, Products, IsFirstFault, Extent, NoDataNumbers, SEAM_DEPTH, Report, IsReportOf, CanMerge, Window, RulesHoldInside, IsFirstInside, AreWindowsOf, WindowReport}
+use Rattle.drain_merge.specs.Names.{ℕ, List, Result, Ok, Err, codes, decimal, map, Cell, UnionVerdict, Accepted, Rejected, Contains, SharedLabel, Grid, Products, IsFirstFault, NoDataNumbers, SEAM_DEPTH, Report, IsReportOf, Window, RulesHoldInside, IsFirstInside, AreWindowsFrom, WindowReport}
 use Rattle.drain_merge.specs.declared.map_merge.MapVerdict.{MapVerdict}
 use Rattle.drain_merge.specs.declared.merge_verdict.MergeRefusal.{MergeRefusal}
 use Rattle.drain_merge.specs.declared.merge_verdict.MergeRefusal.TheVariants.{NoReports, OtherSide, OtherGrid, OtherNoData, OtherSpacing, OutsideUnion, JudgesNothing, Overlap, LeftOut, SeamsDiffer, SinkLeftOut, SinkNotListed, OutOfMemory}
 use Rattle.drain_merge.specs.declared.places.Clash.{Clash}
+use Rattle.drain_merge.specs.declared.smallest_box.UnionBox.{UnionBox}
 use Rattle.drain_grid.specs.Correct.{IsCorrect}
 use Rattle.drain_grid.specs.declared.rule.Rule.{Rule}
 use Rattle.drain_grid.specs.Rule.{IsAnyRule, IsPatchRule}
@@ -92,21 +93,20 @@ abbrev pub HasCounts : Grid → Products → UnionVerdict → Type 0
 HasCounts u ps (Accepted counts) = AreUnionCounts u ps counts
 HasCounts u ps (Rejected fault) = Unit {0}
 
--- unless a window is rejected these are the windows of one union; and of each union of which they are, the products are
--- correct exactly where the verdict accepts, the counts are those of its cells, and the fault that it names is the first
-pub record IsVerdictOn (e : Extent) (nodata : NoDataNumbers) (judged : List WindowReport) (windows : List Window) (v : UnionVerdict) : Type 0 where
+-- unless a window is rejected these are the windows of one union that is the map's box; and of each union there of which they
+-- are, the products are correct exactly where the verdict accepts, the counts are those of its cells, and the fault that it
+-- names is the first
+pub record IsVerdictOn (b : UnionBox) (nodata : NoDataNumbers) (judged : List WindowReport) (windows : List Window) (v : UnionVerdict) : Type 0 where
   pub one_union : SomeIsRejected judged
-      ⊎ ((u : Grid) × (ps : Products) × (u.extent ≡ e) × AreWindowsOf u ps windows)
-  pub exactly : (u : Grid) (ps : Products) → u.extent ≡ e → AreWindowsOf u ps windows → IsAccepted v ↔ IsCorrect u ps nodata
-  pub counts : (u : Grid) (ps : Products) → u.extent ≡ e → AreWindowsOf u ps windows → HasCounts u ps v
-  pub first : (u : Grid) (ps : Products) → u.extent ≡ e → AreWindowsOf u ps windows → TellsFirstFault nodata u ps v
+      ⊎ ((u : Grid) × (ps : Products) × (u.extent ≡ b.size) × AreWindowsFrom b.origin u ps windows)
+  pub exactly : (u : Grid) (ps : Products) → u.extent ≡ b.size → AreWindowsFrom b.origin u ps windows → IsAccepted v ↔ IsCorrect u ps nodata
+  pub counts : (u : Grid) (ps : Products) → u.extent ≡ b.size → AreWindowsFrom b.origin u ps windows → HasCounts u ps v
+  pub first : (u : Grid) (ps : Products) → u.extent ≡ b.size → AreWindowsFrom b.origin u ps windows → TellsFirstFault nodata u ps v
 
--- the verdict on what is reported of windows: these have one set of no-data numbers, unless one is rejected their
--- reports can be merged, an acceptance is of accepted windows alone, and the verdict is right on whatever windows the
--- reports are of
-pub record IsUnionVerdict (e : Extent) (judged : List WindowReport) (v : UnionVerdict) : Type 0 where
+-- the verdict on what is reported of windows: these have one set of no-data numbers, an acceptance is of accepted windows
+-- alone, and the verdict is right on whatever windows the reports are of
+pub record IsUnionVerdict (b : UnionBox) (judged : List WindowReport) (v : UnionVerdict) : Type 0 where
   pub nodata : NoDataNumbers
   pub one_nodata : HaveNoData nodata judged
-  pub can : SomeIsRejected judged ⊎ CanMerge SEAM_DEPTH e nodata (reports_of judged)
   pub none : IsAccepted v → ¬ SomeIsRejected judged
-  pub means : (window_of : Report → Window) → AreJudgedFrom window_of judged → IsVerdictOn e nodata judged (windows_of window_of judged) v
+  pub means : (window_of : Report → Window) → AreJudgedFrom window_of judged → IsVerdictOn b nodata judged (windows_of window_of judged) v

@@ -1,21 +1,20 @@
 //! The report that the reports of windows make of the smallest box that holds them.
 
-ghost use Rattle.std.specs.Prelude.{◌≡◌, ◌+◌, ◌-◌, ◌<◌, ◌^◌};
-ghost use Rattle.drain_merge.specs.Names.{IfErr, IfOk, OnOk, Some, IsPermutation, is_accepted, IsSortedByLabel, ShowTheSame};
-ghost use Rattle.drain_merge.specs.BoxReports.{AreJoinedLists, EndFit, IsFilledBox, IsJoin, IsJoinedVerdict, IsJoinOver, IsJoinRefusal, IsListRefusal, IsOfBox, IsSeamRefusal};
-ghost use Rattle.drain_merge.specs.Merges.{FillBox, HaveOneSpacing};
-ghost use Rattle.drain_merge.specs.Places.{places_of};
+ghost use Rattle.std.specs.Prelude.{◌≡◌};
+ghost use Rattle.drain_merge.specs.Names.{cell_from, IfErr, IfOk, OnOk, Some, IsPermutation, is_accepted, IsSortedByLabel, ShowTheSame};
+ghost use Rattle.drain_merge.specs.BoxReports.{AreJoinedLists, box_at, IsJoin, IsJoinedVerdict, IsJoinOver, IsJoinRefusal, IsOfBox, IsSeamRefusal};
+ghost use Rattle.drain_merge.specs.Merges.{IsBoxRefusal, MakeBox};
 ghost use Rattle.drain_merge.specs.Seams.{IsFirstDifference};
+ghost use Rattle.drain_merge.specs.Unjudged.{HasCells};
 ghost use Rattle.drain_merge.specs.declared.merge_verdict.MergeRefusal.TheVariants.{SeamsDiffer};
 ghost use Rattle.drain_grid.specs.declared.cell.Cell.{Cell as CellOf};
 
 use crate::all_lists::{Lists, all_lists};
+use crate::checks::check_windows;
 use crate::joined_spacings::joined_spacings;
 use crate::merge_verdict::{MergeRefusal, first_fault};
-use crate::merger::{check_nodata, check_places, check_spacings};
 use crate::outer_seams::outer_seams;
 use crate::seams::first_difference;
-use crate::shared::check_grids;
 use crate::smallest_box::smallest_box;
 use crate::totals::total;
 use drain_grid::Cell;
@@ -39,29 +38,22 @@ pub fn join(alloc: Global, windows: Vec<WindowReport>) -> Result<WindowReport, M
     // Each refusal comes exactly where it is the first that applies, unless memory runs out.
     ensures refusal { IfErr result (IsJoinRefusal windows.items) }
 {
-    joined(alloc, windows)
+    let bounds = smallest_box(&windows);
+    joined(alloc, &bounds, windows)
 }
 
-/// The same, in words of the windows' lists.
-fn joined(alloc: Global, windows: Vec<WindowReport>) -> Result<WindowReport, MergeRefusal>
-    ensures lists { IfOk result (IsJoin windows.items) }
-    ensures refusal { IfErr result (IsJoinRefusal windows.items) }
+/// The report of this box, if the windows fill it.
+pub(crate) fn joined(
+    alloc: Global,
+    bounds: &Place,
+    windows: Vec<WindowReport>,
+) -> Result<WindowReport, MergeRefusal>
+    requires { HasCells bounds.now }
+    ensures made { IfOk result (IsJoinOver bounds.now windows.items) }
+    ensures refusal { IfErr result (IsBoxRefusal bounds.now windows.items) }
 {
-    let bounds = filled_box(alloc, &windows)?;
-    report_of(alloc, &bounds, windows)
-}
-
-/// The smallest box that holds these windows, if they fill it.
-fn filled_box(alloc: Global, windows: &[WindowReport]) -> Result<Place, MergeRefusal>
-    ensures filled { IfOk result (IsFilledBox windows.now) }
-    ensures refusal { IfErr result (IsJoinRefusal windows.now) }
-{
-    check_grids(windows)?;
-    check_nodata(windows)?;
-    check_spacings(windows)?;
-    let bounds = smallest_box(windows);
-    check_places(alloc, &bounds, windows)?;
-    Ok(bounds)
+    check_windows(alloc, bounds, &windows)?;
+    report_of(alloc, bounds, windows)
 }
 
 /// The report of this box, which the windows fill.
@@ -70,11 +62,10 @@ fn report_of(
     bounds: &Place,
     windows: Vec<WindowReport>,
 ) -> Result<WindowReport, MergeRefusal>
-    requires fills { FillBox bounds.now (places_of windows.items) }
-    requires spaced { HaveOneSpacing windows.items }
-    requires ends { EndFit bounds.now }
+    requires make { MakeBox bounds.now windows.items }
+    requires cells { HasCells bounds.now }
     ensures made { IfOk result (IsJoinOver bounds.now windows.items) }
-    ensures refusal { IfErr result (IsListRefusal windows.items) }
+    ensures refusal { IfErr result (IsBoxRefusal bounds.now windows.items) }
 {
     let Some(first) = windows.first() else {
         return Err(MergeRefusal::NoReports);
@@ -115,8 +106,8 @@ fn accepts(verdict: &UnionVerdict) -> bool
 
 /// The verdict on the box: the first fault of the windows, or the sums of their counts.
 fn joined_verdict(bounds: &Place, windows: &[WindowReport]) -> UnionVerdict
-    requires fills { FillBox bounds.now (places_of windows.now) }
-    requires ends { EndFit bounds.now }
+    requires make { MakeBox bounds.now windows.now }
+    requires cells { HasCells bounds.now }
     ensures { IsJoinedVerdict bounds.now windows.now result }
 {
     match first_fault(windows) {
@@ -129,8 +120,8 @@ fn joined_verdict(bounds: &Place, windows: &[WindowReport]) -> UnionVerdict
 }
 
 /// The map's cell, counted from the box's first one.
-fn cell_in(bounds: &Place, cell: Cell) -> Cell
-    ensures { result ≡ record { row = cell.row - bounds.now.top; col = cell.col - bounds.now.left } }
+pub(crate) fn cell_in(bounds: &Place, cell: Cell) -> Cell
+    ensures { result ≡ cell_from (box_at bounds.now).origin cell }
 {
     Cell {
         row: cell.row.saturating_sub(bounds.top),

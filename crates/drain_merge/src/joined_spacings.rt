@@ -2,8 +2,9 @@
 
 ghost use Rattle.std.specs.Prelude.{◌≡◌, ◌↔◌, ◌+◌, ◌-◌, ◌<◌, ◌^◌};
 ghost use Rattle.drain_merge.specs.Names.{ℕ, take, IsTrue, IfOk, [], length, All, spacing_at};
-ghost use Rattle.drain_merge.specs.BoxReports.{EndFit, HasRow, IsSpacingOfRow, SpacesBox, spacing_in};
+ghost use Rattle.drain_merge.specs.BoxReports.{HasRow, IsSpacingOfRow, SpacesBox, spacing_in};
 ghost use Rattle.drain_merge.specs.Merges.{HaveOneSpacing};
+ghost use Rattle.drain_merge.specs.Unjudged.{HasCells};
 
 use drain_grid::{OutOfMemory, Spacing};
 use drain_union::place::end_of;
@@ -18,7 +19,7 @@ pub(crate) fn joined_spacings(
     windows: &[WindowReport],
 ) -> Result<Vec<Spacing>, OutOfMemory>
     requires one { HaveOneSpacing windows.now }
-    requires ends { EndFit bounds.now }
+    requires cells { HasCells bounds.now }
     ensures { IfOk result (λ listed. SpacesBox bounds.now windows.now listed.items) }
 {
     if none_lists(windows) {
@@ -53,7 +54,7 @@ fn spacings_of_rows(
     bounds: &Place,
     windows: &[WindowReport],
 ) -> Result<Vec<Spacing>, OutOfMemory>
-    requires ends { EndFit bounds.now }
+    requires cells { HasCells bounds.now }
     ensures len { IfOk result (λ listed. length listed.items ≡ bounds.now.extent.rows) }
     ensures each { IfOk result (λ listed. (row : ℕ) → row < bounds.now.extent.rows → IsSpacingOfRow windows.now (bounds.now.top + row) (spacing_at listed.items row)) }
 {

@@ -3,6 +3,7 @@
 
 mod all_lists;
 mod box_places;
+mod checks;
 mod edges;
 mod filling;
 pub mod joined;
@@ -10,19 +11,18 @@ mod joined_spacings;
 pub mod laws;
 pub mod map_merge;
 pub mod merge_verdict;
-pub mod merger;
 mod outer_seams;
 pub mod places;
 mod seams;
 mod shared;
-mod smallest_box;
+pub mod smallest_box;
 mod spacings;
 pub mod totals;
 mod unjudged;
 
 pub use joined::join;
-pub use map_merge::{MapVerdict, UnionBox, merge_on_map};
+pub use map_merge::{MapVerdict, merge_on_map};
 pub use merge_verdict::{MergeRefusal, merge_line};
-pub use merger::merge;
 pub use places::Clash;
+pub use smallest_box::UnionBox;
 pub use totals::UnionSinks;

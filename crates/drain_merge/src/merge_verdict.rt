@@ -144,8 +144,7 @@ pub enum MergeRefusal {
     /// The list is empty.
     #[error("there is no report")]
     NoReports,
-    /// The first one of the list is of tiles, and this is the first window that isn't of tiles of its side. `merge_on_map`
-    /// alone compares grids.
+    /// The first one of the list is of tiles, and this is the first window that isn't of tiles of its side.
     #[error("a window isn't of tiles of this side")]
     OtherSide(usize),
     /// The first one of the list is of a raster of elevations, and this is the first window that isn't of this raster: by

@@ -1,9 +1,8 @@
 //! What windows have in common: one grid, one set of no-data numbers, and labels that two outlets share.
 
 ghost use Rattle.std.specs.Prelude.{◌≡◌, ◌↔◌, ◌<◌};
-ghost use Rattle.drain_merge.specs.Names.{IfErr, IsTrue, OnOk, length, slice_index_or, IsPermutation, SharesAt, CountsOn};
-ghost use Rattle.drain_union.specs.declared.report.WindowReport.{WindowReport as WindowReportOf};
-ghost use Rattle.drain_merge.specs.MapBoxes.{HaveGrid, HaveOneGrid, IsGridRefusal};
+ghost use Rattle.drain_merge.specs.Names.{IfErr, IsTrue, OnOk, length, IsPermutation, SharesAt, CountsOn};
+ghost use Rattle.drain_merge.specs.Merges.{HaveOneGrid, IsGridRefusal};
 ghost use Rattle.drain_merge.specs.Places.{IsFirstFailing};
 ghost use Rattle.drain_merge.specs.Seams.{AreInOrder, IsFirstSharing, IsLeastSharing, IsEarlierOf};
 
@@ -14,7 +13,6 @@ use drain_union::{AuditNoData, Outlet, UnionGrid, WindowReport};
 /// Refuses windows whose rows and columns count on several grids.
 pub(crate) fn check_grids(windows: &[WindowReport]) -> Result<(), MergeRefusal>
     ensures one { OnOk result (HaveOneGrid windows.now) }
-    ensures of_first { OnOk result ((d : WindowReportOf) → HaveGrid (slice_index_or windows.now 0 d).grid windows.now) }
     ensures refusal { IfErr result (IsGridRefusal windows.now) }
 {
     let Some(first) = windows.first() else {

@@ -1,13 +1,21 @@
 //! The smallest box that holds windows.
 
-ghost use Rattle.std.specs.Prelude.{◌≡◌, ◌↔◌, ◌+◌, ◌-◌, ◌^◌};
+ghost use Rattle.std.specs.Prelude.{◌≡◌, ◌↔◌, ◌-◌, ◌≤◌, ◌^◌};
 ghost use Rattle.drain_merge.specs.Names.{min, IsTrue, Contains};
 ghost use Rattle.drain_union.specs.declared.report.WindowReport.{WindowReport as WindowReportOf};
-ghost use Rattle.drain_merge.specs.BoxReports.{EndFit, IsSmallestBox, StopsAt};
-ghost use Rattle.drain_merge.specs.MapBoxes.{bottom_end, greatest_by, least_by, left_of, right_end, top_of};
+ghost use Rattle.drain_merge.specs.BoxReports.{bottom_end, box_of, box_within, greatest_by, IsSmallestBox, least_by, left_of, right_end, StopsAt, top_of, whole_box};
+ghost use Rattle.drain_merge.specs.Unjudged.{HasCells};
 
+use drain_grid::Cell;
 use drain_union::place::end_of;
 use drain_union::{InnerSides, Place, UnionSize, WindowReport};
+
+/// The box that holds a union: the map's row and column of its first cell, and its size.
+#[derive(Clone, Copy, PartialEq, Eq, Debug)]
+pub struct UnionBox {
+    pub origin: Cell,
+    pub size: UnionSize,
+}
 
 /// A side of a box.
 #[derive(Clone, Copy)]
@@ -60,36 +68,74 @@ fn place_of(window: &WindowReport) -> Place
     window.report.place
 }
 
-/// The smallest box that holds these windows. On a side of it the union goes on unless it ends with a window there.
-pub(crate) fn smallest_box(windows: &[WindowReport]) -> Place
-    ensures smallest { IsSmallestBox windows.now result }
-    ensures ends { EndFit result }
+/// The smallest box that holds these windows, up to this end of rows and columns.
+fn box_within(last: u64, windows: &[WindowReport]) -> UnionBox
+    ensures { result ≡ box_within last windows.now }
 {
     let edges = edges(windows);
-    let bottom = last_end(edges.top, edges.bottom);
-    let right = last_end(edges.left, edges.right);
-    Place {
-        top: edges.top,
-        left: edges.left,
-        extent: UnionSize {
-            rows: bottom - edges.top,
-            cols: right - edges.left,
+    UnionBox {
+        origin: Cell {
+            row: edges.top,
+            col: edges.left,
         },
-        inner: InnerSides {
-            north: !some_stops(windows, Side::North, u64::from(edges.top)),
-            south: !some_stops(windows, Side::South, u64::from(bottom)),
-            west: !some_stops(windows, Side::West, u64::from(edges.left)),
-            east: !some_stops(windows, Side::East, u64::from(right)),
+        size: UnionSize {
+            rows: length_up_to(edges.top, edges.bottom.min(last)),
+            cols: length_up_to(edges.left, edges.right.min(last)),
         },
     }
 }
 
-/// The end as a number of 32 bits, which doesn't lie before the first.
-fn last_end(first: u32, end: u64) -> u32
-    ensures { result ≡ first + (min end (2 ^ 32 - 1) - first) }
+/// How many rows or columns there are from the first one up to an end, at most the greatest number of 32 bits.
+fn length_up_to(first: u32, end: u64) -> u32
+    ensures { result ≡ min (end - first) (2 ^ 32 - 1) }
 {
-    let end = end.min(u64::from(u32::MAX)) as u32;
-    end.max(first)
+    let length = end.saturating_sub(u64::from(first));
+    if length < u64::from(u32::MAX) {
+        length as u32
+    } else {
+        u32::MAX
+    }
+}
+
+/// The box that a union is: the smallest one that holds its windows. It has no inner side.
+pub(crate) fn whole_box(windows: &[WindowReport]) -> Place
+    ensures whole { result ≡ whole_box (box_of windows.now) }
+    ensures cells { HasCells result }
+{
+    let bounds = box_within(u64::from(u32::MAX) + 1, windows);
+    Place {
+        top: bounds.origin.row,
+        left: bounds.origin.col,
+        extent: bounds.size,
+        inner: InnerSides {
+            north: false,
+            south: false,
+            west: false,
+            east: false,
+        },
+    }
+}
+
+/// The smallest box that holds these windows, without the last row and column of 32 bits. On a side of it the union goes
+/// on unless it ends with a window there.
+pub(crate) fn smallest_box(windows: &[WindowReport]) -> Place
+    ensures smallest { IsSmallestBox (2 ^ 32 - 1) windows.now result }
+    ensures cells { HasCells result }
+{
+    let UnionBox { origin, size } = box_within(u64::from(u32::MAX), windows);
+    let bottom = end_of(origin.row, size.rows());
+    let right = end_of(origin.col, size.cols());
+    Place {
+        top: origin.row,
+        left: origin.col,
+        extent: size,
+        inner: InnerSides {
+            north: !some_stops(windows, Side::North, u64::from(origin.row)),
+            south: !some_stops(windows, Side::South, bottom),
+            west: !some_stops(windows, Side::West, u64::from(origin.col)),
+            east: !some_stops(windows, Side::East, right),
+        },
+    }
 }
 
 /// Whether one of the windows ends here at this side, and with it the union.

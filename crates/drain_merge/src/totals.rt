@@ -3,8 +3,7 @@
 ghost use Rattle.std.specs.Prelude.{◌≡◌, ◌↔◌, ◌+◌};
 ghost use Rattle.drain_merge.specs.Names.{IfErr, IfOk, IsTrue, OnOk, Cell, is_among};
 ghost use Rattle.drain_merge.specs.UnionSinks.{IsFirstLeftOut, IsFirstNotListed, IsListedRefusal, IsSinkRefusal, TakeLines, TakeSinks};
-ghost use Rattle.drain_merge.specs.UnionVerdicts.{IsRejected, SomeIsRejected};
-ghost use Rattle.drain_merge.specs.Places.{all_sinks, places_of};
+ghost use Rattle.drain_merge.specs.Places.{places_of};
 ghost use Rattle.drain_merge.specs.Totals.{AreCountsOf, capped, data_cells_of, raised_of, outlets_of};
 
 use crate::merge_verdict::MergeRefusal;
@@ -88,28 +87,6 @@ fn first_not_listed(taken: &[Cell], listed: &Sinks) -> Option<Cell>
     None
 }
 
-/// Whether some window is rejected.
-pub(crate) fn some_is_rejected(windows: &[WindowReport]) -> bool
-    ensures { IsTrue result ↔ SomeIsRejected windows.now }
-{
-    for window in windows {
-        if is_rejected(window) {
-            return true;
-        }
-    }
-    false
-}
-
-/// Whether the window is rejected.
-fn is_rejected(window: &WindowReport) -> bool
-    ensures { IsTrue result ↔ IsRejected window.now.verdict }
-{
-    match window.verdict {
-        UnionVerdict::Accepted(_) => false,
-        UnionVerdict::Rejected { .. } => true,
-    }
-}
-
 /// The counts of a union of this size: the sums of those of its windows.
 pub(crate) fn total(size: UnionSize, windows: &[WindowReport]) -> UnionCounts
     ensures { AreCountsOf size windows.now result }
@@ -156,15 +133,4 @@ pub(crate) fn places(alloc: Global, windows: &[WindowReport]) -> Result<Vec<Plac
         places.push(window.report.place)?;
     }
     Ok(places)
-}
-
-/// The listed sinks that all windows took.
-pub(crate) fn all_sinks(alloc: Global, windows: &[WindowReport]) -> Result<Vec<Cell>, OutOfMemory>
-    ensures { IfOk result (λ sinks. sinks.items ≡ all_sinks windows.now) }
-{
-    let mut sinks = Vec::new(alloc);
-    for window in windows {
-        sinks.extend_from_slice(&window.report.sinks)?;
-    }
-    Ok(sinks)
 }

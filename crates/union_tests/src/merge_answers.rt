@@ -4,25 +4,14 @@ use crate::agree::same_box;
 use crate::merged_windows::{SIZE, Window, reports};
 use drain_answer::lines::Line;
 use drain_grid::{Cell, parse_sinks};
-use drain_merge::{
-    MapVerdict, MergeRefusal, UnionBox, UnionSinks, merge, merge_line, merge_on_map,
-};
-use drain_union::{UnionSize, UnionVerdict};
+use drain_merge::{MapVerdict, UnionBox, UnionSinks, merge_line, merge_on_map};
+use drain_union::UnionVerdict;
 use std::alloc::Global;
 use std::process::Abort;
 use std::test::Fail;
 
 /// The first cell of a map.
 pub const FIRST: Cell = Cell { row: 0, col: 0 };
-
-/// The line of the answer to these windows of a union of this size.
-pub fn merged(alloc: Global, size: UnionSize, windows: &[Window]) -> Result<Line, Fail> {
-    let reports = reports(alloc, FIRST, windows)?;
-    Ok(match merge(alloc, size, reports) {
-        Ok(verdict) => verdict_line(verdict),
-        Err(refusal) => merge_line(&Err(refusal)),
-    })
-}
 
 /// The line of a verdict.
 pub fn verdict_line(verdict: UnionVerdict) -> Line {

@@ -3,8 +3,8 @@
 //! Windows in one half of the union have its rows 0 to 2 or 1 to 3, so the halves share rows 1 and 2.
 
 use crate::agree::same_line;
-use crate::merge_answers::{merged, merged_on_map};
-use crate::merged_windows::{COLUMN, NE, NW, REST, SE, SIZE, SW, WHOLE, Window};
+use crate::merge_answers::merged_on_map;
+use crate::merged_windows::{COLUMN, NE, NW, REST, SE, SW, WHOLE, Window};
 use drain_grid::Cell;
 use drain_merge::UnionSinks;
 use std::test::Fail;
@@ -238,15 +238,6 @@ static UNIONS: [(&str, &[Window], &str); 12] = [
         "refused OtherSpacing 2",
     ),
 ];
-
-#[test]
-fn unions_with_spacings(rt: HostRuntime) -> Result<(), Fail> {
-    for &(case, windows, line) in &UNIONS {
-        let given = merged(rt.alloc(), SIZE, windows)?;
-        same_line(&rt, case, &given, line);
-    }
-    Ok(())
-}
 
 /// Cells of maps at which the union may begin.
 static ORIGINS: [(u32, u32); 2] = [(0, 0), (4294967292, 4294967292)];

@@ -1,11 +1,10 @@
 //! Verdicts and refusals of a union of four windows.
 
 use crate::agree::same_line;
-use crate::merge_answers::{FIRST, merged, merged_on_map};
-use crate::merged_windows::{COLUMN, NE, NW, REST, RINGS, SE, SIZE, SW, WHOLE, Window};
+use crate::merge_answers::merged_on_map;
+use crate::merged_windows::{COLUMN, NE, NW, REST, RINGS, SE, SW, WHOLE, Window};
 use drain_grid::Cell;
 use drain_merge::UnionSinks;
-use drain_union::UnionSize;
 use std::test::Fail;
 
 /// The windows in the order of the list, and the line.
@@ -151,15 +150,6 @@ static UNIONS: [(&str, &[Window], &str); 19] = [
     ),
 ];
 
-#[test]
-fn unions(rt: HostRuntime) -> Result<(), Fail> {
-    for &(case, windows, line) in &UNIONS {
-        let given = merged(rt.alloc(), SIZE, windows)?;
-        same_line(&rt, case, &given, line);
-    }
-    Ok(())
-}
-
 /// Cells of maps at which the union may begin. From the last one it reaches to the greatest numbers of 32 bits.
 static ORIGINS: [(u32, u32); 3] = [(0, 0), (62400, 90001), (4294967292, 4294967292)];
 
@@ -173,24 +163,6 @@ fn unions_on_a_map(rt: HostRuntime) -> Result<(), Fail> {
             let given = merged_on_map(&rt, rt.alloc(), case, origin, windows, sinks)?;
             same_line(&rt, case, &given, line);
         }
-    }
-    Ok(())
-}
-
-/// Rows and columns of a union that the four windows don't fill, and the line.
-static SIZES: [(u32, u32, &str); 4] = [
-    (4, 3, "refused OutsideUnion 1"),
-    (4, 5, "refused OutsideUnion 1"),
-    (3, 4, "refused OutsideUnion 2"),
-    (5, 4, "refused OutsideUnion 2"),
-];
-
-#[test]
-fn other_sizes(rt: HostRuntime) -> Result<(), Fail> {
-    for &(rows, cols, line) in &SIZES {
-        let size = UnionSize { rows, cols };
-        let given = merged(rt.alloc(), size, &[NW, NE, SW, SE])?;
-        same_line(&rt, "another size", &given, line);
     }
     Ok(())
 }

@@ -1,4 +1,4 @@
-use Rattle.drain_merge.proofs.Names.{◌≡◌, ◌↔◌, ℕ, ◌+◌, ◌-◌, ◌^◌, min, IsTrue, Bool, true, false, not, List, refl, sym, subst, ◌∙◌, arith, Contains, false≢true, WindowReport, end_at, StopsAt, is_inner_at, North, South, West, East}
+use Rattle.drain_merge.proofs.Names.{◌≡◌, ◌↔◌, ℕ, IsTrue, Bool, true, false, not, List, refl, sym, ap, subst, ◌∙◌, arith, Contains, false≢true, WindowReport, box_within, end_at, StopsAt, is_inner_at, North, South, West, East}
 use Rattle.drain_merge.specs.declared.smallest_box.Side.{Side}
 use Rattle.drain_merge.proofs.smallest_box.smallest_box.Goals as goal
 
@@ -21,26 +21,14 @@ by_side P north south west east South = south
 by_side P north south west east West = west
 by_side P north south west east East = east
 
--- where it ends is so many after the first
-length_of : (first end last most : ℕ) → last ≡ first + (min end most - first) → last - first ≡ min end most - first
-length_of first end last most is = omega (arith, is)
-
-end_of : (first last end : ℕ) → last ≡ first + end → last ≡ first + (last - first)
-end_of first last end is = omega (arith, is)
-
 pub returns-clause-smallest : goal.returns-clause-smallest
 returns-clause-smallest c =
     let ws = c.args.windows.now in
-    let top = c.edges-edges.ensures.top in
-    let left = c.edges-edges.ensures.left in
     record {
-      top = top;
-      left = left;
-      rows = length_of _ _ _ (2 ^ 32 - 1) c.last_end-bottom.ensures ∙ (λ i. min (c.edges-edges.ensures.bottom i) (2 ^ 32 - 1) - top i);
-      cols = length_of _ _ _ (2 ^ 32 - 1) c.last_end-right.ensures ∙ (λ i. min (c.edges-edges.ensures.right i) (2 ^ 32 - 1) - left i);
+      bounds = c.box_within-size.ensures ∙ ap (λ last. box_within last ws) c.from.ensures;
       sides = by_side (λ s. (is_inner_at s _ ≡ false) ↔ SomeStops s (end_at s _) ws)
-          (moved North _ _ ws c.some_stops.result c.from.ensures c.some_stops.ensures)
-          (moved South _ _ ws c.some_stops-2.result (c.from-2.ensures ∙ end_of _ _ _ c.last_end-bottom.ensures) c.some_stops-2.ensures)
+          (moved North _ _ ws c.some_stops.result c.from-2.ensures c.some_stops.ensures)
+          (moved South _ _ ws c.some_stops-2.result (omega (arith, c.end_of-bottom.ensures, c.rows.ensures)) c.some_stops-2.ensures)
           (moved West _ _ ws c.some_stops-3.result c.from-3.ensures c.some_stops-3.ensures)
-          (moved East _ _ ws c.some_stops-4.result (c.from-4.ensures ∙ end_of _ _ _ c.last_end-right.ensures) c.some_stops-4.ensures);
+          (moved East _ _ ws c.some_stops-4.result (omega (arith, c.end_of-right.ensures, c.cols.ensures)) c.some_stops-4.ensures);
     }

@@ -1,5 +1,5 @@
 use Rattle.drain_merge.proofs.Names.{sym, ap, ◌∙◌, WindowReport}
-use Rattle.drain_merge.proofs.merger.check_nodata.Goals as goal
+use Rattle.drain_merge.proofs.checks.check_nodata.Goals as goal
 
 pub returns-in-Some-first_other_nodata-clause-refusal : goal.returns-in-Some-first_other_nodata-clause-refusal
 returns-in-Some-first_other_nodata-clause-refusal c =

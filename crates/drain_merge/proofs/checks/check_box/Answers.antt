@@ -1,4 +1,4 @@
-use Rattle.drain_merge.proofs.merger.check_box.Goals as goal
+use Rattle.drain_merge.proofs.checks.check_box.Goals as goal
 
 pub returns-then-branch-clause-fill : goal.returns-then-branch-clause-fill
 returns-then-branch-clause-fill c =

@@ -1,5 +1,0 @@
-use Rattle.drain_merge.proofs.Names.{◌≡◌, ◌++◌, map, take, drop, cell_from}
-use Rattle.drain_merge.proofs.places.move_sinks.Given as goal
-
-abbrev pub invariant-loop-i : goal.invariant-loop-i
-invariant-loop-i l = l.sinks ≡ map (cell_from l.fn.origin) (take l.i l.initial.sinks) ++ drop l.i l.initial.sinks
