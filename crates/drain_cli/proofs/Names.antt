@@ -11,7 +11,7 @@ pub use Rattle.drain_cli.specs.JudgedRuns.{IsJudgement, IsOutcomeOf, IsOutcomeOn
 pub use Rattle.drain_cli.specs.MadeSets.{IsNoSpacing, written_status}
 pub use Rattle.drain_cli.specs.MergeRuns.{IsMergeOutcome, MakeUnion, UnionIsCorrect, UnionIsNotCorrect, merge_status}
 pub use Rattle.drain_cli.specs.OpenedInputs.{ForOpened, UsesGround, UsesOpened, given_in}
-pub use Rattle.drain_cli.specs.RoundTrip.{AreWrittenAndGiven, ReadDemIsJudged, ReadIsJudged, WhatIsWrittenIsAccepted, WhatIsWrittenOnDemIsAccepted}
+pub use Rattle.drain_cli.specs.RoundTrip.{AreWrittenAndGiven, ReadIsJudged, WhatIsWrittenIsAccepted, WhatIsWrittenOnDemIsAccepted}
 pub use Rattle.drain_cli.specs.RunMeanings.{AcceptedMeans, AcceptedOf, RejectedMeans, RejectedOf}
 pub use Rattle.drain_cli.specs.WindowRuns.{IsReadable, verdict_status}
 pub use Rattle.drain_cli.specs.declared.answer.Answer.TheVariants.{Audit, Check}
@@ -35,19 +35,18 @@ pub use Rattle.drain_header.specs.declared.fault.HeaderFault.{HeaderFault}
 pub use Rattle.drain_hgt.specs.Inputs.{TilesTakeAtMost, tile_devices}
 pub use Rattle.drain_maker.specs.Accepted.{AreFilesOf, AreGivenSpacings, MadeIsAccepted, MadeOnDemIsAccepted}
 pub use Rattle.drain_maker.specs.Made.{AreMade, made_numbers}
-pub use Rattle.drain_merge.specs.UnionVerdicts.{IsJudgedFrom, IsUnionVerdict, IsVerdictInside, merge_line}
+pub use Rattle.drain_merge.specs.UnionVerdicts.{IsUnionVerdict, IsVerdictInside, merge_line}
 pub use Rattle.drain_report.specs.Contents.{Contents, ContentsFit, contents_of, report_text}
 pub use Rattle.drain_sets.specs.FileWrites.{WritesFile, WritesFiles}
 pub use Rattle.drain_union.specs.declared.report.WindowReport.{WindowReport}
 pub use Rattle.drain_union.specs.declared.verdict.UnionVerdict.TheVariants.{Accepted, Rejected}
 pub use Rattle.drain_union.specs.declared.verdict.UnionVerdict.{UnionVerdict}
 pub use Rattle.drain_verdict.specs.Answers.{AreCorrect, ForAudit, IfAccepts, IsAcceptance, IsAnswerIn}
-pub use Rattle.drain_verdict.specs.DemGround.{dem_ground}
 pub use Rattle.drain_verdict.specs.Ground.{Ground}
-pub use Rattle.drain_verdict.specs.GroundSets.{ForSet, GroundSet, set_grid, set_numbers, set_products}
+pub use Rattle.drain_verdict.specs.GroundSets.{ForSet, GroundSet}
 pub use Rattle.drain_verdict.specs.Headline.{ForCheck, IsRight, ProductsAreRight}
 pub use Rattle.drain_verdict.specs.Inputs.{Encode, Inputs, as_five}
-pub use Rattle.drain_verdict.specs.Meaning.{input_grid, input_products, nodata_numbers, texts_of, tiling_of}
+pub use Rattle.drain_verdict.specs.Meaning.{texts_of}
 pub use Rattle.drain_verdict.specs.Outcomes.{AreRightIn, IsOutcomeIn}
 pub use Rattle.drain_verdict.specs.Reading.{told_by}
 pub use Rattle.drain_verdict.specs.TileGround.{TellTiles, tile_ground}

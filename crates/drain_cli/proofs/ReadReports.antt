@@ -1,5 +1,5 @@
 -- What is read of a window's report is the report on that window.
-use Rattle.drain_cli.proofs.Names.{◌≡◌, ◌<◌, ◌++◌, List, ℕ, length, refl, sym, ap, ◌∙◌, arith, subst, Consumes, IsAtEnd, append-nil, status_after, status_code, Status, Failed, ContentsFit, contents_of, report_text, Contents, WindowReport, IsReadable, IsJudgedFrom, IsVerdictInside, UnionVerdict, Accepted, Rejected, input_grid, input_products, nodata_numbers, tiling_of, dem_ground, GroundSet, set_grid, set_numbers, set_products, ReadDemIsJudged, ReadIsJudged}
+use Rattle.drain_cli.proofs.Names.{◌≡◌, ◌<◌, ◌++◌, List, ℕ, length, refl, sym, ap, ◌∙◌, arith, subst, Consumes, IsAtEnd, append-nil, status_after, status_code, Status, Failed, ContentsFit, contents_of, report_text, Contents, WindowReport, IsReadable, IsVerdictInside, UnionVerdict, Accepted, Rejected, ReadIsJudged}
 use Rattle.std.proofs.Common.{Option, None, Some, Result, Ok, Err}
 use Rattle.drain_device.specs.declared.patience.GaveUp.{GaveUp}
 use Rattle.drain_sets.specs.declared.set_files.SetFault.{SetFault}
@@ -8,8 +8,7 @@ use Rattle.drain_cli.specs.WindowRuns.{text_of}
 use Rattle.drain_grid.specs.declared.cell.Cell.{Cell}
 use Rattle.drain_grid.specs.Grid.{Grid, Products}
 use Rattle.drain_grid.specs.Values.{NoDataNumbers}
-use Rattle.drain_window.specs.WindowLines.{map_origin}
-use Rattle.drain_window.specs.WindowAnswers.{IsAnswerOn, IsJudgedVerdict}
+use Rattle.drain_window.specs.WindowAnswers.{IsJudgedVerdict}
 use Rattle.drain_union.specs.Windows.{window_at}
 use Rattle.drain_union.specs.Laws.{FourNumbers}
 use Rattle.drain_union.specs.declared.place.Place.{Place}
@@ -50,9 +49,8 @@ inside : FourNumbers → (n : NoDataNumbers) (origin : Cell) (p : Place) (g : Gr
 inside four n origin p g ps (Accepted counts) is = ((four n (window_at origin p g ps)).0.0 is.0, is.1)
 inside four n origin p g ps (Rejected fault) is = (four n (window_at origin p g ps)).1 fault.cell fault.rule is
 
-judged_again : FourNumbers → (n : NoDataNumbers) (origin : Cell) (p : Place) (g : Grid) (ps : Products) (written read : WindowReport) →
-    IsAnswerOn n origin p g ps written.verdict written.report → contents_of read ≡ contents_of written → IsJudgedFrom (window_at origin p g ps) read
-judged_again four n origin p g ps written read is same =
+pub read_is_judged : FourNumbers → ReadIsJudged
+read_is_judged four n origin p g ps written read is same =
     let w = window_at origin p g ps in
     let report : read.report ≡ written.report = ap (λ (w : Contents). w.report) same in
     let verdict : read.verdict ≡ written.verdict = ap (λ (w : Contents). w.verdict) same in
@@ -64,12 +62,3 @@ judged_again four n origin p g ps written read is same =
           subst (λ (r : Report). IsVerdictInside r.nodata w read.verdict) (sym report)
           (subst (λ (v : UnionVerdict). IsVerdictInside written.report.nodata w v) (sym verdict) of_written);
     }
-
-pub read_is_judged : FourNumbers → ReadIsJudged
-read_is_judged four p i written read answer same =
-    judged_again four (nodata_numbers i) (map_origin (tiling_of i)) p (input_grid i) (input_products i) written read answer.3 same
-
-pub read_dem_is_judged : FourNumbers → ReadDemIsJudged
-read_dem_is_judged four at p d t written read answer same =
-    let s : GroundSet = record { terrain = dem_ground d; texts = t } in
-    judged_again four (set_numbers s) at p (set_grid s) (set_products s) written read answer.1.1 same

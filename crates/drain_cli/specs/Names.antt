@@ -39,6 +39,7 @@ pub use Rattle.drain_grid.specs.declared.sink_text.SinkFault.{SinkFault}
 pub use Rattle.drain_grid.specs.declared.verdict.Verdict.{Verdict}
 pub use Rattle.drain_header.specs.Faults.{Answers, fault_text}
 pub use Rattle.drain_header.specs.Header.{Fields}
+pub use Rattle.drain_hgt.specs.Corner.{Corner}
 pub use Rattle.drain_hgt.specs.Inputs.{TilesTakeAtMost, names_of, tile_devices}
 pub use Rattle.drain_hgt.specs.declared.input.TileInput.{TileInput}
 pub use Rattle.drain_maker.specs.Accepted.{AreGivenSpacings, IsMadeAcceptance}
@@ -60,10 +61,11 @@ pub use Rattle.drain_sets.specs.declared.set_files.SetFault.TheVariants.{WriteFa
 pub use Rattle.drain_sets.specs.declared.set_files.SetFault.{SetFault}
 pub use Rattle.drain_sets.specs.declared.set_files.TheConstants.{DERIVED_COUNT, FILE_COUNT}
 pub use Rattle.drain_union.specs.Reports.{Agree, Report}
+pub use Rattle.drain_union.specs.Windows.{IsOrigin}
 pub use Rattle.drain_union.specs.declared.place.Place.{Place}
 pub use Rattle.drain_union.specs.declared.report.WindowReport.{WindowReport}
 pub use Rattle.drain_verdict.specs.Answers.{AreCorrect, ForAudit, IsAnswer, IsAnswerIn, IsAuditAnswer}
-pub use Rattle.drain_verdict.specs.DemGround.{AreHeadersKept, DemTakesAtMost, DemTexts, DemUses, EncodesDem, ForDem, IsDemInput, dem_audit_devices, dem_devices, dem_ground}
+pub use Rattle.drain_verdict.specs.DemGround.{AreHeadersKept, DemTakesAtMost, DemTexts, EncodesDem, IsDemInput, dem_devices, dem_ground}
 pub use Rattle.drain_verdict.specs.GroundSets.{ForSet, GroundSet}
 pub use Rattle.drain_verdict.specs.Headline.{ForCheck, IsRight, ProductsAreRight}
 pub use Rattle.drain_verdict.specs.Inputs.{as_five}
@@ -71,7 +73,7 @@ pub use Rattle.drain_verdict.specs.Outcomes.{AreRightIn, IsOutcomeIn}
 pub use Rattle.drain_verdict.specs.Reading.{told_by}
 pub use Rattle.drain_verdict.specs.TileGround.{TellTiles, tile_ground}
 pub use Rattle.drain_verdict.specs.Uses.{AreNamesKept, AuditUses, CheckUses, UsesTold, set_devices}
-pub use Rattle.drain_window.specs.WindowAnswers.{IsDemWindow, IsOfDem, IsWindowAnswer, as_refused, window_in, window_of}
+pub use Rattle.drain_window.specs.WindowAnswers.{IsOfDem, IsOfTiles, IsWindowIn, as_refused}
 pub use Rattle.drain_window.specs.declared.answered.WindowRefusal.{WindowRefusal}
 pub use Rattle.std.specs.Io.KnownBytes.{Consumes, IsAtEnd}
 pub use Rattle.std.specs.Prelude.{Err, IfErr, IfOk, IfSome, IsErrOf, IsSome, IsTrue, List, MatchResult, None, Ok, OnOk, Option, Result, Some, [], codes, decimal, false, length, map, string_bytes, vec_len, ℕ}

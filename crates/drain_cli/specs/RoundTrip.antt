@@ -1,29 +1,27 @@
 -- From elevations to products, to files, and to the check of these files: what was made and written is accepted.
 use Rattle.std.specs.Prelude.{◌≡◌, ◌∷◌}
-use Rattle.drain_cli.specs.Names.{Ok, ℕ, List, [], map, Option, Some, Result, IsJudgedFrom, contents_of, IsDemWindow, IsWindowAnswer, window_in, window_of, Cell, Place, WindowReport, Sink, ProductSet, spacing_of, TileInput, Tiling, Verdict, Refusal, TellTiles, IsAnswer, IsAnswerIn, DemTexts, EncodesDem, dem_ground, RasterInput, Fields, spaced_dem_grid, IsMadeAcceptance, WritesSet, made_header}
+use Rattle.drain_cli.specs.Names.{Ok, ℕ, List, [], map, Option, Some, Result, IsJudgedFrom, contents_of, Grid, Cell, Place, WindowReport, Sink, ProductSet, spacing_of, TileInput, Tiling, Verdict, Refusal, TellTiles, IsAnswer, IsAnswerIn, DemTexts, EncodesDem, dem_ground, RasterInput, Fields, spaced_dem_grid, IsMadeAcceptance, WritesSet, made_header}
 use Rattle.drain_verdict.specs.Given.{Given}
 use Rattle.drain_verdict.specs.Inputs.{Inputs}
 use Rattle.drain_verdict.specs.Texts.{SetTexts}
 use Rattle.std.specs.List.{All, flat_map}
+use Rattle.drain_grid.specs.Grid.{Products}
+use Rattle.drain_grid.specs.Values.{NoDataNumbers}
 use Rattle.drain_grid.specs.WholeGrid.{products_of, spaced_grid}
 use Rattle.drain_grid.specs.SetProduct.{products}
 use Rattle.drain_verdict.specs.Meaning.{texts_of}
 use Rattle.drain_grid.specs.declared.product.Product.TheVariants.{Con}
 use Rattle.drain_cli.specs.MadeSets.{IsDemSetOf, IsSetOf}
+use Rattle.drain_union.specs.Windows.{window_at}
+use Rattle.drain_window.specs.WindowAnswers.{IsAnswerOn}
 
 -- How a run of `drain window` and a run of `drain merge` go together. The law is this project's own.
 
--- what is read again of what a window's inputs were answered is the report on that window
+-- what is read again of what was reported of a window is the report on that window
 abbrev pub ReadIsJudged : Type 0
 ReadIsJudged =
-    (p : Place) (i : Inputs) (written read : WindowReport) → IsWindowAnswer p i (Ok written) → contents_of read ≡ contents_of written →
-    IsJudgedFrom (window_of p i) read
-
--- the same of a window of a part of a raster of elevations
-abbrev pub ReadDemIsJudged : Type 0
-ReadDemIsJudged =
-    (at : Cell) (p : Place) (d : DemTexts) (t : SetTexts) (written read : WindowReport) → IsDemWindow at p (record { terrain = dem_ground d; texts = t }) (Ok written) →
-    contents_of read ≡ contents_of written → IsJudgedFrom (window_in at p (record { terrain = dem_ground d; texts = t })) read
+    (nodata : NoDataNumbers) (origin : Cell) (p : Place) (g : Grid) (ps : Products) (written read : WindowReport) → IsAnswerOn nodata origin p g ps written.verdict written.report →
+    contents_of read ≡ contents_of written → IsJudgedFrom (window_at origin p g ps) read
 
 -- the bytes that a check is given of the products: of each its header, and then its raster
 unfoldable pub files_given : SetTexts → List (List ℕ)

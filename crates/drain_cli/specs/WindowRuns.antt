@@ -1,12 +1,14 @@
 -- How the first part of a run of `drain window` ends: with what is to be reported, or with the reason why there is none.
 use Rattle.std.specs.Prelude.{◌≡◌}
-use Rattle.drain_cli.specs.Names.{ℕ, List, Result, Ok, Err, IfOk, codes, SetFault, WriteFailed, Status, Done, Failed, ContentsFit, contents_of, report_text, Agree, WindowReport, Sink, Source, OpenElevations, Cell, TileInput, Prints, refusal_status, ForAudit, DemUses, ForDem, dem_audit_devices, as_five, AuditUses, AuditProducts, RasterInput, as_refused, IsDemWindow, IsOfDem, IsWindowAnswer, WindowRefusal, Place}
+use Rattle.drain_cli.specs.Names.{ℕ, List, Option, Result, Ok, Err, IfOk, codes, SetFault, WriteFailed, Status, Done, Failed, ContentsFit, contents_of, report_text, Agree, WindowReport, Sink, Source, OpenElevations, Tiles, Dem, Cell, Corner, names_of, Prints, Refusal, refusal_status, told_by, GroundSet, as_five, AuditProducts, IsOfDem, IsOfTiles, IsWindowIn, as_refused, WindowRefusal, Place, IsOrigin}
+use Rattle.drain_cli.specs.OpenedInputs.{ForOpened, UsesOpened}
 use Rattle.drain_sets.specs.declared.set_files.SetFault.TheVariants.{OutOfMemory}
 use Rattle.drain_answer.specs.declared.outcome.Status.TheVariants.{Rejected, Refused}
 use Rattle.drain_union.specs.VerdictLines.{verdict_line}
 use Rattle.drain_union.specs.declared.verdict.UnionVerdict.{UnionVerdict}
-use Rattle.drain_files.specs.declared.open_judged.OpenElevations.TheVariants as elevations
+use Rattle.drain_union.specs.declared.union_grid.UnionGrid.{UnionGrid}
 use Rattle.drain_verdict.specs.Given.{Given}
+use Rattle.drain_verdict.specs.Inputs.{Products}
 use Rattle.drain_window.specs.WindowLines.{refusal_line}
 use Rattle.drain_window.specs.declared.answered.WindowRefusal.TheVariants.{Inputs, OutsideMosaic}
 use Rattle.drain_union.specs.declared.verdict.UnionVerdict.TheVariants as window
@@ -38,18 +40,13 @@ abbrev pub reported_status : UnionVerdict → Result (Unit {0}) SetFault → Sta
 reported_status v (Ok done) = verdict_status v
 reported_status v (Err fault) = Failed
 
--- the outcome is the answer to the bytes that the devices had left, if they are known; they are read as by an audit
-pub record IsWindowOutcome {R : Type 0} (source : Source R) (p : Place) (side : ℕ) (tiles_old tiles_new : List (TileInput R)) (given : Given)
-    (products_old products_new : AuditProducts R) (outcome : Result WindowReport WindowRefusal) : Type 0 where
-  pub answer : ForAudit source.bytes_left side tiles_old given products_old (λ i. IsWindowAnswer p i outcome)
-  pub uses : AuditUses source.bytes_left source.counts side (tiles_old, products_old) (tiles_new, products_new) (as_refused outcome)
-
--- the same of a part of a raster of elevations, which begins at this cell of the whole
-pub record IsDemWindowOutcome {R : Type 0} (source : Source R) (p : Place) (at : Cell) (dem_old dem_new : List (RasterInput R)) (given : Given)
-    (products_old products_new : AuditProducts R) (outcome : Result WindowReport WindowRefusal) : Type 0 where
-  pub answer : ForDem source.bytes_left dem_old given (as_five products_old) (λ s. IsDemWindow at p s outcome)
-  pub part : IfOk outcome (IsOfDem at dem_old)
-  pub uses : DemUses as_five dem_audit_devices source.bytes_left source.counts (dem_old, products_old) (dem_new, products_new) (as_refused outcome)
+-- the outcome is the answer to the bytes that the devices had left, if they are known, and what is reported names the ground;
+-- they are read as by an audit
+pub record IsWindowOutcome {R : Type 0} (For : Products R → (GroundSet → Type 0) → Type 0) (Uses : (P : Type 0) → (P → Products R) → P → P → Option Refusal → Type 0)
+    (InRange : Type 0) (Names : UnionGrid → List Corner → Type 0) (p : Place) (products_old products_new : AuditProducts R) (outcome : Result WindowReport WindowRefusal) : Type 0 where
+  pub answer : For (as_five products_old) (λ s. IsWindowIn InRange p s outcome)
+  pub named : IfOk outcome (λ a. Names a.grid a.tiles.items)
+  pub uses : Uses (AuditProducts R) as_five products_old products_new (told_by (as_refused outcome))
 
 -- the status of a refusal
 abbrev pub refusal_code : WindowRefusal → Status
@@ -61,13 +58,16 @@ abbrev pub IsWindowHandedOver : {W : Type 0} → Sink W → W → W → Result W
 IsWindowHandedOver sink old new (Ok window) result = (result ≡ Ok window) × (new ≡ old)
 IsWindowHandedOver sink old new (Err refusal) result = (code : ℕ) × (result ≡ Err code) × Prints sink old new (refusal_line refusal) (refusal_code refusal) code
 
--- a run on the tiles or the raster that were opened
+-- a run on a ground
+abbrev pub IsWindowRunOn : {R W : Type 0} → (Products R → (GroundSet → Type 0) → Type 0) → ((P : Type 0) → (P → Products R) → P → P → Option Refusal → Type 0) → Type 0 → (UnionGrid → List Corner → Type 0) → Sink W → Place → AuditProducts R → AuditProducts R → W → W → Result WindowReport ℕ → Type 0
+IsWindowRunOn For Uses InRange Names sink p products_old products_new out_old out_new result = (outcome : Result WindowReport WindowRefusal)
+    × IsWindowOutcome For Uses InRange Names p products_old products_new outcome
+    × IsWindowHandedOver sink out_old out_new outcome result
+
+-- a run on the tiles that were opened, or on the raster, which begins at this cell of the whole
 abbrev pub IsWindowRun : {R W : Type 0} → Source R → Sink W → Place → Cell → OpenElevations R → OpenElevations R → Given → AuditProducts R → AuditProducts R → W → W → Result WindowReport ℕ → Type 0
-IsWindowRun source sink p at (elevations.Tiles old) (elevations.Tiles new) given products_old products_new out_old out_new result = (outcome : Result WindowReport WindowRefusal)
-    × IsWindowOutcome source p old.side old.tiles.items new.tiles.items given products_old products_new outcome
-    × IsWindowHandedOver sink out_old out_new outcome result
-IsWindowRun source sink p at (elevations.Dem old) (elevations.Dem new) given products_old products_new out_old out_new result = (outcome : Result WindowReport WindowRefusal)
-    × IsDemWindowOutcome source p at old new given products_old products_new outcome
-    × IsWindowHandedOver sink out_old out_new outcome result
-IsWindowRun source sink p at (elevations.Tiles old) (elevations.Dem new) given products_old products_new out_old out_new result = ⊥
-IsWindowRun source sink p at (elevations.Dem old) (elevations.Tiles new) given products_old products_new out_old out_new result = ⊥
+IsWindowRun source sink p at (Tiles old) (Tiles new) given =
+    IsWindowRunOn (ForOpened source.bytes_left (Tiles old) given) (UsesOpened source (Tiles old) (Tiles new)) (Unit {0}) (IsOfTiles old.side (names_of old.tiles.items)) sink p
+IsWindowRun source sink p at (Dem old) (Dem new) given =
+    IsWindowRunOn (ForOpened source.bytes_left (Dem old) given) (UsesOpened source (Dem old) (Dem new)) (IsOrigin at) (IsOfDem at old) sink p
+IsWindowRun source sink p at old new given = λ products_old products_new out_old out_new result. ⊥

@@ -2,7 +2,7 @@
 //!
 //! A law is a function with an empty body: its contract is the law, and a caller gets the law by calling it.
 
-ghost use Rattle.drain_cli.specs.RoundTrip.{ReadDemIsJudged, ReadIsJudged, WhatIsWrittenIsAccepted, WhatIsWrittenOnDemIsAccepted};
+ghost use Rattle.drain_cli.specs.RoundTrip.{ReadIsJudged, WhatIsWrittenIsAccepted, WhatIsWrittenOnDemIsAccepted};
 
 use drain_device::{ByteSink, ByteSource};
 use drain_maker::laws::{made_is_accepted, made_on_dem_is_accepted};
@@ -27,8 +27,7 @@ pub fn what_is_written_on_dem_is_accepted<R: ByteSource, F: ByteSink>()
 /// What `drain merge` reads of what `drain window` wrote is the report on the window that was judged. So what
 /// `merge_and_print` promises of the windows of which it has the reports holds of these.
 pub fn read_is_judged()
-    ensures tiles { ReadIsJudged }
-    ensures dem { ReadDemIsJudged }
+    ensures { ReadIsJudged }
 {
     // The law that the rules look at the four no-data numbers of a report.
     four_numbers();

@@ -21,8 +21,8 @@ use drain_grid::Cell;
 use drain_union::{Fault, Outlet, Place, Report, Shown, UnionVerdict, WindowReport, sort_by_label};
 use std::alloc::Global;
 
-/// The report on the smallest box that holds these windows, which have to fill it: as `drain_window::judge_window` makes it
-/// of a window that is this box. So a merge of such reports is a merge of all their windows. On a side of the box the
+/// The report on the smallest box that holds these windows, which have to fill it: as `drain_window::judge_window_on`
+/// makes it of a window that is this box. So a merge of such reports is a merge of all their windows. On a side of the box the
 /// union goes on unless it ends with a window there. Of a rejected window seams aren't compared, and the report of the
 /// box is a rejected one. It names no tiles.
 ///

@@ -1,10 +1,5 @@
 -- From the notes of all rows to the report on a window, and the verdict.
-use Rattle.drain_window.proofs.Names.{◌≡◌, ℕ, Option, Some, List, Result, Ok, Err, sym, subst, ◌+◌, ◌-◌, ◌<◌, ◌≤◌, true, false, refl, ap, arith, BoxTooLarge, Tiling, DemUses, dem_audit_devices, dem_check_devices, as_five, audit_devices, AreNamesKept, AuditUses, UsesInputs, devices_of, RasterInput, dem_four_used, four_used, no_memory_left, Report, audited, IsSortedByLabel, ListsOutlets, IsReportOf, ListsSeams, ListsSinks, ListsSpacings, WindowReport, UnionVerdict, as_refused, IsWithTiles, WindowRefusal, Distances, Cell, Rule, Grid, Products, unranked, same_place, NoDataNumbers, IsPatchRule, Sound, Faulty, Tally, Outlet, Place, SEAM_DEPTH, Shown, window_at, moved, IsFirstInside, IsPlaceIn, RulesHoldInside, IsAreaOutcome, AreListed, judged_area, IsOfWindow, ListsJudged, WalkJudgesWindow, WalkListsSeams, ListsSeamsAbove}
-use Rattle.drain_device.specs.declared.counts.FaultCounts.{FaultCounts}
-use Rattle.drain_hgt.specs.declared.input.TileInput.{TileInput}
-use Rattle.drain_hgt.specs.Inputs.{TilesTakeAtMost}
-use Rattle.drain_sets.specs.declared.raster_input.AuditProducts.{AuditProducts}
-use Rattle.drain_window.specs.declared.answered.WindowRefusal.TheVariants.{Inputs as OfInputs, OutsideMosaic}
+use Rattle.drain_window.proofs.Names.{◌≡◌, ℕ, List, sym, subst, ◌+◌, ◌-◌, ◌<◌, ◌≤◌, true, false, refl, ap, arith, audited, IsSortedByLabel, ListsOutlets, IsReportOf, ListsSeams, ListsSinks, ListsSpacings, Distances, Cell, Rule, Grid, Products, unranked, same_place, NoDataNumbers, IsPatchRule, Sound, Faulty, Tally, Outlet, Place, SEAM_DEPTH, Shown, window_at, moved, IsFirstInside, IsPlaceIn, RulesHoldInside, IsAreaOutcome, AreListed, judged_area, IsOfWindow, ListsJudged, WalkJudgesWindow, WalkListsSeams, ListsSeamsAbove}
 use Rattle.std.specs.List.Sorted.{IsPermutation}
 use Rattle.std.proofs.lemmas.List.Sorted.{Contains-permutation, IsPermutation-sym}
 use Rattle.drain_grid.specs.declared.judged.Judged.TheVariants.{All}
@@ -16,30 +11,6 @@ use Rattle.drain_window.specs.WindowWalks.{IsSeamWalkOf, IsWindowWalkOf}
 use Rattle.drain_window.specs.declared.listed_outlets.ListedOutlets.{ListedOutlets}
 use Rattle.drain_window.specs.declared.seam_walk.SeamWalk.{SeamWalk}
 use Rattle.drain_window.specs.WindowNotes.{AreOfWindow}
-
--- How the inputs are used, from one answer to the next.
-
-pub with_tiles_uses : {R : Type 0} (bl : R → Option (List ℕ)) (ct : R → FaultCounts) (side : ℕ) (old new : List (TileInput R) × AuditProducts R) (t : Tiling) (v : UnionVerdict) (r : Report)
-    (result : Result WindowReport WindowRefusal) → IsWithTiles t v r result →
-    AuditUses {T = UnionVerdict × Report} bl ct side old new (Ok (v, r)) → AuditUses bl ct side old new (as_refused result)
-with_tiles_uses bl ct side old new t v r (Ok a) is uses = uses
-with_tiles_uses bl ct side old new t v r (Err refusal) same uses =
-    subst (λ (x : WindowRefusal). AuditUses bl ct side old new (as_refused {A = WindowReport} (Err x))) (sym same)
-    (no_memory_left as_five audit_devices (TilesTakeAtMost bl side) AreNamesKept bl ct old new uses)
-
--- a refusal is that of the ground
-
-pub refused : {R : Type 0} (bl : R → Option (List ℕ)) (ct : R → FaultCounts) (side : ℕ) (old new : List (TileInput R) × AuditProducts R) (refusal : WindowRefusal) →
-    UsesInputs as_five (λ ts ps. devices_of ts (as_five ps)) bl ct side old new (as_refused {A = UnionVerdict × Report} (Err refusal)) →
-    AuditUses bl ct side old new (as_refused {A = WindowReport} (Err refusal))
-refused bl ct side old new (OfInputs refusal) uses = four_used bl ct side old new (Some refusal) uses
-refused bl ct side old new OutsideMosaic uses = four_used bl ct side old new (Some BoxTooLarge) uses
-
-pub dem_refused : {R : Type 0} (bl : R → Option (List ℕ)) (ct : R → FaultCounts) (old new : List (RasterInput R) × AuditProducts R) (refusal : WindowRefusal) →
-    DemUses as_five (λ xs ps. dem_check_devices xs (as_five ps)) bl ct old new (as_refused {A = UnionVerdict × Report} (Err refusal)) →
-    DemUses as_five dem_audit_devices bl ct old new (as_refused {A = WindowReport} (Err refusal))
-dem_refused bl ct old new (OfInputs refusal) uses = dem_four_used bl ct old new (Some refusal) uses
-dem_refused bl ct old new OutsideMosaic uses = dem_four_used bl ct old new (Some BoxTooLarge) uses
 
 -- a sorted list of the same outlets is that of the window
 listed : (nodata : NoDataNumbers) (origin : Cell) (p : Place) (g : Grid) (ps : Products) (outlets sorted : List Outlet) → IsSortedByLabel sorted → IsPermutation outlets sorted →

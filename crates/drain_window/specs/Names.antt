@@ -9,6 +9,9 @@ pub use Rattle.drain_grid.specs.declared.cell.Cell.{Cell}
 pub use Rattle.drain_grid.specs.declared.cell.TheConstants.{MAX_LENGTH}
 pub use Rattle.drain_grid.specs.declared.judged.Rules.{Rules}
 pub use Rattle.drain_header.specs.Header.{Fields, IsCoordinate}
+pub use Rattle.drain_hgt.specs.Corner.{Corner}
+pub use Rattle.drain_hgt.specs.Inputs.{names_of}
+pub use Rattle.drain_hgt.specs.Name.{IsNameOf}
 pub use Rattle.drain_hgt.specs.declared.name.TheConstants.{HALF_TURN, POLE}
 pub use Rattle.drain_mosaic.specs.Tiling.{Tiling, north_of, west_of}
 pub use Rattle.drain_rules.specs.Areas.{CountsAmong, HasCell, IsAreaOutcome, IsOutletCell}
@@ -23,11 +26,10 @@ pub use Rattle.drain_union.specs.declared.place.TheConstants.{SEAM_DEPTH}
 pub use Rattle.drain_union.specs.declared.report.Outlet.{Outlet}
 pub use Rattle.drain_union.specs.declared.report.Shown.{Shown}
 pub use Rattle.drain_union.specs.declared.report.WindowReport.{WindowReport}
-pub use Rattle.drain_verdict.specs.Answers.{AreReadable, ForAudit, IsRefusal}
-pub use Rattle.drain_verdict.specs.DemGround.{DemUses, ForDem, IsDemInput, dem_audit_devices}
+pub use Rattle.drain_union.specs.declared.union_grid.UnionGrid.{UnionGrid}
+pub use Rattle.drain_verdict.specs.DemGround.{IsDemInput}
 pub use Rattle.drain_verdict.specs.GroundSets.{ForSet, GroundSet, IsReadable, IsRefusalIn, set_grid, set_numbers, set_products}
-pub use Rattle.drain_verdict.specs.Inputs.{Inputs, as_five}
-pub use Rattle.drain_verdict.specs.Meaning.{input_grid, input_products, nodata_numbers, tiling_of}
-pub use Rattle.drain_verdict.specs.Uses.{AuditUses, UsesSet, set_devices}
-pub use Rattle.std.specs.List.{Contains, flat_map, range_with_len}
+pub use Rattle.drain_verdict.specs.Inputs.{as_five}
+pub use Rattle.drain_verdict.specs.Uses.{UsesSet, set_devices}
+pub use Rattle.std.specs.List.{AllZip, Contains, flat_map, range_with_len}
 pub use Rattle.std.specs.Prelude.{Bool, Err, IfOk, IfSome, IsTrue, List, Ok, OnErr, OnOk, Result, Some, [], codes, length, map, nat_abs, neg_ℤ, pos, slice_get, suc, zero, ℕ}

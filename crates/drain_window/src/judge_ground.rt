@@ -1,4 +1,4 @@
-//! One window of a union, from the bytes of a ground, wherever its elevations come from, and of its products.
+//! One window of a union, from the bytes of a ground whose frame is known.
 
 ghost use Rattle.std.specs.Prelude.{◌≡◌};
 ghost use Rattle.drain_window.specs.Names.{IfOk, ForSet, as_five, UsesSet, set_devices, Agree, IsOrigin, IsPlaceIn};
@@ -9,46 +9,55 @@ use crate::judged_area::{judged_area, judged_sinks};
 use crate::judged_rows::judged_spacings;
 use crate::listed_outlets::ListedOutlets;
 use crate::seam_walk::SeamWalk;
+use crate::window_ground::WindowGround;
 use drain_answer::Refusal;
 use drain_device::ByteSource;
 use drain_grid::{Cell, Judged};
 use drain_rows::BothVisitors;
 use drain_rules::Walk;
-use drain_union::place::is_origin;
-use drain_union::{Place, Report, UnionVerdict};
+use drain_union::{Place, Report, UnionVerdict, WindowReport};
 use drain_verdict::ground::GroundInput;
 use drain_verdict::read_set::read_set;
 use drain_verdict::{AuditProducts, Given};
 use std::alloc::Global;
 
-/// The verdict and the report on the window at this place of a ground, which begins at this cell of the union.
-pub(crate) fn judge_ground<R: ByteSource, T: GroundInput<R>>(
+/// The answer to the bytes of a ground with this frame.
+pub(crate) fn judge_ground<R: ByteSource, T: WindowGround<R>>(
     alloc: Global,
     frame: &T::Frame,
-    origin: Cell,
+    at: &T::At,
     given: &Given,
     inputs: &mut [T],
     products: &mut AuditProducts<R>,
     place: &Place,
-) -> Result<(UnionVerdict, Report), WindowRefusal>
-    requires fit { T.fit frame.now inputs.old }
-    ensures answer { ForSet T.terrain (T.encodes (T.key_of frame.now) inputs.old) R.bytes_left given.now (as_five products.old) (λ s. IsWindowIn origin place.now s result) }
-    ensures uses { UsesSet as_five (λ xs ps. set_devices T.devices xs (as_five ps)) (T.within (T.key_of frame.now)) T.kept R.bytes_left R.counts (inputs.old, products.old) (inputs.new, products.new) (as_refused result) }
-    ensures agree { IfOk result (λ a. Agree a.0 a.1) }
+) -> Result<WindowReport, WindowRefusal>
+    requires fit { T.GroundInput.fit frame.now inputs.old }
+    ensures answer { ForSet T.GroundInput.terrain (T.GroundInput.encodes (T.GroundInput.key_of frame.now) inputs.old) R.bytes_left given.now (as_five products.old) (λ s. IsWindowIn (T.in_range at.now) place.now s result) }
+    ensures named { IfOk result (λ a. T.named at.now (T.GroundInput.key_of frame.now) inputs.old a.grid a.tiles.items) }
+    ensures uses { UsesSet as_five (λ xs ps. set_devices T.GroundInput.devices xs (as_five ps)) (T.GroundInput.within (T.GroundInput.key_of frame.now)) T.GroundInput.kept R.bytes_left R.counts (inputs.old, products.old) (inputs.new, products.new) (as_refused result) }
+    ensures agree { IfOk result (λ a. Agree a.verdict a.report) }
 {
     // The laws of what the inputs mean, and of what is read of them.
     T::meaning_laws();
     T::reading_laws();
-    if !is_origin(origin) || !place.lies_in(T::shape(frame)) {
+    if !T::is_in_range(at) || !place.lies_in(T::shape(frame)) {
         return Err(WindowRefusal::OutsideMosaic);
     }
+    let Ok((origin, grid, tiles)) = T::in_union(alloc, frame, at) else {
+        return Err(WindowRefusal::Inputs(Refusal::OutOfMemory));
+    };
     match judge_placed::<R, T>(alloc, frame, origin, given, inputs, products, place) {
-        Ok(answer) => Ok(answer),
+        Ok((verdict, report)) => Ok(WindowReport {
+            grid,
+            tiles,
+            verdict,
+            report,
+        }),
         Err(refusal) => Err(WindowRefusal::Inputs(refusal)),
     }
 }
 
-/// The same for a place that lies in the ground.
+/// The verdict and the report on the window at this place of a ground, which begins at this cell of the union.
 fn judge_placed<R: ByteSource, T: GroundInput<R>>(
     alloc: Global,
     frame: &T::Frame,

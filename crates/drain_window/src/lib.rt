@@ -6,15 +6,17 @@
 #![tactic(auto)]
 
 pub mod answered;
+mod dem_window;
 pub mod judge;
-pub mod judge_dem;
 mod judge_ground;
 mod judged_area;
 mod judged_rows;
 pub mod laws;
 pub mod listed_outlets;
 pub mod seam_walk;
+mod tile_window;
+pub mod window_ground;
 
 pub use answered::{WindowRefusal, window_line};
-pub use judge::judge_window;
-pub use judge_dem::judge_window_dem;
+pub use judge::judge_window_on;
+pub use window_ground::WindowGround;

@@ -3,9 +3,11 @@
 use crate::agree::{same, same_line};
 use crate::window_inputs::{Inputs, ON_SLOPE_DEM, SLOPE_DEM, right_slope};
 use crate::window_places::{Window, place};
+use drain_device::SliceSource;
 use drain_grid::Cell;
 use drain_union::{Decimal, DemPart, Place, UnionGrid, WindowReport};
-use drain_window::{WindowRefusal, judge_window_dem, window_line};
+use drain_verdict::RasterInput;
+use drain_window::{WindowRefusal, judge_window_on, window_line};
 use std::alloc::Global;
 use std::process::Abort;
 use std::test::Fail;
@@ -22,7 +24,15 @@ fn answer(
     let mut dem = inputs.dem(alloc, header)?;
     let mut products = inputs.products(alloc)?;
     let given = inputs.given()?;
-    Ok(judge_window_dem(alloc, &mut dem, &given, &mut products, &place, at))
+    Ok(judge_window_on::<SliceSource, RasterInput<SliceSource>>(
+        alloc,
+        &(),
+        &at,
+        &mut dem,
+        &given,
+        &mut products,
+        &place,
+    ))
 }
 
 /// Where the part begins in the whole.

@@ -1,8 +1,10 @@
 //! Where windows lie, and the answers to them.
 
 use crate::window_inputs::Inputs;
+use drain_device::SliceSource;
+use drain_hgt::TileInput;
 use drain_union::{InnerSides, Place, UnionSize, WindowReport};
-use drain_window::{WindowRefusal, judge_window};
+use drain_window::{WindowRefusal, judge_window_on};
 use std::alloc::Global;
 use std::test::Fail;
 
@@ -34,9 +36,10 @@ pub fn answer(
     let mut tiles = inputs.tiles(alloc)?;
     let mut products = inputs.products(alloc)?;
     let given = inputs.given()?;
-    Ok(judge_window(
+    Ok(judge_window_on::<SliceSource, TileInput<SliceSource>>(
         alloc,
-        inputs.side,
+        &inputs.side,
+        &(),
         &mut tiles,
         &given,
         &mut products,

@@ -1,10 +1,10 @@
 //! The first part of a run of `drain window`: the window is judged.
 
 ghost use Rattle.std.specs.Prelude.{◌≡◌, ◌++◌, ◌⊎◌};
-ghost use Rattle.drain_cli.specs.Names.{IfSome, Result, WindowRefusal, WindowReport};
+ghost use Rattle.drain_cli.specs.Names.{ForSet, IfSome};
 ghost use Rattle.drain_files.specs.FilePaths.{header_ending, raster_ending};
-ghost use Rattle.drain_cli.specs.OpenedInputs.{given_in};
-ghost use Rattle.drain_cli.specs.WindowRuns.{IsDemWindowOutcome, IsWindowHandedOver, IsWindowOutcome, IsWindowRun, refusal_code};
+ghost use Rattle.drain_cli.specs.OpenedInputs.{UsesGround, given_in};
+ghost use Rattle.drain_cli.specs.WindowRuns.{IsWindowHandedOver, IsWindowRun, IsWindowRunOn, refusal_code};
 
 use crate::runs::opened_given::given_of;
 use crate::runs::report_output::{report_path, write_at};
@@ -25,11 +25,11 @@ use drain_progress::progress::Progress;
 use drain_union::{Place, WindowReport};
 use drain_verdict::{AuditProducts, Given, RasterInput};
 use drain_window::answered::refusal_line;
-use drain_window::{WindowRefusal, judge_window, judge_window_dem};
+use drain_window::{WindowGround, WindowRefusal, judge_window_on};
 use std::alloc::Global;
 
-/// Judges a window of the mosaic of these tiles, or of this part of a raster of elevations, writes its report, prints the
-/// line and returns the exit status. The report's file is created once nothing is left to refuse.
+/// Judges a window of the mosaic of these tiles, or of this part of a raster of elevations, writes its report, prints
+/// the line and returns the exit status. The report's file is created once nothing is left to refuse.
 pub fn window_files(rt: &HostRuntime, args: &WindowArgs<'_>, out: &mut impl ByteSink) -> u8 {
     // If standard output is closed no file may be opened, as the first would take its place.
     if write_nothing(out).is_err() {
@@ -47,8 +47,8 @@ pub fn window_files(rt: &HostRuntime, args: &WindowArgs<'_>, out: &mut impl Byte
 }
 
 /// What is to be reported of the window of these files, which are closed again; or it prints why there is nothing, and
-/// returns the exit status. A report at the path of an input is a usage error, and so is one with the name of a product's
-/// file in the folder of the products, which a later run would take for that product.
+/// returns the exit status. A report at the path of an input is a usage error, and so is one with the name of a
+/// product's file in the folder of the products, which a later run would take for that product.
 fn judged_files<'a>(
     opener: &mut Opener<'_>,
     args: &WindowArgs<'_>,
@@ -75,8 +75,8 @@ fn judged_files<'a>(
 }
 
 /// Judges the window of the files that were opened, which lies at this place of the mosaic, or of the whole raster of
-/// elevations, of which the part that was opened begins at this cell; and returns what is to be reported. If there is no
-/// verdict, it prints why and returns the exit status.
+/// elevations, of which the part that was opened begins at this cell; and returns what is to be reported. If there is
+/// no verdict, it prints why and returns the exit status.
 pub fn judge_opened<R: ByteSource, W: ByteSink>(
     alloc: Global,
     files: &mut OpenFiles<OpenElevations<R>, AuditProducts<R>>,
@@ -90,23 +90,31 @@ pub fn judge_opened<R: ByteSource, W: ByteSink>(
     let given = given_of(files.sinks.as_slice(), &files.spacing);
     let products = &mut files.products;
     match &mut files.elevations {
-        OpenElevations::Tiles(OpenTiles { side, tiles }) => judge_or_print(
+        OpenElevations::Tiles(OpenTiles { side, tiles }) => judge_or_print::<R, TileInput<R>, W>(
             alloc,
-            *side,
+            side,
+            &(),
             tiles.as_mut_slice(),
             &given,
             products,
             place,
             out,
         ),
-        OpenElevations::Dem(dem) => {
-            judge_dem_or_print(alloc, dem, &given, products, place, at, out)
-        }
+        OpenElevations::Dem(dem) => judge_or_print::<R, RasterInput<R>, W>(
+            alloc,
+            &(),
+            &at,
+            dem,
+            &given,
+            products,
+            place,
+            out,
+        ),
     }
 }
 
-/// If the report has the name of a product's file in the folder of the products, prints the usage error, and returns the
-/// exit status.
+/// If the report has the name of a product's file in the folder of the products, prints the usage error, and returns
+/// the exit status.
 fn refused_name(rt: &HostRuntime, args: &WindowArgs<'_>, out: &mut impl ByteSink) -> Option<u8> {
     let stem = product_stem(args.report)?;
     match is_named_as_product(rt, args.inputs.folder, stem) {
@@ -130,46 +138,27 @@ fn product_stem(path: &str) -> Option<&str>
     path.strip_suffix(".hdr")
 }
 
-/// Judges the window that lies at this place of the mosaic of the tiles, and returns what is to be reported. If there is
-/// no verdict, it prints why and returns the exit status: 2 for a refusal, 3 for `failed OutOfMemory` and `failed
-/// ReadFailed`, and if the line can't be written.
+/// Judges the window that lies at this place of a ground, which begins so in the union, and returns what is to be
+/// reported. If there is no verdict, it prints why and returns the exit status: 2 for a refusal, 3 for `failed
+/// OutOfMemory` and `failed ReadFailed`, and if the line can't be written.
 ///
-/// `side`, `tiles`, `given` and `products` are those of an audit of the mosaic, and are read as by an audit.
-pub fn judge_or_print<R: ByteSource, W: ByteSink>(
+/// `key`, `inputs`, `given` and `products` are those of an audit of the ground, and are read as by an audit.
+pub fn judge_or_print<R: ByteSource, T: WindowGround<R>, W: ByteSink>(
     alloc: Global,
-    side: u32,
-    tiles: &mut [TileInput<R>],
+    key: &T::Key,
+    at: &T::At,
+    inputs: &mut [T],
     given: &Given,
     products: &mut AuditProducts<R>,
     place: &Place,
     out: &mut W,
 ) -> Result<WindowReport, u8>
-    ensures run { (outcome : Result WindowReport WindowRefusal)
-        × IsWindowOutcome R.ByteSource place.now side tiles.old tiles.new given.now products.old products.new outcome
-        × IsWindowHandedOver W.ByteSink out.old out.new outcome result }
+    requires admitted { T.GroundInput.admits inputs.old }
+    ensures run { IsWindowRunOn (ForSet T.GroundInput.terrain (T.GroundInput.encodes key.now inputs.old) R.bytes_left given.now)
+        (UsesGround T.GroundInput.devices (T.GroundInput.within key.now) T.GroundInput.kept R.bytes_left R.counts inputs.old inputs.new)
+        (T.in_range at.now) (T.named at.now key.now inputs.old) W.ByteSink place.now products.old products.new out.old out.new result }
 {
-    let outcome = judge_window(alloc, side, tiles, given, products, place);
-    hand_over(outcome, out)
-}
-
-/// Judges the window that lies at this place of a part of a raster of elevations, which begins at this cell of the whole,
-/// and returns what is to be reported, or prints why there is nothing, as for tiles.
-///
-/// `dem`, `given` and `products` are those of an audit of the part, and are read as by an audit.
-pub fn judge_dem_or_print<R: ByteSource, W: ByteSink>(
-    alloc: Global,
-    dem: &mut [RasterInput<R>; 1],
-    given: &Given,
-    products: &mut AuditProducts<R>,
-    place: &Place,
-    at: Cell,
-    out: &mut W,
-) -> Result<WindowReport, u8>
-    ensures run { (outcome : Result WindowReport WindowRefusal)
-        × IsDemWindowOutcome R.ByteSource place.now at dem.old dem.new given.now products.old products.new outcome
-        × IsWindowHandedOver W.ByteSink out.old out.new outcome result }
-{
-    let outcome = judge_window_dem(alloc, dem, given, products, place, at);
+    let outcome = judge_window_on::<R, T>(alloc, key, at, inputs, given, products, place);
     hand_over(outcome, out)
 }
 

@@ -1,6 +1,6 @@
 use Rattle.std.proofs.Common.{◌-◌, ◌*◌, ◌≤◌, arith}
 use Rattle.std.proofs.Math.Nat.{mul-le-mul_right}
-use Rattle.drain_window.proofs.judge.samples_between.Goals as goal
+use Rattle.drain_window.proofs.tile_window.samples_between.Goals as goal
 
 pub returns-clause-few : goal.returns-clause-few
 returns-clause-few c =

@@ -1,7 +1,7 @@
 use Rattle.drain_window.proofs.Names.{◌≡◌, ◌+◌, List, [], ◌∷◌, ◌++◌, take, sym, ap, ◌∙◌, arith, take_more}
 use Rattle.std.proofs.lemmas.Option.{get_or_from_slice_get}
 use Rattle.drain_hgt.specs.Corner.{Corner}
-use Rattle.drain_window.proofs.judge.tile_names.Goals as goal
+use Rattle.drain_window.proofs.tile_window.tile_names.Goals as goal
 
 pub loop-i-preserved : goal.loop-i-preserved
 loop-i-preserved c =
