@@ -30,7 +30,7 @@ tools/check_docs.py
 tools/check_layout.sh
 [ -z "$fast" ] || exec tools/gate_steps.py --fast
 
-# A check a processor, as many as memory holds at 5 GiB each (those seen took up to 2). Left to itself rt reckons their memory
+# A check a processor, as many as memory holds at 5 GiB each (those seen took up to 4). Left to itself rt reckons their memory
 # by the lines of all crates below, and leaves half of the processors idle.
 jobs=$(awk -v most="$(nproc)" '/MemAvailable/ { held = int($2 / 5242880); print held < 1 ? 1 : held < most ? held : most }' /proc/meminfo)
 sources=$(tools/sources_sum.sh)
